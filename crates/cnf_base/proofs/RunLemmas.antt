@@ -1,0 +1,233 @@
+-- What a scanner has seen of a text, byte by byte.
+use Rattle.std.proofs.Common.{◌≡◌, ℕ, ◌<◌, ◌≤◌, ◌==◌, cond, true, false, List, [], ◌∷◌, ◌++◌, length, refl, sym, ap, ◌∙◌, append_assoc, arith, Some, length-append}
+use Rattle.std.specs.Prelude.{slice_index, Result, Ok, Err, IsErr}
+use Rattle.cnf_base.specs.declared.input.ReadFailed.{ReadFailed}
+use Rattle.std.proofs.lemmas.Bool.Decides.{nat_tests}
+use Rattle.cnf_base.specs.Stream.{Input, Stream, Along, IsLook, bumped, most_to_come, place_after}
+use Rattle.cnf_base.specs.Text.{is_separator, col_after, line_after, col_along, listed, with_front, skips_at, comment_at, listing_at, FailsAt}
+use Rattle.cnf_base.specs.Words.{word_of}
+use Rattle.cnf_base.specs.declared.word.Word.{Word}
+use Rattle.cnf_base.specs.declared.input.Ending.TheVariants.{End, Failed}
+use Rattle.cnf_base.specs.declared.place.Place.{Place}
+use Rattle.cnf_base.specs.declared.token.Token.TheVariants as token
+use Rattle.cnf_base.proofs.StreamLemmas.{Along-look, Along-map, Along-then, Along-bumped, shown_byte, shown_end, most_to_come-bumped}
+use Rattle.cnf_base.proofs.TextLemmas.{none, more, Each-append, IsRun, no_feed, col_along-append, skips_at-append, listing_at-separator, listing_at-feed, listing_at-end, listing_at-comment, listing_at-run, listing_at-last_run, listing_at-cut_run, comment_at-more, comment_at-feed}
+
+-- the place after a byte
+pub place_after-line : (b : ℕ) (p : Place) → (b == 10) ≡ false → place_after b p ≡ col_after p
+place_after-line b p h = ap (λ v. cond v (line_after p) (col_after p)) h
+
+pub place_after-feed : (b : ℕ) (p : Place) → (b == 10) ≡ true → place_after b p ≡ line_after p
+place_after-feed b p h = ap (λ v. cond v (line_after p) (col_after p)) h
+
+-- from one moment to another no token was given
+pub record Stands (old now : Stream) : Type 0 where
+  pub text : Along old now (λ i j. listing_at old.place i ≡ listing_at now.place j)
+  pub fewer : most_to_come now ≤ most_to_come old
+  pub mark : now.has_failed ≡ old.has_failed
+
+-- this run was taken
+pub record InRun (old now : Stream) (run : List ℕ) : Type 0 where
+  pub is_run : IsRun old.place run
+  pub place : now.place ≡ col_along old.place run
+  pub text : Along old now (λ i j. i ≡ record { bytes = run ++ j.bytes; ending = j.ending })
+  pub fewer : most_to_come now < most_to_come old
+  pub mark : now.has_failed ≡ old.has_failed
+
+pub InRun-looked : (old now new : Stream) (run : List ℕ) → InRun old now run → IsLook now new → new.has_failed ≡ now.has_failed → InRun old new run
+InRun-looked old now new run r l mark = record {
+  is_run = r.is_run;
+  place = l.place ∙ r.place;
+  text = Along-then old now new _ _ _ r.text (Along-look now new l)
+      (λ i j k m p q. p ∙ ap (λ t. record { bytes = run ++ t.bytes; ending = t.ending }) q);
+  fewer = omega (arith, r.fewer, l.fewer);
+  mark = mark ∙ r.mark;
+}
+
+pub InRun-bumped : (old now : Stream) (run : List ℕ) (b : ℕ) → InRun old now run
+    → 0 < length now.ahead → b ≡ slice_index now.ahead 0 → is_separator b ≡ false
+    → InRun old (bumped now) (run ++ b ∷ [])
+InRun-bumped old now run b r some first inner = record {
+  is_run = record {
+    each = Each-append is_separator run b r.is_run.each inner;
+    some = omega (arith, length-append run (b ∷ []));
+    text = skips_at-append old.place run (b ∷ []) r.is_run.some ∙ r.is_run.text;
+  };
+  place = ap (λ x. place_after x now.place) (sym first) ∙ place_after-line b now.place (no_feed b inner)
+      ∙ ap col_after r.place ∙ sym (col_along-append old.place run (b ∷ []));
+  text = Along-then old now (bumped now) _ _ _ r.text (Along-bumped now b some first)
+      (λ i j k m p q. p ∙ ap (λ t. record { bytes = run ++ t.bytes; ending = t.ending }) q
+      ∙ ap (λ t. record { bytes = t; ending = k.ending }) (sym (append_assoc run (b ∷ []) k.bytes)));
+  fewer = omega (arith, r.fewer, most_to_come-bumped now some);
+  mark = r.mark;
+}
+
+pub InRun-first : (old : Stream) (first : ℕ) → 0 < length old.ahead → first ≡ slice_index old.ahead 0 → is_separator first ≡ false
+    → skips_at old.place (first ∷ []) ≡ false → InRun old (bumped old) (first ∷ [])
+InRun-first old first some shown inner skips = record {
+  is_run = record { each = more first [] inner none; some = omega arith; text = skips };
+  place = ap (λ x. place_after x old.place) (sym shown) ∙ place_after-line first old.place (no_feed first inner);
+  text = Along-bumped old first some shown;
+  fewer = most_to_come-bumped old some;
+  mark = refl;
+}
+
+-- a separator follows the run
+pub InRun-separator : (old now : Stream) (word : Word) (run : List ℕ) (b : ℕ) → word ≡ word_of run → InRun old now run
+    → 0 < length now.ahead → b ≡ slice_index now.ahead 0 → is_separator b ≡ true
+    → Along old now (λ i j. listing_at old.place i ≡ with_front (listed (token.Word old.place word) (length j.bytes) ∷ []) (listing_at now.place j))
+InRun-separator old now word run b says r some first h =
+    Along-map old now _ _ r.text (λ i j m p.
+    let s = shown_byte now b j some first m in
+    ap (listing_at old.place) (p ∙ ap (λ t. record { bytes = run ++ t.bytes; ending = j.ending }) s.1)
+    ∙ listing_at-run old.place run b s.0 j.ending r.is_run h
+    ∙ ap (λ w. with_front (listed (token.Word old.place w) (length (b ∷ s.0)) ∷ []) (listing_at (col_along old.place run) (record { bytes = b ∷ s.0; ending = j.ending }))) (sym says)
+    ∙ ap (λ q. with_front (listed (token.Word old.place word) (length (b ∷ s.0)) ∷ []) (listing_at q (record { bytes = b ∷ s.0; ending = j.ending }))) (sym r.place)
+    ∙ ap (λ t. with_front (listed (token.Word old.place word) (length t.bytes) ∷ []) (listing_at now.place t)) (sym s.1))
+
+-- the run is at the end
+pub InRun-end : (old now : Stream) (word : Word) (run : List ℕ) → word ≡ word_of run → InRun old now run → now.ahead ≡ [] → now.met ≡ Some End
+    → Along old now (λ i j. listing_at old.place i ≡ with_front (listed (token.Word old.place word) (length j.bytes) ∷ []) (listing_at now.place j))
+InRun-end old now word run says r nothing met =
+    Along-map old now _ _ r.text (λ i j m p.
+    let s = shown_end now End j nothing met m in
+    ap (listing_at old.place) (p ∙ ap (λ t. record { bytes = run ++ t.bytes; ending = t.ending }) s)
+    ∙ listing_at-last_run old.place run r.is_run
+    ∙ ap (λ w. with_front (listed (token.Word old.place w) 0 ∷ []) (listing_at (col_along old.place run) (record { bytes = []; ending = End }))) (sym says)
+    ∙ ap (λ q. with_front (listed (token.Word old.place word) 0 ∷ []) (listing_at q (record { bytes = []; ending = End }))) (sym r.place)
+    ∙ ap (λ t. with_front (listed (token.Word old.place word) (length t.bytes) ∷ []) (listing_at now.place t)) (sym s))
+
+-- a failed read cuts the run
+pub InRun-failed : (old now new : Stream) (run : List ℕ) → InRun old now run
+    → IsLook now new → new.ahead ≡ [] → new.met ≡ Some Failed
+    → Along old new (λ i j. (listing_at old.place i ≡ listing_at new.place j) × ((listing_at old.place i).tokens ≡ []) × ((listing_at old.place i).ending ≡ Failed))
+InRun-failed old now new run r look nothing met =
+    Along-then old now new _ _ _ r.text (Along-look now new look) (λ i j k m p q.
+    let s = q ∙ shown_end new Failed k nothing met m in
+    let cut : listing_at old.place i ≡ listing_at new.place (record { bytes = []; ending = Failed }) =
+    ap (listing_at old.place) (p ∙ ap (λ t. record { bytes = run ++ t.bytes; ending = t.ending }) s)
+    ∙ listing_at-cut_run old.place run r.is_run
+    ∙ ap (λ x. listing_at x (record { bytes = []; ending = Failed })) (sym (look.place ∙ r.place)) in
+    let empty = cut ∙ listing_at-end new.place Failed in
+    (cut ∙ ap (listing_at new.place) (sym (shown_end new Failed k nothing met m)), ap (λ l. l.tokens) empty, ap (λ l. l.ending) empty))
+
+-- a byte of a comment was taken
+pub comment-bumped : (old now : Stream) (b : ℕ) → Along old now (λ i j. comment_at old.place i ≡ comment_at now.place j)
+    → 0 < length now.ahead → b ≡ slice_index now.ahead 0 → (b == 10) ≡ false
+    → Along old (bumped now) (λ i j. comment_at old.place i ≡ comment_at (bumped now).place j)
+comment-bumped old now b text some first line =
+    Along-then old now (bumped now) _ _ _ text (Along-bumped now b some first) (λ i j k m p q.
+    p ∙ ap (comment_at now.place) q ∙ comment_at-more now.place b k.bytes k.ending line
+    ∙ ap (λ x. comment_at x k) (sym (ap (λ x. place_after x now.place) (sym first) ∙ place_after-line b now.place line)))
+
+-- a comment's line feed was taken
+pub comment-done : (old now : Stream) (b : ℕ) → Along old now (λ i j. comment_at old.place i ≡ comment_at now.place j)
+    → 0 < length now.ahead → b ≡ slice_index now.ahead 0 → (b == 10) ≡ true
+    → Along old (bumped now) (λ i j. (comment_at old.place i ≡ listing_at (bumped now).place j) × Unit {0})
+comment-done old now b text some first feed =
+    let is_feed : b ≡ 10 = grind (arith, nat_tests) in
+    Along-then old now (bumped now) _ _ _ text (Along-bumped now b some first) (λ i j k m p q. (
+      p ∙ ap (comment_at now.place) (q ∙ ap (λ x. record { bytes = x ∷ k.bytes; ending = k.ending }) is_feed)
+          ∙ comment_at-feed now.place k.bytes k.ending
+          ∙ ap (λ x. listing_at x k) (sym (ap (λ x. place_after x now.place) (sym first) ∙ place_after-feed b now.place feed)),
+      tt,
+    ))
+
+pub Stands-looked : (old now new : Stream) → Stands old now → IsLook now new → new.has_failed ≡ now.has_failed → Stands old new
+Stands-looked old now new s l mark = record {
+  text = Along-then old now new _ _ _ s.text (Along-look now new l)
+      (λ i j k m p q. p ∙ ap (listing_at now.place) q ∙ ap (λ x. listing_at x k) (sym l.place));
+  fewer = omega (arith, s.fewer, l.fewer);
+  mark = mark ∙ s.mark;
+}
+
+-- a separator was taken that is no line feed
+pub Stands-separator : (old now : Stream) (b : ℕ) → Stands old now → 0 < now.place.col → 0 < length now.ahead → b ≡ slice_index now.ahead 0
+    → is_separator b ≡ true → (b == 10) ≡ false → Stands old (bumped now)
+Stands-separator old now b s from_one some first h line = record {
+  text = Along-then old now (bumped now) _ _ _ s.text (Along-bumped now b some first) (λ i j k m p q.
+      p ∙ ap (listing_at now.place) q ∙ listing_at-separator now.place b k.bytes k.ending from_one h line
+      ∙ ap (λ x. listing_at x k) (sym (ap (λ x. place_after x now.place) (sym first) ∙ place_after-line b now.place line)));
+  fewer = omega (arith, s.fewer, most_to_come-bumped now some);
+  mark = s.mark;
+}
+
+-- a line feed was taken
+pub Stands-feed : (old now : Stream) (b : ℕ) → Stands old now → 0 < length now.ahead → b ≡ slice_index now.ahead 0 → (b == 10) ≡ true
+    → Along old (bumped now) (λ i j. listing_at old.place i ≡ with_front (listed (token.LineEnd now.place) (length j.bytes) ∷ []) (listing_at (bumped now).place j))
+Stands-feed old now b s some first feed =
+    let is_feed : b ≡ 10 = grind (arith, nat_tests) in
+    Along-then old now (bumped now) _ _ _ s.text (Along-bumped now b some first) (λ i j k m p q.
+    p ∙ ap (listing_at now.place) (q ∙ ap (λ x. record { bytes = x ∷ k.bytes; ending = k.ending }) is_feed)
+    ∙ listing_at-feed now.place k.bytes k.ending
+    ∙ ap (λ x. with_front (listed (token.LineEnd now.place) (length k.bytes) ∷ []) (listing_at x k)) (sym (ap (λ x. place_after x now.place) (sym first) ∙ place_after-feed b now.place feed)))
+
+-- a comment's first byte was taken
+Stands-c : (old now : Stream) (b : ℕ) → Stands old now → 0 < length now.ahead → b ≡ slice_index now.ahead 0
+    → (b == 99) ≡ true → (now.place.col == 1) ≡ true
+    → Along old (bumped now) (λ i j. listing_at old.place i ≡ comment_at (bumped now).place j)
+Stands-c old now b s some first is_c start =
+    let c : b ≡ 99 = grind (arith, nat_tests) in
+    let line : (b == 10) ≡ false = grind (arith, nat_tests) in
+    Along-then old now (bumped now) _ _ _ s.text (Along-bumped now b some first) (λ i j k m p q.
+    p ∙ ap (listing_at now.place) (q ∙ ap (λ x. record { bytes = x ∷ k.bytes; ending = k.ending }) c)
+    ∙ listing_at-comment now.place k.bytes k.ending start
+    ∙ ap (λ x. comment_at x k) (sym (ap (λ x. place_after x now.place) (sym first) ∙ place_after-line b now.place line)))
+
+-- a comment was taken
+pub Stands-comment : (old now new : Stream) (b : ℕ) (Q : Input → Type 0) → Stands old now → 0 < length now.ahead → b ≡ slice_index now.ahead 0
+    → (b == 99) ≡ true → (now.place.col == 1) ≡ true
+    → Along (bumped now) new (λ i j. (comment_at (bumped now).place i ≡ listing_at new.place j) × Q j)
+    → Along old new (λ i j. listing_at old.place i ≡ listing_at new.place j)
+Stands-comment old now new b Q s some first is_c start comment =
+    Along-then old (bumped now) new _ _ _ (Stands-c old now b s some first is_c start)
+    comment (λ i j k m p q. p ∙ q.0)
+
+-- a comment was taken up to a failed read
+pub Stands-cut : (old now new : Stream) (b : ℕ) (result : Result (Unit {0}) ReadFailed) → Stands old now → 0 < length now.ahead → b ≡ slice_index now.ahead 0
+    → (b == 99) ≡ true → (now.place.col == 1) ≡ true
+    → Along (bumped now) new (λ i j. (comment_at (bumped now).place i ≡ listing_at new.place j) × FailsAt result j) → IsErr result
+    → Along old new (λ i j. (listing_at old.place i ≡ listing_at new.place j) × ((listing_at old.place i).tokens ≡ []) × ((listing_at old.place i).ending ≡ Failed))
+Stands-cut old now new b (Ok x) s some first is_c start comment err = absurd (let h : false ≡ true = err in cc)
+Stands-cut old now new b (Err x) s some first is_c start comment err =
+    Along-then old (bumped now) new _ _ _ (Stands-c old now b s some first is_c start)
+    comment (λ i j k m p q.
+    let moved = p ∙ q.0 in
+    let empty = moved ∙ ap (listing_at new.place) q.1 ∙ listing_at-end new.place Failed in
+    (moved, ap (λ l. l.tokens) empty, ap (λ l. l.ending) empty))
+
+-- the end
+pub Stands-end : (old now : Stream) → Stands old now → now.ahead ≡ [] → now.met ≡ Some End
+    → Along old now (λ i j. (listing_at old.place i ≡ listing_at now.place j) × (listing_at old.place i ≡ record { tokens = []; end = now.place; ending = End }))
+Stands-end old now s nothing met =
+    Along-map old now _ _ s.text (λ i j m p. (p, p ∙ ap (listing_at now.place) (shown_end now End j nothing met m) ∙ listing_at-end now.place End))
+
+-- a failed read
+pub Stands-failed : (old now new : Stream) → Stands old now
+    → IsLook now new → new.ahead ≡ [] → new.met ≡ Some Failed
+    → Along old new (λ i j. (listing_at old.place i ≡ listing_at new.place j) × ((listing_at old.place i).tokens ≡ []) × ((listing_at old.place i).ending ≡ Failed))
+Stands-failed old now new s look nothing met =
+    Along-then old now new _ _ _ s.text (Along-look now new look) (λ i j k m p q.
+    let moved = p ∙ ap (listing_at now.place) q ∙ ap (λ x. listing_at x k) (sym look.place) in
+    let empty = moved ∙ ap (listing_at new.place) (shown_end new Failed k nothing met m) ∙ listing_at-end new.place Failed in
+    (moved, ap (λ l. l.tokens) empty, ap (λ l. l.ending) empty))
+
+pub comment-looked : (old now new : Stream) → Along old now (λ i j. comment_at old.place i ≡ comment_at now.place j)
+    → IsLook now new → Along old new (λ i j. comment_at old.place i ≡ comment_at new.place j)
+comment-looked old now new text look = Along-then old now new _ _ _ text (Along-look now new look)
+    (λ i j k m p q. p ∙ ap (comment_at now.place) q ∙ ap (λ x. comment_at x k) (sym look.place))
+
+-- a word was read
+pub Stands-word : (old now new : Stream) (p : Place) (word : Word) → Stands old now → p ≡ now.place
+    → Along now new (λ i j. listing_at now.place i ≡ with_front (listed (token.Word now.place word) (length j.bytes) ∷ []) (listing_at new.place j))
+    → Along old new (λ i j. listing_at old.place i ≡ with_front (listed (token.Word p word) (length j.bytes) ∷ []) (listing_at new.place j))
+Stands-word old now new p word s e run =
+    Along-then old now new _ _ _ s.text run
+    (λ i j k m q r. q ∙ r ∙ ap (λ x. with_front (listed (token.Word x word) (length k.bytes) ∷ []) (listing_at new.place k)) (sym e))
+
+-- a failed read cut the word
+pub Stands-cut_word : (old now new : Stream) → Stands old now
+    → Along now new (λ i j. (listing_at now.place i ≡ listing_at new.place j) × ((listing_at now.place i).tokens ≡ []) × ((listing_at now.place i).ending ≡ Failed))
+    → Along old new (λ i j. (listing_at old.place i ≡ listing_at new.place j) × ((listing_at old.place i).tokens ≡ []) × ((listing_at old.place i).ending ≡ Failed))
+Stands-cut_word old now new s run =
+    Along-then old now new _ _ _ s.text run (λ i j k m p q. (p ∙ q.0, ap (λ l. l.tokens) p ∙ q.1, ap (λ l. l.ending) p ∙ q.2))

@@ -1,0 +1,305 @@
+-- A text's listing, byte by byte and run by run.
+use Rattle.std.proofs.Common.{◌≡◌, ℕ, ◌+◌, ◌-◌, ◌^◌, ◌<◌, ◌==◌, ◌&&◌, min, cond, Bool, true, false, List, [], ◌∷◌, ◌++◌, length, refl, sym, ap, ◌∙◌, arith}
+use Rattle.std.specs.List.{slice_split, onto_first}
+use Rattle.std.proofs.lemmas.Bool.Decides.{nat_tests}
+use Rattle.cnf_base.specs.Words.{word_of}
+use Rattle.cnf_base.specs.Text.{is_separator, col_after, line_after, col_along, Spot, spot, one_less, one_on, next_line, along, Listed, listed, words_of, but_last, is_comment, line_tokens, last_tokens, with_front, Listing, lines_listing, lines_of, comment_at, skips_at, listing_at}
+use Rattle.cnf_base.specs.declared.input.Ending.{Ending}
+use Rattle.cnf_base.specs.declared.input.Ending.TheVariants.{End, Failed}
+use Rattle.cnf_base.specs.declared.place.Place.{Place}
+use Rattle.cnf_base.specs.declared.token.Token.TheVariants as token
+use Rattle.cnf_base.proofs.LineLemmas.{append_nil}
+
+-- each byte passes the test
+pub data Each (p : ℕ → Bool) : List ℕ → Type 0 where
+  none : Each p []
+  more : (b : ℕ) (bs : List ℕ) → p b ≡ false → Each p bs → Each p (b ∷ bs)
+
+pub Each-append : (p : ℕ → Bool) (bs : List ℕ) (b : ℕ) → Each p bs → p b ≡ false → Each p (bs ++ b ∷ [])
+Each-append p [] b e h = more b [] h none
+Each-append p (x ∷ xs) b (more _ _ k e) h = more x (xs ++ b ∷ []) k (Each-append p xs b e h)
+
+-- a list that is cut has a first part
+pub first_part : (p : ℕ → Bool) (xs : List ℕ) → (first : List ℕ) × (rest : List (List ℕ)) × (slice_split p xs ≡ first ∷ rest)
+first_part p [] = ([], [], refl)
+first_part p (x ∷ xs) = by (p x) (first_part p xs)
+  where
+    by : (v : Bool) → (first : List ℕ) × (rest : List (List ℕ)) × (slice_split p xs ≡ first ∷ rest)
+        → (first : List ℕ) × (rest : List (List ℕ)) × (cond v ([] ∷ slice_split p xs) (onto_first x (slice_split p xs)) ≡ first ∷ rest)
+    by true f = ([], slice_split p xs, refl)
+    by false f = (x ∷ f.0, f.1, ap (onto_first x) f.2)
+
+cons_nil : (x : List ℕ) (xs : List (List ℕ)) → x ∷ xs ≡ [] → ⊥
+cons_nil x xs h = cc
+
+-- bytes that don't cut come to the first part
+pub split-append : (p : ℕ → Bool) (xs ys first : List ℕ) (rest : List (List ℕ)) → Each p xs
+    → slice_split p ys ≡ first ∷ rest → slice_split p (xs ++ ys) ≡ (xs ++ first) ∷ rest
+split-append p [] ys first rest e h = h
+split-append p (x ∷ xs) ys first rest (more _ _ k e) h =
+    ap (λ v. cond v ([] ∷ slice_split p (xs ++ ys)) (onto_first x (slice_split p (xs ++ ys)))) k
+    ∙ ap (onto_first x) (split-append p xs ys first rest e h)
+
+pub and_false : (b : Bool) → (b && false) ≡ false
+and_false true = refl
+and_false false = refl
+
+pub no_comment : (b : ℕ) → is_separator b ≡ true → (b == 99) ≡ false
+no_comment b h = grind (arith, nat_tests)
+
+pub no_feed : (b : ℕ) → is_separator b ≡ false → (b == 10) ≡ false
+no_feed b h = grind (arith, nat_tests)
+
+pub separator_skips : (p : Place) (b : ℕ) (bs : List ℕ) → is_separator b ≡ true → skips_at p (b ∷ bs) ≡ false
+separator_skips p b bs h = ap (λ v. (p.col == 1) && v) (no_comment b h) ∙ and_false (p.col == 1)
+
+-- past a line's first byte no comment begins
+pub inner_skips : (p : Place) (bs : List ℕ) → 0 < p.col → skips_at (col_after p) bs ≡ false
+inner_skips p bs h =
+    let later : (min (p.col + 1) (2 ^ 64 - 1) == 1) ≡ false = grind (arith, nat_tests) in
+    ap (λ v. v && is_comment bs) later
+
+-- a separator in front of a line that is no comment
+line-separator : (s : Spot) (b : ℕ) (line : List ℕ) (rest : List (List ℕ)) (ending : Ending) → is_separator b ≡ true
+    → lines_listing false s ((b ∷ line) ∷ rest) ending ≡ lines_listing false (one_on s) (line ∷ rest) ending
+line-separator s b line [] ending h = ap (λ t. record { tokens = t; end = (along (one_on s) line).place; ending = ending }) (last ending)
+  where
+    parts : slice_split is_separator (b ∷ line) ≡ [] ∷ slice_split is_separator line
+    parts = ap (λ v. cond v ([] ∷ slice_split is_separator line) (onto_first b (slice_split is_separator line))) h
+
+    keeps : (g : List ℕ) (gs ps : List (List ℕ)) → ps ≡ g ∷ gs → words_of s (but_last ([] ∷ ps)) ≡ words_of (one_on s) (but_last ps)
+    keeps g gs ps e = rw e refl
+
+    last : (ending : Ending) → last_tokens false s (b ∷ line) ending ≡ last_tokens false (one_on s) line ending
+    last End = ap (words_of s) parts
+    last Failed = ap (λ ps. words_of s (but_last ps)) parts
+        ∙ (let f = first_part is_separator line in keeps f.0 f.1 _ f.2)
+line-separator s b line (next ∷ rest) ending h =
+    ap (λ t. with_front (t ++ listed (token.LineEnd (along (one_on s) line).place) (next_line (along (one_on s) line)).left ∷ []) (lines_listing (is_comment next) (next_line (along (one_on s) line)) (next ∷ rest) ending)) (ap (words_of s) parts)
+  where
+    parts : slice_split is_separator (b ∷ line) ≡ [] ∷ slice_split is_separator line
+    parts = ap (λ v. cond v ([] ∷ slice_split is_separator line) (onto_first b (slice_split is_separator line))) h
+
+-- a byte of a line comes to the line's front
+lines_of-cons : (b : ℕ) (bs first : List ℕ) (rest : List (List ℕ)) → (b == 10) ≡ false → lines_of bs ≡ first ∷ rest
+    → lines_of (b ∷ bs) ≡ (b ∷ first) ∷ rest
+lines_of-cons b bs first rest h e = ap (λ v. cond v ([] ∷ lines_of bs) (onto_first b (lines_of bs))) h ∙ ap (onto_first b) e
+
+-- the first line begins as the text does
+is_comment-lines_of : (bs : List ℕ) (first : List ℕ) (rest : List (List ℕ)) → lines_of bs ≡ first ∷ rest → is_comment bs ≡ is_comment first
+is_comment-lines_of [] first rest e = by first rest e
+  where
+    by : (first : List ℕ) (rest : List (List ℕ)) → [] ∷ [] ≡ first ∷ rest → false ≡ is_comment first
+    by [] rest e = refl
+    by (x ∷ xs) rest e = absurd (let h : [] ∷ [] ≡ (x ∷ xs) ∷ rest = e in cc)
+is_comment-lines_of (b ∷ bs) first rest e = by (b == 10) refl
+  where
+    by : (v : Bool) → (b == 10) ≡ v → (b == 99) ≡ is_comment first
+    by true h =
+        let nothing : [] ∷ lines_of bs ≡ first ∷ rest = sym (ap (λ v. cond v ([] ∷ lines_of bs) (onto_first b (lines_of bs))) h) ∙ e in
+        let same : first ≡ [] = cc in
+        let other : (b == 99) ≡ false = grind (arith, nat_tests) in
+        other ∙ sym (ap is_comment same)
+    by false h =
+        let f = first_part (λ x. x == 10) bs in
+        let longer : (b ∷ f.0) ∷ f.1 ≡ first ∷ rest = sym (lines_of-cons b bs f.0 f.1 h f.2) ∙ e in
+        let same : b ∷ f.0 ≡ first = cc in
+        ap is_comment same
+
+-- a separator that is no line feed
+pub listing_at-separator : (p : Place) (b : ℕ) (bs : List ℕ) (ending : Ending) → 0 < p.col → is_separator b ≡ true → (b == 10) ≡ false
+    → listing_at p (record { bytes = b ∷ bs; ending = ending }) ≡ listing_at (col_after p) (record { bytes = bs; ending = ending })
+listing_at-separator p b bs ending from_one h line =
+    let f = first_part (λ x. x == 10) bs in
+    ap (λ v. lines_listing v (spot p (length (b ∷ bs))) (lines_of (b ∷ bs)) ending) (separator_skips p b bs h)
+    ∙ ap (λ t. lines_listing false (spot p (length (b ∷ bs))) t ending) (lines_of-cons b bs f.0 f.1 line f.2)
+    ∙ line-separator (spot p (length (b ∷ bs))) b f.0 f.1 ending h
+    ∙ ap (λ t. lines_listing false (spot (col_after p) (length bs)) t ending) (sym f.2)
+    ∙ ap (λ v. lines_listing v (spot (col_after p) (length bs)) (lines_of bs) ending) (sym (inner_skips p bs from_one))
+
+-- the lines after a line feed
+lines_listing-feed : (skips : Bool) (s : Spot) (p : Place) (line : List ℕ) (bs : List ℕ) (ending : Ending)
+    → next_line (along s line) ≡ spot p (length bs) → (p.col == 1) ≡ true
+    → lines_listing skips s (line ∷ lines_of bs) ending
+    ≡ with_front (line_tokens skips s line) (listing_at p (record { bytes = bs; ending = ending }))
+lines_listing-feed skips s p line bs ending next start =
+    let f = first_part (λ x. x == 10) bs in
+    ap (λ t. lines_listing skips s (line ∷ t) ending) f.2
+    ∙ ap (λ v. with_front (line_tokens skips s line) (lines_listing v (next_line (along s line)) (f.0 ∷ f.1) ending)) (sym (is_comment-lines_of bs f.0 f.1 f.2))
+    ∙ ap (λ t. with_front (line_tokens skips s line) (lines_listing (is_comment bs) (next_line (along s line)) t ending)) (sym f.2)
+    ∙ ap (λ t. with_front (line_tokens skips s line) (lines_listing (is_comment bs) t (lines_of bs) ending)) next
+    ∙ ap (λ v. with_front (line_tokens skips s line) (lines_listing (v && is_comment bs) (spot p (length bs)) (lines_of bs) ending)) (sym start)
+
+-- a line feed
+pub listing_at-feed : (p : Place) (bs : List ℕ) (ending : Ending)
+    → listing_at p (record { bytes = 10 ∷ bs; ending = ending })
+    ≡ with_front (listed (token.LineEnd p) (length bs) ∷ []) (listing_at (line_after p) (record { bytes = bs; ending = ending }))
+listing_at-feed p bs ending =
+    ap (λ v. lines_listing v (spot p (length (10 ∷ bs))) ([] ∷ lines_of bs) ending) (and_false (p.col == 1))
+    ∙ lines_listing-feed false (spot p (length (10 ∷ bs))) (line_after p) [] bs ending refl refl
+
+-- the end
+pub listing_at-end : (p : Place) (ending : Ending)
+    → listing_at p (record { bytes = []; ending = ending }) ≡ record { tokens = []; end = p; ending = ending }
+listing_at-end p ending = ap (λ v. lines_listing v (spot p 0) ([] ∷ []) ending) (and_false (p.col == 1)) ∙ by ending
+  where
+    by : (ending : Ending) → lines_listing false (spot p 0) ([] ∷ []) ending ≡ record { tokens = []; end = p; ending = ending }
+    by End = refl
+    by Failed = refl
+
+-- a comment's bytes
+skipped : (s : Spot) (b : ℕ) (line : List ℕ) (rest : List (List ℕ)) (ending : Ending)
+    → lines_listing true s ((b ∷ line) ∷ rest) ending ≡ lines_listing true (one_on s) (line ∷ rest) ending
+skipped s b line [] ending = refl
+skipped s b line (next ∷ rest) ending = refl
+
+pub comment_at-more : (p : Place) (b : ℕ) (bs : List ℕ) (ending : Ending) → (b == 10) ≡ false
+    → comment_at p (record { bytes = b ∷ bs; ending = ending }) ≡ comment_at (col_after p) (record { bytes = bs; ending = ending })
+comment_at-more p b bs ending h =
+    let f = first_part (λ x. x == 10) bs in
+    ap (λ t. lines_listing true (spot p (length (b ∷ bs))) t ending) (lines_of-cons b bs f.0 f.1 h f.2)
+    ∙ skipped (spot p (length (b ∷ bs))) b f.0 f.1 ending ∙ ap (λ t. lines_listing true (spot (col_after p) (length bs)) t ending) (sym f.2)
+
+pub comment_at-feed : (p : Place) (bs : List ℕ) (ending : Ending)
+    → comment_at p (record { bytes = 10 ∷ bs; ending = ending }) ≡ listing_at (line_after p) (record { bytes = bs; ending = ending })
+comment_at-feed p bs ending = lines_listing-feed true (spot p (length (10 ∷ bs))) (line_after p) [] bs ending refl refl
+
+pub comment_at-end : (p : Place) (ending : Ending)
+    → comment_at p (record { bytes = []; ending = ending }) ≡ listing_at p (record { bytes = []; ending = ending })
+comment_at-end p ending = sym (listing_at-end p ending)
+
+pub listing_at-comment : (p : Place) (bs : List ℕ) (ending : Ending) → (p.col == 1) ≡ true
+    → listing_at p (record { bytes = 99 ∷ bs; ending = ending }) ≡ comment_at (col_after p) (record { bytes = bs; ending = ending })
+listing_at-comment p bs ending h =
+    ap (λ v. lines_listing (v && true) (spot p (length (99 ∷ bs))) (lines_of (99 ∷ bs)) ending) h ∙ comment_at-more p 99 bs ending refl
+
+pub col_along-append : (p : Place) (xs ys : List ℕ) → col_along p (xs ++ ys) ≡ col_along (col_along p xs) ys
+col_along-append p [] ys = refl
+col_along-append p (x ∷ xs) ys = col_along-append (col_after p) xs ys
+
+along-append : (s : Spot) (xs ys : List ℕ) → along s (xs ++ ys) ≡ along (along s xs) ys
+along-append s [] ys = refl
+along-append s (x ∷ xs) ys = along-append (one_on s) xs ys
+
+-- past bytes of a line stand the others
+along-spot : (p : Place) (xs ys : List ℕ) → along (spot p (length (xs ++ ys))) xs ≡ spot (col_along p xs) (length ys)
+along-spot p [] ys = refl
+along-spot p (x ∷ xs) ys = along-spot (col_after p) xs ys
+
+Each-feed : (run : List ℕ) → Each is_separator run → Each (λ b. b == 10) run
+Each-feed [] e = none
+Each-feed (b ∷ bs) (more _ _ h e) = more b bs (no_feed b h) (Each-feed bs e)
+
+-- the run that a text begins with, which isn't in a comment
+pub record IsRun (p : Place) (run : List ℕ) : Type 0 where
+  pub each : Each is_separator run
+  pub some : 0 < length run
+  pub text : skips_at p run ≡ false
+
+pub skips_at-append : (p : Place) (run bytes : List ℕ) → 0 < length run → skips_at p (run ++ bytes) ≡ skips_at p run
+skips_at-append p [] bytes some = absurd (omega arith)
+skips_at-append p (b ∷ bs) bytes some = refl
+
+-- a run's token
+abbrev token_of : Spot → List ℕ → Listed
+token_of s run = listed (token.Word s.place (word_of run)) (along s run).left
+
+words_of-run : (s : Spot) (run : List ℕ) (parts : List (List ℕ)) → 0 < length run
+    → words_of s ((run ++ []) ∷ parts) ≡ token_of s run ∷ words_of (one_on (along s run)) parts
+words_of-run s [] parts some = absurd (omega arith)
+words_of-run s (b ∷ bs) parts some =
+    ap (λ r. token_of s (b ∷ r) ∷ words_of (one_on (along s (b ∷ r))) parts) (append_nil bs)
+
+-- a run in front of the rest of a line, which begins with a separator or is at its end
+lines_listing-run : (s : Spot) (p : Place) (run line : List ℕ) (parts : List (List ℕ)) (rest : List (List ℕ)) (ending : Ending) → IsRun p run
+    → slice_split is_separator line ≡ [] ∷ parts → ((rest ≡ []) × (parts ≡ []) → ending ≡ End)
+    → lines_listing false s ((run ++ line) ∷ rest) ending
+    ≡ with_front (token_of s run ∷ []) (lines_listing false (along s run) (line ∷ rest) ending)
+lines_listing-run s p run line parts [] ending r cut counts =
+    ap (λ q. record { tokens = last_tokens false s (run ++ line) ending; end = q.place; ending = ending }) (along-append s run line)
+    ∙ ap (λ t. record { tokens = t; end = (along (along s run) line).place; ending = ending }) (last ending parts cut (λ h. counts (refl, h)))
+  where
+    last : (ending : Ending) (parts : List (List ℕ)) → slice_split is_separator line ≡ [] ∷ parts → (parts ≡ [] → ending ≡ End)
+        → last_tokens false s (run ++ line) ending ≡ token_of s run ∷ last_tokens false (along s run) line ending
+    last End parts cut counts =
+        ap (words_of s) (split-append is_separator run line [] parts r.each cut) ∙ words_of-run s run parts r.some
+        ∙ ap (λ ps. token_of s run ∷ words_of (along s run) ps) (sym cut)
+    last Failed [] cut counts = absurd (let h : Failed ≡ End = counts refl in cc)
+    last Failed (part ∷ parts) cut counts =
+        ap (λ ps. words_of s (but_last ps)) (split-append is_separator run line [] (part ∷ parts) r.each cut)
+        ∙ words_of-run s run (but_last (part ∷ parts)) r.some
+        ∙ ap (λ ps. token_of s run ∷ words_of (along s run) (but_last ps)) (sym cut)
+lines_listing-run s p run line parts (next ∷ rest) ending r cut counts =
+    ap (λ ps. with_front (words_of s ps ++ feed (along s (run ++ line)) ∷ []) (after (along s (run ++ line))))
+    (split-append is_separator run line [] parts r.each cut)
+    ∙ ap (λ ws. with_front (ws ++ feed (along s (run ++ line)) ∷ []) (after (along s (run ++ line))))
+    (words_of-run s run parts r.some)
+    ∙ ap (λ ps. with_front (token_of s run ∷ words_of (along s run) ps ++ feed (along s (run ++ line)) ∷ []) (after (along s (run ++ line))))
+    (sym cut)
+    ∙ ap (λ q. with_front (token_of s run ∷ words_of (along s run) (slice_split is_separator line) ++ feed q ∷ []) (after q))
+    (along-append s run line)
+  where
+    feed : Spot → Listed
+    feed q = listed (token.LineEnd q.place) (next_line q).left
+
+    after : Spot → Listing
+    after q = lines_listing (is_comment next) (next_line q) (next ∷ rest) ending
+
+-- a run that a separator follows
+pub listing_at-run : (p : Place) (run : List ℕ) (b : ℕ) (bs : List ℕ) (ending : Ending) → IsRun p run → is_separator b ≡ true
+    → listing_at p (record { bytes = run ++ b ∷ bs; ending = ending })
+    ≡ with_front (listed (token.Word p (word_of run)) (length (b ∷ bs)) ∷ []) (listing_at (col_along p run) (record { bytes = b ∷ bs; ending = ending }))
+listing_at-run p run b bs ending r h =
+    ap (λ v. lines_listing v start (lines_of (run ++ b ∷ bs)) ending) (skips_at-append p run (b ∷ bs) r.some ∙ r.text)
+    ∙ by (b == 10) refl
+    ∙ ap (λ q. with_front (listed (token.Word p (word_of run)) q.left ∷ []) (lines_listing false q (lines_of (b ∷ bs)) ending)) (along-spot p run (b ∷ bs))
+    ∙ ap (λ v. with_front (listed (token.Word p (word_of run)) (length (b ∷ bs)) ∷ []) (lines_listing v (spot (col_along p run) (length (b ∷ bs))) (lines_of (b ∷ bs)) ending)) (sym (separator_skips (col_along p run) b bs h))
+  where
+    start : Spot
+    start = spot p (length (run ++ b ∷ bs))
+
+    by : (v : Bool) → (b == 10) ≡ v → lines_listing false start (lines_of (run ++ b ∷ bs)) ending
+        ≡ with_front (token_of start run ∷ []) (lines_listing false (along start run) (lines_of (b ∷ bs)) ending)
+    by true feed =
+        let cut : lines_of (b ∷ bs) ≡ [] ∷ lines_of bs = ap (λ v. cond v ([] ∷ lines_of bs) (onto_first b (lines_of bs))) feed in
+        let f = first_part (λ x. x == 10) bs in
+        let some : (lines_of bs ≡ []) × ([] ≡ []) → ending ≡ End = λ (e : (lines_of bs ≡ []) × ([] ≡ [])). absurd (cons_nil f.0 f.1 (sym f.2 ∙ e.0)) in
+        ap (λ t. lines_listing false start t ending) (split-append (λ x. x == 10) run (b ∷ bs) [] (lines_of bs) (Each-feed run r.each) cut)
+        ∙ lines_listing-run start p run [] [] (lines_of bs) ending r refl some
+        ∙ ap (λ t. with_front (token_of start run ∷ []) (lines_listing false (along start run) t ending)) (sym cut)
+    by false line =
+        let f = first_part (λ x. x == 10) bs in
+        let cut = lines_of-cons b bs f.0 f.1 line f.2 in
+        let g = first_part is_separator f.0 in
+        let some : (f.1 ≡ []) × (slice_split is_separator f.0 ≡ []) → ending ≡ End = λ (e : (f.1 ≡ []) × (slice_split is_separator f.0 ≡ [])). absurd (cons_nil g.0 g.1 (sym g.2 ∙ e.1)) in
+        ap (λ t. lines_listing false start t ending) (split-append (λ x. x == 10) run (b ∷ bs) (b ∷ f.0) f.1 (Each-feed run r.each) cut)
+        ∙ lines_listing-run start p run (b ∷ f.0) (slice_split is_separator f.0) f.1 ending r
+        (ap (λ v. cond v ([] ∷ slice_split is_separator f.0) (onto_first b (slice_split is_separator f.0))) h) some
+        ∙ ap (λ t. with_front (token_of start run ∷ []) (lines_listing false (along start run) t ending)) (sym cut)
+
+-- a run at the end
+pub listing_at-last_run : (p : Place) (run : List ℕ) → IsRun p run
+    → listing_at p (record { bytes = run ++ []; ending = End })
+    ≡ with_front (listed (token.Word p (word_of run)) 0 ∷ []) (listing_at (col_along p run) (record { bytes = []; ending = End }))
+listing_at-last_run p run r =
+    ap (λ v. lines_listing v start (lines_of (run ++ [])) End) (skips_at-append p run [] r.some ∙ r.text)
+    ∙ ap (λ t. lines_listing false start t End) (split-append (λ x. x == 10) run [] [] [] (Each-feed run r.each) refl)
+    ∙ lines_listing-run start p run [] [] [] End r refl (λ _. refl)
+    ∙ ap (λ q. with_front (listed (token.Word p (word_of run)) q.left ∷ []) (lines_listing false q ([] ∷ []) End)) (along-spot p run [])
+    ∙ ap (with_front (listed (token.Word p (word_of run)) 0 ∷ [])) (sym (listing_at-end (col_along p run) End))
+  where
+    start : Spot
+    start = spot p (length (run ++ []))
+
+-- a run that touches a failed read
+pub listing_at-cut_run : (p : Place) (run : List ℕ) → IsRun p run
+    → listing_at p (record { bytes = run ++ []; ending = Failed }) ≡ listing_at (col_along p run) (record { bytes = []; ending = Failed })
+listing_at-cut_run p run r =
+    ap (λ v. lines_listing v start (lines_of (run ++ [])) Failed) (skips_at-append p run [] r.some ∙ r.text)
+    ∙ ap (λ t. lines_listing false start t Failed) (split-append (λ x. x == 10) run [] [] [] (Each-feed run r.each) refl)
+    ∙ ap (λ ps. record { tokens = words_of start (but_last ps); end = (along start (run ++ [])).place; ending = Failed }) (split-append is_separator run [] [] [] r.each refl)
+    ∙ ap (λ q. record { tokens = []; end = q.place; ending = Failed }) (along-append start run [] ∙ along-spot p run [])
+    ∙ sym (listing_at-end (col_along p run) Failed)
+  where
+    start : Spot
+    start = spot p (length (run ++ []))

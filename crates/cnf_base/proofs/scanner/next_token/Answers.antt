@@ -1,0 +1,46 @@
+-- What comes before a token is skipped.
+use Rattle.std.proofs.Common.{◌≡◌, ◌<◌, ◌==◌, true, ap, sym, ◌∙◌, subst, ℕ, rules, arith}
+use Rattle.std.proofs.lemmas.Bool.Decides.{nat_tests}
+use Rattle.std.proofs.lemmas.Grind.{common_steps}
+use Rattle.cnf_base.proofs.RunLemmas.{Stands-looked, Stands-separator, Stands-feed, Stands-comment, Stands-cut, Stands-word, Stands-cut_word}
+use Rattle.cnf_base.proofs.scanner.next_token.Goals as goal
+
+pub returns-then-byte-eq10-clause-tokens : goal.returns-then-byte-eq10-clause-tokens
+returns-then-byte-eq10-clause-tokens g c =
+    rw (c.bump.ensures, c.place-place.ensures.value, ← c.peek.ensures.look.place)
+    (Stands-feed _ _ c.in-Ok-Some.byte (Stands-looked _ _ _ c.loop-byte.invariant c.peek.ensures.look (search rules)) (search rules) (search rules) (grind (arith, nat_tests)))
+
+pub loop-byte-preserved-else-byte-eq10 : goal.loop-byte-preserved-else-byte-eq10
+loop-byte-preserved-else-byte-eq10 g c =
+    let place = c.place-place.ensures.value ∙ sym c.peek.ensures.look.place in
+    let from_one = let P : ℕ → Type 0 = λ n. 0 < n in subst P (ap (λ p. p.col) place) c.place-place.ensures.from_one in
+    rw c.bump.ensures
+    (Stands-separator _ _ c.in-Ok-Some.byte (Stands-looked _ _ _ c.loop-byte.invariant c.peek.ensures.look (search rules)) from_one (search rules) (search rules) (search rules) (grind (arith, nat_tests)))
+
+pub returns-then-is_err-clause-tokens : goal.returns-then-is_err-clause-tokens
+returns-then-is_err-clause-tokens g c =
+    let place = c.place-place.ensures.value ∙ sym c.peek.ensures.look.place in
+    let start : (c.peek.new.self.place.col == 1) ≡ true = grind (arith, nat_tests, ap (λ p. p.col) place, c.if-place-eq1.true) in
+    let text = rw c.bump-then-place-eq1.ensures at c.skip_comment.ensures.text in
+    Stands-cut _ _ _ c.in-Ok-Some.byte _ (Stands-looked _ _ _ c.loop-byte.invariant c.peek.ensures.look (search rules)) (search rules) (search rules) (grind (arith, nat_tests)) start text (search rules)
+
+pub loop-byte-preserved : goal.loop-byte-preserved
+loop-byte-preserved g c =
+    let stands = Stands-looked _ _ _ c.loop-byte.invariant c.peek.ensures.look (search rules) in
+    let place = c.place-place.ensures.value ∙ sym c.peek.ensures.look.place in
+    let start : (c.peek.new.self.place.col == 1) ≡ true = grind (arith, nat_tests, ap (λ p. p.col) place, c.if-place-eq1.true) in
+    let text = rw c.bump-then-place-eq1.ensures at c.skip_comment.ensures.text in
+    record {
+      text = Stands-comment _ _ _ c.in-Ok-Some.byte _ stands (search rules) (search rules) (grind (arith, nat_tests)) start text;
+      fewer = grind (arith, common_steps);
+      mark = search rules;
+    }
+
+pub returns-in-Ok-clause-tokens : goal.returns-in-Ok-clause-tokens
+returns-in-Ok-clause-tokens g c =
+    Stands-word _ _ _ _ c.in-Ok.word (Stands-looked _ _ _ c.loop-byte.invariant c.peek.ensures.look (search rules))
+    (c.place-place.ensures.value ∙ sym c.peek.ensures.look.place) c.in-Ok.ensures.text
+
+pub returns-in-Err-read_word-clause-tokens : goal.returns-in-Err-read_word-clause-tokens
+returns-in-Err-read_word-clause-tokens g c =
+    Stands-cut_word _ _ _ (Stands-looked _ _ _ c.loop-byte.invariant c.peek.ensures.look (search rules)) c.in-Err-read_word.ensures.text

@@ -1,0 +1,13 @@
+-- The bytes so far are a run, and its first ones are kept.
+use Rattle.std.proofs.Common.{List, ℕ}
+use Rattle.cnf_base.specs.Stream.{most_to_come}
+use Rattle.cnf_base.specs.Digits.{AreKept}
+use Rattle.cnf_base.proofs.RunLemmas.{InRun}
+use Rattle.cnf_base.proofs.WordLemmas.{IsName}
+use Rattle.cnf_base.proofs.scanner.read_name.Given as goal
+
+abbrev pub invariant-loop-byte : goal.invariant-loop-byte
+invariant-loop-byte g l = (run : List ℕ) × InRun l.fn.source l.source run × AreKept l.name.bytes l.name.len l.name.is_longer run × IsName run
+
+abbrev pub decreases-loop-byte : goal.decreases-loop-byte
+decreases-loop-byte g l = most_to_come l.source

@@ -1,0 +1,25 @@
+-- What all readers over a source have in common.
+use Rattle.std.specs.Prelude.{◌≡◌, ℕ, ◌<◌, ◌≤◌, Bool, true, false, List, Option, Result, Ok, Err}
+use Rattle.cnf_base.specs.Stream.{Stream, most_to_come}
+use Rattle.cnf_base.specs.declared.fault.Fault.{Fault}
+use Rattle.cnf_base.specs.declared.fault.Fault.TheVariants.{ReadFailed}
+
+-- each item takes a byte
+abbrev pub Advances : Result Bool Fault → Stream → Stream → Type 0
+Advances (Ok true) old new = most_to_come new < most_to_come old
+Advances _ old new = most_to_come new ≤ most_to_come old
+
+-- Of a failed read the reader below tells then; every other answer leaves its mark as it was.
+abbrev pub Tells : Fault → Bool → Bool → Type 0
+Tells ReadFailed old new = new ≡ true
+Tells f old new = new ≡ old
+
+abbrev pub TellsOf : {A : Type 0} → Result A Fault → Bool → Bool → Type 0
+TellsOf (Ok _) old new = new ≡ old
+TellsOf (Err f) old new = Tells f old new
+
+-- a run of the source ended here, and the reader was given back
+pub record IsLeft (last : Stream) (bytes : Option (List ℕ)) (has_failed : Bool) (borrows : List ℕ) : Type 0 where
+  pub left : bytes ≡ last.left
+  pub mark : has_failed ≡ last.has_failed
+  pub same_reader : borrows ≡ last.borrows

@@ -1,0 +1,5 @@
+//! Want of memory.
+
+/// A growth was refused.
+#[derive(Clone, Copy, Debug, PartialEq, Eq)]
+pub struct OutOfMemory;

@@ -1,0 +1,98 @@
+//! What bytes are written to.
+ghost use Rattle.std.specs.Prelude.{◌≡◌, ℕ, Bool, false, List, [], ◌∷◌, Option};
+ghost use Rattle.std.specs.Io.{WritesAtMost};
+ghost use Rattle.std.specs.Io.KnownBytes.{Keeps, WriteAppends};
+ghost use Rattle.cnf_base.specs.Marks.{marked_by_flush, marked_by_write};
+
+use std::io;
+use std::io::Write;
+
+/// A write or a flush has failed.
+#[derive(Clone, Copy, Debug, PartialEq, Eq)]
+pub struct WriteFailed;
+
+/// A writer of bytes.
+pub trait Out {
+    /// The bytes that the writer holds, where they are known.
+    ghost held: { Self → Option (List ℕ) };
+
+    /// Whether a write or a flush has failed so far. A write that takes nothing of a piece that
+    /// isn't empty is a failure.
+    ghost has_failed: { Self → Bool };
+
+    /// The borrows that it goes through, so that a writer is known again.
+    ghost borrows: { Self → List ℕ } = { λ _. [] };
+
+    /// Takes bytes from the front of the buffer, and answers how many.
+    fn write(&mut self, buf: &[u8]) -> io::Result<usize>
+        ensures bound { WritesAtMost result buf.now }
+        ensures bytes { WriteAppends (held self.old) (held self.new) result buf.now }
+        ensures mark { has_failed self.new ≡ marked_by_write (has_failed self.old) buf.now result }
+        ensures same_writer { borrows self.new ≡ borrows self.old };
+
+    /// Hands on what the writer still holds back.
+    fn flush(&mut self) -> io::Result<()>
+        ensures bytes { Keeps (held self.old) (held self.new) }
+        ensures mark { has_failed self.new ≡ marked_by_flush (has_failed self.old) result }
+        ensures same_writer { borrows self.new ≡ borrows self.old };
+}
+
+impl<W: Out> Out for &mut W {
+    ghost held = { λ w. W.held w.now };
+
+    ghost has_failed = { λ w. W.has_failed w.now };
+
+    ghost borrows = { λ w. w.ghost_name ∷ W.borrows w.now };
+
+    fn write(&mut self, buf: &[u8]) -> io::Result<usize> {
+        Out::write(&mut **self, buf)
+    }
+
+    fn flush(&mut self) -> io::Result<()> {
+        Out::flush(&mut **self)
+    }
+}
+
+/// A writer of the standard library, which remembers whether a write or a flush has failed.
+#[derive(Drop)]
+pub struct ToWrite<W> {
+    inner: W,
+    has_failed: bool,
+}
+
+impl<W: Write> ToWrite<W> {
+    /// A writer of which no call has failed. It takes no memory.
+    pub fn new(inner: W) -> Self
+        ensures held { ⟦<ToWrite<W> as Out>⟧.held result ≡ W.contents inner }
+        ensures mark { ⟦<ToWrite<W> as Out>⟧.has_failed result ≡ false }
+    {
+        ToWrite {
+            inner,
+            has_failed: false,
+        }
+    }
+}
+
+impl<W: Write> Out for ToWrite<W> {
+    ghost held = { λ w. W.contents w.inner };
+
+    ghost has_failed = { λ w. w.has_failed };
+
+    fn write(&mut self, buf: &[u8]) -> io::Result<usize> {
+        let result = self.inner.write(buf);
+        match &result {
+            Ok(0) if !buf.is_empty() => self.has_failed = true,
+            Ok(_) => {}
+            Err(_) => self.has_failed = true,
+        }
+        result
+    }
+
+    fn flush(&mut self) -> io::Result<()> {
+        let result = self.inner.flush();
+        if result.is_err() {
+            self.has_failed = true;
+        }
+        result
+    }
+}

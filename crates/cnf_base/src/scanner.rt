@@ -1,0 +1,212 @@
+//! A text's tokens, with their places.
+ghost use Rattle.std.specs.Prelude.{◌≡◌, ◌<◌, ◌≤◌, true, false, [], ◌∷◌, OnOk, OnErr, length, slice_index};
+ghost use Rattle.cnf_base.specs.Stream.{Along, most_to_come};
+ghost use Rattle.cnf_base.specs.Digits.{begins_number, first_digits};
+ghost use Rattle.cnf_base.specs.Text.{Gives, GivesWord, FailsAt, is_separator, skips_at, listing_at, comment_at, MovesOn};
+
+mod digits;
+mod name;
+
+use crate::{In, ReadFailed, Source, Token, Word};
+use digits::Digits;
+use name::Name;
+use std::marker::Model;
+
+/// The tokens of a text in order. Comment lines have none.
+#[derive(Drop)]
+pub struct Scanner<R: In> {
+    source: Source<R>,
+}
+
+impl<R: In> Model for Scanner<R> {
+    ghost use Rattle.cnf_base.specs.Stream.{Stream};
+
+    ghost Value = { Stream };
+
+    ghost view = { λ s. s.source };
+}
+
+impl<R: In> Scanner<R> {
+    pub fn new(source: Source<R>) -> Self
+        ensures { result ≡ source }
+    {
+        Scanner { source }
+    }
+
+    /// The next token. A failed read, and the end, are given at each further call.
+    pub fn next(&mut self) -> Result<Token, ReadFailed>
+        ensures tokens { Along self.old self.new
+            (λ i j. Gives result (listing_at self.old.place i) (listing_at self.new.place j) j) }
+        ensures fewer { MovesOn result self.old self.new }
+        ensures failed { OnErr result (self.new.has_failed ≡ true) }
+        ensures mark { OnOk result (self.new.has_failed ≡ self.old.has_failed) }
+    {
+        next_token(&mut self.source)
+    }
+
+    /// Gives the reader back.
+    pub fn release(self) -> R
+        ensures left { R.left result ≡ self.left }
+        ensures mark { R.has_failed result ≡ self.has_failed }
+        ensures same_reader { R.borrows result ≡ self.borrows }
+    {
+        self.source.release()
+    }
+}
+
+// The text's next token.
+fn next_token<R: In>(source: &mut Source<R>) -> Result<Token, ReadFailed>
+    ensures tokens { Along source.old source.new
+        (λ i j. Gives result (listing_at source.old.place i) (listing_at source.new.place j) j) }
+    ensures fewer { MovesOn result source.old source.new }
+    ensures failed { OnErr result (source.new.has_failed ≡ true) }
+    ensures mark { OnOk result (source.new.has_failed ≡ source.old.has_failed) }
+{
+    loop {
+        let place = source.place();
+        match source.peek() {
+            Ok(Some(byte)) => {
+                if is_separator(byte) {
+                    source.bump();
+                    if byte == b'\n' {
+                        return Ok(Token::LineEnd(place));
+                    }
+                } else if byte == b'c' && place.col == 1 {
+                    source.bump();
+                    if skip_comment(source).is_err() {
+                        return Err(ReadFailed);
+                    }
+                } else {
+                    return match read_word(source, byte) {
+                        Ok(word) => Ok(Token::Word(place, word)),
+                        Err(failed) => Err(failed),
+                    };
+                }
+            }
+            Ok(None) => return Ok(Token::End(place)),
+            Err(failed) => return Err(failed),
+        }
+    }
+}
+
+// Goes past a comment's line feed, or to the end.
+fn skip_comment<R: In>(source: &mut Source<R>) -> Result<(), ReadFailed>
+    ensures text { Along source.old source.new (λ i j.
+        (comment_at source.old.place i ≡ listing_at source.new.place j) × FailsAt result j) }
+    ensures fewer { most_to_come source.new ≤ most_to_come source.old }
+    ensures failed { OnErr result (source.new.has_failed ≡ true) }
+    ensures mark { OnOk result (source.new.has_failed ≡ source.old.has_failed) }
+{
+    while let Some(byte) = source.peek()? {
+        source.bump();
+        if byte == b'\n' {
+            return Ok(());
+        }
+    }
+    Ok(())
+}
+
+// The run that begins with the byte that was shown.
+fn read_word<R: In>(source: &mut Source<R>, first: u8) -> Result<Word, ReadFailed>
+    requires ahead { 0 < length source.old.ahead }
+    requires first { first ≡ slice_index source.old.ahead 0 }
+    requires run { is_separator first ≡ false }
+    requires text { skips_at source.old.place (first ∷ []) ≡ false }
+    ensures text { Along source.old source.new (λ i j.
+        GivesWord result source.old.place (listing_at source.old.place i) (listing_at source.new.place j) j) }
+    ensures fewer { most_to_come source.new < most_to_come source.old }
+    ensures failed { OnErr result (source.new.has_failed ≡ true) }
+    ensures mark { OnOk result (source.new.has_failed ≡ source.old.has_failed) }
+{
+    if may_begin_number(first) {
+        read_number(source, first)
+    } else {
+        read_name(source, first)
+    }
+}
+
+// A run that begins with a digit or a `-`.
+fn read_number<R: In>(source: &mut Source<R>, first: u8) -> Result<Word, ReadFailed>
+    requires ahead { 0 < length source.old.ahead }
+    requires first { first ≡ slice_index source.old.ahead 0 }
+    requires run { is_separator first ≡ false }
+    requires text { skips_at source.old.place (first ∷ []) ≡ false }
+    requires number { begins_number first ≡ true }
+    ensures text { Along source.old source.new (λ i j.
+        GivesWord result source.old.place (listing_at source.old.place i) (listing_at source.new.place j) j) }
+    ensures fewer { most_to_come source.new < most_to_come source.old }
+    ensures failed { OnErr result (source.new.has_failed ≡ true) }
+    ensures mark { OnOk result (source.new.has_failed ≡ source.old.has_failed) }
+{
+    source.bump();
+    let is_negative = first == b'-';
+    let mut digits = first_digits(first);
+    loop {
+        match source.peek() {
+            Ok(Some(byte)) => {
+                if is_separator(byte) {
+                    return Ok(digits.word(is_negative));
+                }
+                source.bump();
+                digits = digits.with_byte(byte);
+            }
+            Ok(None) => return Ok(digits.word(is_negative)),
+            Err(cut) => return Err(cut),
+        }
+    }
+}
+
+// A run that begins with another byte.
+fn read_name<R: In>(source: &mut Source<R>, first: u8) -> Result<Word, ReadFailed>
+    requires ahead { 0 < length source.old.ahead }
+    requires first { first ≡ slice_index source.old.ahead 0 }
+    requires run { is_separator first ≡ false }
+    requires text { skips_at source.old.place (first ∷ []) ≡ false }
+    requires name { begins_number first ≡ false }
+    ensures text { Along source.old source.new (λ i j.
+        GivesWord result source.old.place (listing_at source.old.place i) (listing_at source.new.place j) j) }
+    ensures fewer { most_to_come source.new < most_to_come source.old }
+    ensures failed { OnErr result (source.new.has_failed ≡ true) }
+    ensures mark { OnOk result (source.new.has_failed ≡ source.old.has_failed) }
+{
+    source.bump();
+    let mut name = Name::new();
+    name.push(first);
+    loop {
+        match source.peek() {
+            Ok(Some(byte)) => {
+                if is_separator(byte) {
+                    return Ok(name.word());
+                }
+                source.bump();
+                name.push(byte);
+            }
+            Ok(None) => return Ok(name.word()),
+            Err(cut) => return Err(cut),
+        }
+    }
+}
+
+// Whether a number may begin with the byte.
+fn may_begin_number(byte: u8) -> bool
+    ensures { result ≡ begins_number byte }
+{
+    byte == b'-' || byte.is_ascii_digit()
+}
+
+// The digits that a number's first byte is.
+fn first_digits(byte: u8) -> Digits
+    ensures { result ≡ first_digits byte }
+{
+    if byte == b'-' {
+        Digits::Nothing
+    } else {
+        Digits::Nothing.with_byte(byte)
+    }
+}
+
+fn is_separator(byte: u8) -> bool
+    ensures { result ≡ is_separator byte }
+{
+    byte == b' ' || byte == b'\t' || byte == b'\r' || byte == b'\n'
+}

@@ -1,0 +1,174 @@
+//! An input's bytes, one at a time.
+ghost use Rattle.std.specs.Prelude.{◌≡◌, ◌≢◌, ◌+◌, ◌<◌, ◌≤◌, true, [], length, take, Some, IsSome, IfSome, IfNone, IfOk, IfErr, OnOk, OnErr};
+ghost use Rattle.std.specs.Io.KnownBytes.{Keeps, Consumes, IsAtEnd};
+ghost use Rattle.cnf_base.specs.Stream.{IsLook, bumped, fresh, Shows};
+
+use crate::{Ending, In, OutOfMemory, Place, ReadFailed};
+use std::alloc::Global;
+use std::marker::Model;
+
+const PIECE: usize = 65536;
+
+/// The bytes of an input in order, with their places.
+#[derive(Drop)]
+pub struct Source<R: In> {
+    reader: R,
+    piece: Vec<u8>,
+    at: usize,
+    end: usize,
+    met: Option<Ending>,
+    place: Place,
+    byte_no: u64,
+}
+
+impl<R: In> Model for Source<R> {
+    ghost use Rattle.std.specs.Prelude.{slice_range};
+    ghost use Rattle.cnf_base.specs.Stream.{Stream, IsSource};
+
+    ghost Value = { Stream };
+
+    ghost view = { λ s. record {
+      ahead = slice_range s.piece.items s.at s.end;
+      met = s.met;
+      left = R.left s.reader;
+      has_failed = R.has_failed s.reader;
+      most_left = R.most_left s.reader;
+      borrows = R.borrows s.reader;
+      place = s.place;
+      byte_no = s.byte_no;
+    } };
+
+    ghost invariant = { λ s. IsSource s.piece.items s.at s.end s.met (R.left s.reader) (R.has_failed s.reader) s.place.col };
+}
+
+impl<R: In> Source<R> {
+    /// A source of which nothing was read. The reader is handed back where its room is refused.
+    pub fn new(alloc: Global, reader: R) -> Result<Self, (OutOfMemory, R)>
+        ensures fresh { IfOk result (λ s. s ≡ fresh (R.left reader) (R.has_failed reader) (R.most_left reader) (R.borrows reader)) }
+        ensures refused { IfErr result (λ e. e.1 ≡ reader) }
+    {
+        let Ok(piece) = vec![in alloc; 0; PIECE] else {
+            return Err((OutOfMemory, reader));
+        };
+        Ok(Source {
+            reader,
+            piece,
+            at: 0,
+            end: 0,
+            met: None,
+            place: Place { line: 1, col: 1 },
+            byte_no: 1,
+        })
+    }
+
+    /// The next byte, if there is one. It reads only where the piece is used up.
+    #[inline]
+    pub fn peek(&mut self) -> Result<Option<u8>, ReadFailed>
+        ensures look { IsLook self.old self.new }
+        ensures shown { Shows result self.new }
+        ensures most { length self.new.ahead ≤ 65536 }
+        ensures failed { OnErr result (self.new.has_failed ≡ true) }
+        ensures mark { OnOk result (self.new.has_failed ≡ self.old.has_failed) }
+    {
+        if self.at == self.end {
+            return self.peek_further();
+        }
+        Ok(Some(self.piece[self.at]))
+    }
+
+    #[inline(never)]
+    fn peek_further(&mut self) -> Result<Option<u8>, ReadFailed>
+        requires { self.old.ahead ≡ [] }
+        ensures look { IsLook self.old self.new }
+        ensures shown { Shows result self.new }
+        ensures most { length self.new.ahead ≤ 65536 }
+        ensures failed { OnErr result (self.new.has_failed ≡ true) }
+        ensures mark { OnOk result (self.new.has_failed ≡ self.old.has_failed) }
+    {
+        self.fill();
+        if self.at < self.end {
+            return Ok(Some(self.piece[self.at]));
+        }
+        match self.met {
+            Some(Ending::End) => Ok(None),
+            Some(Ending::Failed) => Err(ReadFailed),
+            None => unreachable!(),
+        }
+    }
+
+    fn fill(&mut self)
+        requires { self.old.ahead ≡ [] }
+        ensures look { IsLook self.old self.new }
+        ensures met { self.new.ahead ≡ [] → IsSome self.new.met }
+        ensures failed { self.new.met ≡ Some Ending.Failed → self.new.has_failed ≡ true }
+        ensures mark { self.new.met ≢ Some Ending.Failed → self.new.has_failed ≡ self.old.has_failed }
+    {
+        if self.met.is_none() {
+            match read_piece(&mut self.reader, &mut self.piece) {
+                Some(0) => self.met = Some(Ending::End),
+                Some(n) => {
+                    self.at = 0;
+                    self.end = n;
+                }
+                None => self.met = Some(Ending::Failed),
+            }
+        }
+    }
+
+    /// Takes the byte that was shown.
+    #[inline]
+    pub fn bump(&mut self)
+        requires { 0 < length self.old.ahead }
+        ensures { self.new ≡ bumped self.old }
+    {
+        let byte = self.piece[self.at];
+        self.at += 1;
+        if byte == b'\n' {
+            self.place.line = self.place.line.saturating_add(1);
+            self.place.col = 1;
+        } else {
+            self.place.col = self.place.col.saturating_add(1);
+        }
+        self.byte_no = self.byte_no.saturating_add(1);
+    }
+
+    /// The place of the next byte, or of the end.
+    pub fn place(&self) -> Place
+        ensures value { result ≡ self.now.place }
+        ensures from_one { 0 < result.col }
+    {
+        self.place
+    }
+
+    /// The number of the next byte, from 1.
+    pub fn byte_no(&self) -> u64
+        ensures { result ≡ self.now.byte_no }
+    {
+        self.byte_no
+    }
+
+    /// Gives the reader back. Bytes that were read ahead are lost.
+    pub fn release(self) -> R
+        ensures left { R.left result ≡ self.left }
+        ensures mark { R.has_failed result ≡ self.has_failed }
+        ensures same_reader { R.borrows result ≡ self.borrows }
+    {
+        self.reader
+    }
+}
+
+// How many bytes a read put to the front of the piece, unless it failed.
+fn read_piece<R: In>(reader: &mut R, piece: &mut Vec<u8>) -> Option<usize>
+    ensures size { length piece.new.items ≡ length piece.old.items }
+    ensures bound { IfSome result (λ n. n ≤ length piece.old.items) }
+    ensures bytes { IfSome result (λ n. Consumes (R.left reader.old) (R.left reader.new) (take n piece.new.items)) }
+    ensures end { IfSome result (λ n. n ≡ 0 → 0 < length piece.old.items → IsAtEnd (R.left reader.new)) }
+    ensures kept { IfNone result (Keeps (R.left reader.old) (R.left reader.new)) }
+    ensures failed { IfNone result (R.has_failed reader.new ≡ true) }
+    ensures mark { IfSome result (λ _. R.has_failed reader.new ≡ R.has_failed reader.old) }
+    ensures fewer { IfSome result (λ n. R.most_left reader.new + n ≤ R.most_left reader.old) }
+    ensures same_reader { R.borrows reader.new ≡ R.borrows reader.old }
+    ensures no_more { R.most_left reader.new ≤ R.most_left reader.old }
+{
+    reader.read(piece.as_mut_slice()).ok()
+}

@@ -1,0 +1,91 @@
+-- A formula's tokens, one at a time.
+use Rattle.std.proofs.Common.{◌≡◌, ℕ, ◌+◌, ◌<◌, ◌≤◌, List, [], ◌∷◌, ◌++◌, length, Option, None, Some, refl, sym, ap, ◌∙◌, arith}
+use Rattle.std.specs.Prelude.{Bool, true, false, Result, Ok, Err}
+use Rattle.cnf_base.specs.Literals.{Literal}
+use Rattle.cnf_base.specs.Stream.{Input, Stream, Along, most_to_come}
+use Rattle.cnf_base.specs.Text.{Listing, listing_at, Gives, listed, with_front}
+use Rattle.cnf_base.specs.declared.input.Ending.TheVariants.{End, Failed}
+use Rattle.cnf_base.specs.declared.input.ReadFailed.{ReadFailed as Cut}
+use Rattle.cnf_base.specs.declared.place.Place.{Place}
+use Rattle.cnf_base.specs.declared.word.Word.{Word}
+use Rattle.cnf_base.specs.declared.token.Token.{Token}
+use Rattle.cnf_base.specs.declared.token.Token.TheVariants as token
+use Rattle.cnf_base.specs.declared.fault.Fault.{Fault}
+use Rattle.cnf_base.specs.declared.fault.Fault.TheVariants.{Text, Binary, ReadFailed, OutOfMemory}
+use Rattle.cnf_base.specs.declared.fault.TextFault.{TextFault}
+use Rattle.cnf_base.specs.declared.fault.TextFault.TheVariants.{UnterminatedClause}
+use Rattle.cnf_base.proofs.StreamLemmas.{Along-then, Along-map}
+use Rattle.dimacs.specs.Reading.{GivesClause, left_of, EndsSo}
+use Rattle.dimacs.specs.Formula.{Body, body_of, judged, on_word, at_end, faulty, whole, with_clause}
+use Rattle.dimacs.specs.declared.header.Header.{Header}
+
+-- a fault is what comes, and it stays
+pub gives_fault : (f : Fault) (c : List Literal) (b : Body) → b ≡ faulty f → GivesClause (Err f) c b (faulty f)
+gives_fault (Text k p) c b e = (e, e)
+gives_fault (Binary k n) c b e = (e, e)
+gives_fault ReadFailed c b e = (e, e)
+gives_fault OutOfMemory c b e = refl
+
+ends_so : (h : Header) (complete : ℕ) (p : Place) (result : Result Bool Fault) (ls : List Literal) (before : Body) (l : Listing)
+    → EndsSo result (at_end h complete ls p End) → before ≡ at_end h complete ls p End → body_of h complete [] l ≡ at_end h complete [] p End
+    → GivesClause result ls before (left_of result h complete l)
+ends_so h complete p (Ok true) ls before l ends e k = absurd ends
+ends_so h complete p (Ok false) [] before l ends e k = (e ∙ sym k, e ∙ ends)
+ends_so h complete p (Ok false) (x ∷ xs) before l ends e k = absurd (let bad : faulty (Text UnterminatedClause p) ≡ whole = ends in let none : Some (Text UnterminatedClause p) ≡ None = ap (λ b. b.fault) bad in cc)
+ends_so h complete p (Err f) ls before l ends e k = gives_fault f ls before (e ∙ ends)
+
+-- from one moment to another literals of one clause were read
+pub record Between (h : Header) (complete : ℕ) (old now : Stream) (before at_hand : List Literal) : Type 0 where
+  pub text : Along old now (λ i j. body_of h complete before (listing_at old.place i) ≡ body_of h complete at_hand (listing_at now.place j))
+  pub fewer : most_to_come now ≤ most_to_come old
+  pub mark : now.has_failed ≡ old.has_failed
+
+module _ (h : Header) (complete : ℕ) (old now new : Stream) (before at_hand : List Literal) (so_far : Between h complete old now before at_hand) where
+  pub Between-line : (p : Place) → Along now new (λ i j. Gives (Ok (token.LineEnd p)) (listing_at now.place i) (listing_at new.place j) j)
+      → most_to_come new < most_to_come now → new.has_failed ≡ now.has_failed → Between h complete old new before at_hand
+  Between-line p gives fewer mark = record {
+    text = Along-then old now new _ _ _ so_far.text gives (λ i j k m q r. q ∙ ap (body_of h complete at_hand) r);
+    fewer = omega (arith, so_far.fewer, fewer);
+    mark = mark ∙ so_far.mark;
+  }
+
+  module _ (p : Place) (w : Word) (gives : Along now new (λ i j. Gives (Ok (token.Word p w)) (listing_at now.place i) (listing_at new.place j) j)) where
+    word_text : Along old new (λ i j. body_of h complete before (listing_at old.place i)
+        ≡ on_word complete at_hand p (judged h complete w) (λ c ls. body_of h c ls (listing_at new.place j)))
+    word_text = Along-then old now new _ _ _ so_far.text gives (λ i j k m q r. q ∙ ap (body_of h complete at_hand) r)
+
+    pub Between-literal : (l : Literal) → Ok (Some l) ≡ judged h complete w → most_to_come new < most_to_come now → new.has_failed ≡ now.has_failed
+        → Between h complete old new before (at_hand ++ l ∷ [])
+    Between-literal l is fewer mark = record {
+      text = Along-map old new _ _ word_text (λ i j m q. q ∙ ap (λ r. on_word complete at_hand p r (λ c ls. body_of h c ls (listing_at new.place j))) (sym is));
+      fewer = omega (arith, so_far.fewer, fewer);
+      mark = mark ∙ so_far.mark;
+    }
+
+    pub Between-clause : Ok None ≡ judged h complete w
+        → Along old new (λ i j. GivesClause (Ok true) at_hand (body_of h complete before (listing_at old.place i)) (left_of (Ok true) h complete (listing_at new.place j)))
+    Between-clause is =
+        Along-map old new _ _ word_text (λ i j m q. q ∙ ap (λ r. on_word complete at_hand p r (λ c ls. body_of h c ls (listing_at new.place j))) (sym is))
+
+    pub Between-fault : (f : TextFault) → Err f ≡ judged h complete w
+        → Along old new (λ i j. GivesClause (Err (Text f p)) at_hand (body_of h complete before (listing_at old.place i)) (left_of (Err (Text f p)) h complete (listing_at new.place j)))
+    Between-fault f is =
+        Along-map old new _ _ word_text (λ i j m q. gives_fault (Text f p) at_hand _ (q ∙ ap (λ r. on_word complete at_hand p r (λ c ls. body_of h c ls (listing_at new.place j))) (sym is)))
+
+    pub Between-refused : (c : List Literal)
+        → Along old new (λ i j. GivesClause (Err OutOfMemory) c (body_of h complete before (listing_at old.place i)) (left_of (Err OutOfMemory) h complete (listing_at new.place j)))
+    Between-refused c = Along-map old new _ _ word_text (λ i j m q. refl)
+
+  pub Between-end : (p : Place) (result : Result Bool Fault) → Along now new (λ i j. Gives (Ok (token.End p)) (listing_at now.place i) (listing_at new.place j) j)
+      → EndsSo result (at_end h complete at_hand p End)
+      → Along old new (λ i j. GivesClause result at_hand (body_of h complete before (listing_at old.place i)) (left_of result h complete (listing_at new.place j)))
+  Between-end p result gives ends = Along-then old now new _ _ _ so_far.text gives (λ i j k m q r.
+      ends_so h complete p result at_hand _ _ ends (q ∙ ap (body_of h complete at_hand) r.1) (ap (body_of h complete []) (sym r.0 ∙ r.1)))
+
+  pub Between-failed : (cut : Cut) → Along now new (λ i j. Gives (Err cut) (listing_at now.place i) (listing_at new.place j) j)
+      → Along old new (λ i j. GivesClause (Err ReadFailed) at_hand (body_of h complete before (listing_at old.place i)) (left_of (Err ReadFailed) h complete (listing_at new.place j)))
+  Between-failed cut gives = Along-then old now new _ _ _ so_far.text gives (λ i j k m q r.
+      gives_fault ReadFailed at_hand _ (q ∙ empty (listing_at now.place j) r.1 r.2))
+    where
+      empty : (l : Listing) → l.tokens ≡ [] → l.ending ≡ Failed → body_of h complete at_hand l ≡ faulty ReadFailed
+      empty l none failed = rw (none, failed) refl

@@ -1,0 +1,2 @@
+pub mod HeaderLemmas
+pub mod FormulaLemmas

@@ -1,0 +1,26 @@
+-- A word, or the end, after blank lines.
+use Rattle.std.proofs.Common.{rules}
+use Rattle.std.specs.Prelude.{Ok}
+use Rattle.cnf_base.specs.declared.token.Token.TheVariants as token
+use Rattle.cnf_base.proofs.TokenLemmas.{told}
+use Rattle.dimacs.proofs.HeaderLemmas.{Blank-line, Blank-word, Blank-end, Blank-failed}
+use Rattle.dimacs.proofs.header.first_word.Goals as goal
+
+pub returns-in-Ok-Word-clause-text : goal.returns-in-Ok-Word-clause-text
+returns-in-Ok-Word-clause-text g c =
+    Blank-word _ _ _ c.loop-place.invariant.text c.in-Ok-Word.place c.in-Ok-Word.word (told _ _ _ (Ok (token.Word c.in-Ok-Word.place c.in-Ok-Word.word)) c.next.ensures.tokens (search rules))
+
+pub loop-place-preserved : goal.loop-place-preserved
+loop-place-preserved g c = record {
+  text = Blank-line _ _ _ c.loop-place.invariant.text c.in-Ok-LineEnd.field-0-0 (told _ _ _ (Ok (token.LineEnd c.in-Ok-LineEnd.field-0-0)) c.next.ensures.tokens (search rules));
+  fewer = search rules;
+  mark = search rules;
+}
+
+pub returns-in-Ok-End-clause-text : goal.returns-in-Ok-End-clause-text
+returns-in-Ok-End-clause-text g c =
+    Blank-end _ _ _ c.loop-place.invariant.text c.in-Ok-End.place (told _ _ _ (Ok (token.End c.in-Ok-End.place)) c.next.ensures.tokens (search rules))
+
+pub returns-in-Err-clause-text : goal.returns-in-Err-clause-text
+returns-in-Err-clause-text g c =
+    Blank-failed _ _ _ c.loop-place.invariant.text _ c.in-Err.ensures.tokens

@@ -1,0 +1,172 @@
+-- The formula of an input (DIMACS CNF; the faults, their places and the order of judging are our own profile).
+use Rattle.std.specs.Prelude.{◌≡◌, ℕ, ◌+◌, nat_le, not, Bool, true, false, cond, List, [], ◌∷◌, ◌++◌, Option, None, Some, Result, Ok, Err}
+use Rattle.cnf_base.specs.Literals.{Literal, Clause}
+use Rattle.cnf_base.specs.Stream.{Input}
+use Rattle.cnf_base.specs.Words.{number_literal}
+use Rattle.cnf_base.specs.Text.{Listed, Listing, listing_at, listing_of}
+use Rattle.cnf_base.specs.declared.input.Ending.{Ending}
+use Rattle.cnf_base.specs.declared.input.Ending.TheVariants.{End, Failed}
+use Rattle.cnf_base.specs.declared.place.Place.{Place}
+use Rattle.cnf_base.specs.declared.word.Word.{Word}
+use Rattle.cnf_base.specs.declared.word.Word.TheVariants as words
+use Rattle.cnf_base.specs.declared.token.Token as tokens
+use Rattle.cnf_base.specs.declared.token.Token.TheVariants as token
+use Rattle.cnf_base.specs.declared.fault.Fault.{Fault}
+use Rattle.cnf_base.specs.declared.fault.Fault.TheVariants.{Text, ReadFailed}
+use Rattle.cnf_base.specs.declared.fault.TextFault.{TextFault}
+use Rattle.cnf_base.specs.declared.fault.TextFault.TheVariants.{BadHeader, NumberTooLarge, BadToken, LiteralOutOfRange, TooManyClauses, TooFewClauses, UnterminatedClause}
+use Rattle.dimacs.specs.declared.header.Header.{Header}
+
+-- ---- The header: the first line that is no comment and not blank
+
+-- what follows where this was right
+abbrev pub and_then : {A B : Type 0} → Result A Fault → (A → Result B Fault) → Result B Fault
+and_then (Ok x) next = next x
+and_then (Err f) next = Err f
+
+-- a text whose first token is taken
+abbrev pub rest_of : List Listed → Listing → Listing
+rest_of tokens l = record { tokens = tokens; end = l.end; ending = l.ending }
+
+-- the line ends before a word
+abbrev pub cut_short : Ending → Place → Fault
+cut_short End p = Text BadHeader p
+cut_short Failed p = ReadFailed
+
+abbrev pub word_of_token : tokens.Token → Listing → Result (Place × Word × Listing) Fault
+word_of_token (token.Word p w) rest = Ok (p, w, rest)
+word_of_token (token.LineEnd p) rest = Err (Text BadHeader p)
+word_of_token (token.End p) rest = Err (Text BadHeader p)
+
+abbrev pub word_among : List Listed → Listing → Result (Place × Word × Listing) Fault
+word_among [] l = Err (cut_short l.ending l.end)
+word_among (t ∷ ts) l = word_of_token t.token (rest_of ts l)
+
+-- the line's next word and what follows it
+abbrev pub next_word : Listing → Result (Place × Word × Listing) Fault
+next_word l = word_among l.tokens l
+
+abbrev pub is_line_end : tokens.Token → Bool
+is_line_end (token.LineEnd p) = true
+is_line_end (token.Word p w) = false
+is_line_end (token.End p) = false
+
+abbrev pub drop_line_ends : List Listed → List Listed
+drop_line_ends [] = []
+drop_line_ends (t ∷ ts) = cond (is_line_end t.token) (drop_line_ends ts) (t ∷ ts)
+
+-- from the first line on that isn't blank
+abbrev pub skip_blank : Listing → Listing
+skip_blank l = rest_of (drop_line_ends l.tokens) l
+
+abbrev pub is_p : Word → Bool
+is_p words.P = true
+is_p _ = false
+
+abbrev pub is_cnf : Word → Bool
+is_cnf words.Cnf = true
+is_cnf _ = false
+
+-- this word has to stand next
+abbrev pub fixed : (Word → Bool) → Listing → Result Listing Fault
+fixed test l = and_then (next_word l) (λ w. cond (test w.1) (Ok w.2) (Err (Text BadHeader w.0)))
+
+-- a number without `-` and up to the limit
+abbrev pub count_of : ℕ → Place → Word → Result ℕ Fault
+count_of limit p (words.Number n) = cond n.is_negative (Err (Text BadHeader p)) (cond (nat_le n.size limit) (Ok n.size) (Err (Text NumberTooLarge p)))
+count_of limit p _ = Err (Text BadHeader p)
+
+abbrev pub count : ℕ → Listing → Result (ℕ × Listing) Fault
+count limit l = and_then (next_word l) (λ w. and_then (count_of limit w.0 w.1) (λ n. Ok (n, w.2)))
+
+abbrev pub line_end_of_token : tokens.Token → Listing → Result Listing Fault
+line_end_of_token (token.LineEnd p) rest = Ok rest
+line_end_of_token (token.Word p w) rest = Err (Text BadHeader p)
+line_end_of_token (token.End p) rest = Ok rest
+
+abbrev pub line_end_at_end : Ending → Listing → Result Listing Fault
+line_end_at_end End l = Ok l
+line_end_at_end Failed l = Err ReadFailed
+
+abbrev pub line_end_among : List Listed → Listing → Result Listing Fault
+line_end_among [] l = line_end_at_end l.ending l
+line_end_among (t ∷ ts) l = line_end_of_token t.token (rest_of ts l)
+
+-- the line's end, or the input's, has to follow
+abbrev pub line_end : Listing → Result Listing Fault
+line_end l = line_end_among l.tokens l
+
+-- `p cnf VARIABLES CLAUSES`, and what follows
+abbrev pub header_of : Listing → Result (Header × Listing) Fault
+header_of l =
+    and_then (fixed is_p (skip_blank l)) (λ l. and_then (fixed is_cnf l)
+    (λ l. and_then (count 268435455 l) (λ vars. and_then (count 4294967295 vars.1)
+    (λ clauses. and_then (line_end clauses.1) (λ l. Ok (record { vars = vars.0; clauses = clauses.0 }, l))))))
+
+-- ---- The clauses: literals ended by `0`, over any number of lines
+
+-- the clauses from some point on, and the first fault, if there is one
+pub record Body : Type 0 where
+  pub clauses : List Clause
+  pub fault : Option Fault
+
+abbrev pub faulty : Fault → Body
+faulty f = record { clauses = []; fault = Some f }
+
+abbrev pub whole : Body
+whole = record { clauses = []; fault = None }
+
+abbrev pub with_clause : Clause → Body → Body
+with_clause c b = record { clauses = c ∷ b.clauses; fault = b.fault }
+
+-- a literal, the `0` that ends a clause, or what is wrong with a word after so many clauses, in the order of judging
+abbrev pub judged : Header → ℕ → Word → Result (Option Literal) TextFault
+judged h complete (words.Number n) =
+    cond (nat_le n.size 268435455)
+    (cond (nat_le h.clauses complete) (Err TooManyClauses) (cond (nat_le n.size h.vars) (Ok (number_literal n)) (Err LiteralOutOfRange)))
+    (Err NumberTooLarge)
+judged h complete _ = Err BadToken
+
+-- what the end of the input means after so many clauses, with these literals of a clause at hand
+abbrev pub at_end : Header → ℕ → List Literal → Place → Ending → Body
+at_end h complete literals p Failed = faulty ReadFailed
+at_end h complete (l ∷ ls) p End = faulty (Text UnterminatedClause p)
+at_end h complete [] p End = cond (nat_le h.clauses complete) whole (faulty (Text TooFewClauses p))
+
+-- what a judged word means; `rest` is what follows
+abbrev pub on_word : ℕ → List Literal → Place → Result (Option Literal) TextFault → (ℕ → List Literal → Body) → Body
+on_word complete literals p (Ok (Some l)) rest = rest complete (literals ++ l ∷ [])
+on_word complete literals p (Ok None) rest = with_clause literals (rest (complete + 1) [])
+on_word complete literals p (Err f) rest = faulty (Text f p)
+
+abbrev pub on_token : Header → ℕ → List Literal → tokens.Token → (ℕ → List Literal → Body) → Body
+on_token h complete literals (token.Word p w) rest = on_word complete literals p (judged h complete w) rest
+on_token h complete literals (token.LineEnd p) rest = rest complete literals
+on_token h complete literals (token.End p) rest = rest complete literals
+
+abbrev pub body_among : Header → ℕ → List Literal → List Listed → Place → Ending → Body
+body_among h complete literals [] p ending = at_end h complete literals p ending
+body_among h complete literals (t ∷ ts) p ending =
+    on_token h complete literals t.token (λ complete literals. body_among h complete literals ts p ending)
+
+-- the clauses after so many complete ones, with these literals of a clause at hand
+abbrev pub body_of : Header → ℕ → List Literal → Listing → Body
+body_of h complete literals l = body_among h complete literals l.tokens l.end l.ending
+
+-- ---- A whole formula
+
+-- the header if it is right, the clauses before the first fault, and that fault
+pub record Formula : Type 0 where
+  pub header : Option Header
+  pub clauses : List Clause
+  pub fault : Option Fault
+
+abbrev pub formula_with : Result (Header × Listing) Fault → Formula
+formula_with (Ok h) = record { header = Some h.0; clauses = (body_of h.0 0 [] h.1).clauses; fault = (body_of h.0 0 [] h.1).fault }
+formula_with (Err f) = record { header = None; clauses = []; fault = Some f }
+
+abbrev pub formula_at : Place → Input → Formula
+formula_at p i = formula_with (header_of (listing_at p i))
+
+abbrev pub formula_of : Input → Formula
+formula_of i = formula_with (header_of (listing_of i))

@@ -1,0 +1,59 @@
+-- A formula that is read clause by clause.
+use Rattle.std.specs.Prelude.{◌≡◌, ℕ, ◌+◌, Bool, true, false, List, [], ◌∷◌, Option, None, Some, Result, Ok, Err}
+use Rattle.cnf_base.specs.Literals.{Literal}
+use Rattle.cnf_base.specs.Stream.{Input, Stream}
+use Rattle.cnf_base.specs.Text.{Listing, listing_at}
+use Rattle.cnf_base.specs.declared.place.Place.{Place}
+use Rattle.cnf_base.specs.declared.word.Word.{Word}
+use Rattle.cnf_base.specs.declared.fault.Fault.{Fault}
+use Rattle.cnf_base.specs.declared.fault.Fault.TheVariants.{Text, ReadFailed, OutOfMemory}
+use Rattle.cnf_base.specs.declared.fault.TextFault.TheVariants.{BadHeader}
+use Rattle.dimacs.specs.Formula.{Body, body_of, faulty, whole, with_clause, Formula}
+use Rattle.dimacs.specs.declared.header.Header.{Header}
+
+-- a reader of a formula: where it stands in its input, the header, how many clauses were given, and the fault that it keeps
+pub record Reading : Type 0 where
+  pub stream : Stream
+  pub header : Header
+  pub complete : ℕ
+  pub fault : Option Fault
+
+abbrev pub unless_faulty : Option Fault → Body → Body
+unless_faulty None b = b
+unless_faulty (Some f) b = faulty f
+
+-- what is still to come of an input
+abbrev pub to_come : Reading → Input → Body
+to_come r i = unless_faulty r.fault (body_of r.header r.complete [] (listing_at r.stream.place i))
+
+-- A clause is the first of what is to come; or nothing is to come, and it stays so; or a fault is, and it stays.
+-- After want of memory that is the fault that stays.
+abbrev pub GivesClause : Result Bool Fault → List Literal → Body → Body → Type 0
+GivesClause (Ok true) c before after = before ≡ with_clause c after
+GivesClause (Ok false) c before after = (before ≡ after) × (before ≡ whole)
+GivesClause (Err OutOfMemory) c before after = after ≡ faulty OutOfMemory
+GivesClause (Err f) c before after = (before ≡ after) × (before ≡ faulty f)
+
+abbrev pub is_nil : List Literal → Bool
+is_nil [] = true
+is_nil (l ∷ ls) = false
+
+-- what is to come after the clause that was given next
+abbrev pub left_of : Result Bool Fault → Header → ℕ → Listing → Body
+left_of (Ok true) h complete l = body_of h (complete + 1) [] l
+left_of (Ok false) h complete l = body_of h complete [] l
+left_of (Err f) h complete l = faulty f
+
+-- the end of the input was met in the midst of a clause, after the last one, or before it
+abbrev pub EndsSo : Result Bool Fault → Body → Type 0
+EndsSo (Ok true) b = ⊥
+EndsSo (Ok false) b = b ≡ whole
+EndsSo (Err f) b = b ≡ faulty f
+
+-- the formula of a header and what is to come
+abbrev pub opened : Header → Body → Formula
+opened h b = record { header = Some h; clauses = b.clauses; fault = b.fault }
+
+-- the formula of a fault in the header
+abbrev pub unopened : Fault → Formula
+unopened f = record { header = None; clauses = []; fault = Some f }

@@ -1,0 +1,177 @@
+//! A formula, clause by clause.
+
+ghost use Rattle.std.specs.Prelude.{◌≡◌, ◌+◌, ◌<◌, ◌≤◌, true, IfOk, IfErr, OnOk};
+ghost use Rattle.cnf_base.specs.Stream.{Stream, Along, most_to_come};
+ghost use Rattle.cnf_base.specs.Text.{listing_at};
+ghost use Rattle.cnf_base.specs.declared.input.Ending.TheVariants.{End};
+ghost use Rattle.cnf_base.specs.Readers.{Advances, IsLeft, Tells, TellsOf};
+ghost use Rattle.dimacs.specs.Formula.{at_end, body_of, formula_at, judged};
+ghost use Rattle.dimacs.specs.Reading.{to_come, left_of, EndsSo, GivesClause, opened, unopened};
+
+use crate::ClauseBuf;
+use crate::header::{Header, read_header};
+use cnf_base::{Fault, In, Lit, Place, ReadFailed, Scanner, Source, TextFault, Token, Word};
+use std::marker::Model;
+
+/// A formula in DIMACS CNF, read clause by clause. It holds nothing of the formula but its header.
+#[derive(Drop)]
+pub struct FormulaReader<R: In> {
+    scanner: Scanner<R>,
+    header: Header,
+    complete: u32,
+    fault: Option<Fault>,
+}
+
+impl<R: In> Model for FormulaReader<R> {
+    ghost use Rattle.std.specs.Prelude.{◌≡◌, ◌≤◌, Some, true};
+    ghost use Rattle.cnf_base.specs.declared.fault.Fault.TheVariants.{ReadFailed};
+    ghost use Rattle.dimacs.specs.Reading.{Reading};
+
+    ghost Value = { Reading };
+
+    ghost view = { λ r. record { stream = r.scanner; header = r.header; complete = r.complete; fault = r.fault } };
+
+    ghost invariant = { λ r. (r.header.vars ≤ 268435455) × (r.complete ≤ r.header.clauses) × (r.fault ≡ Some ReadFailed → r.scanner.has_failed ≡ true) };
+}
+
+impl<R: In> FormulaReader<R> {
+    /// Reads the header. A fault there hands the reader back.
+    pub fn open(source: Source<R>) -> Result<Self, (Fault, R)>
+        // The formula is this header and what is still to come of it.
+        ensures opened { IfOk result (λ r. Along source r.stream (λ i j. formula_at source.place i ≡ opened r.header (to_come r j))) }
+        ensures started { IfOk result (λ r. (r.complete ≡ 0) × (r.fault ≡ None)) }
+        ensures fewer { IfOk result (λ r. most_to_come r.stream ≤ most_to_come source) }
+        ensures mark { IfOk result (λ r. r.stream.has_failed ≡ source.has_failed) }
+
+        // The formula is this fault, whatever may follow.
+        ensures refused { IfErr result (λ e. (last : Stream) × IsLeft last (R.left e.1) (R.has_failed e.1) (R.borrows e.1)
+            × Along source last (λ i j. formula_at source.place i ≡ unopened e.0) × Tells e.0 source.has_failed last.has_failed) }
+    {
+        let mut scanner = Scanner::new(source);
+        match read_header(&mut scanner) {
+            Ok(header) => Ok(FormulaReader {
+                scanner,
+                header,
+                complete: 0,
+                fault: None,
+            }),
+            Err(fault) => Err((fault, scanner.release())),
+        }
+    }
+
+    /// The header's number of variables.
+    pub fn vars(&self) -> u32
+        ensures value { result ≡ self.now.header.vars }
+        ensures limit { result ≤ 268435455 }
+    {
+        self.header.vars
+    }
+
+    /// The header's number of clauses.
+    pub fn clauses(&self) -> u32
+        ensures { result ≡ self.now.header.clauses }
+    {
+        self.header.clauses
+    }
+
+    /// Puts the next clause into the buffer. After the last one it answers false, at every call; after a fault, that
+    /// fault. After a fault or false the buffer's content is open.
+    pub fn next(&mut self, clause: &mut ClauseBuf) -> Result<bool, Fault>
+        ensures clause { Along self.old.stream self.new.stream (λ i j. GivesClause result clause.new (to_come self.old i) (to_come self.new j)) }
+        ensures header { self.new.header ≡ self.old.header }
+        ensures counts { result ≡ Ok true → (self.new.complete ≡ self.old.complete + 1) × (self.new.complete ≤ self.old.header.clauses) }
+        ensures kept { (f : Fault) → self.old.fault ≡ Some f → (result ≡ Err f) × (self.new ≡ self.old) }
+        ensures keeps { IfErr result (λ f. self.new.fault ≡ Some f) }
+        ensures fewer { Advances result self.old.stream self.new.stream }
+        ensures tells { TellsOf result self.old.stream.has_failed self.new.stream.has_failed }
+    {
+        if let Some(fault) = self.fault {
+            return Err(fault);
+        }
+        clause.clear();
+        match read_clause(&mut self.scanner, self.header, self.complete, clause) {
+            Ok(true) => {
+                self.complete += 1;
+                Ok(true)
+            }
+            Ok(false) => Ok(false),
+            Err(fault) => {
+                self.fault = Some(fault);
+                Err(fault)
+            }
+        }
+    }
+
+    /// Gives the reader back.
+    pub fn release(self) -> R
+        ensures left { R.left result ≡ self.stream.left }
+        ensures mark { R.has_failed result ≡ self.stream.has_failed }
+        ensures same_reader { R.borrows result ≡ self.stream.borrows }
+    {
+        self.scanner.release()
+    }
+}
+
+// Adds the literals up to the next `0` to those at hand.
+fn read_clause<R: In>(
+    scanner: &mut Scanner<R>,
+    header: Header,
+    complete: u32,
+    clause: &mut ClauseBuf,
+) -> Result<bool, Fault>
+    ensures clause { Along scanner.old scanner.new (λ i j. GivesClause result clause.new
+        (body_of header complete clause.old (listing_at scanner.old.place i)) (left_of result header complete (listing_at scanner.new.place j))) }
+    ensures counts { result ≡ Ok true → complete < header.clauses }
+    ensures fewer { Advances result scanner.old scanner.new }
+    ensures tells { TellsOf result scanner.old.has_failed scanner.new.has_failed }
+{
+    loop {
+        match scanner.next() {
+            Ok(Token::Word(place, word)) => match judge(header, complete, word) {
+                Ok(Some(lit)) => {
+                    if clause.push(lit).is_err() {
+                        return Err(Fault::OutOfMemory);
+                    }
+                }
+                Ok(None) => return Ok(true),
+                Err(kind) => return Err(Fault::Text(kind, place)),
+            },
+            Ok(Token::LineEnd(_)) => {}
+            Ok(Token::End(place)) => return at_end(header, complete, clause, place),
+            Err(ReadFailed) => return Err(Fault::ReadFailed),
+        }
+    }
+}
+
+// A literal, or none for the `0` that ends a clause.
+fn judge(header: Header, complete: u32, word: Word) -> Result<Option<Lit>, TextFault>
+    ensures value { result ≡ judged header complete word }
+    ensures counts { OnOk result (complete < header.clauses) }
+{
+    let Word::Number(number) = word else {
+        return Err(TextFault::BadToken);
+    };
+    if number.size > u64::from(Lit::MAX_VAR) {
+        return Err(TextFault::NumberTooLarge);
+    }
+    if complete >= header.clauses {
+        return Err(TextFault::TooManyClauses);
+    }
+    if number.size > u64::from(header.vars) {
+        return Err(TextFault::LiteralOutOfRange);
+    }
+    Ok(Lit::from_number(number))
+}
+
+// What the end of the input means.
+fn at_end(header: Header, complete: u32, clause: &ClauseBuf, place: Place) -> Result<bool, Fault>
+    ensures value { EndsSo result (at_end header complete clause.now place End) }
+{
+    if !clause.is_empty() {
+        return Err(Fault::Text(TextFault::UnterminatedClause, place));
+    }
+    if complete < header.clauses {
+        return Err(Fault::Text(TextFault::TooFewClauses, place));
+    }
+    Ok(false)
+}

@@ -1,0 +1,23 @@
+-- The steps of a proof.
+use Rattle.std.specs.Prelude.{ℕ, ◌&&◌, nat_le, ℤ, pos, negsuc, Bool, true, false, List, nat_abs}
+use Rattle.cnf_base.specs.Literals.{Literal}
+use Rattle.proofs.specs.declared.step_buf.StepKind.{StepKind}
+use Rattle.proofs.specs.declared.step_buf.StepKind.TheVariants.{Add, Delete}
+
+-- A step as it was written: its literals in order, its identifier (0 in DRAT), and its hints. The identifiers that an
+-- LRAT deletion lists stand in the hints.
+pub record Step : Type 0 where
+  pub kind : StepKind
+  pub id : ℕ
+  pub lits : List Literal
+  pub hints : List ℤ
+
+-- the limit of identifiers (our own profile)
+abbrev pub is_small : ℕ → Bool
+is_small k = nat_le k 9223372036854775807
+
+-- a hint is a signed identifier other than 0, and a positive one in a deletion
+abbrev pub is_hint : StepKind → ℤ → Bool
+is_hint Add h = nat_le 1 (nat_abs h) && is_small (nat_abs h)
+is_hint Delete (pos k) = nat_le 1 k && is_small k
+is_hint Delete (negsuc k) = false

@@ -1,0 +1,83 @@
+//! One step of a proof.
+
+ghost use Rattle.std.specs.Prelude.{◌≡◌, [], IsTrue};
+ghost use Rattle.std.specs.List.{list_all};
+ghost use Rattle.proofs.specs.Steps.{is_hint, is_small};
+
+use cnf_base::Lit;
+use std::alloc::Global;
+use std::marker::Model;
+
+/// What a step does.
+#[derive(Clone, Copy, Debug, PartialEq, Eq)]
+pub enum StepKind {
+    Add,
+    Delete,
+}
+
+/// One step of a proof. A reader fills it again and again, and it keeps its room.
+///
+/// The identifier is 0 in DRAT. The identifiers that an LRAT deletion lists stand in the hints.
+#[derive(Drop)]
+pub struct StepBuf {
+    kind: StepKind,
+    id: u64,
+    lits: Vec<Lit>,
+    hints: Vec<i64>,
+}
+
+impl Model for StepBuf {
+    ghost use Rattle.std.specs.Prelude.{IsTrue};
+    ghost use Rattle.std.specs.List.{list_all};
+    ghost use Rattle.proofs.specs.Steps.{Step, is_hint, is_small};
+
+    ghost Value = { Step };
+
+    ghost view = { λ s. record { kind = s.kind; id = s.id; lits = s.lits.items; hints = s.hints.items } };
+
+    ghost invariant = { λ s. (IsTrue (is_small s.id)) × (IsTrue (list_all (is_hint s.kind) s.hints.items)) };
+}
+
+impl StepBuf {
+    /// A step without literals, which takes no memory.
+    pub fn new(alloc: Global) -> Self
+        ensures { result ≡ record { kind = StepKind.Add; id = 0; lits = []; hints = [] } }
+    {
+        StepBuf {
+            kind: StepKind::Add,
+            id: 0,
+            lits: Vec::new(alloc),
+            hints: Vec::new(alloc),
+        }
+    }
+
+    /// Whether it adds a clause or deletes.
+    pub fn kind(&self) -> StepKind
+        ensures { result ≡ self.now.kind }
+    {
+        self.kind
+    }
+
+    /// Its identifier, 0 in DRAT.
+    pub fn id(&self) -> u64
+        ensures value { result ≡ self.now.id }
+        ensures limit { IsTrue (is_small result) }
+    {
+        self.id
+    }
+
+    /// Its literals in written order.
+    pub fn lits(&self) -> &[Lit]
+        ensures { result.now ≡ self.now.lits }
+    {
+        self.lits.as_slice()
+    }
+
+    /// Its hints, or the identifiers that it deletes, in written order.
+    pub fn hints(&self) -> &[i64]
+        ensures value { result.now ≡ self.now.hints }
+        ensures limits { IsTrue (list_all (is_hint self.now.kind) result.now) }
+    {
+        self.hints.as_slice()
+    }
+}
