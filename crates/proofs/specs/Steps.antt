@@ -1,5 +1,5 @@
 -- The steps of a proof.
-use Rattle.std.specs.Prelude.{ℕ, ◌&&◌, nat_le, ℤ, pos, negsuc, Bool, true, false, List, nat_abs}
+use Rattle.std.specs.Prelude.{ℕ, ◌&&◌, nat_le, ℤ, pos, negsuc, Bool, true, false, List, [], ◌∷◌, ◌++◌, nat_abs}
 use Rattle.cnf_base.specs.Literals.{Literal}
 use Rattle.proofs.specs.declared.step_buf.StepKind.{StepKind}
 use Rattle.proofs.specs.declared.step_buf.StepKind.TheVariants.{Add, Delete}
@@ -21,3 +21,16 @@ abbrev pub is_hint : StepKind → ℤ → Bool
 is_hint Add h = nat_le 1 (nat_abs h) && is_small (nat_abs h)
 is_hint Delete (pos k) = nat_le 1 k && is_small k
 is_hint Delete (negsuc k) = false
+
+-- an addition and a deletion without literals and hints, and a step with one more of each
+abbrev pub named : ℕ → Step
+named id = record { kind = Add; id = id; lits = []; hints = [] }
+
+abbrev pub deleting : Step → Step
+deleting s = record { kind = Delete; id = s.id; lits = []; hints = [] }
+
+abbrev pub with_literal : Step → Literal → Step
+with_literal s l = record { kind = s.kind; id = s.id; lits = s.lits ++ l ∷ []; hints = s.hints }
+
+abbrev pub with_hint : Step → ℤ → Step
+with_hint s h = record { kind = s.kind; id = s.id; lits = s.lits; hints = s.hints ++ h ∷ [] }

@@ -1,10 +1,10 @@
 //! One step of a proof.
 
-ghost use Rattle.std.specs.Prelude.{◌≡◌, [], IsTrue};
+ghost use Rattle.std.specs.Prelude.{◌≡◌, [], IsTrue, OnOk};
 ghost use Rattle.std.specs.List.{list_all};
-ghost use Rattle.proofs.specs.Steps.{is_hint, is_small};
+ghost use Rattle.proofs.specs.Steps.{is_hint, is_small, named, deleting, with_literal, with_hint};
 
-use cnf_base::Lit;
+use cnf_base::{Lit, OutOfMemory};
 use std::alloc::Global;
 use std::marker::Model;
 
@@ -79,5 +79,44 @@ impl StepBuf {
         ensures limits { IsTrue (list_all (is_hint self.now.kind) result.now) }
     {
         self.hints.as_slice()
+    }
+
+    // An addition without literals and hints.
+    pub(crate) fn name(&mut self, id: u64)
+        requires { IsTrue (is_small id) }
+        ensures { self.new ≡ named id }
+    {
+        self.kind = StepKind::Add;
+        self.id = id;
+        self.lits.clear();
+        self.hints.clear();
+    }
+
+    // A deletion under the same identifier.
+    pub(crate) fn delete(&mut self)
+        ensures { self.new ≡ deleting self.old }
+    {
+        self.kind = StepKind::Delete;
+        self.lits.clear();
+        self.hints.clear();
+    }
+
+    pub(crate) fn push_literal(&mut self, lit: Lit) -> Result<(), OutOfMemory>
+        ensures { OnOk result (self.new ≡ with_literal self.old lit) }
+    {
+        if self.lits.push(lit).is_err() {
+            return Err(OutOfMemory);
+        }
+        Ok(())
+    }
+
+    pub(crate) fn push_hint(&mut self, hint: i64) -> Result<(), OutOfMemory>
+        requires { IsTrue (is_hint self.old.kind hint) }
+        ensures { OnOk result (self.new ≡ with_hint self.old hint) }
+    {
+        if self.hints.push(hint).is_err() {
+            return Err(OutOfMemory);
+        }
+        Ok(())
     }
 }

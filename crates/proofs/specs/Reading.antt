@@ -1,0 +1,38 @@
+-- A proof that is read step by step, in whatever format.
+use Rattle.std.specs.Prelude.{◌≡◌, ℕ, Bool, true, false, List, [], ◌∷◌, length, Option, None, Some, Result, Ok, Err}
+use Rattle.cnf_base.specs.Stream.{Input}
+use Rattle.cnf_base.specs.declared.fault.Fault.{Fault}
+use Rattle.cnf_base.specs.declared.fault.Fault.TheVariants.{OutOfMemory}
+use Rattle.proofs.specs.Steps.{Step}
+
+-- a step, and how many bytes of the input follow its last `0`
+pub record PlacedStep : Type 0 where
+  pub step : Step
+  pub rest : ℕ
+
+-- the steps before the first fault, and that fault; none where the proof ends cleanly
+pub record Proof : Type 0 where
+  pub steps : List PlacedStep
+  pub fault : Option Fault
+
+abbrev pub clean : Proof
+clean = record { steps = []; fault = None }
+
+abbrev pub faulty : Fault → Proof
+faulty f = record { steps = []; fault = Some f }
+
+abbrev pub with_step : Step → ℕ → Proof → Proof
+with_step s rest p = record { steps = record { step = s; rest = rest } ∷ p.steps; fault = p.fault }
+
+-- where a fault is kept nothing else is to come
+abbrev pub unless_faulty : Option Fault → Proof → Proof
+unless_faulty None p = p
+unless_faulty (Some f) p = faulty f
+
+-- A step is the first of what is to come; or nothing is to come, and it stays so; or a fault is, and it stays.
+-- After want of memory that is the fault that stays. `rest` is what follows of the input.
+abbrev pub GivesStep : Result Bool Fault → Step → Proof → Proof → Input → Type 0
+GivesStep (Ok true) s before after rest = before ≡ with_step s (length rest.bytes) after
+GivesStep (Ok false) s before after rest = (before ≡ after) × (before ≡ clean)
+GivesStep (Err OutOfMemory) s before after rest = after ≡ faulty OutOfMemory
+GivesStep (Err f) s before after rest = (before ≡ after) × (before ≡ faulty f)

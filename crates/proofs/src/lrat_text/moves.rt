@@ -1,0 +1,142 @@
+//! What a word does to a step.
+
+ghost use Rattle.std.specs.Prelude.{◌≡◌, ◌≤◌};
+ghost use Rattle.proofs.specs.Lrat.{move_of, number_move, d_move, identifier, literal, hint, deleted, signed};
+ghost use Rattle.proofs.specs.declared.step_buf.StepKind.TheVariants.{Add};
+ghost use Rattle.proofs.specs.LratMoves.{Moves, FitsPart, FitsMoved};
+
+use super::part::Part;
+use crate::StepBuf;
+use cnf_base::{Lit, Number, OutOfMemory, TextFault, Word};
+
+/// How a step goes on.
+#[derive(Clone, Copy)]
+pub enum Moved {
+    To(Part),
+    Complete,
+}
+
+/// Why it doesn't.
+#[derive(Clone, Copy)]
+pub enum Stopped {
+    Text(TextFault),
+    OutOfMemory,
+}
+
+const MOST: u64 = 9223372036854775807;
+
+/// Puts a word into the step.
+pub fn move_on(part: Part, step: &mut StepBuf, word: Word) -> Result<Moved, Stopped>
+    requires { FitsPart part step.old }
+    ensures moves { Moves result (move_of part step.old word) step.new }
+    ensures fits { FitsMoved result step.new }
+{
+    match word {
+        Word::Number(number) => take_number(part, step, number),
+        Word::D => take_d(part, step),
+        _ => Err(Stopped::Text(TextFault::BadToken)),
+    }
+}
+
+fn take_number(part: Part, step: &mut StepBuf, number: Number) -> Result<Moved, Stopped>
+    requires { FitsPart part step.old }
+    ensures moves { Moves result (number_move part step.old number) step.new }
+    ensures fits { FitsMoved result step.new }
+{
+    match part {
+        Part::Identifier => take_identifier(step, number),
+        Part::AfterIdentifier | Part::Literals => take_literal(step, number),
+        Part::Hints => take_hint(step, number),
+        Part::Deletion => take_deleted(step, number),
+    }
+}
+
+fn take_d(part: Part, step: &mut StepBuf) -> Result<Moved, Stopped>
+    ensures moves { Moves result (d_move part step.old) step.new }
+    ensures fits { FitsMoved result step.new }
+{
+    match part {
+        Part::AfterIdentifier => {
+            step.delete();
+            Ok(Moved::To(Part::Deletion))
+        }
+        Part::Identifier | Part::Literals | Part::Hints | Part::Deletion => {
+            Err(Stopped::Text(TextFault::BadToken))
+        }
+    }
+}
+
+fn take_identifier(step: &mut StepBuf, number: Number) -> Result<Moved, Stopped>
+    ensures moves { Moves result (identifier number) step.new }
+    ensures fits { FitsMoved result step.new }
+{
+    if number.is_negative || number.size == 0 {
+        return Err(Stopped::Text(TextFault::BadToken));
+    }
+    if number.size > MOST {
+        return Err(Stopped::Text(TextFault::IdTooLarge));
+    }
+    step.name(number.size);
+    Ok(Moved::To(Part::AfterIdentifier))
+}
+
+fn take_literal(step: &mut StepBuf, number: Number) -> Result<Moved, Stopped>
+    requires { step.old.kind ≡ Add }
+    ensures moves { Moves result (literal step.old number) step.new }
+    ensures fits { FitsMoved result step.new }
+{
+    if number.size > u64::from(Lit::MAX_VAR) {
+        return Err(Stopped::Text(TextFault::LiteralTooLarge));
+    }
+    let Some(lit) = Lit::from_number(number) else {
+        return Ok(Moved::To(Part::Hints));
+    };
+    if step.push_literal(lit).is_err() {
+        return Err(Stopped::OutOfMemory);
+    }
+    Ok(Moved::To(Part::Literals))
+}
+
+fn take_hint(step: &mut StepBuf, number: Number) -> Result<Moved, Stopped>
+    requires { step.old.kind ≡ Add }
+    ensures moves { Moves result (hint step.old number) step.new }
+    ensures fits { FitsMoved result step.new }
+{
+    if number.size > MOST {
+        return Err(Stopped::Text(TextFault::IdTooLarge));
+    }
+    if number.size == 0 {
+        return Ok(Moved::Complete);
+    }
+    if step.push_hint(signed(number)).is_err() {
+        return Err(Stopped::OutOfMemory);
+    }
+    Ok(Moved::To(Part::Hints))
+}
+
+fn take_deleted(step: &mut StepBuf, number: Number) -> Result<Moved, Stopped>
+    ensures moves { Moves result (deleted step.old number) step.new }
+    ensures fits { FitsMoved result step.new }
+{
+    if number.is_negative {
+        return Err(Stopped::Text(TextFault::BadToken));
+    }
+    if number.size > MOST {
+        return Err(Stopped::Text(TextFault::IdTooLarge));
+    }
+    if number.size == 0 {
+        return Ok(Moved::Complete);
+    }
+    if step.push_hint(number.size as i64).is_err() {
+        return Err(Stopped::OutOfMemory);
+    }
+    Ok(Moved::To(Part::Deletion))
+}
+
+fn signed(number: Number) -> i64
+    requires { number.size ≤ 9223372036854775807 }
+    ensures { result ≡ signed number }
+{
+    let size = number.size as i64;
+    if number.is_negative { -size } else { size }
+}

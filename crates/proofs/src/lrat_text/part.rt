@@ -1,0 +1,11 @@
+//! The parts of a step.
+
+/// Where a word of a step stands.
+#[derive(Clone, Copy)]
+pub enum Part {
+    Identifier,
+    AfterIdentifier,
+    Literals,
+    Hints,
+    Deletion,
+}
