@@ -6,3 +6,4 @@ pub mod TextLemmas
 pub mod WordLemmas
 pub mod RunLemmas
 pub mod TokenLemmas
+pub mod SeenLemmas

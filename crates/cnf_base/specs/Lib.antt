@@ -6,3 +6,4 @@ pub mod Digits
 pub mod Text
 pub mod Lines
 pub mod Readers
+pub mod Seen

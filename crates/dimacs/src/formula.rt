@@ -59,6 +59,13 @@ impl<R: In> FormulaReader<R> {
         }
     }
 
+    /// The header.
+    pub fn header(&self) -> Header
+        ensures { result ≡ self.now.header }
+    {
+        self.header
+    }
+
     /// The header's number of variables.
     pub fn vars(&self) -> u32
         ensures value { result ≡ self.now.header.vars }
@@ -79,7 +86,7 @@ impl<R: In> FormulaReader<R> {
     pub fn next(&mut self, clause: &mut ClauseBuf) -> Result<bool, Fault>
         ensures clause { Along self.old.stream self.new.stream (λ i j. GivesClause result clause.new (to_come self.old i) (to_come self.new j)) }
         ensures header { self.new.header ≡ self.old.header }
-        ensures counts { result ≡ Ok true → (self.new.complete ≡ self.old.complete + 1) × (self.new.complete ≤ self.old.header.clauses) }
+        ensures counts { result ≡ Ok true → (self.new.complete ≡ self.old.complete + 1) × (self.new.complete ≤ self.old.header.clauses) × (self.new.complete ≤ 4294967295) }
         ensures kept { (f : Fault) → self.old.fault ≡ Some f → (result ≡ Err f) × (self.new ≡ self.old) }
         ensures keeps { IfErr result (λ f. self.new.fault ≡ Some f) }
         ensures fewer { Advances result self.old.stream self.new.stream }

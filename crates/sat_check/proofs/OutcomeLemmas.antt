@@ -1,0 +1,119 @@
+-- What a run wrote, and how it ended.
+use Rattle.std.proofs.Common.{◌≡◌, ℕ, Bool, true, false, List, [], ◌∷◌, ◌++◌, Option, refl, sym, ap, ◌∙◌, subst, append_assoc}
+use Rattle.std.specs.Io.KnownBytes.{Appends}
+use Rattle.cnf_base.specs.Lines.{Sink, Writes, line_of}
+use Rattle.cnf_base.proofs.LineLemmas.{append_nil, Appends-then, Writes-nothing, Writes-then}
+use Rattle.sat_check.specs.Report.{Report, text_of, Outcome, with_lines, concluded}
+use Rattle.sat_check.specs.Lines.{sentence}
+use Rattle.sat_check.specs.declared.status.Status.{Status}
+use Rattle.sat_check.specs.declared.status.Status.TheVariants.{Verified, NotVerified, Malformed, ReadFailed, OutOfMemory, WriteFailed, Usage}
+
+pub text_of-append : (front back : List (List ℕ)) → text_of (front ++ back) ≡ text_of front ++ text_of back
+text_of-append [] back = refl
+text_of-append (line ∷ lines) back =
+    ap (λ t. line_of line ++ t) (text_of-append lines back) ∙ sym (append_assoc (line_of line) (text_of lines) (text_of back))
+
+-- a text of which all was written
+pub Writes-all : (old new : Sink) (text : List ℕ) → Writes old new text → new.is_broken ≡ false → Appends old.held new.held text
+Writes-all old new text w sound =
+    let P : List ℕ → Type 0 = Appends old.held new.held in
+    subst P (sym (w.whole ∙ ap (λ t. w.part ++ t) (w.all sound) ∙ append_nil w.part)) w.appends
+
+-- the whole report was written, and its status answered
+pub Outcome-all : (status : Status) (old new : Option (List ℕ)) (r : Report) → status ≡ r.status → Appends old new (text_of r.lines) → Outcome status old new r
+Outcome-all Verified old new r e a = (e, a)
+Outcome-all NotVerified old new r e a = (e, a)
+Outcome-all Malformed old new r e a = (e, a)
+Outcome-all ReadFailed old new r e a = (e, a)
+Outcome-all OutOfMemory old new r e a = (r.lines, [], sym (no_more r.lines), a)
+  where
+    no_more : (lines : List (List ℕ)) → lines ++ [] ≡ lines
+    no_more [] = refl
+    no_more (x ∷ xs) = ap (λ t. x ∷ t) (no_more xs)
+Outcome-all WriteFailed old new r e a = (text_of r.lines, [], sym (append_nil (text_of r.lines)), a)
+Outcome-all Usage old new r e a = (e, a)
+
+-- lines, and then the rest of a report
+pub Outcome-after : (status : Status) (old now new : Option (List ℕ)) (front : List (List ℕ)) (r : Report)
+    → Appends old now (text_of front) → Outcome status now new r → Outcome status old new (with_lines front r)
+Outcome-after status old now new front r a o = by status o
+  where
+    all : Appends now new (text_of r.lines) → Appends old new (text_of (front ++ r.lines))
+    all b = let P : List ℕ → Type 0 = Appends old new in subst P (sym (text_of-append front r.lines)) (Appends-then old now new _ _ a b)
+
+    lines_assoc : (x y z : List (List ℕ)) → (x ++ y) ++ z ≡ x ++ (y ++ z)
+    lines_assoc [] y z = refl
+    lines_assoc (l ∷ ls) y z = ap (λ t. l ∷ t) (lines_assoc ls y z)
+
+    by : (status : Status) → Outcome status now new r → Outcome status old new (with_lines front r)
+    by Verified o = (o.0, all o.1)
+    by NotVerified o = (o.0, all o.1)
+    by Malformed o = (o.0, all o.1)
+    by ReadFailed o = (o.0, all o.1)
+    by Usage o = (o.0, all o.1)
+    by OutOfMemory o =
+        (front ++ o.0, o.1, ap (λ t. front ++ t) o.2 ∙ sym (lines_assoc front o.0 o.1),
+          (let P : List ℕ → Type 0 = Appends old new in subst P (sym (text_of-append front o.0)) (Appends-then old now new _ _ a o.3)))
+    by WriteFailed o =
+        (text_of front ++ o.0, o.1,
+          text_of-append front r.lines ∙ ap (λ t. text_of front ++ t) o.2 ∙ sym (append_assoc (text_of front) o.0 o.1),
+          Appends-then old now new _ _ a o.3)
+
+-- a line of which only a beginning was written
+pub Outcome-broken : (old new : Sink) (text : List ℕ) (r : Report) → Writes old new (line_of text) → Outcome WriteFailed old.held new.held (with_lines (text ∷ []) r)
+Outcome-broken old new text r w = (
+  w.part,
+  w.rest ++ text_of r.lines,
+  ap (λ t. t ++ text_of r.lines) w.whole ∙ append_assoc w.part w.rest (text_of r.lines),
+  w.appends,
+)
+
+-- nothing more was written, and the writer failed
+pub Outcome-closed : (old new : Sink) (r : Report) → Writes old new [] → Outcome WriteFailed old.held new.held r
+Outcome-closed old new r w = ([], text_of r.lines, refl, Writes-nothing old new w)
+
+-- or memory ran out
+pub Outcome-refused : (old new : Sink) (r : Report) → Writes old new [] → Outcome OutOfMemory old.held new.held r
+Outcome-refused old new r w = ([], r.lines, refl, Writes-nothing old new w)
+
+line_text : (text : List ℕ) → text_of (text ∷ []) ≡ line_of text
+line_text text = append_nil (line_of text)
+
+-- a whole line, and then the rest
+pub Outcome-line : (status : Status) (old now : Sink) (new : Option (List ℕ)) (text : List ℕ) (r : Report)
+    → Writes old now (line_of text) → now.is_broken ≡ false → Outcome status now.held new r → Outcome status old.held new (with_lines (text ∷ []) r)
+Outcome-line status old now new text r w sound o =
+    let P : List ℕ → Type 0 = Appends old.held now.held in
+    Outcome-after status old.held now.held new (text ∷ []) r (subst P (sym (line_text text)) (Writes-all old now (line_of text) w sound)) o
+
+-- the bytes of a line, by the text that they are
+written : (old new : Sink) (bytes text : List ℕ) → bytes ≡ text → Writes old new (line_of bytes) → Writes old new (line_of text)
+written old new bytes text e w = let P : List ℕ → Type 0 = λ b. Writes old new (line_of b) in subst P e w
+
+module _ (status : Status) (old first second last : Sink) (text : List ℕ) where
+  -- a conclusion that broke off in its first line, in its second, or at the flush; and a whole one
+  pub concluded-first : (bytes : List ℕ) → bytes ≡ text → Writes old first (line_of bytes) → Outcome WriteFailed old.held first.held (concluded text status)
+  concluded-first bytes e w = Outcome-broken old first text (record { lines = sentence status ∷ []; status = status }) (written old first bytes text e w)
+
+  module _ (bytes : List ℕ) (e : bytes ≡ text) (w : Writes old first (line_of bytes)) (sound : first.is_broken ≡ false) (last_bytes : List ℕ) (is : last_bytes ≡ sentence status) (v : Writes first second (line_of last_bytes)) where
+    pub concluded-second : Outcome WriteFailed old.held second.held (concluded text status)
+    concluded-second =
+        Outcome-line WriteFailed old first second.held text (record { lines = sentence status ∷ []; status = status }) (written old first bytes text e w) sound
+        (Outcome-broken first second (sentence status) (record { lines = []; status = status }) (written first second last_bytes (sentence status) is v))
+
+    module _ (also : second.is_broken ≡ false) (flushed : Writes second last []) where
+      pub concluded-flush : Outcome WriteFailed old.held last.held (concluded text status)
+      concluded-flush =
+          Outcome-line WriteFailed old first last.held text (record { lines = sentence status ∷ []; status = status }) (written old first bytes text e w) sound
+          (Outcome-line WriteFailed first second last.held (sentence status) (record { lines = []; status = status }) (written first second last_bytes (sentence status) is v) also
+          (Outcome-closed second last (record { lines = []; status = status }) flushed))
+
+      pub concluded-whole : last.is_broken ≡ false → Outcome status old.held last.held (concluded text status)
+      concluded-whole end =
+          Outcome-line status old first last.held text (record { lines = sentence status ∷ []; status = status }) (written old first bytes text e w) sound
+          (Outcome-line status first second last.held (sentence status) (record { lines = []; status = status }) (written first second last_bytes (sentence status) is v) also
+          (Outcome-all status second.held last.held (record { lines = []; status = status }) refl (Writes-all second last [] flushed end)))
+
+-- a line that broke off
+pub line-broken : (old new : Sink) (bytes text : List ℕ) (r : Report) → bytes ≡ text → Writes old new (line_of bytes) → Outcome WriteFailed old.held new.held (with_lines (text ∷ []) r)
+line-broken old new bytes text r e w = Outcome-broken old new text r (written old new bytes text e w)

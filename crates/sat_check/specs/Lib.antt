@@ -1,0 +1,4 @@
+pub mod Status
+pub mod Lines
+pub mod Report
+pub mod Checking

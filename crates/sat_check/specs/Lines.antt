@@ -1,0 +1,116 @@
+-- The lines of a report (`s VERIFIED` and `s NOT VERIFIED` are those of DRAT-trim; all others are our own profile).
+use Rattle.std.specs.Prelude.{ℕ, ◌+◌, ◌-◌, ◌/◌, ◌%◌, ◌^◌, ◌==◌, min, cond, Bool, true, false, List, [], ◌∷◌, ◌++◌, codes, decimal}
+use Rattle.cnf_base.specs.Literals.{Literal}
+use Rattle.cnf_base.specs.declared.fault.Fault.{Fault}
+use Rattle.cnf_base.specs.declared.fault.Fault.TheVariants as fault
+use Rattle.cnf_base.specs.declared.fault.TextFault.{TextFault}
+use Rattle.cnf_base.specs.declared.fault.TextFault.TheVariants as text
+use Rattle.cnf_base.specs.declared.fault.BinaryFault.{BinaryFault}
+use Rattle.cnf_base.specs.declared.fault.BinaryFault.TheVariants as binary
+use Rattle.dimacs.specs.declared.header.Header.{Header}
+use Rattle.steps.specs.declared.accepted.Accepted.{Accepted}
+use Rattle.steps.specs.declared.accepted.Accepted.TheVariants.{Rup, Rat, Deleted, Ignored, Empty}
+use Rattle.steps.specs.declared.refusal.Refusal.{Refusal}
+use Rattle.steps.specs.declared.refusal.Refusal.TheVariants as refusal
+use Rattle.sat_check.specs.declared.status.Status.{Status}
+use Rattle.sat_check.specs.declared.status.Status.TheVariants as status
+
+-- numbers are printed up to the greatest of 64 bits
+abbrev pub shown : ℕ → List ℕ
+shown n = decimal (min n (2 ^ 64 - 1))
+
+abbrev pub formula_line : Header → List ℕ
+formula_line h = codes "c formula " ++ decimal h.vars ++ codes " variables " ++ decimal h.clauses ++ codes " clauses"
+
+-- ---- Faults
+
+abbrev pub kind_text : TextFault → List ℕ
+kind_text text.BadHeader = codes "bad header"
+kind_text text.NumberTooLarge = codes "number too large"
+kind_text text.BadToken = codes "bad token"
+kind_text text.LiteralOutOfRange = codes "literal out of range"
+kind_text text.TooManyClauses = codes "too many clauses"
+kind_text text.TooFewClauses = codes "too few clauses"
+kind_text text.UnterminatedClause = codes "unterminated clause"
+kind_text text.BadLine = codes "bad line"
+kind_text text.SecondStatus = codes "second status line"
+kind_text text.NoStatus = codes "no status line"
+kind_text text.NotClaimed = codes "no model claimed"
+kind_text text.AfterEnd = codes "token after the end of the model"
+kind_text text.UnterminatedModel = codes "unterminated model"
+kind_text text.Complement = codes "literal and its complement"
+kind_text text.LiteralTooLarge = codes "literal too large"
+kind_text text.IdTooLarge = codes "identifier too large"
+kind_text text.UnterminatedStep = codes "unterminated step"
+
+abbrev pub binary_text : BinaryFault → List ℕ
+binary_text binary.LiteralTooLarge = codes "literal too large"
+binary_text binary.UnterminatedStep = codes "unterminated step"
+binary_text binary.BadTag = codes "bad tag"
+binary_text binary.BadNumber = codes "bad number"
+
+-- the line of a fault in the input of this name; want of memory has none
+abbrev pub fault_line : List ℕ → Fault → List ℕ
+fault_line name (fault.Text kind p) = codes "c " ++ name ++ codes " " ++ decimal p.line ++ codes ":" ++ decimal p.col ++ codes ": " ++ kind_text kind
+fault_line name (fault.Binary kind n) = codes "c " ++ name ++ codes " byte " ++ decimal n ++ codes ": " ++ binary_text kind
+fault_line name fault.ReadFailed = codes "c cannot read " ++ name
+fault_line name fault.OutOfMemory = []
+
+abbrev pub text_status : TextFault → Status
+text_status text.NotClaimed = status.NotVerified
+text_status text.Complement = status.NotVerified
+text_status _ = status.Malformed
+
+abbrev pub fault_status : Fault → Status
+fault_status (fault.Text kind p) = text_status kind
+fault_status (fault.Binary kind n) = status.Malformed
+fault_status fault.ReadFailed = status.ReadFailed
+fault_status fault.OutOfMemory = status.OutOfMemory
+
+-- ---- Steps
+
+abbrev pub word_text : Accepted → List ℕ
+word_text Rup = codes " add rup"
+word_text Rat = codes " add rat"
+word_text Deleted = codes " delete"
+word_text Ignored = codes " ignored"
+word_text Empty = codes " add rup"
+
+-- the line of the accepted step n
+abbrev pub trace_line : ℕ → Accepted → List ℕ
+trace_line n word = codes "c " ++ shown n ++ word_text word
+
+abbrev pub sign_text : Literal → List ℕ
+sign_text l = cond (l % 2 == 0) [] (codes "-")
+
+-- the line so far, with the cause of a refusal
+abbrev pub with_cause : List ℕ → Refusal → List ℕ
+with_cause front refusal.NotRup = front ++ codes "not RUP"
+with_cause front (refusal.NeitherRupNorRat l) = front ++ codes "neither RUP nor RAT on " ++ sign_text l ++ decimal (l / 2)
+with_cause front refusal.NotAlive = front ++ codes "clause is not alive"
+with_cause front refusal.IdOutOfOrder = front ++ codes "identifier is not above all earlier ones"
+with_cause front (refusal.UnknownId k) = front ++ codes "unknown id " ++ decimal k
+with_cause front (refusal.NotUnit k) = front ++ codes "hint " ++ decimal k ++ codes " is not unit"
+with_cause front (refusal.NotCandidate k) = front ++ codes "clause " ++ decimal k ++ codes " does not hold the complement"
+with_cause front (refusal.NamedTwice k) = front ++ codes "clause " ++ decimal k ++ codes " is named twice"
+with_cause front (refusal.GroupWithoutConflict k) = front ++ codes "group " ++ decimal k ++ codes " has no conflict"
+with_cause front (refusal.Unnamed k) = front ++ codes "clause " ++ decimal k ++ codes " holds the complement and is not named"
+with_cause front refusal.NoConflict = front ++ codes "no conflict"
+with_cause front refusal.OutOfMemory = front
+with_cause front refusal.Ended = front
+
+-- the line of the refused step n
+abbrev pub refusal_line : ℕ → Refusal → List ℕ
+refusal_line n r = with_cause (codes "c step " ++ shown n ++ codes ": ") r
+
+-- the line of a verified proof of n steps
+abbrev pub steps_line : ℕ → ℕ → List ℕ
+steps_line n peak = codes "c steps " ++ shown n ++ codes " peak " ++ shown peak
+
+abbrev pub end_line : List ℕ
+end_line = codes "c end: no empty clause"
+
+-- the verdict's last line
+abbrev pub sentence : Status → List ℕ
+sentence status.Verified = codes "s VERIFIED"
+sentence _ = codes "s NOT VERIFIED"

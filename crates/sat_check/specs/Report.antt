@@ -1,0 +1,92 @@
+-- What a check writes, and how it ends.
+use Rattle.std.specs.Prelude.{◌≡◌, ℕ, ◌+◌, max, cond, Bool, true, false, List, [], ◌∷◌, ◌++◌, length, map, Option, None, Some, codes}
+use Rattle.std.specs.List.{flat_map}
+use Rattle.std.specs.Io.KnownBytes.{Appends}
+use Rattle.cnf_base.specs.Literals.{Clause}
+use Rattle.cnf_base.specs.Stream.{Input}
+use Rattle.cnf_base.specs.Lines.{line_of}
+use Rattle.cnf_base.specs.declared.fault.Fault.{Fault}
+use Rattle.cnf_base.specs.declared.fault.Fault.TheVariants.{OutOfMemory as NoMemory}
+use Rattle.dimacs.specs.Formula.{Formula, formula_of}
+use Rattle.dimacs.specs.declared.header.Header.{Header}
+use Rattle.proofs.specs.Reading.{Proof, PlacedStep}
+use Rattle.proofs.specs.Lrat.{lrat_steps}
+use Rattle.steps.specs.Lrat.{LratState, LratStep, AnswersLrat, after_lrat, lrat_step}
+use Rattle.steps.specs.Sizes.{total}
+use Rattle.steps.specs.Verdicts.{Ending, verified, refused, no_empty_clause, Ends, lrat_start, LratVerdict}
+use Rattle.steps.specs.declared.accepted.Accepted.{Accepted}
+use Rattle.sat_check.specs.Lines.{formula_line, fault_line, fault_status, trace_line, refusal_line, steps_line, end_line, sentence}
+use Rattle.sat_check.specs.declared.status.Status.{Status}
+use Rattle.sat_check.specs.declared.status.Status.TheVariants.{Verified, NotVerified, OutOfMemory, WriteFailed}
+
+-- the lines that are written, and how the program ends
+pub record Report : Type 0 where
+  pub lines : List (List ℕ)
+  pub status : Status
+
+-- lines, each with its line feed
+abbrev pub text_of : List (List ℕ) → List ℕ
+text_of lines = flat_map line_of lines
+
+-- A run wrote the report and ended so; or memory ran out, and it wrote a number of its lines; or the writer failed, and it
+-- wrote a beginning of the text.
+abbrev pub Outcome : Status → Option (List ℕ) → Option (List ℕ) → Report → Type 0
+Outcome OutOfMemory old new r = (done : List (List ℕ)) × (rest : List (List ℕ)) × (r.lines ≡ done ++ rest) × Appends old new (text_of done)
+Outcome WriteFailed old new r = (part : List ℕ) × (rest : List ℕ) × (text_of r.lines ≡ part ++ rest) × Appends old new part
+Outcome s old new r = (s ≡ r.status) × Appends old new (text_of r.lines)
+
+-- ---- The report of a proof
+
+-- a line, and the verdict's last line
+abbrev pub concluded : List ℕ → Status → Report
+concluded line status = record { lines = line ∷ sentence status ∷ []; status = status }
+
+abbrev pub with_lines : List (List ℕ) → Report → Report
+with_lines front r = record { lines = front ++ r.lines; status = r.status }
+
+-- a line for each accepted step, the first of which has this number
+abbrev pub trace_lines : ℕ → List Accepted → List (List ℕ)
+trace_lines n [] = []
+trace_lines n (word ∷ words) = trace_line n word ∷ trace_lines (n + 1) words
+
+-- how a proof ends that runs out of steps
+abbrev pub end_report : Option Fault → Report
+end_report None = concluded end_line NotVerified
+end_report (Some f) = concluded (fault_line (codes "proof") f) (fault_status f)
+
+-- the verdict after so many accepted steps
+abbrev pub verdict_report : ℕ → ℕ → Ending → Option Fault → Report
+verdict_report n peak verified fault = concluded (steps_line n peak) Verified
+verdict_report n peak (refused r) fault = concluded (refusal_line (n + 1) r) NotVerified
+verdict_report n peak no_empty_clause fault = end_report fault
+
+-- the greatest sum of the sizes of the live clauses, over a state and those after accepted steps
+abbrev pub peak_of : LratState → List LratStep → List Accepted → ℕ
+peak_of state [] words = total state
+peak_of state (step ∷ steps) [] = total state
+peak_of state (step ∷ steps) (word ∷ words) = max (total state) (peak_of (after_lrat state step) steps words)
+
+abbrev pub steps_of : Proof → List LratStep
+steps_of proof = map (λ placed. lrat_step placed.step) proof.steps
+
+-- the trace, if it is asked for, and the verdict
+abbrev pub proof_report : Bool → ℕ → ℕ → List Accepted → Ending → Option Fault → Report
+proof_report trace n peak words ending fault =
+    with_lines (cond trace (trace_lines (n + 1) words) []) (verdict_report (n + length words) peak ending fault)
+
+-- the report of a formula without a fault
+pub record ChecksLrat (trace : Bool) (h : Header) (clauses : List Clause) (proof : Proof) (r : Report) : Type 0 where
+  pub words : List Accepted
+  pub ending : Ending
+  pub verdict : LratVerdict clauses (steps_of proof) words ending
+  pub report : r ≡ with_lines (formula_line h ∷ []) (proof_report trace 0 (peak_of (lrat_start clauses) (steps_of proof) words) words ending proof.fault)
+
+abbrev pub ReportsFormula : Bool → Option Header → List Clause → Option Fault → Proof → Report → Type 0
+ReportsFormula trace header clauses (Some f) proof r = r ≡ concluded (fault_line (codes "formula") f) (fault_status f)
+ReportsFormula trace (Some h) clauses None proof r = ChecksLrat trace h clauses proof r
+ReportsFormula trace None clauses None proof r = ⊥
+
+-- the report of a formula and a proof in LRAT, with the trace or without
+abbrev pub LratReport : Bool → Input → Input → Report → Type 0
+LratReport trace formula proof r =
+    ReportsFormula trace (formula_of formula).header (formula_of formula).clauses (formula_of formula).fault (lrat_steps proof) r

@@ -1,0 +1,82 @@
+//! How a run ends.
+
+ghost use Rattle.std.specs.Prelude.{◌≡◌, ◌⊎◌, false, true, [], ◌∷◌, ℕ, List, IfOk, IfErr, OnOk};
+ghost use Rattle.cnf_base.specs.Lines.{Writes, line_of};
+ghost use Rattle.sat_check.specs.Lines.{fault_line, fault_status};
+ghost use Rattle.sat_check.specs.Report.{Report, Outcome, concluded, with_lines};
+
+use crate::Status;
+use crate::line::Line;
+use crate::report::{fault_line, fault_status, sentence};
+use cnf_base::{Fault, LineOut, Out, OutOfMemory};
+use std::alloc::Global;
+
+/// Writes a line and the verdict's last line, and answers the status.
+pub fn conclude<O: Out>(
+    lines: &mut LineOut<O>,
+    line: Result<Line, OutOfMemory>,
+    status: Status,
+) -> Status
+    ensures outcome { (text : List ℕ) → IfOk line (λ l. l ≡ text) → Outcome result lines.old.held lines.new.held (concluded text status) }
+    ensures status { (result ≡ status) ⊎ (result ≡ Status.OutOfMemory) ⊎ ((result ≡ Status.WriteFailed) × (lines.new.has_failed ≡ true)) }
+    ensures same_writer { lines.new.borrows ≡ lines.old.borrows }
+{
+    let Ok(line) = line else {
+        return give_up(lines);
+    };
+    if lines.line(line.bytes()).is_err() {
+        return Status::WriteFailed;
+    }
+    if lines.line(sentence(status)).is_err() {
+        return Status::WriteFailed;
+    }
+    if lines.finish().is_err() {
+        return Status::WriteFailed;
+    }
+    status
+}
+
+/// Tells of the first fault of the input of this name.
+pub fn conclude_fault<O: Out>(
+    alloc: Global,
+    lines: &mut LineOut<O>,
+    name: &[u8],
+    fault: Fault,
+) -> Status
+    ensures outcome { Outcome result lines.old.held lines.new.held (concluded (fault_line name.now fault) (fault_status fault)) }
+    ensures read_failed { result ≡ Status.ReadFailed → fault ≡ Fault.ReadFailed }
+    ensures write_failed { result ≡ Status.WriteFailed → lines.new.has_failed ≡ true }
+    ensures same_writer { lines.new.borrows ≡ lines.old.borrows }
+{
+    conclude(lines, fault_line(alloc, name, fault), fault_status(fault))
+}
+
+/// Writes a line that others follow. Where that fails it answers the status.
+pub fn write_line<O: Out>(
+    lines: &mut LineOut<O>,
+    line: Result<Line, OutOfMemory>,
+) -> Result<(), Status>
+    ensures written { OnOk result ((text : List ℕ) → IfOk line (λ l. l ≡ text) → Writes lines.old lines.new (line_of text)) }
+    ensures ok { OnOk result ((lines.new.is_broken ≡ false) × (lines.new.has_failed ≡ lines.old.has_failed)) }
+    ensures stopped { IfErr result (λ status. (text : List ℕ) (r : Report) → IfOk line (λ l. l ≡ text) → Outcome status lines.old.held lines.new.held (with_lines (text ∷ []) r)) }
+    ensures status { IfErr result (λ status. (status ≡ Status.OutOfMemory) ⊎ ((status ≡ Status.WriteFailed) × (lines.new.has_failed ≡ true))) }
+    ensures same_writer { lines.new.borrows ≡ lines.old.borrows }
+{
+    let Ok(line) = line else {
+        return Err(give_up(lines));
+    };
+    if lines.line(line.bytes()).is_err() {
+        return Err(Status::WriteFailed);
+    }
+    Ok(())
+}
+
+/// Ends without a further line where memory ran out. What the flush answers doesn't change that.
+pub fn give_up<O: Out>(lines: &mut LineOut<O>) -> Status
+    ensures status { result ≡ Status.OutOfMemory }
+    ensures outcome { (r : Report) → Outcome Status.OutOfMemory lines.old.held lines.new.held r }
+    ensures same_writer { lines.new.borrows ≡ lines.old.borrows }
+{
+    let _ = lines.finish();
+    Status::OutOfMemory
+}

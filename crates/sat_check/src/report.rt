@@ -1,0 +1,228 @@
+//! The lines of a report.
+
+ghost use Rattle.std.specs.Prelude.{◌≡◌, ◌++◌, ◌/◌, codes, decimal, IfOk};
+ghost use Rattle.sat_check.specs.Lines.{formula_line, kind_text, binary_text, fault_line, fault_status, text_status, word_text, trace_line, sign_text, with_cause, refusal_line, steps_line, end_line, sentence};
+
+use crate::Status;
+use crate::line::Line;
+use cnf_base::{BinaryFault, Fault, Lit, OutOfMemory, TextFault};
+use dimacs::Header;
+use std::alloc::Global;
+use steps::{Accepted, Refusal};
+
+/// How many variables and clauses the formula has.
+pub fn formula_line(alloc: Global, header: Header) -> Result<Line, OutOfMemory>
+    ensures { IfOk result (λ line. line ≡ formula_line header) }
+{
+    Line::new(alloc)
+        .text(b"c formula ")?
+        .number(u64::from(header.vars))?
+        .text(b" variables ")?
+        .number(u64::from(header.clauses))?
+        .text(b" clauses")
+}
+
+/// What is wrong with the input of this name, and where.
+pub fn fault_line(alloc: Global, name: &[u8], fault: Fault) -> Result<Line, OutOfMemory>
+    ensures { IfOk result (λ line. line ≡ fault_line name.now fault) }
+{
+    match fault {
+        Fault::Text(kind, place) => Line::new(alloc)
+            .text(b"c ")?
+            .text(name)?
+            .text(b" ")?
+            .number(place.line)?
+            .text(b":")?
+            .number(place.col)?
+            .text(b": ")?
+            .text(kind_text(kind)),
+        Fault::Binary(kind, byte) => Line::new(alloc)
+            .text(b"c ")?
+            .text(name)?
+            .text(b" byte ")?
+            .number(byte)?
+            .text(b": ")?
+            .text(binary_text(kind)),
+        Fault::ReadFailed => Line::new(alloc).text(b"c cannot read ")?.text(name),
+        Fault::OutOfMemory => Ok(Line::new(alloc)),
+    }
+}
+
+/// The status that a fault has.
+pub fn fault_status(fault: Fault) -> Status
+    ensures { result ≡ fault_status fault }
+{
+    match fault {
+        Fault::Text(kind, _) => text_status(kind),
+        Fault::Binary(_, _) => Status::Malformed,
+        Fault::ReadFailed => Status::ReadFailed,
+        Fault::OutOfMemory => Status::OutOfMemory,
+    }
+}
+
+/// The accepted step of this number.
+pub fn trace_line(alloc: Global, number: u64, word: Accepted) -> Result<Line, OutOfMemory>
+    ensures { IfOk result (λ line. line ≡ trace_line number word) }
+{
+    Line::new(alloc)
+        .text(b"c ")?
+        .number(number)?
+        .text(word_text(word))
+}
+
+/// The refused step of this number, with its cause.
+pub fn refusal_line(alloc: Global, number: u64, refusal: Refusal) -> Result<Line, OutOfMemory>
+    ensures { IfOk result (λ line. line ≡ refusal_line number refusal) }
+{
+    let line = Line::new(alloc)
+        .text(b"c step ")?
+        .number(number)?
+        .text(b": ")?;
+    with_cause(line, refusal)
+}
+
+/// A verified proof of so many steps.
+pub fn steps_line(alloc: Global, number: u64, peak: u64) -> Result<Line, OutOfMemory>
+    ensures { IfOk result (λ line. line ≡ steps_line number peak) }
+{
+    Line::new(alloc)
+        .text(b"c steps ")?
+        .number(number)?
+        .text(b" peak ")?
+        .number(peak)
+}
+
+/// A proof that ends without an empty clause.
+pub fn end_line(alloc: Global) -> Result<Line, OutOfMemory>
+    ensures { IfOk result (λ line. line ≡ end_line) }
+{
+    Line::new(alloc).text(b"c end: no empty clause")
+}
+
+/// The verdict's last line.
+pub fn sentence(status: Status) -> &'static [u8]
+    ensures { result.now ≡ sentence status }
+{
+    match status {
+        Status::Verified => b"s VERIFIED",
+        Status::NotVerified
+        | Status::Malformed
+        | Status::ReadFailed
+        | Status::OutOfMemory
+        | Status::WriteFailed
+        | Status::Usage => b"s NOT VERIFIED",
+    }
+}
+
+fn with_cause(line: Line, refusal: Refusal) -> Result<Line, OutOfMemory>
+    ensures { IfOk result (λ whole. whole ≡ with_cause line refusal) }
+{
+    match refusal {
+        Refusal::NotRup => line.text(b"not RUP"),
+        Refusal::NeitherRupNorRat(pivot) => with_pivot(line, pivot),
+        Refusal::NotAlive => line.text(b"clause is not alive"),
+        Refusal::IdOutOfOrder => line.text(b"identifier is not above all earlier ones"),
+        Refusal::UnknownId(id) => line.text(b"unknown id ")?.number(id),
+        Refusal::NotUnit(id) => with_id(line, b"hint ", id, b" is not unit"),
+        Refusal::NotCandidate(id) => {
+            with_id(line, b"clause ", id, b" does not hold the complement")
+        }
+        Refusal::NamedTwice(id) => with_id(line, b"clause ", id, b" is named twice"),
+        Refusal::GroupWithoutConflict(id) => with_id(line, b"group ", id, b" has no conflict"),
+        Refusal::Unnamed(id) => {
+            with_id(line, b"clause ", id, b" holds the complement and is not named")
+        }
+        Refusal::NoConflict => line.text(b"no conflict"),
+        Refusal::OutOfMemory | Refusal::Ended => Ok(line),
+    }
+}
+
+fn with_id(line: Line, before: &[u8], id: u64, after: &[u8]) -> Result<Line, OutOfMemory>
+    ensures { IfOk result (λ whole. whole ≡ line ++ before.now ++ decimal id ++ after.now) }
+{
+    line.text(before)?.number(id)?.text(after)
+}
+
+fn with_pivot(line: Line, pivot: Lit) -> Result<Line, OutOfMemory>
+    ensures { IfOk result (λ whole. whole ≡ line ++ codes "neither RUP nor RAT on " ++ sign_text pivot ++ decimal (pivot / 2)) }
+{
+    let variable = u64::from(pivot.var());
+    line.text(b"neither RUP nor RAT on ")?
+        .text(sign_text(pivot))?
+        .number(variable)
+}
+
+fn sign_text(literal: Lit) -> &'static [u8]
+    ensures { result.now ≡ sign_text literal }
+{
+    if literal.index() % 2 == 0 { b"" } else { b"-" }
+}
+
+fn word_text(word: Accepted) -> &'static [u8]
+    ensures { result.now ≡ word_text word }
+{
+    match word {
+        Accepted::Rup | Accepted::Empty => b" add rup",
+        Accepted::Rat => b" add rat",
+        Accepted::Deleted => b" delete",
+        Accepted::Ignored => b" ignored",
+    }
+}
+
+fn text_status(kind: TextFault) -> Status
+    ensures { result ≡ text_status kind }
+{
+    match kind {
+        TextFault::NotClaimed | TextFault::Complement => Status::NotVerified,
+        TextFault::BadHeader
+        | TextFault::NumberTooLarge
+        | TextFault::BadToken
+        | TextFault::LiteralOutOfRange
+        | TextFault::TooManyClauses
+        | TextFault::TooFewClauses
+        | TextFault::UnterminatedClause
+        | TextFault::BadLine
+        | TextFault::SecondStatus
+        | TextFault::NoStatus
+        | TextFault::AfterEnd
+        | TextFault::UnterminatedModel
+        | TextFault::LiteralTooLarge
+        | TextFault::IdTooLarge
+        | TextFault::UnterminatedStep => Status::Malformed,
+    }
+}
+
+fn kind_text(kind: TextFault) -> &'static [u8]
+    ensures { result.now ≡ kind_text kind }
+{
+    match kind {
+        TextFault::BadHeader => b"bad header",
+        TextFault::NumberTooLarge => b"number too large",
+        TextFault::BadToken => b"bad token",
+        TextFault::LiteralOutOfRange => b"literal out of range",
+        TextFault::TooManyClauses => b"too many clauses",
+        TextFault::TooFewClauses => b"too few clauses",
+        TextFault::UnterminatedClause => b"unterminated clause",
+        TextFault::BadLine => b"bad line",
+        TextFault::SecondStatus => b"second status line",
+        TextFault::NoStatus => b"no status line",
+        TextFault::NotClaimed => b"no model claimed",
+        TextFault::AfterEnd => b"token after the end of the model",
+        TextFault::UnterminatedModel => b"unterminated model",
+        TextFault::Complement => b"literal and its complement",
+        TextFault::LiteralTooLarge => b"literal too large",
+        TextFault::IdTooLarge => b"identifier too large",
+        TextFault::UnterminatedStep => b"unterminated step",
+    }
+}
+
+fn binary_text(kind: BinaryFault) -> &'static [u8]
+    ensures { result.now ≡ binary_text kind }
+{
+    match kind {
+        BinaryFault::LiteralTooLarge => b"literal too large",
+        BinaryFault::UnterminatedStep => b"unterminated step",
+        BinaryFault::BadTag => b"bad tag",
+        BinaryFault::BadNumber => b"bad number",
+    }
+}

@@ -1,0 +1,73 @@
+-- The answer depends on the set of true literals alone, from which groups and candidates start.
+use Rattle.std.proofs.Common.{◌≡◌, ℕ, not, ◌&&◌, ◌||◌, eqb, Option, Some, None, Ok, Err, List, [], ◌∷◌, slice_get, refl, sym, ap, ◌∙◌, subst}
+use Rattle.std.specs.Bool.{then_some}
+use Rattle.std.specs.Option.{option_or}
+use Rattle.std.specs.List.{list_any}
+use Rattle.std.proofs.lemmas.List.Folds.{list_any-append}
+use Rattle.steps.specs.declared.accepted.Accepted.TheVariants.{Rat}
+use Rattle.steps.specs.declared.refusal.Refusal.{Refusal}
+use Rattle.steps.specs.declared.refusal.Refusal.TheVariants.{NotCandidate, NamedTwice, GroupWithoutConflict, Unnamed}
+use Rattle.steps.specs.declared.walk.WalkEnd.TheVariants.{Open}
+use Rattle.cnf_base.specs.Literals.{Literal, complement, Clause, has, complements, without}
+use Rattle.steps.specs.Propagation.{Live}
+use Rattle.steps.specs.Drat.{Answer}
+use Rattle.steps.specs.Lrat.{ChainEnd, conflict, open_with, unknown, not_unit, Group, with_candidate, group_refusal, groups_refusal, is_unsettled, is_left_out, AnswersGroups, AnswersChain}
+use Rattle.steps.specs.Walk.{IsEnd}
+use Rattle.steps.proofs.SameSets.{SameSet, conflicts_same, chain_alike}
+use Rattle.steps.proofs.LiveSets.{SameClauses-refl}
+
+module _ (live : Live) (first second : List Literal) (same : SameSet first second) (pivot : Literal) where
+  start_same : (c : Clause) → SameSet (with_candidate first c pivot) (with_candidate second c pivot)
+  start_same c l =
+      list_any-append (λ k. eqb k l) first (complements (without c (complement pivot)))
+      ∙ ap (λ b. b || has (complements (without c (complement pivot))) l) (same l)
+      ∙ sym (list_any-append (λ k. eqb k l) second (complements (without c (complement pivot))))
+
+  group_start : (earlier : List ℕ) (group : Group) (o : Option Clause) → group_refusal live first pivot earlier group o ≡ group_refusal live second pivot earlier group o
+  group_start earlier group None = refl
+  group_start earlier group (Some c) =
+      ap (λ e. option_or (then_some (not (has c (complement pivot))) (NotCandidate group.candidate)) (option_or (then_some (has earlier group.candidate) (NamedTwice group.candidate)) e))
+      (chain_alike live live (SameClauses-refl live) (GroupWithoutConflict group.candidate) group.hints (with_candidate first c pivot) (with_candidate second c pivot) (start_same c))
+
+  groups_start : (groups : List Group) (earlier : List ℕ) → groups_refusal live first pivot earlier groups ≡ groups_refusal live second pivot earlier groups
+  groups_start [] earlier = refl
+  groups_start (group ∷ groups) earlier =
+      ap (λ o. option_or o (groups_refusal live first pivot (group.candidate ∷ earlier) groups)) (group_start earlier group (live group.candidate))
+      ∙ ap (option_or (group_refusal live second pivot earlier group (live group.candidate))) (groups_start groups (group.candidate ∷ earlier))
+
+  unsettled_start : (o : Option Clause) → is_unsettled first pivot o ≡ is_unsettled second pivot o
+  unsettled_start None = refl
+  unsettled_start (Some c) = ap (λ b. has c (complement pivot) && not b) (conflicts_same _ _ (start_same c))
+
+  left_out_start : (groups : List Group) (k : ℕ) → is_left_out live first pivot groups k ≡ is_left_out live second pivot groups k
+  left_out_start groups k = ap (λ b. not (list_any (λ group. eqb group.candidate k) groups) && b) (unsettled_start (live k))
+
+  answers_start : (groups : List Group) (refusal : Option Refusal) (answer : Answer) → AnswersGroups live first pivot groups refusal answer → AnswersGroups live second pivot groups refusal answer
+  answers_start groups (Some r) answer a = a
+  answers_start groups None (Ok Rat) a = λ k. sym (left_out_start groups k) ∙ a k
+  answers_start groups None (Err (Unnamed k)) a = (sym (left_out_start groups k) ∙ a.0, λ j h. sym (left_out_start groups j) ∙ a.1 j h)
+  answers_start groups None (Ok _) a = absurd a
+  answers_start groups None (Err _) a = absurd a
+
+-- an open walk in code, and the answer from its list
+pub answers_open : (live : Live) (trues : List Literal) (pivot : Literal) (rest c : List Literal) (groups : List Group) (end : ChainEnd) (answer : Answer) → c ≡ pivot ∷ rest → IsEnd trues Open end →
+    AnswersGroups live trues pivot groups (groups_refusal live trues pivot [] groups) answer → AnswersChain live c groups end answer
+answers_open live trues pivot rest c groups end answer c_is is_end a = subst (λ d. AnswersChain live d groups end answer) (sym c_is) (by_end end is_end)
+  where
+    by_end : (end : ChainEnd) → IsEnd trues Open end → AnswersChain live (pivot ∷ rest) groups end answer
+    by_end (open_with ls) same =
+        subst (λ r. AnswersGroups live ls pivot groups r answer) (groups_start live trues ls same pivot groups [])
+        (answers_start live trues ls same pivot groups (groups_refusal live trues pivot [] groups) answer a)
+    by_end conflict h = absurd h
+    by_end (unknown k) h = absurd h
+    by_end (not_unit k) h = absurd h
+
+pub first_is : (c : List Literal) (pivot : Literal) → Some pivot ≡ slice_get c 0 → (rest : List Literal) × (c ≡ pivot ∷ rest)
+first_is [] pivot h = absurd (some_none pivot h)
+  where
+    some_none : (l : Literal) → Some l ≡ None → ⊥
+    some_none l e = cc
+first_is (l ∷ c) pivot h = (c, ap (λ k. k ∷ c) (same_some l pivot (sym h)))
+  where
+    same_some : (k l : Literal) → Some k ≡ Some l → k ≡ l
+    same_some k l e = cc

@@ -1,0 +1,57 @@
+-- One step of a DRAT proof, over the list of the live clauses. Additions by RUP, or by RAT on the first literal written,
+-- and deletions are those of DRAT, as DRAT-trim's page has it. Our own profile: RUP is asked first, a deletion of a unit
+-- clause is done as written, and one of a clause that is not alive is ignored, or refused where the rules are strict.
+use Rattle.std.specs.Prelude.{◌≡◌, ℕ, Bool, true, false, List, [], ◌∷◌, Result, Ok, Err, count_by, slice_get, IsTrue, IsFalse, if◌then◌else◌}
+use Rattle.std.specs.List.{list_any}
+use Rattle.steps.specs.declared.accepted.Accepted.{Accepted}
+use Rattle.steps.specs.declared.accepted.Accepted.TheVariants.{Rup, Rat, Empty, Deleted, Ignored}
+use Rattle.steps.specs.declared.refusal.Refusal.{Refusal}
+use Rattle.steps.specs.declared.refusal.Refusal.TheVariants.{NotRup, NeitherRupNorRat, NotAlive}
+use Rattle.cnf_base.specs.Literals.{Literal, Clause, same_clause}
+use Rattle.steps.specs.Propagation.{HasRup, HasRat}
+
+-- a step, with its literals in the order in which they were written
+pub data DratStep : Type 0 where
+  add : List Literal → DratStep
+  delete : List Literal → DratStep
+
+abbrev pub Answer : Type 0
+Answer = Result Accepted Refusal
+
+-- What an addition may be answered. The pivot is the first literal written.
+abbrev pub AnswersAdd : List Clause → List Literal → Answer → Type 0
+AnswersAdd live [] (Ok Empty) = HasRup (slice_get live) []
+AnswersAdd live [] (Err NotRup) = ¬ HasRup (slice_get live) []
+AnswersAdd live (pivot ∷ rest) (Ok Rup) = HasRup (slice_get live) (pivot ∷ rest)
+AnswersAdd live (pivot ∷ rest) (Ok Rat) = ¬ HasRup (slice_get live) (pivot ∷ rest) × HasRat (slice_get live) (pivot ∷ rest) pivot
+AnswersAdd live (pivot ∷ rest) (Err (NeitherRupNorRat l)) =
+    (l ≡ pivot) × ¬ HasRup (slice_get live) (pivot ∷ rest) × ¬ HasRat (slice_get live) (pivot ∷ rest) pivot
+AnswersAdd live c _ = ⊥
+
+-- What a deletion may be answered. One of a clause that is not alive is ignored, or refused where the rules are strict.
+abbrev pub AnswersDelete : Bool → List Clause → List Literal → Answer → Type 0
+AnswersDelete strict live c (Ok Deleted) = IsTrue (list_any (same_clause c) live)
+AnswersDelete false live c (Ok Ignored) = IsFalse (list_any (same_clause c) live)
+AnswersDelete true live c (Err NotAlive) = IsFalse (list_any (same_clause c) live)
+AnswersDelete strict live c _ = ⊥
+
+abbrev pub AnswersDrat : Bool → List Clause → DratStep → Answer → Type 0
+AnswersDrat strict live (add c) answer = AnswersAdd live c answer
+AnswersDrat strict live (delete c) answer = AnswersDelete strict live c answer
+
+-- without one copy of the clause, if there is one
+abbrev pub take_off : Clause → List Clause → List Clause
+take_off c [] = []
+take_off c (d ∷ live) = if same_clause c d then live else d ∷ take_off c live
+
+-- what is alive after an accepted step
+abbrev pub after_drat : List Clause → DratStep → List Clause
+after_drat live (add c) = c ∷ live
+after_drat live (delete c) = take_off c live
+
+-- The live clauses are a multiset: how many copies of a clause are alive is all that counts.
+abbrev pub copies_of : Clause → List Clause → ℕ
+copies_of c live = count_by (same_clause c) live
+
+pub record SameLive (first second : List Clause) : Type 0 where
+  pub copies : (c : Clause) → copies_of c first ≡ copies_of c second

@@ -1,0 +1,12 @@
+pub mod Propagation
+pub mod Models
+pub mod Drat
+pub mod Lrat
+pub mod Sizes
+pub mod Verdicts
+pub mod Theorems
+pub mod Session
+pub mod Shelf
+pub mod Survey
+pub mod Walk
+pub mod Answers

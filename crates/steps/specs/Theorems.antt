@@ -1,0 +1,95 @@
+-- What holds of the definitions. Each is the contract of a function of `laws`.
+use Rattle.std.specs.Prelude.{◌≡◌, ℕ, Bool, List, [], ◌∷◌, Ok, IsTrue, slice_get}
+use Rattle.steps.specs.declared.accepted.Accepted.{Accepted}
+use Rattle.steps.specs.declared.accepted.Accepted.TheVariants.{Rup, Rat, Empty}
+use Rattle.cnf_base.specs.Literals.{Literal, Clause, has, same_clause}
+use Rattle.steps.specs.Propagation.{Live, Forced, Clash, HasRup, HasRat, HasPr}
+use Rattle.steps.specs.Models.{Assignment, holds, satisfies, Models, HasModel}
+use Rattle.steps.specs.Drat.{Answer, DratStep, AnswersDrat, after_drat, SameLive}
+use Rattle.steps.specs.Lrat.{Group, LratState, LratStep, add, AnswersLrat, after_lrat, chain, conflict, with_clause, without_ids, SameClauses}
+use Rattle.steps.specs.Sizes.{total}
+use Rattle.steps.specs.Verdicts.{Ending, verified, DratVerdict, LratVerdict}
+
+-- Under every assignment that makes the live clauses and the assumed literals true, what is forced is true.
+abbrev pub ForcedIsTrue : Type 0
+ForcedIsTrue = (v : Assignment) (live : Live) (assumed : List Literal) (l : Literal) → Models v live →
+    ((a : Literal) → IsTrue (has assumed a) → IsTrue (holds v a)) → Forced live assumed l → IsTrue (holds v l)
+
+-- A clause with RUP is true in every model.
+abbrev pub RupIsImplied : Type 0
+RupIsImplied = (v : Assignment) (live : Live) (c : Clause) → Models v live → HasRup live c → IsTrue (satisfies v c)
+
+-- Clauses that have a model have one in which a clause with RAT, or with PR, is true too.
+abbrev pub RatKeepsModels : Type 0
+RatKeepsModels = (live : Live) (c : Clause) (pivot : Literal) → HasRat live c pivot → HasModel live →
+    (v : Assignment) × Models v live × IsTrue (satisfies v c)
+
+abbrev pub PrKeepsModels : Type 0
+PrKeepsModels = (live : Live) (c : Clause) (witness : List Literal) → HasPr live c witness → HasModel live →
+    (v : Assignment) × Models v live × IsTrue (satisfies v c)
+
+-- A walk from literals that are forced, which ends in a conflict, shows a clash.
+abbrev pub ChainShowsClash : Type 0
+ChainShowsClash = (live : Live) (assumed start : List Literal) (hints : List ℕ) →
+    ((a : Literal) → IsTrue (has start a) → Forced live assumed a) → chain live start hints ≡ conflict → Clash live assumed
+
+-- what a clause has that was accepted with this word
+abbrev pub IsRedundant : Live → List Literal → Accepted → Type 0
+IsRedundant live c Rup = HasRup live c
+IsRedundant live [] Empty = HasRup live []
+IsRedundant live (pivot ∷ rest) Rat = HasRat live (pivot ∷ rest) pivot
+IsRedundant live c _ = ⊥
+
+-- An addition that the LRAT rule accepts has RUP, or RAT on the first literal written.
+abbrev pub LratShowsRedundant : Type 0
+LratShowsRedundant = (state : LratState) (id : ℕ) (c : List Literal) (units : List ℕ) (groups : List Group) (word : Accepted) →
+    AnswersLrat state (add id c units groups) (Ok word) → IsRedundant state.live c word
+
+-- An accepted step leaves clauses that have a model if those before it have one.
+abbrev pub DratKeepsModels : Type 0
+DratKeepsModels = (strict : Bool) (live : List Clause) (step : DratStep) (word : Accepted) →
+    AnswersDrat strict live step (Ok word) → HasModel (slice_get live) → HasModel (slice_get (after_drat live step))
+
+abbrev pub LratKeepsModels : Type 0
+LratKeepsModels = (state : LratState) (step : LratStep) (word : Accepted) →
+    AnswersLrat state step (Ok word) → HasModel state.live → HasModel (after_lrat state step).live
+
+-- A formula that is verified has no model.
+abbrev pub DratIsSound : Type 0
+DratIsSound = (strict : Bool) (formula : List Clause) (steps : List DratStep) (words : List Accepted) →
+    DratVerdict strict formula steps words verified → ¬ HasModel (slice_get formula)
+
+abbrev pub LratIsSound : Type 0
+LratIsSound = (formula : List Clause) (steps : List LratStep) (words : List Accepted) →
+    LratVerdict formula steps words verified → ¬ HasModel (slice_get formula)
+
+-- A step has at most one answer, and a proof at most one verdict.
+abbrev pub AnswersAreUnique : Type 0
+AnswersAreUnique =
+    ((strict : Bool) (live : List Clause) (step : DratStep) (first second : Answer) → AnswersDrat strict live step first → AnswersDrat strict live step second → first ≡ second)
+    × ((state : LratState) (step : LratStep) (first second : Answer) → AnswersLrat state step first → AnswersLrat state step second → first ≡ second)
+
+abbrev pub VerdictsAreUnique : Type 0
+VerdictsAreUnique =
+    ((strict : Bool) (formula : List Clause) (steps : List DratStep) (first second : List Accepted) (ending other : Ending) →
+    DratVerdict strict formula steps first ending → DratVerdict strict formula steps second other → (first ≡ second) × (ending ≡ other))
+    × ((formula : List Clause) (steps : List LratStep) (first second : List Accepted) (ending other : Ending) →
+    LratVerdict formula steps first ending → LratVerdict formula steps second other → (first ≡ second) × (ending ≡ other))
+
+-- The answer to a DRAT step, and what is alive after it, depend only on how many copies of each clause are alive.
+abbrev pub OnlyCopiesCount : Type 0
+OnlyCopiesCount =
+    ((strict : Bool) (first second : List Clause) (step : DratStep) (answer : Answer) → SameLive first second → AnswersDrat strict first step answer → AnswersDrat strict second step answer)
+    × ((first second : List Clause) (step : DratStep) → SameLive first second → SameLive (after_drat first step) (after_drat second step))
+
+-- The answer to an LRAT step depends only on the sets of the live clauses, and so does what is alive after it.
+abbrev pub OnlySetsCount : Type 0
+OnlySetsCount =
+    ((first second : Live) (top : ℕ) (step : LratStep) (answer : Answer) → SameClauses first second →
+    AnswersLrat (record { live = first; top = top }) step answer → AnswersLrat (record { live = second; top = top }) step answer)
+    × ((first second : Live) (id : ℕ) (c d : Clause) → SameClauses first second → IsTrue (same_clause c d) → SameClauses (with_clause first id c) (with_clause second id d))
+    × ((first second : Live) (ids : List ℕ) → SameClauses first second → SameClauses (without_ids first ids) (without_ids second ids))
+
+-- States with the same clauses have the same sum of sizes.
+abbrev pub EqualSetsEqualTotals : Type 0
+EqualSetsEqualTotals = (first second : LratState) → SameClauses first.live second.live → first.top ≡ second.top → total first ≡ total second

@@ -1,0 +1,189 @@
+//! Sessions that check an LRAT proof.
+
+ghost use Rattle.std.specs.Prelude.{◌≡◌, ◌⊎◌, ◌+◌, ◌-◌, ◌<◌, ◌^◌, ◌||◌, ◌↔◌, min, max, true, false, IsTrue, IsFalse, IfOk, IfErr, OnOk, OnErr, ℕ};
+ghost use Rattle.std.specs.FinMap as maps;
+ghost use Rattle.steps.specs.Lrat.{AnswersLrat, after_lrat, lrat_step, with_clause, SameClauses};
+ghost use Rattle.steps.specs.Models.{HasModel};
+ghost use Rattle.steps.specs.Verdicts.{is_empty, is_last};
+ghost use Rattle.steps.specs.Sizes.{total};
+ghost use Rattle.steps.specs.Shelf.{shelf_state};
+ghost use Rattle.steps.specs.Session.{fresh, state_of, is_closed, UnlessOutOfMemory};
+
+use crate::accepted::Accepted;
+use crate::addition::judge_addition;
+use crate::live_clauses::{LiveClauses, delete_all};
+use crate::refusal::Refusal;
+use cnf_base::Lit;
+use proofs::{StepBuf, StepKind};
+use std::alloc::{AllocError, Global};
+use std::marker::Model;
+
+/// A check of an LRAT proof: the clauses of the formula are input first, and then the steps are taken in order.
+#[derive(Drop)]
+pub struct LratSession {
+    alloc: Global,
+    held: LiveClauses,
+    has_stepped: bool,
+    is_verified: bool,
+    is_ended: bool,
+    peak: u128,
+}
+
+impl Model for LratSession {
+    ghost use Rattle.steps.specs.Session.{Session, session_code};
+
+    ghost Value = { Session };
+
+    ghost coded = { session_code };
+
+    ghost view = { λ s. record { live = s.held.live; top = s.held.top; has_stepped = s.has_stepped; is_verified = s.is_verified; is_ended = s.is_ended; peak = s.peak } };
+}
+
+/// Judges an addition, and adds the clause where it is accepted.
+fn take_addition(alloc: Global, held: &mut LiveClauses, step: &StepBuf) -> Result<Accepted, Refusal>
+    requires { step.now.kind ≡ StepKind.Add }
+    ensures answers { UnlessOutOfMemory result (AnswersLrat (shelf_state held.old) (lrat_step step.now) result) }
+    ensures live { OnOk result ((k : ℕ) → maps.get held.new.live k ≡ (after_lrat (shelf_state held.old) (lrat_step step.now)).live k) }
+    ensures top { OnOk result (held.new.top ≡ (after_lrat (shelf_state held.old) (lrat_step step.now)).top) }
+{
+    let id = step.id();
+    if id <= held.top() {
+        return Err(Refusal::IdOutOfOrder);
+    }
+    let Ok(answer) = judge_addition(alloc, held.clauses(), step.lits(), step.hints()) else {
+        return Err(Refusal::OutOfMemory);
+    };
+    if answer.is_ok() && held.add(id, step.lits()).is_err() {
+        return Err(Refusal::OutOfMemory);
+    }
+    answer
+}
+
+/// Takes a step on the live clauses.
+fn take_step(alloc: Global, held: &mut LiveClauses, step: &StepBuf) -> Result<Accepted, Refusal>
+    ensures answers { UnlessOutOfMemory result (AnswersLrat (shelf_state held.old) (lrat_step step.now) result) }
+    ensures live { OnOk result ((k : ℕ) → maps.get held.new.live k ≡ (after_lrat (shelf_state held.old) (lrat_step step.now)).live k) }
+    ensures top { OnOk result (held.new.top ≡ (after_lrat (shelf_state held.old) (lrat_step step.now)).top) }
+{
+    match step.kind() {
+        StepKind::Add => take_addition(alloc, held, step),
+        StepKind::Delete => match delete_all(held, step.hints()) {
+            Some(id) => Err(Refusal::UnknownId(id)),
+            None => Ok(Accepted::Deleted),
+        },
+    }
+}
+
+impl LratSession {
+    /// A session without clauses.
+    pub fn new(alloc: Global) -> Result<Self, AllocError>
+        ensures { IfOk result (λ session. session ≡ fresh) }
+    {
+        Ok(LratSession {
+            alloc,
+            held: LiveClauses::new(alloc),
+            has_stepped: false,
+            is_verified: false,
+            is_ended: false,
+            peak: 0,
+        })
+    }
+
+    /// Adds a clause of the formula, under the next identifier from 1.
+    /// After a refusal the session is ended.
+    pub fn input(&mut self, lits: &[Lit]) -> Result<(), Refusal>
+        // Clauses come before the first step, and at most 4294967295 of them.
+        requires { (self.old.is_ended ≡ true) ⊎ ((self.old.has_stepped ≡ false) × (self.old.top < 4294967295)) }
+        // Only memory and an ended session refuse a clause.
+        ensures ended { (result ≡ Err Refusal.Ended) ↔ (self.old.is_ended ≡ true) }
+        ensures refusals { IfErr result (λ refusal. (refusal ≡ Refusal.Ended) ⊎ (refusal ≡ Refusal.OutOfMemory)) }
+        // The clause is alive under the next identifier.
+        ensures live { OnOk result (SameClauses (state_of self.new).live (with_clause (state_of self.old).live (self.old.top + 1) lits.now)) }
+        ensures top { OnOk result (self.new.top ≡ self.old.top + 1) }
+        ensures verified { OnOk result (self.new.is_verified ≡ (self.old.is_verified || is_empty lits.now)) }
+        ensures peak { OnOk result (self.new.peak ≡ max self.old.peak (total (state_of self.new))) }
+        // Steps and further clauses may follow.
+        ensures steps { OnOk result (self.new.has_stepped ≡ false) }
+        ensures goes_on { OnOk result (self.new.is_ended ≡ false) }
+        // A refusal ends the session.
+        ensures refused { OnErr result (self.new.is_ended ≡ true) }
+        ensures verified_stays { OnErr result (self.new.is_verified ≡ self.old.is_verified) }
+        ensures stepped_stays { OnErr result (self.new.has_stepped ≡ self.old.has_stepped) }
+        ensures peak_stays { OnErr result (self.new.peak ≡ self.old.peak) }
+    {
+        if self.is_ended {
+            return Err(Refusal::Ended);
+        }
+        let id = self.held.top() + 1;
+        if self.held.add(id, lits).is_err() {
+            self.is_ended = true;
+            return Err(Refusal::OutOfMemory);
+        }
+        if lits.is_empty() {
+            self.is_verified = true;
+        }
+        self.peak = self.peak.max(self.held.sum());
+        Ok(())
+    }
+
+    /// Judges a step and, where it is accepted, takes it.
+    /// After a refusal, and after the accepted empty clause, the session is ended.
+    pub fn step(&mut self, step: &StepBuf) -> Result<Accepted, Refusal>
+        // No step is taken once the session is ended, or once an empty clause was input.
+        ensures ended { (result ≡ Err Refusal.Ended) ↔ IsTrue (is_closed self.old) }
+        // Else the answer is that of the rule, with its cause.
+        ensures answers { IsFalse (is_closed self.old) → UnlessOutOfMemory result (AnswersLrat (state_of self.old) (lrat_step step.now) result) }
+        // An accepted step leaves what the rule leaves.
+        ensures live { OnOk result (SameClauses (state_of self.new).live (after_lrat (state_of self.old) (lrat_step step.now)).live) }
+        ensures top { OnOk result (self.new.top ≡ (after_lrat (state_of self.old) (lrat_step step.now)).top) }
+        ensures steps { OnOk result (self.new.has_stepped ≡ true) }
+        ensures verified { IfOk result (λ word. self.new.is_verified ≡ (self.old.is_verified || is_last word)) }
+        ensures ends { IfOk result (λ word. self.new.is_ended ≡ is_last word) }
+        ensures peak { OnOk result (self.new.peak ≡ max self.old.peak (total (state_of self.new))) }
+        // It keeps satisfiability.
+        ensures keeps_models { OnOk result (HasModel (state_of self.old).live → HasModel (state_of self.new).live) }
+        // A refusal ends the session.
+        ensures refused { OnErr result (self.new.is_ended ≡ true) }
+        ensures verified_stays { OnErr result (self.new.is_verified ≡ self.old.is_verified) }
+        ensures stepped_stays { OnErr result (self.new.has_stepped ≡ self.old.has_stepped) }
+        ensures peak_stays { OnErr result (self.new.peak ≡ self.old.peak) }
+    {
+        if self.is_ended || self.is_verified {
+            self.is_ended = true;
+            return Err(Refusal::Ended);
+        }
+        match take_step(self.alloc, &mut self.held, step) {
+            Ok(word) => {
+                let is_last = matches!(word, Accepted::Empty);
+                self.has_stepped = true;
+                self.is_verified = is_last;
+                self.is_ended = is_last;
+                self.peak = self.peak.max(self.held.sum());
+                Ok(word)
+            }
+            Err(refusal) => {
+                self.is_ended = true;
+                Err(refusal)
+            }
+        }
+    }
+
+    /// Whether an empty clause was input or accepted.
+    pub fn verified(&self) -> bool
+        ensures { result ≡ self.now.is_verified }
+    {
+        self.is_verified
+    }
+
+    /// The greatest sum of the sizes of the live clauses, after each clause that was input and each accepted step.
+    /// It saturates.
+    pub fn peak(&self) -> u64
+        ensures { result ≡ min self.now.peak (2 ^ 64 - 1) }
+    {
+        if self.peak > u64::MAX as u128 {
+            u64::MAX
+        } else {
+            self.peak as u64
+        }
+    }
+}
