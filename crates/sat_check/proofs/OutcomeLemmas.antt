@@ -1,5 +1,6 @@
 -- What a run wrote, and how it ended.
-use Rattle.std.proofs.Common.{◌≡◌, ℕ, Bool, true, false, List, [], ◌∷◌, ◌++◌, Option, refl, sym, ap, ◌∙◌, subst, append_assoc}
+use Rattle.std.proofs.Common.{◌≡◌, ℕ, Bool, true, false, List, [], ◌∷◌, ◌++◌, Option, None, Some, refl, sym, ap, ◌∙◌, subst, append_assoc}
+use Rattle.std.specs.Prelude.{Result, Ok, Err, OnOk}
 use Rattle.std.specs.Io.KnownBytes.{Appends}
 use Rattle.cnf_base.specs.Lines.{Sink, Writes, line_of}
 use Rattle.cnf_base.proofs.LineLemmas.{append_nil, Appends-then, Writes-nothing, Writes-then}
@@ -117,3 +118,36 @@ module _ (status : Status) (old first second last : Sink) (text : List ℕ) wher
 -- a line that broke off
 pub line-broken : (old new : Sink) (bytes text : List ℕ) (r : Report) → bytes ≡ text → Writes old new (line_of bytes) → Outcome WriteFailed old.held new.held (with_lines (text ∷ []) r)
 line-broken old new bytes text r e w = Outcome-broken old new text r (written old new bytes text e w)
+
+-- nothing was written of no line
+pub Writes-still : (s : Sink) → Writes s s []
+Writes-still s = record {
+  part = [];
+  rest = [];
+  whole = refl;
+  appends = still s.held;
+  all = λ _. refl;
+  none = λ _. refl;
+  stays = λ h. h;
+  same_writer = refl;
+}
+  where
+    still : (held : Option (List ℕ)) → Appends held held []
+    still None = tt
+    still (Some xs) = sym (append_nil xs)
+
+-- one line
+pub Writes-line : (old new : Sink) (text : List ℕ) → Writes old new (line_of text) → Writes old new (text_of (text ∷ []))
+Writes-line old new text w = let P : List ℕ → Type 0 = Writes old new in subst P (sym (line_text text)) w
+
+-- what follows of an answer's fact
+pub on_ok : {A E : Type 0} (r : Result A E) (P Q : Type 0) → OnOk r P → (P → Q) → OnOk r Q
+on_ok (Ok x) P Q h next = next h
+on_ok (Err e) P Q h next = h
+
+-- what a writer holds, by another name
+pub Outcome-same : (status : Status) (old new first last : Option (List ℕ)) (r : Report) → old ≡ first → new ≡ last → Outcome status old new r → Outcome status first last r
+Outcome-same status old new first last r before after o =
+    let P : Option (List ℕ) → Type 0 = λ x. Outcome status x new r in
+    let Q : Option (List ℕ) → Type 0 = λ x. Outcome status first x r in
+    subst Q after (subst P before o)

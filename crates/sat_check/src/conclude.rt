@@ -36,8 +36,28 @@ pub fn conclude<O: Out>(
     status
 }
 
-/// Tells of the first fault of the input of this name.
-pub fn conclude_fault<O: Out>(
+/// Tells of the first fault of the input of this name. Want of memory has no line.
+pub fn break_off<O: Out>(
+    alloc: Global,
+    lines: &mut LineOut<O>,
+    name: &[u8],
+    fault: Fault,
+) -> Status
+    ensures memory { fault ≡ Fault.OutOfMemory → (r : Report) → Outcome result lines.old.held lines.new.held r }
+    ensures told { (fault ≡ Fault.OutOfMemory → ⊥) → Outcome result lines.old.held lines.new.held (concluded (fault_line name.now fault) (fault_status fault)) }
+    ensures read_failed { result ≡ Status.ReadFailed → fault ≡ Fault.ReadFailed }
+    ensures write_failed { result ≡ Status.WriteFailed → lines.new.has_failed ≡ true }
+    ensures same_writer { lines.new.borrows ≡ lines.old.borrows }
+{
+    match fault {
+        Fault::OutOfMemory => give_up(lines),
+        Fault::Text(_, _) | Fault::Binary(_, _) | Fault::ReadFailed => {
+            conclude_fault(alloc, lines, name, fault)
+        }
+    }
+}
+
+fn conclude_fault<O: Out>(
     alloc: Global,
     lines: &mut LineOut<O>,
     name: &[u8],

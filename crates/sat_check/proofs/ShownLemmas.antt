@@ -1,0 +1,22 @@
+-- Numbers are shown up to the greatest of 64 bits.
+use Rattle.std.proofs.Common.{◌≡◌, ℕ, ◌+◌, ◌-◌, ◌^◌, ◌<◌, ◌≤◌, min, Bool, true, false, List, [], ◌∷◌, ◌++◌, refl, sym, ap, ◌∙◌, codes, decimal, arith}
+use Rattle.steps.specs.declared.accepted.Accepted.{Accepted}
+use Rattle.steps.specs.declared.refusal.Refusal.{Refusal}
+use Rattle.sat_check.specs.Lines.{shown, trace_line, word_text, refusal_line, with_cause, steps_line}
+use Rattle.sat_check.specs.Checking.{counted, traced}
+
+pub shown_counted : (n : ℕ) → shown (counted n) ≡ shown n
+shown_counted n = ap decimal (let e : min (min n (2 ^ 64 - 1)) (2 ^ 64 - 1) ≡ min n (2 ^ 64 - 1) = omega arith in e)
+
+shown_same : (m n : ℕ) → m ≡ counted n → shown m ≡ shown n
+shown_same m n e = ap shown e ∙ shown_counted n
+
+pub traced_same : (trace : Bool) (m n : ℕ) (word : Accepted) → m ≡ counted n → traced trace m word ≡ traced trace n word
+traced_same true m n word e = ap (λ t. (codes "c " ++ t ++ word_text word) ∷ []) (shown_same m n e)
+traced_same false m n word e = refl
+
+pub refusal_same : (m n : ℕ) (r : Refusal) → m ≡ counted n → refusal_line m r ≡ refusal_line n r
+refusal_same m n r e = ap (λ t. with_cause (codes "c step " ++ t ++ codes ": ") r) (shown_same m n e)
+
+pub steps_same : (m n p q : ℕ) → m ≡ counted n → p ≡ counted q → steps_line m p ≡ steps_line n q
+steps_same m n p q e f = ap (λ t. codes "c steps " ++ t ++ codes " peak " ++ shown p) (shown_same m n e) ∙ ap (λ t. codes "c steps " ++ shown n ++ codes " peak " ++ t) (shown_same p q f)

@@ -1,0 +1,31 @@
+-- A step, the end, or a fault.
+use Rattle.std.proofs.Common.{◌≡◌, ◌+◌, true, false, rules, refl, arith}
+use Rattle.std.specs.Prelude.{Ok, Err}
+use Rattle.sat_check.specs.Lines.{end_line}
+use Rattle.sat_check.specs.Checking.{counted}
+use Rattle.sat_check.proofs.CheckLemmas.{Checking-start, Checking-step, Checking-stop, Checking-end, Checking-fault, step_told}
+use Rattle.sat_check.proofs.check_proof.check_steps.Goals as goal
+
+pub loop-number-init : goal.loop-number-init
+loop-number-init g c = Checking-start _ _ _ _ c.requires.whole c.requires.sound c.requires.bounded c.requires.least
+
+pub returns-in-Err-take_step-clause-report : goal.returns-in-Err-take_step-clause-report
+returns-in-Err-take_step-clause-report g c =
+    let counts : c.saturating_add-number.result ≡ counted (c.loop-number.invariant.count + 1) = omega (arith, c.loop-number.invariant.counts, c.saturating_add-number.ensures) in
+    Checking-stop _ _ _ _ _ _ _ _ _ c.loop-number.invariant c.saturating_add-number.result counts c.next.new.step (step_told _ _ _ (Ok true) _ c.next.ensures.step (search rules))
+    c.in-Err-take_step.status c.take_step.new.lines c.in-Err-take_step.ensures.stops
+
+pub loop-number-preserved : goal.loop-number-preserved
+loop-number-preserved g c =
+    let counts : c.saturating_add-number.result ≡ counted (c.loop-number.invariant.count + 1) = omega (arith, c.loop-number.invariant.counts, c.saturating_add-number.ensures) in
+    Checking-step _ _ _ _ _ _ _ _ _ c.loop-number.invariant c.saturating_add-number.result counts c.next.new.step (step_told _ _ _ (Ok true) _ c.next.ensures.step (search rules))
+    _ _ c.in_default.ensures.goes_on
+
+pub returns-in-Ok-false-clause-report : goal.returns-in-Ok-false-clause-report
+returns-in-Ok-false-clause-report g c =
+    Checking-end _ _ _ _ _ _ _ _ _ c.loop-number.invariant c.next.new.step c.conclude.result c.conclude.new.lines (step_told _ _ _ (Ok false) _ c.next.ensures.step (search rules))
+    (c.conclude.ensures.outcome end_line c.end_line.ensures)
+
+pub returns-in-Err-clause-report : goal.returns-in-Err-clause-report
+returns-in-Err-clause-report g c =
+    Checking-fault _ _ _ _ _ _ _ _ _ c.loop-number.invariant c.next.new.step c.in-Err.fault c.break_off.result c.break_off.new.lines c.in-Err.ensures.step c.break_off.ensures.memory c.break_off.ensures.told

@@ -1,0 +1,94 @@
+//! One step of a proof, and its line.
+
+ghost use Rattle.std.specs.Prelude.{◌≡◌, ◌≢◌, true, false, IfErr, OnOk, IsFalse};
+ghost use Rattle.cnf_base.specs.Lines.{Writes};
+ghost use Rattle.steps.specs.Session.{is_closed};
+ghost use Rattle.steps.specs.Verdicts.{is_last};
+ghost use Rattle.sat_check.specs.Lines.{refusal_line, trace_line};
+ghost use Rattle.sat_check.specs.Report.{Report, Outcome, concluded, with_lines, text_of};
+ghost use Rattle.sat_check.specs.Checking.{GoesOn, Stops, IsBreak, IsTold, is_memory, traced};
+
+use crate::Status;
+use crate::conclude::{conclude, give_up, write_line};
+use crate::report::{refusal_line, steps_line, trace_line};
+use cnf_base::{LineOut, Out};
+use proofs::StepBuf;
+use std::alloc::Global;
+use steps::{Accepted, LratSession, Refusal};
+
+/// Takes the step of this number, and writes its line where a trace is asked for. Where the check ends with it, the
+/// verdict is written, and the status answered.
+pub fn take_step<O: Out>(
+    alloc: Global,
+    trace: bool,
+    session: &mut LratSession,
+    step: &StepBuf,
+    number: u64,
+    lines: &mut LineOut<O>,
+) -> Result<(), Status>
+    requires sound { is_closed session.old ≡ false }
+    requires whole { lines.old.is_broken ≡ false }
+    ensures goes_on { OnOk result (GoesOn trace number session.old session.new step.now lines.old lines.new) }
+    ensures stops { IfErr result (λ status. Stops trace number session.old step.now lines.old lines.new status) }
+    ensures told { IfErr result (λ status. IsTold status lines.new) }
+    ensures same_writer { lines.new.borrows ≡ lines.old.borrows }
+{
+    let word = match session.step(step) {
+        Ok(word) => word,
+        Err(refusal) => return Err(refuse(alloc, number, refusal, lines)),
+    };
+    if let Err(status) = write_trace(alloc, trace, number, word, lines) {
+        return Err(status);
+    }
+    if is_last(word) {
+        let line = steps_line(alloc, number, session.peak());
+        return Err(conclude(lines, line, Status::Verified));
+    }
+    Ok(())
+}
+
+// Writes the line of an accepted step, if a trace is asked for.
+fn write_trace<O: Out>(
+    alloc: Global,
+    trace: bool,
+    number: u64,
+    word: Accepted,
+    lines: &mut LineOut<O>,
+) -> Result<(), Status>
+    ensures wrote { OnOk result (Writes lines.old lines.new (text_of (traced trace number word))) }
+    ensures whole { OnOk result (lines.old.is_broken ≡ false → lines.new.is_broken ≡ false) }
+    ensures stopped { IfErr result (λ status. (r : Report) → Outcome status lines.old.held lines.new.held (with_lines (traced trace number word) r)) }
+    ensures broke { IfErr result (λ status. IsBreak status lines.new) }
+    ensures same_writer { lines.new.borrows ≡ lines.old.borrows }
+{
+    if !trace {
+        return Ok(());
+    }
+    write_line(lines, trace_line(alloc, number, word))
+}
+
+// Writes why a step was refused. A session that had no memory has nothing to say of it.
+fn refuse<O: Out>(alloc: Global, number: u64, refusal: Refusal, lines: &mut LineOut<O>) -> Status
+    ensures memory { is_memory refusal ≡ true → (r : Report) → Outcome result lines.old.held lines.new.held r }
+    ensures refused { is_memory refusal ≡ false → Outcome result lines.old.held lines.new.held (concluded (refusal_line number refusal) Status.NotVerified) }
+    ensures told { IsTold result lines.new }
+    ensures same_writer { lines.new.borrows ≡ lines.old.borrows }
+{
+    match refusal {
+        Refusal::OutOfMemory => give_up(lines),
+        _ => conclude(
+            lines,
+            refusal_line(alloc, number, refusal),
+            Status::NotVerified,
+        ),
+    }
+}
+
+fn is_last(word: Accepted) -> bool
+    ensures { result ≡ is_last word }
+{
+    match word {
+        Accepted::Empty => true,
+        Accepted::Rup | Accepted::Rat | Accepted::Deleted | Accepted::Ignored => false,
+    }
+}
