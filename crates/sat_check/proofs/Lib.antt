@@ -6,3 +6,11 @@ pub mod ShownLemmas
 pub mod StepLemmas
 pub mod CheckLemmas
 pub mod ReportLemmas
+pub mod WordRules
+pub mod WordRows
+pub mod WordTurns
+pub mod WordSteps
+pub mod WordEnds
+pub mod WordKnown
+pub mod WordAccepted
+pub mod WordReading

@@ -1,17 +1,24 @@
 //! Whole checks, from bytes to bytes.
 #![tactic(auto)]
 
+mod args;
 mod check_proof;
+mod command_line;
+#[cfg(test)]
+mod command_line_tests;
 mod conclude;
 mod line;
 mod load;
 mod lrat;
 mod options;
 mod report;
-
 mod status;
 mod take_step;
+mod tool;
 
-pub use options::LratOptions;
+pub use args::{Args, ArgsFault};
+pub use command_line::read_args;
 pub use lrat::run_lrat;
+pub use options::LratOptions;
 pub use status::Status;
+pub use tool::Tool;

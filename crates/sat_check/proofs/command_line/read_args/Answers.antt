@@ -1,0 +1,66 @@
+use Rattle.std.proofs.Common.{◌≡◌, ◌∙◌, ap, sym, codes, option_map, Some, None, string_bytes}
+use Rattle.clap.specs.Words.{app_of, first_value, found_of, one_text}
+use Rattle.clap.proofs.WalkLemmas.{first_value-rows, one_text-rows}
+use Rattle.sat_check.specs.Words.{is_among, is_flag, said_by}
+use Rattle.sat_check.proofs.WordAccepted.{has_formula}
+use Rattle.sat_check.proofs.WordReading.{fails_for_memory, flag_read, known_words, knows, reads}
+use Rattle.sat_check.proofs.command_line.read_args.Goals as goal
+use Rattle.sat_check.proofs.command_line.read_args.Goals.{in-Some-get_str+in_ok-to_string-in-Some-get_str, in-None}
+
+pub returns-in-Err-clause-accepts : goal.returns-in-Err-clause-accepts
+returns-in-Err-clause-accepts c accepts =
+    c.fault_from.ensures
+    (fails_for_memory c.args.tool (app_of c.in_ok-command.command) c.in_ok-command.ensures c.args.words.now c.in-Err.error c.in-Err.ensures.kinds accepts)
+
+pub returns-in_default-clause-accepts : goal.returns-in_default-clause-accepts
+returns-in_default-clause-accepts c accepts =
+    let read = reads c.args.tool (app_of c.in_ok-command.command) c.in_ok-command.ensures c.args.words.now c.in-Ok.matches c.in-Ok.ensures.matches c.in-Ok.ensures.kinds
+    (known_words c.args.tool (said_by c.args.words.now) accepts) in
+    let none : first_value (found_of c.in-Ok.matches) (codes "formula") ≡ None = sym c.in_default.ensures in
+    absurd (has_formula c.args.tool (said_by c.args.words.now) accepts (sym read.formula ∙ (sym (first_value-rows (found_of c.in-Ok.matches) (codes "formula")) ∙ none)))
+
+pub returns-clause-binary : goal.returns-clause-binary
+returns-clause-binary c free =
+    let read = reads c.args.tool (app_of c.in_ok-command.command) c.in_ok-command.ensures c.args.words.now c.in-Ok.matches c.in-Ok.ensures.matches c.in-Ok.ensures.kinds free in
+    flag_read (is_flag c.args.tool (codes "--binary")) (is_among (said_by c.args.words.now) (codes "--binary")) c.get_flag.result
+    (one_text (found_of c.in-Ok.matches) (codes "binary"))
+    (one_text-rows (found_of c.in-Ok.matches) (codes "binary") ∙ read.binary) c.get_flag.ensures.none c.get_flag.ensures.value c.get_flag.ensures.other
+
+pub returns-clause-trace : goal.returns-clause-trace
+returns-clause-trace c free =
+    let read = reads c.args.tool (app_of c.in_ok-command.command) c.in_ok-command.ensures c.args.words.now c.in-Ok.matches c.in-Ok.ensures.matches c.in-Ok.ensures.kinds free in
+    flag_read (is_flag c.args.tool (codes "--trace")) (is_among (said_by c.args.words.now) (codes "--trace")) c.get_flag-2.result
+    (one_text (found_of c.in-Ok.matches) (codes "trace"))
+    (one_text-rows (found_of c.in-Ok.matches) (codes "trace") ∙ read.trace) c.get_flag-2.ensures.none c.get_flag-2.ensures.value c.get_flag-2.ensures.other
+
+pub returns-clause-strict : goal.returns-clause-strict
+returns-clause-strict c free =
+    let read = reads c.args.tool (app_of c.in_ok-command.command) c.in_ok-command.ensures c.args.words.now c.in-Ok.matches c.in-Ok.ensures.matches c.in-Ok.ensures.kinds free in
+    flag_read (is_flag c.args.tool (codes "--strict")) (is_among (said_by c.args.words.now) (codes "--strict")) c.get_flag-3.result
+    (one_text (found_of c.in-Ok.matches) (codes "strict"))
+    (one_text-rows (found_of c.in-Ok.matches) (codes "strict") ∙ read.strict) c.get_flag-3.ensures.none c.get_flag-3.ensures.value c.get_flag-3.ensures.other
+
+pub returns-clause-formula : goal.returns-clause-formula
+returns-clause-formula c free =
+    let read = reads c.args.tool (app_of c.in_ok-command.command) c.in_ok-command.ensures c.args.words.now c.in-Ok.matches c.in-Ok.ensures.matches c.in-Ok.ensures.kinds free in
+    let got : Some c.in-Some.formula.now ≡ first_value (found_of c.in-Ok.matches) (codes "formula") = c.in-Some.ensures in
+    let same : string_bytes c.in_ok-formula.formula ≡ c.in-Some.formula.now = c.in_ok-formula.ensures.ok in
+    ap (λ l. Some l) same ∙ (got ∙ (first_value-rows (found_of c.in-Ok.matches) (codes "formula") ∙ read.formula))
+
+pub returns-clause-second : goal.returns-clause-second
+returns-clause-second c free =
+    let read = reads c.args.tool (app_of c.in_ok-command.command) c.in_ok-command.ensures c.args.words.now c.in-Ok.matches c.in-Ok.ensures.matches c.in-Ok.ensures.kinds free in
+    let got : option_map string_bytes c.match-get_str-2.second ≡ first_value (found_of c.in-Ok.matches) (codes "second") =
+    elim c.match-get_str-2.branch [
+      | in-Some-get_str+in_ok-to_string-in-Some-get_str w ↦ ap (option_map string_bytes) w.second-is
+          ∙ (ap (λ l. Some l) w.in_ok-to_string-in-Some-get_str.ensures.ok ∙ w.in-Some-get_str.ensures)
+      | in-None w ↦ ap (option_map string_bytes) w.second-is ∙ w.in-None.ensures
+    ] in
+    got ∙ (first_value-rows (found_of c.in-Ok.matches) (codes "second") ∙ read.second)
+
+pub returns-clause-names : goal.returns-clause-names
+returns-clause-names c free =
+    (reads c.args.tool (app_of c.in_ok-command.command) c.in_ok-command.ensures c.args.words.now c.in-Ok.matches c.in-Ok.ensures.matches c.in-Ok.ensures.kinds free).few
+
+pub returns-clause-hyphens : goal.returns-clause-hyphens
+returns-clause-hyphens c free = knows c.args.tool (app_of c.in_ok-command.command) c.in_ok-command.ensures c.args.words.now c.in-Ok.ensures.kinds free

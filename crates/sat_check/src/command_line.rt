@@ -1,0 +1,142 @@
+//! The reader of the words.
+ghost use Rattle.std.specs.Prelude.{◌≡◌, ◌≤◌, Some, codes, false, length, option_map, string_bytes, true};
+ghost use Rattle.std.specs.Prelude.{IfErr, IfOk};
+ghost use Rattle.std.specs.List.{list_all};
+ghost use Rattle.clap.specs.Words.{app_of, rule_of, kind_of};
+ghost use Rattle.sat_check.specs.Commands.{command_of, flag_rule, formula_rule, second_rule};
+ghost use Rattle.sat_check.specs.Words.{Accepts, args, end_mark, is_among, is_known, names, said_by};
+
+use crate::args::{Args, ArgsFault};
+use crate::tool::Tool;
+use clap::error::ErrorKind;
+use clap::{Arg, ArgAction, Command, Error};
+use std::alloc::{AllocError, Global};
+
+/// The flag `--name`.
+fn flag<'a>(alloc: Global, name: &'a str, help: &'a str) -> Arg<'a>
+    ensures rule { rule_of result ≡ flag_rule name.entry.now }
+    ensures local { result.global ≡ false }
+{
+    Arg::new(alloc, name)
+        .long(name)
+        .action(ArgAction::SetTrue)
+        .help(help)
+}
+
+fn trace<'a>(alloc: Global) -> Arg<'a>
+    ensures rule { rule_of result ≡ flag_rule (codes "trace") }
+    ensures local { result.global ≡ false }
+{
+    flag(alloc, "trace", "Show each step as it is checked")
+}
+
+/// The file that must be named.
+fn formula<'a>(alloc: Global) -> Arg<'a>
+    ensures rule { rule_of result ≡ formula_rule }
+    ensures local { result.global ≡ false }
+{
+    Arg::new(alloc, "formula")
+        .value_name("FORMULA")
+        .action(ArgAction::Set)
+        .required(true)
+        .help("The formula, in DIMACS CNF")
+}
+
+/// The file that may be named.
+fn second<'a>(alloc: Global, name: &'a str, help: &'a str) -> Arg<'a>
+    ensures rule { rule_of result ≡ second_rule }
+    ensures local { result.global ≡ false }
+{
+    Arg::new(alloc, "second")
+        .value_name(name)
+        .action(ArgAction::Set)
+        .help(help)
+}
+
+/// The command line of the tool, as `clap` reads it.
+fn command<'a>(alloc: Global, tool: Tool) -> Result<Command<'a>, AllocError>
+    ensures { IfOk result (λ command. app_of command ≡ command_of tool) }
+{
+    match tool {
+        Tool::Drat => {
+            let binary = flag(alloc, "binary", "Read the proof in the binary form");
+            let strict = flag(alloc, "strict", "Refuse a deletion of a clause that is not alive");
+            Command::new(alloc, "drat-forward")
+                .arg(binary)?
+                .arg(trace(alloc))?
+                .arg(strict)?
+                .arg(formula(alloc))?
+                .arg(second(alloc, "PROOF", "The proof (standard input if absent)"))
+        }
+        Tool::Lrat => Command::new(alloc, "lrat-check")
+            .arg(trace(alloc))?
+            .arg(formula(alloc))?
+            .arg(second(alloc, "PROOF", "The proof (standard input if absent)")),
+        Tool::Model => Command::new(alloc, "model-check")
+            .arg(formula(alloc))?
+            .arg(second(
+                alloc,
+                "OUTPUT",
+                "The solver's output (standard input if absent)",
+            )),
+    }
+}
+
+/// The refusal that shows the text.
+fn refusal(text: Result<String, AllocError>) -> ArgsFault {
+    match text {
+        Ok(text) => ArgsFault::Words(text),
+        Err(_) => ArgsFault::OutOfMemory,
+    }
+}
+
+/// What to show of an error of `clap`: its text, which is the help where that was asked for.
+fn fault_from(alloc: Global, error: &Error) -> ArgsFault
+    ensures { kind_of error.now ≡ ErrorKind.OutOfMemory → result ≡ ArgsFault.OutOfMemory }
+{
+    match error.kind() {
+        ErrorKind::OutOfMemory => ArgsFault::OutOfMemory,
+        _ => refusal(format!(in alloc; "{error}")),
+    }
+}
+
+/// Reads the words of the tool's command line, which begin with the program's name.
+pub fn read_args(alloc: Global, tool: Tool, words: &[String]) -> Result<Args, ArgsFault>
+    ensures binary { IfOk result (λ a. is_among (said_by words.now) end_mark ≡ false
+        → a.binary ≡ (args tool (said_by words.now)).binary) }
+    ensures trace { IfOk result (λ a. is_among (said_by words.now) end_mark ≡ false
+        → a.trace ≡ (args tool (said_by words.now)).trace) }
+    ensures strict { IfOk result (λ a. is_among (said_by words.now) end_mark ≡ false
+        → a.strict ≡ (args tool (said_by words.now)).strict) }
+    ensures formula { IfOk result (λ a. is_among (said_by words.now) end_mark ≡ false
+        → Some (string_bytes a.formula) ≡ (args tool (said_by words.now)).formula) }
+    ensures second { IfOk result (λ a. is_among (said_by words.now) end_mark ≡ false
+        → option_map string_bytes a.second ≡ (args tool (said_by words.now)).second) }
+    ensures names { IfOk result (λ a. is_among (said_by words.now) end_mark ≡ false
+        → length (names tool (said_by words.now)) ≤ 2) }
+    ensures hyphens { IfOk result (λ a. is_among (said_by words.now) end_mark ≡ false
+        → list_all (is_known tool) (said_by words.now) ≡ true) }
+    ensures accepts { IfErr result (λ e. Accepts tool (said_by words.now)
+        → e ≡ ArgsFault.OutOfMemory) }
+{
+    let command = command(alloc, tool)?;
+    let matches = match command.try_get_matches_from(words) {
+        Ok(matches) => matches,
+        Err(error) => return Err(fault_from(alloc, &error)),
+    };
+    let Some(formula) = matches.get_str("formula") else {
+        return Err(refusal("the formula is not named".to_string(alloc)));
+    };
+    let formula = formula.to_string(alloc)?;
+    let second = match matches.get_str("second") {
+        Some(name) => Some(name.to_string(alloc)?),
+        None => None,
+    };
+    Ok(Args {
+        binary: matches.get_flag("binary"),
+        trace: matches.get_flag("trace"),
+        strict: matches.get_flag("strict"),
+        formula,
+        second,
+    })
+}

@@ -1,0 +1,12 @@
+//! The three tools.
+
+/// A tool, each of which has its own command line.
+#[derive(Clone, Copy, Debug, PartialEq, Eq)]
+pub enum Tool {
+    /// `drat-forward [--binary] [--trace] [--strict] FORMULA [PROOF]`
+    Drat,
+    /// `lrat-check [--trace] FORMULA [PROOF]`
+    Lrat,
+    /// `model-check FORMULA [OUTPUT]`
+    Model,
+}
