@@ -1,5 +1,5 @@
 -- What a run saw of its reader.
-use Rattle.std.proofs.Common.{◌≡◌, ℕ, Bool, List, [], ◌∷◌, ◌++◌, Option, None, Some, refl, sym, ap, ◌∙◌, subst, append_assoc}
+use Rattle.std.proofs.Common.{◌≡◌, ℕ, Bool, List, [], ◌++◌, Option, None, Some, refl, sym, ap, ◌∙◌, subst, append_assoc}
 use Rattle.cnf_base.specs.Stream.{Input, Stream, MayGive, MayFollow, MayCome, Along, fresh, preceded}
 use Rattle.cnf_base.specs.Seen.{Seen, IsSeen}
 use Rattle.cnf_base.specs.declared.input.Ending.{Ending}

@@ -1,7 +1,7 @@
 -- The token that a call gave.
 use Rattle.std.proofs.Common.{◌≡◌, subst}
 use Rattle.std.specs.Prelude.{Result}
-use Rattle.cnf_base.specs.Stream.{Input, Stream, Along}
+use Rattle.cnf_base.specs.Stream.{Stream, Along}
 use Rattle.cnf_base.specs.Text.{listing_at, Gives}
 use Rattle.cnf_base.specs.declared.input.ReadFailed.{ReadFailed}
 use Rattle.cnf_base.specs.declared.token.Token.{Token}

@@ -1,12 +1,12 @@
 -- What a run says, byte by byte.
-use Rattle.std.proofs.Common.{◌≡◌, ◌≢◌, ℕ, zero, suc, ◌+◌, ◌-◌, ◌*◌, ◌^◌, ◌<◌, ◌≤◌, ◌==◌, ◌&&◌, ◌||◌, min, cond, not, eqb, Bool, true, false, List, [], ◌∷◌, ◌++◌, length, take, Option, None, Some, refl, sym, ap, ◌∙◌, subst, arith, length-append, inl, inr, ◌⊎◌}
-use Rattle.std.specs.Prelude.{codes, nat_le, fold, drop}
+use Rattle.std.proofs.Common.{◌≡◌, ℕ, ◌+◌, ◌-◌, ◌*◌, ◌^◌, ◌≤◌, ◌==◌, ◌&&◌, min, cond, not, Bool, true, false, List, [], ◌∷◌, ◌++◌, length, None, refl, sym, ap, ◌∙◌, subst, arith, length-append}
+use Rattle.std.specs.Prelude.{codes}
 use Rattle.std.specs.List.{list_all}
 use Rattle.std.specs.Str.{bytes_eq}
-use Rattle.std.proofs.lemmas.Grind.{fold-append, common_steps}
+use Rattle.std.proofs.lemmas.Grind.{fold-append}
 use Rattle.std.proofs.lemmas.Bool.Decides.{nat_tests}
-use Rattle.cnf_base.specs.Words.{is_digit, is_counting, value_of, size_of, has_minus, number, number_of, fixed_word, number_or, word_of}
-use Rattle.cnf_base.specs.Digits.{with_byte, digits_word, begins_number, first_digits, AreDigits, AreKept}
+use Rattle.cnf_base.specs.Words.{is_digit, is_counting, value_of, size_of, number, number_of, fixed_word, number_or, word_of}
+use Rattle.cnf_base.specs.Digits.{with_byte, digits_word, begins_number, first_digits, AreDigits}
 use Rattle.cnf_base.specs.declared.scanner.digits.Digits.{Digits}
 use Rattle.cnf_base.specs.declared.scanner.digits.Digits.TheVariants.{Nothing, Zero, Counting, NoNumber}
 use Rattle.cnf_base.specs.declared.word.Word.{Word}

@@ -1,5 +1,5 @@
 -- What a run saw of a reader.
-use Rattle.std.specs.Prelude.{◌≡◌, ℕ, List, Option}
+use Rattle.std.specs.Prelude.{ℕ, List, Option}
 use Rattle.cnf_base.specs.Stream.{Input, MayGive, MayFollow}
 use Rattle.cnf_base.specs.declared.input.Ending.{Ending}
 

@@ -90,7 +90,11 @@ impl Lit {
         ensures { literal_of result ≡ self }
     {
         let variable = self.var() as i32;
-        if self.code % 2 == 0 { variable } else { -variable }
+        if self.code % 2 == 0 {
+            variable
+        } else {
+            -variable
+        }
     }
 
     /// `2 * v` for the variable `v`, and `2 * v + 1` for its complement.

@@ -1,14 +1,13 @@
 -- A formula's tokens, one at a time.
-use Rattle.std.proofs.Common.{◌≡◌, ℕ, ◌+◌, ◌<◌, ◌≤◌, List, [], ◌∷◌, ◌++◌, length, Option, None, Some, refl, sym, ap, ◌∙◌, arith}
+use Rattle.std.proofs.Common.{◌≡◌, ℕ, ◌<◌, ◌≤◌, List, [], ◌∷◌, ◌++◌, None, Some, refl, sym, ap, ◌∙◌, arith}
 use Rattle.std.specs.Prelude.{Bool, true, false, Result, Ok, Err}
 use Rattle.cnf_base.specs.Literals.{Literal}
-use Rattle.cnf_base.specs.Stream.{Input, Stream, Along, most_to_come}
-use Rattle.cnf_base.specs.Text.{Listing, listing_at, Gives, listed, with_front}
+use Rattle.cnf_base.specs.Stream.{Stream, Along, most_to_come}
+use Rattle.cnf_base.specs.Text.{Listing, listing_at, Gives}
 use Rattle.cnf_base.specs.declared.input.Ending.TheVariants.{End, Failed}
 use Rattle.cnf_base.specs.declared.input.ReadFailed.{ReadFailed as Cut}
 use Rattle.cnf_base.specs.declared.place.Place.{Place}
 use Rattle.cnf_base.specs.declared.word.Word.{Word}
-use Rattle.cnf_base.specs.declared.token.Token.{Token}
 use Rattle.cnf_base.specs.declared.token.Token.TheVariants as token
 use Rattle.cnf_base.specs.declared.fault.Fault.{Fault}
 use Rattle.cnf_base.specs.declared.fault.Fault.TheVariants.{Text, Binary, ReadFailed, OutOfMemory}
@@ -16,7 +15,7 @@ use Rattle.cnf_base.specs.declared.fault.TextFault.{TextFault}
 use Rattle.cnf_base.specs.declared.fault.TextFault.TheVariants.{UnterminatedClause}
 use Rattle.cnf_base.proofs.StreamLemmas.{Along-then, Along-map}
 use Rattle.dimacs.specs.Reading.{GivesClause, left_of, EndsSo}
-use Rattle.dimacs.specs.Formula.{Body, body_of, judged, on_word, at_end, faulty, whole, with_clause}
+use Rattle.dimacs.specs.Formula.{Body, body_of, judged, on_word, at_end, faulty, whole}
 use Rattle.dimacs.specs.declared.header.Header.{Header}
 
 -- a fault is what comes, and it stays

@@ -16,6 +16,7 @@ pub struct Header {
 }
 
 const MOST_VARS: u64 = 268435455;
+
 const MOST_CLAUSES: u64 = 4294967295;
 
 // `p cnf VARIABLES CLAUSES`, up to the line's end.

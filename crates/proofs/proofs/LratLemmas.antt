@@ -1,5 +1,5 @@
 -- A proof's tokens, one at a time.
-use Rattle.std.proofs.Common.{◌≡◌, ℕ, ◌<◌, ◌≤◌, List, [], length, refl, sym, ap, ◌∙◌, subst, arith}
+use Rattle.std.proofs.Common.{◌≡◌, ◌<◌, ◌≤◌, [], length, refl, sym, ap, ◌∙◌, subst, arith}
 use Rattle.std.specs.Prelude.{Bool, true, false, Result, Ok, Err}
 use Rattle.cnf_base.specs.Stream.{Input, Stream, Along, most_to_come}
 use Rattle.cnf_base.specs.Text.{Listing, listing_at, Gives}
@@ -13,9 +13,9 @@ use Rattle.cnf_base.specs.declared.fault.Fault.TheVariants.{Text, Binary, ReadFa
 use Rattle.cnf_base.specs.declared.fault.TextFault.{TextFault}
 use Rattle.cnf_base.proofs.StreamLemmas.{Along-then, Along-map}
 use Rattle.proofs.specs.declared.lrat_text.part.Part.{Part}
-use Rattle.proofs.specs.declared.lrat_text.part.Part.TheVariants.{Identifier, AfterIdentifier, Literals, Hints, Deletion}
+use Rattle.proofs.specs.declared.lrat_text.part.Part.TheVariants.{Identifier}
 use Rattle.proofs.specs.Steps.{Step, named}
-use Rattle.proofs.specs.Reading.{Proof, clean, faulty, with_step, GivesStep}
+use Rattle.proofs.specs.Reading.{Proof, clean, faulty, GivesStep}
 use Rattle.proofs.specs.Lrat.{Move, goes, completes, faults, move_of, on_move, at_end, steps_from}
 use Rattle.proofs.specs.LratMoves.{left_of, EndsSo, FitsPart, FitsMoved, Moves}
 use Rattle.proofs.specs.declared.lrat_text.moves.Moved.{Moved}

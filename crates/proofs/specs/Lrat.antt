@@ -1,6 +1,6 @@
 -- The steps of a text in LRAT (Cruz-Filipe, Heule and others 2017; that a step may stand over any number of lines, the
 -- faults, their places and the order of judging are our own profile).
-use Rattle.std.specs.Prelude.{◌≡◌, ℕ, nat_le, Bool, true, false, cond, List, [], ◌∷◌, ◌++◌, Option, None, Some, Result, Ok, Err, ℤ, pos, neg_ℤ}
+use Rattle.std.specs.Prelude.{ℕ, nat_le, Bool, cond, List, [], ◌∷◌, Option, None, Some, ℤ, pos, neg_ℤ}
 use Rattle.cnf_base.specs.Literals.{Literal}
 use Rattle.cnf_base.specs.Stream.{Input, Stream}
 use Rattle.cnf_base.specs.Words.{number_literal}

@@ -1,5 +1,5 @@
 -- A check, step by step.
-use Rattle.std.proofs.Common.{◌≡◌, ℕ, ◌+◌, ◌-◌, ◌^◌, ◌<◌, ◌≤◌, min, max, Bool, true, false, Option, None, Some, List, [], ◌∷◌, ◌++◌, length, refl, sym, ap, ◌∙◌, subst, append_assoc, arith}
+use Rattle.std.proofs.Common.{◌≡◌, ℕ, ◌+◌, ◌≤◌, Bool, true, false, Option, None, Some, List, [], ◌∷◌, ◌++◌, length, refl, sym, ap, ◌∙◌, subst, arith}
 use Rattle.std.specs.Prelude.{Result, Ok, Err}
 use Rattle.cnf_base.specs.Stream.{Input, Stream, Along, fresh as fresh_stream}
 use Rattle.cnf_base.specs.Seen.{Seen, IsSeen}
@@ -10,17 +10,15 @@ use Rattle.cnf_base.proofs.LineLemmas.{Writes-then}
 use Rattle.cnf_base.proofs.StreamLemmas.{Along-then, Along-map, Along-none}
 use Rattle.cnf_base.proofs.SeenLemmas.{Seen-nothing, Seen-run, Seen-fact}
 use Rattle.proofs.specs.Steps.{Step}
-use Rattle.proofs.specs.Reading.{Proof, clean, faulty, with_step, GivesStep}
+use Rattle.proofs.specs.Reading.{Proof, faulty, with_step, GivesStep}
 use Rattle.proofs.specs.Lrat.{Reading, to_come, lrat_steps}
-use Rattle.steps.specs.Lrat.{LratState, after_lrat, lrat_step}
+use Rattle.steps.specs.Lrat.{after_lrat, lrat_step}
 use Rattle.steps.specs.Session.{Session, state_of, is_closed}
 use Rattle.steps.specs.Sizes.{total}
-use Rattle.steps.proofs.Sessions.{SameState}
 use Rattle.sat_check.specs.Report.{Report, Outcome, text_of, with_lines, end_report}
 use Rattle.sat_check.specs.Checking.{Rest, Bounded, GoesOn, Stops, counted, traced}
 use Rattle.sat_check.proofs.ShownLemmas.{traced_same}
 use Rattle.sat_check.specs.declared.status.Status.{Status}
-use Rattle.steps.specs.declared.accepted.Accepted.{Accepted}
 use Rattle.sat_check.proofs.OutcomeLemmas.{Outcome-after, Writes-all, Writes-still, text_of-append}
 use Rattle.sat_check.proofs.RestLemmas.{Rest-clean, Rest-fault, Rest-some, Rest-step}
 use Rattle.sat_check.proofs.VerdictLemmas.{after_bounded, same_bounded}
@@ -93,9 +91,11 @@ module _ (trace : Bool) (start now new : Reading) (first session : Session) (acc
         → Along start.stream new.stream (λ i j. (r : Report) × Rest trace (state_of first) 0 first.peak (to_come start i) r × Outcome status was.held last.held r)
     Checking-stop status last stops = Along-then _ _ _ _ _ _ so_far.run gives (λ i j k m p q.
         let s = stops so_far.count (length k.bytes) (to_come new k) counts so_far.least so_far.bounded in
-        let Q : Proof → Type 0 = λ x. Rest trace (state_of session) so_far.count session.peak x s.0 in
-        (with_lines so_far.written s.0, p s.0 (subst Q (sym q) s.1),
-        Outcome-after status was.held lines.held last.held so_far.written s.0 (Writes-all was lines (text_of so_far.written) so_far.wrote so_far.whole) s.2))
+        let Q : Proof → Type 0 = λ x. Rest trace (state_of session) so_far.count session.peak x s.0 in (
+          with_lines so_far.written s.0,
+          p s.0 (subst Q (sym q) s.1),
+          Outcome-after status was.held lines.held last.held so_far.written s.0 (Writes-all was lines (text_of so_far.written) so_far.wrote so_far.whole) s.2,
+        ))
 
   -- the rest of the report that what is to come has
   ended : (status : Status) (last : Sink) (i j : Input) (r : Report) → ((r : Report) → Rest trace (state_of session) so_far.count session.peak (to_come now j) r → Rest trace (state_of first) 0 first.peak (to_come start i) (with_lines so_far.written r))
@@ -159,8 +159,7 @@ pub checks_run : (trace : Bool) (session : Session) (left : Option (List ℕ)) (
     → AllChecks trace session left new status was now
 checks_run trace session left mark most_left borrows source reader last new status was now is made kept run =
     let P : Reading → Type 0 = λ x. Along x.stream last.stream (λ i j. (r : Report) × Rest trace (state_of session) 0 session.peak (to_come x i) r × Outcome status was.held now.held r) in
-    let from_start = subst P (made ∙ ap (λ x. record { stream = x; fault = None }) is) run in
-    (
+    let from_start = subst P (made ∙ ap (λ x. record { stream = x; fault = None }) is) run in (
       Seen-run left mark most_left borrows last.stream new (λ i j. (r : Report) × Rest trace (state_of session) 0 session.peak (lrat_steps i) r × Outcome status was.held now.held r) from_start kept,
       λ i s. (Seen-fact left mark most_left borrows last.stream new (λ i j. (r : Report) × Rest trace (state_of session) 0 session.peak (lrat_steps i) r × Outcome status was.held now.held r) from_start kept i s).2,
     )

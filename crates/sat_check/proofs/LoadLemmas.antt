@@ -1,5 +1,5 @@
 -- Clauses go into a session one by one.
-use Rattle.std.proofs.Common.{◌≡◌, ℕ, suc, ◌+◌, ◌<◌, ◌≤◌, max, Bool, true, false, ◌||◌, List, [], ◌∷◌, ◌++◌, length, Option, None, Some, refl, sym, ap, ◌∙◌, subst, append_assoc, arith, length-append, slice_get}
+use Rattle.std.proofs.Common.{◌≡◌, ℕ, suc, ◌+◌, ◌<◌, ◌≤◌, max, Bool, true, false, ◌||◌, List, [], ◌∷◌, ◌++◌, length, Option, None, Some, refl, sym, ap, ◌∙◌, subst, arith, length-append, slice_get}
 use Rattle.std.specs.Prelude.{Result, Ok, Err}
 use Rattle.std.specs.List.{list_any}
 use Rattle.std.proofs.lemmas.List.Folds.{list_any-append}
@@ -17,7 +17,7 @@ use Rattle.steps.specs.Lrat.{SameClauses, with_clause}
 use Rattle.steps.specs.Session.{Session, state_of, fresh}
 use Rattle.steps.specs.Sizes.{total, size, size_at, sum_to}
 use Rattle.steps.specs.Verdicts.{is_empty, numbered, lrat_start}
-use Rattle.steps.proofs.LiveSets.{SameClauses-refl, SameClauses-trans, SameClauses-eq}
+use Rattle.steps.proofs.LiveSets.{SameClauses-trans, SameClauses-eq}
 use Rattle.steps.proofs.SameSets.{with_same}
 use Rattle.steps.proofs.Copies.{same_itself}
 use Rattle.steps.proofs.Sessions.{numbered_push, fresh_is_numbered}

@@ -1,9 +1,9 @@
 -- What a run wrote, and how it ended.
-use Rattle.std.proofs.Common.{◌≡◌, ℕ, Bool, true, false, List, [], ◌∷◌, ◌++◌, Option, None, Some, refl, sym, ap, ◌∙◌, subst, append_assoc}
+use Rattle.std.proofs.Common.{◌≡◌, ℕ, false, List, [], ◌∷◌, ◌++◌, Option, None, Some, refl, sym, ap, ◌∙◌, subst, append_assoc}
 use Rattle.std.specs.Prelude.{Result, Ok, Err, OnOk}
 use Rattle.std.specs.Io.KnownBytes.{Appends}
 use Rattle.cnf_base.specs.Lines.{Sink, Writes, line_of}
-use Rattle.cnf_base.proofs.LineLemmas.{append_nil, Appends-then, Writes-nothing, Writes-then}
+use Rattle.cnf_base.proofs.LineLemmas.{append_nil, Appends-then, Writes-nothing}
 use Rattle.sat_check.specs.Report.{Report, text_of, Outcome, with_lines, concluded}
 use Rattle.sat_check.specs.Lines.{sentence}
 use Rattle.sat_check.specs.declared.status.Status.{Status}
@@ -52,13 +52,18 @@ Outcome-after status old now new front r a o = by status o
     by Malformed o = (o.0, all o.1)
     by ReadFailed o = (o.0, all o.1)
     by Usage o = (o.0, all o.1)
-    by OutOfMemory o =
-        (front ++ o.0, o.1, ap (λ t. front ++ t) o.2 ∙ sym (lines_assoc front o.0 o.1),
-          (let P : List ℕ → Type 0 = Appends old new in subst P (sym (text_of-append front o.0)) (Appends-then old now new _ _ a o.3)))
-    by WriteFailed o =
-        (text_of front ++ o.0, o.1,
-          text_of-append front r.lines ∙ ap (λ t. text_of front ++ t) o.2 ∙ sym (append_assoc (text_of front) o.0 o.1),
-          Appends-then old now new _ _ a o.3)
+    by OutOfMemory o = (
+      front ++ o.0,
+      o.1,
+      ap (λ t. front ++ t) o.2 ∙ sym (lines_assoc front o.0 o.1),
+      (let P : List ℕ → Type 0 = Appends old new in subst P (sym (text_of-append front o.0)) (Appends-then old now new _ _ a o.3)),
+    )
+    by WriteFailed o = (
+      text_of front ++ o.0,
+      o.1,
+      text_of-append front r.lines ∙ ap (λ t. text_of front ++ t) o.2 ∙ sym (append_assoc (text_of front) o.0 o.1),
+      Appends-then old now new _ _ a o.3,
+    )
 
 -- a line of which only a beginning was written
 pub Outcome-broken : (old new : Sink) (text : List ℕ) (r : Report) → Writes old new (line_of text) → Outcome WriteFailed old.held new.held (with_lines (text ∷ []) r)

@@ -1,25 +1,23 @@
 -- A whole report.
-use Rattle.std.proofs.Common.{◌≡◌, ℕ, ◌+◌, ◌<◌, ◌≤◌, max, cond, Bool, true, false, ◌||◌, Option, None, Some, List, [], ◌∷◌, length, refl, sym, ap, ◌∙◌, subst, codes, arith}
+use Rattle.std.proofs.Common.{◌≡◌, ℕ, ◌≤◌, max, Bool, true, false, ◌||◌, Option, None, Some, List, [], ◌∷◌, length, refl, sym, ap, ◌∙◌, subst, codes, arith}
 use Rattle.std.specs.Prelude.{Result, Ok, Err}
 use Rattle.std.specs.Bool.{MatchBool}
 use Rattle.std.specs.List.{list_any}
 use Rattle.cnf_base.specs.Literals.{Clause}
 use Rattle.cnf_base.specs.Stream.{Input}
-use Rattle.cnf_base.specs.Seen.{Seen, IsSeen}
 use Rattle.cnf_base.specs.Lines.{Sink, Writes, line_of}
 use Rattle.cnf_base.specs.declared.fault.Fault.{Fault}
 use Rattle.cnf_base.specs.declared.fault.Fault.TheVariants.{Text, Binary, ReadFailed, OutOfMemory}
-use Rattle.cnf_base.proofs.SeenLemmas.{Seen-nothing}
 use Rattle.cnf_base.specs.Text.{Listing, listing_of}
 use Rattle.dimacs.specs.Formula.{Formula, formula_of, formula_with, header_of}
 use Rattle.dimacs.specs.declared.header.Header.{Header}
 use Rattle.proofs.specs.Reading.{Proof}
 use Rattle.proofs.specs.Lrat.{lrat_steps}
 use Rattle.steps.specs.declared.accepted.Accepted.{Accepted}
-use Rattle.steps.specs.Lrat.{LratState, LratStep, AnswersLrat, after_lrat, SameClauses}
+use Rattle.steps.specs.Lrat.{LratStep, AnswersLrat, after_lrat}
 use Rattle.steps.specs.Session.{Session, state_of, is_closed}
 use Rattle.steps.specs.Sizes.{total}
-use Rattle.steps.specs.Verdicts.{Ending, verified, is_empty, Ends, numbered, lrat_start}
+use Rattle.steps.specs.Verdicts.{verified, is_empty, Ends, numbered, lrat_start}
 use Rattle.steps.proofs.Sessions.{SameState, ends_same}
 use Rattle.steps.proofs.Sizes.{total_same}
 use Rattle.sat_check.specs.Lines.{formula_line, steps_line, fault_line, fault_status}
@@ -158,8 +156,7 @@ pub verified_report : (s : Session) (clauses : List Clause) (l : IsLoaded s clau
     → Outcome status mid.held now.held (concluded (steps_line 0 m) Verified)
     → (r : Report) × ChecksLrat trace h clauses p r × Outcome status was.held now.held r
 verified_report s clauses l trace h p status was mid now m is shown wrote whole o =
-    let P : List ℕ → Type 0 = λ t. Outcome status mid.held now.held (concluded t Verified) in
-    (
+    let P : List ℕ → Type 0 = λ t. Outcome status mid.held now.held (concluded t Verified) in (
       with_lines (formula_line h ∷ []) (concluded (steps_line 0 s.peak) Verified),
       checks_verified s clauses l trace h p is,
       Outcome-line status was mid now.held (formula_line h) (concluded (steps_line 0 s.peak) Verified) wrote whole (subst P (steps_same 0 0 m s.peak refl shown) o),

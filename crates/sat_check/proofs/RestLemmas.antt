@@ -1,5 +1,5 @@
 -- The rest of a report, step by step.
-use Rattle.std.proofs.Common.{◌≡◌, ℕ, suc, ◌+◌, ◌-◌, ◌^◌, ◌<◌, ◌≤◌, min, max, cond, Bool, true, false, Option, None, Some, List, [], ◌∷◌, ◌++◌, length, refl, sym, ap, ◌∙◌, subst, arith, Ok, Err}
+use Rattle.std.proofs.Common.{◌≡◌, ℕ, ◌+◌, ◌≤◌, max, cond, Bool, true, false, None, Some, List, [], ◌∷◌, length, refl, sym, ap, ◌∙◌, subst, arith, Ok, Err}
 use Rattle.std.specs.Bool.{MatchBool}
 use Rattle.cnf_base.specs.declared.fault.Fault.{Fault}
 use Rattle.proofs.specs.Steps.{Step}
@@ -9,12 +9,12 @@ use Rattle.steps.specs.declared.accepted.Accepted.TheVariants.{Empty}
 use Rattle.steps.specs.declared.refusal.Refusal.{Refusal}
 use Rattle.steps.specs.Lrat.{LratStep, LratState, AnswersLrat, after_lrat, lrat_step}
 use Rattle.steps.specs.Sizes.{total}
-use Rattle.steps.specs.Verdicts.{Ending, verified, refused, no_empty_clause, is_last, Ends}
+use Rattle.steps.specs.Verdicts.{verified, refused, no_empty_clause, is_last, Ends}
 use Rattle.steps.proofs.Sessions.{SameState, after_same, ends_same}
 use Rattle.steps.proofs.Sizes.{total_same}
-use Rattle.sat_check.specs.Lines.{trace_line, refusal_line, steps_line}
+use Rattle.sat_check.specs.Lines.{refusal_line, steps_line}
 use Rattle.sat_check.specs.Report.{Report, concluded, with_lines, trace_lines, end_report, verdict_report, peak_of, steps_of, proof_report}
-use Rattle.sat_check.specs.Checking.{Rest, Bounded, traced, counted}
+use Rattle.sat_check.specs.Checking.{Rest, Bounded, traced}
 use Rattle.sat_check.specs.declared.status.Status.TheVariants.{Verified, NotVerified}
 use Rattle.sat_check.proofs.VerdictLemmas.{some_verdict}
 
@@ -82,9 +82,11 @@ module _ (trace : Bool) (s : LratState) (n peak : ℕ) where
     Rest-step word t r a not_last same least rest = record {
       words = word ∷ rest.words;
       ending = rest.ending;
-      verdict = (a,
+      verdict = (
+        a,
         (let P : Bool → Type 0 = λ v. MatchBool v ((rest.words ≡ []) × (rest.ending ≡ verified)) (Ends AnswersLrat after_lrat (after_lrat s (lrat_step st)) (steps_of p) rest.words rest.ending) in
-        subst P (sym not_last) (ends_same (steps_of p) rest.words rest.ending t (after_lrat s (lrat_step st)) same rest.verdict)));
+            subst P (sym not_last) (ends_same (steps_of p) rest.words rest.ending t (after_lrat s (lrat_step st)) same rest.verdict)),
+      );
       report = ap (with_lines (traced trace (n + 1) word)) rest.report
           ∙ ap (λ m. with_lines (traced trace (n + 1) word) (proof_report trace (n + 1) m rest.words rest.ending p.fault)) peaks
           ∙ joined trace (max peak (peak_of s (lrat_step st ∷ steps_of p) (word ∷ rest.words)));

@@ -1,6 +1,6 @@
 -- What a step that ends a check leaves of the report.
-use Rattle.std.proofs.Common.{◌≡◌, ℕ, ◌+◌, ◌<◌, ◌≤◌, max, Bool, true, false, List, [], ◌∷◌, refl, sym, ap, ◌∙◌, subst, arith}
-use Rattle.std.specs.Prelude.{Result, Ok, Err}
+use Rattle.std.proofs.Common.{◌≡◌, ℕ, ◌+◌, ◌≤◌, max, Bool, true, false, List, refl, sym, subst}
+use Rattle.std.specs.Prelude.{Ok, Err}
 use Rattle.cnf_base.specs.Lines.{Sink, Writes}
 use Rattle.proofs.specs.Steps.{Step}
 use Rattle.proofs.specs.Reading.{Proof, with_step}
@@ -8,14 +8,13 @@ use Rattle.steps.specs.declared.accepted.Accepted.{Accepted}
 use Rattle.steps.specs.declared.accepted.Accepted.TheVariants.{Empty, Rup, Rat, Deleted, Ignored}
 use Rattle.steps.specs.declared.refusal.Refusal.{Refusal}
 use Rattle.steps.specs.declared.refusal.Refusal.TheVariants.{OutOfMemory}
-use Rattle.steps.specs.Lrat.{LratState, AnswersLrat, after_lrat, lrat_step, SameClauses}
+use Rattle.steps.specs.Lrat.{AnswersLrat, after_lrat, lrat_step, SameClauses}
 use Rattle.steps.specs.Session.{Session, state_of, UnlessOutOfMemory}
 use Rattle.steps.specs.Sizes.{total}
 use Rattle.steps.specs.Verdicts.{is_last}
-use Rattle.steps.proofs.Sessions.{SameState}
 use Rattle.sat_check.specs.Lines.{refusal_line, steps_line}
 use Rattle.sat_check.specs.Report.{Report, Outcome, concluded, with_lines, text_of}
-use Rattle.sat_check.specs.Checking.{Rest, Bounded, Stops, counted, traced, is_memory}
+use Rattle.sat_check.specs.Checking.{Rest, Stops, counted, traced, is_memory}
 use Rattle.sat_check.specs.declared.status.Status.{Status}
 use Rattle.sat_check.specs.declared.status.Status.TheVariants.{Verified, NotVerified}
 use Rattle.sat_check.proofs.OutcomeLemmas.{Outcome-after, Writes-all}
@@ -50,8 +49,7 @@ module _ (trace : Bool) (number : ℕ) (old : Session) (step : Step) (was now : 
           let some = Rest-some trace (state_of old) n old.peak bounded (with_step step left p) in
           (some.0, some.1, memory e some.0)
       by false e =
-          let P : List ℕ → Type 0 = λ t. Outcome status was.held now.held (concluded t NotVerified) in
-          (
+          let P : List ℕ → Type 0 = λ t. Outcome status was.held now.held (concluded t NotVerified) in (
             concluded (refusal_line (n + 1) r) NotVerified,
             Rest-refused trace (state_of old) n old.peak step left p r (given r _ e answers),
             subst P (refusal_same number (n + 1) r is) (refused e),
@@ -79,8 +77,7 @@ module _ (trace : Bool) (number : ℕ) (old : Session) (step : Step) (was now : 
         by true e = (_, verified_rest n left p (last_word word e) least, shown _)
         by false e =
             let after = same_bounded (state_of new).live (after_lrat (state_of old) (lrat_step step)).live live (after_bounded (state_of old) (lrat_step step) bounded) in
-            let some = Rest-some trace (state_of new) (n + 1) (max old.peak (total (state_of new))) after p in
-            (
+            let some = Rest-some trace (state_of new) (n + 1) (max old.peak (total (state_of new))) after p in (
               with_lines (traced trace (n + 1) word) some.0,
               Rest-step trace (state_of old) n old.peak step left p word (state_of new) some.0 answers e (record { live = live; top = top }) least some.1,
               shown some.0,
@@ -92,11 +89,10 @@ module _ (trace : Bool) (number : ℕ) (old : Session) (step : Step) (was now : 
         → Outcome status mid.held now.held (concluded (steps_line number m) Verified) → Stops trace number old step was now status
     Stops-verified status mid m e shown wrote whole o n left p is least bounded =
         let P : List ℕ → Type 0 = λ t. Outcome status mid.held now.held (concluded t Verified) in
-        let Q : List (List ℕ) → Type 0 = λ t. Outcome status was.held now.held (with_lines t (concluded (steps_line (n + 1) new.peak) Verified)) in
-        (
+        let Q : List (List ℕ) → Type 0 = λ t. Outcome status was.held now.held (with_lines t (concluded (steps_line (n + 1) new.peak) Verified)) in (
           with_lines (traced trace (n + 1) word) (concluded (steps_line (n + 1) new.peak) Verified),
           verified_rest n left p (last_word word e) least,
           subst Q (traced_same trace number (n + 1) word is)
-          (Outcome-after status was.held mid.held now.held (traced trace number word) _ (Writes-all was mid (text_of (traced trace number word)) wrote whole)
-          (subst P (steps_same number (n + 1) m new.peak is shown) o)),
+              (Outcome-after status was.held mid.held now.held (traced trace number word) _ (Writes-all was mid (text_of (traced trace number word)) wrote whole)
+              (subst P (steps_same number (n + 1) m new.peak is shown) o)),
         )

@@ -1,17 +1,17 @@
 -- Each proof has a verdict.
-use Rattle.std.proofs.Common.{◌≡◌, ℕ, suc, ◌+◌, ◌<◌, ◌≤◌, max, not, ◌&&◌, eqb, nat_le, cond, Bool, true, false, ◌⊎◌, inl, inr, Option, None, Some, List, [], ◌∷◌, length, refl, sym, ap, ◌∙◌, subst, arith, Ok, Err}
+use Rattle.std.proofs.Common.{◌≡◌, ℕ, suc, ◌<◌, max, not, ◌&&◌, eqb, nat_le, Bool, true, false, ◌⊎◌, inl, inr, Option, None, Some, List, [], ◌∷◌, refl, sym, ap, ◌∙◌, subst, arith, Ok, Err}
 use Rattle.std.specs.Bool.{MatchBool}
 use Rattle.std.specs.List.{list_any}
 use Rattle.std.proofs.lemmas.Bool.{cases_lt, cases_eq}
 use Rattle.cnf_base.specs.Literals.{Literal, Clause, complements}
 use Rattle.steps.specs.declared.accepted.Accepted.{Accepted}
-use Rattle.steps.specs.declared.accepted.Accepted.TheVariants.{Rup, Rat, Empty, Deleted, Ignored}
+use Rattle.steps.specs.declared.accepted.Accepted.TheVariants.{Rup, Rat, Empty}
 use Rattle.steps.specs.declared.refusal.Refusal.{Refusal}
 use Rattle.steps.specs.declared.refusal.Refusal.TheVariants.{IdOutOfOrder, UnknownId, NotUnit, NoConflict, Unnamed}
 use Rattle.steps.specs.Propagation.{Live}
 use Rattle.steps.specs.Drat.{Answer}
-use Rattle.steps.specs.Lrat.{ChainEnd, conflict, open_with, unknown, not_unit, chain, Group, LratStep, add, delete, LratState, groups_refusal, is_unsettled, is_left_out, AnswersGroups, AnswersChain, AnswersLrat, after_lrat, with_clause, without_id, without_ids, deletion_refusal, answer_of, SameAt, SameClauses}
-use Rattle.steps.specs.Verdicts.{Ending, verified, refused, no_empty_clause, is_last, Ends, numbered}
+use Rattle.steps.specs.Lrat.{ChainEnd, conflict, open_with, unknown, not_unit, chain, Group, LratStep, add, delete, LratState, groups_refusal, is_unsettled, is_left_out, AnswersGroups, AnswersChain, AnswersLrat, after_lrat, without_id, without_ids, deletion_refusal, answer_of, SameAt, SameClauses}
+use Rattle.steps.specs.Verdicts.{Ending, verified, refused, no_empty_clause, is_last, Ends}
 use Rattle.steps.proofs.Sums.{with_other, without_here, without_other}
 use Rattle.sat_check.specs.Checking.{Bounded}
 
@@ -19,9 +19,9 @@ use Rattle.sat_check.specs.Checking.{Bounded}
 lowest : (p : ℕ → Bool) (n : ℕ) → ((k : ℕ) → k < n → p k ≡ false) ⊎ ((k : ℕ) × (p k ≡ true) × ((j : ℕ) → j < k → p j ≡ false))
 lowest p Prim.Native.Nat.zero = inl (λ k h. absurd (omega arith))
 lowest p (suc n) = elim (lowest p n) [
-    | inr found ↦ inr found
-    | inl none ↦ by (p n) refl none
-  ]
+  | inr found ↦ inr found
+  | inl none ↦ by (p n) refl none
+]
   where
     by : (v : Bool) → p n ≡ v → ((k : ℕ) → k < n → p k ≡ false) → ((k : ℕ) → k < suc n → p k ≡ false) ⊎ ((k : ℕ) × (p k ≡ true) × ((j : ℕ) → j < k → p j ≡ false))
     by true e none = inr (n, e, none)
@@ -34,12 +34,15 @@ and_false false = refl
 groups_answer : (live : Live) → Bounded live → (ls : List Literal) (pivot : Literal) (groups : List Group) (o : Option Refusal) → (answer : Answer) × AnswersGroups live ls pivot groups o answer
 groups_answer live b ls pivot groups (Some r) = (Err r, refl)
 groups_answer live b ls pivot groups None = elim (lowest (is_left_out live ls pivot groups) (suc b.bound)) [
-    | inr found ↦ (Err (Unnamed found.0), (found.1, found.2))
-    | inl none ↦ (Ok Rat, λ k. elim (cases_lt b.bound k) [
+  | inr found ↦ (Err (Unnamed found.0), (found.1, found.2))
+  | inl none ↦ (
+    Ok Rat,
+    λ k. elim (cases_lt b.bound k) [
       | inl past ↦ ap (λ o. not (list_any (λ group. eqb group.candidate k) groups) && is_unsettled ls pivot o) (b.none k past) ∙ and_false (not (list_any (λ group. eqb group.candidate k) groups))
       | inr within ↦ none k (omega arith)
-    ])
-  ]
+    ],
+  )
+]
 
 chain_answer : (live : Live) → Bounded live → (c : List Literal) (groups : List Group) (end : ChainEnd) → (answer : Answer) × AnswersChain live c groups end answer
 chain_answer live b [] groups conflict = (Ok Empty, refl)
@@ -61,24 +64,33 @@ some_answer state b (add id c units groups) =
 some_answer state b (delete ids) = (answer_of (deletion_refusal state.live ids), refl)
 
 without_bounded : (live : Live) (id : ℕ) → Bounded live → Bounded (without_id live id)
-without_bounded live id b = record { bound = b.bound; none = λ k h. elim (cases_eq k id) [
+without_bounded live id b = record {
+  bound = b.bound;
+  none = λ k h. elim (cases_eq k id) [
     | inl same ↦ ap (without_id live id) same ∙ without_here live id
     | inr apart ↦ without_other live id k apart ∙ b.none k h
-  ] }
+  ];
+}
 
 without_all_bounded : (ids : List ℕ) (live : Live) → Bounded live → Bounded (without_ids live ids)
 without_all_bounded [] live b = b
 without_all_bounded (id ∷ ids) live b = without_all_bounded ids (without_id live id) (without_bounded live id b)
 
 pub after_bounded : (state : LratState) (step : LratStep) → Bounded state.live → Bounded (after_lrat state step).live
-after_bounded state (add id c units groups) b = record { bound = max b.bound id; none = λ k h.
-    with_other state.live id c k (λ e. absurd (let bad : ⊥ = omega arith in bad)) ∙ b.none k (omega arith) }
+after_bounded state (add id c units groups) b = record {
+  bound = max b.bound id;
+  none = λ k h.
+      with_other state.live id c k (λ e. absurd (let bad : ⊥ = omega arith in bad)) ∙ b.none k (omega arith);
+}
 after_bounded state (delete ids) b = without_all_bounded ids state.live b
 
 pub same_bounded : (first second : Live) → SameClauses first second → Bounded second → Bounded first
-same_bounded first second same b = record { bound = b.bound; none = λ k h.
-    let at : SameAt (first k) None = let P : Option Clause → Type 0 = SameAt (first k) in subst P (b.none k h) (same.at k) in
-    by (first k) at }
+same_bounded first second same b = record {
+  bound = b.bound;
+  none = λ k h.
+      let at : SameAt (first k) None = let P : Option Clause → Type 0 = SameAt (first k) in subst P (b.none k h) (same.at k) in
+      by (first k) at;
+}
   where
     by : (o : Option Clause) → SameAt o None → o ≡ None
     by None h = refl

@@ -1,5 +1,5 @@
 -- The parts of a check.
-use Rattle.std.specs.Prelude.{◌≡◌, ℕ, ◌+◌, ◌-◌, ◌^◌, ◌<◌, ◌≤◌, min, max, cond, Bool, true, false, List, [], ◌∷◌, ◌++◌, length, Option, None, Some, Result, Ok, Err}
+use Rattle.std.specs.Prelude.{◌≡◌, ℕ, ◌+◌, ◌-◌, ◌^◌, ◌<◌, ◌≤◌, min, max, cond, Bool, true, false, List, [], ◌∷◌, length, None, Some, Result, Ok, Err}
 use Rattle.std.specs.List.{list_any}
 use Rattle.cnf_base.specs.Literals.{Clause}
 use Rattle.cnf_base.specs.Lines.{Sink, Writes}

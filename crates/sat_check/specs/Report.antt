@@ -1,19 +1,18 @@
 -- What a check writes, and how it ends.
-use Rattle.std.specs.Prelude.{◌≡◌, ℕ, ◌+◌, max, cond, Bool, true, false, List, [], ◌∷◌, ◌++◌, length, map, Option, None, Some, codes}
+use Rattle.std.specs.Prelude.{◌≡◌, ℕ, ◌+◌, max, cond, Bool, List, [], ◌∷◌, ◌++◌, length, map, Option, None, Some, codes}
 use Rattle.std.specs.List.{flat_map}
 use Rattle.std.specs.Io.KnownBytes.{Appends}
 use Rattle.cnf_base.specs.Literals.{Clause}
 use Rattle.cnf_base.specs.Stream.{Input}
 use Rattle.cnf_base.specs.Lines.{line_of}
 use Rattle.cnf_base.specs.declared.fault.Fault.{Fault}
-use Rattle.cnf_base.specs.declared.fault.Fault.TheVariants.{OutOfMemory as NoMemory}
-use Rattle.dimacs.specs.Formula.{Formula, formula_of}
+use Rattle.dimacs.specs.Formula.{formula_of}
 use Rattle.dimacs.specs.declared.header.Header.{Header}
-use Rattle.proofs.specs.Reading.{Proof, PlacedStep}
+use Rattle.proofs.specs.Reading.{Proof}
 use Rattle.proofs.specs.Lrat.{lrat_steps}
-use Rattle.steps.specs.Lrat.{LratState, LratStep, AnswersLrat, after_lrat, lrat_step}
+use Rattle.steps.specs.Lrat.{LratState, LratStep, after_lrat, lrat_step}
 use Rattle.steps.specs.Sizes.{total}
-use Rattle.steps.specs.Verdicts.{Ending, verified, refused, no_empty_clause, Ends, lrat_start, LratVerdict}
+use Rattle.steps.specs.Verdicts.{Ending, verified, refused, no_empty_clause, lrat_start, LratVerdict}
 use Rattle.steps.specs.declared.accepted.Accepted.{Accepted}
 use Rattle.sat_check.specs.Lines.{formula_line, fault_line, fault_status, trace_line, refusal_line, steps_line, end_line, sentence}
 use Rattle.sat_check.specs.declared.status.Status.{Status}

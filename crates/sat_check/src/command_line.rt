@@ -60,7 +60,11 @@ fn command<'a>(alloc: Global, tool: Tool) -> Result<Command<'a>, AllocError>
     match tool {
         Tool::Drat => {
             let binary = flag(alloc, "binary", "Read the proof in the binary form");
-            let strict = flag(alloc, "strict", "Refuse a deletion of a clause that is not alive");
+            let strict = flag(
+                alloc,
+                "strict",
+                "Refuse a deletion of a clause that is not alive",
+            );
             Command::new(alloc, "drat-forward")
                 .arg(binary)?
                 .arg(trace(alloc))?

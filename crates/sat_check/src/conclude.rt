@@ -37,12 +37,7 @@ pub fn conclude<O: Out>(
 }
 
 /// Tells of the first fault of the input of this name. Want of memory has no line.
-pub fn break_off<O: Out>(
-    alloc: Global,
-    lines: &mut LineOut<O>,
-    name: &[u8],
-    fault: Fault,
-) -> Status
+pub fn break_off<O: Out>(alloc: Global, lines: &mut LineOut<O>, name: &[u8], fault: Fault) -> Status
     ensures memory { fault ≡ Fault.OutOfMemory → (r : Report) → Outcome result lines.old.held lines.new.held r }
     ensures told { (fault ≡ Fault.OutOfMemory → ⊥) → Outcome result lines.old.held lines.new.held (concluded (fault_line name.now fault) (fault_status fault)) }
     ensures read_failed { result ≡ Status.ReadFailed → fault ≡ Fault.ReadFailed }

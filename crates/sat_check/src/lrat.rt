@@ -88,7 +88,11 @@ fn check_loaded<P: In, O: Out>(
         return status;
     }
     if session.verified() {
-        return conclude(lines, steps_line(alloc, 0, session.peak()), Status::Verified);
+        return conclude(
+            lines,
+            steps_line(alloc, 0, session.peak()),
+            Status::Verified,
+        );
     }
     check_proof(alloc, trace, session, proof, lines)
 }

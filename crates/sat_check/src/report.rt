@@ -130,7 +130,12 @@ fn with_cause(line: Line, refusal: Refusal) -> Result<Line, OutOfMemory>
         Refusal::NamedTwice(id) => with_id(line, b"clause ", id, b" is named twice"),
         Refusal::GroupWithoutConflict(id) => with_id(line, b"group ", id, b" has no conflict"),
         Refusal::Unnamed(id) => {
-            with_id(line, b"clause ", id, b" holds the complement and is not named")
+            with_id(
+                line,
+                b"clause ",
+                id,
+                b" holds the complement and is not named",
+            )
         }
         Refusal::NoConflict => line.text(b"no conflict"),
         Refusal::OutOfMemory | Refusal::Ended => Ok(line),

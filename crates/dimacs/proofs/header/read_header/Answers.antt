@@ -1,5 +1,4 @@
 -- The parts in turn.
-use Rattle.cnf_base.specs.Text.{Listing}
 use Rattle.dimacs.specs.Formula.{skip_blank, is_p, is_cnf, fixed, count, line_end}
 use Rattle.dimacs.proofs.HeaderLemmas.{Heads-start, Heads-part, Heads-fault, after_p, after_cnf, after_vars, after_clauses, done}
 use Rattle.dimacs.proofs.header.read_header.Goals as goal

@@ -1,6 +1,6 @@
 -- A step, the end, or a fault.
-use Rattle.std.proofs.Common.{◌≡◌, ◌+◌, true, false, rules, refl, arith}
-use Rattle.std.specs.Prelude.{Ok, Err}
+use Rattle.std.proofs.Common.{◌≡◌, ◌+◌, true, false, rules, arith}
+use Rattle.std.specs.Prelude.{Ok}
 use Rattle.sat_check.specs.Lines.{end_line}
 use Rattle.sat_check.specs.Checking.{counted}
 use Rattle.sat_check.proofs.CheckLemmas.{Checking-start, Checking-step, Checking-stop, Checking-end, Checking-fault, step_told}

@@ -1,5 +1,5 @@
 -- What was seen of the formula.
-use Rattle.std.proofs.Common.{◌≡◌, rules, refl}
+use Rattle.std.proofs.Common.{rules}
 use Rattle.sat_check.proofs.LoadLemmas.{loads_nothing, loads_fault, loads_body, loads_body_fault}
 use Rattle.sat_check.proofs.load.load.Goals as goal
 

@@ -1,5 +1,5 @@
 -- A clause is input, until the last one or a fault.
-use Rattle.std.proofs.Common.{◌≡◌, ◌+◌, ◌<◌, ◌||◌, max, true, false, rules, refl, arith}
+use Rattle.std.proofs.Common.{◌≡◌, ◌+◌, ◌||◌, max, true, false, rules}
 use Rattle.std.specs.Prelude.{Ok}
 use Rattle.cnf_base.proofs.StreamLemmas.{Along-map, Along-none}
 use Rattle.steps.specs.Lrat.{SameClauses, with_clause}

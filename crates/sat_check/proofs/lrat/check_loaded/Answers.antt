@@ -1,5 +1,5 @@
 -- The formula's line broke off, a clause is empty, or the proof is checked.
-use Rattle.std.proofs.Common.{◌≡◌, List, ℕ, rules, refl}
+use Rattle.std.proofs.Common.{rules}
 use Rattle.cnf_base.proofs.SeenLemmas.{Seen-nothing}
 use Rattle.sat_check.specs.Lines.{formula_line, steps_line}
 use Rattle.sat_check.proofs.OutcomeLemmas.{Outcome-line}
@@ -7,15 +7,21 @@ use Rattle.sat_check.proofs.ReportLemmas.{loaded_bounded, loaded_least, checks_s
 use Rattle.sat_check.proofs.lrat.check_loaded.Goals as goal
 
 pub returns-in-Err-clause-report : goal.returns-in-Err-clause-report
-returns-in-Err-clause-report g c = (Seen-nothing _, λ j s clauses l.
-    let some = checks_some c.args.session.now clauses l c.args.trace c.args.header _ in
-    (_, some.1, c.in-Err.ensures.stopped (formula_line c.args.header) some.0 c.formula_line.ensures))
+returns-in-Err-clause-report g c = (
+  Seen-nothing _,
+  λ j s clauses l.
+      let some = checks_some c.args.session.now clauses l c.args.trace c.args.header _ in
+      (_, some.1, c.in-Err.ensures.stopped (formula_line c.args.header) some.0 c.formula_line.ensures),
+)
 
 pub returns-then-verified-clause-report : goal.returns-then-verified-clause-report
-returns-then-verified-clause-report g c = (Seen-nothing _, λ j s clauses l.
-    verified_report c.args.session.now clauses l c.args.trace c.args.header _ c.conclude.result c.args.lines.now c.write_line.new.lines c.conclude.new.lines _ (search rules) c.peak.ensures
-    (c.in_default.ensures.written (formula_line c.args.header) c.formula_line.ensures) c.in_default.ensures.ok.0
-    (c.conclude.ensures.outcome (steps_line 0 c.peak.result) c.steps_line.ensures))
+returns-then-verified-clause-report g c = (
+  Seen-nothing _,
+  λ j s clauses l.
+      verified_report c.args.session.now clauses l c.args.trace c.args.header _ c.conclude.result c.args.lines.now c.write_line.new.lines c.conclude.new.lines _ (search rules) c.peak.ensures
+      (c.in_default.ensures.written (formula_line c.args.header) c.formula_line.ensures) c.in_default.ensures.ok.0
+      (c.conclude.ensures.outcome (steps_line 0 c.peak.result) c.steps_line.ensures),
+)
 
 pub check_proof-requires-clause-bounded : goal.check_proof-requires-clause-bounded
 check_proof-requires-clause-bounded g c = loaded_bounded c.args.session.now c.requires.loaded.0 c.requires.loaded.1
@@ -24,11 +30,13 @@ pub check_proof-requires-clause-least : goal.check_proof-requires-clause-least
 check_proof-requires-clause-least g c = loaded_least c.args.session.now c.requires.loaded.0 c.requires.loaded.1
 
 pub returns-clause-report : goal.returns-clause-report
-returns-clause-report g c = (c.check_proof.ensures.report.0, λ j s clauses l.
-    let rest = c.check_proof.ensures.report.1 j s in
-    (
-      _,
-      checks_rest c.args.session.now clauses l c.args.trace c.args.header _ rest.0 (search rules) rest.1,
-      Outcome-line c.check_proof.result c.args.lines.now c.write_line.new.lines _ (formula_line c.args.header) rest.0
-      (c.in_default.ensures.written (formula_line c.args.header) c.formula_line.ensures) c.in_default.ensures.ok.0 rest.2,
-    ))
+returns-clause-report g c = (
+  c.check_proof.ensures.report.0,
+  λ j s clauses l.
+      let rest = c.check_proof.ensures.report.1 j s in (
+        _,
+        checks_rest c.args.session.now clauses l c.args.trace c.args.header _ rest.0 (search rules) rest.1,
+        Outcome-line c.check_proof.result c.args.lines.now c.write_line.new.lines _ (formula_line c.args.header) rest.0
+            (c.in_default.ensures.written (formula_line c.args.header) c.formula_line.ensures) c.in_default.ensures.ok.0 rest.2,
+      ),
+)

@@ -1,8 +1,7 @@
 -- The step was refused, its line broke off, it is the last one, or the check goes on.
-use Rattle.std.proofs.Common.{◌≡◌, ◌-◌, ◌^◌, false, min, refl, rules}
-use Rattle.std.proofs.lemmas.Bool.{true≢false}
+use Rattle.std.proofs.Common.{rules}
 use Rattle.sat_check.specs.Lines.{steps_line}
-use Rattle.sat_check.proofs.StepLemmas.{Stops-refused, Stops-traced, Stops-verified, given_ok}
+use Rattle.sat_check.proofs.StepLemmas.{Stops-refused, Stops-traced, Stops-verified}
 use Rattle.sat_check.proofs.take_step.take_step.Goals as goal
 
 pub returns-in-Err-clause-stops : goal.returns-in-Err-clause-stops

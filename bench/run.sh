@@ -1,0 +1,59 @@
+#!/usr/bin/env bash
+# Measures bin/lrat-check beside a plain C++ checker, and the reading of formulas beside a C loop that splits words.
+#
+#   bench/run.sh            inputs of 50 to 60 MB
+#   bench/run.sh small      inputs of about 2 MB, to see that it runs
+#
+# The inputs are made once, in bench/out/ (not committed). LRAT_CHECK names another program than bin/lrat-check.
+set -euo pipefail
+cd "$(dirname "$0")/.."
+
+case "${1:-large}" in
+    large) size=large bytes=55000000 holes=40 variables=100000 steps=450000 ;;
+    small) size=small bytes=2000000 holes=18 variables=10000 steps=18000 ;;
+    *) echo "usage: bench/run.sh [large|small]" >&2; exit 6 ;;
+esac
+
+checker=${LRAT_CHECK:-bin/lrat-check}
+[ -x "$checker" ] || { echo "bench/run.sh: there is no $checker: run make" >&2; exit 1; }
+
+out=bench/out
+mkdir -p "$out/$size"
+c++ -O2 -std=c++17 -o "$out/reference" bench/reference.cpp
+cc -O2 -o "$out/words" bench/words.c
+cc -O2 -o "$out/measure" bench/measure.c
+
+# make_once FILE COMMAND..: runs the command where the file isn't there yet
+make_once() {
+    local file=$1
+    shift
+    if [ ! -f "$file.made" ]; then
+        echo "making $file" >&2
+        "$@"
+        touch "$file.made"
+    fi
+}
+
+in=$out/$size
+make_once "$in/pigeonhole.lrat" python3 examples/pigeonhole.py "$holes" "$in/pigeonhole.cnf" "$in/pigeonhole.lrat"
+make_once "$in/chain.lrat" python3 bench/generate.py chain "$variables" 10 "$steps" "$in/chain.cnf" "$in/chain.lrat"
+make_once "$in/formula.cnf" python3 bench/generate.py formula "$bytes" "$in/formula.cnf"
+make_once "$in/literals.cnf" python3 bench/generate.py literals "$bytes" "$in/literals.cnf"
+
+failed=0
+measure() { "$out/measure" "$@" || failed=1; }
+
+printf '%-42s %11s %14s %12s\n' "" "seconds" "read" "peak memory"
+for name in pigeonhole chain; do
+    cnf=$in/$name.cnf lrat=$in/$name.lrat
+    measure "$name proof, lrat-check" 0 "$cnf" "$lrat" -- "$checker" "$cnf" "$lrat"
+    measure "$name proof, reference.cpp" 0 "$cnf" "$lrat" -- "$out/reference" "$cnf" "$lrat"
+done
+# the formula is read whole and kept, and then the proof is empty
+measure "formula read and kept, lrat-check" 1 "$in/formula.cnf" -- "$checker" "$in/formula.cnf" /dev/null
+measure "formula read and kept, reference.cpp" 1 "$in/formula.cnf" -- "$out/reference" "$in/formula.cnf" /dev/null
+# one clause that never ends: it is read and judged, and no clause is kept
+measure "literals read, lrat-check" 2 "$in/literals.cnf" -- "$checker" "$in/literals.cnf" /dev/null
+measure "literals read, reference.cpp" 2 "$in/literals.cnf" -- "$out/reference" "$in/literals.cnf" /dev/null
+measure "literals split into words, words.c" 0 "$in/literals.cnf" -- "$out/words" "$in/literals.cnf"
+exit "$failed"

@@ -1,0 +1,243 @@
+#!/usr/bin/env bash
+# Runs lrat-check as a user does: files, standard input, missing files, wrong words. What it writes and its status are
+# compared with what stands here. The last line is "N passed, M failed".
+#
+# LRAT_CHECK names the program; it is bin/lrat-check otherwise.
+set -uo pipefail
+cd "$(dirname "$0")/.."
+
+checker=${LRAT_CHECK:-bin/lrat-check}
+passed=0 failed=0
+room=$(mktemp -d)
+trap 'rm -rf "$room"' EXIT
+
+if [ ! -x "$checker" ]; then
+    echo "FAILED: there is no program $checker"
+    echo "0 passed, 1 failed"
+    exit 1
+fi
+
+# judge NAME WANTED_STATUS STATUS: compares $room/wanted with $room/out
+judge() {
+    if [ "$3" -ne "$2" ]; then
+        echo "FAILED: $1: status $3, and not $2"
+        failed=$((failed + 1))
+    elif ! cmp -s "$room/wanted" "$room/out"; then
+        echo "FAILED: $1: the lines differ (wanted, written):"
+        diff "$room/wanted" "$room/out"
+        failed=$((failed + 1))
+    else
+        passed=$((passed + 1))
+    fi
+}
+
+# row NAME STATUS WORD..: runs the program with these words. Standard input has the wanted lines, or "-" for none.
+row() {
+    local name=$1 status=$2 ended
+    shift 2
+    cat > "$room/wanted"
+    "$checker" "$@" > "$room/out" 2> "$room/err" < "${proof_on_stdin:-/dev/null}"
+    ended=$?
+    judge "$name" "$status" "$ended"
+}
+
+# usage NAME WORD..: status 6, nothing on standard output, something on standard error
+usage() {
+    local name=$1
+    shift
+    row "$name" 6 "$@" < /dev/null
+    if [ -s "$room/err" ]; then
+        passed=$((passed + 1))
+    else
+        echo "FAILED: $name: nothing on standard error"
+        failed=$((failed + 1))
+    fi
+}
+
+x=examples
+
+# ---- Verified
+
+row e_lrat 0 $x/e.cnf $x/e.lrat <<'LINES'
+c formula 2 variables 4 clauses
+c steps 2 peak 9
+s VERIFIED
+LINES
+
+row e_lrat_with_trace 0 --trace $x/e.cnf $x/e.lrat <<'LINES'
+c formula 2 variables 4 clauses
+c 1 add rup
+c 2 add rup
+c steps 2 peak 9
+s VERIFIED
+LINES
+
+row flag_after_the_names 0 $x/e.cnf $x/e.lrat --trace <<'LINES'
+c formula 2 variables 4 clauses
+c 1 add rup
+c 2 add rup
+c steps 2 peak 9
+s VERIFIED
+LINES
+
+proof_on_stdin=$x/e.lrat row proof_on_standard_input 0 $x/e.cnf <<'LINES'
+c formula 2 variables 4 clauses
+c steps 2 peak 9
+s VERIFIED
+LINES
+
+row deletion 0 --trace $x/e.cnf $x/deletion.lrat <<'LINES'
+c formula 2 variables 4 clauses
+c 1 add rup
+c 2 delete
+c 3 add rup
+c steps 3 peak 9
+s VERIFIED
+LINES
+
+row pigeonhole 0 $x/pigeonhole-10.cnf $x/pigeonhole-10.lrat <<'LINES'
+c formula 110 variables 561 clauses
+c steps 4849 peak 3102
+s VERIFIED
+LINES
+
+row empty_clause_in_formula 0 $x/empty_clause.cnf $x/e.lrat <<'LINES'
+c formula 0 variables 1 clauses
+c steps 0 peak 0
+s VERIFIED
+LINES
+
+row empty_clause_and_no_proof 0 $x/empty_clause.cnf $x/there_is_no_such_file <<'LINES'
+c formula 0 variables 1 clauses
+c steps 0 peak 0
+s VERIFIED
+LINES
+
+# ---- Not verified
+
+row no_empty_clause 1 $x/e.cnf $x/no_empty_clause.lrat <<'LINES'
+c formula 2 variables 4 clauses
+c end: no empty clause
+s NOT VERIFIED
+LINES
+
+row definition_by_groups 1 --trace $x/g.cnf $x/definition_by_groups.lrat <<'LINES'
+c formula 2 variables 1 clauses
+c 1 add rat
+c 2 add rat
+c end: no empty clause
+s NOT VERIFIED
+LINES
+
+row group_with_hints 1 --trace $x/group_with_hints.cnf $x/group_with_hints.lrat <<'LINES'
+c formula 5 variables 3 clauses
+c 1 add rat
+c end: no empty clause
+s NOT VERIFIED
+LINES
+
+row unnamed_candidate 1 $x/e.cnf $x/unnamed_candidate.lrat <<'LINES'
+c formula 2 variables 4 clauses
+c step 1: clause 4 holds the complement and is not named
+s NOT VERIFIED
+LINES
+
+row hint_with_true_literal 1 $x/e.cnf $x/hint_with_true_literal.lrat <<'LINES'
+c formula 2 variables 4 clauses
+c step 1: hint 4 is not unit
+s NOT VERIFIED
+LINES
+
+row unknown_hint 1 $x/e.cnf $x/unknown_hint.lrat <<'LINES'
+c formula 2 variables 4 clauses
+c step 1: unknown id 9
+s NOT VERIFIED
+LINES
+
+row identifier_not_above 1 $x/e.cnf $x/identifier_not_above.lrat <<'LINES'
+c formula 2 variables 4 clauses
+c step 1: identifier is not above all earlier ones
+s NOT VERIFIED
+LINES
+
+row deleted_twice 1 $x/e.cnf $x/deleted_twice.lrat <<'LINES'
+c formula 2 variables 4 clauses
+c step 2: unknown id 1
+s NOT VERIFIED
+LINES
+
+row named_twice 1 $x/g.cnf $x/named_twice.lrat <<'LINES'
+c formula 2 variables 1 clauses
+c step 2: clause 2 is named twice
+s NOT VERIFIED
+LINES
+
+row group_without_conflict 1 $x/g.cnf $x/group_without_conflict.lrat <<'LINES'
+c formula 2 variables 1 clauses
+c step 2: group 2 has no conflict
+s NOT VERIFIED
+LINES
+
+row comments_everywhere 1 $x/comments.cnf /dev/null <<'LINES'
+c formula 1 variables 1 clauses
+c end: no empty clause
+s NOT VERIFIED
+LINES
+
+# ---- Malformed
+
+row unterminated_step 2 $x/e.cnf $x/unterminated_step.lrat <<'LINES'
+c formula 2 variables 4 clauses
+c proof 3:1: unterminated step
+s NOT VERIFIED
+LINES
+
+row literal_out_of_range 2 $x/literal_out_of_range.cnf $x/e.lrat <<'LINES'
+c formula 2:3: literal out of range
+s NOT VERIFIED
+LINES
+
+# ---- Files that cannot be read
+
+row missing_formula 3 $x/there_is_no_such_file $x/e.lrat <<'LINES'
+c cannot read formula
+s NOT VERIFIED
+LINES
+
+row missing_proof 3 $x/e.cnf $x/there_is_no_such_file <<'LINES'
+c formula 2 variables 4 clauses
+c cannot read proof
+s NOT VERIFIED
+LINES
+
+# a folder can be opened, and then its first read fails
+row folder_as_formula 3 $x $x/e.lrat <<'LINES'
+c cannot read formula
+s NOT VERIFIED
+LINES
+
+# ---- A writer that fails
+
+if [ -w /dev/full ]; then
+    "$checker" $x/e.cnf $x/e.lrat > /dev/full 2> "$room/out"
+    ended=$?
+    echo "lrat-check: write failed" > "$room/wanted"
+    judge full_device 5 "$ended"
+fi
+
+# ---- Words
+
+usage no_words
+usage help --help
+usage short_help -h
+usage version --version
+usage unknown_flag --fast $x/e.cnf
+usage flag_of_another_tool --binary $x/e.cnf $x/e.lrat
+usage flag_with_a_value --trace=1 $x/e.cnf $x/e.lrat
+usage shortened_flag --tra $x/e.cnf $x/e.lrat
+usage name_with_a_hyphen -1 $x/e.lrat
+usage flag_alone --trace
+usage three_names $x/e.cnf $x/e.lrat $x/e.lrat
+
+echo "$passed passed, $failed failed"
+[ "$failed" -eq 0 ]

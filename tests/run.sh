@@ -1,0 +1,45 @@
+#!/usr/bin/env bash
+# All tests: the gate (every proof from nothing, the must-fail edits, the crates' tests and the programs' stored runs), and
+# then the programs as users run them. The last line is "N passed, M failed" over both.
+#
+# RT names the command rt, where it isn't on the PATH.
+set -uo pipefail
+cd "$(dirname "$0")/.."
+
+passed=0 failed=0
+log=$(mktemp)
+trap 'rm -f "$log"' EXIT
+
+# count STATUS: adds the last line of $log. A part that gave no such line, or ended wrong without a failure, is one failure.
+count() {
+    local last
+    last=$(tail -n 1 "$log")
+    if [[ $last =~ ^([0-9]+)\ passed,\ ([0-9]+)\ failed$ ]]; then
+        passed=$((passed + BASH_REMATCH[1]))
+        failed=$((failed + BASH_REMATCH[2]))
+        if [ "$1" -ne 0 ] && [ "${BASH_REMATCH[2]}" -eq 0 ]; then
+            failed=$((failed + 1))
+        fi
+    else
+        failed=$((failed + 1))
+    fi
+}
+
+echo "== rt ci"
+"${RT:-rt}" ci 2>&1 | tee "$log"
+ended=${PIPESTATUS[0]}
+count "$ended"
+
+# The gate leaves the program that it proved and built. Where it did not come so far, nothing else is tested in its place.
+built=crates/lrat_check/out/lrat_check
+if [ "$ended" -eq 0 ] && [ -x "$built" ]; then
+    mkdir -p bin
+    cp "$built" bin/lrat-check
+fi
+
+echo "== tests/programs.sh"
+LRAT_CHECK=$built tests/programs.sh 2>&1 | tee "$log"
+count "${PIPESTATUS[0]}"
+
+echo "$passed passed, $failed failed"
+[ "$failed" -eq 0 ]
