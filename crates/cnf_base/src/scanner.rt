@@ -1,5 +1,5 @@
 //! A text's tokens, with their places.
-ghost use Rattle.std.specs.Prelude.{◌≡◌, ◌<◌, ◌≤◌, true, false, [], ◌∷◌, OnOk, OnErr, length, slice_index};
+ghost use Rattle.std.specs.Prelude.{◌≡◌, ◌<◌, ◌≤◌, ◌==◌, ◌&&◌, true, false, [], ◌∷◌, OnOk, OnErr, length, slice_index};
 ghost use Rattle.cnf_base.specs.Stream.{Along, most_to_come};
 ghost use Rattle.cnf_base.specs.Digits.{begins_number, first_digits};
 ghost use Rattle.cnf_base.specs.Text.{Gives, GivesWord, FailsAt, is_separator, skips_at, listing_at, comment_at, MovesOn};
@@ -7,7 +7,7 @@ ghost use Rattle.cnf_base.specs.Text.{Gives, GivesWord, FailsAt, is_separator, s
 mod digits;
 mod name;
 
-use crate::{In, ReadFailed, Source, Token, Word};
+use crate::{In, Place, ReadFailed, Source, Token, Word};
 use digits::Digits;
 use name::Name;
 use std::marker::Model;
@@ -71,7 +71,7 @@ fn next_token<R: In>(source: &mut Source<R>) -> Result<Token, ReadFailed>
                     if byte == b'\n' {
                         return Ok(Token::LineEnd(place));
                     }
-                } else if byte == b'c' && place.col == 1 {
+                } else if begins_comment(byte, place) {
                     source.bump();
                     if skip_comment(source).is_err() {
                         return Err(ReadFailed);
@@ -182,7 +182,7 @@ fn read_name<R: In>(source: &mut Source<R>, first: u8) -> Result<Word, ReadFaile
                 name.push(byte);
             }
             Ok(None) => return Ok(name.word()),
-            Err(cut) => return Err(cut),
+            Err(broken) => return Err(broken),
         }
     }
 }
@@ -203,6 +203,13 @@ fn first_digits(byte: u8) -> Digits
     } else {
         Digits::Nothing.with_byte(byte)
     }
+}
+
+// Whether a comment begins with the byte.
+fn begins_comment(byte: u8, place: Place) -> bool
+    ensures { result ≡ ((place.col == 1) && (byte == 99)) }
+{
+    place.col == 1 && byte == b'c'
 }
 
 fn is_separator(byte: u8) -> bool

@@ -6,6 +6,7 @@ pub mod ShownLemmas
 pub mod StepLemmas
 pub mod CheckLemmas
 pub mod ReportLemmas
+pub mod SoundLemmas
 pub mod WordRules
 pub mod WordRows
 pub mod WordTurns

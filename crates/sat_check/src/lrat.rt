@@ -1,10 +1,12 @@
 //! A check of an LRAT proof, from bytes to bytes.
 
-ghost use Rattle.std.specs.Prelude.{◌≡◌, ◌⊎◌, true, false, List};
+ghost use Rattle.std.specs.Prelude.{◌≡◌, ◌⊎◌, true, false, List, slice_get};
 ghost use Rattle.cnf_base.specs.Literals.{Clause};
 ghost use Rattle.cnf_base.specs.Stream.{Input};
 ghost use Rattle.cnf_base.specs.Seen.{Seen, IsSeen};
+ghost use Rattle.dimacs.specs.Formula.{formula_of};
 ghost use Rattle.proofs.specs.Lrat.{lrat_steps};
+ghost use Rattle.steps.specs.Models.{HasModel};
 ghost use Rattle.sat_check.specs.Report.{Report, Outcome, ChecksLrat, LratReport};
 ghost use Rattle.sat_check.specs.Checking.{IsLoaded};
 
@@ -32,6 +34,10 @@ pub fn run_lrat<F: In, P: In, O: Out>(
     // the report; or, where memory or the writer failed, a number of its lines or a beginning of its text.
     ensures report { (f : Seen (F.left formula.old) (F.left formula.new)) × (p : Seen (P.left proof.old) (P.left proof.new)) ×
         ((i j : Input) → IsSeen f i → IsSeen p j → (r : Report) × LratReport options.now.trace i j r × Outcome result (O.held out.old) (O.held out.new) r) }
+
+    // Status 0 means that no assignment satisfies the formula.
+    ensures sound { result ≡ Status.Verified → (f : Seen (F.left formula.old) (F.left formula.new)) ×
+        ((i : Input) → IsSeen f i → ¬ HasModel (slice_get (formula_of i).clauses)) }
 
     // A reader or the writer tells of each failure.
     ensures read_failed { result ≡ Status.ReadFailed → (F.has_failed formula.new ≡ true) ⊎ (P.has_failed proof.new ≡ true) }

@@ -13,9 +13,9 @@ use crate::accepted::Accepted;
 use crate::addition::judge_addition;
 use crate::live_clauses::{LiveClauses, delete_all};
 use crate::refusal::Refusal;
-use cnf_base::Lit;
+use cnf_base::{Lit, OutOfMemory};
 use proofs::{StepBuf, StepKind};
-use std::alloc::{AllocError, Global};
+use std::alloc::Global;
 use std::marker::Model;
 
 /// A check of an LRAT proof: the clauses of the formula are input first, and then the steps are taken in order.
@@ -76,7 +76,7 @@ fn take_step(alloc: Global, held: &mut LiveClauses, step: &StepBuf) -> Result<Ac
 
 impl LratSession {
     /// A session without clauses.
-    pub fn new(alloc: Global) -> Result<Self, AllocError>
+    pub fn new(alloc: Global) -> Result<Self, OutOfMemory>
         ensures { IfOk result (λ session. session ≡ fresh) }
     {
         Ok(LratSession {

@@ -74,7 +74,7 @@ fn take_identifier(step: &mut StepBuf, number: Number) -> Result<Moved, Stopped>
         return Err(Stopped::Text(TextFault::BadToken));
     }
     if number.size > MOST {
-        return Err(Stopped::Text(TextFault::IdTooLarge));
+        return Err(past_limit());
     }
     step.name(number.size);
     Ok(Moved::To(Part::AfterIdentifier))
@@ -103,7 +103,7 @@ fn take_hint(step: &mut StepBuf, number: Number) -> Result<Moved, Stopped>
     ensures fits { FitsMoved result step.new }
 {
     if number.size > MOST {
-        return Err(Stopped::Text(TextFault::IdTooLarge));
+        return Err(past_limit());
     }
     if number.size == 0 {
         return Ok(Moved::Complete);
@@ -122,7 +122,7 @@ fn take_deleted(step: &mut StepBuf, number: Number) -> Result<Moved, Stopped>
         return Err(Stopped::Text(TextFault::BadToken));
     }
     if number.size > MOST {
-        return Err(Stopped::Text(TextFault::IdTooLarge));
+        return Err(past_limit());
     }
     if number.size == 0 {
         return Ok(Moved::Complete);
@@ -139,4 +139,11 @@ fn signed(number: Number) -> i64
 {
     let size = number.size as i64;
     if number.is_negative { -size } else { size }
+}
+
+// An identifier or a hint past the greatest one.
+fn past_limit() -> Stopped
+    ensures { result ≡ Stopped.Text TextFault.IdTooLarge }
+{
+    Stopped::Text(TextFault::IdTooLarge)
 }

@@ -1,5 +1,6 @@
 -- What comes before a token is skipped.
 use Rattle.std.proofs.Common.{◌≡◌, ◌<◌, ◌==◌, true, ap, sym, ◌∙◌, subst, ℕ, rules, arith}
+use Rattle.std.proofs.lemmas.Bool.{and_parts}
 use Rattle.std.proofs.lemmas.Bool.Decides.{nat_tests}
 use Rattle.std.proofs.lemmas.Grind.{common_steps}
 use Rattle.cnf_base.proofs.RunLemmas.{Stands-looked, Stands-separator, Stands-feed, Stands-comment, Stands-cut, Stands-word, Stands-cut_word}
@@ -20,18 +21,20 @@ loop-byte-preserved-else-byte-eq10 g c =
 pub returns-then-is_err-clause-tokens : goal.returns-then-is_err-clause-tokens
 returns-then-is_err-clause-tokens g c =
     let place = c.place-place.ensures.value ∙ sym c.peek.ensures.look.place in
-    let start : (c.peek.new.self.place.col == 1) ≡ true = grind (arith, nat_tests, ap (λ p. p.col) place, c.if-place-eq1.true) in
-    let text = rw c.bump-then-place-eq1.ensures at c.skip_comment.ensures.text in
-    Stands-cut _ _ _ c.in-Ok-Some.byte _ (Stands-looked _ _ _ c.loop-byte.invariant c.peek.ensures.look (search rules)) (search rules) (search rules) (grind (arith, nat_tests)) start text (search rules)
+    let both = and_parts _ _ (sym c.begins_comment.ensures ∙ c.if-begins_comment.true) in
+    let start : (c.peek.new.self.place.col == 1) ≡ true = ap (λ p. p.col == 1) (sym place) ∙ both.0 in
+    let text = rw c.bump-then-begins_comment.ensures at c.skip_comment.ensures.text in
+    Stands-cut _ _ _ c.in-Ok-Some.byte _ (Stands-looked _ _ _ c.loop-byte.invariant c.peek.ensures.look (search rules)) (search rules) (search rules) both.1 start text (search rules)
 
 pub loop-byte-preserved : goal.loop-byte-preserved
 loop-byte-preserved g c =
     let stands = Stands-looked _ _ _ c.loop-byte.invariant c.peek.ensures.look (search rules) in
     let place = c.place-place.ensures.value ∙ sym c.peek.ensures.look.place in
-    let start : (c.peek.new.self.place.col == 1) ≡ true = grind (arith, nat_tests, ap (λ p. p.col) place, c.if-place-eq1.true) in
-    let text = rw c.bump-then-place-eq1.ensures at c.skip_comment.ensures.text in
+    let both = and_parts _ _ (sym c.begins_comment.ensures ∙ c.if-begins_comment.true) in
+    let start : (c.peek.new.self.place.col == 1) ≡ true = ap (λ p. p.col == 1) (sym place) ∙ both.0 in
+    let text = rw c.bump-then-begins_comment.ensures at c.skip_comment.ensures.text in
     record {
-      text = Stands-comment _ _ _ c.in-Ok-Some.byte _ stands (search rules) (search rules) (grind (arith, nat_tests)) start text;
+      text = Stands-comment _ _ _ c.in-Ok-Some.byte _ stands (search rules) (search rules) both.1 start text;
       fewer = grind (arith, common_steps);
       mark = search rules;
     }
