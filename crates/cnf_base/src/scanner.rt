@@ -147,7 +147,7 @@ fn read_number<R: In>(source: &mut Source<R>, first: u8) -> Result<Word, ReadFai
                 if is_separator(byte) {
                     return Ok(digits.word(is_negative));
                 }
-                source.bump();
+                source.bump_in_line();
                 digits = digits.with_byte(byte);
             }
             Ok(None) => return Ok(digits.word(is_negative)),
@@ -178,7 +178,7 @@ fn read_name<R: In>(source: &mut Source<R>, first: u8) -> Result<Word, ReadFaile
                 if is_separator(byte) {
                     return Ok(name.word());
                 }
-                source.bump();
+                source.bump_in_line();
                 name.push(byte);
             }
             Ok(None) => return Ok(name.word()),

@@ -1,5 +1,5 @@
 //! An input's bytes, one at a time.
-ghost use Rattle.std.specs.Prelude.{◌≡◌, ◌≢◌, ◌+◌, ◌<◌, ◌≤◌, true, [], length, take, Some, IsSome, IfSome, IfNone, IfOk, IfErr, OnOk, OnErr};
+ghost use Rattle.std.specs.Prelude.{◌≡◌, ◌≢◌, ◌+◌, ◌<◌, ◌≤◌, ◌==◌, true, false, [], length, slice_index, take, Some, IsSome, IfSome, IfNone, IfOk, IfErr, OnOk, OnErr};
 ghost use Rattle.std.specs.Io.KnownBytes.{Keeps, Consumes, IsAtEnd};
 ghost use Rattle.cnf_base.specs.Stream.{IsLook, bumped, fresh, Shows};
 
@@ -129,6 +129,18 @@ impl<R: In> Source<R> {
         } else {
             self.place.col = self.place.col.saturating_add(1);
         }
+        self.byte_no = self.byte_no.saturating_add(1);
+    }
+
+    // Takes the byte that was shown, where it is no line feed: one comparison less for each byte of a token.
+    #[inline]
+    pub(crate) fn bump_in_line(&mut self)
+        requires ahead { 0 < length self.old.ahead }
+        requires inner { (slice_index self.old.ahead 0 == 10) ≡ false }
+        ensures { self.new ≡ bumped self.old }
+    {
+        self.at += 1;
+        self.place.col = self.place.col.saturating_add(1);
         self.byte_no = self.byte_no.saturating_add(1);
     }
 

@@ -12,7 +12,7 @@ loop-byte-init g c =
 pub loop-byte-preserved : goal.loop-byte-preserved
 loop-byte-preserved g c =
     let so_far = c.loop-byte.invariant in
-    rw c.bump-in-Ok-Some.ensures
+    rw c.bump_in_line.ensures
     (so_far.0 ++ c.in-Ok-Some.byte ∷ [], InRun-bumped _ _ _ _ (InRun-looked _ _ _ _ so_far.1 c.peek.ensures.look (search rules)) (search rules) (search rules) (search rules), c.push-in-Ok-Some.ensures so_far.0 so_far.2, IsName-more _ c.in-Ok-Some.byte so_far.3)
 
 pub returns-then-is_separator-clause-text : goal.returns-then-is_separator-clause-text

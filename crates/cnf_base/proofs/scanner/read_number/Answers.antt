@@ -12,7 +12,7 @@ loop-byte-init g c =
 pub loop-byte-preserved : goal.loop-byte-preserved
 loop-byte-preserved g c =
     let so_far = c.loop-byte.invariant in
-    rw (c.bump-in-Ok-Some.ensures, c.with_byte-digits.ensures)
+    rw (c.bump_in_line.ensures, c.with_byte-digits.ensures)
     (so_far.0 ++ c.in-Ok-Some.byte ∷ [], InRun-bumped _ _ _ _ (InRun-looked _ _ _ _ so_far.1 c.peek.ensures.look (search rules)) (search rules) (search rules) (search rules), Spells-more _ _ _ c.in-Ok-Some.byte so_far.2)
 
 pub returns-then-is_separator-clause-text : goal.returns-then-is_separator-clause-text
