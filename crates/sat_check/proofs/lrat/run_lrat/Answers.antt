@@ -16,8 +16,10 @@ returns-clause-report g c =
 
 pub returns-clause-sound : goal.returns-clause-sound
 returns-clause-sound g c = λ is.
-    let checked = c.check-status.ensures.report in
-    (checked.0, λ i s model.
-      let j = checked.1.some in
-      let x = checked.2 i j.0 s j.1 in
-      report_sound c.args.options.now.trace i j.0 x.0 x.1 (outcome_verified c.check-status.result _ _ x.0 is x.2) model)
+    let checked = c.check-status.ensures.report in (
+      checked.0,
+      λ i s model.
+          let j = checked.1.some in
+          let x = checked.2 i j.0 s j.1 in
+          report_sound c.args.options.now.trace i j.0 x.0 x.1 (outcome_verified c.check-status.result _ _ x.0 is x.2) model,
+    )

@@ -1,0 +1,45 @@
+//! Whole runs on worked rows. What they have to write, and their statuses, were worked out by hand.
+#![tactic(auto)]
+
+#[cfg(test)]
+mod bytes_and_lines;
+#[cfg(test)]
+mod cut_inputs;
+#[cfg(test)]
+mod failing_writer;
+#[cfg(test)]
+mod first_run;
+#[cfg(test)]
+mod formula_faults;
+#[cfg(test)]
+mod formula_texts;
+#[cfg(test)]
+mod literals;
+#[cfg(test)]
+mod long_inputs;
+#[cfg(test)]
+mod lrat_deletions;
+#[cfg(test)]
+mod lrat_groups;
+#[cfg(test)]
+mod lrat_steps;
+#[cfg(test)]
+mod never_verified;
+#[cfg(test)]
+mod proof_faults;
+#[cfg(test)]
+mod reader_of_formula;
+#[cfg(test)]
+mod reader_of_steps;
+#[cfg(test)]
+mod readers;
+#[cfg(test)]
+mod reading_no_further;
+#[cfg(test)]
+mod search;
+#[cfg(test)]
+mod sessions;
+#[cfg(test)]
+mod support;
+#[cfg(test)]
+mod writers;
