@@ -21,6 +21,7 @@ out=bench/out
 mkdir -p "$out/$size"
 c++ -O2 -std=c++17 -o "$out/reference" bench/reference.cpp
 cc -O2 -o "$out/words" bench/words.c
+c++ -O2 -std=c++17 -o "$out/lookups" bench/lookups.cpp
 cc -O2 -o "$out/measure" bench/measure.c
 
 # make_once FILE COMMAND..: runs the command where the file isn't there yet
@@ -56,4 +57,17 @@ measure "formula read and kept, reference.cpp" 1 "$in/formula.cnf" -- "$out/refe
 measure "literals read, lrat-check" 2 "$in/literals.cnf" -- "$checker" "$in/literals.cnf" /dev/null
 measure "literals read, reference.cpp" 2 "$in/literals.cnf" -- "$out/reference" "$in/literals.cnf" /dev/null
 measure "literals split into words, words.c" 0 "$in/literals.cnf" -- "$out/words" "$in/literals.cnf"
+
+# The first line of a pair fills a million entries, the second also looks up ten million times: their difference is the look-ups.
+lookups=${LOOKUPS:-crates/lookups/out/lookups}
+if [ -x "$lookups" ]; then
+    for row in "ids $lookups" "ids $out/lookups" "ids-array $out/lookups" "trail $lookups" "trail $out/lookups" "trail-array $out/lookups" "store $lookups" "store $out/lookups"; do
+        read -r what program <<<"$row"
+        kind=lookups.cpp
+        [ "$program" = "$lookups" ] && kind=lookups
+        for times in 0 10000000; do
+            measure "$what, $times look-ups, $kind" 0 -- "$program" "$what" "$times"
+        done
+    done
+fi
 exit "$failed"

@@ -27,6 +27,15 @@ impl Model for Lit {
     ghost invariant = { λ l. (2 ≤ l.code) × (l.code < 536870912) };
 }
 
+impl Default for Lit {
+    ghost is_default = { λ l. l ≡ 2 };
+
+    /// Variable 1, for places that no literal was written to.
+    fn default() -> Lit {
+        Lit { code: 2 }
+    }
+}
+
 impl Lit {
     /// The greatest variable.
     pub const MAX_VAR: u32 = 268435455;

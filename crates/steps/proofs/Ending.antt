@@ -3,7 +3,7 @@ use Rattle.std.proofs.Common.{◌≡◌, ◌<◌, ℕ, Bool, true, false, not, n
 use Rattle.std.specs.Prelude.{⊤}
 use Rattle.std.specs.Bool.{then_some, MatchBool}
 use Rattle.std.specs.Option.{option_or}
-use Rattle.std.specs.Result.{is_err, OnOk}
+use Rattle.std.specs.Result.{is_err, OnOk, OnErr}
 use Rattle.std.specs.declared.result.Result.{Result}
 use Rattle.std.proofs.lemmas.Bool.{true≢false}
 use Rattle.std.proofs.lemmas.Bool.Decides.{nat_tests}
@@ -116,3 +116,7 @@ answers_addition state live step id top c hints answer kind_is live_is id_is top
   where
     not_le : (a b : ℕ) → b < a → nat_le a b ≡ false
     not_le a b h = grind (arith, nat_tests)
+
+pub when_err : {X Y : Type 0} (r : Result X Y) (P : Type 0) → is_err r ≡ true → OnErr r P → P
+when_err (Ok x) P e h = absurd (true≢false (sym e))
+when_err (Err y) P e h = h

@@ -19,4 +19,7 @@ pub mod Ending
 pub mod Sessions
 pub mod Surveys
 pub mod Sums
+pub mod TrueSets
+pub mod Rooms
+pub mod Different
 pub mod Shelves

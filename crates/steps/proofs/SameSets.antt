@@ -13,14 +13,11 @@ use Rattle.cnf_base.specs.Literals.{Literal, complement, Clause, has, complement
 use Rattle.steps.specs.Propagation.{Live}
 use Rattle.steps.specs.Drat.{Answer}
 use Rattle.steps.specs.Lrat.{conflicts, open_literals, left_of, ChainEnd, conflict, open_with, unknown, not_unit, look_at, chain, Group, LratStep, add, delete, with_candidate, chain_refusal, group_refusal, groups_refusal, is_unsettled, is_left_out, AnswersGroups, AnswersChain, with_clause, without_id, without_ids, deletion_refusal, answer_of, AnswersLrat, SameAt, SameClauses}
+pub use Rattle.steps.specs.TrueLiterals.{SameSet}
 use Rattle.cnf_base.proofs.SetLemmas.{both_pass, has_head, has_tail, any_from, any_some, each_all, has-filter, filter_has, has_append_left, has_append_right, has_append_cases, has-complements, complements_has, has-without, without_has}
 use Rattle.cnf_base.proofs.LiteralLemmas.{complement-complement}
 use Rattle.steps.proofs.Propagating.{left-none, left-one}
 use Rattle.steps.proofs.Copies.{same_there, same_back, same_symm}
-
--- the same literals
-abbrev pub SameSet : List Literal → List Literal → Type 0
-SameSet first second = (l : Literal) → has first l ≡ has second l
 
 pub same_set_from : (c d : Clause) → same_clause c d ≡ true → SameSet c d
 same_set_from c d same l = both_pass (has c l) (has d l) (same_there c d same l) (same_back c d same l)

@@ -1,5 +1,5 @@
 -- The answer depends on the set of true literals alone, from which groups and candidates start.
-use Rattle.std.proofs.Common.{◌≡◌, ℕ, not, ◌&&◌, ◌||◌, eqb, Option, Some, None, Ok, Err, List, [], ◌∷◌, slice_get, refl, sym, ap, ◌∙◌, subst}
+use Rattle.std.proofs.Common.{◌≡◌, ℕ, not, ◌&&◌, ◌||◌, eqb, Option, Some, None, Ok, Err, List, [], ◌∷◌, ◌++◌, true, slice_get, refl, sym, ap, ◌∙◌, subst}
 use Rattle.std.specs.Bool.{then_some}
 use Rattle.std.specs.Option.{option_or}
 use Rattle.std.specs.List.{list_any}
@@ -7,12 +7,15 @@ use Rattle.std.proofs.lemmas.List.Folds.{list_any-append}
 use Rattle.steps.specs.declared.accepted.Accepted.TheVariants.{Rat}
 use Rattle.steps.specs.declared.refusal.Refusal.{Refusal}
 use Rattle.steps.specs.declared.refusal.Refusal.TheVariants.{NotCandidate, NamedTwice, GroupWithoutConflict, Unnamed}
-use Rattle.steps.specs.declared.walk.WalkEnd.TheVariants.{Open}
+use Rattle.steps.specs.declared.walk.WalkEnd.{WalkEnd}
+use Rattle.steps.specs.declared.walk.WalkEnd.TheVariants.{Open, Conflict}
 use Rattle.cnf_base.specs.Literals.{Literal, complement, Clause, has, complements, without}
 use Rattle.steps.specs.Propagation.{Live}
 use Rattle.steps.specs.Drat.{Answer}
-use Rattle.steps.specs.Lrat.{ChainEnd, conflict, open_with, unknown, not_unit, Group, with_candidate, group_refusal, groups_refusal, is_unsettled, is_left_out, AnswersGroups, AnswersChain}
+use Rattle.steps.specs.Lrat.{conflicts, chain, ChainEnd, conflict, open_with, unknown, not_unit, Group, with_candidate, group_refusal, groups_refusal, is_unsettled, is_left_out, AnswersGroups, AnswersChain}
 use Rattle.steps.specs.Walk.{IsEnd}
+use Rattle.steps.proofs.Walks.{chain_same}
+use Rattle.steps.proofs.Groups.{chain_conflict}
 use Rattle.steps.proofs.SameSets.{SameSet, conflicts_same, chain_alike}
 use Rattle.steps.proofs.LiveSets.{SameClauses-refl}
 
@@ -71,3 +74,12 @@ first_is (l ∷ c) pivot h = (c, ap (λ k. k ∷ c) (same_some l pivot (sym h)))
   where
     same_some : (k l : Literal) → Some k ≡ Some l → k ≡ l
     same_some k l e = cc
+
+-- ---- The walk over the unit hints
+
+module _ (live : Live) (c : Clause) (hints : List ℕ) (before : List Literal) (none : before ≡ []) where
+  pub units_conflict : conflicts (before ++ complements c) ≡ true → (trues : List Literal) → IsEnd trues Conflict (chain live (complements c) hints)
+  units_conflict h trues = subst (IsEnd trues Conflict) (sym (chain_conflict live (complements c) hints (sym (ap (λ ls. conflicts (ls ++ complements c)) none) ∙ h))) tt
+
+  pub units_walk : (start trues : List Literal) → SameSet start (before ++ complements c) → (walked : WalkEnd) → IsEnd trues walked (chain live start hints) → IsEnd trues walked (chain live (complements c) hints)
+  units_walk start trues same walked h = chain_same live hints start (complements c) (λ l. same l ∙ ap (λ ls. has (ls ++ complements c) l) none) trues walked h

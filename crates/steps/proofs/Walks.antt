@@ -1,13 +1,14 @@
 -- A walk depends on the set of true literals alone, and goes on hint by hint.
 use Rattle.std.proofs.Common.{◌≡◌, ℕ, true, false, not, cond, Option, Some, None, option_map, List, [], ◌∷◌, ◌++◌, refl, sym, ap, ◌∙◌, subst, inl, inr}
-use Rattle.std.proofs.lemmas.Bool.{false≢true}
+use Rattle.std.proofs.lemmas.Bool.{false≢true, not-true}
 use Rattle.std.proofs.lemmas.List.Elements.{filter_agree}
 use Rattle.steps.specs.declared.left.Left.{Left}
 use Rattle.steps.specs.declared.left.Left.TheVariants.{Nothing, One, More}
 use Rattle.cnf_base.specs.Literals.{Literal, complement, Clause, has}
 use Rattle.steps.specs.Propagation.{Live}
 use Rattle.steps.specs.Lrat.{conflicts, open_literals, left_of, ChainEnd, conflict, open_with, look_at, chain}
-use Rattle.cnf_base.proofs.SetLemmas.{both_pass, has_head, has_tail, has_cases, has_append_left, has_append_right, has_append_cases}
+use Rattle.cnf_base.proofs.SetLemmas.{both_pass, filter_has, has_head, has_tail, has_cases, has_append_left, has_append_right, has_append_cases}
+use Rattle.steps.proofs.Propagating.{left-one}
 use Rattle.steps.proofs.SameSets.{SameSet, conflicts_same, same_set_more}
 use Rattle.steps.specs.declared.walk.WalkEnd.{WalkEnd}
 use Rattle.steps.specs.declared.walk.WalkEnd.TheVariants.{Conflict, Open, UnknownId, NotUnit}
@@ -88,3 +89,11 @@ module _ (live : Live) (ls : List Literal) (left more : List ℕ) (k : ℕ) (lef
 
   pub walk_one : (m : Literal) → One m ≡ left_of (open_literals ls c) → (after : List Literal) → SameSet after (m ∷ ls) → Gives (chain live after more) end
   walk_one m e after same trues w g = so_far trues w (subst (IsEnd trues w) (sym (next (One m) (sym e))) (chain_same live more after (m ∷ ls) same trues w g))
+
+-- ---- The literal that is left
+
+pub left_open : (ls : List Literal) (c : Clause) (m : Literal) → One m ≡ left_of (open_literals ls c) → (has c m ≡ true) × (has ls (complement m) ≡ false)
+left_open ls c m e =
+    let w = left-one (open_literals ls c) m (sym e) in
+    let f = filter_has (λ l. not (has ls (complement l))) c m w.0 in
+    (f.0, not-true (has ls (complement m)) f.1)

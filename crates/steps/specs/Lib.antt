@@ -10,3 +10,4 @@ pub mod Shelf
 pub mod Survey
 pub mod Walk
 pub mod Answers
+pub mod TrueLiterals

@@ -1,22 +1,26 @@
--- The live clauses as the code holds them.
-use Rattle.std.specs.Prelude.{◌≡◌, ℕ, ◌*◌, ◌<◌, ◌≤◌, None, map, option_map, Vec, refl}
+-- The live clauses as the code holds them: a slot for each identifier, and a clause in each slot.
+use Rattle.std.specs.Prelude.{◌≡◌, ℕ, ◌*◌, ◌<◌, ◌≤◌, Some, None, IsSome, IsTrue, List, [], nat_eq, map, option_map, refl}
 use Rattle.std.specs.Ordering.{nat_cmp}
-use Rattle.std.specs.BTreeMap.{BTreeMap, get}
+use Rattle.std.specs.Option.{unwrap_or}
+use Rattle.std.specs.List.{IsDistinct}
 use Rattle.std.specs.Coded.{Coded, code_by, coded×, coded_ℕ, coded_list}
 use Rattle.std.specs.FinMap as maps
 use Rattle.std.specs.FinMap.{FinMap}
-use Rattle.std.specs.declared.alloc.Global.{Global}
-use Rattle.cnf_base.specs.Literals.{Clause}
+use Rattle.cnf_base.specs.Literals.{Literal, Clause, has}
 use Rattle.steps.specs.Propagation.{Live}
 use Rattle.steps.specs.Lrat.{LratState}
 use Rattle.steps.specs.Sizes.{total}
 
--- the clauses of a map, each at its identifier
-abbrev pub mapped : BTreeMap ℕ (Vec ℕ Global) → Live
-mapped clauses k = option_map (λ c. c.items) (get nat_cmp clauses k)
+abbrev pub clause_at : FinMap nat_cmp Clause → ℕ → Clause
+clause_at store slot = unwrap_or (maps.get store slot) []
 
-abbrev pub as_map : BTreeMap ℕ (Vec ℕ Global) → FinMap nat_cmp Clause
-as_map clauses = maps.from_entries (map (λ e. (e.0, e.1.items)) clauses.entries)
+-- the clause in the slot of an identifier
+abbrev pub held_at : FinMap nat_cmp ℕ → FinMap nat_cmp Clause → Live
+held_at ids store id = option_map (clause_at store) (maps.get ids id)
+
+-- the clauses, each at its identifier
+abbrev pub joined : FinMap nat_cmp ℕ → FinMap nat_cmp Clause → FinMap nat_cmp Clause
+joined ids store = maps.from_entries (map (λ e. (e.0, clause_at store e.1)) (maps.entries ids))
 
 -- the live clauses, and the greatest identifier so far
 pub record Shelf : Type 0 where
@@ -32,9 +36,25 @@ empty_shelf = record { live = maps.empty; top = 0 }
 abbrev pub shelf_state : Shelf → LratState
 shelf_state s = record { live = maps.get s.live; top = s.top }
 
+-- each identifier has a slot of its own, with a clause in it
+pub record IsPaired (ids : FinMap nat_cmp ℕ) (store : FinMap nat_cmp Clause) : Type 0 where
+  pub filled : (k slot : ℕ) → maps.get ids k ≡ Some slot → IsSome (maps.get store slot)
+  pub own : (j k slot : ℕ) → maps.get ids j ≡ Some slot → maps.get ids k ≡ Some slot → j ≡ k
+
 -- the sum is that of the sizes, and no identifier is past the greatest
-pub record IsTally (clauses : BTreeMap ℕ (Vec ℕ Global)) (top sum : ℕ) : Type 0 where
-  pub sum_is : sum ≡ total (record { live = mapped clauses; top = top })
+pub record IsTally (live : Live) (top sum : ℕ) : Type 0 where
+  pub sum_is : sum ≡ total (record { live = live; top = top })
   pub limit : sum ≤ top * 18446744073709551615
-  pub none_at_zero : mapped clauses 0 ≡ None
-  pub none_above : (k : ℕ) → top < k → mapped clauses k ≡ None
+  pub none_at_zero : live 0 ≡ None
+  pub none_above : (k : ℕ) → top < k → live k ≡ None
+
+-- the clause that is alive at k holds the literal
+pub record Holds (live : Live) (l : Literal) (k : ℕ) : Type 0 where
+  pub clause : Clause
+  pub at : live k ≡ Some clause
+  pub member : IsTrue (has clause l)
+
+-- different identifiers of clauses that hold the literal
+pub record AllHold (live : Live) (l : Literal) (ids : List ℕ) : Type 0 where
+  pub different : IsDistinct nat_eq ids
+  pub each : (k : ℕ) → IsTrue (has ids k) → Holds live l k

@@ -1,12 +1,8 @@
 -- How large clauses are: the sum of the sizes of all live clauses (our own measure).
-use Rattle.std.specs.Prelude.{ℕ, zero, suc, ◌+◌, Option, Some, None, [], ◌∷◌, if◌then◌else◌}
-use Rattle.cnf_base.specs.Literals.{Clause, has}
+use Rattle.std.specs.Prelude.{ℕ, zero, suc, ◌+◌, Option, Some, None}
+use Rattle.cnf_base.specs.Literals.{Clause}
+pub use Rattle.clause_db.specs.Clauses.{size}
 use Rattle.steps.specs.Lrat.{LratState}
-
--- the number of different literals
-abbrev pub size : Clause → ℕ
-size [] = 0
-size (l ∷ c) = if has c l then size c else 1 + size c
 
 abbrev pub size_at : Option Clause → ℕ
 size_at None = 0

@@ -1,41 +1,48 @@
 //! The tests of an added clause.
 
-ghost use Rattle.std.specs.Prelude.{◌≡◌, [], None, IfOk};
+ghost use Rattle.std.specs.Prelude.{◌≡◌, [], None, IfOk, IsFalse};
+ghost use Rattle.std.specs.FinMap as maps;
 ghost use Rattle.cnf_base.specs.Literals.{complements};
-ghost use Rattle.steps.specs.Lrat.{chain, conflict, groups_refusal, AnswersGroups, AnswersChain, units_of, groups_of};
-ghost use Rattle.steps.specs.Shelf.{mapped};
+ghost use Rattle.steps.specs.Lrat.{chain, conflict, conflicts, groups_refusal, AnswersGroups, AnswersChain, units_of, groups_of};
+ghost use Rattle.steps.specs.Walk.{IsEnd};
+ghost use Rattle.steps.specs.TrueLiterals.{SameSet, HasRoom, HasRoomForAll};
 
 use crate::accepted::Accepted;
 use crate::candidates::{first_left_out, judge_groups};
+use crate::live_clauses::LiveClauses;
+use crate::named::Named;
 use crate::refusal::Refusal;
+use crate::true_literals::make_false;
 use crate::walk::{WalkEnd, walk};
+use clause_db::Trail;
 use cnf_base::Lit;
 use std::alloc::{AllocError, Global};
-use std::collections::BTreeMap;
 
-/// The complements of the clause's literals.
-fn complements_of(alloc: Global, clause: &[Lit]) -> Result<Vec<Lit>, AllocError>
-    ensures { IfOk result (λ all. all.items ≡ complements clause.now) }
-{
-    clause.iter().map(|l| l.neg()).collect(alloc)
+/// How many groups there are.
+fn count_groups(hints: &[i64]) -> usize {
+    hints.iter().filter(|hint| **hint < 0).count()
 }
 
 /// The answer where the unit hints gave no conflict: the groups in their order, and then the candidates without one.
 fn judge_candidates(
-    alloc: Global,
-    clauses: &BTreeMap<u64, Vec<Lit>>,
-    trues: &[Lit],
+    live: &LiveClauses,
+    trues: &mut Trail,
     pivot: Lit,
+    named: &mut Named,
     hints: &[i64],
 ) -> Result<Result<Accepted, Refusal>, AllocError>
-    ensures { IfOk result (AnswersGroups (mapped clauses.now) trues.now pivot (groups_of hints.now) (groups_refusal (mapped clauses.now) trues.now pivot [] (groups_of hints.now))) }
+    requires quiet { IsFalse (conflicts trues.old.lits) }
+    requires room { HasRoomForAll trues.old.met (maps.get live.now.live) }
+    requires none_named { named.old ≡ [] }
+    ensures answer { IfOk result (AnswersGroups (maps.get live.now.live) trues.old.lits pivot (groups_of hints.now) (groups_refusal (maps.get live.now.live) trues.old.lits pivot [] (groups_of hints.now))) }
+    ensures met { SameSet trues.new.met trues.old.met }
 {
-    if let Some(refusal) = judge_groups(alloc, clauses, trues, pivot, hints)? {
-        return Ok(Err(refusal));
-    }
-    match first_left_out(alloc, clauses, trues, pivot, hints)? {
-        Some(id) => Ok(Err(Refusal::Unnamed(id))),
-        None => Ok(Ok(Accepted::Rat)),
+    match judge_groups(live, trues, pivot, named, hints)? {
+        Some(refusal) => Ok(Err(refusal)),
+        None => match first_left_out(live, trues, pivot, named) {
+            Some(id) => Ok(Err(Refusal::Unnamed(id))),
+            None => Ok(Ok(Accepted::Rat)),
+        },
     }
 }
 
@@ -50,22 +57,43 @@ fn word_of(clause: &[Lit]) -> Accepted
     }
 }
 
-/// The answer to an addition whose identifier is right.
+/// Walks over the unit hints from where the clause is false.
+fn walk_units(live: &LiveClauses, trues: &mut Trail, clause: &[Lit], hints: &[i64]) -> WalkEnd
+    requires none_true { trues.old.lits ≡ [] }
+    requires room { HasRoomForAll trues.old.met (maps.get live.now.live) }
+    requires clause_room { HasRoom trues.old.met clause.now }
+    ensures end { IsEnd trues.new.lits result (chain (maps.get live.now.live) (complements clause.now) (units_of hints.now)) }
+    ensures quiet { IsFalse (conflicts trues.new.lits) }
+    ensures met { SameSet trues.new.met trues.old.met }
+{
+    if make_false(trues, clause, None) {
+        return WalkEnd::Conflict;
+    }
+    walk(live, trues, hints)
+}
+
+/// The answer to an addition whose identifier is right. Only the list of the candidates that groups name takes memory, and
+/// it does before the first hint is looked at.
 pub(crate) fn judge_addition(
     alloc: Global,
-    clauses: &BTreeMap<u64, Vec<Lit>>,
+    live: &LiveClauses,
+    trues: &mut Trail,
     clause: &[Lit],
     hints: &[i64],
 ) -> Result<Result<Accepted, Refusal>, AllocError>
-    ensures { IfOk result (AnswersChain (mapped clauses.now) clause.now (groups_of hints.now) (chain (mapped clauses.now) (complements clause.now) (units_of hints.now))) }
+    requires none_true { trues.old.lits ≡ [] }
+    requires room { HasRoomForAll trues.old.met (maps.get live.now.live) }
+    requires clause_room { HasRoom trues.old.met clause.now }
+    ensures answer { IfOk result (AnswersChain (maps.get live.now.live) clause.now (groups_of hints.now) (chain (maps.get live.now.live) (complements clause.now) (units_of hints.now))) }
+    ensures met { SameSet trues.new.met trues.old.met }
 {
-    let mut trues = complements_of(alloc, clause)?;
-    match walk(clauses, &mut trues, hints)? {
+    let mut named = Named::with_room(alloc, count_groups(hints))?;
+    match walk_units(live, trues, clause, hints) {
         WalkEnd::Conflict => Ok(Ok(word_of(clause))),
         WalkEnd::UnknownId(k) => Ok(Err(Refusal::UnknownId(k))),
         WalkEnd::NotUnit(k) => Ok(Err(Refusal::NotUnit(k))),
         WalkEnd::Open => match clause.first() {
-            Some(pivot) => judge_candidates(alloc, clauses, trues.as_slice(), *pivot, hints),
+            Some(pivot) => judge_candidates(live, trues, *pivot, &mut named, hints),
             None => Ok(Err(Refusal::NoConflict)),
         },
     }

@@ -1,95 +1,103 @@
 //! The clauses that hold the complement of the pivot: those that groups of hints name, and the others.
 
-ghost use Rattle.std.specs.Prelude.{◌≡◌, ◌==◌, Some, [], IfOk};
-ghost use Rattle.std.specs.List.{list_any};
-ghost use Rattle.steps.specs.Lrat.{with_candidate, group_refusal, groups_refusal, is_unsettled, units_of, groups_of};
-ghost use Rattle.steps.specs.Shelf.{mapped};
-ghost use Rattle.steps.specs.Answers.{named_in, IsFirstLeftOut};
+ghost use Rattle.std.specs.Prelude.{◌≡◌, ◌==◌, ◌||◌, ℕ, Some, [], IfOk, IfNone, IsTrue, IsFalse};
+ghost use Rattle.std.specs.FinMap as maps;
+ghost use Rattle.cnf_base.specs.Literals.{complement, has};
+ghost use Rattle.steps.specs.Lrat.{conflicts, group_refusal, groups_refusal, units_of, groups_of};
+ghost use Rattle.steps.specs.Shelf.{Holds};
+ghost use Rattle.steps.specs.TrueLiterals.{SameSet, HasRoom, HasRoomForAll};
+ghost use Rattle.steps.specs.Answers.{named_in, needs_group_at, IsGroupEnd, IsFirstLeftOut};
 
+use crate::live_clauses::LiveClauses;
+use crate::named::Named;
 use crate::refusal::Refusal;
-use crate::survey::has_conflict;
-use crate::walk::{refusal_of, walk};
+use crate::true_literals::make_false;
+use crate::walk::{WalkEnd, refusal_of, walk};
+use clause_db::Trail;
 use cnf_base::Lit;
-use std::alloc::{AllocError, Global};
-use std::collections::BTreeMap;
+use std::alloc::AllocError;
 
-/// The literals that are true where those of the list are, and what is left of a candidate is false.
-fn start_of(
-    alloc: Global,
-    trues: &[Lit],
+/// Walks over a group's hints from where what is left of its candidate is false. The true literals stay as they were.
+fn walk_group(
+    live: &LiveClauses,
+    trues: &mut Trail,
     candidate: &[Lit],
-    pivot: Lit,
-) -> Result<Vec<Lit>, AllocError>
-    ensures { IfOk result (λ start. start.items ≡ with_candidate trues.now candidate.now pivot) }
+    opposite: Lit,
+    hints: &[i64],
+) -> WalkEnd
+    requires quiet { IsFalse (conflicts trues.old.lits) }
+    requires room { HasRoomForAll trues.old.met (maps.get live.now.live) }
+    requires candidate_room { HasRoom trues.old.met candidate.now }
+    ensures end { IsGroupEnd (maps.get live.now.live) trues.old.lits candidate.now opposite (units_of hints.now) result }
+    ensures lits { trues.new.lits ≡ trues.old.lits }
+    ensures met { SameSet trues.new.met trues.old.met }
 {
-    let opposite = pivot.neg();
-    let mut start = Vec::from_slice(alloc, trues)?;
-    for l in candidate {
-        if *l != opposite {
-            start.push(l.neg())?;
-        }
-    }
-    Ok(start)
+    let start = trues.len();
+    let end = if make_false(trues, candidate, Some(opposite)) {
+        WalkEnd::Conflict
+    } else {
+        walk(live, trues, hints)
+    };
+    trues.undo_to(start);
+    end
 }
 
-/// Whether a group of hints names the identifier.
-fn is_named(hints: &[i64], id: u64) -> bool
-    ensures { result ≡ list_any (λ group. group.candidate == id) (groups_of hints.now) }
-{
-    for hint in hints {
-        if *hint < 0 && hint.unsigned_abs() == id {
-            return true;
-        }
-    }
-    false
-}
-
-/// Why the group of `-candidate` is refused, where `earlier` are the hints before it and `hints` those after it.
+/// Why the group of `-candidate` is refused, where `named` are the candidates before it and `hints` what follows.
 fn judge_group(
-    alloc: Global,
-    clauses: &BTreeMap<u64, Vec<Lit>>,
-    trues: &[Lit],
+    live: &LiveClauses,
+    trues: &mut Trail,
     pivot: Lit,
-    earlier: &[i64],
+    named: &mut Named,
     candidate: u64,
     hints: &[i64],
 ) -> Result<Option<Refusal>, AllocError>
-    ensures { IfOk result (λ refusal. refusal ≡ group_refusal (mapped clauses.now) trues.now pivot (named_in earlier.now) (record { candidate = candidate; hints = units_of hints.now }) (mapped clauses.now candidate)) }
+    requires quiet { IsFalse (conflicts trues.old.lits) }
+    requires room { HasRoomForAll trues.old.met (maps.get live.now.live) }
+    ensures refusal { IfOk result (λ refusal. refusal ≡ group_refusal (maps.get live.now.live) trues.old.lits pivot named.old (record { candidate = candidate; hints = units_of hints.now }) (maps.get live.now.live candidate)) }
+    ensures named { IfOk result (λ refusal. IfNone refusal ((k : ℕ) → has named.new k ≡ (has named.old k || (candidate == k)))) }
+    ensures holds { IfOk result (λ refusal. IfNone refusal (Holds (maps.get live.now.live) (complement pivot) candidate)) }
+    ensures lits { trues.new.lits ≡ trues.old.lits }
+    ensures met { SameSet trues.new.met trues.old.met }
 {
-    let Some(clause) = clauses.get(&candidate) else {
+    let Some(clause) = live.get(candidate) else {
         return Ok(Some(Refusal::UnknownId(candidate)));
     };
-    if !clause.contains(&pivot.neg()) {
+    let opposite = pivot.neg();
+    if !clause.contains(&opposite) {
         return Ok(Some(Refusal::NotCandidate(candidate)));
     }
-    if is_named(earlier, candidate) {
+    if !named.insert(candidate)? {
         return Ok(Some(Refusal::NamedTwice(candidate)));
     }
-    let mut start = start_of(alloc, trues, clause.as_slice(), pivot)?;
-    let end = walk(clauses, &mut start, hints)?;
+    let end = walk_group(live, trues, clause, opposite, hints);
     Ok(refusal_of(end, Refusal::GroupWithoutConflict(candidate)))
 }
 
-/// Why the first group that is refused is.
+/// Why the first group that is refused is. Where none is, `named` has all candidates of groups.
 pub(crate) fn judge_groups(
-    alloc: Global,
-    clauses: &BTreeMap<u64, Vec<Lit>>,
-    trues: &[Lit],
+    live: &LiveClauses,
+    trues: &mut Trail,
     pivot: Lit,
+    named: &mut Named,
     hints: &[i64],
 ) -> Result<Option<Refusal>, AllocError>
-    ensures { IfOk result (λ refusal. refusal ≡ groups_refusal (mapped clauses.now) trues.now pivot [] (groups_of hints.now)) }
+    requires quiet { IsFalse (conflicts trues.old.lits) }
+    requires room { HasRoomForAll trues.old.met (maps.get live.now.live) }
+    requires none_named { named.old ≡ [] }
+    ensures refusal { IfOk result (λ refusal. refusal ≡ groups_refusal (maps.get live.now.live) trues.old.lits pivot [] (groups_of hints.now)) }
+    ensures named { IfOk result (λ refusal. IfNone refusal (SameSet named.new (named_in hints.now))) }
+    ensures hold { IfOk result (λ refusal. IfNone refusal ((k : ℕ) → IsTrue (has named.new k) → Holds (maps.get live.now.live) (complement pivot) k)) }
+    ensures lits { trues.new.lits ≡ trues.old.lits }
+    ensures met { SameSet trues.new.met trues.old.met }
 {
     for (i, hint) in hints.iter().enumerate() {
         if *hint < 0 {
-            let candidate = hint.unsigned_abs();
             let refusal = judge_group(
-                alloc,
-                clauses,
+                live,
                 trues,
                 pivot,
-                &hints[..i],
-                candidate,
+                named,
+                hint.unsigned_abs(),
                 &hints[i + 1..],
             )?;
             if refusal.is_some() {
@@ -100,33 +108,52 @@ pub(crate) fn judge_groups(
     Ok(None)
 }
 
-/// Whether the clause is a candidate that gives no conflict at once.
-fn needs_group(alloc: Global, trues: &[Lit], pivot: Lit, clause: &[Lit]) -> Result<bool, AllocError>
-    ensures { IfOk result (λ needs. needs ≡ is_unsettled trues.now pivot (Some clause.now)) }
+/// Whether the clause is a candidate that gives no conflict at once. The true literals stay as they were.
+fn needs_group(trues: &mut Trail, opposite: Lit, clause: &[Lit]) -> bool
+    requires quiet { IsFalse (conflicts trues.old.lits) }
+    requires room { HasRoom trues.old.met clause.now }
+    ensures needs { result ≡ needs_group_at trues.old.lits opposite clause.now }
+    ensures lits { trues.new.lits ≡ trues.old.lits }
+    ensures met { SameSet trues.new.met trues.old.met }
 {
-    if !clause.contains(&pivot.neg()) {
-        return Ok(false);
+    if !clause.contains(&opposite) {
+        return false;
     }
-    let start = start_of(alloc, trues, clause, pivot)?;
-    Ok(!has_conflict(start.as_slice()))
+    let start = trues.len();
+    let is_settled = make_false(trues, clause, Some(opposite));
+    trues.undo_to(start);
+    !is_settled
 }
 
 /// The lowest identifier of a candidate that no group names and that gives no conflict at once.
 pub(crate) fn first_left_out(
-    alloc: Global,
-    clauses: &BTreeMap<u64, Vec<Lit>>,
-    trues: &[Lit],
+    live: &LiveClauses,
+    trues: &mut Trail,
     pivot: Lit,
-    hints: &[i64],
-) -> Result<Option<u64>, AllocError>
-    ensures { IfOk result (λ first. IsFirstLeftOut (mapped clauses.now) trues.now pivot (groups_of hints.now) first) }
+    named: &Named,
+) -> Option<u64>
+    requires quiet { IsFalse (conflicts trues.old.lits) }
+    requires room { HasRoomForAll trues.old.met (maps.get live.now.live) }
+    requires hold { (k : ℕ) → IsTrue (has named.now k) → Holds (maps.get live.now.live) (complement pivot) k }
+    ensures first { IsFirstLeftOut (maps.get live.now.live) trues.old.lits pivot named.now result }
+    ensures lits { trues.new.lits ≡ trues.old.lits }
+    ensures met { SameSet trues.new.met trues.old.met }
 {
-    for (id, clause) in clauses.iter() {
-        if !is_named(hints, *id) {
-            if needs_group(alloc, trues, pivot, clause.as_slice())? {
-                return Ok(Some(*id));
-            }
-        }
+    let opposite = pivot.neg();
+    // Each named clause holds the complement, so where the numbers agree no other one does.
+    if live.holding(opposite) == named.len() as u64 {
+        return None;
     }
-    Ok(None)
+    let top = live.top();
+    let mut from = 0;
+    while let Some((id, clause)) = live.next(from) {
+        if !named.contains(id) && needs_group(trues, opposite, clause) {
+            return Some(id);
+        }
+        if id >= top {
+            return None;
+        }
+        from = id + 1;
+    }
+    None
 }

@@ -8,10 +8,12 @@ pub mod laws;
 mod left;
 mod live_clauses;
 mod lrat;
+mod named;
 mod refusal;
 mod survey;
 #[cfg(test)]
 mod tests;
+mod true_literals;
 mod walk;
 
 pub use accepted::Accepted;

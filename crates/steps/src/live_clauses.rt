@@ -1,71 +1,87 @@
 //! The live clauses, each at its identifier, and the sum of their sizes.
 
-ghost use Rattle.std.specs.Prelude.{◌≡◌, ℕ, ◌<◌, is_some, is_none, option_map, map, nat_abs, OnOk, IfNone};
+ghost use Rattle.std.specs.Prelude.{◌≡◌, ℕ, ◌<◌, ◌≤◌, Some, None, is_some, option_map, map, nat_abs, length, List, OnOk, IfOk, IfSome, IfNone};
+ghost use Rattle.std.specs.Option.{option_copied};
+ghost use Rattle.std.specs.List.{IsDistinct};
 ghost use Rattle.std.specs.FinMap as maps;
-ghost use Rattle.steps.specs.Lrat.{with_clause, without_id, without_ids, deletion_refusal};
-ghost use Rattle.steps.specs.Sizes.{size, total};
-ghost use Rattle.steps.specs.Shelf.{mapped, empty_shelf, shelf_state};
+ghost use Rattle.steps.specs.Lrat.{with_clause, without_id, without_ids, deletion_refusal, SameClauses};
+ghost use Rattle.steps.specs.Sizes.{total};
+ghost use Rattle.steps.specs.Shelf.{empty_shelf, shelf_state, AllHold};
 ghost use Rattle.steps.specs.declared.refusal.Refusal.TheVariants.{UnknownId};
 
-use cnf_base::Lit;
-use std::alloc::{AllocError, Global};
-use std::collections::BTreeMap;
+use clause_db::{Ids, Store};
+use cnf_base::{Lit, OutOfMemory};
+use std::alloc::Global;
 use std::marker::Model;
 
 /// The live clauses. Contracts see them as a finite map, with the greatest identifier so far.
 #[derive(Drop)]
 pub(crate) struct LiveClauses {
-    alloc: Global,
-    clauses: BTreeMap<u64, Vec<Lit>>,
+    store: Store,
+    ids: Ids,
     top: u64,
     sum: u128,
 }
 
 impl Model for LiveClauses {
-    ghost use Rattle.steps.specs.Shelf.{Shelf, shelf_code, as_map, IsTally};
+    ghost use Rattle.steps.specs.Shelf.{Shelf, shelf_code, joined, held_at, IsPaired, IsTally};
 
     ghost Value = { Shelf };
 
     ghost coded = { shelf_code };
 
-    ghost view = { λ s. record { live = as_map s.clauses; top = s.top } };
+    ghost view = { λ s. record { live = joined s.ids s.store; top = s.top } };
 
-    ghost invariant = { λ s. IsTally s.clauses s.top s.sum };
-}
-
-/// How many different literals the clause has.
-fn size_of(clause: &[Lit]) -> usize
-    ensures { result ≡ size clause.now }
-{
-    let mut count = 0;
-    for (i, l) in clause.iter().enumerate() {
-        if !clause[i + 1..].contains(l) {
-            count += 1;
-        }
-    }
-    count
+    ghost invariant = { λ s. IsPaired s.ids s.store × IsTally (held_at s.ids s.store) s.top s.sum };
 }
 
 impl LiveClauses {
-    pub(crate) fn new(alloc: Global) -> Self
-        ensures { result ≡ empty_shelf }
+    pub(crate) fn new(alloc: Global) -> Result<Self, OutOfMemory>
+        ensures { IfOk result (λ live. live ≡ empty_shelf) }
     {
-        LiveClauses {
-            alloc,
-            clauses: BTreeMap::new(alloc),
+        let store = Store::new(alloc)?;
+        let ids = Ids::new(alloc)?;
+        Ok(LiveClauses {
+            store,
+            ids,
             top: 0,
             sum: 0,
+        })
+    }
+
+    /// The clause that is alive under the identifier.
+    pub(crate) fn get(&self, id: u64) -> Option<&[Lit]>
+        ensures { option_copied result ≡ maps.get self.now.live id }
+    {
+        match self.ids.slot_of(id) {
+            Some(slot) => Some(self.store.clause(slot)),
+            None => None,
         }
     }
 
-    pub(crate) fn clauses(&self) -> &BTreeMap<u64, Vec<Lit>>
-        ensures { (k : ℕ) → mapped result.now k ≡ maps.get self.now.live k }
+    /// The lowest identifier from this one on under which a clause is alive, and the clause.
+    pub(crate) fn next(&self, from: u64) -> Option<(u64, &[Lit])>
+        ensures found { IfSome result (λ e. (from ≤ e.0) × (maps.get self.now.live e.0 ≡ Some e.1.now)) }
+        ensures passed_over { IfSome result (λ e. (k : ℕ) → from ≤ k → k < e.0 → maps.get self.now.live k ≡ None) }
+        ensures none { IfNone result ((k : ℕ) → from ≤ k → maps.get self.now.live k ≡ None) }
     {
-        &self.clauses
+        match self.ids.next_bound(from) {
+            Some(bound) => Some((bound.0, self.store.clause(bound.1))),
+            None => None,
+        }
     }
 
+    /// A number that no list of different identifiers, of clauses that hold the literal, exceeds.
+    pub(crate) fn holding(&self, l: Lit) -> u64
+        ensures { (ids : List ℕ) → AllHold (maps.get self.now.live) l ids → length ids ≤ result }
+    {
+        self.store.count_with(l)
+    }
+
+    /// The greatest identifier so far.
     pub(crate) fn top(&self) -> u64
-        ensures { result ≡ self.now.top }
+        ensures top { result ≡ self.now.top }
+        ensures none_above { (k : ℕ) → self.now.top < k → maps.get self.now.live k ≡ None }
     {
         self.top
     }
@@ -78,16 +94,18 @@ impl LiveClauses {
     }
 
     /// Adds the clause under an identifier past all earlier ones.
-    pub(crate) fn add(&mut self, id: u64, lits: &[Lit]) -> Result<(), AllocError>
+    pub(crate) fn add(&mut self, id: u64, lits: &[Lit]) -> Result<(), OutOfMemory>
         requires { self.old.top < id }
-        ensures live { OnOk result ((k : ℕ) → maps.get self.new.live k ≡ with_clause (maps.get self.old.live) id lits.now k) }
+        ensures live { OnOk result (SameClauses (maps.get self.new.live) (with_clause (maps.get self.old.live) id lits.now)) }
         ensures top { OnOk result (self.new.top ≡ id) }
     {
-        let clause = Vec::from_slice(self.alloc, lits)?;
-        let size = size_of(lits) as u128;
-        self.clauses.insert(id, clause)?;
+        let slot = self.store.insert(lits)?;
+        if self.ids.bind(id, slot).is_err() {
+            self.store.remove(slot);
+            return Err(OutOfMemory);
+        }
         self.top = id;
-        self.sum += size;
+        self.sum += self.store.clause(slot).len() as u128;
         Ok(())
     }
 
@@ -97,9 +115,10 @@ impl LiveClauses {
         ensures live { (k : ℕ) → maps.get self.new.live k ≡ without_id (maps.get self.old.live) id k }
         ensures top { self.new.top ≡ self.old.top }
     {
-        match self.clauses.remove(&id) {
-            Some(clause) => {
-                self.sum -= size_of(clause.as_slice()) as u128;
+        match self.ids.unbind(id) {
+            Some(slot) => {
+                self.sum -= self.store.clause(slot).len() as u128;
+                self.store.remove(slot);
                 true
             }
             None => false,

@@ -2,7 +2,9 @@
 
 ghost use Rattle.std.specs.Prelude.{◌≡◌, ◌⊎◌, ◌+◌, ◌-◌, ◌<◌, ◌^◌, ◌||◌, ◌↔◌, min, max, true, false, IsTrue, IsFalse, IfOk, IfErr, OnOk, OnErr, ℕ};
 ghost use Rattle.std.specs.FinMap as maps;
-ghost use Rattle.steps.specs.Lrat.{AnswersLrat, after_lrat, lrat_step, with_clause, SameClauses};
+ghost use Rattle.cnf_base.specs.Literals.{complements};
+ghost use Rattle.steps.specs.Lrat.{chain, units_of, groups_of, AnswersChain, AnswersLrat, after_lrat, lrat_step, with_clause, SameClauses};
+ghost use Rattle.steps.specs.TrueLiterals.{HasRoom, IsReady};
 ghost use Rattle.steps.specs.Models.{HasModel};
 ghost use Rattle.steps.specs.Verdicts.{is_empty, is_last};
 ghost use Rattle.steps.specs.Sizes.{total};
@@ -13,6 +15,8 @@ use crate::accepted::Accepted;
 use crate::addition::judge_addition;
 use crate::live_clauses::{LiveClauses, delete_all};
 use crate::refusal::Refusal;
+use crate::true_literals::make_room;
+use clause_db::Trail;
 use cnf_base::{Lit, OutOfMemory};
 use proofs::{StepBuf, StepKind};
 use std::alloc::Global;
@@ -23,6 +27,8 @@ use std::marker::Model;
 pub struct LratSession {
     alloc: Global,
     held: LiveClauses,
+    // empty between steps, with room for the variables of all live clauses
+    trues: Trail,
     has_stepped: bool,
     is_verified: bool,
     is_ended: bool,
@@ -30,43 +36,98 @@ pub struct LratSession {
 }
 
 impl Model for LratSession {
+    ghost use Rattle.std.specs.Prelude.{◌≡◌, false};
+    ghost use Rattle.std.specs.FinMap as maps;
     ghost use Rattle.steps.specs.Session.{Session, session_code};
+    ghost use Rattle.steps.specs.TrueLiterals.{IsReady};
 
     ghost Value = { Session };
 
     ghost coded = { session_code };
 
     ghost view = { λ s. record { live = s.held.live; top = s.held.top; has_stepped = s.has_stepped; is_verified = s.is_verified; is_ended = s.is_ended; peak = s.peak } };
+
+    ghost invariant = { λ s. s.is_ended ≡ false → IsReady (maps.get s.held.live) s.trues };
+}
+
+/// Judges an addition whose identifier is right. The walk over its hints takes no memory.
+fn judge(
+    alloc: Global,
+    held: &LiveClauses,
+    trues: &mut Trail,
+    step: &StepBuf,
+) -> Result<Result<Accepted, Refusal>, OutOfMemory>
+    requires ready { IsReady (maps.get held.now.live) trues.old }
+    ensures answer { IfOk result (AnswersChain (maps.get held.now.live) step.now.lits (groups_of step.now.hints) (chain (maps.get held.now.live) (complements step.now.lits) (units_of step.now.hints))) }
+    ensures ready { IsReady (maps.get held.now.live) trues.new }
+    ensures room { OnOk result (HasRoom trues.new.met step.now.lits) }
+{
+    make_room(trues, step.lits())?;
+    let answer = judge_addition(alloc, held, trues, step.lits(), step.hints());
+    trues.undo_to(0);
+    answer.map_err(|_| OutOfMemory)
 }
 
 /// Judges an addition, and adds the clause where it is accepted.
-fn take_addition(alloc: Global, held: &mut LiveClauses, step: &StepBuf) -> Result<Accepted, Refusal>
-    requires { step.now.kind ≡ StepKind.Add }
+fn take_addition(
+    alloc: Global,
+    held: &mut LiveClauses,
+    trues: &mut Trail,
+    step: &StepBuf,
+) -> Result<Accepted, Refusal>
+    requires addition { step.now.kind ≡ StepKind.Add }
+    requires ready { IsReady (maps.get held.old.live) trues.old }
     ensures answers { UnlessOutOfMemory result (AnswersLrat (shelf_state held.old) (lrat_step step.now) result) }
-    ensures live { OnOk result ((k : ℕ) → maps.get held.new.live k ≡ (after_lrat (shelf_state held.old) (lrat_step step.now)).live k) }
+    ensures live { OnOk result (SameClauses (maps.get held.new.live) (after_lrat (shelf_state held.old) (lrat_step step.now)).live) }
     ensures top { OnOk result (held.new.top ≡ (after_lrat (shelf_state held.old) (lrat_step step.now)).top) }
+    ensures ready { OnOk result (IsReady (maps.get held.new.live) trues.new) }
 {
     let id = step.id();
     if id <= held.top() {
         return Err(Refusal::IdOutOfOrder);
     }
-    let Ok(answer) = judge_addition(alloc, held.clauses(), step.lits(), step.hints()) else {
+    let Ok(answer) = judge(alloc, held, trues, step) else {
         return Err(Refusal::OutOfMemory);
     };
-    if answer.is_ok() && held.add(id, step.lits()).is_err() {
-        return Err(Refusal::OutOfMemory);
+    let word = answer?;
+    match held.add(id, step.lits()) {
+        Ok(()) => Ok(word),
+        Err(_) => Err(Refusal::OutOfMemory),
     }
-    answer
+}
+
+/// Adds a clause of the formula, with room for its literals.
+fn add_input(
+    held: &mut LiveClauses,
+    trues: &mut Trail,
+    id: u64,
+    lits: &[Lit],
+) -> Result<(), OutOfMemory>
+    requires above { held.old.top < id }
+    requires ready { IsReady (maps.get held.old.live) trues.old }
+    ensures live { OnOk result (SameClauses (maps.get held.new.live) (with_clause (maps.get held.old.live) id lits.now)) }
+    ensures top { OnOk result (held.new.top ≡ id) }
+    ensures ready { OnOk result (IsReady (maps.get held.new.live) trues.new) }
+{
+    make_room(trues, lits)?;
+    held.add(id, lits)
 }
 
 /// Takes a step on the live clauses.
-fn take_step(alloc: Global, held: &mut LiveClauses, step: &StepBuf) -> Result<Accepted, Refusal>
+fn take_step(
+    alloc: Global,
+    held: &mut LiveClauses,
+    trues: &mut Trail,
+    step: &StepBuf,
+) -> Result<Accepted, Refusal>
+    requires ready { IsReady (maps.get held.old.live) trues.old }
     ensures answers { UnlessOutOfMemory result (AnswersLrat (shelf_state held.old) (lrat_step step.now) result) }
-    ensures live { OnOk result ((k : ℕ) → maps.get held.new.live k ≡ (after_lrat (shelf_state held.old) (lrat_step step.now)).live k) }
+    ensures live { OnOk result (SameClauses (maps.get held.new.live) (after_lrat (shelf_state held.old) (lrat_step step.now)).live) }
     ensures top { OnOk result (held.new.top ≡ (after_lrat (shelf_state held.old) (lrat_step step.now)).top) }
+    ensures ready { OnOk result (IsReady (maps.get held.new.live) trues.new) }
 {
     match step.kind() {
-        StepKind::Add => take_addition(alloc, held, step),
+        StepKind::Add => take_addition(alloc, held, trues, step),
         StepKind::Delete => match delete_all(held, step.hints()) {
             Some(id) => Err(Refusal::UnknownId(id)),
             None => Ok(Accepted::Deleted),
@@ -79,9 +140,12 @@ impl LratSession {
     pub fn new(alloc: Global) -> Result<Self, OutOfMemory>
         ensures { IfOk result (λ session. session ≡ fresh) }
     {
+        let held = LiveClauses::new(alloc)?;
+        let trues = Trail::new(alloc)?;
         Ok(LratSession {
             alloc,
-            held: LiveClauses::new(alloc),
+            held,
+            trues,
             has_stepped: false,
             is_verified: false,
             is_ended: false,
@@ -115,7 +179,7 @@ impl LratSession {
             return Err(Refusal::Ended);
         }
         let id = self.held.top() + 1;
-        if self.held.add(id, lits).is_err() {
+        if add_input(&mut self.held, &mut self.trues, id, lits).is_err() {
             self.is_ended = true;
             return Err(Refusal::OutOfMemory);
         }
@@ -152,7 +216,7 @@ impl LratSession {
             self.is_ended = true;
             return Err(Refusal::Ended);
         }
-        match take_step(self.alloc, &mut self.held, step) {
+        match take_step(self.alloc, &mut self.held, &mut self.trues, step) {
             Ok(word) => {
                 let is_last = matches!(word, Accepted::Empty);
                 self.has_stepped = true;

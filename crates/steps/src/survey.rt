@@ -1,18 +1,13 @@
-//! What a list of true literals leaves of a clause.
+//! What the true literals leave of a clause.
 
-ghost use Rattle.std.specs.Prelude.{◌≡◌};
+ghost use Rattle.std.specs.Prelude.{◌≡◌, IsFalse};
 ghost use Rattle.steps.specs.Lrat.{conflicts, open_literals, left_of};
 ghost use Rattle.steps.specs.Survey.{left_with};
 
 use crate::left::Left;
+use crate::true_literals::is_false;
+use clause_db::Trail;
 use cnf_base::Lit;
-
-/// Whether the list holds a literal and its complement.
-pub(crate) fn has_conflict(trues: &[Lit]) -> bool
-    ensures { result ≡ conflicts trues.now }
-{
-    trues.iter().any(|l| trues.contains(&l.neg()))
-}
 
 /// What is left with one more literal.
 fn with_literal(left: Left, l: Lit) -> Left
@@ -25,14 +20,18 @@ fn with_literal(left: Left, l: Lit) -> Left
     }
 }
 
-/// What is left of a clause where the listed literals are true.
-pub(crate) fn survey(clause: &[Lit], trues: &[Lit]) -> Left
-    ensures { result ≡ left_of (open_literals trues.now clause.now) }
+/// What is left of a clause.
+pub(crate) fn survey(clause: &[Lit], trues: &Trail) -> Left
+    requires { IsFalse (conflicts trues.now.lits) }
+    ensures { result ≡ left_of (open_literals trues.now.lits clause.now) }
 {
     let mut left = Left::Nothing;
     for l in clause {
-        if !trues.contains(&l.neg()) {
-            left = with_literal(left, *l);
+        if !is_false(trues, *l) {
+            match with_literal(left, *l) {
+                Left::More => return Left::More,
+                next => left = next,
+            }
         }
     }
     left

@@ -1,7 +1,5 @@
-//! Worked LRAT steps. The expected answers are worked out by hand.
+//! The live clauses and a session without steps. Worked steps stand in the crate `acceptance`.
 
-use crate::accepted::Accepted;
-use crate::addition::judge_addition;
 use crate::live_clauses::{LiveClauses, delete_all};
 use crate::lrat::LratSession;
 use crate::refusal::Refusal;
@@ -20,10 +18,7 @@ fn lits(alloc: Global, numbers: &[i32]) -> Result<Vec<Lit>, AllocError> {
     Ok(all)
 }
 
-// All four clauses of two variables, with the identifiers 1 to 4.
-const FOUR: [[i32; 2]; 4] = [[1, 2], [-1, 2], [1, -2], [-1, -2]];
-
-fn add(alloc: Global, live: &mut LiveClauses, numbers: &[i32]) -> Result<(), AllocError> {
+fn add(alloc: Global, live: &mut LiveClauses, numbers: &[i32]) -> Result<(), Fail> {
     let clause = lits(alloc, numbers)?;
     if live.top() < 1000 {
         live.add(live.top() + 1, clause.as_slice())?;
@@ -31,65 +26,12 @@ fn add(alloc: Global, live: &mut LiveClauses, numbers: &[i32]) -> Result<(), All
     Ok(())
 }
 
-fn formula(alloc: Global, rows: &[[i32; 2]]) -> Result<LiveClauses, AllocError> {
-    let mut live = LiveClauses::new(alloc);
+fn formula(alloc: Global, rows: &[[i32; 2]]) -> Result<LiveClauses, Fail> {
+    let mut live = LiveClauses::new(alloc)?;
     for row in rows {
         add(alloc, &mut live, row)?;
     }
     Ok(live)
-}
-
-fn judge(
-    alloc: Global,
-    live: &LiveClauses,
-    numbers: &[i32],
-    hints: &[i64],
-) -> Result<Result<Accepted, Refusal>, AllocError> {
-    let clause = lits(alloc, numbers)?;
-    judge_addition(alloc, live.clauses(), clause.as_slice(), hints)
-}
-
-#[test]
-fn unit_hints(rt: HostRuntime) -> Result<(), Fail> {
-    let alloc = rt.alloc();
-    let mut live = formula(alloc, &FOUR)?;
-    assert_eq!(rt; judge(alloc, &live, &[2], &[1, 2])?, Ok(Accepted::Rup));
-    assert_eq!(rt; judge(alloc, &live, &[2], &[1])?, Err(Refusal::Unnamed(4)));
-    assert_eq!(rt; judge(alloc, &live, &[2], &[4])?, Err(Refusal::NotUnit(4)));
-    assert_eq!(rt;
-        judge(alloc, &live, &[2], &[9])?,
-        Err(Refusal::UnknownId(9))
-    );
-    assert_eq!(rt; judge(alloc, &live, &[], &[])?, Err(Refusal::NoConflict));
-    add(alloc, &mut live, &[2])?;
-    assert_eq!(rt; judge(alloc, &live, &[], &[5, 3, 4])?, Ok(Accepted::Empty));
-    Ok(())
-}
-
-#[test]
-fn groups(rt: HostRuntime) -> Result<(), Fail> {
-    let alloc = rt.alloc();
-    let mut live = formula(alloc, &[[1, 2]])?;
-    assert_eq!(rt; judge(alloc, &live, &[3, -1], &[])?, Ok(Accepted::Rat));
-    add(alloc, &mut live, &[3, -1])?;
-    assert_eq!(rt; judge(alloc, &live, &[-3, 1], &[-2])?, Ok(Accepted::Rat));
-    assert_eq!(rt;
-        judge(alloc, &live, &[-3, 1], &[-1])?,
-        Err(Refusal::NotCandidate(1))
-    );
-    assert_eq!(rt;
-        judge(alloc, &live, &[-3, 1], &[-2, -2])?,
-        Err(Refusal::NamedTwice(2))
-    );
-    assert_eq!(rt;
-        judge(alloc, &live, &[-3], &[-2])?,
-        Err(Refusal::GroupWithoutConflict(2))
-    );
-    assert_eq!(rt;
-        judge(alloc, &live, &[-3], &[-7])?,
-        Err(Refusal::UnknownId(7))
-    );
-    Ok(())
 }
 
 #[test]

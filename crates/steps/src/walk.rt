@@ -1,16 +1,17 @@
 //! The walk over hints.
 
-ghost use Rattle.std.specs.Prelude.{◌≡◌, IfOk, if◌then◌else◌};
-ghost use Rattle.steps.specs.Lrat.{chain, units_of, conflicts, conflict, open_with};
-ghost use Rattle.steps.specs.Shelf.{mapped};
+ghost use Rattle.std.specs.Prelude.{◌≡◌, ◌≤◌, take, length, IsFalse};
+ghost use Rattle.std.specs.FinMap as maps;
+ghost use Rattle.steps.specs.Lrat.{chain, units_of, conflicts};
+ghost use Rattle.steps.specs.TrueLiterals.{SameSet, HasRoomForAll};
 ghost use Rattle.steps.specs.Walk.{IsEnd, refusal_at};
 
 use crate::left::Left;
+use crate::live_clauses::LiveClauses;
 use crate::refusal::Refusal;
-use crate::survey::{has_conflict, survey};
-use cnf_base::Lit;
-use std::alloc::AllocError;
-use std::collections::BTreeMap;
+use crate::survey::survey;
+use crate::true_literals::make_true;
+use clause_db::Trail;
 
 /// How a walk ends.
 #[derive(Clone, Copy, Debug, PartialEq, Eq)]
@@ -33,46 +34,30 @@ pub(crate) fn refusal_of(end: WalkEnd, if_open: Refusal) -> Option<Refusal>
     }
 }
 
-/// Where no hint is left.
-fn last_look(trues: &[Lit]) -> WalkEnd
-    ensures { IsEnd trues.now result (if conflicts trues.now then conflict else open_with trues.now) }
-{
-    if has_conflict(trues) {
-        WalkEnd::Conflict
-    } else {
-        WalkEnd::Open
-    }
-}
-
-/// Walks over the hints before the first negative one, and adds to the list what each of their clauses gives.
-/// Where the walk ends without a conflict, the list has the literals that are true; after any other end it is open.
-pub(crate) fn walk(
-    clauses: &BTreeMap<u64, Vec<Lit>>,
-    trues: &mut Vec<Lit>,
-    hints: &[i64],
-) -> Result<WalkEnd, AllocError>
-    ensures { IfOk result (λ end. IsEnd trues.new.items end (chain (mapped clauses.now) trues.old.items (units_of hints.now))) }
+/// Walks over the hints before the first negative one, from literals without a conflict, and makes true what each of their
+/// clauses gives. It takes no memory: the room was made before.
+pub(crate) fn walk(live: &LiveClauses, trues: &mut Trail, hints: &[i64]) -> WalkEnd
+    requires quiet { IsFalse (conflicts trues.old.lits) }
+    requires room { HasRoomForAll trues.old.met (maps.get live.now.live) }
+    ensures end { IsEnd trues.new.lits result (chain (maps.get live.now.live) trues.old.lits (units_of hints.now)) }
+    ensures quiet { IsFalse (conflicts trues.new.lits) }
+    ensures begins { take (length trues.old.lits) trues.new.lits ≡ trues.old.lits }
+    ensures longer { length trues.old.lits ≤ length trues.new.lits }
+    ensures met { SameSet trues.new.met trues.old.met }
 {
     for hint in hints {
         if *hint < 0 {
-            return Ok(last_look(trues.as_slice()));
-        }
-        if has_conflict(trues.as_slice()) {
-            return Ok(WalkEnd::Conflict);
+            return WalkEnd::Open;
         }
         let k = hint.unsigned_abs();
-        let Some(clause) = clauses.get(&k) else {
-            return Ok(WalkEnd::UnknownId(k));
+        let Some(clause) = live.get(k) else {
+            return WalkEnd::UnknownId(k);
         };
-        match survey(clause.as_slice(), trues.as_slice()) {
-            Left::Nothing => return Ok(WalkEnd::Conflict),
-            Left::One(l) => {
-                if !trues.contains(&l) {
-                    trues.push(l)?;
-                }
-            }
-            Left::More => return Ok(WalkEnd::NotUnit(k)),
+        match survey(clause, trues) {
+            Left::Nothing => return WalkEnd::Conflict,
+            Left::One(l) => make_true(trues, l),
+            Left::More => return WalkEnd::NotUnit(k),
         }
     }
-    Ok(last_look(trues.as_slice()))
+    WalkEnd::Open
 }

@@ -1,7 +1,15 @@
-use Rattle.steps.specs.Lrat.{is_left_out, groups_of}
-use Rattle.steps.specs.Shelf.{mapped}
-use Rattle.steps.proofs.Remaining.{IsRest}
+use Rattle.std.proofs.Common.{◌≡◌, ℕ, ◌<◌, ◌-◌, false}
+use Rattle.std.specs.FinMap as maps
+use Rattle.steps.specs.Answers.{is_unnamed}
+use Rattle.steps.specs.TrueLiterals.{SameSet}
 use Rattle.steps.proofs.candidates.first_left_out.Given as goal
 
 abbrev pub invariant-loop-id : goal.invariant-loop-id
-invariant-loop-id l = IsRest l.clauses (is_left_out (mapped l.clauses) l.trues l.fn.pivot (groups_of l.hints)) l.id-iterator
+invariant-loop-id l = record {
+  passed : (k : ℕ) → k < l.from → is_unnamed (maps.get l.live.live) l.fn.trues.lits l.fn.pivot l.named k ≡ false;
+  lits : l.trues.lits ≡ l.fn.trues.lits;
+  met : SameSet l.trues.met l.fn.trues.met;
+}
+
+abbrev pub decreases-loop-id : goal.decreases-loop-id
+decreases-loop-id l = 18446744073709551616 - l.from

@@ -1,28 +1,21 @@
-use Rattle.std.proofs.Common.{option_map, sym, ap, ◌∙◌}
-use Rattle.steps.specs.Shelf.{mapped}
-use Rattle.steps.specs.Lrat.{units_of, with_candidate}
+use Rattle.std.proofs.Common.{refl, sym, ◌∙◌}
+use Rattle.std.proofs.lemmas.Bool.{not-true, not-false}
+use Rattle.std.specs.FinMap as maps
+use Rattle.steps.specs.Lrat.{units_of}
 use Rattle.steps.proofs.Groups.{tested, group_not_candidate, group_named_twice, group_walked}
 use Rattle.steps.proofs.candidates.judge_group.Goals as goal
 
-pub returns-then-not-contains : goal.returns-then-not-contains
-returns-then-not-contains c =
-    let items = c.in-Some.clause.now.items in
-    let test = tested c.contains.result c.deref.result.now items c.neg.result c.args.pivot c.contains.ensures.value c.deref.ensures.value c.neg.ensures in
-    group_not_candidate (mapped c.args.clauses.now) c.args.trues.now c.args.pivot c.args.earlier.now c.args.candidate (units_of c.args.hints.now) items
-    (ap (option_map (λ v. v.items)) (sym c.in-Some.ensures.value)) (test ∙ c.if-not-contains.true)
+pub returns-then-not-contains-clause-refusal : goal.returns-then-not-contains-clause-refusal
+returns-then-not-contains-clause-refusal c =
+    group_not_candidate (maps.get c.args.live.now.live) c.args.trues.now.lits c.args.pivot c.args.named.now c.args.candidate (units_of c.args.hints.now) c.in-Some.clause.now
+    (sym c.in-Some.ensures) (tested c.contains.result c.in-Some.clause.now c.in-Some.clause.now c.neg-opposite.result c.args.pivot c.contains.ensures.value refl c.neg-opposite.ensures ∙ c.if-not-contains.true)
 
-pub returns-then-is_named : goal.returns-then-is_named
-returns-then-is_named c =
-    let items = c.in-Some.clause.now.items in
-    let test = tested c.contains.result c.deref.result.now items c.neg.result c.args.pivot c.contains.ensures.value c.deref.ensures.value c.neg.ensures in
-    group_named_twice (mapped c.args.clauses.now) c.args.trues.now c.args.pivot c.args.earlier.now c.args.candidate (units_of c.args.hints.now) items
-    (ap (option_map (λ v. v.items)) (sym c.in-Some.ensures.value)) (test ∙ c.if-not-contains.false) (sym c.is_named.ensures ∙ c.if-is_named.true)
+pub returns-then-not-branch-clause-refusal : goal.returns-then-not-branch-clause-refusal
+returns-then-not-branch-clause-refusal c =
+    group_named_twice (maps.get c.args.live.now.live) c.args.trues.now.lits c.args.pivot c.args.named.now c.args.candidate (units_of c.args.hints.now) c.in-Some.clause.now
+    (sym c.in-Some.ensures) (tested c.contains.result c.in-Some.clause.now c.in-Some.clause.now c.neg-opposite.result c.args.pivot c.contains.ensures.value refl c.neg-opposite.ensures ∙ c.if-not-contains.false) (not-false _ (sym c.in_ok-insert.ensures.new ∙ c.if-not-branch.true))
 
-pub returns : goal.returns
-returns c =
-    let items = c.in-Some.clause.now.items in
-    let test = tested c.contains.result c.deref.result.now items c.neg.result c.args.pivot c.contains.ensures.value c.deref.ensures.value c.neg.ensures in
-    group_walked (mapped c.args.clauses.now) c.args.trues.now c.args.pivot c.args.earlier.now c.args.candidate (units_of c.args.hints.now) items
-    (ap (option_map (λ v. v.items)) (sym c.in-Some.ensures.value)) (test ∙ c.if-not-contains.false) (sym c.is_named.ensures ∙ c.if-is_named.false)
-    _ c.in_ok-end.end c.refusal_of.result c.refusal_of.ensures c.in_ok-start.start.items
-    (c.in_ok-start.ensures ∙ ap (λ d. with_candidate c.args.trues.now d c.args.pivot) c.as_slice.ensures.value) c.in_ok-end.ensures
+pub returns-clause-refusal : goal.returns-clause-refusal
+returns-clause-refusal c =
+    group_walked (maps.get c.args.live.now.live) c.args.trues.now.lits c.args.pivot c.args.named.now c.args.candidate (units_of c.args.hints.now) c.in-Some.clause.now
+    (sym c.in-Some.ensures) (tested c.contains.result c.in-Some.clause.now c.in-Some.clause.now c.neg-opposite.result c.args.pivot c.contains.ensures.value refl c.neg-opposite.ensures ∙ c.if-not-contains.false) (not-true _ (sym c.in_ok-insert.ensures.new ∙ c.if-not-branch.false)) c.neg-opposite.result c.neg-opposite.ensures c.walk_group-end.result c.refusal_of.result c.refusal_of.ensures c.walk_group-end.ensures.end

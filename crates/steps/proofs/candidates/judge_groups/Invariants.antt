@@ -1,9 +1,17 @@
-use Rattle.std.proofs.Common.{◌≡◌, [], take, drop}
+use Rattle.std.proofs.Common.{◌≡◌, ℕ, true, [], take, drop}
+use Rattle.std.specs.FinMap as maps
+use Rattle.cnf_base.specs.Literals.{complement, has}
 use Rattle.steps.specs.Lrat.{groups_refusal, groups_of}
-use Rattle.steps.specs.Shelf.{mapped}
+use Rattle.steps.specs.Shelf.{Holds}
 use Rattle.steps.specs.Answers.{named_in}
+use Rattle.steps.specs.TrueLiterals.{SameSet}
 use Rattle.steps.proofs.candidates.judge_groups.Given as goal
 
 abbrev pub invariant-loop-i : goal.invariant-loop-i
-invariant-loop-i l =
-    groups_refusal (mapped l.clauses) l.trues l.fn.pivot (named_in (take l.i l.hints)) (groups_of (drop l.i l.hints)) ≡ groups_refusal (mapped l.clauses) l.trues l.fn.pivot [] (groups_of l.hints)
+invariant-loop-i l = record {
+  refusal : groups_refusal (maps.get l.live.live) l.fn.trues.lits l.fn.pivot l.named (groups_of (drop l.i l.hints)) ≡ groups_refusal (maps.get l.live.live) l.fn.trues.lits l.fn.pivot [] (groups_of l.hints);
+  named : SameSet l.named (named_in (take l.i l.hints));
+  hold : (k : ℕ) → has l.named k ≡ true → Holds (maps.get l.live.live) (complement l.fn.pivot) k;
+  lits : l.trues.lits ≡ l.fn.trues.lits;
+  met : SameSet l.trues.met l.fn.trues.met;
+}

@@ -1,25 +1,32 @@
-use Rattle.std.proofs.Common.{is_some, ap, sym, ◌∙◌}
-use Rattle.steps.proofs.Shelves.{shelf_without, is_some_mapped, sum_covers, tally_without}
+use Rattle.std.proofs.Common.{ap}
+use Rattle.steps.proofs.Shelves.{removed_covers, removed_invariant, removed_was, removed_live, absent_invariant, absent_was, absent_live}
 use Rattle.steps.proofs.live_clauses.LiveClauses.remove.Goals as goal
 
 pub overflow_sub-self : goal.overflow_sub-self
 overflow_sub-self c =
-    sum_covers c.self.inside.clauses c.remove.new.self c.args.id c.remove.ensures.updates.0 c.in-Some.clause c.as_slice.result.now c.as_slice.ensures.value c.in-Some.ensures.value
-    c.self.inside.top c.self.inside.sum c.size_of.result c.self.invariant c.size_of.ensures
+    removed_covers c.self.inside.ids c.unbind.new.self c.self.inside.store c.args.id c.self.invariant.0 c.unbind.ensures.ids c.in-Some.slot c.in-Some.ensures.was
+    c.clause.result.now c.clause.ensures.clause c.self.inside.top c.self.inside.sum _ c.self.invariant.1 c.clause.ensures.different
 
 pub invariant_of-self : goal.invariant_of-self
 invariant_of-self c =
-    tally_without c.self.inside.clauses c.remove.new.self c.args.id c.remove.ensures.updates.0 c.in-Some.clause c.as_slice.result.now c.as_slice.ensures.value c.in-Some.ensures.value
-    c.self.inside.top c.self.inside.sum c.size_of.result c.self.invariant c.size_of.ensures
+    removed_invariant c.self.inside.ids c.unbind.new.self c.self.inside.store c.args.id c.self.invariant.0 c.unbind.ensures.ids c.in-Some.slot c.in-Some.ensures.was
+    c.clause.result.now c.clause.ensures.clause c.remove.new.self c.remove.ensures c.self.inside.top c.self.inside.sum _ c.self.invariant.1 c.clause.ensures.different
+
+pub invariant_of-self-in-None : goal.invariant_of-self-in-None
+invariant_of-self-in-None c =
+    absent_invariant c.self.inside.ids c.unbind.new.self c.self.inside.store c.args.id c.self.invariant.0 c.unbind.ensures.ids c.in-None.ensures.was c.self.inside.top c.self.inside.sum c.self.invariant.1
 
 pub returns-in-Some-clause-was : goal.returns-in-Some-clause-was
-returns-in-Some-clause-was c = sym (ap is_some c.in-Some.is) ∙ is_some_mapped c.self.inside.clauses c.args.id c.args.self.now (ap (λ s. s.live) c.self.view_is) c.remove.result c.remove.ensures.value
+returns-in-Some-clause-was c = removed_was c.self.inside.ids c.self.inside.store c.args.self.now (ap (λ s. s.live) c.self.view_is) c.args.id c.in-Some.slot c.in-Some.ensures.was
 
 pub returns-in-Some-clause-live : goal.returns-in-Some-clause-live
-returns-in-Some-clause-live c = shelf_without c.self.inside.clauses c.remove.new.self c.args.id c.remove.ensures.updates.0 c.args.self.now (ap (λ s. s.live) c.self.view_is)
+returns-in-Some-clause-live c =
+    removed_live c.self.inside.ids c.self.inside.store c.args.self.now (ap (λ s. s.live) c.self.view_is) c.unbind.new.self c.args.id c.self.invariant.0 c.unbind.ensures.ids c.in-Some.slot c.in-Some.ensures.was
+    c.remove.new.self c.remove.ensures
 
 pub returns-in-None-clause-was : goal.returns-in-None-clause-was
-returns-in-None-clause-was c = sym (ap is_some c.in-None.is) ∙ is_some_mapped c.self.inside.clauses c.args.id c.args.self.now (ap (λ s. s.live) c.self.view_is) c.remove.result c.remove.ensures.value
+returns-in-None-clause-was c = absent_was c.self.inside.ids c.self.inside.store c.args.self.now (ap (λ s. s.live) c.self.view_is) c.args.id c.in-None.ensures.was
 
 pub returns-in-None-clause-live : goal.returns-in-None-clause-live
-returns-in-None-clause-live c = shelf_without c.self.inside.clauses c.remove.new.self c.args.id c.remove.ensures.updates.0 c.args.self.now (ap (λ s. s.live) c.self.view_is)
+returns-in-None-clause-live c =
+    absent_live c.self.inside.ids c.self.inside.store c.args.self.now (ap (λ s. s.live) c.self.view_is) c.unbind.new.self c.args.id c.self.invariant.0 c.unbind.ensures.ids c.in-None.ensures.was

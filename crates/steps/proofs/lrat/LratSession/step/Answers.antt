@@ -5,7 +5,6 @@ use Rattle.steps.specs.Drat.{Answer}
 use Rattle.steps.specs.Lrat.{SameClauses, AnswersLrat, after_lrat, lrat_step}
 use Rattle.steps.specs.Shelf.{shelf_state}
 use Rattle.steps.specs.Session.{state_of, is_closed, UnlessOutOfMemory}
-use Rattle.steps.proofs.LiveSets.{SameClauses-eq}
 use Rattle.steps.specs.Models.{HasModel}
 use Rattle.steps.proofs.Keeping.{lrat_keeps}
 use Rattle.steps.proofs.Sessions.{has_model_same}
@@ -17,7 +16,7 @@ returns-after-matches-clause-live c =
     let step = lrat_step c.args.step.now in
     let after = maps.get c.take_step.new.held.live in
     subst (λ s. SameClauses after (after_lrat (state_of s) step).live) c.self.view_is
-    (SameClauses-eq after (after_lrat (shelf_state c.self.inside.held) step).live c.in-Ok.ensures.live)
+    c.in-Ok.ensures.live
 
 pub returns-in-Err-clause-ended : goal.returns-in-Err-clause-ended
 returns-in-Err-clause-ended c =
@@ -35,5 +34,5 @@ returns-after-matches-clause-keeps_models c =
     let step = lrat_step c.args.step.now in
     let after = maps.get c.take_step.new.held.live in
     let kept = lrat_keeps state step c.in-Ok.word c.in-Ok.ensures.answers in
-    let seen : HasModel state.live → HasModel after = λ m. has_model_same after (after_lrat state step).live (SameClauses-eq after (after_lrat state step).live c.in-Ok.ensures.live) (kept m) in
+    let seen : HasModel state.live → HasModel after = λ m. has_model_same after (after_lrat state step).live c.in-Ok.ensures.live (kept m) in
     subst (λ s. HasModel (state_of s).live → HasModel after) c.self.view_is seen

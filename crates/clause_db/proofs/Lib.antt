@@ -1,0 +1,12 @@
+pub mod DistinctLemmas
+pub mod IdLemmas
+pub mod MarkLemmas
+pub mod MemberLemmas
+pub mod MetLemmas
+pub mod PlaceLemmas
+pub mod SearchLemmas
+pub mod SoundLemmas
+pub mod SpotLemmas
+pub mod StoreLemmas
+pub mod SumLemmas
+pub mod TableLemmas

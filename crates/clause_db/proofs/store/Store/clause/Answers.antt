@@ -1,0 +1,22 @@
+use Rattle.std.proofs.Common.{Some, is_some, length, sym, ap, ◌∙◌}
+use Rattle.clause_db.specs.Clauses.{size}
+use Rattle.clause_db.specs.Entries.{stored}
+use Rattle.std.specs.FinMap as maps
+use Rattle.clause_db.proofs.StoreLemmas.{clause_of, get_stored, live_entry}
+use Rattle.clause_db.proofs.store.Store.clause.Goals as goal
+
+pub index-entry-requires : goal.index-entry-requires
+index-entry-requires c =
+    live_entry c.self.inside.entries c.args.self.now c.number.result c.self.view_is (ap (λ s. is_some (maps.get c.args.self.now s)) c.number.ensures ∙ c.requires)
+
+pub returns-clause-clause : goal.returns-clause-clause
+returns-clause-clause c =
+    let entries = c.self.inside.entries in
+    ap Some c.as_slice.ensures ∙ sym (ap clause_of c.index-entry.ensures) ∙ sym (get_stored entries c.number.result)
+    ∙ ap (maps.get (stored entries)) c.number.ensures ∙ ap (λ m. maps.get m c.args.slot) c.self.view_is
+
+pub returns-clause-different : goal.returns-clause-different
+returns-clause-different c =
+    let entries = c.self.inside.entries in
+    let is = get_stored entries c.number.result ∙ ap clause_of c.index-entry.ensures in
+    ap length c.as_slice.ensures ∙ sym (c.self.invariant.different c.number.result _ is) ∙ ap size (sym c.as_slice.ensures)

@@ -1,0 +1,59 @@
+use Rattle.std.proofs.Common.{◌≡◌, ℕ, ◌<◌, true, Some, is_some, sym, ap, ◌∙◌, arith}
+use Rattle.std.specs.FinMap as maps
+use Rattle.std.proofs.lemmas.Bool.{true≢false}
+use Rattle.slab.specs.Slab.{get}
+use Rattle.cnf_base.specs.Literals.{Clause, has}
+use Rattle.cnf_base.proofs.SetLemmas.{all_each, each_all}
+use Rattle.clause_db.specs.Index.{under}
+use Rattle.clause_db.specs.Marks.{is_marked, count_of}
+use Rattle.clause_db.specs.Table.{at}
+use Rattle.clause_db.proofs.DistinctLemmas.{same_back}
+use Rattle.clause_db.proofs.StoreLemmas.{clause_of, get_stored}
+use Rattle.clause_db.proofs.SearchLemmas.{copies_pos, known_from_count, match_same, none_same, if_some_from, if_some_from_none, if_none_from, if_none_from_some}
+use Rattle.clause_db.proofs.store.Store.find.Goals as goal
+use Rattle.clause_db.proofs.store.Store.find.Goals.{in-Some, in-None}
+
+pub returns-then-not-all_known-clause-none : goal.returns-then-not-all_known-clause-none
+returns-then-not-all_known-clause-none c s d is same =
+    let i = c.self.inside in
+    let marks = c.self.inside.marks in
+    let lits = c.args.lits.now in
+    let at_slot = ap (λ m. maps.get m s) c.self.view_is ∙ is in
+    let counted : (l : ℕ) → has lits l ≡ true → 0 < count_of (at marks l) =
+    λ l h.
+    let many = copies_pos _ s d l at_slot (same_back d lits same l h) in
+    let count_is = c.self.invariant.counted l in
+    omega arith in
+    let known = each_all (λ l. is_some (at marks l)) lits (λ l h. known_from_count (at marks l) (counted l h)) in
+    true≢false (sym known ∙ sym c.all_known.ensures ∙ c.if-not-all_known.true)
+
+pub mark_all-digest-requires-clause-known : goal.mark_all-digest-requires-clause-known
+mark_all-digest-requires-clause-known c l h =
+    all_each (λ l. is_some (at c.self.inside.marks l)) c.args.lits.now l (sym c.all_known.ensures ∙ c.if-not-all_known.false) h
+
+pub returns-clause-found : goal.returns-clause-found
+returns-clause-found c =
+    let i = c.self.inside in
+    let now = c.args.self.now in
+    let digest = c.mark_all-digest in
+    elim c.match-found.branch [
+      | in-Some w ↦
+          let slot = w.in-Some.slot in
+          let different = λ (d : Clause) (is : clause_of (get i.entries slot) ≡ Some d). c.self.invariant.different slot d (get_stored i.entries slot ∙ is) in
+          let matched = match_same c.args.lits.now (λ l. is_marked (at digest.new.marks l)) digest.ensures.marked digest.result.len digest.ensures.len (get i.entries slot) different w.in-Some.ensures.found in
+          if_some_from c.match-found.result w.at.result _ w.result-is
+          (matched.0, ap (maps.get now) w.at.ensures ∙ ap (λ m. maps.get m slot) (sym c.self.view_is) ∙ get_stored i.entries slot ∙ matched.1, matched.2)
+      | in-None w ↦ if_some_from_none c.match-found.result _ w.result-is
+    ]
+
+pub returns-clause-none : goal.returns-clause-none
+returns-clause-none c =
+    let i = c.self.inside in
+    let digest = c.mark_all-digest in
+    elim c.match-found.branch [
+      | in-Some w ↦ if_none_from_some c.match-found.result w.at.result _ w.result-is
+      | in-None w ↦ if_none_from c.match-found.result _ w.result-is (λ s d is same.
+          none_same i.entries (under i.index) c.self.invariant.placed c.args.lits.now (λ l. is_marked (at digest.new.marks l)) digest.ensures.marked
+          digest.result.len digest.ensures.len digest.result.hash digest.ensures.hash c.self.invariant.different w.in-None.ensures.none
+          s d (ap (λ m. maps.get m s) c.self.view_is ∙ is) same)
+    ]

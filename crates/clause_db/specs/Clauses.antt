@@ -1,0 +1,23 @@
+-- How large clauses are, and what is summed over the clauses of a store.
+use Rattle.std.specs.Prelude.{ℕ, ◌+◌, sum_by, [], ◌∷◌, if◌then◌else◌}
+use Rattle.std.specs.Ordering.{nat_cmp}
+use Rattle.std.specs.FinMap as maps
+use Rattle.std.specs.FinMap.{FinMap}
+use Rattle.cnf_base.specs.Literals.{Literal, Clause, has}
+
+-- the number of different literals
+abbrev pub size : Clause → ℕ
+size [] = 0
+size (l ∷ c) = if has c l then size c else 1 + size c
+
+-- the sum of the weights of the clauses, each as often as it is stored
+abbrev pub sum_over : (Clause → ℕ) → FinMap nat_cmp Clause → ℕ
+sum_over weight clauses = sum_by weight (maps.values clauses)
+
+-- the sum of the sizes of the clauses
+abbrev pub literals_in : FinMap nat_cmp Clause → ℕ
+literals_in clauses = sum_over size clauses
+
+-- how many of the clauses have the literal
+abbrev pub copies_with : FinMap nat_cmp Clause → Literal → ℕ
+copies_with clauses l = sum_over (λ c. if has c l then 1 else 0) clauses

@@ -1,0 +1,21 @@
+-- Hashes of clauses as sets.
+use Rattle.std.specs.Prelude.{ℕ, ◌+◌, ◌*◌, ◌/◌, ◌%◌, ◌^◌, bit_xor, [], ◌∷◌, if◌then◌else◌}
+use Rattle.cnf_base.specs.Literals.{Literal, Clause, has}
+
+-- the sum over the different literals
+abbrev pub sum_distinct : (Literal → ℕ) → Clause → ℕ
+sum_distinct f [] = 0
+sum_distinct f (l ∷ c) = if has c l then sum_distinct f c else f l + sum_distinct f c
+
+-- a literal spread over the words: three times a product with an odd word modulo 2^64 or an exclusive or with its own
+-- high bits, in turn, so that sums of few literals differ
+unfoldable pub mix : Literal → ℕ
+mix l =
+    let x = (l * 11400714819323198485) % 2 ^ 64 in
+    let y = (bit_xor x (x / 2 ^ 30) * 13787848793156543929) % 2 ^ 64 in
+    let z = (bit_xor y (y / 2 ^ 27) * 10723151780598845931) % 2 ^ 64 in
+    bit_xor z (z / 2 ^ 31)
+
+-- the sum of the mixed literals that are different, modulo 2^64
+unfoldable pub hash : Clause → ℕ
+hash c = sum_distinct mix c % 2 ^ 64

@@ -1,0 +1,12 @@
+pub mod Buckets
+pub mod Clauses
+pub mod Entries
+pub mod Hashes
+pub mod Ids
+pub mod Index
+pub mod Marks
+pub mod Places
+pub mod Sound
+pub mod Spots
+pub mod Table
+pub mod Trail

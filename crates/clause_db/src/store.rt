@@ -1,0 +1,185 @@
+//! The live clauses of a proof checker, each in its slot.
+
+ghost use Rattle.std.specs.Prelude.{◌≡◌, ◌≢◌, ℕ, ◌+◌, ◌-◌, ◌<◌, ◌≤◌, ◌==◌, ◌++◌, [], ◌∷◌, ◌^◌, min, Some, None, length, if◌then◌else◌, IsTrue, IsSome, IfSome, IfNone, IfOk, OnOk, OnErr};
+ghost use Rattle.std.specs.FinMap as maps;
+ghost use Rattle.cnf_base.specs.Literals.{Clause, same_clause};
+ghost use Rattle.slab.specs.Slab.{slab_len, HasRoomFor};
+ghost use Rattle.clause_db.specs.Clauses.{size, literals_in, copies_with};
+ghost use Rattle.clause_db.specs.Index.{under};
+
+use crate::Slot;
+use crate::entry::{Entry, set_place};
+use crate::index::Index;
+use crate::mark::{Mark, key};
+use crate::marks::{
+    Digest, all_known, gather, hash_of, mark_all, release, reserve_all, unmark_all,
+};
+use crate::search::search;
+use crate::table::Table;
+use cnf_base::{Lit, OutOfMemory};
+use slab::Slab;
+use smallvec::SmallVec;
+use std::alloc::Global;
+use std::marker::Model;
+
+/// The live clauses of a proof checker, each in a slot that the store picks.
+///
+/// Contracts see it as a finite map from the numbers of the slots to the clauses.
+/// A clause is the set of its literals: the store keeps each literal once, in an order that it picks.
+#[derive(Drop)]
+pub struct Store {
+    alloc: Global,
+    entries: Slab<Entry>,
+    index: Index,
+    marks: Table<Mark>,
+    sum: u128,
+}
+
+impl Model for Store {
+    ghost use Rattle.std.specs.Ordering.{nat_cmp};
+    ghost use Rattle.std.specs.FinMap as maps;
+    ghost use Rattle.std.specs.FinMap.{FinMap};
+    ghost use Rattle.std.specs.Coded.{coded_ℕ, coded_list};
+    ghost use Rattle.cnf_base.specs.Literals.{Clause};
+
+    ghost Value = { FinMap nat_cmp Clause };
+
+    ghost coded = { maps.code coded_ℕ (coded_list coded_ℕ) };
+
+    ghost use Rattle.clause_db.specs.Entries.{stored};
+    ghost use Rattle.clause_db.specs.Sound.{IsSound};
+
+    ghost view = { λ s. stored s.entries };
+
+    ghost invariant = { λ s. IsSound s.entries s.index s.marks s.sum };
+}
+
+/// Makes room for a clause of the digest, and puts the slot that it will have into the index.
+fn make_room(
+    alloc: Global,
+    entries: &mut Slab<Entry>,
+    index: &mut Index,
+    digest: &Digest,
+) -> Result<Entry, OutOfMemory>
+    ensures empty { IfOk result (λ e. e.lits.items ≡ []) }
+    ensures wide { IfOk result (λ e. digest.now.len ≤ e.lits.capacity) }
+    ensures place { IfOk result (λ e. e.place ≡ length (under index.old digest.now.hash)) }
+    ensures room { OnOk result (HasRoomFor entries.new 1) }
+    ensures few { OnOk result (slab_len entries.new < 18446744073709551615) }
+    ensures slots { entries.new.slots ≡ entries.old.slots }
+    ensures key { entries.new.vacant_key ≡ entries.old.vacant_key }
+    ensures ok { OnOk result ((h : ℕ) → under index.new h ≡ (if h == digest.now.hash then under index.old h ++ entries.old.vacant_key ∷ [] else under index.old h)) }
+    ensures err { OnErr result ((h : ℕ) → under index.new h ≡ under index.old h) }
+{
+    let Ok(lits) = SmallVec::with_capacity(alloc, digest.len) else {
+        return Err(OutOfMemory);
+    };
+    if entries.reserve(1).is_err() {
+        return Err(OutOfMemory);
+    }
+    let _limit = entries.capacity();
+    let place = index.add(digest.hash, entries.vacant_key())?;
+    Ok(Entry { lits, place })
+}
+
+impl Store {
+    /// No clauses.
+    pub fn new(alloc: Global) -> Result<Self, OutOfMemory>
+        ensures { IfOk result (λ s. s ≡ maps.empty) }
+    {
+        Ok(Store {
+            alloc,
+            entries: Slab::new(alloc),
+            index: Index::new(alloc),
+            marks: Table::new(alloc),
+            sum: 0,
+        })
+    }
+
+    /// Stores a clause in a slot that is free, and fails only where memory is refused. A repeated literal is kept once.
+    pub fn insert(&mut self, lits: &[Lit]) -> Result<Slot, OutOfMemory>
+        ensures free { IfOk result (λ slot. maps.get self.old slot ≡ None) }
+        ensures stored { IfOk result (λ slot. (c : Clause) × (maps.get self.new slot ≡ Some c) × IsTrue (same_clause c lits.now)) }
+        ensures others { IfOk result (λ slot. (s : ℕ) → s ≢ slot → maps.get self.new s ≡ maps.get self.old s) }
+        ensures err { OnErr result (self.new ≡ self.old) }
+    {
+        reserve_all(&mut self.marks, lits)?;
+        let digest = mark_all(&mut self.marks, lits);
+        match make_room(self.alloc, &mut self.entries, &mut self.index, &digest) {
+            Ok(mut entry) => {
+                gather(&mut self.marks, lits, &mut entry.lits);
+                let slot = self.entries.insert_reserved(entry);
+                self.sum += digest.len as u128;
+                Ok(Slot::at(slot))
+            }
+            Err(refused) => {
+                unmark_all(&mut self.marks, lits);
+                Err(refused)
+            }
+        }
+    }
+
+    /// Takes the clause out of its slot. Other copies of it stay.
+    pub fn remove(&mut self, slot: Slot)
+        requires { IsSome (maps.get self.old slot) }
+        ensures { self.new ≡ maps.remove self.old slot }
+    {
+        let entry = self.entries.remove(slot.number());
+        let lits = entry.lits.as_slice();
+        release(&mut self.marks, lits);
+        self.sum -= lits.len() as u128;
+        let last = self.index.remove(hash_of(lits), entry.place);
+        set_place(&mut self.entries, last, entry.place);
+    }
+
+    /// A slot with the same clause as a set, if there is one. It takes no memory.
+    pub fn find(&mut self, lits: &[Lit]) -> Option<Slot>
+        ensures found { IfSome result (λ slot. (c : Clause) × (maps.get self.old slot ≡ Some c) × IsTrue (same_clause c lits.now)) }
+        ensures none { IfNone result ((s : ℕ) (c : Clause) → maps.get self.old s ≡ Some c → IsTrue (same_clause c lits.now) → ⊥) }
+        ensures same { self.new ≡ self.old }
+    {
+        if !all_known(&self.marks, lits) {
+            return None;
+        }
+        let digest = mark_all(&mut self.marks, lits);
+        let found = search(&self.entries, &self.index, &self.marks, &digest);
+        unmark_all(&mut self.marks, lits);
+        match found {
+            Some(slot) => Some(Slot::at(slot)),
+            None => None,
+        }
+    }
+
+    /// The literals of the clause in the slot, in the order of the store.
+    pub fn clause(&self, slot: Slot) -> &[Lit]
+        requires { IsSome (maps.get self.now slot) }
+        ensures clause { Some result.now ≡ maps.get self.now slot }
+        ensures different { length result.now ≡ size result.now }
+    {
+        let entry = &self.entries[slot.number()];
+        entry.lits.as_slice()
+    }
+
+    /// The sum of the lengths of the lists of literals that it keeps, which is that of the sizes of the clauses; `2^64 - 1` where it is greater.
+    pub fn literals(&self) -> u64
+        ensures { result ≡ min (literals_in self.now) 18446744073709551615 }
+    {
+        self.sum.min(18446744073709551615) as u64
+    }
+
+    /// How many of the clauses have the literal.
+    pub fn count_with(&self, l: Lit) -> u64
+        ensures { result ≡ copies_with self.now l }
+    {
+        match self.marks.get(key(l)) {
+            Some(mark) => mark.count,
+            None => 0,
+        }
+    }
+
+    /// For how many clauses and for how many hashes there is room.
+    #[cfg(test)]
+    pub(crate) fn room(&self) -> (usize, usize) {
+        (self.entries.capacity(), self.index.room())
+    }
+}

@@ -1,0 +1,185 @@
+//! The trail: the literals that are true.
+
+ghost use Rattle.std.specs.Prelude.{◌≡◌, ℕ, ◌*◌, ◌/◌, ◌==◌, ◌<◌, ◌≤◌, ◌||◌, ◌&&◌, [], ◌∷◌, ◌++◌, length, take, is_some, IsTrue, ◌↔◌, IfSome, IfOk, OnOk, OnErr};
+ghost use Rattle.cnf_base.specs.Literals.{has};
+ghost use Rattle.clause_db.specs.Trail.{value_of, is_variable, HasNoVariableTwice};
+ghost use Rattle.clause_db.specs.declared.value.Value.TheVariants.{Open};
+
+use crate::table::Table;
+use crate::value::Value;
+use cnf_base::{Lit, OutOfMemory};
+use std::alloc::Global;
+use std::marker::Model;
+
+/// Where a variable stands in the order, and the literal that stands there.
+#[derive(Clone, Copy)]
+struct Entry {
+    place: u32,
+    lit: Lit,
+}
+
+impl Entry {
+    fn index(&self) -> usize
+        ensures value { result ≡ self.now.place }
+        ensures range { result < 4294967296 }
+    {
+        self.place as usize
+    }
+}
+
+/// The literals that are true, in the order in which they were set. No two are of one variable.
+///
+/// Room is made for a variable with [`Trail::reserve`]. From then on no other call takes memory for it.
+///
+/// Contracts see a trail as the list of the literals and the set of the variables for which there is room.
+#[derive(Drop)]
+pub struct Trail {
+    /// One literal of each variable with room. The first `len` are the trail.
+    order: Vec<Lit>,
+    len: usize,
+    table: Table<Entry>,
+}
+
+impl Model for Trail {
+    ghost use Rattle.std.specs.Prelude.{◌≤◌, length, take, map};
+    ghost use Rattle.clause_db.specs.Trail.{TrailState, variable};
+    ghost use Rattle.clause_db.specs.Table.{at};
+    ghost use Rattle.clause_db.specs.Places.{IsPlaced};
+
+    ghost Value = { TrailState };
+
+    ghost view = { λ t. record { lits = take t.len t.order.items; met = map variable t.order.items } };
+
+    ghost invariant = { λ t. (t.len ≤ length t.order.items) × IsPlaced t.order.items (at t.table) };
+}
+
+/// The literal that says that the variable is true; none for 0 and past the greatest variable.
+fn positive(var: u32) -> Option<Lit>
+    ensures some { IfSome result (λ l. l ≡ 2 * var) }
+    ensures variant { is_some result ≡ is_variable var }
+{
+    if var > Lit::MAX_VAR {
+        return None;
+    }
+    Lit::new(var as i32)
+}
+
+impl Trail {
+    /// An empty trail. It has room for no variable.
+    pub fn new(alloc: Global) -> Result<Self, OutOfMemory>
+        ensures lits { IfOk result (λ t. t.lits ≡ []) }
+        ensures met { IfOk result (λ t. t.met ≡ []) }
+    {
+        Ok(Trail {
+            order: Vec::new(alloc),
+            len: 0,
+            table: Table::new(alloc),
+        })
+    }
+
+    /// Makes room for a variable. The room stays until the end of the trail. A number that is no literal's variable needs none.
+    ///
+    /// # Errors
+    ///
+    /// Where memory runs out. The trail is then as it was.
+    pub fn reserve(&mut self, var: u32) -> Result<(), OutOfMemory>
+        ensures met { OnOk result ((v : ℕ) → has self.new.met v ≡ (has self.old.met v || (v == var && is_variable v))) }
+        ensures lits { OnOk result (self.new.lits ≡ self.old.lits) }
+        ensures err { OnErr result (self.new ≡ self.old) }
+    {
+        let Some(lit) = positive(var) else {
+            return Ok(());
+        };
+        if self.table.get(var).is_some() {
+            return Ok(());
+        }
+        let Ok(place) = u32::try_from(self.order.len()) else {
+            return Err(OutOfMemory);
+        };
+        if self.order.reserve(1).is_err() {
+            return Err(OutOfMemory);
+        }
+        self.table.reserve(var, Entry { place, lit })?;
+        self.order.push_reserved(lit);
+        Ok(())
+    }
+
+    /// Sets a literal whose variable has room and is open. It takes no memory.
+    pub fn set(&mut self, l: Lit)
+        requires reserved { IsTrue (has self.old.met (l / 2)) }
+        requires open { value_of self.old.lits l ≡ Open }
+        ensures lits { self.new.lits ≡ self.old.lits ++ l ∷ [] }
+        ensures met { (v : ℕ) → has self.new.met v ≡ has self.old.met v }
+    {
+        let n = self.len;
+        if let Some(entry) = self.table.get(l.var()) {
+            let place = entry.index();
+            let set = Entry {
+                place: n as u32,
+                lit: l,
+            };
+            let other = self.order[n];
+            self.order[place] = other;
+            self.order[n] = l;
+            self.table.set(
+                other.var(),
+                Entry {
+                    place: entry.place,
+                    lit: other,
+                },
+            );
+            self.table.set(l.var(), set);
+            self.len = n + 1;
+        }
+    }
+
+    /// What the trail says of a literal. It takes no memory.
+    pub fn value(&self, l: Lit) -> Value
+        ensures value { result ≡ value_of self.now.lits l }
+        ensures different { HasNoVariableTwice self.now.lits }
+    {
+        let Some(entry) = self.table.get(l.var()) else {
+            return Value::Open;
+        };
+        if self.len <= entry.index() {
+            return Value::Open;
+        }
+        if entry.lit == l {
+            Value::True
+        } else {
+            Value::False
+        }
+    }
+
+    /// How many literals were set.
+    pub fn len(&self) -> usize
+        ensures value { result ≡ length self.now.lits }
+        ensures different { HasNoVariableTwice self.now.lits }
+    {
+        self.lits().len()
+    }
+
+    /// Whether no literal was set.
+    pub fn is_empty(&self) -> bool
+        ensures { IsTrue result ↔ (self.now.lits ≡ []) }
+    {
+        self.len == 0
+    }
+
+    /// Takes back all but the first `n` literals, in constant time and with no memory.
+    pub fn undo_to(&mut self, n: usize)
+        requires { n ≤ length self.old.lits }
+        ensures lits { self.new.lits ≡ take n self.old.lits }
+        ensures met { (v : ℕ) → has self.new.met v ≡ has self.old.met v }
+    {
+        self.len = n;
+    }
+
+    /// The literals, in the order in which they were set.
+    pub fn lits(&self) -> &[Lit]
+        ensures value { result.now ≡ self.now.lits }
+        ensures different { HasNoVariableTwice self.now.lits }
+    {
+        &self.order[..self.len]
+    }
+}

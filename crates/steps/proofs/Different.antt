@@ -1,0 +1,63 @@
+-- Lists of different numbers.
+use Rattle.std.proofs.Common.{◌≡◌, ℕ, true, false, List, [], ◌∷◌, nat_eq, ap, sym, ◌∙◌, subst, inl, inr, arith, eqb, ◌||◌, Bool, cond, refl}
+use Rattle.std.specs.List.{IsDistinct, AllByRecursion, list_any}
+use Rattle.std.proofs.lemmas.Bool.{false≢true, true≢false, false_from_ne_true}
+use Rattle.std.proofs.lemmas.Bool.Decides.{nat_tests}
+use Rattle.cnf_base.specs.Literals.{has}
+use Rattle.cnf_base.proofs.SetLemmas.{has_head, has_tail, has_cases}
+
+pub distinct_tail : (k : ℕ) (ks : List ℕ) → IsDistinct nat_eq (k ∷ ks) → IsDistinct nat_eq ks
+unfolding IsDistinct
+distinct_tail k ks h = h.1
+
+pub distinct_head : (k : ℕ) (ks : List ℕ) → IsDistinct nat_eq (k ∷ ks) → has ks k ≡ true → ⊥
+unfolding IsDistinct
+distinct_head k ks h member = none_equal ks h.0 member
+  where
+    none_equal : (ks : List ℕ) → AllByRecursion (λ y. nat_eq k y ≡ false) ks → has ks k ≡ true → ⊥
+    none_equal [] all member = false≢true member
+    none_equal (j ∷ ks) all member = elim (has_cases j ks k member) [
+      | inl e ↦ true≢false (sym (equal j e) ∙ all.0)
+      | inr later ↦ none_equal ks all.1 later
+    ]
+      where
+        equal : (j : ℕ) → j ≡ k → nat_eq k j ≡ true
+        equal j e = grind (arith, nat_tests)
+
+pub distinct_more : (k : ℕ) (ks : List ℕ) → has ks k ≡ false → IsDistinct nat_eq ks → IsDistinct nat_eq (k ∷ ks)
+unfolding IsDistinct
+distinct_more k ks absent h = (all_other ks absent, h)
+  where
+    all_other : (ks : List ℕ) → has ks k ≡ false → AllByRecursion (λ y. nat_eq k y ≡ false) ks
+    all_other [] absent = tt
+    all_other (j ∷ ks) absent = (
+      false_from_ne_true (nat_eq k j) (λ e. true≢false (sym (subst (λ i. has (i ∷ ks) k ≡ true) (equal j e) (has_head k ks)) ∙ absent)),
+      all_other ks (false_from_ne_true (has ks k) (λ h. true≢false (sym (has_tail j ks k h) ∙ absent))),
+    )
+      where
+        equal : (j : ℕ) → nat_eq k j ≡ true → k ≡ j
+        equal j e = grind (arith, nat_tests)
+
+-- a set of numbers, and the list of its keys
+equal_to : (j k : ℕ) → nat_eq k j ≡ eqb j k
+equal_to j k = grind (arith, nat_tests)
+
+pub contains_is : (keys : List ℕ) (k : ℕ) → list_any (nat_eq k) keys ≡ has keys k
+contains_is [] k = refl
+contains_is (j ∷ keys) k = ap (λ b. b || list_any (nat_eq k) keys) (equal_to j k) ∙ ap (λ b. eqb j k || b) (contains_is keys k)
+
+pub inserted : (after before seen : List ℕ) → before ≡ seen → (id : ℕ) → ((q : ℕ) → list_any (nat_eq q) after ≡ cond (nat_eq id q) true (list_any (nat_eq q) before)) → (k : ℕ) → has after k ≡ has seen k || eqb id k
+inserted after before seen view id updates k =
+    sym (contains_is after k) ∙ updates k
+    ∙ ap (λ b. cond b true (list_any (nat_eq k) before)) (equal_to k id ∙ turned k id)
+    ∙ ap (cond (eqb id k) true) (contains_is before k ∙ ap (λ ks. has ks k) view)
+    ∙ by_tests (has seen k) (eqb id k)
+  where
+    turned : (a b : ℕ) → eqb a b ≡ eqb b a
+    turned a b = grind (arith, nat_tests)
+
+    by_tests : (a b : Bool) → cond b true a ≡ a || b
+    by_tests true true = refl
+    by_tests true false = refl
+    by_tests false true = refl
+    by_tests false false = refl

@@ -1,0 +1,13 @@
+use Rattle.std.proofs.Common.{map, nat_abs, sym, ◌∙◌}
+use Rattle.std.specs.FinMap as maps
+use Rattle.steps.specs.Shelf.{shelf_state}
+use Rattle.steps.proofs.Rooms.{ready_without, deleted_live}
+use Rattle.steps.proofs.lrat.take_step.Goals as goal
+
+pub returns-in-None-clause-live : goal.returns-in-None-clause-live
+returns-in-None-clause-live c =
+    deleted_live (shelf_state c.args.held.now) c.args.step.now c.hints.result.now (maps.get c.delete_all.new.live.live) (sym c.kind.ensures ∙ c.in-Delete.is) c.hints.ensures.value c.in-None.ensures.live
+
+pub returns-in-None-clause-ready : goal.returns-in-None-clause-ready
+returns-in-None-clause-ready c =
+    ready_without c.args.trues.now (maps.get c.args.held.now.live) (maps.get c.delete_all.new.live.live) (map nat_abs c.hints.result.now) c.in-None.ensures.live c.requires.ready

@@ -1,0 +1,60 @@
+//! The candidates that groups of hints have named.
+
+ghost use Rattle.std.specs.Prelude.{◌≡◌, ℕ, ◌||◌, ◌==◌, not, length, [], IfOk, OnOk};
+ghost use Rattle.std.specs.Prelude.{nat_eq};
+ghost use Rattle.std.specs.List.{IsDistinct};
+ghost use Rattle.cnf_base.specs.Literals.{has};
+
+use std::alloc::{AllocError, Global};
+use std::collections::HashSet;
+use std::marker::Model;
+
+/// Identifiers, none of them twice. Contracts see them as a list, in no stated order.
+#[derive(Drop)]
+pub(crate) struct Named {
+    ids: HashSet<u64>,
+}
+
+impl Model for Named {
+    ghost use Rattle.std.specs.Prelude.{ℕ, List};
+    ghost use Rattle.std.specs.Coded.{coded_list, coded_ℕ};
+
+    ghost Value = { List ℕ };
+
+    ghost coded = { coded_list coded_ℕ };
+
+    ghost view = { λ s. s.ids.keys };
+}
+
+impl Named {
+    /// None, with room for so many.
+    pub(crate) fn with_room(alloc: Global, count: usize) -> Result<Self, AllocError>
+        ensures { IfOk result (λ named. named ≡ []) }
+    {
+        let mut ids = HashSet::new(alloc);
+        ids.reserve(count)?;
+        Ok(Named { ids })
+    }
+
+    /// Adds the identifier, and tells whether it is new.
+    pub(crate) fn insert(&mut self, id: u64) -> Result<bool, AllocError>
+        ensures new { IfOk result (λ is_new. is_new ≡ not (has self.old id)) }
+        ensures ids { OnOk result ((k : ℕ) → has self.new k ≡ (has self.old k || (id == k))) }
+    {
+        let is_new = self.ids.insert(id)?;
+        Ok(is_new)
+    }
+
+    pub(crate) fn contains(&self, id: u64) -> bool
+        ensures { result ≡ has self.now id }
+    {
+        self.ids.contains(&id)
+    }
+
+    pub(crate) fn len(&self) -> usize
+        ensures len { result ≡ length self.now }
+        ensures different { IsDistinct nat_eq self.now }
+    {
+        self.ids.len()
+    }
+}
