@@ -1,1 +1,3 @@
-pub mod LratLemmas
+pub mod TextLemmas
+pub mod GroupLemmas
+pub mod BinaryLemmas

@@ -1,6 +1,6 @@
 -- A proof that is read step by step, in whatever format.
 use Rattle.std.specs.Prelude.{◌≡◌, ℕ, Bool, true, false, List, [], ◌∷◌, length, Option, None, Some, Result, Ok, Err}
-use Rattle.cnf_base.specs.Stream.{Input}
+use Rattle.cnf_base.specs.Stream.{Input, Stream}
 use Rattle.cnf_base.specs.declared.fault.Fault.{Fault}
 use Rattle.cnf_base.specs.declared.fault.Fault.TheVariants.{OutOfMemory}
 use Rattle.proofs.specs.Steps.{Step}
@@ -28,6 +28,11 @@ with_step s rest p = record { steps = record { step = s; rest = rest } ∷ p.ste
 abbrev pub unless_faulty : Option Fault → Proof → Proof
 unless_faulty None p = p
 unless_faulty (Some f) p = faulty f
+
+-- where a reader stands in its input, and the fault that it keeps
+pub record Reading : Type 0 where
+  pub stream : Stream
+  pub fault : Option Fault
 
 -- A step is the first of what is to come; or nothing is to come, and it stays so; or a fault is, and it stays.
 -- After want of memory that is the fault that stays. `rest` is what follows of the input.

@@ -1,10 +1,16 @@
 //! Readers of proofs, step by step.
 #![tactic(auto)]
 
+mod drat_binary;
+mod drat_text;
 mod lrat_text;
+mod moved;
 mod step_buf;
 mod step_reader;
+mod stopped;
 
+pub use drat_binary::DratBinary;
+pub use drat_text::DratText;
 pub use lrat_text::LratText;
 pub use step_buf::{StepBuf, StepKind};
 pub use step_reader::StepReader;

@@ -5,17 +5,19 @@ ghost use Rattle.cnf_base.specs.Stream.{Along};
 ghost use Rattle.cnf_base.specs.Text.{listing_at};
 ghost use Rattle.cnf_base.specs.Readers.{Advances, TellsOf};
 ghost use Rattle.cnf_base.specs.declared.input.Ending.TheVariants.{End};
-ghost use Rattle.proofs.specs.Steps.{named};
 ghost use Rattle.proofs.specs.Reading.{GivesStep};
-ghost use Rattle.proofs.specs.Lrat.{steps_from, at_end, to_come, Reading};
-ghost use Rattle.proofs.specs.LratMoves.{left_of, EndsSo};
+ghost use Rattle.proofs.specs.TextSteps.{steps_listed, at_end};
+ghost use Rattle.proofs.specs.TextMoves.{left_of, EndsSo};
+ghost use Rattle.proofs.specs.Lrat.{lrat, to_come};
 
 mod moves;
 mod part;
 
+use crate::moved::Moved;
+use crate::stopped::Stopped;
 use crate::{StepBuf, StepReader};
 use cnf_base::{Fault, In, Place, ReadFailed, Scanner, Source, TextFault, Token};
-use moves::{Moved, Stopped, move_on};
+use moves::move_on;
 use part::Part;
 use std::marker::Model;
 
@@ -30,7 +32,7 @@ pub struct LratText<R: In> {
 impl<R: In> Model for LratText<R> {
     ghost use Rattle.std.specs.Prelude.{◌≡◌, Some, true};
     ghost use Rattle.cnf_base.specs.declared.fault.Fault.TheVariants.{ReadFailed};
-    ghost use Rattle.proofs.specs.Lrat.{Reading};
+    ghost use Rattle.proofs.specs.Reading.{Reading};
 
     ghost Value = { Reading };
 
@@ -82,7 +84,7 @@ impl<R: In> StepReader for LratText<R> {
 // The step that begins with the next word.
 fn read_step<R: In>(scanner: &mut Scanner<R>, step: &mut StepBuf) -> Result<bool, Fault>
     ensures step { Along scanner.old scanner.new (λ i j. GivesStep result step.new
-        (steps_from Part.Identifier (named 0) (listing_at scanner.old.place i)) (left_of result (listing_at scanner.new.place j)) j) }
+        (steps_listed lrat (listing_at scanner.old.place i)) (left_of lrat result (listing_at scanner.new.place j)) j) }
     ensures fewer { Advances result scanner.old scanner.new }
     ensures tells { TellsOf result scanner.old.has_failed scanner.new.has_failed }
 {
@@ -105,7 +107,7 @@ fn read_step<R: In>(scanner: &mut Scanner<R>, step: &mut StepBuf) -> Result<bool
 
 // What the end of the input means.
 fn at_end(part: Part, place: Place) -> Result<bool, Fault>
-    ensures value { EndsSo result (at_end part place End) }
+    ensures value { EndsSo result (at_end lrat part place End) }
     ensures read { result ≢ Err Fault.ReadFailed }
 {
     match part {

@@ -3,30 +3,19 @@
 ghost use Rattle.std.specs.Prelude.{◌≡◌, ◌≤◌};
 ghost use Rattle.proofs.specs.Lrat.{move_of, number_move, d_move, identifier, literal, hint, deleted, signed};
 ghost use Rattle.proofs.specs.declared.step_buf.StepKind.TheVariants.{Add};
-ghost use Rattle.proofs.specs.LratMoves.{Moves, FitsPart, FitsMoved};
+ghost use Rattle.proofs.specs.TextMoves.{Moves};
+ghost use Rattle.proofs.specs.LratMoves.{FitsPart, FitsMoved};
 
 use super::part::Part;
 use crate::StepBuf;
-use cnf_base::{Lit, Number, OutOfMemory, TextFault, Word};
-
-/// How a step goes on.
-#[derive(Clone, Copy)]
-pub enum Moved {
-    To(Part),
-    Complete,
-}
-
-/// Why it doesn't.
-#[derive(Clone, Copy)]
-pub enum Stopped {
-    Text(TextFault),
-    OutOfMemory,
-}
+use crate::moved::Moved;
+use crate::stopped::Stopped;
+use cnf_base::{Lit, Number, TextFault, Word};
 
 const MOST: u64 = 9223372036854775807;
 
 /// Puts a word into the step.
-pub fn move_on(part: Part, step: &mut StepBuf, word: Word) -> Result<Moved, Stopped>
+pub fn move_on(part: Part, step: &mut StepBuf, word: Word) -> Result<Moved<Part>, Stopped>
     requires { FitsPart part step.old }
     ensures moves { Moves result (move_of part step.old word) step.new }
     ensures fits { FitsMoved result step.new }
@@ -38,7 +27,7 @@ pub fn move_on(part: Part, step: &mut StepBuf, word: Word) -> Result<Moved, Stop
     }
 }
 
-fn take_number(part: Part, step: &mut StepBuf, number: Number) -> Result<Moved, Stopped>
+fn take_number(part: Part, step: &mut StepBuf, number: Number) -> Result<Moved<Part>, Stopped>
     requires { FitsPart part step.old }
     ensures moves { Moves result (number_move part step.old number) step.new }
     ensures fits { FitsMoved result step.new }
@@ -51,7 +40,7 @@ fn take_number(part: Part, step: &mut StepBuf, number: Number) -> Result<Moved, 
     }
 }
 
-fn take_d(part: Part, step: &mut StepBuf) -> Result<Moved, Stopped>
+fn take_d(part: Part, step: &mut StepBuf) -> Result<Moved<Part>, Stopped>
     ensures moves { Moves result (d_move part step.old) step.new }
     ensures fits { FitsMoved result step.new }
 {
@@ -66,7 +55,7 @@ fn take_d(part: Part, step: &mut StepBuf) -> Result<Moved, Stopped>
     }
 }
 
-fn take_identifier(step: &mut StepBuf, number: Number) -> Result<Moved, Stopped>
+fn take_identifier(step: &mut StepBuf, number: Number) -> Result<Moved<Part>, Stopped>
     ensures moves { Moves result (identifier number) step.new }
     ensures fits { FitsMoved result step.new }
 {
@@ -80,7 +69,7 @@ fn take_identifier(step: &mut StepBuf, number: Number) -> Result<Moved, Stopped>
     Ok(Moved::To(Part::AfterIdentifier))
 }
 
-fn take_literal(step: &mut StepBuf, number: Number) -> Result<Moved, Stopped>
+fn take_literal(step: &mut StepBuf, number: Number) -> Result<Moved<Part>, Stopped>
     requires { step.old.kind ≡ Add }
     ensures moves { Moves result (literal step.old number) step.new }
     ensures fits { FitsMoved result step.new }
@@ -97,7 +86,7 @@ fn take_literal(step: &mut StepBuf, number: Number) -> Result<Moved, Stopped>
     Ok(Moved::To(Part::Literals))
 }
 
-fn take_hint(step: &mut StepBuf, number: Number) -> Result<Moved, Stopped>
+fn take_hint(step: &mut StepBuf, number: Number) -> Result<Moved<Part>, Stopped>
     requires { step.old.kind ≡ Add }
     ensures moves { Moves result (hint step.old number) step.new }
     ensures fits { FitsMoved result step.new }
@@ -114,7 +103,7 @@ fn take_hint(step: &mut StepBuf, number: Number) -> Result<Moved, Stopped>
     Ok(Moved::To(Part::Hints))
 }
 
-fn take_deleted(step: &mut StepBuf, number: Number) -> Result<Moved, Stopped>
+fn take_deleted(step: &mut StepBuf, number: Number) -> Result<Moved<Part>, Stopped>
     ensures moves { Moves result (deleted step.old number) step.new }
     ensures fits { FitsMoved result step.new }
 {

@@ -1,10 +1,12 @@
 -- The words so far are in the step.
 use Rattle.cnf_base.specs.Stream.{most_to_come}
-use Rattle.proofs.proofs.LratLemmas.{Between}
+use Rattle.proofs.specs.Lrat.{lrat}
+use Rattle.proofs.specs.LratMoves.{FitsPart}
+use Rattle.proofs.proofs.TextLemmas.{Between}
 use Rattle.proofs.proofs.lrat_text.read_step.Given as goal
 
 abbrev pub invariant-loop-place : goal.invariant-loop-place
-invariant-loop-place g l = Between l.fn.scanner l.scanner l.part l.step
+invariant-loop-place g l = Between lrat l.fn.scanner l.scanner l.part l.step × FitsPart l.part l.step
 
 abbrev pub decreases-loop-place : goal.decreases-loop-place
 decreases-loop-place g l = most_to_come l.scanner

@@ -1,0 +1,99 @@
+-- A proof's tokens, one at a time.
+use Rattle.std.proofs.Common.{◌≡◌, ◌<◌, ◌≤◌, [], length, refl, sym, ap, ◌∙◌, subst, arith}
+use Rattle.std.specs.Prelude.{Bool, true, false, Result, Ok, Err}
+use Rattle.cnf_base.specs.Stream.{Input, Stream, Along, most_to_come}
+use Rattle.cnf_base.specs.Text.{Listing, listing_at, Gives}
+use Rattle.cnf_base.specs.declared.input.Ending.TheVariants.{End, Failed}
+use Rattle.cnf_base.specs.declared.input.ReadFailed.{ReadFailed as Cut}
+use Rattle.cnf_base.specs.declared.place.Place.{Place}
+use Rattle.cnf_base.specs.declared.word.Word.{Word}
+use Rattle.cnf_base.specs.declared.token.Token.TheVariants as token
+use Rattle.cnf_base.specs.declared.fault.Fault.{Fault}
+use Rattle.cnf_base.specs.declared.fault.Fault.TheVariants.{Text, Binary, ReadFailed, OutOfMemory}
+use Rattle.cnf_base.specs.declared.fault.TextFault.{TextFault}
+use Rattle.cnf_base.proofs.StreamLemmas.{Along-then, Along-map}
+use Rattle.proofs.specs.Steps.{Step}
+use Rattle.proofs.specs.Reading.{Proof, clean, faulty, GivesStep}
+use Rattle.proofs.specs.TextSteps.{Move, goes, completes, faults, Format, on_move, at_end, steps_from, steps_listed}
+use Rattle.proofs.specs.TextMoves.{left_of, EndsSo, Moves}
+use Rattle.proofs.specs.declared.moved.Moved.{Moved}
+use Rattle.proofs.specs.declared.stopped.Stopped.{Stopped}
+
+-- a fault is what comes, and it stays
+pub gives_fault : (f : Fault) (s : Step) (p : Proof) (rest : Input) → p ≡ faulty f → GivesStep (Err f) s p (faulty f) rest
+gives_fault (Text k p) s b rest e = (e, e)
+gives_fault (Binary k n) s b rest e = (e, e)
+gives_fault ReadFailed s b rest e = (e, e)
+gives_fault OutOfMemory s b rest e = refl
+
+ends_so : {P : Type 0} (format : Format P) (end : Proof) (result : Result Bool Fault) (s : Step) (before : Proof) (l : Listing) (rest : Input)
+    → EndsSo result end → before ≡ end → steps_listed format l ≡ clean
+    → GivesStep result s before (left_of format result l) rest
+ends_so format end (Ok true) s before l rest ends e k = absurd ends
+ends_so format end (Ok false) s before l rest ends e k = (e ∙ ends ∙ sym k, e ∙ ends)
+ends_so format end (Err f) s before l rest ends e k = gives_fault f s before rest (e ∙ ends)
+
+-- from one moment to another words of one step were read
+pub record Between {P : Type 0} (format : Format P) (old now : Stream) (part : P) (s : Step) : Type 0 where
+  pub text : Along old now (λ i j. steps_listed format (listing_at old.place i) ≡ steps_from format part s (listing_at now.place j))
+  pub fewer : most_to_come now ≤ most_to_come old
+  pub mark : now.has_failed ≡ old.has_failed
+
+restart : {P : Type 0} (format : Format P) (l : Listing) → format.is_start format.start ≡ true → l.tokens ≡ [] → l.ending ≡ End
+    → steps_listed format l ≡ clean
+restart format l begins none end = rw (none, end, begins) refl
+
+module _ {P : Type 0} (format : Format P) (old now new : Stream) (part : P) (s : Step) (so_far : Between format old now part s) where
+  pub Between-line : (p : Place) → Along now new (λ i j. Gives (Ok (token.LineEnd p)) (listing_at now.place i) (listing_at new.place j) j)
+      → most_to_come new < most_to_come now → new.has_failed ≡ now.has_failed → Between format old new part s
+  Between-line p gives fewer mark = record {
+    text = Along-then old now new _ _ _ so_far.text gives (λ i j k m q r. q ∙ ap (steps_from format part s) r);
+    fewer = omega (arith, so_far.fewer, fewer);
+    mark = mark ∙ so_far.mark;
+  }
+
+  module _ (p : Place) (w : Word) (gives : Along now new (λ i j. Gives (Ok (token.Word p w)) (listing_at now.place i) (listing_at new.place j) j)) where
+    abbrev follows : Input → Move P → Proof
+    follows j move = on_move format p (length j.bytes) move (λ part s. steps_from format part s (listing_at new.place j))
+
+    word_text : Along old new (λ i j. steps_listed format (listing_at old.place i) ≡ follows j (format.move_of part s w))
+    word_text = Along-then old now new _ _ _ so_far.text gives (λ i j k m q r. q ∙ ap (steps_from format part s) r)
+
+    pub Between-word : (next : P) (t : Step) → format.move_of part s w ≡ goes next t → most_to_come new < most_to_come now → new.has_failed ≡ now.has_failed
+        → Between format old new next t
+    Between-word next t is fewer mark = record {
+      text = Along-map old new _ _ word_text (λ i j m q. q ∙ ap (follows j) is);
+      fewer = omega (arith, so_far.fewer, fewer);
+      mark = mark ∙ so_far.mark;
+    }
+
+    pub Between-step : (t : Step) → format.move_of part s w ≡ completes t
+        → Along old new (λ i j. GivesStep (Ok true) t (steps_listed format (listing_at old.place i)) (left_of format (Ok true) (listing_at new.place j)) j)
+    Between-step t is = Along-map old new _ _ word_text (λ i j m q. q ∙ ap (follows j) is)
+
+    pub Between-fault : (f : TextFault) (t : Step) → format.move_of part s w ≡ faults f
+        → Along old new (λ i j. GivesStep (Err (Text f p)) t (steps_listed format (listing_at old.place i)) (left_of format (Err (Text f p)) (listing_at new.place j)) j)
+    Between-fault f t is = Along-map old new _ _ word_text (λ i j m q. gives_fault (Text f p) t _ j (q ∙ ap (follows j) is))
+
+    pub Between-refused : (t : Step)
+        → Along old new (λ i j. GivesStep (Err OutOfMemory) t (steps_listed format (listing_at old.place i)) (left_of format (Err OutOfMemory) (listing_at new.place j)) j)
+    Between-refused t = Along-map old new _ _ word_text (λ i j m q. refl)
+
+  pub Between-end : (p : Place) (result : Result Bool Fault) → format.is_start format.start ≡ true
+      → Along now new (λ i j. Gives (Ok (token.End p)) (listing_at now.place i) (listing_at new.place j) j) → EndsSo result (at_end format part p End)
+      → Along old new (λ i j. GivesStep result s (steps_listed format (listing_at old.place i)) (left_of format result (listing_at new.place j)) j)
+  Between-end p result begins gives ends = Along-then old now new _ _ _ so_far.text gives (λ i j k m q r.
+      ends_so format (at_end format part p End) result s _ _ k ends (q ∙ ap (steps_from format part s) r.1)
+      (let e = sym r.0 ∙ r.1 in restart format (listing_at new.place k) begins (ap (λ l. l.tokens) e) (ap (λ l. l.ending) e)))
+
+  pub Between-failed : (cut : Cut) → Along now new (λ i j. Gives (Err cut) (listing_at now.place i) (listing_at new.place j) j)
+      → Along old new (λ i j. GivesStep (Err ReadFailed) s (steps_listed format (listing_at old.place i)) (left_of format (Err ReadFailed) (listing_at new.place j)) j)
+  Between-failed cut gives = Along-then old now new _ _ _ so_far.text gives (λ i j k m q r.
+      gives_fault ReadFailed s _ k (q ∙ empty (listing_at now.place j) r.1 r.2))
+    where
+      empty : (l : Listing) → l.tokens ≡ [] → l.ending ≡ Failed → steps_from format part s l ≡ faulty ReadFailed
+      empty l none failed = rw (none, failed) refl
+
+-- what a word was found to do, by the answer's pattern
+pub moves_told : {P : Type 0} (result answer : Result (Moved P) Stopped) (m : Move P) (s : Step) → Moves result m s → result ≡ answer → Moves answer m s
+moves_told {P} result answer m s moves is = let Q : Result (Moved P) Stopped → Type 0 = λ r. Moves r m s in subst Q is moves

@@ -1,0 +1,29 @@
+-- What one word, or the end of the input, was found to do.
+use Rattle.std.specs.Prelude.{◌≡◌, Bool, true, false, Result, Ok, Err}
+use Rattle.cnf_base.specs.Text.{Listing}
+use Rattle.cnf_base.specs.declared.fault.Fault.{Fault}
+use Rattle.proofs.specs.declared.moved.Moved.{Moved}
+use Rattle.proofs.specs.declared.moved.Moved.TheVariants.{To, Complete}
+use Rattle.proofs.specs.declared.stopped.Stopped.{Stopped}
+use Rattle.proofs.specs.declared.stopped.Stopped.TheVariants.{Text, OutOfMemory}
+use Rattle.proofs.specs.Steps.{Step}
+use Rattle.proofs.specs.Reading.{Proof, clean, faulty}
+use Rattle.proofs.specs.TextSteps.{Move, goes, completes, faults, Format, steps_listed}
+
+-- the step after the word; a refused growth says nothing
+abbrev pub Moves : {Part : Type 0} → Result (Moved Part) Stopped → Move Part → Step → Type 0
+Moves (Ok (To part)) move step = move ≡ goes part step
+Moves (Ok Complete) move step = move ≡ completes step
+Moves (Err (Text f)) move step = move ≡ faults f
+Moves (Err OutOfMemory) move step = Unit {0}
+
+-- what is to come after the step that was given next
+abbrev pub left_of : {Part : Type 0} → Format Part → Result Bool Fault → Listing → Proof
+left_of format (Ok _) l = steps_listed format l
+left_of format (Err f) l = faulty f
+
+-- the end of the input was met between two steps, or inside one
+abbrev pub EndsSo : Result Bool Fault → Proof → Type 0
+EndsSo (Ok true) p = ⊥
+EndsSo (Ok false) p = p ≡ clean
+EndsSo (Err f) p = p ≡ faulty f

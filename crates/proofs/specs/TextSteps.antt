@@ -1,0 +1,65 @@
+-- The steps of a proof as text, over any number of lines, in whatever format.
+use Rattle.std.specs.Prelude.{ℕ, Bool, cond, List, [], ◌∷◌}
+use Rattle.cnf_base.specs.Stream.{Input}
+use Rattle.cnf_base.specs.Text.{Listed, Listing, listing_at, listing_of}
+use Rattle.cnf_base.specs.declared.input.Ending.{Ending}
+use Rattle.cnf_base.specs.declared.input.Ending.TheVariants.{End, Failed}
+use Rattle.cnf_base.specs.declared.place.Place.{Place}
+use Rattle.cnf_base.specs.declared.word.Word.{Word}
+use Rattle.cnf_base.specs.declared.token.Token as tokens
+use Rattle.cnf_base.specs.declared.token.Token.TheVariants as token
+use Rattle.cnf_base.specs.declared.fault.Fault.TheVariants.{Text, ReadFailed}
+use Rattle.cnf_base.specs.declared.fault.TextFault.{TextFault}
+use Rattle.cnf_base.specs.declared.fault.TextFault.TheVariants.{UnterminatedStep}
+use Rattle.proofs.specs.Steps.{Step, named}
+use Rattle.proofs.specs.Reading.{Proof, clean, faulty, with_step, Reading, unless_faulty}
+
+-- what a word does: the step goes on in some part, it is complete, or the word can't stand there
+pub data Move (Part : Type 0) : Type 0 where
+  goes : Part → Step → Move Part
+  completes : Step → Move Part
+  faults : TextFault → Move Part
+
+-- a format: the part before a step's first word, and what a word does in each part
+pub record Format (Part : Type 0) : Type 0 where
+  pub start : Part
+  pub is_start : Part → Bool
+  pub move_of : Part → Step → Word → Move Part
+
+-- what the end of the input means, by where it stands
+abbrev pub at_end : {Part : Type 0} → Format Part → Part → Place → Ending → Proof
+at_end format part p Failed = faulty ReadFailed
+at_end format part p End = cond (format.is_start part) clean (faulty (Text UnterminatedStep p))
+
+-- what a word's move means; `rest` is what follows, and `left` how many bytes do
+abbrev pub on_move : {Part : Type 0} → Format Part → Place → ℕ → Move Part → (Part → Step → Proof) → Proof
+on_move format p left (goes part s) rest = rest part s
+on_move format p left (completes s) rest = with_step s left (rest format.start (named 0))
+on_move format p left (faults f) rest = faulty (Text f p)
+
+abbrev pub on_token : {Part : Type 0} → Format Part → Part → Step → tokens.Token → ℕ → (Part → Step → Proof) → Proof
+on_token format part s (token.Word p w) left rest = on_move format p left (format.move_of part s w) rest
+on_token format part s (token.LineEnd p) left rest = rest part s
+on_token format part s (token.End p) left rest = rest part s
+
+abbrev pub steps_among : {Part : Type 0} → Format Part → Part → Step → List Listed → Place → Ending → Proof
+steps_among format part s [] p ending = at_end format part p ending
+steps_among format part s (t ∷ ts) p ending = on_token format part s t.token t.rest (λ part s. steps_among format part s ts p ending)
+
+-- the steps of a text, where so much of a step was read before
+abbrev pub steps_from : {Part : Type 0} → Format Part → Part → Step → Listing → Proof
+steps_from format part s l = steps_among format part s l.tokens l.end l.ending
+
+-- the steps of a text, those from a place on, and those of a whole input
+abbrev pub steps_listed : {Part : Type 0} → Format Part → Listing → Proof
+steps_listed format l = steps_from format format.start (named 0) l
+
+abbrev pub steps_at : {Part : Type 0} → Format Part → Place → Input → Proof
+steps_at format p i = steps_listed format (listing_at p i)
+
+abbrev pub steps_of : {Part : Type 0} → Format Part → Input → Proof
+steps_of format i = steps_listed format (listing_of i)
+
+-- what is still to come to a reader of the format
+abbrev pub left_to : {Part : Type 0} → Format Part → Reading → Input → Proof
+left_to format r i = unless_faulty r.fault (steps_at format r.stream.place i)

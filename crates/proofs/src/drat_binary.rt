@@ -1,0 +1,122 @@
+//! Binary DRAT.
+
+ghost use Rattle.std.specs.Prelude.{◌≡◌, ◌≢◌, None};
+ghost use Rattle.cnf_base.specs.Stream.{Along};
+ghost use Rattle.cnf_base.specs.Readers.{Advances, TellsOf};
+ghost use Rattle.cnf_base.specs.declared.input.Ending.TheVariants.{End};
+ghost use Rattle.proofs.specs.Reading.{GivesStep};
+ghost use Rattle.proofs.specs.TextMoves.{EndsSo};
+ghost use Rattle.proofs.specs.Binary.{Spot, steps_at, at_end, to_come};
+ghost use Rattle.proofs.specs.BinaryMoves.{IsAt, left_of};
+
+mod groups;
+mod moves;
+mod part;
+mod stopped;
+
+use crate::moved::Moved;
+use crate::{StepBuf, StepReader};
+use cnf_base::{BinaryFault, Fault, In, ReadFailed, Source};
+use moves::move_on;
+use part::Part;
+use std::marker::Model;
+use stopped::Stopped;
+
+/// A proof in binary DRAT. It holds no more than the literals of one step, in the buffer that the caller lends.
+#[derive(Drop)]
+pub struct DratBinary<R: In> {
+    source: Source<R>,
+    fault: Option<Fault>,
+}
+
+impl<R: In> Model for DratBinary<R> {
+    ghost use Rattle.std.specs.Prelude.{◌≡◌, Some, true};
+    ghost use Rattle.cnf_base.specs.declared.fault.Fault.TheVariants.{ReadFailed};
+    ghost use Rattle.proofs.specs.Reading.{Reading};
+
+    ghost Value = { Reading };
+
+    ghost view = { λ r. record { stream = r.source; fault = r.fault } };
+
+    ghost invariant = { λ r. r.fault ≡ Some ReadFailed → r.source.has_failed ≡ true };
+}
+
+impl<R: In> DratBinary<R> {
+    /// A reader that stands where the source does. It reads nothing and takes no memory.
+    pub fn new(source: Source<R>) -> Self
+        ensures { result ≡ record { stream = source; fault = None } }
+    {
+        DratBinary {
+            source,
+            fault: None,
+        }
+    }
+
+    /// Gives the reader back.
+    pub fn release(self) -> R
+        ensures left { R.left result ≡ self.stream.left }
+        ensures mark { R.has_failed result ≡ self.stream.has_failed }
+        ensures same_reader { R.borrows result ≡ self.stream.borrows }
+    {
+        self.source.release()
+    }
+}
+
+impl<R: In> StepReader for DratBinary<R> {
+    ghost stream = { λ r. r.stream };
+
+    ghost kept = { λ r. r.fault };
+
+    ghost to_come = { to_come };
+
+    fn next(&mut self, step: &mut StepBuf) -> Result<bool, Fault> {
+        if let Some(fault) = self.fault {
+            return Err(fault);
+        }
+        let result = read_step(&mut self.source, step);
+        if let Err(fault) = result {
+            self.fault = Some(fault);
+        }
+        result
+    }
+}
+
+// The step that begins with the next byte.
+fn read_step<R: In>(source: &mut Source<R>, step: &mut StepBuf) -> Result<bool, Fault>
+    ensures step { Along source.old source.new (λ i j. GivesStep result step.new
+        (steps_at source.old.byte_no i) (left_of result source.new.byte_no j) j) }
+    ensures fewer { Advances result source.old source.new }
+    ensures tells { TellsOf result source.old.has_failed source.new.has_failed }
+{
+    step.name(0);
+    let mut part = Part::Tag;
+    loop {
+        let byte_no = source.byte_no();
+        match source.peek() {
+            Ok(Some(byte)) => {
+                source.bump();
+                match move_on(part, step, byte_no, byte) {
+                    Ok(Moved::To(next)) => part = next,
+                    Ok(Moved::Complete) => return Ok(true),
+                    Err(Stopped::Binary(kind, at)) => return Err(Fault::Binary(kind, at)),
+                    Err(Stopped::OutOfMemory) => return Err(Fault::OutOfMemory),
+                }
+            }
+            Ok(None) => return at_end(part, byte_no),
+            Err(ReadFailed) => return Err(Fault::ReadFailed),
+        }
+    }
+}
+
+// What the end of the input means.
+fn at_end(part: Part, byte_no: u64) -> Result<bool, Fault>
+    ensures value { (spot : Spot) → IsAt part spot → EndsSo result (at_end spot byte_no End) }
+    ensures read { result ≢ Err Fault.ReadFailed }
+{
+    match part {
+        Part::Tag => Ok(false),
+        Part::Literals | Part::Number(_) => {
+            Err(Fault::Binary(BinaryFault::UnterminatedStep, byte_no))
+        }
+    }
+}

@@ -1,0 +1,11 @@
+//! The parts of a step.
+
+use super::groups::Groups;
+
+/// Where a byte of a step stands.
+#[derive(Clone, Copy)]
+pub enum Part {
+    Tag,
+    Literals,
+    Number(Groups),
+}

@@ -1,0 +1,10 @@
+//! What ends a step early.
+
+use cnf_base::BinaryFault;
+
+/// Why a byte doesn't take a step on. A fault has the number of its byte.
+#[derive(Clone, Copy)]
+pub enum Stopped {
+    Binary(BinaryFault, u64),
+    OutOfMemory,
+}

@@ -1,0 +1,8 @@
+//! The parts of a step.
+
+/// Where a word of a step stands.
+#[derive(Clone, Copy)]
+pub enum Part {
+    Start,
+    Literals,
+}
