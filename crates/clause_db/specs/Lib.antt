@@ -1,3 +1,5 @@
+pub mod Propagation
+pub mod Assumptions
 pub mod Buckets
 pub mod Clauses
 pub mod Entries
@@ -6,6 +8,8 @@ pub mod Ids
 pub mod Index
 pub mod Marks
 pub mod Places
+pub mod PropagationCode
+pub mod Scanning
 pub mod Sound
 pub mod Spots
 pub mod Table

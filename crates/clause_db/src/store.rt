@@ -1,6 +1,6 @@
 //! The live clauses of a proof checker, each in its slot.
 
-ghost use Rattle.std.specs.Prelude.{◌≡◌, ◌≢◌, ℕ, ◌+◌, ◌-◌, ◌<◌, ◌≤◌, ◌==◌, ◌++◌, [], ◌∷◌, ◌^◌, min, Some, None, length, if◌then◌else◌, IsTrue, IsSome, IfSome, IfNone, IfOk, OnOk, OnErr};
+ghost use Rattle.std.specs.Prelude.{◌≡◌, ◌≢◌, ℕ, ◌+◌, ◌-◌, ◌<◌, ◌≤◌, ◌==◌, ◌++◌, [], ◌∷◌, ◌^◌, min, Some, None, option_map, length, if◌then◌else◌, IsTrue, IsSome, IfSome, IfNone, IfOk, OnOk, OnErr};
 ghost use Rattle.std.specs.FinMap as maps;
 ghost use Rattle.cnf_base.specs.Literals.{Clause, same_clause};
 ghost use Rattle.slab.specs.Slab.{slab_len, HasRoomFor};
@@ -158,6 +158,23 @@ impl Store {
     {
         let entry = &self.entries[slot.number()];
         entry.lits.as_slice()
+    }
+
+    /// No slot from this number on has a clause.
+    pub(crate) fn end(&self) -> usize
+        ensures { (s : ℕ) → IsSome (maps.get self.now s) → s < result }
+    {
+        self.entries.capacity()
+    }
+
+    /// The clause in the slot with this number, if there is one.
+    pub(crate) fn at(&self, number: usize) -> Option<&[Lit]>
+        ensures { option_map (λ c. c.now) result ≡ maps.get self.now number }
+    {
+        match self.entries.get(number) {
+            Some(entry) => Some(entry.lits.as_slice()),
+            None => None,
+        }
     }
 
     /// The sum of the lengths of the lists of literals that it keeps, which is that of the sizes of the clauses; `2^64 - 1` where it is greater.

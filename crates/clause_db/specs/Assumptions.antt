@@ -1,0 +1,69 @@
+-- Clauses in slots, and what is assumed of their literals (our own profile).
+use Rattle.std.specs.Prelude.{◌≡◌, ℕ, Bool, List, [], ◌∷◌, Some, ⊤, IsTrue}
+use Rattle.std.specs.Ordering.{nat_cmp}
+use Rattle.std.specs.FinMap as maps
+use Rattle.std.specs.FinMap.{FinMap}
+use Rattle.cnf_base.specs.Literals.{Literal, Clause, has, complement}
+use Rattle.clause_db.specs.Propagation.{Live, Forced, Clash}
+use Rattle.clause_db.specs.declared.answer.Answer.{Answer}
+use Rattle.clause_db.specs.declared.answer.Answer.TheVariants.{Clash as AnswersClash, Quiet}
+use Rattle.clause_db.specs.declared.value.Value.{Value}
+use Rattle.clause_db.specs.declared.value.Value.TheVariants.{True, False, Open}
+
+-- an assumption that stands: how it was answered, and all that is assumed up to it, which says nothing after a clash
+pub record Assumption : Type 0 where
+  pub answer : Answer
+  pub assumed : List Literal
+
+pub record Propagation : Type 0 where
+  -- the live clauses, each in its slot
+  pub live : FinMap nat_cmp Clause
+  -- those that stand, the last one first
+  pub assumptions : List Assumption
+  -- the sum of the lengths of all lists of literals that are kept
+  pub stored : ℕ
+  -- whether memory was refused to an assumption
+  pub has_refused : Bool
+
+-- a further assumption can stand on these: at most one does, and it didn't clash
+abbrev pub HasRoom : List Assumption → Type 0
+HasRoom [] = ⊤
+HasRoom (first ∷ []) = first.answer ≡ Quiet
+HasRoom _ = ⊥
+
+-- the last assumption was answered so
+abbrev pub IsLast : Answer → List Assumption → Type 0
+IsLast answer [] = ⊥
+IsLast answer (last ∷ _) = last.answer ≡ answer
+
+-- all that is assumed
+abbrev pub assumed_by : List Assumption → List Literal
+assumed_by [] = []
+assumed_by (last ∷ _) = last.assumed
+
+-- the same literals
+abbrev pub SameSet : List Literal → List Literal → Type 0
+SameSet first second = (l : Literal) → has first l ≡ has second l
+
+-- propagation from these literals is answered so
+abbrev pub IsAnswer : Live → List Literal → Answer → Type 0
+IsAnswer live assumed AnswersClash = Clash live assumed
+IsAnswer live assumed Quiet = ¬ Clash live assumed
+
+-- one more assumption stands than before, with this answer; unless it clashed, exactly these literals are assumed
+pub record Assumes (before after : List Assumption) (answer : Answer) (assumed : List Literal) : Type 0 where
+  pub all : List Literal
+  pub stands : after ≡ record { answer = answer; assumed = all } ∷ before
+  pub same : answer ≡ Quiet → SameSet all assumed
+
+-- what propagation from these literals says of one
+abbrev pub IsValue : Live → List Literal → Literal → Value → Type 0
+IsValue live assumed l True = Forced live assumed l
+IsValue live assumed l False = Forced live assumed (complement l)
+IsValue live assumed l Open = ¬ Forced live assumed l × ¬ Forced live assumed (complement l)
+
+-- the clause in the slot has the literal
+pub record HasAt (live : Live) (l : Literal) (slot : ℕ) : Type 0 where
+  pub clause : Clause
+  pub at : live slot ≡ Some clause
+  pub member : IsTrue (has clause l)
