@@ -42,7 +42,7 @@ same_empty (l ∷ d) same = absurd (false≢true (same_back [] (l ∷ d) same l 
 pub copies-cons : (e d : Clause) (live : List Clause) → copies_of e (d ∷ live) ≡ cond (same_clause e d) 1 0 + copies_of e live
 copies-cons e d live = sum_by-cons (λ x. cond (same_clause e x) 1 0) d live
 
-alive_copies : (c : Clause) (live : List Clause) → list_any (same_clause c) live ≡ true → 0 < copies_of c live
+pub alive_copies : (c : Clause) (live : List Clause) → list_any (same_clause c) live ≡ true → 0 < copies_of c live
 alive_copies c [] h = absurd (false≢true h)
 alive_copies c (d ∷ live) h =
     elim (or_cases (same_clause c d) (list_any (same_clause c) live) h) [
@@ -50,7 +50,7 @@ alive_copies c (d ∷ live) h =
       | inr g ↦ omega (arith, copies-cons c d live, alive_copies c live g)
     ]
 
-none_alive : (c : Clause) (live : List Clause) → list_any (same_clause c) live ≡ false → copies_of c live ≡ 0
+pub none_alive : (c : Clause) (live : List Clause) → list_any (same_clause c) live ≡ false → copies_of c live ≡ 0
 none_alive c [] h = refl
 none_alive c (d ∷ live) h =
     elim (cases_Bool (same_clause c d)) [
@@ -60,10 +60,10 @@ none_alive c (d ∷ live) h =
           copies-cons c d live ∙ ap (λ b. cond b 1 0 + copies_of c live) e ∙ omega (arith, none_alive c live rest)
     ]
 
-copies_alive : (c : Clause) (live : List Clause) → 0 < copies_of c live → list_any (same_clause c) live ≡ true
+pub copies_alive : (c : Clause) (live : List Clause) → 0 < copies_of c live → list_any (same_clause c) live ≡ true
 copies_alive c live h = elim (cases_Bool (list_any (same_clause c) live)) [ inl e ↦ e | inr e ↦ absurd (omega (arith, none_alive c live e)) ]
 
-alive_at : (c : Clause) (live : List Clause) → list_any (same_clause c) live ≡ true → (j : ℕ) × (d : Clause) × (slice_get live j ≡ Some d) × (same_clause c d ≡ true)
+pub alive_at : (c : Clause) (live : List Clause) → list_any (same_clause c) live ≡ true → (j : ℕ) × (d : Clause) × (slice_get live j ≡ Some d) × (same_clause c d ≡ true)
 alive_at c [] h = absurd (false≢true h)
 alive_at c (d ∷ live) h =
     elim (or_cases (same_clause c d) (list_any (same_clause c) live) h) [
@@ -71,7 +71,7 @@ alive_at c (d ∷ live) h =
       | inr g ↦ let w = alive_at c live g in (suc w.0, w.1, w.2, w.3)
     ]
 
-at_alive : (live : List Clause) (k : ℕ) (d : Clause) → slice_get live k ≡ Some d → list_any (same_clause d) live ≡ true
+pub at_alive : (live : List Clause) (k : ℕ) (d : Clause) → slice_get live k ≡ Some d → list_any (same_clause d) live ≡ true
 at_alive [] k d at = absurd (none_some at)
   where
     none_some : ◌≡◌ {A = Option Clause} None (Some d) → ⊥
@@ -121,7 +121,7 @@ same_live_symm first second same = record { copies = λ e. sym (same.copies e) }
 abbrev pub Covers : Live → Live → Type 0
 Covers first second = (k : ℕ) (c : Clause) → first k ≡ Some c → (j : ℕ) × (d : Clause) × (second j ≡ Some d) × (same_clause c d ≡ true)
 
-covers_of : (first second : List Clause) → SameLive first second → Covers (slice_get first) (slice_get second)
+pub covers_of : (first second : List Clause) → SameLive first second → Covers (slice_get first) (slice_get second)
 covers_of first second same k c at =
     alive_at c second (copies_alive c second (omega (arith, alive_copies c first (at_alive first k c at), same.copies c)))
 

@@ -74,7 +74,7 @@ drat_keeps strict live (add c) word answer m =
 drat_keeps strict live (delete c) word answer m =
     (m.0, λ k d at. let w = take_off_from c live k d at in m.1 w.0 d w.1)
 
-drat_refutes : (strict : Bool) (live : List Clause) (step : DratStep) → AnswersDrat strict live step (Ok Empty) → HasModel (slice_get live) → ⊥
+pub drat_refutes : (strict : Bool) (live : List Clause) (step : DratStep) → AnswersDrat strict live step (Ok Empty) → HasModel (slice_get live) → ⊥
 drat_refutes strict live (add c) answer m = empty_refutes (slice_get live) c (add_redundant live c Empty answer) m
 drat_refutes true live (delete c) answer m = answer
 drat_refutes false live (delete c) answer m = answer
@@ -105,7 +105,7 @@ lrat_keeps state (add_lrat id c units groups) word answer m =
     (w.0, models_with w.0 state.live id c w.1 w.2)
 lrat_keeps state (delete_lrat ids) word answer m = (m.0, models_without_all m.0 ids state.live m.1)
 
-lrat_refutes : (state : LratState) (step : LratStep) → AnswersLrat state step (Ok Empty) → HasModel state.live → ⊥
+pub lrat_refutes : (state : LratState) (step : LratStep) → AnswersLrat state step (Ok Empty) → HasModel state.live → ⊥
 lrat_refutes state (add_lrat id c units groups) answer m = empty_refutes state.live c (lrat_redundant state id c units groups Empty answer) m
 lrat_refutes state (delete_lrat ids) answer m = other (deletion_word (deletion_refusal state.live ids) Empty answer)
   where
@@ -130,7 +130,7 @@ verified_refused r e = cc
 module _ {State Step : Type 0} (Answers : State → Step → Answer → Type 0) (after : State → Step → State) (Has : State → Type 0)
     (keeps : (s : State) (step : Step) (word : Accepted) → Answers s step (Ok word) → Has s → Has (after s step))
     (refutes : (s : State) (step : Step) → Answers s step (Ok Empty) → Has s → ⊥) where
-  ends_sound : (steps : List Step) (s : State) (words : List Accepted) → Ends Answers after s steps words verified → Has s → ⊥
+  pub ends_sound : (steps : List Step) (s : State) (words : List Accepted) → Ends Answers after s steps words verified → Has s → ⊥
   ends_sound [] s [] e has_model = verified_none e
   ends_sound [] s (word ∷ words) e has_model = e
   ends_sound (step ∷ steps) s [] e has_model = verified_refused e.0 e.1
@@ -140,12 +140,12 @@ module _ {State Step : Type 0} (Answers : State → Step → Answer → Type 0) 
         | inr goes_on ↦ ends_sound steps (after s step) words (MatchBool-at_false _ _ goes_on e.1) (keeps s step word e.0 has_model)
       ]
 
-empty_formula : (formula : List Clause) → list_any is_empty formula ≡ true → HasModel (slice_get formula) → ⊥
+pub empty_formula : (formula : List Clause) → list_any is_empty formula ≡ true → HasModel (slice_get formula) → ⊥
 empty_formula [] h m = false≢true h
 empty_formula ([] ∷ formula) h m = false≢true (m.1 zero [] refl)
 empty_formula ((l ∷ c) ∷ formula) h m = empty_formula formula h (m.0, λ k d at. m.1 (suc k) d at)
 
-models_numbered : (v : Assignment) (formula : List Clause) → Models v (slice_get formula) → Models v (numbered formula)
+pub models_numbered : (v : Assignment) (formula : List Clause) → Models v (slice_get formula) → Models v (numbered formula)
 models_numbered v formula models zero d at = absurd (none_some d at)
 models_numbered v formula models (suc k) d at = models k d at
 

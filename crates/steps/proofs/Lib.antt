@@ -23,3 +23,10 @@ pub mod TrueSets
 pub mod Rooms
 pub mod Different
 pub mod Shelves
+pub mod Slots
+pub mod DratSteps
+pub mod CandidateSearch
+pub mod CopySums
+pub mod Scans
+pub mod Deciding
+pub mod Ruling

@@ -9,11 +9,11 @@ use Rattle.cnf_base.specs.Literals.{Clause, same_clause}
 use Rattle.cnf_base.proofs.SetLemmas.{any_from, any_some}
 use Rattle.steps.specs.Propagation.{Live}
 use Rattle.steps.specs.Models.{Assignment, holds, satisfies, Models, HasModel}
-use Rattle.steps.specs.Drat.{Answer}
+use Rattle.steps.specs.Drat.{Answer, SameLive}
 use Rattle.steps.specs.Lrat.{LratState, LratStep, add, delete, AnswersLrat, after_lrat, with_clause, SameAt, SameClauses}
 use Rattle.steps.specs.Session.{fresh, state_of}
 use Rattle.steps.specs.Verdicts.{Ending, verified, is_last, Ends, numbered}
-use Rattle.steps.proofs.Copies.{same_itself, same_there, same_symm}
+use Rattle.steps.proofs.Copies.{same_itself, same_there, same_symm, covers_of}
 use Rattle.steps.proofs.SameSets.{with_same, without_all_same, lrat_same}
 
 -- ---- States with the same clauses
@@ -56,6 +56,10 @@ models_same v first second same models k c at = by_clause (second k) refl (subst
 
 pub has_model_same : (first second : Live) → SameClauses first second → HasModel second → HasModel first
 has_model_same first second same m = (m.0, models_same m.0 first second same m.1)
+
+pub has_model_copies : (first second : List Clause) → SameLive first second → HasModel (slice_get second) → HasModel (slice_get first)
+has_model_copies first second same m =
+    (m.0, λ k c at. let w = covers_of first second same k c at in satisfies_same m.0 w.1 c (same_symm c w.1 w.3) (m.1 w.0 w.1 w.2))
 
 -- ---- The formula
 

@@ -11,3 +11,6 @@ pub mod Survey
 pub mod Walk
 pub mod Answers
 pub mod TrueLiterals
+pub mod DratSessions
+pub mod Candidates
+pub mod Rules

@@ -1,5 +1,5 @@
 -- What holds of the definitions. Each is the contract of a function of `laws`.
-use Rattle.std.specs.Prelude.{◌≡◌, ℕ, Bool, List, [], ◌∷◌, Ok, IsTrue, slice_get}
+use Rattle.std.specs.Prelude.{◌≡◌, ℕ, Bool, List, [], ◌∷◌, Ok, IsTrue, slice_get, sum_by}
 use Rattle.steps.specs.declared.accepted.Accepted.{Accepted}
 use Rattle.steps.specs.declared.accepted.Accepted.TheVariants.{Rup, Rat, Empty}
 use Rattle.cnf_base.specs.Literals.{Literal, Clause, has, same_clause}
@@ -7,7 +7,7 @@ use Rattle.steps.specs.Propagation.{Live, Forced, Clash, HasRup, HasRat, HasPr}
 use Rattle.steps.specs.Models.{Assignment, holds, satisfies, Models, HasModel}
 use Rattle.steps.specs.Drat.{Answer, DratStep, AnswersDrat, after_drat, SameLive}
 use Rattle.steps.specs.Lrat.{Group, LratState, LratStep, add, AnswersLrat, after_lrat, chain, conflict, with_clause, without_ids, SameClauses}
-use Rattle.steps.specs.Sizes.{total}
+use Rattle.steps.specs.Sizes.{size, total}
 use Rattle.steps.specs.Verdicts.{Ending, verified, DratVerdict, LratVerdict}
 
 -- Under every assignment that makes the live clauses and the assumed literals true, what is forced is true.
@@ -76,6 +76,10 @@ VerdictsAreUnique =
     × ((formula : List Clause) (steps : List LratStep) (first second : List Accepted) (ending other : Ending) →
     LratVerdict formula steps first ending → LratVerdict formula steps second other → (first ≡ second) × (ending ≡ other))
 
+-- Each step of a DRAT proof has an answer.
+abbrev pub DratAnswersExist : Type 0
+DratAnswersExist = (strict : Bool) (live : List Clause) (step : DratStep) → (answer : Answer) × AnswersDrat strict live step answer
+
 -- The answer to a DRAT step, and what is alive after it, depend only on how many copies of each clause are alive.
 abbrev pub OnlyCopiesCount : Type 0
 OnlyCopiesCount =
@@ -93,3 +97,7 @@ OnlySetsCount =
 -- States with the same clauses have the same sum of sizes.
 abbrev pub EqualSetsEqualTotals : Type 0
 EqualSetsEqualTotals = (first second : LratState) → SameClauses first.live second.live → first.top ≡ second.top → total first ≡ total second
+
+-- Lists with as many copies of each clause have the same sum of sizes.
+abbrev pub EqualCopiesEqualSums : Type 0
+EqualCopiesEqualSums = (first second : List Clause) → SameLive first second → sum_by size first ≡ sum_by size second

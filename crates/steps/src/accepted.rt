@@ -1,5 +1,10 @@
 //! Why a step is accepted.
 
+ghost use Rattle.std.specs.Prelude.{[], None};
+ghost use Rattle.steps.specs.Lrat.{conflict, AnswersChain};
+
+use cnf_base::Lit;
+
 /// Why a step was accepted.
 #[derive(Clone, Copy, Debug, PartialEq, Eq)]
 pub enum Accepted {
@@ -13,4 +18,15 @@ pub enum Accepted {
     Ignored,
     /// The empty clause, by reverse unit propagation.
     Empty,
+}
+
+/// The word for a clause that propagation shows.
+pub(crate) fn word_of(clause: &[Lit]) -> Accepted
+    ensures { AnswersChain (λ _. None) clause.now [] conflict (Ok result) }
+{
+    if clause.is_empty() {
+        Accepted::Empty
+    } else {
+        Accepted::Rup
+    }
 }

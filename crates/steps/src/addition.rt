@@ -1,13 +1,13 @@
 //! The tests of an added clause.
 
-ghost use Rattle.std.specs.Prelude.{◌≡◌, [], None, IfOk, IsFalse};
+ghost use Rattle.std.specs.Prelude.{◌≡◌, [], IfOk, IsFalse};
 ghost use Rattle.std.specs.FinMap as maps;
 ghost use Rattle.cnf_base.specs.Literals.{complements};
-ghost use Rattle.steps.specs.Lrat.{chain, conflict, conflicts, groups_refusal, AnswersGroups, AnswersChain, units_of, groups_of};
+ghost use Rattle.steps.specs.Lrat.{chain, conflicts, groups_refusal, AnswersGroups, AnswersChain, units_of, groups_of};
 ghost use Rattle.steps.specs.Walk.{IsEnd};
 ghost use Rattle.steps.specs.TrueLiterals.{SameSet, HasRoom, HasRoomForAll};
 
-use crate::accepted::Accepted;
+use crate::accepted::{Accepted, word_of};
 use crate::candidates::{first_left_out, judge_groups};
 use crate::live_clauses::LiveClauses;
 use crate::named::Named;
@@ -43,17 +43,6 @@ fn judge_candidates(
             Some(id) => Ok(Err(Refusal::Unnamed(id))),
             None => Ok(Ok(Accepted::Rat)),
         },
-    }
-}
-
-/// The word for a clause that the unit hints show.
-fn word_of(clause: &[Lit]) -> Accepted
-    ensures { AnswersChain (λ _. None) clause.now [] conflict (Ok result) }
-{
-    if clause.is_empty() {
-        Accepted::Empty
-    } else {
-        Accepted::Rup
     }
 }
 

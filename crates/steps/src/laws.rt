@@ -1,6 +1,6 @@
 //! Laws of the definitions. The functions do nothing: their contracts are the theorems.
 
-ghost use Rattle.steps.specs.Theorems.{ForcedIsTrue, RupIsImplied, RatKeepsModels, PrKeepsModels, ChainShowsClash, LratShowsRedundant, DratKeepsModels, LratKeepsModels, DratIsSound, LratIsSound, AnswersAreUnique, VerdictsAreUnique, OnlyCopiesCount, OnlySetsCount, EqualSetsEqualTotals};
+ghost use Rattle.steps.specs.Theorems.{ForcedIsTrue, RupIsImplied, RatKeepsModels, PrKeepsModels, ChainShowsClash, LratShowsRedundant, DratKeepsModels, LratKeepsModels, DratIsSound, LratIsSound, AnswersAreUnique, VerdictsAreUnique, DratAnswersExist, OnlyCopiesCount, OnlySetsCount, EqualSetsEqualTotals, EqualCopiesEqualSums};
 
 /// Every literal that is forced is true in each model that makes the assumed literals true.
 pub fn forced_is_true()
@@ -62,6 +62,11 @@ pub fn verdicts_are_unique()
     ensures { VerdictsAreUnique }
 {}
 
+/// Each step of a DRAT proof has an answer.
+pub fn drat_answers_exist()
+    ensures { DratAnswersExist }
+{}
+
 /// The live clauses of a DRAT proof count as a multiset of sets.
 pub fn only_copies_count()
     ensures { OnlyCopiesCount }
@@ -75,4 +80,9 @@ pub fn only_sets_count()
 /// The sum of the sizes of the live clauses depends only on their sets.
 pub fn equal_sets_equal_totals()
     ensures { EqualSetsEqualTotals }
+{}
+
+/// The sum of the sizes of the live clauses depends only on how many copies of each set there are.
+pub fn equal_copies_equal_sums()
+    ensures { EqualCopiesEqualSums }
 {}

@@ -14,6 +14,7 @@ ghost use Rattle.steps.specs.Session.{fresh, state_of, is_closed, UnlessOutOfMem
 use crate::accepted::Accepted;
 use crate::addition::judge_addition;
 use crate::live_clauses::{LiveClauses, delete_all};
+use crate::proof_session::ProofSession;
 use crate::refusal::Refusal;
 use crate::true_literals::make_room;
 use clause_db::Trail;
@@ -249,5 +250,28 @@ impl LratSession {
         } else {
             self.peak as u64
         }
+    }
+}
+
+impl ProofSession for LratSession {
+    ghost use Rattle.std.specs.Prelude.{◌-◌, ◌^◌, min};
+    ghost use Rattle.steps.specs.Rules.{by_ids};
+
+    ghost shown = { λ s. record { state = by_ids (state_of s); has_stepped = s.has_stepped; is_verified = s.is_verified; is_ended = s.is_ended; peak = min s.peak (2 ^ 64 - 1); room = 4294967295 - s.top } };
+
+    fn input(&mut self, lits: &[Lit]) -> Result<(), Refusal> {
+        LratSession::input(self, lits)
+    }
+
+    fn step(&mut self, step: &StepBuf) -> Result<Accepted, Refusal> {
+        LratSession::step(self, step)
+    }
+
+    fn verified(&self) -> bool {
+        LratSession::verified(self)
+    }
+
+    fn peak(&self) -> u64 {
+        LratSession::peak(self)
     }
 }
