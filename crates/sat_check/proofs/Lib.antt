@@ -4,8 +4,8 @@ pub mod VerdictLemmas
 pub mod RestLemmas
 pub mod ShownLemmas
 pub mod StepLemmas
-pub mod CheckLemmas
 pub mod ReportLemmas
+pub mod CheckLemmas
 pub mod SoundLemmas
 pub mod WordRules
 pub mod WordRows

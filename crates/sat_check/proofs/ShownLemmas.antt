@@ -18,5 +18,5 @@ traced_same false m n word e = refl
 pub refusal_same : (m n : ℕ) (r : Refusal) → m ≡ counted n → refusal_line m r ≡ refusal_line n r
 refusal_same m n r e = ap (λ t. with_cause (codes "c step " ++ t ++ codes ": ") r) (shown_same m n e)
 
-pub steps_same : (m n p q : ℕ) → m ≡ counted n → p ≡ counted q → steps_line m p ≡ steps_line n q
-steps_same m n p q e f = ap (λ t. codes "c steps " ++ t ++ codes " peak " ++ shown p) (shown_same m n e) ∙ ap (λ t. codes "c steps " ++ shown n ++ codes " peak " ++ t) (shown_same p q f)
+pub steps_same : (m n p q : ℕ) → m ≡ counted n → p ≡ q → steps_line m p ≡ steps_line n q
+steps_same m n p q e f = ap (λ t. codes "c steps " ++ t ++ codes " peak " ++ shown p) (shown_same m n e) ∙ ap (steps_line n) f

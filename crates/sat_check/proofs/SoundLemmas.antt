@@ -1,5 +1,5 @@
 -- A verified formula has no model.
-use Rattle.std.proofs.Common.{◌≡◌, ℕ, Bool, true, false, Option, None, Some, List, [], ◌∷◌, refl, sym, ap, ◌∙◌, subst, slice_get}
+use Rattle.std.proofs.Common.{◌≡◌, ℕ, Bool, Option, None, Some, List, refl, sym, ap, ◌∙◌, subst, slice_get}
 use Rattle.cnf_base.specs.Literals.{Clause}
 use Rattle.cnf_base.specs.Stream.{Input}
 use Rattle.cnf_base.specs.declared.fault.Fault.{Fault}
@@ -9,15 +9,14 @@ use Rattle.cnf_base.specs.declared.fault.TextFault.TheVariants as text
 use Rattle.dimacs.specs.Formula.{formula_of}
 use Rattle.dimacs.specs.declared.header.Header.{Header}
 use Rattle.proofs.specs.Reading.{Proof}
-use Rattle.proofs.specs.Lrat.{lrat_steps}
-use Rattle.steps.specs.declared.accepted.Accepted.{Accepted}
 use Rattle.steps.specs.Models.{HasModel}
-use Rattle.steps.specs.Verdicts.{Ending, verified, refused, no_empty_clause, LratVerdict}
-use Rattle.steps.proofs.Keeping.{lrat_sound}
+use Rattle.steps.specs.Rules.{Rule, Verdict}
+use Rattle.steps.specs.Verdicts.{Ending, verified, refused, no_empty_clause}
+use Rattle.steps.proofs.Ruling.{verdict_sound}
 use Rattle.sat_check.specs.Lines.{fault_status, text_status}
-use Rattle.sat_check.specs.Report.{Report, Outcome, ChecksLrat, ReportsFormula, LratReport, steps_of, verdict_report, end_report}
+use Rattle.sat_check.specs.Report.{Report, Outcome, Checks, ReportsFormula, ProofReport, steps_of, verdict_report}
 use Rattle.sat_check.specs.declared.status.Status.{Status}
-use Rattle.sat_check.specs.declared.status.Status.TheVariants.{Verified, NotVerified, Malformed}
+use Rattle.sat_check.specs.declared.status.Status.TheVariants.{Verified, NotVerified}
 
 -- no fault is a positive verdict
 kind_is_no_verdict : (k : TextFault) → text_status k ≡ Verified → ⊥
@@ -38,18 +37,18 @@ verdict_is_verified n peak (refused r) fault e = absurd (let bad : NotVerified �
 verdict_is_verified n peak no_empty_clause None e = absurd (let bad : NotVerified ≡ Verified = e in cc)
 verdict_is_verified n peak no_empty_clause (Some f) e = absurd (fault_is_no_verdict f e)
 
-checks_sound : (trace : Bool) (h : Header) (clauses : List Clause) (p : Proof) (r : Report) → ChecksLrat trace h clauses p r → r.status ≡ Verified → ¬ HasModel (slice_get clauses)
-checks_sound trace h clauses p r c is =
+checks_sound : (rule : Rule) (trace : Bool) (h : Header) (clauses : List Clause) (p : Proof) (r : Report) → Checks rule trace h clauses p r → r.status ≡ Verified → ¬ HasModel (slice_get clauses)
+checks_sound rule trace h clauses p r c is =
     let ends : c.ending ≡ verified = verdict_is_verified _ _ c.ending p.fault (sym (ap (λ x. x.status) c.report) ∙ is) in
-    let P : Ending → Type 0 = LratVerdict clauses (steps_of p) c.words in
-    lrat_sound clauses (steps_of p) c.words (subst P ends c.verdict)
+    let P : Ending → Type 0 = Verdict rule clauses (steps_of p) c.words in
+    verdict_sound rule clauses (steps_of p) c.words (subst P ends c.verdict)
 
-pub report_sound : (trace : Bool) (i j : Input) (r : Report) → LratReport trace i j r → r.status ≡ Verified → ¬ HasModel (slice_get (formula_of i).clauses)
-report_sound trace i j r reports is = by (formula_of i).header (formula_of i).clauses (formula_of i).fault reports
+pub report_sound : (rule : Rule) (trace : Bool) (i : Input) (p : Proof) (r : Report) → ProofReport rule trace i p r → r.status ≡ Verified → ¬ HasModel (slice_get (formula_of i).clauses)
+report_sound rule trace i p r reports is = by (formula_of i).header (formula_of i).clauses (formula_of i).fault reports
   where
-    by : (header : Option Header) (clauses : List Clause) (fault : Option Fault) → ReportsFormula trace header clauses fault (lrat_steps j) r → ¬ HasModel (slice_get clauses)
+    by : (header : Option Header) (clauses : List Clause) (fault : Option Fault) → ReportsFormula rule trace header clauses fault p r → ¬ HasModel (slice_get clauses)
     by header clauses (Some f) e = absurd (fault_is_no_verdict f (sym (ap (λ x. x.status) e) ∙ is))
-    by (Some h) clauses None c = checks_sound trace h clauses (lrat_steps j) r c is
+    by (Some h) clauses None c = checks_sound rule trace h clauses p r c is
     by None clauses None c = absurd c
 
 -- status 0 is that of the report

@@ -8,13 +8,12 @@ use Rattle.steps.specs.declared.accepted.Accepted.{Accepted}
 use Rattle.steps.specs.declared.accepted.Accepted.TheVariants.{Empty, Rup, Rat, Deleted, Ignored}
 use Rattle.steps.specs.declared.refusal.Refusal.{Refusal}
 use Rattle.steps.specs.declared.refusal.Refusal.TheVariants.{OutOfMemory}
-use Rattle.steps.specs.Lrat.{AnswersLrat, after_lrat, lrat_step, SameClauses}
-use Rattle.steps.specs.Session.{Session, state_of, UnlessOutOfMemory}
-use Rattle.steps.specs.Sizes.{total}
+use Rattle.steps.specs.Rules.{View, Answers, after, sum_of, Same}
+use Rattle.steps.specs.Session.{UnlessOutOfMemory}
 use Rattle.steps.specs.Verdicts.{is_last}
 use Rattle.sat_check.specs.Lines.{refusal_line, steps_line}
 use Rattle.sat_check.specs.Report.{Report, Outcome, concluded, with_lines, text_of}
-use Rattle.sat_check.specs.Checking.{Rest, Stops, counted, traced, is_memory}
+use Rattle.sat_check.specs.Checking.{Rest, Stops, traced, is_memory}
 use Rattle.sat_check.specs.declared.status.Status.{Status}
 use Rattle.sat_check.specs.declared.status.Status.TheVariants.{Verified, NotVerified}
 use Rattle.sat_check.proofs.OutcomeLemmas.{Outcome-after, Writes-all}
@@ -37,34 +36,34 @@ last_word Rat h = absurd (let e : false ≡ true = h in cc)
 last_word Deleted h = absurd (let e : false ≡ true = h in cc)
 last_word Ignored h = absurd (let e : false ≡ true = h in cc)
 
-module _ (trace : Bool) (number : ℕ) (old : Session) (step : Step) (was now : Sink) where
+module _ (trace : Bool) (number : ℕ) (old : View) (step : Step) (was now : Sink) where
   -- refused, with or without memory
   pub Stops-refused : (status : Status) (r : Refusal) → (is_memory r ≡ true → (x : Report) → Outcome status was.held now.held x)
       → (is_memory r ≡ false → Outcome status was.held now.held (concluded (refusal_line number r) NotVerified))
-      → UnlessOutOfMemory (Err r) (AnswersLrat (state_of old) (lrat_step step) (Err r)) → Stops trace number old step was now status
+      → UnlessOutOfMemory (Err r) (Answers old.state step (Err r)) → Stops trace number old step was now status
   Stops-refused status r memory refused answers n left p is least bounded = by (is_memory r) refl
     where
-      by : (v : Bool) → is_memory r ≡ v → (x : Report) × Rest trace (state_of old) n old.peak (with_step step left p) x × Outcome status was.held now.held x
+      by : (v : Bool) → is_memory r ≡ v → (x : Report) × Rest trace old.state n old.peak (with_step step left p) x × Outcome status was.held now.held x
       by true e =
-          let some = Rest-some trace (state_of old) n old.peak bounded (with_step step left p) in
+          let some = Rest-some trace old.state n old.peak bounded (with_step step left p) in
           (some.0, some.1, memory e some.0)
       by false e =
           let P : List ℕ → Type 0 = λ t. Outcome status was.held now.held (concluded t NotVerified) in (
             concluded (refusal_line (n + 1) r) NotVerified,
-            Rest-refused trace (state_of old) n old.peak step left p r (given r _ e answers),
+            Rest-refused trace old.state n old.peak step left p r (given r _ e answers),
             subst P (refusal_same number (n + 1) r is) (refused e),
           )
 
-  module _ (new : Session) (word : Accepted) (answers : AnswersLrat (state_of old) (lrat_step step) (Ok word))
-      (live : SameClauses (state_of new).live (after_lrat (state_of old) (lrat_step step)).live) (top : new.top ≡ (after_lrat (state_of old) (lrat_step step)).top)
-      (peak : new.peak ≡ max old.peak (total (state_of new))) where
-    verified_rest : (n left : ℕ) (p : Proof) → word ≡ Empty → total (state_of old) ≤ old.peak
-        → Rest trace (state_of old) n old.peak (with_step step left p) (with_lines (traced trace (n + 1) word) (concluded (steps_line (n + 1) new.peak) Verified))
+  module _ (new : View) (word : Accepted) (answers : Answers old.state step (Ok word))
+      (same : Same new.state (after old.state step))
+      (peak : new.peak ≡ max old.peak (sum_of new.state)) where
+    verified_rest : (n left : ℕ) (p : Proof) → word ≡ Empty → sum_of old.state ≤ old.peak
+        → Rest trace old.state n old.peak (with_step step left p) (with_lines (traced trace (n + 1) word) (concluded (steps_line (n + 1) new.peak) Verified))
     verified_rest n left p is least =
-        let P : ℕ → Type 0 = λ m. Rest trace (state_of old) n old.peak (with_step step left p) (with_lines (traced trace (n + 1) word) (concluded (steps_line (n + 1) m) Verified)) in
-        let Q : Accepted → Type 0 = λ w. Rest trace (state_of old) n old.peak (with_step step left p) (with_lines (traced trace (n + 1) w) (concluded (steps_line (n + 1) (max old.peak (total (state_of new)))) Verified)) in
-        let A : Accepted → Type 0 = λ w. AnswersLrat (state_of old) (lrat_step step) (Ok w) in
-        subst P (sym peak) (subst Q (sym is) (Rest-verified trace (state_of old) n old.peak step left p (state_of new) (subst A is answers) (record { live = live; top = top }) least))
+        let P : ℕ → Type 0 = λ m. Rest trace old.state n old.peak (with_step step left p) (with_lines (traced trace (n + 1) word) (concluded (steps_line (n + 1) m) Verified)) in
+        let Q : Accepted → Type 0 = λ w. Rest trace old.state n old.peak (with_step step left p) (with_lines (traced trace (n + 1) w) (concluded (steps_line (n + 1) (max old.peak (sum_of new.state))) Verified)) in
+        let A : Accepted → Type 0 = λ w. Answers old.state step (Ok w) in
+        subst P (sym peak) (subst Q (sym is) (Rest-verified trace old.state n old.peak step left p new.state (subst A is answers) same least))
 
     -- the trace's line broke off
     pub Stops-traced : (status : Status) → ((x : Report) → Outcome status was.held now.held (with_lines (traced trace number word) x)) → Stops trace number old step was now status
@@ -73,18 +72,18 @@ module _ (trace : Bool) (number : ℕ) (old : Session) (step : Step) (was now : 
         shown : (x : Report) → Outcome status was.held now.held (with_lines (traced trace (n + 1) word) x)
         shown x = let P : List (List ℕ) → Type 0 = λ t. Outcome status was.held now.held (with_lines t x) in subst P (traced_same trace number (n + 1) word is) (o x)
 
-        by : (v : Bool) → is_last word ≡ v → (x : Report) × Rest trace (state_of old) n old.peak (with_step step left p) x × Outcome status was.held now.held x
+        by : (v : Bool) → is_last word ≡ v → (x : Report) × Rest trace old.state n old.peak (with_step step left p) x × Outcome status was.held now.held x
         by true e = (_, verified_rest n left p (last_word word e) least, shown _)
         by false e =
-            let after = same_bounded (state_of new).live (after_lrat (state_of old) (lrat_step step)).live live (after_bounded (state_of old) (lrat_step step) bounded) in
-            let some = Rest-some trace (state_of new) (n + 1) (max old.peak (total (state_of new))) after p in (
+            let kept = same_bounded new.state (after old.state step) same (after_bounded old.state step bounded) in
+            let some = Rest-some trace new.state (n + 1) (max old.peak (sum_of new.state)) kept p in (
               with_lines (traced trace (n + 1) word) some.0,
-              Rest-step trace (state_of old) n old.peak step left p word (state_of new) some.0 answers e (record { live = live; top = top }) least some.1,
+              Rest-step trace old.state n old.peak step left p word new.state some.0 answers e same least some.1,
               shown some.0,
             )
 
     -- the accepted empty clause
-    pub Stops-verified : (status : Status) (mid : Sink) (m : ℕ) → is_last word ≡ true → m ≡ counted new.peak
+    pub Stops-verified : (status : Status) (mid : Sink) (m : ℕ) → is_last word ≡ true → m ≡ new.peak
         → Writes was mid (text_of (traced trace number word)) → mid.is_broken ≡ false
         → Outcome status mid.held now.held (concluded (steps_line number m) Verified) → Stops trace number old step was now status
     Stops-verified status mid m e shown wrote whole o n left p is least bounded =

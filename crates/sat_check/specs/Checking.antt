@@ -3,6 +3,7 @@ use Rattle.std.specs.Prelude.{◌≡◌, ℕ, ◌+◌, ◌-◌, ◌^◌, ◌<◌
 use Rattle.std.specs.List.{list_any}
 use Rattle.cnf_base.specs.Literals.{Clause}
 use Rattle.cnf_base.specs.Lines.{Sink, Writes}
+use Rattle.cnf_base.specs.Stream.{Input, Stream}
 use Rattle.cnf_base.specs.declared.fault.Fault.{Fault}
 use Rattle.cnf_base.specs.declared.fault.Fault.TheVariants.{OutOfMemory}
 use Rattle.dimacs.specs.Formula.{Body, Formula}
@@ -10,10 +11,8 @@ use Rattle.dimacs.specs.declared.header.Header.{Header}
 use Rattle.proofs.specs.Steps.{Step}
 use Rattle.proofs.specs.Reading.{Proof, with_step}
 use Rattle.steps.specs.Propagation.{Live}
-use Rattle.steps.specs.Lrat.{LratState, AnswersLrat, after_lrat, lrat_step, SameClauses}
-use Rattle.steps.specs.Session.{Session, state_of, is_closed}
-use Rattle.steps.specs.Sizes.{total}
-use Rattle.steps.specs.Verdicts.{Ending, Ends, is_empty, is_last, numbered, lrat_start}
+use Rattle.steps.specs.Rules.{Rule, State, by_ids, by_copies, View, start, Answers, after, sum_of, Same, is_over}
+use Rattle.steps.specs.Verdicts.{Ending, Ends, is_empty, is_last}
 use Rattle.steps.specs.declared.accepted.Accepted.{Accepted}
 use Rattle.steps.specs.declared.refusal.Refusal.{Refusal}
 use Rattle.steps.specs.declared.refusal.Refusal.TheVariants.{OutOfMemory as RefusedMemory}
@@ -22,37 +21,46 @@ use Rattle.sat_check.specs.Report.{Report, Outcome, text_of, steps_of, peak_of, 
 use Rattle.sat_check.specs.declared.status.Status.{Status}
 use Rattle.sat_check.specs.declared.status.Status.TheVariants.{ReadFailed, OutOfMemory as NoMemory, WriteFailed}
 
--- these clauses were input, and nothing else
-pub record IsLoaded (s : Session) (clauses : List Clause) : Type 0 where
-  pub live : SameClauses (state_of s).live (numbered clauses)
-  pub top : s.top ≡ length clauses
+-- where a reader stands, and what is still to come of an input
+pub record Standing : Type 0 where
+  pub stream : Stream
+  pub to_come : Input → Proof
+
+-- these clauses were input, and nothing else; as many more as a header allows still can be
+pub record IsLoaded (rule : Rule) (s : View) (clauses : List Clause) : Type 0 where
+  pub state : Same s.state (start rule clauses)
   pub verified : s.is_verified ≡ list_any is_empty clauses
   pub sound : s.is_ended ≡ false
   pub unstepped : s.has_stepped ≡ false
-  pub peak : s.peak ≡ total (lrat_start clauses)
+  pub peak : s.peak ≡ sum_of (start rule clauses)
+  pub room : 4294967295 ≤ s.room + length clauses
 
 -- the clauses of a formula were input, or its fault was met; want of memory says nothing
-abbrev pub LoadsBody : Result Session Fault → Body → Type 0
-LoadsBody (Ok s) b = (b.fault ≡ None) × IsLoaded s b.clauses
-LoadsBody (Err OutOfMemory) b = Unit {0}
-LoadsBody (Err f) b = b.fault ≡ Some f
+abbrev pub LoadsBody : Rule → View → Result Unit Fault → Body → Type 0
+LoadsBody rule s (Ok u) b = (b.fault ≡ None) × IsLoaded rule s b.clauses
+LoadsBody rule s (Err OutOfMemory) b = Unit {0}
+LoadsBody rule s (Err f) b = b.fault ≡ Some f
 
-abbrev pub Loads : Result (Header × Session) Fault → Formula → Type 0
-Loads (Ok l) f = (f.header ≡ Some l.0) × (f.fault ≡ None) × IsLoaded l.1 f.clauses
-Loads (Err OutOfMemory) f = Unit {0}
-Loads (Err e) f = f.fault ≡ Some e
+abbrev pub Loads : Rule → View → Result Header Fault → Formula → Type 0
+Loads rule s (Ok h) f = (f.header ≡ Some h) × (f.fault ≡ None) × IsLoaded rule s f.clauses
+Loads rule s (Err OutOfMemory) f = Unit {0}
+Loads rule s (Err e) f = f.fault ≡ Some e
 
 -- the rest of a report, from a state that so many accepted steps left, with the greatest sum of sizes up to it
-pub record Rest (trace : Bool) (state : LratState) (n : ℕ) (peak : ℕ) (proof : Proof) (r : Report) : Type 0 where
+pub record Rest (trace : Bool) (state : State) (n : ℕ) (peak : ℕ) (proof : Proof) (r : Report) : Type 0 where
   pub words : List Accepted
   pub ending : Ending
-  pub verdict : Ends AnswersLrat after_lrat state (steps_of proof) words ending
+  pub verdict : Ends Answers after state (steps_of proof) words ending
   pub report : r ≡ proof_report trace n (max peak (peak_of state (steps_of proof) words)) words ending proof.fault
 
 -- no clause is alive past some identifier
-pub record Bounded (live : Live) : Type 0 where
+pub record BoundedLive (live : Live) : Type 0 where
   pub bound : ℕ
   pub none : (k : ℕ) → bound < k → live k ≡ None
+
+abbrev pub Bounded : State → Type 0
+Bounded (by_ids s) = BoundedLive s.live
+Bounded (by_copies strict live) = Unit {0}
 
 -- numbers are counted up to the greatest of 64 bits
 abbrev pub counted : ℕ → ℕ
@@ -63,22 +71,21 @@ abbrev pub traced : Bool → ℕ → Accepted → List (List ℕ)
 traced trace n word = cond trace (trace_line n word ∷ []) []
 
 -- a step was accepted, it isn't the last, and its line was written
-pub record GoesOn (trace : Bool) (number : ℕ) (old new : Session) (step : Step) (was now : Sink) : Type 0 where
+pub record GoesOn (trace : Bool) (number : ℕ) (old new : View) (step : Step) (was now : Sink) : Type 0 where
   pub word : Accepted
-  pub answers : AnswersLrat (state_of old) (lrat_step step) (Ok word)
+  pub answers : Answers old.state step (Ok word)
   pub not_last : is_last word ≡ false
-  pub live : SameClauses (state_of new).live (after_lrat (state_of old) (lrat_step step)).live
-  pub top : new.top ≡ (after_lrat (state_of old) (lrat_step step)).top
-  pub peak : new.peak ≡ max old.peak (total (state_of new))
-  pub sound : is_closed new ≡ false
+  pub state : Same new.state (after old.state step)
+  pub peak : new.peak ≡ max old.peak (sum_of new.state)
+  pub sound : is_over new ≡ false
   pub wrote : Writes was now (text_of (traced trace number word))
   pub whole : now.is_broken ≡ false
 
 -- with this step the check ended: whatever follows it, what was written is the rest of the report
-abbrev pub Stops : Bool → ℕ → Session → Step → Sink → Sink → Status → Type 0
+abbrev pub Stops : Bool → ℕ → View → Step → Sink → Sink → Status → Type 0
 Stops trace number old step was now status =
-    (n left : ℕ) (p : Proof) → number ≡ counted (n + 1) → total (state_of old) ≤ old.peak → Bounded (state_of old).live
-    → (r : Report) × Rest trace (state_of old) n old.peak (with_step step left p) r × Outcome status was.held now.held r
+    (n left : ℕ) (p : Proof) → number ≡ counted (n + 1) → sum_of old.state ≤ old.peak → Bounded old.state
+    → (r : Report) × Rest trace old.state n old.peak (with_step step left p) r × Outcome status was.held now.held r
 
 -- how a run may stop before its end
 abbrev pub IsBreak : Status → Sink → Type 0

@@ -1,5 +1,5 @@
 -- What a check writes, and how it ends.
-use Rattle.std.specs.Prelude.{◌≡◌, ℕ, ◌+◌, max, cond, Bool, List, [], ◌∷◌, ◌++◌, length, map, Option, None, Some, codes}
+use Rattle.std.specs.Prelude.{◌≡◌, ℕ, ◌+◌, max, cond, Bool, List, [], ◌∷◌, ◌++◌, length, map, Option, None, Some, codes, if◌then◌else◌}
 use Rattle.std.specs.List.{flat_map}
 use Rattle.std.specs.Io.KnownBytes.{Appends}
 use Rattle.cnf_base.specs.Literals.{Clause}
@@ -9,10 +9,12 @@ use Rattle.cnf_base.specs.declared.fault.Fault.{Fault}
 use Rattle.dimacs.specs.Formula.{formula_of}
 use Rattle.dimacs.specs.declared.header.Header.{Header}
 use Rattle.proofs.specs.Reading.{Proof}
+use Rattle.proofs.specs.Steps.{Step}
 use Rattle.proofs.specs.Lrat.{lrat_steps}
-use Rattle.steps.specs.Lrat.{LratState, LratStep, after_lrat, lrat_step}
-use Rattle.steps.specs.Sizes.{total}
-use Rattle.steps.specs.Verdicts.{Ending, verified, refused, no_empty_clause, lrat_start, LratVerdict}
+use Rattle.proofs.specs.Binary.{binary_steps}
+use Rattle.proofs.specs.Drat.{drat_steps}
+use Rattle.steps.specs.Rules.{Rule, lrat, drat, State, start, after, sum_of, Verdict}
+use Rattle.steps.specs.Verdicts.{Ending, verified, refused, no_empty_clause}
 use Rattle.steps.specs.declared.accepted.Accepted.{Accepted}
 use Rattle.sat_check.specs.Lines.{formula_line, fault_line, fault_status, trace_line, refusal_line, steps_line, end_line, sentence}
 use Rattle.sat_check.specs.declared.status.Status.{Status}
@@ -60,13 +62,13 @@ verdict_report n peak (refused r) fault = concluded (refusal_line (n + 1) r) Not
 verdict_report n peak no_empty_clause fault = end_report fault
 
 -- the greatest sum of the sizes of the live clauses, over a state and those after accepted steps
-abbrev pub peak_of : LratState → List LratStep → List Accepted → ℕ
-peak_of state [] words = total state
-peak_of state (step ∷ steps) [] = total state
-peak_of state (step ∷ steps) (word ∷ words) = max (total state) (peak_of (after_lrat state step) steps words)
+abbrev pub peak_of : State → List Step → List Accepted → ℕ
+peak_of state [] words = sum_of state
+peak_of state (step ∷ steps) [] = sum_of state
+peak_of state (step ∷ steps) (word ∷ words) = max (sum_of state) (peak_of (after state step) steps words)
 
-abbrev pub steps_of : Proof → List LratStep
-steps_of proof = map (λ placed. lrat_step placed.step) proof.steps
+abbrev pub steps_of : Proof → List Step
+steps_of proof = map (λ placed. placed.step) proof.steps
 
 -- the trace, if it is asked for, and the verdict
 abbrev pub proof_report : Bool → ℕ → ℕ → List Accepted → Ending → Option Fault → Report
@@ -74,18 +76,28 @@ proof_report trace n peak words ending fault =
     with_lines (cond trace (trace_lines (n + 1) words) []) (verdict_report (n + length words) peak ending fault)
 
 -- the report of a formula without a fault
-pub record ChecksLrat (trace : Bool) (h : Header) (clauses : List Clause) (proof : Proof) (r : Report) : Type 0 where
+pub record Checks (rule : Rule) (trace : Bool) (h : Header) (clauses : List Clause) (proof : Proof) (r : Report) : Type 0 where
   pub words : List Accepted
   pub ending : Ending
-  pub verdict : LratVerdict clauses (steps_of proof) words ending
-  pub report : r ≡ with_lines (formula_line h ∷ []) (proof_report trace 0 (peak_of (lrat_start clauses) (steps_of proof) words) words ending proof.fault)
+  pub verdict : Verdict rule clauses (steps_of proof) words ending
+  pub report : r ≡ with_lines (formula_line h ∷ []) (proof_report trace 0 (peak_of (start rule clauses) (steps_of proof) words) words ending proof.fault)
 
-abbrev pub ReportsFormula : Bool → Option Header → List Clause → Option Fault → Proof → Report → Type 0
-ReportsFormula trace header clauses (Some f) proof r = r ≡ concluded (fault_line (codes "formula") f) (fault_status f)
-ReportsFormula trace (Some h) clauses None proof r = ChecksLrat trace h clauses proof r
-ReportsFormula trace None clauses None proof r = ⊥
+abbrev pub ReportsFormula : Rule → Bool → Option Header → List Clause → Option Fault → Proof → Report → Type 0
+ReportsFormula rule trace header clauses (Some f) proof r = r ≡ concluded (fault_line (codes "formula") f) (fault_status f)
+ReportsFormula rule trace (Some h) clauses None proof r = Checks rule trace h clauses proof r
+ReportsFormula rule trace None clauses None proof r = ⊥
 
--- the report of a formula and a proof in LRAT, with the trace or without
+-- the report of a formula and the steps of a proof, with the trace or without
+abbrev pub ProofReport : Rule → Bool → Input → Proof → Report → Type 0
+ProofReport rule trace formula proof r =
+    ReportsFormula rule trace (formula_of formula).header (formula_of formula).clauses (formula_of formula).fault proof r
+
 abbrev pub LratReport : Bool → Input → Input → Report → Type 0
-LratReport trace formula proof r =
-    ReportsFormula trace (formula_of formula).header (formula_of formula).clauses (formula_of formula).fault (lrat_steps proof) r
+LratReport trace formula proof r = ProofReport lrat trace formula (lrat_steps proof) r
+
+-- the steps of a proof in DRAT, in the binary form or as text
+abbrev pub drat_proof : (binary : Bool) → Input → Proof
+drat_proof binary proof = if binary then binary_steps proof else drat_steps proof
+
+abbrev pub DratReport : (binary strict trace : Bool) → Input → Input → Report → Type 0
+DratReport binary strict trace formula proof r = ProofReport (drat strict) trace formula (drat_proof binary proof) r

@@ -2,11 +2,13 @@
 #![tactic(auto)]
 
 mod args;
+mod check;
 mod check_proof;
 mod command_line;
 #[cfg(test)]
 mod command_line_tests;
 mod conclude;
+mod drat;
 mod line;
 mod load;
 mod lrat;
@@ -18,7 +20,8 @@ mod tool;
 
 pub use args::{Args, ArgsFault};
 pub use command_line::read_args;
+pub use drat::run_drat;
 pub use lrat::run_lrat;
-pub use options::LratOptions;
+pub use options::{DratOptions, LratOptions};
 pub use status::Status;
 pub use tool::Tool;

@@ -1,20 +1,26 @@
 //! A formula goes into a session, clause by clause.
 
-ghost use Rattle.std.specs.Prelude.{◌≡◌, true, None, IfErr};
+ghost use Rattle.std.specs.Prelude.{◌≡◌, true, [], IfErr};
 ghost use Rattle.cnf_base.specs.Stream.{Input, Along};
 ghost use Rattle.cnf_base.specs.Seen.{Seen, IsSeen};
 ghost use Rattle.dimacs.specs.Formula.{formula_of};
 ghost use Rattle.dimacs.specs.Reading.{to_come};
-ghost use Rattle.sat_check.specs.Checking.{Loads, LoadsBody};
+ghost use Rattle.steps.specs.Rules.{rule_of};
+ghost use Rattle.sat_check.specs.Checking.{IsLoaded, Loads, LoadsBody};
 
 use cnf_base::{Fault, In, Source};
 use dimacs::{ClauseBuf, FormulaReader, Header};
 use std::alloc::Global;
-use steps::LratSession;
+use steps::ProofSession;
 
-/// The header of a formula, and a session with its clauses.
-pub fn load<F: In>(alloc: Global, formula: &mut F) -> Result<(Header, LratSession), Fault>
-    ensures loads { (seen : Seen (F.left formula.old) (F.left formula.new)) × ((i : Input) → IsSeen seen i → Loads result (formula_of i)) }
+/// Reads a formula whole, and inputs its clauses. The answer is its header.
+pub fn load<F: In, S: ProofSession>(
+    alloc: Global,
+    formula: &mut F,
+    session: &mut S,
+) -> Result<Header, Fault>
+    requires { IsLoaded (rule_of (S.shown session.old).state) (S.shown session.old) [] }
+    ensures loads { (seen : Seen (F.left formula.old) (F.left formula.new)) × ((i : Input) → IsSeen seen i → Loads (rule_of (S.shown session.old).state) (S.shown session.new) result (formula_of i)) }
     ensures tells { IfErr result (λ f. f ≡ Fault.ReadFailed → F.has_failed formula.new ≡ true) }
 {
     let source = match Source::new(alloc, &mut *formula) {
@@ -28,11 +34,11 @@ pub fn load<F: In>(alloc: Global, formula: &mut F) -> Result<(Header, LratSessio
     match FormulaReader::open(source) {
         Ok(mut reader) => {
             let header = reader.header();
-            let loaded = load_clauses(alloc, &mut reader);
+            let loaded = load_clauses(alloc, &mut reader, session);
             let rest = reader.release();
             let _ = &*rest;
             match loaded {
-                Ok(session) => Ok((header, session)),
+                Ok(()) => Ok(header),
                 Err(fault) => Err(fault),
             }
         }
@@ -44,15 +50,17 @@ pub fn load<F: In>(alloc: Global, formula: &mut F) -> Result<(Header, LratSessio
     }
 }
 
-// A session with all clauses of the formula.
-fn load_clauses<F: In>(alloc: Global, reader: &mut FormulaReader<F>) -> Result<LratSession, Fault>
-    requires { reader.old.complete ≡ 0 }
-    ensures loads { Along reader.old.stream reader.new.stream (λ i j. LoadsBody result (to_come reader.old i)) }
+// Inputs all clauses of the formula.
+fn load_clauses<F: In, S: ProofSession>(
+    alloc: Global,
+    reader: &mut FormulaReader<F>,
+    session: &mut S,
+) -> Result<(), Fault>
+    requires first { reader.old.complete ≡ 0 }
+    requires unused { IsLoaded (rule_of (S.shown session.old).state) (S.shown session.old) [] }
+    ensures loads { Along reader.old.stream reader.new.stream (λ i j. LoadsBody (rule_of (S.shown session.old).state) (S.shown session.new) result (to_come reader.old i)) }
     ensures tells { IfErr result (λ f. f ≡ Fault.ReadFailed → reader.new.stream.has_failed ≡ true) }
 {
-    let Ok(mut session) = LratSession::new(alloc) else {
-        return Err(Fault::OutOfMemory);
-    };
     let mut clause = ClauseBuf::new(alloc);
     loop {
         match reader.next(&mut clause) {
@@ -61,7 +69,7 @@ fn load_clauses<F: In>(alloc: Global, reader: &mut FormulaReader<F>) -> Result<L
                     return Err(Fault::OutOfMemory);
                 }
             }
-            Ok(false) => return Ok(session),
+            Ok(false) => return Ok(()),
             Err(fault) => return Err(fault),
         }
     }

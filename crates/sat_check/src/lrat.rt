@@ -1,22 +1,17 @@
 //! A check of an LRAT proof, from bytes to bytes.
 
-ghost use Rattle.std.specs.Prelude.{◌≡◌, ◌⊎◌, true, false, List, slice_get};
-ghost use Rattle.cnf_base.specs.Literals.{Clause};
+ghost use Rattle.std.specs.Prelude.{◌≡◌, ◌⊎◌, true, false, slice_get};
 ghost use Rattle.cnf_base.specs.Stream.{Input};
 ghost use Rattle.cnf_base.specs.Seen.{Seen, IsSeen};
 ghost use Rattle.dimacs.specs.Formula.{formula_of};
-ghost use Rattle.proofs.specs.Lrat.{lrat_steps};
 ghost use Rattle.steps.specs.Models.{HasModel};
-ghost use Rattle.sat_check.specs.Report.{Report, Outcome, ChecksLrat, LratReport};
-ghost use Rattle.sat_check.specs.Checking.{IsLoaded};
+ghost use Rattle.sat_check.specs.Report.{Report, Outcome, LratReport};
 
-use crate::check_proof::check_proof;
-use crate::conclude::{break_off, conclude, write_line};
-use crate::load::load;
-use crate::report::{formula_line, steps_line};
+use crate::check::check;
+use crate::conclude::give_up;
 use crate::{LratOptions, Status};
-use cnf_base::{In, LineOut, Out};
-use dimacs::Header;
+use cnf_base::{In, LineOut, Out, Source};
+use proofs::LratText;
 use std::alloc::Global;
 use steps::LratSession;
 
@@ -44,13 +39,13 @@ pub fn run_lrat<F: In, P: In, O: Out>(
     ensures write_failed { result ≡ Status.WriteFailed → O.has_failed out.new ≡ true }
 {
     let mut lines = LineOut::new(&mut *out);
-    let status = check(alloc, options.trace, formula, proof, &mut lines);
+    let status = check_lrat(alloc, options.trace, formula, proof, &mut lines);
     let writer = lines.release();
     let _ = &*writer;
     status
 }
 
-fn check<F: In, P: In, O: Out>(
+fn check_lrat<F: In, P: In, O: Out>(
     alloc: Global,
     trace: bool,
     formula: &mut F,
@@ -64,41 +59,20 @@ fn check<F: In, P: In, O: Out>(
     ensures write_failed { result ≡ Status.WriteFailed → lines.new.has_failed ≡ true }
     ensures same_writer { lines.new.borrows ≡ lines.old.borrows }
 {
-    match load(alloc, formula) {
-        Ok(loaded) => {
-            let (header, mut session) = loaded;
-            check_loaded(alloc, trace, header, &mut session, proof, lines)
+    let Ok(mut session) = LratSession::new(alloc) else {
+        return give_up(lines);
+    };
+    let source = match Source::new(alloc, &mut *proof) {
+        Ok(source) => source,
+        Err(refused) => {
+            let (_, rest) = refused;
+            let _ = &*rest;
+            return give_up(lines);
         }
-        Err(fault) => break_off(alloc, lines, b"formula", fault),
-    }
-}
-
-// The report of a formula without a fault, whose clauses were input.
-fn check_loaded<P: In, O: Out>(
-    alloc: Global,
-    trace: bool,
-    header: Header,
-    session: &mut LratSession,
-    proof: &mut P,
-    lines: &mut LineOut<O>,
-) -> Status
-    requires loaded { (clauses : List Clause) × IsLoaded session.old clauses }
-    requires whole { lines.old.is_broken ≡ false }
-    ensures report { (p : Seen (P.left proof.old) (P.left proof.new)) × ((j : Input) → IsSeen p j → (clauses : List Clause) → IsLoaded session.old clauses →
-        (r : Report) × ChecksLrat trace header clauses (lrat_steps j) r × Outcome result lines.old.held lines.new.held r) }
-    ensures read_failed { result ≡ Status.ReadFailed → P.has_failed proof.new ≡ true }
-    ensures write_failed { result ≡ Status.WriteFailed → lines.new.has_failed ≡ true }
-    ensures same_writer { lines.new.borrows ≡ lines.old.borrows }
-{
-    if let Err(status) = write_line(lines, formula_line(alloc, header)) {
-        return status;
-    }
-    if session.verified() {
-        return conclude(
-            lines,
-            steps_line(alloc, 0, session.peak()),
-            Status::Verified,
-        );
-    }
-    check_proof(alloc, trace, session, proof, lines)
+    };
+    let mut reader = LratText::new(source);
+    let status = check(alloc, trace, formula, &mut session, &mut reader, lines);
+    let rest = reader.release();
+    let _ = &*rest;
+    status
 }

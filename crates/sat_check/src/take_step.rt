@@ -2,7 +2,7 @@
 
 ghost use Rattle.std.specs.Prelude.{◌≡◌, ◌≢◌, true, false, IfErr, OnOk, IsFalse};
 ghost use Rattle.cnf_base.specs.Lines.{Writes};
-ghost use Rattle.steps.specs.Session.{is_closed};
+ghost use Rattle.steps.specs.Rules.{is_over};
 ghost use Rattle.steps.specs.Verdicts.{is_last};
 ghost use Rattle.sat_check.specs.Lines.{refusal_line, trace_line};
 ghost use Rattle.sat_check.specs.Report.{Report, Outcome, concluded, with_lines, text_of};
@@ -14,22 +14,22 @@ use crate::report::{refusal_line, steps_line, trace_line};
 use cnf_base::{LineOut, Out};
 use proofs::StepBuf;
 use std::alloc::Global;
-use steps::{Accepted, LratSession, Refusal};
+use steps::{Accepted, ProofSession, Refusal};
 
 /// Takes the step of this number, and writes its line where a trace is asked for. Where the check ends with it, the
 /// verdict is written, and the status answered.
-pub fn take_step<O: Out>(
+pub fn take_step<S: ProofSession, O: Out>(
     alloc: Global,
     trace: bool,
-    session: &mut LratSession,
+    session: &mut S,
     step: &StepBuf,
     number: u64,
     lines: &mut LineOut<O>,
 ) -> Result<(), Status>
-    requires sound { is_closed session.old ≡ false }
+    requires sound { is_over (S.shown session.old) ≡ false }
     requires whole { lines.old.is_broken ≡ false }
-    ensures goes_on { OnOk result (GoesOn trace number session.old session.new step.now lines.old lines.new) }
-    ensures stops { IfErr result (λ status. Stops trace number session.old step.now lines.old lines.new status) }
+    ensures goes_on { OnOk result (GoesOn trace number (S.shown session.old) (S.shown session.new) step.now lines.old lines.new) }
+    ensures stops { IfErr result (λ status. Stops trace number (S.shown session.old) step.now lines.old lines.new status) }
     ensures told { IfErr result (λ status. IsTold status lines.new) }
     ensures same_writer { lines.new.borrows ≡ lines.old.borrows }
 {

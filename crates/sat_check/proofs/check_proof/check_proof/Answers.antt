@@ -1,11 +1,45 @@
--- What was seen of the proof.
-use Rattle.std.proofs.Common.{rules}
-use Rattle.sat_check.proofs.CheckLemmas.{checks_nothing, checks_run}
+-- A step, the end, or a fault.
+use Rattle.std.proofs.Common.{◌≡◌, ◌+◌, true, false, rules, arith}
+use Rattle.std.specs.Prelude.{Ok}
+use Rattle.sat_check.specs.Lines.{end_line}
+use Rattle.sat_check.specs.Checking.{Standing, counted}
+use Rattle.sat_check.proofs.CheckLemmas.{Checking-start, Checking-step, Checking-stop, Checking-end, Checking-fault, step_told}
 use Rattle.sat_check.proofs.check_proof.check_proof.Goals as goal
 
-pub returns-in-Err-clause-report : goal.returns-in-Err-clause-report
-returns-in-Err-clause-report g c = checks_nothing c.args.trace c.args.session.now _ _ _ c.args.lines.now c.give_up.new.lines (search rules) c.requires.bounded (λ r. rw c.give_up.ensures.status (c.give_up.ensures.outcome r))
+pub loop-number-init : goal.loop-number-init
+loop-number-init g c =
+    Checking-start c.args.trace (record { stream = g.R.StepReader.stream c.args.reader.now; to_come = g.R.StepReader.to_come c.args.reader.now }) (g.S.ProofSession.shown c.args.session.now) c.args.lines.now
+    c.requires.whole c.requires.sound c.requires.bounded c.requires.least
 
-pub returns-clause-report : goal.returns-clause-report
-returns-clause-report g c =
-    checks_run c.args.trace c.args.session.now _ _ _ _ _ _ c.check_steps-status.new.reader _ _ c.args.lines.now c.check_steps-status.new.lines c.in-Ok.ensures.fresh c.new-reader.ensures (search rules) c.check_steps-status.ensures.report
+pub returns-in-Err-take_step-clause-report : goal.returns-in-Err-take_step-clause-report
+returns-in-Err-take_step-clause-report g c =
+    let counts : c.saturating_add-number.result ≡ counted (c.loop-number.invariant.count + 1) = omega (arith, c.loop-number.invariant.counts, c.saturating_add-number.ensures) in
+    let start : Standing = record { stream = g.R.StepReader.stream c.args.reader.now; to_come = g.R.StepReader.to_come c.args.reader.now } in
+    let now : Standing = record { stream = g.R.StepReader.stream c.loop-number.reader; to_come = g.R.StepReader.to_come c.loop-number.reader } in
+    let new : Standing = record { stream = g.R.StepReader.stream c.next.new.self; to_come = g.R.StepReader.to_come c.next.new.self } in
+    Checking-stop c.args.trace start now new _ _ _ _ _ c.loop-number.invariant c.saturating_add-number.result counts c.next.new.step (step_told now new _ (Ok true) _ c.next.ensures.step (search rules))
+    c.in-Err-take_step.status c.take_step.new.lines c.in-Err-take_step.ensures.stops
+
+pub loop-number-preserved : goal.loop-number-preserved
+loop-number-preserved g c =
+    let counts : c.saturating_add-number.result ≡ counted (c.loop-number.invariant.count + 1) = omega (arith, c.loop-number.invariant.counts, c.saturating_add-number.ensures) in
+    let start : Standing = record { stream = g.R.StepReader.stream c.args.reader.now; to_come = g.R.StepReader.to_come c.args.reader.now } in
+    let now : Standing = record { stream = g.R.StepReader.stream c.loop-number.reader; to_come = g.R.StepReader.to_come c.loop-number.reader } in
+    let new : Standing = record { stream = g.R.StepReader.stream c.next.new.self; to_come = g.R.StepReader.to_come c.next.new.self } in
+    Checking-step c.args.trace start now new _ _ _ _ _ c.loop-number.invariant c.saturating_add-number.result counts c.next.new.step (step_told now new _ (Ok true) _ c.next.ensures.step (search rules))
+    _ _ c.in_default.ensures.goes_on
+
+pub returns-in-Ok-false-clause-report : goal.returns-in-Ok-false-clause-report
+returns-in-Ok-false-clause-report g c =
+    let start : Standing = record { stream = g.R.StepReader.stream c.args.reader.now; to_come = g.R.StepReader.to_come c.args.reader.now } in
+    let now : Standing = record { stream = g.R.StepReader.stream c.loop-number.reader; to_come = g.R.StepReader.to_come c.loop-number.reader } in
+    let new : Standing = record { stream = g.R.StepReader.stream c.next.new.self; to_come = g.R.StepReader.to_come c.next.new.self } in
+    Checking-end c.args.trace start now new _ _ _ _ _ c.loop-number.invariant c.next.new.step c.conclude.result c.conclude.new.lines (step_told now new _ (Ok false) _ c.next.ensures.step (search rules))
+    (c.conclude.ensures.outcome end_line c.end_line.ensures)
+
+pub returns-in-Err-clause-report : goal.returns-in-Err-clause-report
+returns-in-Err-clause-report g c =
+    let start : Standing = record { stream = g.R.StepReader.stream c.args.reader.now; to_come = g.R.StepReader.to_come c.args.reader.now } in
+    let now : Standing = record { stream = g.R.StepReader.stream c.loop-number.reader; to_come = g.R.StepReader.to_come c.loop-number.reader } in
+    let new : Standing = record { stream = g.R.StepReader.stream c.next.new.self; to_come = g.R.StepReader.to_come c.next.new.self } in
+    Checking-fault c.args.trace start now new _ _ _ _ _ c.loop-number.invariant c.next.new.step c.in-Err.fault c.break_off.result c.break_off.new.lines c.in-Err.ensures.step c.break_off.ensures.memory c.break_off.ensures.told

@@ -6,16 +6,16 @@ use Rattle.sat_check.proofs.take_step.take_step.Goals as goal
 
 pub returns-in-Err-clause-stops : goal.returns-in-Err-clause-stops
 returns-in-Err-clause-stops g c =
-    Stops-refused c.args.trace c.args.number c.args.session.now c.args.step.now c.args.lines.now c.refuse.new.lines c.refuse.result c.in-Err.refusal c.refuse.ensures.memory c.refuse.ensures.refused (c.in-Err.ensures.answers c.requires.sound)
+    Stops-refused c.args.trace c.args.number (g.S.ProofSession.shown c.args.session.now) c.args.step.now c.args.lines.now c.refuse.new.lines c.refuse.result c.in-Err.refusal c.refuse.ensures.memory c.refuse.ensures.refused (c.in-Err.ensures.answers c.requires.sound)
 
 pub returns-in-Err-write_trace-clause-stops : goal.returns-in-Err-write_trace-clause-stops
 returns-in-Err-write_trace-clause-stops g c =
-    Stops-traced c.args.trace c.args.number c.args.session.now c.args.step.now c.args.lines.now c.write_trace.new.lines c.step.new.self c.in-Ok.word (c.in-Ok.ensures.answers c.requires.sound) c.in-Ok.ensures.live c.in-Ok.ensures.top c.in-Ok.ensures.peak
+    Stops-traced c.args.trace c.args.number (g.S.ProofSession.shown c.args.session.now) c.args.step.now c.args.lines.now c.write_trace.new.lines (g.S.ProofSession.shown c.step.new.self) c.in-Ok.word (c.in-Ok.ensures.answers c.requires.sound) c.in-Ok.ensures.state c.in-Ok.ensures.peak
     c.in-Err-write_trace.status c.in-Err-write_trace.ensures.stopped
 
 pub returns-then-is_last-clause-stops : goal.returns-then-is_last-clause-stops
 returns-then-is_last-clause-stops g c =
-    Stops-verified c.args.trace c.args.number c.args.session.now c.args.step.now c.args.lines.now c.conclude.new.lines c.step.new.self c.in-Ok.word (c.in-Ok.ensures.answers c.requires.sound) c.in-Ok.ensures.live c.in-Ok.ensures.top c.in-Ok.ensures.peak
+    Stops-verified c.args.trace c.args.number (g.S.ProofSession.shown c.args.session.now) c.args.step.now c.args.lines.now c.conclude.new.lines (g.S.ProofSession.shown c.step.new.self) c.in-Ok.word (c.in-Ok.ensures.answers c.requires.sound) c.in-Ok.ensures.state c.in-Ok.ensures.peak
     c.conclude.result _ c.peak.result (search rules) c.peak.ensures c.in_default.ensures.wrote (c.in_default.ensures.whole c.requires.whole)
     (c.conclude.ensures.outcome (steps_line c.args.number c.peak.result) c.steps_line-line.ensures)
 
@@ -24,8 +24,7 @@ returns-clause-goes_on g c = record {
   word = c.in-Ok.word;
   answers = c.in-Ok.ensures.answers c.requires.sound;
   not_last = search rules;
-  live = c.in-Ok.ensures.live;
-  top = c.in-Ok.ensures.top;
+  state = c.in-Ok.ensures.state;
   peak = c.in-Ok.ensures.peak;
   sound = search rules;
   wrote = c.in_default.ensures.wrote;

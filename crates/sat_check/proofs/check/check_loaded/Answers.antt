@@ -1,0 +1,35 @@
+-- The formula's line broke off, a clause is empty, or the proof is checked.
+use Rattle.std.proofs.Common.{rules}
+use Rattle.cnf_base.proofs.StreamLemmas.{Along-map, Along-none}
+use Rattle.sat_check.specs.Lines.{formula_line, steps_line}
+use Rattle.sat_check.proofs.OutcomeLemmas.{Outcome-line}
+use Rattle.sat_check.proofs.ReportLemmas.{loaded_bounded, loaded_least, checks_some, checks_rest, verified_report}
+use Rattle.sat_check.proofs.check.check_loaded.Goals as goal
+
+pub returns-in-Err-clause-report : goal.returns-in-Err-clause-report
+returns-in-Err-clause-report g c =
+    Along-map _ _ _ _ (Along-none _) (λ j k m e rule clauses l.
+    let some = checks_some rule (g.S.ProofSession.shown c.args.session.now) clauses l c.args.trace c.args.header _ in
+    (_, some.1, c.in-Err.ensures.stopped (formula_line c.args.header) some.0 c.formula_line.ensures))
+
+pub returns-then-verified-clause-report : goal.returns-then-verified-clause-report
+returns-then-verified-clause-report g c =
+    Along-map _ _ _ _ (Along-none _) (λ j k m e rule clauses l.
+    verified_report rule (g.S.ProofSession.shown c.args.session.now) clauses l c.args.trace c.args.header _ c.conclude.result c.args.lines.now c.write_line.new.lines c.conclude.new.lines _ (search rules) c.peak.ensures
+    (c.in_default.ensures.written (formula_line c.args.header) c.formula_line.ensures) c.in_default.ensures.ok.0
+    (c.conclude.ensures.outcome (steps_line 0 c.peak.result) c.steps_line.ensures))
+
+pub check_proof-requires-clause-bounded : goal.check_proof-requires-clause-bounded
+check_proof-requires-clause-bounded g c = loaded_bounded c.requires.loaded.0 (g.S.ProofSession.shown c.args.session.now) c.requires.loaded.1 c.requires.loaded.2
+
+pub check_proof-requires-clause-least : goal.check_proof-requires-clause-least
+check_proof-requires-clause-least g c = loaded_least c.requires.loaded.0 (g.S.ProofSession.shown c.args.session.now) c.requires.loaded.1 c.requires.loaded.2
+
+pub returns-clause-report : goal.returns-clause-report
+returns-clause-report g c =
+    Along-map _ _ _ _ c.check_proof.ensures.report (λ j k m rest rule clauses l. (
+      _,
+      checks_rest rule (g.S.ProofSession.shown c.args.session.now) clauses l c.args.trace c.args.header _ rest.0 (search rules) rest.1,
+      Outcome-line c.check_proof.result c.args.lines.now c.write_line.new.lines _ (formula_line c.args.header) rest.0
+          (c.in_default.ensures.written (formula_line c.args.header) c.formula_line.ensures) c.in_default.ensures.ok.0 rest.2,
+    ))

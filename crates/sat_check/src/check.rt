@@ -1,0 +1,73 @@
+//! A check of a proof under any rule and in any format.
+
+ghost use Rattle.std.specs.Prelude.{◌≡◌, ◌⊎◌, [], true, false, List};
+ghost use Rattle.cnf_base.specs.Literals.{Clause};
+ghost use Rattle.cnf_base.specs.Stream.{Input, Along};
+ghost use Rattle.cnf_base.specs.Seen.{Seen, IsSeen};
+ghost use Rattle.steps.specs.Rules.{Rule, rule_of};
+ghost use Rattle.sat_check.specs.Report.{Report, Outcome, Checks, ProofReport};
+ghost use Rattle.sat_check.specs.Checking.{IsLoaded};
+
+use crate::Status;
+use crate::check_proof::check_proof;
+use crate::conclude::{break_off, conclude, write_line};
+use crate::load::load;
+use crate::report::{formula_line, steps_line};
+use cnf_base::{In, LineOut, Out};
+use dimacs::Header;
+use proofs::StepReader;
+use std::alloc::Global;
+use steps::ProofSession;
+
+/// Reads a formula whole, then checks the steps of a proof of it, and writes the report, flushed.
+pub fn check<F: In, S: ProofSession, R: StepReader, O: Out>(
+    alloc: Global,
+    trace: bool,
+    formula: &mut F,
+    session: &mut S,
+    reader: &mut R,
+    lines: &mut LineOut<O>,
+) -> Status
+    requires unused { IsLoaded (rule_of (S.shown session.old).state) (S.shown session.old) [] }
+    requires whole { lines.old.is_broken ≡ false }
+    ensures report { (f : Seen (F.left formula.old) (F.left formula.new)) × Along (R.stream reader.old) (R.stream reader.new) (λ j k. (i : Input) → IsSeen f i →
+        (r : Report) × ProofReport (rule_of (S.shown session.old).state) trace i (R.to_come reader.old j) r × Outcome result lines.old.held lines.new.held r) }
+    ensures read_failed { result ≡ Status.ReadFailed → (F.has_failed formula.new ≡ true) ⊎ ((R.stream reader.new).has_failed ≡ true) }
+    ensures write_failed { result ≡ Status.WriteFailed → lines.new.has_failed ≡ true }
+    ensures same_writer { lines.new.borrows ≡ lines.old.borrows }
+{
+    match load(alloc, formula, session) {
+        Ok(header) => check_loaded(alloc, trace, header, session, reader, lines),
+        Err(fault) => break_off(alloc, lines, b"formula", fault),
+    }
+}
+
+// The report of a formula without a fault, whose clauses were input.
+fn check_loaded<S: ProofSession, R: StepReader, O: Out>(
+    alloc: Global,
+    trace: bool,
+    header: Header,
+    session: &mut S,
+    reader: &mut R,
+    lines: &mut LineOut<O>,
+) -> Status
+    requires loaded { (rule : Rule) × (clauses : List Clause) × IsLoaded rule (S.shown session.old) clauses }
+    requires whole { lines.old.is_broken ≡ false }
+    ensures report { Along (R.stream reader.old) (R.stream reader.new) (λ j k. (rule : Rule) (clauses : List Clause) → IsLoaded rule (S.shown session.old) clauses →
+        (r : Report) × Checks rule trace header clauses (R.to_come reader.old j) r × Outcome result lines.old.held lines.new.held r) }
+    ensures read_failed { result ≡ Status.ReadFailed → (R.stream reader.new).has_failed ≡ true }
+    ensures write_failed { result ≡ Status.WriteFailed → lines.new.has_failed ≡ true }
+    ensures same_writer { lines.new.borrows ≡ lines.old.borrows }
+{
+    if let Err(status) = write_line(lines, formula_line(alloc, header)) {
+        return status;
+    }
+    if session.verified() {
+        return conclude(
+            lines,
+            steps_line(alloc, 0, session.peak()),
+            Status::Verified,
+        );
+    }
+    check_proof(alloc, trace, session, reader, lines)
+}
