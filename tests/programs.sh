@@ -1,21 +1,24 @@
 #!/usr/bin/env bash
-# Runs lrat-check as a user does: files, standard input, missing files, wrong words. What it writes and its status are
-# compared with what stands here. The last line is "N passed, M failed".
+# Runs lrat-check and drat-forward as a user does: files, standard input, missing files, wrong words. What they write and
+# their statuses are compared with what stands here. The last line is "N passed, M failed".
 #
-# LRAT_CHECK names the program; it is bin/lrat-check otherwise.
+# LRAT_CHECK and DRAT_FORWARD name the programs; they are bin/lrat-check and bin/drat-forward otherwise.
 set -uo pipefail
 cd "$(dirname "$0")/.."
 
-checker=${LRAT_CHECK:-bin/lrat-check}
+lrat_check=${LRAT_CHECK:-bin/lrat-check}
+drat_forward=${DRAT_FORWARD:-bin/drat-forward}
 passed=0 failed=0
 room=$(mktemp -d)
 trap 'rm -rf "$room"' EXIT
 
-if [ ! -x "$checker" ]; then
-    echo "FAILED: there is no program $checker"
-    echo "0 passed, 1 failed"
-    exit 1
-fi
+for checker in "$lrat_check" "$drat_forward"; do
+    if [ ! -x "$checker" ]; then
+        echo "FAILED: there is no program $checker"
+        echo "0 passed, 1 failed"
+        exit 1
+    fi
+done
 
 # judge NAME WANTED_STATUS STATUS: compares $room/wanted with $room/out
 judge() {
@@ -31,7 +34,7 @@ judge() {
     fi
 }
 
-# row NAME STATUS WORD..: runs the program with these words. Standard input has the wanted lines, or "-" for none.
+# row NAME STATUS WORD..: runs the program $checker with these words. Standard input has the wanted lines, or "-" for none.
 row() {
     local name=$1 status=$2 ended
     shift 2
@@ -54,7 +57,17 @@ usage() {
     fi
 }
 
+# write_failed NAME PROGRAM STATUS: compares the status with 5, and $room/out with the line of standard error
+write_failed() {
+    echo "$2: write failed" > "$room/wanted"
+    judge "$1" 5 "$3"
+}
+
 x=examples
+
+# ==== lrat-check
+
+checker=$lrat_check
 
 # ---- Verified
 
@@ -220,9 +233,7 @@ LINES
 
 if [ -w /dev/full ]; then
     "$checker" $x/e.cnf $x/e.lrat > /dev/full 2> "$room/out"
-    ended=$?
-    echo "lrat-check: write failed" > "$room/wanted"
-    judge full_device 5 "$ended"
+    write_failed full_device lrat-check $?
 fi
 
 # ---- Words
@@ -238,6 +249,210 @@ usage shortened_flag --tra $x/e.cnf $x/e.lrat
 usage name_with_a_hyphen -1 $x/e.lrat
 usage flag_alone --trace
 usage three_names $x/e.cnf $x/e.lrat $x/e.lrat
+
+# ==== drat-forward
+
+checker=$drat_forward
+
+# ---- Verified
+
+row e_drat 0 $x/e.cnf $x/e.drat <<'LINES'
+c formula 2 variables 4 clauses
+c steps 2 peak 9
+s VERIFIED
+LINES
+
+row e_drat_with_trace 0 --trace $x/e.cnf $x/e.drat <<'LINES'
+c formula 2 variables 4 clauses
+c 1 add rup
+c 2 add rup
+c steps 2 peak 9
+s VERIFIED
+LINES
+
+row flags_after_the_names 0 $x/e.cnf $x/e.drat --strict --trace <<'LINES'
+c formula 2 variables 4 clauses
+c 1 add rup
+c 2 add rup
+c steps 2 peak 9
+s VERIFIED
+LINES
+
+proof_on_stdin=$x/e.drat row drat_proof_on_standard_input 0 $x/e.cnf <<'LINES'
+c formula 2 variables 4 clauses
+c steps 2 peak 9
+s VERIFIED
+LINES
+
+row one_copy_deleted 0 --trace $x/copies.cnf $x/one_copy_deleted.drat <<'LINES'
+c formula 1 variables 3 clauses
+c 1 delete
+c 2 add rup
+c steps 2 peak 3
+s VERIFIED
+LINES
+
+# as CaDiCaL wrote it: by examples/make-cadical-proof.sh
+row pigeonhole_by_cadical 0 $x/pigeonhole-5.cnf $x/pigeonhole-5.drat <<'LINES'
+c formula 30 variables 81 clauses
+c steps 242 peak 402
+s VERIFIED
+LINES
+
+row pigeonhole_by_cadical_strict 0 --strict $x/pigeonhole-5.cnf $x/pigeonhole-5.drat <<'LINES'
+c formula 30 variables 81 clauses
+c steps 242 peak 402
+s VERIFIED
+LINES
+
+# in the binary form, which CaDiCaL writes unless it is told otherwise
+row e_drat_binary 0 --binary $x/e.cnf $x/e.bin <<'LINES'
+c formula 2 variables 4 clauses
+c steps 2 peak 9
+s VERIFIED
+LINES
+
+row pigeonhole_by_cadical_binary 0 $x/pigeonhole-5.cnf --binary $x/pigeonhole-5.bin <<'LINES'
+c formula 30 variables 81 clauses
+c steps 242 peak 402
+s VERIFIED
+LINES
+
+row empty_last_group 2 --binary $x/e.cnf $x/empty_last_group.bin <<'LINES'
+c formula 2 variables 4 clauses
+c proof byte 2: bad number
+s NOT VERIFIED
+LINES
+
+row text_read_as_binary 2 --binary $x/e.cnf $x/e.drat <<'LINES'
+c formula 2 variables 4 clauses
+c proof byte 1: bad tag
+s NOT VERIFIED
+LINES
+
+row drat_empty_clause_in_formula 0 $x/empty_clause.cnf $x/e.drat <<'LINES'
+c formula 0 variables 1 clauses
+c steps 0 peak 0
+s VERIFIED
+LINES
+
+row drat_empty_clause_and_no_proof 0 $x/empty_clause.cnf $x/there_is_no_such_file <<'LINES'
+c formula 0 variables 1 clauses
+c steps 0 peak 0
+s VERIFIED
+LINES
+
+# ---- Not verified
+
+row drat_no_empty_clause 1 $x/e.cnf $x/no_empty_clause.drat <<'LINES'
+c formula 2 variables 4 clauses
+c end: no empty clause
+s NOT VERIFIED
+LINES
+
+row definition_by_rat 1 --trace $x/g.cnf $x/definition_by_rat.drat <<'LINES'
+c formula 2 variables 1 clauses
+c 1 add rat
+c 2 add rat
+c end: no empty clause
+s NOT VERIFIED
+LINES
+
+row neither_rup_nor_rat 1 $x/g.cnf $x/neither_rup_nor_rat.drat <<'LINES'
+c formula 2 variables 1 clauses
+c step 1: neither RUP nor RAT on -1
+s NOT VERIFIED
+LINES
+
+row not_rup 1 --trace $x/g.cnf $x/e.drat <<'LINES'
+c formula 2 variables 1 clauses
+c 1 add rat
+c step 2: not RUP
+s NOT VERIFIED
+LINES
+
+row both_copies_deleted 1 $x/copies.cnf $x/both_copies_deleted.drat <<'LINES'
+c formula 1 variables 3 clauses
+c step 3: not RUP
+s NOT VERIFIED
+LINES
+
+row deletion_ignored 1 --trace $x/g.cnf $x/deletion_ignored.drat <<'LINES'
+c formula 2 variables 1 clauses
+c 1 ignored
+c end: no empty clause
+s NOT VERIFIED
+LINES
+
+row deletion_refused 1 --strict $x/g.cnf $x/deletion_ignored.drat <<'LINES'
+c formula 2 variables 1 clauses
+c step 1: clause is not alive
+s NOT VERIFIED
+LINES
+
+row drat_comments_everywhere 1 --trace $x/comments.cnf $x/comments.drat <<'LINES'
+c formula 1 variables 1 clauses
+c 1 delete
+c end: no empty clause
+s NOT VERIFIED
+LINES
+
+# ---- Malformed
+
+row drat_unterminated_step 2 $x/e.cnf $x/unterminated_step.drat <<'LINES'
+c formula 2 variables 4 clauses
+c proof 2:3: unterminated step
+s NOT VERIFIED
+LINES
+
+row drat_literal_out_of_range 2 $x/literal_out_of_range.cnf $x/e.drat <<'LINES'
+c formula 2:3: literal out of range
+s NOT VERIFIED
+LINES
+
+# ---- Files that cannot be read
+
+row drat_missing_formula 3 $x/there_is_no_such_file $x/e.drat <<'LINES'
+c cannot read formula
+s NOT VERIFIED
+LINES
+
+row drat_missing_proof 3 $x/e.cnf $x/there_is_no_such_file <<'LINES'
+c formula 2 variables 4 clauses
+c cannot read proof
+s NOT VERIFIED
+LINES
+
+row drat_folder_as_formula 3 $x $x/e.drat <<'LINES'
+c cannot read formula
+s NOT VERIFIED
+LINES
+
+row drat_folder_as_proof 3 $x/e.cnf $x <<'LINES'
+c formula 2 variables 4 clauses
+c cannot read proof
+s NOT VERIFIED
+LINES
+
+# ---- A writer that fails
+
+if [ -w /dev/full ]; then
+    "$checker" $x/e.cnf $x/e.drat > /dev/full 2> "$room/out"
+    write_failed full_device drat-forward $?
+fi
+
+# ---- Words
+
+usage drat_no_words
+usage drat_help --help
+usage drat_short_help -h
+usage drat_version --version
+usage drat_unknown_flag --core $x/e.cnf
+usage drat_flag_with_a_value --strict=1 $x/e.cnf $x/e.drat
+usage drat_shortened_flag --stri $x/e.cnf $x/e.drat
+usage drat_name_with_a_hyphen -1 $x/e.drat
+usage drat_flags_alone --trace --strict
+usage drat_three_names $x/e.cnf $x/e.drat $x/e.drat
 
 echo "$passed passed, $failed failed"
 [ "$failed" -eq 0 ]

@@ -30,15 +30,17 @@ echo "== rt ci"
 ended=${PIPESTATUS[0]}
 count "$ended"
 
-# The gate leaves the program that it proved and built. Where it did not come so far, nothing else is tested in its place.
-built=crates/lrat_check/out/lrat_check
-if [ "$ended" -eq 0 ] && [ -x "$built" ]; then
+# The gate leaves the programs that it proved and built. Where it did not come so far, nothing else is tested in their place.
+lrat_check=crates/lrat_check/out/lrat_check
+drat_forward=crates/drat_forward/out/drat_forward
+if [ "$ended" -eq 0 ] && [ -x "$lrat_check" ] && [ -x "$drat_forward" ]; then
     mkdir -p bin
-    cp "$built" bin/lrat-check
+    cp "$lrat_check" bin/lrat-check
+    cp "$drat_forward" bin/drat-forward
 fi
 
 echo "== tests/programs.sh"
-LRAT_CHECK=$built tests/programs.sh 2>&1 | tee "$log"
+LRAT_CHECK=$lrat_check DRAT_FORWARD=$drat_forward tests/programs.sh 2>&1 | tee "$log"
 count "${PIPESTATUS[0]}"
 
 echo "$passed passed, $failed failed"
