@@ -2,9 +2,27 @@
 #![tactic(auto)]
 
 #[cfg(test)]
+mod binary_reader;
+#[cfg(test)]
 mod bytes_and_lines;
 #[cfg(test)]
 mod cut_inputs;
+#[cfg(test)]
+mod drat_binary;
+#[cfg(test)]
+mod drat_cuts;
+#[cfg(test)]
+mod drat_deletions;
+#[cfg(test)]
+mod drat_inputs;
+#[cfg(test)]
+mod drat_reader;
+#[cfg(test)]
+mod drat_sessions;
+#[cfg(test)]
+mod drat_steps;
+#[cfg(test)]
+mod drat_support;
 #[cfg(test)]
 mod failing_writer;
 #[cfg(test)]

@@ -1,5 +1,6 @@
 //! Proofs of a formula that has models: none is verified.
 
+use crate::drat_support::{PLAIN, drat_outcome};
 use crate::readers::{Cut, Pieces};
 use crate::search::has_model;
 use crate::support::{G, outcome};
@@ -14,6 +15,18 @@ const LITERALS: [i32; 7] = [0, 1, -1, 2, -2, 3, -3];
 // The hints of the steps.
 const HINTS: [&str; 5] = ["", "1 ", "2 1 ", "-1 ", "1 -2 2 "];
 
+// What a proof in DRAT begins with.
+const STARTS: [&str; 4] = ["", "d 1 2 0\n", "d 1 3 0\n", "1 0\n1 2 0\nd 2 1 0\n"];
+
+fn push_literals(proof: &mut String, first: i32, second: i32) -> Result<(), AllocError> {
+    for literal in [first, second] {
+        if literal != 0 {
+            write!(proof, "{literal} ")?;
+        }
+    }
+    Ok(())
+}
+
 fn push_step(
     proof: &mut String,
     id: u32,
@@ -22,11 +35,7 @@ fn push_step(
     hints: &str,
 ) -> Result<(), AllocError> {
     write!(proof, "{id} ")?;
-    for literal in [first, second] {
-        if literal != 0 {
-            write!(proof, "{literal} ")?;
-        }
-    }
+    push_literals(proof, first, second)?;
     proof.push_str("0 ")?;
     proof.push_str(hints)?;
     proof.push_str("0\n")
@@ -71,5 +80,47 @@ fn two_hundred_proofs(rt: HostRuntime) -> Result<(), Fail> {
         }
     }
     assert_eq!(rt; count, 245);
+    Ok(())
+}
+
+fn drat_status_of(alloc: Global, proof: &str) -> u8 {
+    let mut formula = Pieces::new(G, 4096, Cut::Ends);
+    let mut proof = Pieces::new(proof, 4096, Cut::Ends);
+    let writer = Writer::new(alloc, usize::MAX, Stop::TakesNone);
+    let (code, _) = drat_outcome(alloc, &PLAIN, &mut formula, &mut proof, writer);
+    code
+}
+
+// After this start: a step of two literals, one of its first literal, and the empty clause.
+fn expect_drat_unverified(
+    rt: &impl Abort,
+    alloc: Global,
+    start: &str,
+    first: i32,
+    second: i32,
+) -> Result<(), AllocError> {
+    let mut proof = String::from_str(alloc, start)?;
+    push_literals(&mut proof, first, second)?;
+    proof.push_str("0\n")?;
+    push_literals(&mut proof, first, 0)?;
+    proof.push_str("0\n0\n")?;
+    let code = drat_status_of(alloc, proof.as_str());
+    assert_eq!(rt; code, 1, "{}", proof.as_str());
+    Ok(())
+}
+
+#[test]
+fn drat_proofs(rt: HostRuntime) -> Result<(), Fail> {
+    let alloc = rt.alloc();
+    let mut count = 0u32;
+    for first in LITERALS {
+        for second in LITERALS {
+            for start in STARTS {
+                expect_drat_unverified(&rt, alloc, start, first, second)?;
+                count = count.saturating_add(1);
+            }
+        }
+    }
+    assert_eq!(rt; count, 196);
     Ok(())
 }

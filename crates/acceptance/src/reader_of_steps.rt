@@ -1,4 +1,4 @@
-//! The reader of steps, into one buffer.
+//! Readers of steps, into one buffer, and that of LRAT as text.
 
 use crate::reader_of_formula::numbers;
 use crate::readers::{Cut, Pieces};
@@ -11,7 +11,7 @@ use std::test::Fail;
 type Reader<'a> = LratText<FromRead<Pieces<'a>>>;
 
 // What a step does, its identifier, its literals, and its hints or what it deletes.
-type Step<'a> = (StepKind, u64, &'a [i32], &'a [i64]);
+pub type Step<'a> = (StepKind, u64, &'a [i32], &'a [i64]);
 
 fn open<'a>(
     alloc: Global,
@@ -25,9 +25,9 @@ fn open<'a>(
     }
 }
 
-fn expect_next(
+fn expect_next<R: StepReader>(
     rt: &impl Abort,
-    reader: &mut Reader<'_>,
+    reader: &mut R,
     step: &mut StepBuf,
     next: Result<bool, Fault>,
 ) {
@@ -50,10 +50,10 @@ fn expect_step(
 }
 
 // The steps, and what comes after them at each further call.
-fn expect_steps(
+pub fn expect_steps<R: StepReader>(
     rt: &impl Abort,
     alloc: Global,
-    reader: &mut Reader<'_>,
+    reader: &mut R,
     steps: &[Step<'_>],
     last: Result<bool, Fault>,
 ) -> Result<(), Fail> {

@@ -27,8 +27,12 @@ pub struct Pieces<'a> {
 
 impl<'a> Pieces<'a> {
     pub fn new(text: &'a str, size: usize, cut: Cut) -> Pieces<'a> {
+        Pieces::of_bytes(text.as_bytes(), size, cut)
+    }
+
+    pub fn of_bytes(bytes: &'a [u8], size: usize, cut: Cut) -> Pieces<'a> {
         Pieces {
-            rest: text.as_bytes(),
+            rest: bytes,
             size,
             cut,
             is_over: false,

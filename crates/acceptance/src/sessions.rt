@@ -8,7 +8,7 @@ use std::process::Abort;
 use std::test::Fail;
 use steps::{Accepted, LratSession, Refusal};
 
-fn literals(alloc: Global, numbers: &[i32]) -> Result<Vec<Lit>, AllocError> {
+pub fn literals(alloc: Global, numbers: &[i32]) -> Result<Vec<Lit>, AllocError> {
     let mut all = Vec::new(alloc);
     for number in numbers {
         if let Some(lit) = Lit::new(*number) {

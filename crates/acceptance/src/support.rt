@@ -83,7 +83,21 @@ fn expect_in_pieces(
     let mut formula = Pieces::new(inputs.formula, size, inputs.formula_cut);
     let mut proof = Pieces::new(inputs.proof, size, inputs.proof_cut);
     let writer = Writer::new(alloc, usize::MAX, Stop::TakesNone);
-    let (code, written) = outcome(alloc, inputs.trace, &mut formula, &mut proof, writer);
+    let run = outcome(alloc, inputs.trace, &mut formula, &mut proof, writer);
+    expect_report(rt, alloc, (name, size), &run, parts, status)
+}
+
+// Compares the status and what was written with a report that is given in parts.
+pub fn expect_report(
+    rt: &impl Abort,
+    alloc: Global,
+    row: (&str, usize),
+    run: &(u8, Vec<u8>),
+    parts: &[&str],
+    status: u8,
+) -> Result<(), AllocError> {
+    let (name, size) = row;
+    let (code, written) = run;
     let mut expected = String::new(alloc);
     for part in parts {
         expected.push_str(part)?;
@@ -94,7 +108,7 @@ fn expect_in_pieces(
         expected.as_str(),
         "{name:?} in pieces of {size}"
     );
-    assert_eq!(rt; code, status, "{name:?} in pieces of {size}");
+    assert_eq!(rt; *code, status, "{name:?} in pieces of {size}");
     Ok(())
 }
 

@@ -1,0 +1,158 @@
+//! Additions of DRAT.
+
+use crate::drat_support::{DratRow, E_DRAT, PLAIN, TRACED, run_drat_rows};
+use crate::readers::Cut;
+use crate::support::{E, G};
+use std::test::Fail;
+
+const ROWS: [DratRow; 16] = [
+    DratRow {
+        name: "e_drat",
+        formula: E,
+        proof: E_DRAT,
+        cut: Cut::Ends,
+        options: PLAIN,
+        expected: "c formula 2 variables 4 clauses\nc steps 2 peak 9\ns VERIFIED\n",
+        status: 0,
+    },
+    DratRow {
+        name: "e_drat, without the last line feed",
+        formula: E,
+        proof: "2 0\n0",
+        cut: Cut::Ends,
+        options: PLAIN,
+        expected: "c formula 2 variables 4 clauses\nc steps 2 peak 9\ns VERIFIED\n",
+        status: 0,
+    },
+    DratRow {
+        name: "e_drat, traced",
+        formula: E,
+        proof: E_DRAT,
+        cut: Cut::Ends,
+        options: TRACED,
+        expected: "c formula 2 variables 4 clauses\nc 1 add rup\nc 2 add rup\nc steps 2 peak 9\ns VERIFIED\n",
+        status: 0,
+    },
+    DratRow {
+        name: "definition_by_rat",
+        formula: G,
+        proof: "3 -1 0\n-3 1 0\n",
+        cut: Cut::Ends,
+        options: TRACED,
+        expected: "c formula 2 variables 1 clauses\nc 1 add rat\nc 2 add rat\nc end: no empty clause\ns NOT VERIFIED\n",
+        status: 1,
+    },
+    DratRow {
+        name: "refused_before_bad_token",
+        formula: G,
+        proof: "-1 3 0\n?\n",
+        cut: Cut::Ends,
+        options: PLAIN,
+        expected: "c formula 2 variables 1 clauses\nc step 1: neither RUP nor RAT on -1\ns NOT VERIFIED\n",
+        status: 1,
+    },
+    DratRow {
+        name: "second_candidate_fails",
+        formula: "p cnf 3 2\n1 2 0\n1 3 0\n",
+        proof: "-1 -2 0\n",
+        cut: Cut::Ends,
+        options: PLAIN,
+        expected: "c formula 3 variables 2 clauses\nc step 1: neither RUP nor RAT on -1\ns NOT VERIFIED\n",
+        status: 1,
+    },
+    DratRow {
+        name: "tautology_and_great_variable, a tautology",
+        formula: G,
+        proof: "1 -1 0\n",
+        cut: Cut::Ends,
+        options: TRACED,
+        expected: "c formula 2 variables 1 clauses\nc 1 add rup\nc end: no empty clause\ns NOT VERIFIED\n",
+        status: 1,
+    },
+    DratRow {
+        name: "tautology_and_great_variable, the empty clause",
+        formula: G,
+        proof: "0\n",
+        cut: Cut::Ends,
+        options: PLAIN,
+        expected: "c formula 2 variables 1 clauses\nc step 1: not RUP\ns NOT VERIFIED\n",
+        status: 1,
+    },
+    DratRow {
+        name: "tautology_and_great_variable, the greatest variable",
+        formula: G,
+        proof: "268435455 0\n",
+        cut: Cut::Ends,
+        options: TRACED,
+        expected: "c formula 2 variables 1 clauses\nc 1 add rat\nc end: no empty clause\ns NOT VERIFIED\n",
+        status: 1,
+    },
+    DratRow {
+        name: "repeated_literal",
+        formula: "p cnf 1 2\n1 1 0\n-1 0\n",
+        proof: "0\n",
+        cut: Cut::Ends,
+        options: PLAIN,
+        expected: "c formula 1 variables 2 clauses\nc steps 1 peak 2\ns VERIFIED\n",
+        status: 0,
+    },
+    DratRow {
+        name: "the rest of a tautology is no conflict",
+        formula: "p cnf 2 1\n1 -1 0\n",
+        proof: "1 2 0\n",
+        cut: Cut::Ends,
+        options: PLAIN,
+        expected: "c formula 2 variables 1 clauses\nc step 1: neither RUP nor RAT on 1\ns NOT VERIFIED\n",
+        status: 1,
+    },
+    DratRow {
+        name: "the first literal is the pivot",
+        formula: "p cnf 2 1\n1 -1 0\n",
+        proof: "2 1 0\n",
+        cut: Cut::Ends,
+        options: TRACED,
+        expected: "c formula 2 variables 1 clauses\nc 1 add rat\nc end: no empty clause\ns NOT VERIFIED\n",
+        status: 1,
+    },
+    DratRow {
+        name: "the empty clause by propagation",
+        formula: "p cnf 2 3\n1 0\n-1 2 0\n-1 -2 0\n",
+        proof: "0\n",
+        cut: Cut::Ends,
+        options: PLAIN,
+        expected: "c formula 2 variables 3 clauses\nc steps 1 peak 5\ns VERIFIED\n",
+        status: 0,
+    },
+    DratRow {
+        name: "literals of a step count once",
+        formula: E,
+        proof: "2 2 2 0\n0\n",
+        cut: Cut::Ends,
+        options: PLAIN,
+        expected: "c formula 2 variables 4 clauses\nc steps 2 peak 9\ns VERIFIED\n",
+        status: 0,
+    },
+    DratRow {
+        name: "nothing after the empty clause counts",
+        formula: E,
+        proof: "2 0\n0\n?\n1 0\n",
+        cut: Cut::Ends,
+        options: TRACED,
+        expected: "c formula 2 variables 4 clauses\nc 1 add rup\nc 2 add rup\nc steps 2 peak 9\ns VERIFIED\n",
+        status: 0,
+    },
+    DratRow {
+        name: "the end after an accepted step",
+        formula: E,
+        proof: "2 0\n",
+        cut: Cut::Ends,
+        options: TRACED,
+        expected: "c formula 2 variables 4 clauses\nc 1 add rup\nc end: no empty clause\ns NOT VERIFIED\n",
+        status: 1,
+    },
+];
+
+#[test]
+fn rows(rt: HostRuntime) -> Result<(), Fail> {
+    run_drat_rows(&rt, rt.alloc(), &ROWS)
+}
