@@ -65,6 +65,47 @@ write_failed() {
 
 x=examples
 
+# of_every_tool PREFIX PROGRAM PROOF: what each tool does alike, with a proof of examples/e.cnf
+of_every_tool() {
+    row "$1_missing_formula" 3 $x/there_is_no_such_file "$3" <<'LINES'
+c cannot read formula
+s NOT VERIFIED
+LINES
+
+    row "$1_missing_proof" 3 $x/e.cnf $x/there_is_no_such_file <<'LINES'
+c formula 2 variables 4 clauses
+c cannot read proof
+s NOT VERIFIED
+LINES
+
+    # a folder can be opened, and then its first read fails
+    row "$1_folder_as_formula" 3 $x "$3" <<'LINES'
+c cannot read formula
+s NOT VERIFIED
+LINES
+
+    row "$1_folder_as_proof" 3 $x/e.cnf $x <<'LINES'
+c formula 2 variables 4 clauses
+c cannot read proof
+s NOT VERIFIED
+LINES
+
+    if [ -w /dev/full ]; then
+        "$checker" $x/e.cnf "$3" > /dev/full 2> "$room/out"
+        write_failed "$1_full_device" "$2" $?
+    fi
+
+    usage "$1_no_words"
+    usage "$1_help" --help
+    usage "$1_short_help" -h
+    usage "$1_version" --version
+    usage "$1_unknown_flag" --fast $x/e.cnf "$3"
+    usage "$1_flag_with_a_value" --trace=1 $x/e.cnf "$3"
+    usage "$1_shortened_flag" --tra $x/e.cnf "$3"
+    usage "$1_name_with_a_hyphen" -1 "$3"
+    usage "$1_three_names" $x/e.cnf "$3" "$3"
+}
+
 # ==== lrat-check
 
 checker=$lrat_check
@@ -210,45 +251,9 @@ c formula 2:3: literal out of range
 s NOT VERIFIED
 LINES
 
-# ---- Files that cannot be read
-
-row missing_formula 3 $x/there_is_no_such_file $x/e.lrat <<'LINES'
-c cannot read formula
-s NOT VERIFIED
-LINES
-
-row missing_proof 3 $x/e.cnf $x/there_is_no_such_file <<'LINES'
-c formula 2 variables 4 clauses
-c cannot read proof
-s NOT VERIFIED
-LINES
-
-# a folder can be opened, and then its first read fails
-row folder_as_formula 3 $x $x/e.lrat <<'LINES'
-c cannot read formula
-s NOT VERIFIED
-LINES
-
-# ---- A writer that fails
-
-if [ -w /dev/full ]; then
-    "$checker" $x/e.cnf $x/e.lrat > /dev/full 2> "$room/out"
-    write_failed full_device lrat-check $?
-fi
-
-# ---- Words
-
-usage no_words
-usage help --help
-usage short_help -h
-usage version --version
-usage unknown_flag --fast $x/e.cnf
-usage flag_of_another_tool --binary $x/e.cnf $x/e.lrat
-usage flag_with_a_value --trace=1 $x/e.cnf $x/e.lrat
-usage shortened_flag --tra $x/e.cnf $x/e.lrat
-usage name_with_a_hyphen -1 $x/e.lrat
-usage flag_alone --trace
-usage three_names $x/e.cnf $x/e.lrat $x/e.lrat
+of_every_tool lrat lrat-check $x/e.lrat
+usage lrat_flag_of_another_tool --binary $x/e.cnf $x/e.lrat
+usage lrat_flag_alone --trace
 
 # ==== drat-forward
 
@@ -410,49 +415,10 @@ c formula 2:3: literal out of range
 s NOT VERIFIED
 LINES
 
-# ---- Files that cannot be read
-
-row drat_missing_formula 3 $x/there_is_no_such_file $x/e.drat <<'LINES'
-c cannot read formula
-s NOT VERIFIED
-LINES
-
-row drat_missing_proof 3 $x/e.cnf $x/there_is_no_such_file <<'LINES'
-c formula 2 variables 4 clauses
-c cannot read proof
-s NOT VERIFIED
-LINES
-
-row drat_folder_as_formula 3 $x $x/e.drat <<'LINES'
-c cannot read formula
-s NOT VERIFIED
-LINES
-
-row drat_folder_as_proof 3 $x/e.cnf $x <<'LINES'
-c formula 2 variables 4 clauses
-c cannot read proof
-s NOT VERIFIED
-LINES
-
-# ---- A writer that fails
-
-if [ -w /dev/full ]; then
-    "$checker" $x/e.cnf $x/e.drat > /dev/full 2> "$room/out"
-    write_failed full_device drat-forward $?
-fi
-
-# ---- Words
-
-usage drat_no_words
-usage drat_help --help
-usage drat_short_help -h
-usage drat_version --version
-usage drat_unknown_flag --core $x/e.cnf
-usage drat_flag_with_a_value --strict=1 $x/e.cnf $x/e.drat
-usage drat_shortened_flag --stri $x/e.cnf $x/e.drat
-usage drat_name_with_a_hyphen -1 $x/e.drat
+of_every_tool drat drat-forward $x/e.drat
+usage drat_strict_with_a_value --strict=1 $x/e.cnf $x/e.drat
+usage drat_shortened_strict --stri $x/e.cnf $x/e.drat
 usage drat_flags_alone --trace --strict
-usage drat_three_names $x/e.cnf $x/e.drat $x/e.drat
 
 echo "$passed passed, $failed failed"
 [ "$failed" -eq 0 ]
