@@ -1,2 +1,4 @@
 pub mod HeaderLemmas
 pub mod FormulaLemmas
+pub mod ModelLemmas
+pub mod ClaimLemmas

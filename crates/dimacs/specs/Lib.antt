@@ -1,2 +1,4 @@
 pub mod Formula
 pub mod Reading
+pub mod Claim
+pub mod Claiming

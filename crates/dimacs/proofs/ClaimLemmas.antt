@@ -1,0 +1,191 @@
+-- A solver's output, one token at a time.
+use Rattle.std.proofs.Common.{◌≡◌, eqb, refl, sym, ap, subst, ◌∙◌}
+use Rattle.std.specs.Prelude.{nat_le, ◌||◌, cond, Bool, true, false, List, [], ◌∷◌, Option, None, Some, Result, Ok, Err}
+use Rattle.std.proofs.lemmas.Bool.{true≢false, false≢true}
+use Rattle.cnf_base.specs.Literals.{Literal, complement, has}
+use Rattle.cnf_base.specs.Stream.{Stream, Along}
+use Rattle.cnf_base.specs.Text.{Listed, Listing, listing_at, Gives}
+use Rattle.cnf_base.specs.Words.{number_literal}
+use Rattle.cnf_base.specs.declared.input.Ending.{Ending}
+use Rattle.cnf_base.specs.declared.input.Ending.TheVariants.{End, Failed}
+use Rattle.cnf_base.specs.declared.input.ReadFailed.{ReadFailed as Cut}
+use Rattle.cnf_base.specs.declared.place.Place.{Place}
+use Rattle.cnf_base.specs.declared.word.Word.{Word}
+use Rattle.cnf_base.specs.declared.word.Word.TheVariants as words
+use Rattle.cnf_base.specs.declared.token.Token as tokens
+use Rattle.cnf_base.specs.declared.token.Token.TheVariants as token
+use Rattle.cnf_base.specs.declared.fault.Fault.{Fault}
+use Rattle.cnf_base.specs.declared.fault.Fault.TheVariants.{Text, Binary, ReadFailed, OutOfMemory}
+use Rattle.cnf_base.specs.declared.fault.TextFault.TheVariants.{BadToken, BadLine, SecondStatus, NotClaimed, AfterEnd, Complement, LiteralTooLarge}
+use Rattle.cnf_base.proofs.StreamLemmas.{Along-then, Along-map}
+use Rattle.dimacs.specs.Formula.{and_then}
+use Rattle.dimacs.specs.Claim.{Said, on_first, on_status, on_literal, on_value, on_word, on_line_end, concluded, placed, on_token, on_end, claim_among, claim_after, IsClaim}
+use Rattle.dimacs.specs.Claiming.{with_listed, ComesTo, Takes}
+use Rattle.dimacs.specs.declared.position.Position.{Position}
+use Rattle.dimacs.specs.declared.position.Position.TheVariants.{LineStart, AfterS, AfterStatus, Values}
+
+-- ---- Only the set of the listed literals counts
+
+abbrev Same : List Literal → List Literal → Type 0
+Same xs ys = (l : Literal) → has xs l ≡ has ys l
+
+abbrev said : Position → Bool → Bool → List Literal → Said
+said position has_status is_ended ls = record { position = position; has_status = has_status; is_ended = is_ended; listed = ls }
+
+-- the same fault, or the same said with the same set
+data Alike : Result Said Fault → Result Said Fault → Type 0 where
+  both : (s : Said) (ls : List Literal) → Same s.listed ls → Alike (Ok s) (Ok (with_listed ls s))
+  neither : (f : Fault) → Alike (Err f) (Err f)
+
+module _ (place : Place) (xs ls : List Literal) (same : Same xs ls) where
+  first_alike : (p : Position) (h e : Bool) (w : Word) → Alike (placed place (on_first (said p h e xs) w)) (placed place (on_first (said p h e ls) w))
+  first_alike p true e words.S = neither (Text SecondStatus place)
+  first_alike p false e words.S = both (said AfterS false e xs) ls same
+  first_alike p h e words.V = both (said Values h e xs) ls same
+  first_alike p h e _ = neither (Text BadLine place)
+
+  status_alike : (p : Position) (h e : Bool) (w : Word) → Alike (placed place (on_status (said p h e xs) w)) (placed place (on_status (said p h e ls) w))
+  status_alike p h e words.Satisfiable = both (said AfterStatus true e xs) ls same
+  status_alike p h e words.Unsatisfiable = neither (Text NotClaimed place)
+  status_alike p h e words.Unknown = neither (Text NotClaimed place)
+  status_alike p h e _ = neither (Text BadLine place)
+
+  listed_alike : (p : Position) (h e : Bool) (l : Literal) (a b : Bool) → a ≡ b
+      → Alike (placed place (cond a (Err Complement) (Ok (said p h e (l ∷ xs))))) (placed place (cond b (Err Complement) (Ok (said p h e (l ∷ ls)))))
+  listed_alike p h e l true true q = neither (Text Complement place)
+  listed_alike p h e l false false q = both (said p h e (l ∷ xs)) (l ∷ ls) (λ k. ap (λ b. eqb l k || b) (same k))
+  listed_alike p h e l true false q = absurd (true≢false q)
+  listed_alike p h e l false true q = absurd (false≢true q)
+
+  literal_alike : (p : Position) (h e : Bool) (o : Option Literal) → Alike (placed place (on_literal (said p h e xs) o)) (placed place (on_literal (said p h e ls) o))
+  literal_alike p h e None = both (said p h true xs) ls same
+  literal_alike p h e (Some l) = listed_alike p h e l (has xs (complement l)) (has ls (complement l)) (same (complement l))
+
+  number_alike : (p : Position) (h e fits ended : Bool) (o : Option Literal)
+      → Alike (placed place (cond fits (cond ended (Err AfterEnd) (on_literal (said p h e xs) o)) (Err LiteralTooLarge)))
+      (placed place (cond fits (cond ended (Err AfterEnd) (on_literal (said p h e ls) o)) (Err LiteralTooLarge)))
+  number_alike p h e false ended o = neither (Text LiteralTooLarge place)
+  number_alike p h e true true o = neither (Text AfterEnd place)
+  number_alike p h e true false o = literal_alike p h e o
+
+  value_alike : (p : Position) (h e : Bool) (w : Word) → Alike (placed place (on_value (said p h e xs) w)) (placed place (on_value (said p h e ls) w))
+  value_alike p h e (words.Number n) = number_alike p h e (nat_le n.size 268435455) e (number_literal n)
+  value_alike p h e _ = neither (Text BadToken place)
+
+  word_alike : (p : Position) (h e : Bool) (w : Word) → Alike (placed place (on_word (said p h e xs) w)) (placed place (on_word (said p h e ls) w))
+  word_alike LineStart h e w = first_alike LineStart h e w
+  word_alike AfterS h e w = status_alike AfterS h e w
+  word_alike AfterStatus h e w = neither (Text BadLine place)
+  word_alike Values h e w = value_alike Values h e w
+
+  line_alike : (p : Position) (h e : Bool) → Alike (placed place (on_line_end (said p h e xs))) (placed place (on_line_end (said p h e ls)))
+  line_alike AfterS h e = neither (Text BadLine place)
+  line_alike LineStart h e = both (said LineStart h e xs) ls same
+  line_alike AfterStatus h e = both (said LineStart h e xs) ls same
+  line_alike Values h e = both (said LineStart h e xs) ls same
+
+token_alike : (s : Said) (ls : List Literal) (t : tokens.Token) → Same s.listed ls → Alike (on_token s t) (on_token (with_listed ls s) t)
+token_alike s ls (token.Word place w) same = word_alike place s.listed ls same s.position s.has_status s.is_ended w
+token_alike s ls (token.LineEnd place) same = line_alike place s.listed ls same s.position s.has_status s.is_ended
+token_alike s ls (token.End place) same = both s ls same
+
+-- ---- What is claimed
+
+-- whatever the second claim allows the first does too
+abbrev pub Carries : Result (List Literal) Fault → Result (List Literal) Fault → Type 0
+Carries c d = (r : Result (List Literal) Fault) → IsClaim r d → IsClaim r c
+
+module _ (next : Said → Result (List Literal) Fault) (carries : (s : Said) (ls : List Literal) → Same s.listed ls → Carries (next (with_listed ls s)) (next s)) where
+  then_alike : (a b : Result Said Fault) → Alike a b → Carries (and_then b next) (and_then a next)
+  then_alike _ _ (both s ls same) = carries s ls same
+  then_alike _ _ (neither f) = λ r x. x
+
+claims_same : (xs ls : List Literal) → Same xs ls → Carries (Ok ls) (Ok xs)
+claims_same xs ls same (Ok model) x = λ l. x l ∙ same l
+claims_same xs ls same (Err OutOfMemory) x = tt
+claims_same xs ls same (Err ReadFailed) x = absurd (let bad : Ok xs ≡ Err ReadFailed = x in cc)
+claims_same xs ls same (Err (Text f p)) x = absurd (let bad : Ok xs ≡ Err (Text f p) = x in cc)
+claims_same xs ls same (Err (Binary f n)) x = absurd (let bad : Ok xs ≡ Err (Binary f n) = x in cc)
+
+concluded_alike : (place : Place) (p : Position) (h e : Bool) (xs ls : List Literal) → Same xs ls
+    → Carries (placed place (concluded (said p h e ls))) (placed place (concluded (said p h e xs)))
+concluded_alike place p true true xs ls same = claims_same xs ls same
+concluded_alike place p true false xs ls same = λ r x. x
+concluded_alike place p false e xs ls same = λ r x. x
+
+claim_alike : (ts : List Listed) (place : Place) (ending : Ending) (s : Said) (ls : List Literal) → Same s.listed ls
+    → Carries (claim_among (with_listed ls s) ts place ending) (claim_among s ts place ending)
+claim_alike [] place Failed s ls same = λ r x. x
+claim_alike [] place End s ls same =
+    then_alike (λ s. placed place (concluded s)) (λ s ls same. concluded_alike place s.position s.has_status s.is_ended s.listed ls same)
+    _ _ (line_alike place s.listed ls same s.position s.has_status s.is_ended)
+claim_alike (t ∷ ts) place ending s ls same =
+    then_alike (λ s. claim_among s ts place ending) (claim_alike ts place ending) _ _ (token_alike s ls t.token same)
+
+-- the code has come to where the output goes on
+comes_to : (now : Said) (after : Result Said Fault) → ComesTo now after → (l : Listing) → Carries (and_then after (λ s. claim_after s l)) (claim_after now l)
+comes_to now after comes l = λ r x.
+    subst (λ a. IsClaim r (and_then a (λ s. claim_after s l))) (sym comes.is) (claim_alike l.tokens l.end l.ending now comes.listed comes.same r x)
+
+-- a token is at fault, and so is the output
+fault_claimed : (f : Fault) (now : Said) (after : Result Said Fault) (next : Said → Result (List Literal) Fault) → Takes (Err f) now after
+    → IsClaim (Err f) (and_then after next)
+fault_claimed OutOfMemory now after next takes = tt
+fault_claimed ReadFailed now after next takes = ap (λ a. and_then a next) takes
+fault_claimed (Text f p) now after next takes = ap (λ a. and_then a next) takes
+fault_claimed (Binary f n) now after next takes = ap (λ a. and_then a next) takes
+
+-- ---- From token to token
+
+-- from one moment to another tokens were taken
+pub record Hears (old now : Stream) (before so_far : Said) : Type 0 where
+  pub text : Along old now (λ i j. Carries (claim_after before (listing_at old.place i)) (claim_after so_far (listing_at now.place j)))
+  pub mark : now.has_failed ≡ old.has_failed
+
+module _ (old now new : Stream) (before so_far : Said) (hears : Hears old now before so_far) where
+  module _ (r : Result Said Fault) (text : Along now new (λ i j. claim_after so_far (listing_at now.place i) ≡ and_then r (λ s. claim_after s (listing_at new.place j)))) where
+    went_on : Along old new (λ i j. Carries (claim_after before (listing_at old.place i)) (and_then r (λ s. claim_after s (listing_at new.place j))))
+    went_on = Along-then old now new _ _ _ hears.text text (λ i j k m q e r x. q r (subst (IsClaim r) (sym e) x))
+
+    took : (after : Said) → ComesTo after r → new.has_failed ≡ now.has_failed → Hears old new before after
+    took after comes mark = record {
+      text = Along-map old new _ _ went_on (λ i j m q r x. q r (comes_to after _ comes (listing_at new.place j) r x));
+      mark = mark ∙ hears.mark;
+    }
+
+    fails : (f : Fault) (after : Said) → Takes (Err f) after r → Along old new (λ i j. IsClaim (Err f) (claim_after before (listing_at old.place i)))
+    fails f after takes = Along-map old new _ _ went_on (λ i j m q. q (Err f) (fault_claimed f after r _ takes))
+
+  module _ (p : Place) (w : Word) (gives : Along now new (λ i j. Gives (Ok (token.Word p w)) (listing_at now.place i) (listing_at new.place j) j)) where
+    word_text : Along now new (λ i j. claim_after so_far (listing_at now.place i) ≡ and_then (placed p (on_word so_far w)) (λ s. claim_after s (listing_at new.place j)))
+    word_text = Along-map now new _ _ gives (λ i j m e. ap (claim_after so_far) e)
+
+    pub Hears-word : (after : Said) → Takes (Ok tt) after (placed p (on_word so_far w)) → new.has_failed ≡ now.has_failed → Hears old new before after
+    Hears-word after comes mark = took _ word_text after comes mark
+
+    pub Hears-bad_word : (f : Fault) (after : Said) → Takes (Err f) after (placed p (on_word so_far w))
+        → Along old new (λ i j. IsClaim (Err f) (claim_after before (listing_at old.place i)))
+    Hears-bad_word f after takes = fails _ word_text f after takes
+
+  module _ (p : Place) (gives : Along now new (λ i j. Gives (Ok (token.LineEnd p)) (listing_at now.place i) (listing_at new.place j) j)) where
+    line_text : Along now new (λ i j. claim_after so_far (listing_at now.place i) ≡ and_then (placed p (on_line_end so_far)) (λ s. claim_after s (listing_at new.place j)))
+    line_text = Along-map now new _ _ gives (λ i j m e. ap (claim_after so_far) e)
+
+    pub Hears-line : (after : Said) → Takes (Ok tt) after (placed p (on_line_end so_far)) → new.has_failed ≡ now.has_failed → Hears old new before after
+    Hears-line after comes mark = took _ line_text after comes mark
+
+    pub Hears-bad_line : (f : Fault) (after : Said) → Takes (Err f) after (placed p (on_line_end so_far))
+        → Along old new (λ i j. IsClaim (Err f) (claim_after before (listing_at old.place i)))
+    Hears-bad_line f after takes = fails _ line_text f after takes
+
+  pub Hears-end : (p : Place) (claim : Result (List Literal) Fault) → Along now new (λ i j. Gives (Ok (token.End p)) (listing_at now.place i) (listing_at new.place j) j)
+      → IsClaim claim (on_end so_far p End) → Along old new (λ i j. IsClaim claim (claim_after before (listing_at old.place i)))
+  Hears-end p claim gives claims = Along-then old now new _ _ _ hears.text gives (λ i j k m q g.
+      q claim (subst (λ l. IsClaim claim (claim_after so_far l)) (sym g.1) claims))
+
+  pub Hears-failed : (cut : Cut) → Along now new (λ i j. Gives (Err cut) (listing_at now.place i) (listing_at new.place j) j)
+      → Along old new (λ i j. IsClaim (Err ReadFailed) (claim_after before (listing_at old.place i)))
+  Hears-failed cut gives = Along-then old now new _ _ _ hears.text gives (λ i j k m q g. q (Err ReadFailed) (empty (listing_at now.place j) g.1 g.2))
+    where
+      empty : (l : Listing) → l.tokens ≡ [] → l.ending ≡ Failed → claim_after so_far l ≡ Err ReadFailed
+      empty l none failed = rw (none, failed) refl

@@ -1,0 +1,116 @@
+-- The model that a solver's output claims (SAT Competition: `s` and `v` lines; that these may stand in any order, the faults,
+-- their places and the order of judging are our own profile).
+use Rattle.std.specs.Prelude.{◌≡◌, nat_le, Bool, true, false, cond, List, [], ◌∷◌, Option, None, Some, Result, Ok, Err}
+use Rattle.cnf_base.specs.Literals.{Literal, complement, has}
+use Rattle.cnf_base.specs.Stream.{Input}
+use Rattle.cnf_base.specs.Words.{number_literal}
+use Rattle.cnf_base.specs.Text.{Listed, Listing, listing_at, listing_of}
+use Rattle.cnf_base.specs.declared.input.Ending.{Ending}
+use Rattle.cnf_base.specs.declared.input.Ending.TheVariants.{End, Failed}
+use Rattle.cnf_base.specs.declared.place.Place.{Place}
+use Rattle.cnf_base.specs.declared.word.Word.{Word}
+use Rattle.cnf_base.specs.declared.word.Word.TheVariants as words
+use Rattle.cnf_base.specs.declared.token.Token as tokens
+use Rattle.cnf_base.specs.declared.token.Token.TheVariants as token
+use Rattle.cnf_base.specs.declared.fault.Fault.{Fault}
+use Rattle.cnf_base.specs.declared.fault.Fault.TheVariants.{Text, ReadFailed, OutOfMemory}
+use Rattle.cnf_base.specs.declared.fault.TextFault.{TextFault}
+use Rattle.cnf_base.specs.declared.fault.TextFault.TheVariants.{BadToken, BadLine, SecondStatus, NoStatus, NotClaimed, AfterEnd, UnterminatedModel, Complement, LiteralTooLarge}
+use Rattle.dimacs.specs.Formula.{and_then}
+use Rattle.dimacs.specs.declared.position.Position.{Position}
+use Rattle.dimacs.specs.declared.position.Position.TheVariants.{LineStart, AfterS, AfterStatus, Values}
+
+-- what an output has said so far: where in its line the next token stands, whether there was a status line, whether there was
+-- the `0` that ends the model, and the literals that are listed
+pub record Said : Type 0 where
+  pub position : Position
+  pub has_status : Bool
+  pub is_ended : Bool
+  pub listed : List Literal
+
+abbrev pub nothing : Said
+nothing = record { position = LineStart; has_status = false; is_ended = false; listed = [] }
+
+-- a line's first token
+abbrev pub on_first : Said → Word → Result Said TextFault
+on_first s words.S = cond s.has_status (Err SecondStatus) (Ok (record s { position = AfterS }))
+on_first s words.V = Ok (record s { position = Values })
+on_first s _ = Err BadLine
+
+-- the token after an `s`
+abbrev pub on_status : Said → Word → Result Said TextFault
+on_status s words.Satisfiable = Ok (record s { position = AfterStatus; has_status = true })
+on_status s words.Unsatisfiable = Err NotClaimed
+on_status s words.Unknown = Err NotClaimed
+on_status s _ = Err BadLine
+
+-- a literal is listed, or the model ends
+abbrev pub on_literal : Said → Option Literal → Result Said TextFault
+on_literal s None = Ok (record s { is_ended = true })
+on_literal s (Some l) = cond (has s.listed (complement l)) (Err Complement) (Ok (record s { listed = l ∷ s.listed }))
+
+-- a token after a `v`, in the order of judging
+abbrev pub on_value : Said → Word → Result Said TextFault
+on_value s (words.Number n) = cond (nat_le n.size 268435455) (cond s.is_ended (Err AfterEnd) (on_literal s (number_literal n))) (Err LiteralTooLarge)
+on_value s _ = Err BadToken
+
+abbrev pub on_word_at : Position → Said → Word → Result Said TextFault
+on_word_at LineStart s w = on_first s w
+on_word_at AfterS s w = on_status s w
+on_word_at AfterStatus s w = Err BadLine
+on_word_at Values s w = on_value s w
+
+abbrev pub on_word : Said → Word → Result Said TextFault
+on_word s w = on_word_at s.position s w
+
+-- a line may end everywhere but just after its `s`
+abbrev pub line_ended : Position → Said → Result Said TextFault
+line_ended AfterS s = Err BadLine
+line_ended _ s = Ok (record s { position = LineStart })
+
+abbrev pub on_line_end : Said → Result Said TextFault
+on_line_end s = line_ended s.position s
+
+-- the output ends after its last line
+abbrev pub concluded : Said → Result (List Literal) TextFault
+concluded s = cond s.has_status (cond s.is_ended (Ok s.listed) (Err UnterminatedModel)) (Err NoStatus)
+
+-- what is wrong, and where
+abbrev pub placed : {A : Type 0} → Place → Result A TextFault → Result A Fault
+placed p (Ok x) = Ok x
+placed p (Err f) = Err (Text f p)
+
+abbrev pub on_token : Said → tokens.Token → Result Said Fault
+on_token s (token.Word p w) = placed p (on_word s w)
+on_token s (token.LineEnd p) = placed p (on_line_end s)
+on_token s (token.End p) = Ok s
+
+abbrev pub on_end : Said → Place → Ending → Result (List Literal) Fault
+on_end s p End = and_then (placed p (on_line_end s)) (λ s. placed p (concluded s))
+on_end s p Failed = Err ReadFailed
+
+abbrev pub claim_among : Said → List Listed → Place → Ending → Result (List Literal) Fault
+claim_among s [] p ending = on_end s p ending
+claim_among s (t ∷ ts) p ending = and_then (on_token s t.token) (λ s. claim_among s ts p ending)
+
+-- the claim of an output that has said so much, from a text on
+abbrev pub claim_after : Said → Listing → Result (List Literal) Fault
+claim_after s l = claim_among s l.tokens l.end l.ending
+
+abbrev pub claim_at : Place → Input → Result (List Literal) Fault
+claim_at p i = claim_after nothing (listing_at p i)
+
+-- the literals that a solver's output claims to be a model, or the first fault
+abbrev pub claim_of : Input → Result (List Literal) Fault
+claim_of i = claim_after nothing (listing_of i)
+
+-- no literal is there with its complement
+abbrev pub IsConsistent : List Literal → Type 0
+IsConsistent listed = (l : Literal) → has listed l ≡ true → has listed (complement l) ≡ false
+
+-- these literals, as a set, are what is claimed, or this is the fault; want of memory says nothing
+abbrev pub IsClaim : Result (List Literal) Fault → Result (List Literal) Fault → Type 0
+IsClaim (Ok model) (Ok listed) = (l : Literal) → has model l ≡ has listed l
+IsClaim (Ok model) (Err f) = ⊥
+IsClaim (Err OutOfMemory) claimed = Unit {0}
+IsClaim (Err f) claimed = claimed ≡ Err f
