@@ -1,5 +1,5 @@
 -- The search over the clauses with the pivot's complement.
-use Rattle.std.proofs.Common.{◌≡◌, ℕ, ◌+◌, ◌<◌, ◌≤◌, Bool, true, false, Some, IsSome, List, ◌++◌, refl, sym, subst, arith, inl, inr}
+use Rattle.std.proofs.Common.{◌≡◌, ℕ, ◌+◌, ◌<◌, ◌≤◌, true, Some, IsSome, List, ◌++◌, refl, sym, subst, arith, inl, inr}
 use Rattle.std.specs.Ordering.{nat_cmp}
 use Rattle.std.specs.FinMap as maps
 use Rattle.std.specs.FinMap.{FinMap}
@@ -8,7 +8,7 @@ use Rattle.cnf_base.specs.Literals.{Literal, Clause, has, complements, without}
 use Rattle.clause_db.specs.Assumptions.{Propagation, Assumption, IsAnswer, HasAt, assumed_by}
 use Rattle.clause_db.specs.declared.answer.Answer.{Answer}
 use Rattle.clause_db.specs.declared.answer.Answer.TheVariants.{Clash as AnswersClash, Quiet}
-use Rattle.steps.specs.Propagation.{Live, Clash}
+use Rattle.steps.specs.Propagation.{Clash}
 use Rattle.steps.specs.Candidates.{AllClash, SomeQuiet}
 
 -- each clause with the literal in a slot before this one clashes

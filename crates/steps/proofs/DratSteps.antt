@@ -1,26 +1,26 @@
 -- The answers to a DRAT step, from what propagation over the slots says.
-use Rattle.std.proofs.Common.{◌≡◌, ◌≢◌, ℕ, ◌<◌, ◌==◌, Bool, true, false, cond, Option, Some, None, Ok, Err, List, [], ◌∷◌, ◌++◌, slice_get, map, ◌+◌, refl, sym, ap, ◌∙◌, subst, inl, inr, arith, eqb-true, eq-eqb}
+use Rattle.std.proofs.Common.{◌≡◌, ◌≢◌, ℕ, Bool, true, false, cond, Some, None, Ok, Err, List, [], ◌∷◌, ◌++◌, slice_get, ◌+◌, refl, sym, ap, ◌∙◌, subst, inl, inr, eqb-true, eq-eqb}
 use Rattle.std.specs.List.{list_any}
 use Rattle.std.specs.Ordering.{nat_cmp, eq_by_cmp}
 use Rattle.std.specs.FinMap as maps
-use Rattle.std.specs.FinMap.{FinMap, get-insert, get-remove, same_map, nat_cmp-IsAntisymmetric}
+use Rattle.std.specs.FinMap.{FinMap, get-insert, same_map, nat_cmp-IsAntisymmetric}
 use Rattle.std.specs.Cmp.{nat_cmp_total, unsigned_tied}
-use Rattle.std.proofs.lemmas.Bool.{cases_Bool, false_from_ne_true, false≢true, true≢false, or_left, or_right}
+use Rattle.std.proofs.lemmas.Bool.{cases_Bool, false_from_ne_true, true≢false, or_left, or_right}
 use Rattle.std.proofs.lemmas.List.{map-append}
 use Rattle.std.proofs.lemmas.List.Folds.{list_any_at}
 use Rattle.std.proofs.lemmas.Option.{slice_get_within, get_or_from_slice_get}
 use Rattle.cnf_base.specs.Literals.{Literal, Clause, complement, complements, has, without, same_clause}
 use Rattle.cnf_base.proofs.SetLemmas.{has_append_left, has_append_right, has_append_cases, has_head, both_pass}
-use Rattle.clause_db.specs.Assumptions.{SameSet, HasAt}
+use Rattle.clause_db.specs.Assumptions.{SameSet}
 use Rattle.steps.specs.declared.accepted.Accepted.{Accepted}
-use Rattle.steps.specs.declared.accepted.Accepted.TheVariants.{Rup, Rat, Empty, Deleted, Ignored}
-use Rattle.steps.specs.declared.refusal.Refusal.TheVariants.{NotRup, NeitherRupNorRat, NotAlive}
-use Rattle.steps.specs.Propagation.{Live, Clash, HasRup, HasRat}
+use Rattle.steps.specs.declared.accepted.Accepted.TheVariants.{Rat}
+use Rattle.steps.specs.declared.refusal.Refusal.TheVariants.{NotRup, NeitherRupNorRat}
+use Rattle.steps.specs.Propagation.{Live, Clash, HasRup}
 use Rattle.steps.specs.Candidates.{AllClash, SomeQuiet, SearchedCandidates}
 use Rattle.steps.specs.Lrat.{AnswersChain, conflict}
-use Rattle.steps.specs.Drat.{AnswersAdd, AnswersDelete, take_off, copies_of, SameLive}
+use Rattle.steps.specs.Drat.{AnswersAdd, take_off, copies_of, SameLive}
 use Rattle.steps.proofs.Propagating.{forced_assumed, clash_through}
-use Rattle.steps.proofs.Copies.{same_itself, same_symm, same_trans, copies-cons, alive_at, at_alive}
+use Rattle.steps.proofs.Copies.{same_symm, same_trans, copies-cons, alive_at}
 use Rattle.steps.proofs.Slots.{slots-insert, slots-remove, slots-clash, slots-rat, slots_covered, covered_by_slots}
 
 -- ---- RUP and RAT

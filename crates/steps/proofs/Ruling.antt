@@ -1,5 +1,5 @@
 -- What both rules share: answers, states and sums depend only on the clauses.
-use Rattle.std.proofs.Common.{◌≡◌, ℕ, ◌-◌, ◌^◌, min, Bool, true, false, Ok, Err, List, [], ◌∷◌, slice_get, sum_by, refl, sym, ap, ◌∙◌, subst, inl, inr}
+use Rattle.std.proofs.Common.{◌≡◌, ◌-◌, ◌^◌, min, Bool, true, false, Ok, Err, List, [], ◌∷◌, slice_get, ap, ◌∙◌, subst, inl, inr}
 use Rattle.std.specs.Bool.{MatchBool}
 use Rattle.std.specs.List.{list_any}
 use Rattle.std.proofs.lemmas.Bool.{cases_Bool, MatchBool-at_false}
@@ -7,9 +7,9 @@ use Rattle.cnf_base.specs.Literals.{Clause}
 use Rattle.proofs.specs.Steps.{Step}
 use Rattle.steps.specs.declared.accepted.Accepted.{Accepted}
 use Rattle.steps.specs.declared.accepted.Accepted.TheVariants.{Empty}
-use Rattle.steps.specs.Drat.{Answer, SameLive, AnswersDrat}
+use Rattle.steps.specs.Drat.{Answer, AnswersDrat}
 use Rattle.steps.specs.DratSessions.{drat_step}
-use Rattle.steps.specs.Lrat.{lrat_step, SameClauses}
+use Rattle.steps.specs.Lrat.{lrat_step}
 use Rattle.steps.specs.Rules.{State, by_ids, by_copies, Answers, after, sum_of, Same, IsSatisfiable, Rule, lrat, drat, start, Verdict}
 use Rattle.steps.specs.Models.{HasModel}
 use Rattle.steps.specs.Verdicts.{Ending, verified, is_empty, is_last, Ends}

@@ -1,6 +1,6 @@
 -- The clauses that unit propagation shows: RUP and RAT as on DRAT-trim's page, and PR, propagation redundancy, as in
 -- DPR proofs.
-use Rattle.std.specs.Prelude.{◌≡◌, ℕ, Bool, not, ◌⊎◌, Some, List, ◌++◌, filter, IsTrue, IsFalse}
+use Rattle.std.specs.Prelude.{◌≡◌, ℕ, not, ◌⊎◌, Some, List, ◌++◌, filter, IsTrue, IsFalse}
 use Rattle.cnf_base.specs.Literals.{Literal, complement, Clause, has, complements, without}
 pub use Rattle.clause_db.specs.Propagation.{Live, IsClosed, Forced, Clash, by_empty, by_both}
 

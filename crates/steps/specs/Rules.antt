@@ -1,5 +1,5 @@
 -- The rules of LRAT and of DRAT seen as one: a state, what a step may be answered over it, and what it leaves.
-use Rattle.std.specs.Prelude.{◌≡◌, ℕ, ◌+◌, ◌-◌, ◌^◌, min, sum_by, Bool, false, ◌||◌, List, [], ◌∷◌, slice_get, MatchBool}
+use Rattle.std.specs.Prelude.{◌≡◌, ℕ, ◌+◌, ◌-◌, ◌^◌, min, sum_by, Bool, ◌||◌, List, [], ◌∷◌, slice_get, MatchBool}
 use Rattle.std.specs.List.{list_any}
 use Rattle.cnf_base.specs.Literals.{Clause}
 use Rattle.proofs.specs.Steps.{Step}

@@ -1,6 +1,6 @@
 //! Sessions that check an LRAT proof.
 
-ghost use Rattle.std.specs.Prelude.{◌≡◌, ◌⊎◌, ◌+◌, ◌-◌, ◌<◌, ◌^◌, ◌||◌, ◌↔◌, min, max, true, false, IsTrue, IsFalse, IfOk, IfErr, OnOk, OnErr, ℕ};
+ghost use Rattle.std.specs.Prelude.{◌≡◌, ◌≢◌, ◌⊎◌, ◌+◌, ◌-◌, ◌<◌, ◌^◌, ◌||◌, ◌↔◌, min, max, true, false, IsTrue, IsFalse, IfOk, IfErr, OnOk, OnErr, ℕ};
 ghost use Rattle.std.specs.FinMap as maps;
 ghost use Rattle.cnf_base.specs.Literals.{complements};
 ghost use Rattle.steps.specs.Lrat.{chain, units_of, groups_of, AnswersChain, AnswersLrat, after_lrat, lrat_step, with_clause, SameClauses};
@@ -126,6 +126,7 @@ fn take_step(
     ensures live { OnOk result (SameClauses (maps.get held.new.live) (after_lrat (shelf_state held.old) (lrat_step step.now)).live) }
     ensures top { OnOk result (held.new.top ≡ (after_lrat (shelf_state held.old) (lrat_step step.now)).top) }
     ensures ready { OnOk result (IsReady (maps.get held.new.live) trues.new) }
+    ensures never_ended { result ≢ Err Refusal.Ended }
 {
     match step.kind() {
         StepKind::Add => take_addition(alloc, held, trues, step),

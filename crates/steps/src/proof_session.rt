@@ -26,7 +26,11 @@ pub trait ProofSession {
         ensures room { OnOk result ((shown self.old).room ≤ (shown self.new).room + 1) }
         ensures steps { OnOk result ((shown self.new).has_stepped ≡ false) }
         ensures goes_on { OnOk result ((shown self.new).is_ended ≡ false) }
-        ensures refused { OnErr result ((shown self.new).is_ended ≡ true) };
+        ensures refused { OnErr result ((shown self.new).is_ended ≡ true) }
+        // What it had come to stays.
+        ensures verified_stays { OnErr result ((shown self.new).is_verified ≡ (shown self.old).is_verified) }
+        ensures stepped_stays { OnErr result ((shown self.new).has_stepped ≡ (shown self.old).has_stepped) }
+        ensures peak_stays { OnErr result ((shown self.new).peak ≡ (shown self.old).peak) };
 
     /// Judges a step and, where it is accepted, takes it. After a refusal, and after the accepted empty clause, the session is ended.
     fn step(&mut self, step: &StepBuf) -> Result<Accepted, Refusal>
@@ -38,7 +42,11 @@ pub trait ProofSession {
         ensures ends { IfOk result (λ word. (shown self.new).is_ended ≡ is_last word) }
         ensures peak { OnOk result ((shown self.new).peak ≡ max (shown self.old).peak (sum_of (shown self.new).state)) }
         ensures keeps_models { OnOk result (IsSatisfiable (shown self.old).state → IsSatisfiable (shown self.new).state) }
-        ensures refused { OnErr result ((shown self.new).is_ended ≡ true) };
+        ensures refused { OnErr result ((shown self.new).is_ended ≡ true) }
+        // What it had come to stays.
+        ensures verified_stays { OnErr result ((shown self.new).is_verified ≡ (shown self.old).is_verified) }
+        ensures stepped_stays { OnErr result ((shown self.new).has_stepped ≡ (shown self.old).has_stepped) }
+        ensures peak_stays { OnErr result ((shown self.new).peak ≡ (shown self.old).peak) };
 
     /// Whether an empty clause was input or accepted.
     fn verified(&self) -> bool

@@ -1,8 +1,7 @@
-use Rattle.std.proofs.Common.{◌≡◌, true, false, subst}
+use Rattle.std.proofs.Common.{true, false}
 use Rattle.std.specs.FinMap as maps
 use Rattle.cnf_base.specs.Literals.{complement}
 use Rattle.clause_db.specs.Assumptions.{assumed_by}
-use Rattle.steps.specs.Candidates.{SearchedCandidates}
 use Rattle.steps.proofs.Starts.{first_is}
 use Rattle.steps.proofs.DratSteps.{answers_at, answers_none, searched_pivot}
 use Rattle.steps.proofs.drat_step.judge_rat.Goals as goal

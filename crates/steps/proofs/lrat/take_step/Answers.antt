@@ -1,6 +1,10 @@
-use Rattle.std.proofs.Common.{map, nat_abs, sym, ◌∙◌}
+use Rattle.std.proofs.Common.{map, nat_abs, sym, ◌∙◌, subst}
 use Rattle.std.specs.FinMap as maps
+use Rattle.steps.specs.Drat.{Answer}
+use Rattle.steps.specs.Lrat.{AnswersLrat, lrat_step}
+use Rattle.steps.specs.Session.{UnlessOutOfMemory}
 use Rattle.steps.specs.Shelf.{shelf_state}
+use Rattle.steps.proofs.Ending.{never_ended}
 use Rattle.steps.proofs.Rooms.{ready_without, deleted_live}
 use Rattle.steps.proofs.lrat.take_step.Goals as goal
 
@@ -11,3 +15,9 @@ returns-in-None-clause-live c =
 pub returns-in-None-clause-ready : goal.returns-in-None-clause-ready
 returns-in-None-clause-ready c =
     ready_without c.args.trues.now (maps.get c.args.held.now.live) (maps.get c.delete_all.new.live.live) (map nat_abs c.hints.result.now) c.in-None.ensures.live c.requires.ready
+
+pub returns-in-Add-clause-never_ended : goal.returns-in-Add-clause-never_ended
+returns-in-Add-clause-never_ended c =
+    let state = shelf_state c.args.held.now in
+    let step = lrat_step c.args.step.now in
+    λ e. never_ended state step (subst (λ (a : Answer). UnlessOutOfMemory a (AnswersLrat state step a)) e c.take_addition.ensures.answers)
