@@ -1,5 +1,7 @@
 pub mod OutcomeLemmas
+pub mod ReadLemmas
 pub mod LoadLemmas
+pub mod JudgeLemmas
 pub mod VerdictLemmas
 pub mod RestLemmas
 pub mod ShownLemmas
@@ -7,6 +9,8 @@ pub mod StepLemmas
 pub mod ReportLemmas
 pub mod CheckLemmas
 pub mod SoundLemmas
+pub mod WrittenLemmas
+pub mod ModelLemmas
 pub mod WordRules
 pub mod WordRows
 pub mod WordTurns

@@ -1,5 +1,5 @@
 -- Clauses go into a session one by one.
-use Rattle.std.proofs.Common.{◌≡◌, ℕ, suc, ◌+◌, ◌<◌, ◌≤◌, max, min, ◌-◌, Bool, true, false, ◌||◌, List, [], ◌∷◌, ◌++◌, length, Option, None, Some, refl, sym, ap, ◌∙◌, subst, arith, length-append, slice_get, cond}
+use Rattle.std.proofs.Common.{◌≡◌, ℕ, suc, ◌+◌, ◌<◌, ◌≤◌, max, min, ◌-◌, Bool, true, false, ◌||◌, List, [], ◌∷◌, ◌++◌, length, Option, None, Some, refl, sym, ap, ◌∙◌, subst, arith, slice_get, cond}
 use Rattle.std.specs.Prelude.{Result, Ok, Err}
 use Rattle.std.specs.List.{list_any}
 use Rattle.std.specs.Ordering.{nat_cmp}
@@ -8,12 +8,10 @@ use Rattle.std.specs.FinMap.{FinMap, get-empty}
 use Rattle.std.proofs.lemmas.List.Folds.{list_any-append}
 use Rattle.std.proofs.lemmas.List.Sums.{sum_by-append}
 use Rattle.cnf_base.specs.Literals.{Clause, same_clause}
-use Rattle.cnf_base.specs.Stream.{Input, Stream, Along, fresh as fresh_stream}
-use Rattle.cnf_base.specs.Seen.{Seen, IsSeen}
-use Rattle.cnf_base.proofs.SeenLemmas.{Seen-nothing, Seen-run, Seen-fact}
+use Rattle.cnf_base.specs.Stream.{Stream, Along, fresh as fresh_stream}
 use Rattle.cnf_base.specs.declared.fault.Fault.{Fault}
 use Rattle.cnf_base.specs.declared.fault.Fault.TheVariants.{Text, Binary, ReadFailed, OutOfMemory}
-use Rattle.cnf_base.proofs.StreamLemmas.{Along-then, Along-map, Along-none}
+use Rattle.cnf_base.proofs.StreamLemmas.{Along-then, Along-map}
 use Rattle.dimacs.specs.Formula.{Body, Formula, formula_at, formula_of}
 use Rattle.dimacs.specs.declared.header.Header.{Header}
 use Rattle.dimacs.specs.Reading.{Reading, to_come, GivesClause, opened, unopened}
@@ -31,6 +29,7 @@ use Rattle.steps.proofs.SameSets.{with_same}
 use Rattle.steps.proofs.Sessions.{numbered_push, fresh_is_numbered}
 use Rattle.steps.proofs.Sums.{sum_with}
 use Rattle.sat_check.specs.Checking.{IsLoaded, LoadsBody, Loads}
+use Rattle.sat_check.proofs.ReadLemmas.{length_push, OfSeen, seen_nothing, seen_run, Reads, FaultAfter, Reads-start, Reads-clause, Reads-done, Reads-fault}
 
 -- no clause has a number past the last
 pub numbered_above : (cs : List Clause) (k : ℕ) → length cs < k → numbered cs k ≡ None
@@ -41,9 +40,6 @@ numbered_above cs (suc k) h = past cs k (omega arith)
     past (c ∷ cs) (suc k) h = past cs k (omega arith)
     past (c ∷ cs) Prim.Native.Nat.zero h = absurd (omega arith)
 numbered_above cs Prim.Native.Nat.zero h = refl
-
-length_push : (cs : List Clause) (c : Clause) → length (cs ++ c ∷ []) ≡ length cs + 1
-length_push cs c = length-append cs (c ∷ [])
 
 -- one clause more, and its size more
 total_push : (cs : List Clause) (c : Clause) → total (lrat_start (cs ++ c ∷ [])) ≡ total (lrat_start cs) + size c
@@ -141,88 +137,53 @@ drat_unused strict s is =
 
 -- ---- A formula's clauses
 
-abbrev pub with_clauses : List Clause → Body → Body
-with_clauses cs b = record { clauses = cs ++ b.clauses; fault = b.fault }
-
--- from one moment to another these clauses were input
+-- from one moment to another these clauses were read, and input
 pub record Loading (rule : Rule) (old now : Reading) (s : View) : Type 0 where
   pub clauses : List Clause
+  pub reads : Reads old now clauses
   pub loaded : IsLoaded rule s clauses
-  pub count : length clauses ≡ now.complete
-  pub run : Along old.stream now.stream (λ i j. to_come old i ≡ with_clauses clauses (to_come now j))
-  pub header : now.header ≡ old.header
 
 pub Loading-start : (rule : Rule) (r : Reading) (s : View) → IsLoaded rule s [] → r.complete ≡ 0 → Loading rule r r s
-Loading-start rule r s loaded none = record {
-  clauses = [];
-  loaded = loaded;
-  count = sym none;
-  run = Along-map _ _ _ _ (Along-none r.stream) (λ i j m e. ap (to_come r) e);
-  header = refl;
-}
+Loading-start rule r s loaded none = record { clauses = []; reads = Reads-start r none; loaded = loaded }
 
 module _ (rule : Rule) (old now new : Reading) (s : View) (so_far : Loading rule old now s) where
   pub Loading-clause : (t : View) (c : Clause) → Along now.stream new.stream (λ i j. GivesClause (Ok true) c (to_come now i) (to_come new j))
       → IsLoaded rule t (so_far.clauses ++ c ∷ []) → new.complete ≡ now.complete + 1 → new.header ≡ now.header → Loading rule old new t
-  Loading-clause t c gives loaded count header = record {
-    clauses = so_far.clauses ++ c ∷ [];
-    loaded = loaded;
-    count = length_push so_far.clauses c ∙ ap (λ n. n + 1) so_far.count ∙ sym count;
-    run = Along-then _ _ _ _ _ _ so_far.run gives (λ i j k m p q.
-        p ∙ ap (with_clauses so_far.clauses) q
-        ∙ ap (λ cs. record { clauses = cs; fault = (to_come new k).fault }) (clauses_assoc so_far.clauses c (to_come new k).clauses));
-    header = header ∙ so_far.header;
-  }
-    where
-      clauses_assoc : (cs : List Clause) (c : Clause) (ds : List Clause) → cs ++ c ∷ ds ≡ (cs ++ c ∷ []) ++ ds
-      clauses_assoc [] c ds = refl
-      clauses_assoc (b ∷ cs) c ds = ap (λ t. b ∷ t) (clauses_assoc cs c ds)
+  Loading-clause t c gives loaded count header = record { clauses = so_far.clauses ++ c ∷ []; reads = Reads-clause old now new so_far.clauses so_far.reads c gives count header; loaded = loaded }
 
   pub Loading-done : (c : Clause) → Along now.stream new.stream (λ i j. GivesClause (Ok false) c (to_come now i) (to_come new j))
       → Along old.stream new.stream (λ i j. LoadsBody rule s (Ok tt) (to_come old i))
-  Loading-done c gives = Along-then _ _ _ _ _ _ so_far.run gives (λ i j k m p q.
-      let e = p ∙ ap (with_clauses so_far.clauses) q.1 in
+  Loading-done c gives = Along-map _ _ _ _ (Reads-done old now new so_far.clauses so_far.reads c gives) (λ i j m e.
       let P : List Clause → Type 0 = IsLoaded rule s in
-      (ap (λ b. b.fault) e, subst P (sym (ap (λ b. b.clauses) e ∙ no_more so_far.clauses)) so_far.loaded))
-    where
-      no_more : (cs : List Clause) → cs ++ [] ≡ cs
-      no_more [] = refl
-      no_more (b ∷ cs) = ap (λ t. b ∷ t) (no_more cs)
+      (ap (λ b. b.fault) e, subst P (sym (ap (λ b. b.clauses) e)) so_far.loaded))
 
   pub Loading-fault : (t : View) (c : Clause) (f : Fault) → Along now.stream new.stream (λ i j. GivesClause (Err f) c (to_come now i) (to_come new j))
       → Along old.stream new.stream (λ i j. LoadsBody rule t (Err f) (to_come old i))
-  Loading-fault t c (Text k p) gives = Along-then _ _ _ _ _ _ so_far.run gives (λ i j k m p q. ap (λ b. b.fault) (p ∙ ap (with_clauses so_far.clauses) q.1))
-  Loading-fault t c (Binary k n) gives = Along-then _ _ _ _ _ _ so_far.run gives (λ i j k m p q. ap (λ b. b.fault) (p ∙ ap (with_clauses so_far.clauses) q.1))
-  Loading-fault t c ReadFailed gives = Along-then _ _ _ _ _ _ so_far.run gives (λ i j k m p q. ap (λ b. b.fault) (p ∙ ap (with_clauses so_far.clauses) q.1))
-  Loading-fault t c OutOfMemory gives = Along-then _ _ _ _ _ _ so_far.run gives (λ i j k m p q. tt)
+  Loading-fault t c f gives = Along-map _ _ _ _ (Reads-fault old now new so_far.clauses so_far.reads c f gives) (λ i j m e. by f (to_come old i) e)
+    where
+      by : (f : Fault) (b : Body) → FaultAfter so_far.clauses f b → LoadsBody rule t (Err f) b
+      by (Text k p) b e = ap (λ b. b.fault) e
+      by (Binary k n) b e = ap (λ b. b.fault) e
+      by ReadFailed b e = ap (λ b. b.fault) e
+      by OutOfMemory b e = tt
 
   pub Loading-refused : (t : View) (c : Clause) → Along now.stream new.stream (λ i j. GivesClause (Ok true) c (to_come now i) (to_come new j))
       → Along old.stream new.stream (λ i j. LoadsBody rule t (Err OutOfMemory) (to_come old i))
-  Loading-refused t c gives = Along-then _ _ _ _ _ _ so_far.run gives (λ i j k m p q. tt)
-
--- what a call gave, by its answer's pattern
-pub clause_told : (now new : Reading) (result answer : Result Bool Fault) (c : Clause) → Along now.stream new.stream (λ i j. GivesClause result c (to_come now i) (to_come new j))
-    → result ≡ answer → Along now.stream new.stream (λ i j. GivesClause answer c (to_come now i) (to_come new j))
-clause_told now new result answer c gives is =
-    let P : Result Bool Fault → Type 0 = λ r. Along now.stream new.stream (λ i j. GivesClause r c (to_come now i) (to_come new j)) in
-    subst P is gives
+  Loading-refused t c gives = Along-then _ _ _ _ _ _ so_far.reads.run gives (λ i j k m p q. tt)
 
 -- ---- A whole formula
 
 abbrev pub AllLoads : Rule → View → Option (List ℕ) → Option (List ℕ) → Result Header Fault → Type 0
-AllLoads rule s left new result = (seen : Seen left new) × ((i : Input) → IsSeen seen i → Loads rule s result (formula_of i))
+AllLoads rule s left new result = OfSeen left new (λ i. Loads rule s result (formula_of i))
 
 -- nothing was read
 pub loads_nothing : (rule : Rule) (s : View) (left new : Option (List ℕ)) → left ≡ new → AllLoads rule s left new (Err OutOfMemory)
-loads_nothing rule s left new same = let P : Option (List ℕ) → Type 0 = λ l. AllLoads rule s left l (Err OutOfMemory) in subst P same (Seen-nothing left, λ i seen. tt)
+loads_nothing rule s left new same = seen_nothing (λ i. Loads rule s (Err OutOfMemory) (formula_of i)) left new same (λ i. tt)
 
 module _ (rule : Rule) (s : View) (left : Option (List ℕ)) (mark : Bool) (most_left : ℕ) (borrows : List ℕ) (source : Stream) (is : source ≡ fresh_stream left mark most_left borrows) where
   all_loads : (last : Stream) (new : Option (List ℕ)) (result : Result Header Fault) → new ≡ last.left
       → Along source last (λ i j. Loads rule s result (formula_at source.place i)) → AllLoads rule s left new result
-  all_loads last new result kept run =
-      let P : Stream → Type 0 = λ x. Along x last (λ i j. Loads rule s result (formula_at x.place i)) in
-      let from_start = subst P is run in
-      (Seen-run left mark most_left borrows last new (λ i j. Loads rule s result (formula_of i)) from_start kept, λ i seen. (Seen-fact left mark most_left borrows last new (λ i j. Loads rule s result (formula_of i)) from_start kept i seen).2)
+  all_loads last new result kept run = seen_run (λ p i. Loads rule s result (formula_at p i)) left mark most_left borrows source last new is kept run
 
   fault_loads : (f : Fault) (x : Formula) → x.fault ≡ Some f → Loads rule s (Err f) x
   fault_loads (Text k p) x e = e

@@ -24,7 +24,7 @@ kind_is_no_verdict text.NotClaimed e = cc
 kind_is_no_verdict text.Complement e = cc
 kind_is_no_verdict _ e = cc
 
-fault_is_no_verdict : (f : Fault) → fault_status f ≡ Verified → ⊥
+pub fault_is_no_verdict : (f : Fault) → fault_status f ≡ Verified → ⊥
 fault_is_no_verdict (Text k p) e = kind_is_no_verdict k e
 fault_is_no_verdict (Binary k n) e = cc
 fault_is_no_verdict ReadFailed e = cc

@@ -1,5 +1,5 @@
 -- The words that a tool accepts are not refused.
-use Rattle.std.proofs.Common.{◌≡◌, ◌∙◌, ◌+◌, ◌<◌, ◌≤◌, ap, ap₂, sym, subst, refl, codes, List, [], ◌∷◌, ◌++◌, Bool, true, false, Option, None, cond, suc, true≢false, arith, length, length-append}
+use Rattle.std.proofs.Common.{◌≡◌, ◌∙◌, ◌+◌, ◌<◌, ◌≤◌, ap, ap₂, sym, subst, refl, codes, List, [], ◌∷◌, ◌++◌, Bool, true, false, ℕ, zero, suc, Option, None, Some, option_map, String, string_bytes, cond, true≢false, arith, length, length-append}
 use Rattle.std.specs.Prelude.{◌==◌, ◌&&◌, ◌||◌, drop, is_some, not, slice_get, if◌then◌else◌, filter}
 use Rattle.std.specs.Str.{bytes_eq}
 use Rattle.std.specs.List.{fold, list_all, list_any}
@@ -13,7 +13,7 @@ use Rattle.clap.specs.Takes.{is_given}
 use Rattle.clap.specs.Walk.{Held, Row, Text, Walk, finished, has_row, nothing_held, settled, settled_rows, walk, walked, with_default}
 use Rattle.clap.specs.declared.error.kind.ErrorKind.TheVariants as kind
 use Rattle.sat_check.specs.Commands.{command_of}
-use Rattle.sat_check.specs.Words.{Accepts, begins_with_hyphen, is_among, is_empty, is_flag, names, plain, times}
+use Rattle.sat_check.specs.Words.{Accepts, begins_with_hyphen, is_among, is_empty, is_flag, is_some_empty, names, plain, times}
 use Rattle.sat_check.proofs.WordRules.{fault_is, flag_full, formula_full, help_full, rules_of, second_full, top_of}
 use Rattle.sat_check.proofs.WordRows.{names_added, names_kept}
 use Rattle.sat_check.proofs.WordTurns.{at}
@@ -250,3 +250,40 @@ has_formula tool words accepts none = go (names tool words) (names_count tool wo
     go : (ns : List Text) → length ns ≡ length (plain words) → slice_get ns 0 ≡ None → ⊥
     go [] e none = let least = accepts.least in omega (arith, e, least)
     go (a ∷ ns) e none = true≢false (ap is_some none)
+
+-- what is left of words none of which passes a test
+none_left : (p t : Text → Bool) (words : List Text) → list_any t words ≡ false → list_any t (filter p words) ≡ false
+none_left p t [] e = refl
+none_left p t (w ∷ ws) e = by (p w) (t w) refl (none_left p t ws)
+  where
+    by : (kept : Bool) (v : Bool) → t w ≡ v → (list_any t ws ≡ false → list_any t (filter p ws) ≡ false) → list_any t (cond kept (w ∷ filter p ws) (filter p ws)) ≡ false
+    by kept true h next = absurd (true≢false (sym (ap (λ v. v || list_any t ws) h) ∙ e))
+    by true false h next = ap (λ v. v || list_any t (filter p ws)) h ∙ next (sym (ap (λ v. v || list_any t ws) h) ∙ e)
+    by false false h next = next (sym (ap (λ v. v || list_any t ws) h) ∙ e)
+
+at_none : (t : Text → Bool) (words : List Text) (k : ℕ) (w : Text) → list_any t words ≡ false → Some w ≡ slice_get words k → t w ≡ false
+at_none t [] k w e is = absurd (true≢false (ap is_some is))
+at_none t (x ∷ xs) zero w e is = by (t x) refl
+  where
+    by : (v : Bool) → t x ≡ v → t w ≡ false
+    by true h = absurd (true≢false (sym (ap (λ v. v || list_any t xs) h) ∙ e))
+    by false h = let same : w ≡ x = cc in ap t same ∙ h
+at_none t (x ∷ xs) (suc k) w e is = at_none t xs k w (by (t x) e) is
+  where
+    by : (v : Bool) → (v || list_any t xs) ≡ false → list_any t xs ≡ false
+    by true h = absurd (true≢false h)
+    by false h = h
+
+-- the names of accepted words are not empty
+pub names_full : {Z : Type 0} (tool : Tool) (words : List Text) (formula : Text) (second : Option (String Z)) → Accepts tool words
+    → Some formula ≡ slice_get (names tool words) 0 → option_map string_bytes second ≡ slice_get (names tool words) 1
+    → (is_empty formula || is_some_empty second) ≡ false
+names_full {Z} tool words formula second accepts first then_second =
+    ap (λ v. v || is_some_empty second) (at_none is_empty (names tool words) 0 formula full first) ∙ by second then_second
+  where
+    full : list_any is_empty (names tool words) ≡ false
+    full = none_left _ is_empty words accepts.full
+
+    by : (s : Option (String Z)) → option_map string_bytes s ≡ slice_get (names tool words) 1 → is_some_empty s ≡ false
+    by None is = refl
+    by (Some name) is = at_none is_empty (names tool words) 1 (string_bytes name) full is

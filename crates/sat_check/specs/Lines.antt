@@ -12,6 +12,8 @@ use Rattle.steps.specs.declared.accepted.Accepted.{Accepted}
 use Rattle.steps.specs.declared.accepted.Accepted.TheVariants.{Rup, Rat, Deleted, Ignored, Empty}
 use Rattle.steps.specs.declared.refusal.Refusal.{Refusal}
 use Rattle.steps.specs.declared.refusal.Refusal.TheVariants as refusal
+use Rattle.sat_check.specs.declared.subject.Subject.{Subject}
+use Rattle.sat_check.specs.declared.subject.Subject.TheVariants as subjects
 use Rattle.sat_check.specs.declared.status.Status.{Status}
 use Rattle.sat_check.specs.declared.status.Status.TheVariants as status
 
@@ -110,7 +112,21 @@ steps_line n peak = codes "c steps " ++ shown n ++ codes " peak " ++ shown peak
 abbrev pub end_line : List ℕ
 end_line = codes "c end: no empty clause"
 
+-- ---- Models
+
+-- the line of the first clause that has no true literal
+abbrev pub unmet_line : ℕ → List ℕ
+unmet_line k = codes "c clause " ++ shown k ++ codes " is not satisfied"
+
+-- the line of a verified model of n clauses
+abbrev pub clauses_line : ℕ → List ℕ
+clauses_line n = codes "c clauses " ++ shown n
+
+-- ---- The verdict
+
 -- the verdict's last line
-abbrev pub sentence : Status → List ℕ
-sentence status.Verified = codes "s VERIFIED"
-sentence _ = codes "s NOT VERIFIED"
+abbrev pub sentence : Subject → Status → List ℕ
+sentence subjects.Proof status.Verified = codes "s VERIFIED"
+sentence subjects.Proof _ = codes "s NOT VERIFIED"
+sentence subjects.Model status.Verified = codes "s MODEL VERIFIED"
+sentence subjects.Model _ = codes "s MODEL NOT VERIFIED"

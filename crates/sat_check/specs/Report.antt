@@ -1,10 +1,12 @@
 -- What a check writes, and how it ends.
-use Rattle.std.specs.Prelude.{◌≡◌, ℕ, ◌+◌, max, cond, Bool, List, [], ◌∷◌, ◌++◌, length, map, Option, None, Some, codes, if◌then◌else◌}
-use Rattle.std.specs.List.{flat_map}
+use Rattle.std.specs.Prelude.{◌≡◌, ℕ, ◌+◌, max, cond, Bool, true, List, [], ◌∷◌, ◌++◌, length, map, Option, None, Some, codes, if◌then◌else◌}
+use Rattle.std.specs.List.{flat_map, list_any}
+use Rattle.std.specs.Str.{bytes_eq}
 use Rattle.std.specs.Io.KnownBytes.{Appends}
 use Rattle.cnf_base.specs.Literals.{Clause}
 use Rattle.cnf_base.specs.Stream.{Input}
 use Rattle.cnf_base.specs.Lines.{line_of}
+use Rattle.cnf_base.specs.Text.{but_last, lines_of}
 use Rattle.cnf_base.specs.declared.fault.Fault.{Fault}
 use Rattle.dimacs.specs.Formula.{formula_of}
 use Rattle.dimacs.specs.declared.header.Header.{Header}
@@ -17,6 +19,8 @@ use Rattle.steps.specs.Rules.{Rule, lrat, drat, State, start, after, sum_of, Ver
 use Rattle.steps.specs.Verdicts.{Ending, verified, refused, no_empty_clause}
 use Rattle.steps.specs.declared.accepted.Accepted.{Accepted}
 use Rattle.sat_check.specs.Lines.{formula_line, fault_line, fault_status, trace_line, refusal_line, steps_line, end_line, sentence}
+use Rattle.sat_check.specs.declared.subject.Subject.{Subject}
+use Rattle.sat_check.specs.declared.subject.Subject.TheVariants as subjects
 use Rattle.sat_check.specs.declared.status.Status.{Status}
 use Rattle.sat_check.specs.declared.status.Status.TheVariants.{Verified, NotVerified, OutOfMemory, WriteFailed}
 
@@ -39,8 +43,8 @@ Outcome s old new r = (s ≡ r.status) × Appends old new (text_of r.lines)
 -- ---- The report of a proof
 
 -- a line, and the verdict's last line
-abbrev pub concluded : List ℕ → Status → Report
-concluded line status = record { lines = line ∷ sentence status ∷ []; status = status }
+abbrev pub concluded : Subject → List ℕ → Status → Report
+concluded subject line status = record { lines = line ∷ sentence subject status ∷ []; status = status }
 
 abbrev pub with_lines : List (List ℕ) → Report → Report
 with_lines front r = record { lines = front ++ r.lines; status = r.status }
@@ -52,13 +56,13 @@ trace_lines n (word ∷ words) = trace_line n word ∷ trace_lines (n + 1) words
 
 -- how a proof ends that runs out of steps
 abbrev pub end_report : Option Fault → Report
-end_report None = concluded end_line NotVerified
-end_report (Some f) = concluded (fault_line (codes "proof") f) (fault_status f)
+end_report None = concluded subjects.Proof end_line NotVerified
+end_report (Some f) = concluded subjects.Proof (fault_line (codes "proof") f) (fault_status f)
 
 -- the verdict after so many accepted steps
 abbrev pub verdict_report : ℕ → ℕ → Ending → Option Fault → Report
-verdict_report n peak verified fault = concluded (steps_line n peak) Verified
-verdict_report n peak (refused r) fault = concluded (refusal_line (n + 1) r) NotVerified
+verdict_report n peak verified fault = concluded subjects.Proof (steps_line n peak) Verified
+verdict_report n peak (refused r) fault = concluded subjects.Proof (refusal_line (n + 1) r) NotVerified
 verdict_report n peak no_empty_clause fault = end_report fault
 
 -- the greatest sum of the sizes of the live clauses, over a state and those after accepted steps
@@ -83,7 +87,7 @@ pub record Checks (rule : Rule) (trace : Bool) (h : Header) (clauses : List Clau
   pub report : r ≡ with_lines (formula_line h ∷ []) (proof_report trace 0 (peak_of (start rule clauses) (steps_of proof) words) words ending proof.fault)
 
 abbrev pub ReportsFormula : Rule → Bool → Option Header → List Clause → Option Fault → Proof → Report → Type 0
-ReportsFormula rule trace header clauses (Some f) proof r = r ≡ concluded (fault_line (codes "formula") f) (fault_status f)
+ReportsFormula rule trace header clauses (Some f) proof r = r ≡ concluded subjects.Proof (fault_line (codes "formula") f) (fault_status f)
 ReportsFormula rule trace (Some h) clauses None proof r = Checks rule trace h clauses proof r
 ReportsFormula rule trace None clauses None proof r = ⊥
 
@@ -101,3 +105,17 @@ drat_proof binary proof = if binary then binary_steps proof else drat_steps proo
 
 abbrev pub DratReport : (binary strict trace : Bool) → Input → Input → Report → Type 0
 DratReport binary strict trace formula proof r = ProofReport (drat strict) trace formula (drat_proof binary proof) r
+
+-- ---- The lines that were written
+
+-- the whole lines of a text
+abbrev pub whole_lines : List ℕ → List (List ℕ)
+whole_lines bytes = but_last (lines_of bytes)
+
+-- what was written, where the writer tells it, has this line
+pub record HasWritten (line : List ℕ) (old new : Option (List ℕ)) : Type 0 where
+  pub held : List ℕ
+  pub bytes : List ℕ
+  pub before : old ≡ Some held
+  pub after : new ≡ Some (held ++ bytes)
+  pub written : list_any (bytes_eq line) (whole_lines bytes) ≡ true

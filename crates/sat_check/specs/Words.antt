@@ -1,5 +1,5 @@
 -- What the words of a command line say. `words` are those after the program's name.
-use Rattle.std.specs.Prelude.{◌≡◌, ◌≤◌, ◌||◌, ◌&&◌, ◌==◌, ℕ, Bool, true, false, not, List, [], ◌∷◌, Option, codes}
+use Rattle.std.specs.Prelude.{◌≡◌, ◌≤◌, ◌||◌, ◌&&◌, ◌==◌, ℕ, Bool, true, false, not, List, [], ◌∷◌, Option, None, Some, codes}
 use Rattle.std.specs.Prelude.{String, string_bytes, map, drop, length, slice_get, filter}
 use Rattle.std.specs.List.{list_all, list_any}
 use Rattle.std.specs.Str.{bytes_eq}
@@ -62,6 +62,11 @@ times word words = length (filter (bytes_eq word) words)
 
 abbrev pub is_empty : List ℕ → Bool
 is_empty word = length word == 0
+
+-- the second name is there, and empty
+abbrev pub is_some_empty : {Z : Type 0} → Option (String Z) → Bool
+is_some_empty None = false
+is_some_empty (Some name) = is_empty (string_bytes name)
 
 -- no word is empty; one or two do not begin with a hyphen; each other word is a flag that the tool
 -- has, and no flag is there twice

@@ -13,6 +13,7 @@ use crate::check_proof::check_proof;
 use crate::conclude::{break_off, conclude, write_line};
 use crate::load::load;
 use crate::report::{formula_line, steps_line};
+use crate::subject::Subject;
 use cnf_base::{In, LineOut, Out};
 use dimacs::Header;
 use proofs::StepReader;
@@ -38,7 +39,7 @@ pub fn check<F: In, S: ProofSession, R: StepReader, O: Out>(
 {
     match load(alloc, formula, session) {
         Ok(header) => check_loaded(alloc, trace, header, session, reader, lines),
-        Err(fault) => break_off(alloc, lines, b"formula", fault),
+        Err(fault) => break_off(alloc, lines, Subject::Proof, b"formula", fault),
     }
 }
 
@@ -65,6 +66,7 @@ fn check_loaded<S: ProofSession, R: StepReader, O: Out>(
     if session.verified() {
         return conclude(
             lines,
+            Subject::Proof,
             steps_line(alloc, 0, session.peak()),
             Status::Verified,
         );

@@ -9,6 +9,7 @@ ghost use Rattle.sat_check.specs.Checking.{Bounded, Rest};
 use crate::Status;
 use crate::conclude::{break_off, conclude};
 use crate::report::end_line;
+use crate::subject::Subject;
 use crate::take_step::take_step;
 use cnf_base::{LineOut, Out};
 use proofs::{StepBuf, StepReader};
@@ -44,8 +45,11 @@ pub fn check_proof<S: ProofSession, R: StepReader, O: Out>(
                 }
                 accepted = number;
             }
-            Ok(false) => return conclude(lines, end_line(alloc), Status::NotVerified),
-            Err(fault) => return break_off(alloc, lines, b"proof", fault),
+            Ok(false) => {
+                let line = end_line(alloc);
+                return conclude(lines, Subject::Proof, line, Status::NotVerified);
+            }
+            Err(fault) => return break_off(alloc, lines, Subject::Proof, b"proof", fault),
         }
     }
 }

@@ -1,10 +1,10 @@
 //! The reader of the words.
-ghost use Rattle.std.specs.Prelude.{◌≡◌, ◌≤◌, Some, codes, false, length, option_map, string_bytes, true};
+ghost use Rattle.std.specs.Prelude.{◌≡◌, ◌≤◌, ◌||◌, Some, codes, false, length, option_map, string_bytes, true};
 ghost use Rattle.std.specs.Prelude.{IfErr, IfOk};
 ghost use Rattle.std.specs.List.{list_all};
 ghost use Rattle.clap.specs.Words.{app_of, rule_of, kind_of};
 ghost use Rattle.sat_check.specs.Commands.{command_of, flag_rule, formula_rule, second_rule};
-ghost use Rattle.sat_check.specs.Words.{Accepts, args, end_mark, is_among, is_known, names, said_by};
+ghost use Rattle.sat_check.specs.Words.{Accepts, args, end_mark, is_among, is_empty, is_known, is_some_empty, names, said_by};
 
 use crate::args::{Args, ArgsFault};
 use crate::tool::Tool;
@@ -104,6 +104,16 @@ fn fault_from(alloc: Global, error: &Error) -> ArgsFault
     }
 }
 
+/// Whether a name has no letter.
+fn is_any_empty(formula: &String, second: &Option<String>) -> bool
+    ensures { result ≡ (is_empty (string_bytes formula.now) || is_some_empty second.now) }
+{
+    match second {
+        Some(name) => formula.is_empty() || name.is_empty(),
+        None => formula.is_empty(),
+    }
+}
+
 /// Reads the words of the tool's command line, which begin with the program's name.
 pub fn read_args(alloc: Global, tool: Tool, words: &[String]) -> Result<Args, ArgsFault>
     ensures binary { IfOk result (λ a. is_among (said_by words.now) end_mark ≡ false
@@ -120,6 +130,7 @@ pub fn read_args(alloc: Global, tool: Tool, words: &[String]) -> Result<Args, Ar
         → length (names tool (said_by words.now)) ≤ 2) }
     ensures hyphens { IfOk result (λ a. is_among (said_by words.now) end_mark ≡ false
         → list_all (is_known tool) (said_by words.now) ≡ true) }
+    ensures full { IfOk result (λ a. (is_empty (string_bytes a.formula) || is_some_empty a.second) ≡ false) }
     ensures accepts { IfErr result (λ e. Accepts tool (said_by words.now)
         → e ≡ ArgsFault.OutOfMemory) }
 {
@@ -129,13 +140,16 @@ pub fn read_args(alloc: Global, tool: Tool, words: &[String]) -> Result<Args, Ar
         Err(error) => return Err(fault_from(alloc, &error)),
     };
     let Some(formula) = matches.get_str("formula") else {
-        return Err(refusal("the formula is not named".to_string(alloc)));
+        return Err(refusal("error: the formula is not named\n".to_string(alloc)));
     };
     let formula = formula.to_string(alloc)?;
     let second = match matches.get_str("second") {
         Some(name) => Some(name.to_string(alloc)?),
         None => None,
     };
+    if is_any_empty(&formula, &second) {
+        return Err(refusal("error: a name is empty\n".to_string(alloc)));
+    }
     Ok(Args {
         binary: matches.get_flag("binary"),
         trace: matches.get_flag("trace"),

@@ -58,6 +58,10 @@ fn model_reads(rt: HostRuntime) -> Result<(), Fail> {
 fn refuses(rt: HostRuntime) {
     let alloc = rt.alloc();
     assert!(rt; is_refused(alloc, Tool::Drat, "drat-forward --core f.cnf"));
+    assert!(rt; is_refused(alloc, Tool::Drat, "drat-forward --trace --trace f.cnf"));
+    assert!(rt; is_refused(alloc, Tool::Lrat, "lrat-check f.cnf "));
+    assert!(rt; is_refused(alloc, Tool::Model, "model-check "));
+    assert!(rt; is_refused(alloc, Tool::Model, "model-check  f.out"));
     assert!(rt; is_refused(alloc, Tool::Drat, "drat-forward --trace"));
     assert!(rt; is_refused(alloc, Tool::Drat, "drat-forward a b c"));
     assert!(rt; is_refused(alloc, Tool::Drat, "drat-forward f.cnf --trace=1"));

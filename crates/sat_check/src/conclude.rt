@@ -8,16 +8,18 @@ ghost use Rattle.sat_check.specs.Report.{Report, Outcome, concluded, with_lines}
 use crate::Status;
 use crate::line::Line;
 use crate::report::{fault_line, fault_status, sentence};
+use crate::subject::Subject;
 use cnf_base::{Fault, LineOut, Out, OutOfMemory};
 use std::alloc::Global;
 
 /// Writes a line and the verdict's last line, and answers the status.
 pub fn conclude<O: Out>(
     lines: &mut LineOut<O>,
+    subject: Subject,
     line: Result<Line, OutOfMemory>,
     status: Status,
 ) -> Status
-    ensures outcome { (text : List ℕ) → IfOk line (λ l. l ≡ text) → Outcome result lines.old.held lines.new.held (concluded text status) }
+    ensures outcome { (text : List ℕ) → IfOk line (λ l. l ≡ text) → Outcome result lines.old.held lines.new.held (concluded subject text status) }
     ensures status { (result ≡ status) ⊎ (result ≡ Status.OutOfMemory) ⊎ ((result ≡ Status.WriteFailed) × (lines.new.has_failed ≡ true)) }
     ensures same_writer { lines.new.borrows ≡ lines.old.borrows }
 {
@@ -27,7 +29,7 @@ pub fn conclude<O: Out>(
     if lines.line(line.bytes()).is_err() {
         return Status::WriteFailed;
     }
-    if lines.line(sentence(status)).is_err() {
+    if lines.line(sentence(subject, status)).is_err() {
         return Status::WriteFailed;
     }
     if lines.finish().is_err() {
@@ -37,9 +39,15 @@ pub fn conclude<O: Out>(
 }
 
 /// Tells of the first fault of the input of this name. Want of memory has no line.
-pub fn break_off<O: Out>(alloc: Global, lines: &mut LineOut<O>, name: &[u8], fault: Fault) -> Status
+pub fn break_off<O: Out>(
+    alloc: Global,
+    lines: &mut LineOut<O>,
+    subject: Subject,
+    name: &[u8],
+    fault: Fault,
+) -> Status
     ensures memory { fault ≡ Fault.OutOfMemory → (r : Report) → Outcome result lines.old.held lines.new.held r }
-    ensures told { (fault ≡ Fault.OutOfMemory → ⊥) → Outcome result lines.old.held lines.new.held (concluded (fault_line name.now fault) (fault_status fault)) }
+    ensures told { (fault ≡ Fault.OutOfMemory → ⊥) → Outcome result lines.old.held lines.new.held (concluded subject (fault_line name.now fault) (fault_status fault)) }
     ensures read_failed { result ≡ Status.ReadFailed → fault ≡ Fault.ReadFailed }
     ensures write_failed { result ≡ Status.WriteFailed → lines.new.has_failed ≡ true }
     ensures same_writer { lines.new.borrows ≡ lines.old.borrows }
@@ -47,7 +55,7 @@ pub fn break_off<O: Out>(alloc: Global, lines: &mut LineOut<O>, name: &[u8], fau
     match fault {
         Fault::OutOfMemory => give_up(lines),
         Fault::Text(_, _) | Fault::Binary(_, _) | Fault::ReadFailed => {
-            conclude_fault(alloc, lines, name, fault)
+            conclude_fault(alloc, lines, subject, name, fault)
         }
     }
 }
@@ -55,15 +63,21 @@ pub fn break_off<O: Out>(alloc: Global, lines: &mut LineOut<O>, name: &[u8], fau
 fn conclude_fault<O: Out>(
     alloc: Global,
     lines: &mut LineOut<O>,
+    subject: Subject,
     name: &[u8],
     fault: Fault,
 ) -> Status
-    ensures outcome { Outcome result lines.old.held lines.new.held (concluded (fault_line name.now fault) (fault_status fault)) }
+    ensures outcome { Outcome result lines.old.held lines.new.held (concluded subject (fault_line name.now fault) (fault_status fault)) }
     ensures read_failed { result ≡ Status.ReadFailed → fault ≡ Fault.ReadFailed }
     ensures write_failed { result ≡ Status.WriteFailed → lines.new.has_failed ≡ true }
     ensures same_writer { lines.new.borrows ≡ lines.old.borrows }
 {
-    conclude(lines, fault_line(alloc, name, fault), fault_status(fault))
+    conclude(
+        lines,
+        subject,
+        fault_line(alloc, name, fault),
+        fault_status(fault),
+    )
 }
 
 /// Writes a line that others follow. Where that fails it answers the status.

@@ -1,6 +1,6 @@
 //! A check of a DRAT proof, from bytes to bytes.
 
-ghost use Rattle.std.specs.Prelude.{◌≡◌, ◌⊎◌, [], true, false, slice_get};
+ghost use Rattle.std.specs.Prelude.{◌≡◌, ◌⊎◌, [], true, false, slice_get, codes};
 ghost use Rattle.cnf_base.specs.Stream.{Input};
 ghost use Rattle.cnf_base.specs.Seen.{Seen, IsSeen};
 ghost use Rattle.dimacs.specs.Formula.{formula_of};
@@ -9,7 +9,7 @@ ghost use Rattle.proofs.specs.Binary.{binary_steps};
 ghost use Rattle.proofs.specs.Drat.{drat_steps};
 ghost use Rattle.steps.specs.Rules.{rule_of};
 ghost use Rattle.sat_check.specs.Checking.{IsLoaded};
-ghost use Rattle.sat_check.specs.Report.{Report, Outcome, ProofReport, DratReport};
+ghost use Rattle.sat_check.specs.Report.{Report, Outcome, HasWritten, ProofReport, DratReport};
 
 use crate::check::check;
 use crate::conclude::give_up;
@@ -37,6 +37,10 @@ pub fn run_drat<F: In, P: In, O: Out>(
 
     // Status 0 means that no assignment satisfies the formula.
     ensures sound { result ≡ Status.Verified → (f : Seen (F.left formula.old) (F.left formula.new)) ×
+        ((i : Input) → IsSeen f i → ¬ HasModel (slice_get (formula_of i).clauses)) }
+
+    // So does the line `s VERIFIED`, under whatever status it was written: a flush may fail after it.
+    ensures written { HasWritten (codes "s VERIFIED") (O.held out.old) (O.held out.new) → (f : Seen (F.left formula.old) (F.left formula.new)) ×
         ((i : Input) → IsSeen f i → ¬ HasModel (slice_get (formula_of i).clauses)) }
 
     // A reader or the writer tells of each failure.

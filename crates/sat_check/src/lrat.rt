@@ -1,11 +1,11 @@
 //! A check of an LRAT proof, from bytes to bytes.
 
-ghost use Rattle.std.specs.Prelude.{◌≡◌, ◌⊎◌, true, false, slice_get};
+ghost use Rattle.std.specs.Prelude.{◌≡◌, ◌⊎◌, true, false, slice_get, codes};
 ghost use Rattle.cnf_base.specs.Stream.{Input};
 ghost use Rattle.cnf_base.specs.Seen.{Seen, IsSeen};
 ghost use Rattle.dimacs.specs.Formula.{formula_of};
 ghost use Rattle.steps.specs.Models.{HasModel};
-ghost use Rattle.sat_check.specs.Report.{Report, Outcome, LratReport};
+ghost use Rattle.sat_check.specs.Report.{Report, Outcome, HasWritten, LratReport};
 
 use crate::check::check;
 use crate::conclude::give_up;
@@ -32,6 +32,10 @@ pub fn run_lrat<F: In, P: In, O: Out>(
 
     // Status 0 means that no assignment satisfies the formula.
     ensures sound { result ≡ Status.Verified → (f : Seen (F.left formula.old) (F.left formula.new)) ×
+        ((i : Input) → IsSeen f i → ¬ HasModel (slice_get (formula_of i).clauses)) }
+
+    // So does the line `s VERIFIED`, under whatever status it was written: a flush may fail after it.
+    ensures written { HasWritten (codes "s VERIFIED") (O.held out.old) (O.held out.new) → (f : Seen (F.left formula.old) (F.left formula.new)) ×
         ((i : Input) → IsSeen f i → ¬ HasModel (slice_get (formula_of i).clauses)) }
 
     // A reader or the writer tells of each failure.

@@ -1,10 +1,11 @@
 //! The lines of a report.
 
 ghost use Rattle.std.specs.Prelude.{◌≡◌, ◌++◌, ◌/◌, codes, decimal, IfOk};
-ghost use Rattle.sat_check.specs.Lines.{formula_line, kind_text, binary_text, fault_line, fault_status, text_status, word_text, trace_line, sign_text, with_cause, refusal_line, steps_line, end_line, sentence};
+ghost use Rattle.sat_check.specs.Lines.{formula_line, kind_text, binary_text, fault_line, fault_status, text_status, word_text, trace_line, sign_text, with_cause, refusal_line, steps_line, end_line, unmet_line, clauses_line, sentence};
 
 use crate::Status;
 use crate::line::Line;
+use crate::subject::Subject;
 use cnf_base::{BinaryFault, Fault, Lit, OutOfMemory, TextFault};
 use dimacs::Header;
 use std::alloc::Global;
@@ -99,9 +100,35 @@ pub fn end_line(alloc: Global) -> Result<Line, OutOfMemory>
     Line::new(alloc).text(b"c end: no empty clause")
 }
 
+/// The clause of this number, which has no true literal.
+pub fn unmet_line(alloc: Global, number: u64) -> Result<Line, OutOfMemory>
+    ensures { IfOk result (λ line. line ≡ unmet_line number) }
+{
+    Line::new(alloc)
+        .text(b"c clause ")?
+        .number(number)?
+        .text(b" is not satisfied")
+}
+
+/// A verified model of so many clauses.
+pub fn clauses_line(alloc: Global, number: u64) -> Result<Line, OutOfMemory>
+    ensures { IfOk result (λ line. line ≡ clauses_line number) }
+{
+    Line::new(alloc).text(b"c clauses ")?.number(number)
+}
+
 /// The verdict's last line.
-pub fn sentence(status: Status) -> &'static [u8]
-    ensures { result.now ≡ sentence status }
+pub fn sentence(subject: Subject, status: Status) -> &'static [u8]
+    ensures { result.now ≡ sentence subject status }
+{
+    match subject {
+        Subject::Proof => proof_sentence(status),
+        Subject::Model => model_sentence(status),
+    }
+}
+
+fn proof_sentence(status: Status) -> &'static [u8]
+    ensures { result.now ≡ sentence Subject.Proof status }
 {
     match status {
         Status::Verified => b"s VERIFIED",
@@ -111,6 +138,20 @@ pub fn sentence(status: Status) -> &'static [u8]
         | Status::OutOfMemory
         | Status::WriteFailed
         | Status::Usage => b"s NOT VERIFIED",
+    }
+}
+
+fn model_sentence(status: Status) -> &'static [u8]
+    ensures { result.now ≡ sentence Subject.Model status }
+{
+    match status {
+        Status::Verified => b"s MODEL VERIFIED",
+        Status::NotVerified
+        | Status::Malformed
+        | Status::ReadFailed
+        | Status::OutOfMemory
+        | Status::WriteFailed
+        | Status::Usage => b"s MODEL NOT VERIFIED",
     }
 }
 

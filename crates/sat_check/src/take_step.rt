@@ -11,6 +11,7 @@ ghost use Rattle.sat_check.specs.Checking.{GoesOn, Stops, IsBreak, IsTold, is_me
 use crate::Status;
 use crate::conclude::{conclude, give_up, write_line};
 use crate::report::{refusal_line, steps_line, trace_line};
+use crate::subject::Subject;
 use cnf_base::{LineOut, Out};
 use proofs::StepBuf;
 use std::alloc::Global;
@@ -42,7 +43,7 @@ pub fn take_step<S: ProofSession, O: Out>(
     }
     if is_last(word) {
         let line = steps_line(alloc, number, session.peak());
-        return Err(conclude(lines, line, Status::Verified));
+        return Err(conclude(lines, Subject::Proof, line, Status::Verified));
     }
     Ok(())
 }
@@ -70,7 +71,7 @@ fn write_trace<O: Out>(
 // Writes why a step was refused. A session that had no memory has nothing to say of it.
 fn refuse<O: Out>(alloc: Global, number: u64, refusal: Refusal, lines: &mut LineOut<O>) -> Status
     ensures memory { is_memory refusal ≡ true → (r : Report) → Outcome result lines.old.held lines.new.held r }
-    ensures refused { is_memory refusal ≡ false → Outcome result lines.old.held lines.new.held (concluded (refusal_line number refusal) Status.NotVerified) }
+    ensures refused { is_memory refusal ≡ false → Outcome result lines.old.held lines.new.held (concluded Subject.Proof (refusal_line number refusal) Status.NotVerified) }
     ensures told { IsTold result lines.new }
     ensures same_writer { lines.new.borrows ≡ lines.old.borrows }
 {
@@ -78,6 +79,7 @@ fn refuse<O: Out>(alloc: Global, number: u64, refusal: Refusal, lines: &mut Line
         Refusal::OutOfMemory => give_up(lines),
         _ => conclude(
             lines,
+            Subject::Proof,
             refusal_line(alloc, number, refusal),
             Status::NotVerified,
         ),

@@ -35,7 +35,7 @@ returns-in-Ok-false-clause-report g c =
     let now : Standing = record { stream = g.R.StepReader.stream c.loop-number.reader; to_come = g.R.StepReader.to_come c.loop-number.reader } in
     let new : Standing = record { stream = g.R.StepReader.stream c.next.new.self; to_come = g.R.StepReader.to_come c.next.new.self } in
     Checking-end c.args.trace start now new _ _ _ _ _ c.loop-number.invariant c.next.new.step c.conclude.result c.conclude.new.lines (step_told now new _ (Ok false) _ c.next.ensures.step (search rules))
-    (c.conclude.ensures.outcome end_line c.end_line.ensures)
+    (c.conclude.ensures.outcome end_line c.end_line-line.ensures)
 
 pub returns-in-Err-clause-report : goal.returns-in-Err-clause-report
 returns-in-Err-clause-report g c =

@@ -2,7 +2,8 @@ use Rattle.std.proofs.Common.{◌≡◌, ◌∙◌, ap, sym, codes, option_map, 
 use Rattle.clap.specs.Words.{app_of, first_value, found_of, one_text}
 use Rattle.clap.proofs.WalkLemmas.{first_value-rows, one_text-rows}
 use Rattle.sat_check.specs.Words.{is_among, is_flag, said_by}
-use Rattle.sat_check.proofs.WordAccepted.{has_formula}
+use Rattle.std.proofs.lemmas.Bool.{true≢false}
+use Rattle.sat_check.proofs.WordAccepted.{has_formula, names_full}
 use Rattle.sat_check.proofs.WordReading.{fails_for_memory, flag_read, known_words, knows, reads}
 use Rattle.sat_check.proofs.command_line.read_args.Goals as goal
 use Rattle.sat_check.proofs.command_line.read_args.Goals.{in-Some-get_str+in_ok-to_string-in-Some-get_str, in-None}
@@ -64,3 +65,21 @@ returns-clause-names c free =
 
 pub returns-clause-hyphens : goal.returns-clause-hyphens
 returns-clause-hyphens c free = knows c.args.tool (app_of c.in_ok-command.command) c.in_ok-command.ensures c.args.words.now c.in-Ok.ensures.kinds free
+
+pub returns-then-is_any_empty-clause-accepts : goal.returns-then-is_any_empty-clause-accepts
+returns-then-is_any_empty-clause-accepts c accepts =
+    let words = said_by c.args.words.now in
+    let read = reads c.args.tool (app_of c.in_ok-command.command) c.in_ok-command.ensures c.args.words.now c.in-Ok.matches c.in-Ok.ensures.matches c.in-Ok.ensures.kinds
+    (known_words c.args.tool words accepts) in
+    let formula : Some c.in-Some.formula.now ≡ first_value (found_of c.in-Ok.matches) (codes "formula") = c.in-Some.ensures in
+    let same : string_bytes c.in_ok-formula.formula ≡ c.in-Some.formula.now = c.in_ok-formula.ensures.ok in
+    let second : option_map string_bytes c.match-get_str-2.second ≡ first_value (found_of c.in-Ok.matches) (codes "second") =
+    elim c.match-get_str-2.branch [
+      | in-Some-get_str+in_ok-to_string-in-Some-get_str w ↦ ap (option_map string_bytes) w.second-is
+          ∙ (ap (λ l. Some l) w.in_ok-to_string-in-Some-get_str.ensures.ok ∙ w.in-Some-get_str.ensures)
+      | in-None w ↦ ap (option_map string_bytes) w.second-is ∙ w.in-None.ensures
+    ] in
+    let full = names_full c.args.tool words (string_bytes c.in_ok-formula.formula) c.match-get_str-2.second accepts
+    (ap (λ l. Some l) same ∙ (formula ∙ (first_value-rows (found_of c.in-Ok.matches) (codes "formula") ∙ read.formula)))
+    (second ∙ (first_value-rows (found_of c.in-Ok.matches) (codes "second") ∙ read.second)) in
+    absurd (true≢false (sym c.if-is_any_empty.true ∙ c.is_any_empty.ensures ∙ full))

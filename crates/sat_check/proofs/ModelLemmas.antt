@@ -1,0 +1,162 @@
+-- The report of a model, and what a verified one says.
+use Rattle.std.proofs.Common.{◌≡◌, ℕ, ◌+◌, ◌*◌, ◌/◌, ◌%◌, cond, Bool, true, false, not, ◌||◌, List, [], ◌∷◌, length, Option, None, Some, refl, sym, ap, ◌∙◌, subst, arith, slice_get, codes}
+use Rattle.std.specs.Prelude.{Result, Ok, Err, IfOk, IsTrue, ◌==◌}
+use Rattle.std.proofs.lemmas.Bool.Decides.{nat_tests}
+use Rattle.cnf_base.specs.Lines.{Sink}
+use Rattle.cnf_base.specs.Literals.{Literal, Clause, complement, has}
+use Rattle.cnf_base.specs.declared.fault.Fault.{Fault}
+use Rattle.cnf_base.specs.declared.fault.Fault.TheVariants.{Text, Binary, ReadFailed, OutOfMemory}
+use Rattle.cnf_base.proofs.SetLemmas.{any_from, any_some}
+use Rattle.dimacs.specs.Claim.{IsClaim, IsConsistent}
+use Rattle.dimacs.specs.Formula.{Formula}
+use Rattle.steps.specs.Models.{Assignment, holds, satisfies, HasModel}
+use Rattle.sat_check.specs.Lines.{fault_line, fault_status}
+use Rattle.sat_check.specs.Report.{Outcome, Report, concluded}
+use Rattle.sat_check.specs.ModelReport.{meets, first_unmet, met_report, clauses_report, claim_report}
+use Rattle.sat_check.specs.Judging.{Judges, judged_report}
+use Rattle.sat_check.specs.declared.judgement.Judgement.{Judgement}
+use Rattle.sat_check.specs.declared.judgement.Judgement.TheVariants.{Met, Unmet}
+use Rattle.sat_check.specs.declared.subject.Subject.TheVariants.{Model}
+use Rattle.sat_check.specs.declared.status.Status.{Status}
+use Rattle.sat_check.specs.declared.status.Status.TheVariants.{Verified, NotVerified}
+use Rattle.sat_check.proofs.SoundLemmas.{fault_is_no_verdict, outcome_verified}
+
+-- ---- Literals that are the same set meet the same clauses
+
+meets_same : (xs ys : List Literal) → ((l : Literal) → has xs l ≡ has ys l) → (c : Clause) → meets xs c ≡ meets ys c
+meets_same xs ys same [] = refl
+meets_same xs ys same (l ∷ c) = ap (λ b. b || meets xs c) (same l) ∙ ap (λ b. has ys l || b) (meets_same xs ys same c)
+
+first_unmet_same : (k : ℕ) (xs ys : List Literal) → ((l : Literal) → has xs l ≡ has ys l) → (cs : List Clause) → first_unmet k xs cs ≡ first_unmet k ys cs
+first_unmet_same k xs ys same [] = refl
+first_unmet_same k xs ys same (c ∷ cs) =
+    ap (λ b. cond b (first_unmet (k + 1) xs cs) (Some k)) (meets_same xs ys same c)
+    ∙ ap (λ u. cond (meets ys c) u (Some k)) (first_unmet_same (k + 1) xs ys same cs)
+
+-- the report of a model is that of the claim
+pub claimed_report : (model : List Literal) (claim : Result (List Literal) Fault) (f : Formula) → IsClaim (Ok model) claim → claim_report (Ok model) f ≡ claim_report claim f
+claimed_report model (Ok listed) f same = ap (λ u. clauses_report u f) (first_unmet_same 1 model listed same f.clauses)
+claimed_report model (Err e) f none = absurd none
+
+-- and the claim holds no complements
+pub claimed_consistent : (model : List Literal) (claim : Result (List Literal) Fault) → IsClaim (Ok model) claim → IsConsistent model → IfOk claim IsConsistent
+claimed_consistent model (Ok listed) same consistent = λ l h. sym (same (complement l)) ∙ consistent l (same l ∙ h)
+claimed_consistent model (Err e) none consistent = absurd none
+
+-- ---- What was judged
+
+-- the report of a formula that was judged so
+pub judged_as : (listed : List Literal) (j : Judgement) (f : Formula) → Judges listed (Ok j) f.clauses f.fault → judged_report j ≡ claim_report (Ok listed) f
+judged_as listed (Met n) f j =
+    ap (λ m. met_report m None) j.1 ∙ ap (met_report (length f.clauses)) (sym j.2) ∙ ap (λ u. clauses_report u f) (sym j.0)
+judged_as listed (Unmet k) f j = ap (λ u. clauses_report u f) (sym j)
+
+-- a fault's lines, or want of memory
+abbrev pub TellsFault : List ℕ → Fault → Status → Sink → Sink → Type 0
+TellsFault name f status was now = (f ≡ OutOfMemory → (r : Report) → Outcome status was.held now.held r)
+    × ((f ≡ OutOfMemory → ⊥) → Outcome status was.held now.held (concluded Model (fault_line name f) (fault_status f)))
+
+module _ (status : Status) (was now : Sink) where
+  -- the formula's fault
+  pub formula_fault : (listed : List Literal) (e : Fault) (f : Formula) → Judges listed (Err e) f.clauses f.fault → TellsFault (codes "formula") e status was now
+      → Outcome status was.held now.held (claim_report (Ok listed) f)
+  formula_fault listed e f j told = by e j told
+    where
+      other : (e : Fault) → (first_unmet 1 listed f.clauses ≡ None) × (f.fault ≡ Some e) → Outcome status was.held now.held (concluded Model (fault_line (codes "formula") e) (fault_status e))
+          → Outcome status was.held now.held (claim_report (Ok listed) f)
+      other e j o =
+          let P : Report → Type 0 = Outcome status was.held now.held in
+          subst P (ap (met_report (length f.clauses)) (sym j.1) ∙ ap (λ u. clauses_report u f) (sym j.0)) o
+
+      by : (e : Fault) → Judges listed (Err e) f.clauses f.fault → TellsFault (codes "formula") e status was now → Outcome status was.held now.held (claim_report (Ok listed) f)
+      by (Text k p) j told = other (Text k p) j (told.1 (λ e. cc))
+      by (Binary k n) j told = other (Binary k n) j (told.1 (λ e. cc))
+      by ReadFailed j told = other ReadFailed j (told.1 (λ e. cc))
+      by OutOfMemory j told = told.0 refl _
+
+  -- the output's
+  pub output_fault : (e : Fault) (claim : Result (List Literal) Fault) (f : Formula) → IsClaim (Err e) claim → TellsFault (codes "output") e status was now
+      → Outcome status was.held now.held (claim_report claim f)
+  output_fault e claim f is told = by e is told
+    where
+      other : (e : Fault) → claim ≡ Err e → Outcome status was.held now.held (concluded Model (fault_line (codes "output") e) (fault_status e))
+          → Outcome status was.held now.held (claim_report claim f)
+      other e is o = let P : Result (List Literal) Fault → Type 0 = λ r. Outcome status was.held now.held (claim_report r f) in subst P (sym is) o
+
+      by : (e : Fault) → IsClaim (Err e) claim → TellsFault (codes "output") e status was now → Outcome status was.held now.held (claim_report claim f)
+      by (Text k p) is told = other (Text k p) is (told.1 (λ e. cc))
+      by (Binary k n) is told = other (Binary k n) is (told.1 (λ e. cc))
+      by ReadFailed is told = other ReadFailed is (told.1 (λ e. cc))
+      by OutOfMemory is told = told.0 refl _
+
+  -- no fault ends in a positive verdict
+  pub fault_unverified : (name : List ℕ) (e : Fault) → TellsFault name e status was now → status ≡ Verified → ⊥
+  fault_unverified name e told is = by e told
+    where
+      other : (e : Fault) → Outcome status was.held now.held (concluded Model (fault_line name e) (fault_status e)) → ⊥
+      other e o = fault_is_no_verdict e (outcome_verified status was.held now.held _ is o)
+
+      by : (e : Fault) → TellsFault name e status was now → ⊥
+      by (Text k p) told = other (Text k p) (told.1 (λ e. cc))
+      by (Binary k n) told = other (Binary k n) (told.1 (λ e. cc))
+      by ReadFailed told = other ReadFailed (told.1 (λ e. cc))
+      by OutOfMemory told =
+          let bad : NotVerified ≡ Verified = outcome_verified status was.held now.held (concluded Model [] NotVerified) is (told.0 refl (concluded Model [] NotVerified)) in
+          cc
+
+-- ---- What a verified model says
+
+-- each clause is met where none is the first that isn't
+all_met : (k : ℕ) (listed : List Literal) (cs : List Clause) → first_unmet k listed cs ≡ None → (i : ℕ) (c : Clause) → slice_get cs i ≡ Some c → IsTrue (meets listed c)
+all_met k listed [] h i c at = absurd (let e : ◌≡◌ {A = Option Clause} None (Some c) = at in cc)
+all_met k listed (d ∷ cs) h i c at = by (meets listed d) refl h (λ g. all_met (k + 1) listed cs g) i at
+  where
+    by : (b : Bool) → meets listed d ≡ b → cond b (first_unmet (k + 1) listed cs) (Some k) ≡ None
+        → (first_unmet (k + 1) listed cs ≡ None → (i : ℕ) (c : Clause) → slice_get cs i ≡ Some c → IsTrue (meets listed c))
+        → (i : ℕ) → slice_get (d ∷ cs) i ≡ Some c → IsTrue (meets listed c)
+    by true is h next Prim.Native.Nat.zero at = let e : ◌≡◌ {A = Option Clause} (Some d) (Some c) = at in let same : d ≡ c = cc in ap (meets listed) (sym same) ∙ is
+    by true is h next (Prim.Native.Nat.suc i) at = next h i c at
+    by false is h next i at = absurd (let e : ◌≡◌ {A = Option ℕ} (Some k) None = h in cc)
+
+abbrev pub IsSatisfied : Result (List Literal) Fault → List Clause → Type 0
+IsSatisfied claim clauses = (listed : List Literal) × (claim ≡ Ok listed) × IsConsistent listed × ((k : ℕ) (c : Clause) → slice_get clauses k ≡ Some c → IsTrue (meets listed c))
+
+-- the report of a verified model comes only where its claim meets every clause
+pub verified_satisfied : (claim : Result (List Literal) Fault) (f : Formula) → (claim_report claim f).status ≡ Verified → IfOk claim IsConsistent → IsSatisfied claim f.clauses
+verified_satisfied (Err e) f is consistent = absurd (fault_is_no_verdict e is)
+verified_satisfied (Ok listed) f is consistent = by (first_unmet 1 listed f.clauses) refl is
+  where
+    by : (u : Option ℕ) → first_unmet 1 listed f.clauses ≡ u → (clauses_report u f).status ≡ Verified → IsSatisfied (Ok listed) f.clauses
+    by (Some k) e is = absurd (let bad : NotVerified ≡ Verified = is in cc)
+    by None e is = (listed, refl, consistent, all_met 1 listed f.clauses e)
+
+-- Consistent literals give an assignment: what is listed is true, and no other variable is.
+abbrev pub assigned : List Literal → Assignment
+assigned listed v = has listed (2 * v)
+
+-- a literal, or its complement, says that its variable is true
+even_half : (l : Literal) → (l % 2 == 0) ≡ true → 2 * (l / 2) ≡ l
+even_half l h = grind (arith, nat_tests)
+
+odd_half : (l : Literal) → (l % 2 == 0) ≡ false → 2 * (l / 2) ≡ complement l
+unfolding complement
+odd_half l h = grind (arith, nat_tests)
+
+-- under it each listed literal is true
+listed_holds : (listed : List Literal) → IsConsistent listed → (l : Literal) → has listed l ≡ true → holds (assigned listed) l ≡ true
+unfolding holds
+listed_holds listed consistent l h = by (l % 2 == 0) refl
+  where
+    by : (b : Bool) → (l % 2 == 0) ≡ b → cond b (has listed (2 * (l / 2))) (not (has listed (2 * (l / 2)))) ≡ true
+    by true e = ap (has listed) (even_half l e) ∙ h
+    by false e = ap not (ap (has listed) (odd_half l e) ∙ consistent l h)
+
+-- so a clause with a listed literal is satisfied
+met_satisfied : (listed : List Literal) → IsConsistent listed → (c : Clause) → meets listed c ≡ true → satisfies (assigned listed) c ≡ true
+met_satisfied listed consistent c h =
+    let w = any_some (has listed) c h in
+    any_from (holds (assigned listed)) c w.0 w.1 (listed_holds listed consistent w.0 w.2)
+
+-- and the formula has a model
+pub satisfied_model : (claim : Result (List Literal) Fault) (clauses : List Clause) → IsSatisfied claim clauses → HasModel (slice_get clauses)
+satisfied_model claim clauses s = (assigned s.0, λ k c at. met_satisfied s.0 s.2 c (s.3 k c at))

@@ -1,0 +1,26 @@
+-- A clause is met, it is the first that isn't, none is left, or there is a fault.
+use Rattle.std.proofs.Common.{◌≡◌, true, false, rules}
+use Rattle.std.specs.Prelude.{Ok}
+use Rattle.sat_check.specs.ModelReport.{meets}
+use Rattle.sat_check.proofs.JudgeLemmas.{Judging-start, Judging-clause, Judging-unmet, Judging-done, Judging-fault}
+use Rattle.sat_check.proofs.ReadLemmas.{clause_told}
+use Rattle.sat_check.proofs.judge.judge_clauses.Goals as goal
+
+pub loop-number-init : goal.loop-number-init
+loop-number-init g c = Judging-start c.args.model.now c.args.reader.now c.requires
+
+pub returns-then-not-meets-clause-judges : goal.returns-then-not-meets-clause-judges
+returns-then-not-meets-clause-judges g c =
+    let unmet : meets c.args.model.now c.next.new.clause ≡ false = search rules in
+    Judging-unmet _ _ _ _ _ c.loop-number.invariant c.next.new.clause (clause_told _ _ _ (Ok true) _ c.next.ensures.clause (search rules)) unmet
+
+pub loop-number-preserved : goal.loop-number-preserved
+loop-number-preserved g c =
+    let met : meets c.args.model.now c.next.new.clause ≡ true = search rules in
+    Judging-clause _ _ _ _ _ c.loop-number.invariant c.next.new.clause (clause_told _ _ _ (Ok true) _ c.next.ensures.clause (search rules)) met (search rules) (search rules)
+
+pub returns-in-Ok-false-clause-judges : goal.returns-in-Ok-false-clause-judges
+returns-in-Ok-false-clause-judges g c = Judging-done _ _ _ _ _ c.loop-number.invariant c.next.new.clause (clause_told _ _ _ (Ok false) _ c.next.ensures.clause (search rules))
+
+pub returns-in-Err-clause-judges : goal.returns-in-Err-clause-judges
+returns-in-Err-clause-judges g c = Judging-fault _ _ _ _ _ c.loop-number.invariant c.next.new.clause c.in-Err.fault c.in-Err.ensures.clause

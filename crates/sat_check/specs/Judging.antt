@@ -1,0 +1,24 @@
+-- The parts of a check of a model.
+use Rattle.std.specs.Prelude.{◌≡◌, List, length, Option, None, Some, Result, Ok, Err}
+use Rattle.cnf_base.specs.Literals.{Literal, Clause}
+use Rattle.cnf_base.specs.declared.fault.Fault.{Fault}
+use Rattle.cnf_base.specs.declared.fault.Fault.TheVariants.{OutOfMemory}
+use Rattle.sat_check.specs.Lines.{unmet_line, clauses_line}
+use Rattle.sat_check.specs.ModelReport.{first_unmet}
+use Rattle.sat_check.specs.Report.{Report, concluded}
+use Rattle.sat_check.specs.declared.judgement.Judgement.{Judgement}
+use Rattle.sat_check.specs.declared.judgement.Judgement.TheVariants.{Met, Unmet}
+use Rattle.sat_check.specs.declared.subject.Subject.TheVariants.{Model}
+use Rattle.sat_check.specs.declared.status.Status.TheVariants.{Verified, NotVerified}
+
+-- clauses and the fault after them are judged so by the listed literals; want of memory says nothing
+abbrev pub Judges : List Literal → Result Judgement Fault → List Clause → Option Fault → Type 0
+Judges listed (Ok (Met n)) clauses fault = (first_unmet 1 listed clauses ≡ None) × (n ≡ length clauses) × (fault ≡ None)
+Judges listed (Ok (Unmet k)) clauses fault = first_unmet 1 listed clauses ≡ Some k
+Judges listed (Err OutOfMemory) clauses fault = Unit {0}
+Judges listed (Err f) clauses fault = (first_unmet 1 listed clauses ≡ None) × (fault ≡ Some f)
+
+-- the report of a formula that was judged so
+abbrev pub judged_report : Judgement → Report
+judged_report (Met n) = concluded Model (clauses_line n) Verified
+judged_report (Unmet k) = concluded Model (unmet_line k) NotVerified

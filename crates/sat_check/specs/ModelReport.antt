@@ -1,0 +1,40 @@
+-- What a check of a model writes, and how it ends (our own profile: only listed literals are true, and the first clause that has
+-- none is told).
+use Rattle.std.specs.Prelude.{ℕ, ◌+◌, cond, Bool, List, [], ◌∷◌, length, Option, None, Some, Result, Ok, Err, codes}
+use Rattle.std.specs.List.{list_any}
+use Rattle.cnf_base.specs.Literals.{Literal, Clause, has}
+use Rattle.cnf_base.specs.Stream.{Input}
+use Rattle.cnf_base.specs.declared.fault.Fault.{Fault}
+use Rattle.dimacs.specs.Claim.{claim_of}
+use Rattle.dimacs.specs.Formula.{Formula, formula_of}
+use Rattle.sat_check.specs.Lines.{unmet_line, clauses_line, fault_line, fault_status}
+use Rattle.sat_check.specs.Report.{Report, concluded}
+use Rattle.sat_check.specs.declared.subject.Subject.TheVariants.{Model}
+use Rattle.sat_check.specs.declared.status.Status.TheVariants.{Verified, NotVerified}
+
+-- some literal of the clause is listed
+abbrev pub meets : List Literal → Clause → Bool
+meets listed c = list_any (has listed) c
+
+-- the number of the first clause that has no listed literal, where the first of these has this number
+abbrev pub first_unmet : ℕ → List Literal → List Clause → Option ℕ
+first_unmet k listed [] = None
+first_unmet k listed (c ∷ cs) = cond (meets listed c) (first_unmet (k + 1) listed cs) (Some k)
+
+-- all of so many clauses are met, and the formula ends so
+abbrev pub met_report : ℕ → Option Fault → Report
+met_report n None = concluded Model (clauses_line n) Verified
+met_report n (Some f) = concluded Model (fault_line (codes "formula") f) (fault_status f)
+
+-- a clause that isn't met comes before the formula's fault
+abbrev pub clauses_report : Option ℕ → Formula → Report
+clauses_report (Some k) f = concluded Model (unmet_line k) NotVerified
+clauses_report None f = met_report (length f.clauses) f.fault
+
+-- the report of a claim; its fault comes before the formula is looked at
+abbrev pub claim_report : Result (List Literal) Fault → Formula → Report
+claim_report (Ok listed) f = clauses_report (first_unmet 1 listed f.clauses) f
+claim_report (Err e) f = concluded Model (fault_line (codes "output") e) (fault_status e)
+
+abbrev pub model_report : (formula output : Input) → Report
+model_report formula output = claim_report (claim_of output) (formula_of formula)

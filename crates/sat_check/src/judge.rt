@@ -1,0 +1,76 @@
+//! A formula is judged by a model, clause by clause.
+
+ghost use Rattle.std.specs.Prelude.{◌≡◌, true, IfErr};
+ghost use Rattle.cnf_base.specs.Stream.{Input, Along};
+ghost use Rattle.cnf_base.specs.Seen.{Seen, IsSeen};
+ghost use Rattle.dimacs.specs.Formula.{formula_of};
+ghost use Rattle.dimacs.specs.Reading.{to_come};
+ghost use Rattle.sat_check.specs.ModelReport.{meets};
+ghost use Rattle.sat_check.specs.Judging.{Judges};
+
+use crate::judgement::Judgement;
+use cnf_base::{Fault, In, Source};
+use dimacs::{ClauseBuf, FormulaReader, Model};
+use std::alloc::Global;
+
+/// Reads a formula up to the first clause that the model doesn't meet. It stores no clause but that at hand.
+pub fn judge<F: In>(alloc: Global, formula: &mut F, model: &Model) -> Result<Judgement, Fault>
+    ensures judges { (seen : Seen (F.left formula.old) (F.left formula.new)) × ((i : Input) → IsSeen seen i → Judges model.now result (formula_of i).clauses (formula_of i).fault) }
+    ensures tells { IfErr result (λ f. f ≡ Fault.ReadFailed → F.has_failed formula.new ≡ true) }
+{
+    let source = match Source::new(alloc, &mut *formula) {
+        Ok(source) => source,
+        Err(refused) => {
+            let (_, rest) = refused;
+            let _ = &*rest;
+            return Err(Fault::OutOfMemory);
+        }
+    };
+    match FormulaReader::open(source) {
+        Ok(mut reader) => {
+            let judged = judge_clauses(alloc, &mut reader, model);
+            let rest = reader.release();
+            let _ = &*rest;
+            judged
+        }
+        Err(refused) => {
+            let (fault, rest) = refused;
+            let _ = &*rest;
+            Err(fault)
+        }
+    }
+}
+
+// Judges the clauses of the formula in turn.
+fn judge_clauses<F: In>(
+    alloc: Global,
+    reader: &mut FormulaReader<F>,
+    model: &Model,
+) -> Result<Judgement, Fault>
+    requires { reader.old.complete ≡ 0 }
+    ensures judges { Along reader.old.stream reader.new.stream (λ i j. Judges model.now result (to_come reader.old i).clauses (to_come reader.old i).fault) }
+    ensures tells { IfErr result (λ f. f ≡ Fault.ReadFailed → reader.new.stream.has_failed ≡ true) }
+{
+    let mut clause = ClauseBuf::new(alloc);
+    let mut met = 0u64;
+    loop {
+        match reader.next(&mut clause) {
+            Ok(true) => {
+                let number = met + 1;
+                if !meets(model, &clause) {
+                    return Ok(Judgement::Unmet(number));
+                }
+                met = number;
+            }
+            Ok(false) => return Ok(Judgement::Met(met)),
+            Err(fault) => return Err(fault),
+        }
+    }
+}
+
+// Whether the model has a literal of the clause.
+fn meets(model: &Model, clause: &ClauseBuf) -> bool
+    ensures { result ≡ meets model.now clause.now }
+{
+    clause.lits().iter().any(|lit| model.holds(*lit))
+}
