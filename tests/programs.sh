@@ -1,18 +1,19 @@
 #!/usr/bin/env bash
-# Runs lrat-check and drat-forward as a user does: files, standard input, missing files, wrong words. What they write and
+# Runs the three programs as a user does: files, standard input, missing files, wrong words. What they write and
 # their statuses are compared with what stands here. The last line is "N passed, M failed".
 #
-# LRAT_CHECK and DRAT_FORWARD name the programs; they are bin/lrat-check and bin/drat-forward otherwise.
+# LRAT_CHECK, DRAT_FORWARD and MODEL_CHECK name the programs; they are those in bin/ otherwise.
 set -uo pipefail
 cd "$(dirname "$0")/.."
 
 lrat_check=${LRAT_CHECK:-bin/lrat-check}
 drat_forward=${DRAT_FORWARD:-bin/drat-forward}
+model_check=${MODEL_CHECK:-bin/model-check}
 passed=0 failed=0
 room=$(mktemp -d)
 trap 'rm -rf "$room"' EXIT
 
-for checker in "$lrat_check" "$drat_forward"; do
+for checker in "$lrat_check" "$drat_forward" "$model_check"; do
     if [ ! -x "$checker" ]; then
         echo "FAILED: there is no program $checker"
         echo "0 passed, 1 failed"
@@ -39,7 +40,7 @@ row() {
     local name=$1 status=$2 ended
     shift 2
     cat > "$room/wanted"
-    "$checker" "$@" > "$room/out" 2> "$room/err" < "${proof_on_stdin:-/dev/null}"
+    "$checker" "$@" > "$room/out" 2> "$room/err" < "${on_stdin:-/dev/null}"
     ended=$?
     judge "$name" "$status" "$ended"
 }
@@ -65,8 +66,28 @@ write_failed() {
 
 x=examples
 
-# of_every_tool PREFIX PROGRAM PROOF: what each tool does alike, with a proof of examples/e.cnf
+# of_every_tool PREFIX PROGRAM FORMULA SECOND: what each tool does alike, with two right inputs
 of_every_tool() {
+    if [ -w /dev/full ]; then
+        "$checker" "$3" "$4" > /dev/full 2> "$room/out"
+        write_failed "$1_full_device" "$2" $?
+    fi
+
+    usage "$1_no_words"
+    usage "$1_help" --help
+    usage "$1_short_help" -h
+    usage "$1_version" --version
+    usage "$1_empty_word" ""
+    usage "$1_unknown_flag" --fast "$3" "$4"
+    usage "$1_unknown_flag_after_the_names" "$3" "$4" --fast
+    usage "$1_flag_with_a_value" --trace=1 "$3" "$4"
+    usage "$1_shortened_flag" --tra "$3" "$4"
+    usage "$1_name_with_a_hyphen" -1 "$4"
+    usage "$1_three_names" "$3" "$4" "$4"
+}
+
+# of_a_proof_checker PREFIX PROGRAM PROOF: what both proof checkers do alike, with a proof of examples/e.cnf
+of_a_proof_checker() {
     row "$1_missing_formula" 3 $x/there_is_no_such_file "$3" <<'LINES'
 c cannot read formula
 s NOT VERIFIED
@@ -90,20 +111,8 @@ c cannot read proof
 s NOT VERIFIED
 LINES
 
-    if [ -w /dev/full ]; then
-        "$checker" $x/e.cnf "$3" > /dev/full 2> "$room/out"
-        write_failed "$1_full_device" "$2" $?
-    fi
-
-    usage "$1_no_words"
-    usage "$1_help" --help
-    usage "$1_short_help" -h
-    usage "$1_version" --version
-    usage "$1_unknown_flag" --fast $x/e.cnf "$3"
-    usage "$1_flag_with_a_value" --trace=1 $x/e.cnf "$3"
-    usage "$1_shortened_flag" --tra $x/e.cnf "$3"
-    usage "$1_name_with_a_hyphen" -1 "$3"
-    usage "$1_three_names" $x/e.cnf "$3" "$3"
+    of_every_tool "$1" "$2" $x/e.cnf "$3"
+    usage "$1_repeated_flag" --trace --trace $x/e.cnf "$3"
 }
 
 # ==== lrat-check
@@ -134,7 +143,7 @@ c steps 2 peak 9
 s VERIFIED
 LINES
 
-proof_on_stdin=$x/e.lrat row proof_on_standard_input 0 $x/e.cnf <<'LINES'
+on_stdin=$x/e.lrat row proof_on_standard_input 0 $x/e.cnf <<'LINES'
 c formula 2 variables 4 clauses
 c steps 2 peak 9
 s VERIFIED
@@ -251,7 +260,7 @@ c formula 2:3: literal out of range
 s NOT VERIFIED
 LINES
 
-of_every_tool lrat lrat-check $x/e.lrat
+of_a_proof_checker lrat lrat-check $x/e.lrat
 usage lrat_flag_of_another_tool --binary $x/e.cnf $x/e.lrat
 usage lrat_flag_alone --trace
 
@@ -283,7 +292,7 @@ c steps 2 peak 9
 s VERIFIED
 LINES
 
-proof_on_stdin=$x/e.drat row drat_proof_on_standard_input 0 $x/e.cnf <<'LINES'
+on_stdin=$x/e.drat row drat_proof_on_standard_input 0 $x/e.cnf <<'LINES'
 c formula 2 variables 4 clauses
 c steps 2 peak 9
 s VERIFIED
@@ -415,10 +424,79 @@ c formula 2:3: literal out of range
 s NOT VERIFIED
 LINES
 
-of_every_tool drat drat-forward $x/e.drat
+of_a_proof_checker drat drat-forward $x/e.drat
 usage drat_strict_with_a_value --strict=1 $x/e.cnf $x/e.drat
 usage drat_shortened_strict --stri $x/e.cnf $x/e.drat
 usage drat_flags_alone --trace --strict
+
+# ==== model-check
+
+checker=$model_check
+
+row models 0 $x/models.cnf $x/models.out <<'LINES'
+c clauses 2
+s MODEL VERIFIED
+LINES
+
+on_stdin=$x/models.out row output_on_standard_input 0 $x/models.cnf <<'LINES'
+c clauses 2
+s MODEL VERIFIED
+LINES
+
+# as CaDiCaL wrote it: by examples/make-cadical-model.sh
+row queens_by_cadical 0 $x/queens-6.cnf $x/queens-6.out <<'LINES'
+c clauses 296
+s MODEL VERIFIED
+LINES
+
+row clause_not_satisfied 1 $x/models.cnf $x/clause_not_satisfied.out <<'LINES'
+c clause 2 is not satisfied
+s MODEL NOT VERIFIED
+LINES
+
+row no_model_claimed 1 $x/e.cnf $x/unsatisfiable.out <<'LINES'
+c output 1:3: no model claimed
+s MODEL NOT VERIFIED
+LINES
+
+row no_output 2 $x/models.cnf /dev/null <<'LINES'
+c output 1:1: no status line
+s MODEL NOT VERIFIED
+LINES
+
+row proof_as_output 2 $x/e.cnf $x/e.lrat <<'LINES'
+c output 1:1: bad line
+s MODEL NOT VERIFIED
+LINES
+
+row model_literal_out_of_range 2 $x/literal_out_of_range.cnf $x/models.out <<'LINES'
+c formula 2:3: literal out of range
+s MODEL NOT VERIFIED
+LINES
+
+row missing_output 3 $x/models.cnf $x/there_is_no_such_file <<'LINES'
+c cannot read output
+s MODEL NOT VERIFIED
+LINES
+
+row model_missing_formula 3 $x/there_is_no_such_file $x/models.out <<'LINES'
+c cannot read formula
+s MODEL NOT VERIFIED
+LINES
+
+row both_missing 3 $x/there_is_no_such_file $x/there_is_no_such_file <<'LINES'
+c cannot read output
+s MODEL NOT VERIFIED
+LINES
+
+# a folder can be opened, and then its first read fails
+row folder_as_output 3 $x/models.cnf $x <<'LINES'
+c cannot read output
+s MODEL NOT VERIFIED
+LINES
+
+of_every_tool model model-check $x/models.cnf $x/models.out
+usage model_flag_of_another_tool $x/models.cnf --trace
 
 echo "$passed passed, $failed failed"
 [ "$failed" -eq 0 ]

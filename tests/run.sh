@@ -33,14 +33,16 @@ count "$ended"
 # The gate leaves the programs that it proved and built. Where it did not come so far, nothing else is tested in their place.
 lrat_check=crates/lrat_check/out/lrat_check
 drat_forward=crates/drat_forward/out/drat_forward
-if [ "$ended" -eq 0 ] && [ -x "$lrat_check" ] && [ -x "$drat_forward" ]; then
+model_check=crates/model_check/out/model_check
+if [ "$ended" -eq 0 ] && [ -x "$lrat_check" ] && [ -x "$drat_forward" ] && [ -x "$model_check" ]; then
     mkdir -p bin
     cp "$lrat_check" bin/lrat-check
     cp "$drat_forward" bin/drat-forward
+    cp "$model_check" bin/model-check
 fi
 
 echo "== tests/programs.sh"
-LRAT_CHECK=$lrat_check DRAT_FORWARD=$drat_forward tests/programs.sh 2>&1 | tee "$log"
+LRAT_CHECK=$lrat_check DRAT_FORWARD=$drat_forward MODEL_CHECK=$model_check tests/programs.sh 2>&1 | tee "$log"
 count "${PIPESTATUS[0]}"
 
 echo "$passed passed, $failed failed"

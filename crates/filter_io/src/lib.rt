@@ -1,0 +1,12 @@
+//! What the programs have in common: their words, their files, and how they end.
+#![tactic(auto)]
+
+mod ending;
+mod files;
+mod input;
+mod words;
+
+pub use ending::exit_code;
+pub use files::{open, open_second, standard_output};
+pub use input::Input;
+pub use words::ask;

@@ -1,0 +1,28 @@
+//! `model-check FORMULA [OUTPUT]`: checks the model in a solver's output against a formula in DIMACS CNF.
+#![tactic(auto)]
+
+use cnf_base::{FromRead, ToWrite};
+use filter_io::{ask, exit_code, open, open_second, standard_output};
+use sat_check::{Status, Tool, run_model};
+use std::process::ExitCode;
+
+const NAME: &str = "model-check";
+
+fn main(rt: HostRuntime) -> ExitCode {
+    let ended = check(&rt);
+    exit_code(&rt, NAME, ended)
+}
+
+// Both files are opened before the first byte is read.
+fn check(rt: &HostRuntime) -> Result<Status, Status> {
+    let args = ask(rt, Tool::Model, NAME)?;
+    let formula = open(rt, args.formula.as_str())?;
+    let output = open_second(rt, &args)?;
+    let out = standard_output(rt)?;
+    Ok(run_model(
+        rt.alloc(),
+        &mut FromRead::new(formula),
+        &mut FromRead::new(output),
+        &mut ToWrite::new(out),
+    ))
+}
