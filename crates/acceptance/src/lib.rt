@@ -42,7 +42,15 @@ mod lrat_groups;
 #[cfg(test)]
 mod lrat_steps;
 #[cfg(test)]
+mod model_cuts;
+#[cfg(test)]
+mod model_support;
+#[cfg(test)]
+mod models;
+#[cfg(test)]
 mod never_verified;
+#[cfg(test)]
+mod outputs;
 #[cfg(test)]
 mod proof_faults;
 #[cfg(test)]

@@ -16,7 +16,13 @@ const LITERALS: [i32; 7] = [0, 1, -1, 2, -2, 3, -3];
 const HINTS: [&str; 5] = ["", "1 ", "2 1 ", "-1 ", "1 -2 2 "];
 
 // What a proof in DRAT begins with.
-const STARTS: [&str; 4] = ["", "d 1 2 0\n", "d 1 3 0\n", "1 0\n1 2 0\nd 2 1 0\n"];
+const STARTS: [&str; 5] = [
+    "",
+    "d 1 2 0\n",
+    "d 1 3 0\n",
+    "1 0\n1 2 0\nd 2 1 0\n",
+    "3 -1 0\n",
+];
 
 fn push_literals(proof: &mut String, first: i32, second: i32) -> Result<(), AllocError> {
     for literal in [first, second] {
@@ -121,6 +127,6 @@ fn drat_proofs(rt: HostRuntime) -> Result<(), Fail> {
             }
         }
     }
-    assert_eq!(rt; count, 196);
+    assert_eq!(rt; count, 245);
     Ok(())
 }
