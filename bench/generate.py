@@ -8,6 +8,9 @@
         A formula of clauses with three literals, of about that many bytes.
     python3 generate.py literals BYTES FORMULA
         A header, and then the literals of one clause that no 0 ends. Reading it stores no clause, and ends with a fault.
+    python3 generate.py model BYTES FORMULA OUTPUT
+        A formula as above of which each clause has a true literal where the even variables are true and the odd ones are
+        false, and a solver's output that lists this model.
 """
 
 import sys
@@ -77,6 +80,27 @@ def one_clause(size, formula):
             written += it.write(" ".join(str(next(source)) for _ in range(10)) + "\n")
 
 
+def model_of(number):
+    return number if number % 2 == 0 else -number
+
+
+def model(size, formula, output):
+    text, source = [], literals(3)
+    written = 0
+    while written < size:
+        line = f"{next(source)} {next(source)} {model_of(abs(next(source)))} 0\n"
+        text.append(line)
+        written += len(line)
+    with open(formula, "w", encoding="ascii") as it:
+        it.write(f"p cnf {VARIABLES} {len(text)}\n")
+        it.writelines(text)
+    with open(output, "w", encoding="ascii") as it:
+        it.write("s SATISFIABLE\n")
+        for first in range(1, VARIABLES + 1, 10):
+            it.write("v " + " ".join(str(model_of(v)) for v in range(first, first + 10)) + "\n")
+        it.write("v 0\n")
+
+
 def main(words):
     if len(words) == 6 and words[0] == "chain":
         variables, width, steps = map(int, words[1:4])
@@ -87,6 +111,8 @@ def main(words):
         clauses(int(words[1]), words[2])
     elif len(words) == 3 and words[0] == "literals":
         one_clause(int(words[1]), words[2])
+    elif len(words) == 4 and words[0] == "model":
+        model(int(words[1]), words[2], words[3])
     else:
         sys.exit(__doc__)
 

@@ -1,10 +1,11 @@
 #!/usr/bin/env bash
-# Measures bin/lrat-check beside a plain C++ checker, and the reading of formulas beside a C loop that splits words.
+# Measures bin/lrat-check beside a plain C++ checker, and bin/model-check and the reading of formulas beside a C loop that
+# splits words.
 #
 #   bench/run.sh            inputs of 50 to 60 MB
 #   bench/run.sh small      inputs of about 2 MB, to see that it runs
 #
-# The inputs are made once, in bench/out/ (not committed). LRAT_CHECK names another program than bin/lrat-check.
+# The inputs are made once, in bench/out/ (not committed). LRAT_CHECK and MODEL_CHECK name other programs than those in bin/.
 set -euo pipefail
 cd "$(dirname "$0")/.."
 
@@ -15,7 +16,10 @@ case "${1:-large}" in
 esac
 
 checker=${LRAT_CHECK:-bin/lrat-check}
-[ -x "$checker" ] || { echo "bench/run.sh: there is no $checker: run make" >&2; exit 1; }
+model_checker=${MODEL_CHECK:-bin/model-check}
+for program in "$checker" "$model_checker"; do
+    [ -x "$program" ] || { echo "bench/run.sh: there is no $program: run make" >&2; exit 1; }
+done
 
 out=bench/out
 mkdir -p "$out/$size"
@@ -40,6 +44,7 @@ make_once "$in/pigeonhole.lrat" python3 examples/pigeonhole.py "$holes" "$in/pig
 make_once "$in/chain.lrat" python3 bench/generate.py chain "$variables" 10 "$steps" "$in/chain.cnf" "$in/chain.lrat"
 make_once "$in/formula.cnf" python3 bench/generate.py formula "$bytes" "$in/formula.cnf"
 make_once "$in/literals.cnf" python3 bench/generate.py literals "$bytes" "$in/literals.cnf"
+make_once "$in/model.cnf" python3 bench/generate.py model "$bytes" "$in/model.cnf" "$in/model.out"
 
 failed=0
 measure() { "$out/measure" "$@" || failed=1; }
@@ -57,6 +62,9 @@ measure "formula read and kept, reference.cpp" 1 "$in/formula.cnf" -- "$out/refe
 measure "literals read, lrat-check" 2 "$in/literals.cnf" -- "$checker" "$in/literals.cnf" /dev/null
 measure "literals read, reference.cpp" 2 "$in/literals.cnf" -- "$out/reference" "$in/literals.cnf" /dev/null
 measure "literals split into words, words.c" 0 "$in/literals.cnf" -- "$out/words" "$in/literals.cnf"
+# the output is read and kept, the formula is judged, and no clause is kept
+measure "model checked, model-check" 0 "$in/model.out" "$in/model.cnf" -- "$model_checker" "$in/model.cnf" "$in/model.out"
+measure "its formula split into words, words.c" 0 "$in/model.cnf" -- "$out/words" "$in/model.cnf"
 
 # The first line of a pair fills a million entries, the second also looks up ten million times: their difference is the look-ups.
 lookups=${LOOKUPS:-crates/lookups/out/lookups}
