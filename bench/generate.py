@@ -60,11 +60,11 @@ def literals(seed):
         yield -literal if n >> 30 else literal
 
 
-def clauses(size, formula):
-    text, source = [], literals(1)
-    written = 0
+def clauses(size, formula, source, last=lambda literal: literal):
+    """Clauses of three literals, of which the last one is changed so."""
+    text, written = [], 0
     while written < size:
-        line = f"{next(source)} {next(source)} {next(source)} 0\n"
+        line = f"{next(source)} {next(source)} {last(next(source))} 0\n"
         text.append(line)
         written += len(line)
     with open(formula, "w", encoding="ascii") as it:
@@ -85,15 +85,7 @@ def model_of(number):
 
 
 def model(size, formula, output):
-    text, source = [], literals(3)
-    written = 0
-    while written < size:
-        line = f"{next(source)} {next(source)} {model_of(abs(next(source)))} 0\n"
-        text.append(line)
-        written += len(line)
-    with open(formula, "w", encoding="ascii") as it:
-        it.write(f"p cnf {VARIABLES} {len(text)}\n")
-        it.writelines(text)
+    clauses(size, formula, literals(3), lambda literal: model_of(abs(literal)))
     with open(output, "w", encoding="ascii") as it:
         it.write("s SATISFIABLE\n")
         for first in range(1, VARIABLES + 1, 10):
@@ -108,7 +100,7 @@ def main(words):
             sys.exit("generate.py: WIDTH is from 1 to VARIABLES - 1")
         chain(variables, width, steps, words[4], words[5])
     elif len(words) == 3 and words[0] == "formula":
-        clauses(int(words[1]), words[2])
+        clauses(int(words[1]), words[2], literals(1))
     elif len(words) == 3 and words[0] == "literals":
         one_clause(int(words[1]), words[2])
     elif len(words) == 4 and words[0] == "model":
