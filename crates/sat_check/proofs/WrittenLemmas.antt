@@ -9,6 +9,7 @@ use Rattle.std.proofs.lemmas.Bool.Decides.{nat_tests}
 use Rattle.std.proofs.lemmas.List.{append_cancel_left}
 use Rattle.std.proofs.lemmas.List.Folds.{list_all-append, list_any-append}
 use Rattle.cnf_base.proofs.LineLemmas.{append_nil}
+use Rattle.cnf_base.proofs.TextLemmas.{first_part}
 use Rattle.cnf_base.specs.Literals.{Literal, Clause}
 use Rattle.cnf_base.specs.Stream.{Input}
 use Rattle.cnf_base.specs.Text.{but_last, lines_of}
@@ -68,15 +69,6 @@ number_plain n = record { test = digits_test 64 n [] refl }
 
 -- ---- The whole lines of a text
 
-first_part : (xs : List ℕ) → (first : List ℕ) × (rest : List (List ℕ)) × (lines_of xs ≡ first ∷ rest)
-first_part [] = ([], [], refl)
-first_part (x ∷ xs) = by (x == 10) (first_part xs)
-  where
-    by : (v : Bool) → (first : List ℕ) × (rest : List (List ℕ)) × (lines_of xs ≡ first ∷ rest)
-        → (first : List ℕ) × (rest : List (List ℕ)) × (cond v ([] ∷ lines_of xs) (onto_first x (lines_of xs)) ≡ first ∷ rest)
-    by true f = ([], lines_of xs, refl)
-    by false f = (x ∷ f.0, f.1, ap (onto_first x) f.2)
-
 cut_line : (line ys : List ℕ) → has_no_feed line ≡ true → lines_of (line ++ 10 ∷ ys) ≡ line ∷ lines_of ys
 cut_line [] ys e = refl
 cut_line (b ∷ bs) ys e = by (b == 10) refl (cut_line bs ys)
@@ -89,7 +81,7 @@ cut_line (b ∷ bs) ys e = by (b == 10) refl (cut_line bs ys)
 
 but_last-cons : (line ys : List ℕ) → but_last (line ∷ lines_of ys) ≡ line ∷ whole_lines ys
 but_last-cons line ys =
-    let f = first_part ys in
+    let f = first_part (λ b. b == 10) ys in
     ap (λ t. but_last (line ∷ t)) f.2 ∙ sym (ap (λ t. line ∷ but_last t) f.2)
 
 -- the whole lines of a text of lines are these
@@ -127,8 +119,8 @@ lines_grow (x ∷ xs) ys = by (x == 10) (lines_grow xs ys)
         → Extends (but_last (cond v ([] ∷ lines_of xs) (onto_first x (lines_of xs)))) (but_last (cond v ([] ∷ lines_of (xs ++ ys)) (onto_first x (lines_of (xs ++ ys)))))
     by true e = (e.0, but_last-cons [] (xs ++ ys) ∙ ap (λ t. [] ∷ t) e.1 ∙ sym (ap (λ t. t ++ e.0) (but_last-cons [] xs)))
     by false e =
-        let f = first_part xs in
-        let g = first_part (xs ++ ys) in
+        let f = first_part (λ b. b == 10) xs in
+        let g = first_part (λ b. b == 10) (xs ++ ys) in
         let P : List (List ℕ) → Type 0 = λ t. Extends (but_last t) (but_last (lines_of (xs ++ ys))) in
         let Q : List (List ℕ) → Type 0 = λ t. Extends (but_last (f.0 ∷ f.1)) (but_last t) in
         let R : List (List ℕ) → Type 0 = λ t. Extends (but_last (onto_first x t)) (but_last ((x ∷ g.0) ∷ g.1)) in
