@@ -1,6 +1,7 @@
 #!/usr/bin/env bash
-# All tests: the gate (every proof from nothing, the must-fail edits, the crates' tests and the programs' stored runs), and
-# then the programs as users run them. The last line is "N passed, M failed" over both.
+# All tests: the gate (every proof from nothing, the must-fail edits, the crates' tests and the programs' stored runs), then
+# the control of the edits that try the clauses on models alone, and then the programs as users run them. The last line is
+# "N passed, M failed" over all.
 #
 # RT names the command rt, where it isn't on the PATH.
 set -uo pipefail
@@ -29,6 +30,10 @@ echo "== rt ci"
 "${RT:-rt}" ci 2>&1 | tee "$log"
 ended=${PIPESTATUS[0]}
 count "$ended"
+
+echo "== tests/controls.py"
+RT="${RT:-rt}" python3 tests/controls.py 2>&1 | tee "$log"
+count "${PIPESTATUS[0]}"
 
 # The gate leaves the programs that it proved and built. Where it did not come so far, nothing else is tested in their place.
 lrat_check=crates/lrat_check/out/lrat_check

@@ -1,10 +1,6 @@
 //! Proofs of a formula that has models: none is verified.
 
-use crate::drat_support::{PLAIN, drat_outcome};
-use crate::readers::{Cut, Pieces};
-use crate::search::has_model;
-use crate::support::{G, outcome};
-use crate::writers::{Stop, Writer};
+use crate::support::{Cut, DRAT, Engine, G, LRAT, Pieces, Stop, Tool, Writer, has_model};
 use std::alloc::{AllocError, Global};
 use std::process::Abort;
 use std::test::Fail;
@@ -47,40 +43,46 @@ fn push_step(
     proof.push_str("0\n")
 }
 
-fn status_of(alloc: Global, proof: &str) -> u8 {
+fn expect_one(rt: &impl Abort, alloc: Global, engine: Engine, proof: &str) {
     let mut formula = Pieces::new(G, 4096, Cut::Ends);
-    let mut proof = Pieces::new(proof, 4096, Cut::Ends);
+    let mut second = Pieces::new(proof, 4096, Cut::Ends);
     let writer = Writer::new(alloc, usize::MAX, Stop::TakesNone);
-    let (code, _) = outcome(alloc, false, &mut formula, &mut proof, writer);
-    code
+    let (code, _) = engine.run(alloc, &mut formula, &mut second, writer);
+    assert_eq!(rt; code, 1, "{engine:?}: {proof}");
 }
 
-// A step of two literals, one of its first literal, and the empty clause, each with these hints.
 fn expect_unverified(
     rt: &impl Abort,
     alloc: Global,
-    first: i32,
-    second: i32,
-    hints: &str,
+    tool: Tool,
+    proof: &str,
 ) -> Result<(), AllocError> {
+    let engines = tool.engines(alloc)?;
+    for engine in engines.as_slice() {
+        expect_one(rt, alloc, *engine, proof);
+    }
+    Ok(())
+}
+
+// A step of two literals, one of its first literal, and the empty clause, each with these hints.
+fn lrat_proof(alloc: Global, first: i32, second: i32, hints: &str) -> Result<String, AllocError> {
     let mut proof = String::new(alloc);
     push_step(&mut proof, 2, first, second, hints)?;
     push_step(&mut proof, 3, first, 0, hints)?;
     push_step(&mut proof, 4, 0, 0, hints)?;
-    let code = status_of(alloc, proof.as_str());
-    assert_eq!(rt; code, 1, "{}", proof.as_str());
-    Ok(())
+    Ok(proof)
 }
 
 #[test]
-fn two_hundred_proofs(rt: HostRuntime) -> Result<(), Fail> {
+fn lrat_proofs(rt: HostRuntime) -> Result<(), Fail> {
     let alloc = rt.alloc();
     assert!(rt; has_model(&rt, alloc, G)?);
     let mut count = 0u32;
     for first in LITERALS {
         for second in LITERALS {
             for hints in HINTS {
-                expect_unverified(&rt, alloc, first, second, hints)?;
+                let proof = lrat_proof(alloc, first, second, hints)?;
+                expect_unverified(&rt, alloc, LRAT.tool, proof.as_str())?;
                 count = count.saturating_add(1);
             }
         }
@@ -89,30 +91,14 @@ fn two_hundred_proofs(rt: HostRuntime) -> Result<(), Fail> {
     Ok(())
 }
 
-fn drat_status_of(alloc: Global, proof: &str) -> u8 {
-    let mut formula = Pieces::new(G, 4096, Cut::Ends);
-    let mut proof = Pieces::new(proof, 4096, Cut::Ends);
-    let writer = Writer::new(alloc, usize::MAX, Stop::TakesNone);
-    let (code, _) = drat_outcome(alloc, &PLAIN, &mut formula, &mut proof, writer);
-    code
-}
-
 // After this start: a step of two literals, one of its first literal, and the empty clause.
-fn expect_drat_unverified(
-    rt: &impl Abort,
-    alloc: Global,
-    start: &str,
-    first: i32,
-    second: i32,
-) -> Result<(), AllocError> {
+fn drat_proof(alloc: Global, start: &str, first: i32, second: i32) -> Result<String, AllocError> {
     let mut proof = String::from_str(alloc, start)?;
     push_literals(&mut proof, first, second)?;
     proof.push_str("0\n")?;
     push_literals(&mut proof, first, 0)?;
     proof.push_str("0\n0\n")?;
-    let code = drat_status_of(alloc, proof.as_str());
-    assert_eq!(rt; code, 1, "{}", proof.as_str());
-    Ok(())
+    Ok(proof)
 }
 
 #[test]
@@ -122,7 +108,8 @@ fn drat_proofs(rt: HostRuntime) -> Result<(), Fail> {
     for first in LITERALS {
         for second in LITERALS {
             for start in STARTS {
-                expect_drat_unverified(&rt, alloc, start, first, second)?;
+                let proof = drat_proof(alloc, start, first, second)?;
+                expect_unverified(&rt, alloc, DRAT.tool, proof.as_str())?;
                 count = count.saturating_add(1);
             }
         }

@@ -1,9 +1,8 @@
 -- Clauses as sets: what is summed over their different literals, and clauses that repeat nothing.
 use Rattle.std.proofs.Common.{◌≡◌, ℕ, ◌+◌, ◌<◌, ◌≤◌, Bool, true, false, not, cond, eqb, eqb-true, [], ◌∷◌, ◌++◌, length, take, get_or, zero, suc, refl, sym, ap, ◌∙◌, subst, arith, inl, inr}
-use Rattle.std.specs.List.{list_all}
-use Rattle.std.proofs.lemmas.Bool.{false≢true, true≢false, cases_Bool, eqb-false, false_from_ne_true, and_parts, and_from}
-use Rattle.cnf_base.specs.Literals.{Literal, Clause, has, without, same_clause}
-use Rattle.cnf_base.proofs.SetLemmas.{both_pass, has_head, has_tail, has_cases, all_each, each_all, has_append_left, has_append_right, has_append_cases, has-without, without_has}
+use Rattle.std.proofs.lemmas.Bool.{false≢true, true≢false, cases_Bool, eqb-false, false_from_ne_true}
+use Rattle.cnf_base.specs.Literals.{Literal, Clause, has, without}
+use Rattle.cnf_base.proofs.SetLemmas.{both_pass, has_head, has_tail, has_cases, has_append_left, has_append_right, has_append_cases, has-without, without_has}
 use Rattle.clause_db.specs.Clauses.{size}
 use Rattle.clause_db.specs.Hashes.{sum_distinct}
 
@@ -11,21 +10,9 @@ use Rattle.clause_db.specs.Hashes.{sum_distinct}
 abbrev pub IsWithin : Clause → Clause → Type 0
 IsWithin c d = (l : Literal) → has c l ≡ true → has d l ≡ true
 
--- ---- Clauses that are the same set
-
-module _ (c d : Clause) where
-  pub same_there : same_clause c d ≡ true → IsWithin c d
-  same_there same l h = all_each (has d) c l (and_parts (list_all (has d) c) (list_all (has c) d) same).0 h
-
-  pub same_back : same_clause c d ≡ true → IsWithin d c
-  same_back same l h = all_each (has c) d l (and_parts (list_all (has d) c) (list_all (has c) d) same).1 h
-
-  pub same_from : IsWithin c d → IsWithin d c → same_clause c d ≡ true
-  same_from there back = and_from (list_all (has d) c) (list_all (has c) d) (each_all (has d) c there) (each_all (has c) d back)
-
 -- ---- Sums over the different literals
 
-without_absent : (d : Clause) (l : Literal) → has d l ≡ false → without d l ≡ d
+pub without_absent : (d : Clause) (l : Literal) → has d l ≡ false → without d l ≡ d
 without_absent [] l h = refl
 without_absent (k ∷ d) l h = elim (cases_Bool (eqb k l)) [
   | inl e ↦ absurd (true≢false (sym (subst (λ x. has (k ∷ d) x ≡ true) (eqb-true k l e) (has_head k d)) ∙ h))

@@ -1,17 +1,18 @@
 -- Passes over the clauses: what they keep, and why they end.
 use Rattle.std.proofs.Common.{◌≡◌, ℕ, ◌+◌, ◌/◌, ◌<◌, ◌≤◌, Bool, true, false, not, cond, Some, None, List, [], ◌∷◌, ◌++◌, map, length, take, drop, refl, sym, ap, ◌∙◌, subst, inl, inr, arith}
-use Rattle.std.proofs.lemmas.Bool.{false≢true, true≢false, cases_eq}
+use Rattle.std.proofs.lemmas.Bool.{false≢true, cases_eq}
 use Rattle.std.proofs.lemmas.List.{take-append-le, take-append-drop}
+use Rattle.std.proofs.lemmas.Option.{none-some, same_Some}
 use Rattle.std.proofs.lemmas.List.Sums.{sum_by-cons}
 use Rattle.cnf_base.specs.Literals.{Literal, complement, Clause, has}
 use Rattle.cnf_base.proofs.SetLemmas.{has_cases, has_append_left, has_append_right, has_append_cases, has_head}
-use Rattle.clause_db.specs.Propagation.{Live, IsClosed, Forced, Clash, by_empty, by_both}
-use Rattle.clause_db.specs.Scanning.{IsSettled, IsFalseBut, unset}
-use Rattle.clause_db.specs.Trail.{TrailState, variable, HasNoVariableTwice}
-use Rattle.clause_db.specs.declared.pass.Pass.{Pass}
-use Rattle.clause_db.specs.declared.pass.Pass.TheVariants.{Clash as PassClash, Changed, Quiet}
-use Rattle.clause_db.proofs.ForcedLemmas.{forced_unit, clash_by_false}
-use Rattle.clause_db.proofs.TruthLemmas.{consistent, variable_open}
+use Rattle.clause_db.specs.Left.{open_literals, how_many, IsSettled}
+use Rattle.clause_db.specs.Propagation.{Live}
+use Rattle.clause_db.specs.Scanning.{unset}
+use Rattle.clause_db.specs.Trail.{TrailState, variable}
+use Rattle.clause_db.specs.declared.unit.Pass.{Pass}
+use Rattle.clause_db.specs.declared.unit.Pass.TheVariants.{Clash as PassClash, Changed, Quiet}
+use Rattle.clause_db.proofs.TruthLemmas.{variable_open}
 
 -- ---- A longer trail
 
@@ -39,7 +40,7 @@ unset-cons : (lits : List ℕ) (v : ℕ) (vs : List ℕ) → unset lits (v ∷ v
 unset-cons lits v vs = sum_by-cons (λ w. cond (not (has (map variable lits) w)) 1 0) v vs
 
 module _ (lits : List ℕ) (m : ℕ) where
-  still_set : (v : ℕ) → has (map variable lits) v ≡ true → has (map variable (lits ++ m ∷ [])) v ≡ true
+  pub still_set : (v : ℕ) → has (map variable lits) v ≡ true → has (map variable (lits ++ m ∷ [])) v ≡ true
   still_set v h = ap (λ xs. has xs v) (mapped_push lits m) ∙ has_append_left (map variable lits) (variable m ∷ []) v h
 
   now_set : has (map variable (lits ++ m ∷ [])) (variable m) ≡ true
@@ -82,13 +83,7 @@ module _ (lits : List ℕ) (m : ℕ) where
 abbrev pub IsPassedTo : Live → TrailState → List Literal → ℕ → Pass → Type 0
 IsPassedTo live before lits n PassClash = ⊥
 IsPassedTo live before lits n Changed = (vs : List ℕ) → ((v : ℕ) → has before.met v ≡ true → has vs v ≡ true) → unset lits vs < unset before.lits vs
-IsPassedTo live before lits n Quiet = (lits ≡ before.lits) × ((k : ℕ) (c : Clause) → k < n → live k ≡ Some c → IsSettled before.lits c)
-
-some_none : (c : Clause) → None ≡ Some c → ⊥
-some_none c e = cc
-
-same_some : (c d : Clause) → Some c ≡ Some d → c ≡ d
-same_some c d e = cc
+IsPassedTo live before lits n Quiet = (lits ≡ before.lits) × ((k : ℕ) (c : Clause) → k < n → live k ≡ Some c → IsSettled before.lits (how_many (open_literals before.lits c)))
 
 module _ (live : Live) (before : TrailState) (lits : List Literal) (n : ℕ) where
   pub passed_none : None ≡ live n → (p : Pass) → IsPassedTo live before lits n p → IsPassedTo live before lits (n + 1) p
@@ -97,18 +92,18 @@ module _ (live : Live) (before : TrailState) (lits : List Literal) (n : ℕ) whe
   passed_none none Quiet h = (
     h.0,
     λ k c low at. elim (cases_eq k n) [
-      | inl e ↦ absurd (some_none c (none ∙ ap live (sym e) ∙ at))
+      | inl e ↦ absurd (none-some c (none ∙ ap live (sym e) ∙ at))
       | inr ne ↦ h.1 k c (omega arith) at
     ],
   )
 
-  pub passed_settled : (d : Clause) → Some d ≡ live n → IsSettled lits d → (p : Pass) → IsPassedTo live before lits n p → IsPassedTo live before lits (n + 1) p
+  pub passed_settled : (d : Clause) → Some d ≡ live n → IsSettled lits (how_many (open_literals lits d)) → (p : Pass) → IsPassedTo live before lits n p → IsPassedTo live before lits (n + 1) p
   passed_settled d here settled PassClash h = h
   passed_settled d here settled Changed h = h
   passed_settled d here settled Quiet h = (
     h.0,
     λ k c low at. elim (cases_eq k n) [
-      | inl e ↦ subst (IsSettled before.lits) (same_some d c (here ∙ ap live (sym e) ∙ at)) (subst (λ ls. IsSettled ls d) h.0 settled)
+      | inl e ↦ subst (λ x. IsSettled before.lits (how_many (open_literals before.lits x))) (same_Some d c (here ∙ ap live (sym e) ∙ at)) (subst (λ ls. IsSettled ls (how_many (open_literals ls d))) h.0 settled)
       | inr ne ↦ h.1 k c (omega arith) at
     ],
   )
@@ -121,23 +116,3 @@ module _ (live : Live) (before : TrailState) (lits : List Literal) (n : ℕ) whe
       omega arith
   passed_unit m e f member Quiet h = λ vs covers.
       subst (λ ls. unset (lits ++ m ∷ []) vs < unset ls vs) h.0 (unset_falls lits m (variable_open lits m e f) vs (covers (m / 2) member))
-
--- ---- The rule of one clause
-
-module _ (live : Live) (before lits : List Literal) (sound : (l : Literal) → has lits l ≡ true → Forced live before l) (k : ℕ) (c : Clause) (at : Some c ≡ live k) where
-  pub unit_forced : (m : Literal) → IsFalseBut lits c (Some m) → Forced live before m
-  unit_forced m rest = forced_unit live before k c (sym at) m rest.0 (λ l member ne. sound (complement l) (rest.3 l member ne))
-
-  pub false_clashes : IsFalseBut lits c None → Clash live before
-  false_clashes rest = clash_by_false live before k c (sym at) (λ l member. sound (complement l) (rest l member))
-
--- ---- Where nothing more follows
-
-module _ (live : Live) (before lits : List Literal) (settled : (k : ℕ) (c : Clause) → live k ≡ Some c → IsSettled lits c) where
-  settled_closed : IsClosed live (λ l. has lits l)
-  settled_closed = record { unit = λ k c at m member others. (settled k c at).unit m member others }
-
-  pub settled_quiet : HasNoVariableTwice lits → ((l : Literal) → has before l ≡ true → has lits l ≡ true) → Clash live before → ⊥
-  settled_quiet apart within (by_empty k at) = (settled k [] at).full refl
-  settled_quiet apart within (by_both l f g) =
-      true≢false (sym (g.in_each (λ l. has lits l) settled_closed within) ∙ consistent lits apart l (f.in_each (λ l. has lits l) settled_closed within))

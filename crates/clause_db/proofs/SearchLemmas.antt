@@ -8,7 +8,7 @@ use Rattle.std.specs.Ordering.{nat_cmp}
 use Rattle.std.proofs.lemmas.Bool.{false≢true, true≢false, and_parts, and_from}
 use Rattle.slab.specs.Slab.{Slab, get}
 use Rattle.cnf_base.specs.Literals.{Literal, Clause, has, same_clause}
-use Rattle.cnf_base.proofs.SetLemmas.{all_each, each_all}
+use Rattle.cnf_base.proofs.SetLemmas.{all_each, each_all, same_there, same_back, same_from}
 use Rattle.clause_db.specs.Clauses.{size, copies_with}
 use Rattle.clause_db.specs.Entries.{is_match, spot_of, stored}
 use Rattle.clause_db.specs.Hashes.{hash}
@@ -16,7 +16,7 @@ use Rattle.clause_db.specs.Marks.{count_of}
 use Rattle.clause_db.specs.Spots.{IsPlaced}
 use Rattle.clause_db.specs.declared.entry.Entry.{Entry}
 use Rattle.clause_db.specs.declared.mark.Mark.{Mark}
-use Rattle.clause_db.proofs.DistinctLemmas.{IsWithin, same_there, same_back, same_from, size_same, all_covered}
+use Rattle.clause_db.proofs.DistinctLemmas.{IsWithin, size_same, all_covered}
 use Rattle.clause_db.proofs.MarkLemmas.{hash_same}
 use Rattle.clause_db.proofs.SumLemmas.{sum_remove}
 use Rattle.clause_db.proofs.StoreLemmas.{clause_of, get_stored}

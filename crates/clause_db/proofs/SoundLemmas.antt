@@ -1,5 +1,6 @@
 -- What is so of the fields of a store, through a change.
 use Rattle.std.proofs.Common.{◌≡◌, ◌≢◌, ℕ, ◌+◌, ◌-◌, ◌*◌, ◌<◌, ◌≤◌, Bool, true, false, cond, eqb, eq-eqb, ne_eqb, Option, Some, None, option_map, [], ◌∷◌, ◌++◌, length, get_or, slice_get, swap_remove, refl, sym, ap, ◌∙◌, subst, arith, inl, inr, ◌⊎◌}
+use Rattle.std.proofs.lemmas.Option.{none-some, same_Some}
 use Rattle.std.specs.Ordering.{nat_cmp}
 use Rattle.std.specs.FinMap as maps
 use Rattle.std.specs.FinMap.{FinMap}
@@ -22,26 +23,20 @@ use Rattle.clause_db.proofs.SumLemmas.{get_insert, get_remove, sum_insert, sum_r
 use Rattle.clause_db.proofs.SpotLemmas.{placed_with, placed_without, spot_end, same_hash}
 use Rattle.clause_db.proofs.StoreLemmas.{clause_of, get_stored, stored_none, stored_same, stored_with, stored_without, sum_bound}
 
-none_some : {A : Type 0} (x : A) → None ≡ Some x → ⊥
-none_some x e = cc
-
-same_some : {A : Type 0} (x y : A) → Some x ≡ Some y → x ≡ y
-same_some x y e = cc
-
 -- ---- Look-ups in a changed map
 
 after_insert : (m : FinMap nat_cmp Clause) (k : ℕ) (x : Clause) (s : ℕ) (c : Clause) → maps.get (maps.insert m k x) s ≡ Some c → (x ≡ c) ⊎ (maps.get m s ≡ Some c)
 after_insert m k x s c is = by_test (eqb s k) (sym (get_insert m k x s) ∙ is)
   where
     by_test : (b : Bool) → cond b (Some x) (maps.get m s) ≡ Some c → (x ≡ c) ⊎ (maps.get m s ≡ Some c)
-    by_test true e = inl (same_some x c e)
+    by_test true e = inl (same_Some x c e)
     by_test false e = inr e
 
 after_remove : (m : FinMap nat_cmp Clause) (k s : ℕ) (c : Clause) → maps.get (maps.remove m k) s ≡ Some c → maps.get m s ≡ Some c
 after_remove m k s c is = by_test (eqb s k) (sym (get_remove m k s) ∙ is)
   where
     by_test : (b : Bool) → cond b None (maps.get m s) ≡ Some c → maps.get m s ≡ Some c
-    by_test true e = absurd (none_some c e)
+    by_test true e = absurd (none-some c e)
     by_test false e = e
 
 -- ---- No clauses
@@ -50,11 +45,11 @@ pub sound_empty : (entries : Slab Entry) (index : Index) (marks : Table Mark) �
 sound_empty entries index marks empty no_buckets no_marks =
     let map_is = stored_none entries empty in
     let no_clause : (s : ℕ) (c : Clause) → maps.get (stored entries) s ≡ Some c → ⊥ =
-    λ s c is. none_some c (sym (maps.get-empty nat_cmp s) ∙ ap (λ m. maps.get m s) (sym map_is) ∙ is) in
+    λ s c is. none-some c (sym (maps.get-empty nat_cmp s) ∙ ap (λ m. maps.get m s) (sym map_is) ∙ is) in
     record {
       placed = record {
-        there = λ s h i is. absurd (none_some (h, i) (sym (ap (λ slots. spot_of (get_or slots s None)) empty) ∙ is));
-        back = λ s h i is. absurd (none_some s (sym (ap (λ xs. slice_get xs i) (no_buckets h)) ∙ is));
+        there = λ s h i is. absurd (none-some (h, i) (sym (ap (λ slots. spot_of (get_or slots s None)) empty) ∙ is));
+        back = λ s h i is. absurd (none-some s (sym (ap (λ xs. slice_get xs i) (no_buckets h)) ∙ is));
       };
       different = λ s c is. absurd (no_clause s c is);
       short = λ s c is. absurd (no_clause s c is);
@@ -207,7 +202,7 @@ module _ (old mid new : Slab Entry) (index index2 : Index) (marks marks2 : Table
   moved_spot apart = ap spot_of (moved ∙ ap (option_map (with_place e.place)) (rest m apart)) ∙ by_entry (get old m) end_spot
     where
       by_entry : (o : Option Entry) → spot_of o ≡ Some (h, length (under index h) - 1) → spot_of (option_map (with_place e.place) o) ≡ Some (h, e.place)
-      by_entry None is = absurd (none_some (h, length (under index h) - 1) is)
+      by_entry None is = absurd (none-some (h, length (under index h) - 1) is)
       by_entry (Some x) is = ap (λ n. Some (n, e.place)) (same_hash (hash x.lits.items) x.place h (length (under index h) - 1) is)
 
   spots_without : (s : ℕ) → spot_of (get new s) ≡ cond (eqb s k) None (cond (eqb s m) (Some (h, e.place)) (spot_of (get old s)))

@@ -1,15 +1,10 @@
 -- Slots in buckets, each at its place, through a change.
 use Rattle.std.proofs.Common.{◌≡◌, ◌≢◌, ℕ, zero, suc, ◌-◌, ◌<◌, cond, eqb, eq-eqb, ne_eqb, Option, Some, None, unwrap_or, List, [], ◌∷◌, ◌++◌, length, get_or, set, take, slice_get, swap_remove, refl, sym, ap, ◌∙◌, subst, arith, inl, inr, ◌⊎◌}
+use Rattle.std.proofs.lemmas.Option.{none-some, same_Some}
 use Rattle.std.proofs.lemmas.Bool.{cases_eq}
 use Rattle.std.proofs.lemmas.Option.{slice_get_within, slice_get_read}
 use Rattle.std.proofs.lemmas.Grind.{common_steps}
 use Rattle.clause_db.specs.Spots.{IsPlaced}
-
-same_some : {A : Type 0} (x y : A) → Some x ≡ Some y → x ≡ y
-same_some x y e = ap (λ o. unwrap_or o x) e
-
-none_some : {A : Type 0} (x : A) → None ≡ Some x → ⊥
-none_some x e = cc
 
 abbrev pub spot : ℕ → ℕ → Option (ℕ × ℕ)
 spot h i = Some (h, i)
@@ -27,25 +22,25 @@ push_end [] x = refl
 push_end (y ∷ xs) x = push_end xs x
 
 pub push_cases : (xs : List ℕ) (x i y : ℕ) → slice_get (xs ++ x ∷ []) i ≡ Some y → ((i ≡ length xs) × (x ≡ y)) ⊎ (slice_get xs i ≡ Some y)
-push_cases [] x zero y h = inl (refl, same_some x y h)
-push_cases [] x (suc i) y h = absurd (none_some y h)
+push_cases [] x zero y h = inl (refl, same_Some x y h)
+push_cases [] x (suc i) y h = absurd (none-some y h)
 push_cases (z ∷ xs) x zero y h = inr h
 push_cases (z ∷ xs) x (suc i) y h = elim (push_cases xs x i y h) [ inl w ↦ inl (ap suc w.0, w.1) | inr g ↦ inr g ]
 
 pub push_keeps : (xs : List ℕ) (x i y : ℕ) → slice_get xs i ≡ Some y → slice_get (xs ++ x ∷ []) i ≡ Some y
-push_keeps [] x i y h = absurd (none_some y h)
+push_keeps [] x i y h = absurd (none-some y h)
 push_keeps (z ∷ xs) x zero y h = h
 push_keeps (z ∷ xs) x (suc i) y h = push_keeps xs x i y h
 
 take_get : (xs : List ℕ) (n i y : ℕ) → slice_get (take n xs) i ≡ Some y → (i < n) × (slice_get xs i ≡ Some y)
-take_get [] zero i y h = absurd (none_some y h)
-take_get [] (suc n) i y h = absurd (none_some y h)
-take_get (x ∷ xs) zero i y h = absurd (none_some y h)
+take_get [] zero i y h = absurd (none-some y h)
+take_get [] (suc n) i y h = absurd (none-some y h)
+take_get (x ∷ xs) zero i y h = absurd (none-some y h)
 take_get (x ∷ xs) (suc n) zero y h = (omega arith, h)
 take_get (x ∷ xs) (suc n) (suc i) y h = let w = take_get xs n i y h in (let low = w.0 in omega arith, w.1)
 
 get_take : (xs : List ℕ) (n i y : ℕ) → i < n → slice_get xs i ≡ Some y → slice_get (take n xs) i ≡ Some y
-get_take [] n i y low h = absurd (none_some y h)
+get_take [] n i y low h = absurd (none-some y h)
 get_take (x ∷ xs) zero i y low h = absurd (let wrong : ⊥ = omega arith in wrong)
 get_take (x ∷ xs) (suc n) zero y low h = h
 get_take (x ∷ xs) (suc n) (suc i) y low h = get_take xs n i y (omega arith) h
@@ -71,7 +66,7 @@ module _ (xs : List ℕ) (k : ℕ) where
       let w = take_get (set xs k last) (length xs - 1) i y h in (
         w.0,
         elim (cases_eq i k) [
-          | inl e ↦ inl (e, same_some last y (sym (set_here xs k last low) ∙ ap (slice_get (set xs k last)) (sym e) ∙ w.1))
+          | inl e ↦ inl (e, same_Some last y (sym (set_here xs k last low) ∙ ap (slice_get (set xs k last)) (sym e) ∙ w.1))
           | inr apart ↦ inr (apart, sym (set_other xs k last i apart) ∙ w.1)
         ],
       )
@@ -119,7 +114,7 @@ module _ (spots after : ℕ → Option (ℕ × ℕ)) (buckets left : ℕ → Lis
     bucket_other h apart = buckets_are h ∙ ap (λ b. cond b (buckets h ++ k ∷ []) (buckets h)) (ne_eqb h hash apart)
 
     not_new : (s h i : ℕ) → spots s ≡ Some (h, i) → s ≢ k
-    not_new s h i is e = none_some (h, i) (sym new ∙ ap spots (sym e) ∙ is)
+    not_new s h i is e = none-some (h, i) (sym new ∙ ap spots (sym e) ∙ is)
 
     pub placed_with : IsPlaced after left
     placed_with = record {
@@ -179,14 +174,14 @@ module _ (spots after : ℕ → Option (ℕ × ℕ)) (buckets left : ℕ → Lis
     pub placed_without : IsPlaced after left
     placed_without = record {
       there = λ s h i is. elim (cases_eq s k) [
-        | inl e ↦ absurd (none_some (h, i) (sym (gone s e) ∙ is))
+        | inl e ↦ absurd (none-some (h, i) (sym (gone s e) ∙ is))
         | inr apart ↦ elim (cases_eq s m) [
           | inl e ↦
               let pair = sym (moved s apart e) ∙ is in
               let hash_is = same_hash hash place h i pair in
               let place_is = same_place hash place h i pair in
               let inside = (place_within spots buckets k hash placed place m old m_is) in
-              let below : place ≢ length (buckets hash) - 1 = λ last. apart (e ∙ same_some m k (sym (at_end spots buckets k hash placed place m old m_is) ∙ ap (slice_get (buckets hash)) (sym last) ∙ (at_place spots buckets k hash placed place m old m_is))) in
+              let below : place ≢ length (buckets hash) - 1 = λ last. apart (e ∙ same_Some m k (sym (at_end spots buckets k hash placed place m old m_is) ∙ ap (slice_get (buckets hash)) (sym last) ∙ (at_place spots buckets k hash placed place m old m_is))) in
               let low : place < length (buckets hash) - 1 = omega arith in
               ap (λ x. slice_get (left x) i) (sym hash_is) ∙ ap (slice_get (left hash)) (sym place_is) ∙ ap (λ xs. slice_get xs place) rest_here
               ∙ swap_here (buckets hash) place low ∙ ap Some (sym m_is ∙ sym e)
@@ -195,8 +190,8 @@ module _ (spots after : ℕ → Option (ℕ × ℕ)) (buckets left : ℕ → Lis
               elim (cases_eq h hash) [
                 | inl e ↦
                     let here : slice_get (buckets hash) i ≡ Some s = ap (λ x. slice_get (buckets x) i) (sym e) ∙ was in
-                    let ne_place : i ≢ place = λ same. apart (same_some s k (sym here ∙ ap (slice_get (buckets hash)) same ∙ (at_place spots buckets k hash placed place m old m_is))) in
-                    let ne_end : i ≢ length (buckets hash) - 1 = λ same. other (same_some s m (sym here ∙ ap (slice_get (buckets hash)) same ∙ (at_end spots buckets k hash placed place m old m_is))) in
+                    let ne_place : i ≢ place = λ same. apart (same_Some s k (sym here ∙ ap (slice_get (buckets hash)) same ∙ (at_place spots buckets k hash placed place m old m_is))) in
+                    let ne_end : i ≢ length (buckets hash) - 1 = λ same. other (same_Some s m (sym here ∙ ap (slice_get (buckets hash)) same ∙ (at_end spots buckets k hash placed place m old m_is))) in
                     let inside = slice_get_within (buckets hash) i s here in
                     ap (λ x. slice_get (left x) i) e ∙ ap (λ xs. slice_get xs i) rest_here ∙ swap_other (buckets hash) place i s ne_place (omega arith) here
                 | inr far ↦ ap (λ xs. slice_get xs i) (rest_other h far) ∙ was

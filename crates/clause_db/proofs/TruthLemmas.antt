@@ -1,15 +1,14 @@
 -- What the literals of a trail say of others, and what they leave of a clause.
-use Rattle.std.proofs.Common.{◌≡◌, ◌≢◌, ℕ, ◌+◌, ◌<◌, Bool, true, false, not, cond, eqb, eqb-true, eq-eqb, Option, Some, None, List, [], map, nat_eq, length, get_or, take, arith, refl, sym, ap, ◌∙◌, subst, inl, inr, ◌⊎◌}
-use Rattle.std.proofs.lemmas.Bool.{false≢true, true≢false, false_from_ne_true, or_cases, cases_eq, cases_lt}
+use Rattle.std.proofs.Common.{◌≡◌, ℕ, ◌+◌, ◌<◌, Bool, true, false, cond, eqb, eqb-true, eq-eqb, List, map, nat_eq, length, get_or, take, arith, refl, sym, ap, ◌∙◌, subst, inl, inr, ◌⊎◌}
+use Rattle.std.proofs.lemmas.Bool.{true≢false, false_from_ne_true, or_cases, cases_eq, cases_lt}
 use Rattle.std.proofs.lemmas.List.{get_or-map, length-map}
 use Rattle.std.proofs.lemmas.Map.Keys.{apart_from_distinct}
 use Rattle.cnf_base.specs.Literals.{Literal, complement, Clause, has}
 use Rattle.cnf_base.proofs.LiteralLemmas.{complement-other}
-use Rattle.clause_db.specs.Scanning.{IsSettled, IsFalseBut, is_other}
 use Rattle.clause_db.specs.Trail.{variable, value_of, HasNoVariableTwice}
 use Rattle.clause_db.specs.declared.value.Value.{Value}
 use Rattle.clause_db.specs.declared.value.Value.TheVariants.{True, False, Open}
-use Rattle.clause_db.proofs.MarkLemmas.{has_more, has_take, is_in}
+use Rattle.clause_db.proofs.MarkLemmas.{has_more}
 use Rattle.clause_db.proofs.MemberLemmas.{place_of, has_place, place_of_variable, same_variable, variable-complement}
 
 -- literals of one variable are equal
@@ -86,32 +85,3 @@ variable_open ls l e f = false_from_ne_true (has (map variable ls) (variable l))
 module _ (c : Clause) (i : ℕ) (inside : i < length c) (x : Literal) (is : x ≡ get_or c i x) where
   pub more_cases : (l : Literal) → has (take (i + 1) c) l ≡ true → (has (take i c) l ≡ true) ⊎ (x ≡ l)
   more_cases l h = elim (or_cases (has (take i c) l) (eqb x l) (sym (has_more c i inside x is l) ∙ h)) [ inl g ↦ inl g | inr e ↦ inr (eqb-true x l e) ]
-
-  module _ (trues : List Literal) where
-    some_in : c ≢ []
-    some_in none = false≢true (sym (ap (λ d. has d x) none) ∙ is_in c i inside x is)
-
-    pub settled_true : HasNoVariableTwice trues → has trues x ≡ true → IsSettled trues c
-    settled_true apart here = record {
-      full = some_in;
-      unit = λ m member others. elim (cases_eq x m) [
-        | inl e ↦ subst (λ k. has trues k ≡ true) e here
-        | inr ne ↦ absurd (true≢false (sym (others x (is_in c i inside x is) ne) ∙ consistent trues apart x here))
-      ];
-    }
-
-    pub settled_two : (left : Option Literal) → IsFalseBut trues (take i c) left → is_other left x ≡ true → has trues (complement x) ≡ false → IsSettled trues c
-    settled_two None so_far other f = absurd (false≢true other)
-    settled_two (Some k) so_far other f = record {
-      full = some_in;
-      unit = λ m member others. elim (cases_eq x m) [
-        | inl e ↦ elim (cases_eq k m) [
-          | inl is ↦ absurd (both other (eq-eqb k x (is ∙ sym e)))
-          | inr ne ↦ absurd (true≢false (sym (others k (has_take c i k so_far.0) ne) ∙ so_far.2))
-        ]
-        | inr ne ↦ absurd (true≢false (sym (others x (is_in c i inside x is) ne) ∙ f))
-      ];
-    }
-      where
-        both : not (eqb k x) ≡ true → eqb k x ≡ true → ⊥
-        both a b = false≢true (sym (ap not b) ∙ a)

@@ -3,9 +3,12 @@ pub mod Assumptions
 pub mod Buckets
 pub mod Clauses
 pub mod Entries
+pub mod Exact
 pub mod Hashes
 pub mod Ids
 pub mod Index
+pub mod Left
+pub mod Levels
 pub mod Marks
 pub mod Places
 pub mod PropagationCode

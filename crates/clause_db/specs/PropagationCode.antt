@@ -5,7 +5,7 @@ use Rattle.std.specs.FinMap as maps
 use Rattle.std.specs.FinMap.{FinMap}
 use Rattle.std.specs.Coded.{Coded, code_by, coded×, coded_ℕ, coded_bool, coded_list}
 use Rattle.cnf_base.specs.Literals.{Clause}
-use Rattle.clause_db.specs.Assumptions.{Propagation, Assumption}
+use Rattle.clause_db.specs.Assumptions.{Propagation, Assumption, AssumptionsState}
 use Rattle.clause_db.specs.declared.answer.Answer.{Answer}
 use Rattle.clause_db.specs.declared.answer.Answer.TheVariants.{Clash, Quiet}
 
@@ -27,6 +27,15 @@ answer_code = code_by Bool coded_bool is_quiet answer_of answer_back
 abbrev pub assumption_code : Coded Assumption
 assumption_code =
     code_by (Answer × List ℕ) (coded× answer_code (coded_list coded_ℕ)) (λ a. (a.answer, a.assumed)) (λ p. record { answer = p.0; assumed = p.1 }) (λ _. refl)
+
+abbrev pub assumptions_code : Coded AssumptionsState
+assumptions_code =
+    code_by
+    ((List ℕ × List ℕ) × (List Assumption × List ℕ))
+    (coded× (coded× (coded_list coded_ℕ) (coded_list coded_ℕ)) (coded× (coded_list assumption_code) (coded_list coded_ℕ)))
+    (λ s. ((s.trail.lits, s.trail.met), (s.assumptions, s.starts)))
+    (λ p. record { trail = record { lits = p.0.0; met = p.0.1 }; assumptions = p.1.0; starts = p.1.1 })
+    (λ _. refl)
 
 -- the tuple of its fields
 abbrev pub propagation_code : Coded Propagation

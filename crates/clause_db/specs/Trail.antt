@@ -1,7 +1,9 @@
 -- Trails: the literals that are true, in the order in which they were set.
-use Rattle.std.specs.Prelude.{ℕ, ◌/◌, Bool, ◌&&◌, nat_le, List, map, nat_eq, if◌then◌else◌}
-use Rattle.std.specs.List.{IsDistinct}
-use Rattle.cnf_base.specs.Literals.{Literal, complement, has}
+use Rattle.std.specs.Prelude.{◌≡◌, ℕ, ◌/◌, ◌++◌, Bool, IsFalse, ◌&&◌, nat_le, Some, List, map, nat_eq, IsTrue, if◌then◌else◌}
+use Rattle.std.specs.Bool.{OnFalse}
+use Rattle.std.specs.List.{IsDistinct, list_any}
+use Rattle.cnf_base.specs.Literals.{Literal, complement, complements, Clause, has}
+use Rattle.clause_db.specs.Propagation.{Live}
 use Rattle.clause_db.specs.declared.value.Value.{Value}
 use Rattle.clause_db.specs.declared.value.Value.TheVariants.{True, False, Open}
 
@@ -24,3 +26,24 @@ value_of lits l = if has lits l then True else if has lits (complement l) then F
 -- no two of the literals are of one variable
 abbrev pub HasNoVariableTwice : List Literal → Type 0
 HasNoVariableTwice lits = IsDistinct nat_eq (map variable lits)
+
+-- the same literals
+abbrev pub SameSet : List Literal → List Literal → Type 0
+SameSet first second = (l : Literal) → has first l ≡ has second l
+
+-- the list holds a literal and its complement
+abbrev pub conflicts : List Literal → Bool
+conflicts ls = list_any (λ l. has ls (complement l)) ls
+
+-- the complements of a clause's literals are true beside what was, unless a literal and its complement would be
+pub record MakesFalse (before : List Literal) (c : Clause) (clashes : Bool) (after : List Literal) : Type 0 where
+  pub conflict : clashes ≡ conflicts (before ++ complements c)
+  pub added : OnFalse clashes (SameSet after (before ++ complements c))
+  pub quiet : IsFalse (conflicts after)
+
+-- there is room for the clause's variables
+abbrev pub HasRoom : List ℕ → Clause → Type 0
+HasRoom met c = (l : Literal) → IsTrue (has c l) → IsTrue (has met (l / 2))
+
+pub record HasRoomForAll (met : List ℕ) (live : Live) : Type 0 where
+  pub each : (k : ℕ) (c : Clause) → live k ≡ Some c → HasRoom met c

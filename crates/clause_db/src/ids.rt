@@ -77,7 +77,8 @@ fn note(order: &mut Vec<u64>, id: u64) -> Result<(), OutOfMemory>
 fn keep_bound(order: &mut Vec<u64>, slots: &HashMap<u64, Slot>)
     requires { IsStrictlyIncreasing order.old.items }
     ensures rises { IsStrictlyIncreasing order.new.items }
-    ensures keeps { (k : ℕ) → IsTrue (has order.old.items k) → IsSome (get nat_eq slots.now k) → IsTrue (has order.new.items k) }
+    ensures keeps { (k : ℕ) → IsTrue (has order.old.items k) → IsSome (get nat_eq slots.now k) →
+        IsTrue (has order.new.items k) }
 {
     order.retain(|id| slots.contains_key(id));
 }
@@ -85,7 +86,8 @@ fn keep_bound(order: &mut Vec<u64>, slots: &HashMap<u64, Slot>)
 /// The first of the identifiers that is bound.
 fn first_bound(ids: &[u64], slots: &HashMap<u64, Slot>) -> Option<(u64, Slot)>
     ensures some { IfSome result (λ p. IsFirstBound ids.now slots.now p) }
-    ensures none { IfNone result ((j : ℕ) → j < length ids.now → get nat_eq slots.now (slice_index ids.now j) ≡ None) }
+    ensures none { IfNone result ((j : ℕ) → j < length ids.now →
+        get nat_eq slots.now (slice_index ids.now j) ≡ None) }
 {
     for id in ids {
         if let Some(slot) = slots.get(id) {
@@ -148,7 +150,8 @@ impl Ids {
     pub fn next_bound(&self, from: u64) -> Option<(u64, Slot)>
         ensures above { IfSome result (λ p. from ≤ p.0) }
         ensures bound { IfSome result (λ p. maps.get self.now p.0 ≡ Some p.1) }
-        ensures first { IfSome result (λ p. (k : ℕ) → from ≤ k → k < p.0 → maps.get self.now k ≡ None) }
+        ensures first { IfSome result (λ p. (k : ℕ) → from ≤ k → k < p.0 →
+            maps.get self.now k ≡ None) }
         ensures none { IfNone result ((k : ℕ) → from ≤ k → maps.get self.now k ≡ None) }
     {
         let start = place_of(&self.order, from);

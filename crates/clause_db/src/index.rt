@@ -36,7 +36,8 @@ impl Index {
     /// Adds a slot under a hash, and tells its place in the bucket.
     pub(crate) fn add(&mut self, hash: u64, slot: usize) -> Result<usize, OutOfMemory>
         ensures place { IfOk result (λ place. place ≡ length (under self.old hash)) }
-        ensures ok { OnOk result ((h : ℕ) → under self.new h ≡ (if h == hash then under self.old h ++ slot ∷ [] else under self.old h)) }
+        ensures ok { OnOk result ((h : ℕ) → under self.new h ≡
+            (if h == hash then under self.old h ++ slot ∷ [] else under self.old h)) }
         ensures err { OnErr result ((h : ℕ) → under self.new h ≡ under self.old h) }
     {
         let alloc = self.alloc;
@@ -54,8 +55,10 @@ impl Index {
     /// Takes the slot at a place out from under a hash. The last slot takes that place, and is the result.
     pub(crate) fn remove(&mut self, hash: u64, place: usize) -> usize
         requires { place < length (under self.old hash) }
-        ensures last { result ≡ slice_index (under self.old hash) (length (under self.old hash) - 1) }
-        ensures slots { (h : ℕ) → under self.new h ≡ (if h == hash then swap_remove (under self.old h) place 0 else under self.old h) }
+        ensures last { result ≡ slice_index (under self.old hash)
+            (length (under self.old hash) - 1) }
+        ensures slots { (h : ℕ) → under self.new h ≡
+            (if h == hash then swap_remove (under self.old h) place 0 else under self.old h) }
     {
         let mut last = 0;
         let mut is_alone = false;

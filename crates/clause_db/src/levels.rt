@@ -1,86 +1,60 @@
-//! Which assumption a variable is assumed by.
+//! The assumptions that stand, one on the other.
 
-ghost use Rattle.std.specs.Prelude.{◌≡◌, ◌≢◌, ℕ, ◌/◌, ◌==◌, ◌&&◌, map, is_some, if◌then◌else◌, IsTrue, IsSome, OnOk};
-ghost use Rattle.cnf_base.specs.Literals.{Literal, has};
-ghost use Rattle.clause_db.specs.Scanning.{HasRoom, IsRaised, kept_of, is_kept, level};
-ghost use Rattle.clause_db.specs.Table.{at};
-ghost use Rattle.clause_db.specs.Trail.{variable};
+ghost use Rattle.std.specs.Prelude.{◌≡◌};
+ghost use Rattle.clause_db.specs.Levels.{answered, first_number, pushed};
 
-use crate::Trail;
-use crate::table::Table;
-use cnf_base::{Lit, OutOfMemory};
+use crate::Answer;
 
-/// Whether the literal is not the one that is left out.
-pub(crate) fn is_in_rest(left_out: &Option<Lit>, l: Lit) -> bool
-    ensures { result ≡ is_kept left_out.now l }
-{
-    match left_out {
-        Some(k) => l != *k,
-        None => true,
-    }
+/// An assumption that stands: its number, how many literals were true before it, and how it was answered.
+#[derive(Clone, Copy)]
+pub(crate) struct Level {
+    pub(crate) number: u64,
+    pub(crate) start: usize,
+    pub(crate) answer: Answer,
 }
 
-/// Makes room for the variables of the literals.
-pub(crate) fn reserve_variables(
-    trail: &mut Trail,
-    levels: &mut Table<u8>,
-    lits: &[Lit],
-) -> Result<(), OutOfMemory>
-    requires known { (v : ℕ) → IsTrue (has trail.old.met v) → IsSome (at levels.old v) }
-    ensures room { OnOk result (HasRoom trail.new.met lits.now) }
-    ensures met { (v : ℕ) → IsTrue (has trail.old.met v) → IsTrue (has trail.new.met v) }
-    ensures lits { trail.new.lits ≡ trail.old.lits }
-    ensures known { (v : ℕ) → IsTrue (has trail.new.met v) → IsSome (at levels.new v) }
-    ensures levels { (v : ℕ) → level levels.new v ≡ level levels.old v }
-{
-    for l in lits {
-        levels.reserve(l.var(), 0)?;
-        trail.reserve(l.var())?;
-    }
-    Ok(())
+/// The assumptions that stand.
+#[derive(Clone, Copy)]
+pub(crate) enum Levels {
+    /// Nothing is assumed.
+    Nothing,
+    /// One assumption stands.
+    One(Level),
+    /// A second stands on the first.
+    Two(Level, Level),
 }
 
-/// Gives the variable this level, where it has none.
-fn raise(levels: &mut Table<u8>, var: u32, depth: u8)
-    requires { IsSome (at levels.old var) }
-    ensures levels { (v : ℕ) → level levels.new v ≡ (if v == var && level levels.old v == 0 then depth else level levels.old v) }
-    ensures known { (v : ℕ) → is_some (at levels.new v) ≡ is_some (at levels.old v) }
-{
-    if levels.get(var) == Some(0) {
-        levels.set(var, depth);
-    }
-}
-
-/// Gives this level to the variables of a clause's literals that have none, but for one literal that is left out.
-pub(crate) fn raise_all(levels: &mut Table<u8>, clause: &[Lit], left_out: &Option<Lit>, depth: u8)
-    requires known { (l : Literal) → IsTrue (has clause.now l) → IsSome (at levels.old (l / 2)) }
-    requires positive { depth ≢ 0 }
-    ensures levels { IsRaised depth (kept_of clause.now left_out.now) (level levels.old) (level levels.new) }
-    ensures known { (v : ℕ) → is_some (at levels.new v) ≡ is_some (at levels.old v) }
-{
-    for l in clause {
-        if is_in_rest(left_out, *l) {
-            raise(levels, l.var(), depth);
+impl Levels {
+    /// The number of the first one, or that of the next where none stands.
+    pub(crate) fn first_number(self, next: u64) -> u64
+        ensures { result ≡ first_number self next }
+    {
+        match self {
+            Levels::Nothing => next,
+            Levels::One(first) => first.number,
+            Levels::Two(first, _) => first.number,
         }
     }
-}
 
-/// Takes this level from the variable, if it has it.
-fn lower(levels: &mut Table<u8>, var: u32, depth: u8)
-    ensures levels { (v : ℕ) → level levels.new v ≡ (if v == var && level levels.old v == depth then 0 else level levels.old v) }
-    ensures known { (v : ℕ) → is_some (at levels.new v) ≡ is_some (at levels.old v) }
-{
-    if levels.get(var) == Some(depth) {
-        levels.set(var, 0);
+    /// With one more on them, if fewer than two stand.
+    pub(crate) fn pushed(self, level: Level) -> Levels
+        ensures { result ≡ pushed self level }
+    {
+        match self {
+            Levels::Nothing => Levels::One(level),
+            Levels::One(first) => Levels::Two(first, level),
+            Levels::Two(first, second) => Levels::Two(first, second),
+        }
     }
-}
 
-/// Takes this level from the variables of the literals that have it.
-pub(crate) fn lower_all(levels: &mut Table<u8>, lits: &[Lit], depth: u8)
-    ensures levels { (v : ℕ) → level levels.new v ≡ (if level levels.old v == depth && has (map variable lits.now) v then 0 else level levels.old v) }
-    ensures known { (v : ℕ) → is_some (at levels.new v) ≡ is_some (at levels.old v) }
-{
-    for l in lits {
-        lower(levels, l.var(), depth);
+    /// With another answer to the last one.
+    pub(crate) fn answered(self, answer: Answer) -> Levels
+        ensures { result ≡ answered self answer }
+    {
+        match self {
+            Levels::Nothing => Levels::Nothing,
+            Levels::One(first) => Levels::One(Level { answer, ..first }),
+            Levels::Two(first, second) => Levels::Two(first, Level { answer, ..second }),
+        }
     }
 }

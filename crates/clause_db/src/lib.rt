@@ -2,26 +2,25 @@
 #![tactic(auto)]
 
 mod answer;
-mod assuming;
+mod assumptions;
 mod bucket;
 mod entry;
+mod except;
 mod ids;
 #[cfg(test)]
 mod ids_tests;
 mod index;
+mod left;
 mod levels;
 mod mark;
 mod marks;
-mod pass;
+mod part;
 mod propagate;
-mod rest;
 mod scan;
 #[cfg(test)]
 mod scan_tests;
 mod search;
-mod second;
 mod slot;
-mod standing;
 mod store;
 #[cfg(test)]
 mod store_tests;
@@ -33,12 +32,17 @@ mod trail;
 mod trail_tests;
 mod unit;
 mod value;
+mod whole;
 
 pub use answer::Answer;
+pub use except::Except;
 pub use ids::Ids;
+pub use left::Left;
+pub use part::Part;
 pub use propagate::Propagate;
 pub use scan::Scan;
 pub use slot::Slot;
 pub use store::Store;
 pub use trail::Trail;
 pub use value::Value;
+pub use whole::Whole;

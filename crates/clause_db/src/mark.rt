@@ -56,7 +56,8 @@ pub(crate) fn set_mark(marks: &mut Table<Mark>, l: Lit) -> bool
 /// Takes the mark off a literal.
 pub(crate) fn clear_mark(marks: &mut Table<Mark>, l: Lit)
     requires { IsSome (at marks.old l) }
-    ensures marked { (k : ℕ) → is_marked (at marks.new k) ≡ (not (k == l) && is_marked (at marks.old k)) }
+    ensures marked { (k : ℕ) → is_marked (at marks.new k) ≡
+        (not (k == l) && is_marked (at marks.old k)) }
     ensures counts { (k : ℕ) → count_of (at marks.new k) ≡ count_of (at marks.old k) }
     ensures known { (k : ℕ) → is_some (at marks.new k) ≡ is_some (at marks.old k) }
 {
@@ -72,10 +73,13 @@ pub(crate) fn clear_mark(marks: &mut Table<Mark>, l: Lit)
 /// Takes the mark off a literal and counts it once more, if it is marked, and tells whether it was.
 pub(crate) fn count_up(marks: &mut Table<Mark>, l: Lit) -> bool
     requires known { IsSome (at marks.old l) }
-    requires few { is_marked (at marks.old l) ≡ true → count_of (at marks.old l) < 18446744073709551615 }
+    requires few { is_marked (at marks.old l) ≡ true →
+        count_of (at marks.old l) < 18446744073709551615 }
     ensures was { result ≡ is_marked (at marks.old l) }
-    ensures marked { (k : ℕ) → is_marked (at marks.new k) ≡ (not (k == l) && is_marked (at marks.old k)) }
-    ensures counts { (k : ℕ) → count_of (at marks.new k) ≡ count_of (at marks.old k) + (if k == l && is_marked (at marks.old k) then 1 else 0) }
+    ensures marked { (k : ℕ) → is_marked (at marks.new k) ≡
+        (not (k == l) && is_marked (at marks.old k)) }
+    ensures counts { (k : ℕ) → count_of (at marks.new k) ≡ count_of (at marks.old k) +
+        (if k == l && is_marked (at marks.old k) then 1 else 0) }
     ensures known { (k : ℕ) → is_some (at marks.new k) ≡ is_some (at marks.old k) }
 {
     match marks.get(key(l)) {
@@ -97,7 +101,8 @@ pub(crate) fn count_up(marks: &mut Table<Mark>, l: Lit) -> bool
 pub(crate) fn count_down(marks: &mut Table<Mark>, l: Lit)
     requires { 0 < count_of (at marks.old l) }
     ensures marked { (k : ℕ) → is_marked (at marks.new k) ≡ is_marked (at marks.old k) }
-    ensures counts { (k : ℕ) → count_of (at marks.new k) + (if k == l then 1 else 0) ≡ count_of (at marks.old k) }
+    ensures counts { (k : ℕ) →
+        count_of (at marks.new k) + (if k == l then 1 else 0) ≡ count_of (at marks.old k) }
 {
     if let Some(mark) = marks.get(key(l)) {
         let counted = Mark {

@@ -103,7 +103,8 @@ pub(crate) fn gather(marks: &mut Table<Mark>, lits: &[Lit], kept: &mut SmallVec<
     ensures same { IsTrue (same_clause kept.new.items lits.now) }
     ensures different { size kept.new.items ≡ length kept.new.items }
     ensures clear { (l : ℕ) → is_marked (at marks.new l) ≡ false }
-    ensures counts { (l : ℕ) → count_of (at marks.new l) ≡ count_of (at marks.old l) + (if has lits.now l then 1 else 0) }
+    ensures counts { (l : ℕ) → count_of (at marks.new l) ≡ count_of (at marks.old l) +
+        (if has lits.now l then 1 else 0) }
 {
     for l in lits {
         if count_up(marks, *l) {
@@ -117,7 +118,8 @@ pub(crate) fn release(marks: &mut Table<Mark>, lits: &[Lit])
     requires different { size lits.now ≡ length lits.now }
     requires counted { (l : ℕ) → has lits.now l ≡ true → 0 < count_of (at marks.old l) }
     ensures marked { (l : ℕ) → is_marked (at marks.new l) ≡ is_marked (at marks.old l) }
-    ensures counts { (l : ℕ) → count_of (at marks.new l) + (if has lits.now l then 1 else 0) ≡ count_of (at marks.old l) }
+    ensures counts { (l : ℕ) → count_of (at marks.new l) +
+        (if has lits.now l then 1 else 0) ≡ count_of (at marks.old l) }
 {
     for l in lits {
         count_down(marks, *l);

@@ -1,10 +1,10 @@
 //! What every store of live clauses does that propagates.
 
-ghost use Rattle.std.specs.Prelude.{◌≡◌, ◌≢◌, [], ◌≤◌, ◌<◌, ◌++◌, ◌∷◌, ℕ, min, true, false, length, Some, None, List, IsTrue, IsSome, IfSome, IfNone, IfOk, OnOk, OnErr};
+ghost use Rattle.std.specs.Prelude.{◌≡◌, ◌≢◌, [], ◌≤◌, ◌<◌, ◌∷◌, ℕ, min, not, ◌==◌, length, Some, None, List, IsTrue, IsSome, IfSome, IfNone, IfOk, OnErr};
 ghost use Rattle.std.specs.FinMap as maps;
-ghost use Rattle.cnf_base.specs.Literals.{Clause, same_clause, complements, without};
+ghost use Rattle.cnf_base.specs.Literals.{Clause, same_clause, complements};
 ghost use Rattle.clause_db.specs.Clauses.{size, literals_in};
-ghost use Rattle.clause_db.specs.Assumptions.{Propagation, Assumption, HasRoom, IsLast, assumed_by, IsAnswer, Assumes, IsValue, HasAt};
+ghost use Rattle.clause_db.specs.Assumptions.{Propagation, Assumption, Assuming, AssumingPart, HasAt, IsLast, IsValue, MayAssume, assumed_by};
 ghost use Rattle.clause_db.specs.declared.answer.Answer.TheVariants.{Quiet};
 
 use crate::{Answer, Slot, Value};
@@ -21,8 +21,10 @@ pub trait Propagate {
     fn insert(&mut self, lits: &[Lit]) -> Result<Slot, OutOfMemory>
         requires { (state self.old).assumptions ≡ [] }
         ensures free { IfOk result (λ slot. maps.get (state self.old).live slot ≡ None) }
-        ensures stored { IfOk result (λ slot. (c : Clause) × (maps.get (state self.new).live slot ≡ Some c) × IsTrue (same_clause c lits.now)) }
-        ensures others { IfOk result (λ slot. (s : ℕ) → s ≢ slot → maps.get (state self.new).live s ≡ maps.get (state self.old).live s) }
+        ensures stored { IfOk result (λ slot. (c : Clause) ×
+            (maps.get (state self.new).live slot ≡ Some c) × IsTrue (same_clause c lits.now)) }
+        ensures others { IfOk result (λ slot. (s : ℕ) → s ≢ slot →
+            maps.get (state self.new).live s ≡ maps.get (state self.old).live s) }
         ensures nothing_assumed { (state self.new).assumptions ≡ [] }
         ensures refused { (state self.new).has_refused ≡ (state self.old).has_refused }
         ensures err { OnErr result (state self.new ≡ state self.old) };
@@ -37,14 +39,17 @@ pub trait Propagate {
 
     /// A slot with the same clause as a set, if there is one. It takes no memory.
     fn find(&mut self, lits: &[Lit]) -> Option<Slot>
-        ensures found { IfSome result (λ slot. (c : Clause) × (maps.get (state self.old).live slot ≡ Some c) × IsTrue (same_clause c lits.now)) }
-        ensures none { IfNone result ((s : ℕ) (c : Clause) → maps.get (state self.old).live s ≡ Some c → IsTrue (same_clause c lits.now) → ⊥) }
+        ensures found { IfSome result (λ slot. (c : Clause) ×
+            (maps.get (state self.old).live slot ≡ Some c) × IsTrue (same_clause c lits.now)) }
+        ensures none { IfNone result ((s : ℕ) (c : Clause) →
+            maps.get (state self.old).live s ≡ Some c → IsTrue (same_clause c lits.now) → ⊥) }
         ensures same { state self.new ≡ state self.old };
 
     /// The different literals of the clause in the slot, in any order. It takes no memory.
     fn clause(&self, slot: Slot) -> &[Lit]
         requires { IsSome (maps.get (state self.now).live slot) }
-        ensures clause { (c : Clause) × (maps.get (state self.now).live slot ≡ Some c) × IsTrue (same_clause c result.now) }
+        ensures clause { (c : Clause) × (maps.get (state self.now).live slot ≡ Some c) ×
+            IsTrue (same_clause c result.now) }
         ensures different { length result.now ≡ size result.now };
 
     /// The sum of the lengths of the lists of literals that it keeps, which is that of the sizes of the clauses; `2^64 - 1` where it is
@@ -55,10 +60,14 @@ pub trait Propagate {
 
     /// The first slot from this one on whose clause has the literal, if there is one. It takes no memory.
     fn next_with(&self, l: Lit, from: Slot) -> Option<Slot>
-        ensures found { IfSome result (λ slot. (from ≤ slot) × HasAt (maps.get (state self.now).live) l slot) }
-        ensures passed_over { IfSome result (λ slot. (s : ℕ) → from ≤ s → s < slot → ¬ HasAt (maps.get (state self.now).live) l s) }
-        ensures none { IfNone result ((s : ℕ) → from ≤ s → ¬ HasAt (maps.get (state self.now).live) l s) }
-        ensures slots { (s : ℕ) → IsSome (maps.get (state self.now).live s) → s ≤ 18446744073709551615 };
+        ensures found { IfSome result (λ slot. (from ≤ slot) ×
+            HasAt (maps.get (state self.now).live) l slot) }
+        ensures passed_over { IfSome result (λ slot. (s : ℕ) → from ≤ s → s < slot →
+            ¬ HasAt (maps.get (state self.now).live) l s) }
+        ensures none { IfNone result ((s : ℕ) → from ≤ s →
+            ¬ HasAt (maps.get (state self.now).live) l s) }
+        ensures slots { (s : ℕ) → IsSome (maps.get (state self.now).live s) →
+            s ≤ 18446744073709551615 };
 
     /// Assumes the complements of the literals, beside what is assumed, and propagates.
     ///
@@ -66,14 +75,8 @@ pub trait Propagate {
     ///
     /// Where memory runs out, and ever after. What is assumed is then as it was.
     fn assume(&mut self, lits: &[Lit]) -> Result<Answer, OutOfMemory>
-        requires { HasRoom (state self.old).assumptions }
-        ensures answer { IfOk result (λ a. IsAnswer (maps.get (state self.old).live) (assumed_by (state self.old).assumptions ++ complements lits.now) a) }
-        ensures assumed { IfOk result (λ a. Assumes (state self.old).assumptions (state self.new).assumptions a (assumed_by (state self.old).assumptions ++ complements lits.now)) }
-        ensures live { (state self.new).live ≡ (state self.old).live }
-        ensures refuses { OnOk result ((state self.old).has_refused ≡ false) }
-        ensures ok { OnOk result ((state self.new).has_refused ≡ false) }
-        ensures refused { OnErr result ((state self.new).has_refused ≡ true) }
-        ensures stays { OnErr result ((state self.new).assumptions ≡ (state self.old).assumptions) };
+        requires { MayAssume (state self.old).assumptions }
+        ensures { Assuming (state self.old) (state self.new) (complements lits.now) result };
 
     /// Assumes the complements of the literals of a live clause but for one, beside what is assumed, and propagates.
     ///
@@ -81,25 +84,22 @@ pub trait Propagate {
     ///
     /// Where memory runs out, and ever after. What is assumed is then as it was.
     fn assume_rest(&mut self, slot: Slot, l: Lit) -> Result<Answer, OutOfMemory>
-        requires room { HasRoom (state self.old).assumptions }
+        requires may { MayAssume (state self.old).assumptions }
         requires alive { IsSome (maps.get (state self.old).live slot) }
-        ensures answer { IfOk result (λ a. (c : Clause) → maps.get (state self.old).live slot ≡ Some c → IsAnswer (maps.get (state self.old).live) (assumed_by (state self.old).assumptions ++ complements (without c l)) a) }
-        ensures assumed { IfOk result (λ a. (c : Clause) → maps.get (state self.old).live slot ≡ Some c → Assumes (state self.old).assumptions (state self.new).assumptions a (assumed_by (state self.old).assumptions ++ complements (without c l))) }
-        ensures live { (state self.new).live ≡ (state self.old).live }
-        ensures refuses { OnOk result ((state self.old).has_refused ≡ false) }
-        ensures ok { OnOk result ((state self.new).has_refused ≡ false) }
-        ensures refused { OnErr result ((state self.new).has_refused ≡ true) }
-        ensures stays { OnErr result ((state self.new).assumptions ≡ (state self.old).assumptions) };
+        ensures { AssumingPart (state self.old) (state self.new) slot (λ k. not (k == l)) result };
 
     /// Takes back the last assumption. It takes no memory.
     fn undo(&mut self)
-        requires { (last : Assumption) × (rest : List Assumption) × ((state self.old).assumptions ≡ last ∷ rest) }
-        ensures assumptions { (last : Assumption) (rest : List Assumption) → (state self.old).assumptions ≡ last ∷ rest → (state self.new).assumptions ≡ rest }
+        requires { (last : Assumption) × (rest : List Assumption) ×
+            ((state self.old).assumptions ≡ last ∷ rest) }
+        ensures assumptions { (last : Assumption) (rest : List Assumption) →
+            (state self.old).assumptions ≡ last ∷ rest → (state self.new).assumptions ≡ rest }
         ensures live { (state self.new).live ≡ (state self.old).live }
         ensures refused { (state self.new).has_refused ≡ (state self.old).has_refused };
 
     /// What propagation says of a literal, after an assumption that was quiet. It takes no memory.
     fn value(&self, l: Lit) -> Value
         requires { IsLast Quiet (state self.now).assumptions }
-        ensures { IsValue (maps.get (state self.now).live) (assumed_by (state self.now).assumptions) l result };
+        ensures { IsValue (maps.get (state self.now).live)
+            (assumed_by (state self.now).assumptions) l result };
 }

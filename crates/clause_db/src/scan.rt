@@ -1,14 +1,15 @@
 //! Propagation by plain passes over all clauses.
 
-ghost use Rattle.std.specs.Prelude.{◌≡◌, ℕ, [], ◌≤◌, ◌<◌, true, false, IfOk, IfSome, IfNone, IsSome};
+ghost use Rattle.std.specs.Prelude.{◌≡◌, ℕ, [], ◌≤◌, ◌<◌, ◌++◌, filter, true, false, IfOk, OnErr, IfSome, IfNone, IsSome};
 ghost use Rattle.std.specs.FinMap as maps;
-ghost use Rattle.clause_db.specs.Assumptions.{HasAt};
+ghost use Rattle.cnf_base.specs.Literals.{complements};
+ghost use Rattle.clause_db.specs.Assumptions.{Assumes, HasAt, IsAnswer, MayAssume, assumed_by};
+ghost use Rattle.clause_db.specs.Scanning.{IsScan};
+ghost use Rattle.clause_db.specs.Trail.{HasRoom};
 
-use crate::assuming::{assume_in, take_back};
-use crate::levels::reserve_variables;
-use crate::standing::Standing;
-use crate::table::Table;
-use crate::{Answer, Propagate, Slot, Store, Trail, Value};
+use crate::assumptions::Assumptions;
+use crate::unit::propagate;
+use crate::{Answer, Except, Part, Propagate, Slot, Store, Value, Whole};
 use cnf_base::{Lit, OutOfMemory};
 use std::alloc::Global;
 use std::marker::Model;
@@ -17,10 +18,7 @@ use std::marker::Model;
 #[derive(Drop)]
 pub struct Scan {
     store: Store,
-    trail: Trail,
-    /// By variable, which assumption is the first that has a literal of it; 0 where none has.
-    levels: Table<u8>,
-    standing: Standing,
+    assumptions: Assumptions,
     has_refused: bool,
 }
 
@@ -33,11 +31,11 @@ impl Model for Scan {
     ghost coded = { propagation_code };
 
     ghost use Rattle.clause_db.specs.Clauses.{literals_in};
-    ghost use Rattle.clause_db.specs.Scanning.{IsScan, assumptions_of, level};
+    ghost use Rattle.clause_db.specs.Scanning.{IsScan};
 
-    ghost view = { λ s. record { live = s.store; assumptions = assumptions_of (level s.levels) s.trail.lits s.standing; stored = literals_in s.store; has_refused = s.has_refused } };
+    ghost view = { λ s. record { live = s.store; assumptions = s.assumptions.assumptions; stored = literals_in s.store; has_refused = s.has_refused } };
 
-    ghost invariant = { λ s. IsScan s.store s.trail s.levels s.standing };
+    ghost invariant = { λ s. IsScan s.store s.assumptions };
 }
 
 /// Whether there is a clause in the slot with this number, and it has the literal.
@@ -54,7 +52,8 @@ fn has_at(store: &Store, number: usize, l: Lit) -> bool
 /// The first slot from this one on whose clause has the literal.
 fn first_with(store: &Store, l: Lit, from: Slot) -> Option<Slot>
     ensures found { IfSome result (λ slot. (from ≤ slot) × HasAt (maps.get store.now) l slot) }
-    ensures passed_over { IfSome result (λ slot. (s : ℕ) → from ≤ s → s < slot → ¬ HasAt (maps.get store.now) l s) }
+    ensures passed_over { IfSome result (λ slot. (s : ℕ) → from ≤ s → s < slot →
+        ¬ HasAt (maps.get store.now) l s) }
     ensures none { IfNone result ((s : ℕ) → from ≤ s → ¬ HasAt (maps.get store.now) l s) }
     ensures slots { (s : ℕ) → IsSome (maps.get store.now s) → s ≤ 18446744073709551615 }
 {
@@ -66,6 +65,33 @@ fn first_with(store: &Store, l: Lit, from: Slot) -> Option<Slot>
     None
 }
 
+/// Assumes the complements of a part of a clause, beside what is assumed, and propagates.
+fn assume_part<P: Part>(
+    store: &Store,
+    assumptions: &mut Assumptions,
+    clause: &[Lit],
+    part: &P,
+) -> Result<Answer, OutOfMemory>
+    requires may { MayAssume assumptions.old.assumptions }
+    requires room { HasRoom assumptions.old.trail.met clause.now }
+    requires scan { IsScan store.now assumptions.old }
+    ensures answer { IfOk result (λ a. IsAnswer (maps.get store.now)
+        (assumed_by assumptions.old.assumptions ++ complements
+        (filter (P.keeps part.now) clause.now)) a) }
+    ensures assumed { IfOk result (λ a. Assumes assumptions.old.assumptions
+        assumptions.new.assumptions a (assumed_by assumptions.old.assumptions ++ complements
+        (filter (P.keeps part.now) clause.now))) }
+    ensures err { OnErr result (assumptions.new ≡ assumptions.old) }
+    ensures scan { IsScan store.now assumptions.new }
+{
+    if assumptions.assume(clause, part)? {
+        return Ok(Answer::Clash);
+    }
+    let answer = propagate(store, assumptions);
+    assumptions.answer(answer);
+    Ok(answer)
+}
+
 impl Scan {
     /// No clauses, and nothing is assumed.
     pub fn new(alloc: Global) -> Result<Self, OutOfMemory>
@@ -75,9 +101,7 @@ impl Scan {
     {
         Ok(Scan {
             store: Store::new(alloc)?,
-            trail: Trail::new(alloc)?,
-            levels: Table::new(alloc),
-            standing: Standing::Nothing,
+            assumptions: Assumptions::new(alloc)?,
             has_refused: false,
         })
     }
@@ -87,7 +111,7 @@ impl Propagate for Scan {
     ghost state = { λ s. s };
 
     fn insert(&mut self, lits: &[Lit]) -> Result<Slot, OutOfMemory> {
-        reserve_variables(&mut self.trail, &mut self.levels, lits)?;
+        self.assumptions.reserve(lits)?;
         self.store.insert(lits)
     }
 
@@ -112,50 +136,30 @@ impl Propagate for Scan {
     }
 
     fn assume(&mut self, lits: &[Lit]) -> Result<Answer, OutOfMemory> {
-        if self.has_refused || reserve_variables(&mut self.trail, &mut self.levels, lits).is_err() {
+        if self.has_refused || self.assumptions.reserve(lits).is_err() {
             self.has_refused = true;
             return Err(OutOfMemory);
         }
-        Ok(assume_in(
-            &self.store,
-            &mut self.trail,
-            &mut self.levels,
-            &mut self.standing,
-            lits,
-            None,
-        ))
+        let assumed = assume_part(&self.store, &mut self.assumptions, lits, &Whole);
+        self.has_refused = assumed.is_err();
+        assumed
     }
 
     fn assume_rest(&mut self, slot: Slot, l: Lit) -> Result<Answer, OutOfMemory> {
         if self.has_refused {
             return Err(OutOfMemory);
         }
-        let store = &self.store;
-        Ok(assume_in(
-            store,
-            &mut self.trail,
-            &mut self.levels,
-            &mut self.standing,
-            store.clause(slot),
-            Some(l),
-        ))
+        let clause = self.store.clause(slot);
+        let assumed = assume_part(&self.store, &mut self.assumptions, clause, &Except(l));
+        self.has_refused = assumed.is_err();
+        assumed
     }
 
     fn undo(&mut self) {
-        match self.standing {
-            Standing::Nothing => {}
-            Standing::One(_) => {
-                take_back(&mut self.trail, &mut self.levels, 1, 0);
-                self.standing = Standing::Nothing;
-            }
-            Standing::Two(first, second) => {
-                take_back(&mut self.trail, &mut self.levels, 2, second.start);
-                self.standing = Standing::One(first);
-            }
-        }
+        self.assumptions.undo();
     }
 
     fn value(&self, l: Lit) -> Value {
-        self.trail.value(l)
+        self.assumptions.trail().value(l)
     }
 }

@@ -1,7 +1,7 @@
 //! Tests of propagation by passes.
 
 ghost use Rattle.std.specs.Prelude.{◌≡◌, ℕ, List, [], ◌∷◌, true, IfOk};
-ghost use Rattle.clause_db.specs.Assumptions.{IsLast, HasRoom};
+ghost use Rattle.clause_db.specs.Assumptions.{IsLast, MayAssume};
 ghost use Rattle.clause_db.specs.declared.answer.Answer.TheVariants.{Quiet};
 
 use crate::{Answer, Propagate, Scan, Slot, Value};
@@ -92,8 +92,9 @@ fn rest_answer(
 
 /// Assumes the complements of the literals, and tells whether it was quiet.
 fn is_quiet(alloc: Global, scan: &mut Scan, numbers: &[i32]) -> Result<bool, Fail>
-    requires { HasRoom scan.old.assumptions }
-    ensures { IfOk result (λ quiet. quiet ≡ true → (all : List ℕ) × (scan.new.assumptions ≡ record { answer = Quiet; assumed = all } ∷ scan.old.assumptions)) }
+    requires { MayAssume scan.old.assumptions }
+    ensures { IfOk result (λ quiet. quiet ≡ true → (all : List ℕ) ×
+        (scan.new.assumptions ≡ record { answer = Quiet; assumed = all } ∷ scan.old.assumptions)) }
 {
     let clause = lits(alloc, numbers)?;
     match scan.assume(clause.as_slice())? {
@@ -104,7 +105,9 @@ fn is_quiet(alloc: Global, scan: &mut Scan, numbers: &[i32]) -> Result<bool, Fai
 
 /// Takes back the second of two assumptions, and tells which literals are true then.
 fn trues_below(alloc: Global, scan: &mut Scan) -> Result<Vec<i32>, Fail>
-    requires { (first second : List ℕ) × (scan.old.assumptions ≡ record { answer = Quiet; assumed = second } ∷ record { answer = Quiet; assumed = first } ∷ []) }
+    requires { (first second : List ℕ) × (scan.old.assumptions ≡
+        record { answer = Quiet; assumed = second }
+        ∷ record { answer = Quiet; assumed = first } ∷ []) }
 {
     scan.undo();
     trues(alloc, scan)

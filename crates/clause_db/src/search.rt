@@ -22,8 +22,10 @@ fn first_match(
     marks: &Table<Mark>,
     len: usize,
 ) -> Option<usize>
-    ensures found { IfSome result (λ s. is_match (λ l. is_marked (at marks.now l)) len (get entries.now s) ≡ true) }
-    ensures none { IfNone result ((i s : ℕ) → slice_get bucket.now i ≡ Some s → is_match (λ l. is_marked (at marks.now l)) len (get entries.now s) ≡ false) }
+    ensures found { IfSome result (λ s.
+        is_match (λ l. is_marked (at marks.now l)) len (get entries.now s) ≡ true) }
+    ensures none { IfNone result ((i s : ℕ) → slice_get bucket.now i ≡ Some s →
+        is_match (λ l. is_marked (at marks.now l)) len (get entries.now s) ≡ false) }
 {
     for i in 0..bucket.len() {
         let slot = bucket.get(i);
@@ -41,8 +43,11 @@ pub(crate) fn search(
     marks: &Table<Mark>,
     digest: &Digest,
 ) -> Option<usize>
-    ensures found { IfSome result (λ s. is_match (λ l. is_marked (at marks.now l)) digest.now.len (get entries.now s) ≡ true) }
-    ensures none { IfNone result ((i s : ℕ) → slice_get (under index.now digest.now.hash) i ≡ Some s → is_match (λ l. is_marked (at marks.now l)) digest.now.len (get entries.now s) ≡ false) }
+    ensures found { IfSome result (λ s.
+        is_match (λ l. is_marked (at marks.now l)) digest.now.len (get entries.now s) ≡ true) }
+    ensures none { IfNone result ((i s : ℕ) →
+        slice_get (under index.now digest.now.hash) i ≡ Some s →
+        is_match (λ l. is_marked (at marks.now l)) digest.now.len (get entries.now s) ≡ false) }
 {
     match index.bucket(digest.hash) {
         Some(bucket) => first_match(entries, bucket, marks, digest.len),

@@ -68,7 +68,9 @@ fn make_room(
     ensures few { OnOk result (slab_len entries.new < 18446744073709551615) }
     ensures slots { entries.new.slots ≡ entries.old.slots }
     ensures key { entries.new.vacant_key ≡ entries.old.vacant_key }
-    ensures ok { OnOk result ((h : ℕ) → under index.new h ≡ (if h == digest.now.hash then under index.old h ++ entries.old.vacant_key ∷ [] else under index.old h)) }
+    ensures ok { OnOk result ((h : ℕ) → under index.new h ≡
+        (if h == digest.now.hash
+        then under index.old h ++ entries.old.vacant_key ∷ [] else under index.old h)) }
     ensures err { OnErr result ((h : ℕ) → under index.new h ≡ under index.old h) }
 {
     let Ok(lits) = SmallVec::with_capacity(alloc, digest.len) else {
@@ -99,8 +101,10 @@ impl Store {
     /// Stores a clause in a slot that is free, and fails only where memory is refused. A repeated literal is kept once.
     pub fn insert(&mut self, lits: &[Lit]) -> Result<Slot, OutOfMemory>
         ensures free { IfOk result (λ slot. maps.get self.old slot ≡ None) }
-        ensures stored { IfOk result (λ slot. (c : Clause) × (maps.get self.new slot ≡ Some c) × IsTrue (same_clause c lits.now)) }
-        ensures others { IfOk result (λ slot. (s : ℕ) → s ≢ slot → maps.get self.new s ≡ maps.get self.old s) }
+        ensures stored { IfOk result (λ slot. (c : Clause) × (maps.get self.new slot ≡ Some c) ×
+            IsTrue (same_clause c lits.now)) }
+        ensures others { IfOk result (λ slot. (s : ℕ) → s ≢ slot →
+            maps.get self.new s ≡ maps.get self.old s) }
         ensures err { OnErr result (self.new ≡ self.old) }
     {
         reserve_all(&mut self.marks, lits)?;
@@ -134,8 +138,10 @@ impl Store {
 
     /// A slot with the same clause as a set, if there is one. It takes no memory.
     pub fn find(&mut self, lits: &[Lit]) -> Option<Slot>
-        ensures found { IfSome result (λ slot. (c : Clause) × (maps.get self.old slot ≡ Some c) × IsTrue (same_clause c lits.now)) }
-        ensures none { IfNone result ((s : ℕ) (c : Clause) → maps.get self.old s ≡ Some c → IsTrue (same_clause c lits.now) → ⊥) }
+        ensures found { IfSome result (λ slot. (c : Clause) × (maps.get self.old slot ≡ Some c) ×
+            IsTrue (same_clause c lits.now)) }
+        ensures none { IfNone result ((s : ℕ) (c : Clause) → maps.get self.old s ≡ Some c →
+            IsTrue (same_clause c lits.now) → ⊥) }
         ensures same { self.new ≡ self.old }
     {
         if !all_known(&self.marks, lits) {

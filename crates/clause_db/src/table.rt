@@ -24,7 +24,8 @@ const LEAST: usize = 64;
 
 /// Copies into `dense` what `sparse` has below its length, where it has nothing yet.
 fn bring_in<T: Copy + Drop>(dense: &mut Vec<Option<T>>, sparse: &HashMap<u32, T>)
-    ensures { (k : ℕ) → looked_up dense.new.items sparse.now k ≡ looked_up dense.old.items sparse.now k }
+    ensures { (k : ℕ) → looked_up dense.new.items sparse.now k ≡
+        looked_up dense.old.items sparse.now k }
 {
     for (key, value) in sparse {
         let i = *key as usize;
@@ -36,7 +37,8 @@ fn bring_in<T: Copy + Drop>(dense: &mut Vec<Option<T>>, sparse: &HashMap<u32, T>
 
 /// Whether each key of `sparse` has a value in `dense`.
 fn is_covered<T: Copy + Drop>(dense: &Vec<Option<T>>, sparse: &HashMap<u32, T>) -> bool
-    ensures { IsTrue result → (k : ℕ) → IsSome (get nat_eq sparse.now k) → IsSome (slice_index_or dense.now.items k None) }
+    ensures { IsTrue result → (k : ℕ) → IsSome (get nat_eq sparse.now k) →
+        IsSome (slice_index_or dense.now.items k None) }
 {
     for (key, _) in sparse {
         let i = *key as usize;
@@ -89,7 +91,8 @@ impl<T: Copy + Drop> Table<T> {
 
     /// Puts a value at a key.
     fn put(&mut self, key: u32, value: T) -> Result<(), OutOfMemory>
-        ensures ok { OnOk result ((k : ℕ) → at self.new k ≡ (if k == key then Some value else at self.old k)) }
+        ensures ok { OnOk result ((k : ℕ) → at self.new k ≡
+            (if k == key then Some value else at self.old k)) }
         ensures err { OnErr result ((k : ℕ) → at self.new k ≡ at self.old k) }
     {
         let i = key as usize;
@@ -118,7 +121,8 @@ impl<T: Copy + Drop> Table<T> {
 
     /// Makes room for the key, with this value where it has none.
     pub(crate) fn reserve(&mut self, key: u32, value: T) -> Result<(), OutOfMemory>
-        ensures ok { OnOk result ((k : ℕ) → at self.new k ≡ (if k == key then Some (unwrap_or (at self.old key) value) else at self.old k)) }
+        ensures ok { OnOk result ((k : ℕ) → at self.new k ≡
+            (if k == key then Some (unwrap_or (at self.old key) value) else at self.old k)) }
         ensures err { OnErr result ((k : ℕ) → at self.new k ≡ at self.old k) }
     {
         if self.get(key).is_some() {

@@ -1,10 +1,14 @@
 //! The trail: the literals that are true.
 
-ghost use Rattle.std.specs.Prelude.{◌≡◌, ℕ, ◌*◌, ◌/◌, ◌==◌, ◌<◌, ◌≤◌, ◌||◌, ◌&&◌, [], ◌∷◌, ◌++◌, length, take, is_some, IsTrue, ◌↔◌, IfSome, IfOk, OnOk, OnErr};
-ghost use Rattle.cnf_base.specs.Literals.{has};
-ghost use Rattle.clause_db.specs.Trail.{value_of, is_variable, HasNoVariableTwice};
+ghost use Rattle.std.specs.Prelude.{◌≡◌, ℕ, ◌*◌, ◌/◌, ◌==◌, ◌<◌, ◌≤◌, ◌||◌, ◌&&◌, not, [], ◌∷◌, ◌++◌, filter, length, take, is_some, IsTrue, IsFalse, ◌↔◌, IfSome, IfOk, OnOk, OnErr, if◌then◌else◌};
+ghost use Rattle.cnf_base.specs.Literals.{complement, has};
+ghost use Rattle.clause_db.specs.Left.{open_literals, how_many};
+ghost use Rattle.clause_db.specs.Trail.{value_of, is_variable, HasNoVariableTwice, SameSet, HasRoom, MakesFalse, conflicts};
+ghost use Rattle.clause_db.specs.Left.{with_one};
 ghost use Rattle.clause_db.specs.declared.value.Value.TheVariants.{Open};
 
+use crate::left::Left;
+use crate::part::Part;
 use crate::table::Table;
 use crate::value::Value;
 use cnf_base::{Lit, OutOfMemory};
@@ -64,6 +68,17 @@ fn positive(var: u32) -> Option<Lit>
     Lit::new(var as i32)
 }
 
+/// What is left with one more literal.
+fn with_literal(left: Left, l: Lit) -> Left
+    ensures { result ≡ with_one left l }
+{
+    match left {
+        Left::Nothing => Left::One(l),
+        Left::One(m) => if l == m { left } else { Left::More },
+        Left::More => Left::More,
+    }
+}
+
 impl Trail {
     /// An empty trail. It has room for no variable.
     pub fn new(alloc: Global) -> Result<Self, OutOfMemory>
@@ -83,7 +98,8 @@ impl Trail {
     ///
     /// Where memory runs out. The trail is then as it was.
     pub fn reserve(&mut self, var: u32) -> Result<(), OutOfMemory>
-        ensures met { OnOk result ((v : ℕ) → has self.new.met v ≡ (has self.old.met v || (v == var && is_variable v))) }
+        ensures met { OnOk result ((v : ℕ) → has self.new.met v ≡
+            (has self.old.met v || (v == var && is_variable v))) }
         ensures lits { OnOk result (self.new.lits ≡ self.old.lits) }
         ensures err { OnErr result (self.new ≡ self.old) }
     {
@@ -181,5 +197,82 @@ impl Trail {
         ensures different { HasNoVariableTwice self.now.lits }
     {
         &self.order[..self.len]
+    }
+    /// Makes room for the variables of a clause.
+    ///
+    /// # Errors
+    ///
+    /// Where memory runs out. Room for some of them may have been made then.
+    pub fn reserve_all(&mut self, clause: &[Lit]) -> Result<(), OutOfMemory>
+        ensures room { OnOk result (HasRoom self.new.met clause.now) }
+        ensures met { (v : ℕ) → IsTrue (has self.old.met v) → IsTrue (has self.new.met v) }
+        ensures lits { self.new.lits ≡ self.old.lits }
+    {
+        for l in clause {
+            self.reserve(l.var())?;
+        }
+        Ok(())
+    }
+
+    /// Sets a literal that is not false, unless it is true already. Tells whether it was open. It takes no memory.
+    pub fn make_true(&mut self, l: Lit) -> bool
+        requires reserved { IsTrue (has self.old.met (l / 2)) }
+        requires not_false { IsFalse (has self.old.lits (complement l)) }
+        ensures was_open { result ≡ not (has self.old.lits l) }
+        ensures lits { self.new.lits ≡ (if result then self.old.lits ++ l ∷ [] else self.old.lits) }
+        ensures quiet { IsFalse (conflicts self.new.lits) }
+        ensures met { SameSet self.new.met self.old.met }
+    {
+        let is_open = self.value(l) == Value::Open;
+        if is_open {
+            self.set(l);
+        }
+        is_open
+    }
+
+    /// Whether the literal is false.
+    fn is_false(&self, l: Lit) -> bool
+        ensures { result ≡ has self.now.lits (complement l) }
+    {
+        matches!(self.value(l), Value::False)
+    }
+
+    /// Makes the literals of a part of a clause false, up to the first that is true. Tells whether there is one, so that a literal and its
+    /// complement would be true. It takes no memory.
+    pub fn make_false<P: Part>(&mut self, clause: &[Lit], part: &P) -> bool
+        requires { HasRoom self.old.met clause.now }
+        ensures made { MakesFalse self.old.lits
+            (filter (P.keeps part.now) clause.now) result self.new.lits }
+        ensures begins { take (length self.old.lits) self.new.lits ≡ self.old.lits }
+        ensures longer { length self.old.lits ≤ length self.new.lits }
+        ensures met { SameSet self.new.met self.old.met }
+    {
+        let _different = self.len();
+        for l in clause {
+            if part.keeps_literal(*l) {
+                match self.value(*l) {
+                    Value::True => return true,
+                    Value::False => {}
+                    Value::Open => self.set(l.neg()),
+                }
+            }
+        }
+        false
+    }
+
+    /// What is left of a clause. It takes no memory.
+    pub fn left(&self, clause: &[Lit]) -> Left
+        ensures { result ≡ how_many (open_literals self.now.lits clause.now) }
+    {
+        let mut left = Left::Nothing;
+        for l in clause {
+            if !self.is_false(*l) {
+                match with_literal(left, *l) {
+                    Left::More => return Left::More,
+                    next => left = next,
+                }
+            }
+        }
+        left
     }
 }

@@ -1,6 +1,6 @@
 //! Tests of the trail.
 
-use crate::{Trail, Value};
+use crate::{Except, Left, Part, Trail, Value, Whole};
 use cnf_base::{Lit, OutOfMemory};
 use std::test::Fail;
 
@@ -36,6 +36,31 @@ fn sets_and_takes_back(rt: HostRuntime) -> Result<(), Fail> {
     set_open(&mut trail, greatest.neg())?;
     assert_eq!(rt; trail.value(greatest), Value::False);
     assert_eq!(rt; trail.lits(), [least, greatest.neg()].as_slice());
+    Ok(())
+}
+
+/// Makes room for a clause, and makes a part of it false.
+fn make_false<P: Part>(trail: &mut Trail, clause: &[Lit], part: &P) -> Result<bool, OutOfMemory> {
+    trail.reserve_all(clause)?;
+    Ok(trail.make_false(clause, part))
+}
+
+#[test]
+fn makes_false(rt: HostRuntime) -> Result<(), Fail> {
+    let one = Lit::new(1).ok_or("no literal")?;
+    let two = Lit::new(2).ok_or("no literal")?;
+    let three = Lit::new(3).ok_or("no literal")?;
+    let clause = [one, two.neg(), three];
+    let mut trail = Trail::new(rt.alloc())?;
+    assert_eq!(rt; trail.left(&clause), Left::More);
+    assert!(rt; !make_false(&mut trail, &clause, &Except(three))?);
+    assert_eq!(rt; trail.lits(), [one.neg(), two].as_slice());
+    assert_eq!(rt; trail.left(&clause), Left::One(three));
+    assert_eq!(rt; trail.left(&clause[..2]), Left::Nothing);
+    assert_eq!(rt; trail.left(&[two, one]), Left::One(two));
+    assert!(rt; make_false(&mut trail, &[three, two], &Whole)?);
+    assert_eq!(rt; trail.value(three), Value::False);
+    assert_eq!(rt; trail.left(&clause), Left::Nothing);
     Ok(())
 }
 

@@ -7,3 +7,4 @@ pub mod WordLemmas
 pub mod RunLemmas
 pub mod TokenLemmas
 pub mod SeenLemmas
+pub mod PrintLemmas

@@ -7,11 +7,12 @@ use Rattle.cnf_base.specs.Stream.{Input, Stream, Along, IsLook, bumped, most_to_
 use Rattle.cnf_base.specs.Text.{is_separator, col_after, line_after, col_along, listed, with_front, skips_at, comment_at, listing_at, FailsAt}
 use Rattle.cnf_base.specs.Words.{word_of}
 use Rattle.cnf_base.specs.declared.word.Word.{Word}
+use Rattle.cnf_base.specs.declared.input.Ending.{Ending}
 use Rattle.cnf_base.specs.declared.input.Ending.TheVariants.{End, Failed}
 use Rattle.cnf_base.specs.declared.place.Place.{Place}
 use Rattle.cnf_base.specs.declared.token.Token.TheVariants as token
-use Rattle.cnf_base.proofs.StreamLemmas.{Along-look, Along-map, Along-then, Along-bumped, shown_byte, shown_end, most_to_come-bumped}
-use Rattle.cnf_base.proofs.TextLemmas.{none, more, Each-append, IsRun, no_feed, col_along-append, skips_at-append, listing_at-separator, listing_at-feed, listing_at-end, listing_at-comment, listing_at-run, listing_at-last_run, listing_at-cut_run, comment_at-more, comment_at-feed}
+use Rattle.cnf_base.proofs.StreamLemmas.{Along-look, Along-still, Along-map, Along-then, Along-bumped, shown_byte, shown_end, most_to_come-bumped, most_to_come-look}
+use Rattle.cnf_base.proofs.TextLemmas.{none, more, Each-append, IsRun, no_feed, col_along-append, skips_at-append, listing_at-separator, listing_at-feed, listing_at-end, listing_at-comment, listing_at-run, listing_at-last_run, listing_at-cut_run, comment_at-more, comment_at-feed, comment_at-end}
 
 -- the place after a byte
 pub place_after-line : (b : ℕ) (p : Place) → (b == 10) ≡ false → place_after b p ≡ col_after p
@@ -24,7 +25,14 @@ place_after-feed b p h = ap (λ v. cond v (line_after p) (col_after p)) h
 pub record Stands (old now : Stream) : Type 0 where
   pub text : Along old now (λ i j. listing_at old.place i ≡ listing_at now.place j)
   pub fewer : most_to_come now ≤ most_to_come old
-  pub mark : now.has_failed ≡ old.has_failed
+  pub mark : now.reader.has_failed ≡ old.reader.has_failed
+
+pub Stands-start : (s : Stream) → Stands s s
+Stands-start s = record {
+  text = Along-still s (listing_at s.place);
+  fewer = omega arith;
+  mark = refl;
+}
 
 -- this run was taken
 pub record InRun (old now : Stream) (run : List ℕ) : Type 0 where
@@ -32,15 +40,15 @@ pub record InRun (old now : Stream) (run : List ℕ) : Type 0 where
   pub place : now.place ≡ col_along old.place run
   pub text : Along old now (λ i j. i ≡ record { bytes = run ++ j.bytes; ending = j.ending })
   pub fewer : most_to_come now < most_to_come old
-  pub mark : now.has_failed ≡ old.has_failed
+  pub mark : now.reader.has_failed ≡ old.reader.has_failed
 
-pub InRun-looked : (old now new : Stream) (run : List ℕ) → InRun old now run → IsLook now new → new.has_failed ≡ now.has_failed → InRun old new run
+pub InRun-looked : (old now new : Stream) (run : List ℕ) → InRun old now run → IsLook now new → new.reader.has_failed ≡ now.reader.has_failed → InRun old new run
 InRun-looked old now new run r l mark = record {
   is_run = r.is_run;
   place = l.place ∙ r.place;
   text = Along-then old now new _ _ _ r.text (Along-look now new l)
       (λ i j k m p q. p ∙ ap (λ t. record { bytes = run ++ t.bytes; ending = t.ending }) q);
-  fewer = omega (arith, r.fewer, l.fewer);
+  fewer = omega (arith, r.fewer, most_to_come-look now new l);
   mark = mark ∙ r.mark;
 }
 
@@ -133,11 +141,11 @@ comment-done old now b text some first feed =
       tt,
     ))
 
-pub Stands-looked : (old now new : Stream) → Stands old now → IsLook now new → new.has_failed ≡ now.has_failed → Stands old new
+pub Stands-looked : (old now new : Stream) → Stands old now → IsLook now new → new.reader.has_failed ≡ now.reader.has_failed → Stands old new
 Stands-looked old now new s l mark = record {
   text = Along-then old now new _ _ _ s.text (Along-look now new l)
       (λ i j k m p q. p ∙ ap (listing_at now.place) q ∙ ap (λ x. listing_at x k) (sym l.place));
-  fewer = omega (arith, s.fewer, l.fewer);
+  fewer = omega (arith, s.fewer, most_to_come-look now new l);
   mark = mark ∙ s.mark;
 }
 
@@ -197,10 +205,13 @@ Stands-cut old now new b (Err x) s some first is_c start comment err =
     (moved, ap (λ l. l.tokens) empty, ap (λ l. l.ending) empty))
 
 -- the end
-pub Stands-end : (old now : Stream) → Stands old now → now.ahead ≡ [] → now.met ≡ Some End
-    → Along old now (λ i j. (listing_at old.place i ≡ listing_at now.place j) × (listing_at old.place i ≡ record { tokens = []; end = now.place; ending = End }))
-Stands-end old now s nothing met =
-    Along-map old now _ _ s.text (λ i j m p. (p, p ∙ ap (listing_at now.place) (shown_end now End j nothing met m) ∙ listing_at-end now.place End))
+pub Stands-end : (old now new : Stream) (p : Place) → Stands old now → IsLook now new → new.ahead ≡ [] → new.met ≡ Some End → p ≡ now.place
+    → Along old new (λ i j. (listing_at old.place i ≡ listing_at new.place j) × (listing_at old.place i ≡ record { tokens = []; end = p; ending = End }))
+Stands-end old now new p s look nothing met is =
+    Along-then old now new _ _ _ s.text (Along-look now new look) (λ i j k m e q.
+    let moved = e ∙ ap (listing_at now.place) q ∙ ap (λ x. listing_at x k) (sym look.place) in
+    let place : new.place ≡ p = look.place ∙ sym is in
+    (moved, moved ∙ ap (listing_at new.place) (shown_end new End k nothing met m) ∙ listing_at-end new.place End ∙ ap (λ x. record { tokens = []; end = x; ending = End }) place))
 
 -- a failed read
 pub Stands-failed : (old now new : Stream) → Stands old now
@@ -211,6 +222,19 @@ Stands-failed old now new s look nothing met =
     let moved = p ∙ ap (listing_at now.place) q ∙ ap (λ x. listing_at x k) (sym look.place) in
     let empty = moved ∙ ap (listing_at new.place) (shown_end new Failed k nothing met m) ∙ listing_at-end new.place Failed in
     (moved, ap (λ l. l.tokens) empty, ap (λ l. l.ending) empty))
+
+pub comment-start : (s : Stream) → Along s s (λ i j. comment_at s.place i ≡ comment_at s.place j)
+comment-start s = Along-still s (comment_at s.place)
+
+-- the end of the input, or a failed read, ends a comment
+pub comment-end : (old now new : Stream) (e : Ending) → Along old now (λ i j. comment_at old.place i ≡ comment_at now.place j)
+    → IsLook now new → new.ahead ≡ [] → new.met ≡ Some e
+    → Along old new (λ i j. (comment_at old.place i ≡ listing_at new.place j) × (j ≡ record { bytes = []; ending = e }))
+comment-end old now new e text look nothing met =
+    Along-then old now new _ _ _ text (Along-look now new look) (λ i j k m p q.
+    let is = shown_end new e k nothing met m in
+    let empty = ap (λ x. listing_at x (record { bytes = []; ending = e })) (sym look.place) in
+    (p ∙ ap (comment_at now.place) (q ∙ is) ∙ comment_at-end now.place e ∙ empty ∙ ap (listing_at new.place) (sym is), is))
 
 pub comment-looked : (old now new : Stream) → Along old now (λ i j. comment_at old.place i ≡ comment_at now.place j)
     → IsLook now new → Along old new (λ i j. comment_at old.place i ≡ comment_at new.place j)

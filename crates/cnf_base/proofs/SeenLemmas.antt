@@ -1,54 +1,62 @@
 -- What a run saw of its reader.
-use Rattle.std.proofs.Common.{◌≡◌, ℕ, Bool, List, [], ◌++◌, Option, None, Some, refl, sym, ap, ◌∙◌, subst, append_assoc}
-use Rattle.cnf_base.specs.Stream.{Input, Stream, MayGive, MayFollow, MayCome, Along, fresh, preceded}
-use Rattle.cnf_base.specs.Seen.{Seen, IsSeen}
+use Rattle.std.proofs.Common.{◌≡◌, ℕ, ◌||◌, List, [], ◌++◌, Option, None, Some, refl, sym, ap, ◌∙◌, subst, append_assoc, append-nil, arith}
+use Rattle.std.proofs.KnownBytes.{Consumes-nil}
+use Rattle.std.specs.Io.KnownBytes.{IsAtEnd}
+use Rattle.cnf_base.specs.Stream.{Input, Reader, Stream, MayGive, MayFollow, MayCome, Meets, Along, fresh, preceded}
+use Rattle.cnf_base.specs.Seen.{Seen, IsSeen, is_failure, SeenMayBeGiven, SeenIsSome}
 use Rattle.cnf_base.specs.declared.input.Ending.{Ending}
-use Rattle.cnf_base.proofs.StreamLemmas.{some_input, some_rest, Along-fresh}
+use Rattle.cnf_base.specs.declared.input.Ending.TheVariants.{End, Failed}
+use Rattle.cnf_base.proofs.StreamLemmas.{MayGive-read, MayGive-failed, some_input}
 
 -- nothing was read
-pub Seen-nothing : (left : Option (List ℕ)) → Seen left left
-Seen-nothing left = record {
+pub Seen-nothing : (reader : Reader) → Seen reader reader
+Seen-nothing reader = record {
   handed = [];
   met = None;
-  possible = λ i f. let P : List ℕ → Type 0 = λ b. MayGive left b i.ending in subst P (sym f.1) f.2;
-  some = let i = some_input left in (i.0, (i.0.bytes, refl, i.1));
+  lost = Consumes-nil reader.left;
+  count = omega arith;
+  ended = λ e. absurd (cc);
+  told = refl;
 }
 
-module _ (left : Option (List ℕ)) (mark : Bool) (most_left : ℕ) (borrows : List ℕ) (last : Stream) (new : Option (List ℕ)) (P : Input → Input → Type 0)
-    (run : Along (fresh left mark most_left borrows) last P) (kept : new ≡ last.left) where
-  -- what follows what was taken, of an input that begins with what was handed out
-  rest_of : (i : Input) → MayFollow last.met new (run.taken ++ last.ahead) i.bytes i.ending → (j : Input) × MayCome last j × (i ≡ preceded run.taken j)
-  rest_of i f = by last.met (let Q : Option (List ℕ) → Type 0 = λ l. MayFollow last.met l (run.taken ++ last.ahead) i.bytes i.ending in subst Q kept f)
+module _ (reader : Reader) (borrows : List ℕ) (last : Stream) (P : Input → Input → Type 0) (run : Along (fresh reader borrows) last P) where
+  -- the bytes that were read were handed out
+  pub Seen-run : Seen reader last.reader
+  Seen-run = record {
+    handed = run.bytes;
+    met = last.met;
+    lost = run.moves.lost;
+    count = run.moves.count;
+    ended = ended last.met run.moves.met;
+    told = told last.met run.moves.met;
+  }
     where
-      by : (met : Option Ending) → MayFollow met last.left (run.taken ++ last.ahead) i.bytes i.ending
-          → (j : Input) × MayFollow met last.left last.ahead j.bytes j.ending × (i ≡ preceded run.taken j)
-      by (Some e) f = (record { bytes = last.ahead; ending = e }, (refl, refl), ap (λ b. record { bytes = b; ending = i.ending }) f.0 ∙ ap (λ x. record { bytes = run.taken ++ last.ahead; ending = x }) f.1)
+      ended : (met : Option Ending) → Meets None met run.bytes reader last.reader → met ≡ Some End → IsAtEnd last.reader.left
+      ended None m e = absurd (cc)
+      ended (Some End) m e = m.0
+      ended (Some Failed) m e = absurd (cc)
+
+      told : (met : Option Ending) → Meets None met run.bytes reader last.reader → last.reader.has_failed ≡ (is_failure met || reader.has_failed)
+      told None m = m
+      told (Some End) m = m.1
+      told (Some Failed) m = m
+
+  -- what follows what was taken, of an input that begins with what was handed out
+  rest_of : (i : Input) → MayFollow last.met last.reader.left run.bytes i.bytes i.ending → (j : Input) × MayCome last j × (i ≡ preceded run.taken j)
+  rest_of i f = by last.met f
+    where
+      by : (met : Option Ending) → MayFollow met last.reader.left run.bytes i.bytes i.ending
+          → (j : Input) × MayFollow met last.reader.left last.ahead j.bytes j.ending × (i ≡ preceded run.taken j)
+      by (Some e) f = (
+        record { bytes = last.ahead; ending = e },
+        (refl, refl),
+        ap (λ b. record { bytes = b; ending = i.ending }) (f.0 ∙ run.moves.whole) ∙ ap (λ x. record { bytes = run.taken ++ last.ahead; ending = x }) f.1,
+      )
       by None f = (
         record { bytes = last.ahead ++ f.0; ending = i.ending },
         (f.0, refl, f.2),
-        ap (λ b. record { bytes = b; ending = i.ending }) (f.1 ∙ append_assoc run.taken last.ahead f.0),
+        ap (λ b. record { bytes = b; ending = i.ending }) (f.1 ∙ ap (λ x. x ++ f.0) run.moves.whole ∙ append_assoc run.taken last.ahead f.0),
       )
-
-  forth : (j : Input) → MayCome last j → MayFollow last.met new (run.taken ++ last.ahead) (run.taken ++ j.bytes) j.ending
-  forth j m =
-      let Q : Option (List ℕ) → Type 0 = λ l. MayFollow last.met l (run.taken ++ last.ahead) (run.taken ++ j.bytes) j.ending in
-      subst Q (sym kept) (by last.met m)
-    where
-      by : (met : Option Ending) → MayFollow met last.left last.ahead j.bytes j.ending → MayFollow met last.left (run.taken ++ last.ahead) (run.taken ++ j.bytes) j.ending
-      by (Some e) m = (ap (λ b. run.taken ++ b) m.0, m.1)
-      by None m = (m.0, ap (λ b. run.taken ++ b) m.1 ∙ sym (append_assoc run.taken last.ahead m.0), m.2)
-
-  -- the bytes that were taken and those ahead were handed out
-  pub Seen-run : Seen left new
-  Seen-run = record {
-    handed = run.taken ++ last.ahead;
-    met = last.met;
-    possible = λ i f.
-        let r = rest_of i f in
-        let Q : Input → Type 0 = λ x. MayGive left x.bytes x.ending in
-        subst Q (sym r.2) (Along-fresh left mark most_left borrows last P run r.0 r.1);
-    some = let j = some_rest last in (preceded run.taken j.0, forth j.0 j.1);
-  }
 
   -- and of each such input the run's fact holds
   pub Seen-fact : (i : Input) → IsSeen Seen-run i → (j : Input) × MayCome last j × P i j
@@ -57,3 +65,31 @@ module _ (left : Option (List ℕ)) (mark : Bool) (most_left : ℕ) (borrows : L
       let r = rest_of i f in
       let Q : Input → Type 0 = λ x. P x r.0 in
       (r.0, r.1, subst Q (sym r.2) (run.fact r.0 r.1))
+
+-- ---- Laws
+
+pub seen_may_be_given : SeenMayBeGiven
+seen_may_be_given old new seen i is = by seen.met seen.ended is
+  where
+    on : (later : List ℕ) → i.bytes ≡ seen.handed ++ later → MayGive new.left later i.ending → MayGive old.left i.bytes i.ending
+    on later e gives = let P : List ℕ → Type 0 = λ b. MayGive old.left b i.ending in subst P (sym e) (MayGive-read _ _ seen.handed later i.ending seen.lost gives)
+
+    at_end : (left : Option (List ℕ)) → IsAtEnd left → MayGive left [] End
+    at_end None end = tt
+    at_end (Some all) end = sym end
+
+    by : (met : Option Ending) → (met ≡ Some End → IsAtEnd new.left) → MayFollow met new.left seen.handed i.bytes i.ending → MayGive old.left i.bytes i.ending
+    by None ended f = on f.0 f.1 f.2
+    by (Some End) ended f =
+        let P : Ending → Type 0 = λ e. MayGive new.left [] e in
+        on [] (f.0 ∙ sym (append-nil seen.handed)) (subst P (sym f.1) (at_end new.left (ended refl)))
+    by (Some Failed) ended f =
+        let P : Ending → Type 0 = λ e. MayGive new.left [] e in
+        on [] (f.0 ∙ sym (append-nil seen.handed)) (subst P (sym f.1) (MayGive-failed new.left))
+
+pub seen_is_some : SeenIsSome
+seen_is_some old new seen = by seen.met
+  where
+    by : (met : Option Ending) → (i : Input) × MayFollow met new.left seen.handed i.bytes i.ending
+    by (Some e) = (record { bytes = seen.handed; ending = e }, (refl, refl))
+    by None = let i = some_input new.left in (record { bytes = seen.handed ++ i.0.bytes; ending = i.0.ending }, (i.0.bytes, refl, i.1))

@@ -2,7 +2,7 @@
 use Rattle.std.proofs.Common.{◌≡◌, ◌≢◌, Bool, true, false, not, cond, eqb, List, [], ◌∷◌, ◌++◌, filter, refl, sym, ap, ◌∙◌, inl, inr, ◌⊎◌, eqb-true, eq-eqb, ne_eqb}
 use Rattle.std.proofs.lemmas.Bool.{false≢true, true≢false, or_cases, or_left, or_right, and_parts, and_from, both_ways, not-true, not_from_false, false_from_ne_true}
 use Rattle.std.specs.List.{list_any, list_all}
-use Rattle.cnf_base.specs.Literals.{Literal, complement, has, complements, without}
+use Rattle.cnf_base.specs.Literals.{Literal, complement, Clause, has, complements, without, same_clause}
 use Rattle.cnf_base.proofs.LiteralLemmas.{complement-complement}
 
 -- two tests that pass together are equal
@@ -116,3 +116,28 @@ pub without_has : (ls : List Literal) (m l : Literal) → has (without ls m) l �
 without_has ls m l h =
     let w = filter_has (λ k. not (eqb k m)) ls l h in
     (w.0, λ e. both_ways (eqb l m) (not-true (eqb l m) w.1) (eq-eqb l m e))
+
+-- ---- Clauses that are the same set
+
+module _ (c d : Clause) where
+  pub same_there : same_clause c d ≡ true → (l : Literal) → has c l ≡ true → has d l ≡ true
+  same_there same l h = all_each (has d) c l (and_parts (list_all (has d) c) (list_all (has c) d) same).0 h
+
+  pub same_back : same_clause c d ≡ true → (l : Literal) → has d l ≡ true → has c l ≡ true
+  same_back same l h = all_each (has c) d l (and_parts (list_all (has d) c) (list_all (has c) d) same).1 h
+
+  pub same_from : ((l : Literal) → has c l ≡ true → has d l ≡ true) → ((l : Literal) → has d l ≡ true → has c l ≡ true) → same_clause c d ≡ true
+  same_from there back = and_from (list_all (has d) c) (list_all (has c) d) (each_all (has d) c there) (each_all (has c) d back)
+
+pub same_itself : (c : Clause) → same_clause c c ≡ true
+same_itself c = same_from c c (λ l h. h) (λ l h. h)
+
+pub same_symm : (c d : Clause) → same_clause c d ≡ true → same_clause d c ≡ true
+same_symm c d same = same_from d c (same_back c d same) (same_there c d same)
+
+pub same_trans : (c d e : Clause) → same_clause c d ≡ true → same_clause d e ≡ true → same_clause c e ≡ true
+same_trans c d e first second = same_from c e (λ l h. same_there d e second l (same_there c d first l h)) (λ l h. same_back c d first l (same_back d e second l h))
+
+pub same_empty : (d : Clause) → same_clause [] d ≡ true → d ≡ []
+same_empty [] same = refl
+same_empty (l ∷ d) same = absurd (false≢true (same_back [] (l ∷ d) same l (has_head l d)))

@@ -1,9 +1,10 @@
 -- What may still come of an input, from one moment to the next.
-use Rattle.std.proofs.Common.{◌≡◌, ℕ, ◌-◌, ◌<◌, ◌≤◌, Bool, List, [], ◌∷◌, ◌++◌, length, take, drop, Option, None, Some, refl, sym, ap, ◌∙◌, subst, append_assoc, arith}
+use Rattle.std.proofs.Common.{◌≡◌, ℕ, ◌+◌, ◌-◌, ◌<◌, ◌≤◌, List, [], ◌∷◌, ◌++◌, length, take, drop, Option, None, Some, refl, sym, ap, ◌∙◌, subst, append_assoc, append-nil, length-append, arith}
 use Rattle.std.specs.Prelude.{slice_range, slice_index}
-use Rattle.std.specs.Io.KnownBytes.{Consumes, IsAtEnd}
+use Rattle.std.specs.Io.KnownBytes.{Consumes, Keeps, IsAtEnd}
+use Rattle.std.proofs.KnownBytes.{Consumes-nil, Consumes-trans, Consumes-kept}
 use Rattle.std.proofs.lemmas.Grind.{common_steps}
-use Rattle.cnf_base.specs.Stream.{Input, Stream, MayGive, MayFollow, MayCome, Along, IsLook, bumped, fresh, most_to_come, preceded}
+use Rattle.cnf_base.specs.Stream.{Input, Reader, Stream, MayGive, MayFollow, MayCome, Meets, Moves, Along, IsLook, bumped, most_to_come, preceded}
 use Rattle.cnf_base.specs.declared.input.Ending.{Ending}
 use Rattle.cnf_base.specs.declared.input.Ending.TheVariants.{End, Failed}
 
@@ -33,68 +34,127 @@ used_up at end piece ordered within nothing =
     let len : length (slice_range piece at end) ≡ end - at = grind (arith, common_steps) in
     omega (arith, sym len ∙ ap length nothing)
 
--- a read gave n bytes
-pub MayFollow-filled : (met : Option Ending) (left left' : Option (List ℕ)) (ahead piece : List ℕ) (n : ℕ) (bytes : List ℕ) (ending : Ending)
-    → met ≡ None → ahead ≡ [] → Consumes left left' (take n piece)
-    → MayFollow met left' (slice_range piece 0 n) bytes ending → MayFollow met left ahead bytes ending
-MayFollow-filled (Some e) left left' ahead piece n bytes ending m a c f = absurd (cc)
-MayFollow-filled None left left' ahead piece n bytes ending m a c f =
-    let whole : bytes ≡ take n piece ++ f.0 = f.1 ∙ ap (λ x. x ++ f.0) (slice_range-front n piece) in
-    let P : List ℕ → Type 0 = λ x. MayGive left x ending in
-    (bytes, ap (λ x. x ++ bytes) (sym a), subst P (sym whole) (MayGive-read left left' (take n piece) f.0 ending c f.2))
+-- of a source that is used up nothing is ahead, whatever its piece
+pub still_nothing : (at end : ℕ) (piece other : List ℕ) → at ≤ end → end ≤ length piece → slice_range piece at end ≡ [] → slice_range other at end ≡ []
+still_nothing at end piece other ordered within nothing =
+    ap (λ k. slice_range other at k) (sym (used_up at end piece ordered within nothing)) ∙ slice_range-same at other
 
--- a read gave no bytes
-pub MayFollow-ended : (met : Option Ending) (left left' : Option (List ℕ)) (ahead piece : List ℕ) (at end : ℕ) (bytes : List ℕ) (ending : Ending)
-    → met ≡ None → ahead ≡ [] → at ≡ end → Consumes left left' [] → IsAtEnd left'
-    → MayFollow (Some End) left' (slice_range piece at end) bytes ending → MayFollow met left ahead bytes ending
-MayFollow-ended (Some e) left left' ahead piece at end bytes ending m a same c done f = absurd (cc)
-MayFollow-ended None left left' ahead piece at end bytes ending m a same c done f =
-    let nothing : bytes ≡ [] = f.0 ∙ ap (λ k. slice_range piece at k) (sym same) ∙ slice_range-same at piece in
-    let P : Ending → Type 0 = λ e. MayFollow None left ahead bytes e in
-    subst P (sym f.1) (bytes, ap (λ x. x ++ bytes) (sym a), ended left left' bytes c done nothing)
+-- ---- What was read and taken
+
+-- nothing was read
+pub Meets-nothing : (met : Option Ending) (reader : Reader) → Meets met met [] reader reader
+Meets-nothing None reader = refl
+Meets-nothing (Some e) reader = (refl, refl, refl)
+
+pub Moves-nothing : (s : Stream) → Moves s s [] []
+Moves-nothing s = record {
+  whole = append-nil s.ahead;
+  lost = Consumes-nil s.reader.left;
+  count = omega arith;
+  met = Meets-nothing s.met s.reader;
+  ahead = λ h. h;
+  same_reader = refl;
+}
+
+-- one run after another
+Meets-then : (a b c : Option Ending) (first second : List ℕ) (old mid new : Reader) → Meets a b first old mid → Meets b c second mid new → Meets a c (first ++ second) old new
+Meets-then (Some e) b c first second old mid new p q = by b p.0 q
   where
-    ended : (left left' : Option (List ℕ)) (bytes : List ℕ) → Consumes left left' [] → IsAtEnd left' → bytes ≡ [] → MayGive left bytes End
-    ended None left' bytes c done nothing = tt
-    ended (Some all) None bytes c done nothing = absurd c
-    ended (Some all) (Some rest) bytes c done nothing = nothing ∙ sym (c ∙ done)
+    by : (b : Option Ending) → b ≡ Some e → Meets b c second mid new → (c ≡ Some e) × (first ++ second ≡ []) × (new ≡ old)
+    by (Some d) is q = (q.0 ∙ is, ap (λ x. x ++ second) p.1 ∙ q.1, q.2 ∙ p.2)
+    by None is q = absurd (cc)
+Meets-then None None None first second old mid new p q = q ∙ p
+Meets-then None None (Some End) first second old mid new p q = (q.0, q.1 ∙ p)
+Meets-then None None (Some Failed) first second old mid new p q = q
+Meets-then None (Some End) c first second old mid new p q =
+    let P : Option Ending → Type 0 = λ m. Meets None m (first ++ second) old new in
+    subst P (sym q.0) (let R : Reader → Type 0 = λ r. IsAtEnd r.left × (r.has_failed ≡ old.has_failed) in subst R (sym q.2) p)
+Meets-then None (Some Failed) c first second old mid new p q =
+    let P : Option Ending → Type 0 = λ m. Meets None m (first ++ second) old new in
+    subst P (sym q.0) (ap (λ r. r.has_failed) q.2 ∙ p)
 
--- a read failed
-pub MayFollow-failed : (met : Option Ending) (left : Option (List ℕ)) (ahead piece : List ℕ) (at end : ℕ) (bytes : List ℕ) (ending : Ending)
-    → met ≡ None → ahead ≡ [] → at ≡ end
-    → MayFollow (Some Failed) left (slice_range piece at end) bytes ending → MayFollow met left ahead bytes ending
-MayFollow-failed (Some e) left ahead piece at end bytes ending m a same f = absurd (cc)
-MayFollow-failed None left ahead piece at end bytes ending m a same f =
-    let nothing : bytes ≡ [] = f.0 ∙ ap (λ k. slice_range piece at k) (sym same) ∙ slice_range-same at piece in
-    let P : List ℕ → Type 0 = λ x. MayGive left x ending in
-    let Q : Ending → Type 0 = λ e. MayGive left [] e in
-    (bytes, ap (λ x. x ++ bytes) (sym a), subst P (sym nothing) (subst Q (sym f.1) (MayGive-failed left)))
+pub Moves-then : (a b c : Stream) (first second taken others : List ℕ) → Moves a b first taken → Moves b c second others → Moves a c (first ++ second) (taken ++ others)
+Moves-then a b c first second taken others p q = record {
+  whole = sym (append_assoc a.ahead first second) ∙ ap (λ x. x ++ second) p.whole ∙ append_assoc taken b.ahead second
+      ∙ ap (λ x. taken ++ x) q.whole ∙ sym (append_assoc taken others c.ahead);
+  lost = Consumes-trans _ _ _ first second p.lost q.lost;
+  count = omega (arith, length-append first second, p.count, q.count);
+  met = Meets-then a.met b.met c.met first second a.reader b.reader c.reader p.met q.met;
+  ahead = λ h. q.ahead (p.ahead h);
+  same_reader = q.same_reader ∙ p.same_reader;
+}
+
+-- So many bytes less may still be taken.
+pub most_to_come-moved : (old new : Stream) (bytes taken : List ℕ) → Moves old new bytes taken → most_to_come new + length taken ≡ most_to_come old
+most_to_come-moved old new bytes taken m =
+    let whole : length old.ahead + length bytes ≡ length taken + length new.ahead =
+    sym (length-append old.ahead bytes) ∙ ap length m.whole ∙ length-append taken new.ahead in
+    omega (arith, whole, m.count)
+
+-- ---- What may come
+
+-- what may come after a run, with the bytes that it took in front, might come before it
+pub MayCome-before : (old new : Stream) (bytes taken : List ℕ) → Moves old new bytes taken → (j : Input) → MayCome new j → MayCome old (preceded taken j)
+MayCome-before old new bytes taken m j f = by old.met new.met m.met f
+  where
+    -- the reader gave these bytes, and then what follows
+    read_on : (later : List ℕ) → j.bytes ≡ new.ahead ++ later → MayGive new.reader.left later j.ending
+        → MayFollow None old.reader.left old.ahead (taken ++ j.bytes) j.ending
+    read_on later is gives = (
+      bytes ++ later,
+      ap (λ x. taken ++ x) is ∙ sym (append_assoc taken new.ahead later) ∙ ap (λ x. x ++ later) (sym m.whole) ∙ append_assoc old.ahead bytes later,
+      MayGive-read _ _ bytes later j.ending m.lost gives,
+    )
+
+    at_end : (left : Option (List ℕ)) → IsAtEnd left → MayGive left [] End
+    at_end None end = tt
+    at_end (Some all) end = sym end
+
+    by : (met now : Option Ending) → Meets met now bytes old.reader new.reader → MayFollow now new.reader.left new.ahead j.bytes j.ending
+        → MayFollow met old.reader.left old.ahead (taken ++ j.bytes) j.ending
+    by (Some e) None n f = absurd (cc)
+    by (Some e) (Some d) n f = (
+      ap (λ x. taken ++ x) f.0 ∙ sym m.whole ∙ ap (λ x. old.ahead ++ x) n.1 ∙ append-nil old.ahead,
+      f.1 ∙ (let same : d ≡ e = cc in same),
+    )
+    by None None n f = read_on f.0 f.1 f.2
+    by None (Some End) n f =
+        let P : Ending → Type 0 = λ e. MayGive new.reader.left [] e in
+        read_on [] (f.0 ∙ sym (append-nil new.ahead)) (subst P (sym f.1) (at_end new.reader.left n.0))
+    by None (Some Failed) n f =
+        let P : Ending → Type 0 = λ e. MayGive new.reader.left [] e in
+        read_on [] (f.0 ∙ sym (append-nil new.ahead)) (subst P (sym f.1) (MayGive-failed new.reader.left))
+
+pub Along-before : (old new : Stream) (P : Input → Input → Type 0) → (run : Along old new P) → (j : Input) → MayCome new j → MayCome old (preceded run.taken j)
+Along-before old new P run j m = MayCome-before old new run.bytes run.taken run.moves j m
 
 -- nothing was taken
 pub Along-look : (old new : Stream) → IsLook old new → Along old new (λ i j. i ≡ j)
-Along-look old new look = record { taken = []; before = look.same; fact = λ j m. refl; ahead = look.ahead; same_reader = look.same_reader }
+Along-look old new look = record { bytes = look.bytes; taken = []; moves = look.moves; fact = λ j m. refl }
+
+pub most_to_come-look : (old new : Stream) → IsLook old new → most_to_come new ≡ most_to_come old
+most_to_come-look old new look = omega (arith, most_to_come-moved old new look.bytes [] look.moves)
 
 -- the same run, with another fact
 pub Along-map : (old new : Stream) (P Q : Input → Input → Type 0) → Along old new P
     → ((i j : Input) → MayCome new j → P i j → Q i j) → Along old new Q
 Along-map old new P Q run next = record {
+  bytes = run.bytes;
   taken = run.taken;
-  before = run.before;
+  moves = run.moves;
   fact = λ j m. next (preceded run.taken j) j m (run.fact j m);
-  ahead = run.ahead;
-  same_reader = run.same_reader;
 }
 
 -- one run after another
 pub Along-then : (a b c : Stream) (P Q R : Input → Input → Type 0) → Along a b P → Along b c Q
     → ((i j k : Input) → MayCome c k → P i j → Q j k → R i k) → Along a c R
 Along-then a b c P Q R first second joined = record {
+  bytes = first.bytes ++ second.bytes;
   taken = first.taken ++ second.taken;
-  before = λ k m. subst (MayCome a) (sym (whole k)) (first.before (preceded second.taken k) (second.before k m));
+  moves = Moves-then a b c first.bytes second.bytes first.taken second.taken first.moves second.moves;
   fact = λ k m.
       let S : Input → Type 0 = λ i. R i k in
-      subst S (sym (whole k)) (joined _ _ k m (first.fact (preceded second.taken k) (second.before k m)) (second.fact k m));
-  ahead = λ h. second.ahead (first.ahead h);
-  same_reader = second.same_reader ∙ first.same_reader;
+      subst S (sym (whole k)) (joined _ _ k m (first.fact (preceded second.taken k) (Along-before b c Q second k m)) (second.fact k m));
 }
   where
     whole : (k : Input) → preceded (first.taken ++ second.taken) k ≡ preceded first.taken (preceded second.taken k)
@@ -102,7 +162,35 @@ Along-then a b c P Q R first second joined = record {
 
 -- a run of no call at all
 pub Along-none : (s : Stream) → Along s s (λ i j. i ≡ j)
-Along-none s = record { taken = []; before = λ j m. m; fact = λ j m. refl; ahead = λ h. h; same_reader = refl }
+Along-none s = record { bytes = []; taken = []; moves = Moves-nothing s; fact = λ j m. refl }
+
+-- what is made of an input stays where nothing is taken
+pub Along-still : {A : Type 0} (s : Stream) (f : Input → A) → Along s s (λ i j. f i ≡ f j)
+Along-still s f = Along-map s s _ _ (Along-none s) (λ i j m e. ap f e)
+
+-- ---- A look, and a byte that is taken
+
+-- nothing was ahead, and a read gave these bytes, or it was the end's
+pub look_filled : (old new : Stream) (bytes : List ℕ) → old.ahead ≡ [] → new.ahead ≡ bytes → Consumes old.reader.left new.reader.left bytes
+    → new.reader.most_left + length bytes ≡ old.reader.most_left → length bytes ≤ 65536 → Meets old.met new.met bytes old.reader new.reader
+    → new.borrows ≡ old.borrows → new.place ≡ old.place → new.byte_no ≡ old.byte_no → IsLook old new
+look_filled old new bytes none ahead lost count most met same place byte_no = record {
+  bytes = bytes;
+  moves = record {
+    whole = ap (λ x. x ++ bytes) none ∙ sym ahead;
+    lost = lost;
+    count = count;
+    met = met;
+    ahead = λ h. omega (arith, ap length ahead, most);
+    same_reader = same;
+  };
+  place = place;
+  byte_no = byte_no;
+}
+
+-- nothing was ahead, and a read failed
+pub Consumes-failed : (left new : Option (List ℕ)) → Keeps left new → Consumes left new []
+Consumes-failed left new kept = Consumes-kept left left new [] (Consumes-nil left) kept
 
 first_byte : (ahead : List ℕ) → 0 < length ahead → ahead ≡ slice_index ahead 0 ∷ drop 1 ahead
 first_byte [] h = absurd (omega arith)
@@ -116,7 +204,7 @@ shown_byte s b j some first m = by s.met m
     front : s.ahead ≡ b ∷ drop 1 s.ahead
     front = first_byte s.ahead some ∙ ap (λ x. x ∷ drop 1 s.ahead) (sym first)
 
-    by : (met : Option Ending) → MayFollow met s.left s.ahead j.bytes j.ending → (rest : List ℕ) × (j ≡ record { bytes = b ∷ rest; ending = j.ending })
+    by : (met : Option Ending) → MayFollow met s.reader.left s.ahead j.bytes j.ending → (rest : List ℕ) × (j ≡ record { bytes = b ∷ rest; ending = j.ending })
     by (Some e) m = (drop 1 s.ahead, ap (λ t. record { bytes = t; ending = j.ending }) (m.0 ∙ front))
     by None m = (drop 1 s.ahead ++ m.0, ap (λ t. record { bytes = t; ending = j.ending }) (m.1 ∙ ap (λ t. t ++ m.0) front))
 
@@ -124,28 +212,25 @@ shown_byte s b j some first m = by s.met m
 pub shown_end : (s : Stream) (e : Ending) (j : Input) → s.ahead ≡ [] → s.met ≡ Some e → MayCome s j
     → j ≡ record { bytes = []; ending = e }
 shown_end s e j nothing met m =
-    let P : Option Ending → Type 0 = λ t. MayFollow t s.left s.ahead j.bytes j.ending in
+    let P : Option Ending → Type 0 = λ t. MayFollow t s.reader.left s.ahead j.bytes j.ending in
     let f : (j.bytes ≡ s.ahead) × (j.ending ≡ e) = subst P met m in
     ap (λ t. record { bytes = t; ending = j.ending }) (f.0 ∙ nothing) ∙ ap (λ t. record { bytes = []; ending = t }) f.1
 
 -- a byte was taken
-pub MayCome-bumped : (s : Stream) (j : Input) → 0 < length s.ahead → MayCome (bumped s) j
-    → MayCome s (record { bytes = slice_index s.ahead 0 ∷ j.bytes; ending = j.ending })
-MayCome-bumped s j some m = by s.met m
-  where
-    by : (met : Option Ending) → MayFollow met s.left (drop 1 s.ahead) j.bytes j.ending
-        → MayFollow met s.left s.ahead (slice_index s.ahead 0 ∷ j.bytes) j.ending
-    by (Some e) m = (ap (λ t. slice_index s.ahead 0 ∷ t) m.0 ∙ sym (first_byte s.ahead some), m.1)
-    by None m = (m.0, ap (λ t. slice_index s.ahead 0 ∷ t) m.1 ∙ ap (λ t. t ++ m.0) (sym (first_byte s.ahead some)), m.2)
-
 pub Along-bumped : (s : Stream) (b : ℕ) → 0 < length s.ahead → b ≡ slice_index s.ahead 0
     → Along s (bumped s) (λ i j. i ≡ record { bytes = b ∷ j.bytes; ending = j.ending })
 Along-bumped s b some first = record {
+  bytes = [];
   taken = slice_index s.ahead 0 ∷ [];
-  before = λ j m. MayCome-bumped s j some m;
+  moves = record {
+    whole = append-nil s.ahead ∙ first_byte s.ahead some;
+    lost = Consumes-nil s.reader.left;
+    count = omega arith;
+    met = Meets-nothing s.met s.reader;
+    ahead = λ h. fewer_ahead s.ahead h;
+    same_reader = refl;
+  };
   fact = λ j m. ap (λ x. record { bytes = x ∷ j.bytes; ending = j.ending }) (sym first);
-  ahead = λ h. fewer_ahead s.ahead h;
-  same_reader = refl;
 }
   where
     fewer_ahead : (ahead : List ℕ) → length ahead ≤ 65536 → length (drop 1 ahead) ≤ 65536
@@ -163,15 +248,6 @@ some_input (Some all) = (record { bytes = all; ending = End }, refl)
 pub some_rest : (s : Stream) → (j : Input) × MayCome s j
 some_rest s = by s.met
   where
-    by : (met : Option Ending) → (j : Input) × MayFollow met s.left s.ahead j.bytes j.ending
+    by : (met : Option Ending) → (j : Input) × MayFollow met s.reader.left s.ahead j.bytes j.ending
     by (Some e) = (record { bytes = s.ahead; ending = e }, (refl, refl))
-    by None = let i = some_input s.left in (record { bytes = s.ahead ++ i.0.bytes; ending = i.0.ending }, (i.0.bytes, refl, i.1))
-
--- Of a run from the start on: each input that may come after it, with what was taken in front, is one that the reader may give.
-pub Along-fresh : (left : Option (List ℕ)) (mark : Bool) (most_left : ℕ) (borrows : List ℕ) (now : Stream) (P : Input → Input → Type 0)
-    → (run : Along (fresh left mark most_left borrows) now P) → (j : Input) → MayCome now j
-    → MayGive left (preceded run.taken j).bytes j.ending
-Along-fresh left mark most_left borrows now P run j m =
-    let earlier = run.before j m in
-    let Q : List ℕ → Type 0 = λ x. MayGive left x j.ending in
-    subst Q (sym earlier.1) earlier.2
+    by None = let i = some_input s.reader.left in (record { bytes = s.ahead ++ i.0.bytes; ending = i.0.ending }, (i.0.bytes, refl, i.1))

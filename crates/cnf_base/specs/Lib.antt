@@ -7,3 +7,4 @@ pub mod Text
 pub mod Lines
 pub mod Readers
 pub mod Seen
+pub mod Printing

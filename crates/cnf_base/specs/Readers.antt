@@ -1,6 +1,6 @@
 -- What all readers over a source have in common.
-use Rattle.std.specs.Prelude.{◌≡◌, ℕ, ◌<◌, ◌≤◌, Bool, true, List, Option, Result, Ok, Err}
-use Rattle.cnf_base.specs.Stream.{Stream, most_to_come}
+use Rattle.std.specs.Prelude.{◌≡◌, ℕ, ◌<◌, ◌≤◌, Bool, true, List, Option, None, Some, Result, Ok, Err}
+use Rattle.cnf_base.specs.Stream.{Reader, Stream, most_to_come}
 use Rattle.cnf_base.specs.declared.fault.Fault.{Fault}
 use Rattle.cnf_base.specs.declared.fault.Fault.TheVariants.{ReadFailed}
 
@@ -18,8 +18,12 @@ abbrev pub TellsOf : {A : Type 0} → Result A Fault → Bool → Bool → Type 
 TellsOf (Ok _) old new = new ≡ old
 TellsOf (Err f) old new = Tells f old new
 
+-- The answer that ends a reader is the one that it gives from then on.
+abbrev pub Keeps : Result Bool Fault → Option (Result Bool Fault) → Type 0
+Keeps (Ok true) kept = kept ≡ None
+Keeps result kept = kept ≡ Some result
+
 -- a run of the source ended here, and the reader was given back
-pub record IsLeft (last : Stream) (bytes : Option (List ℕ)) (has_failed : Bool) (borrows : List ℕ) : Type 0 where
-  pub left : bytes ≡ last.left
-  pub mark : has_failed ≡ last.has_failed
+pub record IsLeft (last : Stream) (given : Reader) (borrows : List ℕ) : Type 0 where
+  pub reader : given ≡ last.reader
   pub same_reader : borrows ≡ last.borrows

@@ -1,17 +1,53 @@
 -- What a run saw of a reader.
-use Rattle.std.specs.Prelude.{ℕ, List, Option}
-use Rattle.cnf_base.specs.Stream.{Input, MayGive, MayFollow}
+use Rattle.std.specs.Prelude.{◌≡◌, ◌⊎◌, ℕ, ◌+◌, Bool, true, false, ◌||◌, List, length, Option, None, Some}
+use Rattle.std.specs.Io.KnownBytes.{Consumes, IsAtEnd}
+use Rattle.cnf_base.specs.Stream.{Input, Reader, MayGive, MayFollow}
 use Rattle.cnf_base.specs.declared.input.Ending.{Ending}
+use Rattle.cnf_base.specs.declared.input.Ending.TheVariants.{End, Failed}
 
--- All bytes that the reader handed out in a run, and the input's end where it was met. Whatever it may still give, these
--- bytes and that are an input that it might give before the run; and there is such an input.
-pub record Seen (old new : Option (List ℕ)) : Type 0 where
+-- a failed read was met
+abbrev pub is_failure : Option Ending → Bool
+is_failure None = false
+is_failure (Some End) = false
+is_failure (Some Failed) = true
+
+-- All bytes that the reader handed out in a run, and the input's end where it was met. The bytes are those that the
+-- reader lost, and so many less may still be read of it, also where they aren't known. The end was met only where the
+-- reader is at its end; a failed read was met exactly where the reader's mark tells of one that is new.
+pub record Seen (old new : Reader) : Type 0 where
   pub handed : List ℕ
   pub met : Option Ending
-  pub possible : (i : Input) → MayFollow met new handed i.bytes i.ending → MayGive old i.bytes i.ending
-  pub some : (i : Input) × MayFollow met new handed i.bytes i.ending
+  pub lost : Consumes old.left new.left handed
+  pub count : new.most_left + length handed ≡ old.most_left
+  pub ended : met ≡ Some End → IsAtEnd new.left
+  pub told : new.has_failed ≡ (is_failure met || old.has_failed)
 
 -- An input that the reader may have given, by what the run saw: it begins with the bytes that were handed out, and goes
 -- on in any way that the reader still may; where the end was met it is those bytes and that end.
-abbrev pub IsSeen : {old new : Option (List ℕ)} → Seen old new → Input → Type 0
-IsSeen {old} {new} seen i = MayFollow seen.met new seen.handed i.bytes i.ending
+abbrev pub IsSeen : {old new : Reader} → Seen old new → Input → Type 0
+IsSeen {old} {new} seen i = MayFollow seen.met new.left seen.handed i.bytes i.ending
+
+-- What a run saw of a reader, and a fact of each input that this may be.
+pub record OfSeen (old new : Reader) (Fact : Input → Type 0) : Type 0 where
+  pub seen : Seen old new
+  pub fact : (i : Input) → IsSeen seen i → Fact i
+
+-- The same of two readers: the fact is of one and the same pair of inputs.
+pub record OfBothSeen (old new also_old also_new : Reader) (Fact : Input → Input → Type 0) : Type 0 where
+  pub first : Seen old new
+  pub second : Seen also_old also_new
+  pub fact : (i j : Input) → IsSeen first i → IsSeen second j → Fact i j
+
+-- a read of one of them has failed
+abbrev pub OneHasFailed : Reader → Reader → Type 0
+OneHasFailed first second = (first.has_failed ≡ true) ⊎ (second.has_failed ≡ true)
+
+-- ---- Laws
+
+-- What was seen may have been given: an input that a run's bytes may be is one that the reader might give before it.
+abbrev pub SeenMayBeGiven : Type 0
+SeenMayBeGiven = (old new : Reader) (seen : Seen old new) (i : Input) → IsSeen seen i → MayGive old.left i.bytes i.ending
+
+-- Whatever was seen, there is such an input.
+abbrev pub SeenIsSome : Type 0
+SeenIsSome = (old new : Reader) (seen : Seen old new) → (i : Input) × IsSeen seen i

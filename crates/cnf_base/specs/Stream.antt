@@ -1,6 +1,6 @@
 -- Whole inputs, and what is known of an input while it is read.
 use Rattle.std.specs.Prelude.{◌≡◌, ℕ, ◌+◌, ◌^◌, ◌-◌, ◌<◌, ◌≤◌, ◌==◌, min, if◌then◌else◌, Bool, true, List, [], ◌++◌, length, drop, slice_index, Option, None, Some, Result, Ok, Err}
-use Rattle.std.specs.Io.KnownBytes.{IsAtEnd}
+use Rattle.std.specs.Io.KnownBytes.{Consumes, IsAtEnd}
 use Rattle.cnf_base.specs.declared.input.Ending.{Ending}
 use Rattle.cnf_base.specs.declared.input.Ending.TheVariants.{End, Failed}
 use Rattle.cnf_base.specs.declared.place.Place.{Place}
@@ -11,14 +11,19 @@ pub record Input : Type 0 where
   pub bytes : List ℕ
   pub ending : Ending
 
--- a source: the bytes that were read and not yet taken, the end where it was met, what the reader has left where that
--- is known, whether a read has failed, how many bytes may be read at most, which reader it is, and where the next byte is
-pub record Stream : Type 0 where
-  pub ahead : List ℕ
-  pub met : Option Ending
+-- a reader: the bytes that it has left, where they are known, whether a read of it has failed, and how many bytes may
+-- still be read of it at most
+pub record Reader : Type 0 where
   pub left : Option (List ℕ)
   pub has_failed : Bool
   pub most_left : ℕ
+
+-- a source: the bytes that were read and not yet taken, the end where it was met, its reader, by which borrows that is
+-- known again, and where the next byte is
+pub record Stream : Type 0 where
+  pub ahead : List ℕ
+  pub met : Option Ending
+  pub reader : Reader
   pub borrows : List ℕ
   pub place : Place
   pub byte_no : ℕ
@@ -37,7 +42,7 @@ MayFollow None left ahead bytes ending = (later : List ℕ) × (bytes ≡ ahead 
 
 -- an input that a source may still give
 abbrev pub MayCome : Stream → Input → Type 0
-MayCome s i = MayFollow s.met s.left s.ahead i.bytes i.ending
+MayCome s i = MayFollow s.met s.reader.left s.ahead i.bytes i.ending
 
 -- what a source shows of its next byte
 abbrev pub Shows : Result (Option ℕ) ReadFailed → Stream → Type 0
@@ -58,45 +63,68 @@ abbrev pub bumped : Stream → Stream
 bumped s = record s { ahead = drop 1 s.ahead; place = place_after (slice_index s.ahead 0) s.place; byte_no = next_count s.byte_no }
 
 -- a source of which nothing was read
-abbrev pub fresh : Option (List ℕ) → Bool → ℕ → List ℕ → Stream
-fresh left has_failed most_left borrows = record { ahead = []; met = None; left = left; has_failed = has_failed; most_left = most_left; borrows = borrows; place = record { line = 1; col = 1 }; byte_no = 1 }
+abbrev pub fresh : Reader → List ℕ → Stream
+fresh reader borrows =
+    record { ahead = []; met = None; reader = reader; borrows = borrows; place = record { line = 1; col = 1 }; byte_no = 1 }
 
--- nothing is held past the end, and the mark tells of a failure
-abbrev pub IsMet : Option Ending → ℕ → ℕ → Option (List ℕ) → Bool → Type 0
-IsMet None at end left mark = Unit {0}
-IsMet (Some End) at end left mark = (at ≡ end) × IsAtEnd left
-IsMet (Some Failed) at end left mark = (at ≡ end) × (mark ≡ true)
+-- an end was met where the reader is at its end, a failed read where its mark tells of one
+abbrev pub IsMet : Option Ending → Reader → Type 0
+IsMet None reader = Unit {0}
+IsMet (Some End) reader = IsAtEnd reader.left
+IsMet (Some Failed) reader = reader.has_failed ≡ true
+
+-- nothing is held past the end
+abbrev pub IsUsedUp : Option Ending → ℕ → ℕ → Type 0
+IsUsedUp None at end = Unit {0}
+IsUsedUp (Some met) at end = at ≡ end
 
 -- what is true of the fields of a source
-pub record IsSource (piece : List ℕ) (at end : ℕ) (met : Option Ending) (left : Option (List ℕ)) (mark : Bool) (col : ℕ) : Type 0 where
+pub record IsSource (piece : List ℕ) (at end : ℕ) (met : Option Ending) (reader : Reader) (col : ℕ) : Type 0 where
   pub ordered : at ≤ end
   pub within : end ≤ length piece
   pub size : length piece ≡ 65536
-  pub known : IsMet met at end left mark
+  pub known : IsMet met reader
+  pub used_up : IsUsedUp met at end
   pub from_one : 0 < col
 
--- at most so many bytes may still be taken
+-- so many bytes may still be taken at most
 abbrev pub most_to_come : Stream → ℕ
-most_to_come s = length s.ahead + s.most_left
+most_to_come s = length s.ahead + s.reader.most_left
 
 -- the bytes, and then the input
 abbrev pub preceded : List ℕ → Input → Input
 preceded bytes i = record { bytes = bytes ++ i.bytes; ending = i.ending }
 
--- A run of a source from the first state to the second took these bytes. Each input that may come after it, with these
--- bytes in front, might come before it, and of these two inputs the fact holds. No more than 65536 bytes are read ahead.
-pub record Along (old new : Stream) (P : Input → Input → Type 0) : Type 0 where
-  pub taken : List ℕ
-  pub before : (j : Input) → MayCome new j → MayCome old (preceded taken j)
-  pub fact : (j : Input) → MayCome new j → P (preceded taken j) j
+-- Once an end was met it stays, and nothing more is read. One that is met now is the reader's end, or a failed read, of
+-- which the reader's mark tells; nothing else changes that mark.
+abbrev pub Meets : Option Ending → Option Ending → List ℕ → Reader → Reader → Type 0
+Meets (Some e) met bytes old new = (met ≡ Some e) × (bytes ≡ []) × (new ≡ old)
+Meets None None bytes old new = new.has_failed ≡ old.has_failed
+Meets None (Some End) bytes old new = IsAtEnd new.left × (new.has_failed ≡ old.has_failed)
+Meets None (Some Failed) bytes old new = new.has_failed ≡ true
+
+-- From the first state to the second a source read the one bytes and gave the others: what was ahead, and then what was
+-- read, is what was taken and what is ahead now. The reader lost what was read, and so many bytes less may still be
+-- read of it. No more than 65536 bytes are read ahead.
+pub record Moves (old new : Stream) (bytes taken : List ℕ) : Type 0 where
+  pub whole : old.ahead ++ bytes ≡ taken ++ new.ahead
+  pub lost : Consumes old.reader.left new.reader.left bytes
+  pub count : new.reader.most_left + length bytes ≡ old.reader.most_left
+  pub met : Meets old.met new.met bytes old.reader new.reader
   pub ahead : length old.ahead ≤ 65536 → length new.ahead ≤ 65536
   pub same_reader : new.borrows ≡ old.borrows
 
--- a look at the next byte takes nothing: what may come after it might come before it
+-- A run of a source from the first state to the second took some bytes. Of each input that may come after it, and that
+-- input with these bytes in front, which might come before it, the fact holds.
+pub record Along (old new : Stream) (P : Input → Input → Type 0) : Type 0 where
+  pub bytes : List ℕ
+  pub taken : List ℕ
+  pub moves : Moves old new bytes taken
+  pub fact : (j : Input) → MayCome new j → P (preceded taken j) j
+
+-- a look at the next byte may read, and takes nothing
 pub record IsLook (old new : Stream) : Type 0 where
-  pub same : (i : Input) → MayCome new i → MayCome old i
-  pub ahead : length old.ahead ≤ 65536 → length new.ahead ≤ 65536
-  pub same_reader : new.borrows ≡ old.borrows
+  pub bytes : List ℕ
+  pub moves : Moves old new bytes []
   pub place : new.place ≡ old.place
   pub byte_no : new.byte_no ≡ old.byte_no
-  pub fewer : most_to_come new ≤ most_to_come old

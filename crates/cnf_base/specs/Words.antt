@@ -1,5 +1,5 @@
 -- What a token of a text says: a number, one of the fixed words, or something else.
-use Rattle.std.specs.Prelude.{ℕ, ◌+◌, ◌-◌, ◌*◌, ◌^◌, ◌==◌, nat_le, ◌&&◌, not, min, Bool, true, false, List, [], ◌∷◌, fold, drop, Option, None, Some, codes, cond}
+use Rattle.std.specs.Prelude.{ℕ, ◌+◌, ◌-◌, ◌*◌, ◌^◌, ◌==◌, nat_le, ◌&&◌, not, min, Bool, true, false, List, [], ◌∷◌, fold, drop, Option, None, Some, codes, if◌then◌else◌}
 use Rattle.std.specs.List.{list_all}
 use Rattle.std.specs.Str.{bytes_eq}
 use Rattle.std.specs.Bool.{then_some}
@@ -41,14 +41,15 @@ number_of run =
 -- the fixed words of DIMACS and of the SAT Competition's output
 abbrev pub fixed_word : List ℕ → Word
 fixed_word run =
-    cond (bytes_eq run (codes "p")) words.P
-    (cond (bytes_eq run (codes "cnf")) words.Cnf
-    (cond (bytes_eq run (codes "d")) words.D
-    (cond (bytes_eq run (codes "s")) words.S
-    (cond (bytes_eq run (codes "v")) words.V
-    (cond (bytes_eq run (codes "SATISFIABLE")) words.Satisfiable
-    (cond (bytes_eq run (codes "UNSATISFIABLE")) words.Unsatisfiable
-    (cond (bytes_eq run (codes "UNKNOWN")) words.Unknown words.Other)))))))
+    if bytes_eq run (codes "p") then words.P
+    else (if bytes_eq run (codes "cnf") then words.Cnf
+    else (if bytes_eq run (codes "d") then words.D
+    else (if bytes_eq run (codes "s") then words.S
+    else (if bytes_eq run (codes "v") then words.V
+    else (if bytes_eq run (codes "SATISFIABLE") then words.Satisfiable
+    else (if bytes_eq run (codes "UNSATISFIABLE") then words.Unsatisfiable
+    else (if bytes_eq run (codes "UNKNOWN") then words.Unknown
+    else words.Other)))))))
 
 abbrev pub number_or : Option Number → Word → Word
 number_or (Some n) word = words.Number n
@@ -59,4 +60,4 @@ word_of run = number_or (number_of run) (fixed_word run)
 
 -- the literal that a number names; none for 0 and past the greatest variable
 abbrev pub number_literal : Number → Option Literal
-number_literal n = then_some (nat_le 1 n.size && nat_le n.size 268435455) (cond n.is_negative (2 * n.size + 1) (2 * n.size))
+number_literal n = then_some (nat_le 1 n.size && nat_le n.size 268435455) (if n.is_negative then 2 * n.size + 1 else 2 * n.size)

@@ -1,6 +1,9 @@
 //! What is wrong with an input.
 
-use crate::Place;
+ghost use Rattle.std.specs.Prelude.{◌≡◌};
+ghost use Rattle.cnf_base.specs.declared.fault.Fault.TheVariants.{ReadFailed as Cut, OutOfMemory as Refused};
+
+use crate::{OutOfMemory, Place, ReadFailed};
 
 /// The first thing that is wrong with an input, and where.
 #[derive(Clone, Copy, Debug, PartialEq, Eq)]
@@ -13,6 +16,22 @@ pub enum Fault {
     ReadFailed,
     /// A growth was refused.
     OutOfMemory,
+}
+
+impl From<OutOfMemory> for Fault {
+    ghost from_gives = { λ _ f. f ≡ Refused };
+
+    fn from(_refused: OutOfMemory) -> Fault {
+        Fault::OutOfMemory
+    }
+}
+
+impl From<ReadFailed> for Fault {
+    ghost from_gives = { λ _ f. f ≡ Cut };
+
+    fn from(_failed: ReadFailed) -> Fault {
+        Fault::ReadFailed
+    }
 }
 
 /// What is wrong at a place of a text.

@@ -1,8 +1,9 @@
 //! What bytes are read from.
-ghost use Rattle.std.specs.Prelude.{◌≡◌, ◌+◌, ◌≤◌, ℕ, Bool, false, List, [], ◌∷◌, Option};
+ghost use Rattle.std.specs.Prelude.{◌≡◌, ◌+◌, ◌-◌, ◌^◌, ℕ, false, List, [], ◌∷◌};
 ghost use Rattle.std.specs.Io.{ReadsAtMost};
 ghost use Rattle.std.specs.Io.KnownBytes.{ReadConsumes};
 ghost use Rattle.cnf_base.specs.Marks.{given_by, marked_by_read};
+ghost use Rattle.cnf_base.specs.Stream.{Reader};
 
 use std::io;
 use std::io::Read;
@@ -20,14 +21,9 @@ pub struct ReadFailed;
 
 /// A reader of bytes.
 pub trait In {
-    /// The bytes that reads will give from here on, where they are known.
-    ghost left: { Self → Option (List ℕ) };
-
-    /// Whether a read has failed so far.
-    ghost has_failed: { Self → Bool };
-
-    /// At most so many bytes will still be given, so that a loop to the end ends.
-    ghost most_left: { Self → ℕ };
+    /// The bytes that it has left, where they are known, whether a read of it has failed so far, and how many bytes
+    /// may still be read of it at most, so that a loop to the end ends.
+    ghost shown: { Self → Reader };
 
     /// The borrows that it goes through, so that a reader is known again.
     ghost borrows: { Self → List ℕ } = { λ _. [] };
@@ -35,18 +31,15 @@ pub trait In {
     /// Puts bytes to the front of the buffer, and answers how many; none is the end, where the buffer isn't empty.
     fn read(&mut self, buf: &mut [u8]) -> io::Result<usize>
         ensures bound { ReadsAtMost result buf.new }
-        ensures bytes { ReadConsumes (left self.old) (left self.new) result buf.new }
-        ensures mark { has_failed self.new ≡ marked_by_read (has_failed self.old) result }
-        ensures fewer { most_left self.new + given_by result ≤ most_left self.old }
+        ensures bytes { ReadConsumes (shown self.old).left (shown self.new).left result buf.new }
+        ensures mark { (shown self.new).has_failed
+            ≡ marked_by_read (shown self.old).has_failed result }
+        ensures count { (shown self.new).most_left + given_by result ≡ (shown self.old).most_left }
         ensures same_reader { borrows self.new ≡ borrows self.old };
 }
 
 impl<R: In> In for &mut R {
-    ghost left = { λ r. R.left r.now };
-
-    ghost has_failed = { λ r. R.has_failed r.now };
-
-    ghost most_left = { λ r. R.most_left r.now };
+    ghost shown = { λ r. R.shown r.now };
 
     ghost borrows = { λ r. r.ghost_name ∷ R.borrows r.now };
 
@@ -67,8 +60,8 @@ pub struct FromRead<R> {
 impl<R: Read> FromRead<R> {
     /// A reader of which no read has failed. It takes no memory.
     pub fn new(inner: R) -> Self
-        ensures left { ⟦<FromRead<R> as In>⟧.left result ≡ R.remaining inner }
-        ensures mark { ⟦<FromRead<R> as In>⟧.has_failed result ≡ false }
+        ensures { ⟦<FromRead<R> as In>⟧.shown result ≡
+            record { left = R.remaining inner; has_failed = false; most_left = 2 ^ 64 - 1 } }
     {
         FromRead {
             inner,
@@ -79,11 +72,7 @@ impl<R: Read> FromRead<R> {
 }
 
 impl<R: Read> In for FromRead<R> {
-    ghost left = { λ r. R.remaining r.inner };
-
-    ghost has_failed = { λ r. r.has_failed };
-
-    ghost most_left = { λ r. r.most_left };
+    ghost shown = { λ r. record { left = R.remaining r.inner; has_failed = r.has_failed; most_left = r.most_left } };
 
     fn read(&mut self, buf: &mut [u8]) -> io::Result<usize> {
         if self.most_left < buf.len() as u64 {

@@ -3,10 +3,12 @@
 
 mod fault;
 mod input;
+pub mod laws;
 mod line_out;
 mod lit;
 mod memory;
 mod output;
+mod piece;
 mod place;
 mod scanner;
 mod source;
@@ -19,6 +21,7 @@ pub use line_out::LineOut;
 pub use lit::Lit;
 pub use memory::OutOfMemory;
 pub use output::{Out, ToWrite, WriteFailed};
+pub use piece::Piece;
 pub use place::Place;
 pub use scanner::Scanner;
 pub use source::Source;

@@ -37,7 +37,8 @@ impl<W: Out> LineOut<W> {
     /// Writes the bytes and a line feed.
     pub fn line(&mut self, bytes: &[u8]) -> Result<(), WriteFailed>
         ensures writes { Writes self.old self.new (line_of bytes.now) }
-        ensures ok { OnOk result ((self.new.is_broken ≡ false) × (self.new.has_failed ≡ self.old.has_failed)) }
+        ensures ok { OnOk result
+            ((self.new.is_broken ≡ false) × (self.new.has_failed ≡ self.old.has_failed)) }
         ensures err { OnErr result ((self.new.is_broken ≡ true) × (self.new.has_failed ≡ true)) }
     {
         self.write(bytes)?;
@@ -47,7 +48,8 @@ impl<W: Out> LineOut<W> {
     /// Flushes the writer.
     pub fn finish(&mut self) -> Result<(), WriteFailed>
         ensures writes { Writes self.old self.new [] }
-        ensures ok { OnOk result ((self.new.is_broken ≡ false) × (self.new.has_failed ≡ self.old.has_failed)) }
+        ensures ok { OnOk result
+            ((self.new.is_broken ≡ false) × (self.new.has_failed ≡ self.old.has_failed)) }
         ensures err { OnErr result ((self.new.is_broken ≡ true) × (self.new.has_failed ≡ true)) }
     {
         if self.is_broken {
@@ -71,7 +73,8 @@ impl<W: Out> LineOut<W> {
 
     fn write(&mut self, bytes: &[u8]) -> Result<(), WriteFailed>
         ensures writes { Writes self.old self.new bytes.now }
-        ensures ok { OnOk result ((self.new.is_broken ≡ false) × (self.new.has_failed ≡ self.old.has_failed)) }
+        ensures ok { OnOk result
+            ((self.new.is_broken ≡ false) × (self.new.has_failed ≡ self.old.has_failed)) }
         ensures err { OnErr result ((self.new.is_broken ≡ true) × (self.new.has_failed ≡ true)) }
     {
         if self.is_broken || !write_whole(&mut self.writer, bytes) {

@@ -38,16 +38,15 @@ impl<R: In> Scanner<R> {
         ensures tokens { Along self.old self.new
             (λ i j. Gives result (listing_at self.old.place i) (listing_at self.new.place j) j) }
         ensures fewer { MovesOn result self.old self.new }
-        ensures failed { OnErr result (self.new.has_failed ≡ true) }
-        ensures mark { OnOk result (self.new.has_failed ≡ self.old.has_failed) }
+        ensures failed { OnErr result (self.new.reader.has_failed ≡ true) }
+        ensures mark { OnOk result (self.new.reader.has_failed ≡ self.old.reader.has_failed) }
     {
         next_token(&mut self.source)
     }
 
     /// Gives the reader back.
     pub fn release(self) -> R
-        ensures left { R.left result ≡ self.left }
-        ensures mark { R.has_failed result ≡ self.has_failed }
+        ensures reader { R.shown result ≡ self.reader }
         ensures same_reader { R.borrows result ≡ self.borrows }
     {
         self.source.release()
@@ -59,8 +58,8 @@ fn next_token<R: In>(source: &mut Source<R>) -> Result<Token, ReadFailed>
     ensures tokens { Along source.old source.new
         (λ i j. Gives result (listing_at source.old.place i) (listing_at source.new.place j) j) }
     ensures fewer { MovesOn result source.old source.new }
-    ensures failed { OnErr result (source.new.has_failed ≡ true) }
-    ensures mark { OnOk result (source.new.has_failed ≡ source.old.has_failed) }
+    ensures failed { OnErr result (source.new.reader.has_failed ≡ true) }
+    ensures mark { OnOk result (source.new.reader.has_failed ≡ source.old.reader.has_failed) }
 {
     loop {
         let place = source.place();
@@ -94,8 +93,8 @@ fn skip_comment<R: In>(source: &mut Source<R>) -> Result<(), ReadFailed>
     ensures text { Along source.old source.new (λ i j.
         (comment_at source.old.place i ≡ listing_at source.new.place j) × FailsAt result j) }
     ensures fewer { most_to_come source.new ≤ most_to_come source.old }
-    ensures failed { OnErr result (source.new.has_failed ≡ true) }
-    ensures mark { OnOk result (source.new.has_failed ≡ source.old.has_failed) }
+    ensures failed { OnErr result (source.new.reader.has_failed ≡ true) }
+    ensures mark { OnOk result (source.new.reader.has_failed ≡ source.old.reader.has_failed) }
 {
     while let Some(byte) = source.peek()? {
         source.bump();
@@ -115,8 +114,8 @@ fn read_word<R: In>(source: &mut Source<R>, first: u8) -> Result<Word, ReadFaile
     ensures text { Along source.old source.new (λ i j.
         GivesWord result source.old.place (listing_at source.old.place i) (listing_at source.new.place j) j) }
     ensures fewer { most_to_come source.new < most_to_come source.old }
-    ensures failed { OnErr result (source.new.has_failed ≡ true) }
-    ensures mark { OnOk result (source.new.has_failed ≡ source.old.has_failed) }
+    ensures failed { OnErr result (source.new.reader.has_failed ≡ true) }
+    ensures mark { OnOk result (source.new.reader.has_failed ≡ source.old.reader.has_failed) }
 {
     if may_begin_number(first) {
         read_number(source, first)
@@ -135,8 +134,8 @@ fn read_number<R: In>(source: &mut Source<R>, first: u8) -> Result<Word, ReadFai
     ensures text { Along source.old source.new (λ i j.
         GivesWord result source.old.place (listing_at source.old.place i) (listing_at source.new.place j) j) }
     ensures fewer { most_to_come source.new < most_to_come source.old }
-    ensures failed { OnErr result (source.new.has_failed ≡ true) }
-    ensures mark { OnOk result (source.new.has_failed ≡ source.old.has_failed) }
+    ensures failed { OnErr result (source.new.reader.has_failed ≡ true) }
+    ensures mark { OnOk result (source.new.reader.has_failed ≡ source.old.reader.has_failed) }
 {
     source.bump();
     let is_negative = first == b'-';
@@ -166,8 +165,8 @@ fn read_name<R: In>(source: &mut Source<R>, first: u8) -> Result<Word, ReadFaile
     ensures text { Along source.old source.new (λ i j.
         GivesWord result source.old.place (listing_at source.old.place i) (listing_at source.new.place j) j) }
     ensures fewer { most_to_come source.new < most_to_come source.old }
-    ensures failed { OnErr result (source.new.has_failed ≡ true) }
-    ensures mark { OnOk result (source.new.has_failed ≡ source.old.has_failed) }
+    ensures failed { OnErr result (source.new.reader.has_failed ≡ true) }
+    ensures mark { OnOk result (source.new.reader.has_failed ≡ source.old.reader.has_failed) }
 {
     source.bump();
     let mut name = Name::new();

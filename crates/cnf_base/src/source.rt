@@ -1,13 +1,11 @@
 //! An input's bytes, one at a time.
 ghost use Rattle.std.specs.Prelude.{◌≡◌, ◌≢◌, ◌+◌, ◌<◌, ◌≤◌, ◌==◌, true, false, [], length, slice_index, take, Some, IsSome, IfSome, IfNone, IfOk, IfErr, OnOk, OnErr};
 ghost use Rattle.std.specs.Io.KnownBytes.{Keeps, Consumes, IsAtEnd};
-ghost use Rattle.cnf_base.specs.Stream.{IsLook, bumped, fresh, Shows};
+ghost use Rattle.cnf_base.specs.Stream.{IsLook, bumped, fresh, most_to_come, Shows};
 
-use crate::{Ending, In, OutOfMemory, Place, ReadFailed};
+use crate::{Ending, In, OutOfMemory, Piece, Place, ReadFailed};
 use std::alloc::Global;
 use std::marker::Model;
-
-const PIECE: usize = 65536;
 
 /// The bytes of an input in order, with their places.
 #[derive(Drop)]
@@ -30,45 +28,51 @@ impl<R: In> Model for Source<R> {
     ghost view = { λ s. record {
       ahead = slice_range s.piece.items s.at s.end;
       met = s.met;
-      left = R.left s.reader;
-      has_failed = R.has_failed s.reader;
-      most_left = R.most_left s.reader;
+      reader = R.shown s.reader;
       borrows = R.borrows s.reader;
       place = s.place;
       byte_no = s.byte_no;
     } };
 
-    ghost invariant = { λ s. IsSource s.piece.items s.at s.end s.met (R.left s.reader) (R.has_failed s.reader) s.place.col };
+    ghost invariant = { λ s. IsSource s.piece.items s.at s.end s.met (R.shown s.reader) s.place.col };
 }
 
 impl<R: In> Source<R> {
-    /// A source of which nothing was read. The reader is handed back where its room is refused.
-    pub fn new(alloc: Global, reader: R) -> Result<Self, (OutOfMemory, R)>
-        ensures fresh { IfOk result (λ s. s ≡ fresh (R.left reader) (R.has_failed reader) (R.most_left reader) (R.borrows reader)) }
-        ensures refused { IfErr result (λ e. e.1 ≡ reader) }
+    /// A source of which nothing was read, over room that was made for it. It takes no memory.
+    pub fn over(piece: Piece, reader: R) -> Self
+        ensures { result ≡ fresh (R.shown reader) (R.borrows reader) }
     {
-        let Ok(piece) = vec![in alloc; 0; PIECE] else {
-            return Err((OutOfMemory, reader));
-        };
-        Ok(Source {
+        Source {
             reader,
-            piece,
+            piece: piece.bytes,
             at: 0,
             end: 0,
             met: None,
             place: Place { line: 1, col: 1 },
             byte_no: 1,
-        })
+        }
+    }
+
+    /// A source of which nothing was read. The reader is handed back where its room is refused.
+    pub fn new(alloc: Global, reader: R) -> Result<Self, (OutOfMemory, R)>
+        ensures fresh { IfOk result (λ s. s ≡ fresh (R.shown reader) (R.borrows reader)) }
+        ensures refused { IfErr result (λ e. e.1 ≡ reader) }
+    {
+        match Piece::new(alloc) {
+            Ok(piece) => Ok(Source::over(piece, reader)),
+            Err(refused) => Err((refused, reader)),
+        }
     }
 
     /// The next byte, if there is one. It reads only where the piece is used up.
     #[inline]
     pub fn peek(&mut self) -> Result<Option<u8>, ReadFailed>
         ensures look { IsLook self.old self.new }
+        ensures count { most_to_come self.new ≡ most_to_come self.old }
         ensures shown { Shows result self.new }
         ensures most { length self.new.ahead ≤ 65536 }
-        ensures failed { OnErr result (self.new.has_failed ≡ true) }
-        ensures mark { OnOk result (self.new.has_failed ≡ self.old.has_failed) }
+        ensures failed { OnErr result (self.new.reader.has_failed ≡ true) }
+        ensures mark { OnOk result (self.new.reader.has_failed ≡ self.old.reader.has_failed) }
     {
         if self.at == self.end {
             return self.peek_further();
@@ -80,10 +84,11 @@ impl<R: In> Source<R> {
     fn peek_further(&mut self) -> Result<Option<u8>, ReadFailed>
         requires { self.old.ahead ≡ [] }
         ensures look { IsLook self.old self.new }
+        ensures count { most_to_come self.new ≡ most_to_come self.old }
         ensures shown { Shows result self.new }
         ensures most { length self.new.ahead ≤ 65536 }
-        ensures failed { OnErr result (self.new.has_failed ≡ true) }
-        ensures mark { OnOk result (self.new.has_failed ≡ self.old.has_failed) }
+        ensures failed { OnErr result (self.new.reader.has_failed ≡ true) }
+        ensures mark { OnOk result (self.new.reader.has_failed ≡ self.old.reader.has_failed) }
     {
         self.fill();
         if self.at < self.end {
@@ -99,9 +104,11 @@ impl<R: In> Source<R> {
     fn fill(&mut self)
         requires { self.old.ahead ≡ [] }
         ensures look { IsLook self.old self.new }
+        ensures count { most_to_come self.new ≡ most_to_come self.old }
         ensures met { self.new.ahead ≡ [] → IsSome self.new.met }
-        ensures failed { self.new.met ≡ Some Ending.Failed → self.new.has_failed ≡ true }
-        ensures mark { self.new.met ≢ Some Ending.Failed → self.new.has_failed ≡ self.old.has_failed }
+        ensures failed { self.new.met ≡ Some Ending.Failed → self.new.reader.has_failed ≡ true }
+        ensures mark { self.new.met ≢ Some Ending.Failed →
+            self.new.reader.has_failed ≡ self.old.reader.has_failed }
     {
         if self.met.is_none() {
             match read_piece(&mut self.reader, &mut self.piece) {
@@ -161,8 +168,7 @@ impl<R: In> Source<R> {
 
     /// Gives the reader back. Bytes that were read ahead are lost.
     pub fn release(self) -> R
-        ensures left { R.left result ≡ self.left }
-        ensures mark { R.has_failed result ≡ self.has_failed }
+        ensures reader { R.shown result ≡ self.reader }
         ensures same_reader { R.borrows result ≡ self.borrows }
     {
         self.reader
@@ -173,14 +179,19 @@ impl<R: In> Source<R> {
 fn read_piece<R: In>(reader: &mut R, piece: &mut Vec<u8>) -> Option<usize>
     ensures size { length piece.new.items ≡ length piece.old.items }
     ensures bound { IfSome result (λ n. n ≤ length piece.old.items) }
-    ensures bytes { IfSome result (λ n. Consumes (R.left reader.old) (R.left reader.new) (take n piece.new.items)) }
-    ensures end { IfSome result (λ n. n ≡ 0 → 0 < length piece.old.items → IsAtEnd (R.left reader.new)) }
-    ensures kept { IfNone result (Keeps (R.left reader.old) (R.left reader.new)) }
-    ensures failed { IfNone result (R.has_failed reader.new ≡ true) }
-    ensures mark { IfSome result (λ _. R.has_failed reader.new ≡ R.has_failed reader.old) }
-    ensures fewer { IfSome result (λ n. R.most_left reader.new + n ≤ R.most_left reader.old) }
+    ensures bytes { IfSome result (λ n.
+        Consumes (R.shown reader.old).left (R.shown reader.new).left (take n piece.new.items)) }
+    ensures end { IfSome result (λ n.
+        n ≡ 0 → 0 < length piece.old.items → IsAtEnd (R.shown reader.new).left) }
+    ensures kept { IfNone result (Keeps (R.shown reader.old).left (R.shown reader.new).left) }
+    ensures failed { IfNone result ((R.shown reader.new).has_failed ≡ true) }
+    ensures mark { IfSome result (λ _.
+        (R.shown reader.new).has_failed ≡ (R.shown reader.old).has_failed) }
+    ensures count { IfSome result (λ n.
+        (R.shown reader.new).most_left + n ≡ (R.shown reader.old).most_left) }
+    ensures no_count { IfNone result
+        ((R.shown reader.new).most_left ≡ (R.shown reader.old).most_left) }
     ensures same_reader { R.borrows reader.new ≡ R.borrows reader.old }
-    ensures no_more { R.most_left reader.new ≤ R.most_left reader.old }
 {
     reader.read(piece.as_mut_slice()).ok()
 }

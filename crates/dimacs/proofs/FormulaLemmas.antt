@@ -2,7 +2,7 @@
 use Rattle.std.proofs.Common.{◌≡◌, ℕ, ◌<◌, ◌≤◌, List, [], ◌∷◌, ◌++◌, None, Some, refl, sym, ap, ◌∙◌, arith}
 use Rattle.std.specs.Prelude.{Bool, true, false, Result, Ok, Err}
 use Rattle.cnf_base.specs.Literals.{Literal}
-use Rattle.cnf_base.specs.Stream.{Stream, Along, most_to_come}
+use Rattle.cnf_base.specs.Stream.{Input, Stream, Along, most_to_come}
 use Rattle.cnf_base.specs.Text.{Listing, listing_at, Gives}
 use Rattle.cnf_base.specs.declared.input.Ending.TheVariants.{End, Failed}
 use Rattle.cnf_base.specs.declared.input.ReadFailed.{ReadFailed as Cut}
@@ -12,9 +12,8 @@ use Rattle.cnf_base.specs.declared.token.Token.TheVariants as token
 use Rattle.cnf_base.specs.declared.fault.Fault.{Fault}
 use Rattle.cnf_base.specs.declared.fault.Fault.TheVariants.{Text, Binary, ReadFailed, OutOfMemory}
 use Rattle.cnf_base.specs.declared.fault.TextFault.{TextFault}
-use Rattle.cnf_base.specs.declared.fault.TextFault.TheVariants.{UnterminatedClause}
-use Rattle.cnf_base.proofs.StreamLemmas.{Along-then, Along-map}
-use Rattle.dimacs.specs.Reading.{GivesClause, left_of, EndsSo}
+use Rattle.cnf_base.proofs.StreamLemmas.{Along-then, Along-map, Along-none, Along-still}
+use Rattle.dimacs.specs.Reading.{Reading, to_come, unless_ended, GivesClause, left_of, EndsSo}
 use Rattle.dimacs.specs.Formula.{Body, body_of, judged, on_word, at_end, faulty, whole}
 use Rattle.dimacs.specs.declared.header.Header.{Header}
 
@@ -25,23 +24,51 @@ gives_fault (Binary k n) c b e = (e, e)
 gives_fault ReadFailed c b e = (e, e)
 gives_fault OutOfMemory c b e = refl
 
+-- an answer that is kept is what comes, and it stays
+kept_gives : (answer : Result Bool Fault) (c : List Literal) (before after : Body) → (answer ≡ Ok true → ⊥)
+    → before ≡ unless_ended (Some answer) whole → after ≡ unless_ended (Some answer) whole → GivesClause answer c before after
+kept_gives (Ok true) c before after none b a = absurd (none refl)
+kept_gives (Ok false) c before after none b a = (b ∙ sym a, b)
+kept_gives (Err (Text k p)) c before after none b a = (b ∙ sym a, b)
+kept_gives (Err (Binary k n)) c before after none b a = (b ∙ sym a, b)
+kept_gives (Err ReadFailed) c before after none b a = (b ∙ sym a, b)
+kept_gives (Err OutOfMemory) c before after none b a = a
+
+pub Kept-clause : (r : Reading) (answer : Result Bool Fault) (c : List Literal) → r.kept ≡ Some answer → (r.kept ≡ Some (Ok true) → ⊥)
+    → Along r.stream r.stream (λ i j. GivesClause answer c (to_come r i) (to_come r j))
+Kept-clause r answer c is none =
+    let told : (i : Input) → to_come r i ≡ unless_ended (Some answer) whole =
+    λ i. ap (λ k. unless_ended k (body_of r.header r.complete [] (listing_at r.stream.place i))) is ∙ same answer _ in
+    Along-map r.stream r.stream _ _ (Along-none r.stream) (λ i j m e.
+    kept_gives answer c _ _ (λ ok. none (is ∙ ap Some ok)) (told i) (told j))
+  where
+    same : (answer : Result Bool Fault) (b : Body) → unless_ended (Some answer) b ≡ unless_ended (Some answer) whole
+    same (Ok v) b = refl
+    same (Err f) b = refl
+
 ends_so : (h : Header) (complete : ℕ) (p : Place) (result : Result Bool Fault) (ls : List Literal) (before : Body) (l : Listing)
-    → EndsSo result (at_end h complete ls p End) → before ≡ at_end h complete ls p End → body_of h complete [] l ≡ at_end h complete [] p End
+    → EndsSo result (at_end h complete ls p End) → before ≡ at_end h complete ls p End
     → GivesClause result ls before (left_of result h complete l)
-ends_so h complete p (Ok true) ls before l ends e k = absurd ends
-ends_so h complete p (Ok false) [] before l ends e k = (e ∙ sym k, e ∙ ends)
-ends_so h complete p (Ok false) (x ∷ xs) before l ends e k = absurd (let bad : faulty (Text UnterminatedClause p) ≡ whole = ends in let none : Some (Text UnterminatedClause p) ≡ None = ap (λ b. b.fault) bad in cc)
-ends_so h complete p (Err f) ls before l ends e k = gives_fault f ls before (e ∙ ends)
+ends_so h complete p (Ok true) ls before l ends e = absurd ends
+ends_so h complete p (Ok false) ls before l ends e = (e ∙ ends, e ∙ ends)
+ends_so h complete p (Err f) ls before l ends e = gives_fault f ls before (e ∙ ends)
 
 -- from one moment to another literals of one clause were read
 pub record Between (h : Header) (complete : ℕ) (old now : Stream) (before at_hand : List Literal) : Type 0 where
   pub text : Along old now (λ i j. body_of h complete before (listing_at old.place i) ≡ body_of h complete at_hand (listing_at now.place j))
   pub fewer : most_to_come now ≤ most_to_come old
-  pub mark : now.has_failed ≡ old.has_failed
+  pub mark : now.reader.has_failed ≡ old.reader.has_failed
+
+pub Between-start : (h : Header) (complete : ℕ) (s : Stream) (at_hand : List Literal) → Between h complete s s at_hand at_hand
+Between-start h complete s at_hand = record {
+  text = Along-still s (λ i. body_of h complete at_hand (listing_at s.place i));
+  fewer = omega arith;
+  mark = refl;
+}
 
 module _ (h : Header) (complete : ℕ) (old now new : Stream) (before at_hand : List Literal) (so_far : Between h complete old now before at_hand) where
   pub Between-line : (p : Place) → Along now new (λ i j. Gives (Ok (token.LineEnd p)) (listing_at now.place i) (listing_at new.place j) j)
-      → most_to_come new < most_to_come now → new.has_failed ≡ now.has_failed → Between h complete old new before at_hand
+      → most_to_come new < most_to_come now → new.reader.has_failed ≡ now.reader.has_failed → Between h complete old new before at_hand
   Between-line p gives fewer mark = record {
     text = Along-then old now new _ _ _ so_far.text gives (λ i j k m q r. q ∙ ap (body_of h complete at_hand) r);
     fewer = omega (arith, so_far.fewer, fewer);
@@ -53,7 +80,7 @@ module _ (h : Header) (complete : ℕ) (old now new : Stream) (before at_hand : 
         ≡ on_word complete at_hand p (judged h complete w) (λ c ls. body_of h c ls (listing_at new.place j)))
     word_text = Along-then old now new _ _ _ so_far.text gives (λ i j k m q r. q ∙ ap (body_of h complete at_hand) r)
 
-    pub Between-literal : (l : Literal) → Ok (Some l) ≡ judged h complete w → most_to_come new < most_to_come now → new.has_failed ≡ now.has_failed
+    pub Between-literal : (l : Literal) → Ok (Some l) ≡ judged h complete w → most_to_come new < most_to_come now → new.reader.has_failed ≡ now.reader.has_failed
         → Between h complete old new before (at_hand ++ l ∷ [])
     Between-literal l is fewer mark = record {
       text = Along-map old new _ _ word_text (λ i j m q. q ∙ ap (λ r. on_word complete at_hand p r (λ c ls. body_of h c ls (listing_at new.place j))) (sym is));
@@ -79,7 +106,7 @@ module _ (h : Header) (complete : ℕ) (old now new : Stream) (before at_hand : 
       → EndsSo result (at_end h complete at_hand p End)
       → Along old new (λ i j. GivesClause result at_hand (body_of h complete before (listing_at old.place i)) (left_of result h complete (listing_at new.place j)))
   Between-end p result gives ends = Along-then old now new _ _ _ so_far.text gives (λ i j k m q r.
-      ends_so h complete p result at_hand _ _ ends (q ∙ ap (body_of h complete at_hand) r.1) (ap (body_of h complete []) (sym r.0 ∙ r.1)))
+      ends_so h complete p result at_hand _ _ ends (q ∙ ap (body_of h complete at_hand) r.1))
 
   pub Between-failed : (cut : Cut) → Along now new (λ i j. Gives (Err cut) (listing_at now.place i) (listing_at new.place j) j)
       → Along old new (λ i j. GivesClause (Err ReadFailed) at_hand (body_of h complete before (listing_at old.place i)) (left_of (Err ReadFailed) h complete (listing_at new.place j)))

@@ -1,6 +1,6 @@
 -- The model that a solver's output claims (SAT Competition: `s` and `v` lines; that these may stand in any order, the faults,
 -- their places and the order of judging are our own profile).
-use Rattle.std.specs.Prelude.{◌≡◌, nat_le, Bool, true, false, cond, List, [], ◌∷◌, Option, None, Some, Result, Ok, Err}
+use Rattle.std.specs.Prelude.{◌≡◌, nat_le, Bool, true, false, if◌then◌else◌, List, [], ◌∷◌, Option, None, Some, Result, Ok, Err}
 use Rattle.cnf_base.specs.Literals.{Literal, complement, has}
 use Rattle.cnf_base.specs.Stream.{Input}
 use Rattle.cnf_base.specs.Words.{number_literal}
@@ -33,7 +33,7 @@ nothing = record { position = LineStart; has_status = false; is_ended = false; l
 
 -- a line's first token
 abbrev pub on_first : Said → Word → Result Said TextFault
-on_first s words.S = cond s.has_status (Err SecondStatus) (Ok (record s { position = AfterS }))
+on_first s words.S = if s.has_status then Err SecondStatus else Ok (record s { position = AfterS })
 on_first s words.V = Ok (record s { position = Values })
 on_first s _ = Err BadLine
 
@@ -47,11 +47,15 @@ on_status s _ = Err BadLine
 -- a literal is listed, or the model ends
 abbrev pub on_literal : Said → Option Literal → Result Said TextFault
 on_literal s None = Ok (record s { is_ended = true })
-on_literal s (Some l) = cond (has s.listed (complement l)) (Err Complement) (Ok (record s { listed = l ∷ s.listed }))
+on_literal s (Some l) =
+    if has s.listed (complement l) then Err Complement
+    else Ok (record s { listed = l ∷ s.listed })
 
 -- a token after a `v`, in the order of judging
 abbrev pub on_value : Said → Word → Result Said TextFault
-on_value s (words.Number n) = cond (nat_le n.size 268435455) (cond s.is_ended (Err AfterEnd) (on_literal s (number_literal n))) (Err LiteralTooLarge)
+on_value s (words.Number n) =
+    if nat_le n.size 268435455 then (if s.is_ended then Err AfterEnd else on_literal s (number_literal n))
+    else Err LiteralTooLarge
 on_value s _ = Err BadToken
 
 abbrev pub on_word_at : Position → Said → Word → Result Said TextFault
@@ -73,7 +77,9 @@ on_line_end s = line_ended s.position s
 
 -- the output ends after its last line
 abbrev pub concluded : Said → Result (List Literal) TextFault
-concluded s = cond s.has_status (cond s.is_ended (Ok s.listed) (Err UnterminatedModel)) (Err NoStatus)
+concluded s =
+    if s.has_status then (if s.is_ended then Ok s.listed else Err UnterminatedModel)
+    else Err NoStatus
 
 -- what is wrong, and where
 abbrev pub placed : {A : Type 0} → Place → Result A TextFault → Result A Fault

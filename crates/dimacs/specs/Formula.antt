@@ -1,5 +1,5 @@
 -- The formula of an input (DIMACS CNF; the faults, their places and the order of judging are our own profile).
-use Rattle.std.specs.Prelude.{ℕ, ◌+◌, nat_le, Bool, true, false, cond, List, [], ◌∷◌, ◌++◌, Option, None, Some, Result, Ok, Err}
+use Rattle.std.specs.Prelude.{ℕ, ◌+◌, nat_le, Bool, true, false, if◌then◌else◌, List, [], ◌∷◌, ◌++◌, Option, None, Some, Result, Ok, Err}
 use Rattle.cnf_base.specs.Literals.{Literal, Clause}
 use Rattle.cnf_base.specs.Stream.{Input}
 use Rattle.cnf_base.specs.Words.{number_literal}
@@ -53,7 +53,7 @@ is_line_end (token.End p) = false
 
 abbrev pub drop_line_ends : List Listed → List Listed
 drop_line_ends [] = []
-drop_line_ends (t ∷ ts) = cond (is_line_end t.token) (drop_line_ends ts) (t ∷ ts)
+drop_line_ends (t ∷ ts) = if is_line_end t.token then drop_line_ends ts else t ∷ ts
 
 -- from the first line on that isn't blank
 abbrev pub skip_blank : Listing → Listing
@@ -69,11 +69,14 @@ is_cnf _ = false
 
 -- this word has to stand next
 abbrev pub fixed : (Word → Bool) → Listing → Result Listing Fault
-fixed test l = and_then (next_word l) (λ w. cond (test w.1) (Ok w.2) (Err (Text BadHeader w.0)))
+fixed test l = and_then (next_word l) (λ w. if test w.1 then Ok w.2 else Err (Text BadHeader w.0))
 
 -- a number without `-` and up to the limit
 abbrev pub count_of : ℕ → Place → Word → Result ℕ Fault
-count_of limit p (words.Number n) = cond n.is_negative (Err (Text BadHeader p)) (cond (nat_le n.size limit) (Ok n.size) (Err (Text NumberTooLarge p)))
+count_of limit p (words.Number n) =
+    if n.is_negative then Err (Text BadHeader p)
+    else (if nat_le n.size limit then Ok n.size
+    else Err (Text NumberTooLarge p))
 count_of limit p _ = Err (Text BadHeader p)
 
 abbrev pub count : ℕ → Listing → Result (ℕ × Listing) Fault
@@ -122,16 +125,17 @@ with_clause c b = record { clauses = c ∷ b.clauses; fault = b.fault }
 -- a literal, the `0` that ends a clause, or what is wrong with a word after so many clauses, in the order of judging
 abbrev pub judged : Header → ℕ → Word → Result (Option Literal) TextFault
 judged h complete (words.Number n) =
-    cond (nat_le n.size 268435455)
-    (cond (nat_le h.clauses complete) (Err TooManyClauses) (cond (nat_le n.size h.vars) (Ok (number_literal n)) (Err LiteralOutOfRange)))
-    (Err NumberTooLarge)
+    if nat_le n.size 268435455 then (if nat_le h.clauses complete then Err TooManyClauses else (if nat_le n.size h.vars then Ok (number_literal n) else Err LiteralOutOfRange))
+    else Err NumberTooLarge
 judged h complete _ = Err BadToken
 
 -- what the end of the input means after so many clauses, with these literals of a clause at hand
 abbrev pub at_end : Header → ℕ → List Literal → Place → Ending → Body
 at_end h complete literals p Failed = faulty ReadFailed
 at_end h complete (l ∷ ls) p End = faulty (Text UnterminatedClause p)
-at_end h complete [] p End = cond (nat_le h.clauses complete) whole (faulty (Text TooFewClauses p))
+at_end h complete [] p End =
+    if nat_le h.clauses complete then whole
+    else faulty (Text TooFewClauses p)
 
 -- what a judged word means; `rest` is what follows
 abbrev pub on_word : ℕ → List Literal → Place → Result (Option Literal) TextFault → (ℕ → List Literal → Body) → Body

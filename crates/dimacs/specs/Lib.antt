@@ -2,3 +2,4 @@ pub mod Formula
 pub mod Reading
 pub mod Claim
 pub mod Claiming
+pub mod Printing

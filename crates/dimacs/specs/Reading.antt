@@ -8,20 +8,23 @@ use Rattle.cnf_base.specs.declared.fault.Fault.TheVariants.{OutOfMemory}
 use Rattle.dimacs.specs.Formula.{Body, body_of, faulty, whole, with_clause, Formula}
 use Rattle.dimacs.specs.declared.header.Header.{Header}
 
--- a reader of a formula: where it stands in its input, the header, how many clauses were given, and the fault that it keeps
+-- a reader of a formula: where it stands in its input, the header, how many clauses were given, and the answer that it
+-- gives from now on where it has come to an end
 pub record Reading : Type 0 where
   pub stream : Stream
   pub header : Header
   pub complete : ℕ
-  pub fault : Option Fault
+  pub kept : Option (Result Bool Fault)
 
-abbrev pub unless_faulty : Option Fault → Body → Body
-unless_faulty None b = b
-unless_faulty (Some f) b = faulty f
+-- after an end nothing else is to come
+abbrev pub unless_ended : Option (Result Bool Fault) → Body → Body
+unless_ended None b = b
+unless_ended (Some (Ok _)) b = whole
+unless_ended (Some (Err f)) b = faulty f
 
 -- what is still to come of an input
 abbrev pub to_come : Reading → Input → Body
-to_come r i = unless_faulty r.fault (body_of r.header r.complete [] (listing_at r.stream.place i))
+to_come r i = unless_ended r.kept (body_of r.header r.complete [] (listing_at r.stream.place i))
 
 -- A clause is the first of what is to come; or nothing is to come, and it stays so; or a fault is, and it stays.
 -- After want of memory that is the fault that stays.
@@ -38,7 +41,7 @@ is_nil (l ∷ ls) = false
 -- what is to come after the clause that was given next
 abbrev pub left_of : Result Bool Fault → Header → ℕ → Listing → Body
 left_of (Ok true) h complete l = body_of h (complete + 1) [] l
-left_of (Ok false) h complete l = body_of h complete [] l
+left_of (Ok false) h complete l = whole
 left_of (Err f) h complete l = faulty f
 
 -- the end of the input was met in the midst of a clause, after the last one, or before it

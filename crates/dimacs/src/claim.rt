@@ -14,8 +14,9 @@ use std::alloc::Global;
 /// is handed back in every case.
 pub fn read_claim<R: In>(alloc: Global, source: Source<R>) -> (Result<Model, Fault>, R)
     // The claim of the output is this, whatever may follow a fault.
-    ensures claim { (last : Stream) × IsLeft last (R.left result.1) (R.has_failed result.1) (R.borrows result.1)
-        × Along source last (λ i j. IsClaim result.0 (claim_at source.place i)) × TellsOf result.0 source.has_failed last.has_failed }
+    ensures claim { (last : Stream) × IsLeft last (R.shown result.1) (R.borrows result.1)
+        × Along source last (λ i j. IsClaim result.0 (claim_at source.place i))
+        × TellsOf result.0 source.reader.has_failed last.reader.has_failed }
     ensures consistent { IfOk result.0 IsConsistent }
 {
     let mut scanner = Scanner::new(source);
@@ -25,9 +26,10 @@ pub fn read_claim<R: In>(alloc: Global, source: Source<R>) -> (Result<Model, Fau
 
 // Takes all tokens of an output.
 fn read_tokens<R: In>(alloc: Global, scanner: &mut Scanner<R>) -> Result<Model, Fault>
-    ensures claim { Along scanner.old scanner.new (λ i j. IsClaim result (claim_at scanner.old.place i)) }
+    ensures claim { Along scanner.old scanner.new
+        (λ i j. IsClaim result (claim_at scanner.old.place i)) }
     ensures consistent { IfOk result IsConsistent }
-    ensures tells { TellsOf result scanner.old.has_failed scanner.new.has_failed }
+    ensures tells { TellsOf result scanner.old.reader.has_failed scanner.new.reader.has_failed }
 {
     let mut said = Said::new(alloc);
     loop {

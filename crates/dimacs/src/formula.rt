@@ -1,10 +1,10 @@
 //! A formula, clause by clause.
 
-ghost use Rattle.std.specs.Prelude.{◌≡◌, ◌+◌, ◌<◌, ◌≤◌, true, IfOk, IfErr, OnOk};
+ghost use Rattle.std.specs.Prelude.{◌≡◌, ◌+◌, ◌<◌, ◌≤◌, Bool, true, Option, Result, IfOk, IfErr, OnOk};
 ghost use Rattle.cnf_base.specs.Stream.{Stream, Along, most_to_come};
 ghost use Rattle.cnf_base.specs.Text.{listing_at};
 ghost use Rattle.cnf_base.specs.declared.input.Ending.TheVariants.{End};
-ghost use Rattle.cnf_base.specs.Readers.{Advances, IsLeft, Tells, TellsOf};
+ghost use Rattle.cnf_base.specs.Readers.{Advances, IsLeft, Keeps, Tells, TellsOf};
 ghost use Rattle.dimacs.specs.Formula.{at_end, body_of, formula_at, judged};
 ghost use Rattle.dimacs.specs.Reading.{to_come, left_of, EndsSo, GivesClause, opened, unopened};
 
@@ -19,33 +19,43 @@ pub struct FormulaReader<R: In> {
     scanner: Scanner<R>,
     header: Header,
     complete: u32,
-    fault: Option<Fault>,
+    kept: Option<Result<bool, Fault>>,
 }
 
 impl<R: In> Model for FormulaReader<R> {
-    ghost use Rattle.std.specs.Prelude.{◌≡◌, ◌≤◌, Some, true};
+    ghost use Rattle.std.specs.Prelude.{◌≡◌, ◌≤◌, Some, Ok, Err, true};
     ghost use Rattle.cnf_base.specs.declared.fault.Fault.TheVariants.{ReadFailed};
     ghost use Rattle.dimacs.specs.Reading.{Reading};
 
     ghost Value = { Reading };
 
-    ghost view = { λ r. record { stream = r.scanner; header = r.header; complete = r.complete; fault = r.fault } };
+    ghost view = { λ r. record {
+      stream = r.scanner;
+      header = r.header;
+      complete = r.complete;
+      kept = r.kept;
+    } };
 
-    ghost invariant = { λ r. (r.header.vars ≤ 268435455) × (r.complete ≤ r.header.clauses) × (r.fault ≡ Some ReadFailed → r.scanner.has_failed ≡ true) };
+    ghost invariant = { λ r. (r.header.vars ≤ 268435455) × (r.complete ≤ r.header.clauses)
+        × (r.kept ≡ Some (Ok true) → ⊥)
+        × (r.kept ≡ Some (Err ReadFailed) → r.scanner.reader.has_failed ≡ true) };
 }
 
 impl<R: In> FormulaReader<R> {
     /// Reads the header. A fault there hands the reader back.
     pub fn open(source: Source<R>) -> Result<Self, (Fault, R)>
         // The formula is this header and what is still to come of it.
-        ensures opened { IfOk result (λ r. Along source r.stream (λ i j. formula_at source.place i ≡ opened r.header (to_come r j))) }
-        ensures started { IfOk result (λ r. (r.complete ≡ 0) × (r.fault ≡ None)) }
+        ensures opened { IfOk result (λ r. Along source r.stream
+            (λ i j. formula_at source.place i ≡ opened r.header (to_come r j))) }
+        ensures started { IfOk result (λ r. (r.complete ≡ 0) × (r.kept ≡ None)) }
         ensures fewer { IfOk result (λ r. most_to_come r.stream ≤ most_to_come source) }
-        ensures mark { IfOk result (λ r. r.stream.has_failed ≡ source.has_failed) }
+        ensures mark { IfOk result (λ r. r.stream.reader.has_failed ≡ source.reader.has_failed) }
 
         // The formula is this fault, whatever may follow.
-        ensures refused { IfErr result (λ e. (last : Stream) × IsLeft last (R.left e.1) (R.has_failed e.1) (R.borrows e.1)
-            × Along source last (λ i j. formula_at source.place i ≡ unopened e.0) × Tells e.0 source.has_failed last.has_failed) }
+        ensures refused { IfErr result (λ e. (last : Stream)
+            × IsLeft last (R.shown e.1) (R.borrows e.1)
+            × Along source last (λ i j. formula_at source.place i ≡ unopened e.0)
+            × Tells e.0 source.reader.has_failed last.reader.has_failed) }
     {
         let mut scanner = Scanner::new(source);
         match read_header(&mut scanner) {
@@ -53,7 +63,7 @@ impl<R: In> FormulaReader<R> {
                 scanner,
                 header,
                 complete: 0,
-                fault: None,
+                kept: None,
             }),
             Err(fault) => Err((fault, scanner.release())),
         }
@@ -84,35 +94,33 @@ impl<R: In> FormulaReader<R> {
     /// Puts the next clause into the buffer. After the last one it answers false, at every call; after a fault, that
     /// fault. After a fault or false the buffer's content is open.
     pub fn next(&mut self, clause: &mut ClauseBuf) -> Result<bool, Fault>
-        ensures clause { Along self.old.stream self.new.stream (λ i j. GivesClause result clause.new (to_come self.old i) (to_come self.new j)) }
+        ensures clause { Along self.old.stream self.new.stream
+            (λ i j. GivesClause result clause.new (to_come self.old i) (to_come self.new j)) }
         ensures header { self.new.header ≡ self.old.header }
-        ensures counts { result ≡ Ok true → (self.new.complete ≡ self.old.complete + 1) × (self.new.complete ≤ self.old.header.clauses) × (self.new.complete ≤ 4294967295) }
-        ensures kept { (f : Fault) → self.old.fault ≡ Some f → (result ≡ Err f) × (self.new ≡ self.old) }
-        ensures keeps { IfErr result (λ f. self.new.fault ≡ Some f) }
+        ensures counts { result ≡ Ok true → (self.new.complete ≡ self.old.complete + 1)
+            × (self.new.complete ≤ self.old.header.clauses) × (self.new.complete ≤ 4294967295) }
+        ensures stays { (answer : Result Bool Fault) → self.old.kept ≡ Some answer →
+            (result ≡ answer) × (self.new ≡ self.old) }
+        ensures keeps { Keeps result self.new.kept }
         ensures fewer { Advances result self.old.stream self.new.stream }
-        ensures tells { TellsOf result self.old.stream.has_failed self.new.stream.has_failed }
+        ensures tells { TellsOf result self.old.stream.reader.has_failed
+            self.new.stream.reader.has_failed }
     {
-        if let Some(fault) = self.fault {
-            return Err(fault);
+        if let Some(answer) = self.kept {
+            return answer;
         }
         clause.clear();
-        match read_clause(&mut self.scanner, self.header, self.complete, clause) {
-            Ok(true) => {
-                self.complete += 1;
-                Ok(true)
-            }
-            Ok(false) => Ok(false),
-            Err(fault) => {
-                self.fault = Some(fault);
-                Err(fault)
-            }
+        let result = read_clause(&mut self.scanner, self.header, self.complete, clause);
+        match result {
+            Ok(true) => self.complete += 1,
+            Ok(false) | Err(_) => self.kept = Some(result),
         }
+        result
     }
 
     /// Gives the reader back.
     pub fn release(self) -> R
-        ensures left { R.left result ≡ self.stream.left }
-        ensures mark { R.has_failed result ≡ self.stream.has_failed }
+        ensures reader { R.shown result ≡ self.stream.reader }
         ensures same_reader { R.borrows result ≡ self.stream.borrows }
     {
         self.scanner.release()
@@ -130,7 +138,7 @@ fn read_clause<R: In>(
         (body_of header complete clause.old (listing_at scanner.old.place i)) (left_of result header complete (listing_at scanner.new.place j))) }
     ensures counts { result ≡ Ok true → complete < header.clauses }
     ensures fewer { Advances result scanner.old scanner.new }
-    ensures tells { TellsOf result scanner.old.has_failed scanner.new.has_failed }
+    ensures tells { TellsOf result scanner.old.reader.has_failed scanner.new.reader.has_failed }
 {
     loop {
         match scanner.next() {

@@ -24,7 +24,7 @@ pub(crate) fn read_header<R: In>(scanner: &mut Scanner<R>) -> Result<Header, Fau
     ensures header { Along scanner.old scanner.new (λ i j.
         header_of (listing_at scanner.old.place i) ≡ and_then result (λ h. Ok (h, listing_at scanner.new.place j))) }
     ensures fewer { most_to_come scanner.new ≤ most_to_come scanner.old }
-    ensures tells { TellsOf result scanner.old.has_failed scanner.new.has_failed }
+    ensures tells { TellsOf result scanner.old.reader.has_failed scanner.new.reader.has_failed }
     ensures limit { IfOk result (λ h. h.vars ≤ 268435455) }
 {
     if let Err(fault) = read_p(scanner) {
@@ -55,7 +55,7 @@ fn read_p<R: In>(scanner: &mut Scanner<R>) -> Result<(), Fault>
     ensures text { Along scanner.old scanner.new (λ i j.
         fixed is_p (skip_blank (listing_at scanner.old.place i)) ≡ and_then result (λ _. Ok (listing_at scanner.new.place j))) }
     ensures fewer { most_to_come scanner.new ≤ most_to_come scanner.old }
-    ensures tells { TellsOf result scanner.old.has_failed scanner.new.has_failed }
+    ensures tells { TellsOf result scanner.old.reader.has_failed scanner.new.reader.has_failed }
 {
     match first_word(scanner) {
         Ok((place, word)) => {
@@ -73,7 +73,7 @@ fn read_cnf<R: In>(scanner: &mut Scanner<R>) -> Result<(), Fault>
     ensures text { Along scanner.old scanner.new (λ i j.
         fixed is_cnf (listing_at scanner.old.place i) ≡ and_then result (λ _. Ok (listing_at scanner.new.place j))) }
     ensures fewer { most_to_come scanner.new ≤ most_to_come scanner.old }
-    ensures tells { TellsOf result scanner.old.has_failed scanner.new.has_failed }
+    ensures tells { TellsOf result scanner.old.reader.has_failed scanner.new.reader.has_failed }
 {
     match next_word(scanner) {
         Ok((place, word)) => {
@@ -91,7 +91,7 @@ fn read_count<R: In>(scanner: &mut Scanner<R>, limit: u64) -> Result<u64, Fault>
     ensures text { Along scanner.old scanner.new (λ i j.
         count limit (listing_at scanner.old.place i) ≡ and_then result (λ n. Ok (n, listing_at scanner.new.place j))) }
     ensures fewer { most_to_come scanner.new ≤ most_to_come scanner.old }
-    ensures tells { TellsOf result scanner.old.has_failed scanner.new.has_failed }
+    ensures tells { TellsOf result scanner.old.reader.has_failed scanner.new.reader.has_failed }
     ensures limit { IfOk result (λ n. n ≤ limit) }
 {
     match next_word(scanner) {
@@ -105,7 +105,7 @@ fn read_line_end<R: In>(scanner: &mut Scanner<R>) -> Result<(), Fault>
     ensures text { Along scanner.old scanner.new (λ i j.
         line_end (listing_at scanner.old.place i) ≡ and_then result (λ _. Ok (listing_at scanner.new.place j))) }
     ensures fewer { most_to_come scanner.new ≤ most_to_come scanner.old }
-    ensures tells { TellsOf result scanner.old.has_failed scanner.new.has_failed }
+    ensures tells { TellsOf result scanner.old.reader.has_failed scanner.new.reader.has_failed }
 {
     match scanner.next() {
         Ok(Token::LineEnd(_)) | Ok(Token::End(_)) => Ok(()),
@@ -119,7 +119,7 @@ fn first_word<R: In>(scanner: &mut Scanner<R>) -> Result<(Place, Word), Fault>
     ensures text { Along scanner.old scanner.new (λ i j.
         next_word (skip_blank (listing_at scanner.old.place i)) ≡ and_then result (λ w. Ok (w.0, w.1, listing_at scanner.new.place j))) }
     ensures fewer { most_to_come scanner.new ≤ most_to_come scanner.old }
-    ensures tells { TellsOf result scanner.old.has_failed scanner.new.has_failed }
+    ensures tells { TellsOf result scanner.old.reader.has_failed scanner.new.reader.has_failed }
 {
     loop {
         match scanner.next() {
@@ -136,7 +136,7 @@ fn next_word<R: In>(scanner: &mut Scanner<R>) -> Result<(Place, Word), Fault>
     ensures text { Along scanner.old scanner.new (λ i j.
         next_word (listing_at scanner.old.place i) ≡ and_then result (λ w. Ok (w.0, w.1, listing_at scanner.new.place j))) }
     ensures fewer { most_to_come scanner.new ≤ most_to_come scanner.old }
-    ensures tells { TellsOf result scanner.old.has_failed scanner.new.has_failed }
+    ensures tells { TellsOf result scanner.old.reader.has_failed scanner.new.reader.has_failed }
 {
     match scanner.next() {
         Ok(Token::Word(place, word)) => Ok((place, word)),

@@ -5,6 +5,7 @@ mod claim;
 mod clause_buf;
 mod formula;
 mod header;
+pub mod laws;
 mod model;
 mod position;
 mod said;

@@ -6,9 +6,9 @@ use Rattle.cnf_base.specs.declared.input.Ending.TheVariants.{End, Failed}
 use Rattle.cnf_base.specs.declared.fault.Fault.{Fault}
 use Rattle.cnf_base.specs.declared.fault.Fault.TheVariants.{Binary, ReadFailed, OutOfMemory}
 use Rattle.cnf_base.specs.declared.fault.BinaryFault.{BinaryFault}
-use Rattle.cnf_base.proofs.StreamLemmas.{Along-then, Along-map, Along-look, Along-bumped, Along-none, shown_end, most_to_come-bumped}
+use Rattle.cnf_base.proofs.StreamLemmas.{Along-then, Along-map, Along-look, Along-bumped, Along-still, shown_end, most_to_come-bumped, most_to_come-look}
 use Rattle.proofs.specs.Steps.{Step, named}
-use Rattle.proofs.specs.Reading.{Proof, clean, GivesStep}
+use Rattle.proofs.specs.Reading.{Proof, GivesStep}
 use Rattle.proofs.specs.TextMoves.{EndsSo}
 use Rattle.proofs.specs.Binary.{Spot, at_tag, Move, goes, completes, faults, move_of, on_move, at_end, steps_from, steps_at}
 use Rattle.proofs.specs.BinaryMoves.{Moves, left_of}
@@ -21,16 +21,16 @@ use Rattle.proofs.proofs.TextLemmas.{gives_fault}
 pub record Between (old now : Stream) (spot : Spot) (s : Step) : Type 0 where
   pub text : Along old now (λ i j. steps_at old.byte_no i ≡ steps_from spot s now.byte_no j)
   pub fewer : most_to_come now ≤ most_to_come old
-  pub mark : now.has_failed ≡ old.has_failed
+  pub mark : now.reader.has_failed ≡ old.reader.has_failed
 
 pub Between-none : (s : Stream) → Between s s at_tag (named 0)
-Between-none s = record { text = Along-map s s _ _ (Along-none s) (λ i j m e. ap (steps_at s.byte_no) e); fewer = omega arith; mark = refl }
+Between-none s = record { text = Along-still s (steps_at s.byte_no); fewer = omega arith; mark = refl }
 
 ends_so : (end : Proof) (result : Result Bool Fault) (s : Step) (before : Proof) (at : ℕ) (j : Input)
-    → EndsSo result end → before ≡ end → steps_at at j ≡ clean → GivesStep result s before (left_of result at j) j
-ends_so end (Ok true) s before at j ends e k = absurd ends
-ends_so end (Ok false) s before at j ends e k = (e ∙ ends ∙ sym k, e ∙ ends)
-ends_so end (Err f) s before at j ends e k = gives_fault f s before j (e ∙ ends)
+    → EndsSo result end → before ≡ end → GivesStep result s before (left_of result at j) j
+ends_so end (Ok true) s before at j ends e = absurd ends
+ends_so end (Ok false) s before at j ends e = (e ∙ ends, e ∙ ends)
+ends_so end (Err f) s before at j ends e = gives_fault f s before j (e ∙ ends)
 
 module _ (old now new : Stream) (spot : Spot) (s : Step) (so_far : Between old now spot s) (look : IsLook now new) where
   looked : Along old new (λ i j. steps_at old.byte_no i ≡ steps_from spot s new.byte_no j)
@@ -46,11 +46,11 @@ module _ (old now new : Stream) (spot : Spot) (s : Step) (so_far : Between old n
     byte_text = Along-then old new (bumped new) _ _ _ looked (Along-bumped new b some first) (λ i j k m q r.
         q ∙ ap (steps_from spot s new.byte_no) r)
 
-    pub Between-byte : (next : Spot) (t : Step) → move_of spot s new.byte_no b ≡ goes next t → new.has_failed ≡ now.has_failed
+    pub Between-byte : (next : Spot) (t : Step) → move_of spot s new.byte_no b ≡ goes next t → new.reader.has_failed ≡ now.reader.has_failed
         → Between old (bumped new) next t
     Between-byte next t is mark = record {
       text = Along-map old (bumped new) _ _ byte_text (λ i j m q. q ∙ ap (follows j) is);
-      fewer = omega (arith, so_far.fewer, look.fewer, most_to_come-bumped new some);
+      fewer = omega (arith, so_far.fewer, most_to_come-look now new look, most_to_come-bumped new some);
       mark = mark ∙ so_far.mark;
     }
 
@@ -70,7 +70,7 @@ module _ (old now new : Stream) (spot : Spot) (s : Step) (so_far : Between old n
       → Along old new (λ i j. GivesStep result s (steps_at old.byte_no i) (left_of result new.byte_no j) j)
   Between-end result nothing met ends = Along-map old new _ _ looked (λ i j m q.
       let e = shown_end new End j nothing met m in
-      ends_so (at_end spot new.byte_no End) result s _ new.byte_no j ends (q ∙ ap (steps_from spot s new.byte_no) e) (ap (steps_at new.byte_no) e))
+      ends_so (at_end spot new.byte_no End) result s _ new.byte_no j ends (q ∙ ap (steps_from spot s new.byte_no) e))
 
   pub Between-failed : new.ahead ≡ [] → new.met ≡ Some Failed
       → Along old new (λ i j. GivesStep (Err ReadFailed) s (steps_at old.byte_no i) (left_of (Err ReadFailed) new.byte_no j) j)

@@ -1,5 +1,5 @@
 -- A proof's tokens, one at a time.
-use Rattle.std.proofs.Common.{◌≡◌, ◌<◌, ◌≤◌, [], length, refl, sym, ap, ◌∙◌, subst, arith}
+use Rattle.std.proofs.Common.{◌≡◌, ◌<◌, ◌≤◌, [], length, Option, Some, refl, sym, ap, ◌∙◌, subst, arith}
 use Rattle.std.specs.Prelude.{Bool, true, false, Result, Ok, Err}
 use Rattle.cnf_base.specs.Stream.{Input, Stream, Along, most_to_come}
 use Rattle.cnf_base.specs.Text.{Listing, listing_at, Gives}
@@ -11,9 +11,9 @@ use Rattle.cnf_base.specs.declared.token.Token.TheVariants as token
 use Rattle.cnf_base.specs.declared.fault.Fault.{Fault}
 use Rattle.cnf_base.specs.declared.fault.Fault.TheVariants.{Text, Binary, ReadFailed, OutOfMemory}
 use Rattle.cnf_base.specs.declared.fault.TextFault.{TextFault}
-use Rattle.cnf_base.proofs.StreamLemmas.{Along-then, Along-map}
-use Rattle.proofs.specs.Steps.{Step}
-use Rattle.proofs.specs.Reading.{Proof, clean, faulty, GivesStep}
+use Rattle.cnf_base.proofs.StreamLemmas.{Along-then, Along-map, Along-none, Along-still}
+use Rattle.proofs.specs.Steps.{Step, named}
+use Rattle.proofs.specs.Reading.{Proof, clean, faulty, unless_ended, GivesStep}
 use Rattle.proofs.specs.TextSteps.{Move, goes, completes, faults, Format, on_move, at_end, steps_from, steps_listed}
 use Rattle.proofs.specs.TextMoves.{left_of, EndsSo, Moves}
 use Rattle.proofs.specs.declared.moved.Moved.{Moved}
@@ -26,26 +26,51 @@ gives_fault (Binary k n) s b rest e = (e, e)
 gives_fault ReadFailed s b rest e = (e, e)
 gives_fault OutOfMemory s b rest e = refl
 
+-- an answer that is kept is what comes, and it stays
+kept_gives : (answer : Result Bool Fault) (s : Step) (before after : Proof) (rest : Input) → (answer ≡ Ok true → ⊥)
+    → before ≡ unless_ended (Some answer) clean → after ≡ unless_ended (Some answer) clean → GivesStep answer s before after rest
+kept_gives (Ok true) s before after rest none b a = absurd (none refl)
+kept_gives (Ok false) s before after rest none b a = (b ∙ sym a, b)
+kept_gives (Err (Text k p)) s before after rest none b a = (b ∙ sym a, b)
+kept_gives (Err (Binary k n)) s before after rest none b a = (b ∙ sym a, b)
+kept_gives (Err ReadFailed) s before after rest none b a = (b ∙ sym a, b)
+kept_gives (Err OutOfMemory) s before after rest none b a = a
+
+pub Kept-step : (stream : Stream) (kept : Option (Result Bool Fault)) (coming : Input → Proof) (answer : Result Bool Fault) (s : Step)
+    → kept ≡ Some answer → (kept ≡ Some (Ok true) → ⊥)
+    → Along stream stream (λ i j. GivesStep answer s (unless_ended kept (coming i)) (unless_ended kept (coming j)) j)
+Kept-step stream kept coming answer s is none =
+    let told : (i : Input) → unless_ended kept (coming i) ≡ unless_ended (Some answer) clean =
+    λ i. ap (λ k. unless_ended k (coming i)) is ∙ same answer (coming i) in
+    Along-map stream stream _ _ (Along-none stream) (λ i j m e. kept_gives answer s _ _ j (λ ok. none (is ∙ ap Some ok)) (told i) (told j))
+  where
+    same : (answer : Result Bool Fault) (p : Proof) → unless_ended (Some answer) p ≡ unless_ended (Some answer) clean
+    same (Ok v) p = refl
+    same (Err f) p = refl
+
 ends_so : {P : Type 0} (format : Format P) (end : Proof) (result : Result Bool Fault) (s : Step) (before : Proof) (l : Listing) (rest : Input)
-    → EndsSo result end → before ≡ end → steps_listed format l ≡ clean
+    → EndsSo result end → before ≡ end
     → GivesStep result s before (left_of format result l) rest
-ends_so format end (Ok true) s before l rest ends e k = absurd ends
-ends_so format end (Ok false) s before l rest ends e k = (e ∙ ends ∙ sym k, e ∙ ends)
-ends_so format end (Err f) s before l rest ends e k = gives_fault f s before rest (e ∙ ends)
+ends_so format end (Ok true) s before l rest ends e = absurd ends
+ends_so format end (Ok false) s before l rest ends e = (e ∙ ends, e ∙ ends)
+ends_so format end (Err f) s before l rest ends e = gives_fault f s before rest (e ∙ ends)
 
 -- from one moment to another words of one step were read
 pub record Between {P : Type 0} (format : Format P) (old now : Stream) (part : P) (s : Step) : Type 0 where
   pub text : Along old now (λ i j. steps_listed format (listing_at old.place i) ≡ steps_from format part s (listing_at now.place j))
   pub fewer : most_to_come now ≤ most_to_come old
-  pub mark : now.has_failed ≡ old.has_failed
+  pub mark : now.reader.has_failed ≡ old.reader.has_failed
 
-restart : {P : Type 0} (format : Format P) (l : Listing) → format.is_start format.start ≡ true → l.tokens ≡ [] → l.ending ≡ End
-    → steps_listed format l ≡ clean
-restart format l begins none end = rw (none, end, begins) refl
+pub Between-start : {P : Type 0} (format : Format P) (s : Stream) → Between format s s format.start (named 0)
+Between-start format s = record {
+  text = Along-still s (λ i. steps_listed format (listing_at s.place i));
+  fewer = omega arith;
+  mark = refl;
+}
 
 module _ {P : Type 0} (format : Format P) (old now new : Stream) (part : P) (s : Step) (so_far : Between format old now part s) where
   pub Between-line : (p : Place) → Along now new (λ i j. Gives (Ok (token.LineEnd p)) (listing_at now.place i) (listing_at new.place j) j)
-      → most_to_come new < most_to_come now → new.has_failed ≡ now.has_failed → Between format old new part s
+      → most_to_come new < most_to_come now → new.reader.has_failed ≡ now.reader.has_failed → Between format old new part s
   Between-line p gives fewer mark = record {
     text = Along-then old now new _ _ _ so_far.text gives (λ i j k m q r. q ∙ ap (steps_from format part s) r);
     fewer = omega (arith, so_far.fewer, fewer);
@@ -59,7 +84,7 @@ module _ {P : Type 0} (format : Format P) (old now new : Stream) (part : P) (s :
     word_text : Along old new (λ i j. steps_listed format (listing_at old.place i) ≡ follows j (format.move_of part s w))
     word_text = Along-then old now new _ _ _ so_far.text gives (λ i j k m q r. q ∙ ap (steps_from format part s) r)
 
-    pub Between-word : (next : P) (t : Step) → format.move_of part s w ≡ goes next t → most_to_come new < most_to_come now → new.has_failed ≡ now.has_failed
+    pub Between-word : (next : P) (t : Step) → format.move_of part s w ≡ goes next t → most_to_come new < most_to_come now → new.reader.has_failed ≡ now.reader.has_failed
         → Between format old new next t
     Between-word next t is fewer mark = record {
       text = Along-map old new _ _ word_text (λ i j m q. q ∙ ap (follows j) is);
@@ -79,12 +104,10 @@ module _ {P : Type 0} (format : Format P) (old now new : Stream) (part : P) (s :
         → Along old new (λ i j. GivesStep (Err OutOfMemory) t (steps_listed format (listing_at old.place i)) (left_of format (Err OutOfMemory) (listing_at new.place j)) j)
     Between-refused t = Along-map old new _ _ word_text (λ i j m q. refl)
 
-  pub Between-end : (p : Place) (result : Result Bool Fault) → format.is_start format.start ≡ true
-      → Along now new (λ i j. Gives (Ok (token.End p)) (listing_at now.place i) (listing_at new.place j) j) → EndsSo result (at_end format part p End)
+  pub Between-end : (p : Place) (result : Result Bool Fault) → Along now new (λ i j. Gives (Ok (token.End p)) (listing_at now.place i) (listing_at new.place j) j) → EndsSo result (at_end format part p End)
       → Along old new (λ i j. GivesStep result s (steps_listed format (listing_at old.place i)) (left_of format result (listing_at new.place j)) j)
-  Between-end p result begins gives ends = Along-then old now new _ _ _ so_far.text gives (λ i j k m q r.
-      ends_so format (at_end format part p End) result s _ _ k ends (q ∙ ap (steps_from format part s) r.1)
-      (let e = sym r.0 ∙ r.1 in restart format (listing_at new.place k) begins (ap (λ l. l.tokens) e) (ap (λ l. l.ending) e)))
+  Between-end p result gives ends = Along-then old now new _ _ _ so_far.text gives (λ i j k m q r.
+      ends_so format (at_end format part p End) result s _ _ k ends (q ∙ ap (steps_from format part s) r.1))
 
   pub Between-failed : (cut : Cut) → Along now new (λ i j. Gives (Err cut) (listing_at now.place i) (listing_at new.place j) j)
       → Along old new (λ i j. GivesStep (Err ReadFailed) s (steps_listed format (listing_at old.place i)) (left_of format (Err ReadFailed) (listing_at new.place j)) j)

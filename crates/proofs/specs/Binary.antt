@@ -2,7 +2,7 @@
 -- number is written in groups of 7 bits, lowest first, where all bytes but the last have their high bit set; 2v is the
 -- variable v, and 2v + 1 its complement. That the last group is not empty, the limit of literals, the faults, their byte
 -- numbers and the order of judging are our own profile.
-use Rattle.std.specs.Prelude.{ℕ, ◌+◌, ◌*◌, ◌%◌, ◌==◌, nat_le, cond, List, [], ◌∷◌, ◌++◌, length}
+use Rattle.std.specs.Prelude.{ℕ, ◌+◌, ◌*◌, ◌%◌, ◌==◌, nat_le, if◌then◌else◌, List, [], ◌∷◌, ◌++◌, length}
 use Rattle.cnf_base.specs.Stream.{Input, next_count}
 use Rattle.cnf_base.specs.declared.input.Ending.{Ending}
 use Rattle.cnf_base.specs.declared.input.Ending.TheVariants.{End, Failed}
@@ -10,7 +10,7 @@ use Rattle.cnf_base.specs.declared.fault.Fault.TheVariants.{Binary, ReadFailed}
 use Rattle.cnf_base.specs.declared.fault.BinaryFault.{BinaryFault}
 use Rattle.cnf_base.specs.declared.fault.BinaryFault.TheVariants.{LiteralTooLarge, UnterminatedStep, BadTag, BadNumber}
 use Rattle.proofs.specs.Steps.{Step, named, deleting, with_literal}
-use Rattle.proofs.specs.Reading.{Proof, clean, faulty, with_step, Reading, unless_faulty}
+use Rattle.proofs.specs.Reading.{Proof, clean, faulty, with_step, Reading, unless_ended}
 
 -- ---- One byte of a step
 
@@ -33,24 +33,29 @@ pub data Move : Type 0 where
   faults : BinaryFault → ℕ → Move
 
 abbrev pub tag_move : Step → ℕ → ℕ → Move
-tag_move s at b = cond (b == 97) (goes in_step s) (cond (b == 100) (goes in_step (deleting s)) (faults BadTag at))
+tag_move s at b =
+    if b == 97 then goes in_step s
+    else (if b == 100 then goes in_step (deleting s)
+    else faults BadTag at)
 
 -- a whole number, with its last byte; a literal is 2 at least
 abbrev pub number_move : Step → ℕ → ℕ → ℕ → Move
 number_move s first last n =
-    cond (last == 0) (faults BadNumber first)
-    (cond (nat_le n 1) (faults BadNumber first)
-    (cond (nat_le n 536870911) (goes in_step (with_literal s n)) (faults LiteralTooLarge first)))
+    if last == 0 then faults BadNumber first
+    else (if nat_le n 1 then faults BadNumber first
+    else (if nat_le n 536870911 then goes in_step (with_literal s n)
+    else faults LiteralTooLarge first))
 
 -- one more byte of a number
 abbrev pub group_move : Step → ℕ → List ℕ → ℕ → Move
 group_move s first bytes b =
-    cond (nat_le 128 b) (goes (in_number first (bytes ++ b ∷ [])) s) (number_move s first b (value_of (bytes ++ b ∷ [])))
+    if nat_le 128 b then goes (in_number first (bytes ++ b ∷ [])) s
+    else number_move s first b (value_of (bytes ++ b ∷ []))
 
 -- what a byte does, by where it stands; `at` is its number
 abbrev pub move_of : Spot → Step → ℕ → ℕ → Move
 move_of at_tag s at b = tag_move s at b
-move_of in_step s at b = cond (b == 0) (completes s) (group_move s at [] b)
+move_of in_step s at b = if b == 0 then completes s else group_move s at [] b
 move_of (in_number first bytes) s at b = group_move s first bytes b
 
 -- ---- All steps
@@ -85,4 +90,4 @@ binary_steps i = steps_at 1 i
 
 -- what is still to come of an input
 abbrev pub to_come : Reading → Input → Proof
-to_come r i = unless_faulty r.fault (steps_at r.stream.byte_no i)
+to_come r i = unless_ended r.kept (steps_at r.stream.byte_no i)

@@ -1,5 +1,5 @@
 -- What one byte, or the end of the input, was found to do.
-use Rattle.std.specs.Prelude.{◌≡◌, ℕ, ◌-◌, ◌^◌, min, Bool, List, length, Result, Ok, Err}
+use Rattle.std.specs.Prelude.{◌≡◌, ℕ, ◌-◌, ◌^◌, min, Bool, true, false, List, length, Result, Ok, Err}
 use Rattle.cnf_base.specs.Stream.{Input}
 use Rattle.cnf_base.specs.declared.fault.Fault.{Fault}
 use Rattle.proofs.specs.declared.moved.Moved.{Moved}
@@ -10,7 +10,7 @@ use Rattle.proofs.specs.declared.drat_binary.part.Part.TheVariants as part
 use Rattle.proofs.specs.declared.drat_binary.stopped.Stopped.{Stopped}
 use Rattle.proofs.specs.declared.drat_binary.stopped.Stopped.TheVariants.{Binary, OutOfMemory}
 use Rattle.proofs.specs.Steps.{Step}
-use Rattle.proofs.specs.Reading.{Proof, faulty}
+use Rattle.proofs.specs.Reading.{Proof, clean, faulty}
 use Rattle.proofs.specs.Binary.{value_of, Spot, at_tag, in_step, in_number, Move, goes, completes, faults, steps_at}
 
 -- what is kept of a number's bytes, up to the greatest number
@@ -33,5 +33,6 @@ Moves (Err OutOfMemory) move step = Unit {0}
 
 -- what is to come after the step that was given next
 abbrev pub left_of : Result Bool Fault → ℕ → Input → Proof
-left_of (Ok _) at i = steps_at at i
+left_of (Ok true) at i = steps_at at i
+left_of (Ok false) at i = clean
 left_of (Err f) at i = faulty f

@@ -1,7 +1,7 @@
 -- The steps of a text in DRAT, as on DRAT-trim's page: an addition is its literals and a `0`, and a deletion is a `d`, its
 -- literals and a `0`. That a step may stand over any number of lines and may have no literal, the limit of literals, the
 -- faults and their places are our own profile.
-use Rattle.std.specs.Prelude.{nat_le, Bool, true, false, cond, Option, None, Some}
+use Rattle.std.specs.Prelude.{nat_le, Bool, true, false, if◌then◌else◌, Option, None, Some}
 use Rattle.cnf_base.specs.Literals.{Literal}
 use Rattle.cnf_base.specs.Stream.{Input}
 use Rattle.cnf_base.specs.Words.{number_literal}
@@ -21,7 +21,9 @@ literal_or_end s (Some l) = goes Literals (with_literal s l)
 literal_or_end s None = completes s
 
 abbrev pub number_move : Step → Number → Move Part
-number_move s n = cond (nat_le n.size 268435455) (literal_or_end s (number_literal n)) (faults LiteralTooLarge)
+number_move s n =
+    if nat_le n.size 268435455 then literal_or_end s (number_literal n)
+    else faults LiteralTooLarge
 
 -- `d` is a step's first word alone
 abbrev pub d_move : Part → Step → Move Part

@@ -1,6 +1,6 @@
 -- The steps of a text in LRAT (Cruz-Filipe, Heule and others 2017; that a step may stand over any number of lines, the
 -- faults, their places and the order of judging are our own profile).
-use Rattle.std.specs.Prelude.{nat_le, Bool, true, false, cond, Option, None, Some, ℤ, pos, neg_ℤ}
+use Rattle.std.specs.Prelude.{nat_le, Bool, true, false, if◌then◌else◌, Option, None, Some, ℤ, pos, neg_ℤ}
 use Rattle.cnf_base.specs.Literals.{Literal}
 use Rattle.cnf_base.specs.Stream.{Input}
 use Rattle.cnf_base.specs.Words.{number_literal}
@@ -20,11 +20,15 @@ abbrev pub is_zero : Number → Bool
 is_zero n = nat_le n.size 0
 
 abbrev pub signed : Number → ℤ
-signed n = cond n.is_negative (neg_ℤ (pos n.size)) (pos n.size)
+signed n = if n.is_negative then neg_ℤ (pos n.size) else pos n.size
 
 -- an identifier is a number from 1 to its limit
 abbrev pub identifier : Number → Move Part
-identifier n = cond n.is_negative (faults BadToken) (cond (is_zero n) (faults BadToken) (cond (is_small n.size) (goes AfterIdentifier (named n.size)) (faults IdTooLarge)))
+identifier n =
+    if n.is_negative then faults BadToken
+    else (if is_zero n then faults BadToken
+    else (if is_small n.size then goes AfterIdentifier (named n.size)
+    else faults IdTooLarge))
 
 -- a literal, or the `0` after which the hints stand
 abbrev pub literal_or_end : Step → Option Literal → Move Part
@@ -32,15 +36,22 @@ literal_or_end s (Some l) = goes Literals (with_literal s l)
 literal_or_end s None = goes Hints s
 
 abbrev pub literal : Step → Number → Move Part
-literal s n = cond (nat_le n.size 268435455) (literal_or_end s (number_literal n)) (faults LiteralTooLarge)
+literal s n =
+    if nat_le n.size 268435455 then literal_or_end s (number_literal n)
+    else faults LiteralTooLarge
 
 -- a hint of either sign, or the `0` that ends the step
 abbrev pub hint : Step → Number → Move Part
-hint s n = cond (is_small n.size) (cond (is_zero n) (completes s) (goes Hints (with_hint s (signed n)))) (faults IdTooLarge)
+hint s n =
+    if is_small n.size then (if is_zero n then completes s else goes Hints (with_hint s (signed n)))
+    else faults IdTooLarge
 
 -- an identifier of a deletion, or the `0` that ends the step
 abbrev pub deleted : Step → Number → Move Part
-deleted s n = cond n.is_negative (faults BadToken) (cond (is_small n.size) (cond (is_zero n) (completes s) (goes Deletion (with_hint s (pos n.size)))) (faults IdTooLarge))
+deleted s n =
+    if n.is_negative then faults BadToken
+    else (if is_small n.size then (if is_zero n then completes s else goes Deletion (with_hint s (pos n.size)))
+    else faults IdTooLarge)
 
 -- what a number does, by where it stands
 abbrev pub number_move : Part → Step → Number → Move Part

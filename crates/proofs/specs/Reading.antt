@@ -24,15 +24,16 @@ faulty f = record { steps = []; fault = Some f }
 abbrev pub with_step : Step → ℕ → Proof → Proof
 with_step s rest p = record { steps = record { step = s; rest = rest } ∷ p.steps; fault = p.fault }
 
--- where a fault is kept nothing else is to come
-abbrev pub unless_faulty : Option Fault → Proof → Proof
-unless_faulty None p = p
-unless_faulty (Some f) p = faulty f
+-- after an end nothing else is to come
+abbrev pub unless_ended : Option (Result Bool Fault) → Proof → Proof
+unless_ended None p = p
+unless_ended (Some (Ok _)) p = clean
+unless_ended (Some (Err f)) p = faulty f
 
--- where a reader stands in its input, and the fault that it keeps
+-- where a reader stands in its input, and the answer that it gives from now on where it has come to an end
 pub record Reading : Type 0 where
   pub stream : Stream
-  pub fault : Option Fault
+  pub kept : Option (Result Bool Fault)
 
 -- A step is the first of what is to come; or nothing is to come, and it stays so; or a fault is, and it stays.
 -- After want of memory that is the fault that stays. `rest` is what follows of the input.

@@ -1,5 +1,5 @@
 -- What one word, or the end of the input, was found to do.
-use Rattle.std.specs.Prelude.{◌≡◌, Bool, true, false, Result, Ok, Err}
+use Rattle.std.specs.Prelude.{◌≡◌, Bool, true, false, IsTrue, Result, Ok, Err}
 use Rattle.cnf_base.specs.Text.{Listing}
 use Rattle.cnf_base.specs.declared.fault.Fault.{Fault}
 use Rattle.proofs.specs.declared.moved.Moved.{Moved}
@@ -17,9 +17,16 @@ Moves (Ok Complete) move step = move ≡ completes step
 Moves (Err (Text f)) move step = move ≡ faults f
 Moves (Err OutOfMemory) move step = Unit {0}
 
+-- the part that comes next can follow what was read of the step
+abbrev pub FitsMoved : {Part : Type 0} → (Part → Step → Bool) → Result (Moved Part) Stopped → Step → Type 0
+FitsMoved fits (Ok (To part)) step = IsTrue (fits part step)
+FitsMoved fits (Ok Complete) step = Unit {0}
+FitsMoved fits (Err e) step = Unit {0}
+
 -- what is to come after the step that was given next
 abbrev pub left_of : {Part : Type 0} → Format Part → Result Bool Fault → Listing → Proof
-left_of format (Ok _) l = steps_listed format l
+left_of format (Ok true) l = steps_listed format l
+left_of format (Ok false) l = clean
 left_of format (Err f) l = faulty f
 
 -- the end of the input was met between two steps, or inside one

@@ -1,5 +1,5 @@
 -- The steps of a proof as text, over any number of lines, in whatever format.
-use Rattle.std.specs.Prelude.{ℕ, Bool, cond, List, [], ◌∷◌}
+use Rattle.std.specs.Prelude.{ℕ, Bool, if◌then◌else◌, List, [], ◌∷◌}
 use Rattle.cnf_base.specs.Stream.{Input}
 use Rattle.cnf_base.specs.Text.{Listed, Listing, listing_at, listing_of}
 use Rattle.cnf_base.specs.declared.input.Ending.{Ending}
@@ -12,7 +12,7 @@ use Rattle.cnf_base.specs.declared.fault.Fault.TheVariants.{Text, ReadFailed}
 use Rattle.cnf_base.specs.declared.fault.TextFault.{TextFault}
 use Rattle.cnf_base.specs.declared.fault.TextFault.TheVariants.{UnterminatedStep}
 use Rattle.proofs.specs.Steps.{Step, named}
-use Rattle.proofs.specs.Reading.{Proof, clean, faulty, with_step, Reading, unless_faulty}
+use Rattle.proofs.specs.Reading.{Proof, clean, faulty, with_step, Reading, unless_ended}
 
 -- what a word does: the step goes on in some part, it is complete, or the word can't stand there
 pub data Move (Part : Type 0) : Type 0 where
@@ -29,7 +29,7 @@ pub record Format (Part : Type 0) : Type 0 where
 -- what the end of the input means, by where it stands
 abbrev pub at_end : {Part : Type 0} → Format Part → Part → Place → Ending → Proof
 at_end format part p Failed = faulty ReadFailed
-at_end format part p End = cond (format.is_start part) clean (faulty (Text UnterminatedStep p))
+at_end format part p End = if format.is_start part then clean else faulty (Text UnterminatedStep p)
 
 -- what a word's move means; `rest` is what follows, and `left` how many bytes do
 abbrev pub on_move : {Part : Type 0} → Format Part → Place → ℕ → Move Part → (Part → Step → Proof) → Proof
@@ -62,4 +62,4 @@ steps_of format i = steps_listed format (listing_of i)
 
 -- what is still to come to a reader of the format
 abbrev pub left_to : {Part : Type 0} → Format Part → Reading → Input → Proof
-left_to format r i = unless_faulty r.fault (steps_at format r.stream.place i)
+left_to format r i = unless_ended r.kept (steps_at format r.stream.place i)

@@ -26,36 +26,33 @@ use stopped::Stopped;
 #[derive(Drop)]
 pub struct DratBinary<R: In> {
     source: Source<R>,
-    fault: Option<Fault>,
+    kept: Option<Result<bool, Fault>>,
 }
 
 impl<R: In> Model for DratBinary<R> {
-    ghost use Rattle.std.specs.Prelude.{◌≡◌, Some, true};
+    ghost use Rattle.std.specs.Prelude.{◌≡◌, Some, Ok, Err, true};
     ghost use Rattle.cnf_base.specs.declared.fault.Fault.TheVariants.{ReadFailed};
     ghost use Rattle.proofs.specs.Reading.{Reading};
 
     ghost Value = { Reading };
 
-    ghost view = { λ r. record { stream = r.source; fault = r.fault } };
+    ghost view = { λ r. record { stream = r.source; kept = r.kept } };
 
-    ghost invariant = { λ r. r.fault ≡ Some ReadFailed → r.source.has_failed ≡ true };
+    ghost invariant = { λ r. (r.kept ≡ Some (Ok true) → ⊥)
+        × (r.kept ≡ Some (Err ReadFailed) → r.source.reader.has_failed ≡ true) };
 }
 
 impl<R: In> DratBinary<R> {
     /// A reader that stands where the source does. It reads nothing and takes no memory.
     pub fn new(source: Source<R>) -> Self
-        ensures { result ≡ record { stream = source; fault = None } }
+        ensures { result ≡ record { stream = source; kept = None } }
     {
-        DratBinary {
-            source,
-            fault: None,
-        }
+        DratBinary { source, kept: None }
     }
 
     /// Gives the reader back.
     pub fn release(self) -> R
-        ensures left { R.left result ≡ self.stream.left }
-        ensures mark { R.has_failed result ≡ self.stream.has_failed }
+        ensures reader { R.shown result ≡ self.stream.reader }
         ensures same_reader { R.borrows result ≡ self.stream.borrows }
     {
         self.source.release()
@@ -65,17 +62,18 @@ impl<R: In> DratBinary<R> {
 impl<R: In> StepReader for DratBinary<R> {
     ghost stream = { λ r. r.stream };
 
-    ghost kept = { λ r. r.fault };
+    ghost kept = { λ r. r.kept };
 
     ghost to_come = { to_come };
 
     fn next(&mut self, step: &mut StepBuf) -> Result<bool, Fault> {
-        if let Some(fault) = self.fault {
-            return Err(fault);
+        if let Some(answer) = self.kept {
+            return answer;
         }
         let result = read_step(&mut self.source, step);
-        if let Err(fault) = result {
-            self.fault = Some(fault);
+        match result {
+            Ok(true) => {}
+            Ok(false) | Err(_) => self.kept = Some(result),
         }
         result
     }
@@ -86,7 +84,7 @@ fn read_step<R: In>(source: &mut Source<R>, step: &mut StepBuf) -> Result<bool, 
     ensures step { Along source.old source.new (λ i j. GivesStep result step.new
         (steps_at source.old.byte_no i) (left_of result source.new.byte_no j) j) }
     ensures fewer { Advances result source.old source.new }
-    ensures tells { TellsOf result source.old.has_failed source.new.has_failed }
+    ensures tells { TellsOf result source.old.reader.has_failed source.new.reader.has_failed }
 {
     step.name(0);
     let mut part = Part::Tag;

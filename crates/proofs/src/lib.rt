@@ -3,11 +3,13 @@
 
 mod drat_binary;
 mod drat_text;
+pub mod laws;
 mod lrat_text;
 mod moved;
 mod step_buf;
 mod step_reader;
 mod stopped;
+mod text;
 
 pub use drat_binary::DratBinary;
 pub use drat_text::DratText;

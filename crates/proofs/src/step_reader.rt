@@ -1,8 +1,8 @@
 //! What every reader of proofs does.
 
-ghost use Rattle.std.specs.Prelude.{◌≡◌, Option, IfErr};
+ghost use Rattle.std.specs.Prelude.{◌≡◌, Bool, Option, Result};
 ghost use Rattle.cnf_base.specs.Stream.{Input, Stream, Along};
-ghost use Rattle.cnf_base.specs.Readers.{Advances, TellsOf};
+ghost use Rattle.cnf_base.specs.Readers.{Advances, Keeps, TellsOf};
 ghost use Rattle.cnf_base.specs.declared.fault.Fault.{Fault};
 ghost use Rattle.proofs.specs.Reading.{Proof, GivesStep};
 
@@ -14,8 +14,8 @@ pub trait StepReader {
     /// Where it stands in its input.
     ghost stream: { Self → Stream };
 
-    /// The fault that it keeps.
-    ghost kept: { Self → Option Fault };
+    /// The answer that it gives from now on, where it has come to an end: false, or its fault.
+    ghost kept: { Self → Option (Result Bool Fault) };
 
     /// What is still to come of an input: steps, and how they end.
     ghost to_come: { Self → Input → Proof };
@@ -23,9 +23,12 @@ pub trait StepReader {
     /// Puts the next step into the buffer. At a clean end it answers false, at every call; after a fault, that fault.
     /// After a fault or false the buffer's content is open.
     fn next(&mut self, step: &mut StepBuf) -> Result<bool, Fault>
-        ensures step { Along (stream self.old) (stream self.new) (λ i j. GivesStep result step.new (to_come self.old i) (to_come self.new j) j) }
-        ensures stays { (f : Fault) → kept self.old ≡ Some f → (result ≡ Err f) × (self.new ≡ self.old) }
-        ensures keeps { IfErr result (λ f. kept self.new ≡ Some f) }
+        ensures step { Along (stream self.old) (stream self.new)
+            (λ i j. GivesStep result step.new (to_come self.old i) (to_come self.new j) j) }
+        ensures stays { (answer : Result Bool Fault) → kept self.old ≡ Some answer →
+            (result ≡ answer) × (self.new ≡ self.old) }
+        ensures keeps { Keeps result (kept self.new) }
         ensures fewer { Advances result (stream self.old) (stream self.new) }
-        ensures tells { TellsOf result (stream self.old).has_failed (stream self.new).has_failed };
+        ensures tells { TellsOf result (stream self.old).reader.has_failed
+            (stream self.new).reader.has_failed };
 }

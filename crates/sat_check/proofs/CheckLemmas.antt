@@ -1,8 +1,8 @@
 -- A check, step by step.
-use Rattle.std.proofs.Common.{◌≡◌, ℕ, ◌+◌, ◌≤◌, Bool, true, false, Option, None, Some, List, [], ◌∷◌, ◌++◌, length, refl, sym, ap, ◌∙◌, subst, arith}
+use Rattle.std.proofs.Common.{◌≡◌, ℕ, ◌+◌, ◌≤◌, Bool, true, false, None, Some, List, [], ◌∷◌, ◌++◌, length, refl, sym, ap, ◌∙◌, subst, arith}
 use Rattle.std.specs.Prelude.{Result, Ok, Err}
-use Rattle.cnf_base.specs.Stream.{Input, Stream, Along, fresh as fresh_stream}
-use Rattle.cnf_base.specs.Seen.{Seen, IsSeen}
+use Rattle.cnf_base.specs.Stream.{Input, Reader, Stream, Along, fresh as fresh_stream}
+use Rattle.cnf_base.specs.Seen.{Seen, IsSeen, OfBothSeen}
 use Rattle.cnf_base.specs.Lines.{Sink, Writes}
 use Rattle.cnf_base.specs.declared.fault.Fault.{Fault}
 use Rattle.cnf_base.specs.declared.fault.Fault.TheVariants.{Text, Binary, ReadFailed, OutOfMemory}
@@ -12,7 +12,7 @@ use Rattle.cnf_base.proofs.SeenLemmas.{Seen-nothing, Seen-run, Seen-fact}
 use Rattle.proofs.specs.Steps.{Step}
 use Rattle.proofs.specs.Reading.{Reading, Proof, faulty, with_step, GivesStep}
 use Rattle.steps.specs.Rules.{Rule, View, after, sum_of, is_over}
-use Rattle.sat_check.specs.Report.{Report, Outcome, ProofReport, text_of, with_lines, end_report}
+use Rattle.sat_check.specs.Report.{Report, Outcome, Reports, text_of, with_lines, end_report}
 use Rattle.sat_check.specs.Checking.{Standing, Rest, Bounded, GoesOn, Stops, counted, traced}
 use Rattle.sat_check.proofs.ShownLemmas.{traced_same}
 use Rattle.sat_check.specs.declared.status.Status.{Status}
@@ -141,46 +141,49 @@ step_told now new result answer s gives is =
 -- ---- A whole proof
 
 -- what was written, by all that was seen of the formula and of the proof
-abbrev pub AllReports : Rule → Bool → (Input → Proof) → Option (List ℕ) → Option (List ℕ) → Option (List ℕ) → Option (List ℕ) → Status → Sink → Sink → Type 0
-AllReports rule trace steps formula formula_left left new status was now =
-    (f : Seen formula formula_left) × (p : Seen left new) ×
-    ((i j : Input) → IsSeen f i → IsSeen p j → (r : Report) × ProofReport rule trace i (steps j) r × Outcome status was.held now.held r)
+abbrev pub AllReports : Rule → Bool → (Input → Proof) → Reader → Reader → Reader → Reader → Status → Sink → Sink → Type 0
+AllReports rule trace steps formula formula_new proof proof_new status was now =
+    OfBothSeen formula formula_new proof proof_new (λ i j. Reports rule trace i (steps j) was.held now.held status)
 
 -- neither was read
-pub reports_nothing : (rule : Rule) (trace : Bool) (steps : Input → Proof) (formula left new : Option (List ℕ)) (status : Status) (was now : Sink) → left ≡ new
-    → ((r : Report) → Outcome status was.held now.held r) → AllReports rule trace steps formula formula left new status was now
-reports_nothing rule trace steps formula left new status was now same o =
-    let P : Option (List ℕ) → Type 0 = λ l. AllReports rule trace steps formula formula left l status was now in
-    subst P same (Seen-nothing formula, Seen-nothing left, λ i j s t. let some = some_report rule trace i (steps j) in (some.0, some.1, o some.0))
+pub reports_nothing : (rule : Rule) (trace : Bool) (steps : Input → Proof) (formula proof new : Reader) (status : Status) (was now : Sink) → proof ≡ new
+    → ((r : Report) → Outcome status was.held now.held r) → AllReports rule trace steps formula formula proof new status was now
+reports_nothing rule trace steps formula proof new status was now same o =
+    let P : Reader → Type 0 = λ r. AllReports rule trace steps formula formula proof r status was now in
+    subst P same (record {
+      first = Seen-nothing formula;
+      second = Seen-nothing proof;
+      fact = λ i j s t. let some = some_report rule trace i (steps j) in record { report = some.0; reports = some.1; outcome = o some.0 };
+    })
 
 -- a reader that was fresh was read
-module _ (rule : Rule) (trace : Bool) (to_come : Reading → Input → Proof) (steps : Input → Proof) (formula formula_left left : Option (List ℕ)) (mark : Bool) (most_left : ℕ) (borrows : List ℕ) (source last : Stream) (new : Option (List ℕ)) (status : Status) (was now : Sink)
-    (is : source ≡ fresh_stream left mark most_left borrows) (kept : new ≡ last.left)
-    (all : (j : Input) → to_come (record { stream = fresh_stream left mark most_left borrows; fault = None }) j ≡ steps j) where
-  pub reports_run : (reader : Reading) → reader ≡ record { stream = source; fault = None } → (f : Seen formula formula_left)
-      → Along reader.stream last (λ j k. (i : Input) → IsSeen f i → (r : Report) × ProofReport rule trace i (to_come reader j) r × Outcome status was.held now.held r)
-      → AllReports rule trace steps formula formula_left left new status was now
+module _ (rule : Rule) (trace : Bool) (to_come : Reading → Input → Proof) (steps : Input → Proof) (formula formula_new proof : Reader) (borrows : List ℕ) (source last : Stream) (new : Reader) (status : Status) (was now : Sink)
+    (is : source ≡ fresh_stream proof borrows) (kept : new ≡ last.reader)
+    (all : (j : Input) → to_come (record { stream = fresh_stream proof borrows; kept = None }) j ≡ steps j) where
+  pub reports_run : (reader : Reading) → reader ≡ record { stream = source; kept = None } → (f : Seen formula formula_new)
+      → Along reader.stream last (λ j k. (i : Input) → IsSeen f i → Reports rule trace i (to_come reader j) was.held now.held status)
+      → AllReports rule trace steps formula formula_new proof new status was now
   reports_run reader made f run =
-      let P : Reading → Type 0 = λ x. Along x.stream last (λ j k. (i : Input) → IsSeen f i → (r : Report) × ProofReport rule trace i (to_come x j) r × Outcome status was.held now.held r) in
-      let Q : Input → Input → Type 0 = λ j k. (i : Input) → IsSeen f i → (r : Report) × ProofReport rule trace i (to_come (record { stream = fresh_stream left mark most_left borrows; fault = None }) j) r × Outcome status was.held now.held r in
-      let from_start = subst P (made ∙ ap (λ x. record { stream = x; fault = None }) is) run in (
-        f,
-        Seen-run left mark most_left borrows last new Q from_start kept,
-        λ i j s t.
-            let x = (Seen-fact left mark most_left borrows last new Q from_start kept j t).2 i s in
-            let S : Proof → Type 0 = λ p. ProofReport rule trace i p x.0 in
-            (x.0, subst S (all j) x.1, x.2),
-      )
+      let P : Reading → Type 0 = λ x. Along x.stream last (λ j k. (i : Input) → IsSeen f i → Reports rule trace i (to_come x j) was.held now.held status) in
+      let Q : Input → Input → Type 0 = λ j k. (i : Input) → IsSeen f i → Reports rule trace i (to_come (record { stream = fresh_stream proof borrows; kept = None }) j) was.held now.held status in
+      let R : Reader → Type 0 = λ r. AllReports rule trace steps formula formula_new proof r status was now in
+      let from_start = subst P (made ∙ ap (λ x. record { stream = x; kept = None }) is) run in
+      subst R (sym kept) (record {
+        first = f;
+        second = Seen-run proof borrows last Q from_start;
+        fact = λ i j s t.
+            let S : Proof → Type 0 = λ p. Reports rule trace i p was.held now.held status in
+            subst S (all j) ((Seen-fact proof borrows last Q from_start j t).2 i s);
+      })
 
 -- the same report by the same rule of the same steps
-pub reports_as : (rule other : Rule) (trace : Bool) (steps others : Input → Proof) (formula formula_left left new : Option (List ℕ)) (status : Status) (was now : Sink) → rule ≡ other → ((j : Input) → steps j ≡ others j)
-    → AllReports rule trace steps formula formula_left left new status was now → AllReports other trace others formula formula_left left new status was now
-reports_as rule other trace steps others formula formula_left left new status was now is all reports = (
-  reports.0,
-  reports.1,
-  λ i j s t.
-      let x = reports.2 i j s t in
-      let P : Proof → Type 0 = λ p. ProofReport other trace i p x.0 in
-      let Q : Rule → Type 0 = λ q. ProofReport q trace i (steps j) x.0 in
-      (x.0, subst P (all j) (subst Q is x.1), x.2),
-)
+pub reports_as : (rule other : Rule) (trace : Bool) (steps others : Input → Proof) (formula formula_new proof new : Reader) (status : Status) (was now : Sink) → rule ≡ other → ((j : Input) → steps j ≡ others j)
+    → AllReports rule trace steps formula formula_new proof new status was now → AllReports other trace others formula formula_new proof new status was now
+reports_as rule other trace steps others formula formula_new proof new status was now is all reports = record {
+  first = reports.first;
+  second = reports.second;
+  fact = λ i j s t.
+      let P : Proof → Type 0 = λ p. Reports other trace i p was.held now.held status in
+      let Q : Rule → Type 0 = λ q. Reports q trace i (steps j) was.held now.held status in
+      subst P (all j) (subst Q is (reports.fact i j s t));
+}

@@ -2,7 +2,8 @@
 use Rattle.std.proofs.Common.{◌≡◌, ℕ, ◌+◌, cond, Bool, true, false, List, [], ◌∷◌, ◌++◌, length, Option, None, Some, refl, sym, ap, ◌∙◌, subst, arith}
 use Rattle.std.specs.Prelude.{Result, Ok, Err}
 use Rattle.cnf_base.specs.Literals.{Literal, Clause}
-use Rattle.cnf_base.specs.Stream.{Stream, Along, fresh as fresh_stream}
+use Rattle.cnf_base.specs.Seen.{OfSeen}
+use Rattle.cnf_base.specs.Stream.{Reader, Stream, Along, fresh as fresh_stream}
 use Rattle.cnf_base.specs.declared.fault.Fault.{Fault}
 use Rattle.cnf_base.specs.declared.fault.Fault.TheVariants.{Text, Binary, ReadFailed, OutOfMemory}
 use Rattle.cnf_base.proofs.StreamLemmas.{Along-then, Along-map}
@@ -12,7 +13,7 @@ use Rattle.sat_check.specs.ModelReport.{meets, first_unmet}
 use Rattle.sat_check.specs.Judging.{Judges}
 use Rattle.sat_check.specs.declared.judgement.Judgement.{Judgement}
 use Rattle.sat_check.specs.declared.judgement.Judgement.TheVariants.{Met, Unmet}
-use Rattle.sat_check.proofs.ReadLemmas.{length_push, with_clauses, OfSeen, seen_nothing, seen_run, Reads, FaultAfter, Reads-start, Reads-clause, Reads-done, Reads-fault}
+use Rattle.sat_check.proofs.ReadLemmas.{length_push, with_clauses, seen_nothing, seen_run, Reads, FaultAfter, Reads-start, Reads-clause, Reads-done, Reads-fault}
 
 -- after clauses that are met, the first that isn't is one of those that follow
 first_unmet-append : (k : ℕ) (listed : List Literal) (cs ds : List Clause) → first_unmet k listed cs ≡ None
@@ -66,9 +67,12 @@ module _ (listed : List Literal) (old now new : Reading) (met : ℕ) (so_far : J
   Judging-done gives = Along-map _ _ _ _ (Reads-done old now new so_far.clauses so_far.reads c gives) (λ i j m e.
       (ap (λ b. first_unmet 1 listed b.clauses) e ∙ so_far.all, so_far.count ∙ sym (ap (λ b. length b.clauses) e), ap (λ b. b.fault) e))
 
-  pub Judging-fault : (f : Fault) → Along now.stream new.stream (λ i j. GivesClause (Err f) c (to_come now i) (to_come new j))
-      → Along old.stream new.stream (λ i j. Judges listed (Err f) (to_come old i).clauses (to_come old i).fault)
-  Judging-fault f gives = Along-map _ _ _ _ (Reads-fault old now new so_far.clauses so_far.reads c f gives) (λ i j m e. by f (to_come old i) e)
+  pub Judging-fault : (f : Fault) (result : Result Judgement Fault) → result ≡ Err f
+      → Along now.stream new.stream (λ i j. GivesClause (Err f) c (to_come now i) (to_come new j))
+      → Along old.stream new.stream (λ i j. Judges listed result (to_come old i).clauses (to_come old i).fault)
+  Judging-fault f result is gives =
+      let P : Result Judgement Fault → Type 0 = λ r. Along old.stream new.stream (λ i j. Judges listed r (to_come old i).clauses (to_come old i).fault) in
+      subst P (sym is) (Along-map _ _ _ _ (Reads-fault old now new so_far.clauses so_far.reads c f gives) (λ i j m e. by f (to_come old i) e))
     where
       by : (f : Fault) (b : Body) → FaultAfter so_far.clauses f b → Judges listed (Err f) b.clauses b.fault
       by (Text k p) b e = (ap (λ b. first_unmet 1 listed b.clauses) e ∙ so_far.all, ap (λ b. b.fault) e)
@@ -81,19 +85,21 @@ module _ (listed : List Literal) (old now new : Reading) (met : ℕ) (so_far : J
 abbrev pub JudgesFormula : List Literal → Result Judgement Fault → Formula → Type 0
 JudgesFormula listed result f = Judges listed result f.clauses f.fault
 
-abbrev pub AllJudges : List Literal → Option (List ℕ) → Option (List ℕ) → Result Judgement Fault → Type 0
+abbrev pub AllJudges : List Literal → Reader → Reader → Result Judgement Fault → Type 0
 AllJudges listed left new result = OfSeen left new (λ i. JudgesFormula listed result (formula_of i))
 
 -- nothing was read
-pub judges_nothing : (listed : List Literal) (left new : Option (List ℕ)) → left ≡ new → AllJudges listed left new (Err OutOfMemory)
-judges_nothing listed left new same = seen_nothing (λ i. JudgesFormula listed (Err OutOfMemory) (formula_of i)) left new same (λ i. tt)
+pub judges_refused : (listed : List Literal) (left new : Reader) (result : Result Judgement Fault) → left ≡ new → result ≡ Err OutOfMemory → AllJudges listed left new result
+judges_refused listed left new result same is =
+    let P : Result Judgement Fault → Type 0 = AllJudges listed left new in
+    subst P (sym is) (seen_nothing (λ i. JudgesFormula listed (Err OutOfMemory) (formula_of i)) left new same (λ i. tt))
 
-module _ (listed : List Literal) (left : Option (List ℕ)) (mark : Bool) (most_left : ℕ) (borrows : List ℕ) (source : Stream) (is : source ≡ fresh_stream left mark most_left borrows)
-    (last : Stream) (new : Option (List ℕ)) (kept : new ≡ last.left) where
+module _ (listed : List Literal) (left : Reader) (borrows : List ℕ) (source : Stream) (is : source ≡ fresh_stream left borrows)
+    (last : Stream) (new : Reader) (kept : new ≡ last.reader) where
   -- the header has a fault
   pub judges_fault : (f : Fault) → Along source last (λ i j. formula_at source.place i ≡ unopened f) → AllJudges listed left new (Err f)
   judges_fault f run =
-      seen_run (λ p i. JudgesFormula listed (Err f) (formula_at p i)) left mark most_left borrows source last new is kept
+      seen_run (λ p i. JudgesFormula listed (Err f) (formula_at p i)) left borrows source last new is kept
       (Along-map _ _ _ _ run (λ i j m e. let P : Formula → Type 0 = JudgesFormula listed (Err f) in subst P (sym e) (by f)))
     where
       by : (f : Fault) → JudgesFormula listed (Err f) (unopened f)
@@ -106,5 +112,5 @@ module _ (listed : List Literal) (left : Option (List ℕ)) (mark : Bool) (most_
   pub judges_body : (r : Reading) (result : Result Judgement Fault) → Along source r.stream (λ i j. formula_at source.place i ≡ opened r.header (to_come r j))
       → Along r.stream last (λ i j. Judges listed result (to_come r i).clauses (to_come r i).fault) → AllJudges listed left new result
   judges_body r result opens body =
-      seen_run (λ p i. JudgesFormula listed result (formula_at p i)) left mark most_left borrows source last new is kept
+      seen_run (λ p i. JudgesFormula listed result (formula_at p i)) left borrows source last new is kept
       (Along-then _ _ _ _ _ _ opens body (λ i j k m e q. let P : Formula → Type 0 = JudgesFormula listed result in subst P (sym e) q))

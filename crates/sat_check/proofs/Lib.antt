@@ -8,8 +8,9 @@ pub mod ShownLemmas
 pub mod StepLemmas
 pub mod ReportLemmas
 pub mod CheckLemmas
-pub mod SoundLemmas
+pub mod UniqueLemmas
 pub mod WrittenLemmas
+pub mod SoundLemmas
 pub mod ModelLemmas
 pub mod WordRules
 pub mod WordRows

@@ -8,7 +8,8 @@ use Rattle.std.specs.FinMap.{FinMap, get-empty}
 use Rattle.std.proofs.lemmas.List.Folds.{list_any-append}
 use Rattle.std.proofs.lemmas.List.Sums.{sum_by-append}
 use Rattle.cnf_base.specs.Literals.{Clause, same_clause}
-use Rattle.cnf_base.specs.Stream.{Stream, Along, fresh as fresh_stream}
+use Rattle.cnf_base.specs.Seen.{OfSeen}
+use Rattle.cnf_base.specs.Stream.{Reader, Stream, Along, fresh as fresh_stream}
 use Rattle.cnf_base.specs.declared.fault.Fault.{Fault}
 use Rattle.cnf_base.specs.declared.fault.Fault.TheVariants.{Text, Binary, ReadFailed, OutOfMemory}
 use Rattle.cnf_base.proofs.StreamLemmas.{Along-then, Along-map}
@@ -21,7 +22,8 @@ use Rattle.steps.specs.Rules.{Rule, lrat, drat, State, by_ids, by_copies, View, 
 use Rattle.steps.specs.Lrat.{with_clause}
 use Rattle.steps.specs.Sizes.{total, size, size_at, sum_to}
 use Rattle.steps.specs.Verdicts.{is_empty, numbered, lrat_start}
-use Rattle.steps.proofs.Copies.{same_itself, copies-cons, none_alive}
+use Rattle.steps.proofs.Copies.{copies-cons, none_alive}
+use Rattle.cnf_base.proofs.SetLemmas.{same_itself}
 use Rattle.steps.proofs.DratSteps.{none_listed}
 use Rattle.steps.proofs.LiveSets.{SameClauses-trans, SameClauses-eq}
 use Rattle.steps.proofs.Ruling.{same_trans, sum_same}
@@ -29,7 +31,8 @@ use Rattle.steps.proofs.SameSets.{with_same}
 use Rattle.steps.proofs.Sessions.{numbered_push, fresh_is_numbered}
 use Rattle.steps.proofs.Sums.{sum_with}
 use Rattle.sat_check.specs.Checking.{IsLoaded, LoadsBody, Loads}
-use Rattle.sat_check.proofs.ReadLemmas.{length_push, OfSeen, seen_nothing, seen_run, Reads, FaultAfter, Reads-start, Reads-clause, Reads-done, Reads-fault}
+use Rattle.sat_check.proofs.ReadLemmas.{length_push, seen_nothing, seen_run, Reads, FaultAfter, Reads-start, Reads-clause, Reads-done, Reads-fault}
+use Rattle.steps.specs.declared.drat_rules.DratRules.{DratRules}
 
 -- no clause has a number past the last
 pub numbered_above : (cs : List Clause) (k : ℕ) → length cs < k → numbered cs k ≡ None
@@ -49,13 +52,13 @@ total_push cs c =
 
 sum_push : (rule : Rule) (cs : List Clause) (c : Clause) → sum_of (start rule cs) ≤ sum_of (start rule (cs ++ c ∷ []))
 sum_push lrat cs c = omega (arith, total_push cs c)
-sum_push (drat strict) cs c = let more = sum_by-append size cs (c ∷ []) in omega (arith, more)
+sum_push (drat rules) cs c = let more = sum_by-append size cs (c ∷ []) in omega (arith, more)
 
 -- the next clause of a formula
 start_push : (rule : Rule) (cs : List Clause) (c : Clause) → Same (with_input (start rule cs) c) (start rule (cs ++ c ∷ []))
 start_push lrat cs c =
     (SameClauses-eq (with_clause (numbered cs) (length cs + 1) c) (numbered (cs ++ c ∷ [])) (numbered_push cs c), sym (length_push cs c))
-start_push (drat strict) cs c = (
+start_push (drat rules) cs c = (
   refl,
   record {
     copies = λ e.
@@ -123,11 +126,11 @@ none_there live is e k c at same = absurd (none_some (sym (ap (λ m. maps.get m 
     none_some : ◌≡◌ {A = Option Clause} None (Some c) → ⊥
     none_some e = cc
 
-pub drat_unused : (strict : Bool) (s : DratState) → s ≡ fresh_drat strict → IsLoaded (drat s.strict) (record { state = by_copies s.strict (clauses_of s); has_stepped = s.has_stepped; is_verified = s.is_verified; is_ended = s.is_ended; peak = s.peak; room = 4294967295 }) []
-drat_unused strict s is =
-    let P : DratState → Type 0 = λ s. IsLoaded (drat s.strict) (record { state = by_copies s.strict (clauses_of s); has_stepped = s.has_stepped; is_verified = s.is_verified; is_ended = s.is_ended; peak = s.peak; room = 4294967295 }) [] in
+pub drat_unused : (rules : DratRules) (s : DratState) → s ≡ fresh_drat rules → IsLoaded (drat s.rules) (record { state = by_copies s.rules (clauses_of s); has_stepped = s.has_stepped; is_verified = s.is_verified; is_ended = s.is_ended; peak = s.peak; room = 4294967295 }) []
+drat_unused rules s is =
+    let P : DratState → Type 0 = λ s. IsLoaded (drat s.rules) (record { state = by_copies s.rules (clauses_of s); has_stepped = s.has_stepped; is_verified = s.is_verified; is_ended = s.is_ended; peak = s.peak; room = 4294967295 }) [] in
     subst P (sym is) (record {
-      state = (refl, record { copies = λ e. none_alive e (clauses_of (fresh_drat strict)) (none_listed (fresh_drat strict).live e (none_there (fresh_drat strict).live refl e)) });
+      state = (refl, record { copies = λ e. none_alive e (clauses_of (fresh_drat rules)) (none_listed (fresh_drat rules).live e (none_there (fresh_drat rules).live refl e)) });
       verified = refl;
       sound = refl;
       unstepped = refl;
@@ -157,9 +160,12 @@ module _ (rule : Rule) (old now new : Reading) (s : View) (so_far : Loading rule
       let P : List Clause → Type 0 = IsLoaded rule s in
       (ap (λ b. b.fault) e, subst P (sym (ap (λ b. b.clauses) e)) so_far.loaded))
 
-  pub Loading-fault : (t : View) (c : Clause) (f : Fault) → Along now.stream new.stream (λ i j. GivesClause (Err f) c (to_come now i) (to_come new j))
-      → Along old.stream new.stream (λ i j. LoadsBody rule t (Err f) (to_come old i))
-  Loading-fault t c f gives = Along-map _ _ _ _ (Reads-fault old now new so_far.clauses so_far.reads c f gives) (λ i j m e. by f (to_come old i) e)
+  pub Loading-fault : (t : View) (c : Clause) (f : Fault) (result : Result (Unit {0}) Fault) → result ≡ Err f
+      → Along now.stream new.stream (λ i j. GivesClause (Err f) c (to_come now i) (to_come new j))
+      → Along old.stream new.stream (λ i j. LoadsBody rule t result (to_come old i))
+  Loading-fault t c f result is gives =
+      let P : Result (Unit {0}) Fault → Type 0 = λ r. Along old.stream new.stream (λ i j. LoadsBody rule t r (to_come old i)) in
+      subst P (sym is) (Along-map _ _ _ _ (Reads-fault old now new so_far.clauses so_far.reads c f gives) (λ i j m e. by f (to_come old i) e))
     where
       by : (f : Fault) (b : Body) → FaultAfter so_far.clauses f b → LoadsBody rule t (Err f) b
       by (Text k p) b e = ap (λ b. b.fault) e
@@ -173,17 +179,19 @@ module _ (rule : Rule) (old now new : Reading) (s : View) (so_far : Loading rule
 
 -- ---- A whole formula
 
-abbrev pub AllLoads : Rule → View → Option (List ℕ) → Option (List ℕ) → Result Header Fault → Type 0
+abbrev pub AllLoads : Rule → View → Reader → Reader → Result Header Fault → Type 0
 AllLoads rule s left new result = OfSeen left new (λ i. Loads rule s result (formula_of i))
 
 -- nothing was read
-pub loads_nothing : (rule : Rule) (s : View) (left new : Option (List ℕ)) → left ≡ new → AllLoads rule s left new (Err OutOfMemory)
-loads_nothing rule s left new same = seen_nothing (λ i. Loads rule s (Err OutOfMemory) (formula_of i)) left new same (λ i. tt)
+pub loads_refused : (rule : Rule) (s : View) (left new : Reader) (result : Result Header Fault) → left ≡ new → result ≡ Err OutOfMemory → AllLoads rule s left new result
+loads_refused rule s left new result same is =
+    let P : Result Header Fault → Type 0 = AllLoads rule s left new in
+    subst P (sym is) (seen_nothing (λ i. Loads rule s (Err OutOfMemory) (formula_of i)) left new same (λ i. tt))
 
-module _ (rule : Rule) (s : View) (left : Option (List ℕ)) (mark : Bool) (most_left : ℕ) (borrows : List ℕ) (source : Stream) (is : source ≡ fresh_stream left mark most_left borrows) where
-  all_loads : (last : Stream) (new : Option (List ℕ)) (result : Result Header Fault) → new ≡ last.left
+module _ (rule : Rule) (s : View) (left : Reader) (borrows : List ℕ) (source : Stream) (is : source ≡ fresh_stream left borrows) where
+  all_loads : (last : Stream) (new : Reader) (result : Result Header Fault) → new ≡ last.reader
       → Along source last (λ i j. Loads rule s result (formula_at source.place i)) → AllLoads rule s left new result
-  all_loads last new result kept run = seen_run (λ p i. Loads rule s result (formula_at p i)) left mark most_left borrows source last new is kept run
+  all_loads last new result kept run = seen_run (λ p i. Loads rule s result (formula_at p i)) left borrows source last new is kept run
 
   fault_loads : (f : Fault) (x : Formula) → x.fault ≡ Some f → Loads rule s (Err f) x
   fault_loads (Text k p) x e = e
@@ -197,15 +205,18 @@ module _ (rule : Rule) (s : View) (left : Option (List ℕ)) (mark : Bool) (most
   body_fault ReadFailed x h b e l = ap (λ y. y.fault) e ∙ l
   body_fault OutOfMemory x h b e l = tt
 
-  pub loads_fault : (f : Fault) (last : Stream) (new : Option (List ℕ)) → new ≡ last.left → Along source last (λ i j. formula_at source.place i ≡ unopened f) → AllLoads rule s left new (Err f)
+  pub loads_fault : (f : Fault) (last : Stream) (new : Reader) → new ≡ last.reader → Along source last (λ i j. formula_at source.place i ≡ unopened f) → AllLoads rule s left new (Err f)
   loads_fault f last new kept run = all_loads last new (Err f) kept (Along-map _ _ _ _ run (λ i j m p. fault_loads f _ (ap (λ y. y.fault) p)))
 
-  module _ (r : Reading) (last : Stream) (new : Option (List ℕ)) (kept : new ≡ last.left)
+  module _ (r : Reading) (last : Stream) (new : Reader) (kept : new ≡ last.reader)
       (opens : Along source r.stream (λ i j. formula_at source.place i ≡ opened r.header (to_come r j))) where
     pub loads_body : (h : Header) → h ≡ r.header → Along r.stream last (λ i j. LoadsBody rule s (Ok tt) (to_come r i)) → AllLoads rule s left new (Ok h)
     loads_body h same body = all_loads last new (Ok h) kept (Along-then _ _ _ _ _ _ opens body (λ i j k m p q.
         let P : List Clause → Type 0 = IsLoaded rule s in
         (ap (λ y. y.header) p ∙ ap Some (sym same), ap (λ y. y.fault) p ∙ q.0, subst P (sym (ap (λ y. y.clauses) p)) q.1)))
 
-    pub loads_body_fault : (f : Fault) → Along r.stream last (λ i j. LoadsBody rule s (Err f) (to_come r i)) → AllLoads rule s left new (Err f)
-    loads_body_fault f body = all_loads last new (Err f) kept (Along-then _ _ _ _ _ _ opens body (λ i j k m p q. body_fault f _ r.header _ p q))
+    pub loads_body_fault : (f : Fault) (result : Result Header Fault) → result ≡ Err f → Along r.stream last (λ i j. LoadsBody rule s (Err f) (to_come r i))
+        → AllLoads rule s left new result
+    loads_body_fault f result is body =
+        let P : Result Header Fault → Type 0 = AllLoads rule s left new in
+        subst P (sym is) (all_loads last new (Err f) kept (Along-then _ _ _ _ _ _ opens body (λ i j k m p q. body_fault f _ r.header _ p q)))

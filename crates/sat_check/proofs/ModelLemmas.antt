@@ -1,5 +1,5 @@
 -- The report of a model, and what a verified one says.
-use Rattle.std.proofs.Common.{◌≡◌, ℕ, ◌+◌, ◌*◌, ◌/◌, ◌%◌, cond, Bool, true, false, not, ◌||◌, List, [], ◌∷◌, length, Option, None, Some, refl, sym, ap, ◌∙◌, subst, arith, slice_get, codes}
+use Rattle.std.proofs.Common.{◌≡◌, ℕ, suc, ◌+◌, ◌*◌, ◌/◌, ◌%◌, cond, Bool, true, false, not, ◌||◌, List, [], ◌∷◌, length, Option, None, Some, refl, sym, ap, ◌∙◌, subst, arith, slice_get, codes}
 use Rattle.std.specs.Prelude.{Result, Ok, Err, IfOk, IsTrue, ◌==◌}
 use Rattle.std.proofs.lemmas.Bool.Decides.{nat_tests}
 use Rattle.cnf_base.specs.Lines.{Sink}
@@ -7,19 +7,20 @@ use Rattle.cnf_base.specs.Literals.{Literal, Clause, complement, has}
 use Rattle.cnf_base.specs.declared.fault.Fault.{Fault}
 use Rattle.cnf_base.specs.declared.fault.Fault.TheVariants.{Text, Binary, ReadFailed, OutOfMemory}
 use Rattle.cnf_base.proofs.SetLemmas.{any_from, any_some}
-use Rattle.dimacs.specs.Claim.{IsClaim, IsConsistent}
-use Rattle.dimacs.specs.Formula.{Formula}
+use Rattle.cnf_base.specs.Stream.{Input}
+use Rattle.dimacs.specs.Claim.{claim_of, IsClaim, IsConsistent}
+use Rattle.dimacs.specs.Formula.{Formula, formula_of}
 use Rattle.steps.specs.Models.{Assignment, holds, satisfies, HasModel}
 use Rattle.sat_check.specs.Lines.{fault_line, fault_status}
 use Rattle.sat_check.specs.Report.{Outcome, Report, concluded}
-use Rattle.sat_check.specs.ModelReport.{meets, first_unmet, met_report, clauses_report, claim_report}
+use Rattle.sat_check.specs.ModelReport.{meets, first_unmet, met_report, clauses_report, claim_report, model_report, Satisfies, ChecksModel}
 use Rattle.sat_check.specs.Judging.{Judges, judged_report}
 use Rattle.sat_check.specs.declared.judgement.Judgement.{Judgement}
 use Rattle.sat_check.specs.declared.judgement.Judgement.TheVariants.{Met, Unmet}
 use Rattle.sat_check.specs.declared.subject.Subject.TheVariants.{Model}
 use Rattle.sat_check.specs.declared.status.Status.{Status}
 use Rattle.sat_check.specs.declared.status.Status.TheVariants.{Verified, NotVerified}
-use Rattle.sat_check.proofs.SoundLemmas.{fault_is_no_verdict, outcome_verified}
+use Rattle.sat_check.proofs.SoundLemmas.{fault_is_no_verdict, outcome_verified, outcome_complete}
 
 -- ---- Literals that are the same set meet the same clauses
 
@@ -118,17 +119,28 @@ all_met k listed (d ∷ cs) h i c at = by (meets listed d) refl h (λ g. all_met
     by true is h next (Prim.Native.Nat.suc i) at = next h i c at
     by false is h next i at = absurd (let e : ◌≡◌ {A = Option ℕ} (Some k) None = h in cc)
 
-abbrev pub IsSatisfied : Result (List Literal) Fault → List Clause → Type 0
-IsSatisfied claim clauses = (listed : List Literal) × (claim ≡ Ok listed) × IsConsistent listed × ((k : ℕ) (c : Clause) → slice_get clauses k ≡ Some c → IsTrue (meets listed c))
+-- and none is where each is
+none_unmet : (k : ℕ) (listed : List Literal) (cs : List Clause) → ((i : ℕ) (c : Clause) → slice_get cs i ≡ Some c → IsTrue (meets listed c)) → first_unmet k listed cs ≡ None
+none_unmet k listed [] all = refl
+none_unmet k listed (c ∷ cs) all =
+    ap (λ b. cond b (first_unmet (k + 1) listed cs) (Some k)) (all 0 c refl) ∙ none_unmet (k + 1) listed cs (λ i d at. all (suc i) d at)
 
--- the report of a verified model comes only where its claim meets every clause
-pub verified_satisfied : (claim : Result (List Literal) Fault) (f : Formula) → (claim_report claim f).status ≡ Verified → IfOk claim IsConsistent → IsSatisfied claim f.clauses
+-- the report of a verified model comes only where its claim meets every clause, and the formula has no fault
+pub verified_satisfied : (claim : Result (List Literal) Fault) (f : Formula) → (claim_report claim f).status ≡ Verified → IfOk claim IsConsistent → Satisfies claim f.clauses × (f.fault ≡ None)
 verified_satisfied (Err e) f is consistent = absurd (fault_is_no_verdict e is)
-verified_satisfied (Ok listed) f is consistent = by (first_unmet 1 listed f.clauses) refl is
+verified_satisfied (Ok listed) f is consistent = by (first_unmet 1 listed f.clauses) f.fault refl refl is
   where
-    by : (u : Option ℕ) → first_unmet 1 listed f.clauses ≡ u → (clauses_report u f).status ≡ Verified → IsSatisfied (Ok listed) f.clauses
-    by (Some k) e is = absurd (let bad : NotVerified ≡ Verified = is in cc)
-    by None e is = (listed, refl, consistent, all_met 1 listed f.clauses e)
+    by : (u : Option ℕ) (fault : Option Fault) → first_unmet 1 listed f.clauses ≡ u → f.fault ≡ fault → (clauses_report u (record { header = f.header; clauses = f.clauses; fault = fault })).status ≡ Verified → Satisfies (Ok listed) f.clauses × (f.fault ≡ None)
+    by (Some k) fault e whole is = absurd (let bad : NotVerified ≡ Verified = is in cc)
+    by None (Some x) e whole is = absurd (fault_is_no_verdict x is)
+    by None None e whole is = (record { listed = listed; claimed = refl; consistent = consistent; met = all_met 1 listed f.clauses e }, whole)
+
+-- and of such a claim and formula it is the report
+pub satisfied_verified : (claim : Result (List Literal) Fault) (f : Formula) → f.fault ≡ None → Satisfies claim f.clauses → (claim_report claim f).status ≡ Verified
+satisfied_verified claim f whole s =
+    ap (λ c. (claim_report c f).status) s.claimed
+    ∙ ap (λ u. (clauses_report u f).status) (none_unmet 1 s.listed f.clauses s.met)
+    ∙ ap (λ o. (met_report (length f.clauses) o).status) whole
 
 -- Consistent literals give an assignment: what is listed is true, and no other variable is.
 abbrev pub assigned : List Literal → Assignment
@@ -158,5 +170,18 @@ met_satisfied listed consistent c h =
     any_from (holds (assigned listed)) c w.0 w.1 (listed_holds listed consistent w.0 w.2)
 
 -- and the formula has a model
-pub satisfied_model : (claim : Result (List Literal) Fault) (clauses : List Clause) → IsSatisfied claim clauses → HasModel (slice_get clauses)
-satisfied_model claim clauses s = (assigned s.0, λ k c at. met_satisfied s.0 s.2 c (s.3 k c at))
+satisfied_model : (claim : Result (List Literal) Fault) (clauses : List Clause) → Satisfies claim clauses → HasModel (slice_get clauses)
+satisfied_model claim clauses s = (assigned s.listed, λ k c at. met_satisfied s.listed s.consistent c (s.met k c at))
+
+-- all that is promised of a check of a model
+pub checks_model : (i j : Input) (old new : Option (List ℕ)) (status : Status) → Outcome status old new (model_report i j) → (status ≡ Verified → IfOk (claim_of j) IsConsistent) → ChecksModel i j old new status
+checks_model i j old new status o consistent = record {
+  outcome = o;
+  whole = λ is. (said is).1;
+  satisfied = λ is. (said is).0;
+  complete = λ whole s. outcome_complete status old new (model_report i j) (satisfied_verified (claim_of j) (formula_of i) whole s) o;
+  has_model = λ is. satisfied_model (claim_of j) (formula_of i).clauses (said is).0;
+}
+  where
+    said : status ≡ Verified → Satisfies (claim_of j) (formula_of i).clauses × ((formula_of i).fault ≡ None)
+    said is = verified_satisfied (claim_of j) (formula_of i) (outcome_verified status old new (model_report i j) is o) (consistent is)

@@ -2,8 +2,8 @@
 use Rattle.std.proofs.Common.{◌≡◌, ℕ, ◌+◌, Bool, true, false, List, [], ◌∷◌, ◌++◌, length, Option, None, Some, refl, sym, ap, ◌∙◌, subst, length-append}
 use Rattle.std.specs.Prelude.{Result, Ok, Err}
 use Rattle.cnf_base.specs.Literals.{Clause}
-use Rattle.cnf_base.specs.Stream.{Input, Stream, Along, fresh as fresh_stream}
-use Rattle.cnf_base.specs.Seen.{Seen, IsSeen}
+use Rattle.cnf_base.specs.Stream.{Input, Reader, Stream, Along, fresh as fresh_stream}
+use Rattle.cnf_base.specs.Seen.{OfSeen}
 use Rattle.cnf_base.specs.declared.fault.Fault.{Fault}
 use Rattle.cnf_base.specs.declared.fault.Fault.TheVariants.{Text, Binary, ReadFailed, OutOfMemory}
 use Rattle.cnf_base.specs.declared.place.Place.{Place}
@@ -14,23 +14,24 @@ use Rattle.dimacs.specs.Reading.{Reading, to_come, GivesClause}
 
 -- ---- A whole input
 
--- a fact of each input that was seen
-abbrev pub OfSeen : Option (List ℕ) → Option (List ℕ) → (Input → Type 0) → Type 0
-OfSeen left new P = (seen : Seen left new) × ((i : Input) → IsSeen seen i → P i)
-
 -- nothing was read
-pub seen_nothing : (P : Input → Type 0) (left new : Option (List ℕ)) → left ≡ new → ((i : Input) → P i) → OfSeen left new P
-seen_nothing P left new same all = let Q : Option (List ℕ) → Type 0 = λ l. OfSeen left l P in subst Q same (Seen-nothing left, λ i seen. all i)
+pub seen_nothing : (P : Input → Type 0) (old new : Reader) → old ≡ new → ((i : Input) → P i) → OfSeen old new P
+seen_nothing P old new same all =
+    let Q : Reader → Type 0 = λ r. OfSeen old r P in subst Q same (record { seen = Seen-nothing old; fact = λ i seen. all i })
 
 -- a reader that was fresh was read
-pub seen_run : (P : Place → Input → Type 0) (left : Option (List ℕ)) (mark : Bool) (most_left : ℕ) (borrows : List ℕ) (source last : Stream) (new : Option (List ℕ))
-    → source ≡ fresh_stream left mark most_left borrows → new ≡ last.left → Along source last (λ i j. P source.place i)
-    → OfSeen left new (P (record { line = 1; col = 1 }))
-seen_run P left mark most_left borrows source last new is kept run =
+pub seen_run : (P : Place → Input → Type 0) (old : Reader) (borrows : List ℕ) (source last : Stream) (new : Reader)
+    → source ≡ fresh_stream old borrows → new ≡ last.reader → Along source last (λ i j. P source.place i)
+    → OfSeen old new (P (record { line = 1; col = 1 }))
+seen_run P old borrows source last new is kept run =
     let Q : Stream → Type 0 = λ x. Along x last (λ i j. P x.place i) in
     let R : Input → Input → Type 0 = λ i j. P (record { line = 1; col = 1 }) i in
+    let S : Reader → Type 0 = λ r. OfSeen old r (P (record { line = 1; col = 1 })) in
     let from_start = subst Q is run in
-    (Seen-run left mark most_left borrows last new R from_start kept, λ i seen. (Seen-fact left mark most_left borrows last new R from_start kept i seen).2)
+    subst S (sym kept) (record {
+      seen = Seen-run old borrows last R from_start;
+      fact = λ i seen. (Seen-fact old borrows last R from_start i seen).2;
+    })
 
 -- ---- A formula's clauses
 

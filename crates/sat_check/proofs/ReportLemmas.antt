@@ -18,7 +18,7 @@ use Rattle.steps.specs.Rules.{Rule, lrat, drat, View, start, Answers, after, sum
 use Rattle.steps.specs.Verdicts.{verified, is_empty, Ends}
 use Rattle.steps.proofs.Ruling.{ends_same, sum_same}
 use Rattle.sat_check.specs.Lines.{formula_line, steps_line, fault_line, fault_status}
-use Rattle.sat_check.specs.Report.{Report, Outcome, concluded, with_lines, Checks, ReportsFormula, ProofReport, steps_of, peak_of, proof_report}
+use Rattle.sat_check.specs.Report.{Report, Outcome, Reports, concluded, with_lines, Checks, ReportsFormula, ProofReport, steps_of, peak_of, proof_report}
 use Rattle.sat_check.specs.Checking.{IsLoaded, Loads, Rest, Bounded}
 use Rattle.sat_check.proofs.ShownLemmas.{steps_same}
 use Rattle.sat_check.specs.declared.subject.Subject.TheVariants as subjects
@@ -34,7 +34,7 @@ no_words = []
 
 start_bounded : (rule : Rule) (clauses : List Clause) → Bounded (start rule clauses)
 start_bounded lrat clauses = record { bound = length clauses; none = numbered_above clauses }
-start_bounded (drat strict) clauses = tt
+start_bounded (drat rules) clauses = tt
 
 module _ (rule : Rule) (s : View) (clauses : List Clause) (l : IsLoaded rule s clauses) where
   pub loaded_bounded : Bounded s.state
@@ -142,11 +142,12 @@ some_report rule trace i p = report_any rule trace (header_of (listing_of i)) p
 pub err_report : (rule : Rule) (s : View) (trace : Bool) (f : Fault) (i : Input) (p : Proof) (status : Status) (was now : Sink) → Loads rule s (Err f) (formula_of i)
     → (f ≡ OutOfMemory → (r : Report) → Outcome status was.held now.held r)
     → ((f ≡ OutOfMemory → ⊥) → Outcome status was.held now.held (concluded subjects.Proof (fault_line (codes "formula") f) (fault_status f)))
-    → (r : Report) × ProofReport rule trace i p r × Outcome status was.held now.held r
-err_report rule s trace (Text k x) i p status was now l memory told = (_, reports_fault rule trace (formula_of i) p (Text k x) l, told (λ e. cc))
-err_report rule s trace (Binary k x) i p status was now l memory told = (_, reports_fault rule trace (formula_of i) p (Binary k x) l, told (λ e. cc))
-err_report rule s trace ReadFailed i p status was now l memory told = (_, reports_fault rule trace (formula_of i) p ReadFailed l, told (λ e. cc))
-err_report rule s trace OutOfMemory i p status was now l memory told = let some = some_report rule trace i p in (some.0, some.1, memory refl some.0)
+    → Reports rule trace i p was.held now.held status
+err_report rule s trace (Text k x) i p status was now l memory told = record { report = _; reports = reports_fault rule trace (formula_of i) p (Text k x) l; outcome = told (λ e. cc) }
+err_report rule s trace (Binary k x) i p status was now l memory told = record { report = _; reports = reports_fault rule trace (formula_of i) p (Binary k x) l; outcome = told (λ e. cc) }
+err_report rule s trace ReadFailed i p status was now l memory told = record { report = _; reports = reports_fault rule trace (formula_of i) p ReadFailed l; outcome = told (λ e. cc) }
+err_report rule s trace OutOfMemory i p status was now l memory told =
+    let some = some_report rule trace i p in record { report = some.0; reports = some.1; outcome = memory refl some.0 }
 
 -- a formula with an empty clause
 pub verified_report : (rule : Rule) (s : View) (clauses : List Clause) (l : IsLoaded rule s clauses) (trace : Bool) (h : Header) (p : Proof) (status : Status) (was mid now : Sink) (m : ℕ)

@@ -1,22 +1,23 @@
--- A verified formula has no model.
-use Rattle.std.proofs.Common.{◌≡◌, ℕ, Bool, Option, None, Some, List, refl, sym, ap, ◌∙◌, subst, slice_get}
-use Rattle.cnf_base.specs.Literals.{Clause}
+-- What status 0 and a written `s VERIFIED` mean.
+use Rattle.std.proofs.Common.{◌≡◌, ℕ, ◌+◌, Bool, Option, None, Some, List, length, refl, sym, ap, ◌∙◌, subst, slice_get, inl, inr}
 use Rattle.cnf_base.specs.Stream.{Input}
 use Rattle.cnf_base.specs.declared.fault.Fault.{Fault}
-use Rattle.cnf_base.specs.declared.fault.Fault.TheVariants.{Text, Binary, ReadFailed, OutOfMemory}
+use Rattle.cnf_base.specs.declared.fault.Fault.TheVariants as faults
 use Rattle.cnf_base.specs.declared.fault.TextFault.{TextFault}
 use Rattle.cnf_base.specs.declared.fault.TextFault.TheVariants as text
-use Rattle.dimacs.specs.Formula.{formula_of}
+use Rattle.dimacs.specs.Formula.{Formula, formula_of}
 use Rattle.dimacs.specs.declared.header.Header.{Header}
 use Rattle.proofs.specs.Reading.{Proof}
 use Rattle.steps.specs.Models.{HasModel}
-use Rattle.steps.specs.Rules.{Rule, Verdict}
+use Rattle.steps.specs.Rules.{Rule, start, Verdict}
 use Rattle.steps.specs.Verdicts.{Ending, verified, refused, no_empty_clause}
 use Rattle.steps.proofs.Ruling.{verdict_sound}
 use Rattle.sat_check.specs.Lines.{fault_status, text_status}
-use Rattle.sat_check.specs.Report.{Report, Outcome, Checks, ReportsFormula, ProofReport, steps_of, verdict_report}
+use Rattle.sat_check.specs.Report.{Report, Outcome, ReportsFormula, ProofReport, Verifies, Reports, ChecksProof, IsUnlessBroken, steps_of, peak_of, verdict_report}
 use Rattle.sat_check.specs.declared.status.Status.{Status}
-use Rattle.sat_check.specs.declared.status.Status.TheVariants.{Verified, NotVerified}
+use Rattle.sat_check.specs.declared.status.Status.TheVariants.{Verified, NotVerified, Malformed, ReadFailed, OutOfMemory, WriteFailed, Usage}
+use Rattle.sat_check.proofs.UniqueLemmas.{verdict_unique}
+use Rattle.sat_check.proofs.WrittenLemmas.{written_verified}
 
 -- no fault is a positive verdict
 kind_is_no_verdict : (k : TextFault) → text_status k ≡ Verified → ⊥
@@ -25,10 +26,10 @@ kind_is_no_verdict text.Complement e = cc
 kind_is_no_verdict _ e = cc
 
 pub fault_is_no_verdict : (f : Fault) → fault_status f ≡ Verified → ⊥
-fault_is_no_verdict (Text k p) e = kind_is_no_verdict k e
-fault_is_no_verdict (Binary k n) e = cc
-fault_is_no_verdict ReadFailed e = cc
-fault_is_no_verdict OutOfMemory e = cc
+fault_is_no_verdict (faults.Text k p) e = kind_is_no_verdict k e
+fault_is_no_verdict (faults.Binary k n) e = cc
+fault_is_no_verdict faults.ReadFailed e = cc
+fault_is_no_verdict faults.OutOfMemory e = cc
 
 -- only the verdict "verified" has that status
 verdict_is_verified : (n peak : ℕ) (ending : Ending) (fault : Option Fault) → (verdict_report n peak ending fault).status ≡ Verified → ending ≡ verified
@@ -37,19 +38,32 @@ verdict_is_verified n peak (refused r) fault e = absurd (let bad : NotVerified �
 verdict_is_verified n peak no_empty_clause None e = absurd (let bad : NotVerified ≡ Verified = e in cc)
 verdict_is_verified n peak no_empty_clause (Some f) e = absurd (fault_is_no_verdict f e)
 
-checks_sound : (rule : Rule) (trace : Bool) (h : Header) (clauses : List Clause) (p : Proof) (r : Report) → Checks rule trace h clauses p r → r.status ≡ Verified → ¬ HasModel (slice_get clauses)
-checks_sound rule trace h clauses p r c is =
-    let ends : c.ending ≡ verified = verdict_is_verified _ _ c.ending p.fault (sym (ap (λ x. x.status) c.report) ∙ is) in
-    let P : Ending → Type 0 = Verdict rule clauses (steps_of p) c.words in
-    verdict_sound rule clauses (steps_of p) c.words (subst P ends c.verdict)
-
-pub report_sound : (rule : Rule) (trace : Bool) (i : Input) (p : Proof) (r : Report) → ProofReport rule trace i p r → r.status ≡ Verified → ¬ HasModel (slice_get (formula_of i).clauses)
-report_sound rule trace i p r reports is = by (formula_of i).header (formula_of i).clauses (formula_of i).fault reports
+-- a report of status 0 is that of a proof that verifies the formula
+pub report_verified : (rule : Rule) (trace : Bool) (i : Input) (p : Proof) (r : Report) → ProofReport rule trace i p r → r.status ≡ Verified → Verifies rule (formula_of i) p
+report_verified rule trace i p r reports is = by (formula_of i).header (formula_of i).fault refl reports
   where
-    by : (header : Option Header) (clauses : List Clause) (fault : Option Fault) → ReportsFormula rule trace header clauses fault p r → ¬ HasModel (slice_get clauses)
-    by header clauses (Some f) e = absurd (fault_is_no_verdict f (sym (ap (λ x. x.status) e) ∙ is))
-    by (Some h) clauses None c = checks_sound rule trace h clauses p r c is
-    by None clauses None c = absurd c
+    by : (header : Option Header) (fault : Option Fault) → (formula_of i).fault ≡ fault → ReportsFormula rule trace header (formula_of i).clauses fault p r → Verifies rule (formula_of i) p
+    by header (Some f) whole e = absurd (fault_is_no_verdict f (sym (ap (λ x. x.status) e) ∙ is))
+    by (Some h) None whole c =
+        let ends : c.ending ≡ verified = verdict_is_verified _ _ c.ending p.fault (sym (ap (λ x. x.status) c.report) ∙ is) in
+        let P : Ending → Type 0 = Verdict rule (formula_of i).clauses (steps_of p) c.words in
+        record { whole = whole; words = c.words; verdict = subst P ends c.verdict }
+    by None None whole c = absurd c
+
+-- and the report of such a proof has status 0
+pub verifies_reported : (rule : Rule) (trace : Bool) (i : Input) (p : Proof) (r : Report) → Verifies rule (formula_of i) p → ProofReport rule trace i p r → r.status ≡ Verified
+verifies_reported rule trace i p r v reports = by (formula_of i).header (formula_of i).fault v.whole reports
+  where
+    by : (header : Option Header) (fault : Option Fault) → fault ≡ None → ReportsFormula rule trace header (formula_of i).clauses fault p r → r.status ≡ Verified
+    by header (Some f) whole e = absurd (cc)
+    by (Some h) None whole c =
+        let same = verdict_unique rule (formula_of i).clauses (steps_of p) c.words v.words c.ending verified c.verdict v.verdict in
+        ap (λ x. x.status) c.report ∙ ap (λ e. (verdict_report (0 + length c.words) (peak_of (start rule (formula_of i).clauses) (steps_of p) c.words) e p.fault).status) same.1
+    by None None whole c = absurd c
+
+-- a formula that a proof verifies has no model
+pub verifies_sound : (rule : Rule) (f : Formula) (p : Proof) → Verifies rule f p → ¬ HasModel (slice_get f.clauses)
+verifies_sound rule f p v = verdict_sound rule f.clauses (steps_of p) v.words v.verdict
 
 -- status 0 is that of the report
 pub outcome_verified : (status : Status) (old new : Option (List ℕ)) (r : Report) → status ≡ Verified → Outcome status old new r → r.status ≡ Verified
@@ -57,3 +71,26 @@ outcome_verified status old new r is o =
     let P : Status → Type 0 = λ s. Outcome s old new r in
     let x : (Verified ≡ r.status) × _ = subst P is o in
     sym x.0
+
+-- where the report has status 0, so has the run, unless memory or the writer failed
+pub outcome_complete : (status : Status) (old new : Option (List ℕ)) (r : Report) → r.status ≡ Verified → Outcome status old new r → IsUnlessBroken Verified status
+outcome_complete Verified old new r is o = inl refl
+outcome_complete OutOfMemory old new r is o = inr (inl refl)
+outcome_complete WriteFailed old new r is o = inr (inr refl)
+outcome_complete NotVerified old new r is o = absurd (let bad : NotVerified ≡ Verified = o.0 ∙ is in cc)
+outcome_complete Malformed old new r is o = absurd (let bad : Malformed ≡ Verified = o.0 ∙ is in cc)
+outcome_complete ReadFailed old new r is o = absurd (let bad : ReadFailed ≡ Verified = o.0 ∙ is in cc)
+outcome_complete Usage old new r is o = absurd (let bad : Usage ≡ Verified = o.0 ∙ is in cc)
+
+-- all that is promised of a check of a proof
+pub checks_proof : (rule : Rule) (trace : Bool) (i : Input) (p : Proof) (old new : Option (List ℕ)) (status : Status) → Reports rule trace i p old new status → ChecksProof rule trace i p old new status
+checks_proof rule trace i p old new status x = record {
+  reports = x;
+  verified = λ is. report_verified rule trace i p x.report x.reports (outcome_verified status old new x.report is x.outcome);
+  complete = λ v. outcome_complete status old new x.report (verifies_reported rule trace i p x.report v x.reports) x.outcome;
+  sound = λ is. refuted (outcome_verified status old new x.report is x.outcome);
+  written = λ w. refuted (written_verified rule trace i p x.report status old new x.reports x.outcome w);
+}
+  where
+    refuted : x.report.status ≡ Verified → ¬ HasModel (slice_get (formula_of i).clauses)
+    refuted is = verifies_sound rule (formula_of i) p (report_verified rule trace i p x.report x.reports is)

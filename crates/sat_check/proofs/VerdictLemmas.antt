@@ -105,16 +105,16 @@ live_bounded first second same b = record {
 -- each step has an answer
 some_answer : (state : State) → Bounded state → (step : Step) → (answer : Answer) × Answers state step answer
 some_answer (by_ids s) b step = lrat_answer s b (lrat_step step)
-some_answer (by_copies strict live) b step = drat_answer strict live (drat_step step)
+some_answer (by_copies rules live) b step = drat_answer rules live (drat_step step)
 
 pub after_bounded : (state : State) (step : Step) → Bounded state → Bounded (after state step)
 after_bounded (by_ids s) step b = lrat_bounded s (lrat_step step) b
-after_bounded (by_copies strict live) step b = tt
+after_bounded (by_copies rules live) step b = tt
 
 pub same_bounded : (first second : State) → Same first second → Bounded second → Bounded first
 same_bounded (by_ids s) (by_ids t) same b = live_bounded s.live t.live same.0 b
-same_bounded (by_copies strict x) second same b = tt
-same_bounded (by_ids s) (by_copies strict y) same b = absurd same
+same_bounded (by_copies rules x) second same b = tt
+same_bounded (by_ids s) (by_copies rules y) same b = absurd same
 
 abbrev no_words : List Accepted
 no_words = []

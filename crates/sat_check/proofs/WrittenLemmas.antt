@@ -5,14 +5,14 @@ use Rattle.std.specs.Fmt.{digits, digits_onto, digit_glyph}
 use Rattle.std.specs.List.{list_all, list_any, onto_first}
 use Rattle.std.specs.Str.{bytes_eq}
 use Rattle.std.specs.Io.KnownBytes.{Appends}
+use Rattle.std.proofs.lemmas.Bool.{and_parts}
 use Rattle.std.proofs.lemmas.Bool.Decides.{nat_tests}
 use Rattle.std.proofs.lemmas.List.{append_cancel_left}
 use Rattle.std.proofs.lemmas.List.Folds.{list_all-append, list_any-append}
 use Rattle.cnf_base.proofs.LineLemmas.{append_nil}
-use Rattle.cnf_base.proofs.TextLemmas.{first_part}
 use Rattle.cnf_base.specs.Literals.{Literal, Clause}
 use Rattle.cnf_base.specs.Stream.{Input}
-use Rattle.cnf_base.specs.Text.{but_last, lines_of}
+use Rattle.cnf_base.specs.Text.{lines_of}
 use Rattle.cnf_base.specs.declared.fault.Fault.{Fault}
 use Rattle.cnf_base.specs.declared.fault.Fault.TheVariants as fault
 use Rattle.cnf_base.specs.declared.fault.TextFault.{TextFault}
@@ -29,7 +29,7 @@ use Rattle.steps.specs.declared.accepted.Accepted.TheVariants.{Rup, Rat, Deleted
 use Rattle.steps.specs.declared.refusal.Refusal.{Refusal}
 use Rattle.steps.specs.declared.refusal.Refusal.TheVariants as refusal
 use Rattle.sat_check.specs.Lines.{shown, formula_line, kind_text, binary_text, fault_line, fault_status, word_text, trace_line, sign_text, with_cause, refusal_line, steps_line, end_line, sentence}
-use Rattle.sat_check.specs.Report.{Report, Outcome, text_of, concluded, with_lines, trace_lines, verdict_report, proof_report, ReportsFormula, ProofReport, whole_lines, HasWritten}
+use Rattle.sat_check.specs.Report.{Report, Outcome, text_of, concluded, with_lines, trace_lines, verdict_report, proof_report, ReportsFormula, ProofReport, HasWritten}
 use Rattle.sat_check.proofs.OutcomeLemmas.{text_of-append}
 use Rattle.sat_check.specs.declared.status.Status.{Status}
 use Rattle.sat_check.specs.declared.subject.Subject.TheVariants.{Proof as about_proof}
@@ -67,7 +67,23 @@ number_plain : (n : ℕ) → Plain (decimal n)
 unfolding digits
 number_plain n = record { test = digits_test 64 n [] refl }
 
--- ---- The whole lines of a text
+-- ---- The lines of a beginning of a text
+
+-- the first bytes of a line
+abbrev begins : List ℕ → List ℕ → Bool
+begins [] line = true
+begins (b ∷ bs) [] = false
+begins (b ∷ bs) (c ∷ cs) = (b == c) && begins bs cs
+
+-- equal lines begin alike
+begins_same : (line part rest : List ℕ) → bytes_eq line part ≡ true → begins line (part ++ rest) ≡ true
+begins_same [] part rest e = refl
+begins_same (b ∷ bs) [] rest e = absurd (let bad : false ≡ true = e in cc)
+begins_same (b ∷ bs) (c ∷ cs) rest e = by (b == c) e (begins_same bs cs rest)
+  where
+    by : (v : Bool) → (v && bytes_eq bs cs) ≡ true → (bytes_eq bs cs ≡ true → begins bs (cs ++ rest) ≡ true) → (v && begins bs (cs ++ rest)) ≡ true
+    by true e next = next e
+    by false e next = absurd (let bad : false ≡ true = e in cc)
 
 cut_line : (line ys : List ℕ) → has_no_feed line ≡ true → lines_of (line ++ 10 ∷ ys) ≡ line ∷ lines_of ys
 cut_line [] ys e = refl
@@ -79,71 +95,81 @@ cut_line (b ∷ bs) ys e = by (b == 10) refl (cut_line bs ys)
         let rest : has_no_feed bs ≡ true = sym (ap (λ v. not v && has_no_feed bs) h) ∙ e in
         ap (λ v. cond v ([] ∷ lines_of (bs ++ 10 ∷ ys)) (onto_first b (lines_of (bs ++ 10 ∷ ys)))) h ∙ ap (onto_first b) (next rest)
 
-but_last-cons : (line ys : List ℕ) → but_last (line ∷ lines_of ys) ≡ line ∷ whole_lines ys
-but_last-cons line ys =
-    let f = first_part (λ b. b == 10) ys in
-    ap (λ t. but_last (line ∷ t)) f.2 ∙ sym (ap (λ t. line ∷ but_last t) f.2)
-
--- the whole lines of a text of lines are these
-lines_again : (lines : List (List ℕ)) → list_all has_no_feed lines ≡ true → whole_lines (text_of lines) ≡ lines
-lines_again [] e = refl
-lines_again (line ∷ lines) e = by (has_no_feed line) refl (lines_again lines)
+uncut_line : (line : List ℕ) → has_no_feed line ≡ true → lines_of line ≡ line ∷ []
+uncut_line [] e = refl
+uncut_line (b ∷ bs) e = by (b == 10) refl (uncut_line bs)
   where
-    by : (v : Bool) → has_no_feed line ≡ v → (list_all has_no_feed lines ≡ true → whole_lines (text_of lines) ≡ lines) → whole_lines (text_of (line ∷ lines)) ≡ line ∷ lines
-    by false h next = absurd (let bad : false ≡ true = sym (ap (λ v. v && list_all has_no_feed lines) h) ∙ e in cc)
-    by true h next =
-        let rest : list_all has_no_feed lines ≡ true = sym (ap (λ v. v && list_all has_no_feed lines) h) ∙ e in
-        ap whole_lines (append_assoc line (10 ∷ []) (text_of lines))
-        ∙ ap but_last (cut_line line (text_of lines) h)
-        ∙ but_last-cons line (text_of lines)
-        ∙ ap (λ t. line ∷ t) (next rest)
+    by : (v : Bool) → (b == 10) ≡ v → (has_no_feed bs ≡ true → lines_of bs ≡ bs ∷ []) → lines_of (b ∷ bs) ≡ (b ∷ bs) ∷ []
+    by true h next = absurd (let bad : false ≡ true = sym (ap (λ v. not v && has_no_feed bs) h) ∙ e in cc)
+    by false h next =
+        let rest : has_no_feed bs ≡ true = sym (ap (λ v. not v && has_no_feed bs) h) ∙ e in
+        ap (λ v. cond v ([] ∷ lines_of bs) (onto_first b (lines_of bs))) h ∙ ap (onto_first b) (next rest)
 
-abbrev Extends : List (List ℕ) → List (List ℕ) → Type 0
-Extends few many = (more : List (List ℕ)) × (many ≡ few ++ more)
+-- a beginning of a line and what follows it is a beginning of the line, or the line and a beginning of what follows
+data Cut (line text part rest : List ℕ) : Type 0 where
+  within : (x : List ℕ) → line ≡ part ++ x → Cut line text part rest
+  past : (x : List ℕ) → part ≡ line ++ 10 ∷ x → text ≡ x ++ rest → Cut line text part rest
 
-extends_first : (x : ℕ) (f g : List ℕ) (fs gs : List (List ℕ)) → Extends (but_last (f ∷ fs)) (but_last (g ∷ gs)) → Extends (but_last ((x ∷ f) ∷ fs)) (but_last ((x ∷ g) ∷ gs))
-extends_first x f g [] gs e = (but_last ((x ∷ g) ∷ gs), refl)
-extends_first x f g (h ∷ fs) [] e = absurd (let bad : [] ≡ f ∷ (but_last (h ∷ fs) ++ e.0) = e.1 in cc)
-extends_first x f g (h ∷ fs) (k ∷ gs) e =
-    let both : g ∷ but_last (k ∷ gs) ≡ f ∷ (but_last (h ∷ fs) ++ e.0) = e.1 in
-    let same : g ≡ f = cc in
-    let rest : but_last (k ∷ gs) ≡ but_last (h ∷ fs) ++ e.0 = cc in
-    (e.0, ap (λ t. (x ∷ t) ∷ but_last (k ∷ gs)) same ∙ ap (λ t. (x ∷ f) ∷ t) rest)
+cut_at : (line text part rest : List ℕ) → line ++ 10 ∷ text ≡ part ++ rest → Cut line text part rest
+cut_at line text [] rest e = within line refl
+cut_at [] text (b ∷ bs) rest e =
+    let first : b ≡ 10 = cc in
+    let others : text ≡ bs ++ rest = cc in
+    past bs (ap (λ x. x ∷ bs) first) others
+cut_at (l ∷ ls) text (b ∷ bs) rest e =
+    let first : l ≡ b = cc in
+    let others : ls ++ 10 ∷ text ≡ bs ++ rest = cc in
+    elim (cut_at ls text bs rest others) [
+      | within x is ↦ within x (ap (λ y. l ∷ y) is ∙ ap (λ y. y ∷ bs ++ x) first)
+      | past x is more ↦ past x (ap (λ y. b ∷ y) is ∙ ap (λ y. y ∷ ls ++ 10 ∷ x) (sym first)) more
+    ]
 
--- the whole lines of a beginning are the first of the whole lines
-lines_grow : (xs ys : List ℕ) → Extends (whole_lines xs) (whole_lines (xs ++ ys))
-lines_grow [] ys = (whole_lines ys, refl)
-lines_grow (x ∷ xs) ys = by (x == 10) (lines_grow xs ys)
+-- a line that was written whole, or last without its line feed, begins one of the lines of the text
+among_lines : (b : ℕ) (bs : List ℕ) (lines : List (List ℕ)) (part rest : List ℕ) → list_all has_no_feed lines ≡ true → text_of lines ≡ part ++ rest
+    → list_any (bytes_eq (b ∷ bs)) (lines_of part) ≡ true → list_any (begins (b ∷ bs)) lines ≡ true
+among_lines b bs [] [] rest all whole written = absurd (let bad : false ≡ true = written in cc)
+among_lines b bs [] (p ∷ ps) rest all whole written = absurd (cc)
+among_lines b bs (line ∷ lines) part rest all whole written =
+    let both = and_parts (has_no_feed line) (list_all has_no_feed lines) all in
+    let cut = cut_at line (text_of lines) part rest (sym (append_assoc line (10 ∷ []) (text_of lines)) ∙ whole) in
+    elim cut [
+      | within x is ↦
+          let plain = (and_parts _ _ (sym (list_all-append _ part x) ∙ ap has_no_feed (sym is) ∙ both.0)).0 in
+          let same = or_last _ (sym (ap (list_any (bytes_eq (b ∷ bs))) (uncut_line part plain)) ∙ written) in
+          or_first _ _ (ap (begins (b ∷ bs)) is ∙ begins_same (b ∷ bs) part x same)
+      | past x is more ↦
+          let told = sym (ap (λ y. list_any (bytes_eq (b ∷ bs)) (lines_of y)) is ∙ ap (list_any (bytes_eq (b ∷ bs))) (cut_line line x both.0)) ∙ written in
+          by_line line lines (lines_of x) told (among_lines b bs lines x rest both.1 more)
+    ]
   where
-    by : (v : Bool) → Extends (whole_lines xs) (whole_lines (xs ++ ys))
-        → Extends (but_last (cond v ([] ∷ lines_of xs) (onto_first x (lines_of xs)))) (but_last (cond v ([] ∷ lines_of (xs ++ ys)) (onto_first x (lines_of (xs ++ ys)))))
-    by true e = (e.0, but_last-cons [] (xs ++ ys) ∙ ap (λ t. [] ∷ t) e.1 ∙ sym (ap (λ t. t ++ e.0) (but_last-cons [] xs)))
-    by false e =
-        let f = first_part (λ b. b == 10) xs in
-        let g = first_part (λ b. b == 10) (xs ++ ys) in
-        let P : List (List ℕ) → Type 0 = λ t. Extends (but_last t) (but_last (lines_of (xs ++ ys))) in
-        let Q : List (List ℕ) → Type 0 = λ t. Extends (but_last (f.0 ∷ f.1)) (but_last t) in
-        let R : List (List ℕ) → Type 0 = λ t. Extends (but_last (onto_first x t)) (but_last ((x ∷ g.0) ∷ g.1)) in
-        let S : List (List ℕ) → Type 0 = λ t. Extends (but_last (onto_first x (lines_of xs))) (but_last (onto_first x t)) in
-        subst S (sym g.2) (subst R (sym f.2) (extends_first x f.0 g.0 f.1 g.1 (subst Q g.2 (subst P f.2 e))))
+    or_last : (v : Bool) → (v || false) ≡ true → v ≡ true
+    or_last true e = refl
+    or_last false e = absurd (let bad : false ≡ true = e in cc)
 
--- a line of a beginning of a text of lines is one of these
-among_lines : (line : List ℕ) (lines : List (List ℕ)) (part rest : List ℕ) → list_all has_no_feed lines ≡ true → text_of lines ≡ part ++ rest
-    → list_any (bytes_eq line) (whole_lines part) ≡ true → list_any (bytes_eq line) lines ≡ true
-among_lines line lines part rest all whole written =
-    let grown = lines_grow part rest in
-    let is : lines ≡ whole_lines part ++ grown.0 = sym (lines_again lines all) ∙ ap whole_lines whole ∙ grown.1 in
-    ap (list_any (bytes_eq line)) is ∙ list_any-append _ (whole_lines part) grown.0 ∙ ap (λ v. v || list_any (bytes_eq line) grown.0) written
+    or_first : (v w : Bool) → v ≡ true → (v || w) ≡ true
+    or_first v w e = ap (λ x. x || w) e
+
+    or_then : (v w : Bool) → w ≡ true → (v || w) ≡ true
+    or_then true w e = refl
+    or_then false w e = e
+
+    by_line : (line : List ℕ) (lines text : List (List ℕ)) → (bytes_eq (b ∷ bs) line || list_any (bytes_eq (b ∷ bs)) text) ≡ true
+        → (list_any (bytes_eq (b ∷ bs)) text ≡ true → list_any (begins (b ∷ bs)) lines ≡ true) → (begins (b ∷ bs) line || list_any (begins (b ∷ bs)) lines) ≡ true
+    by_line line lines text e next = by (bytes_eq (b ∷ bs) line) refl e
+      where
+        by : (v : Bool) → bytes_eq (b ∷ bs) line ≡ v → (v || list_any (bytes_eq (b ∷ bs)) text) ≡ true → (begins (b ∷ bs) line || list_any (begins (b ∷ bs)) lines) ≡ true
+        by true is e = or_first _ _ (ap (begins (b ∷ bs)) (sym (append_nil line)) ∙ begins_same (b ∷ bs) line [] is)
+        by false is e = or_then (begins (b ∷ bs) line) _ (next e)
 
 -- ---- The lines of a report
 
 abbrev positive : List ℕ
 positive = codes "s VERIFIED"
 
--- the line `s VERIFIED` is among the lines under status 0 alone
+-- a line that begins with `s VERIFIED` is among the lines under status 0 alone
 record Tells (r : Report) : Type 0 where
   plain : list_all has_no_feed r.lines ≡ true
-  told : list_any (bytes_eq positive) r.lines ≡ true → r.status ≡ Verified
+  told : list_any (begins positive) r.lines ≡ true → r.status ≡ Verified
 
 sentence_plain : (s : Status) → Plain (sentence about_proof s)
 sentence_plain Verified = fixed _ refl
@@ -154,7 +180,7 @@ sentence_plain OutOfMemory = fixed _ refl
 sentence_plain WriteFailed = fixed _ refl
 sentence_plain Usage = fixed _ refl
 
-sentence_told : (s : Status) → (bytes_eq positive (sentence about_proof s) || false) ≡ true → s ≡ Verified
+sentence_told : (s : Status) → (begins positive (sentence about_proof s) || false) ≡ true → s ≡ Verified
 sentence_told Verified e = refl
 sentence_told NotVerified e = absurd (let bad : false ≡ true = e in cc)
 sentence_told Malformed e = absurd (let bad : false ≡ true = e in cc)
@@ -163,10 +189,10 @@ sentence_told OutOfMemory e = absurd (let bad : false ≡ true = e in cc)
 sentence_told WriteFailed e = absurd (let bad : false ≡ true = e in cc)
 sentence_told Usage e = absurd (let bad : false ≡ true = e in cc)
 
-concluded_tells : (line : List ℕ) (s : Status) → Plain line → bytes_eq positive line ≡ false → Tells (concluded about_proof line s)
+concluded_tells : (line : List ℕ) (s : Status) → Plain line → begins positive line ≡ false → Tells (concluded about_proof line s)
 concluded_tells line s e other = record {
   plain = ap (λ v. v && (has_no_feed (sentence about_proof s) && true)) e.test ∙ ap (λ v. v && true) (sentence_plain s).test;
-  told = λ h. sentence_told s (sym (ap (λ v. v || (bytes_eq positive (sentence about_proof s) || false)) other) ∙ h);
+  told = λ h. sentence_told s (sym (ap (λ v. v || (begins positive (sentence about_proof s) || false)) other) ∙ h);
 }
 
 kind_plain : (k : TextFault) → Plain (kind_text k)
@@ -202,7 +228,7 @@ fault_plain name (fault.Binary kind n) e =
 fault_plain name fault.ReadFailed e = fixed (codes "c cannot read ") refl ⊕ e
 fault_plain name fault.OutOfMemory e = fixed [] refl
 
-fault_other : (name : List ℕ) (f : Fault) → bytes_eq positive (fault_line name f) ≡ false
+fault_other : (name : List ℕ) (f : Fault) → begins positive (fault_line name f) ≡ false
 fault_other name (fault.Text kind p) = refl
 fault_other name (fault.Binary kind n) = refl
 fault_other name fault.ReadFailed = refl
@@ -240,7 +266,7 @@ cause_plain front refusal.NoConflict e = e ⊕ fixed (codes "no conflict") refl
 cause_plain front refusal.OutOfMemory e = e
 cause_plain front refusal.Ended e = e
 
-refusal_other : (n : ℕ) (r : Refusal) → bytes_eq positive (refusal_line n r) ≡ false
+refusal_other : (n : ℕ) (r : Refusal) → begins positive (refusal_line n r) ≡ false
 refusal_other n refusal.NotRup = refl
 refusal_other n (refusal.NeitherRupNorRat l) = refl
 refusal_other n refusal.NotAlive = refl
@@ -271,10 +297,10 @@ verdict_tells n peak no_empty_clause None = concluded_tells end_line NotVerified
 verdict_tells n peak no_empty_clause (Some f) = fault_tells (codes "proof") f (fixed _ refl)
 
 -- lines in front of a report
-front_tells : (lines : List (List ℕ)) (r : Report) → list_all has_no_feed lines ≡ true → list_any (bytes_eq positive) lines ≡ false → Tells r → Tells (with_lines lines r)
+front_tells : (lines : List (List ℕ)) (r : Report) → list_all has_no_feed lines ≡ true → list_any (begins positive) lines ≡ false → Tells r → Tells (with_lines lines r)
 front_tells lines r e other t = record {
   plain = list_all-append has_no_feed lines r.lines ∙ ap (λ v. v && list_all has_no_feed r.lines) e ∙ t.plain;
-  told = λ h. t.told (sym (list_any-append (bytes_eq positive) lines r.lines ∙ ap (λ v. v || list_any (bytes_eq positive) r.lines) other) ∙ h);
+  told = λ h. t.told (sym (list_any-append (begins positive) lines r.lines ∙ ap (λ v. v || list_any (begins positive) r.lines) other) ∙ h);
 }
 
 trace_plain : (n : ℕ) (words : List Accepted) → list_all has_no_feed (trace_lines n words) ≡ true
@@ -283,7 +309,7 @@ trace_plain n (w ∷ ws) =
     let line : Plain (trace_line n w) = fixed (codes "c ") refl ⊕ shown_plain n ⊕ word_plain w in
     ap (λ v. v && list_all has_no_feed (trace_lines (n + 1) ws)) line.test ∙ trace_plain (n + 1) ws
 
-trace_other : (n : ℕ) (words : List Accepted) → list_any (bytes_eq positive) (trace_lines n words) ≡ false
+trace_other : (n : ℕ) (words : List Accepted) → list_any (begins positive) (trace_lines n words) ≡ false
 trace_other n [] = refl
 trace_other n (w ∷ ws) = trace_other (n + 1) ws
 
@@ -338,4 +364,4 @@ written_verified rule trace i p r status old new reports o w =
     let t = report_tells rule trace i p r reports in
     let b = outcome_begins status old new r o in
     let same = appended old new w.held w.bytes b.0 w.before w.after b.3 in
-    t.told (among_lines positive r.lines b.0 b.1 t.plain b.2 (sym (ap (λ x. list_any (bytes_eq positive) (whole_lines x)) same) ∙ w.written))
+    t.told (among_lines 115 (codes " VERIFIED") r.lines b.0 b.1 t.plain b.2 (sym (ap (λ x. list_any (bytes_eq positive) (lines_of x)) same) ∙ w.written))

@@ -1,5 +1,5 @@
 -- The parts of a check.
-use Rattle.std.specs.Prelude.{◌≡◌, ℕ, ◌+◌, ◌-◌, ◌^◌, ◌<◌, ◌≤◌, min, max, cond, Bool, true, false, List, [], ◌∷◌, length, None, Some, Result, Ok, Err}
+use Rattle.std.specs.Prelude.{◌≡◌, ℕ, ◌+◌, ◌-◌, ◌^◌, ◌<◌, ◌≤◌, min, max, if◌then◌else◌, Bool, true, false, List, [], ◌∷◌, length, None, Some, Result, Ok, Err}
 use Rattle.std.specs.List.{list_any}
 use Rattle.cnf_base.specs.Literals.{Clause}
 use Rattle.cnf_base.specs.Lines.{Sink, Writes}
@@ -60,7 +60,7 @@ pub record BoundedLive (live : Live) : Type 0 where
 
 abbrev pub Bounded : State → Type 0
 Bounded (by_ids s) = BoundedLive s.live
-Bounded (by_copies strict live) = Unit {0}
+Bounded (by_copies rules live) = Unit {0}
 
 -- numbers are counted up to the greatest of 64 bits
 abbrev pub counted : ℕ → ℕ
@@ -68,7 +68,7 @@ counted n = min n (2 ^ 64 - 1)
 
 -- the line of an accepted step, if a trace is asked for
 abbrev pub traced : Bool → ℕ → Accepted → List (List ℕ)
-traced trace n word = cond trace (trace_line n word ∷ []) []
+traced trace n word = if trace then trace_line n word ∷ [] else []
 
 -- a step was accepted, it isn't the last, and its line was written
 pub record GoesOn (trace : Bool) (number : ℕ) (old new : View) (step : Step) (was now : Sink) : Type 0 where

@@ -1,5 +1,5 @@
 -- The lines of a report (`s VERIFIED` and `s NOT VERIFIED` are those of DRAT-trim; all others are our own profile).
-use Rattle.std.specs.Prelude.{ℕ, ◌-◌, ◌/◌, ◌%◌, ◌^◌, ◌==◌, min, cond, List, [], ◌++◌, codes, decimal}
+use Rattle.std.specs.Prelude.{ℕ, ◌-◌, ◌/◌, ◌%◌, ◌^◌, ◌==◌, min, if◌then◌else◌, List, [], ◌++◌, codes, decimal}
 use Rattle.cnf_base.specs.Literals.{Literal}
 use Rattle.cnf_base.specs.declared.fault.Fault.{Fault}
 use Rattle.cnf_base.specs.declared.fault.Fault.TheVariants as fault
@@ -83,7 +83,7 @@ abbrev pub trace_line : ℕ → Accepted → List ℕ
 trace_line n word = codes "c " ++ shown n ++ word_text word
 
 abbrev pub sign_text : Literal → List ℕ
-sign_text l = cond (l % 2 == 0) [] (codes "-")
+sign_text l = if l % 2 == 0 then [] else codes "-"
 
 -- the line so far, with the cause of a refusal
 abbrev pub with_cause : List ℕ → Refusal → List ℕ

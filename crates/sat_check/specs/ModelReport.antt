@@ -1,15 +1,17 @@
 -- What a check of a model writes, and how it ends (our own profile: only listed literals are true, and the first clause that has
 -- none is told).
-use Rattle.std.specs.Prelude.{ℕ, ◌+◌, cond, Bool, List, [], ◌∷◌, length, Option, None, Some, Result, Ok, Err, codes}
+use Rattle.std.specs.Prelude.{◌≡◌, ℕ, ◌+◌, if◌then◌else◌, slice_get, IsTrue, Bool, List, [], ◌∷◌, length, Option, None, Some, Result, Ok, Err, codes}
 use Rattle.std.specs.List.{list_any}
 use Rattle.cnf_base.specs.Literals.{Literal, Clause, has}
 use Rattle.cnf_base.specs.Stream.{Input}
 use Rattle.cnf_base.specs.declared.fault.Fault.{Fault}
-use Rattle.dimacs.specs.Claim.{claim_of}
+use Rattle.dimacs.specs.Claim.{claim_of, IsConsistent}
 use Rattle.dimacs.specs.Formula.{Formula, formula_of}
 use Rattle.sat_check.specs.Lines.{unmet_line, clauses_line, fault_line, fault_status}
-use Rattle.sat_check.specs.Report.{Report, concluded}
+use Rattle.sat_check.specs.Report.{Report, Outcome, IsUnlessBroken, concluded}
 use Rattle.sat_check.specs.declared.subject.Subject.TheVariants.{Model}
+use Rattle.steps.specs.Models.{HasModel}
+use Rattle.sat_check.specs.declared.status.Status.{Status}
 use Rattle.sat_check.specs.declared.status.Status.TheVariants.{Verified, NotVerified}
 
 -- some literal of the clause is listed
@@ -19,7 +21,7 @@ meets listed c = list_any (has listed) c
 -- the number of the first clause that has no listed literal, where the first of these has this number
 abbrev pub first_unmet : ℕ → List Literal → List Clause → Option ℕ
 first_unmet k listed [] = None
-first_unmet k listed (c ∷ cs) = cond (meets listed c) (first_unmet (k + 1) listed cs) (Some k)
+first_unmet k listed (c ∷ cs) = if meets listed c then first_unmet (k + 1) listed cs else Some k
 
 -- all of so many clauses are met, and the formula ends so
 abbrev pub met_report : ℕ → Option Fault → Report
@@ -38,3 +40,20 @@ claim_report (Err e) f = concluded Model (fault_line (codes "output") e) (fault_
 
 abbrev pub model_report : (formula output : Input) → Report
 model_report formula output = claim_report (claim_of output) (formula_of formula)
+
+-- the listed literals hold no complements, and each clause has one of them
+pub record Satisfies (claim : Result (List Literal) Fault) (clauses : List Clause) : Type 0 where
+  pub listed : List Literal
+  pub claimed : claim ≡ Ok listed
+  pub consistent : IsConsistent listed
+  pub met : (k : ℕ) (c : Clause) → slice_get clauses k ≡ Some c → IsTrue (meets listed c)
+
+-- A run checked the model that this output claims of this formula: what it wrote and its status are those of the report.
+-- Status 0 is answered exactly where the formula has no fault and the claim satisfies its clauses, unless memory or the
+-- writer failed. Where it is, the formula has a model.
+pub record ChecksModel (formula output : Input) (old new : Option (List ℕ)) (status : Status) : Type 0 where
+  pub outcome : Outcome status old new (model_report formula output)
+  pub whole : status ≡ Verified → (formula_of formula).fault ≡ None
+  pub satisfied : status ≡ Verified → Satisfies (claim_of output) (formula_of formula).clauses
+  pub complete : (formula_of formula).fault ≡ None → Satisfies (claim_of output) (formula_of formula).clauses → IsUnlessBroken Verified status
+  pub has_model : status ≡ Verified → HasModel (slice_get (formula_of formula).clauses)

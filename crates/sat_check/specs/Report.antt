@@ -1,22 +1,24 @@
 -- What a check writes, and how it ends.
-use Rattle.std.specs.Prelude.{◌≡◌, ℕ, ◌+◌, max, cond, Bool, true, List, [], ◌∷◌, ◌++◌, length, map, Option, None, Some, codes, if◌then◌else◌}
+use Rattle.std.specs.Prelude.{◌≡◌, ◌⊎◌, ℕ, ◌+◌, max, slice_get, Bool, true, List, [], ◌∷◌, ◌++◌, length, map, Option, None, Some, codes, if◌then◌else◌}
 use Rattle.std.specs.List.{flat_map, list_any}
 use Rattle.std.specs.Str.{bytes_eq}
 use Rattle.std.specs.Io.KnownBytes.{Appends}
 use Rattle.cnf_base.specs.Literals.{Clause}
 use Rattle.cnf_base.specs.Stream.{Input}
 use Rattle.cnf_base.specs.Lines.{line_of}
-use Rattle.cnf_base.specs.Text.{but_last, lines_of}
+use Rattle.cnf_base.specs.Text.{lines_of}
 use Rattle.cnf_base.specs.declared.fault.Fault.{Fault}
-use Rattle.dimacs.specs.Formula.{formula_of}
+use Rattle.dimacs.specs.Formula.{Formula, formula_of}
 use Rattle.dimacs.specs.declared.header.Header.{Header}
 use Rattle.proofs.specs.Reading.{Proof}
 use Rattle.proofs.specs.Steps.{Step}
-use Rattle.proofs.specs.Lrat.{lrat_steps}
 use Rattle.proofs.specs.Binary.{binary_steps}
 use Rattle.proofs.specs.Drat.{drat_steps}
-use Rattle.steps.specs.Rules.{Rule, lrat, drat, State, start, after, sum_of, Verdict}
+use Rattle.steps.specs.Models.{HasModel}
+use Rattle.steps.specs.Rules.{Rule, State, start, after, sum_of, Verdict}
 use Rattle.steps.specs.Verdicts.{Ending, verified, refused, no_empty_clause}
+use Rattle.steps.specs.declared.drat_rules.DratRules.{DratRules}
+use Rattle.sat_check.specs.declared.options.DratOptions.{DratOptions}
 use Rattle.steps.specs.declared.accepted.Accepted.{Accepted}
 use Rattle.sat_check.specs.Lines.{formula_line, fault_line, fault_status, trace_line, refusal_line, steps_line, end_line, sentence}
 use Rattle.sat_check.specs.declared.subject.Subject.{Subject}
@@ -77,7 +79,7 @@ steps_of proof = map (λ placed. placed.step) proof.steps
 -- the trace, if it is asked for, and the verdict
 abbrev pub proof_report : Bool → ℕ → ℕ → List Accepted → Ending → Option Fault → Report
 proof_report trace n peak words ending fault =
-    with_lines (cond trace (trace_lines (n + 1) words) []) (verdict_report (n + length words) peak ending fault)
+    with_lines (if trace then trace_lines (n + 1) words else []) (verdict_report (n + length words) peak ending fault)
 
 -- the report of a formula without a fault
 pub record Checks (rule : Rule) (trace : Bool) (h : Header) (clauses : List Clause) (proof : Proof) (r : Report) : Type 0 where
@@ -96,26 +98,54 @@ abbrev pub ProofReport : Rule → Bool → Input → Proof → Report → Type 0
 ProofReport rule trace formula proof r =
     ReportsFormula rule trace (formula_of formula).header (formula_of formula).clauses (formula_of formula).fault proof r
 
-abbrev pub LratReport : Bool → Input → Input → Report → Type 0
-LratReport trace formula proof r = ProofReport lrat trace formula (lrat_steps proof) r
+-- the rules that options ask for
+abbrev pub rules_of : DratOptions → DratRules
+rules_of options = record { strict = options.strict }
 
 -- the steps of a proof in DRAT, in the binary form or as text
 abbrev pub drat_proof : (binary : Bool) → Input → Proof
 drat_proof binary proof = if binary then binary_steps proof else drat_steps proof
 
-abbrev pub DratReport : (binary strict trace : Bool) → Input → Input → Report → Type 0
-DratReport binary strict trace formula proof r = ProofReport (drat strict) trace formula (drat_proof binary proof) r
+-- ---- What a run did
 
--- ---- The lines that were written
-
--- the whole lines of a text
-abbrev pub whole_lines : List ℕ → List (List ℕ)
-whole_lines bytes = but_last (lines_of bytes)
-
--- what was written, where the writer tells it, has this line
+-- what was written, where the writer tells it, has this line; the last one may lack its line feed
 pub record HasWritten (line : List ℕ) (old new : Option (List ℕ)) : Type 0 where
   pub held : List ℕ
   pub bytes : List ℕ
   pub before : old ≡ Some held
   pub after : new ≡ Some (held ++ bytes)
-  pub written : list_any (bytes_eq line) (whole_lines bytes) ≡ true
+  pub written : list_any (bytes_eq line) (lines_of bytes) ≡ true
+
+-- the status is this one, unless memory or the writer failed
+abbrev pub IsUnlessBroken : Status → Status → Type 0
+IsUnlessBroken expected status = (status ≡ expected) ⊎ (status ≡ OutOfMemory) ⊎ (status ≡ WriteFailed)
+
+-- The formula has no fault, and the proof verifies it: each step up to the first accepted empty clause is accepted by its
+-- definition over the clauses that are alive before it.
+pub record Verifies (rule : Rule) (f : Formula) (p : Proof) : Type 0 where
+  pub whole : f.fault ≡ None
+  pub words : List Accepted
+  pub verdict : Verdict rule f.clauses (steps_of p) words verified
+
+-- What was written and the status are those of the report of this formula and this proof.
+pub record Reports (rule : Rule) (trace : Bool) (formula : Input) (proof : Proof) (old new : Option (List ℕ)) (status : Status) : Type 0 where
+  pub report : Report
+  pub reports : ProofReport rule trace formula proof report
+  pub outcome : Outcome status old new report
+
+-- A run checked this proof of this formula: what it wrote and its status are those of the report. Status 0 is answered
+-- exactly where the proof verifies the formula, unless memory or the writer failed. Where it is, and where the line
+-- `s VERIFIED` was written, under whatever status, no assignment satisfies the formula.
+pub record ChecksProof (rule : Rule) (trace : Bool) (formula : Input) (proof : Proof) (old new : Option (List ℕ)) (status : Status) : Type 0 where
+  pub reports : Reports rule trace formula proof old new status
+  pub verified : status ≡ Verified → Verifies rule (formula_of formula) proof
+  pub complete : Verifies rule (formula_of formula) proof → IsUnlessBroken Verified status
+  pub sound : status ≡ Verified → ¬ HasModel (slice_get (formula_of formula).clauses)
+  pub written : HasWritten (codes "s VERIFIED") old new → ¬ HasModel (slice_get (formula_of formula).clauses)
+
+-- ---- Laws
+
+-- A formula and a proof have at most one report.
+abbrev pub ReportsAreUnique : Type 0
+ReportsAreUnique = (rule : Rule) (trace : Bool) (formula : Input) (proof : Proof) (first second : Report) →
+    ProofReport rule trace formula proof first → ProofReport rule trace formula proof second → first ≡ second

@@ -1,11 +1,11 @@
 //! A check of a proof under any rule and in any format.
 
-ghost use Rattle.std.specs.Prelude.{◌≡◌, ◌⊎◌, [], true, false, List};
+ghost use Rattle.std.specs.Prelude.{◌≡◌, [], true, false, List};
 ghost use Rattle.cnf_base.specs.Literals.{Clause};
 ghost use Rattle.cnf_base.specs.Stream.{Input, Along};
-ghost use Rattle.cnf_base.specs.Seen.{Seen, IsSeen};
+ghost use Rattle.cnf_base.specs.Seen.{Seen, IsSeen, OneHasFailed};
 ghost use Rattle.steps.specs.Rules.{Rule, rule_of};
-ghost use Rattle.sat_check.specs.Report.{Report, Outcome, Checks, ProofReport};
+ghost use Rattle.sat_check.specs.Report.{Report, Outcome, Checks, Reports};
 ghost use Rattle.sat_check.specs.Checking.{IsLoaded};
 
 use crate::Status;
@@ -31,9 +31,12 @@ pub fn check<F: In, S: ProofSession, R: StepReader, O: Out>(
 ) -> Status
     requires unused { IsLoaded (rule_of (S.shown session.old).state) (S.shown session.old) [] }
     requires whole { lines.old.is_broken ≡ false }
-    ensures report { (f : Seen (F.left formula.old) (F.left formula.new)) × Along (R.stream reader.old) (R.stream reader.new) (λ j k. (i : Input) → IsSeen f i →
-        (r : Report) × ProofReport (rule_of (S.shown session.old).state) trace i (R.to_come reader.old j) r × Outcome result lines.old.held lines.new.held r) }
-    ensures read_failed { result ≡ Status.ReadFailed → (F.has_failed formula.new ≡ true) ⊎ ((R.stream reader.new).has_failed ≡ true) }
+    ensures report { (f : Seen (F.shown formula.old) (F.shown formula.new))
+        × Along (R.stream reader.old) (R.stream reader.new) (λ j k. (i : Input) → IsSeen f i →
+        Reports (rule_of (S.shown session.old).state) trace i (R.to_come reader.old j)
+        lines.old.held lines.new.held result) }
+    ensures read_failed { result ≡ Status.ReadFailed →
+        OneHasFailed (F.shown formula.new) (R.stream reader.new).reader }
     ensures write_failed { result ≡ Status.WriteFailed → lines.new.has_failed ≡ true }
     ensures same_writer { lines.new.borrows ≡ lines.old.borrows }
 {
@@ -52,11 +55,16 @@ fn check_loaded<S: ProofSession, R: StepReader, O: Out>(
     reader: &mut R,
     lines: &mut LineOut<O>,
 ) -> Status
-    requires loaded { (rule : Rule) × (clauses : List Clause) × IsLoaded rule (S.shown session.old) clauses }
+    requires loaded { (rule : Rule) × (clauses : List Clause)
+        × IsLoaded rule (S.shown session.old) clauses }
     requires whole { lines.old.is_broken ≡ false }
-    ensures report { Along (R.stream reader.old) (R.stream reader.new) (λ j k. (rule : Rule) (clauses : List Clause) → IsLoaded rule (S.shown session.old) clauses →
-        (r : Report) × Checks rule trace header clauses (R.to_come reader.old j) r × Outcome result lines.old.held lines.new.held r) }
-    ensures read_failed { result ≡ Status.ReadFailed → (R.stream reader.new).has_failed ≡ true }
+    ensures report { Along (R.stream reader.old) (R.stream reader.new)
+        (λ j k. (rule : Rule) (clauses : List Clause) →
+        IsLoaded rule (S.shown session.old) clauses →
+        (r : Report) × Checks rule trace header clauses (R.to_come reader.old j) r
+        × Outcome result lines.old.held lines.new.held r) }
+    ensures read_failed { result ≡ Status.ReadFailed →
+        (R.stream reader.new).reader.has_failed ≡ true }
     ensures write_failed { result ≡ Status.WriteFailed → lines.new.has_failed ≡ true }
     ensures same_writer { lines.new.borrows ≡ lines.old.borrows }
 {

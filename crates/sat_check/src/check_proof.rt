@@ -29,8 +29,10 @@ pub fn check_proof<S: ProofSession, R: StepReader, O: Out>(
     requires least { sum_of (S.shown session.old).state ≤ (S.shown session.old).peak }
     requires whole { lines.old.is_broken ≡ false }
     ensures report { Along (R.stream reader.old) (R.stream reader.new) (λ i j.
-        (r : Report) × Rest trace (S.shown session.old).state 0 (S.shown session.old).peak (R.to_come reader.old i) r × Outcome result lines.old.held lines.new.held r) }
-    ensures read_failed { result ≡ Status.ReadFailed → (R.stream reader.new).has_failed ≡ true }
+        (r : Report) × Rest trace (S.shown session.old).state 0 (S.shown session.old).peak
+        (R.to_come reader.old i) r × Outcome result lines.old.held lines.new.held r) }
+    ensures read_failed { result ≡ Status.ReadFailed →
+        (R.stream reader.new).reader.has_failed ≡ true }
     ensures write_failed { result ≡ Status.WriteFailed → lines.new.has_failed ≡ true }
     ensures same_writer { lines.new.borrows ≡ lines.old.borrows }
 {

@@ -130,7 +130,8 @@ pub fn read_args(alloc: Global, tool: Tool, words: &[String]) -> Result<Args, Ar
         → length (names tool (said_by words.now)) ≤ 2) }
     ensures hyphens { IfOk result (λ a. is_among (said_by words.now) end_mark ≡ false
         → list_all (is_known tool) (said_by words.now) ≡ true) }
-    ensures full { IfOk result (λ a. (is_empty (string_bytes a.formula) || is_some_empty a.second) ≡ false) }
+    ensures full { IfOk result (λ a.
+        (is_empty (string_bytes a.formula) || is_some_empty a.second) ≡ false) }
     ensures accepts { IfErr result (λ e. Accepts tool (said_by words.now)
         → e ≡ ArgsFault.OutOfMemory) }
 {

@@ -19,8 +19,10 @@ pub fn conclude<O: Out>(
     line: Result<Line, OutOfMemory>,
     status: Status,
 ) -> Status
-    ensures outcome { (text : List ℕ) → IfOk line (λ l. l ≡ text) → Outcome result lines.old.held lines.new.held (concluded subject text status) }
-    ensures status { (result ≡ status) ⊎ (result ≡ Status.OutOfMemory) ⊎ ((result ≡ Status.WriteFailed) × (lines.new.has_failed ≡ true)) }
+    ensures outcome { (text : List ℕ) → IfOk line (λ l. l ≡ text) →
+        Outcome result lines.old.held lines.new.held (concluded subject text status) }
+    ensures status { (result ≡ status) ⊎ (result ≡ Status.OutOfMemory)
+        ⊎ ((result ≡ Status.WriteFailed) × (lines.new.has_failed ≡ true)) }
     ensures same_writer { lines.new.borrows ≡ lines.old.borrows }
 {
     let Ok(line) = line else {
@@ -46,8 +48,11 @@ pub fn break_off<O: Out>(
     name: &[u8],
     fault: Fault,
 ) -> Status
-    ensures memory { fault ≡ Fault.OutOfMemory → (r : Report) → Outcome result lines.old.held lines.new.held r }
-    ensures told { (fault ≡ Fault.OutOfMemory → ⊥) → Outcome result lines.old.held lines.new.held (concluded subject (fault_line name.now fault) (fault_status fault)) }
+    ensures memory { fault ≡ Fault.OutOfMemory → (r : Report) →
+        Outcome result lines.old.held lines.new.held r }
+    ensures told { (fault ≡ Fault.OutOfMemory → ⊥) →
+        Outcome result lines.old.held lines.new.held
+        (concluded subject (fault_line name.now fault) (fault_status fault)) }
     ensures read_failed { result ≡ Status.ReadFailed → fault ≡ Fault.ReadFailed }
     ensures write_failed { result ≡ Status.WriteFailed → lines.new.has_failed ≡ true }
     ensures same_writer { lines.new.borrows ≡ lines.old.borrows }
@@ -67,7 +72,8 @@ fn conclude_fault<O: Out>(
     name: &[u8],
     fault: Fault,
 ) -> Status
-    ensures outcome { Outcome result lines.old.held lines.new.held (concluded subject (fault_line name.now fault) (fault_status fault)) }
+    ensures outcome { Outcome result lines.old.held lines.new.held
+        (concluded subject (fault_line name.now fault) (fault_status fault)) }
     ensures read_failed { result ≡ Status.ReadFailed → fault ≡ Fault.ReadFailed }
     ensures write_failed { result ≡ Status.WriteFailed → lines.new.has_failed ≡ true }
     ensures same_writer { lines.new.borrows ≡ lines.old.borrows }
@@ -85,10 +91,15 @@ pub fn write_line<O: Out>(
     lines: &mut LineOut<O>,
     line: Result<Line, OutOfMemory>,
 ) -> Result<(), Status>
-    ensures written { OnOk result ((text : List ℕ) → IfOk line (λ l. l ≡ text) → Writes lines.old lines.new (line_of text)) }
-    ensures ok { OnOk result ((lines.new.is_broken ≡ false) × (lines.new.has_failed ≡ lines.old.has_failed)) }
-    ensures stopped { IfErr result (λ status. (text : List ℕ) (r : Report) → IfOk line (λ l. l ≡ text) → Outcome status lines.old.held lines.new.held (with_lines (text ∷ []) r)) }
-    ensures status { IfErr result (λ status. (status ≡ Status.OutOfMemory) ⊎ ((status ≡ Status.WriteFailed) × (lines.new.has_failed ≡ true))) }
+    ensures written { OnOk result ((text : List ℕ) → IfOk line (λ l. l ≡ text) →
+        Writes lines.old lines.new (line_of text)) }
+    ensures ok { OnOk result
+        ((lines.new.is_broken ≡ false) × (lines.new.has_failed ≡ lines.old.has_failed)) }
+    ensures stopped { IfErr result (λ status. (text : List ℕ) (r : Report) →
+        IfOk line (λ l. l ≡ text) →
+        Outcome status lines.old.held lines.new.held (with_lines (text ∷ []) r)) }
+    ensures status { IfErr result (λ status. (status ≡ Status.OutOfMemory)
+        ⊎ ((status ≡ Status.WriteFailed) × (lines.new.has_failed ≡ true))) }
     ensures same_writer { lines.new.borrows ≡ lines.old.borrows }
 {
     let Ok(line) = line else {

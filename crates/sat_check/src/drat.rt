@@ -1,28 +1,26 @@
 //! A check of a DRAT proof, from bytes to bytes.
 
-ghost use Rattle.std.specs.Prelude.{◌≡◌, ◌⊎◌, [], true, false, slice_get, codes};
-ghost use Rattle.cnf_base.specs.Stream.{Input};
-ghost use Rattle.cnf_base.specs.Seen.{Seen, IsSeen};
-ghost use Rattle.dimacs.specs.Formula.{formula_of};
-ghost use Rattle.steps.specs.Models.{HasModel};
+ghost use Rattle.std.specs.Prelude.{◌≡◌, [], true, false};
+ghost use Rattle.cnf_base.specs.Seen.{OfBothSeen, OneHasFailed};
 ghost use Rattle.proofs.specs.Binary.{binary_steps};
 ghost use Rattle.proofs.specs.Drat.{drat_steps};
-ghost use Rattle.steps.specs.Rules.{rule_of};
+ghost use Rattle.steps.specs.Rules.{drat, rule_of};
 ghost use Rattle.sat_check.specs.Checking.{IsLoaded};
-ghost use Rattle.sat_check.specs.Report.{Report, Outcome, HasWritten, ProofReport, DratReport};
+ghost use Rattle.sat_check.specs.Report.{Reports, ChecksProof, drat_proof, rules_of};
 
 use crate::check::check;
 use crate::conclude::give_up;
 use crate::{DratOptions, Status};
 use clause_db::Scan;
-use cnf_base::{In, LineOut, Out, Source};
+use cnf_base::{In, LineOut, Out, Piece, Source};
 use proofs::{DratBinary, DratText};
 use std::alloc::Global;
 use steps::{DratSession, ProofSession};
 
 /// Reads a formula in DIMACS CNF whole, then checks a proof of it in DRAT, and writes the report, flushed.
 ///
-/// The proof isn't read where the formula has a fault or an empty clause, and no further than the step that decides.
+/// The proof isn't read where the formula has a fault or an empty clause. Past the step that decides nothing is looked
+/// at, and no more than a piece of 65536 bytes was read.
 pub fn run_drat<F: In, P: In, O: Out>(
     alloc: Global,
     options: &DratOptions,
@@ -30,21 +28,15 @@ pub fn run_drat<F: In, P: In, O: Out>(
     proof: &mut P,
     out: &mut O,
 ) -> Status
-    // Of all inputs that the readers may give, by what the run saw of them, what was written and the status are those of
-    // the report; or, where memory or the writer failed, a number of its lines or a beginning of its text.
-    ensures report { (f : Seen (F.left formula.old) (F.left formula.new)) × (p : Seen (P.left proof.old) (P.left proof.new)) ×
-        ((i j : Input) → IsSeen f i → IsSeen p j → (r : Report) × DratReport options.now.binary options.now.strict options.now.trace i j r × Outcome result (O.held out.old) (O.held out.new) r) }
-
-    // Status 0 means that no assignment satisfies the formula.
-    ensures sound { result ≡ Status.Verified → (f : Seen (F.left formula.old) (F.left formula.new)) ×
-        ((i : Input) → IsSeen f i → ¬ HasModel (slice_get (formula_of i).clauses)) }
-
-    // So does the line `s VERIFIED`, under whatever status it was written: a flush may fail after it.
-    ensures written { HasWritten (codes "s VERIFIED") (O.held out.old) (O.held out.new) → (f : Seen (F.left formula.old) (F.left formula.new)) ×
-        ((i : Input) → IsSeen f i → ¬ HasModel (slice_get (formula_of i).clauses)) }
+    // What was seen of the two readers is one pair of inputs, and of this the check is true.
+    ensures checks { OfBothSeen (F.shown formula.old) (F.shown formula.new)
+        (P.shown proof.old) (P.shown proof.new) (λ i j.
+        ChecksProof (drat (rules_of options.now)) options.now.trace i (drat_proof options.now.binary j)
+        (O.held out.old) (O.held out.new) result) }
 
     // A reader or the writer tells of each failure.
-    ensures read_failed { result ≡ Status.ReadFailed → (F.has_failed formula.new ≡ true) ⊎ (P.has_failed proof.new ≡ true) }
+    ensures read_failed { result ≡ Status.ReadFailed →
+        OneHasFailed (F.shown formula.new) (P.shown proof.new) }
     ensures write_failed { result ≡ Status.WriteFailed → O.has_failed out.new ≡ true }
 {
     let mut lines = LineOut::new(&mut *out);
@@ -62,16 +54,19 @@ fn check_drat<F: In, P: In, O: Out>(
     lines: &mut LineOut<O>,
 ) -> Status
     requires { lines.old.is_broken ≡ false }
-    ensures report { (f : Seen (F.left formula.old) (F.left formula.new)) × (p : Seen (P.left proof.old) (P.left proof.new)) ×
-        ((i j : Input) → IsSeen f i → IsSeen p j → (r : Report) × DratReport options.binary options.strict options.trace i j r × Outcome result lines.old.held lines.new.held r) }
-    ensures read_failed { result ≡ Status.ReadFailed → (F.has_failed formula.new ≡ true) ⊎ (P.has_failed proof.new ≡ true) }
+    ensures report { OfBothSeen (F.shown formula.old) (F.shown formula.new)
+        (P.shown proof.old) (P.shown proof.new) (λ i j.
+        Reports (drat (rules_of options)) options.trace i (drat_proof options.binary j)
+        lines.old.held lines.new.held result) }
+    ensures read_failed { result ≡ Status.ReadFailed →
+        OneHasFailed (F.shown formula.new) (P.shown proof.new) }
     ensures write_failed { result ≡ Status.WriteFailed → lines.new.has_failed ≡ true }
     ensures same_writer { lines.new.borrows ≡ lines.old.borrows }
 {
     let Ok(clauses) = Scan::new(alloc) else {
         return give_up(lines);
     };
-    let mut session = DratSession::new(clauses, options.strict);
+    let mut session = DratSession::new(clauses, options.rules());
     if options.binary {
         check_binary(alloc, options.trace, formula, &mut session, proof, lines)
     } else {
@@ -90,21 +85,19 @@ fn check_text<F: In, S: ProofSession, P: In, O: Out>(
 ) -> Status
     requires unused { IsLoaded (rule_of (S.shown session.old).state) (S.shown session.old) [] }
     requires whole { lines.old.is_broken ≡ false }
-    ensures report { (f : Seen (F.left formula.old) (F.left formula.new)) × (p : Seen (P.left proof.old) (P.left proof.new)) ×
-        ((i j : Input) → IsSeen f i → IsSeen p j → (r : Report) × ProofReport (rule_of (S.shown session.old).state) trace i (drat_steps j) r × Outcome result lines.old.held lines.new.held r) }
-    ensures read_failed { result ≡ Status.ReadFailed → (F.has_failed formula.new ≡ true) ⊎ (P.has_failed proof.new ≡ true) }
+    ensures report { OfBothSeen (F.shown formula.old) (F.shown formula.new)
+        (P.shown proof.old) (P.shown proof.new) (λ i j.
+        Reports (rule_of (S.shown session.old).state) trace i (drat_steps j)
+        lines.old.held lines.new.held result) }
+    ensures read_failed { result ≡ Status.ReadFailed →
+        OneHasFailed (F.shown formula.new) (P.shown proof.new) }
     ensures write_failed { result ≡ Status.WriteFailed → lines.new.has_failed ≡ true }
     ensures same_writer { lines.new.borrows ≡ lines.old.borrows }
 {
-    let source = match Source::new(alloc, &mut *proof) {
-        Ok(source) => source,
-        Err(refused) => {
-            let (_, rest) = refused;
-            let _ = &*rest;
-            return give_up(lines);
-        }
+    let Ok(piece) = Piece::new(alloc) else {
+        return give_up(lines);
     };
-    let mut reader = DratText::new(source);
+    let mut reader = DratText::new(Source::over(piece, &mut *proof));
     let status = check(alloc, trace, formula, session, &mut reader, lines);
     let rest = reader.release();
     let _ = &*rest;
@@ -122,21 +115,19 @@ fn check_binary<F: In, S: ProofSession, P: In, O: Out>(
 ) -> Status
     requires unused { IsLoaded (rule_of (S.shown session.old).state) (S.shown session.old) [] }
     requires whole { lines.old.is_broken ≡ false }
-    ensures report { (f : Seen (F.left formula.old) (F.left formula.new)) × (p : Seen (P.left proof.old) (P.left proof.new)) ×
-        ((i j : Input) → IsSeen f i → IsSeen p j → (r : Report) × ProofReport (rule_of (S.shown session.old).state) trace i (binary_steps j) r × Outcome result lines.old.held lines.new.held r) }
-    ensures read_failed { result ≡ Status.ReadFailed → (F.has_failed formula.new ≡ true) ⊎ (P.has_failed proof.new ≡ true) }
+    ensures report { OfBothSeen (F.shown formula.old) (F.shown formula.new)
+        (P.shown proof.old) (P.shown proof.new) (λ i j.
+        Reports (rule_of (S.shown session.old).state) trace i (binary_steps j)
+        lines.old.held lines.new.held result) }
+    ensures read_failed { result ≡ Status.ReadFailed →
+        OneHasFailed (F.shown formula.new) (P.shown proof.new) }
     ensures write_failed { result ≡ Status.WriteFailed → lines.new.has_failed ≡ true }
     ensures same_writer { lines.new.borrows ≡ lines.old.borrows }
 {
-    let source = match Source::new(alloc, &mut *proof) {
-        Ok(source) => source,
-        Err(refused) => {
-            let (_, rest) = refused;
-            let _ = &*rest;
-            return give_up(lines);
-        }
+    let Ok(piece) = Piece::new(alloc) else {
+        return give_up(lines);
     };
-    let mut reader = DratBinary::new(source);
+    let mut reader = DratBinary::new(Source::over(piece, &mut *proof));
     let status = check(alloc, trace, formula, session, &mut reader, lines);
     let rest = reader.release();
     let _ = &*rest;

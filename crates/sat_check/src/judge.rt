@@ -1,32 +1,27 @@
 //! A formula is judged by a model, clause by clause.
 
 ghost use Rattle.std.specs.Prelude.{◌≡◌, true, IfErr};
-ghost use Rattle.cnf_base.specs.Stream.{Input, Along};
-ghost use Rattle.cnf_base.specs.Seen.{Seen, IsSeen};
+ghost use Rattle.cnf_base.specs.Stream.{Along};
+ghost use Rattle.cnf_base.specs.Seen.{OfSeen};
 ghost use Rattle.dimacs.specs.Formula.{formula_of};
 ghost use Rattle.dimacs.specs.Reading.{to_come};
 ghost use Rattle.sat_check.specs.ModelReport.{meets};
 ghost use Rattle.sat_check.specs.Judging.{Judges};
 
 use crate::judgement::Judgement;
-use cnf_base::{Fault, In, Source};
+use cnf_base::{Fault, In, Piece, Source};
 use dimacs::{ClauseBuf, FormulaReader, Model};
 use std::alloc::Global;
 
 /// Reads a formula up to the first clause that the model doesn't meet. It stores no clause but that at hand.
 pub fn judge<F: In>(alloc: Global, formula: &mut F, model: &Model) -> Result<Judgement, Fault>
-    ensures judges { (seen : Seen (F.left formula.old) (F.left formula.new)) × ((i : Input) → IsSeen seen i → Judges model.now result (formula_of i).clauses (formula_of i).fault) }
-    ensures tells { IfErr result (λ f. f ≡ Fault.ReadFailed → F.has_failed formula.new ≡ true) }
+    ensures judges { OfSeen (F.shown formula.old) (F.shown formula.new) (λ i.
+        Judges model.now result (formula_of i).clauses (formula_of i).fault) }
+    ensures tells { IfErr result (λ f. f ≡ Fault.ReadFailed →
+        (F.shown formula.new).has_failed ≡ true) }
 {
-    let source = match Source::new(alloc, &mut *formula) {
-        Ok(source) => source,
-        Err(refused) => {
-            let (_, rest) = refused;
-            let _ = &*rest;
-            return Err(Fault::OutOfMemory);
-        }
-    };
-    match FormulaReader::open(source) {
+    let piece = Piece::new(alloc)?;
+    match FormulaReader::open(Source::over(piece, &mut *formula)) {
         Ok(mut reader) => {
             let judged = judge_clauses(alloc, &mut reader, model);
             let rest = reader.release();
@@ -48,24 +43,21 @@ fn judge_clauses<F: In>(
     model: &Model,
 ) -> Result<Judgement, Fault>
     requires { reader.old.complete ≡ 0 }
-    ensures judges { Along reader.old.stream reader.new.stream (λ i j. Judges model.now result (to_come reader.old i).clauses (to_come reader.old i).fault) }
-    ensures tells { IfErr result (λ f. f ≡ Fault.ReadFailed → reader.new.stream.has_failed ≡ true) }
+    ensures judges { Along reader.old.stream reader.new.stream (λ i j.
+        Judges model.now result (to_come reader.old i).clauses (to_come reader.old i).fault) }
+    ensures tells { IfErr result (λ f. f ≡ Fault.ReadFailed →
+        reader.new.stream.reader.has_failed ≡ true) }
 {
     let mut clause = ClauseBuf::new(alloc);
     let mut met = 0u64;
-    loop {
-        match reader.next(&mut clause) {
-            Ok(true) => {
-                let number = met + 1;
-                if !meets(model, &clause) {
-                    return Ok(Judgement::Unmet(number));
-                }
-                met = number;
-            }
-            Ok(false) => return Ok(Judgement::Met(met)),
-            Err(fault) => return Err(fault),
+    while reader.next(&mut clause)? {
+        let number = met + 1;
+        if !meets(model, &clause) {
+            return Ok(Judgement::Unmet(number));
         }
+        met = number;
     }
+    Ok(Judgement::Met(met))
 }
 
 // Whether the model has a literal of the clause.

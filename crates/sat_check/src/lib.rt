@@ -11,6 +11,7 @@ mod conclude;
 mod drat;
 mod judge;
 mod judgement;
+pub mod laws;
 mod line;
 mod load;
 mod lrat;

@@ -1,23 +1,23 @@
 //! A check of an LRAT proof, from bytes to bytes.
 
-ghost use Rattle.std.specs.Prelude.{◌≡◌, ◌⊎◌, true, false, slice_get, codes};
-ghost use Rattle.cnf_base.specs.Stream.{Input};
-ghost use Rattle.cnf_base.specs.Seen.{Seen, IsSeen};
-ghost use Rattle.dimacs.specs.Formula.{formula_of};
-ghost use Rattle.steps.specs.Models.{HasModel};
-ghost use Rattle.sat_check.specs.Report.{Report, Outcome, HasWritten, LratReport};
+ghost use Rattle.std.specs.Prelude.{◌≡◌, true, false};
+ghost use Rattle.cnf_base.specs.Seen.{OfBothSeen, OneHasFailed};
+ghost use Rattle.proofs.specs.Lrat.{lrat_steps};
+ghost use Rattle.steps.specs.Rules.{lrat};
+ghost use Rattle.sat_check.specs.Report.{Reports, ChecksProof};
 
 use crate::check::check;
 use crate::conclude::give_up;
 use crate::{LratOptions, Status};
-use cnf_base::{In, LineOut, Out, Source};
+use cnf_base::{In, LineOut, Out, Piece, Source};
 use proofs::LratText;
 use std::alloc::Global;
 use steps::LratSession;
 
 /// Reads a formula in DIMACS CNF whole, then checks a proof of it in LRAT, and writes the report, flushed.
 ///
-/// The proof isn't read where the formula has a fault or an empty clause, and no further than the step that decides.
+/// The proof isn't read where the formula has a fault or an empty clause. Past the step that decides nothing is looked
+/// at, and no more than a piece of 65536 bytes was read.
 pub fn run_lrat<F: In, P: In, O: Out>(
     alloc: Global,
     options: &LratOptions,
@@ -25,21 +25,14 @@ pub fn run_lrat<F: In, P: In, O: Out>(
     proof: &mut P,
     out: &mut O,
 ) -> Status
-    // Of all inputs that the readers may give, by what the run saw of them, what was written and the status are those of
-    // the report; or, where memory or the writer failed, a number of its lines or a beginning of its text.
-    ensures report { (f : Seen (F.left formula.old) (F.left formula.new)) × (p : Seen (P.left proof.old) (P.left proof.new)) ×
-        ((i j : Input) → IsSeen f i → IsSeen p j → (r : Report) × LratReport options.now.trace i j r × Outcome result (O.held out.old) (O.held out.new) r) }
-
-    // Status 0 means that no assignment satisfies the formula.
-    ensures sound { result ≡ Status.Verified → (f : Seen (F.left formula.old) (F.left formula.new)) ×
-        ((i : Input) → IsSeen f i → ¬ HasModel (slice_get (formula_of i).clauses)) }
-
-    // So does the line `s VERIFIED`, under whatever status it was written: a flush may fail after it.
-    ensures written { HasWritten (codes "s VERIFIED") (O.held out.old) (O.held out.new) → (f : Seen (F.left formula.old) (F.left formula.new)) ×
-        ((i : Input) → IsSeen f i → ¬ HasModel (slice_get (formula_of i).clauses)) }
+    // What was seen of the two readers is one pair of inputs, and of this the check is true.
+    ensures checks { OfBothSeen (F.shown formula.old) (F.shown formula.new)
+        (P.shown proof.old) (P.shown proof.new) (λ i j.
+        ChecksProof lrat options.now.trace i (lrat_steps j) (O.held out.old) (O.held out.new) result) }
 
     // A reader or the writer tells of each failure.
-    ensures read_failed { result ≡ Status.ReadFailed → (F.has_failed formula.new ≡ true) ⊎ (P.has_failed proof.new ≡ true) }
+    ensures read_failed { result ≡ Status.ReadFailed →
+        OneHasFailed (F.shown formula.new) (P.shown proof.new) }
     ensures write_failed { result ≡ Status.WriteFailed → O.has_failed out.new ≡ true }
 {
     let mut lines = LineOut::new(&mut *out);
@@ -57,24 +50,21 @@ fn check_lrat<F: In, P: In, O: Out>(
     lines: &mut LineOut<O>,
 ) -> Status
     requires { lines.old.is_broken ≡ false }
-    ensures report { (f : Seen (F.left formula.old) (F.left formula.new)) × (p : Seen (P.left proof.old) (P.left proof.new)) ×
-        ((i j : Input) → IsSeen f i → IsSeen p j → (r : Report) × LratReport trace i j r × Outcome result lines.old.held lines.new.held r) }
-    ensures read_failed { result ≡ Status.ReadFailed → (F.has_failed formula.new ≡ true) ⊎ (P.has_failed proof.new ≡ true) }
+    ensures report { OfBothSeen (F.shown formula.old) (F.shown formula.new)
+        (P.shown proof.old) (P.shown proof.new) (λ i j.
+        Reports lrat trace i (lrat_steps j) lines.old.held lines.new.held result) }
+    ensures read_failed { result ≡ Status.ReadFailed →
+        OneHasFailed (F.shown formula.new) (P.shown proof.new) }
     ensures write_failed { result ≡ Status.WriteFailed → lines.new.has_failed ≡ true }
     ensures same_writer { lines.new.borrows ≡ lines.old.borrows }
 {
     let Ok(mut session) = LratSession::new(alloc) else {
         return give_up(lines);
     };
-    let source = match Source::new(alloc, &mut *proof) {
-        Ok(source) => source,
-        Err(refused) => {
-            let (_, rest) = refused;
-            let _ = &*rest;
-            return give_up(lines);
-        }
+    let Ok(piece) = Piece::new(alloc) else {
+        return give_up(lines);
     };
-    let mut reader = LratText::new(source);
+    let mut reader = LratText::new(Source::over(piece, &mut *proof));
     let status = check(alloc, trace, formula, &mut session, &mut reader, lines);
     let rest = reader.release();
     let _ = &*rest;

@@ -1,5 +1,10 @@
 //! What a run is asked to do.
 
+ghost use Rattle.std.specs.Prelude.{◌≡◌};
+ghost use Rattle.sat_check.specs.Report.{rules_of};
+
+use steps::DratRules;
+
 /// What a check of an LRAT proof is asked to do.
 #[derive(Clone, Copy, Debug, PartialEq, Eq)]
 pub struct LratOptions {
@@ -16,4 +21,15 @@ pub struct DratOptions {
     pub trace: bool,
     /// Whether a deletion of a clause that is not alive is refused.
     pub strict: bool,
+}
+
+impl DratOptions {
+    /// The rules that these options ask for.
+    pub fn rules(&self) -> DratRules
+        ensures { result ≡ rules_of self.now }
+    {
+        DratRules {
+            strict: self.strict,
+        }
+    }
 }

@@ -190,7 +190,8 @@ fn with_id(line: Line, before: &[u8], id: u64, after: &[u8]) -> Result<Line, Out
 }
 
 fn with_pivot(line: Line, pivot: Lit) -> Result<Line, OutOfMemory>
-    ensures { IfOk result (λ whole. whole ≡ line ++ codes "neither RUP nor RAT on " ++ sign_text pivot ++ decimal (pivot / 2)) }
+    ensures { IfOk result (λ whole. whole ≡ line ++ codes "neither RUP nor RAT on " ++
+        sign_text pivot ++ decimal (pivot / 2)) }
 {
     let variable = u64::from(pivot.var());
     line.text(b"neither RUP nor RAT on ")?

@@ -29,8 +29,10 @@ pub fn take_step<S: ProofSession, O: Out>(
 ) -> Result<(), Status>
     requires sound { is_over (S.shown session.old) ≡ false }
     requires whole { lines.old.is_broken ≡ false }
-    ensures goes_on { OnOk result (GoesOn trace number (S.shown session.old) (S.shown session.new) step.now lines.old lines.new) }
-    ensures stops { IfErr result (λ status. Stops trace number (S.shown session.old) step.now lines.old lines.new status) }
+    ensures goes_on { OnOk result (GoesOn trace number (S.shown session.old)
+        (S.shown session.new) step.now lines.old lines.new) }
+    ensures stops { IfErr result (λ status. Stops trace number
+        (S.shown session.old) step.now lines.old lines.new status) }
     ensures told { IfErr result (λ status. IsTold status lines.new) }
     ensures same_writer { lines.new.borrows ≡ lines.old.borrows }
 {
@@ -58,7 +60,8 @@ fn write_trace<O: Out>(
 ) -> Result<(), Status>
     ensures wrote { OnOk result (Writes lines.old lines.new (text_of (traced trace number word))) }
     ensures whole { OnOk result (lines.old.is_broken ≡ false → lines.new.is_broken ≡ false) }
-    ensures stopped { IfErr result (λ status. (r : Report) → Outcome status lines.old.held lines.new.held (with_lines (traced trace number word) r)) }
+    ensures stopped { IfErr result (λ status. (r : Report) →
+        Outcome status lines.old.held lines.new.held (with_lines (traced trace number word) r)) }
     ensures broke { IfErr result (λ status. IsBreak status lines.new) }
     ensures same_writer { lines.new.borrows ≡ lines.old.borrows }
 {
@@ -70,8 +73,11 @@ fn write_trace<O: Out>(
 
 // Writes why a step was refused. A session that had no memory has nothing to say of it.
 fn refuse<O: Out>(alloc: Global, number: u64, refusal: Refusal, lines: &mut LineOut<O>) -> Status
-    ensures memory { is_memory refusal ≡ true → (r : Report) → Outcome result lines.old.held lines.new.held r }
-    ensures refused { is_memory refusal ≡ false → Outcome result lines.old.held lines.new.held (concluded Subject.Proof (refusal_line number refusal) Status.NotVerified) }
+    ensures memory { is_memory refusal ≡ true → (r : Report) →
+        Outcome result lines.old.held lines.new.held r }
+    ensures refused { is_memory refusal ≡ false →
+        Outcome result lines.old.held lines.new.held
+        (concluded Subject.Proof (refusal_line number refusal) Status.NotVerified) }
     ensures told { IsTold result lines.new }
     ensures same_writer { lines.new.borrows ≡ lines.old.borrows }
 {

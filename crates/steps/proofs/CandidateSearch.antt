@@ -1,9 +1,9 @@
 -- The search over the clauses with the pivot's complement.
-use Rattle.std.proofs.Common.{◌≡◌, ℕ, ◌+◌, ◌<◌, ◌≤◌, true, Some, IsSome, List, ◌++◌, refl, sym, subst, arith, inl, inr}
+use Rattle.std.proofs.Common.{◌≡◌, ℕ, ◌+◌, ◌<◌, ◌≤◌, true, Option, Some, None, is_some, IsSome, List, ◌++◌, refl, sym, subst, arith, inl, inr}
 use Rattle.std.specs.Ordering.{nat_cmp}
 use Rattle.std.specs.FinMap as maps
 use Rattle.std.specs.FinMap.{FinMap}
-use Rattle.std.proofs.lemmas.Bool.{cases_lt}
+use Rattle.std.proofs.lemmas.Bool.{cases_lt, false≢true}
 use Rattle.cnf_base.specs.Literals.{Literal, Clause, has, complements, without}
 use Rattle.clause_db.specs.Assumptions.{Propagation, Assumption, IsAnswer, HasAt, assumed_by}
 use Rattle.clause_db.specs.declared.answer.Answer.{Answer}
@@ -63,3 +63,7 @@ module _ (old now : Propagation) (opposite : Literal) (live_is : now.live ≡ ol
       passed_last is last slots k d at member =
           let low : k ≤ 18446744073709551615 = slots k (subst (λ o. IsSome o) (sym (subst (λ m. maps.get m k ≡ Some d) (sym live_is) at)) refl) in
           passed_next is (slot + 1) refl k d (omega (arith, low, last)) at member
+
+pub clause_there : (o : Option Clause) → is_some o ≡ true → (c : Clause) × (o ≡ Some c)
+clause_there None h = absurd (false≢true h)
+clause_there (Some c) h = (c, refl)

@@ -1,41 +1,17 @@
 -- The rule of DRAT depends only on how many copies of each clause are alive.
 use Rattle.std.proofs.Common.{◌≡◌, ◌≢◌, ℕ, zero, suc, ◌+◌, ◌-◌, ◌<◌, Bool, true, false, cond, Option, Some, None, Ok, Err, List, [], ◌∷◌, ◌++◌, slice_get, refl, sym, ap, ◌∙◌, subst, inl, inr, arith}
-use Rattle.std.specs.List.{list_any, list_all}
-use Rattle.std.proofs.lemmas.Bool.{false≢true, true≢false, cases_Bool, or_cases, or_left, or_right, and_parts, and_from, false_from_ne_true}
+use Rattle.std.specs.List.{list_any}
+use Rattle.std.proofs.lemmas.Bool.{false≢true, true≢false, cases_Bool, or_cases, or_left, or_right, false_from_ne_true}
 use Rattle.std.proofs.lemmas.List.Sums.{sum_by-cons}
 use Rattle.steps.specs.declared.accepted.Accepted.TheVariants.{Rup, Rat, Empty, Deleted, Ignored}
 use Rattle.steps.specs.declared.refusal.Refusal.TheVariants.{NotRup, NeitherRupNorRat, NotAlive}
 use Rattle.cnf_base.specs.Literals.{Literal, complement, Clause, has, complements, without, same_clause}
 use Rattle.steps.specs.Propagation.{Live, IsClosed, Forced, Clash, HasRup, HasRat, by_empty, by_both}
 use Rattle.steps.specs.Drat.{Answer, DratStep, add, delete, AnswersAdd, AnswersDelete, AnswersDrat, take_off, after_drat, copies_of, SameLive}
-use Rattle.cnf_base.proofs.SetLemmas.{both_pass, has_head, all_each, each_all, has_append_left, has_append_right, has_append_cases, has-complements, complements_has, has-without, without_has}
+use Rattle.cnf_base.proofs.SetLemmas.{same_there, same_back, same_itself, same_symm, same_trans, same_empty, both_pass, has_append_left, has_append_right, has_append_cases, has-complements, complements_has, has-without, without_has}
 use Rattle.cnf_base.proofs.LiteralLemmas.{complement-complement}
-use Rattle.steps.proofs.Propagating.{forced_assumed, clash_through}
-
--- ---- Clauses that are the same set
-
-module _ (c d : Clause) where
-  pub same_there : same_clause c d ≡ true → (l : Literal) → has c l ≡ true → has d l ≡ true
-  same_there same l h = all_each (has d) c l (and_parts (list_all (has d) c) (list_all (has c) d) same).0 h
-
-  pub same_back : same_clause c d ≡ true → (l : Literal) → has d l ≡ true → has c l ≡ true
-  same_back same l h = all_each (has c) d l (and_parts (list_all (has d) c) (list_all (has c) d) same).1 h
-
-  pub same_from : ((l : Literal) → has c l ≡ true → has d l ≡ true) → ((l : Literal) → has d l ≡ true → has c l ≡ true) → same_clause c d ≡ true
-  same_from there back = and_from (list_all (has d) c) (list_all (has c) d) (each_all (has d) c there) (each_all (has c) d back)
-
-pub same_itself : (c : Clause) → same_clause c c ≡ true
-same_itself c = same_from c c (λ l h. h) (λ l h. h)
-
-pub same_symm : (c d : Clause) → same_clause c d ≡ true → same_clause d c ≡ true
-same_symm c d same = same_from d c (same_back c d same) (same_there c d same)
-
-pub same_trans : (c d e : Clause) → same_clause c d ≡ true → same_clause d e ≡ true → same_clause c e ≡ true
-same_trans c d e first second = same_from c e (λ l h. same_there d e second l (same_there c d first l h)) (λ l h. same_back c d first l (same_back d e second l h))
-
-same_empty : (d : Clause) → same_clause [] d ≡ true → d ≡ []
-same_empty [] same = refl
-same_empty (l ∷ d) same = absurd (false≢true (same_back [] (l ∷ d) same l (has_head l d)))
+use Rattle.clause_db.proofs.ForcedLemmas.{forced_assumed, clash_through}
+use Rattle.steps.specs.declared.drat_rules.DratRules.{DratRules}
 
 -- ---- Copies
 
@@ -196,6 +172,6 @@ delete_same false first second c (Ok _) same a = absurd a
 delete_same true first second c (Err _) same a = absurd a
 delete_same false first second c (Err _) same a = absurd a
 
-pub drat_same : (strict : Bool) (first second : List Clause) (step : DratStep) (answer : Answer) → SameLive first second → AnswersDrat strict first step answer → AnswersDrat strict second step answer
-drat_same strict first second (add c) answer same a = add_same first second c answer same a
-drat_same strict first second (delete c) answer same a = delete_same strict first second c answer same a
+pub drat_same : (rules : DratRules) (first second : List Clause) (step : DratStep) (answer : Answer) → SameLive first second → AnswersDrat rules first step answer → AnswersDrat rules second step answer
+drat_same rules first second (add c) answer same a = add_same first second c answer same a
+drat_same rules first second (delete c) answer same a = delete_same rules.strict first second c answer same a

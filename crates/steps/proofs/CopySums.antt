@@ -7,7 +7,8 @@ use Rattle.std.proofs.lemmas.List.Sums.{sum_by-cons}
 use Rattle.cnf_base.specs.Literals.{Clause, same_clause}
 use Rattle.clause_db.specs.Clauses.{size}
 use Rattle.steps.specs.Drat.{take_off, copies_of, SameLive}
-use Rattle.steps.proofs.Copies.{same_itself, copies-cons, copies-take_off, copies_alive}
+use Rattle.steps.proofs.Copies.{copies-cons, copies-take_off, copies_alive}
+use Rattle.cnf_base.proofs.SetLemmas.{same_itself}
 use Rattle.steps.proofs.Sizes.{size_same}
 
 -- taking a clause off leaves less by its size

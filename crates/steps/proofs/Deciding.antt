@@ -4,15 +4,18 @@ use Rattle.std.specs.List.{list_any}
 use Rattle.std.proofs.lemmas.Bool.{false≢true, true≢false, cases_Bool}
 use Rattle.steps.specs.declared.accepted.Accepted.TheVariants.{Rup, Rat, Empty, Deleted, Ignored}
 use Rattle.steps.specs.declared.refusal.Refusal.TheVariants.{NotRup, NeitherRupNorRat, NotAlive}
-use Rattle.steps.specs.declared.left.Left.TheVariants.{One}
+use Rattle.clause_db.specs.declared.left.Left.TheVariants.{One}
 use Rattle.cnf_base.specs.Literals.{Literal, complement, Clause, has, complements, without, same_clause}
 use Rattle.steps.specs.Propagation.{Clash, HasRup, HasRat}
 use Rattle.steps.specs.Drat.{Answer, DratStep, add, delete, AnswersAdd, AnswersDelete, AnswersDrat}
-use Rattle.steps.specs.Lrat.{conflicts, open_literals, left_of}
+use Rattle.clause_db.specs.Trail.{conflicts}
+use Rattle.clause_db.specs.Left.{open_literals, how_many}
 use Rattle.cnf_base.proofs.SetLemmas.{has_head, has_tail, has_cases, has_append_left, has_append_right, filter_has}
-use Rattle.steps.proofs.Propagating.{forced_assumed, left-one}
-use Rattle.steps.proofs.Chains.{clash_of_conflict, none_left_clashes}
-use Rattle.steps.proofs.Scans.{Found, all_false, one_left, none_new, scan, IsPart, part_more, settled_quiet}
+use Rattle.clause_db.proofs.ForcedLemmas.{forced_assumed}
+use Rattle.clause_db.proofs.LeftLemmas.{left-one}
+use Rattle.clause_db.proofs.UnitLemmas.{clash_of_conflict, none_left_clashes, settled_quiet}
+use Rattle.steps.proofs.Scans.{Found, all_false, one_left, none_new, scan, IsPart, part_more}
+use Rattle.steps.specs.declared.drat_rules.DratRules.{DratRules}
 
 -- ---- How far a list of true literals can grow
 
@@ -71,7 +74,7 @@ abbrev pub IsDecided : Type 0 → Type 0
 IsDecided A = A ⊎ ¬ A
 
 module _ (live : List Clause) (assumed : List Literal) where
-  falls : (trues : List Literal) (k : ℕ) (c : Clause) → slice_get live k ≡ Some c → (m : Literal) → left_of (open_literals trues c) ≡ One m → has trues m ≡ false → missing (m ∷ trues) (all_literals live) < missing trues (all_literals live)
+  falls : (trues : List Literal) (k : ℕ) (c : Clause) → slice_get live k ≡ Some c → (m : Literal) → how_many (open_literals trues c) ≡ One m → has trues m ≡ false → missing (m ∷ trues) (all_literals live) < missing trues (all_literals live)
   falls trues k c at m e new =
       let only = left-one (open_literals trues c) m e in
       missing_falls trues m new (all_literals live) (has-all_literals live k c m at (filter_has (λ l. not (has trues (complement l))) c m only.0).0)
@@ -79,7 +82,7 @@ module _ (live : List Clause) (assumed : List Literal) where
   -- at most `fuel` literals are not listed yet
   propagate : (fuel : ℕ) (trues : List Literal) → IsPart (slice_get live) assumed trues → missing trues (all_literals live) ≤ fuel → conflicts trues ≡ false → Found (slice_get live) trues → IsDecided (Clash (slice_get live) assumed)
   propagate fuel trues part bound quiet (all_false k c at e) = inl (none_left_clashes (slice_get live) assumed trues part.sound k c at e)
-  propagate fuel trues part bound quiet (none_new settled) = inr (settled_quiet (slice_get live) assumed trues part settled quiet)
+  propagate fuel trues part bound quiet (none_new settled) = inr (settled_quiet (slice_get live) trues settled assumed part.start quiet)
   propagate zero trues part bound quiet (one_left k c at m e new) = absurd (let less = falls trues k c at m e new in let wrong : ⊥ = omega arith in wrong)
   propagate (suc fuel) trues part bound quiet (one_left k c at m e new) =
       let more = part_more (slice_get live) assumed trues part k c at m e in
@@ -168,6 +171,6 @@ delete_answer false live c = elim (cases_Bool (list_any (same_clause c) live)) [
   | inr absent ↦ (Ok Ignored, absent)
 ]
 
-pub drat_answer : (strict : Bool) (live : List Clause) (step : DratStep) → (answer : Answer) × AnswersDrat strict live step answer
-drat_answer strict live (add c) = add_answer live c
-drat_answer strict live (delete c) = delete_answer strict live c
+pub drat_answer : (rules : DratRules) (live : List Clause) (step : DratStep) → (answer : Answer) × AnswersDrat rules live step answer
+drat_answer rules live (add c) = add_answer live c
+drat_answer rules live (delete c) = delete_answer rules.strict live c

@@ -1,5 +1,5 @@
 -- The answers to a DRAT step, from what propagation over the slots says.
-use Rattle.std.proofs.Common.{◌≡◌, ◌≢◌, ℕ, Bool, true, false, cond, Some, None, Ok, Err, List, [], ◌∷◌, ◌++◌, slice_get, ◌+◌, refl, sym, ap, ◌∙◌, subst, inl, inr, eqb-true, eq-eqb}
+use Rattle.std.proofs.Common.{◌≡◌, ◌≢◌, ℕ, Bool, true, false, cond, Some, None, Ok, Err, List, [], ◌∷◌, ◌++◌, slice_get, ◌+◌, refl, sym, ap, ◌∙◌, subst, inl, inr, eq-eqb}
 use Rattle.std.specs.List.{list_any}
 use Rattle.std.specs.Ordering.{nat_cmp, eq_by_cmp}
 use Rattle.std.specs.FinMap as maps
@@ -10,8 +10,8 @@ use Rattle.std.proofs.lemmas.List.{map-append}
 use Rattle.std.proofs.lemmas.List.Folds.{list_any_at}
 use Rattle.std.proofs.lemmas.Option.{slice_get_within, get_or_from_slice_get}
 use Rattle.cnf_base.specs.Literals.{Literal, Clause, complement, complements, has, without, same_clause}
-use Rattle.cnf_base.proofs.SetLemmas.{has_append_left, has_append_right, has_append_cases, has_head, both_pass}
-use Rattle.clause_db.specs.Assumptions.{SameSet}
+use Rattle.cnf_base.proofs.SetLemmas.{has_append_left, has_append_right, has_append_cases, has_head, both_pass, same_symm, same_trans}
+use Rattle.clause_db.specs.Trail.{SameSet}
 use Rattle.steps.specs.declared.accepted.Accepted.{Accepted}
 use Rattle.steps.specs.declared.accepted.Accepted.TheVariants.{Rat}
 use Rattle.steps.specs.declared.refusal.Refusal.TheVariants.{NotRup, NeitherRupNorRat}
@@ -19,9 +19,9 @@ use Rattle.steps.specs.Propagation.{Live, Clash, HasRup}
 use Rattle.steps.specs.Candidates.{AllClash, SomeQuiet, SearchedCandidates}
 use Rattle.steps.specs.Lrat.{AnswersChain, conflict}
 use Rattle.steps.specs.Drat.{AnswersAdd, take_off, copies_of, SameLive}
-use Rattle.steps.proofs.Propagating.{forced_assumed, clash_through}
-use Rattle.steps.proofs.Copies.{same_symm, same_trans, copies-cons, alive_at}
-use Rattle.steps.proofs.Slots.{slots-insert, slots-remove, slots-clash, slots-rat, slots_covered, covered_by_slots}
+use Rattle.clause_db.proofs.ForcedLemmas.{forced_assumed, clash_through}
+use Rattle.steps.proofs.Copies.{copies-cons, alive_at}
+use Rattle.steps.proofs.Slots.{tied, slots-insert, slots-remove, slots-clash, slots-rat, slots_covered, covered_by_slots}
 
 -- ---- RUP and RAT
 
@@ -96,9 +96,6 @@ no_clash first second c assumed is none same rup =
     none (subst (Clash (maps.get first)) (sym same) (subst (λ m. Clash (maps.get m) (complements c)) is rup))
 
 -- ---- What is alive
-
-tied : {k : ℕ} (q : ℕ) → eq_by_cmp nat_cmp q k ≡ true → q ≡ k
-tied {k} q e = eqb-true q k (sym (unsigned_tied q k) ∙ e)
 
 module _ (old new : FinMap nat_cmp Clause) (slot : ℕ) (c lits : Clause) (free : maps.get old slot ≡ None) (at : maps.get new slot ≡ Some c) (same : same_clause c lits ≡ true)
     (others : (s : ℕ) → s ≢ slot → maps.get new s ≡ maps.get old s) where

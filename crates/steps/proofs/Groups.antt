@@ -14,11 +14,13 @@ use Rattle.steps.specs.declared.walk.WalkEnd.{WalkEnd}
 use Rattle.steps.specs.declared.walk.WalkEnd.TheVariants.{Conflict, Open, UnknownId as EndUnknown, NotUnit as EndNotUnit}
 use Rattle.cnf_base.specs.Literals.{Literal, complement, Clause, has, complements, without}
 use Rattle.steps.specs.Propagation.{Live}
-use Rattle.steps.specs.Lrat.{conflicts, open_literals, left_of, ChainEnd, conflict, open_with, unknown, not_unit, look_at, chain, Group, with_candidate, chain_refusal, group_refusal, groups_refusal, units_of, groups_of, is_unsettled, is_left_out, AnswersGroups}
+use Rattle.steps.specs.Lrat.{ChainEnd, conflict, open_with, unknown, not_unit, look_at, chain, Group, with_candidate, chain_refusal, group_refusal, groups_refusal, units_of, groups_of, is_unsettled, is_left_out, AnswersGroups}
+use Rattle.clause_db.specs.Trail.{conflicts, SameSet}
+use Rattle.clause_db.specs.Left.{open_literals, how_many}
 use Rattle.steps.specs.Shelf.{Holds}
 use Rattle.steps.specs.Walk.{IsEnd, refusal_at}
 use Rattle.steps.specs.Answers.{named_in, IsGroupEnd, is_unnamed, IsFirstLeftOut}
-use Rattle.steps.proofs.SameSets.{SameSet, same_set_more}
+use Rattle.steps.proofs.SameSets.{same_set_more}
 use Rattle.steps.proofs.Walks.{chain_same}
 use Rattle.steps.proofs.Hints.{read, groups_skip, groups_more, named_skip, named_more, any_named}
 
@@ -64,7 +66,7 @@ module _ (live : Live) (ls : List Literal) (pivot : Literal) (earlier : List ℕ
 -- the walk over a group's hints, from literals that conflict, or that do not
 pub chain_conflict : (live : Live) (ls : List Literal) (hints : List ℕ) → conflicts ls ≡ true → chain live ls hints ≡ conflict
 chain_conflict live ls [] h = ap (λ b. cond b conflict (open_with ls)) h
-chain_conflict live ls (k ∷ hints) h = ap (λ b. cond b conflict (look_at k (option_map (λ c. left_of (open_literals ls c)) (live k)) (λ l. chain live (l ∷ ls) hints))) h
+chain_conflict live ls (k ∷ hints) h = ap (λ b. cond b conflict (look_at k (option_map (λ c. how_many (open_literals ls c)) (live k)) (λ l. chain live (l ∷ ls) hints))) h
 
 module _ (live : Live) (ls : List Literal) (c : Clause) (opposite : Literal) (hints : List ℕ) where
   pub group_conflicts : conflicts (ls ++ complements (without c opposite)) ≡ true → (end : WalkEnd) → end ≡ Conflict → IsGroupEnd live ls c opposite hints end

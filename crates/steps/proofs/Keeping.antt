@@ -1,5 +1,6 @@
 -- Accepted steps keep satisfiability, and a verified formula has no model.
-use Rattle.std.proofs.Common.{◌≡◌, ℕ, zero, suc, Bool, true, false, cond, eqb, Option, Some, None, Ok, List, [], ◌∷◌, slice_get, refl, sym, ap, ◌∙◌, subst, inl, inr}
+use Rattle.std.proofs.Common.{◌≡◌, ℕ, zero, suc, Bool, true, false, cond, eqb, Some, None, Ok, List, [], ◌∷◌, slice_get, refl, sym, ap, ◌∙◌, subst, inl, inr}
+use Rattle.std.proofs.lemmas.Option.{none-some, same_Some}
 use Rattle.std.proofs.lemmas.Bool.{false≢true, cases_Bool, MatchBool-at_false}
 use Rattle.std.specs.List.{list_any}
 use Rattle.steps.specs.declared.accepted.Accepted.{Accepted}
@@ -8,12 +9,13 @@ use Rattle.steps.specs.declared.refusal.Refusal.{Refusal}
 use Rattle.cnf_base.specs.Literals.{Literal, Clause, same_clause}
 use Rattle.steps.specs.Propagation.{Live}
 use Rattle.steps.specs.Models.{Assignment, satisfies, Models, HasModel}
-use Rattle.steps.specs.Drat.{Answer, DratStep, add, delete, AnswersAdd, AnswersDrat, take_off, after_drat}
+use Rattle.steps.specs.Drat.{AnswersDelete, Answer, DratStep, add, delete, AnswersAdd, AnswersDrat, take_off, after_drat}
 use Rattle.steps.specs.Lrat.{LratState, LratStep, add as add_lrat, delete as delete_lrat, AnswersLrat, after_lrat, with_clause, without_id, without_ids, deletion_refusal}
 use Rattle.steps.specs.Verdicts.{verified, refused, no_empty_clause, is_last, Ends, is_empty, numbered, lrat_start, DratVerdict, LratVerdict}
 use Rattle.steps.specs.Theorems.{IsRedundant}
 use Rattle.steps.proofs.Truth.{rup_true, rat_keeps, HasModelWith}
 use Rattle.steps.proofs.LratSteps.{lrat_redundant, deletion_word}
+use Rattle.steps.specs.declared.drat_rules.DratRules.{DratRules}
 
 -- a clause that was accepted is true in some model of those before it
 redundant_keeps : (live : Live) (c : List Literal) (word : Accepted) → IsRedundant live c word → HasModel live → HasModelWith live c
@@ -30,12 +32,6 @@ empty_refutes : (live : Live) (c : List Literal) → IsRedundant live c Empty �
 empty_refutes live [] rup m = false≢true (rup_true m.0 live [] m.1 rup)
 empty_refutes live (l ∷ c) never m = never
 
-some_same : (c d : Clause) → ◌≡◌ {A = Option Clause} (Some c) (Some d) → c ≡ d
-some_same c d e = cc
-
-none_some : (d : Clause) → ◌≡◌ {A = Option Clause} None (Some d) → ⊥
-none_some d e = cc
-
 -- ---- DRAT
 
 add_redundant : (live : List Clause) (c : List Literal) (word : Accepted) → AnswersAdd live c (Ok word) → IsRedundant (slice_get live) c word
@@ -51,12 +47,12 @@ add_redundant live (l ∷ c) Deleted a = absurd a
 add_redundant live (l ∷ c) Ignored a = absurd a
 
 models_more : (v : Assignment) (live : List Clause) (c : Clause) → Models v (slice_get live) → satisfies v c ≡ true → Models v (slice_get (c ∷ live))
-models_more v live c models h zero d at = sym (ap (satisfies v) (some_same c d at)) ∙ h
+models_more v live c models h zero d at = sym (ap (satisfies v) (same_Some c d at)) ∙ h
 models_more v live c models h (suc k) d at = models k d at
 
 -- the clauses that are left were there before
 take_off_from : (c : Clause) (live : List Clause) (k : ℕ) (d : Clause) → slice_get (take_off c live) k ≡ Some d → (j : ℕ) × (slice_get live j ≡ Some d)
-take_off_from c [] k d at = absurd (none_some d at)
+take_off_from c [] k d at = absurd (none-some d at)
 take_off_from c (e ∷ live) k d at =
     elim (same_clause c e) as (λ b. slice_get (cond b live (e ∷ take_off c live)) k ≡ Some d → (j : ℕ) × (slice_get (e ∷ live) j ≡ Some d)) [
       | true ↦ λ at. (suc k, at)
@@ -67,31 +63,35 @@ take_off_from c (e ∷ live) k d at =
     later earlier zero at = (zero, at)
     later earlier (suc k) at = let w = earlier k at in (suc w.0, w.1)
 
-pub drat_keeps : (strict : Bool) (live : List Clause) (step : DratStep) (word : Accepted) → AnswersDrat strict live step (Ok word) → HasModel (slice_get live) → HasModel (slice_get (after_drat live step))
-drat_keeps strict live (add c) word answer m =
+pub drat_keeps : (rules : DratRules) (live : List Clause) (step : DratStep) (word : Accepted) → AnswersDrat rules live step (Ok word) → HasModel (slice_get live) → HasModel (slice_get (after_drat live step))
+drat_keeps rules live (add c) word answer m =
     let w = redundant_keeps (slice_get live) c word (add_redundant live c word answer) m in
     (w.0, models_more w.0 live c w.1 w.2)
-drat_keeps strict live (delete c) word answer m =
+drat_keeps rules live (delete c) word answer m =
     (m.0, λ k d at. let w = take_off_from c live k d at in m.1 w.0 d w.1)
 
-pub drat_refutes : (strict : Bool) (live : List Clause) (step : DratStep) → AnswersDrat strict live step (Ok Empty) → HasModel (slice_get live) → ⊥
-drat_refutes strict live (add c) answer m = empty_refutes (slice_get live) c (add_redundant live c Empty answer) m
-drat_refutes true live (delete c) answer m = answer
-drat_refutes false live (delete c) answer m = answer
+-- no deletion is answered so
+no_deletion : (strict : Bool) (live : List Clause) (c : List Literal) → AnswersDelete strict live c (Ok Empty) → ⊥
+no_deletion true live c answer = answer
+no_deletion false live c answer = answer
+
+pub drat_refutes : (rules : DratRules) (live : List Clause) (step : DratStep) → AnswersDrat rules live step (Ok Empty) → HasModel (slice_get live) → ⊥
+drat_refutes rules live (add c) answer m = empty_refutes (slice_get live) c (add_redundant live c Empty answer) m
+drat_refutes rules live (delete c) answer m = no_deletion rules.strict live c answer
 
 -- ---- LRAT
 
 models_with : (v : Assignment) (live : Live) (id : ℕ) (c : Clause) → Models v live → satisfies v c ≡ true → Models v (with_clause live id c)
 models_with v live id c models h k d at =
     elim (eqb k id) as (λ b. cond b (Some c) (live k) ≡ Some d → satisfies v d ≡ true) [
-      | true ↦ λ at. sym (ap (satisfies v) (some_same c d at)) ∙ h
+      | true ↦ λ at. sym (ap (satisfies v) (same_Some c d at)) ∙ h
       | false ↦ λ at. models k d at
     ] at
 
 models_without : (v : Assignment) (live : Live) (id : ℕ) → Models v live → Models v (without_id live id)
 models_without v live id models k d at =
     elim (eqb k id) as (λ b. cond b None (live k) ≡ Some d → satisfies v d ≡ true) [
-      | true ↦ λ at. absurd (none_some d at)
+      | true ↦ λ at. absurd (none-some d at)
       | false ↦ λ at. models k d at
     ] at
 
@@ -146,14 +146,14 @@ empty_formula ([] ∷ formula) h m = false≢true (m.1 zero [] refl)
 empty_formula ((l ∷ c) ∷ formula) h m = empty_formula formula h (m.0, λ k d at. m.1 (suc k) d at)
 
 pub models_numbered : (v : Assignment) (formula : List Clause) → Models v (slice_get formula) → Models v (numbered formula)
-models_numbered v formula models zero d at = absurd (none_some d at)
+models_numbered v formula models zero d at = absurd (none-some d at)
 models_numbered v formula models (suc k) d at = models k d at
 
-pub drat_sound : (strict : Bool) (formula : List Clause) (steps : List DratStep) (words : List Accepted) → DratVerdict strict formula steps words verified → ¬ HasModel (slice_get formula)
-drat_sound strict formula steps words verdict m =
+pub drat_sound : (rules : DratRules) (formula : List Clause) (steps : List DratStep) (words : List Accepted) → DratVerdict rules formula steps words verified → ¬ HasModel (slice_get formula)
+drat_sound rules formula steps words verdict m =
     elim (cases_Bool (list_any is_empty formula)) [
       | inl e ↦ empty_formula formula e m
-      | inr e ↦ ends_sound (AnswersDrat strict) after_drat (λ live. HasModel (slice_get live)) (drat_keeps strict) (drat_refutes strict) steps formula words (MatchBool-at_false _ _ e verdict) m
+      | inr e ↦ ends_sound (AnswersDrat rules) after_drat (λ live. HasModel (slice_get live)) (drat_keeps rules) (drat_refutes rules) steps formula words (MatchBool-at_false _ _ e verdict) m
     ]
 
 pub lrat_sound : (formula : List Clause) (steps : List LratStep) (words : List Accepted) → LratVerdict formula steps words verified → ¬ HasModel (slice_get formula)

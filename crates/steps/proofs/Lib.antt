@@ -1,6 +1,5 @@
 pub mod Holds
 pub mod Truth
-pub mod Propagating
 pub mod Chains
 pub mod LratSteps
 pub mod Keeping
@@ -17,9 +16,7 @@ pub mod Starts
 pub mod Sizes
 pub mod Ending
 pub mod Sessions
-pub mod Surveys
 pub mod Sums
-pub mod TrueSets
 pub mod Rooms
 pub mod Different
 pub mod Shelves

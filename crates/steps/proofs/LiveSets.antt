@@ -3,11 +3,11 @@ use Rattle.std.proofs.Common.{◌≡◌, ℕ, true, Option, Some, None, refl, sy
 use Rattle.std.specs.List.{list_all}
 use Rattle.std.proofs.lemmas.Bool.{and_from}
 use Rattle.cnf_base.specs.Literals.{Clause, has, same_clause}
-use Rattle.cnf_base.proofs.SetLemmas.{each_all}
+use Rattle.cnf_base.proofs.SetLemmas.{each_all, same_symm}
 use Rattle.steps.specs.Propagation.{Live}
 use Rattle.steps.specs.Lrat.{SameAt, SameClauses}
-use Rattle.steps.proofs.Copies.{same_symm}
-use Rattle.steps.proofs.SameSets.{SameSet, same_set_from}
+use Rattle.steps.proofs.SameSets.{same_set_from}
+use Rattle.clause_db.specs.Trail.{SameSet}
 
 pub same_clause_from : (c d : Clause) → SameSet c d → same_clause c d ≡ true
 same_clause_from c d same =

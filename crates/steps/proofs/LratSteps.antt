@@ -11,11 +11,13 @@ use Rattle.steps.specs.declared.refusal.Refusal.TheVariants.{IdOutOfOrder, Unkno
 use Rattle.cnf_base.specs.Literals.{Literal, complement, Clause, has, complements, without}
 use Rattle.steps.specs.Propagation.{Live, Forced, Clash, HasRat, by_both}
 use Rattle.steps.specs.Drat.{Answer}
-use Rattle.steps.specs.Lrat.{conflicts, ChainEnd, conflict, open_with, unknown, not_unit, chain, Group, LratState, add, with_candidate, chain_refusal, group_refusal, groups_refusal, is_unsettled, is_left_out, AnswersGroups, AnswersChain, AnswersLrat, answer_of}
+use Rattle.steps.specs.Lrat.{ChainEnd, conflict, open_with, unknown, not_unit, chain, Group, LratState, add, with_candidate, chain_refusal, group_refusal, groups_refusal, is_unsettled, is_left_out, AnswersGroups, AnswersChain, AnswersLrat, answer_of}
+use Rattle.clause_db.specs.Trail.{conflicts}
 use Rattle.steps.specs.Theorems.{IsRedundant}
 use Rattle.cnf_base.proofs.LiteralLemmas.{complement-complement}
 use Rattle.cnf_base.proofs.SetLemmas.{has_head, has_append_left, has_append_right, has_append_cases, complements_has, has-complements}
-use Rattle.steps.proofs.Propagating.{forced_assumed, forced_through, clash_through, conflicts_some}
+use Rattle.clause_db.proofs.ForcedLemmas.{forced_assumed, forced_through, clash_through}
+use Rattle.clause_db.proofs.FalseLemmas.{conflicts_some}
 use Rattle.steps.proofs.Chains.{ChainMeans, chain_means}
 
 -- ---- Refusals in a row
@@ -106,10 +108,10 @@ rat_of_groups live pivot rest ls groups forced e none_left =
 
 -- ---- Steps
 
-ok_is : (first second : Accepted) → ◌≡◌ {A = Answer} (Ok first) (Ok second) → first ≡ second
+pub ok_is : (first second : Accepted) → ◌≡◌ {A = Answer} (Ok first) (Ok second) → first ≡ second
 ok_is first second e = cc
 
-ok_err : (word : Accepted) (r : Refusal) → ◌≡◌ {A = Answer} (Ok word) (Err r) → ⊥
+pub ok_err : (word : Accepted) (r : Refusal) → ◌≡◌ {A = Answer} (Ok word) (Err r) → ⊥
 ok_err word r e = cc
 
 groups_redundant : (live : Live) (pivot : Literal) (rest ls : List Literal) (groups : List Group) (word : Accepted) → ((a : Literal) → has ls a ≡ true → Forced live (complements (pivot ∷ rest)) a) → (refusal : Option Refusal) → groups_refusal live ls pivot [] groups ≡ refusal → AnswersGroups live ls pivot groups refusal (Ok word) → IsRedundant live (pivot ∷ rest) word

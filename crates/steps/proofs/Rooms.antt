@@ -7,20 +7,17 @@ use Rattle.std.specs.Result.{OnOk}
 use Rattle.std.specs.declared.result.Result.{Result}
 use Rattle.std.specs.declared.result.Result.TheVariants.{Ok, Err}
 use Rattle.cnf_base.specs.Literals.{Literal, Clause, has}
-use Rattle.clause_db.specs.Trail.{TrailState}
+use Rattle.clause_db.specs.Trail.{TrailState, HasRoom, HasRoomForAll}
 use Rattle.proofs.specs.declared.step_buf.StepKind.TheVariants.{Delete}
 use Rattle.proofs.specs.Steps.{Step}
 use Rattle.steps.specs.Propagation.{Live}
 use Rattle.steps.specs.Lrat.{with_clause, without_id, without_ids, step_of, lrat_step, LratState, after_lrat, SameAt, SameClauses}
-use Rattle.steps.specs.TrueLiterals.{HasRoom, HasRoomForAll, IsReady}
-use Rattle.steps.proofs.Copies.{same_there}
+use Rattle.steps.specs.Session.{IsReady}
+use Rattle.cnf_base.proofs.SetLemmas.{same_there}
 use Rattle.steps.proofs.LiveSets.{SameClauses-eq}
 
 some_none : (c : Clause) → Some c ≡ None → ⊥
 some_none c e = cc
-
-same_some : (c d : Clause) → Some c ≡ Some d → c ≡ d
-same_some c d e = cc
 
 -- ---- A clause that is added
 

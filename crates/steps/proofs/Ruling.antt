@@ -21,25 +21,26 @@ use Rattle.steps.proofs.LiveSets.{SameClauses-trans}
 use Rattle.steps.proofs.Sessions as ids
 use Rattle.steps.proofs.Sessions.{SameState}
 use Rattle.steps.proofs.Sizes.{total_same}
+use Rattle.steps.specs.declared.drat_rules.DratRules.{DratRules}
 
 pub answers_same : (s t : State) (step : Step) (answer : Answer) → Same s t → Answers s step answer → Answers t step answer
 answers_same (by_ids s) (by_ids t) step answer same a = ids.answers_same s t (lrat_step step) answer (record { live = same.0; top = same.1 }) a
-answers_same (by_copies strict x) (by_copies strict_too y) step answer same a =
-    subst (λ b. AnswersDrat b y (drat_step step) answer) same.0 (drat_same strict x y (drat_step step) answer same.1 a)
-answers_same (by_ids s) (by_copies strict y) step answer same a = absurd same
-answers_same (by_copies strict x) (by_ids t) step answer same a = absurd same
+answers_same (by_copies rules x) (by_copies rules_too y) step answer same a =
+    subst (λ b. AnswersDrat b y (drat_step step) answer) same.0 (drat_same rules x y (drat_step step) answer same.1 a)
+answers_same (by_ids s) (by_copies rules y) step answer same a = absurd same
+answers_same (by_copies rules x) (by_ids t) step answer same a = absurd same
 
 pub after_same : (s t : State) (step : Step) → Same s t → Same (after s step) (after t step)
 after_same (by_ids s) (by_ids t) step same = let w = ids.after_same s t (lrat_step step) (record { live = same.0; top = same.1 }) in (w.live, w.top)
-after_same (by_copies strict x) (by_copies strict_too y) step same = (same.0, copies.after_same x y (drat_step step) same.1)
-after_same (by_ids s) (by_copies strict y) step same = absurd same
-after_same (by_copies strict x) (by_ids t) step same = absurd same
+after_same (by_copies rules x) (by_copies rules_too y) step same = (same.0, copies.after_same x y (drat_step step) same.1)
+after_same (by_ids s) (by_copies rules y) step same = absurd same
+after_same (by_copies rules x) (by_ids t) step same = absurd same
 
 pub sum_same : (s t : State) → Same s t → sum_of s ≡ sum_of t
 sum_same (by_ids s) (by_ids t) same = ap (λ n. min n (2 ^ 64 - 1)) (total_same s t same.0 same.1)
-sum_same (by_copies strict x) (by_copies strict_too y) same = ap (λ n. min n (2 ^ 64 - 1)) (sums_same x y same.1)
-sum_same (by_ids s) (by_copies strict y) same = absurd same
-sum_same (by_copies strict x) (by_ids t) same = absurd same
+sum_same (by_copies rules x) (by_copies rules_too y) same = ap (λ n. min n (2 ^ 64 - 1)) (sums_same x y same.1)
+sum_same (by_ids s) (by_copies rules y) same = absurd same
+sum_same (by_copies rules x) (by_ids t) same = absurd same
 
 pub same_trans : (s t u : State) → Same s t → Same t u → Same s u
 same_trans (by_ids s) (by_ids t) (by_ids u) first second = (SameClauses-trans _ _ _ first.0 second.0, first.1 ∙ second.1)
@@ -63,15 +64,15 @@ ends_same (step ∷ steps) (word ∷ words) ending first second same e = (answer
 
 keeps : (s : State) (step : Step) (word : Accepted) → Answers s step (Ok word) → IsSatisfiable s → IsSatisfiable (after s step)
 keeps (by_ids s) step word a m = lrat_keeps s (lrat_step step) word a m
-keeps (by_copies strict live) step word a m = drat_keeps strict live (drat_step step) word a m
+keeps (by_copies rules live) step word a m = drat_keeps rules live (drat_step step) word a m
 
 refutes : (s : State) (step : Step) → Answers s step (Ok Empty) → IsSatisfiable s → ⊥
 refutes (by_ids s) step a m = lrat_refutes s (lrat_step step) a m
-refutes (by_copies strict live) step a m = drat_refutes strict live (drat_step step) a m
+refutes (by_copies rules live) step a m = drat_refutes rules live (drat_step step) a m
 
 started : (rule : Rule) (formula : List Clause) → HasModel (slice_get formula) → IsSatisfiable (start rule formula)
 started lrat formula m = (m.0, models_numbered m.0 formula m.1)
-started (drat strict) formula m = m
+started (drat rules) formula m = m
 
 pub verdict_sound : (rule : Rule) (formula : List Clause) (steps : List Step) (words : List Accepted) → Verdict rule formula steps words verified → ¬ HasModel (slice_get formula)
 verdict_sound rule formula steps words verdict m =

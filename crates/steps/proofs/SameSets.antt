@@ -7,28 +7,22 @@ use Rattle.std.proofs.lemmas.Bool.{false≢true}
 use Rattle.steps.specs.declared.accepted.Accepted.TheVariants.{Rat}
 use Rattle.steps.specs.declared.refusal.Refusal.{Refusal}
 use Rattle.steps.specs.declared.refusal.Refusal.TheVariants.{IdOutOfOrder, UnknownId, NotCandidate, NamedTwice, GroupWithoutConflict, Unnamed}
-use Rattle.steps.specs.declared.left.Left.{Left}
-use Rattle.steps.specs.declared.left.Left.TheVariants.{Nothing, One, More}
+use Rattle.clause_db.specs.declared.left.Left.{Left}
+use Rattle.clause_db.specs.declared.left.Left.TheVariants.{Nothing, One, More}
 use Rattle.cnf_base.specs.Literals.{Literal, complement, Clause, has, complements, without, same_clause}
 use Rattle.steps.specs.Propagation.{Live}
 use Rattle.steps.specs.Drat.{Answer}
-use Rattle.steps.specs.Lrat.{conflicts, open_literals, left_of, ChainEnd, conflict, open_with, unknown, not_unit, look_at, chain, Group, LratStep, add, delete, with_candidate, chain_refusal, group_refusal, groups_refusal, is_unsettled, is_left_out, AnswersGroups, AnswersChain, with_clause, without_id, without_ids, deletion_refusal, answer_of, AnswersLrat, SameAt, SameClauses}
-pub use Rattle.steps.specs.TrueLiterals.{SameSet}
-use Rattle.cnf_base.proofs.SetLemmas.{both_pass, has_head, has_tail, any_from, any_some, each_all, has-filter, filter_has, has_append_left, has_append_right, has_append_cases, has-complements, complements_has, has-without, without_has}
+use Rattle.steps.specs.Lrat.{ChainEnd, conflict, open_with, unknown, not_unit, look_at, chain, Group, LratStep, add, delete, with_candidate, chain_refusal, group_refusal, groups_refusal, is_unsettled, is_left_out, AnswersGroups, AnswersChain, with_clause, without_id, without_ids, deletion_refusal, answer_of, AnswersLrat, SameAt, SameClauses}
+use Rattle.clause_db.specs.Trail.{conflicts}
+use Rattle.clause_db.specs.Left.{open_literals, how_many}
+use Rattle.clause_db.specs.Trail.{SameSet}
+use Rattle.clause_db.proofs.FalseLemmas.{conflicts_same}
+use Rattle.cnf_base.proofs.SetLemmas.{both_pass, has_head, has_tail, each_all, has-filter, filter_has, has_append_left, has_append_right, has_append_cases, has-complements, complements_has, has-without, without_has, same_there, same_back, same_symm}
 use Rattle.cnf_base.proofs.LiteralLemmas.{complement-complement}
-use Rattle.steps.proofs.Propagating.{left-none, left-one}
-use Rattle.steps.proofs.Copies.{same_there, same_back, same_symm}
+use Rattle.clause_db.proofs.LeftLemmas.{left-none, left-one, nothing_more, one_more}
 
 pub same_set_from : (c d : Clause) → same_clause c d ≡ true → SameSet c d
 same_set_from c d same l = both_pass (has c l) (has d l) (same_there c d same l) (same_back c d same l)
-
-conflicts_there : (first second : List Literal) → SameSet first second → conflicts first ≡ true → conflicts second ≡ true
-conflicts_there first second same h =
-    let w = any_some (λ l. has first (complement l)) first h in
-    any_from (λ l. has second (complement l)) second w.0 (sym (same w.0) ∙ w.1) (sym (same (complement w.0)) ∙ w.2)
-
-pub conflicts_same : (first second : List Literal) → SameSet first second → conflicts first ≡ conflicts second
-conflicts_same first second same = both_pass (conflicts first) (conflicts second) (conflicts_there first second same) (conflicts_there second first (λ l. sym (same l)))
 
 pub same_set_more : (first second : List Literal) (m : Literal) → SameSet first second → SameSet (m ∷ first) (m ∷ second)
 same_set_more first second m same l = ap (λ b. eqb m l || b) (same l)
@@ -45,28 +39,22 @@ open_same first second c d same_ls same_c l =
     both_pass (has (open_literals first c) l) (has (open_literals second d) l) (open_there first second c d same_ls same_c l) (open_there second first d c (λ l. sym (same_ls l)) (λ l. sym (same_c l)) l)
 
 -- a list whose literals are all equal to one of them
-left_is_one : (ls : List Literal) (m : Literal) → has ls m ≡ true → ((l : Literal) → has ls l ≡ true → l ≡ m) → left_of ls ≡ One m
+left_is_one : (ls : List Literal) (m : Literal) → has ls m ≡ true → ((l : Literal) → has ls l ≡ true → l ≡ m) → how_many ls ≡ One m
 left_is_one [] m member only = absurd (false≢true member)
 left_is_one (k ∷ ls) m member only =
     let k_is : k ≡ m = only k (has_head k ls) in
     ap (λ b. cond b (One k) More) (each_all (λ l. eqb l k) ls (λ l h. eq-eqb l k (only l (has_tail k ls l h) ∙ sym k_is))) ∙ ap One k_is
 
-left_is_nothing : (ls : List Literal) → ((l : Literal) → has ls l ≡ true → ⊥) → left_of ls ≡ Nothing
+left_is_nothing : (ls : List Literal) → ((l : Literal) → has ls l ≡ true → ⊥) → how_many ls ≡ Nothing
 left_is_nothing [] none = refl
 left_is_nothing (k ∷ ls) none = absurd (none k (has_head k ls))
 
-nothing_more : Nothing ≡ More → ⊥
-nothing_more e = cc
-
-one_more : (m : Literal) → One m ≡ More → ⊥
-one_more m e = cc
-
-left_same : (xs ys : List Literal) → SameSet xs ys → left_of xs ≡ left_of ys
+left_same : (xs ys : List Literal) → SameSet xs ys → how_many xs ≡ how_many ys
 left_same xs ys same =
-    elim (left_of xs) as (λ left. left_of xs ≡ left → left ≡ left_of ys) [
+    elim (how_many xs) as (λ left. how_many xs ≡ left → left ≡ how_many ys) [
       | Nothing ↦ λ e. sym (left_is_nothing ys (λ l h. left-none xs e l (same l ∙ h)))
       | One m ↦ λ e. let w = left-one xs m e in sym (left_is_one ys m (sym (same m) ∙ w.0) (λ l h. w.1 l (same l ∙ h)))
-      | More ↦ λ e. elim (left_of ys) as (λ right. left_of ys ≡ right → More ≡ right) [
+      | More ↦ λ e. elim (how_many ys) as (λ right. how_many ys ≡ right → More ≡ right) [
         | Nothing ↦ λ f. absurd (nothing_more (sym (left_is_nothing xs (λ l h. left-none ys f l (sym (same l) ∙ h))) ∙ e))
         | One m ↦ λ f. let w = left-one ys m f in absurd (one_more m (sym (left_is_one xs m (same m ∙ w.0) (λ l h. w.1 l (sym (same l) ∙ h))) ∙ e))
         | More ↦ λ f. refl
@@ -75,7 +63,7 @@ left_same xs ys same =
 
 -- ---- Walks
 
-looks_same : (first second : List Literal) → SameSet first second → (a b : Option Clause) → SameAt a b → option_map (λ c. left_of (open_literals first c)) a ≡ option_map (λ c. left_of (open_literals second c)) b
+looks_same : (first second : List Literal) → SameSet first second → (a b : Option Clause) → SameAt a b → option_map (λ c. how_many (open_literals first c)) a ≡ option_map (λ c. how_many (open_literals second c)) b
 looks_same first second same None None h = refl
 looks_same first second same (Some c) (Some d) h = ap Some (left_same _ _ (open_same first second c d same (same_set_from c d h)))
 looks_same first second same None (Some d) h = absurd h
@@ -90,7 +78,7 @@ module _ (live other : Live) (same_clauses : SameClauses live other) where
       let on_live : Literal → ChainEnd = λ l. chain live (l ∷ ls) hints in
       let on_other : Literal → ChainEnd = λ l. chain other (l ∷ ls) hints in
       ap (λ o. cond (conflicts ls) conflict (look_at k o on_live)) looks
-      ∙ ap (λ (f : Literal → ChainEnd). cond (conflicts ls) conflict (look_at k (option_map (λ c. left_of (open_literals ls c)) (other k)) f)) (λ i l. chain_is hints (l ∷ ls) i)
+      ∙ ap (λ (f : Literal → ChainEnd). cond (conflicts ls) conflict (look_at k (option_map (λ c. how_many (open_literals ls c)) (other k)) f)) (λ i l. chain_is hints (l ∷ ls) i)
 
   refusals_look : (r : Refusal) (k : ℕ) (o : Option Left) (f g : Literal → ChainEnd) → ((l : Literal) → chain_refusal r (f l) ≡ chain_refusal r (g l)) → chain_refusal r (look_at k o f) ≡ chain_refusal r (look_at k o g)
   refusals_look r k None f g each = refl
@@ -109,13 +97,13 @@ module _ (live other : Live) (same_clauses : SameClauses live other) where
   chain_alike r (k ∷ hints) first second same =
       by_conflict (conflicts first) (λ l. chain_alike r hints (l ∷ first) (l ∷ second) (same_set_more first second l same))
       ∙ ap (λ o. chain_refusal r (cond (conflicts first) conflict (look_at k o (λ l. chain other (l ∷ second) hints)))) (looks_same first second same (live k) (other k) (same_clauses.at k))
-      ∙ ap (λ b. chain_refusal r (cond b conflict (look_at k (option_map (λ c. left_of (open_literals second c)) (other k)) (λ l. chain other (l ∷ second) hints)))) (conflicts_same first second same)
+      ∙ ap (λ b. chain_refusal r (cond b conflict (look_at k (option_map (λ c. how_many (open_literals second c)) (other k)) (λ l. chain other (l ∷ second) hints)))) (conflicts_same first second same)
     where
       by_conflict : (b : Bool) → ((l : Literal) → chain_refusal r (chain live (l ∷ first) hints) ≡ chain_refusal r (chain other (l ∷ second) hints)) →
-          chain_refusal r (cond b conflict (look_at k (option_map (λ c. left_of (open_literals first c)) (live k)) (λ l. chain live (l ∷ first) hints)))
-          ≡ chain_refusal r (cond b conflict (look_at k (option_map (λ c. left_of (open_literals first c)) (live k)) (λ l. chain other (l ∷ second) hints)))
+          chain_refusal r (cond b conflict (look_at k (option_map (λ c. how_many (open_literals first c)) (live k)) (λ l. chain live (l ∷ first) hints)))
+          ≡ chain_refusal r (cond b conflict (look_at k (option_map (λ c. how_many (open_literals first c)) (live k)) (λ l. chain other (l ∷ second) hints)))
       by_conflict true each = refl
-      by_conflict false each = refusals_look r k (option_map (λ c. left_of (open_literals first c)) (live k)) (λ l. chain live (l ∷ first) hints) (λ l. chain other (l ∷ second) hints) each
+      by_conflict false each = refusals_look r k (option_map (λ c. how_many (open_literals first c)) (live k)) (λ l. chain live (l ∷ first) hints) (λ l. chain other (l ∷ second) hints) each
 
   -- ---- Candidates
 

@@ -6,14 +6,14 @@ use Rattle.std.specs.FinMap as maps
 use Rattle.std.proofs.lemmas.Bool.Decides.{nat_tests}
 use Rattle.steps.specs.declared.accepted.Accepted.{Accepted}
 use Rattle.cnf_base.specs.Literals.{Clause, same_clause}
-use Rattle.cnf_base.proofs.SetLemmas.{any_from, any_some}
+use Rattle.cnf_base.proofs.SetLemmas.{any_from, any_some, same_itself, same_there, same_symm}
 use Rattle.steps.specs.Propagation.{Live}
 use Rattle.steps.specs.Models.{Assignment, holds, satisfies, Models, HasModel}
 use Rattle.steps.specs.Drat.{Answer, SameLive}
 use Rattle.steps.specs.Lrat.{LratState, LratStep, add, delete, AnswersLrat, after_lrat, with_clause, SameAt, SameClauses}
 use Rattle.steps.specs.Session.{fresh, state_of}
 use Rattle.steps.specs.Verdicts.{Ending, verified, is_last, Ends, numbered}
-use Rattle.steps.proofs.Copies.{same_itself, same_there, same_symm, covers_of}
+use Rattle.steps.proofs.Copies.{covers_of}
 use Rattle.steps.proofs.SameSets.{with_same, without_all_same, lrat_same}
 
 -- ---- States with the same clauses

@@ -1,5 +1,7 @@
 -- Identifiers, slots and clauses as one finite map.
 use Rattle.std.proofs.Common.{◌≡◌, ℕ, Bool, true, false, cond, eqb, eq-eqb, ne_eqb, Option, Some, None, option_map, List, [], ◌∷◌, map, ◌+◌, ◌-◌, ◌<◌, ◌≤◌, ◌≢◌, is_some, refl, sym, ap, ◌∙◌, subst, arith, nat_cmp, nat_eq, length, inl, inr, ◌⊎◌}
+use Rattle.std.proofs.lemmas.Option.{same_Some}
+use Rattle.std.proofs.lemmas.Option.{}
 use Rattle.std.specs.Ordering.{eq_by_cmp}
 use Rattle.std.specs.Option.{unwrap_or, IsSome}
 use Rattle.std.specs.Cmp.{nat_cmp_total, unsigned_tied}
@@ -66,9 +68,6 @@ some_is_some o x e = ap is_some e
 none_is_not_some : {X : Type 0} (o : Option X) → o ≡ None → IsSome o → ⊥
 none_is_not_some o e h = false≢true (sym (ap is_some e) ∙ h)
 
-same_some : {X : Type 0} (x y : X) → ◌≡◌ {A = Option X} (Some x) (Some y) → x ≡ y
-same_some x y e = ap (λ o. unwrap_or o x) e
-
 some_none : {X : Type 0} (x : X) → ◌≡◌ {A = Option X} (Some x) None → ⊥
 some_none x e = false≢true (sym (ap is_some e))
 
@@ -118,7 +117,7 @@ module _ (ids : FinMap nat_cmp ℕ) (store after : FinMap nat_cmp Clause) (id sl
     -- an identifier that is bound now, and its slot
     slot_cases : (k s : ℕ) → maps.get after_ids k ≡ Some s → ((k ≡ id) × (s ≡ slot)) ⊎ (maps.get ids k ≡ Some s)
     slot_cases k s at = elim (cases_eq k id) [
-      | inl e ↦ inl (e, same_some s slot (sym at ∙ ap (maps.get after_ids) e ∙ ids_here))
+      | inl e ↦ inl (e, same_Some s slot (sym at ∙ ap (maps.get after_ids) e ∙ ids_here))
       | inr apart ↦ inr (sym (ids_other k apart) ∙ at)
     ]
 
@@ -364,7 +363,7 @@ holding_counts ids store shelf view paired l count count_is ks hold =
         by_clause : (o : Option Clause) → maps.get store slot ≡ o → IsSome (maps.get store slot) → (c : Clause) × (maps.get store slot ≡ Some c) × (has c l ≡ true)
         by_clause None g filled = absurd (none_is_not_some (maps.get store slot) g filled)
         by_clause (Some c) g filled =
-            let same : h.clause ≡ c = same_some h.clause c (sym h.at ∙ sym (got_some ids store shelf view k slot e c (sym g))) in
+            let same : h.clause ≡ c = same_Some h.clause c (sym h.at ∙ sym (got_some ids store shelf view k slot e c (sym g))) in
             (c, g, subst (λ d. has d l ≡ true) same h.member)
 
 -- ---- At the start

@@ -1,5 +1,6 @@
 -- A map from slots to clauses, whose values are the live clauses.
 use Rattle.std.proofs.Common.{◌≡◌, ℕ, zero, suc, ◌+◌, Bool, true, false, cond, Option, Some, None, List, [], ◌∷◌, map, slice_get, Less, Equal, Greater, refl, sym, ap, ◌∙◌, subst, arith, eqb-true, eq-eqb, T, ◌&&◌, ◌==◌, ◌<◌, ◌↔◌, inl, inr, le-ltb, is_lt}
+use Rattle.std.proofs.lemmas.Option.{none-some}
 use Rattle.std.specs.Ordering.{nat_cmp, eq_by_cmp, is_eq}
 use Rattle.std.specs.FinMap as slots
 use Rattle.std.specs.FinMap.{FinMap, is_sorted, find, put, get-entries, entries-insert, get-insert, get-remove, same_map, nat_cmp-IsAntisymmetric}
@@ -9,8 +10,8 @@ use Rattle.std.proofs.lemmas.Bool.{cases_Bool, cases_lt, false_from_ne_true}
 use Rattle.cnf_base.specs.Literals.{Literal, Clause, same_clause}
 use Rattle.steps.specs.Propagation.{Clash, HasRat}
 use Rattle.steps.specs.Drat.{take_off, copies_of, SameLive}
-use Rattle.cnf_base.proofs.SetLemmas.{both_pass}
-use Rattle.steps.proofs.Copies.{Covers, clash_covers, rat_covers, same_itself, copies-cons, copies-take_off, same_symm, same_trans}
+use Rattle.cnf_base.proofs.SetLemmas.{both_pass, same_itself, same_symm, same_trans}
+use Rattle.steps.proofs.Copies.{Covers, clash_covers, rat_covers, copies-cons, copies-take_off}
 
 abbrev clauses_in : List (ℕ × Clause) → List Clause
 clauses_in es = map (λ e. e.1) es
@@ -39,7 +40,7 @@ slots-insert m k c absent =
           ∙ sym (copies-cons e c (slots.values m));
     }
 
-tied : {k : ℕ} (q : ℕ) → eq_by_cmp nat_cmp q k ≡ true → q ≡ k
+pub tied : {k : ℕ} (q : ℕ) → eq_by_cmp nat_cmp q k ≡ true → q ≡ k
 tied {k} q e = eqb-true q k (sym (unsigned_tied q k) ∙ e)
 
 eq_itself : (k : ℕ) → eq_by_cmp nat_cmp k k ≡ true
@@ -73,14 +74,8 @@ slots-remove m k c d at same =
 
 -- ---- Looking a slot up, and standing in the list of values
 
-none_some : (c : Clause) → ◌≡◌ {A = Option Clause} None (Some c) → ⊥
-none_some c e = cc
-
-same_some : (c d : Clause) → ◌≡◌ {A = Option Clause} (Some c) (Some d) → c ≡ d
-same_some c d e = cc
-
 find_listed : (es : List (ℕ × Clause)) (k : ℕ) (c : Clause) → find nat_cmp k es ≡ Some c → (j : ℕ) × (slice_get (clauses_in es) j ≡ Some c)
-find_listed [] k c at = absurd (none_some c at)
+find_listed [] k c at = absurd (none-some c at)
 find_listed (x ∷ es) k c at =
     elim (cases_Bool (eq_by_cmp nat_cmp k x.0)) [
       | inl e ↦ (zero, sym (ap (λ b. cond b (Some x.1) (find nat_cmp k es)) e) ∙ at)
@@ -107,7 +102,7 @@ second_of_both true b t = t
 second_of_both false b t = absurd t
 
 below_found : (x : ℕ) (es : List (ℕ × Clause)) (k : ℕ) (c : Clause) → T (below_all nat_cmp x es) → find nat_cmp k es ≡ Some c → x < k
-below_found x [] k c below at = absurd (none_some c at)
+below_found x [] k c below at = absurd (none-some c at)
 below_found x (e ∷ es) k c below at =
     elim (cases_Bool (eq_by_cmp nat_cmp k e.0)) [
       | inl same ↦ subst (λ n. x < n) (sym (tied k same)) (above x e.0 (first_of_both (is_lt (nat_cmp x e.0)) (below_all nat_cmp x es) below))
@@ -115,7 +110,7 @@ below_found x (e ∷ es) k c below at =
     ]
 
 listed_found : (es : List (ℕ × Clause)) → T (is_sorted nat_cmp es) → (j : ℕ) (c : Clause) → slice_get (clauses_in es) j ≡ Some c → (k : ℕ) × (find nat_cmp k es ≡ Some c)
-listed_found [] sorted j c at = absurd (none_some c at)
+listed_found [] sorted j c at = absurd (none-some c at)
 listed_found (x ∷ es) sorted zero c at = (x.0, ap (λ b. cond b (Some x.1) (find nat_cmp x.0 es)) (eq_itself x.0) ∙ at)
 listed_found (x ∷ es) sorted (suc j) c at =
     let w = listed_found es (second_of_both (below_all nat_cmp x.0 es) (is_sorted nat_cmp es) sorted) j c at in

@@ -12,11 +12,13 @@ use Rattle.steps.specs.declared.walk.WalkEnd.TheVariants.{Open, Conflict}
 use Rattle.cnf_base.specs.Literals.{Literal, complement, Clause, has, complements, without}
 use Rattle.steps.specs.Propagation.{Live}
 use Rattle.steps.specs.Drat.{Answer}
-use Rattle.steps.specs.Lrat.{conflicts, chain, ChainEnd, conflict, open_with, unknown, not_unit, Group, with_candidate, group_refusal, groups_refusal, is_unsettled, is_left_out, AnswersGroups, AnswersChain}
+use Rattle.steps.specs.Lrat.{chain, ChainEnd, conflict, open_with, unknown, not_unit, Group, with_candidate, group_refusal, groups_refusal, is_unsettled, is_left_out, AnswersGroups, AnswersChain}
+use Rattle.clause_db.specs.Trail.{conflicts, SameSet}
 use Rattle.steps.specs.Walk.{IsEnd}
 use Rattle.steps.proofs.Walks.{chain_same}
 use Rattle.steps.proofs.Groups.{chain_conflict}
-use Rattle.steps.proofs.SameSets.{SameSet, conflicts_same, chain_alike}
+use Rattle.steps.proofs.SameSets.{chain_alike}
+use Rattle.clause_db.proofs.FalseLemmas.{conflicts_same}
 use Rattle.steps.proofs.LiveSets.{SameClauses-refl}
 
 module _ (live : Live) (first second : List Literal) (same : SameSet first second) (pivot : Literal) where

@@ -11,6 +11,8 @@ use Rattle.steps.specs.Propagation.{Live, HasRup, HasRat}
 use Rattle.steps.specs.Drat.{Answer, DratStep, add, delete, AnswersAdd, AnswersDelete, AnswersDrat, after_drat}
 use Rattle.steps.specs.Lrat.{LratState, LratStep, add as add_lrat, delete as delete_lrat, Group, ChainEnd, conflict, open_with, unknown, not_unit, chain, groups_refusal, is_left_out, AnswersGroups, AnswersChain, AnswersLrat, after_lrat}
 use Rattle.steps.specs.Verdicts.{Ending, refused, is_last, Ends, is_empty, lrat_start, DratVerdict, LratVerdict}
+use Rattle.steps.proofs.LratSteps.{ok_is, ok_err}
+use Rattle.steps.specs.declared.drat_rules.DratRules.{DratRules}
 
 -- ---- DRAT
 
@@ -76,10 +78,10 @@ delete_is false live c (Ok _) a = absurd a
 delete_is true live c (Err _) a = absurd a
 delete_is false live c (Err _) a = absurd a
 
-pub drat_unique : (strict : Bool) (live : List Clause) (step : DratStep) (first second : Answer) → AnswersDrat strict live step first → AnswersDrat strict live step second → first ≡ second
-drat_unique strict live (add []) first second a b = empty_unique (slice_get live) first second (empty_cases live first a) (empty_cases live second b)
-drat_unique strict live (add (pivot ∷ rest)) first second a b = add_unique (slice_get live) pivot rest first second (add_cases live pivot rest first a) (add_cases live pivot rest second b)
-drat_unique strict live (delete c) first second a b = delete_is strict live c first a ∙ sym (delete_is strict live c second b)
+pub drat_unique : (rules : DratRules) (live : List Clause) (step : DratStep) (first second : Answer) → AnswersDrat rules live step first → AnswersDrat rules live step second → first ≡ second
+drat_unique rules live (add []) first second a b = empty_unique (slice_get live) first second (empty_cases live first a) (empty_cases live second b)
+drat_unique rules live (add (pivot ∷ rest)) first second a b = add_unique (slice_get live) pivot rest first second (add_cases live pivot rest first a) (add_cases live pivot rest second b)
+drat_unique rules live (delete c) first second a b = delete_is rules.strict live c first a ∙ sym (delete_is rules.strict live c second b)
 
 -- ---- LRAT
 
@@ -127,18 +129,12 @@ lrat_unique state (delete_lrat ids) first second a b = a ∙ sym b
 
 -- ---- Verdicts
 
-ok_is : (first second : Accepted) → ◌≡◌ {A = Answer} (Ok first) (Ok second) → first ≡ second
-ok_is first second e = cc
-
 err_is : (first second : Refusal) → ◌≡◌ {A = Answer} (Err first) (Err second) → first ≡ second
 err_is first second e = cc
 
-ok_err : (word : Accepted) (r : Refusal) → ◌≡◌ {A = Answer} (Ok word) (Err r) → ⊥
-ok_err word r e = cc
-
 module _ {State Step : Type 0} (Answers : State → Step → Answer → Type 0) (after : State → Step → State)
     (unique : (s : State) (step : Step) (first second : Answer) → Answers s step first → Answers s step second → first ≡ second) where
-  ends_unique : (steps : List Step) (s : State) (first second : List Accepted) (ending other : Ending) → Ends Answers after s steps first ending → Ends Answers after s steps second other → (first ≡ second) × (ending ≡ other)
+  pub ends_unique : (steps : List Step) (s : State) (first second : List Accepted) (ending other : Ending) → Ends Answers after s steps first ending → Ends Answers after s steps second other → (first ≡ second) × (ending ≡ other)
   ends_unique [] s [] [] ending other a b = (refl, a ∙ sym b)
   ends_unique [] s [] (w ∷ ws) ending other a b = absurd b
   ends_unique [] s (w ∷ ws) second ending other a b = absurd a
@@ -157,11 +153,11 @@ module _ {State Step : Type 0} (Answers : State → Step → Answer → Type 0) 
             (λ i. same i ∷ r.0 i, r.1)
       ]
 
-pub drat_verdict_unique : (strict : Bool) (formula : List Clause) (steps : List DratStep) (first second : List Accepted) (ending other : Ending) → DratVerdict strict formula steps first ending → DratVerdict strict formula steps second other → (first ≡ second) × (ending ≡ other)
-drat_verdict_unique strict formula steps first second ending other a b =
+pub drat_verdict_unique : (rules : DratRules) (formula : List Clause) (steps : List DratStep) (first second : List Accepted) (ending other : Ending) → DratVerdict rules formula steps first ending → DratVerdict rules formula steps second other → (first ≡ second) × (ending ≡ other)
+drat_verdict_unique rules formula steps first second ending other a b =
     elim (cases_Bool (list_any is_empty formula)) [
       | inl e ↦ let p = MatchBool-at_true _ _ e a in let q = MatchBool-at_true _ _ e b in (p.0 ∙ sym q.0, p.1 ∙ sym q.1)
-      | inr e ↦ ends_unique (AnswersDrat strict) after_drat (drat_unique strict) steps formula first second ending other (MatchBool-at_false _ _ e a) (MatchBool-at_false _ _ e b)
+      | inr e ↦ ends_unique (AnswersDrat rules) after_drat (drat_unique rules) steps formula first second ending other (MatchBool-at_false _ _ e a) (MatchBool-at_false _ _ e b)
     ]
 
 pub lrat_verdict_unique : (formula : List Clause) (steps : List LratStep) (first second : List Accepted) (ending other : Ending) → LratVerdict formula steps first ending → LratVerdict formula steps second other → (first ≡ second) × (ending ≡ other)

@@ -1,15 +1,17 @@
 -- A walk depends on the set of true literals alone, and goes on hint by hint.
 use Rattle.std.proofs.Common.{◌≡◌, ℕ, true, false, not, cond, Option, Some, None, option_map, List, [], ◌∷◌, ◌++◌, refl, sym, ap, ◌∙◌, subst, inl, inr}
-use Rattle.std.proofs.lemmas.Bool.{false≢true, not-true}
+use Rattle.std.proofs.lemmas.Bool.{false≢true}
 use Rattle.std.proofs.lemmas.List.Elements.{filter_agree}
-use Rattle.steps.specs.declared.left.Left.{Left}
-use Rattle.steps.specs.declared.left.Left.TheVariants.{Nothing, One, More}
+use Rattle.clause_db.specs.declared.left.Left.{Left}
+use Rattle.clause_db.specs.declared.left.Left.TheVariants.{Nothing, One, More}
 use Rattle.cnf_base.specs.Literals.{Literal, complement, Clause, has}
 use Rattle.steps.specs.Propagation.{Live}
-use Rattle.steps.specs.Lrat.{conflicts, open_literals, left_of, ChainEnd, conflict, open_with, look_at, chain}
-use Rattle.cnf_base.proofs.SetLemmas.{both_pass, filter_has, has_head, has_tail, has_cases, has_append_left, has_append_right, has_append_cases}
-use Rattle.steps.proofs.Propagating.{left-one}
-use Rattle.steps.proofs.SameSets.{SameSet, conflicts_same, same_set_more}
+use Rattle.steps.specs.Lrat.{ChainEnd, conflict, open_with, look_at, chain}
+use Rattle.clause_db.specs.Trail.{conflicts, SameSet}
+use Rattle.clause_db.specs.Left.{open_literals, how_many}
+use Rattle.cnf_base.proofs.SetLemmas.{both_pass, has_head, has_tail, has_cases, has_append_left, has_append_right, has_append_cases}
+use Rattle.steps.proofs.SameSets.{same_set_more}
+use Rattle.clause_db.proofs.FalseLemmas.{conflicts_same}
 use Rattle.steps.specs.declared.walk.WalkEnd.{WalkEnd}
 use Rattle.steps.specs.declared.walk.WalkEnd.TheVariants.{Conflict, Open, UnknownId, NotUnit}
 use Rattle.steps.specs.Walk.{IsEnd}
@@ -59,11 +61,11 @@ chain_same live [] first second same =
       | false ↦ gives_open first second same
     ])
 chain_same live (k ∷ hints) first second same =
-    let look_first : Option Left = option_map (λ c. left_of (open_literals first c)) (live k) in
-    let look_second : Option Left = option_map (λ c. left_of (open_literals second c)) (live k) in
+    let look_first : Option Left = option_map (λ c. how_many (open_literals first c)) (live k) in
+    let look_second : Option Left = option_map (λ c. how_many (open_literals second c)) (live k) in
     let on_first : Literal → ChainEnd = λ l. chain live (l ∷ first) hints in
     let on_second : Literal → ChainEnd = λ l. chain live (l ∷ second) hints in
-    let looks : look_first ≡ look_second = ap (λ (f : Clause → Left). option_map f (live k)) (λ i c. left_of (open_same first second c same i)) in
+    let looks : look_first ≡ look_second = ap (λ (f : Clause → Left). option_map f (live k)) (λ i c. how_many (open_same first second c same i)) in
     subst (λ b. Gives (chain live first (k ∷ hints)) (cond b conflict (look_at k look_second on_second))) (conflicts_same first second same)
     (elim (conflicts first) as (λ b. Gives (cond b conflict (look_at k look_first on_first)) (cond b conflict (look_at k look_second on_second))) [
       | true ↦ λ trues end h. h
@@ -75,25 +77,17 @@ chain_same live (k ∷ hints) first second same =
 
 -- a walk whose next hint is k
 module _ (live : Live) (ls : List Literal) (left more : List ℕ) (k : ℕ) (left_is : left ≡ k ∷ more) (end : ChainEnd) (so_far : Gives (chain live ls left) end) (quiet : conflicts ls ≡ false) (c : Clause) (at : live k ≡ Some c) where
-  next : (o : Left) → left_of (open_literals ls c) ≡ o → chain live ls left ≡ look_at k (Some o) (λ l. chain live (l ∷ ls) more)
+  next : (o : Left) → how_many (open_literals ls c) ≡ o → chain live ls left ≡ look_at k (Some o) (λ l. chain live (l ∷ ls) more)
   next o e =
       ap (chain live ls) left_is
-      ∙ ap (λ b. cond b conflict (look_at k (option_map (λ c. left_of (open_literals ls c)) (live k)) (λ l. chain live (l ∷ ls) more))) quiet
-      ∙ ap (λ o. look_at k o (λ l. chain live (l ∷ ls) more)) (ap (option_map (λ c. left_of (open_literals ls c))) at ∙ ap Some e)
+      ∙ ap (λ b. cond b conflict (look_at k (option_map (λ c. how_many (open_literals ls c)) (live k)) (λ l. chain live (l ∷ ls) more))) quiet
+      ∙ ap (λ o. look_at k o (λ l. chain live (l ∷ ls) more)) (ap (option_map (λ c. how_many (open_literals ls c))) at ∙ ap Some e)
 
-  pub walk_nothing : (trues : List Literal) → Nothing ≡ left_of (open_literals ls c) → IsEnd trues Conflict end
+  pub walk_nothing : (trues : List Literal) → Nothing ≡ how_many (open_literals ls c) → IsEnd trues Conflict end
   walk_nothing trues e = so_far trues Conflict (subst (IsEnd trues Conflict) (sym (next Nothing (sym e))) tt)
 
-  pub walk_more : (trues : List Literal) → More ≡ left_of (open_literals ls c) → IsEnd trues (NotUnit k) end
+  pub walk_more : (trues : List Literal) → More ≡ how_many (open_literals ls c) → IsEnd trues (NotUnit k) end
   walk_more trues e = so_far trues (NotUnit k) (subst (IsEnd trues (NotUnit k)) (sym (next More (sym e))) refl)
 
-  pub walk_one : (m : Literal) → One m ≡ left_of (open_literals ls c) → (after : List Literal) → SameSet after (m ∷ ls) → Gives (chain live after more) end
+  pub walk_one : (m : Literal) → One m ≡ how_many (open_literals ls c) → (after : List Literal) → SameSet after (m ∷ ls) → Gives (chain live after more) end
   walk_one m e after same trues w g = so_far trues w (subst (IsEnd trues w) (sym (next (One m) (sym e))) (chain_same live more after (m ∷ ls) same trues w g))
-
--- ---- The literal that is left
-
-pub left_open : (ls : List Literal) (c : Clause) (m : Literal) → One m ≡ left_of (open_literals ls c) → (has c m ≡ true) × (has ls (complement m) ≡ false)
-left_open ls c m e =
-    let w = left-one (open_literals ls c) m (sym e) in
-    let f = filter_has (λ l. not (has ls (complement l))) c m w.0 in
-    (f.0, not-true (has ls (complement m)) f.1)

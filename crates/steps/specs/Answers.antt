@@ -2,7 +2,8 @@
 use Rattle.std.specs.Prelude.{ℕ, ◌<◌, Bool, not, ◌&&◌, ◌++◌, Option, Some, None, List, map, ℤ, IsTrue, IsFalse}
 use Rattle.cnf_base.specs.Literals.{Literal, Clause, has, complements, without}
 use Rattle.steps.specs.Propagation.{Live}
-use Rattle.steps.specs.Lrat.{groups_of, conflicts, chain, is_unsettled}
+use Rattle.steps.specs.Lrat.{groups_of, chain, is_unsettled}
+use Rattle.clause_db.specs.Trail.{conflicts}
 use Rattle.steps.specs.Walk.{IsEnd}
 use Rattle.steps.specs.declared.walk.WalkEnd.{WalkEnd}
 

@@ -9,6 +9,7 @@ use Rattle.steps.specs.declared.refusal.Refusal.{Refusal}
 use Rattle.steps.specs.declared.refusal.Refusal.TheVariants.{NotRup, NeitherRupNorRat, NotAlive}
 use Rattle.cnf_base.specs.Literals.{Literal, Clause, same_clause}
 use Rattle.steps.specs.Propagation.{HasRup, HasRat}
+use Rattle.steps.specs.declared.drat_rules.DratRules.{DratRules}
 
 -- a step, with its literals in the order in which they were written
 pub data DratStep : Type 0 where
@@ -35,9 +36,9 @@ AnswersDelete false live c (Ok Ignored) = IsFalse (list_any (same_clause c) live
 AnswersDelete true live c (Err NotAlive) = IsFalse (list_any (same_clause c) live)
 AnswersDelete strict live c _ = ⊥
 
-abbrev pub AnswersDrat : Bool → List Clause → DratStep → Answer → Type 0
-AnswersDrat strict live (add c) answer = AnswersAdd live c answer
-AnswersDrat strict live (delete c) answer = AnswersDelete strict live c answer
+abbrev pub AnswersDrat : DratRules → List Clause → DratStep → Answer → Type 0
+AnswersDrat rules live (add c) answer = AnswersAdd live c answer
+AnswersDrat rules live (delete c) answer = AnswersDelete rules.strict live c answer
 
 -- without one copy of the clause, if there is one
 abbrev pub take_off : Clause → List Clause → List Clause

@@ -10,12 +10,12 @@ use Rattle.proofs.specs.Steps.{Step}
 use Rattle.proofs.specs.declared.step_buf.StepKind.{StepKind}
 use Rattle.proofs.specs.declared.step_buf.StepKind.TheVariants.{Add, Delete}
 use Rattle.steps.specs.Drat.{DratStep, add, delete}
+use Rattle.steps.specs.declared.drat_rules.DratRules.{DratRules}
 
 pub record DratState : Type 0 where
   -- the live clauses, each in its slot
   pub live : FinMap nat_cmp Clause
-  -- whether a deletion of a clause that is not alive is refused
-  pub strict : Bool
+  pub rules : DratRules
   -- whether some step was accepted
   pub has_stepped : Bool
   -- whether an empty clause was input or accepted
@@ -30,13 +30,13 @@ abbrev pub drat_code : Coded DratState
 drat_code =
     code_by (FinMap nat_cmp Clause × (Bool × (Bool × (Bool × (Bool × ℕ)))))
     (coded× (maps.code coded_ℕ (coded_list coded_ℕ)) (coded× coded_bool (coded× coded_bool (coded× coded_bool (coded× coded_bool coded_ℕ)))))
-    (λ s. (s.live, (s.strict, (s.has_stepped, (s.is_verified, (s.is_ended, s.peak))))))
-    (λ p. record { live = p.0; strict = p.1.0; has_stepped = p.1.1.0; is_verified = p.1.1.1.0; is_ended = p.1.1.1.1.0; peak = p.1.1.1.1.1 })
+    (λ s. (s.live, (s.rules.strict, (s.has_stepped, (s.is_verified, (s.is_ended, s.peak))))))
+    (λ p. record { live = p.0; rules = record { strict = p.1.0 }; has_stepped = p.1.1.0; is_verified = p.1.1.1.0; is_ended = p.1.1.1.1.0; peak = p.1.1.1.1.1 })
     (λ _. refl)
 
 -- no clause was input
-abbrev pub fresh_drat : Bool → DratState
-fresh_drat strict = record { live = maps.empty; strict = strict; has_stepped = false; is_verified = false; is_ended = false; peak = 0 }
+abbrev pub fresh_drat : DratRules → DratState
+fresh_drat rules = record { live = maps.empty; rules = rules; has_stepped = false; is_verified = false; is_ended = false; peak = 0 }
 
 -- the live clauses, as the multiset that the rule speaks of
 abbrev pub clauses_of : DratState → List Clause

@@ -7,10 +7,8 @@ pub mod Verdicts
 pub mod Theorems
 pub mod Session
 pub mod Shelf
-pub mod Survey
 pub mod Walk
 pub mod Answers
-pub mod TrueLiterals
 pub mod DratSessions
 pub mod Candidates
 pub mod Rules

@@ -2,36 +2,25 @@
 -- of hints and deletions by identifier are those of LRAT (Cruz-Filipe, Heule and others, 2017). The rest is our own
 -- profile: the order of the tests, identifiers that rise, hints after a conflict that nobody looks at, true literals and
 -- literals that are there already, which unnamed candidates pass, that no group is repeated, and refused deletions.
-use Rattle.std.specs.Prelude.{◌≡◌, ℕ, suc, ◌<◌, Bool, false, not, ◌&&◌, ◌==◌, nat_le, Option, Some, None, List, [], ◌∷◌, ◌++◌, filter, Ok, Err, ℤ, pos, negsuc, nat_abs, map, option_map, is_none, MatchBool, IsTrue, IsFalse, ⊤, if◌then◌else◌}
+use Rattle.std.specs.Prelude.{◌≡◌, ℕ, suc, ◌<◌, Bool, false, not, ◌&&◌, ◌==◌, nat_le, Option, Some, None, List, [], ◌∷◌, ◌++◌, Ok, Err, ℤ, pos, negsuc, nat_abs, map, option_map, is_none, MatchBool, IsTrue, IsFalse, ⊤, if◌then◌else◌}
 use Rattle.std.specs.Bool.{then_some}
 use Rattle.std.specs.Option.{option_or}
-use Rattle.std.specs.List.{list_any, list_all}
+use Rattle.std.specs.List.{list_any}
 use Rattle.steps.specs.declared.accepted.Accepted.TheVariants.{Rup, Rat, Empty, Deleted}
 use Rattle.steps.specs.declared.refusal.Refusal.{Refusal}
 use Rattle.steps.specs.declared.refusal.Refusal.TheVariants.{IdOutOfOrder, UnknownId, NotUnit, NotCandidate, NamedTwice, GroupWithoutConflict, Unnamed, NoConflict}
-use Rattle.steps.specs.declared.left.Left.{Left}
-use Rattle.steps.specs.declared.left.Left.TheVariants.{Nothing, One, More}
+use Rattle.clause_db.specs.declared.left.Left.{Left}
+use Rattle.clause_db.specs.declared.left.Left.TheVariants.{Nothing, One, More}
 use Rattle.proofs.specs.declared.step_buf.StepKind.{StepKind}
 use Rattle.proofs.specs.declared.step_buf.StepKind.TheVariants.{Add, Delete}
 use Rattle.proofs.specs.Steps.{Step}
 use Rattle.cnf_base.specs.Literals.{Literal, complement, Clause, has, complements, without, same_clause}
+use Rattle.clause_db.specs.Left.{open_literals, how_many}
+use Rattle.clause_db.specs.Trail.{conflicts}
 use Rattle.steps.specs.Propagation.{Live}
 use Rattle.steps.specs.Drat.{Answer}
 
 -- ---- The chain rule
-
--- the list holds a literal and its complement
-abbrev pub conflicts : List Literal → Bool
-conflicts ls = list_any (λ l. has ls (complement l)) ls
-
--- the literals of a clause that are not false where those of the list are true
-abbrev pub open_literals : List Literal → Clause → List Literal
-open_literals ls c = filter (λ l. not (has ls (complement l))) c
-
--- how many different literals there are
-abbrev pub left_of : List Literal → Left
-left_of [] = Nothing
-left_of (l ∷ ls) = if list_all (λ k. k == l) ls then One l else More
 
 pub data ChainEnd : Type 0 where
   conflict : ChainEnd
@@ -49,7 +38,7 @@ look_at k (Some More) go_on = not_unit k
 abbrev pub chain : Live → List Literal → List ℕ → ChainEnd
 chain live ls [] = if conflicts ls then conflict else open_with ls
 chain live ls (k ∷ hints) =
-    if conflicts ls then conflict else look_at k (option_map (λ c. left_of (open_literals ls c)) (live k)) (λ l. chain live (l ∷ ls) hints)
+    if conflicts ls then conflict else look_at k (option_map (λ c. how_many (open_literals ls c)) (live k)) (λ l. chain live (l ∷ ls) hints)
 
 -- ---- A step
 

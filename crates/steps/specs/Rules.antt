@@ -10,52 +10,52 @@ use Rattle.steps.specs.Models.{HasModel}
 use Rattle.steps.specs.Sizes.{size, total}
 use Rattle.steps.specs.Verdicts.{Ending, verified, Ends, is_empty, lrat_start}
 use Rattle.steps.specs.declared.accepted.Accepted.{Accepted}
+use Rattle.steps.specs.declared.drat_rules.DratRules.{DratRules}
 
 pub data Rule : Type 0 where
   lrat : Rule
-  -- strictly: a deletion of a clause that is not alive is refused
-  drat : (strict : Bool) → Rule
+  drat : (rules : DratRules) → Rule
 
 -- the live clauses, each at its identifier, or as a multiset
 pub data State : Type 0 where
   by_ids : LratState → State
-  by_copies : (strict : Bool) → List Clause → State
+  by_copies : (rules : DratRules) → List Clause → State
 
 -- what a formula leaves
 abbrev pub start : Rule → List Clause → State
 start lrat formula = by_ids (lrat_start formula)
-start (drat strict) formula = by_copies strict formula
+start (drat rules) formula = by_copies rules formula
 
 -- what one more clause of the formula leaves
 abbrev pub with_input : State → Clause → State
 with_input (by_ids s) c = by_ids (record { live = with_clause s.live (s.top + 1) c; top = s.top + 1 })
-with_input (by_copies strict live) c = by_copies strict (c ∷ live)
+with_input (by_copies rules live) c = by_copies rules (c ∷ live)
 
 -- what a step may be answered
 abbrev pub Answers : State → Step → Answer → Type 0
 Answers (by_ids s) step answer = AnswersLrat s (lrat_step step) answer
-Answers (by_copies strict live) step answer = AnswersDrat strict live (drat_step step) answer
+Answers (by_copies rules live) step answer = AnswersDrat rules live (drat_step step) answer
 
 -- what an accepted step leaves
 abbrev pub after : State → Step → State
 after (by_ids s) step = by_ids (after_lrat s (lrat_step step))
-after (by_copies strict live) step = by_copies strict (after_drat live (drat_step step))
+after (by_copies rules live) step = by_copies rules (after_drat live (drat_step step))
 
 -- the sum of the sizes of the live clauses, counted up to the greatest number of 64 bits
 abbrev pub sum_of : State → ℕ
 sum_of (by_ids s) = min (total s) (2 ^ 64 - 1)
-sum_of (by_copies strict live) = min (sum_by size live) (2 ^ 64 - 1)
+sum_of (by_copies rules live) = min (sum_by size live) (2 ^ 64 - 1)
 
 -- the same clauses: at the same identifiers, or in as many copies
 abbrev pub Same : State → State → Type 0
 Same (by_ids s) (by_ids t) = SameClauses s.live t.live × (s.top ≡ t.top)
-Same (by_copies strict live) (by_copies strict_too others) = (strict ≡ strict_too) × SameLive live others
+Same (by_copies rules live) (by_copies rules_too others) = (rules ≡ rules_too) × SameLive live others
 Same _ _ = ⊥
 
 -- some assignment satisfies the live clauses
 abbrev pub IsSatisfiable : State → Type 0
 IsSatisfiable (by_ids s) = HasModel s.live
-IsSatisfiable (by_copies strict live) = HasModel (slice_get live)
+IsSatisfiable (by_copies rules live) = HasModel (slice_get live)
 
 -- a session of either rule, as its callers see it
 pub record View : Type 0 where
@@ -77,7 +77,7 @@ is_over s = s.is_ended || s.is_verified
 -- the rule of a state
 abbrev pub rule_of : State → Rule
 rule_of (by_ids s) = lrat
-rule_of (by_copies strict live) = drat strict
+rule_of (by_copies rules live) = drat rules
 
 -- The verdict on a formula and the steps of a proof. A formula with an empty clause is verified before the first step.
 abbrev pub Verdict : Rule → List Clause → List Step → List Accepted → Ending → Type 0

@@ -1,13 +1,15 @@
 -- An LRAT session, as its callers see it.
-use Rattle.std.specs.Prelude.{ℕ, Bool, false, ◌||◌, Err, refl, ⊤}
+use Rattle.std.specs.Prelude.{◌≡◌, ℕ, Bool, false, [], ◌||◌, Err, refl, ⊤}
 use Rattle.std.specs.Ordering.{nat_cmp}
 use Rattle.std.specs.Coded.{Coded, code_by, coded×, coded_ℕ, coded_bool, coded_list}
 use Rattle.std.specs.FinMap as map
 use Rattle.std.specs.FinMap.{FinMap}
 use Rattle.cnf_base.specs.Literals.{Clause}
+use Rattle.clause_db.specs.Trail.{TrailState, HasRoomForAll}
 use Rattle.steps.specs.declared.refusal.Refusal.TheVariants.{OutOfMemory}
 use Rattle.steps.specs.Drat.{Answer}
 use Rattle.steps.specs.Lrat.{LratState}
+use Rattle.steps.specs.Propagation.{Live}
 
 pub record Session : Type 0 where
   -- the live clauses, each at its identifier
@@ -34,6 +36,11 @@ session_code =
 -- no clause was input
 abbrev pub fresh : Session
 fresh = record { live = map.empty; top = 0; has_stepped = false; is_verified = false; is_ended = false; peak = 0 }
+
+-- nothing is true, and there is room for all that may become true
+pub record IsReady (live : Live) (trues : TrailState) : Type 0 where
+  pub none_true : trues.lits ≡ []
+  pub room : HasRoomForAll trues.met live
 
 abbrev pub state_of : Session → LratState
 state_of s = record { live = map.get s.live; top = s.top }

@@ -9,6 +9,7 @@ use Rattle.steps.specs.Drat.{Answer, DratStep, AnswersDrat, after_drat, SameLive
 use Rattle.steps.specs.Lrat.{Group, LratState, LratStep, add, AnswersLrat, after_lrat, chain, conflict, with_clause, without_ids, SameClauses}
 use Rattle.steps.specs.Sizes.{size, total}
 use Rattle.steps.specs.Verdicts.{Ending, verified, DratVerdict, LratVerdict}
+use Rattle.steps.specs.declared.drat_rules.DratRules.{DratRules}
 
 -- Under every assignment that makes the live clauses and the assumed literals true, what is forced is true.
 abbrev pub ForcedIsTrue : Type 0
@@ -47,8 +48,8 @@ LratShowsRedundant = (state : LratState) (id : ℕ) (c : List Literal) (units : 
 
 -- An accepted step leaves clauses that have a model if those before it have one.
 abbrev pub DratKeepsModels : Type 0
-DratKeepsModels = (strict : Bool) (live : List Clause) (step : DratStep) (word : Accepted) →
-    AnswersDrat strict live step (Ok word) → HasModel (slice_get live) → HasModel (slice_get (after_drat live step))
+DratKeepsModels = (rules : DratRules) (live : List Clause) (step : DratStep) (word : Accepted) →
+    AnswersDrat rules live step (Ok word) → HasModel (slice_get live) → HasModel (slice_get (after_drat live step))
 
 abbrev pub LratKeepsModels : Type 0
 LratKeepsModels = (state : LratState) (step : LratStep) (word : Accepted) →
@@ -56,8 +57,8 @@ LratKeepsModels = (state : LratState) (step : LratStep) (word : Accepted) →
 
 -- A formula that is verified has no model.
 abbrev pub DratIsSound : Type 0
-DratIsSound = (strict : Bool) (formula : List Clause) (steps : List DratStep) (words : List Accepted) →
-    DratVerdict strict formula steps words verified → ¬ HasModel (slice_get formula)
+DratIsSound = (rules : DratRules) (formula : List Clause) (steps : List DratStep) (words : List Accepted) →
+    DratVerdict rules formula steps words verified → ¬ HasModel (slice_get formula)
 
 abbrev pub LratIsSound : Type 0
 LratIsSound = (formula : List Clause) (steps : List LratStep) (words : List Accepted) →
@@ -66,24 +67,24 @@ LratIsSound = (formula : List Clause) (steps : List LratStep) (words : List Acce
 -- A step has at most one answer, and a proof at most one verdict.
 abbrev pub AnswersAreUnique : Type 0
 AnswersAreUnique =
-    ((strict : Bool) (live : List Clause) (step : DratStep) (first second : Answer) → AnswersDrat strict live step first → AnswersDrat strict live step second → first ≡ second)
+    ((rules : DratRules) (live : List Clause) (step : DratStep) (first second : Answer) → AnswersDrat rules live step first → AnswersDrat rules live step second → first ≡ second)
     × ((state : LratState) (step : LratStep) (first second : Answer) → AnswersLrat state step first → AnswersLrat state step second → first ≡ second)
 
 abbrev pub VerdictsAreUnique : Type 0
 VerdictsAreUnique =
-    ((strict : Bool) (formula : List Clause) (steps : List DratStep) (first second : List Accepted) (ending other : Ending) →
-    DratVerdict strict formula steps first ending → DratVerdict strict formula steps second other → (first ≡ second) × (ending ≡ other))
+    ((rules : DratRules) (formula : List Clause) (steps : List DratStep) (first second : List Accepted) (ending other : Ending) →
+    DratVerdict rules formula steps first ending → DratVerdict rules formula steps second other → (first ≡ second) × (ending ≡ other))
     × ((formula : List Clause) (steps : List LratStep) (first second : List Accepted) (ending other : Ending) →
     LratVerdict formula steps first ending → LratVerdict formula steps second other → (first ≡ second) × (ending ≡ other))
 
 -- Each step of a DRAT proof has an answer.
 abbrev pub DratAnswersExist : Type 0
-DratAnswersExist = (strict : Bool) (live : List Clause) (step : DratStep) → (answer : Answer) × AnswersDrat strict live step answer
+DratAnswersExist = (rules : DratRules) (live : List Clause) (step : DratStep) → (answer : Answer) × AnswersDrat rules live step answer
 
 -- The answer to a DRAT step, and what is alive after it, depend only on how many copies of each clause are alive.
 abbrev pub OnlyCopiesCount : Type 0
 OnlyCopiesCount =
-    ((strict : Bool) (first second : List Clause) (step : DratStep) (answer : Answer) → SameLive first second → AnswersDrat strict first step answer → AnswersDrat strict second step answer)
+    ((rules : DratRules) (first second : List Clause) (step : DratStep) (answer : Answer) → SameLive first second → AnswersDrat rules first step answer → AnswersDrat rules second step answer)
     × ((first second : List Clause) (step : DratStep) → SameLive first second → SameLive (after_drat first step) (after_drat second step))
 
 -- The answer to an LRAT step depends only on the sets of the live clauses, and so does what is alive after it.

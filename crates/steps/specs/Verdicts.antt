@@ -9,6 +9,7 @@ use Rattle.cnf_base.specs.Literals.{Clause}
 use Rattle.steps.specs.Propagation.{Live}
 use Rattle.steps.specs.Drat.{Answer, DratStep, AnswersDrat, after_drat}
 use Rattle.steps.specs.Lrat.{LratStep, LratState, AnswersLrat, after_lrat}
+use Rattle.steps.specs.declared.drat_rules.DratRules.{DratRules}
 
 pub data Ending : Type 0 where
   verified : Ending
@@ -41,9 +42,9 @@ abbrev pub lrat_start : List Clause → LratState
 lrat_start formula = record { live = numbered formula; top = length formula }
 
 -- A formula with an empty clause is verified before the first step.
-abbrev pub DratVerdict : Bool → List Clause → List DratStep → List Accepted → Ending → Type 0
-DratVerdict strict formula steps words ending =
-    MatchBool (list_any is_empty formula) ((words ≡ []) × (ending ≡ verified)) (Ends (AnswersDrat strict) after_drat formula steps words ending)
+abbrev pub DratVerdict : DratRules → List Clause → List DratStep → List Accepted → Ending → Type 0
+DratVerdict rules formula steps words ending =
+    MatchBool (list_any is_empty formula) ((words ≡ []) × (ending ≡ verified)) (Ends (AnswersDrat rules) after_drat formula steps words ending)
 
 abbrev pub LratVerdict : List Clause → List LratStep → List Accepted → Ending → Type 0
 LratVerdict formula steps words ending =

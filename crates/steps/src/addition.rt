@@ -3,18 +3,17 @@
 ghost use Rattle.std.specs.Prelude.{◌≡◌, [], IfOk, IsFalse};
 ghost use Rattle.std.specs.FinMap as maps;
 ghost use Rattle.cnf_base.specs.Literals.{complements};
-ghost use Rattle.steps.specs.Lrat.{chain, conflicts, groups_refusal, AnswersGroups, AnswersChain, units_of, groups_of};
+ghost use Rattle.steps.specs.Lrat.{chain, groups_refusal, AnswersGroups, AnswersChain, units_of, groups_of};
+ghost use Rattle.clause_db.specs.Trail.{conflicts, SameSet, HasRoom, HasRoomForAll};
 ghost use Rattle.steps.specs.Walk.{IsEnd};
-ghost use Rattle.steps.specs.TrueLiterals.{SameSet, HasRoom, HasRoomForAll};
 
 use crate::accepted::{Accepted, word_of};
 use crate::candidates::{first_left_out, judge_groups};
 use crate::live_clauses::LiveClauses;
 use crate::named::Named;
 use crate::refusal::Refusal;
-use crate::true_literals::make_false;
 use crate::walk::{WalkEnd, walk};
-use clause_db::Trail;
+use clause_db::{Trail, Whole};
 use cnf_base::Lit;
 use std::alloc::{AllocError, Global};
 
@@ -34,7 +33,9 @@ fn judge_candidates(
     requires quiet { IsFalse (conflicts trues.old.lits) }
     requires room { HasRoomForAll trues.old.met (maps.get live.now.live) }
     requires none_named { named.old ≡ [] }
-    ensures answer { IfOk result (AnswersGroups (maps.get live.now.live) trues.old.lits pivot (groups_of hints.now) (groups_refusal (maps.get live.now.live) trues.old.lits pivot [] (groups_of hints.now))) }
+    ensures answer { IfOk result (AnswersGroups (maps.get live.now.live) trues.old.lits pivot
+        (groups_of hints.now) (groups_refusal (maps.get live.now.live) trues.old.lits pivot []
+        (groups_of hints.now))) }
     ensures met { SameSet trues.new.met trues.old.met }
 {
     match judge_groups(live, trues, pivot, named, hints)? {
@@ -51,11 +52,12 @@ fn walk_units(live: &LiveClauses, trues: &mut Trail, clause: &[Lit], hints: &[i6
     requires none_true { trues.old.lits ≡ [] }
     requires room { HasRoomForAll trues.old.met (maps.get live.now.live) }
     requires clause_room { HasRoom trues.old.met clause.now }
-    ensures end { IsEnd trues.new.lits result (chain (maps.get live.now.live) (complements clause.now) (units_of hints.now)) }
+    ensures end { IsEnd trues.new.lits result (chain (maps.get live.now.live)
+        (complements clause.now) (units_of hints.now)) }
     ensures quiet { IsFalse (conflicts trues.new.lits) }
     ensures met { SameSet trues.new.met trues.old.met }
 {
-    if make_false(trues, clause, None) {
+    if trues.make_false(clause, &Whole) {
         return WalkEnd::Conflict;
     }
     walk(live, trues, hints)
@@ -73,7 +75,9 @@ pub(crate) fn judge_addition(
     requires none_true { trues.old.lits ≡ [] }
     requires room { HasRoomForAll trues.old.met (maps.get live.now.live) }
     requires clause_room { HasRoom trues.old.met clause.now }
-    ensures answer { IfOk result (AnswersChain (maps.get live.now.live) clause.now (groups_of hints.now) (chain (maps.get live.now.live) (complements clause.now) (units_of hints.now))) }
+    ensures answer { IfOk result (AnswersChain (maps.get live.now.live) clause.now
+        (groups_of hints.now) (chain (maps.get live.now.live) (complements clause.now)
+        (units_of hints.now))) }
     ensures met { SameSet trues.new.met trues.old.met }
 {
     let mut named = Named::with_room(alloc, count_groups(hints))?;

@@ -3,17 +3,16 @@
 ghost use Rattle.std.specs.Prelude.{◌≡◌, ◌==◌, ◌||◌, ℕ, Some, [], IfOk, IfNone, IsTrue, IsFalse};
 ghost use Rattle.std.specs.FinMap as maps;
 ghost use Rattle.cnf_base.specs.Literals.{complement, has};
-ghost use Rattle.steps.specs.Lrat.{conflicts, group_refusal, groups_refusal, units_of, groups_of};
+ghost use Rattle.steps.specs.Lrat.{group_refusal, groups_refusal, units_of, groups_of};
+ghost use Rattle.clause_db.specs.Trail.{conflicts, SameSet, HasRoom, HasRoomForAll};
 ghost use Rattle.steps.specs.Shelf.{Holds};
-ghost use Rattle.steps.specs.TrueLiterals.{SameSet, HasRoom, HasRoomForAll};
 ghost use Rattle.steps.specs.Answers.{named_in, needs_group_at, IsGroupEnd, IsFirstLeftOut};
 
 use crate::live_clauses::LiveClauses;
 use crate::named::Named;
 use crate::refusal::Refusal;
-use crate::true_literals::make_false;
 use crate::walk::{WalkEnd, refusal_of, walk};
-use clause_db::Trail;
+use clause_db::{Except, Trail};
 use cnf_base::Lit;
 use std::alloc::AllocError;
 
@@ -28,12 +27,13 @@ fn walk_group(
     requires quiet { IsFalse (conflicts trues.old.lits) }
     requires room { HasRoomForAll trues.old.met (maps.get live.now.live) }
     requires candidate_room { HasRoom trues.old.met candidate.now }
-    ensures end { IsGroupEnd (maps.get live.now.live) trues.old.lits candidate.now opposite (units_of hints.now) result }
+    ensures end { IsGroupEnd (maps.get live.now.live) trues.old.lits candidate.now opposite
+        (units_of hints.now) result }
     ensures lits { trues.new.lits ≡ trues.old.lits }
     ensures met { SameSet trues.new.met trues.old.met }
 {
     let start = trues.len();
-    let end = if make_false(trues, candidate, Some(opposite)) {
+    let end = if trues.make_false(candidate, &Except(opposite)) {
         WalkEnd::Conflict
     } else {
         walk(live, trues, hints)
@@ -53,9 +53,14 @@ fn judge_group(
 ) -> Result<Option<Refusal>, AllocError>
     requires quiet { IsFalse (conflicts trues.old.lits) }
     requires room { HasRoomForAll trues.old.met (maps.get live.now.live) }
-    ensures refusal { IfOk result (λ refusal. refusal ≡ group_refusal (maps.get live.now.live) trues.old.lits pivot named.old (record { candidate = candidate; hints = units_of hints.now }) (maps.get live.now.live candidate)) }
-    ensures named { IfOk result (λ refusal. IfNone refusal ((k : ℕ) → has named.new k ≡ (has named.old k || (candidate == k)))) }
-    ensures holds { IfOk result (λ refusal. IfNone refusal (Holds (maps.get live.now.live) (complement pivot) candidate)) }
+    ensures refusal { IfOk result (λ refusal. refusal ≡ group_refusal
+        (maps.get live.now.live) trues.old.lits pivot named.old
+        (record { candidate = candidate; hints = units_of hints.now })
+        (maps.get live.now.live candidate)) }
+    ensures named { IfOk result (λ refusal. IfNone refusal
+        ((k : ℕ) → has named.new k ≡ (has named.old k || (candidate == k)))) }
+    ensures holds { IfOk result (λ refusal. IfNone refusal
+        (Holds (maps.get live.now.live) (complement pivot) candidate)) }
     ensures lits { trues.new.lits ≡ trues.old.lits }
     ensures met { SameSet trues.new.met trues.old.met }
 {
@@ -84,9 +89,13 @@ pub(crate) fn judge_groups(
     requires quiet { IsFalse (conflicts trues.old.lits) }
     requires room { HasRoomForAll trues.old.met (maps.get live.now.live) }
     requires none_named { named.old ≡ [] }
-    ensures refusal { IfOk result (λ refusal. refusal ≡ groups_refusal (maps.get live.now.live) trues.old.lits pivot [] (groups_of hints.now)) }
-    ensures named { IfOk result (λ refusal. IfNone refusal (SameSet named.new (named_in hints.now))) }
-    ensures hold { IfOk result (λ refusal. IfNone refusal ((k : ℕ) → IsTrue (has named.new k) → Holds (maps.get live.now.live) (complement pivot) k)) }
+    ensures refusal { IfOk result (λ refusal. refusal ≡ groups_refusal
+        (maps.get live.now.live) trues.old.lits pivot [] (groups_of hints.now)) }
+    ensures named { IfOk result (λ refusal.
+        IfNone refusal (SameSet named.new (named_in hints.now))) }
+    ensures hold { IfOk result (λ refusal. IfNone refusal
+        ((k : ℕ) → IsTrue (has named.new k) →
+        Holds (maps.get live.now.live) (complement pivot) k)) }
     ensures lits { trues.new.lits ≡ trues.old.lits }
     ensures met { SameSet trues.new.met trues.old.met }
 {
@@ -120,7 +129,7 @@ fn needs_group(trues: &mut Trail, opposite: Lit, clause: &[Lit]) -> bool
         return false;
     }
     let start = trues.len();
-    let is_settled = make_false(trues, clause, Some(opposite));
+    let is_settled = trues.make_false(clause, &Except(opposite));
     trues.undo_to(start);
     !is_settled
 }
@@ -134,7 +143,8 @@ pub(crate) fn first_left_out(
 ) -> Option<u64>
     requires quiet { IsFalse (conflicts trues.old.lits) }
     requires room { HasRoomForAll trues.old.met (maps.get live.now.live) }
-    requires hold { (k : ℕ) → IsTrue (has named.now k) → Holds (maps.get live.now.live) (complement pivot) k }
+    requires hold { (k : ℕ) → IsTrue (has named.now k) →
+        Holds (maps.get live.now.live) (complement pivot) k }
     ensures first { IsFirstLeftOut (maps.get live.now.live) trues.old.lits pivot named.now result }
     ensures lits { trues.new.lits ≡ trues.old.lits }
     ensures met { SameSet trues.new.met trues.old.met }

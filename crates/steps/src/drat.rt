@@ -10,6 +10,7 @@ ghost use Rattle.steps.specs.Verdicts.{is_empty, is_last};
 ghost use Rattle.std.specs.Prelude.{slice_get};
 
 use crate::accepted::Accepted;
+use crate::drat_rules::DratRules;
 use crate::drat_step::{add_copy, take_step};
 use crate::proof_session::ProofSession;
 use crate::refusal::Refusal;
@@ -22,7 +23,7 @@ use std::marker::Model;
 #[derive(Drop)]
 pub struct DratSession<P: Propagate> {
     clauses: P,
-    strict: bool,
+    rules: DratRules,
     has_stepped: bool,
     is_verified: bool,
     is_ended: bool,
@@ -37,22 +38,22 @@ impl<P: Propagate> Model for DratSession<P> {
 
     ghost coded = { drat_code };
 
-    ghost view = { λ s. record { live = (P.state s.clauses).live; strict = s.strict; has_stepped = s.has_stepped; is_verified = s.is_verified; is_ended = s.is_ended; peak = s.peak } };
+    ghost view = { λ s. record { live = (P.state s.clauses).live; rules = s.rules; has_stepped = s.has_stepped; is_verified = s.is_verified; is_ended = s.is_ended; peak = s.peak } };
 
     ghost invariant = { λ s. s.is_ended ≡ false → (P.state s.clauses).assumptions ≡ [] };
 }
 
 impl<P: Propagate> DratSession<P> {
-    /// A session without clauses. Where it is strict, a deletion of a clause that is not alive is refused.
-    pub fn new(clauses: P, strict: bool) -> Self
+    /// A session without clauses, under these rules.
+    pub fn new(clauses: P, rules: DratRules) -> Self
         requires empty { (P.state clauses).live ≡ maps.empty }
         requires nothing_assumed { (P.state clauses).assumptions ≡ [] }
         requires none_refused { (P.state clauses).has_refused ≡ false }
-        ensures { result ≡ fresh_drat strict }
+        ensures { result ≡ fresh_drat rules }
     {
         DratSession {
             clauses,
-            strict,
+            rules,
             has_stepped: false,
             is_verified: false,
             is_ended: false,
@@ -67,10 +68,13 @@ impl<P: Propagate> DratSession<P> {
         requires { (self.old.is_ended ≡ true) ⊎ (self.old.has_stepped ≡ false) }
         // Only memory and an ended session refuse a clause.
         ensures ended { (result ≡ Err Refusal.Ended) ↔ (self.old.is_ended ≡ true) }
-        ensures refusals { IfErr result (λ refusal. (refusal ≡ Refusal.Ended) ⊎ (refusal ≡ Refusal.OutOfMemory)) }
+        ensures refusals { IfErr result (λ refusal. (refusal ≡ Refusal.Ended) ⊎
+            (refusal ≡ Refusal.OutOfMemory)) }
         // One more copy of the clause is alive.
-        ensures live { OnOk result (SameLive (clauses_of self.new) (lits.now ∷ clauses_of self.old)) }
-        ensures verified { OnOk result (self.new.is_verified ≡ (self.old.is_verified || is_empty lits.now)) }
+        ensures live { OnOk result
+            (SameLive (clauses_of self.new) (lits.now ∷ clauses_of self.old)) }
+        ensures verified { OnOk result (self.new.is_verified ≡
+            (self.old.is_verified || is_empty lits.now)) }
         ensures peak { OnOk result (self.new.peak ≡ max self.old.peak (sum_of self.new)) }
         // Steps and further clauses may follow.
         ensures steps { OnOk result (self.new.has_stepped ≡ false) }
@@ -80,7 +84,7 @@ impl<P: Propagate> DratSession<P> {
         ensures verified_stays { OnErr result (self.new.is_verified ≡ self.old.is_verified) }
         ensures stepped_stays { OnErr result (self.new.has_stepped ≡ self.old.has_stepped) }
         ensures peak_stays { OnErr result (self.new.peak ≡ self.old.peak) }
-        ensures same_rule { self.new.strict ≡ self.old.strict }
+        ensures same_rules { self.new.rules ≡ self.old.rules }
     {
         if self.is_ended {
             return Err(Refusal::Ended);
@@ -102,27 +106,29 @@ impl<P: Propagate> DratSession<P> {
         // No step is taken once the session is ended, or once an empty clause was input.
         ensures ended { (result ≡ Err Refusal.Ended) ↔ IsTrue (is_closed self.old) }
         // Else the answer is that of the rule, with its cause.
-        ensures answers { IsFalse (is_closed self.old) → UnlessOutOfMemory result (AnswersDrat self.old.strict (clauses_of self.old) (drat_step step.now) result) }
+        ensures answers { IsFalse (is_closed self.old) → UnlessOutOfMemory result (AnswersDrat self.old.rules (clauses_of self.old) (drat_step step.now) result) }
         // An accepted step leaves what the rule leaves.
         ensures live { OnOk result (SameLive (clauses_of self.new) (after_drat (clauses_of self.old) (drat_step step.now))) }
         ensures steps { OnOk result (self.new.has_stepped ≡ true) }
-        ensures verified { IfOk result (λ word. self.new.is_verified ≡ (self.old.is_verified || is_last word)) }
+        ensures verified { IfOk result (λ word.
+            self.new.is_verified ≡ (self.old.is_verified || is_last word)) }
         ensures ends { IfOk result (λ word. self.new.is_ended ≡ is_last word) }
         ensures peak { OnOk result (self.new.peak ≡ max self.old.peak (sum_of self.new)) }
         // It keeps satisfiability.
-        ensures keeps_models { OnOk result (HasModel (slice_get (clauses_of self.old)) → HasModel (slice_get (clauses_of self.new))) }
+        ensures keeps_models { OnOk result (HasModel (slice_get (clauses_of self.old)) →
+            HasModel (slice_get (clauses_of self.new))) }
         // A refusal ends the session.
         ensures refused { OnErr result (self.new.is_ended ≡ true) }
         ensures verified_stays { OnErr result (self.new.is_verified ≡ self.old.is_verified) }
         ensures stepped_stays { OnErr result (self.new.has_stepped ≡ self.old.has_stepped) }
         ensures peak_stays { OnErr result (self.new.peak ≡ self.old.peak) }
-        ensures same_rule { self.new.strict ≡ self.old.strict }
+        ensures same_rules { self.new.rules ≡ self.old.rules }
     {
         if self.is_ended || self.is_verified {
             self.is_ended = true;
             return Err(Refusal::Ended);
         }
-        match take_step(&mut self.clauses, self.strict, step) {
+        match take_step(&mut self.clauses, self.rules, step) {
             Ok(word) => {
                 let is_last = matches!(word, Accepted::Empty);
                 self.has_stepped = true;
@@ -157,7 +163,7 @@ impl<P: Propagate> DratSession<P> {
 impl<P: Propagate> ProofSession for DratSession<P> {
     ghost use Rattle.steps.specs.Rules.{by_copies};
 
-    ghost shown = { λ s. record { state = by_copies s.strict (clauses_of s); has_stepped = s.has_stepped; is_verified = s.is_verified; is_ended = s.is_ended; peak = s.peak; room = 4294967295 } };
+    ghost shown = { λ s. record { state = by_copies s.rules (clauses_of s); has_stepped = s.has_stepped; is_verified = s.is_verified; is_ended = s.is_ended; peak = s.peak; room = 4294967295 } };
 
     fn input(&mut self, lits: &[Lit]) -> Result<(), Refusal> {
         DratSession::input(self, lits)

@@ -3,7 +3,8 @@
 ghost use Rattle.std.specs.Prelude.{◌≡◌, ◌++◌, ◌∷◌, [], Some, IsSome, IfOk, OnOk};
 ghost use Rattle.std.specs.FinMap as maps;
 ghost use Rattle.cnf_base.specs.Literals.{Clause, complements, without};
-ghost use Rattle.clause_db.specs.Assumptions.{HasRoom, IsAnswer, SameSet, assumed_by};
+ghost use Rattle.clause_db.specs.Assumptions.{IsAnswer, assumed_by, MayAssume};
+ghost use Rattle.clause_db.specs.Trail.{SameSet};
 ghost use Rattle.steps.specs.Propagation.{HasRup};
 ghost use Rattle.steps.specs.Drat.{AnswersAdd, AnswersDelete, AnswersDrat, after_drat, take_off, SameLive};
 ghost use Rattle.steps.specs.DratSessions.{drat_step};
@@ -11,6 +12,7 @@ ghost use Rattle.steps.specs.Candidates.{SearchedCandidates};
 ghost use Rattle.steps.specs.Session.{UnlessOutOfMemory};
 
 use crate::accepted::{Accepted, word_of};
+use crate::drat_rules::DratRules;
 use crate::refusal::Refusal;
 use clause_db::{Answer, Propagate, Slot};
 use cnf_base::{Lit, OutOfMemory};
@@ -22,9 +24,12 @@ fn answer_with<P: Propagate>(
     candidate: Slot,
     opposite: Lit,
 ) -> Result<Answer, OutOfMemory>
-    requires room { HasRoom (P.state clauses.old).assumptions }
+    requires room { MayAssume (P.state clauses.old).assumptions }
     requires alive { IsSome (maps.get (P.state clauses.old).live candidate) }
-    ensures answer { IfOk result (λ a. (c : Clause) → maps.get (P.state clauses.old).live candidate ≡ Some c → IsAnswer (maps.get (P.state clauses.old).live) (assumed_by (P.state clauses.old).assumptions ++ complements (without c opposite)) a) }
+    ensures answer { IfOk result (λ a. (c : Clause) →
+        maps.get (P.state clauses.old).live candidate ≡ Some c →
+        IsAnswer (maps.get (P.state clauses.old).live)
+        (assumed_by (P.state clauses.old).assumptions ++ complements (without c opposite)) a) }
     ensures live { (P.state clauses.new).live ≡ (P.state clauses.old).live }
     ensures assumptions { (P.state clauses.new).assumptions ≡ (P.state clauses.old).assumptions }
 {
@@ -35,8 +40,9 @@ fn answer_with<P: Propagate>(
 
 /// Whether each candidate, a clause with the pivot's complement, clashes with what is assumed.
 fn all_clash<P: Propagate>(clauses: &mut P, opposite: Lit) -> Result<bool, OutOfMemory>
-    requires { HasRoom (P.state clauses.old).assumptions }
-    ensures searched { IfOk result (SearchedCandidates (maps.get (P.state clauses.old).live) (assumed_by (P.state clauses.old).assumptions) opposite) }
+    requires { MayAssume (P.state clauses.old).assumptions }
+    ensures searched { IfOk result (SearchedCandidates (maps.get (P.state clauses.old).live)
+        (assumed_by (P.state clauses.old).assumptions) opposite) }
     ensures live { (P.state clauses.new).live ≡ (P.state clauses.old).live }
     ensures assumptions { (P.state clauses.new).assumptions ≡ (P.state clauses.old).assumptions }
 {
@@ -56,10 +62,12 @@ fn all_clash<P: Propagate>(clauses: &mut P, opposite: Lit) -> Result<bool, OutOf
 
 /// The answer to an addition that lacks RUP, where the complements of its literals are assumed.
 fn judge_rat<P: Propagate>(clauses: &mut P, lits: &[Lit]) -> Result<Accepted, Refusal>
-    requires room { HasRoom (P.state clauses.old).assumptions }
-    requires assumed { SameSet (assumed_by (P.state clauses.old).assumptions) (complements lits.now) }
+    requires room { MayAssume (P.state clauses.old).assumptions }
+    requires assumed { SameSet (assumed_by (P.state clauses.old).assumptions)
+        (complements lits.now) }
     requires no_rup { ¬ HasRup (maps.get (P.state clauses.old).live) lits.now }
-    ensures answers { UnlessOutOfMemory result (AnswersAdd (maps.values (P.state clauses.old).live) lits.now result) }
+    ensures answers { UnlessOutOfMemory result
+        (AnswersAdd (maps.values (P.state clauses.old).live) lits.now result) }
     ensures live { (P.state clauses.new).live ≡ (P.state clauses.old).live }
     ensures assumptions { (P.state clauses.new).assumptions ≡ (P.state clauses.old).assumptions }
 {
@@ -76,7 +84,8 @@ fn judge_rat<P: Propagate>(clauses: &mut P, lits: &[Lit]) -> Result<Accepted, Re
 /// The answer to an addition, over the clauses that are alive before it.
 fn judge<P: Propagate>(clauses: &mut P, lits: &[Lit]) -> Result<Accepted, Refusal>
     requires { (P.state clauses.old).assumptions ≡ [] }
-    ensures answers { UnlessOutOfMemory result (AnswersAdd (maps.values (P.state clauses.old).live) lits.now result) }
+    ensures answers { UnlessOutOfMemory result
+        (AnswersAdd (maps.values (P.state clauses.old).live) lits.now result) }
     ensures live { (P.state clauses.new).live ≡ (P.state clauses.old).live }
     ensures nothing_assumed { (P.state clauses.new).assumptions ≡ [] }
 {
@@ -97,7 +106,8 @@ fn judge<P: Propagate>(clauses: &mut P, lits: &[Lit]) -> Result<Accepted, Refusa
 /// Adds one copy of the clause.
 pub(crate) fn add_copy<P: Propagate>(clauses: &mut P, lits: &[Lit]) -> Result<(), OutOfMemory>
     requires { (P.state clauses.old).assumptions ≡ [] }
-    ensures live { OnOk result (SameLive (maps.values (P.state clauses.new).live) (lits.now ∷ maps.values (P.state clauses.old).live)) }
+    ensures live { OnOk result (SameLive (maps.values (P.state clauses.new).live)
+        (lits.now ∷ maps.values (P.state clauses.old).live)) }
     ensures nothing_assumed { (P.state clauses.new).assumptions ≡ [] }
 {
     let _ = clauses.insert(lits)?;
@@ -107,8 +117,10 @@ pub(crate) fn add_copy<P: Propagate>(clauses: &mut P, lits: &[Lit]) -> Result<()
 /// Judges an addition, and adds the clause where it is accepted.
 fn add<P: Propagate>(clauses: &mut P, lits: &[Lit]) -> Result<Accepted, Refusal>
     requires { (P.state clauses.old).assumptions ≡ [] }
-    ensures answers { UnlessOutOfMemory result (AnswersAdd (maps.values (P.state clauses.old).live) lits.now result) }
-    ensures live { OnOk result (SameLive (maps.values (P.state clauses.new).live) (lits.now ∷ maps.values (P.state clauses.old).live)) }
+    ensures answers { UnlessOutOfMemory result
+        (AnswersAdd (maps.values (P.state clauses.old).live) lits.now result) }
+    ensures live { OnOk result (SameLive (maps.values (P.state clauses.new).live)
+        (lits.now ∷ maps.values (P.state clauses.old).live)) }
     ensures nothing_assumed { (P.state clauses.new).assumptions ≡ [] }
 {
     let word = judge(clauses, lits)?;
@@ -122,7 +134,8 @@ fn add<P: Propagate>(clauses: &mut P, lits: &[Lit]) -> Result<Accepted, Refusal>
 fn delete<P: Propagate>(clauses: &mut P, strict: bool, lits: &[Lit]) -> Result<Accepted, Refusal>
     requires { (P.state clauses.old).assumptions ≡ [] }
     ensures answers { AnswersDelete strict (maps.values (P.state clauses.old).live) lits.now result }
-    ensures live { OnOk result (SameLive (maps.values (P.state clauses.new).live) (take_off lits.now (maps.values (P.state clauses.old).live))) }
+    ensures live { OnOk result (SameLive (maps.values (P.state clauses.new).live)
+        (take_off lits.now (maps.values (P.state clauses.old).live))) }
     ensures nothing_assumed { (P.state clauses.new).assumptions ≡ [] }
 {
     match clauses.find(lits) {
@@ -138,16 +151,18 @@ fn delete<P: Propagate>(clauses: &mut P, strict: bool, lits: &[Lit]) -> Result<A
 /// Takes a step on the live clauses.
 pub(crate) fn take_step<P: Propagate>(
     clauses: &mut P,
-    strict: bool,
+    rules: DratRules,
     step: &StepBuf,
 ) -> Result<Accepted, Refusal>
     requires { (P.state clauses.old).assumptions ≡ [] }
-    ensures answers { UnlessOutOfMemory result (AnswersDrat strict (maps.values (P.state clauses.old).live) (drat_step step.now) result) }
-    ensures live { OnOk result (SameLive (maps.values (P.state clauses.new).live) (after_drat (maps.values (P.state clauses.old).live) (drat_step step.now))) }
+    ensures answers { UnlessOutOfMemory result
+        (AnswersDrat rules (maps.values (P.state clauses.old).live) (drat_step step.now) result) }
+    ensures live { OnOk result (SameLive (maps.values (P.state clauses.new).live)
+        (after_drat (maps.values (P.state clauses.old).live) (drat_step step.now))) }
     ensures nothing_assumed { (P.state clauses.new).assumptions ≡ [] }
 {
     match step.kind() {
         StepKind::Add => add(clauses, step.lits()),
-        StepKind::Delete => delete(clauses, strict, step.lits()),
+        StepKind::Delete => delete(clauses, rules.strict, step.lits()),
     }
 }

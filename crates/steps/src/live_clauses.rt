@@ -61,8 +61,10 @@ impl LiveClauses {
 
     /// The lowest identifier from this one on under which a clause is alive, and the clause.
     pub(crate) fn next(&self, from: u64) -> Option<(u64, &[Lit])>
-        ensures found { IfSome result (λ e. (from ≤ e.0) × (maps.get self.now.live e.0 ≡ Some e.1.now)) }
-        ensures passed_over { IfSome result (λ e. (k : ℕ) → from ≤ k → k < e.0 → maps.get self.now.live k ≡ None) }
+        ensures found { IfSome result (λ e. (from ≤ e.0) ×
+            (maps.get self.now.live e.0 ≡ Some e.1.now)) }
+        ensures passed_over { IfSome result (λ e. (k : ℕ) → from ≤ k → k < e.0 →
+            maps.get self.now.live k ≡ None) }
         ensures none { IfNone result ((k : ℕ) → from ≤ k → maps.get self.now.live k ≡ None) }
     {
         match self.ids.next_bound(from) {
@@ -96,7 +98,8 @@ impl LiveClauses {
     /// Adds the clause under an identifier past all earlier ones.
     pub(crate) fn add(&mut self, id: u64, lits: &[Lit]) -> Result<(), OutOfMemory>
         requires { self.old.top < id }
-        ensures live { OnOk result (SameClauses (maps.get self.new.live) (with_clause (maps.get self.old.live) id lits.now)) }
+        ensures live { OnOk result (SameClauses (maps.get self.new.live)
+            (with_clause (maps.get self.old.live) id lits.now)) }
         ensures top { OnOk result (self.new.top ≡ id) }
     {
         let slot = self.store.insert(lits)?;
@@ -112,7 +115,8 @@ impl LiveClauses {
     /// Takes the clause off, and tells whether it was alive.
     pub(crate) fn remove(&mut self, id: u64) -> bool
         ensures was { result ≡ is_some (maps.get self.old.live id) }
-        ensures live { (k : ℕ) → maps.get self.new.live k ≡ without_id (maps.get self.old.live) id k }
+        ensures live { (k : ℕ) → maps.get self.new.live k ≡ without_id
+            (maps.get self.old.live) id k }
         ensures top { self.new.top ≡ self.old.top }
     {
         match self.ids.unbind(id) {
@@ -128,8 +132,10 @@ impl LiveClauses {
 
 /// Takes the clauses off in order, up to the first identifier that is not alive at its turn, which is the result.
 pub(crate) fn delete_all(live: &mut LiveClauses, ids: &[i64]) -> Option<u64>
-    ensures missing { option_map UnknownId result ≡ deletion_refusal (maps.get live.old.live) (map nat_abs ids.now) }
-    ensures live { IfNone result ((k : ℕ) → maps.get live.new.live k ≡ without_ids (maps.get live.old.live) (map nat_abs ids.now) k) }
+    ensures missing { option_map UnknownId result ≡ deletion_refusal (maps.get live.old.live)
+        (map nat_abs ids.now) }
+    ensures live { IfNone result ((k : ℕ) → maps.get live.new.live k ≡ without_ids
+        (maps.get live.old.live) (map nat_abs ids.now) k) }
     ensures top { live.new.top ≡ live.old.top }
 {
     for id in ids {

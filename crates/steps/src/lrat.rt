@@ -4,19 +4,18 @@ ghost use Rattle.std.specs.Prelude.{◌≡◌, ◌≢◌, ◌⊎◌, ◌+◌, �
 ghost use Rattle.std.specs.FinMap as maps;
 ghost use Rattle.cnf_base.specs.Literals.{complements};
 ghost use Rattle.steps.specs.Lrat.{chain, units_of, groups_of, AnswersChain, AnswersLrat, after_lrat, lrat_step, with_clause, SameClauses};
-ghost use Rattle.steps.specs.TrueLiterals.{HasRoom, IsReady};
+ghost use Rattle.clause_db.specs.Trail.{HasRoom};
 ghost use Rattle.steps.specs.Models.{HasModel};
 ghost use Rattle.steps.specs.Verdicts.{is_empty, is_last};
 ghost use Rattle.steps.specs.Sizes.{total};
 ghost use Rattle.steps.specs.Shelf.{shelf_state};
-ghost use Rattle.steps.specs.Session.{fresh, state_of, is_closed, UnlessOutOfMemory};
+ghost use Rattle.steps.specs.Session.{fresh, state_of, is_closed, UnlessOutOfMemory, IsReady};
 
 use crate::accepted::Accepted;
 use crate::addition::judge_addition;
 use crate::live_clauses::{LiveClauses, delete_all};
 use crate::proof_session::ProofSession;
 use crate::refusal::Refusal;
-use crate::true_literals::make_room;
 use clause_db::Trail;
 use cnf_base::{Lit, OutOfMemory};
 use proofs::{StepBuf, StepKind};
@@ -39,8 +38,7 @@ pub struct LratSession {
 impl Model for LratSession {
     ghost use Rattle.std.specs.Prelude.{◌≡◌, false};
     ghost use Rattle.std.specs.FinMap as maps;
-    ghost use Rattle.steps.specs.Session.{Session, session_code};
-    ghost use Rattle.steps.specs.TrueLiterals.{IsReady};
+    ghost use Rattle.steps.specs.Session.{Session, session_code, IsReady};
 
     ghost Value = { Session };
 
@@ -59,11 +57,13 @@ fn judge(
     step: &StepBuf,
 ) -> Result<Result<Accepted, Refusal>, OutOfMemory>
     requires ready { IsReady (maps.get held.now.live) trues.old }
-    ensures answer { IfOk result (AnswersChain (maps.get held.now.live) step.now.lits (groups_of step.now.hints) (chain (maps.get held.now.live) (complements step.now.lits) (units_of step.now.hints))) }
+    ensures answer { IfOk result (AnswersChain (maps.get held.now.live) step.now.lits
+        (groups_of step.now.hints) (chain (maps.get held.now.live) (complements step.now.lits)
+        (units_of step.now.hints))) }
     ensures ready { IsReady (maps.get held.now.live) trues.new }
     ensures room { OnOk result (HasRoom trues.new.met step.now.lits) }
 {
-    make_room(trues, step.lits())?;
+    trues.reserve_all(step.lits())?;
     let answer = judge_addition(alloc, held, trues, step.lits(), step.hints());
     trues.undo_to(0);
     answer.map_err(|_| OutOfMemory)
@@ -78,9 +78,12 @@ fn take_addition(
 ) -> Result<Accepted, Refusal>
     requires addition { step.now.kind ≡ StepKind.Add }
     requires ready { IsReady (maps.get held.old.live) trues.old }
-    ensures answers { UnlessOutOfMemory result (AnswersLrat (shelf_state held.old) (lrat_step step.now) result) }
-    ensures live { OnOk result (SameClauses (maps.get held.new.live) (after_lrat (shelf_state held.old) (lrat_step step.now)).live) }
-    ensures top { OnOk result (held.new.top ≡ (after_lrat (shelf_state held.old) (lrat_step step.now)).top) }
+    ensures answers { UnlessOutOfMemory result
+        (AnswersLrat (shelf_state held.old) (lrat_step step.now) result) }
+    ensures live { OnOk result (SameClauses (maps.get held.new.live)
+        (after_lrat (shelf_state held.old) (lrat_step step.now)).live) }
+    ensures top { OnOk result (held.new.top ≡ (after_lrat (shelf_state held.old)
+        (lrat_step step.now)).top) }
     ensures ready { OnOk result (IsReady (maps.get held.new.live) trues.new) }
 {
     let id = step.id();
@@ -106,11 +109,12 @@ fn add_input(
 ) -> Result<(), OutOfMemory>
     requires above { held.old.top < id }
     requires ready { IsReady (maps.get held.old.live) trues.old }
-    ensures live { OnOk result (SameClauses (maps.get held.new.live) (with_clause (maps.get held.old.live) id lits.now)) }
+    ensures live { OnOk result (SameClauses (maps.get held.new.live)
+        (with_clause (maps.get held.old.live) id lits.now)) }
     ensures top { OnOk result (held.new.top ≡ id) }
     ensures ready { OnOk result (IsReady (maps.get held.new.live) trues.new) }
 {
-    make_room(trues, lits)?;
+    trues.reserve_all(lits)?;
     held.add(id, lits)
 }
 
@@ -122,9 +126,12 @@ fn take_step(
     step: &StepBuf,
 ) -> Result<Accepted, Refusal>
     requires ready { IsReady (maps.get held.old.live) trues.old }
-    ensures answers { UnlessOutOfMemory result (AnswersLrat (shelf_state held.old) (lrat_step step.now) result) }
-    ensures live { OnOk result (SameClauses (maps.get held.new.live) (after_lrat (shelf_state held.old) (lrat_step step.now)).live) }
-    ensures top { OnOk result (held.new.top ≡ (after_lrat (shelf_state held.old) (lrat_step step.now)).top) }
+    ensures answers { UnlessOutOfMemory result
+        (AnswersLrat (shelf_state held.old) (lrat_step step.now) result) }
+    ensures live { OnOk result (SameClauses (maps.get held.new.live)
+        (after_lrat (shelf_state held.old) (lrat_step step.now)).live) }
+    ensures top { OnOk result (held.new.top ≡ (after_lrat (shelf_state held.old)
+        (lrat_step step.now)).top) }
     ensures ready { OnOk result (IsReady (maps.get held.new.live) trues.new) }
     ensures never_ended { result ≢ Err Refusal.Ended }
 {
@@ -159,14 +166,18 @@ impl LratSession {
     /// After a refusal the session is ended.
     pub fn input(&mut self, lits: &[Lit]) -> Result<(), Refusal>
         // Clauses come before the first step, and at most 4294967295 of them.
-        requires { (self.old.is_ended ≡ true) ⊎ ((self.old.has_stepped ≡ false) × (self.old.top < 4294967295)) }
+        requires { (self.old.is_ended ≡ true) ⊎
+            ((self.old.has_stepped ≡ false) × (self.old.top < 4294967295)) }
         // Only memory and an ended session refuse a clause.
         ensures ended { (result ≡ Err Refusal.Ended) ↔ (self.old.is_ended ≡ true) }
-        ensures refusals { IfErr result (λ refusal. (refusal ≡ Refusal.Ended) ⊎ (refusal ≡ Refusal.OutOfMemory)) }
+        ensures refusals { IfErr result (λ refusal. (refusal ≡ Refusal.Ended) ⊎
+            (refusal ≡ Refusal.OutOfMemory)) }
         // The clause is alive under the next identifier.
-        ensures live { OnOk result (SameClauses (state_of self.new).live (with_clause (state_of self.old).live (self.old.top + 1) lits.now)) }
+        ensures live { OnOk result (SameClauses (state_of self.new).live
+            (with_clause (state_of self.old).live (self.old.top + 1) lits.now)) }
         ensures top { OnOk result (self.new.top ≡ self.old.top + 1) }
-        ensures verified { OnOk result (self.new.is_verified ≡ (self.old.is_verified || is_empty lits.now)) }
+        ensures verified { OnOk result (self.new.is_verified ≡
+            (self.old.is_verified || is_empty lits.now)) }
         ensures peak { OnOk result (self.new.peak ≡ max self.old.peak (total (state_of self.new))) }
         // Steps and further clauses may follow.
         ensures steps { OnOk result (self.new.has_stepped ≡ false) }
@@ -201,13 +212,16 @@ impl LratSession {
         ensures answers { IsFalse (is_closed self.old) → UnlessOutOfMemory result (AnswersLrat (state_of self.old) (lrat_step step.now) result) }
         // An accepted step leaves what the rule leaves.
         ensures live { OnOk result (SameClauses (state_of self.new).live (after_lrat (state_of self.old) (lrat_step step.now)).live) }
-        ensures top { OnOk result (self.new.top ≡ (after_lrat (state_of self.old) (lrat_step step.now)).top) }
+        ensures top { OnOk result (self.new.top ≡
+            (after_lrat (state_of self.old) (lrat_step step.now)).top) }
         ensures steps { OnOk result (self.new.has_stepped ≡ true) }
-        ensures verified { IfOk result (λ word. self.new.is_verified ≡ (self.old.is_verified || is_last word)) }
+        ensures verified { IfOk result (λ word.
+            self.new.is_verified ≡ (self.old.is_verified || is_last word)) }
         ensures ends { IfOk result (λ word. self.new.is_ended ≡ is_last word) }
         ensures peak { OnOk result (self.new.peak ≡ max self.old.peak (total (state_of self.new))) }
         // It keeps satisfiability.
-        ensures keeps_models { OnOk result (HasModel (state_of self.old).live → HasModel (state_of self.new).live) }
+        ensures keeps_models { OnOk result (HasModel (state_of self.old).live →
+            HasModel (state_of self.new).live) }
         // A refusal ends the session.
         ensures refused { OnErr result (self.new.is_ended ≡ true) }
         ensures verified_stays { OnErr result (self.new.is_verified ≡ self.old.is_verified) }

@@ -17,19 +17,26 @@ pub trait ProofSession {
 
     /// Adds a clause of the formula. After a refusal the session is ended.
     fn input(&mut self, lits: &[Lit]) -> Result<(), Refusal>
-        requires { ((shown self.old).is_ended ≡ true) ⊎ (((shown self.old).has_stepped ≡ false) × (0 < (shown self.old).room)) }
+        requires { ((shown self.old).is_ended ≡ true) ⊎
+            (((shown self.old).has_stepped ≡ false) × (0 < (shown self.old).room)) }
         ensures ended { (result ≡ Err Refusal.Ended) ↔ ((shown self.old).is_ended ≡ true) }
-        ensures refusals { IfErr result (λ refusal. (refusal ≡ Refusal.Ended) ⊎ (refusal ≡ Refusal.OutOfMemory)) }
-        ensures state { OnOk result (Same (shown self.new).state (with_input (shown self.old).state lits.now)) }
-        ensures verified { OnOk result ((shown self.new).is_verified ≡ ((shown self.old).is_verified || is_empty lits.now)) }
-        ensures peak { OnOk result ((shown self.new).peak ≡ max (shown self.old).peak (sum_of (shown self.new).state)) }
+        ensures refusals { IfErr result (λ refusal. (refusal ≡ Refusal.Ended) ⊎
+            (refusal ≡ Refusal.OutOfMemory)) }
+        ensures state { OnOk result (Same (shown self.new).state
+            (with_input (shown self.old).state lits.now)) }
+        ensures verified { OnOk result ((shown self.new).is_verified ≡
+            ((shown self.old).is_verified || is_empty lits.now)) }
+        ensures peak { OnOk result ((shown self.new).peak ≡ max (shown self.old).peak
+            (sum_of (shown self.new).state)) }
         ensures room { OnOk result ((shown self.old).room ≤ (shown self.new).room + 1) }
         ensures steps { OnOk result ((shown self.new).has_stepped ≡ false) }
         ensures goes_on { OnOk result ((shown self.new).is_ended ≡ false) }
         ensures refused { OnErr result ((shown self.new).is_ended ≡ true) }
         // What it had come to stays.
-        ensures verified_stays { OnErr result ((shown self.new).is_verified ≡ (shown self.old).is_verified) }
-        ensures stepped_stays { OnErr result ((shown self.new).has_stepped ≡ (shown self.old).has_stepped) }
+        ensures verified_stays { OnErr result ((shown self.new).is_verified ≡
+            (shown self.old).is_verified) }
+        ensures stepped_stays { OnErr result ((shown self.new).has_stepped ≡
+            (shown self.old).has_stepped) }
         ensures peak_stays { OnErr result ((shown self.new).peak ≡ (shown self.old).peak) };
 
     /// Judges a step and, where it is accepted, takes it. After a refusal, and after the accepted empty clause, the session is ended.
@@ -38,14 +45,19 @@ pub trait ProofSession {
         ensures answers { IsFalse (is_over (shown self.old)) → UnlessOutOfMemory result (Answers (shown self.old).state step.now result) }
         ensures state { OnOk result (Same (shown self.new).state (after (shown self.old).state step.now)) }
         ensures steps { OnOk result ((shown self.new).has_stepped ≡ true) }
-        ensures verified { IfOk result (λ word. (shown self.new).is_verified ≡ ((shown self.old).is_verified || is_last word)) }
+        ensures verified { IfOk result (λ word.
+            (shown self.new).is_verified ≡ ((shown self.old).is_verified || is_last word)) }
         ensures ends { IfOk result (λ word. (shown self.new).is_ended ≡ is_last word) }
-        ensures peak { OnOk result ((shown self.new).peak ≡ max (shown self.old).peak (sum_of (shown self.new).state)) }
-        ensures keeps_models { OnOk result (IsSatisfiable (shown self.old).state → IsSatisfiable (shown self.new).state) }
+        ensures peak { OnOk result ((shown self.new).peak ≡ max (shown self.old).peak
+            (sum_of (shown self.new).state)) }
+        ensures keeps_models { OnOk result (IsSatisfiable (shown self.old).state →
+            IsSatisfiable (shown self.new).state) }
         ensures refused { OnErr result ((shown self.new).is_ended ≡ true) }
         // What it had come to stays.
-        ensures verified_stays { OnErr result ((shown self.new).is_verified ≡ (shown self.old).is_verified) }
-        ensures stepped_stays { OnErr result ((shown self.new).has_stepped ≡ (shown self.old).has_stepped) }
+        ensures verified_stays { OnErr result ((shown self.new).is_verified ≡
+            (shown self.old).is_verified) }
+        ensures stepped_stays { OnErr result ((shown self.new).has_stepped ≡
+            (shown self.old).has_stepped) }
         ensures peak_stays { OnErr result ((shown self.new).peak ≡ (shown self.old).peak) };
 
     /// Whether an empty clause was input or accepted.

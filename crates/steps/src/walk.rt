@@ -2,16 +2,13 @@
 
 ghost use Rattle.std.specs.Prelude.{◌≡◌, ◌≤◌, take, length, IsFalse};
 ghost use Rattle.std.specs.FinMap as maps;
-ghost use Rattle.steps.specs.Lrat.{chain, units_of, conflicts};
-ghost use Rattle.steps.specs.TrueLiterals.{SameSet, HasRoomForAll};
+ghost use Rattle.steps.specs.Lrat.{chain, units_of};
+ghost use Rattle.clause_db.specs.Trail.{conflicts, SameSet, HasRoomForAll};
 ghost use Rattle.steps.specs.Walk.{IsEnd, refusal_at};
 
-use crate::left::Left;
 use crate::live_clauses::LiveClauses;
 use crate::refusal::Refusal;
-use crate::survey::survey;
-use crate::true_literals::make_true;
-use clause_db::Trail;
+use clause_db::{Left, Trail};
 
 /// How a walk ends.
 #[derive(Clone, Copy, Debug, PartialEq, Eq)]
@@ -39,7 +36,8 @@ pub(crate) fn refusal_of(end: WalkEnd, if_open: Refusal) -> Option<Refusal>
 pub(crate) fn walk(live: &LiveClauses, trues: &mut Trail, hints: &[i64]) -> WalkEnd
     requires quiet { IsFalse (conflicts trues.old.lits) }
     requires room { HasRoomForAll trues.old.met (maps.get live.now.live) }
-    ensures end { IsEnd trues.new.lits result (chain (maps.get live.now.live) trues.old.lits (units_of hints.now)) }
+    ensures end { IsEnd trues.new.lits result (chain (maps.get live.now.live) trues.old.lits
+        (units_of hints.now)) }
     ensures quiet { IsFalse (conflicts trues.new.lits) }
     ensures begins { take (length trues.old.lits) trues.new.lits ≡ trues.old.lits }
     ensures longer { length trues.old.lits ≤ length trues.new.lits }
@@ -53,9 +51,11 @@ pub(crate) fn walk(live: &LiveClauses, trues: &mut Trail, hints: &[i64]) -> Walk
         let Some(clause) = live.get(k) else {
             return WalkEnd::UnknownId(k);
         };
-        match survey(clause, trues) {
+        match trues.left(clause) {
             Left::Nothing => return WalkEnd::Conflict,
-            Left::One(l) => make_true(trues, l),
+            Left::One(l) => {
+                trues.make_true(l);
+            }
             Left::More => return WalkEnd::NotUnit(k),
         }
     }

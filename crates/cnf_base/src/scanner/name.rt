@@ -30,7 +30,8 @@ impl Name {
 
     /// Takes one more byte of the run.
     pub fn push(&mut self, byte: u8)
-        ensures { (run : List ℕ) → AreKept self.old.bytes self.old.len self.old.is_longer run → AreKept self.new.bytes self.new.len self.new.is_longer (run ++ byte ∷ []) }
+        ensures { (run : List ℕ) → AreKept self.old.bytes self.old.len self.old.is_longer run →
+            AreKept self.new.bytes self.new.len self.new.is_longer (run ++ byte ∷ []) }
     {
         if self.len < ROOM {
             self.bytes[self.len] = byte;
@@ -42,7 +43,8 @@ impl Name {
 
     /// The word that the run makes.
     pub fn word(&self) -> Word
-        ensures { (run : List ℕ) → AreKept self.now.bytes self.now.len self.now.is_longer run → result ≡ fixed_word run }
+        ensures { (run : List ℕ) → AreKept self.now.bytes self.now.len self.now.is_longer run →
+            result ≡ fixed_word run }
     {
         if self.is_longer || self.len > ROOM {
             return Word::Other;

@@ -18,7 +18,8 @@ pub fn move_on(
     byte_no: u64,
     byte: u8,
 ) -> Result<Moved<Part>, Stopped>
-    ensures { (spot : Spot) → IsAt part spot → Moves result (move_of spot step.old byte_no byte) step.new }
+    ensures { (spot : Spot) → IsAt part spot →
+        Moves result (move_of spot step.old byte_no byte) step.new }
 {
     match part {
         Part::Tag => take_tag(step, byte_no, byte),
@@ -45,7 +46,8 @@ fn take_tag(step: &mut StepBuf, byte_no: u64, byte: u8) -> Result<Moved<Part>, S
 
 // One more byte of a number.
 fn take_group(groups: Groups, step: &mut StepBuf, byte: u8) -> Result<Moved<Part>, Stopped>
-    ensures { (bytes : List ℕ) → Keeps groups bytes → Moves result (group_move step.old groups.first bytes byte) step.new }
+    ensures { (bytes : List ℕ) → Keeps groups bytes →
+        Moves result (group_move step.old groups.first bytes byte) step.new }
 {
     let groups = groups.with(byte);
     if byte >= 128 {

@@ -1,22 +1,34 @@
 //! What a word does to a step.
 
-ghost use Rattle.proofs.specs.Drat.{move_of, number_move, d_move};
+ghost use Rattle.std.specs.Prelude.{true};
+ghost use Rattle.proofs.specs.Drat.{drat, number_move, d_move};
 ghost use Rattle.proofs.specs.TextMoves.{Moves};
 
 use super::part::Part;
-use crate::StepBuf;
 use crate::moved::Moved;
 use crate::stopped::Stopped;
+use crate::{StepBuf, text};
 use cnf_base::{Lit, Number, TextFault, Word};
 
-/// Puts a word into the step.
-pub fn move_on(part: Part, step: &mut StepBuf, word: Word) -> Result<Moved<Part>, Stopped>
-    ensures { Moves result (move_of part step.old word) step.new }
-{
-    match word {
-        Word::Number(number) => take_number(step, number),
-        Word::D => take_d(part, step),
-        _ => Err(Stopped::Text(TextFault::BadToken)),
+impl text::Part for Part {
+    ghost format = { drat };
+
+    ghost fits = { λ _ _. true };
+
+    fn start() -> Part {
+        Part::Start
+    }
+
+    fn is_start(self) -> bool {
+        matches!(self, Part::Start)
+    }
+
+    fn move_on(self, step: &mut StepBuf, word: Word) -> Result<Moved<Part>, Stopped> {
+        match word {
+            Word::Number(number) => take_number(step, number),
+            Word::D => take_d(self, step),
+            _ => Err(Stopped::Text(TextFault::BadToken)),
+        }
     }
 }
 
@@ -29,9 +41,7 @@ fn take_number(step: &mut StepBuf, number: Number) -> Result<Moved<Part>, Stoppe
     let Some(lit) = Lit::from_number(number) else {
         return Ok(Moved::Complete);
     };
-    if step.push_literal(lit).is_err() {
-        return Err(Stopped::OutOfMemory);
-    }
+    step.push_literal(lit)?;
     Ok(Moved::To(Part::Literals))
 }
 

@@ -1,36 +1,44 @@
 //! What a word does to a step.
 
-ghost use Rattle.std.specs.Prelude.{◌≡◌, ◌≤◌};
-ghost use Rattle.proofs.specs.Lrat.{move_of, number_move, d_move, identifier, literal, hint, deleted, signed};
-ghost use Rattle.proofs.specs.declared.step_buf.StepKind.TheVariants.{Add};
-ghost use Rattle.proofs.specs.TextMoves.{Moves};
-ghost use Rattle.proofs.specs.LratMoves.{FitsPart, FitsMoved};
+ghost use Rattle.std.specs.Prelude.{◌≡◌, ◌≤◌, IsTrue};
+ghost use Rattle.proofs.specs.Lrat.{lrat, number_move, d_move, identifier, literal, hint, deleted, signed};
+ghost use Rattle.proofs.specs.TextMoves.{FitsMoved, Moves};
+ghost use Rattle.proofs.specs.LratMoves.{fits_part, is_addition};
 
 use super::part::Part;
-use crate::StepBuf;
 use crate::moved::Moved;
 use crate::stopped::Stopped;
+use crate::{StepBuf, text};
 use cnf_base::{Lit, Number, TextFault, Word};
 
 const MOST: u64 = 9223372036854775807;
 
-/// Puts a word into the step.
-pub fn move_on(part: Part, step: &mut StepBuf, word: Word) -> Result<Moved<Part>, Stopped>
-    requires { FitsPart part step.old }
-    ensures moves { Moves result (move_of part step.old word) step.new }
-    ensures fits { FitsMoved result step.new }
-{
-    match word {
-        Word::Number(number) => take_number(part, step, number),
-        Word::D => take_d(part, step),
-        _ => Err(Stopped::Text(TextFault::BadToken)),
+impl text::Part for Part {
+    ghost format = { lrat };
+
+    ghost fits = { fits_part };
+
+    fn start() -> Part {
+        Part::Identifier
+    }
+
+    fn is_start(self) -> bool {
+        matches!(self, Part::Identifier)
+    }
+
+    fn move_on(self, step: &mut StepBuf, word: Word) -> Result<Moved<Part>, Stopped> {
+        match word {
+            Word::Number(number) => take_number(self, step, number),
+            Word::D => take_d(self, step),
+            _ => Err(Stopped::Text(TextFault::BadToken)),
+        }
     }
 }
 
 fn take_number(part: Part, step: &mut StepBuf, number: Number) -> Result<Moved<Part>, Stopped>
-    requires { FitsPart part step.old }
+    requires { IsTrue (fits_part part step.old) }
     ensures moves { Moves result (number_move part step.old number) step.new }
-    ensures fits { FitsMoved result step.new }
+    ensures fits { FitsMoved fits_part result step.new }
 {
     match part {
         Part::Identifier => take_identifier(step, number),
@@ -42,7 +50,7 @@ fn take_number(part: Part, step: &mut StepBuf, number: Number) -> Result<Moved<P
 
 fn take_d(part: Part, step: &mut StepBuf) -> Result<Moved<Part>, Stopped>
     ensures moves { Moves result (d_move part step.old) step.new }
-    ensures fits { FitsMoved result step.new }
+    ensures fits { FitsMoved fits_part result step.new }
 {
     match part {
         Part::AfterIdentifier => {
@@ -57,7 +65,7 @@ fn take_d(part: Part, step: &mut StepBuf) -> Result<Moved<Part>, Stopped>
 
 fn take_identifier(step: &mut StepBuf, number: Number) -> Result<Moved<Part>, Stopped>
     ensures moves { Moves result (identifier number) step.new }
-    ensures fits { FitsMoved result step.new }
+    ensures fits { FitsMoved fits_part result step.new }
 {
     if number.is_negative || number.size == 0 {
         return Err(Stopped::Text(TextFault::BadToken));
@@ -70,9 +78,9 @@ fn take_identifier(step: &mut StepBuf, number: Number) -> Result<Moved<Part>, St
 }
 
 fn take_literal(step: &mut StepBuf, number: Number) -> Result<Moved<Part>, Stopped>
-    requires { step.old.kind ≡ Add }
+    requires { IsTrue (is_addition step.old.kind) }
     ensures moves { Moves result (literal step.old number) step.new }
-    ensures fits { FitsMoved result step.new }
+    ensures fits { FitsMoved fits_part result step.new }
 {
     if number.size > u64::from(Lit::MAX_VAR) {
         return Err(Stopped::Text(TextFault::LiteralTooLarge));
@@ -80,16 +88,14 @@ fn take_literal(step: &mut StepBuf, number: Number) -> Result<Moved<Part>, Stopp
     let Some(lit) = Lit::from_number(number) else {
         return Ok(Moved::To(Part::Hints));
     };
-    if step.push_literal(lit).is_err() {
-        return Err(Stopped::OutOfMemory);
-    }
+    step.push_literal(lit)?;
     Ok(Moved::To(Part::Literals))
 }
 
 fn take_hint(step: &mut StepBuf, number: Number) -> Result<Moved<Part>, Stopped>
-    requires { step.old.kind ≡ Add }
+    requires { IsTrue (is_addition step.old.kind) }
     ensures moves { Moves result (hint step.old number) step.new }
-    ensures fits { FitsMoved result step.new }
+    ensures fits { FitsMoved fits_part result step.new }
 {
     if number.size > MOST {
         return Err(past_limit());
@@ -97,15 +103,13 @@ fn take_hint(step: &mut StepBuf, number: Number) -> Result<Moved<Part>, Stopped>
     if number.size == 0 {
         return Ok(Moved::Complete);
     }
-    if step.push_hint(signed(number)).is_err() {
-        return Err(Stopped::OutOfMemory);
-    }
+    step.push_hint(signed(number))?;
     Ok(Moved::To(Part::Hints))
 }
 
 fn take_deleted(step: &mut StepBuf, number: Number) -> Result<Moved<Part>, Stopped>
     ensures moves { Moves result (deleted step.old number) step.new }
-    ensures fits { FitsMoved result step.new }
+    ensures fits { FitsMoved fits_part result step.new }
 {
     if number.is_negative {
         return Err(Stopped::Text(TextFault::BadToken));
@@ -116,9 +120,7 @@ fn take_deleted(step: &mut StepBuf, number: Number) -> Result<Moved<Part>, Stopp
     if number.size == 0 {
         return Ok(Moved::Complete);
     }
-    if step.push_hint(number.size as i64).is_err() {
-        return Err(Stopped::OutOfMemory);
-    }
+    step.push_hint(number.size as i64)?;
     Ok(Moved::To(Part::Deletion))
 }
 

@@ -2,7 +2,7 @@ use Rattle.std.proofs.Common.{◌≡◌, ℕ, ◌<◌, ◌&&◌, false, true, no
 use Rattle.std.proofs.lemmas.List.{take_all}
 use Rattle.cnf_base.specs.Literals.{has}
 use Rattle.clause_db.specs.Clauses.{size}
-use Rattle.clause_db.proofs.DistinctLemmas.{same_from}
+use Rattle.cnf_base.proofs.SetLemmas.{same_from}
 use Rattle.clause_db.proofs.MarkLemmas.{is_in, marked_new, marked_old, gather_more, count_more, has_kept, push_same, push_fits, push_different}
 use Rattle.clause_db.proofs.marks.gather.Goals as goal
 use Rattle.clause_db.proofs.marks.gather.Goals.{then-count_up, else-count_up}

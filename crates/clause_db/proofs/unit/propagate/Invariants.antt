@@ -1,18 +1,16 @@
-use Rattle.std.proofs.Common.{◌≡◌, ◌≤◌, true, take, length}
+use Rattle.std.proofs.Common.{◌≡◌, true}
 use Rattle.std.specs.FinMap as maps
 use Rattle.cnf_base.specs.Literals.{Literal, has}
-use Rattle.clause_db.specs.Assumptions.{SameSet}
+use Rattle.clause_db.specs.Exact.{Extends}
 use Rattle.clause_db.specs.Propagation.{Forced}
 use Rattle.clause_db.specs.Scanning.{unset}
 use Rattle.clause_db.proofs.unit.propagate.Given as goal
 
-abbrev pub invariant-loop-trail : goal.invariant-loop-trail
-invariant-loop-trail l = record {
-  sound : (k : Literal) → has l.trail.lits k ≡ true → Forced (maps.get l.store) l.fn.trail.lits k;
-  begins : take (length l.fn.trail.lits) l.trail.lits ≡ l.fn.trail.lits;
-  longer : length l.fn.trail.lits ≤ length l.trail.lits;
-  met : SameSet l.trail.met l.fn.trail.met;
+abbrev pub invariant-loop-assumptions : goal.invariant-loop-assumptions
+invariant-loop-assumptions l = record {
+  sound : (k : Literal) → has l.assumptions.trail.lits k ≡ true → Forced (maps.get l.store) l.fn.assumptions.trail.lits k;
+  extends : Extends l.fn.assumptions l.assumptions;
 }
 
-abbrev pub decreases-loop-trail : goal.decreases-loop-trail
-decreases-loop-trail l = unset l.trail.lits l.fn.trail.met
+abbrev pub decreases-loop-assumptions : goal.decreases-loop-assumptions
+decreases-loop-assumptions l = unset l.assumptions.trail.lits l.fn.assumptions.trail.met

@@ -3,8 +3,19 @@ use Rattle.std.proofs.Common.{◌≡◌, ◌<◌, ◌==◌, true, ap, sym, ◌�
 use Rattle.std.proofs.lemmas.Bool.{and_parts}
 use Rattle.std.proofs.lemmas.Bool.Decides.{nat_tests}
 use Rattle.std.proofs.lemmas.Grind.{common_steps}
-use Rattle.cnf_base.proofs.RunLemmas.{Stands-looked, Stands-separator, Stands-feed, Stands-comment, Stands-cut, Stands-word, Stands-cut_word}
+use Rattle.cnf_base.proofs.RunLemmas.{Stands-start, Stands-end, Stands-failed, Stands-looked, Stands-separator, Stands-feed, Stands-comment, Stands-cut, Stands-word, Stands-cut_word}
 use Rattle.cnf_base.proofs.scanner.next_token.Goals as goal
+
+pub loop-byte-init : goal.loop-byte-init
+loop-byte-init g c = Stands-start _
+
+pub returns-in-Ok-None-clause-tokens : goal.returns-in-Ok-None-clause-tokens
+returns-in-Ok-None-clause-tokens g c =
+    Stands-end _ _ _ _ c.loop-byte.invariant c.peek.ensures.look (search rules) (search rules) c.place-place.ensures.value
+
+pub returns-in-Err-clause-tokens : goal.returns-in-Err-clause-tokens
+returns-in-Err-clause-tokens g c =
+    Stands-failed _ _ _ c.loop-byte.invariant c.peek.ensures.look (search rules) (search rules)
 
 pub returns-then-byte-eq10-clause-tokens : goal.returns-then-byte-eq10-clause-tokens
 returns-then-byte-eq10-clause-tokens g c =

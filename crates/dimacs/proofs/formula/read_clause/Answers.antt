@@ -3,8 +3,11 @@ use Rattle.std.proofs.Common.{◌≡◌, ◌++◌, ◌∷◌, [], rules}
 use Rattle.std.specs.Prelude.{Ok}
 use Rattle.cnf_base.specs.declared.token.Token.TheVariants as token
 use Rattle.cnf_base.proofs.TokenLemmas.{told}
-use Rattle.dimacs.proofs.FormulaLemmas.{Between-line, Between-literal, Between-clause, Between-fault, Between-refused, Between-end, Between-failed}
+use Rattle.dimacs.proofs.FormulaLemmas.{Between-start, Between-line, Between-literal, Between-clause, Between-fault, Between-refused, Between-end, Between-failed}
 use Rattle.dimacs.proofs.formula.read_clause.Goals as goal
+
+pub loop-place-init : goal.loop-place-init
+loop-place-init g c = Between-start _ _ _ _
 
 pub returns-then-is_err-clause-clause : goal.returns-then-is_err-clause-clause
 returns-then-is_err-clause-clause g c =

@@ -2,9 +2,19 @@
 use Rattle.std.proofs.Common.{rules}
 use Rattle.std.specs.Prelude.{Ok}
 use Rattle.cnf_base.specs.declared.token.Token.TheVariants as token
+use Rattle.cnf_base.specs.Text.{listing_at}
+use Rattle.cnf_base.proofs.StreamLemmas.{Along-still}
 use Rattle.cnf_base.proofs.TokenLemmas.{told}
+use Rattle.dimacs.specs.Formula.{skip_blank}
 use Rattle.dimacs.proofs.HeaderLemmas.{Blank-line, Blank-word, Blank-end, Blank-failed}
 use Rattle.dimacs.proofs.header.first_word.Goals as goal
+
+pub loop-place-init : goal.loop-place-init
+loop-place-init g c = record {
+  text = Along-still _ (λ i. skip_blank (listing_at c.args.scanner.now.place i));
+  fewer = search rules;
+  mark = search rules;
+}
 
 pub returns-in-Ok-Word-clause-text : goal.returns-in-Ok-Word-clause-text
 returns-in-Ok-Word-clause-text g c =

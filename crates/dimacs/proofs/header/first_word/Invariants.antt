@@ -9,7 +9,7 @@ abbrev pub invariant-loop-place : goal.invariant-loop-place
 invariant-loop-place g l = record {
   text : Along l.fn.scanner l.scanner (λ i j. skip_blank (listing_at l.fn.scanner.place i) ≡ skip_blank (listing_at l.scanner.place j));
   fewer : most_to_come l.scanner ≤ most_to_come l.fn.scanner;
-  mark : l.scanner.has_failed ≡ l.fn.scanner.has_failed;
+  mark : l.scanner.reader.has_failed ≡ l.fn.scanner.reader.has_failed;
 }
 
 abbrev pub decreases-loop-place : goal.decreases-loop-place

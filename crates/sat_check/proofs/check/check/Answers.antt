@@ -1,24 +1,31 @@
 -- The formula was loaded, or it has a fault.
 use Rattle.cnf_base.proofs.StreamLemmas.{Along-map, Along-none}
+use Rattle.cnf_base.proofs.SeenLemmas.{seen_is_some}
 use Rattle.dimacs.specs.Formula.{formula_of}
 use Rattle.steps.specs.Rules.{rule_of}
 use Rattle.sat_check.proofs.ReportLemmas.{reports_checked, err_report}
 use Rattle.sat_check.proofs.check.check.Goals as goal
 
+pub check_loaded-requires-clause-loaded : goal.check_loaded-requires-clause-loaded
+check_loaded-requires-clause-loaded g c =
+    let loads = c.in-Ok.ensures.loads in
+    let some = seen_is_some _ _ loads.seen in
+    (rule_of (g.S.ProofSession.shown c.args.session.now).state, (formula_of some.0).clauses, (loads.fact some.0 some.1).2)
+
 pub returns-in-Ok-clause-report : goal.returns-in-Ok-clause-report
 returns-in-Ok-clause-report g c =
     let rule = rule_of (g.S.ProofSession.shown c.args.session.now).state in (
-      c.in-Ok.ensures.loads.0,
+      c.in-Ok.ensures.loads.seen,
       Along-map _ _ _ _ c.check_loaded.ensures.report (λ j k m x i s.
-          let l = c.in-Ok.ensures.loads.1 i s in
+          let l = c.in-Ok.ensures.loads.fact i s in
           let y = x rule (formula_of i).clauses l.2 in
-          (y.0, reports_checked rule c.args.trace (formula_of i) _ _ y.0 l.0 l.1 y.1, y.2)),
+          record { report = y.0; reports = reports_checked rule c.args.trace (formula_of i) _ _ y.0 l.0 l.1 y.1; outcome = y.2 }),
     )
 
 pub returns-in-Err-clause-report : goal.returns-in-Err-clause-report
 returns-in-Err-clause-report g c =
     let rule = rule_of (g.S.ProofSession.shown c.args.session.now).state in (
-      c.in-Err.ensures.loads.0,
+      c.in-Err.ensures.loads.seen,
       Along-map _ _ _ _ (Along-none _) (λ j k m e i s.
-          err_report rule (g.S.ProofSession.shown c.load.new.session) c.args.trace c.in-Err.fault i _ c.break_off.result c.args.lines.now c.break_off.new.lines (c.in-Err.ensures.loads.1 i s) c.break_off.ensures.memory c.break_off.ensures.told),
+          err_report rule (g.S.ProofSession.shown c.load.new.session) c.args.trace c.in-Err.fault i _ c.break_off.result c.args.lines.now c.break_off.new.lines (c.in-Err.ensures.loads.fact i s) c.break_off.ensures.memory c.break_off.ensures.told),
     )

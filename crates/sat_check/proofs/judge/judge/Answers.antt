@@ -1,16 +1,16 @@
 -- What was seen of the formula.
-use Rattle.std.proofs.Common.{rules}
-use Rattle.sat_check.proofs.JudgeLemmas.{judges_nothing, judges_fault, judges_body}
+use Rattle.std.proofs.Common.{refl, rules}
+use Rattle.sat_check.proofs.JudgeLemmas.{judges_refused, judges_fault, judges_body}
 use Rattle.sat_check.proofs.judge.judge.Goals as goal
 
+pub returns-in_err-piece-clause-judges : goal.returns-in_err-piece-clause-judges
+returns-in_err-piece-clause-judges g c = judges_refused c.args.model.now _ _ c.from_residual.result refl (search rules)
+
+pub returns-in-Ok-clause-judges : goal.returns-in-Ok-clause-judges
+returns-in-Ok-clause-judges g c =
+    judges_body c.args.model.now _ _ _ c.over.ensures _ _ (search rules) c.in-Ok.reader c.judge_clauses-judged.result c.in-Ok.ensures.opened c.judge_clauses-judged.ensures.judges
+
 pub returns-in-Err-clause-judges : goal.returns-in-Err-clause-judges
-returns-in-Err-clause-judges g c = judges_nothing c.args.model.now _ _ (search rules)
-
-pub returns-in-Ok-open-clause-judges : goal.returns-in-Ok-open-clause-judges
-returns-in-Ok-open-clause-judges g c =
-    judges_body c.args.model.now _ _ _ _ _ c.in-Ok.ensures.fresh _ _ (search rules) c.in-Ok-open.reader c.judge_clauses-judged.result c.in-Ok-open.ensures.opened c.judge_clauses-judged.ensures.judges
-
-pub returns-in-Err-open-clause-judges : goal.returns-in-Err-open-clause-judges
-returns-in-Err-open-clause-judges g c =
-    let last = c.in-Err-open.ensures.refused in
-    judges_fault c.args.model.now _ _ _ _ _ c.in-Ok.ensures.fresh last.0 _ (search rules) c.in-Err-open.refused.0 last.2
+returns-in-Err-clause-judges g c =
+    let last = c.in-Err.ensures.refused in
+    judges_fault c.args.model.now _ _ _ c.over.ensures last.0 _ (search rules) c.in-Err.refused.0 last.2

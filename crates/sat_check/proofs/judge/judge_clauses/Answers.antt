@@ -6,21 +6,21 @@ use Rattle.sat_check.proofs.JudgeLemmas.{Judging-start, Judging-clause, Judging-
 use Rattle.sat_check.proofs.ReadLemmas.{clause_told}
 use Rattle.sat_check.proofs.judge.judge_clauses.Goals as goal
 
-pub loop-number-init : goal.loop-number-init
-loop-number-init g c = Judging-start c.args.model.now c.args.reader.now c.requires
+pub loop-clause-init : goal.loop-clause-init
+loop-clause-init g c = Judging-start c.args.model.now c.args.reader.now c.requires
 
 pub returns-then-not-meets-clause-judges : goal.returns-then-not-meets-clause-judges
 returns-then-not-meets-clause-judges g c =
     let unmet : meets c.args.model.now c.next.new.clause ≡ false = search rules in
-    Judging-unmet _ _ _ _ _ c.loop-number.invariant c.next.new.clause (clause_told _ _ _ (Ok true) _ c.next.ensures.clause (search rules)) unmet
+    Judging-unmet _ _ _ _ _ c.loop-clause.invariant c.next.new.clause (clause_told _ _ _ (Ok true) _ c.next.ensures.clause (search rules)) unmet
 
-pub loop-number-preserved : goal.loop-number-preserved
-loop-number-preserved g c =
+pub loop-clause-preserved : goal.loop-clause-preserved
+loop-clause-preserved g c =
     let met : meets c.args.model.now c.next.new.clause ≡ true = search rules in
-    Judging-clause _ _ _ _ _ c.loop-number.invariant c.next.new.clause (clause_told _ _ _ (Ok true) _ c.next.ensures.clause (search rules)) met (search rules) (search rules)
+    Judging-clause _ _ _ _ _ c.loop-clause.invariant c.next.new.clause (clause_told _ _ _ (Ok true) _ c.next.ensures.clause (search rules)) met (search rules) (search rules)
 
-pub returns-in-Ok-false-clause-judges : goal.returns-in-Ok-false-clause-judges
-returns-in-Ok-false-clause-judges g c = Judging-done _ _ _ _ _ c.loop-number.invariant c.next.new.clause (clause_told _ _ _ (Ok false) _ c.next.ensures.clause (search rules))
+pub returns-clause-judges : goal.returns-clause-judges
+returns-clause-judges g c = Judging-done _ _ _ _ _ c.loop-clause.invariant c.next.new.clause (clause_told _ _ _ (Ok false) _ c.next.ensures.clause (search rules))
 
-pub returns-in-Err-clause-judges : goal.returns-in-Err-clause-judges
-returns-in-Err-clause-judges g c = Judging-fault _ _ _ _ _ c.loop-number.invariant c.next.new.clause c.in-Err.fault c.in-Err.ensures.clause
+pub returns-in_err-next-clause-judges : goal.returns-in_err-next-clause-judges
+returns-in_err-next-clause-judges g c = Judging-fault _ _ _ _ _ c.loop-clause.invariant c.next.new.clause c.in_err-next.field-0.0 c.from_residual.result (search rules) c.in_err-next.ensures.clause

@@ -3,8 +3,8 @@ use Rattle.cnf_base.specs.Stream.{most_to_come}
 use Rattle.sat_check.proofs.JudgeLemmas.{Judging}
 use Rattle.sat_check.proofs.judge.judge_clauses.Given as goal
 
-abbrev pub invariant-loop-number : goal.invariant-loop-number
-invariant-loop-number g l = Judging l.model l.fn.reader l.reader l.met
+abbrev pub invariant-loop-clause : goal.invariant-loop-clause
+invariant-loop-clause g l = Judging l.model l.fn.reader l.reader l.met
 
-abbrev pub decreases-loop-number : goal.decreases-loop-number
-decreases-loop-number g l = most_to_come l.reader.stream
+abbrev pub decreases-loop-clause : goal.decreases-loop-clause
+decreases-loop-clause g l = most_to_come l.reader.stream

@@ -7,16 +7,16 @@ use Rattle.sat_check.proofs.LoadLemmas.{Loading-start, Loading-clause, Loading-d
 use Rattle.sat_check.proofs.ReadLemmas.{clause_told}
 use Rattle.sat_check.proofs.load.load_clauses.Goals as goal
 
-pub loop-session-init : goal.loop-session-init
-loop-session-init g c = Loading-start _ _ _ c.requires.unused c.requires.first
+pub loop-clause-init : goal.loop-clause-init
+loop-clause-init g c = Loading-start _ _ _ c.requires.unused c.requires.first
 
 pub returns-then-is_err-clause-loads : goal.returns-then-is_err-clause-loads
 returns-then-is_err-clause-loads g c =
-    Loading-refused _ _ _ _ _ c.loop-session.invariant (g.S.ProofSession.shown c.input.new.self) c.next.new.clause (clause_told _ _ _ (Ok true) _ c.next.ensures.clause (search rules))
+    Loading-refused _ _ _ _ _ c.loop-clause.invariant (g.S.ProofSession.shown c.input.new.self) c.next.new.clause (clause_told _ _ _ (Ok true) _ c.next.ensures.clause (search rules))
 
-pub loop-session-preserved : goal.loop-session-preserved
-loop-session-preserved g c =
-    let old = g.S.ProofSession.shown c.loop-session.session in
+pub loop-clause-preserved : goal.loop-clause-preserved
+loop-clause-preserved g c =
+    let old = g.S.ProofSession.shown c.loop-clause.session in
     let new = g.S.ProofSession.shown c.input.new.self in
     let state : Same new.state (with_input old.state c.next.new.clause) = search rules in
     let verified : new.is_verified ≡ (old.is_verified || is_empty c.next.new.clause) = search rules in
@@ -24,12 +24,12 @@ loop-session-preserved g c =
     let unstepped : new.has_stepped ≡ false = search rules in
     let sound : new.is_ended ≡ false = search rules in
     let room : old.room ≤ new.room + 1 = search rules in
-    Loading-clause _ _ _ _ _ c.loop-session.invariant _ c.next.new.clause (clause_told _ _ _ (Ok true) _ c.next.ensures.clause (search rules))
-    (loaded_more _ old new _ _ c.loop-session.invariant.loaded state verified peak unstepped sound room)
+    Loading-clause _ _ _ _ _ c.loop-clause.invariant _ c.next.new.clause (clause_told _ _ _ (Ok true) _ c.next.ensures.clause (search rules))
+    (loaded_more _ old new _ _ c.loop-clause.invariant.loaded state verified peak unstepped sound room)
     (search rules) (search rules)
 
-pub returns-in-Ok-false-clause-loads : goal.returns-in-Ok-false-clause-loads
-returns-in-Ok-false-clause-loads g c = Loading-done _ _ _ _ _ c.loop-session.invariant c.next.new.clause (clause_told _ _ _ (Ok false) _ c.next.ensures.clause (search rules))
+pub returns-clause-loads : goal.returns-clause-loads
+returns-clause-loads g c = Loading-done _ _ _ _ _ c.loop-clause.invariant c.next.new.clause (clause_told _ _ _ (Ok false) _ c.next.ensures.clause (search rules))
 
-pub returns-in-Err-clause-loads : goal.returns-in-Err-clause-loads
-returns-in-Err-clause-loads g c = Loading-fault _ _ _ _ _ c.loop-session.invariant (g.S.ProofSession.shown c.loop-session.session) c.next.new.clause c.in-Err.fault c.in-Err.ensures.clause
+pub returns-in_err-next-clause-loads : goal.returns-in_err-next-clause-loads
+returns-in_err-next-clause-loads g c = Loading-fault _ _ _ _ _ c.loop-clause.invariant (g.S.ProofSession.shown c.loop-clause.session) c.next.new.clause c.in_err-next.field-0.0 c.from_residual.result (search rules) c.in_err-next.ensures.clause

@@ -4,8 +4,8 @@ use Rattle.steps.specs.Rules.{rule_of}
 use Rattle.sat_check.proofs.LoadLemmas.{Loading}
 use Rattle.sat_check.proofs.load.load_clauses.Given as goal
 
-abbrev pub invariant-loop-session : goal.invariant-loop-session
-invariant-loop-session g l = Loading (rule_of (g.S.ProofSession.shown l.fn.session).state) l.fn.reader l.reader (g.S.ProofSession.shown l.session)
+abbrev pub invariant-loop-clause : goal.invariant-loop-clause
+invariant-loop-clause g l = Loading (rule_of (g.S.ProofSession.shown l.fn.session).state) l.fn.reader l.reader (g.S.ProofSession.shown l.session)
 
-abbrev pub decreases-loop-session : goal.decreases-loop-session
-decreases-loop-session g l = most_to_come l.reader.stream
+abbrev pub decreases-loop-clause : goal.decreases-loop-clause
+decreases-loop-clause g l = most_to_come l.reader.stream

@@ -10,14 +10,14 @@ pub returns-in_default-clause-report : goal.returns-in_default-clause-report
 returns-in_default-clause-report g c =
     reports_nothing lrat c.args.trace lrat_steps _ _ _ c.give_up.result c.args.lines.now c.give_up.new.lines refl (λ r. rw c.give_up.ensures.status (c.give_up.ensures.outcome r))
 
-pub returns-in-Err-clause-report : goal.returns-in-Err-clause-report
-returns-in-Err-clause-report g c =
-    reports_nothing lrat c.args.trace lrat_steps _ _ _ c.give_up-in-Err.result c.args.lines.now c.give_up-in-Err.new.lines (search rules) (λ r. rw c.give_up-in-Err.ensures.status (c.give_up-in-Err.ensures.outcome r))
+pub returns-in_default-new-clause-report : goal.returns-in_default-new-clause-report
+returns-in_default-new-clause-report g c =
+    reports_nothing lrat c.args.trace lrat_steps _ _ _ c.give_up-in_default-new.result c.args.lines.now c.give_up-in_default-new.new.lines refl (λ r. rw c.give_up-in_default-new.ensures.status (c.give_up-in_default-new.ensures.outcome r))
 
 pub check-status-requires-clause-unused : goal.check-status-requires-clause-unused
 check-status-requires-clause-unused g c = lrat_unused c.in-Ok.session c.in-Ok.ensures
 
 pub returns-clause-report : goal.returns-clause-report
 returns-clause-report g c =
-    reports_run lrat c.args.trace to_come lrat_steps _ _ _ _ _ _ c.in-Ok-new.source _ _ c.check-status.result c.args.lines.now c.check-status.new.lines c.in-Ok-new.ensures.fresh (search rules) (λ j. refl)
+    reports_run lrat c.args.trace to_come lrat_steps _ _ _ _ c.over.result _ _ c.check-status.result c.args.lines.now c.check-status.new.lines c.over.ensures (search rules) (λ j. refl)
     c.new-reader.result c.new-reader.ensures c.check-status.ensures.report.0 c.check-status.ensures.report.1

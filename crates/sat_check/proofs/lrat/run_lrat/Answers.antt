@@ -3,36 +3,17 @@ use Rattle.std.proofs.Common.{rules}
 use Rattle.proofs.specs.Lrat.{lrat_steps}
 use Rattle.steps.specs.Rules.{lrat}
 use Rattle.sat_check.proofs.OutcomeLemmas.{Outcome-same}
-use Rattle.sat_check.proofs.SoundLemmas.{report_sound, outcome_verified}
-use Rattle.sat_check.proofs.WrittenLemmas.{written_verified}
+use Rattle.sat_check.proofs.SoundLemmas.{checks_proof}
 use Rattle.sat_check.proofs.lrat.run_lrat.Goals as goal
 
-pub returns-clause-report : goal.returns-clause-report
-returns-clause-report g c =
-    let checked = c.check_lrat-status.ensures.report in (
-      checked.0,
-      checked.1,
-      λ i j s t.
-          let x = checked.2 i j s t in
-          (x.0, x.1, Outcome-same c.check_lrat-status.result _ _ _ _ x.0 (search rules) (search rules) x.2),
-    )
-
-pub returns-clause-sound : goal.returns-clause-sound
-returns-clause-sound g c = λ is.
-    let checked = c.check_lrat-status.ensures.report in (
-      checked.0,
-      λ i s model.
-          let j = checked.1.some in
-          let x = checked.2 i j.0 s j.1 in
-          report_sound lrat c.args.options.now.trace i (lrat_steps j.0) x.0 x.1 (outcome_verified c.check_lrat-status.result _ _ x.0 is x.2) model,
-    )
-
-pub returns-clause-written : goal.returns-clause-written
-returns-clause-written g c = λ was.
-    let checked = c.check_lrat-status.ensures.report in (
-      checked.0,
-      λ i s model.
-          let j = checked.1.some in
-          let x = checked.2 i j.0 s j.1 in
-          report_sound lrat c.args.options.now.trace i (lrat_steps j.0) x.0 x.1 (written_verified lrat c.args.options.now.trace i (lrat_steps j.0) x.0 c.check_lrat-status.result _ _ x.1 (Outcome-same c.check_lrat-status.result _ _ _ _ x.0 (search rules) (search rules) x.2) was) model,
-    )
+pub returns-clause-checks : goal.returns-clause-checks
+returns-clause-checks g c =
+    let checked = c.check_lrat-status.ensures.report in
+    record {
+      first = checked.first;
+      second = checked.second;
+      fact = λ i j s t.
+          let x = checked.fact i j s t in
+          checks_proof lrat c.args.options.now.trace i (lrat_steps j) _ _ c.check_lrat-status.result
+          (record { report = x.report; reports = x.reports; outcome = Outcome-same c.check_lrat-status.result _ _ _ _ x.report (search rules) (search rules) x.outcome });
+    }

@@ -11,22 +11,24 @@ pub returns-in-Ok-clause-report : goal.returns-in-Ok-clause-report
 returns-in-Ok-clause-report g c =
     let checked = c.check_formula.ensures.report in
     let claims = c.in-Ok.ensures.claims in
-    let P : Report → Type 0 = Outcome c.check_formula.result c.args.lines.now.held c.check_formula.new.lines.held in (
-      checked.0,
-      claims.0,
-      λ i j s t. (
-        subst P (claimed_report c.in-Ok.model (claim_of j) (formula_of i) (claims.1 j t)) (checked.1 i s),
-        λ is. claimed_consistent c.in-Ok.model (claim_of j) (claims.1 j t) c.in-Ok.ensures.consistent,
-      ),
-    )
+    let P : Report → Type 0 = Outcome c.check_formula.result c.args.lines.now.held c.check_formula.new.lines.held in
+    record {
+      first = checked.seen;
+      second = claims.seen;
+      fact = λ i j s t. (
+        subst P (claimed_report c.in-Ok.model (claim_of j) (formula_of i) (claims.fact j t)) (checked.fact i s),
+        λ is. claimed_consistent c.in-Ok.model (claim_of j) (claims.fact j t) c.in-Ok.ensures.consistent,
+      );
+    }
 
 pub returns-in-Err-clause-report : goal.returns-in-Err-clause-report
 returns-in-Err-clause-report g c =
-    let claims = c.in-Err.ensures.claims in (
-      Seen-nothing _,
-      claims.0,
-      λ i j s t. (
-        output_fault c.break_off.result c.args.lines.now c.break_off.new.lines c.in-Err.fault (claim_of j) (formula_of i) (claims.1 j t) (c.break_off.ensures.memory, c.break_off.ensures.told),
+    let claims = c.in-Err.ensures.claims in
+    record {
+      first = Seen-nothing _;
+      second = claims.seen;
+      fact = λ i j s t. (
+        output_fault c.break_off.result c.args.lines.now c.break_off.new.lines c.in-Err.fault (claim_of j) (formula_of i) (claims.fact j t) (c.break_off.ensures.memory, c.break_off.ensures.told),
         λ is. absurd (fault_unverified c.break_off.result c.args.lines.now c.break_off.new.lines (codes "output") c.in-Err.fault (c.break_off.ensures.memory, c.break_off.ensures.told) is),
-      ),
-    )
+      );
+    }

@@ -1,7 +1,7 @@
 use Rattle.std.proofs.Common.{◌≡◌, ℕ, ◌<◌, ◌-◌, false}
 use Rattle.std.specs.FinMap as maps
 use Rattle.steps.specs.Answers.{is_unnamed}
-use Rattle.steps.specs.TrueLiterals.{SameSet}
+use Rattle.clause_db.specs.Trail.{SameSet}
 use Rattle.steps.proofs.candidates.first_left_out.Given as goal
 
 abbrev pub invariant-loop-id : goal.invariant-loop-id

@@ -4,7 +4,7 @@ use Rattle.cnf_base.specs.Literals.{complement, has}
 use Rattle.steps.specs.Lrat.{groups_refusal, groups_of}
 use Rattle.steps.specs.Shelf.{Holds}
 use Rattle.steps.specs.Answers.{named_in}
-use Rattle.steps.specs.TrueLiterals.{SameSet}
+use Rattle.clause_db.specs.Trail.{SameSet}
 use Rattle.steps.proofs.candidates.judge_groups.Given as goal
 
 abbrev pub invariant-loop-i : goal.invariant-loop-i

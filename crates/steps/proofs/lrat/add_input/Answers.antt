@@ -1,6 +1,6 @@
 use Rattle.std.specs.FinMap as maps
 use Rattle.steps.specs.Lrat.{with_clause, SameClauses}
-use Rattle.steps.specs.TrueLiterals.{IsReady}
+use Rattle.steps.specs.Session.{IsReady}
 use Rattle.steps.proofs.Rooms.{ready_roomed, ready_with, on_ok}
 use Rattle.steps.proofs.lrat.add_input.Goals as goal
 
@@ -8,7 +8,7 @@ pub returns-clause-ready : goal.returns-clause-ready
 returns-clause-ready c =
     let live = maps.get c.args.held.now.live in
     let after = maps.get c.add.new.self.live in
-    let trues = c.make_room.new.trues in
+    let trues = c.reserve_all.new.self in
     on_ok c.add.result (SameClauses after (with_clause live c.args.id c.args.lits.now)) (IsReady after trues)
-    (λ same. ready_with trues live after c.args.id c.args.lits.now same (ready_roomed c.args.trues.now trues live c.in_ok-make_room.ensures.lits c.in_ok-make_room.ensures.met c.requires.ready) c.in_ok-make_room.ensures.room)
+    (λ same. ready_with trues live after c.args.id c.args.lits.now same (ready_roomed c.args.trues.now trues live c.in_ok-reserve_all.ensures.lits c.in_ok-reserve_all.ensures.met c.requires.ready) c.in_ok-reserve_all.ensures.room)
     c.add.ensures.live

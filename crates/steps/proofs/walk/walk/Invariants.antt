@@ -1,7 +1,7 @@
 use Rattle.std.proofs.Common.{◌≡◌, ◌≤◌, false, length, take, drop}
 use Rattle.std.specs.FinMap as maps
-use Rattle.steps.specs.Lrat.{chain, conflicts, units_of}
-use Rattle.steps.specs.TrueLiterals.{SameSet}
+use Rattle.steps.specs.Lrat.{chain, units_of}
+use Rattle.clause_db.specs.Trail.{conflicts, SameSet}
 use Rattle.steps.proofs.Walks.{Gives}
 use Rattle.steps.proofs.walk.walk.Given as goal
 

@@ -1,6 +1,6 @@
 use Rattle.std.proofs.Common.{sym, ap, ◌∙◌}
 use Rattle.std.specs.FinMap as maps
-use Rattle.clause_db.proofs.DistinctLemmas.{same_from}
+use Rattle.cnf_base.proofs.SetLemmas.{same_from}
 use Rattle.clause_db.proofs.scan.ScanPropagate.clause.Goals as goal
 
 pub returns-clause-clause : goal.returns-clause-clause

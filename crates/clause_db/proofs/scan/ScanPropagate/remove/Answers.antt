@@ -5,5 +5,5 @@ use Rattle.clause_db.proofs.scan.ScanPropagate.remove.Goals as goal
 pub invariant_of-self : goal.invariant_of-self
 invariant_of-self c =
     let s = c.self.inside in
-    scan_with s.store c.remove.new.self s.trail s.levels s.standing (ap (λ p. p.assumptions) c.self.view_is ∙ c.requires.nothing_assumed)
-    (room_removed s.trail.met s.store c.remove.new.self c.args.slot c.remove.ensures c.self.invariant.room) c.self.invariant
+    scan_with s.store c.remove.new.self s.assumptions (ap (λ p. p.assumptions) c.self.view_is ∙ c.requires.nothing_assumed)
+    (room_removed s.assumptions.trail.met s.store c.remove.new.self c.args.slot c.remove.ensures c.self.invariant.room) c.self.invariant

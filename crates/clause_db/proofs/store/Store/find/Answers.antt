@@ -3,11 +3,10 @@ use Rattle.std.specs.FinMap as maps
 use Rattle.std.proofs.lemmas.Bool.{true≢false}
 use Rattle.slab.specs.Slab.{get}
 use Rattle.cnf_base.specs.Literals.{Clause, has}
-use Rattle.cnf_base.proofs.SetLemmas.{all_each, each_all}
+use Rattle.cnf_base.proofs.SetLemmas.{all_each, each_all, same_back}
 use Rattle.clause_db.specs.Index.{under}
 use Rattle.clause_db.specs.Marks.{is_marked, count_of}
 use Rattle.clause_db.specs.Table.{at}
-use Rattle.clause_db.proofs.DistinctLemmas.{same_back}
 use Rattle.clause_db.proofs.StoreLemmas.{clause_of, get_stored}
 use Rattle.clause_db.proofs.SearchLemmas.{copies_pos, known_from_count, match_same, none_same, if_some_from, if_some_from_none, if_none_from, if_none_from_some}
 use Rattle.clause_db.proofs.store.Store.find.Goals as goal

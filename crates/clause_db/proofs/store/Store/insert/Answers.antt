@@ -2,12 +2,12 @@ use Rattle.std.proofs.Common.{◌≡◌, ℕ, ◌+◌, ◌<◌, ◌++◌, ◌∷
 use Rattle.std.specs.FinMap as maps
 use Rattle.slab.specs.Slab.{get, slab_len}
 use Rattle.cnf_base.specs.Literals.{has}
-use Rattle.cnf_base.proofs.SetLemmas.{both_pass}
+use Rattle.cnf_base.proofs.SetLemmas.{both_pass, same_there, same_back}
 use Rattle.clause_db.specs.Clauses.{size}
 use Rattle.clause_db.specs.Index.{under}
 use Rattle.clause_db.specs.Marks.{count_of}
 use Rattle.clause_db.specs.Table.{at}
-use Rattle.clause_db.proofs.DistinctLemmas.{IsWithin, same_there, same_back, size_same}
+use Rattle.clause_db.proofs.DistinctLemmas.{IsWithin, size_same}
 use Rattle.clause_db.proofs.MarkLemmas.{hash_same}
 use Rattle.clause_db.proofs.StoreLemmas.{clause_of, get_stored, stored_same}
 use Rattle.clause_db.proofs.SoundLemmas.{sound_same, sound_with, copies_few, sum_fits}

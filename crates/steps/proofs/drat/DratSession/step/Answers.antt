@@ -13,5 +13,5 @@ returns-after-matches-clause-keeps_models g c =
     let new = maps.values (g.P.Propagate.state c.take_step.new.clauses).live in
     let step = drat_step c.args.step.now in
     let kept : HasModel (slice_get old) → HasModel (slice_get new) =
-    λ m. has_model_copies new (after_drat old step) c.in-Ok.ensures.live (drat_keeps c.self.inside.strict old step c.in-Ok.word c.in-Ok.ensures.answers m) in
+    λ m. has_model_copies new (after_drat old step) c.in-Ok.ensures.live (drat_keeps c.self.inside.rules old step c.in-Ok.word c.in-Ok.ensures.answers m) in
     subst (λ s. HasModel (slice_get (clauses_of s)) → HasModel (slice_get new)) c.self.view_is kept

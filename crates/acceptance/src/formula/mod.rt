@@ -1,0 +1,4 @@
+//! Formulas, as the checkers take them.
+
+mod faults;
+mod texts;

@@ -1,0 +1,187 @@
+//! Proofs with a malformed place, on the four clauses of two variables.
+
+use crate::support::{Cut, E, LRAT, LRAT_TRACED, Row, expect};
+use std::alloc::Global;
+use std::process::Abort;
+use std::test::Fail;
+
+// By where the token stands: the identifier, just after it, the literals, the hints, the identifiers of a deletion.
+const TOKENS: [(&str, &str); 46] = [
+    ("0 2 0 1 2 0\n", "c proof 1:1: bad token"),
+    ("-5 2 0 1 2 0\n", "c proof 1:1: bad token"),
+    ("x 2 0 1 2 0\n", "c proof 1:1: bad token"),
+    ("d 1 0\n", "c proof 1:1: bad token"),
+    ("05 2 0 1 2 0\n", "c proof 1:1: bad token"),
+    ("+5 2 0 1 2 0\n", "c proof 1:1: bad token"),
+    ("-0 2 0 1 2 0\n", "c proof 1:1: bad token"),
+    ("- 2 0 1 2 0\n", "c proof 1:1: bad token"),
+    ("5a 2 0 1 2 0\n", "c proof 1:1: bad token"),
+    ("p cnf 2 4\n", "c proof 1:1: bad token"),
+    (" c note\n", "c proof 1:2: bad token"),
+    ("\n\n\t c note\n", "c proof 3:3: bad token"),
+    (
+        "9223372036854775808 0 0\n",
+        "c proof 1:1: identifier too large",
+    ),
+    (
+        "99999999999999999999999 0 0\n",
+        "c proof 1:1: identifier too large",
+    ),
+    (
+        "18446744073709551617 0 0\n",
+        "c proof 1:1: identifier too large",
+    ),
+    ("-9223372036854775808 0 0\n", "c proof 1:1: bad token"),
+    ("-99999999999999999999999 0 0\n", "c proof 1:1: bad token"),
+    ("99999999999999999999999x 0 0\n", "c proof 1:1: bad token"),
+    ("5 x 0 0\n", "c proof 1:3: bad token"),
+    ("5 dd 0 0\n", "c proof 1:3: bad token"),
+    ("5 D 1 0\n", "c proof 1:3: bad token"),
+    ("5 -0 0\n", "c proof 1:3: bad token"),
+    ("5 268435456 0 0\n", "c proof 1:3: literal too large"),
+    ("5 -268435456 0 0\n", "c proof 1:3: literal too large"),
+    ("5 2 d 0\n", "c proof 1:5: bad token"),
+    ("5 2 01 0\n", "c proof 1:5: bad token"),
+    ("5 2 268435456 0 0\n", "c proof 1:5: literal too large"),
+    (
+        "5 2 -18446744073709551617 0 0\n",
+        "c proof 1:5: literal too large",
+    ),
+    ("5 2 0 x 0\n", "c proof 1:7: bad token"),
+    ("5 2 0 d 0\n", "c proof 1:7: bad token"),
+    ("5 2 0 -0 0\n", "c proof 1:7: bad token"),
+    ("5 2 0 1 2- 0\n", "c proof 1:9: bad token"),
+    (
+        "5 2 0 9223372036854775808 0\n",
+        "c proof 1:7: identifier too large",
+    ),
+    (
+        "5 2 0 -9223372036854775808 0\n",
+        "c proof 1:7: identifier too large",
+    ),
+    (
+        "5 2 0 1 -18446744073709551617 0\n",
+        "c proof 1:9: identifier too large",
+    ),
+    ("5 d -1 0\n", "c proof 1:5: bad token"),
+    ("5 d d 0\n", "c proof 1:5: bad token"),
+    ("5 d x 0\n", "c proof 1:5: bad token"),
+    ("5 d 1 00\n", "c proof 1:7: bad token"),
+    (
+        "5 d 9223372036854775808 0\n",
+        "c proof 1:5: identifier too large",
+    ),
+    (
+        "5 d 1 18446744073709551617 0\n",
+        "c proof 1:7: identifier too large",
+    ),
+    ("5 d -9223372036854775808 0\n", "c proof 1:5: bad token"),
+    ("c \u{e9}\n5 \u{e9}\n", "c proof 2:3: bad token"),
+    ("5 2\u{a0}0 1 2 0\n", "c proof 1:3: bad token"),
+    ("5\r\n2 \r? 0\n", "c proof 2:4: bad token"),
+    ("xyz", "c proof 1:1: bad token"),
+];
+
+const UNTERMINATED: [(&str, &str); 9] = [
+    ("5", "c proof 1:2: unterminated step"),
+    ("5\n", "c proof 2:1: unterminated step"),
+    ("5 d", "c proof 1:4: unterminated step"),
+    ("5 d 1", "c proof 1:6: unterminated step"),
+    ("5 2", "c proof 1:4: unterminated step"),
+    ("5 2 0", "c proof 1:6: unterminated step"),
+    ("5 2 0 1 2 \r\n\n", "c proof 3:1: unterminated step"),
+    ("5 2 0 1\nc 0", "c proof 2:4: unterminated step"),
+    ("\t5 0 \t", "c proof 1:7: unterminated step"),
+];
+
+// After an accepted step, with a trace.
+const LATER: [(&str, &str); 4] = [
+    ("5 2 0 1 2 0\n6 x", "c proof 2:3: bad token"),
+    ("5 2 0 1 2 0\n6 0 5", "c proof 2:6: unterminated step"),
+    ("5 2 0 1 2 0 ?\n6 0 5 3 4 0\n", "c proof 1:13: bad token"),
+    (
+        "5 2 0 1 2 0\n268435456 268435456 0 0\n",
+        "c proof 2:11: literal too large",
+    ),
+];
+
+// What these texts give where a read fails after them.
+const FAILED_READS: [(&str, &str, u8); 10] = [
+    ("", "c cannot read proof", 3),
+    ("?", "c cannot read proof", 3),
+    ("? ", "c proof 1:1: bad token", 2),
+    ("9223372036854775808", "c cannot read proof", 3),
+    (
+        "9223372036854775808\n",
+        "c proof 1:1: identifier too large",
+        2,
+    ),
+    ("5 9 0 9 0", "c cannot read proof", 3),
+    ("5 9 0 9 0 ", "c step 1: unknown id 9", 1),
+    ("5 2 0 1 2 0\n", "c cannot read proof", 3),
+    ("5 2 0 1 2 0\nc 6 0 5 3 4 0\n", "c cannot read proof", 3),
+    ("5 2 0 1 2 0\n6 0 5 3 4", "c cannot read proof", 3),
+];
+
+const FORMULA_LINE: &str = "c formula 2 variables 4 clauses";
+
+const LAST: &str = "s NOT VERIFIED";
+
+fn expect_lines(
+    rt: &impl Abort,
+    alloc: Global,
+    proof: &str,
+    base: &Row<'_>,
+    lines: &[&str],
+    status: u8,
+) -> Result<(), Fail> {
+    let row = Row {
+        name: proof,
+        formula: E,
+        second: proof.as_bytes(),
+        lines,
+        status,
+        ..*base
+    };
+    expect(rt, alloc, &row)
+}
+
+#[test]
+fn tokens(rt: HostRuntime) -> Result<(), Fail> {
+    for (proof, line) in TOKENS {
+        let lines = [FORMULA_LINE, line, LAST];
+        expect_lines(&rt, rt.alloc(), proof, &LRAT, &lines, 2)?;
+    }
+    Ok(())
+}
+
+#[test]
+fn unterminated(rt: HostRuntime) -> Result<(), Fail> {
+    for (proof, line) in UNTERMINATED {
+        let lines = [FORMULA_LINE, line, LAST];
+        expect_lines(&rt, rt.alloc(), proof, &LRAT, &lines, 2)?;
+    }
+    Ok(())
+}
+
+#[test]
+fn after_an_accepted_step(rt: HostRuntime) -> Result<(), Fail> {
+    for (proof, line) in LATER {
+        let lines = [FORMULA_LINE, "c 1 add rup", line, LAST];
+        expect_lines(&rt, rt.alloc(), proof, &LRAT_TRACED, &lines, 2)?;
+    }
+    Ok(())
+}
+
+#[test]
+fn failed_reads(rt: HostRuntime) -> Result<(), Fail> {
+    let base = Row {
+        second_cut: Cut::Fails,
+        ..LRAT
+    };
+    for (proof, line, status) in FAILED_READS {
+        let lines = [FORMULA_LINE, line, LAST];
+        expect_lines(&rt, rt.alloc(), proof, &base, &lines, status)?;
+    }
+    Ok(())
+}

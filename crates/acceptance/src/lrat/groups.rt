@@ -1,0 +1,228 @@
+//! Steps with groups of hints, each for a clause that holds the pivot's complement.
+
+use crate::support::{E, G, LRAT_TRACED, Row, expect, expect_all};
+use std::alloc::Global;
+use std::process::Abort;
+use std::test::Fail;
+
+// A definition of 3 by groups, on one clause with 1 and 2. The line of the first step, which is accepted, is not here.
+const AFTER_DEFINITION: [(&str, &str, &str); 8] = [
+    (
+        "definition_by_groups",
+        "3 -3 1 0 -2 0\n",
+        "c 2 add rat\nc end: no empty clause",
+    ),
+    (
+        "not a candidate",
+        "3 -3 1 0 -1 0\n",
+        "c step 2: clause 1 does not hold the complement",
+    ),
+    (
+        "named twice",
+        "3 -3 1 0 -2 -2 0\n",
+        "c step 2: clause 2 is named twice",
+    ),
+    (
+        "an open group",
+        "3 -3 0 -2 0\n",
+        "c step 2: group 2 has no conflict",
+    ),
+    (
+        "an unknown group",
+        "3 -3 1 0 -7 0\n",
+        "c step 2: unknown id 7",
+    ),
+    ("its own group", "3 -3 1 0 -3 0\n", "c step 2: unknown id 3"),
+    (
+        "unknown after a named one",
+        "3 -3 1 0 -2 -7 0\n",
+        "c step 2: unknown id 7",
+    ),
+    // What is left of the clause 2 is -1, and the clause itself makes it 1.
+    (
+        "a candidate that needs no group",
+        "3 -3 1 0 0\n",
+        "c 2 add rat\nc end: no empty clause",
+    ),
+];
+
+// The clauses -1 2, then 2 3, then 2 -3, and 3 4. With 1 false, the first one leaves 2 to be shown.
+const SHOWN: &str = "p cnf 4 4\n-1 2 0\n2 3 0\n2 -3 0\n3 4 0\n";
+
+const HINTS_IN_GROUP: [(&str, &str, &str); 9] = [
+    (
+        "hints in a group",
+        "5 1 0 -1 2 3 0\n",
+        "c 1 add rat\nc end: no empty clause",
+    ),
+    (
+        "in another order",
+        "5 1 0 -1 3 2 0\n",
+        "c 1 add rat\nc end: no empty clause",
+    ),
+    (
+        "a hint after the group's conflict",
+        "5 1 0 -1 2 3 99 0\n",
+        "c 1 add rat\nc end: no empty clause",
+    ),
+    (
+        "too few hints in a group",
+        "5 1 0 -1 2 0\n",
+        "c step 1: group 1 has no conflict",
+    ),
+    (
+        "the group's own clause as a hint",
+        "5 1 0 -1 1 0\n",
+        "c step 1: group 1 has no conflict",
+    ),
+    (
+        "an unknown hint in a group",
+        "5 1 0 -1 9 0\n",
+        "c step 1: unknown id 9",
+    ),
+    (
+        "a hint in a group that is not unit",
+        "5 1 0 -1 4 0\n",
+        "c step 1: hint 4 is not unit",
+    ),
+    (
+        "a unit hint that is not unit",
+        "5 1 0 2 -1 2 3 0\n",
+        "c step 1: hint 2 is not unit",
+    ),
+    (
+        "no group",
+        "5 1 0 0\n",
+        "c step 1: clause 1 holds the complement and is not named",
+    ),
+];
+
+const ROWS: [Row<'static>; 6] = [
+    Row {
+        name: "a clause with a literal and its complement needs no hint",
+        formula: G,
+        second: b"2 1 -1 0 0\n",
+        lines: &[
+            "c formula 2 variables 1 clauses",
+            "c 1 add rup",
+            "c end: no empty clause",
+            "s NOT VERIFIED",
+        ],
+        status: 1,
+        ..LRAT_TRACED
+    },
+    Row {
+        name: "definition_by_groups, verified",
+        formula: E,
+        second: b"5 3 -1 0 0\n6 -3 1 0 -5 0\n7 2 0 1 2 0\n8 0 7 3 4 0\n",
+        lines: &[
+            "c formula 2 variables 4 clauses",
+            "c 1 add rat",
+            "c 2 add rat",
+            "c 3 add rup",
+            "c 4 add rup",
+            "c steps 4 peak 13",
+            "s VERIFIED",
+        ],
+        status: 0,
+        ..LRAT_TRACED
+    },
+    Row {
+        name: "unit hints count in each group",
+        formula: "p cnf 3 3\n-1 2 3 0\n1 -3 0\n2 3 0\n",
+        second: b"4 1 0 2 -1 3 0\n",
+        lines: &[
+            "c formula 3 variables 3 clauses",
+            "c 1 add rat",
+            "c end: no empty clause",
+            "s NOT VERIFIED",
+        ],
+        status: 1,
+        ..LRAT_TRACED
+    },
+    Row {
+        name: "the second candidate is not named",
+        formula: "p cnf 3 2\n1 2 0\n1 3 0\n",
+        second: b"3 -1 -2 0 0\n",
+        lines: &[
+            "c formula 3 variables 2 clauses",
+            "c step 1: clause 2 holds the complement and is not named",
+            "s NOT VERIFIED",
+        ],
+        status: 1,
+        ..LRAT_TRACED
+    },
+    Row {
+        name: "the first literal written is the pivot",
+        formula: G,
+        second: b"2 -1 3 0 0\n",
+        lines: &[
+            "c formula 2 variables 1 clauses",
+            "c step 1: clause 1 holds the complement and is not named",
+            "s NOT VERIFIED",
+        ],
+        status: 1,
+        ..LRAT_TRACED
+    },
+    Row {
+        name: "the greatest variable as a pivot",
+        formula: G,
+        second: b"2 268435455 0 0\n3 -268435455 1 0 0\n",
+        lines: &[
+            "c formula 2 variables 1 clauses",
+            "c 1 add rat",
+            "c step 2: clause 2 holds the complement and is not named",
+            "s NOT VERIFIED",
+        ],
+        status: 1,
+        ..LRAT_TRACED
+    },
+];
+
+fn after_definition(rt: &impl Abort, alloc: Global, row: (&str, &str, &str)) -> Result<(), Fail> {
+    let (name, step, lines) = row;
+    let mut proof = String::from_str(alloc, "2 3 -1 0 0\n")?;
+    proof.push_str(step)?;
+    let row = Row {
+        name,
+        formula: G,
+        second: proof.as_bytes(),
+        lines: &[
+            "c formula 2 variables 1 clauses\nc 1 add rat",
+            lines,
+            "s NOT VERIFIED",
+        ],
+        status: 1,
+        ..LRAT_TRACED
+    };
+    expect(rt, alloc, &row)
+}
+
+#[test]
+fn definitions(rt: HostRuntime) -> Result<(), Fail> {
+    for row in AFTER_DEFINITION {
+        after_definition(&rt, rt.alloc(), row)?;
+    }
+    Ok(())
+}
+
+#[test]
+fn hints_in_group(rt: HostRuntime) -> Result<(), Fail> {
+    for (name, proof, lines) in HINTS_IN_GROUP {
+        let row = Row {
+            name,
+            formula: SHOWN,
+            second: proof.as_bytes(),
+            lines: &["c formula 4 variables 4 clauses", lines, "s NOT VERIFIED"],
+            status: 1,
+            ..LRAT_TRACED
+        };
+        expect(&rt, rt.alloc(), &row)?;
+    }
+    Ok(())
+}
+
+#[test]
+fn rows(rt: HostRuntime) -> Result<(), Fail> {
+    expect_all(&rt, rt.alloc(), &ROWS)
+}

@@ -1,0 +1,7 @@
+//! Checks of models.
+
+mod cuts;
+mod failed_reads;
+mod failing_writers;
+mod judged;
+mod outputs;

@@ -1,0 +1,156 @@
+//! Bytes and tokens with their places, and lines out.
+
+use crate::support::{Bytes, Cut, Pieces, SIZES, Stop, Writer, open, text};
+use cnf_base::{
+    FromRead, LineOut, Number, Place, ReadFailed, Scanner, ToWrite, Token, Word, WriteFailed,
+};
+use std::process::Abort;
+use std::test::Fail;
+
+// The byte, if there is one, its place and its number.
+fn expect_byte(
+    rt: &impl Abort,
+    source: &mut Bytes<'_>,
+    byte: Option<u8>,
+    place: (u64, u64),
+    number: u64,
+) {
+    let (line, col) = place;
+    assert_eq!(rt; source.place(), Place { line, col });
+    assert_eq!(rt; source.byte_no(), number);
+    for _ in 0..2 {
+        assert_eq!(rt; source.peek(), Ok(byte));
+    }
+}
+
+fn take(rt: &impl Abort, source: &mut Bytes<'_>) {
+    match source.peek() {
+        Ok(Some(_)) => source.bump(),
+        Ok(None) | Err(ReadFailed) => panic!(rt; "no byte"),
+    }
+}
+
+const PLACES: [(u8, u64, u64); 6] = [
+    (b'a', 1, 1),
+    (b'\n', 1, 2),
+    (b'\r', 2, 1),
+    (b'\n', 2, 2),
+    (b'\n', 3, 1),
+    (b'b', 4, 1),
+];
+
+#[test]
+fn bytes(rt: HostRuntime) -> Result<(), Fail> {
+    for size in SIZES {
+        let mut source = open(rt.alloc(), b"a\n\r\n\nb", size, Cut::Ends)?;
+        let mut number = 1u64;
+        for (byte, line, col) in PLACES {
+            expect_byte(&rt, &mut source, Some(byte), (line, col), number);
+            take(&rt, &mut source);
+            number = number.saturating_add(1);
+        }
+        expect_byte(&rt, &mut source, None, (4, 2), 7);
+        let _ = source.release();
+    }
+    Ok(())
+}
+
+#[test]
+fn failed_read(rt: HostRuntime) -> Result<(), Fail> {
+    let mut source = open(rt.alloc(), b"a", 7, Cut::Fails)?;
+    expect_byte(&rt, &mut source, Some(b'a'), (1, 1), 1);
+    take(&rt, &mut source);
+    for _ in 0..2 {
+        assert_eq!(rt; source.peek(), Err(ReadFailed));
+    }
+    assert_eq!(rt; source.byte_no(), 2);
+    let _ = source.release();
+    Ok(())
+}
+
+const fn word(line: u64, col: u64, word: Word) -> Token {
+    Token::Word(Place { line, col }, word)
+}
+
+const fn number(is_negative: bool, size: u64) -> Word {
+    Word::Number(Number { is_negative, size })
+}
+
+fn expect_tokens(rt: &impl Abort, scanner: &mut Scanner<FromRead<Pieces<'_>>>, tokens: &[Token]) {
+    for token in tokens {
+        assert_eq!(rt; scanner.next(), Ok(*token));
+    }
+}
+
+#[test]
+fn tokens(rt: HostRuntime) -> Result<(), Fail> {
+    let text =
+        "p\tcnf 12 -7\nc a comment\n d s v -0\r0\nSATISFIABLE UNSATISFIABLE UNKNOWN\n18446744073709551615";
+    let tokens = [
+        word(1, 1, Word::P),
+        word(1, 3, Word::Cnf),
+        word(1, 7, number(false, 12)),
+        word(1, 10, number(true, 7)),
+        Token::LineEnd(Place { line: 1, col: 12 }),
+        word(3, 2, Word::D),
+        word(3, 4, Word::S),
+        word(3, 6, Word::V),
+        word(3, 8, Word::Other),
+        word(3, 11, number(false, 0)),
+        Token::LineEnd(Place { line: 3, col: 12 }),
+        word(4, 1, Word::Satisfiable),
+        word(4, 13, Word::Unsatisfiable),
+        word(4, 27, Word::Unknown),
+        Token::LineEnd(Place { line: 4, col: 34 }),
+        word(5, 1, number(false, u64::MAX)),
+        Token::End(Place { line: 5, col: 21 }),
+        Token::End(Place { line: 5, col: 21 }),
+    ];
+    for size in SIZES {
+        let mut scanner = Scanner::new(open(rt.alloc(), text.as_bytes(), size, Cut::Ends)?);
+        expect_tokens(&rt, &mut scanner, &tokens);
+        let _ = scanner.release();
+    }
+    Ok(())
+}
+
+// A token that a failed read follows isn't given.
+#[test]
+fn tokens_before_a_failed_read(rt: HostRuntime) -> Result<(), Fail> {
+    let mut scanner = Scanner::new(open(rt.alloc(), b"1 2", 7, Cut::Fails)?);
+    expect_tokens(&rt, &mut scanner, &[word(1, 1, number(false, 1))]);
+    for _ in 0..2 {
+        assert_eq!(rt; scanner.next(), Err(ReadFailed));
+    }
+    let _ = scanner.release();
+    Ok(())
+}
+
+#[test]
+fn lines(rt: HostRuntime) -> Result<(), Fail> {
+    let mut writer = Writer::byte_a_call(rt.alloc());
+    let mut lines = LineOut::new(ToWrite::new(&mut writer));
+    assert_eq!(rt; lines.line(b"one"), Ok(()));
+    assert_eq!(rt; lines.line(b""), Ok(()));
+    assert_eq!(rt; lines.line(b"three"), Ok(()));
+    assert_eq!(rt; lines.finish(), Ok(()));
+    let _ = lines.release();
+    let written = text(rt.alloc(), writer.taken.as_slice())?;
+    assert_eq!(rt; written.as_str(), "one\n\nthree\n");
+    Ok(())
+}
+
+// Nothing is written after a failure.
+#[test]
+fn failed_write(rt: HostRuntime) -> Result<(), Fail> {
+    let mut writer = Writer::new(rt.alloc(), 6, Stop::FailsOnce);
+    let mut lines = LineOut::new(ToWrite::new(&mut writer));
+    assert_eq!(rt; lines.line(b"one"), Ok(()));
+    assert_eq!(rt; lines.line(b"two"), Err(WriteFailed));
+    assert_eq!(rt; lines.line(b"three"), Err(WriteFailed));
+    assert_eq!(rt; lines.finish(), Err(WriteFailed));
+    let _ = lines.release();
+    let written = text(rt.alloc(), writer.taken.as_slice())?;
+    assert_eq!(rt; written.as_str(), "one\ntw");
+    Ok(())
+}

@@ -1,0 +1,125 @@
+//! Readers of steps, into one buffer.
+
+use crate::support::{Bytes, Cut, SIZES, open};
+use cnf_base::{Fault, Lit};
+use proofs::{DratBinary, DratText, LratText, StepBuf, StepKind, StepReader};
+use std::alloc::{AllocError, Global};
+use std::process::Abort;
+use std::test::Fail;
+
+// The forms of a proof.
+#[derive(Clone, Copy, Debug, PartialEq, Eq)]
+pub enum Form {
+    Lrat,
+    Drat,
+    Binary,
+}
+
+// What a step does, its identifier, its literals, and its hints or what it deletes.
+pub type Step<'a> = (StepKind, u64, &'a [i32], &'a [i64]);
+
+// Steps of DRAT.
+pub const fn add<'a>(lits: &'a [i32]) -> Step<'a> {
+    (StepKind::Add, 0, lits, &[])
+}
+
+pub const fn delete<'a>(lits: &'a [i32]) -> Step<'a> {
+    (StepKind::Delete, 0, lits, &[])
+}
+
+pub fn numbers(alloc: Global, lits: &[Lit]) -> Result<Vec<i32>, AllocError> {
+    let mut all = Vec::new(alloc);
+    for lit in lits {
+        all.push(lit.to_i32())?;
+    }
+    Ok(all)
+}
+
+fn expect_next<R: StepReader>(
+    rt: &impl Abort,
+    reader: &mut R,
+    step: &mut StepBuf,
+    next: Result<bool, Fault>,
+) {
+    assert_eq!(rt; reader.next(step), next);
+}
+
+fn expect_step(
+    rt: &impl Abort,
+    alloc: Global,
+    step: &StepBuf,
+    expected: &Step<'_>,
+) -> Result<(), Fail> {
+    let (kind, id, lits, hints) = *expected;
+    assert_eq!(rt; step.kind(), kind);
+    assert_eq!(rt; step.id(), id);
+    let found = numbers(alloc, step.lits())?;
+    assert_eq!(rt; found.as_slice(), lits);
+    assert_eq!(rt; step.hints(), hints);
+    Ok(())
+}
+
+// The steps, and what comes after them at each further call.
+fn expect_steps<R: StepReader>(
+    rt: &impl Abort,
+    alloc: Global,
+    reader: &mut R,
+    steps: &[Step<'_>],
+    last: Result<bool, Fault>,
+) -> Result<(), Fail> {
+    let mut step = StepBuf::new(alloc);
+    expect_step(rt, alloc, &step, &(StepKind::Add, 0, &[], &[]))?;
+    for expected in steps {
+        expect_next(rt, reader, &mut step, Ok(true));
+        expect_step(rt, alloc, &step, expected)?;
+    }
+    for _ in 0..3 {
+        expect_next(rt, reader, &mut step, last);
+    }
+    Ok(())
+}
+
+fn expect_form(
+    rt: &impl Abort,
+    alloc: Global,
+    form: Form,
+    source: Bytes<'_>,
+    steps: &[Step<'_>],
+    last: Result<bool, Fault>,
+) -> Result<(), Fail> {
+    match form {
+        Form::Lrat => {
+            let mut reader = LratText::new(source);
+            expect_steps(rt, alloc, &mut reader, steps, last)?;
+            let _ = reader.release();
+        }
+        Form::Drat => {
+            let mut reader = DratText::new(source);
+            expect_steps(rt, alloc, &mut reader, steps, last)?;
+            let _ = reader.release();
+        }
+        Form::Binary => {
+            let mut reader = DratBinary::new(source);
+            expect_steps(rt, alloc, &mut reader, steps, last)?;
+            let _ = reader.release();
+        }
+    }
+    Ok(())
+}
+
+// A proof in pieces of four sizes.
+pub fn expect_proof(
+    rt: &impl Abort,
+    alloc: Global,
+    form: Form,
+    proof: (&[u8], Cut),
+    steps: &[Step<'_>],
+    last: Result<bool, Fault>,
+) -> Result<(), Fail> {
+    let (bytes, cut) = proof;
+    for size in SIZES {
+        let source = open(alloc, bytes, size, cut)?;
+        expect_form(rt, alloc, form, source, steps, last)?;
+    }
+    Ok(())
+}

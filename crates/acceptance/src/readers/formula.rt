@@ -1,0 +1,176 @@
+//! The reader of formulas, clause by clause.
+
+use crate::readers::forms::numbers;
+use crate::support::{Cut, Pieces, SIZES, open};
+use cnf_base::{Fault, FromRead, OutOfMemory, Place, TextFault};
+use dimacs::{ClauseBuf, FormulaReader, Header};
+use std::alloc::Global;
+use std::process::Abort;
+use std::test::Fail;
+
+type Reader<'a> = FormulaReader<FromRead<Pieces<'a>>>;
+
+// A reader over pieces of this size, or the fault of the header.
+fn open_formula<'a>(
+    alloc: Global,
+    text: &'a str,
+    size: usize,
+    cut: Cut,
+) -> Result<Reader<'a>, Fault> {
+    match open(alloc, text.as_bytes(), size, cut) {
+        Ok(source) => match FormulaReader::open(source) {
+            Ok(reader) => Ok(reader),
+            Err((fault, _)) => Err(fault),
+        },
+        Err(OutOfMemory) => Err(Fault::OutOfMemory),
+    }
+}
+
+const fn at(kind: TextFault, line: u64, col: u64) -> Fault {
+    Fault::Text(kind, Place { line, col })
+}
+
+fn expect_next(
+    rt: &impl Abort,
+    reader: &mut Reader<'_>,
+    clause: &mut ClauseBuf,
+    next: Result<bool, Fault>,
+) {
+    assert_eq!(rt; reader.next(clause), next);
+}
+
+// The clauses, and what comes after them at each further call.
+fn expect_clauses(
+    rt: &impl Abort,
+    alloc: Global,
+    reader: &mut Reader<'_>,
+    clauses: &[&[i32]],
+    last: Result<bool, Fault>,
+) -> Result<(), Fail> {
+    let mut clause = ClauseBuf::new(alloc);
+    assert!(rt; clause.lits().is_empty());
+    for expected in clauses {
+        expect_next(rt, reader, &mut clause, Ok(true));
+        let found = numbers(alloc, clause.lits())?;
+        assert_eq!(rt; found.as_slice(), *expected);
+    }
+    for _ in 0..3 {
+        expect_next(rt, reader, &mut clause, last);
+    }
+    Ok(())
+}
+
+fn expect_header(rt: &impl Abort, reader: &Reader<'_>, header: Header) {
+    assert_eq!(rt; reader.header(), header);
+    assert_eq!(rt; reader.vars(), header.vars);
+    assert_eq!(rt; reader.clauses(), header.clauses);
+}
+
+fn expect_formula(
+    rt: &impl Abort,
+    alloc: Global,
+    text: &str,
+    cut: Cut,
+    header: Header,
+    clauses: &[&[i32]],
+    last: Result<bool, Fault>,
+) -> Result<(), Fail> {
+    for size in SIZES {
+        match open_formula(alloc, text, size, cut) {
+            Ok(reader) => {
+                let mut reader = reader;
+                expect_header(rt, &reader, header);
+                expect_clauses(rt, alloc, &mut reader, clauses, last)?;
+                let _ = reader.release();
+            }
+            Err(fault) => panic!(rt; "{fault:?}"),
+        }
+    }
+    Ok(())
+}
+
+#[test]
+fn whole(rt: HostRuntime) -> Result<(), Fail> {
+    let alloc = rt.alloc();
+    let text = "p cnf 2 4\n1 -2 0\n\nc x\n2\n1 0 0 2 2 -2 0";
+    let header = Header {
+        vars: 2,
+        clauses: 4,
+    };
+    let clauses = [
+        [1, -2].as_slice(),
+        [2, 1].as_slice(),
+        [].as_slice(),
+        [2, 2, -2].as_slice(),
+    ];
+    expect_formula(&rt, alloc, text, Cut::Ends, header, &clauses, Ok(false))?;
+    let header = Header {
+        vars: 3,
+        clauses: 0,
+    };
+    expect_formula(&rt, alloc, "p cnf 3 0", Cut::Ends, header, &[], Ok(false))
+}
+
+// A fault is given again at each call.
+#[test]
+fn faults(rt: HostRuntime) -> Result<(), Fail> {
+    let alloc = rt.alloc();
+    let header = Header {
+        vars: 2,
+        clauses: 3,
+    };
+    let clauses = [[1, 2].as_slice()];
+    for (text, cut, fault) in [
+        (
+            "p cnf 2 3\n1 2 0\n1 3 0\n2 0\n",
+            Cut::Ends,
+            at(TextFault::LiteralOutOfRange, 3, 3),
+        ),
+        (
+            "p cnf 2 3\n1 2 0\n? 2 0\n",
+            Cut::Ends,
+            at(TextFault::BadToken, 3, 1),
+        ),
+        (
+            "p cnf 2 3\n1 2 0\n",
+            Cut::Ends,
+            at(TextFault::TooFewClauses, 3, 1),
+        ),
+        (
+            "p cnf 2 3\n1 2 0\n2",
+            Cut::Ends,
+            at(TextFault::UnterminatedClause, 3, 2),
+        ),
+        ("p cnf 2 3\n1 2 0\n2", Cut::Fails, Fault::ReadFailed),
+    ] {
+        expect_formula(&rt, alloc, text, cut, header, &clauses, Err(fault))?;
+    }
+    Ok(())
+}
+
+fn expect_unopened(rt: &impl Abort, alloc: Global, text: &str, cut: Cut, fault: Fault) {
+    for size in SIZES {
+        match open_formula(alloc, text, size, cut) {
+            Ok(_) => panic!(rt; "{text:?} has a header"),
+            Err(found) => assert_eq!(rt; found, fault),
+        }
+    }
+}
+
+#[test]
+fn unopened(rt: HostRuntime) -> Result<(), Fail> {
+    let alloc = rt.alloc();
+    for (text, cut, fault) in [
+        ("", Cut::Ends, at(TextFault::BadHeader, 1, 1)),
+        ("", Cut::Fails, Fault::ReadFailed),
+        ("p cnf 2", Cut::Ends, at(TextFault::BadHeader, 1, 8)),
+        (
+            "p cnf 268435456 0",
+            Cut::Ends,
+            at(TextFault::NumberTooLarge, 1, 7),
+        ),
+    ] {
+        expect_unopened(&rt, alloc, text, cut, fault);
+    }
+    Ok(())
+}

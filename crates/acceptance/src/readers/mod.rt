@@ -1,0 +1,10 @@
+//! The calls that read, and the literals and lines that they and the tools are made of.
+
+mod bytes_and_lines;
+mod claims;
+mod drat_binary;
+mod drat_text;
+mod forms;
+mod formula;
+mod literals;
+mod lrat_text;

@@ -1,0 +1,39 @@
+//! Sessions of LRAT.
+
+use crate::sessions::common::{expect_empty_clause, expect_ended, expect_on_one_clause};
+use crate::support::{Cut, open};
+use proofs::LratText;
+use std::test::Fail;
+use steps::{Accepted, LratSession, Refusal};
+
+#[test]
+fn empty_clause(rt: HostRuntime) -> Result<(), Fail> {
+    let alloc = rt.alloc();
+    let mut session = LratSession::new(alloc)?;
+    let mut reader = LratText::new(open(alloc, b"3 0 1 2 0\n4 d 1 0\n", 7, Cut::Ends)?);
+    expect_empty_clause(&rt, alloc, &mut session, &mut reader)
+}
+
+#[test]
+fn every_answer(rt: HostRuntime) -> Result<(), Fail> {
+    let alloc = rt.alloc();
+    let mut session = LratSession::new(alloc)?;
+    let proof = b"2 3 -1 0 0\n3 d 1 0\n3 4 -4 1 0 0\n3 5 0 0\n4 5 0 0\n";
+    let mut reader = LratText::new(open(alloc, proof, 7, Cut::Ends)?);
+    let answers = [
+        (Ok(Accepted::Rat), 4, false),
+        (Ok(Accepted::Deleted), 4, false),
+        (Ok(Accepted::Rup), 5, false),
+        (Err(Refusal::IdOutOfOrder), 5, false),
+        (Err(Refusal::Ended), 5, false),
+    ];
+    expect_on_one_clause(&rt, alloc, &mut session, &mut reader, &answers)
+}
+
+#[test]
+fn ended(rt: HostRuntime) -> Result<(), Fail> {
+    let alloc = rt.alloc();
+    let mut session = LratSession::new(alloc)?;
+    expect_ended(&rt, alloc, &mut session);
+    Ok(())
+}

@@ -1,0 +1,5 @@
+//! Sessions, call by call.
+
+mod common;
+mod drat;
+mod lrat;

@@ -1,0 +1,101 @@
+//! Rows are run, and what comes out is compared.
+
+use crate::support::engines::Engine;
+use crate::support::readers::{Pieces, SIZES};
+use crate::support::rows::{Row, Tool};
+use crate::support::search::has_model;
+use crate::support::writers::{Stop, Writer};
+use std::alloc::{AllocError, Global};
+use std::process::Abort;
+use std::test::Fail;
+
+// The text of the bytes, each of them as one character.
+pub fn text(alloc: Global, bytes: &[u8]) -> Result<String, AllocError> {
+    let mut all = String::new(alloc);
+    for byte in bytes {
+        all.push(char::from(*byte))?;
+    }
+    Ok(all)
+}
+
+// The lines, each with its line feed.
+pub fn joined(alloc: Global, lines: &[&str]) -> Result<String, AllocError> {
+    let mut all = String::new(alloc);
+    for line in lines {
+        all.push_str(line)?;
+        all.push('\n')?;
+    }
+    Ok(all)
+}
+
+// Runs over inputs in pieces of this size, and compares what is written and the status.
+// How often the second input was asked is handed back.
+pub fn expect_run(
+    rt: &impl Abort,
+    alloc: Global,
+    engine: Engine,
+    row: &Row<'_>,
+    size: usize,
+) -> Result<usize, AllocError> {
+    let mut formula = Pieces::new(row.formula, size, row.formula_cut);
+    let mut second = Pieces::of_bytes(row.second, size, row.second_cut);
+    let writer = Writer::new(alloc, usize::MAX, Stop::TakesNone);
+    let (code, written) = engine.run(alloc, &mut formula, &mut second, writer);
+    let written = text(alloc, written.as_slice())?;
+    let expected = joined(alloc, row.lines)?;
+    let name = row.name;
+    assert_eq!(rt;
+        written.as_str(),
+        expected.as_str(),
+        "{name:?} by {engine:?} in pieces of {size}"
+    );
+    assert_eq!(rt;
+        code,
+        row.status,
+        "{name:?} by {engine:?} in pieces of {size}"
+    );
+    Ok(second.reads)
+}
+
+// Runs each engine of the row over inputs in pieces of this size.
+pub fn expect_in_pieces(
+    rt: &impl Abort,
+    alloc: Global,
+    row: &Row<'_>,
+    size: usize,
+) -> Result<(), AllocError> {
+    let engines = row.tool.engines(alloc)?;
+    for engine in engines.as_slice() {
+        expect_run(rt, alloc, *engine, row, size)?;
+    }
+    Ok(())
+}
+
+// A formula of which a proof was verified has no model, and one of which a model was verified has one.
+fn expect_no_contradiction(rt: &impl Abort, alloc: Global, row: &Row<'_>) -> Result<(), Fail> {
+    if row.status == 0 {
+        let name = row.name;
+        let claimed = row.tool == Tool::Model;
+        assert_eq!(rt;
+            has_model(rt, alloc, row.formula)?,
+            claimed,
+            "{name:?}: whether there is a model"
+        );
+    }
+    Ok(())
+}
+
+// Runs over inputs in pieces of four sizes.
+pub fn expect(rt: &impl Abort, alloc: Global, row: &Row<'_>) -> Result<(), Fail> {
+    for size in SIZES {
+        expect_in_pieces(rt, alloc, row, size)?;
+    }
+    expect_no_contradiction(rt, alloc, row)
+}
+
+pub fn expect_all(rt: &impl Abort, alloc: Global, rows: &[Row<'_>]) -> Result<(), Fail> {
+    for row in rows {
+        expect(rt, alloc, row)?;
+    }
+    Ok(())
+}

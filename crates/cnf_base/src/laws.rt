@@ -1,0 +1,13 @@
+//! Laws of the definitions. The functions do nothing: their contracts are the theorems.
+
+ghost use Rattle.cnf_base.specs.Seen.{SeenMayBeGiven, SeenIsSome};
+
+/// What a run saw of a reader is what the reader might give.
+pub fn seen_may_be_given()
+    ensures { SeenMayBeGiven }
+{}
+
+/// Whatever a run saw, some input is that.
+pub fn seen_is_some()
+    ensures { SeenIsSome }
+{}

@@ -1,0 +1,170 @@
+-- A model that was printed, as it is read.
+use Rattle.std.proofs.Common.{◌≡◌, ℕ, ◌<◌, ◌==◌, ◌||◌, cond, Bool, true, false, List, [], ◌∷◌, ◌++◌, reverse, map, Result, Ok, Err, refl, sym, ap, ◌∙◌, append_assoc, arith}
+use Rattle.std.specs.Prelude.{codes}
+use Rattle.std.specs.List.{concat, flat_map, list_all}
+use Rattle.std.proofs.lemmas.List.{append-nil, reverse-append}
+use Rattle.std.proofs.lemmas.List.Folds.{list_all-append}
+use Rattle.cnf_base.specs.Literals.{Literal, complement, has}
+use Rattle.cnf_base.specs.Printing.{input_of, is_literal, literal_text, literal_words}
+use Rattle.cnf_base.specs.Text.{col_along, line_after, Listing, listing_at}
+use Rattle.cnf_base.specs.Words.{number, word_of}
+use Rattle.cnf_base.specs.declared.fault.Fault.{Fault}
+use Rattle.cnf_base.specs.declared.fault.TextFault.TheVariants.{Complement, LiteralTooLarge}
+use Rattle.cnf_base.specs.declared.input.Ending.TheVariants.{End}
+use Rattle.cnf_base.specs.declared.place.Place.{Place}
+use Rattle.cnf_base.specs.declared.word.Word.{Word}
+use Rattle.cnf_base.specs.declared.word.Word.TheVariants as words
+use Rattle.cnf_base.specs.declared.token.Token.TheVariants as token
+use Rattle.cnf_base.proofs.LineLemmas.{append_nil}
+use Rattle.cnf_base.proofs.SetLemmas.{has_head, has_tail, has_append_left, has_append_right}
+use Rattle.cnf_base.proofs.TextLemmas.{listing_at-end}
+use Rattle.cnf_base.proofs.PrintLemmas.{line_from, along_from_one, past, past_from_one, Begins, next_word, next_line, first_word, both, fixed_plain, zero_plain, literal_word, literal_plain, literal_taken}
+use Rattle.dimacs.specs.declared.position.Position.TheVariants.{LineStart, Values}
+use Rattle.dimacs.specs.Claim.{Said, nothing, on_value, on_literal, claim_after, claim_of, IsConsistent}
+use Rattle.dimacs.specs.Printing.{value_line, literals_line, model_text, IsModel}
+
+-- what was said in a `v` line, and before one
+abbrev said_in_line : List Literal → Said
+said_in_line ls = record { position = Values; has_status = true; is_ended = false; listed = ls }
+
+abbrev said_before_line : List Literal → Said
+said_before_line ls = record { position = LineStart; has_status = true; is_ended = false; listed = ls }
+
+-- these literals are among those
+abbrev AreAmong : List Literal → List Literal → Type 0
+AreAmong ls whole = (l : Literal) → has ls l ≡ true → has whole l ≡ true
+
+-- ---- Tokens
+
+-- a literal's word
+literal_said : (acc : List Literal) (l : Literal) → is_literal 268435455 l ≡ true → has acc (complement l) ≡ false
+    → on_value (said_in_line acc) (word_of (literal_text l)) ≡ Ok (said_in_line (l ∷ acc))
+literal_said acc l is free =
+    ap (on_value (said_in_line acc)) (literal_word 268435455 l (omega arith) is)
+    ∙ literal_taken 268435455 l (omega arith) is (on_literal (said_in_line acc)) (Err LiteralTooLarge)
+    ∙ ap (λ v. cond v (Err Complement) (Ok (said_in_line (l ∷ acc)))) free
+
+-- a word in a `v` line
+takes_value : {l m : Listing} {p : Place} {w : Word} {n : ℕ} (acc : List Literal) (x : Literal)
+    → Begins l (token.Word p w) n m → on_value (said_in_line acc) w ≡ Ok (said_in_line (x ∷ acc))
+    → claim_after (said_in_line acc) l ≡ claim_after (said_in_line (x ∷ acc)) m
+takes_value acc x b e = rw (b.is, e) refl
+
+-- the end of a `v` line, and the `v` of one
+takes_line_end : {l m : Listing} {p : Place} {n : ℕ} (acc : List Literal) → Begins l (token.LineEnd p) n m
+    → claim_after (said_in_line acc) l ≡ claim_after (said_before_line acc) m
+takes_line_end acc b = rw b.is refl
+
+takes_v : {l m : Listing} {p : Place} {n : ℕ} (acc : List Literal) → Begins l (token.Word p words.V) n m
+    → claim_after (said_before_line acc) l ≡ claim_after (said_in_line acc) m
+takes_v acc b = rw b.is refl
+
+-- the status line
+takes_status : {l0 l1 l2 l3 : Listing} {p0 p1 p2 : Place} {n0 n1 n2 : ℕ}
+    → Begins l0 (token.Word p0 words.S) n0 l1 → Begins l1 (token.Word p1 words.Satisfiable) n1 l2
+    → Begins l2 (token.LineEnd p2) n2 l3
+    → claim_after nothing l0 ≡ claim_after (said_before_line []) l3
+takes_status b0 b1 b2 = rw (b0.is, b1.is, b2.is) refl
+
+-- the `0`, the line's end, and the output's
+takes_end : {l m o : Listing} {p q r : Place} {n f : ℕ} (acc : List Literal)
+    → Begins l (token.Word p (words.Number (number false 0))) n m → Begins m (token.LineEnd q) f o
+    → o ≡ record { tokens = []; end = r; ending = End }
+    → claim_after (said_in_line acc) l ≡ Ok acc
+takes_end acc b c e = rw (b.is, c.is, e) refl
+
+-- ---- Lines
+
+module _ (whole : List Literal) (consistent : IsConsistent whole) where
+  -- the first of these literals doesn't contradict others of the list
+  no_complement : (acc ls : List Literal) (l : Literal) → AreAmong acc whole → AreAmong (l ∷ ls) whole
+      → has acc (complement l) ≡ false
+  no_complement acc ls l before after =
+      by (has acc (complement l)) refl (before (complement l)) (consistent l (after l (has_head l ls)))
+    where
+      by : (v : Bool) → has acc (complement l) ≡ v → (has acc (complement l) ≡ true → has whole (complement l) ≡ true)
+          → has whole (complement l) ≡ false → has acc (complement l) ≡ false
+      by true e bad none = absurd (let clash : true ≡ false = sym (bad e) ∙ none in cc)
+      by false e bad none = e
+
+  -- one more literal
+  among_more : (acc ls : List Literal) (l : Literal) → AreAmong acc whole → AreAmong (l ∷ ls) whole
+      → AreAmong (l ∷ acc) whole
+  among_more acc ls l before after k h = by (l == k) refl (before k) (after k)
+    where
+      by : (v : Bool) → (l == k) ≡ v → (has acc k ≡ true → has whole k ≡ true)
+          → (has (l ∷ ls) k ≡ true → has whole k ≡ true) → has whole k ≡ true
+      by true e b a = a (ap (λ v. v || has ls k) e)
+      by false e b a = b (sym (ap (λ v. v || has acc k) e) ∙ h)
+
+  -- literals of a line, after those that were listed, and what follows them
+  values_read : (ls acc : List Literal) (ws : List (List ℕ)) (rest : List ℕ) (result : Result (List Literal) Fault)
+      (p : Place) → 0 < p.col
+      → list_all (is_literal 268435455) ls ≡ true → AreAmong acc whole → AreAmong ls whole
+      → ((now : List Literal) → now ≡ reverse ls ++ acc → AreAmong now whole → (q : Place) → 0 < q.col
+      → claim_after (said_in_line now) (line_from q ws rest) ≡ result)
+      → claim_after (said_in_line acc) (line_from p (map literal_text ls ++ ws) rest) ≡ result
+  values_read [] acc ws rest result p from_one are before after later = later acc refl before p from_one
+  values_read (l ∷ ls) acc ws rest result p from_one are before after later =
+      let r = both (is_literal 268435455 l) (list_all (is_literal 268435455) ls) are in
+      takes_value acc l (next_word p (literal_text l) (map literal_text ls ++ ws) rest from_one
+      (literal_plain 268435455 l (omega arith) r.0))
+      (literal_said acc l r.0 (no_complement acc ls l before after))
+      ∙ values_read ls (l ∷ acc) ws rest result (past p (literal_text l)) (past_from_one p (literal_text l)) r.1
+      (among_more acc ls l before after) (λ k h. after k (has_tail l ls k h))
+      (λ now is. later now
+      (is ∙ sym (ap (λ t. t ++ acc) (reverse-append (l ∷ []) ls) ∙ append_assoc (reverse ls) (l ∷ []) acc)))
+
+  -- lines of values
+  lines_read : (lines : List (List Literal)) (last acc : List Literal) (p : Place) → 0 < p.col
+      → list_all (is_literal 268435455) (concat lines ++ last) ≡ true → AreAmong acc whole
+      → AreAmong (concat lines ++ last) whole
+      → claim_after (said_before_line acc)
+      (listing_at p (input_of (flat_map literals_line lines ++ value_line (literal_words last))))
+      ≡ Ok (reverse (concat lines ++ last) ++ acc)
+  lines_read [] last acc p from_one are before after =
+      ap (λ t. claim_after (said_before_line acc) (listing_at p (input_of t)))
+      (sym (append_nil (value_line (literal_words last))))
+      ∙ takes_v acc (first_word p (codes "v") (literal_words last) [] refl (fixed_plain 118 [] refl))
+      ∙ values_read last acc (codes "0" ∷ []) [] (Ok (reverse last ++ acc)) (col_along p (codes "v"))
+      (along_from_one p (codes "v") from_one) are before after
+      (λ now is among q q_from_one.
+      takes_end now (next_word q (codes "0") [] [] q_from_one zero_plain) (next_line (past q (codes "0")) [])
+      (listing_at-end (line_after (past q (codes "0"))) End) ∙ ap Ok is)
+  lines_read (ls ∷ lines) last acc p from_one are before after =
+      let later : List ℕ = flat_map literals_line lines ++ value_line (literal_words last) in
+      let rest : List Literal = concat lines ++ last in
+      let split : (ls ++ concat lines) ++ last ≡ ls ++ rest = append_assoc ls (concat lines) last in
+      let all = both (list_all (is_literal 268435455) ls) (list_all (is_literal 268435455) rest)
+      (sym (list_all-append (is_literal 268435455) ls rest)
+      ∙ ap (list_all (is_literal 268435455)) (sym split) ∙ are) in
+      let among : AreAmong (ls ++ rest) whole = λ k h. after k (ap (λ t. has t k) split ∙ h) in
+      ap (λ t. claim_after (said_before_line acc) (listing_at p (input_of t)))
+      (append_assoc (literals_line ls) (flat_map literals_line lines) (value_line (literal_words last)))
+      ∙ takes_v acc (first_word p (codes "v") (map literal_text ls) later refl (fixed_plain 118 [] refl))
+      ∙ ap (λ ws. claim_after (said_in_line acc) (line_from (col_along p (codes "v")) ws later))
+      (sym (append-nil (map literal_text ls)))
+      ∙ values_read ls acc [] later (Ok (reverse ((ls ++ concat lines) ++ last) ++ acc)) (col_along p (codes "v"))
+      (along_from_one p (codes "v") from_one) all.0
+      before (λ k h. among k (has_append_left ls rest k h))
+      (λ now is now_among q q_from_one. takes_line_end now (next_line q later)
+      ∙ lines_read lines last now (line_after q) (omega arith) all.1 now_among
+      (λ k h. among k (has_append_right ls rest k h))
+      ∙ ap Ok (ap (λ t. reverse rest ++ t) is ∙ sym (append_assoc (reverse rest) (reverse ls) acc)
+      ∙ ap (λ t. t ++ acc) (sym (reverse-append ls rest) ∙ ap reverse (sym split))))
+
+-- a printed model is read back
+pub model_read : (lines : List (List Literal)) (last : List Literal) → IsModel (concat lines ++ last)
+    → claim_of (input_of (model_text lines last)) ≡ Ok (reverse (concat lines ++ last))
+model_read lines last m =
+    let p : Place = record { line = 1; col = 1 } in
+    let q : Place = past (col_along p (codes "s")) (codes "SATISFIABLE") in
+    let values : List ℕ = flat_map literals_line lines ++ value_line (literal_words last) in
+    takes_status
+    (first_word p (codes "s") (codes "SATISFIABLE" ∷ []) values refl (fixed_plain 115 [] refl))
+    (next_word (col_along p (codes "s")) (codes "SATISFIABLE") [] values (omega arith)
+    (fixed_plain 83 (codes "ATISFIABLE") refl))
+    (next_line q values)
+    ∙ lines_read (concat lines ++ last) m.consistent lines last [] (line_after q) (omega arith) m.literals
+    (λ k h. absurd (let bad : false ≡ true = h in cc)) (λ k h. h)
+    ∙ ap Ok (append_nil (reverse (concat lines ++ last)))

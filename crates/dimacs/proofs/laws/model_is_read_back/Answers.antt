@@ -1,0 +1,5 @@
+use Rattle.dimacs.proofs.ModelPrinting.{model_read}
+use Rattle.dimacs.proofs.laws.model_is_read_back.Goals as goal
+
+pub returns : goal.returns
+returns c = model_read

@@ -1,0 +1,5 @@
+use Rattle.proofs.proofs.BinaryPrinting.{binary_read}
+use Rattle.proofs.proofs.laws.binary_is_read_back.Goals as goal
+
+pub returns : goal.returns
+returns c = binary_read

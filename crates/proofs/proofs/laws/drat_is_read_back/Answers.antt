@@ -1,0 +1,5 @@
+use Rattle.proofs.proofs.DratPrinting.{drat_read}
+use Rattle.proofs.proofs.laws.drat_is_read_back.Goals as goal
+
+pub returns : goal.returns
+returns c = drat_read

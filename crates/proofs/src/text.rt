@@ -1,0 +1,146 @@
+//! The steps of a proof as text, in whatever format.
+
+ghost use Rattle.std.specs.Prelude.{◌≡◌, ◌≢◌, Bool, None, IsTrue};
+ghost use Rattle.cnf_base.specs.Stream.{Along};
+ghost use Rattle.cnf_base.specs.Text.{listing_at};
+ghost use Rattle.cnf_base.specs.Readers.{Advances, TellsOf};
+ghost use Rattle.cnf_base.specs.declared.input.Ending.TheVariants.{End};
+ghost use Rattle.proofs.specs.Reading.{GivesStep};
+ghost use Rattle.proofs.specs.Steps.{Step, named};
+ghost use Rattle.proofs.specs.TextSteps.{Format, left_to, steps_listed, at_end};
+ghost use Rattle.proofs.specs.TextMoves.{left_of, EndsSo, FitsMoved, Moves};
+
+use crate::moved::Moved;
+use crate::stopped::Stopped;
+use crate::{StepBuf, StepReader};
+use cnf_base::{Fault, In, Place, ReadFailed, Scanner, Source, TextFault, Token, Word};
+use std::marker::{Model, PhantomData};
+
+/// Where a word of a step stands, in a format that is text. A format says what a word does in each part.
+pub trait Part: Copy {
+    /// The format whose parts these are.
+    ghost format: { Format Self };
+
+    /// Whether a part can follow what was read of a step so far.
+    ghost fits: { Self → Step → Bool };
+
+    /// Where a step's first word stands.
+    fn start() -> Self
+        ensures start { result ≡ format.start }
+        ensures fits { IsTrue (fits result (named 0)) };
+
+    /// Whether no word of the step was read.
+    fn is_start(self) -> bool
+        ensures { result ≡ format.is_start self };
+
+    /// Puts a word into the step.
+    fn move_on(self, step: &mut StepBuf, word: Word) -> Result<Moved<Self>, Stopped>
+        requires { IsTrue (fits self step.old) }
+        ensures moves { Moves result (format.move_of self step.old word) step.new }
+        ensures fits { FitsMoved fits result step.new };
+}
+
+/// A proof as text, over any number of lines, in the format whose parts these are. It holds no more than the words of one
+/// step, in the buffer that the caller lends.
+#[derive(Drop)]
+pub struct Text<R: In, P: Part> {
+    scanner: Scanner<R>,
+    kept: Option<Result<bool, Fault>>,
+    parts: PhantomData<P>,
+}
+
+impl<R: In, P: Part> Model for Text<R, P> {
+    ghost use Rattle.std.specs.Prelude.{◌≡◌, Some, Ok, Err, true};
+    ghost use Rattle.cnf_base.specs.declared.fault.Fault.TheVariants.{ReadFailed};
+    ghost use Rattle.proofs.specs.Reading.{Reading};
+
+    ghost Value = { Reading };
+
+    ghost view = { λ r. record { stream = r.scanner; kept = r.kept } };
+
+    ghost invariant = { λ r. (r.kept ≡ Some (Ok true) → ⊥)
+        × (r.kept ≡ Some (Err ReadFailed) → r.scanner.reader.has_failed ≡ true) };
+}
+
+impl<R: In, P: Part> Text<R, P> {
+    /// A reader that stands where the source does. It reads nothing and takes no memory.
+    pub fn new(source: Source<R>) -> Self
+        ensures { result ≡ record { stream = source; kept = None } }
+    {
+        Text {
+            scanner: Scanner::new(source),
+            kept: None,
+            parts: PhantomData,
+        }
+    }
+
+    /// Gives the reader back.
+    pub fn release(self) -> R
+        ensures reader { R.shown result ≡ self.stream.reader }
+        ensures same_reader { R.borrows result ≡ self.stream.borrows }
+    {
+        self.scanner.release()
+    }
+}
+
+impl<R: In, P: Part> StepReader for Text<R, P> {
+    ghost stream = { λ r. r.stream };
+
+    ghost kept = { λ r. r.kept };
+
+    ghost to_come = { left_to P.format };
+
+    fn next(&mut self, step: &mut StepBuf) -> Result<bool, Fault> {
+        if let Some(answer) = self.kept {
+            return answer;
+        }
+        let result = read_step(P::start(), &mut self.scanner, step);
+        match result {
+            Ok(true) => {}
+            Ok(false) | Err(_) => self.kept = Some(result),
+        }
+        result
+    }
+}
+
+// The step that begins with the next word. `start` is where that stands.
+fn read_step<R: In, P: Part>(
+    start: P,
+    scanner: &mut Scanner<R>,
+    step: &mut StepBuf,
+) -> Result<bool, Fault>
+    requires start { start ≡ P.format.start }
+    requires fits { IsTrue (P.fits start (named 0)) }
+    ensures step { Along scanner.old scanner.new (λ i j. GivesStep result step.new
+        (steps_listed P.format (listing_at scanner.old.place i))
+        (left_of P.format result (listing_at scanner.new.place j)) j) }
+    ensures fewer { Advances result scanner.old scanner.new }
+    ensures tells { TellsOf result scanner.old.reader.has_failed scanner.new.reader.has_failed }
+{
+    step.name(0);
+    let mut part = start;
+    loop {
+        match scanner.next() {
+            Ok(Token::Word(place, word)) => match part.move_on(step, word) {
+                Ok(Moved::To(next)) => part = next,
+                Ok(Moved::Complete) => return Ok(true),
+                Err(Stopped::Text(kind)) => return Err(Fault::Text(kind, place)),
+                Err(Stopped::OutOfMemory) => return Err(Fault::OutOfMemory),
+            },
+            Ok(Token::LineEnd(_)) => {}
+            Ok(Token::End(place)) => return at_end(part, place),
+            Err(ReadFailed) => return Err(Fault::ReadFailed),
+        }
+    }
+}
+
+// What the end of the input means.
+fn at_end<P: Part>(part: P, place: Place) -> Result<bool, Fault>
+    ensures value { EndsSo result (at_end P.format part place End) }
+    ensures read { result ≢ Err Fault.ReadFailed }
+{
+    if part.is_start() {
+        return Ok(false);
+    }
+    Err(Fault::Text(TextFault::UnterminatedStep, place))
+}

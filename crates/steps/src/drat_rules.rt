@@ -1,0 +1,8 @@
+//! What the rule of DRAT leaves open.
+
+/// Which rules a DRAT proof is checked by, where tools differ.
+#[derive(Clone, Copy, Debug, PartialEq, Eq)]
+pub struct DratRules {
+    /// Whether a deletion of a clause that is not alive is refused, and not ignored.
+    pub strict: bool,
+}
