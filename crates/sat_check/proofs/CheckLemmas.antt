@@ -11,15 +11,16 @@ use Rattle.cnf_base.proofs.StreamLemmas.{Along-then, Along-map, Along-none}
 use Rattle.cnf_base.proofs.SeenLemmas.{Seen-nothing, Seen-run, Seen-fact}
 use Rattle.proofs.specs.Steps.{Step}
 use Rattle.proofs.specs.Reading.{Reading, Proof, faulty, with_step, GivesStep}
-use Rattle.steps.specs.Rules.{Rule, View, after, sum_of, is_over}
+use Rattle.steps.specs.ProofSession.{View, is_over}
+use Rattle.steps.specs.Rules.{Rule, after, sum_of, IsFinite}
 use Rattle.sat_check.specs.Report.{Report, Outcome, Reports, text_of, with_lines, end_report}
-use Rattle.sat_check.specs.Checking.{Standing, Rest, Bounded, GoesOn, Stops, counted, traced}
+use Rattle.sat_check.specs.Checking.{Standing, Rest, GoesOn, Stops, counted, traced}
 use Rattle.sat_check.proofs.ShownLemmas.{traced_same}
 use Rattle.sat_check.specs.declared.status.Status.{Status}
 use Rattle.sat_check.proofs.OutcomeLemmas.{Outcome-after, Writes-all, Writes-still, text_of-append}
 use Rattle.sat_check.proofs.ReportLemmas.{some_report}
 use Rattle.sat_check.proofs.RestLemmas.{Rest-clean, Rest-fault, Rest-some, Rest-step}
-use Rattle.sat_check.proofs.VerdictLemmas.{after_bounded, same_bounded}
+use Rattle.steps.proofs.Existence.{after_finite, same_finite}
 
 -- from one moment to another these lines were written, and the rest of the report is still to come
 pub record Checking (trace : Bool) (start now : Standing) (first session : View) (accepted : ℕ) (was lines : Sink) : Type 0 where
@@ -31,12 +32,12 @@ pub record Checking (trace : Bool) (start now : Standing) (first session : View)
   pub wrote : Writes was lines (text_of written)
   pub whole : lines.is_broken ≡ false
   pub sound : is_over session ≡ false
-  pub bounded : Bounded session.state
+  pub finite : IsFinite session.state
   pub least : sum_of session.state ≤ session.peak
 
 pub Checking-start : (trace : Bool) (start : Standing) (first : View) (was : Sink) → was.is_broken ≡ false → is_over first ≡ false
-    → Bounded first.state → sum_of first.state ≤ first.peak → Checking trace start start first first 0 was was
-Checking-start trace start first was whole sound bounded least = record {
+    → IsFinite first.state → sum_of first.state ≤ first.peak → Checking trace start start first first 0 was was
+Checking-start trace start first was whole sound finite least = record {
   count = 0;
   counts = refl;
   written = [];
@@ -45,7 +46,7 @@ Checking-start trace start first was whole sound bounded least = record {
   wrote = Writes-still was;
   whole = whole;
   sound = sound;
-  bounded = bounded;
+  finite = finite;
   least = least;
 }
 
@@ -72,7 +73,7 @@ module _ (trace : Bool) (start now new : Standing) (first session : View) (accep
           subst P (sym (text_of-append so_far.written (traced trace number goes.word))) (Writes-then _ _ _ _ _ so_far.wrote goes.wrote);
       whole = goes.whole;
       sound = goes.sound;
-      bounded = same_bounded t.state (after session.state step) goes.state (after_bounded session.state step so_far.bounded);
+      finite = same_finite t.state (after session.state step goes.word) goes.state (after_finite session.state step goes.word so_far.finite);
       least = omega (arith, goes.peak);
     }
       where
@@ -88,7 +89,7 @@ module _ (trace : Bool) (start now new : Standing) (first session : View) (accep
     pub Checking-stop : (status : Status) (last : Sink) → Stops trace number session step lines last status
         → Along start.stream new.stream (λ i j. (r : Report) × Rest trace first.state 0 first.peak (start.to_come i) r × Outcome status was.held last.held r)
     Checking-stop status last stops = Along-then _ _ _ _ _ _ so_far.run gives (λ i j k m p q.
-        let s = stops so_far.count (length k.bytes) (new.to_come k) counts so_far.least so_far.bounded in
+        let s = stops so_far.count (length k.bytes) (new.to_come k) counts so_far.least so_far.finite in
         let Q : Proof → Type 0 = λ x. Rest trace session.state so_far.count session.peak x s.0 in (
           with_lines so_far.written s.0,
           p s.0 (subst Q (sym q) s.1),
@@ -128,7 +129,7 @@ module _ (trace : Bool) (start now new : Standing) (first session : View) (accep
       by (Binary k x) gives refused other = Along-then _ _ _ _ _ _ so_far.run gives (λ i j n m p q. met (Binary k x) i j p q.1 (other (λ e. cc)))
       by ReadFailed gives refused other = Along-then _ _ _ _ _ _ so_far.run gives (λ i j n m p q. met ReadFailed i j p q.1 (other (λ e. cc)))
       by OutOfMemory gives refused other = Along-then _ _ _ _ _ _ so_far.run gives (λ i j n m p q.
-          let some = Rest-some trace session.state so_far.count session.peak so_far.bounded (now.to_come j) in
+          let some = Rest-some trace session.state so_far.count session.peak so_far.finite (now.to_come j) in
           ended status last i j some.0 p some.1 (refused refl some.0))
 
 -- what a call gave, by its answer's pattern

@@ -2,7 +2,6 @@ pub mod OutcomeLemmas
 pub mod ReadLemmas
 pub mod LoadLemmas
 pub mod JudgeLemmas
-pub mod VerdictLemmas
 pub mod RestLemmas
 pub mod ShownLemmas
 pub mod StepLemmas

@@ -1,5 +1,5 @@
 -- Clauses go into a session one by one.
-use Rattle.std.proofs.Common.{◌≡◌, ℕ, suc, ◌+◌, ◌<◌, ◌≤◌, max, min, ◌-◌, Bool, true, false, ◌||◌, List, [], ◌∷◌, ◌++◌, length, Option, None, Some, refl, sym, ap, ◌∙◌, subst, arith, slice_get, cond}
+use Rattle.std.proofs.Common.{◌≡◌, ℕ, ◌+◌, ◌≤◌, max, ◌-◌, Bool, true, false, ◌||◌, List, [], ◌∷◌, ◌++◌, length, Option, None, Some, refl, sym, ap, ◌∙◌, subst, arith, cond}
 use Rattle.std.specs.Prelude.{Result, Ok, Err}
 use Rattle.std.specs.List.{list_any}
 use Rattle.std.specs.Ordering.{nat_cmp}
@@ -16,12 +16,14 @@ use Rattle.cnf_base.proofs.StreamLemmas.{Along-then, Along-map}
 use Rattle.dimacs.specs.Formula.{Body, Formula, formula_at, formula_of}
 use Rattle.dimacs.specs.declared.header.Header.{Header}
 use Rattle.dimacs.specs.Reading.{Reading, to_come, GivesClause, opened, unopened}
-use Rattle.steps.specs.DratSessions.{DratState, fresh_drat, clauses_of}
-use Rattle.steps.specs.Session.{Session, fresh, state_of}
-use Rattle.steps.specs.Rules.{Rule, lrat, drat, State, by_ids, by_copies, View, start, with_input, sum_of, Same}
-use Rattle.steps.specs.Lrat.{with_clause}
+use Rattle.steps.specs.DratSession.{DratState, fresh_drat, clauses_of}
+use Rattle.steps.specs.LratSession.{Session, fresh, state_of}
+use Rattle.steps.specs.Rules.{Rule, lrat, drat, State, by_ids, by_copies, start, with_input, sum_of, Same}
+use Rattle.steps.specs.Lrat.{with_clause, numbered, lrat_start}
+use Rattle.steps.proofs.Existence.{numbered_above}
 use Rattle.steps.specs.Sizes.{total, size, size_at, sum_to}
-use Rattle.steps.specs.Verdicts.{is_empty, numbered, lrat_start}
+use Rattle.steps.specs.ProofSession.{View}
+use Rattle.steps.specs.Verdicts.{is_empty}
 use Rattle.steps.proofs.Copies.{copies-cons, none_alive}
 use Rattle.cnf_base.proofs.SetLemmas.{same_itself}
 use Rattle.steps.proofs.DratSteps.{none_listed}
@@ -35,15 +37,6 @@ use Rattle.sat_check.proofs.ReadLemmas.{length_push, seen_nothing, seen_run, Rea
 use Rattle.steps.specs.declared.drat_rules.DratRules.{DratRules}
 
 -- no clause has a number past the last
-pub numbered_above : (cs : List Clause) (k : ℕ) → length cs < k → numbered cs k ≡ None
-numbered_above cs (suc k) h = past cs k (omega arith)
-  where
-    past : (cs : List Clause) (k : ℕ) → length cs ≤ k → slice_get cs k ≡ None
-    past [] k h = refl
-    past (c ∷ cs) (suc k) h = past cs k (omega arith)
-    past (c ∷ cs) Prim.Native.Nat.zero h = absurd (omega arith)
-numbered_above cs Prim.Native.Nat.zero h = refl
-
 -- one clause more, and its size more
 total_push : (cs : List Clause) (c : Clause) → total (lrat_start (cs ++ c ∷ [])) ≡ total (lrat_start cs) + size c
 total_push cs c =
@@ -108,9 +101,9 @@ loaded_more rule old new cs c l state verified peak unstepped sound room = recor
         (same_trans _ (with_input (start rule cs) c) _ (input_same old.state (start rule cs) c l.state) (start_push rule cs c))
 
 -- a session that is new
-pub lrat_unused : (s : Session) → s ≡ fresh → IsLoaded lrat (record { state = by_ids (state_of s); has_stepped = s.has_stepped; is_verified = s.is_verified; is_ended = s.is_ended; peak = min s.peak 18446744073709551615; room = 4294967295 - s.top }) []
+pub lrat_unused : (s : Session) → s ≡ fresh → IsLoaded lrat (record { state = by_ids (state_of s); has_stepped = s.has_stepped; is_verified = s.is_verified; is_ended = s.is_ended; peak = s.peak; room = 4294967295 - s.top }) []
 lrat_unused s is =
-    let P : Session → Type 0 = λ s. IsLoaded lrat (record { state = by_ids (state_of s); has_stepped = s.has_stepped; is_verified = s.is_verified; is_ended = s.is_ended; peak = min s.peak 18446744073709551615; room = 4294967295 - s.top }) [] in
+    let P : Session → Type 0 = λ s. IsLoaded lrat (record { state = by_ids (state_of s); has_stepped = s.has_stepped; is_verified = s.is_verified; is_ended = s.is_ended; peak = s.peak; room = 4294967295 - s.top }) [] in
     subst P (sym is) (record {
       state = (SameClauses-eq (state_of fresh).live (numbered []) fresh_is_numbered, refl);
       verified = refl;

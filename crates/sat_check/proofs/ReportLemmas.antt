@@ -1,8 +1,7 @@
 -- A whole report.
-use Rattle.std.proofs.Common.{◌≡◌, ℕ, ◌≤◌, max, Bool, true, false, ◌||◌, Option, None, Some, List, [], ◌∷◌, length, refl, sym, ap, ◌∙◌, subst, codes, arith}
+use Rattle.std.proofs.Common.{◌≡◌, ℕ, ◌≤◌, max, Bool, true, false, ◌||◌, Option, None, Some, List, [], ◌∷◌, refl, sym, ap, ◌∙◌, subst, codes, arith}
 use Rattle.std.specs.Prelude.{Result, Ok, Err}
 use Rattle.std.specs.Bool.{MatchBool}
-use Rattle.std.specs.List.{list_any}
 use Rattle.cnf_base.specs.Literals.{Clause}
 use Rattle.cnf_base.specs.Stream.{Input}
 use Rattle.cnf_base.specs.Lines.{Sink, Writes, line_of}
@@ -14,31 +13,28 @@ use Rattle.dimacs.specs.declared.header.Header.{Header}
 use Rattle.proofs.specs.Reading.{Proof}
 use Rattle.proofs.specs.Steps.{Step}
 use Rattle.steps.specs.declared.accepted.Accepted.{Accepted}
-use Rattle.steps.specs.Rules.{Rule, lrat, drat, View, start, Answers, after, sum_of, is_over}
-use Rattle.steps.specs.Verdicts.{verified, is_empty, Ends}
-use Rattle.steps.proofs.Ruling.{ends_same, sum_same}
+use Rattle.steps.specs.ProofSession.{View, is_over}
+use Rattle.steps.specs.Rules.{Rule, start, sum_of, IsFinite}
+use Rattle.steps.specs.Verdicts.{verified, Ends}
+use Rattle.steps.proofs.Existence.{same_finite, start_finite}
+use Rattle.steps.proofs.Ruling.{sum_same}
+use Rattle.steps.proofs.VerdictLaws.{ends_same, some_ending, some_verdict}
 use Rattle.sat_check.specs.Lines.{formula_line, steps_line, fault_line, fault_status}
 use Rattle.sat_check.specs.Report.{Report, Outcome, Reports, concluded, with_lines, Checks, ReportsFormula, ProofReport, steps_of, peak_of, proof_report}
-use Rattle.sat_check.specs.Checking.{IsLoaded, Loads, Rest, Bounded}
+use Rattle.sat_check.specs.Checking.{IsLoaded, Loads, Rest}
 use Rattle.sat_check.proofs.ShownLemmas.{steps_same}
 use Rattle.sat_check.specs.declared.subject.Subject.TheVariants as subjects
 use Rattle.sat_check.specs.declared.status.Status.{Status}
 use Rattle.sat_check.specs.declared.status.Status.TheVariants.{Verified}
-use Rattle.sat_check.proofs.LoadLemmas.{numbered_above}
 use Rattle.sat_check.proofs.OutcomeLemmas.{Outcome-line}
 use Rattle.sat_check.proofs.RestLemmas.{peak_least, peak_same}
-use Rattle.sat_check.proofs.VerdictLemmas.{some_verdict, same_bounded}
 
 abbrev no_words : List Accepted
 no_words = []
 
-start_bounded : (rule : Rule) (clauses : List Clause) → Bounded (start rule clauses)
-start_bounded lrat clauses = record { bound = length clauses; none = numbered_above clauses }
-start_bounded (drat rules) clauses = tt
-
 module _ (rule : Rule) (s : View) (clauses : List Clause) (l : IsLoaded rule s clauses) where
-  pub loaded_bounded : Bounded s.state
-  loaded_bounded = same_bounded s.state (start rule clauses) l.state (start_bounded rule clauses)
+  pub loaded_finite : IsFinite s.state
+  loaded_finite = same_finite s.state (start rule clauses) l.state (start_finite rule clauses)
 
   pub loaded_least : sum_of s.state ≤ s.peak
   loaded_least = let e = sum_same s.state (start rule clauses) l.state in omega (arith, e, l.peak)
@@ -53,7 +49,7 @@ module _ (rule : Rule) (s : View) (clauses : List Clause) (l : IsLoaded rule s c
     words = rest.words;
     ending = rest.ending;
     verdict =
-        let P : Bool → Type 0 = λ b. MatchBool b ((rest.words ≡ []) × (rest.ending ≡ verified)) (Ends Answers after (start rule clauses) (steps_of p) rest.words rest.ending) in
+        let P : Bool → Type 0 = λ b. MatchBool b ((rest.words ≡ []) × (rest.ending ≡ verified)) (Ends (start rule clauses) (steps_of p) rest.words rest.ending) in
         subst P (sym (sym l.verified ∙ unverified)) (ends_same (steps_of p) rest.words rest.ending s.state (start rule clauses) l.state rest.verdict);
     report = ap (with_lines (formula_line h ∷ [])) (rest.report ∙ ap (λ m. proof_report trace 0 m rest.words rest.ending p.fault) peaks);
   }
@@ -71,7 +67,7 @@ module _ (rule : Rule) (s : View) (clauses : List Clause) (l : IsLoaded rule s c
     words = [];
     ending = verified;
     verdict =
-        let P : Bool → Type 0 = λ b. MatchBool b ((no_words ≡ no_words) × (verified ≡ verified)) (Ends Answers after (start rule clauses) (steps_of p) no_words verified) in
+        let P : Bool → Type 0 = λ b. MatchBool b ((no_words ≡ no_words) × (verified ≡ verified)) (Ends (start rule clauses) (steps_of p) no_words verified) in
         subst P (sym (sym l.verified ∙ is)) (refl, refl);
     report = ap (λ m. with_lines (formula_line h ∷ []) (concluded subjects.Proof (steps_line 0 m) Verified)) (l.peak ∙ sym (none (steps_of p))) ∙ ap (with_lines (formula_line h ∷ [])) (untraced trace (peak_of (start rule clauses) (steps_of p) []));
   }
@@ -91,7 +87,7 @@ module _ (rule : Rule) (s : View) (clauses : List Clause) (l : IsLoaded rule s c
       by : (v : Bool) → s.is_verified ≡ v → (r : Report) × Checks rule trace h clauses p (with_lines (formula_line h ∷ []) r)
       by true e = (concluded subjects.Proof (steps_line 0 s.peak) Verified, checks_verified trace h p e)
       by false e =
-          let v = some_verdict (steps_of p) s.state loaded_bounded in
+          let v = some_ending (steps_of p) s.state loaded_finite in
           let r = proof_report trace 0 (max s.peak (peak_of s.state (steps_of p) v.0)) v.0 v.1 p.fault in
           (r, checks_rest trace h p r e (record { words = v.0; ending = v.1; verdict = v.2; report = refl }))
 
@@ -114,16 +110,9 @@ reports_fault rule trace f p e fault =
 
 -- each formula and proof has a report
 checks_any : (rule : Rule) (trace : Bool) (h : Header) (clauses : List Clause) (p : Proof) → (r : Report) × Checks rule trace h clauses p r
-checks_any rule trace h clauses p = by (list_any is_empty clauses) refl
-  where
-    by : (v : Bool) → list_any is_empty clauses ≡ v → (r : Report) × Checks rule trace h clauses p r
-    by true e =
-        let P : Bool → Type 0 = λ b. MatchBool b ((no_words ≡ no_words) × (verified ≡ verified)) (Ends Answers after (start rule clauses) (steps_of p) no_words verified) in
-        (_, record { words = no_words; ending = verified; verdict = subst P (sym e) (refl, refl); report = refl })
-    by false e =
-        let v = some_verdict (steps_of p) (start rule clauses) (start_bounded rule clauses) in
-        let P : Bool → Type 0 = λ b. MatchBool b ((v.0 ≡ []) × (v.1 ≡ verified)) (Ends Answers after (start rule clauses) (steps_of p) v.0 v.1) in
-        (_, record { words = v.0; ending = v.1; verdict = subst P (sym e) v.2; report = refl })
+checks_any rule trace h clauses p =
+    let v = some_verdict rule clauses (steps_of p) in
+    (_, record { words = v.0; ending = v.1; verdict = v.2; report = refl })
 
 pub report_any : (rule : Rule) (trace : Bool) (h : Result (Header × Listing) Fault) (p : Proof)
     → (r : Report) × ReportsFormula rule trace (formula_with h).header (formula_with h).clauses (formula_with h).fault p r

@@ -7,22 +7,22 @@ use Rattle.proofs.specs.Reading.{Proof, clean, faulty, with_step}
 use Rattle.steps.specs.declared.accepted.Accepted.{Accepted}
 use Rattle.steps.specs.declared.accepted.Accepted.TheVariants.{Empty}
 use Rattle.steps.specs.declared.refusal.Refusal.{Refusal}
-use Rattle.steps.specs.Rules.{State, Answers, after, sum_of, Same}
+use Rattle.steps.specs.Rules.{State, Answers, after, sum_of, Same, IsFinite}
 use Rattle.steps.specs.Verdicts.{verified, refused, no_empty_clause, is_last, Ends}
-use Rattle.steps.proofs.Ruling.{after_same, ends_same, sum_same}
+use Rattle.steps.proofs.Ruling.{after_same, sum_same}
 use Rattle.sat_check.specs.Lines.{refusal_line, steps_line}
 use Rattle.sat_check.specs.Report.{Report, concluded, with_lines, trace_lines, end_report, verdict_report, peak_of, steps_of, proof_report}
-use Rattle.sat_check.specs.Checking.{Rest, Bounded, traced}
+use Rattle.sat_check.specs.Checking.{Rest, traced}
 use Rattle.sat_check.specs.declared.subject.Subject.TheVariants as subjects
 use Rattle.sat_check.specs.declared.status.Status.TheVariants.{Verified, NotVerified}
-use Rattle.sat_check.proofs.VerdictLemmas.{some_verdict}
+use Rattle.steps.proofs.VerdictLaws.{ends_same, some_ending}
 
 pub peak_same : (steps : List Step) (words : List Accepted) (first second : State) → Same first second → peak_of first steps words ≡ peak_of second steps words
 peak_same [] words first second same = sum_same first second same
 peak_same (step ∷ steps) [] first second same = sum_same first second same
 peak_same (step ∷ steps) (word ∷ words) first second same =
-    ap (λ n. max n (peak_of (after first step) steps words)) (sum_same first second same)
-    ∙ ap (λ n. max (sum_of second) n) (peak_same steps words (after first step) (after second step) (after_same first second step same))
+    ap (λ n. max n (peak_of (after first step word) steps words)) (sum_same first second same)
+    ∙ ap (λ n. max (sum_of second) n) (peak_same steps words (after first step word) (after second step word) (after_same first second step word same))
 
 pub peak_least : (steps : List Step) (words : List Accepted) (state : State) → sum_of state ≤ peak_of state steps words
 peak_least [] words state = omega arith
@@ -45,9 +45,9 @@ module _ (trace : Bool) (s : State) (n peak : ℕ) where
   pub Rest-fault : (f : Fault) → Rest trace s n peak (faulty f) (end_report (Some f))
   Rest-fault f = record { words = []; ending = no_empty_clause; verdict = refl; report = sym (no_trace trace (end_report (Some f))) }
 
-  pub Rest-some : Bounded s → (p : Proof) → (r : Report) × Rest trace s n peak p r
+  pub Rest-some : IsFinite s → (p : Proof) → (r : Report) × Rest trace s n peak p r
   Rest-some b p =
-      let v = some_verdict (steps_of p) s b in
+      let v = some_ending (steps_of p) s b in
       (proof_report trace n (max peak (peak_of s (steps_of p) v.0)) v.0 v.1 p.fault, record { words = v.0; ending = v.1; verdict = v.2; report = refl })
 
   module _ (st : Step) (left : ℕ) (p : Proof) where
@@ -60,7 +60,7 @@ module _ (trace : Bool) (s : State) (n peak : ℕ) where
           ∙ sym (no_trace trace (concluded subjects.Proof (refusal_line (n + 0 + 1) r) NotVerified));
     }
 
-    pub Rest-verified : (t : State) → Answers s st (Ok Empty) → Same t (after s st) → sum_of s ≤ peak
+    pub Rest-verified : (t : State) → Answers s st (Ok Empty) → Same t (after s st Empty) → sum_of s ≤ peak
         → Rest trace s n peak (with_step st left p) (with_lines (traced trace (n + 1) Empty) (concluded subjects.Proof (steps_line (n + 1) (max peak (sum_of t))) Verified))
     Rest-verified t a same least = record {
       words = Empty ∷ [];
@@ -71,20 +71,20 @@ module _ (trace : Bool) (s : State) (n peak : ℕ) where
       where
         peaks : max peak (sum_of t) ≡ max peak (peak_of s (st ∷ steps_of p) (Empty ∷ []))
         peaks =
-            let here = sum_same t (after s st) same in
-            let none = peak_none (steps_of p) (after s st) in
+            let here = sum_same t (after s st Empty) same in
+            let none = peak_none (steps_of p) (after s st Empty) in
             omega (arith, here, none, least)
 
     pub Rest-step : (word : Accepted) (t : State) (r : Report) → Answers s st (Ok word) → is_last word ≡ false
-        → Same t (after s st) → sum_of s ≤ peak → Rest trace t (n + 1) (max peak (sum_of t)) p r
+        → Same t (after s st word) → sum_of s ≤ peak → Rest trace t (n + 1) (max peak (sum_of t)) p r
         → Rest trace s n peak (with_step st left p) (with_lines (traced trace (n + 1) word) r)
     Rest-step word t r a not_last same least rest = record {
       words = word ∷ rest.words;
       ending = rest.ending;
       verdict = (
         a,
-        (let P : Bool → Type 0 = λ v. MatchBool v ((rest.words ≡ []) × (rest.ending ≡ verified)) (Ends Answers after (after s st) (steps_of p) rest.words rest.ending) in
-            subst P (sym not_last) (ends_same (steps_of p) rest.words rest.ending t (after s st) same rest.verdict)),
+        (let P : Bool → Type 0 = λ v. MatchBool v ((rest.words ≡ []) × (rest.ending ≡ verified)) (Ends (after s st word) (steps_of p) rest.words rest.ending) in
+            subst P (sym not_last) (ends_same (steps_of p) rest.words rest.ending t (after s st word) same rest.verdict)),
       );
       report = ap (with_lines (traced trace (n + 1) word)) rest.report
           ∙ ap (λ m. with_lines (traced trace (n + 1) word) (proof_report trace (n + 1) m rest.words rest.ending p.fault)) peaks
@@ -93,7 +93,7 @@ module _ (trace : Bool) (s : State) (n peak : ℕ) where
       where
         peaks : max (max peak (sum_of t)) (peak_of t (steps_of p) rest.words) ≡ max peak (peak_of s (st ∷ steps_of p) (word ∷ rest.words))
         peaks =
-            let later = peak_same (steps_of p) rest.words t (after s st) same in
+            let later = peak_same (steps_of p) rest.words t (after s st word) same in
             let low = peak_least (steps_of p) rest.words t in
             omega (arith, later, low, least)
 

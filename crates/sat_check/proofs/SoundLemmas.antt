@@ -9,14 +9,13 @@ use Rattle.dimacs.specs.Formula.{Formula, formula_of}
 use Rattle.dimacs.specs.declared.header.Header.{Header}
 use Rattle.proofs.specs.Reading.{Proof}
 use Rattle.steps.specs.Models.{HasModel}
-use Rattle.steps.specs.Rules.{Rule, start, Verdict}
-use Rattle.steps.specs.Verdicts.{Ending, verified, refused, no_empty_clause}
-use Rattle.steps.proofs.Ruling.{verdict_sound}
+use Rattle.steps.specs.Rules.{Rule, start}
+use Rattle.steps.specs.Verdicts.{Ending, verified, refused, no_empty_clause, Verdict}
+use Rattle.steps.proofs.VerdictLaws.{verdict_sound, verdict_unique}
 use Rattle.sat_check.specs.Lines.{fault_status, text_status}
 use Rattle.sat_check.specs.Report.{Report, Outcome, ReportsFormula, ProofReport, Verifies, Reports, ChecksProof, IsUnlessBroken, steps_of, peak_of, verdict_report}
 use Rattle.sat_check.specs.declared.status.Status.{Status}
 use Rattle.sat_check.specs.declared.status.Status.TheVariants.{Verified, NotVerified, Malformed, ReadFailed, OutOfMemory, WriteFailed, Usage}
-use Rattle.sat_check.proofs.UniqueLemmas.{verdict_unique}
 use Rattle.sat_check.proofs.WrittenLemmas.{written_verified}
 
 -- no fault is a positive verdict

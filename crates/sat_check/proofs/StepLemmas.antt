@@ -8,8 +8,9 @@ use Rattle.steps.specs.declared.accepted.Accepted.{Accepted}
 use Rattle.steps.specs.declared.accepted.Accepted.TheVariants.{Empty, Rup, Rat, Deleted, Ignored}
 use Rattle.steps.specs.declared.refusal.Refusal.{Refusal}
 use Rattle.steps.specs.declared.refusal.Refusal.TheVariants.{OutOfMemory}
-use Rattle.steps.specs.Rules.{View, Answers, after, sum_of, Same}
-use Rattle.steps.specs.Session.{UnlessOutOfMemory}
+use Rattle.steps.specs.ProofSession.{View}
+use Rattle.steps.specs.Rules.{Answers, after, sum_of, Same}
+use Rattle.steps.specs.StepAnswer.{UnlessOutOfMemory}
 use Rattle.steps.specs.Verdicts.{is_last}
 use Rattle.sat_check.specs.Lines.{refusal_line, steps_line}
 use Rattle.sat_check.specs.Report.{Report, Outcome, concluded, with_lines, text_of}
@@ -20,7 +21,7 @@ use Rattle.sat_check.specs.declared.status.Status.TheVariants.{Verified, NotVeri
 use Rattle.sat_check.proofs.OutcomeLemmas.{Outcome-after, Writes-all}
 use Rattle.sat_check.proofs.RestLemmas.{Rest-some, Rest-refused, Rest-verified, Rest-step}
 use Rattle.sat_check.proofs.ShownLemmas.{traced_same, refusal_same, steps_same}
-use Rattle.sat_check.proofs.VerdictLemmas.{after_bounded, same_bounded}
+use Rattle.steps.proofs.Existence.{after_finite, same_finite}
 
 -- an answer that isn't want of memory is the rule's
 pub given : (r : Refusal) (P : Type 0) → is_memory r ≡ false → UnlessOutOfMemory (Err r) P → P
@@ -42,11 +43,11 @@ module _ (trace : Bool) (number : ℕ) (old : View) (step : Step) (was now : Sin
   pub Stops-refused : (status : Status) (r : Refusal) → (is_memory r ≡ true → (x : Report) → Outcome status was.held now.held x)
       → (is_memory r ≡ false → Outcome status was.held now.held (concluded subjects.Proof (refusal_line number r) NotVerified))
       → UnlessOutOfMemory (Err r) (Answers old.state step (Err r)) → Stops trace number old step was now status
-  Stops-refused status r memory refused answers n left p is least bounded = by (is_memory r) refl
+  Stops-refused status r memory refused answers n left p is least finite = by (is_memory r) refl
     where
       by : (v : Bool) → is_memory r ≡ v → (x : Report) × Rest trace old.state n old.peak (with_step step left p) x × Outcome status was.held now.held x
       by true e =
-          let some = Rest-some trace old.state n old.peak bounded (with_step step left p) in
+          let some = Rest-some trace old.state n old.peak finite (with_step step left p) in
           (some.0, some.1, memory e some.0)
       by false e =
           let P : List ℕ → Type 0 = λ t. Outcome status was.held now.held (concluded subjects.Proof t NotVerified) in (
@@ -56,19 +57,20 @@ module _ (trace : Bool) (number : ℕ) (old : View) (step : Step) (was now : Sin
           )
 
   module _ (new : View) (word : Accepted) (answers : Answers old.state step (Ok word))
-      (same : Same new.state (after old.state step))
+      (same : Same new.state (after old.state step word))
       (peak : new.peak ≡ max old.peak (sum_of new.state)) where
     verified_rest : (n left : ℕ) (p : Proof) → word ≡ Empty → sum_of old.state ≤ old.peak
         → Rest trace old.state n old.peak (with_step step left p) (with_lines (traced trace (n + 1) word) (concluded subjects.Proof (steps_line (n + 1) new.peak) Verified))
     verified_rest n left p is least =
         let P : ℕ → Type 0 = λ m. Rest trace old.state n old.peak (with_step step left p) (with_lines (traced trace (n + 1) word) (concluded subjects.Proof (steps_line (n + 1) m) Verified)) in
         let Q : Accepted → Type 0 = λ w. Rest trace old.state n old.peak (with_step step left p) (with_lines (traced trace (n + 1) w) (concluded subjects.Proof (steps_line (n + 1) (max old.peak (sum_of new.state))) Verified)) in
-        let A : Accepted → Type 0 = λ w. Answers old.state step (Ok w) in
-        subst P (sym peak) (subst Q (sym is) (Rest-verified trace old.state n old.peak step left p new.state (subst A is answers) same least))
+        let A : Accepted → Type 0 = λ w. Answers old.state step (Ok w) × Same new.state (after old.state step w) in
+        let at_empty = subst A is (answers, same) in
+        subst P (sym peak) (subst Q (sym is) (Rest-verified trace old.state n old.peak step left p new.state at_empty.0 at_empty.1 least))
 
     -- the trace's line broke off
     pub Stops-traced : (status : Status) → ((x : Report) → Outcome status was.held now.held (with_lines (traced trace number word) x)) → Stops trace number old step was now status
-    Stops-traced status o n left p is least bounded = by (is_last word) refl
+    Stops-traced status o n left p is least finite = by (is_last word) refl
       where
         shown : (x : Report) → Outcome status was.held now.held (with_lines (traced trace (n + 1) word) x)
         shown x = let P : List (List ℕ) → Type 0 = λ t. Outcome status was.held now.held (with_lines t x) in subst P (traced_same trace number (n + 1) word is) (o x)
@@ -76,7 +78,7 @@ module _ (trace : Bool) (number : ℕ) (old : View) (step : Step) (was now : Sin
         by : (v : Bool) → is_last word ≡ v → (x : Report) × Rest trace old.state n old.peak (with_step step left p) x × Outcome status was.held now.held x
         by true e = (_, verified_rest n left p (last_word word e) least, shown _)
         by false e =
-            let kept = same_bounded new.state (after old.state step) same (after_bounded old.state step bounded) in
+            let kept = same_finite new.state (after old.state step word) same (after_finite old.state step word finite) in
             let some = Rest-some trace new.state (n + 1) (max old.peak (sum_of new.state)) kept p in (
               with_lines (traced trace (n + 1) word) some.0,
               Rest-step trace old.state n old.peak step left p word new.state some.0 answers e same least some.1,
@@ -87,7 +89,7 @@ module _ (trace : Bool) (number : ℕ) (old : View) (step : Step) (was now : Sin
     pub Stops-verified : (status : Status) (mid : Sink) (m : ℕ) → is_last word ≡ true → m ≡ new.peak
         → Writes was mid (text_of (traced trace number word)) → mid.is_broken ≡ false
         → Outcome status mid.held now.held (concluded subjects.Proof (steps_line number m) Verified) → Stops trace number old step was now status
-    Stops-verified status mid m e shown wrote whole o n left p is least bounded =
+    Stops-verified status mid m e shown wrote whole o n left p is least finite =
         let P : List ℕ → Type 0 = λ t. Outcome status mid.held now.held (concluded subjects.Proof t Verified) in
         let Q : List (List ℕ) → Type 0 = λ t. Outcome status was.held now.held (with_lines t (concluded subjects.Proof (steps_line (n + 1) new.peak) Verified)) in (
           with_lines (traced trace (n + 1) word) (concluded subjects.Proof (steps_line (n + 1) new.peak) Verified),

@@ -1,5 +1,5 @@
 -- The parts of a check.
-use Rattle.std.specs.Prelude.{◌≡◌, ℕ, ◌+◌, ◌-◌, ◌^◌, ◌<◌, ◌≤◌, min, max, if◌then◌else◌, Bool, true, false, List, [], ◌∷◌, length, None, Some, Result, Ok, Err}
+use Rattle.std.specs.Prelude.{◌≡◌, ℕ, ◌+◌, ◌-◌, ◌^◌, ◌≤◌, min, max, if◌then◌else◌, Bool, true, false, List, [], ◌∷◌, length, None, Some, Result, Ok, Err}
 use Rattle.std.specs.List.{list_any}
 use Rattle.cnf_base.specs.Literals.{Clause}
 use Rattle.cnf_base.specs.Lines.{Sink, Writes}
@@ -10,8 +10,8 @@ use Rattle.dimacs.specs.Formula.{Body, Formula}
 use Rattle.dimacs.specs.declared.header.Header.{Header}
 use Rattle.proofs.specs.Steps.{Step}
 use Rattle.proofs.specs.Reading.{Proof, with_step}
-use Rattle.steps.specs.Propagation.{Live}
-use Rattle.steps.specs.Rules.{Rule, State, by_ids, by_copies, View, start, Answers, after, sum_of, Same, is_over}
+use Rattle.steps.specs.Rules.{Rule, State, start, Answers, after, sum_of, Same, IsFinite}
+use Rattle.steps.specs.ProofSession.{View, is_over}
 use Rattle.steps.specs.Verdicts.{Ending, Ends, is_empty, is_last}
 use Rattle.steps.specs.declared.accepted.Accepted.{Accepted}
 use Rattle.steps.specs.declared.refusal.Refusal.{Refusal}
@@ -50,17 +50,8 @@ Loads rule s (Err e) f = f.fault ≡ Some e
 pub record Rest (trace : Bool) (state : State) (n : ℕ) (peak : ℕ) (proof : Proof) (r : Report) : Type 0 where
   pub words : List Accepted
   pub ending : Ending
-  pub verdict : Ends Answers after state (steps_of proof) words ending
+  pub verdict : Ends state (steps_of proof) words ending
   pub report : r ≡ proof_report trace n (max peak (peak_of state (steps_of proof) words)) words ending proof.fault
-
--- no clause is alive past some identifier
-pub record BoundedLive (live : Live) : Type 0 where
-  pub bound : ℕ
-  pub none : (k : ℕ) → bound < k → live k ≡ None
-
-abbrev pub Bounded : State → Type 0
-Bounded (by_ids s) = BoundedLive s.live
-Bounded (by_copies rules live) = Unit {0}
 
 -- numbers are counted up to the greatest of 64 bits
 abbrev pub counted : ℕ → ℕ
@@ -75,7 +66,7 @@ pub record GoesOn (trace : Bool) (number : ℕ) (old new : View) (step : Step) (
   pub word : Accepted
   pub answers : Answers old.state step (Ok word)
   pub not_last : is_last word ≡ false
-  pub state : Same new.state (after old.state step)
+  pub state : Same new.state (after old.state step word)
   pub peak : new.peak ≡ max old.peak (sum_of new.state)
   pub sound : is_over new ≡ false
   pub wrote : Writes was now (text_of (traced trace number word))
@@ -84,7 +75,7 @@ pub record GoesOn (trace : Bool) (number : ℕ) (old new : View) (step : Step) (
 -- with this step the check ended: whatever follows it, what was written is the rest of the report
 abbrev pub Stops : Bool → ℕ → View → Step → Sink → Sink → Status → Type 0
 Stops trace number old step was now status =
-    (n left : ℕ) (p : Proof) → number ≡ counted (n + 1) → sum_of old.state ≤ old.peak → Bounded old.state
+    (n left : ℕ) (p : Proof) → number ≡ counted (n + 1) → sum_of old.state ≤ old.peak → IsFinite old.state
     → (r : Report) × Rest trace old.state n old.peak (with_step step left p) r × Outcome status was.held now.held r
 
 -- how a run may stop before its end

@@ -15,8 +15,8 @@ use Rattle.proofs.specs.Steps.{Step}
 use Rattle.proofs.specs.Binary.{binary_steps}
 use Rattle.proofs.specs.Drat.{drat_steps}
 use Rattle.steps.specs.Models.{HasModel}
-use Rattle.steps.specs.Rules.{Rule, State, start, after, sum_of, Verdict}
-use Rattle.steps.specs.Verdicts.{Ending, verified, refused, no_empty_clause}
+use Rattle.steps.specs.Rules.{Rule, State, start, after, sum_of}
+use Rattle.steps.specs.Verdicts.{Ending, verified, refused, no_empty_clause, Verdict}
 use Rattle.steps.specs.declared.drat_rules.DratRules.{DratRules}
 use Rattle.sat_check.specs.declared.options.DratOptions.{DratOptions}
 use Rattle.steps.specs.declared.accepted.Accepted.{Accepted}
@@ -71,7 +71,7 @@ verdict_report n peak no_empty_clause fault = end_report fault
 abbrev pub peak_of : State → List Step → List Accepted → ℕ
 peak_of state [] words = sum_of state
 peak_of state (step ∷ steps) [] = sum_of state
-peak_of state (step ∷ steps) (word ∷ words) = max (sum_of state) (peak_of (after state step) steps words)
+peak_of state (step ∷ steps) (word ∷ words) = max (sum_of state) (peak_of (after state step word) steps words)
 
 abbrev pub steps_of : Proof → List Step
 steps_of proof = map (λ placed. placed.step) proof.steps

@@ -2,9 +2,10 @@
 
 ghost use Rattle.std.specs.Prelude.{◌≡◌, ◌≤◌, true, false};
 ghost use Rattle.cnf_base.specs.Stream.{Along};
-ghost use Rattle.steps.specs.Rules.{is_over, sum_of};
+ghost use Rattle.steps.specs.ProofSession.{is_over};
+ghost use Rattle.steps.specs.Rules.{sum_of, IsFinite};
 ghost use Rattle.sat_check.specs.Report.{Report, Outcome};
-ghost use Rattle.sat_check.specs.Checking.{Bounded, Rest};
+ghost use Rattle.sat_check.specs.Checking.{Rest};
 
 use crate::Status;
 use crate::conclude::{break_off, conclude};
@@ -25,7 +26,7 @@ pub fn check_proof<S: ProofSession, R: StepReader, O: Out>(
     lines: &mut LineOut<O>,
 ) -> Status
     requires sound { is_over (S.shown session.old) ≡ false }
-    requires bounded { Bounded (S.shown session.old).state }
+    requires finite { IsFinite (S.shown session.old).state }
     requires least { sum_of (S.shown session.old).state ≤ (S.shown session.old).peak }
     requires whole { lines.old.is_broken ≡ false }
     ensures report { Along (R.stream reader.old) (R.stream reader.new) (λ i j.

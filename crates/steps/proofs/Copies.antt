@@ -1,13 +1,16 @@
 -- The rule of DRAT depends only on how many copies of each clause are alive.
-use Rattle.std.proofs.Common.{◌≡◌, ◌≢◌, ℕ, zero, suc, ◌+◌, ◌-◌, ◌<◌, Bool, true, false, cond, Option, Some, None, Ok, Err, List, [], ◌∷◌, ◌++◌, slice_get, refl, sym, ap, ◌∙◌, subst, inl, inr, arith}
+use Rattle.std.proofs.Common.{◌≡◌, ◌≢◌, ℕ, zero, suc, ◌+◌, ◌-◌, ◌<◌, Bool, true, false, cond, Option, Some, Ok, Err, List, [], ◌∷◌, ◌++◌, slice_get, refl, sym, ap, ◌∙◌, subst, inl, inr, arith}
 use Rattle.std.specs.List.{list_any}
 use Rattle.std.proofs.lemmas.Bool.{false≢true, true≢false, cases_Bool, or_cases, or_left, or_right, false_from_ne_true}
 use Rattle.std.proofs.lemmas.List.Sums.{sum_by-cons}
+use Rattle.std.proofs.lemmas.Option.{none-some}
+use Rattle.steps.specs.declared.accepted.Accepted.{Accepted}
 use Rattle.steps.specs.declared.accepted.Accepted.TheVariants.{Rup, Rat, Empty, Deleted, Ignored}
 use Rattle.steps.specs.declared.refusal.Refusal.TheVariants.{NotRup, NeitherRupNorRat, NotAlive}
 use Rattle.cnf_base.specs.Literals.{Literal, complement, Clause, has, complements, without, same_clause}
 use Rattle.steps.specs.Propagation.{Live, IsClosed, Forced, Clash, HasRup, HasRat, by_empty, by_both}
-use Rattle.steps.specs.Drat.{Answer, DratStep, add, delete, AnswersAdd, AnswersDelete, AnswersDrat, take_off, after_drat, copies_of, SameLive}
+use Rattle.steps.specs.StepAnswer.{StepAnswer}
+use Rattle.steps.specs.Drat.{DratStep, add, delete, AnswersAdd, AnswersDelete, AnswersDrat, take_off, after_drat, copies_of, SameLive}
 use Rattle.cnf_base.proofs.SetLemmas.{same_there, same_back, same_itself, same_symm, same_trans, same_empty, both_pass, has_append_left, has_append_right, has_append_cases, has-complements, complements_has, has-without, without_has}
 use Rattle.cnf_base.proofs.LiteralLemmas.{complement-complement}
 use Rattle.clause_db.proofs.ForcedLemmas.{forced_assumed, clash_through}
@@ -48,10 +51,7 @@ alive_at c (d ∷ live) h =
     ]
 
 pub at_alive : (live : List Clause) (k : ℕ) (d : Clause) → slice_get live k ≡ Some d → list_any (same_clause d) live ≡ true
-at_alive [] k d at = absurd (none_some at)
-  where
-    none_some : ◌≡◌ {A = Option Clause} None (Some d) → ⊥
-    none_some e = cc
+at_alive [] k d at = absurd (none-some d at)
 at_alive (e ∷ live) zero d at = or_left (same_clause d e) _ (subst (λ x. same_clause d x ≡ true) (same (sym at)) (same_itself d))
   where
     same : ◌≡◌ {A = Option Clause} (Some d) (Some e) → d ≡ e
@@ -82,11 +82,18 @@ copies-take_off e c (d ∷ live) =
     pushed true = refl
     pushed false = copies-cons e d (take_off c live)
 
-pub after_same : (first second : List Clause) (step : DratStep) → SameLive first second → SameLive (after_drat first step) (after_drat second step)
-after_same first second (add c) same =
-    record { copies = λ e. copies-cons e c first ∙ ap (λ n. cond (same_clause e c) 1 0 + n) (same.copies e) ∙ sym (copies-cons e c second) }
-after_same first second (delete c) same =
+taken_off_same : (first second : List Clause) (c : Clause) → SameLive first second → SameLive (take_off c first) (take_off c second)
+taken_off_same first second c same =
     record { copies = λ e. copies-take_off e c first ∙ ap (λ n. n - cond (same_clause e c) 1 0) (same.copies e) ∙ sym (copies-take_off e c second) }
+
+pub after_same : (first second : List Clause) (step : DratStep) (word : Accepted) → SameLive first second → SameLive (after_drat first step word) (after_drat second step word)
+after_same first second (add c) word same =
+    record { copies = λ e. copies-cons e c first ∙ ap (λ n. cond (same_clause e c) 1 0 + n) (same.copies e) ∙ sym (copies-cons e c second) }
+after_same first second (delete c) Ignored same = same
+after_same first second (delete c) Deleted same = taken_off_same first second c same
+after_same first second (delete c) Rup same = taken_off_same first second c same
+after_same first second (delete c) Rat same = taken_off_same first second c same
+after_same first second (delete c) Empty same = taken_off_same first second c same
 
 same_live_symm : (first second : List Clause) → SameLive first second → SameLive second first
 same_live_symm first second same = record { copies = λ e. sym (same.copies e) }
@@ -145,7 +152,7 @@ alive_same first second c same =
 
 -- ---- The answers
 
-add_same : (first second : List Clause) (c : List Literal) (answer : Answer) → SameLive first second → AnswersAdd first c answer → AnswersAdd second c answer
+add_same : (first second : List Clause) (c : List Literal) (answer : StepAnswer) → SameLive first second → AnswersAdd first c answer → AnswersAdd second c answer
 add_same first second [] (Ok Empty) same a = clash_covers _ _ (covers_of first second same) [] a
 add_same first second [] (Err NotRup) same a = λ b. a (clash_covers _ _ (covers_of second first (same_live_symm first second same)) [] b)
 add_same first second (l ∷ c) (Ok Rup) same a = clash_covers _ _ (covers_of first second same) _ a
@@ -162,7 +169,7 @@ add_same first second [] (Err _) same a = absurd a
 add_same first second (l ∷ c) (Ok _) same a = absurd a
 add_same first second (l ∷ c) (Err _) same a = absurd a
 
-delete_same : (strict : Bool) (first second : List Clause) (c : List Literal) (answer : Answer) → SameLive first second → AnswersDelete strict first c answer → AnswersDelete strict second c answer
+delete_same : (strict : Bool) (first second : List Clause) (c : List Literal) (answer : StepAnswer) → SameLive first second → AnswersDelete strict first c answer → AnswersDelete strict second c answer
 delete_same true first second c (Ok Deleted) same a = sym (alive_same first second c same) ∙ a
 delete_same false first second c (Ok Deleted) same a = sym (alive_same first second c same) ∙ a
 delete_same false first second c (Ok Ignored) same a = sym (alive_same first second c same) ∙ a
@@ -172,6 +179,6 @@ delete_same false first second c (Ok _) same a = absurd a
 delete_same true first second c (Err _) same a = absurd a
 delete_same false first second c (Err _) same a = absurd a
 
-pub drat_same : (rules : DratRules) (first second : List Clause) (step : DratStep) (answer : Answer) → SameLive first second → AnswersDrat rules first step answer → AnswersDrat rules second step answer
+pub drat_same : (rules : DratRules) (first second : List Clause) (step : DratStep) (answer : StepAnswer) → SameLive first second → AnswersDrat rules first step answer → AnswersDrat rules second step answer
 drat_same rules first second (add c) answer same a = add_same first second c answer same a
 drat_same rules first second (delete c) answer same a = delete_same rules.strict first second c answer same a

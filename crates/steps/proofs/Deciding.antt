@@ -1,13 +1,15 @@
 -- Each step of a DRAT proof has an answer: whether propagation clashes can be decided.
-use Rattle.std.proofs.Common.{◌≡◌, ℕ, zero, suc, ◌+◌, ◌<◌, ◌≤◌, Bool, true, false, not, cond, Option, Some, None, Ok, Err, List, [], ◌∷◌, ◌++◌, slice_get, refl, sym, ap, ◌∙◌, subst, inl, inr, ◌⊎◌, arith}
+use Rattle.std.proofs.Common.{◌≡◌, ℕ, zero, suc, ◌+◌, ◌<◌, ◌≤◌, Bool, true, false, not, cond, Option, Some, Ok, Err, List, [], ◌∷◌, ◌++◌, slice_get, refl, sym, ap, ◌∙◌, subst, inl, inr, ◌⊎◌, arith}
 use Rattle.std.specs.List.{list_any}
 use Rattle.std.proofs.lemmas.Bool.{false≢true, true≢false, cases_Bool}
+use Rattle.std.proofs.lemmas.Option.{none-some}
 use Rattle.steps.specs.declared.accepted.Accepted.TheVariants.{Rup, Rat, Empty, Deleted, Ignored}
 use Rattle.steps.specs.declared.refusal.Refusal.TheVariants.{NotRup, NeitherRupNorRat, NotAlive}
 use Rattle.clause_db.specs.declared.left.Left.TheVariants.{One}
 use Rattle.cnf_base.specs.Literals.{Literal, complement, Clause, has, complements, without, same_clause}
 use Rattle.steps.specs.Propagation.{Clash, HasRup, HasRat}
-use Rattle.steps.specs.Drat.{Answer, DratStep, add, delete, AnswersAdd, AnswersDelete, AnswersDrat}
+use Rattle.steps.specs.StepAnswer.{StepAnswer}
+use Rattle.steps.specs.Drat.{DratStep, add, delete, AnswersAdd, AnswersDelete, AnswersDrat}
 use Rattle.clause_db.specs.Trail.{conflicts}
 use Rattle.clause_db.specs.Left.{open_literals, how_many}
 use Rattle.cnf_base.proofs.SetLemmas.{has_head, has_tail, has_cases, has_append_left, has_append_right, filter_has}
@@ -58,10 +60,7 @@ all_literals [] = []
 all_literals (c ∷ live) = c ++ all_literals live
 
 has-all_literals : (live : List Clause) (k : ℕ) (c : Clause) (l : Literal) → slice_get live k ≡ Some c → has c l ≡ true → has (all_literals live) l ≡ true
-has-all_literals [] k c l at h = absurd (none_some at)
-  where
-    none_some : ◌≡◌ {A = Option Clause} None (Some c) → ⊥
-    none_some e = cc
+has-all_literals [] k c l at h = absurd (none-some c at)
 has-all_literals (d ∷ live) zero c l at h = has_append_left d (all_literals live) l (ap (λ x. has x l) (same at) ∙ h)
   where
     same : ◌≡◌ {A = Option Clause} (Some d) (Some c) → d ≡ c
@@ -104,10 +103,7 @@ module _ (live : List Clause) (assumed : List Literal) where
 
 -- each clause of the list passes, or one does not
 each_or_one : (P : Clause → Type 0) → ((d : Clause) → IsDecided (P d)) → (live : List Clause) → ((k : ℕ) (d : Clause) → slice_get live k ≡ Some d → P d) ⊎ ((k : ℕ) × (d : Clause) × (slice_get live k ≡ Some d) × ¬ P d)
-each_or_one P decide [] = inl (λ k d at. absurd (none_some d at))
-  where
-    none_some : (d : Clause) → ◌≡◌ {A = Option Clause} None (Some d) → ⊥
-    none_some d e = cc
+each_or_one P decide [] = inl (λ k d at. absurd (none-some d at))
 each_or_one P decide (c ∷ live) = elim (decide c) [
   | inr not_here ↦ inr (zero, c, refl, not_here)
   | inl here ↦ elim (each_or_one P decide live) [
@@ -148,7 +144,7 @@ module _ (live : List Clause) (c : Clause) (pivot : Literal) where
 
 -- ---- Answers
 
-add_answer : (live : List Clause) (c : List Literal) → (answer : Answer) × AnswersAdd live c answer
+add_answer : (live : List Clause) (c : List Literal) → (answer : StepAnswer) × AnswersAdd live c answer
 add_answer live [] = elim (clash_decided live []) [
   | inl clash ↦ (Ok Empty, clash)
   | inr none ↦ (Err NotRup, none)
@@ -161,7 +157,7 @@ add_answer live (pivot ∷ rest) = elim (clash_decided live (complements (pivot 
   ]
 ]
 
-delete_answer : (strict : Bool) (live : List Clause) (c : List Literal) → (answer : Answer) × AnswersDelete strict live c answer
+delete_answer : (strict : Bool) (live : List Clause) (c : List Literal) → (answer : StepAnswer) × AnswersDelete strict live c answer
 delete_answer true live c = elim (cases_Bool (list_any (same_clause c) live)) [
   | inl alive ↦ (Ok Deleted, alive)
   | inr absent ↦ (Err NotAlive, absent)
@@ -171,6 +167,6 @@ delete_answer false live c = elim (cases_Bool (list_any (same_clause c) live)) [
   | inr absent ↦ (Ok Ignored, absent)
 ]
 
-pub drat_answer : (rules : DratRules) (live : List Clause) (step : DratStep) → (answer : Answer) × AnswersDrat rules live step answer
+pub drat_answer : (rules : DratRules) (live : List Clause) (step : DratStep) → (answer : StepAnswer) × AnswersDrat rules live step answer
 drat_answer rules live (add c) = add_answer live c
 drat_answer rules live (delete c) = delete_answer rules.strict live c

@@ -5,10 +5,10 @@ use Rattle.std.specs.Ordering.{nat_cmp, eq_by_cmp}
 use Rattle.std.specs.FinMap as maps
 use Rattle.std.specs.FinMap.{FinMap, get-insert, same_map, nat_cmp-IsAntisymmetric}
 use Rattle.std.specs.Cmp.{nat_cmp_total, unsigned_tied}
-use Rattle.std.proofs.lemmas.Bool.{cases_Bool, false_from_ne_true, true≢false, or_left, or_right}
+use Rattle.std.proofs.lemmas.Bool.{false_from_ne_true, true≢false}
 use Rattle.std.proofs.lemmas.List.{map-append}
 use Rattle.std.proofs.lemmas.List.Folds.{list_any_at}
-use Rattle.std.proofs.lemmas.Option.{slice_get_within, get_or_from_slice_get}
+use Rattle.std.proofs.lemmas.Option.{slice_get_within, get_or_from_slice_get, none-some}
 use Rattle.cnf_base.specs.Literals.{Literal, Clause, complement, complements, has, without, same_clause}
 use Rattle.cnf_base.proofs.SetLemmas.{has_append_left, has_append_right, has_append_cases, has_head, both_pass, same_symm, same_trans}
 use Rattle.clause_db.specs.Trail.{SameSet}
@@ -82,10 +82,7 @@ answers_at live c pivot rest assumed is same none false some =
 
 pub answers_none : (live : FinMap nat_cmp Clause) (c : List Literal) → None ≡ slice_get c 0 → ¬ HasRup (maps.get live) c → AnswersAdd (maps.values live) c (Err NotRup)
 answers_none live [] first none = no_rup_listed live [] none
-answers_none live (l ∷ c) first none = absurd (none_some first)
-  where
-    none_some : None ≡ Some l → ⊥
-    none_some e = cc
+answers_none live (l ∷ c) first none = absurd (none-some l first)
 
 pub searched_pivot : (live : Live) (assumed : List Literal) (opposite complement : Literal) → opposite ≡ complement → (found b : Bool) → found ≡ b → SearchedCandidates live assumed opposite found → SearchedCandidates live assumed complement b
 searched_pivot live assumed opposite complement is found b value searched =
@@ -136,13 +133,3 @@ module _ (live : FinMap nat_cmp Clause) (lits : Clause) where
 
   pub taken_off : (slot : ℕ) (c : Clause) (new : FinMap nat_cmp Clause) → maps.get live slot ≡ Some c → same_clause c lits ≡ true → new ≡ maps.remove live slot → SameLive (maps.values new) (take_off lits (maps.values live))
   taken_off slot c new at same is = subst (λ m. SameLive (maps.values m) (take_off lits (maps.values live))) (sym is) (slots-remove live slot lits c at (same_symm c lits same))
-
-  pub none_taken : list_any (same_clause lits) (maps.values live) ≡ false → SameLive (maps.values live) (take_off lits (maps.values live))
-  none_taken none = subst (SameLive (maps.values live)) (sym (take_none (maps.values live) none)) (record { copies = λ e. refl })
-    where
-      take_none : (over : List Clause) → list_any (same_clause lits) over ≡ false → take_off lits over ≡ over
-      take_none [] h = refl
-      take_none (d ∷ over) h = elim (cases_Bool (same_clause lits d)) [
-        | inl e ↦ absurd (true≢false (sym (or_left (same_clause lits d) (list_any (same_clause lits) over) e) ∙ h))
-        | inr e ↦ ap (λ b. cond b over (d ∷ take_off lits over)) e ∙ ap (λ o. d ∷ o) (take_none over (false_from_ne_true _ (λ g. true≢false (sym (or_right (same_clause lits d) (list_any (same_clause lits) over) g) ∙ h))))
-      ]

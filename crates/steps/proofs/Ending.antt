@@ -14,9 +14,8 @@ use Rattle.proofs.specs.declared.step_buf.StepKind.TheVariants.{Add}
 use Rattle.proofs.specs.Steps.{Step}
 use Rattle.cnf_base.specs.Literals.{Literal, complement, Clause, has, complements}
 use Rattle.steps.specs.Propagation.{Live}
-use Rattle.steps.specs.Drat.{Answer}
+use Rattle.steps.specs.StepAnswer.{StepAnswer, UnlessOutOfMemory}
 use Rattle.steps.specs.Lrat.{ChainEnd, conflict, open_with, unknown, not_unit, chain, Group, LratStep, add, delete, step_of, lrat_step, LratState, with_candidate, chain_refusal, group_refusal, groups_refusal, units_of, groups_of, AnswersGroups, AnswersChain, AnswersLrat, without_id, deletion_refusal, answer_of}
-use Rattle.steps.specs.Session.{UnlessOutOfMemory}
 
 -- a cause other than that
 abbrev IsRuled : Option Refusal → Type 0
@@ -56,7 +55,7 @@ ruled_deletion (id ∷ ids) live =
     ruled_or (then_some (is_none (live id)) (UnknownId id)) _ (ruled_then (is_none (live id)) (UnknownId id) tt) (ruled_deletion ids (without_id live id))
 
 -- what an answer refuses by
-abbrev cause_of : Answer → Option Refusal
+abbrev cause_of : StepAnswer → Option Refusal
 cause_of (Ok word) = None
 cause_of (Err r) = Some r
 
@@ -64,7 +63,7 @@ ruled_answer : (o : Option Refusal) → IsRuled o → IsRuled (cause_of (answer_
 ruled_answer None h = tt
 ruled_answer (Some r) h = h
 
-not_ruled : (answer : Answer) → Err Ended ≡ answer → IsRuled (cause_of answer) → ⊥
+not_ruled : (answer : StepAnswer) → Err Ended ≡ answer → IsRuled (cause_of answer) → ⊥
 not_ruled answer e h = subst (λ a. IsRuled (cause_of a)) (sym e) h
 
 groups_never : (live : Live) (ls : List Literal) (pivot : Literal) (groups : List Group) (o : Option Refusal) → IsRuled o → AnswersGroups live ls pivot groups o (Err Ended) → ⊥
@@ -84,14 +83,14 @@ chain_never live (pivot ∷ c) groups (open_with ls) a = groups_never live ls pi
 pub never_ended : (state : LratState) (step : LratStep) → AnswersLrat state step (Err Ended) → ⊥
 never_ended state (add id c units groups) a = by_order (nat_le id state.top) a
   where
-    by_order : (late : Bool) → MatchBool late (◌≡◌ {A = Answer} (Err Ended) (Err IdOutOfOrder)) (AnswersChain state.live c groups (chain state.live (complements c) units) (Err Ended)) → ⊥
+    by_order : (late : Bool) → MatchBool late (◌≡◌ {A = StepAnswer} (Err Ended) (Err IdOutOfOrder)) (AnswersChain state.live c groups (chain state.live (complements c) units) (Err Ended)) → ⊥
     by_order true e = not_ruled (Err IdOutOfOrder) e tt
     by_order false a = chain_never state.live c groups (chain state.live (complements c) units) a
 never_ended state (delete ids) a = not_ruled (answer_of (deletion_refusal state.live ids)) a (ruled_answer (deletion_refusal state.live ids) (ruled_deletion ids state.live))
 
 -- ---- Answers of the code
 
-pub unless_given : (answer : Answer) (P : Type 0) → P → UnlessOutOfMemory answer P
+pub unless_given : (answer : StepAnswer) (P : Type 0) → P → UnlessOutOfMemory answer P
 unless_given (Err OutOfMemory) P p = tt
 unless_given (Ok word) P p = p
 unless_given (Err _) P p = p
@@ -101,7 +100,7 @@ when_ok (Ok x) P h p = p
 when_ok (Err y) P h p = absurd (true≢false h)
 
 -- an addition whose identifier is right
-pub answers_addition : (state : LratState) (live : Live) (step : Step) (id top : ℕ) (c : List Literal) (hints : List ℤ) (answer : Answer) → step.kind ≡ Add → ((k : ℕ) → live k ≡ state.live k) →
+pub answers_addition : (state : LratState) (live : Live) (step : Step) (id top : ℕ) (c : List Literal) (hints : List ℤ) (answer : StepAnswer) → step.kind ≡ Add → ((k : ℕ) → live k ≡ state.live k) →
     id ≡ step.id → top ≡ state.top → top < id → c ≡ step.lits → hints ≡ step.hints →
     AnswersChain live c (groups_of hints) (chain live (complements c) (units_of hints)) answer → AnswersLrat state (lrat_step step) answer
 answers_addition state live step id top c hints answer kind_is live_is id_is top_is above c_is hints_is a =

@@ -1,17 +1,14 @@
 -- Accepted steps keep satisfiability, and a verified formula has no model.
-use Rattle.std.proofs.Common.{◌≡◌, ℕ, zero, suc, Bool, true, false, cond, eqb, Some, None, Ok, List, [], ◌∷◌, slice_get, refl, sym, ap, ◌∙◌, subst, inl, inr}
+use Rattle.std.proofs.Common.{◌≡◌, ℕ, zero, suc, Bool, true, false, cond, eqb, Some, None, Ok, List, [], ◌∷◌, slice_get, sym, ap, ◌∙◌}
 use Rattle.std.proofs.lemmas.Option.{none-some, same_Some}
-use Rattle.std.proofs.lemmas.Bool.{false≢true, cases_Bool, MatchBool-at_false}
-use Rattle.std.specs.List.{list_any}
+use Rattle.std.proofs.lemmas.Bool.{false≢true}
 use Rattle.steps.specs.declared.accepted.Accepted.{Accepted}
 use Rattle.steps.specs.declared.accepted.Accepted.TheVariants.{Rup, Rat, Empty, Deleted, Ignored}
-use Rattle.steps.specs.declared.refusal.Refusal.{Refusal}
 use Rattle.cnf_base.specs.Literals.{Literal, Clause, same_clause}
 use Rattle.steps.specs.Propagation.{Live}
 use Rattle.steps.specs.Models.{Assignment, satisfies, Models, HasModel}
-use Rattle.steps.specs.Drat.{AnswersDelete, Answer, DratStep, add, delete, AnswersAdd, AnswersDrat, take_off, after_drat}
+use Rattle.steps.specs.Drat.{AnswersDelete, DratStep, add, delete, AnswersAdd, AnswersDrat, take_off, after_drat}
 use Rattle.steps.specs.Lrat.{LratState, LratStep, add as add_lrat, delete as delete_lrat, AnswersLrat, after_lrat, with_clause, without_id, without_ids, deletion_refusal}
-use Rattle.steps.specs.Verdicts.{verified, refused, no_empty_clause, is_last, Ends, is_empty, numbered, lrat_start, DratVerdict, LratVerdict}
 use Rattle.steps.specs.Theorems.{IsRedundant}
 use Rattle.steps.proofs.Truth.{rup_true, rat_keeps, HasModelWith}
 use Rattle.steps.proofs.LratSteps.{lrat_redundant, deletion_word}
@@ -63,12 +60,18 @@ take_off_from c (e ∷ live) k d at =
     later earlier zero at = (zero, at)
     later earlier (suc k) at = let w = earlier k at in (suc w.0, w.1)
 
-pub drat_keeps : (rules : DratRules) (live : List Clause) (step : DratStep) (word : Accepted) → AnswersDrat rules live step (Ok word) → HasModel (slice_get live) → HasModel (slice_get (after_drat live step))
+taken_off_keeps : (live : List Clause) (c : Clause) → HasModel (slice_get live) → HasModel (slice_get (take_off c live))
+taken_off_keeps live c m = (m.0, λ k d at. let w = take_off_from c live k d at in m.1 w.0 d w.1)
+
+pub drat_keeps : (rules : DratRules) (live : List Clause) (step : DratStep) (word : Accepted) → AnswersDrat rules live step (Ok word) → HasModel (slice_get live) → HasModel (slice_get (after_drat live step word))
 drat_keeps rules live (add c) word answer m =
     let w = redundant_keeps (slice_get live) c word (add_redundant live c word answer) m in
     (w.0, models_more w.0 live c w.1 w.2)
-drat_keeps rules live (delete c) word answer m =
-    (m.0, λ k d at. let w = take_off_from c live k d at in m.1 w.0 d w.1)
+drat_keeps rules live (delete c) Ignored answer m = m
+drat_keeps rules live (delete c) Deleted answer m = taken_off_keeps live c m
+drat_keeps rules live (delete c) Rup answer m = taken_off_keeps live c m
+drat_keeps rules live (delete c) Rat answer m = taken_off_keeps live c m
+drat_keeps rules live (delete c) Empty answer m = taken_off_keeps live c m
 
 -- no deletion is answered so
 no_deletion : (strict : Bool) (live : List Clause) (c : List Literal) → AnswersDelete strict live c (Ok Empty) → ⊥
@@ -111,54 +114,3 @@ lrat_refutes state (delete_lrat ids) answer m = other (deletion_word (deletion_r
   where
     other : Empty ≡ Deleted → ⊥
     other e = cc
-
--- ---- Whole proofs
-
-last_is_empty : (word : Accepted) → is_last word ≡ true → word ≡ Empty
-last_is_empty Empty e = refl
-last_is_empty Rup e = absurd (false≢true e)
-last_is_empty Rat e = absurd (false≢true e)
-last_is_empty Deleted e = absurd (false≢true e)
-last_is_empty Ignored e = absurd (false≢true e)
-
-verified_none : verified ≡ no_empty_clause → ⊥
-verified_none e = cc
-
-verified_refused : (r : Refusal) → verified ≡ refused r → ⊥
-verified_refused r e = cc
-
-module _ {State Step : Type 0} (Answers : State → Step → Answer → Type 0) (after : State → Step → State) (Has : State → Type 0)
-    (keeps : (s : State) (step : Step) (word : Accepted) → Answers s step (Ok word) → Has s → Has (after s step))
-    (refutes : (s : State) (step : Step) → Answers s step (Ok Empty) → Has s → ⊥) where
-  pub ends_sound : (steps : List Step) (s : State) (words : List Accepted) → Ends Answers after s steps words verified → Has s → ⊥
-  ends_sound [] s [] e has_model = verified_none e
-  ends_sound [] s (word ∷ words) e has_model = e
-  ends_sound (step ∷ steps) s [] e has_model = verified_refused e.0 e.1
-  ends_sound (step ∷ steps) s (word ∷ words) e has_model =
-      elim (cases_Bool (is_last word)) [
-        | inl last ↦ refutes s step (subst (λ w. Answers s step (Ok w)) (last_is_empty word last) e.0) has_model
-        | inr goes_on ↦ ends_sound steps (after s step) words (MatchBool-at_false _ _ goes_on e.1) (keeps s step word e.0 has_model)
-      ]
-
-pub empty_formula : (formula : List Clause) → list_any is_empty formula ≡ true → HasModel (slice_get formula) → ⊥
-empty_formula [] h m = false≢true h
-empty_formula ([] ∷ formula) h m = false≢true (m.1 zero [] refl)
-empty_formula ((l ∷ c) ∷ formula) h m = empty_formula formula h (m.0, λ k d at. m.1 (suc k) d at)
-
-pub models_numbered : (v : Assignment) (formula : List Clause) → Models v (slice_get formula) → Models v (numbered formula)
-models_numbered v formula models zero d at = absurd (none-some d at)
-models_numbered v formula models (suc k) d at = models k d at
-
-pub drat_sound : (rules : DratRules) (formula : List Clause) (steps : List DratStep) (words : List Accepted) → DratVerdict rules formula steps words verified → ¬ HasModel (slice_get formula)
-drat_sound rules formula steps words verdict m =
-    elim (cases_Bool (list_any is_empty formula)) [
-      | inl e ↦ empty_formula formula e m
-      | inr e ↦ ends_sound (AnswersDrat rules) after_drat (λ live. HasModel (slice_get live)) (drat_keeps rules) (drat_refutes rules) steps formula words (MatchBool-at_false _ _ e verdict) m
-    ]
-
-pub lrat_sound : (formula : List Clause) (steps : List LratStep) (words : List Accepted) → LratVerdict formula steps words verified → ¬ HasModel (slice_get formula)
-lrat_sound formula steps words verdict m =
-    elim (cases_Bool (list_any is_empty formula)) [
-      | inl e ↦ empty_formula formula e m
-      | inr e ↦ ends_sound AnswersLrat after_lrat (λ state. HasModel state.live) lrat_keeps lrat_refutes steps (lrat_start formula) words (MatchBool-at_false _ _ e verdict) (m.0, models_numbered m.0 formula m.1)
-    ]

@@ -27,3 +27,5 @@ pub mod CopySums
 pub mod Scans
 pub mod Deciding
 pub mod Ruling
+pub mod Existence
+pub mod VerdictLaws

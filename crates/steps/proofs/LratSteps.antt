@@ -4,13 +4,14 @@ use Rattle.std.proofs.lemmas.Bool.{false≢true, true≢false, cases_Bool, or_ca
 use Rattle.std.specs.Bool.{then_some}
 use Rattle.std.specs.Option.{option_or}
 use Rattle.std.specs.List.{list_any}
+use Rattle.std.proofs.lemmas.Option.{none-some}
 use Rattle.steps.specs.declared.accepted.Accepted.{Accepted}
 use Rattle.steps.specs.declared.accepted.Accepted.TheVariants.{Rup, Rat, Empty, Deleted, Ignored}
 use Rattle.steps.specs.declared.refusal.Refusal.{Refusal}
 use Rattle.steps.specs.declared.refusal.Refusal.TheVariants.{IdOutOfOrder, UnknownId, NotUnit, GroupWithoutConflict, NoConflict}
 use Rattle.cnf_base.specs.Literals.{Literal, complement, Clause, has, complements, without}
 use Rattle.steps.specs.Propagation.{Live, Forced, Clash, HasRat, by_both}
-use Rattle.steps.specs.Drat.{Answer}
+use Rattle.steps.specs.StepAnswer.{StepAnswer}
 use Rattle.steps.specs.Lrat.{ChainEnd, conflict, open_with, unknown, not_unit, chain, Group, LratState, add, with_candidate, chain_refusal, group_refusal, groups_refusal, is_unsettled, is_left_out, AnswersGroups, AnswersChain, AnswersLrat, answer_of}
 use Rattle.clause_db.specs.Trail.{conflicts}
 use Rattle.steps.specs.Theorems.{IsRedundant}
@@ -24,26 +25,17 @@ use Rattle.steps.proofs.Chains.{ChainMeans, chain_means}
 
 or_none : {A : Type 0} (a b : Option A) → option_or a b ≡ None → (a ≡ None) × (b ≡ None)
 or_none None b e = (refl, e)
-or_none (Some x) b e = absurd (some_none x e)
-  where
-    some_none : {A : Type 0} (x : A) → Some x ≡ None → ⊥
-    some_none x e = cc
+or_none (Some x) b e = absurd (none-some x (sym e))
 
 then_none : {A : Type 0} (b : Bool) (x : A) → then_some b x ≡ None → b ≡ false
 then_none false x e = refl
-then_none true x e = absurd (some_none x e)
-  where
-    some_none : {A : Type 0} (x : A) → Some x ≡ None → ⊥
-    some_none x e = cc
-
-some_refusal : (r : Refusal) → ◌≡◌ {A = Option Refusal} (Some r) None → ⊥
-some_refusal r e = cc
+then_none true x e = absurd (none-some x (sym e))
 
 conflict_of_none : (r : Refusal) (end : ChainEnd) → chain_refusal r end ≡ None → end ≡ conflict
 conflict_of_none r conflict e = refl
-conflict_of_none r (open_with ls) e = absurd (some_refusal r e)
-conflict_of_none r (unknown k) e = absurd (some_refusal (UnknownId k) e)
-conflict_of_none r (not_unit k) e = absurd (some_refusal (NotUnit k) e)
+conflict_of_none r (open_with ls) e = absurd (none-some r (sym e))
+conflict_of_none r (unknown k) e = absurd (none-some (UnknownId k) (sym e))
+conflict_of_none r (not_unit k) e = absurd (none-some (NotUnit k) (sym e))
 
 -- ---- Groups
 
@@ -108,10 +100,10 @@ rat_of_groups live pivot rest ls groups forced e none_left =
 
 -- ---- Steps
 
-pub ok_is : (first second : Accepted) → ◌≡◌ {A = Answer} (Ok first) (Ok second) → first ≡ second
+pub ok_is : (first second : Accepted) → ◌≡◌ {A = StepAnswer} (Ok first) (Ok second) → first ≡ second
 ok_is first second e = cc
 
-pub ok_err : (word : Accepted) (r : Refusal) → ◌≡◌ {A = Answer} (Ok word) (Err r) → ⊥
+pub ok_err : (word : Accepted) (r : Refusal) → ◌≡◌ {A = StepAnswer} (Ok word) (Err r) → ⊥
 ok_err word r e = cc
 
 groups_redundant : (live : Live) (pivot : Literal) (rest ls : List Literal) (groups : List Group) (word : Accepted) → ((a : Literal) → has ls a ≡ true → Forced live (complements (pivot ∷ rest)) a) → (refusal : Option Refusal) → groups_refusal live ls pivot [] groups ≡ refusal → AnswersGroups live ls pivot groups refusal (Ok word) → IsRedundant live (pivot ∷ rest) word
@@ -140,6 +132,6 @@ lrat_redundant state id c units groups word answer =
       | inr e ↦ chain_redundant state.live c groups word (chain state.live (complements c) units) (chain_means state.live (complements c) units (complements c) (forced_assumed state.live (complements c))) (MatchBool-at_false _ _ e answer)
     ]
 
-pub deletion_word : (refusal : Option Refusal) (word : Accepted) → ◌≡◌ {A = Answer} (Ok word) (answer_of refusal) → word ≡ Deleted
+pub deletion_word : (refusal : Option Refusal) (word : Accepted) → ◌≡◌ {A = StepAnswer} (Ok word) (answer_of refusal) → word ≡ Deleted
 deletion_word None word e = ok_is word Deleted e
 deletion_word (Some r) word e = absurd (ok_err word r e)

@@ -6,18 +6,16 @@ use Rattle.std.specs.FinMap.{FinMap, get-empty}
 use Rattle.std.specs.Result.{OnOk}
 use Rattle.std.specs.declared.result.Result.{Result}
 use Rattle.std.specs.declared.result.Result.TheVariants.{Ok, Err}
+use Rattle.std.proofs.lemmas.Option.{none-some}
 use Rattle.cnf_base.specs.Literals.{Literal, Clause, has}
 use Rattle.clause_db.specs.Trail.{TrailState, HasRoom, HasRoomForAll}
 use Rattle.proofs.specs.declared.step_buf.StepKind.TheVariants.{Delete}
 use Rattle.proofs.specs.Steps.{Step}
 use Rattle.steps.specs.Propagation.{Live}
 use Rattle.steps.specs.Lrat.{with_clause, without_id, without_ids, step_of, lrat_step, LratState, after_lrat, SameAt, SameClauses}
-use Rattle.steps.specs.Session.{IsReady}
+use Rattle.steps.specs.LratSession.{IsReady}
 use Rattle.cnf_base.proofs.SetLemmas.{same_there}
 use Rattle.steps.proofs.LiveSets.{SameClauses-eq}
-
-some_none : (c : Clause) → Some c ≡ None → ⊥
-some_none c e = cc
 
 -- ---- A clause that is added
 
@@ -44,7 +42,7 @@ without_stays [] live k c h = h
 without_stays (id ∷ ids) live k c h = by_test (eqb k id) (without_stays ids (without_id live id) k c h)
   where
     by_test : (b : Bool) → cond b None (live k) ≡ Some c → live k ≡ Some c
-    by_test true e = absurd (some_none c (sym e))
+    by_test true e = absurd (none-some c (sym (sym e)))
     by_test false e = e
 
 pub ready_without : (trues : TrailState) (live after : Live) (ids : List ℕ) → ((k : ℕ) → after k ≡ without_ids live ids k) → IsReady live trues → IsReady after trues
@@ -71,5 +69,5 @@ on_ok (Err y) P Q f p = tt
 pub ready_empty : (trues : TrailState) (live : FinMap nat_cmp Clause) → trues.lits ≡ [] → live ≡ maps.empty → IsReady (maps.get live) trues
 ready_empty trues live none_true none = record {
   none_true = none_true;
-  room = record { each = λ k c at l member. absurd (some_none c (sym at ∙ ap (λ m. maps.get m k) none ∙ get-empty nat_cmp k)) };
+  room = record { each = λ k c at l member. absurd (none-some c (sym (sym at ∙ ap (λ m. maps.get m k) none ∙ get-empty nat_cmp k))) };
 }

@@ -11,7 +11,7 @@ use Rattle.clause_db.specs.declared.left.Left.{Left}
 use Rattle.clause_db.specs.declared.left.Left.TheVariants.{Nothing, One, More}
 use Rattle.cnf_base.specs.Literals.{Literal, complement, Clause, has, complements, without, same_clause}
 use Rattle.steps.specs.Propagation.{Live}
-use Rattle.steps.specs.Drat.{Answer}
+use Rattle.steps.specs.StepAnswer.{StepAnswer}
 use Rattle.steps.specs.Lrat.{ChainEnd, conflict, open_with, unknown, not_unit, look_at, chain, Group, LratStep, add, delete, with_candidate, chain_refusal, group_refusal, groups_refusal, is_unsettled, is_left_out, AnswersGroups, AnswersChain, with_clause, without_id, without_ids, deletion_refusal, answer_of, AnswersLrat, SameAt, SameClauses}
 use Rattle.clause_db.specs.Trail.{conflicts}
 use Rattle.clause_db.specs.Left.{open_literals, how_many}
@@ -150,14 +150,14 @@ module _ (live other : Live) (same_clauses : SameClauses live other) where
 
   -- ---- Answers
 
-  groups_answer : (ls : List Literal) (pivot : Literal) (groups : List Group) (refusal : Option Refusal) (answer : Answer) → AnswersGroups live ls pivot groups refusal answer → AnswersGroups other ls pivot groups refusal answer
+  groups_answer : (ls : List Literal) (pivot : Literal) (groups : List Group) (refusal : Option Refusal) (answer : StepAnswer) → AnswersGroups live ls pivot groups refusal answer → AnswersGroups other ls pivot groups refusal answer
   groups_answer ls pivot groups (Some r) answer a = a
   groups_answer ls pivot groups None (Ok Rat) a = λ k. sym (left_out_same ls pivot groups k) ∙ a k
   groups_answer ls pivot groups None (Err (Unnamed k)) a = (sym (left_out_same ls pivot groups k) ∙ a.0, λ j h. sym (left_out_same ls pivot groups j) ∙ a.1 j h)
   groups_answer ls pivot groups None (Ok _) a = absurd a
   groups_answer ls pivot groups None (Err _) a = absurd a
 
-  chain_answer : (c : List Literal) (groups : List Group) (end : ChainEnd) (answer : Answer) → AnswersChain live c groups end answer → AnswersChain other c groups end answer
+  chain_answer : (c : List Literal) (groups : List Group) (end : ChainEnd) (answer : StepAnswer) → AnswersChain live c groups end answer → AnswersChain other c groups end answer
   chain_answer [] groups conflict answer a = a
   chain_answer (l ∷ c) groups conflict answer a = a
   chain_answer [] groups (unknown k) answer a = a
@@ -168,7 +168,7 @@ module _ (live other : Live) (same_clauses : SameClauses live other) where
   chain_answer (pivot ∷ c) groups (open_with ls) answer a =
       subst (λ refusal. AnswersGroups other ls pivot groups refusal answer) (groups_same ls pivot groups []) (groups_answer ls pivot groups (groups_refusal live ls pivot [] groups) answer a)
 
-  add_answer : (top id : ℕ) (c : List Literal) (units : List ℕ) (groups : List Group) (answer : Answer) (late : Bool) →
+  add_answer : (top id : ℕ) (c : List Literal) (units : List ℕ) (groups : List Group) (answer : StepAnswer) (late : Bool) →
       MatchBool late (answer ≡ Err IdOutOfOrder) (AnswersChain live c groups (chain live (complements c) units) answer) →
       MatchBool late (answer ≡ Err IdOutOfOrder) (AnswersChain other c groups (chain other (complements c) units) answer)
   add_answer top id c units groups answer true a = a
@@ -203,6 +203,6 @@ deletion_same (id ∷ ids) first second same =
     ap (λ t. option_or (then_some t (UnknownId id)) (deletion_refusal (without_id first id) ids)) (is_none_same (first id) (second id) (same.at id))
     ∙ ap (option_or (then_some (is_none (second id)) (UnknownId id))) (deletion_same ids (without_id first id) (without_id second id) (without_same first second id same))
 
-pub lrat_same : (first second : Live) (top : ℕ) (step : LratStep) (answer : Answer) → SameClauses first second → AnswersLrat (record { live = first; top = top }) step answer → AnswersLrat (record { live = second; top = top }) step answer
+pub lrat_same : (first second : Live) (top : ℕ) (step : LratStep) (answer : StepAnswer) → SameClauses first second → AnswersLrat (record { live = first; top = top }) step answer → AnswersLrat (record { live = second; top = top }) step answer
 lrat_same first second top (add id c units groups) answer same a = add_answer first second same top id c units groups answer (nat_le id top) a
 lrat_same first second top (delete ids) answer same a = a ∙ ap answer_of (deletion_same ids first second same)

@@ -1,6 +1,7 @@
 -- One scan over a list of clauses: a clash, a literal that is forced and not listed yet, or the listed ones are all.
-use Rattle.std.proofs.Common.{◌≡◌, ℕ, zero, suc, true, false, Option, Some, None, List, [], ◌∷◌, slice_get, refl, sym, subst, inl, inr}
+use Rattle.std.proofs.Common.{◌≡◌, ℕ, zero, suc, true, false, Option, Some, List, [], ◌∷◌, slice_get, refl, sym, subst, inl, inr}
 use Rattle.std.proofs.lemmas.Bool.{cases_Bool}
+use Rattle.std.proofs.lemmas.Option.{none-some}
 use Rattle.clause_db.specs.declared.left.Left.TheVariants.{Nothing, One, More}
 use Rattle.cnf_base.specs.Literals.{Literal, Clause, has}
 use Rattle.steps.specs.Propagation.{Live, Forced}
@@ -28,10 +29,7 @@ found_more trues d live first (one_left k c at m e new) = one_left (suc k) c at 
 found_more trues d live first (none_new rest) = none_new (settled_more trues d live first rest)
 
 pub scan : (trues : List Literal) (live : List Clause) → Found (slice_get live) trues
-scan trues [] = none_new (λ k c at. absurd (none_some c at))
-  where
-    none_some : (c : Clause) → ◌≡◌ {A = Option Clause} None (Some c) → ⊥
-    none_some c e = cc
+scan trues [] = none_new (λ k c at. absurd (none-some c at))
 scan trues (d ∷ live) = elim (how_many (open_literals trues d)) as (λ left. how_many (open_literals trues d) ≡ left → Found (slice_get (d ∷ live)) trues) [
   | Nothing ↦ λ e. all_false zero d refl e
   | One m ↦ λ e. elim (cases_Bool (has trues m)) [

@@ -1,18 +1,16 @@
 -- What a caller who runs a session over a list of steps can use.
-use Rattle.std.proofs.Common.{◌≡◌, ℕ, zero, suc, ◌+◌, Bool, true, false, cond, eqb, ne_eqb, Option, Some, None, Ok, Err, List, [], ◌∷◌, ◌++◌, length, slice_get, refl, sym, ap, ◌∙◌, subst, arith}
-use Rattle.std.specs.Bool.{MatchBool}
+use Rattle.std.proofs.Common.{◌≡◌, ℕ, zero, suc, ◌+◌, true, cond, eqb, ne_eqb, Option, Some, None, List, [], ◌∷◌, ◌++◌, length, slice_get, refl, sym, ap, ◌∙◌, subst, arith}
 use Rattle.std.specs.Ordering.{nat_cmp}
 use Rattle.std.specs.FinMap as maps
 use Rattle.std.proofs.lemmas.Bool.Decides.{nat_tests}
-use Rattle.steps.specs.declared.accepted.Accepted.{Accepted}
 use Rattle.cnf_base.specs.Literals.{Clause, same_clause}
 use Rattle.cnf_base.proofs.SetLemmas.{any_from, any_some, same_itself, same_there, same_symm}
 use Rattle.steps.specs.Propagation.{Live}
 use Rattle.steps.specs.Models.{Assignment, holds, satisfies, Models, HasModel}
-use Rattle.steps.specs.Drat.{Answer, SameLive}
-use Rattle.steps.specs.Lrat.{LratState, LratStep, add, delete, AnswersLrat, after_lrat, with_clause, SameAt, SameClauses}
-use Rattle.steps.specs.Session.{fresh, state_of}
-use Rattle.steps.specs.Verdicts.{Ending, verified, is_last, Ends, numbered}
+use Rattle.steps.specs.StepAnswer.{StepAnswer}
+use Rattle.steps.specs.Drat.{SameLive}
+use Rattle.steps.specs.Lrat.{LratState, LratStep, add, delete, AnswersLrat, after_lrat, with_clause, numbered, SameAt, SameClauses}
+use Rattle.steps.specs.LratSession.{fresh, state_of}
 use Rattle.steps.proofs.Copies.{covers_of}
 use Rattle.steps.proofs.SameSets.{with_same, without_all_same, lrat_same}
 
@@ -22,23 +20,13 @@ pub record SameState (first second : LratState) : Type 0 where
   pub live : SameClauses first.live second.live
   pub top : first.top ≡ second.top
 
-pub answers_same : (first second : LratState) (step : LratStep) (answer : Answer) → SameState first second → AnswersLrat first step answer → AnswersLrat second step answer
+pub answers_same : (first second : LratState) (step : LratStep) (answer : StepAnswer) → SameState first second → AnswersLrat first step answer → AnswersLrat second step answer
 answers_same first second step answer same a =
     subst (λ t. AnswersLrat (record { live = second.live; top = t }) step answer) same.top (lrat_same first.live second.live first.top step answer same.live a)
 
 pub after_same : (first second : LratState) (step : LratStep) → SameState first second → SameState (after_lrat first step) (after_lrat second step)
 after_same first second (add id c units groups) same = record { live = with_same first.live second.live id c c same.live (same_itself c); top = refl }
 after_same first second (delete ids) same = record { live = without_all_same ids first.live second.live same.live; top = same.top }
-
-pub ends_same : (steps : List LratStep) (words : List Accepted) (ending : Ending) (first second : LratState) → SameState first second → Ends AnswersLrat after_lrat first steps words ending → Ends AnswersLrat after_lrat second steps words ending
-ends_same [] [] ending first second same e = e
-ends_same [] (word ∷ words) ending first second same e = absurd e
-ends_same (step ∷ steps) [] ending first second same e = (e.0, e.1, answers_same first second step (Err e.0) same e.2)
-ends_same (step ∷ steps) (word ∷ words) ending first second same e = (answers_same first second step (Ok word) same e.0, by_word (is_last word) (ends_same steps words ending (after_lrat first step) (after_lrat second step) (after_same first second step same)) e.1)
-  where
-    by_word : (b : Bool) → (Ends AnswersLrat after_lrat (after_lrat first step) steps words ending → Ends AnswersLrat after_lrat (after_lrat second step) steps words ending) → MatchBool b ((words ≡ []) × (ending ≡ verified)) (Ends AnswersLrat after_lrat (after_lrat first step) steps words ending) → MatchBool b ((words ≡ []) × (ending ≡ verified)) (Ends AnswersLrat after_lrat (after_lrat second step) steps words ending)
-    by_word true rest h = h
-    by_word false rest h = rest h
 
 -- ---- Models
 

@@ -1,6 +1,6 @@
 -- Identifiers, slots and clauses as one finite map.
-use Rattle.std.proofs.Common.{◌≡◌, ℕ, Bool, true, false, cond, eqb, eq-eqb, ne_eqb, Option, Some, None, option_map, List, [], ◌∷◌, map, ◌+◌, ◌-◌, ◌<◌, ◌≤◌, ◌≢◌, is_some, refl, sym, ap, ◌∙◌, subst, arith, nat_cmp, nat_eq, length, inl, inr, ◌⊎◌}
-use Rattle.std.proofs.lemmas.Option.{same_Some}
+use Rattle.std.proofs.Common.{◌≡◌, ℕ, Bool, true, false, cond, eqb, eq-eqb, ne_eqb, Option, Some, None, option_map, List, [], ◌∷◌, map, ◌+◌, ◌<◌, ◌≤◌, ◌≢◌, is_some, refl, sym, ap, ◌∙◌, subst, arith, nat_cmp, nat_eq, length, inl, inr, ◌⊎◌}
+use Rattle.std.proofs.lemmas.Option.{same_Some, none-some}
 use Rattle.std.proofs.lemmas.Option.{}
 use Rattle.std.specs.Ordering.{eq_by_cmp}
 use Rattle.std.specs.Option.{unwrap_or, IsSome}
@@ -12,8 +12,8 @@ use Rattle.std.specs.Bool.{IsTrue}
 use Rattle.std.specs.List.{IsDistinct}
 use Rattle.cnf_base.specs.Literals.{Literal, Clause, has, same_clause}
 use Rattle.cnf_base.proofs.SetLemmas.{has_head, has_tail}
-use Rattle.clause_db.specs.Clauses.{copies_with}
-use Rattle.clause_db.proofs.SumLemmas.{sum_remove}
+use Rattle.clause_db.specs.Clauses.{copies_with, literals_in}
+use Rattle.clause_db.proofs.SumLemmas.{same_maps, sum_insert, sum_remove, sum_empty}
 use Rattle.steps.proofs.Different.{distinct_head, distinct_tail}
 use Rattle.steps.specs.Propagation.{Live}
 use Rattle.steps.specs.Lrat.{with_clause, without_id, SameAt, SameClauses}
@@ -68,9 +68,6 @@ some_is_some o x e = ap is_some e
 none_is_not_some : {X : Type 0} (o : Option X) → o ≡ None → IsSome o → ⊥
 none_is_not_some o e h = false≢true (sym (ap is_some e) ∙ h)
 
-some_none : {X : Type 0} (x : X) → ◌≡◌ {A = Option X} (Some x) None → ⊥
-some_none x e = false≢true (sym (ap is_some e))
-
 -- two maps that agree at the slot of k have the same clause there
 held_agree : (ids after_ids : FinMap nat_cmp ℕ) (store after : FinMap nat_cmp Clause) (k : ℕ) → maps.get after_ids k ≡ maps.get ids k → ((slot : ℕ) → maps.get ids k ≡ Some slot → maps.get after slot ≡ maps.get store slot) → held_at after_ids after k ≡ held_at ids store k
 held_agree ids after_ids store after k same agree = ap (option_map (clause_at after)) same ∙ by_slot (maps.get ids k) agree
@@ -88,14 +85,11 @@ module _ (ids : FinMap nat_cmp ℕ) (store after : FinMap nat_cmp Clause) (id sl
   old_slot k s at e = none_is_not_some (maps.get store slot) free (subst (λ t. IsSome (maps.get store t)) e (paired.filled k s at))
 
   -- a slot that was filled and freed again
-  pub freed_held : (k : ℕ) → held_at ids (maps.remove after slot) k ≡ held_at ids store k
-  freed_held k = held_agree ids ids store (maps.remove after slot) k refl (λ s at. remove_other after slot s (old_slot k s at) ∙ others s (old_slot k s at))
-
-  pub freed_paired : IsPaired ids (maps.remove after slot)
-  freed_paired = record {
-    filled = λ k s at. subst IsSome (sym (remove_other after slot s (old_slot k s at) ∙ others s (old_slot k s at))) (paired.filled k s at);
-    own = paired.own;
-  }
+  pub freed_is : maps.remove after slot ≡ store
+  freed_is = same_maps (maps.remove after slot) store (λ q. elim (cases_eq q slot) [
+    | inl e ↦ ap (maps.get (maps.remove after slot)) e ∙ remove_here after slot ∙ sym (ap (maps.get store) e ∙ free)
+    | inr apart ↦ remove_other after slot q apart ∙ others q apart
+  ])
 
   module _ (c : Clause) (stored : maps.get after slot ≡ Some c) (after_ids : FinMap nat_cmp ℕ) (bound : after_ids ≡ maps.insert ids id slot) where
     ids_here : maps.get after_ids id ≡ Some slot
@@ -133,15 +127,20 @@ module _ (ids : FinMap nat_cmp ℕ) (store after : FinMap nat_cmp Clause) (id sl
       ];
     }
 
-    pub tally_with : (top sum n : ℕ) → IsTally (held_at ids store) top sum → top < id → n ≡ size c → n < 18446744073709551616 → IsTally (held_at after_ids after) id (sum + n)
-    tally_with top sum n tally above n_is small =
+    filled_is : after ≡ maps.insert store slot c
+    filled_is = same_maps after (maps.insert store slot c) (λ q. elim (cases_eq q slot) [
+      | inl e ↦ ap (maps.get after) e ∙ stored ∙ sym (ap (maps.get (maps.insert store slot c)) e ∙ insert_here store slot c)
+      | inr apart ↦ others q apart ∙ sym (insert_other store slot c q apart)
+    ])
+
+    pub tally_with : (top : ℕ) → IsTally (held_at ids store) top (literals_in store) → top < id → IsTally (held_at after_ids after) id (literals_in after)
+    tally_with top tally above =
         let was = tally.sum_is in
-        let limit = tally.limit in
+        let grown = ap literals_in filled_is ∙ sum_insert size store slot c free in
         let now = sum_with (held_at ids store) (held_at after_ids after) top id c above tally.none_above held_with in
         let zero_apart : 0 ≢ id = λ e. absurd (let h : ⊥ = omega arith in h) in
         record {
-          sum_is = ap (λ m. m + n) was ∙ ap (λ m. sum_to top (λ k. size_at (held_at ids store k)) + m) n_is ∙ sym now;
-          limit = omega arith;
+          sum_is = omega (arith, was, grown, now);
           none_at_zero = held_with 0 ∙ with_other (held_at ids store) id c 0 zero_apart ∙ tally.none_at_zero;
           none_above = λ k past. held_with k ∙ with_other (held_at ids store) id c k (λ e. absurd (let h : ⊥ = omega arith in h)) ∙ tally.none_above k (omega arith);
         }
@@ -152,7 +151,7 @@ not_bound ids store k h = by_slot (maps.get ids k) h
   where
     by_slot : (o : Option ℕ) → option_map (clause_at store) o ≡ None → o ≡ None
     by_slot None h = refl
-    by_slot (Some s) h = absurd (some_none (clause_at store s) h)
+    by_slot (Some s) h = absurd (none-some (clause_at store s) (sym h))
 
 -- ---- A clause that is taken off
 
@@ -166,7 +165,7 @@ module _ (ids after_ids : FinMap nat_cmp ℕ) (store : FinMap nat_cmp Clause) (i
   -- an identifier that is still bound was bound, and is another one
   still_bound : (k s : ℕ) → maps.get after_ids k ≡ Some s → (k ≢ id) × (maps.get ids k ≡ Some s)
   still_bound k s at = elim (cases_eq k id) [
-    | inl e ↦ absurd (some_none s (sym at ∙ ap (maps.get after_ids) e ∙ gone_here))
+    | inl e ↦ absurd (none-some s (sym (sym at ∙ ap (maps.get after_ids) e ∙ gone_here)))
     | inr apart ↦ (apart, sym (gone_other k apart) ∙ at)
   ]
 
@@ -219,26 +218,17 @@ module _ (ids after_ids : FinMap nat_cmp ℕ) (store : FinMap nat_cmp Clause) (i
         none_twice true = refl
         none_twice false = refl
 
-    module _ (c : Clause) (at : Some c ≡ maps.get store slot) (top sum n : ℕ) (tally : IsTally (held_at ids store) top sum) (n_is : n ≡ size c) where
+    module _ (c : Clause) (at : maps.get store slot ≡ Some c) (top : ℕ) (tally : IsTally (held_at ids store) top (literals_in store)) where
       held_here : held_at ids store id ≡ Some c
-      held_here = ap (option_map (clause_at store)) bound ∙ ap (λ o. Some (unwrap_or o [])) (sym at)
+      held_here = ap (option_map (clause_at store)) bound ∙ ap (λ o. Some (unwrap_or o [])) at
 
-      sum_split : sum_to top (λ k. size_at (held_at after_ids after k)) + n ≡ sum
-      sum_split =
-          ap (λ m. sum_to top (λ k. size_at (held_at after_ids after k)) + m) n_is
-          ∙ sum_without (held_at ids store) (held_at after_ids after) top id tally.none_at_zero tally.none_above held_without c held_here
-          ∙ sym tally.sum_is
-
-      pub sum_covers : n ≤ sum
-      sum_covers = let split = sum_split in omega arith
-
-      pub tally_without : IsTally (held_at after_ids after) top (sum - n)
+      pub tally_without : IsTally (held_at after_ids after) top (literals_in after)
       tally_without =
-          let split = sum_split in
-          let limit = tally.limit in
+          let was = tally.sum_is in
+          let less = ap (λ m. size c + literals_in m) freed ∙ sum_remove size store slot c at in
+          let now = sum_without (held_at ids store) (held_at after_ids after) top id tally.none_at_zero tally.none_above held_without c held_here in
           record {
-            sum_is = omega arith;
-            limit = omega arith;
+            sum_is = omega (arith, was, less, now);
             none_at_zero = none_stays 0 tally.none_at_zero;
             none_above = λ k past. none_stays k (tally.none_above k past);
           }
@@ -247,7 +237,6 @@ module _ (ids after_ids : FinMap nat_cmp ℕ) (store : FinMap nat_cmp Clause) (i
 pub tally_same : (live after : Live) (top sum : ℕ) → ((k : ℕ) → after k ≡ live k) → IsTally live top sum → IsTally after top sum
 tally_same live after top sum same tally = record {
   sum_is = tally.sum_is ∙ sum_agree top (λ k. size_at (live k)) (λ k. size_at (after k)) (λ k low high. ap size_at (sym (same k)));
-  limit = tally.limit;
   none_at_zero = same 0 ∙ tally.none_at_zero;
   none_above = λ k past. same k ∙ tally.none_above k past;
 }
@@ -273,18 +262,17 @@ module _ (ids after_ids : FinMap nat_cmp ℕ) (store after : FinMap nat_cmp Clau
             (same_changed (held_at ids store) id w.0 lits w.2 k));
       }
 
-  pub add_invariant : (c : Clause) → Some c ≡ maps.get after slot → (top sum n : ℕ) → IsTally (held_at ids store) top sum → top < id → n ≡ size c → n < 18446744073709551616 →
-      IsPaired after_ids after × IsTally (held_at after_ids after) id (sum + n)
-  add_invariant c at top sum n tally above n_is small =
-      (paired_with ids store after id slot paired free others c (sym at) after_ids bound, tally_with ids store after id slot paired free others c (sym at) after_ids bound top sum n tally above n_is small)
+  pub add_invariant : (top : ℕ) → IsTally (held_at ids store) top (literals_in store) → top < id → IsPaired after_ids after × IsTally (held_at after_ids after) id (literals_in after)
+  add_invariant top tally above =
+      let w = stored in
+      (paired_with ids store after id slot paired free others w.0 w.1 after_ids bound, tally_with ids store after id slot paired free others w.0 w.1 after_ids bound top tally above)
 
 -- the clause is taken off again where its identifier could not be bound
-pub undone_invariant : (ids after_ids : FinMap nat_cmp ℕ) (store after freed : FinMap nat_cmp Clause) (id slot top sum : ℕ) → IsPaired ids store → maps.get store slot ≡ None → ((k : ℕ) → k ≢ slot → maps.get after k ≡ maps.get store k) →
-    after_ids ≡ ids → freed ≡ maps.remove after slot → IsTally (held_at ids store) top sum → IsPaired after_ids freed × IsTally (held_at after_ids freed) top sum
-undone_invariant ids after_ids store after freed id slot top sum paired free others ids_are freed_is tally =
-    subst (λ m. IsPaired m freed × IsTally (held_at m freed) top sum) (sym ids_are)
-    (subst (λ s. IsPaired ids s × IsTally (held_at ids s) top sum) (sym freed_is)
-    (freed_paired ids store after id slot paired free others, tally_same (held_at ids store) (held_at ids (maps.remove after slot)) top sum (freed_held ids store after id slot paired free others) tally))
+pub undone_invariant : (ids after_ids : FinMap nat_cmp ℕ) (store after freed : FinMap nat_cmp Clause) (id slot top : ℕ) → IsPaired ids store → maps.get store slot ≡ None → ((k : ℕ) → k ≢ slot → maps.get after k ≡ maps.get store k) →
+    after_ids ≡ ids → freed ≡ maps.remove after slot → IsTally (held_at ids store) top (literals_in store) → IsPaired after_ids freed × IsTally (held_at after_ids freed) top (literals_in freed)
+undone_invariant ids after_ids store after freed id slot top paired free others ids_are is tally =
+    subst (λ m. IsPaired m freed × IsTally (held_at m freed) top (literals_in freed)) (sym ids_are)
+    (subst (λ s. IsPaired ids s × IsTally (held_at ids s) top (literals_in s)) (sym (is ∙ freed_is ids store after id slot paired free others)) (paired, tally))
 
 -- ---- What is seen of a look-up and of a removal
 
@@ -313,17 +301,19 @@ module _ (ids : FinMap nat_cmp ℕ) (store : FinMap nat_cmp Clause) (shelf : She
   absent_was id none = sym (ap is_some (got_none id (sym none)))
 
 module _ (ids after_ids : FinMap nat_cmp ℕ) (store : FinMap nat_cmp Clause) (id : ℕ) (paired : IsPaired ids store) (unbound : after_ids ≡ maps.remove ids id) where
-  pub absent_invariant : None ≡ maps.get ids id → (top sum : ℕ) → IsTally (held_at ids store) top sum → IsPaired after_ids store × IsTally (held_at after_ids store) top sum
-  absent_invariant none top sum tally =
-      (none_paired ids after_ids store id paired unbound (sym none), tally_same (held_at ids store) (held_at after_ids store) top sum (none_held ids after_ids store id paired unbound (sym none)) tally)
+  pub absent_invariant : None ≡ maps.get ids id → (top : ℕ) → IsTally (held_at ids store) top (literals_in store) → IsPaired after_ids store × IsTally (held_at after_ids store) top (literals_in store)
+  absent_invariant none top tally =
+      (none_paired ids after_ids store id paired unbound (sym none), tally_same (held_at ids store) (held_at after_ids store) top (literals_in store) (none_held ids after_ids store id paired unbound (sym none)) tally)
 
-  module _ (slot : ℕ) (bound : Some slot ≡ maps.get ids id) (c : Clause) (at : Some c ≡ maps.get store slot) where
-    pub removed_covers : (top sum n : ℕ) → IsTally (held_at ids store) top sum → n ≡ size c → n ≤ sum
-    removed_covers top sum n tally n_is = sum_covers ids after_ids store id paired unbound slot (sym bound) (maps.remove store slot) refl c at top sum n tally n_is
-
-    pub removed_invariant : (after : FinMap nat_cmp Clause) → after ≡ maps.remove store slot → (top sum n : ℕ) → IsTally (held_at ids store) top sum → n ≡ size c → IsPaired after_ids after × IsTally (held_at after_ids after) top (sum - n)
-    removed_invariant after freed top sum n tally n_is =
-        (paired_without ids after_ids store id paired unbound slot (sym bound) after freed, tally_without ids after_ids store id paired unbound slot (sym bound) after freed c at top sum n tally n_is)
+  pub removed_invariant : (slot : ℕ) → Some slot ≡ maps.get ids id → (after : FinMap nat_cmp Clause) → after ≡ maps.remove store slot → (top : ℕ) → IsTally (held_at ids store) top (literals_in store) →
+      IsPaired after_ids after × IsTally (held_at after_ids after) top (literals_in after)
+  removed_invariant slot bound after freed top tally =
+      let w = clause_of (maps.get store slot) (paired.filled id slot (sym bound)) in
+      (paired_without ids after_ids store id paired unbound slot (sym bound) after freed, tally_without ids after_ids store id paired unbound slot (sym bound) after freed w.0 w.1 top tally)
+    where
+      clause_of : (o : Option Clause) → IsSome o → (c : Clause) × (o ≡ Some c)
+      clause_of None filled = absurd (false≢true filled)
+      clause_of (Some c) filled = (c, refl)
 
 -- ---- How many clauses hold a literal
 
@@ -357,7 +347,7 @@ holding_counts ids store shelf view paired l count count_is ks hold =
     by_slot k h (maps.get ids k) refl))
   where
     by_slot : (k : ℕ) → Holds (maps.get shelf.live) l k → (o : Option ℕ) → maps.get ids k ≡ o → (slot : ℕ) × (maps.get ids k ≡ Some slot) × (c : Clause) × (maps.get store slot ≡ Some c) × (has c l ≡ true)
-    by_slot k h None e = absurd (some_none h.clause (sym h.at ∙ got_none ids store shelf view k e))
+    by_slot k h None e = absurd (none-some h.clause (sym (sym h.at ∙ got_none ids store shelf view k e)))
     by_slot k h (Some slot) e = let w = by_clause (maps.get store slot) refl (paired.filled k slot e) in (slot, e, w.0, w.1, w.2)
       where
         by_clause : (o : Option Clause) → maps.get store slot ≡ o → IsSome (maps.get store slot) → (c : Clause) × (maps.get store slot ≡ Some c) × (has c l ≡ true)
@@ -372,15 +362,14 @@ module _ (ids : FinMap nat_cmp ℕ) (store : FinMap nat_cmp Clause) (no_ids : id
   none_bound : (k : ℕ) → maps.get ids k ≡ None
   none_bound k = ap (λ m. maps.get m k) no_ids ∙ get-empty nat_cmp k
 
-  pub start_invariant : IsPaired ids store × IsTally (held_at ids store) 0 0
-  start_invariant = (
+  pub start_invariant : store ≡ maps.empty → IsPaired ids store × IsTally (held_at ids store) 0 (literals_in store)
+  start_invariant no_clauses = (
     record {
-      filled = λ k slot at. absurd (some_none slot (sym at ∙ none_bound k));
-      own = λ j k slot first second. absurd (some_none slot (sym first ∙ none_bound j));
+      filled = λ k slot at. absurd (none-some slot (sym (sym at ∙ none_bound k)));
+      own = λ j k slot first second. absurd (none-some slot (sym (sym first ∙ none_bound j)));
     },
     record {
-      sum_is = refl;
-      limit = omega arith;
+      sum_is = ap literals_in no_clauses ∙ sum_empty size;
       none_at_zero = ap (option_map (clause_at store)) (none_bound 0);
       none_above = λ k past. ap (option_map (clause_at store)) (none_bound k);
     },

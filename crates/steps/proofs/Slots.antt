@@ -1,5 +1,5 @@
 -- A map from slots to clauses, whose values are the live clauses.
-use Rattle.std.proofs.Common.{◌≡◌, ℕ, zero, suc, ◌+◌, Bool, true, false, cond, Option, Some, None, List, [], ◌∷◌, map, slice_get, Less, Equal, Greater, refl, sym, ap, ◌∙◌, subst, arith, eqb-true, eq-eqb, T, ◌&&◌, ◌==◌, ◌<◌, ◌↔◌, inl, inr, le-ltb, is_lt}
+use Rattle.std.proofs.Common.{◌≡◌, ℕ, zero, suc, ◌+◌, Bool, true, false, cond, Some, None, List, [], ◌∷◌, map, slice_get, Less, Equal, Greater, refl, sym, ap, ◌∙◌, subst, arith, eqb-true, eq-eqb, T, ◌&&◌, ◌==◌, ◌<◌, ◌↔◌, inl, inr, le-ltb, is_lt}
 use Rattle.std.proofs.lemmas.Option.{none-some}
 use Rattle.std.specs.Ordering.{nat_cmp, eq_by_cmp, is_eq}
 use Rattle.std.specs.FinMap as slots
@@ -16,15 +16,12 @@ use Rattle.steps.proofs.Copies.{Covers, clash_covers, rat_covers, copies-cons, c
 abbrev clauses_in : List (ℕ × Clause) → List Clause
 clauses_in es = map (λ e. e.1) es
 
-some_none : (c : Clause) → ◌≡◌ {A = Option Clause} (Some c) None → ⊥
-some_none c e = cc
-
 copies-put : (e : Clause) (k : ℕ) (c : Clause) (es : List (ℕ × Clause)) → find nat_cmp k es ≡ None → copies_of e (clauses_in (put nat_cmp k c es)) ≡ cond (same_clause e c) 1 0 + copies_of e (clauses_in es)
 copies-put e k c [] absent = copies-cons e c []
 copies-put e k c (x ∷ es) absent =
     elim (nat_cmp k x.0) as (λ o. nat_cmp k x.0 ≡ o → copies_of e (clauses_in (by_order o ((k, c) ∷ x ∷ es) ((x.0, c) ∷ es) (x ∷ put nat_cmp k c es))) ≡ cond (same_clause e c) 1 0 + copies_of e (clauses_in (x ∷ es))) [
       | Less ↦ λ p. copies-cons e c (clauses_in (x ∷ es))
-      | Equal ↦ λ p. absurd (some_none x.1 (sym (ap (λ o. cond (is_eq o) (Some x.1) (find nat_cmp k es)) p) ∙ absent))
+      | Equal ↦ λ p. absurd (none-some x.1 (sym (sym (ap (λ o. cond (is_eq o) (Some x.1) (find nat_cmp k es)) p) ∙ absent)))
       | Greater ↦ λ p.
           let rest : find nat_cmp k es ≡ None = sym (ap (λ o. cond (is_eq o) (Some x.1) (find nat_cmp k es)) p) ∙ absent in
           copies-cons e x.1 (clauses_in (put nat_cmp k c es)) ∙ omega (arith, copies-put e k c es rest, copies-cons e x.1 (clauses_in es))

@@ -4,6 +4,7 @@ use Rattle.std.specs.Bool.{then_some}
 use Rattle.std.specs.Option.{option_or}
 use Rattle.std.specs.List.{list_any}
 use Rattle.std.proofs.lemmas.List.Folds.{list_any-append}
+use Rattle.std.proofs.lemmas.Option.{same_Some, none-some}
 use Rattle.steps.specs.declared.accepted.Accepted.TheVariants.{Rat}
 use Rattle.steps.specs.declared.refusal.Refusal.{Refusal}
 use Rattle.steps.specs.declared.refusal.Refusal.TheVariants.{NotCandidate, NamedTwice, GroupWithoutConflict, Unnamed}
@@ -11,7 +12,7 @@ use Rattle.steps.specs.declared.walk.WalkEnd.{WalkEnd}
 use Rattle.steps.specs.declared.walk.WalkEnd.TheVariants.{Open, Conflict}
 use Rattle.cnf_base.specs.Literals.{Literal, complement, Clause, has, complements, without}
 use Rattle.steps.specs.Propagation.{Live}
-use Rattle.steps.specs.Drat.{Answer}
+use Rattle.steps.specs.StepAnswer.{StepAnswer}
 use Rattle.steps.specs.Lrat.{chain, ChainEnd, conflict, open_with, unknown, not_unit, Group, with_candidate, group_refusal, groups_refusal, is_unsettled, is_left_out, AnswersGroups, AnswersChain}
 use Rattle.clause_db.specs.Trail.{conflicts, SameSet}
 use Rattle.steps.specs.Walk.{IsEnd}
@@ -47,7 +48,7 @@ module _ (live : Live) (first second : List Literal) (same : SameSet first secon
   left_out_start : (groups : List Group) (k : ℕ) → is_left_out live first pivot groups k ≡ is_left_out live second pivot groups k
   left_out_start groups k = ap (λ b. not (list_any (λ group. eqb group.candidate k) groups) && b) (unsettled_start (live k))
 
-  answers_start : (groups : List Group) (refusal : Option Refusal) (answer : Answer) → AnswersGroups live first pivot groups refusal answer → AnswersGroups live second pivot groups refusal answer
+  answers_start : (groups : List Group) (refusal : Option Refusal) (answer : StepAnswer) → AnswersGroups live first pivot groups refusal answer → AnswersGroups live second pivot groups refusal answer
   answers_start groups (Some r) answer a = a
   answers_start groups None (Ok Rat) a = λ k. sym (left_out_start groups k) ∙ a k
   answers_start groups None (Err (Unnamed k)) a = (sym (left_out_start groups k) ∙ a.0, λ j h. sym (left_out_start groups j) ∙ a.1 j h)
@@ -55,7 +56,7 @@ module _ (live : Live) (first second : List Literal) (same : SameSet first secon
   answers_start groups None (Err _) a = absurd a
 
 -- an open walk in code, and the answer from its list
-pub answers_open : (live : Live) (trues : List Literal) (pivot : Literal) (rest c : List Literal) (groups : List Group) (end : ChainEnd) (answer : Answer) → c ≡ pivot ∷ rest → IsEnd trues Open end →
+pub answers_open : (live : Live) (trues : List Literal) (pivot : Literal) (rest c : List Literal) (groups : List Group) (end : ChainEnd) (answer : StepAnswer) → c ≡ pivot ∷ rest → IsEnd trues Open end →
     AnswersGroups live trues pivot groups (groups_refusal live trues pivot [] groups) answer → AnswersChain live c groups end answer
 answers_open live trues pivot rest c groups end answer c_is is_end a = subst (λ d. AnswersChain live d groups end answer) (sym c_is) (by_end end is_end)
   where
@@ -68,14 +69,8 @@ answers_open live trues pivot rest c groups end answer c_is is_end a = subst (λ
     by_end (not_unit k) h = absurd h
 
 pub first_is : (c : List Literal) (pivot : Literal) → Some pivot ≡ slice_get c 0 → (rest : List Literal) × (c ≡ pivot ∷ rest)
-first_is [] pivot h = absurd (some_none pivot h)
-  where
-    some_none : (l : Literal) → Some l ≡ None → ⊥
-    some_none l e = cc
-first_is (l ∷ c) pivot h = (c, ap (λ k. k ∷ c) (same_some l pivot (sym h)))
-  where
-    same_some : (k l : Literal) → Some k ≡ Some l → k ≡ l
-    same_some k l e = cc
+first_is [] pivot h = absurd (none-some pivot (sym h))
+first_is (l ∷ c) pivot h = (c, ap (λ k. k ∷ c) (same_Some l pivot (sym h)))
 
 -- ---- The walk over the unit hints
 

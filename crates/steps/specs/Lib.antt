@@ -5,10 +5,12 @@ pub mod Lrat
 pub mod Sizes
 pub mod Verdicts
 pub mod Theorems
-pub mod Session
+pub mod LratSession
+pub mod ProofSession
+pub mod StepAnswer
 pub mod Shelf
 pub mod Walk
 pub mod Answers
-pub mod DratSessions
+pub mod DratSession
 pub mod Candidates
 pub mod Rules

@@ -2,7 +2,7 @@
 -- of hints and deletions by identifier are those of LRAT (Cruz-Filipe, Heule and others, 2017). The rest is our own
 -- profile: the order of the tests, identifiers that rise, hints after a conflict that nobody looks at, true literals and
 -- literals that are there already, which unnamed candidates pass, that no group is repeated, and refused deletions.
-use Rattle.std.specs.Prelude.{◌≡◌, ℕ, suc, ◌<◌, Bool, false, not, ◌&&◌, ◌==◌, nat_le, Option, Some, None, List, [], ◌∷◌, ◌++◌, Ok, Err, ℤ, pos, negsuc, nat_abs, map, option_map, is_none, MatchBool, IsTrue, IsFalse, ⊤, if◌then◌else◌}
+use Rattle.std.specs.Prelude.{◌≡◌, ℕ, zero, suc, ◌<◌, Bool, false, not, ◌&&◌, ◌==◌, nat_le, Option, Some, None, List, [], ◌∷◌, ◌++◌, Ok, Err, ℤ, pos, negsuc, nat_abs, map, option_map, is_none, slice_get, length, MatchBool, IsTrue, IsFalse, ⊤, if◌then◌else◌}
 use Rattle.std.specs.Bool.{then_some}
 use Rattle.std.specs.Option.{option_or}
 use Rattle.std.specs.List.{list_any}
@@ -18,7 +18,7 @@ use Rattle.cnf_base.specs.Literals.{Literal, complement, Clause, has, complement
 use Rattle.clause_db.specs.Left.{open_literals, how_many}
 use Rattle.clause_db.specs.Trail.{conflicts}
 use Rattle.steps.specs.Propagation.{Live}
-use Rattle.steps.specs.Drat.{Answer}
+use Rattle.steps.specs.StepAnswer.{StepAnswer}
 
 -- ---- The chain rule
 
@@ -75,6 +75,14 @@ pub record LratState : Type 0 where
   -- the greatest of the number of formula clauses and all identifiers added
   pub top : ℕ
 
+-- the formula's clauses have the identifiers 1, 2, ..
+abbrev pub numbered : List Clause → Live
+numbered formula zero = None
+numbered formula (suc k) = slice_get formula k
+
+abbrev pub lrat_start : List Clause → LratState
+lrat_start formula = record { live = numbered formula; top = length formula }
+
 -- the literals that are true where those of the list are, and what is left of a candidate is false
 abbrev pub with_candidate : List Literal → Clause → Literal → List Literal
 with_candidate ls c pivot = ls ++ complements (without c (complement pivot))
@@ -108,7 +116,7 @@ abbrev pub is_left_out : Live → List Literal → Literal → List Group → �
 is_left_out live ls pivot groups k = not (list_any (λ group. group.candidate == k) groups) && is_unsettled ls pivot (live k)
 
 -- after the groups: no candidate is left out, or the lowest that is
-abbrev pub AnswersGroups : Live → List Literal → Literal → List Group → Option Refusal → Answer → Type 0
+abbrev pub AnswersGroups : Live → List Literal → Literal → List Group → Option Refusal → StepAnswer → Type 0
 AnswersGroups live ls pivot groups (Some r) answer = answer ≡ Err r
 AnswersGroups live ls pivot groups None (Ok Rat) = (k : ℕ) → IsFalse (is_left_out live ls pivot groups k)
 AnswersGroups live ls pivot groups None (Err (Unnamed k)) =
@@ -116,7 +124,7 @@ AnswersGroups live ls pivot groups None (Err (Unnamed k)) =
 AnswersGroups live ls pivot groups None _ = ⊥
 
 -- after the unit hints; the pivot is the first literal written
-abbrev pub AnswersChain : Live → List Literal → List Group → ChainEnd → Answer → Type 0
+abbrev pub AnswersChain : Live → List Literal → List Group → ChainEnd → StepAnswer → Type 0
 AnswersChain live [] groups conflict answer = answer ≡ Ok Empty
 AnswersChain live (l ∷ c) groups conflict answer = answer ≡ Ok Rup
 AnswersChain live c groups (unknown k) answer = answer ≡ Err (UnknownId k)
@@ -142,11 +150,11 @@ abbrev pub deletion_refusal : Live → List ℕ → Option Refusal
 deletion_refusal live [] = None
 deletion_refusal live (id ∷ ids) = option_or (then_some (is_none (live id)) (UnknownId id)) (deletion_refusal (without_id live id) ids)
 
-abbrev pub answer_of : Option Refusal → Answer
+abbrev pub answer_of : Option Refusal → StepAnswer
 answer_of None = Ok Deleted
 answer_of (Some r) = Err r
 
-abbrev pub AnswersLrat : LratState → LratStep → Answer → Type 0
+abbrev pub AnswersLrat : LratState → LratStep → StepAnswer → Type 0
 AnswersLrat state (add id c units groups) answer =
     MatchBool (nat_le id state.top) (answer ≡ Err IdOutOfOrder) (AnswersChain state.live c groups (chain state.live (complements c) units) answer)
 AnswersLrat state (delete ids) answer = answer ≡ answer_of (deletion_refusal state.live ids)

@@ -1,14 +1,13 @@
 -- The rules of LRAT and of DRAT seen as one: a state, what a step may be answered over it, and what it leaves.
-use Rattle.std.specs.Prelude.{◌≡◌, ℕ, ◌+◌, ◌-◌, ◌^◌, min, sum_by, Bool, ◌||◌, List, [], ◌∷◌, slice_get, MatchBool}
-use Rattle.std.specs.List.{list_any}
+use Rattle.std.specs.Prelude.{◌≡◌, ℕ, ◌+◌, ◌-◌, ◌^◌, ◌<◌, min, sum_by, None, List, ◌∷◌, slice_get, ⊤}
 use Rattle.cnf_base.specs.Literals.{Clause}
 use Rattle.proofs.specs.Steps.{Step}
-use Rattle.steps.specs.Drat.{Answer, AnswersDrat, after_drat, SameLive}
-use Rattle.steps.specs.DratSessions.{drat_step}
-use Rattle.steps.specs.Lrat.{LratState, AnswersLrat, after_lrat, lrat_step, with_clause, SameClauses}
+use Rattle.steps.specs.Drat.{AnswersDrat, after_drat, drat_step, SameLive}
+use Rattle.steps.specs.Lrat.{LratState, AnswersLrat, after_lrat, lrat_step, lrat_start, with_clause, SameClauses}
 use Rattle.steps.specs.Models.{HasModel}
+use Rattle.steps.specs.Propagation.{Live}
 use Rattle.steps.specs.Sizes.{size, total}
-use Rattle.steps.specs.Verdicts.{Ending, verified, Ends, is_empty, lrat_start}
+use Rattle.steps.specs.StepAnswer.{StepAnswer}
 use Rattle.steps.specs.declared.accepted.Accepted.{Accepted}
 use Rattle.steps.specs.declared.drat_rules.DratRules.{DratRules}
 
@@ -32,14 +31,14 @@ with_input (by_ids s) c = by_ids (record { live = with_clause s.live (s.top + 1)
 with_input (by_copies rules live) c = by_copies rules (c ∷ live)
 
 -- what a step may be answered
-abbrev pub Answers : State → Step → Answer → Type 0
+abbrev pub Answers : State → Step → StepAnswer → Type 0
 Answers (by_ids s) step answer = AnswersLrat s (lrat_step step) answer
 Answers (by_copies rules live) step answer = AnswersDrat rules live (drat_step step) answer
 
--- what an accepted step leaves
-abbrev pub after : State → Step → State
-after (by_ids s) step = by_ids (after_lrat s (lrat_step step))
-after (by_copies rules live) step = by_copies rules (after_drat live (drat_step step))
+-- what a step leaves that was accepted with this word
+abbrev pub after : State → Step → Accepted → State
+after (by_ids s) step word = by_ids (after_lrat s (lrat_step step))
+after (by_copies rules live) step word = by_copies rules (after_drat live (drat_step step) word)
 
 -- the sum of the sizes of the live clauses, counted up to the greatest number of 64 bits
 abbrev pub sum_of : State → ℕ
@@ -57,29 +56,16 @@ abbrev pub IsSatisfiable : State → Type 0
 IsSatisfiable (by_ids s) = HasModel s.live
 IsSatisfiable (by_copies rules live) = HasModel (slice_get live)
 
--- a session of either rule, as its callers see it
-pub record View : Type 0 where
-  pub state : State
-  -- whether some step was accepted
-  pub has_stepped : Bool
-  -- whether an empty clause was input or accepted
-  pub is_verified : Bool
-  pub is_ended : Bool
-  -- the greatest sum of the sizes, after each clause that was input and each accepted step
-  pub peak : ℕ
-  -- how many clauses may still be input
-  pub room : ℕ
-
--- no further step is taken
-abbrev pub is_over : View → Bool
-is_over s = s.is_ended || s.is_verified
-
 -- the rule of a state
 abbrev pub rule_of : State → Rule
 rule_of (by_ids s) = lrat
 rule_of (by_copies rules live) = drat rules
 
--- The verdict on a formula and the steps of a proof. A formula with an empty clause is verified before the first step.
-abbrev pub Verdict : Rule → List Clause → List Step → List Accepted → Ending → Type 0
-Verdict rule formula steps words ending =
-    MatchBool (list_any is_empty formula) ((words ≡ []) × (ending ≡ verified)) (Ends Answers after (start rule formula) steps words ending)
+-- no clause is alive past some identifier
+pub record IsFiniteMap (live : Live) : Type 0 where
+  pub bound : ℕ
+  pub none : (k : ℕ) → bound < k → live k ≡ None
+
+abbrev pub IsFinite : State → Type 0
+IsFinite (by_ids s) = IsFiniteMap s.live
+IsFinite (by_copies rules live) = ⊤

@@ -1,5 +1,5 @@
 -- The live clauses as the code holds them: a slot for each identifier, and a clause in each slot.
-use Rattle.std.specs.Prelude.{◌≡◌, ℕ, ◌*◌, ◌<◌, ◌≤◌, Some, None, IsSome, IsTrue, List, [], nat_eq, map, option_map, refl}
+use Rattle.std.specs.Prelude.{◌≡◌, ℕ, ◌<◌, Some, None, IsSome, IsTrue, List, [], nat_eq, map, option_map, refl}
 use Rattle.std.specs.Ordering.{nat_cmp}
 use Rattle.std.specs.Option.{unwrap_or}
 use Rattle.std.specs.List.{IsDistinct}
@@ -44,7 +44,6 @@ pub record IsPaired (ids : FinMap nat_cmp ℕ) (store : FinMap nat_cmp Clause) :
 -- the sum is that of the sizes, and no identifier is past the greatest
 pub record IsTally (live : Live) (top sum : ℕ) : Type 0 where
   pub sum_is : sum ≡ total (record { live = live; top = top })
-  pub limit : sum ≤ top * 18446744073709551615
   pub none_at_zero : live 0 ≡ None
   pub none_above : (k : ℕ) → top < k → live k ≡ None
 

@@ -1,14 +1,17 @@
 -- What holds of the definitions. Each is the contract of a function of `laws`.
-use Rattle.std.specs.Prelude.{◌≡◌, ℕ, Bool, List, [], ◌∷◌, Ok, IsTrue, slice_get, sum_by}
+use Rattle.std.specs.Prelude.{◌≡◌, ℕ, List, [], ◌∷◌, Ok, IsTrue, slice_get, sum_by}
 use Rattle.steps.specs.declared.accepted.Accepted.{Accepted}
 use Rattle.steps.specs.declared.accepted.Accepted.TheVariants.{Rup, Rat, Empty}
 use Rattle.cnf_base.specs.Literals.{Literal, Clause, has, same_clause}
 use Rattle.steps.specs.Propagation.{Live, Forced, Clash, HasRup, HasRat, HasPr}
 use Rattle.steps.specs.Models.{Assignment, holds, satisfies, Models, HasModel}
-use Rattle.steps.specs.Drat.{Answer, DratStep, AnswersDrat, after_drat, SameLive}
-use Rattle.steps.specs.Lrat.{Group, LratState, LratStep, add, AnswersLrat, after_lrat, chain, conflict, with_clause, without_ids, SameClauses}
+use Rattle.steps.specs.StepAnswer.{StepAnswer}
+use Rattle.steps.specs.Drat.{DratStep, AnswersDrat, after_drat, SameLive}
+use Rattle.steps.specs.Lrat.{Group, LratState, LratStep, add, AnswersLrat, chain, conflict, with_clause, without_ids, SameClauses}
 use Rattle.steps.specs.Sizes.{size, total}
-use Rattle.steps.specs.Verdicts.{Ending, verified, DratVerdict, LratVerdict}
+use Rattle.steps.specs.Rules.{Rule, State, Answers, after, IsSatisfiable, IsFinite}
+use Rattle.steps.specs.Verdicts.{Ending, verified, Verdict}
+use Rattle.proofs.specs.Steps.{Step}
 use Rattle.steps.specs.declared.drat_rules.DratRules.{DratRules}
 
 -- Under every assignment that makes the live clauses and the assumed literals true, what is forced is true.
@@ -47,50 +50,44 @@ LratShowsRedundant = (state : LratState) (id : ℕ) (c : List Literal) (units : 
     AnswersLrat state (add id c units groups) (Ok word) → IsRedundant state.live c word
 
 -- An accepted step leaves clauses that have a model if those before it have one.
-abbrev pub DratKeepsModels : Type 0
-DratKeepsModels = (rules : DratRules) (live : List Clause) (step : DratStep) (word : Accepted) →
-    AnswersDrat rules live step (Ok word) → HasModel (slice_get live) → HasModel (slice_get (after_drat live step))
-
-abbrev pub LratKeepsModels : Type 0
-LratKeepsModels = (state : LratState) (step : LratStep) (word : Accepted) →
-    AnswersLrat state step (Ok word) → HasModel state.live → HasModel (after_lrat state step).live
+abbrev pub KeepsModels : Type 0
+KeepsModels = (state : State) (step : Step) (word : Accepted) → Answers state step (Ok word) →
+    IsSatisfiable state → IsSatisfiable (after state step word)
 
 -- A formula that is verified has no model.
-abbrev pub DratIsSound : Type 0
-DratIsSound = (rules : DratRules) (formula : List Clause) (steps : List DratStep) (words : List Accepted) →
-    DratVerdict rules formula steps words verified → ¬ HasModel (slice_get formula)
+abbrev pub IsSoundVerdict : Type 0
+IsSoundVerdict = (rule : Rule) (formula : List Clause) (steps : List Step) (words : List Accepted) →
+    Verdict rule formula steps words verified → ¬ HasModel (slice_get formula)
 
-abbrev pub LratIsSound : Type 0
-LratIsSound = (formula : List Clause) (steps : List LratStep) (words : List Accepted) →
-    LratVerdict formula steps words verified → ¬ HasModel (slice_get formula)
-
--- A step has at most one answer, and a proof at most one verdict.
+-- A step has at most one answer.
 abbrev pub AnswersAreUnique : Type 0
-AnswersAreUnique =
-    ((rules : DratRules) (live : List Clause) (step : DratStep) (first second : Answer) → AnswersDrat rules live step first → AnswersDrat rules live step second → first ≡ second)
-    × ((state : LratState) (step : LratStep) (first second : Answer) → AnswersLrat state step first → AnswersLrat state step second → first ≡ second)
+AnswersAreUnique = (state : State) (step : Step) (first second : StepAnswer) →
+    Answers state step first → Answers state step second → first ≡ second
 
+-- Each step has an answer, where the live clauses are finitely many.
+abbrev pub AnswersExist : Type 0
+AnswersExist = (state : State) (step : Step) → IsFinite state → (answer : StepAnswer) × Answers state step answer
+
+-- A proof has at most one verdict.
 abbrev pub VerdictsAreUnique : Type 0
-VerdictsAreUnique =
-    ((rules : DratRules) (formula : List Clause) (steps : List DratStep) (first second : List Accepted) (ending other : Ending) →
-    DratVerdict rules formula steps first ending → DratVerdict rules formula steps second other → (first ≡ second) × (ending ≡ other))
-    × ((formula : List Clause) (steps : List LratStep) (first second : List Accepted) (ending other : Ending) →
-    LratVerdict formula steps first ending → LratVerdict formula steps second other → (first ≡ second) × (ending ≡ other))
+VerdictsAreUnique = (rule : Rule) (formula : List Clause) (steps : List Step) (first second : List Accepted) (ending other : Ending) →
+    Verdict rule formula steps first ending → Verdict rule formula steps second other → (first ≡ second) × (ending ≡ other)
 
--- Each step of a DRAT proof has an answer.
-abbrev pub DratAnswersExist : Type 0
-DratAnswersExist = (rules : DratRules) (live : List Clause) (step : DratStep) → (answer : Answer) × AnswersDrat rules live step answer
+-- Each proof has a verdict.
+abbrev pub VerdictsExist : Type 0
+VerdictsExist = (rule : Rule) (formula : List Clause) (steps : List Step) →
+    (words : List Accepted) × (ending : Ending) × Verdict rule formula steps words ending
 
 -- The answer to a DRAT step, and what is alive after it, depend only on how many copies of each clause are alive.
 abbrev pub OnlyCopiesCount : Type 0
 OnlyCopiesCount =
-    ((rules : DratRules) (first second : List Clause) (step : DratStep) (answer : Answer) → SameLive first second → AnswersDrat rules first step answer → AnswersDrat rules second step answer)
-    × ((first second : List Clause) (step : DratStep) → SameLive first second → SameLive (after_drat first step) (after_drat second step))
+    ((rules : DratRules) (first second : List Clause) (step : DratStep) (answer : StepAnswer) → SameLive first second → AnswersDrat rules first step answer → AnswersDrat rules second step answer)
+    × ((first second : List Clause) (step : DratStep) (word : Accepted) → SameLive first second → SameLive (after_drat first step word) (after_drat second step word))
 
 -- The answer to an LRAT step depends only on the sets of the live clauses, and so does what is alive after it.
 abbrev pub OnlySetsCount : Type 0
 OnlySetsCount =
-    ((first second : Live) (top : ℕ) (step : LratStep) (answer : Answer) → SameClauses first second →
+    ((first second : Live) (top : ℕ) (step : LratStep) (answer : StepAnswer) → SameClauses first second →
     AnswersLrat (record { live = first; top = top }) step answer → AnswersLrat (record { live = second; top = top }) step answer)
     × ((first second : Live) (id : ℕ) (c d : Clause) → SameClauses first second → IsTrue (same_clause c d) → SameClauses (with_clause first id c) (with_clause second id d))
     × ((first second : Live) (ids : List ℕ) → SameClauses first second → SameClauses (without_ids first ids) (without_ids second ids))

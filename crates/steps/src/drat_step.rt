@@ -6,10 +6,10 @@ ghost use Rattle.cnf_base.specs.Literals.{Clause, complements, without};
 ghost use Rattle.clause_db.specs.Assumptions.{IsAnswer, assumed_by, MayAssume};
 ghost use Rattle.clause_db.specs.Trail.{SameSet};
 ghost use Rattle.steps.specs.Propagation.{HasRup};
-ghost use Rattle.steps.specs.Drat.{AnswersAdd, AnswersDelete, AnswersDrat, after_drat, take_off, SameLive};
-ghost use Rattle.steps.specs.DratSessions.{drat_step};
+ghost use Rattle.steps.specs.Drat.{AnswersAdd, AnswersDelete, AnswersDrat, after_drat, drat_step, SameLive};
+ghost use Rattle.steps.specs.Drat as drat;
 ghost use Rattle.steps.specs.Candidates.{SearchedCandidates};
-ghost use Rattle.steps.specs.Session.{UnlessOutOfMemory};
+ghost use Rattle.steps.specs.StepAnswer.{UnlessOutOfMemory};
 
 use crate::accepted::{Accepted, word_of};
 use crate::drat_rules::DratRules;
@@ -124,18 +124,16 @@ fn add<P: Propagate>(clauses: &mut P, lits: &[Lit]) -> Result<Accepted, Refusal>
     ensures nothing_assumed { (P.state clauses.new).assumptions ≡ [] }
 {
     let word = judge(clauses, lits)?;
-    match add_copy(clauses, lits) {
-        Ok(()) => Ok(word),
-        Err(_) => Err(Refusal::OutOfMemory),
-    }
+    add_copy(clauses, lits)?;
+    Ok(word)
 }
 
 /// Takes one copy of the clause off.
 fn delete<P: Propagate>(clauses: &mut P, strict: bool, lits: &[Lit]) -> Result<Accepted, Refusal>
     requires { (P.state clauses.old).assumptions ≡ [] }
     ensures answers { AnswersDelete strict (maps.values (P.state clauses.old).live) lits.now result }
-    ensures live { OnOk result (SameLive (maps.values (P.state clauses.new).live)
-        (take_off lits.now (maps.values (P.state clauses.old).live))) }
+    ensures live { IfOk result (λ word. SameLive (maps.values (P.state clauses.new).live)
+        (after_drat (maps.values (P.state clauses.old).live) (drat.delete lits.now) word)) }
     ensures nothing_assumed { (P.state clauses.new).assumptions ≡ [] }
 {
     match clauses.find(lits) {
@@ -157,8 +155,8 @@ pub(crate) fn take_step<P: Propagate>(
     requires { (P.state clauses.old).assumptions ≡ [] }
     ensures answers { UnlessOutOfMemory result
         (AnswersDrat rules (maps.values (P.state clauses.old).live) (drat_step step.now) result) }
-    ensures live { OnOk result (SameLive (maps.values (P.state clauses.new).live)
-        (after_drat (maps.values (P.state clauses.old).live) (drat_step step.now))) }
+    ensures live { IfOk result (λ word. SameLive (maps.values (P.state clauses.new).live)
+        (after_drat (maps.values (P.state clauses.old).live) (drat_step step.now) word)) }
     ensures nothing_assumed { (P.state clauses.new).assumptions ≡ [] }
 {
     match step.kind() {

@@ -1,6 +1,6 @@
 //! Laws of the definitions. The functions do nothing: their contracts are the theorems.
 
-ghost use Rattle.steps.specs.Theorems.{ForcedIsTrue, RupIsImplied, RatKeepsModels, PrKeepsModels, ChainShowsClash, LratShowsRedundant, DratKeepsModels, LratKeepsModels, DratIsSound, LratIsSound, AnswersAreUnique, VerdictsAreUnique, DratAnswersExist, OnlyCopiesCount, OnlySetsCount, EqualSetsEqualTotals, EqualCopiesEqualSums};
+ghost use Rattle.steps.specs.Theorems.{ForcedIsTrue, RupIsImplied, RatKeepsModels, PrKeepsModels, ChainShowsClash, LratShowsRedundant, KeepsModels, IsSoundVerdict, AnswersAreUnique, AnswersExist, VerdictsAreUnique, VerdictsExist, OnlyCopiesCount, OnlySetsCount, EqualSetsEqualTotals, EqualCopiesEqualSums};
 
 /// Every literal that is forced is true in each model that makes the assumed literals true.
 pub fn forced_is_true()
@@ -32,24 +32,14 @@ pub fn lrat_shows_redundant()
     ensures { LratShowsRedundant }
 {}
 
-/// An accepted DRAT step keeps satisfiability.
-pub fn drat_keeps_models()
-    ensures { DratKeepsModels }
+/// An accepted step keeps satisfiability.
+pub fn keeps_models()
+    ensures { KeepsModels }
 {}
 
-/// An accepted LRAT step keeps satisfiability.
-pub fn lrat_keeps_models()
-    ensures { LratKeepsModels }
-{}
-
-/// A formula that a DRAT proof verifies has no model.
-pub fn drat_is_sound()
-    ensures { DratIsSound }
-{}
-
-/// A formula that an LRAT proof verifies has no model.
-pub fn lrat_is_sound()
-    ensures { LratIsSound }
+/// A formula that a proof verifies has no model.
+pub fn is_sound()
+    ensures { IsSoundVerdict }
 {}
 
 /// A step has at most one answer.
@@ -57,14 +47,19 @@ pub fn answers_are_unique()
     ensures { AnswersAreUnique }
 {}
 
+/// Each step has an answer.
+pub fn answers_exist()
+    ensures { AnswersExist }
+{}
+
 /// A proof has at most one verdict.
 pub fn verdicts_are_unique()
     ensures { VerdictsAreUnique }
 {}
 
-/// Each step of a DRAT proof has an answer.
-pub fn drat_answers_exist()
-    ensures { DratAnswersExist }
+/// Each proof has a verdict.
+pub fn verdicts_exist()
+    ensures { VerdictsExist }
 {}
 
 /// The live clauses of a DRAT proof count as a multiset of sets.

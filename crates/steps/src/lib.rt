@@ -11,6 +11,7 @@ pub mod laws;
 mod live_clauses;
 mod lrat;
 mod named;
+mod progress;
 mod proof_session;
 mod refusal;
 #[cfg(test)]

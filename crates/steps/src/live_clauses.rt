@@ -1,6 +1,6 @@
 //! The live clauses, each at its identifier, and the sum of their sizes.
 
-ghost use Rattle.std.specs.Prelude.{◌≡◌, ℕ, ◌<◌, ◌≤◌, Some, None, is_some, option_map, map, nat_abs, length, List, OnOk, IfOk, IfSome, IfNone};
+ghost use Rattle.std.specs.Prelude.{◌≡◌, ℕ, ◌-◌, ◌<◌, ◌≤◌, ◌^◌, min, Some, None, is_some, option_map, map, nat_abs, length, List, OnOk, IfOk, IfSome, IfNone};
 ghost use Rattle.std.specs.Option.{option_copied};
 ghost use Rattle.std.specs.List.{IsDistinct};
 ghost use Rattle.std.specs.FinMap as maps;
@@ -20,10 +20,10 @@ pub(crate) struct LiveClauses {
     store: Store,
     ids: Ids,
     top: u64,
-    sum: u128,
 }
 
 impl Model for LiveClauses {
+    ghost use Rattle.clause_db.specs.Clauses.{literals_in};
     ghost use Rattle.steps.specs.Shelf.{Shelf, shelf_code, joined, held_at, IsPaired, IsTally};
 
     ghost Value = { Shelf };
@@ -32,7 +32,8 @@ impl Model for LiveClauses {
 
     ghost view = { λ s. record { live = joined s.ids s.store; top = s.top } };
 
-    ghost invariant = { λ s. IsPaired s.ids s.store × IsTally (held_at s.ids s.store) s.top s.sum };
+    ghost invariant = { λ s. IsPaired s.ids s.store ×
+        IsTally (held_at s.ids s.store) s.top (literals_in s.store) };
 }
 
 impl LiveClauses {
@@ -41,12 +42,7 @@ impl LiveClauses {
     {
         let store = Store::new(alloc)?;
         let ids = Ids::new(alloc)?;
-        Ok(LiveClauses {
-            store,
-            ids,
-            top: 0,
-            sum: 0,
-        })
+        Ok(LiveClauses { store, ids, top: 0 })
     }
 
     /// The clause that is alive under the identifier.
@@ -88,11 +84,11 @@ impl LiveClauses {
         self.top
     }
 
-    /// The sum of the sizes of the live clauses.
-    pub(crate) fn sum(&self) -> u128
-        ensures { result ≡ total (shelf_state self.now) }
+    /// The sum of the sizes of the live clauses. It saturates.
+    pub(crate) fn literals(&self) -> u64
+        ensures { result ≡ min (total (shelf_state self.now)) (2 ^ 64 - 1) }
     {
-        self.sum
+        self.store.literals()
     }
 
     /// Adds the clause under an identifier past all earlier ones.
@@ -108,7 +104,6 @@ impl LiveClauses {
             return Err(OutOfMemory);
         }
         self.top = id;
-        self.sum += self.store.clause(slot).len() as u128;
         Ok(())
     }
 
@@ -121,7 +116,6 @@ impl LiveClauses {
     {
         match self.ids.unbind(id) {
             Some(slot) => {
-                self.sum -= self.store.clause(slot).len() as u128;
                 self.store.remove(slot);
                 true
             }

@@ -1,8 +1,9 @@
 //! What every session does that checks a proof.
 
 ghost use Rattle.std.specs.Prelude.{◌≡◌, ◌⊎◌, ◌+◌, ◌<◌, ◌≤◌, ◌||◌, ◌↔◌, max, true, false, IsTrue, IsFalse, IfOk, IfErr, OnOk, OnErr};
-ghost use Rattle.steps.specs.Rules.{View, Same, with_input, Answers, after, sum_of, is_over, IsSatisfiable};
-ghost use Rattle.steps.specs.Session.{UnlessOutOfMemory};
+ghost use Rattle.steps.specs.ProofSession.{View, is_over, IsCutOff};
+ghost use Rattle.steps.specs.Rules.{Same, with_input, Answers, after, sum_of, rule_of, IsSatisfiable};
+ghost use Rattle.steps.specs.StepAnswer.{UnlessOutOfMemory};
 ghost use Rattle.steps.specs.Verdicts.{is_empty, is_last};
 
 use crate::accepted::Accepted;
@@ -17,48 +18,48 @@ pub trait ProofSession {
 
     /// Adds a clause of the formula. After a refusal the session is ended.
     fn input(&mut self, lits: &[Lit]) -> Result<(), Refusal>
+        // Clauses come before the first step, and only so many of them.
         requires { ((shown self.old).is_ended ≡ true) ⊎
             (((shown self.old).has_stepped ≡ false) × (0 < (shown self.old).room)) }
+        // Only memory and an ended session refuse a clause.
         ensures ended { (result ≡ Err Refusal.Ended) ↔ ((shown self.old).is_ended ≡ true) }
         ensures refusals { IfErr result (λ refusal. (refusal ≡ Refusal.Ended) ⊎
             (refusal ≡ Refusal.OutOfMemory)) }
+        // The clause is alive beside the others.
         ensures state { OnOk result (Same (shown self.new).state
             (with_input (shown self.old).state lits.now)) }
         ensures verified { OnOk result ((shown self.new).is_verified ≡
             ((shown self.old).is_verified || is_empty lits.now)) }
         ensures peak { OnOk result ((shown self.new).peak ≡ max (shown self.old).peak
             (sum_of (shown self.new).state)) }
+        // Steps and further clauses may follow.
         ensures room { OnOk result ((shown self.old).room ≤ (shown self.new).room + 1) }
         ensures steps { OnOk result ((shown self.new).has_stepped ≡ false) }
         ensures goes_on { OnOk result ((shown self.new).is_ended ≡ false) }
-        ensures refused { OnErr result ((shown self.new).is_ended ≡ true) }
-        // What it had come to stays.
-        ensures verified_stays { OnErr result ((shown self.new).is_verified ≡
-            (shown self.old).is_verified) }
-        ensures stepped_stays { OnErr result ((shown self.new).has_stepped ≡
-            (shown self.old).has_stepped) }
-        ensures peak_stays { OnErr result ((shown self.new).peak ≡ (shown self.old).peak) };
+        ensures refused { OnErr result (IsCutOff (shown self.old) (shown self.new)) }
+        ensures rule_stays { rule_of (shown self.new).state ≡ rule_of (shown self.old).state };
 
     /// Judges a step and, where it is accepted, takes it. After a refusal, and after the accepted empty clause, the session is ended.
     fn step(&mut self, step: &StepBuf) -> Result<Accepted, Refusal>
+        // No step is taken once the session is ended, or once an empty clause was input.
         ensures ended { (result ≡ Err Refusal.Ended) ↔ IsTrue (is_over (shown self.old)) }
-        ensures answers { IsFalse (is_over (shown self.old)) → UnlessOutOfMemory result (Answers (shown self.old).state step.now result) }
-        ensures state { OnOk result (Same (shown self.new).state (after (shown self.old).state step.now)) }
+        // Else the answer is that of the rule, with its cause.
+        ensures answers { IsFalse (is_over (shown self.old)) →
+            UnlessOutOfMemory result (Answers (shown self.old).state step.now result) }
+        // An accepted step leaves what the rule leaves.
+        ensures state { IfOk result (λ word. Same (shown self.new).state
+            (after (shown self.old).state step.now word)) }
         ensures steps { OnOk result ((shown self.new).has_stepped ≡ true) }
         ensures verified { IfOk result (λ word.
             (shown self.new).is_verified ≡ ((shown self.old).is_verified || is_last word)) }
         ensures ends { IfOk result (λ word. (shown self.new).is_ended ≡ is_last word) }
         ensures peak { OnOk result ((shown self.new).peak ≡ max (shown self.old).peak
             (sum_of (shown self.new).state)) }
+        // It keeps satisfiability.
         ensures keeps_models { OnOk result (IsSatisfiable (shown self.old).state →
             IsSatisfiable (shown self.new).state) }
-        ensures refused { OnErr result ((shown self.new).is_ended ≡ true) }
-        // What it had come to stays.
-        ensures verified_stays { OnErr result ((shown self.new).is_verified ≡
-            (shown self.old).is_verified) }
-        ensures stepped_stays { OnErr result ((shown self.new).has_stepped ≡
-            (shown self.old).has_stepped) }
-        ensures peak_stays { OnErr result ((shown self.new).peak ≡ (shown self.old).peak) };
+        ensures refused { OnErr result (IsCutOff (shown self.old) (shown self.new)) }
+        ensures rule_stays { rule_of (shown self.new).state ≡ rule_of (shown self.old).state };
 
     /// Whether an empty clause was input or accepted.
     fn verified(&self) -> bool

@@ -1,6 +1,9 @@
 //! Why a call of a session is refused.
 
-use cnf_base::Lit;
+ghost use Rattle.std.specs.Prelude.{◌≡◌};
+ghost use Rattle.steps.specs.declared.refusal.Refusal.TheVariants.{OutOfMemory as RefusedMemory};
+
+use cnf_base::{Lit, OutOfMemory};
 
 /// Why a step, or a clause of the formula, was refused.
 #[derive(Clone, Copy, Debug, PartialEq, Eq)]
@@ -31,4 +34,12 @@ pub enum Refusal {
     OutOfMemory,
     /// The session had ended.
     Ended,
+}
+
+impl From<OutOfMemory> for Refusal {
+    ghost from_gives = { λ _ r. r ≡ RefusedMemory };
+
+    fn from(_refused: OutOfMemory) -> Refusal {
+        Refusal::OutOfMemory
+    }
 }

@@ -38,9 +38,9 @@ fn formula(alloc: Global, rows: &[[i32; 2]]) -> Result<LiveClauses, Fail> {
 fn deletions(rt: HostRuntime) -> Result<(), Fail> {
     let alloc = rt.alloc();
     let mut live = formula(alloc, &[[1, 2], [1, 1], [-1, 2]])?;
-    assert_eq!(rt; live.sum(), 5);
+    assert_eq!(rt; live.literals(), 5);
     assert_eq!(rt; delete_all(&mut live, &[2, 3]), None);
-    assert_eq!(rt; live.sum(), 2);
+    assert_eq!(rt; live.literals(), 2);
     assert_eq!(rt; delete_all(&mut live, &[1, 1]), Some(1));
     Ok(())
 }

@@ -3,7 +3,7 @@ use Rattle.std.proofs.Common.{rules}
 use Rattle.cnf_base.proofs.StreamLemmas.{Along-map, Along-none}
 use Rattle.sat_check.specs.Lines.{formula_line, steps_line}
 use Rattle.sat_check.proofs.OutcomeLemmas.{Outcome-line}
-use Rattle.sat_check.proofs.ReportLemmas.{loaded_bounded, loaded_least, checks_some, checks_rest, verified_report}
+use Rattle.sat_check.proofs.ReportLemmas.{loaded_finite, loaded_least, checks_some, checks_rest, verified_report}
 use Rattle.sat_check.proofs.check.check_loaded.Goals as goal
 
 pub returns-in-Err-clause-report : goal.returns-in-Err-clause-report
@@ -19,8 +19,8 @@ returns-then-verified-clause-report g c =
     (c.in_default.ensures.written (formula_line c.args.header) c.formula_line.ensures) c.in_default.ensures.ok.0
     (c.conclude.ensures.outcome (steps_line 0 c.peak.result) c.steps_line.ensures))
 
-pub check_proof-requires-clause-bounded : goal.check_proof-requires-clause-bounded
-check_proof-requires-clause-bounded g c = loaded_bounded c.requires.loaded.0 (g.S.ProofSession.shown c.args.session.now) c.requires.loaded.1 c.requires.loaded.2
+pub check_proof-requires-clause-finite : goal.check_proof-requires-clause-finite
+check_proof-requires-clause-finite g c = loaded_finite c.requires.loaded.0 (g.S.ProofSession.shown c.args.session.now) c.requires.loaded.1 c.requires.loaded.2
 
 pub check_proof-requires-clause-least : goal.check_proof-requires-clause-least
 check_proof-requires-clause-least g c = loaded_least c.requires.loaded.0 (g.S.ProofSession.shown c.args.session.now) c.requires.loaded.1 c.requires.loaded.2

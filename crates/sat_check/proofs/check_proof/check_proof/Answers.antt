@@ -9,7 +9,7 @@ use Rattle.sat_check.proofs.check_proof.check_proof.Goals as goal
 pub loop-number-init : goal.loop-number-init
 loop-number-init g c =
     Checking-start c.args.trace (record { stream = g.R.StepReader.stream c.args.reader.now; to_come = g.R.StepReader.to_come c.args.reader.now }) (g.S.ProofSession.shown c.args.session.now) c.args.lines.now
-    c.requires.whole c.requires.sound c.requires.bounded c.requires.least
+    c.requires.whole c.requires.sound c.requires.finite c.requires.least
 
 pub returns-in-Err-take_step-clause-report : goal.returns-in-Err-take_step-clause-report
 returns-in-Err-take_step-clause-report g c =

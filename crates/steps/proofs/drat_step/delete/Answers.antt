@@ -1,9 +1,9 @@
-use Rattle.std.proofs.Common.{Ok, Err, ap, sym, ◌∙◌, subst}
+use Rattle.std.proofs.Common.{Ok, Err, refl, ap, sym, ◌∙◌, subst}
 use Rattle.std.specs.FinMap as maps
 use Rattle.steps.specs.declared.accepted.Accepted.TheVariants.{Ignored}
 use Rattle.steps.specs.declared.refusal.Refusal.TheVariants.{NotAlive}
-use Rattle.steps.specs.Drat.{AnswersDelete, take_off, SameLive}
-use Rattle.steps.proofs.DratSteps.{alive_listed, none_listed, taken_off, none_taken}
+use Rattle.steps.specs.Drat.{AnswersDelete, SameLive}
+use Rattle.steps.proofs.DratSteps.{alive_listed, none_listed, taken_off}
 use Rattle.steps.proofs.drat_step.delete.Goals as goal
 
 pub returns-in-Some-clause-answers : goal.returns-in-Some-clause-answers
@@ -31,5 +31,4 @@ returns-in-None-2-clause-answers g c =
 pub returns-in-None-2-clause-live : goal.returns-in-None-2-clause-live
 returns-in-None-2-clause-live g c =
     let live = (g.P.Propagate.state c.args.clauses.now).live in
-    let lits = c.args.lits.now in
-    subst (λ s. SameLive (maps.values s.live) (take_off lits (maps.values live))) (sym c.in-None.ensures.same) (none_taken live lits (none_listed live lits c.in-None.ensures.none))
+    subst (λ s. SameLive (maps.values s.live) (maps.values live)) (sym c.in-None.ensures.same) (record { copies = λ e. refl })

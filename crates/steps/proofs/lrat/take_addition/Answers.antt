@@ -4,8 +4,8 @@ use Rattle.clause_db.specs.Trail.{HasRoom}
 use Rattle.steps.proofs.Rooms.{ready_with}
 use Rattle.steps.proofs.lrat.take_addition.Goals as goal
 
-pub returns-in-Ok-add-clause-ready : goal.returns-in-Ok-add-clause-ready
-returns-in-Ok-add-clause-ready c =
+pub returns-clause-ready : goal.returns-clause-ready
+returns-clause-ready c =
     let trues = c.judge.new.trues in
-    ready_with trues (maps.get c.args.held.now.live) (maps.get c.add.new.self.live) c.id-id.result c.lits.result.now c.in-Ok-add.ensures.live c.judge.ensures.ready
-    (subst (HasRoom trues.met) (sym c.lits.ensures) c.in-Ok.ensures.room)
+    ready_with trues (maps.get c.args.held.now.live) (maps.get c.add.new.self.live) c.id-id.result c.lits.result.now c.in_ok-add.ensures.live c.judge.ensures.ready
+    (subst (HasRoom trues.met) (sym c.lits.ensures) c.in_ok-judge.ensures.room)

@@ -1,8 +1,7 @@
 use Rattle.std.proofs.Common.{map, nat_abs, sym, ◌∙◌, subst}
 use Rattle.std.specs.FinMap as maps
-use Rattle.steps.specs.Drat.{Answer}
+use Rattle.steps.specs.StepAnswer.{StepAnswer, UnlessOutOfMemory}
 use Rattle.steps.specs.Lrat.{AnswersLrat, lrat_step}
-use Rattle.steps.specs.Session.{UnlessOutOfMemory}
 use Rattle.steps.specs.Shelf.{shelf_state}
 use Rattle.steps.proofs.Ending.{never_ended}
 use Rattle.steps.proofs.Rooms.{ready_without, deleted_live}
@@ -20,4 +19,4 @@ pub returns-in-Add-clause-never_ended : goal.returns-in-Add-clause-never_ended
 returns-in-Add-clause-never_ended c =
     let state = shelf_state c.args.held.now in
     let step = lrat_step c.args.step.now in
-    λ e. never_ended state step (subst (λ (a : Answer). UnlessOutOfMemory a (AnswersLrat state step a)) e c.take_addition.ensures.answers)
+    λ e. never_ended state step (subst (λ (a : StepAnswer). UnlessOutOfMemory a (AnswersLrat state step a)) e c.take_addition.ensures.answers)

@@ -1,20 +1,15 @@
 use Rattle.std.proofs.Common.{ap}
-use Rattle.steps.proofs.Shelves.{removed_covers, removed_invariant, removed_was, removed_live, absent_invariant, absent_was, absent_live}
+use Rattle.steps.proofs.Shelves.{removed_invariant, removed_was, removed_live, absent_invariant, absent_was, absent_live}
 use Rattle.steps.proofs.live_clauses.LiveClauses.remove.Goals as goal
-
-pub overflow_sub-self : goal.overflow_sub-self
-overflow_sub-self c =
-    removed_covers c.self.inside.ids c.unbind.new.self c.self.inside.store c.args.id c.self.invariant.0 c.unbind.ensures.ids c.in-Some.slot c.in-Some.ensures.was
-    c.clause.result.now c.clause.ensures.clause c.self.inside.top c.self.inside.sum _ c.self.invariant.1 c.clause.ensures.different
 
 pub invariant_of-self : goal.invariant_of-self
 invariant_of-self c =
     removed_invariant c.self.inside.ids c.unbind.new.self c.self.inside.store c.args.id c.self.invariant.0 c.unbind.ensures.ids c.in-Some.slot c.in-Some.ensures.was
-    c.clause.result.now c.clause.ensures.clause c.remove.new.self c.remove.ensures c.self.inside.top c.self.inside.sum _ c.self.invariant.1 c.clause.ensures.different
+    c.remove.new.self c.remove.ensures c.self.inside.top c.self.invariant.1
 
 pub invariant_of-self-in-None : goal.invariant_of-self-in-None
 invariant_of-self-in-None c =
-    absent_invariant c.self.inside.ids c.unbind.new.self c.self.inside.store c.args.id c.self.invariant.0 c.unbind.ensures.ids c.in-None.ensures.was c.self.inside.top c.self.inside.sum c.self.invariant.1
+    absent_invariant c.self.inside.ids c.unbind.new.self c.self.inside.store c.args.id c.self.invariant.0 c.unbind.ensures.ids c.in-None.ensures.was c.self.inside.top c.self.invariant.1
 
 pub returns-in-Some-clause-was : goal.returns-in-Some-clause-was
 returns-in-Some-clause-was c = removed_was c.self.inside.ids c.self.inside.store c.args.self.now (ap (λ s. s.live) c.self.view_is) c.args.id c.in-Some.slot c.in-Some.ensures.was

@@ -1,17 +1,17 @@
 use Rattle.std.proofs.Common.{slice_get, subst}
 use Rattle.std.specs.FinMap as maps
-use Rattle.steps.specs.Drat.{after_drat}
-use Rattle.steps.specs.DratSessions.{clauses_of, drat_step}
+use Rattle.steps.specs.Drat.{after_drat, drat_step}
+use Rattle.steps.specs.DratSession.{clauses_of}
 use Rattle.steps.specs.Models.{HasModel}
 use Rattle.steps.proofs.Keeping.{drat_keeps}
 use Rattle.steps.proofs.Sessions.{has_model_copies}
-use Rattle.steps.proofs.drat.DratSession.step.Goals as goal
+use Rattle.steps.proofs.drat.DratSessionProofSession.step.Goals as goal
 
-pub returns-after-matches-clause-keeps_models : goal.returns-after-matches-clause-keeps_models
-returns-after-matches-clause-keeps_models g c =
+pub returns-in-Ok-clause-keeps_models : goal.returns-in-Ok-clause-keeps_models
+returns-in-Ok-clause-keeps_models g c =
     let old = maps.values (g.P.Propagate.state c.self.inside.clauses).live in
     let new = maps.values (g.P.Propagate.state c.take_step.new.clauses).live in
     let step = drat_step c.args.step.now in
     let kept : HasModel (slice_get old) → HasModel (slice_get new) =
-    λ m. has_model_copies new (after_drat old step) c.in-Ok.ensures.live (drat_keeps c.self.inside.rules old step c.in-Ok.word c.in-Ok.ensures.answers m) in
+    λ m. has_model_copies new (after_drat old step c.in-Ok.word) c.in-Ok.ensures.live (drat_keeps c.self.inside.rules old step c.in-Ok.word c.in-Ok.ensures.answers m) in
     subst (λ s. HasModel (slice_get (clauses_of s)) → HasModel (slice_get new)) c.self.view_is kept

@@ -1,13 +1,11 @@
 -- An LRAT session, as its callers see it.
-use Rattle.std.specs.Prelude.{◌≡◌, ℕ, Bool, false, [], ◌||◌, Err, refl, ⊤}
+use Rattle.std.specs.Prelude.{◌≡◌, ℕ, Bool, false, [], refl}
 use Rattle.std.specs.Ordering.{nat_cmp}
 use Rattle.std.specs.Coded.{Coded, code_by, coded×, coded_ℕ, coded_bool, coded_list}
 use Rattle.std.specs.FinMap as map
 use Rattle.std.specs.FinMap.{FinMap}
 use Rattle.cnf_base.specs.Literals.{Clause}
 use Rattle.clause_db.specs.Trail.{TrailState, HasRoomForAll}
-use Rattle.steps.specs.declared.refusal.Refusal.TheVariants.{OutOfMemory}
-use Rattle.steps.specs.Drat.{Answer}
 use Rattle.steps.specs.Lrat.{LratState}
 use Rattle.steps.specs.Propagation.{Live}
 
@@ -44,12 +42,3 @@ pub record IsReady (live : Live) (trues : TrailState) : Type 0 where
 
 abbrev pub state_of : Session → LratState
 state_of s = record { live = map.get s.live; top = s.top }
-
--- no further step is taken
-abbrev pub is_closed : Session → Bool
-is_closed s = s.is_ended || s.is_verified
-
--- A growth of memory may be refused in place of any other answer.
-abbrev pub UnlessOutOfMemory : Answer → Type 0 → Type 0
-UnlessOutOfMemory (Err OutOfMemory) P = ⊤
-UnlessOutOfMemory _ P = P

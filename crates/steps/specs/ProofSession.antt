@@ -1,0 +1,26 @@
+-- A session of either rule, as its callers see it.
+use Rattle.std.specs.Prelude.{◌≡◌, ℕ, Bool, true, ◌||◌}
+use Rattle.steps.specs.Rules.{State}
+
+pub record View : Type 0 where
+  pub state : State
+  -- whether some step was accepted
+  pub has_stepped : Bool
+  -- whether an empty clause was input or accepted
+  pub is_verified : Bool
+  pub is_ended : Bool
+  -- the greatest sum of the sizes, after each clause that was input and each accepted step
+  pub peak : ℕ
+  -- how many clauses may still be input
+  pub room : ℕ
+
+-- no further step is taken
+abbrev pub is_over : View → Bool
+is_over s = s.is_ended || s.is_verified
+
+-- A refusal ends the session, and what it had come to stays.
+pub record IsCutOff (old new : View) : Type 0 where
+  pub ended : new.is_ended ≡ true
+  pub verified : new.is_verified ≡ old.is_verified
+  pub stepped : new.has_stepped ≡ old.has_stepped
+  pub peak : new.peak ≡ old.peak
