@@ -20,6 +20,12 @@ const STARTS: [&str; 5] = [
     "3 -1 0\n",
 ];
 
+#[derive(Clone, Copy, Debug, PartialEq, Eq)]
+enum Form {
+    Lrat,
+    Drat,
+}
+
 fn push_literals(proof: &mut String, first: i32, second: i32) -> Result<(), AllocError> {
     for literal in [first, second] {
         if literal != 0 {
@@ -73,26 +79,8 @@ fn lrat_proof(alloc: Global, first: i32, second: i32, hints: &str) -> Result<Str
     Ok(proof)
 }
 
-#[test]
-fn lrat_proofs(rt: HostRuntime) -> Result<(), Fail> {
-    let alloc = rt.alloc();
-    assert!(rt; has_model(&rt, alloc, G)?);
-    let mut count = 0u32;
-    for first in LITERALS {
-        for second in LITERALS {
-            for hints in HINTS {
-                let proof = lrat_proof(alloc, first, second, hints)?;
-                expect_unverified(&rt, alloc, LRAT.tool, proof.as_str())?;
-                count = count.saturating_add(1);
-            }
-        }
-    }
-    assert_eq!(rt; count, 245);
-    Ok(())
-}
-
 // After this start: a step of two literals, one of its first literal, and the empty clause.
-fn drat_proof(alloc: Global, start: &str, first: i32, second: i32) -> Result<String, AllocError> {
+fn drat_proof(alloc: Global, first: i32, second: i32, start: &str) -> Result<String, AllocError> {
     let mut proof = String::from_str(alloc, start)?;
     push_literals(&mut proof, first, second)?;
     proof.push_str("0\n")?;
@@ -101,19 +89,37 @@ fn drat_proof(alloc: Global, start: &str, first: i32, second: i32) -> Result<Str
     Ok(proof)
 }
 
-#[test]
-fn drat_proofs(rt: HostRuntime) -> Result<(), Fail> {
-    let alloc = rt.alloc();
+// Proofs of this form with all literals, of which each has one of these texts.
+fn expect_none_verified(
+    rt: &impl Abort,
+    alloc: Global,
+    form: Form,
+    texts: &[&str],
+) -> Result<(), Fail> {
+    assert!(rt; has_model(rt, alloc, G)?);
     let mut count = 0u32;
     for first in LITERALS {
         for second in LITERALS {
-            for start in STARTS {
-                let proof = drat_proof(alloc, start, first, second)?;
-                expect_unverified(&rt, alloc, DRAT.tool, proof.as_str())?;
+            for text in texts {
+                let (tool, proof) = match form {
+                    Form::Lrat => (LRAT.tool, lrat_proof(alloc, first, second, text)?),
+                    Form::Drat => (DRAT.tool, drat_proof(alloc, first, second, text)?),
+                };
+                expect_unverified(rt, alloc, tool, proof.as_str())?;
                 count = count.saturating_add(1);
             }
         }
     }
     assert_eq!(rt; count, 245);
     Ok(())
+}
+
+#[test]
+fn lrat_proofs(rt: HostRuntime) -> Result<(), Fail> {
+    expect_none_verified(&rt, rt.alloc(), Form::Lrat, &HINTS)
+}
+
+#[test]
+fn drat_proofs(rt: HostRuntime) -> Result<(), Fail> {
+    expect_none_verified(&rt, rt.alloc(), Form::Drat, &STARTS)
 }

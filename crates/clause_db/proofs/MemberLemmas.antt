@@ -8,7 +8,7 @@ use Rattle.std.proofs.lemmas.Map.Keys.{IsDistinct-from_apart}
 use Rattle.std.specs.List.{list_any}
 use Rattle.cnf_base.specs.Literals.{complement, has}
 use Rattle.cnf_base.proofs.SetLemmas.{has_cases}
-use Rattle.clause_db.specs.Trail.{variable, HasNoVariableTwice}
+use Rattle.clause_db.specs.Propagation.Trail.{variable, HasNoVariableTwice}
 
 pub place_of : (ls : List ℕ) (l : ℕ) → has ls l ≡ true → (i : ℕ) × (i < length ls) × (get_or ls i 0 ≡ l)
 place_of [] l h = absurd (false≢true h)

@@ -1,4 +1,12 @@
 -- Unit propagation as a least set, as on DRAT-trim's page.
+pub mod Assumptions
+pub mod Code
+pub mod Exact
+pub mod Left
+pub mod Levels
+pub mod Places
+pub mod Scan
+pub mod Trail
 use Rattle.std.specs.Prelude.{◌≡◌, ◌≢◌, ℕ, Bool, Option, Some, List, [], IsTrue}
 use Rattle.cnf_base.specs.Literals.{Literal, complement, Clause, has}
 

@@ -1,21 +1,37 @@
 //! The live clauses of a proof checker, each in its slot.
 
+mod bucket;
+mod entry;
+pub(crate) mod ids;
+#[cfg(test)]
+mod ids_tests;
+mod index;
+mod mark;
+mod marks;
+mod search;
+pub(crate) mod slot;
+pub(crate) mod table;
+#[cfg(test)]
+mod table_tests;
+#[cfg(test)]
+mod tests;
+
 ghost use Rattle.std.specs.Prelude.{◌≡◌, ◌≢◌, ℕ, ◌+◌, ◌-◌, ◌<◌, ◌≤◌, ◌==◌, ◌++◌, [], ◌∷◌, ◌^◌, min, Some, None, option_map, length, if◌then◌else◌, IsTrue, IsSome, IfSome, IfNone, IfOk, OnOk, OnErr};
 ghost use Rattle.std.specs.FinMap as maps;
 ghost use Rattle.cnf_base.specs.Literals.{Clause, same_clause};
 ghost use Rattle.slab.specs.Slab.{slab_len, HasRoomFor};
-ghost use Rattle.clause_db.specs.Clauses.{size, literals_in, copies_with};
-ghost use Rattle.clause_db.specs.Index.{under};
+ghost use Rattle.clause_db.specs.Store.Clauses.{size, literals_in, copies_with};
+ghost use Rattle.clause_db.specs.Store.Index.{under};
 
 use crate::Slot;
-use crate::entry::{Entry, set_place};
-use crate::index::Index;
-use crate::mark::{Mark, key};
-use crate::marks::{
+use crate::store::entry::{Entry, set_place};
+use crate::store::index::Index;
+use crate::store::mark::{Mark, key};
+use crate::store::marks::{
     Digest, all_known, gather, hash_of, mark_all, release, reserve_all, unmark_all,
 };
-use crate::search::search;
-use crate::table::Table;
+use crate::store::search::find_marked;
+use crate::store::table::Table;
 use cnf_base::{Lit, OutOfMemory};
 use slab::Slab;
 use smallvec::SmallVec;
@@ -46,12 +62,12 @@ impl Model for Store {
 
     ghost coded = { maps.code coded_ℕ (coded_list coded_ℕ) };
 
-    ghost use Rattle.clause_db.specs.Entries.{stored};
-    ghost use Rattle.clause_db.specs.Sound.{IsSound};
+    ghost use Rattle.clause_db.specs.Store.Entries.{clauses_in};
+    ghost use Rattle.clause_db.specs.Store.Fields.{IsStore};
 
-    ghost view = { λ s. stored s.entries };
+    ghost view = { λ s. clauses_in s.entries };
 
-    ghost invariant = { λ s. IsSound s.entries s.index s.marks s.sum };
+    ghost invariant = { λ s. IsStore s.entries s.index s.marks s.sum };
 }
 
 /// Makes room for a clause of the digest, and puts the slot that it will have into the index.
@@ -73,12 +89,8 @@ fn make_room(
         then under index.old h ++ entries.old.vacant_key ∷ [] else under index.old h)) }
     ensures err { OnErr result ((h : ℕ) → under index.new h ≡ under index.old h) }
 {
-    let Ok(lits) = SmallVec::with_capacity(alloc, digest.len) else {
-        return Err(OutOfMemory);
-    };
-    if entries.reserve(1).is_err() {
-        return Err(OutOfMemory);
-    }
+    let lits = SmallVec::with_capacity(alloc, digest.len)?;
+    entries.reserve(1)?;
     let _limit = entries.capacity();
     let place = index.add(digest.hash, entries.vacant_key())?;
     Ok(Entry { lits, place })
@@ -148,7 +160,7 @@ impl Store {
             return None;
         }
         let digest = mark_all(&mut self.marks, lits);
-        let found = search(&self.entries, &self.index, &self.marks, &digest);
+        let found = find_marked(&self.entries, &self.index, &self.marks, &digest);
         unmark_all(&mut self.marks, lits);
         match found {
             Some(slot) => Some(Slot::at(slot)),

@@ -12,7 +12,7 @@ use Rattle.cnf_base.proofs.SeenLemmas.{Seen-nothing, Seen-run, Seen-fact}
 use Rattle.proofs.specs.Steps.{Step}
 use Rattle.proofs.specs.Reading.{Reading, Proof, faulty, with_step, GivesStep}
 use Rattle.steps.specs.ProofSession.{View, is_over}
-use Rattle.steps.specs.Rules.{Rule, after, sum_of, IsFinite}
+use Rattle.steps.specs.Theory.Rules.{Rule, after, sum_of, IsFinite}
 use Rattle.sat_check.specs.Report.{Report, Outcome, Reports, text_of, with_lines, end_report}
 use Rattle.sat_check.specs.Checking.{Standing, Rest, GoesOn, Stops, counted, traced}
 use Rattle.sat_check.proofs.ShownLemmas.{traced_same}
@@ -20,7 +20,7 @@ use Rattle.sat_check.specs.declared.status.Status.{Status}
 use Rattle.sat_check.proofs.OutcomeLemmas.{Outcome-after, Writes-all, Writes-still, text_of-append}
 use Rattle.sat_check.proofs.ReportLemmas.{some_report}
 use Rattle.sat_check.proofs.RestLemmas.{Rest-clean, Rest-fault, Rest-some, Rest-step}
-use Rattle.steps.proofs.Existence.{after_finite, same_finite}
+use Rattle.steps.proofs.TheoryLemmas.Existence.{after_finite, same_finite}
 
 -- from one moment to another these lines were written, and the rest of the report is still to come
 pub record Checking (trace : Bool) (start now : Standing) (first session : View) (accepted : ℕ) (was lines : Sink) : Type 0 where

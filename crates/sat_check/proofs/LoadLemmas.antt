@@ -16,25 +16,25 @@ use Rattle.cnf_base.proofs.StreamLemmas.{Along-then, Along-map}
 use Rattle.dimacs.specs.Formula.{Body, Formula, formula_at, formula_of}
 use Rattle.dimacs.specs.declared.header.Header.{Header}
 use Rattle.dimacs.specs.Reading.{Reading, to_come, GivesClause, opened, unopened}
-use Rattle.steps.specs.DratSession.{DratState, fresh_drat, clauses_of}
-use Rattle.steps.specs.LratSession.{Session, fresh, state_of}
-use Rattle.steps.specs.Rules.{Rule, lrat, drat, State, by_ids, by_copies, start, with_input, sum_of, Same}
+use Rattle.steps.specs.Drat.Session.{DratState, fresh_drat, clauses_of}
+use Rattle.steps.specs.Lrat.Session.{Session, fresh, state_of}
+use Rattle.steps.specs.Theory.Rules.{Rule, lrat, drat, State, by_ids, by_copies, start, with_input, sum_of, Same}
 use Rattle.steps.specs.Lrat.{with_clause, numbered, lrat_start}
-use Rattle.steps.proofs.Existence.{numbered_above}
-use Rattle.steps.specs.Sizes.{total, size, size_at, sum_to}
+use Rattle.steps.proofs.TheoryLemmas.Existence.{numbered_above}
+use Rattle.steps.specs.Theory.Sizes.{total, size, size_at, sum_to}
 use Rattle.steps.specs.ProofSession.{View}
-use Rattle.steps.specs.Verdicts.{is_empty}
-use Rattle.steps.proofs.Copies.{copies-cons, none_alive}
+use Rattle.steps.specs.Theory.Verdicts.{is_empty}
+use Rattle.steps.proofs.DratLemmas.Copies.{copies-cons, none_alive}
 use Rattle.cnf_base.proofs.SetLemmas.{same_itself}
-use Rattle.steps.proofs.DratSteps.{none_listed}
-use Rattle.steps.proofs.LiveSets.{SameClauses-trans, SameClauses-eq}
-use Rattle.steps.proofs.Ruling.{same_trans, sum_same}
-use Rattle.steps.proofs.SameSets.{with_same}
-use Rattle.steps.proofs.Sessions.{numbered_push, fresh_is_numbered}
-use Rattle.steps.proofs.Sums.{sum_with}
+use Rattle.steps.proofs.DratLemmas.Steps.{none_listed}
+use Rattle.steps.proofs.LratLemmas.LiveSets.{SameClauses-trans, SameClauses-eq}
+use Rattle.steps.proofs.TheoryLemmas.Rules.{same_trans, sum_same}
+use Rattle.steps.proofs.LratLemmas.SameSets.{with_same}
+use Rattle.steps.proofs.LratLemmas.Sessions.{numbered_push, fresh_is_numbered}
+use Rattle.steps.proofs.LratLemmas.Sums.{sum_with}
 use Rattle.sat_check.specs.Checking.{IsLoaded, LoadsBody, Loads}
 use Rattle.sat_check.proofs.ReadLemmas.{length_push, seen_nothing, seen_run, Reads, FaultAfter, Reads-start, Reads-clause, Reads-done, Reads-fault}
-use Rattle.steps.specs.declared.drat_rules.DratRules.{DratRules}
+use Rattle.steps.specs.declared.drat.rules.DratRules.{DratRules}
 
 -- no clause has a number past the last
 -- one clause more, and its size more

@@ -10,7 +10,7 @@ use Rattle.cnf_base.proofs.SetLemmas.{any_from, any_some}
 use Rattle.cnf_base.specs.Stream.{Input}
 use Rattle.dimacs.specs.Claim.{claim_of, IsClaim, IsConsistent}
 use Rattle.dimacs.specs.Formula.{Formula, formula_of}
-use Rattle.steps.specs.Models.{Assignment, holds, satisfies, HasModel}
+use Rattle.steps.specs.Theory.Models.{Assignment, holds, satisfies, HasModel}
 use Rattle.sat_check.specs.Lines.{fault_line, fault_status}
 use Rattle.sat_check.specs.Report.{Outcome, Report, concluded}
 use Rattle.sat_check.specs.ModelReport.{meets, first_unmet, met_report, clauses_report, claim_report, model_report, Satisfies, ChecksModel}

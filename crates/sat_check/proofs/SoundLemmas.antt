@@ -8,10 +8,10 @@ use Rattle.cnf_base.specs.declared.fault.TextFault.TheVariants as text
 use Rattle.dimacs.specs.Formula.{Formula, formula_of}
 use Rattle.dimacs.specs.declared.header.Header.{Header}
 use Rattle.proofs.specs.Reading.{Proof}
-use Rattle.steps.specs.Models.{HasModel}
-use Rattle.steps.specs.Rules.{Rule, start}
-use Rattle.steps.specs.Verdicts.{Ending, verified, refused, no_empty_clause, Verdict}
-use Rattle.steps.proofs.VerdictLaws.{verdict_sound, verdict_unique}
+use Rattle.steps.specs.Theory.Models.{HasModel}
+use Rattle.steps.specs.Theory.Rules.{Rule, start}
+use Rattle.steps.specs.Theory.Verdicts.{Ending, verified, refused, no_empty_clause, Verdict}
+use Rattle.steps.proofs.TheoryLemmas.Verdicts.{verdict_sound, verdict_unique}
 use Rattle.sat_check.specs.Lines.{fault_status, text_status}
 use Rattle.sat_check.specs.Report.{Report, Outcome, ReportsFormula, ProofReport, Verifies, Reports, ChecksProof, IsUnlessBroken, steps_of, peak_of, verdict_report}
 use Rattle.sat_check.specs.declared.status.Status.{Status}

@@ -10,12 +10,12 @@ use Rattle.dimacs.specs.Formula.{Body, Formula}
 use Rattle.dimacs.specs.declared.header.Header.{Header}
 use Rattle.proofs.specs.Steps.{Step}
 use Rattle.proofs.specs.Reading.{Proof, with_step}
-use Rattle.steps.specs.Rules.{Rule, State, start, Answers, after, sum_of, Same, IsFinite}
+use Rattle.steps.specs.Theory.Rules.{Rule, State, start, Answers, after, sum_of, Same, IsFinite}
 use Rattle.steps.specs.ProofSession.{View, is_over}
-use Rattle.steps.specs.Verdicts.{Ending, Ends, is_empty, is_last}
-use Rattle.steps.specs.declared.accepted.Accepted.{Accepted}
-use Rattle.steps.specs.declared.refusal.Refusal.{Refusal}
-use Rattle.steps.specs.declared.refusal.Refusal.TheVariants.{OutOfMemory as RefusedMemory}
+use Rattle.steps.specs.Theory.Verdicts.{Ending, Ends, is_empty, is_last}
+use Rattle.steps.specs.declared.theory.accepted.Accepted.{Accepted}
+use Rattle.steps.specs.declared.theory.refusal.Refusal.{Refusal}
+use Rattle.steps.specs.declared.theory.refusal.Refusal.TheVariants.{OutOfMemory as RefusedMemory}
 use Rattle.sat_check.specs.Lines.{trace_line}
 use Rattle.sat_check.specs.Report.{Report, Outcome, text_of, steps_of, peak_of, proof_report}
 use Rattle.sat_check.specs.declared.status.Status.{Status}

@@ -1,8 +1,7 @@
-pub mod Status
-pub mod Lines
-pub mod Report
-pub mod ModelReport
 pub mod Checking
+pub mod CommandLine
 pub mod Judging
-pub mod Words
-pub mod Commands
+pub mod Lines
+pub mod ModelReport
+pub mod Report
+pub mod Status

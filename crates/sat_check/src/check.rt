@@ -4,7 +4,7 @@ ghost use Rattle.std.specs.Prelude.{◌≡◌, [], true, false, List};
 ghost use Rattle.cnf_base.specs.Literals.{Clause};
 ghost use Rattle.cnf_base.specs.Stream.{Input, Along};
 ghost use Rattle.cnf_base.specs.Seen.{Seen, IsSeen, OneHasFailed};
-ghost use Rattle.steps.specs.Rules.{Rule, rule_of};
+ghost use Rattle.steps.specs.Theory.Rules.{Rule, rule_of};
 ghost use Rattle.sat_check.specs.Report.{Report, Outcome, Checks, Reports};
 ghost use Rattle.sat_check.specs.Checking.{IsLoaded};
 

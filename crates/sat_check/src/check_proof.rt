@@ -3,7 +3,7 @@
 ghost use Rattle.std.specs.Prelude.{◌≡◌, ◌≤◌, true, false};
 ghost use Rattle.cnf_base.specs.Stream.{Along};
 ghost use Rattle.steps.specs.ProofSession.{is_over};
-ghost use Rattle.steps.specs.Rules.{sum_of, IsFinite};
+ghost use Rattle.steps.specs.Theory.Rules.{sum_of, IsFinite};
 ghost use Rattle.sat_check.specs.Report.{Report, Outcome};
 ghost use Rattle.sat_check.specs.Checking.{Rest};
 

@@ -1,13 +1,19 @@
 //! The reader of the words.
+
+pub(crate) mod args;
+#[cfg(test)]
+mod tests;
+pub(crate) mod tool;
+
 ghost use Rattle.std.specs.Prelude.{◌≡◌, ◌≤◌, ◌||◌, Some, codes, false, length, option_map, string_bytes, true};
 ghost use Rattle.std.specs.Prelude.{IfErr, IfOk};
 ghost use Rattle.std.specs.List.{list_all};
 ghost use Rattle.clap.specs.Words.{app_of, rule_of, kind_of};
-ghost use Rattle.sat_check.specs.Commands.{command_of, flag_rule, formula_rule, second_rule};
-ghost use Rattle.sat_check.specs.Words.{Accepts, args, end_mark, is_among, is_empty, is_known, is_some_empty, names, said_by};
+ghost use Rattle.sat_check.specs.CommandLine.Commands.{command_of, flag_rule, formula_rule, second_rule};
+ghost use Rattle.sat_check.specs.CommandLine.Words.{Accepts, args, end_mark, is_among, is_empty, is_known, is_some_empty, names, said_by};
 
-use crate::args::{Args, ArgsFault};
-use crate::tool::Tool;
+use crate::command_line::args::{Args, ArgsFault};
+use crate::command_line::tool::Tool;
 use clap::error::ErrorKind;
 use clap::{Arg, ArgAction, Command, Error};
 use std::alloc::{AllocError, Global};

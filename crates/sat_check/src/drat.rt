@@ -4,7 +4,7 @@ ghost use Rattle.std.specs.Prelude.{◌≡◌, [], true, false};
 ghost use Rattle.cnf_base.specs.Seen.{OfBothSeen, OneHasFailed};
 ghost use Rattle.proofs.specs.Binary.{binary_steps};
 ghost use Rattle.proofs.specs.Drat.{drat_steps};
-ghost use Rattle.steps.specs.Rules.{drat, rule_of};
+ghost use Rattle.steps.specs.Theory.Rules.{drat, rule_of};
 ghost use Rattle.sat_check.specs.Checking.{IsLoaded};
 ghost use Rattle.sat_check.specs.Report.{Reports, ChecksProof, drat_proof, rules_of};
 

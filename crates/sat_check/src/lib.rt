@@ -1,12 +1,9 @@
 //! Whole checks, from bytes to bytes.
 #![tactic(auto)]
 
-mod args;
 mod check;
 mod check_proof;
 mod command_line;
-#[cfg(test)]
-mod command_line_tests;
 mod conclude;
 mod drat;
 mod judge;
@@ -21,13 +18,12 @@ mod report;
 mod status;
 mod subject;
 mod take_step;
-mod tool;
 
-pub use args::{Args, ArgsFault};
+pub use command_line::args::{Args, ArgsFault};
 pub use command_line::read_args;
+pub use command_line::tool::Tool;
 pub use drat::run_drat;
 pub use lrat::run_lrat;
 pub use model::run_model;
 pub use options::{DratOptions, LratOptions};
 pub use status::Status;
-pub use tool::Tool;

@@ -3,7 +3,7 @@
 ghost use Rattle.std.specs.Prelude.{◌≡◌, true, false};
 ghost use Rattle.cnf_base.specs.Seen.{OfBothSeen, OneHasFailed};
 ghost use Rattle.proofs.specs.Lrat.{lrat_steps};
-ghost use Rattle.steps.specs.Rules.{lrat};
+ghost use Rattle.steps.specs.Theory.Rules.{lrat};
 ghost use Rattle.sat_check.specs.Report.{Reports, ChecksProof};
 
 use crate::check::check;

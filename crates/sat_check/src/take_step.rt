@@ -3,7 +3,7 @@
 ghost use Rattle.std.specs.Prelude.{◌≡◌, ◌≢◌, true, false, IfErr, OnOk, IsFalse};
 ghost use Rattle.cnf_base.specs.Lines.{Writes};
 ghost use Rattle.steps.specs.ProofSession.{is_over};
-ghost use Rattle.steps.specs.Verdicts.{is_last};
+ghost use Rattle.steps.specs.Theory.Verdicts.{is_last};
 ghost use Rattle.sat_check.specs.Lines.{refusal_line, trace_line};
 ghost use Rattle.sat_check.specs.Report.{Report, Outcome, concluded, with_lines, text_of};
 ghost use Rattle.sat_check.specs.Checking.{GoesOn, Stops, IsBreak, IsTold, is_memory, traced};

@@ -1,15 +1,17 @@
 -- One step of a DRAT proof, over the list of the live clauses. Additions by RUP, or by RAT on the first literal written,
 -- and deletions are those of DRAT, as DRAT-trim's page has it. Our own profile: RUP is asked first, a deletion of a unit
 -- clause is done as written, and one of a clause that is not alive is ignored, or refused where the rules are strict.
+pub mod Candidates
+pub mod Session
 use Rattle.std.specs.Prelude.{◌≡◌, ℕ, Bool, true, false, List, [], ◌∷◌, Ok, Err, count_by, slice_get, IsTrue, IsFalse, if◌then◌else◌}
 use Rattle.std.specs.List.{list_any}
-use Rattle.steps.specs.declared.accepted.Accepted.{Accepted}
-use Rattle.steps.specs.declared.accepted.Accepted.TheVariants.{Rup, Rat, Empty, Deleted, Ignored}
-use Rattle.steps.specs.declared.refusal.Refusal.TheVariants.{NotRup, NeitherRupNorRat, NotAlive}
+use Rattle.steps.specs.declared.theory.accepted.Accepted.{Accepted}
+use Rattle.steps.specs.declared.theory.accepted.Accepted.TheVariants.{Rup, Rat, Empty, Deleted, Ignored}
+use Rattle.steps.specs.declared.theory.refusal.Refusal.TheVariants.{NotRup, NeitherRupNorRat, NotAlive}
 use Rattle.cnf_base.specs.Literals.{Literal, Clause, same_clause}
-use Rattle.steps.specs.Propagation.{HasRup, HasRat}
-use Rattle.steps.specs.StepAnswer.{StepAnswer}
-use Rattle.steps.specs.declared.drat_rules.DratRules.{DratRules}
+use Rattle.steps.specs.Theory.Propagation.{HasRup, HasRat}
+use Rattle.steps.specs.Theory.StepAnswer.{StepAnswer}
+use Rattle.steps.specs.declared.drat.rules.DratRules.{DratRules}
 use Rattle.proofs.specs.Steps.{Step}
 use Rattle.proofs.specs.declared.step_buf.StepKind.{StepKind}
 use Rattle.proofs.specs.declared.step_buf.StepKind.TheVariants.{Add, Delete}

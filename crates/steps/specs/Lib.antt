@@ -1,16 +1,4 @@
-pub mod Propagation
-pub mod Models
 pub mod Drat
 pub mod Lrat
-pub mod Sizes
-pub mod Verdicts
-pub mod Theorems
-pub mod LratSession
 pub mod ProofSession
-pub mod StepAnswer
-pub mod Shelf
-pub mod Walk
-pub mod Answers
-pub mod DratSession
-pub mod Candidates
-pub mod Rules
+pub mod Theory

@@ -2,23 +2,27 @@
 -- of hints and deletions by identifier are those of LRAT (Cruz-Filipe, Heule and others, 2017). The rest is our own
 -- profile: the order of the tests, identifiers that rise, hints after a conflict that nobody looks at, true literals and
 -- literals that are there already, which unnamed candidates pass, that no group is repeated, and refused deletions.
+pub mod Groups
+pub mod Session
+pub mod Shelf
+pub mod Walk
 use Rattle.std.specs.Prelude.{◌≡◌, ℕ, zero, suc, ◌<◌, Bool, false, not, ◌&&◌, ◌==◌, nat_le, Option, Some, None, List, [], ◌∷◌, ◌++◌, Ok, Err, ℤ, pos, negsuc, nat_abs, map, option_map, is_none, slice_get, length, MatchBool, IsTrue, IsFalse, ⊤, if◌then◌else◌}
 use Rattle.std.specs.Bool.{then_some}
 use Rattle.std.specs.Option.{option_or}
 use Rattle.std.specs.List.{list_any}
-use Rattle.steps.specs.declared.accepted.Accepted.TheVariants.{Rup, Rat, Empty, Deleted}
-use Rattle.steps.specs.declared.refusal.Refusal.{Refusal}
-use Rattle.steps.specs.declared.refusal.Refusal.TheVariants.{IdOutOfOrder, UnknownId, NotUnit, NotCandidate, NamedTwice, GroupWithoutConflict, Unnamed, NoConflict}
-use Rattle.clause_db.specs.declared.left.Left.{Left}
-use Rattle.clause_db.specs.declared.left.Left.TheVariants.{Nothing, One, More}
+use Rattle.steps.specs.declared.theory.accepted.Accepted.TheVariants.{Rup, Rat, Empty, Deleted}
+use Rattle.steps.specs.declared.theory.refusal.Refusal.{Refusal}
+use Rattle.steps.specs.declared.theory.refusal.Refusal.TheVariants.{IdOutOfOrder, UnknownId, NotUnit, NotCandidate, NamedTwice, GroupWithoutConflict, Unnamed, NoConflict}
+use Rattle.clause_db.specs.declared.propagation.left.Left.{Left}
+use Rattle.clause_db.specs.declared.propagation.left.Left.TheVariants.{Nothing, One, More}
 use Rattle.proofs.specs.declared.step_buf.StepKind.{StepKind}
 use Rattle.proofs.specs.declared.step_buf.StepKind.TheVariants.{Add, Delete}
 use Rattle.proofs.specs.Steps.{Step}
 use Rattle.cnf_base.specs.Literals.{Literal, complement, Clause, has, complements, without, same_clause}
-use Rattle.clause_db.specs.Left.{open_literals, how_many}
-use Rattle.clause_db.specs.Trail.{conflicts}
-use Rattle.steps.specs.Propagation.{Live}
-use Rattle.steps.specs.StepAnswer.{StepAnswer}
+use Rattle.clause_db.specs.Propagation.Left.{open_literals, how_many}
+use Rattle.clause_db.specs.Propagation.Trail.{conflicts}
+use Rattle.steps.specs.Theory.Propagation.{Live}
+use Rattle.steps.specs.Theory.StepAnswer.{StepAnswer}
 
 -- ---- The chain rule
 

@@ -1,15 +1,18 @@
 //! Sessions that check a DRAT proof.
 
+pub(crate) mod rules;
+mod step;
+
 ghost use Rattle.std.specs.Prelude.{◌≡◌, [], false};
 ghost use Rattle.std.specs.FinMap as maps;
-ghost use Rattle.steps.specs.DratSession.{fresh_drat, clauses_of};
+ghost use Rattle.steps.specs.Drat.Session.{fresh_drat, clauses_of};
 
-use crate::accepted::Accepted;
-use crate::drat_rules::DratRules;
-use crate::drat_step::{add_copy, take_step};
-use crate::progress::Progress;
+use crate::drat::rules::DratRules;
+use crate::drat::step::{add_copy, take_step};
 use crate::proof_session::ProofSession;
-use crate::refusal::Refusal;
+use crate::proof_session::progress::Progress;
+use crate::theory::accepted::Accepted;
+use crate::theory::refusal::Refusal;
 use clause_db::Propagate;
 use cnf_base::Lit;
 use proofs::StepBuf;
@@ -25,7 +28,7 @@ pub struct DratSession<P: Propagate> {
 
 impl<P: Propagate> Model for DratSession<P> {
     ghost use Rattle.std.specs.Prelude.{◌≡◌, [], false};
-    ghost use Rattle.steps.specs.DratSession.{DratState, drat_code};
+    ghost use Rattle.steps.specs.Drat.Session.{DratState, drat_code};
 
     ghost Value = { DratState };
 
@@ -53,7 +56,7 @@ impl<P: Propagate> DratSession<P> {
 }
 
 impl<P: Propagate> ProofSession for DratSession<P> {
-    ghost use Rattle.steps.specs.Rules.{by_copies};
+    ghost use Rattle.steps.specs.Theory.Rules.{by_copies};
 
     ghost shown = { λ s. record { state = by_copies s.rules (clauses_of s); has_stepped = s.has_stepped; is_verified = s.is_verified; is_ended = s.is_ended; peak = s.peak; room = 4294967295 } };
 

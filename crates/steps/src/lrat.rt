@@ -1,20 +1,28 @@
 //! Sessions that check an LRAT proof.
 
+mod addition;
+mod candidates;
+mod live_clauses;
+mod named;
+#[cfg(test)]
+mod tests;
+mod walk;
+
 ghost use Rattle.std.specs.Prelude.{◌≡◌, ◌≢◌, ◌⊎◌, ◌+◌, ◌-◌, ◌<◌, ◌^◌, ◌||◌, ◌↔◌, min, max, true, false, IsTrue, IsFalse, IfOk, IfErr, OnOk, OnErr, ℕ};
 ghost use Rattle.std.specs.FinMap as maps;
 ghost use Rattle.cnf_base.specs.Literals.{complements};
 ghost use Rattle.steps.specs.Lrat.{chain, units_of, groups_of, AnswersChain, AnswersLrat, after_lrat, lrat_step, with_clause, SameClauses};
-ghost use Rattle.clause_db.specs.Trail.{HasRoom};
-ghost use Rattle.steps.specs.Shelf.{shelf_state};
-ghost use Rattle.steps.specs.LratSession.{fresh, state_of, IsReady};
-ghost use Rattle.steps.specs.StepAnswer.{UnlessOutOfMemory};
+ghost use Rattle.clause_db.specs.Propagation.Trail.{HasRoom};
+ghost use Rattle.steps.specs.Lrat.Shelf.{shelf_state};
+ghost use Rattle.steps.specs.Lrat.Session.{fresh, state_of, IsReady};
+ghost use Rattle.steps.specs.Theory.StepAnswer.{UnlessOutOfMemory};
 
-use crate::accepted::Accepted;
-use crate::addition::judge_addition;
-use crate::live_clauses::{LiveClauses, delete_all};
-use crate::progress::Progress;
+use crate::lrat::addition::judge_addition;
+use crate::lrat::live_clauses::{LiveClauses, delete_all};
 use crate::proof_session::ProofSession;
-use crate::refusal::Refusal;
+use crate::proof_session::progress::Progress;
+use crate::theory::accepted::Accepted;
+use crate::theory::refusal::Refusal;
 use clause_db::Trail;
 use cnf_base::{Lit, OutOfMemory};
 use proofs::{StepBuf, StepKind};
@@ -34,7 +42,7 @@ pub struct LratSession {
 impl Model for LratSession {
     ghost use Rattle.std.specs.Prelude.{◌≡◌, false};
     ghost use Rattle.std.specs.FinMap as maps;
-    ghost use Rattle.steps.specs.LratSession.{Session, session_code, IsReady};
+    ghost use Rattle.steps.specs.Lrat.Session.{Session, session_code, IsReady};
 
     ghost Value = { Session };
 
@@ -153,7 +161,7 @@ impl LratSession {
 
 impl ProofSession for LratSession {
     ghost use Rattle.std.specs.Prelude.{◌-◌};
-    ghost use Rattle.steps.specs.Rules.{by_ids};
+    ghost use Rattle.steps.specs.Theory.Rules.{by_ids};
 
     ghost shown = { λ s. record { state = by_ids (state_of s); has_stepped = s.has_stepped; is_verified = s.is_verified; is_ended = s.is_ended; peak = s.peak; room = 4294967295 - s.top } };
 

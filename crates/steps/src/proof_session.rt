@@ -1,13 +1,15 @@
 //! What every session does that checks a proof.
 
+pub(crate) mod progress;
+
 ghost use Rattle.std.specs.Prelude.{◌≡◌, ◌⊎◌, ◌+◌, ◌<◌, ◌≤◌, ◌||◌, ◌↔◌, max, true, false, IsTrue, IsFalse, IfOk, IfErr, OnOk, OnErr};
 ghost use Rattle.steps.specs.ProofSession.{View, is_over, IsCutOff};
-ghost use Rattle.steps.specs.Rules.{Same, with_input, Answers, after, sum_of, rule_of, IsSatisfiable};
-ghost use Rattle.steps.specs.StepAnswer.{UnlessOutOfMemory};
-ghost use Rattle.steps.specs.Verdicts.{is_empty, is_last};
+ghost use Rattle.steps.specs.Theory.Rules.{Same, with_input, Answers, after, sum_of, rule_of, IsSatisfiable};
+ghost use Rattle.steps.specs.Theory.StepAnswer.{UnlessOutOfMemory};
+ghost use Rattle.steps.specs.Theory.Verdicts.{is_empty, is_last};
 
-use crate::accepted::Accepted;
-use crate::refusal::Refusal;
+use crate::theory::accepted::Accepted;
+use crate::theory::refusal::Refusal;
 use cnf_base::Lit;
 use proofs::StepBuf;
 

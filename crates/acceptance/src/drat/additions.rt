@@ -1,58 +1,24 @@
 //! Additions of DRAT.
 
-use crate::support::{DRAT, DRAT_TRACED, E, E_DRAT, G, Row, expect_all};
+use crate::support::{DRAT, DRAT_TRACED, E, E_BY_DRAT, E_BY_DRAT_TRACED, G, Row, expect_all};
 use std::test::Fail;
 
 const ROWS: [Row<'static>; 16] = [
-    Row {
-        name: "e_drat",
-        formula: E,
-        second: E_DRAT,
-        lines: &[
-            "c formula 2 variables 4 clauses",
-            "c steps 2 peak 9",
-            "s VERIFIED",
-        ],
-        status: 0,
-        ..DRAT
-    },
+    E_BY_DRAT,
     Row {
         name: "e_drat, without the last line feed",
         formula: E,
         second: b"2 0\n0",
-        lines: &[
-            "c formula 2 variables 4 clauses",
-            "c steps 2 peak 9",
-            "s VERIFIED",
-        ],
+        lines: "c formula 2 variables 4 clauses\nc steps 2 peak 9",
         status: 0,
         ..DRAT
     },
-    Row {
-        name: "e_drat, traced",
-        formula: E,
-        second: E_DRAT,
-        lines: &[
-            "c formula 2 variables 4 clauses",
-            "c 1 add rup",
-            "c 2 add rup",
-            "c steps 2 peak 9",
-            "s VERIFIED",
-        ],
-        status: 0,
-        ..DRAT_TRACED
-    },
+    E_BY_DRAT_TRACED,
     Row {
         name: "definition_by_rat",
         formula: G,
         second: b"3 -1 0\n-3 1 0\n",
-        lines: &[
-            "c formula 2 variables 1 clauses",
-            "c 1 add rat",
-            "c 2 add rat",
-            "c end: no empty clause",
-            "s NOT VERIFIED",
-        ],
+        lines: "c formula 2 variables 1 clauses\nc 1 add rat\nc 2 add rat\nc end: no empty clause",
         status: 1,
         ..DRAT_TRACED
     },
@@ -60,11 +26,7 @@ const ROWS: [Row<'static>; 16] = [
         name: "refused_before_bad_token",
         formula: G,
         second: b"-1 3 0\n?\n",
-        lines: &[
-            "c formula 2 variables 1 clauses",
-            "c step 1: neither RUP nor RAT on -1",
-            "s NOT VERIFIED",
-        ],
+        lines: "c formula 2 variables 1 clauses\nc step 1: neither RUP nor RAT on -1",
         status: 1,
         ..DRAT
     },
@@ -72,11 +34,7 @@ const ROWS: [Row<'static>; 16] = [
         name: "second_candidate_fails",
         formula: "p cnf 3 2\n1 2 0\n1 3 0\n",
         second: b"-1 -2 0\n",
-        lines: &[
-            "c formula 3 variables 2 clauses",
-            "c step 1: neither RUP nor RAT on -1",
-            "s NOT VERIFIED",
-        ],
+        lines: "c formula 3 variables 2 clauses\nc step 1: neither RUP nor RAT on -1",
         status: 1,
         ..DRAT
     },
@@ -84,12 +42,7 @@ const ROWS: [Row<'static>; 16] = [
         name: "tautology_and_great_variable, a tautology",
         formula: G,
         second: b"1 -1 0\n",
-        lines: &[
-            "c formula 2 variables 1 clauses",
-            "c 1 add rup",
-            "c end: no empty clause",
-            "s NOT VERIFIED",
-        ],
+        lines: "c formula 2 variables 1 clauses\nc 1 add rup\nc end: no empty clause",
         status: 1,
         ..DRAT_TRACED
     },
@@ -97,11 +50,7 @@ const ROWS: [Row<'static>; 16] = [
         name: "tautology_and_great_variable, the empty clause",
         formula: G,
         second: b"0\n",
-        lines: &[
-            "c formula 2 variables 1 clauses",
-            "c step 1: not RUP",
-            "s NOT VERIFIED",
-        ],
+        lines: "c formula 2 variables 1 clauses\nc step 1: not RUP",
         status: 1,
         ..DRAT
     },
@@ -109,12 +58,7 @@ const ROWS: [Row<'static>; 16] = [
         name: "tautology_and_great_variable, the greatest variable",
         formula: G,
         second: b"268435455 0\n",
-        lines: &[
-            "c formula 2 variables 1 clauses",
-            "c 1 add rat",
-            "c end: no empty clause",
-            "s NOT VERIFIED",
-        ],
+        lines: "c formula 2 variables 1 clauses\nc 1 add rat\nc end: no empty clause",
         status: 1,
         ..DRAT_TRACED
     },
@@ -122,11 +66,7 @@ const ROWS: [Row<'static>; 16] = [
         name: "repeated_literal",
         formula: "p cnf 1 2\n1 1 0\n-1 0\n",
         second: b"0\n",
-        lines: &[
-            "c formula 1 variables 2 clauses",
-            "c steps 1 peak 2",
-            "s VERIFIED",
-        ],
+        lines: "c formula 1 variables 2 clauses\nc steps 1 peak 2",
         status: 0,
         ..DRAT
     },
@@ -134,11 +74,7 @@ const ROWS: [Row<'static>; 16] = [
         name: "the rest of a tautology is no conflict",
         formula: "p cnf 2 1\n1 -1 0\n",
         second: b"1 2 0\n",
-        lines: &[
-            "c formula 2 variables 1 clauses",
-            "c step 1: neither RUP nor RAT on 1",
-            "s NOT VERIFIED",
-        ],
+        lines: "c formula 2 variables 1 clauses\nc step 1: neither RUP nor RAT on 1",
         status: 1,
         ..DRAT
     },
@@ -146,12 +82,7 @@ const ROWS: [Row<'static>; 16] = [
         name: "the first literal is the pivot",
         formula: "p cnf 2 1\n1 -1 0\n",
         second: b"2 1 0\n",
-        lines: &[
-            "c formula 2 variables 1 clauses",
-            "c 1 add rat",
-            "c end: no empty clause",
-            "s NOT VERIFIED",
-        ],
+        lines: "c formula 2 variables 1 clauses\nc 1 add rat\nc end: no empty clause",
         status: 1,
         ..DRAT_TRACED
     },
@@ -159,11 +90,7 @@ const ROWS: [Row<'static>; 16] = [
         name: "the empty clause by propagation",
         formula: "p cnf 2 3\n1 0\n-1 2 0\n-1 -2 0\n",
         second: b"0\n",
-        lines: &[
-            "c formula 2 variables 3 clauses",
-            "c steps 1 peak 5",
-            "s VERIFIED",
-        ],
+        lines: "c formula 2 variables 3 clauses\nc steps 1 peak 5",
         status: 0,
         ..DRAT
     },
@@ -171,11 +98,7 @@ const ROWS: [Row<'static>; 16] = [
         name: "literals of a step count once",
         formula: E,
         second: b"2 2 2 0\n0\n",
-        lines: &[
-            "c formula 2 variables 4 clauses",
-            "c steps 2 peak 9",
-            "s VERIFIED",
-        ],
+        lines: "c formula 2 variables 4 clauses\nc steps 2 peak 9",
         status: 0,
         ..DRAT
     },
@@ -183,13 +106,7 @@ const ROWS: [Row<'static>; 16] = [
         name: "nothing after the empty clause counts",
         formula: E,
         second: b"2 0\n0\n?\n1 0\n",
-        lines: &[
-            "c formula 2 variables 4 clauses",
-            "c 1 add rup",
-            "c 2 add rup",
-            "c steps 2 peak 9",
-            "s VERIFIED",
-        ],
+        lines: "c formula 2 variables 4 clauses\nc 1 add rup\nc 2 add rup\nc steps 2 peak 9",
         status: 0,
         ..DRAT_TRACED
     },
@@ -197,12 +114,7 @@ const ROWS: [Row<'static>; 16] = [
         name: "the end after an accepted step",
         formula: E,
         second: b"2 0\n",
-        lines: &[
-            "c formula 2 variables 4 clauses",
-            "c 1 add rup",
-            "c end: no empty clause",
-            "s NOT VERIFIED",
-        ],
+        lines: "c formula 2 variables 4 clauses\nc 1 add rup\nc end: no empty clause",
         status: 1,
         ..DRAT_TRACED
     },

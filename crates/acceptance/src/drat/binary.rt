@@ -1,15 +1,13 @@
 //! Whole runs on proofs in binary DRAT.
 
 use crate::support::{
-    BINARY_STRICT, BINARY_TRACED, Cut, DRAT, E, E_BINARY, G, Row, expect, expect_all,
+    BINARY_STRICT, BINARY_TRACED, Cut, Cutting, DRAT, E, E_BINARY, E_BY_BINARY_TRACED, E_LINE,
+    E_WITH_DELETION, G, G_LINE, Row, Said, UNREAD_AFTER_ONE, UNREAD_PROOF, expect_after,
+    expect_all,
 };
 use std::alloc::Global;
 use std::process::Abort;
 use std::test::Fail;
-
-const E_LINE: &str = "c formula 2 variables 4 clauses";
-
-const G_LINE: &str = "c formula 2 variables 1 clauses";
 
 // A proof, the lines between that of the formula and the verdict, and the status.
 type Judged = (&'static [u8], &'static str, u8);
@@ -67,8 +65,13 @@ const ON_G: [Judged; 5] = [
     ),
 ];
 
-// The first n bytes of the proof of `E`, for each n from 0 to 4, where the proof ends there.
-const ENDS: [(&str, u8); 5] = [
+const PROOF: Cutting<'static> = Cutting::Second(
+    E_BY_BINARY_TRACED,
+    "c formula 2 variables 4 clauses\n",
+);
+
+// For the first n bytes of the proof of `E`, for each n from 0 to 4, where the proof ends there.
+const ENDS: [Said<'static>; 5] = [
     ("c end: no empty clause", 1),
     ("c proof byte 2: unterminated step", 2),
     ("c proof byte 3: unterminated step", 2),
@@ -76,121 +79,49 @@ const ENDS: [(&str, u8); 5] = [
     ("c 1 add rup\nc proof byte 5: unterminated step", 2),
 ];
 
-// The same, where a read fails there. The first step is whole with its last byte.
-const FAILS: [(&str, u8); 5] = [
-    ("c cannot read proof", 3),
-    ("c cannot read proof", 3),
-    ("c cannot read proof", 3),
-    ("c 1 add rup\nc cannot read proof", 3),
-    ("c 1 add rup\nc cannot read proof", 3),
-];
-
-fn expect_unverified(
+fn expect_judged(
     rt: &impl Abort,
     alloc: Global,
-    base: &Row<'_>,
     formula: (&str, &str),
-    proof: &[u8],
-    report: (&str, u8),
+    rows: &[Judged],
 ) -> Result<(), Fail> {
-    let (formula, formula_line) = formula;
-    let (lines, status) = report;
-    let row = Row {
-        name: lines,
-        formula,
-        second: proof,
-        lines: &[formula_line, lines, "s NOT VERIFIED"],
-        status,
-        ..*base
-    };
-    expect(rt, alloc, &row)
+    for (proof, lines, status) in rows {
+        let row = (*lines, *proof, *lines);
+        expect_after(rt, alloc, &BINARY_TRACED, formula, row, *status)?;
+    }
+    Ok(())
 }
 
 #[test]
 fn on_e(rt: HostRuntime) -> Result<(), Fail> {
-    for (proof, lines, status) in ON_E {
-        let report = (lines, status);
-        expect_unverified(&rt, rt.alloc(), &BINARY_TRACED, (E, E_LINE), proof, report)?;
-    }
-    Ok(())
+    expect_judged(&rt, rt.alloc(), (E, E_LINE), &ON_E)
 }
 
 #[test]
 fn on_g(rt: HostRuntime) -> Result<(), Fail> {
-    for (proof, lines, status) in ON_G {
-        let report = (lines, status);
-        expect_unverified(&rt, rt.alloc(), &BINARY_TRACED, (G, G_LINE), proof, report)?;
-    }
-    Ok(())
+    expect_judged(&rt, rt.alloc(), (G, G_LINE), &ON_G)
 }
 
-fn expect_cuts(
-    rt: &impl Abort,
-    alloc: Global,
-    rows: &[(&str, u8)],
-    base: &Row<'_>,
-) -> Result<(), Fail> {
-    for (n, report) in rows.iter().enumerate() {
-        let part = E_BINARY.get(..n);
-        assert!(rt; part.is_some(), "{n} is past the proof");
-        let proof = part.unwrap_or(E_BINARY);
-        expect_unverified(rt, alloc, base, (E, E_LINE), proof, *report)?;
-    }
-    Ok(())
-}
-
+// The first step is whole with its last byte, before a failed read too.
 #[test]
 fn cuts(rt: HostRuntime) -> Result<(), Fail> {
-    expect_cuts(&rt, rt.alloc(), &ENDS, &BINARY_TRACED)?;
-    let base = Row {
-        second_cut: Cut::Fails,
-        ..BINARY_TRACED
-    };
-    expect_cuts(&rt, rt.alloc(), &FAILS, &base)
+    PROOF.expect(&rt, rt.alloc(), 0, &ENDS)?;
+    PROOF.expect_failing(&rt, rt.alloc(), 0..3, UNREAD_PROOF)?;
+    PROOF.expect_failing(&rt, rt.alloc(), 3..5, UNREAD_AFTER_ONE)
 }
 
 const VERIFIED: [Row<'static>; 4] = [
-    Row {
-        name: "e_drat, traced",
-        formula: E,
-        second: E_BINARY,
-        lines: &[
-            "c formula 2 variables 4 clauses",
-            "c 1 add rup",
-            "c 2 add rup",
-            "c steps 2 peak 9",
-            "s VERIFIED",
-        ],
-        status: 0,
-        ..BINARY_TRACED
-    },
+    E_BY_BINARY_TRACED,
     Row {
         name: "e_drat, traced, and then a failed read",
-        formula: E,
-        second: E_BINARY,
         second_cut: Cut::Fails,
-        lines: &[
-            "c formula 2 variables 4 clauses",
-            "c 1 add rup",
-            "c 2 add rup",
-            "c steps 2 peak 9",
-            "s VERIFIED",
-        ],
-        status: 0,
-        ..BINARY_TRACED
+        ..E_BY_BINARY_TRACED
     },
     Row {
         name: "a deletion",
         formula: E,
         second: b"a\x04\x00d\x04\x02\x00a\x00",
-        lines: &[
-            "c formula 2 variables 4 clauses",
-            "c 1 add rup",
-            "c 2 delete",
-            "c 3 add rup",
-            "c steps 3 peak 9",
-            "s VERIFIED",
-        ],
+        lines: E_WITH_DELETION,
         status: 0,
         ..BINARY_TRACED
     },
@@ -198,11 +129,7 @@ const VERIFIED: [Row<'static>; 4] = [
         name: "a bad number after the verdict, strict",
         formula: E,
         second: b"a\x04\x00a\x00a\x01",
-        lines: &[
-            "c formula 2 variables 4 clauses",
-            "c steps 2 peak 9",
-            "s VERIFIED",
-        ],
+        lines: "c formula 2 variables 4 clauses\nc steps 2 peak 9",
         status: 0,
         ..BINARY_STRICT
     },
@@ -218,11 +145,7 @@ const OPTIONS: [Row<'static>; 2] = [
         name: "a deletion of a clause that is not alive, strict",
         formula: E,
         second: b"d\x02\x06\x00",
-        lines: &[
-            "c formula 2 variables 4 clauses",
-            "c step 1: clause is not alive",
-            "s NOT VERIFIED",
-        ],
+        lines: "c formula 2 variables 4 clauses\nc step 1: clause is not alive",
         status: 1,
         ..BINARY_STRICT
     },
@@ -230,11 +153,7 @@ const OPTIONS: [Row<'static>; 2] = [
         name: "bytes of this form that are read as text",
         formula: E,
         second: E_BINARY,
-        lines: &[
-            "c formula 2 variables 4 clauses",
-            "c proof 1:1: bad token",
-            "s NOT VERIFIED",
-        ],
+        lines: "c formula 2 variables 4 clauses\nc proof 1:1: bad token",
         status: 2,
         ..DRAT
     },

@@ -8,11 +8,7 @@ const ROWS: [Row<'static>; 15] = [
         name: "unit_deleted",
         formula: "p cnf 2 3\n1 0\n-1 2 0\n-1 -2 0\n",
         second: b"d 1 0\n0\n",
-        lines: &[
-            "c formula 2 variables 3 clauses",
-            "c step 2: not RUP",
-            "s NOT VERIFIED",
-        ],
+        lines: "c formula 2 variables 3 clauses\nc step 2: not RUP",
         status: 1,
         ..DRAT
     },
@@ -20,11 +16,7 @@ const ROWS: [Row<'static>; 15] = [
         name: "one_copy_deleted",
         formula: "p cnf 1 3\n1 0\n1 0\n-1 0\n",
         second: b"d 1 0\n0\n",
-        lines: &[
-            "c formula 1 variables 3 clauses",
-            "c steps 2 peak 3",
-            "s VERIFIED",
-        ],
+        lines: "c formula 1 variables 3 clauses\nc steps 2 peak 3",
         status: 0,
         ..DRAT
     },
@@ -32,11 +24,7 @@ const ROWS: [Row<'static>; 15] = [
         name: "one_copy_deleted, and the other one",
         formula: "p cnf 1 3\n1 0\n1 0\n-1 0\n",
         second: b"d 1 0\nd 1 0\n0\n",
-        lines: &[
-            "c formula 1 variables 3 clauses",
-            "c step 3: not RUP",
-            "s NOT VERIFIED",
-        ],
+        lines: "c formula 1 variables 3 clauses\nc step 3: not RUP",
         status: 1,
         ..DRAT
     },
@@ -44,12 +32,7 @@ const ROWS: [Row<'static>; 15] = [
         name: "deletion_ignored",
         formula: G,
         second: b"d 1 3 0\n",
-        lines: &[
-            "c formula 2 variables 1 clauses",
-            "c 1 ignored",
-            "c end: no empty clause",
-            "s NOT VERIFIED",
-        ],
+        lines: "c formula 2 variables 1 clauses\nc 1 ignored\nc end: no empty clause",
         status: 1,
         ..DRAT_TRACED
     },
@@ -57,11 +40,7 @@ const ROWS: [Row<'static>; 15] = [
         name: "deletion_ignored, strict",
         formula: G,
         second: b"d 1 3 0\n",
-        lines: &[
-            "c formula 2 variables 1 clauses",
-            "c step 1: clause is not alive",
-            "s NOT VERIFIED",
-        ],
+        lines: "c formula 2 variables 1 clauses\nc step 1: clause is not alive",
         status: 1,
         ..DRAT_STRICT
     },
@@ -69,12 +48,7 @@ const ROWS: [Row<'static>; 15] = [
         name: "a clause is deleted as a set",
         formula: G,
         second: b"d 2 1 2 0\n",
-        lines: &[
-            "c formula 2 variables 1 clauses",
-            "c 1 delete",
-            "c end: no empty clause",
-            "s NOT VERIFIED",
-        ],
+        lines: "c formula 2 variables 1 clauses\nc 1 delete\nc end: no empty clause",
         status: 1,
         ..DRAT_TRACED
     },
@@ -82,12 +56,7 @@ const ROWS: [Row<'static>; 15] = [
         name: "a part of a clause is not alive",
         formula: G,
         second: b"d 1 0\n",
-        lines: &[
-            "c formula 2 variables 1 clauses",
-            "c 1 ignored",
-            "c end: no empty clause",
-            "s NOT VERIFIED",
-        ],
+        lines: "c formula 2 variables 1 clauses\nc 1 ignored\nc end: no empty clause",
         status: 1,
         ..DRAT_TRACED
     },
@@ -95,12 +64,7 @@ const ROWS: [Row<'static>; 15] = [
         name: "the empty clause is not alive",
         formula: G,
         second: b"d 0\n",
-        lines: &[
-            "c formula 2 variables 1 clauses",
-            "c 1 ignored",
-            "c end: no empty clause",
-            "s NOT VERIFIED",
-        ],
+        lines: "c formula 2 variables 1 clauses\nc 1 ignored\nc end: no empty clause",
         status: 1,
         ..DRAT_TRACED
     },
@@ -108,11 +72,7 @@ const ROWS: [Row<'static>; 15] = [
         name: "the empty clause is not alive, strict",
         formula: G,
         second: b"d 0\n",
-        lines: &[
-            "c formula 2 variables 1 clauses",
-            "c step 1: clause is not alive",
-            "s NOT VERIFIED",
-        ],
+        lines: "c formula 2 variables 1 clauses\nc step 1: clause is not alive",
         status: 1,
         ..DRAT_STRICT
     },
@@ -120,11 +80,7 @@ const ROWS: [Row<'static>; 15] = [
         name: "a deletion twice, strict",
         formula: G,
         second: b"d 1 2 0\nd 1 2 0\n",
-        lines: &[
-            "c formula 2 variables 1 clauses",
-            "c step 2: clause is not alive",
-            "s NOT VERIFIED",
-        ],
+        lines: "c formula 2 variables 1 clauses\nc step 2: clause is not alive",
         status: 1,
         ..DRAT_STRICT
     },
@@ -132,11 +88,7 @@ const ROWS: [Row<'static>; 15] = [
         name: "a deletion of an added clause, strict",
         formula: E,
         second: b"2 0\nd 2 0\n2 0\n0\n",
-        lines: &[
-            "c formula 2 variables 4 clauses",
-            "c steps 4 peak 9",
-            "s VERIFIED",
-        ],
+        lines: "c formula 2 variables 4 clauses\nc steps 4 peak 9",
         status: 0,
         ..DRAT_STRICT
     },
@@ -144,11 +96,7 @@ const ROWS: [Row<'static>; 15] = [
         name: "the peak stays after a deletion",
         formula: E,
         second: b"2 0\n1 2 0\nd 2 1 0\n0\n",
-        lines: &[
-            "c formula 2 variables 4 clauses",
-            "c steps 4 peak 11",
-            "s VERIFIED",
-        ],
+        lines: "c formula 2 variables 4 clauses\nc steps 4 peak 11",
         status: 0,
         ..DRAT
     },
@@ -156,14 +104,8 @@ const ROWS: [Row<'static>; 15] = [
         name: "an ignored deletion counts as a step",
         formula: E,
         second: b"2 0\nd 5 0\n0\n",
-        lines: &[
-            "c formula 2 variables 4 clauses",
-            "c 1 add rup",
-            "c 2 ignored",
-            "c 3 add rup",
-            "c steps 3 peak 9",
-            "s VERIFIED",
-        ],
+        lines: "c formula 2 variables 4 clauses\n\
+            c 1 add rup\nc 2 ignored\nc 3 add rup\nc steps 3 peak 9",
         status: 0,
         ..DRAT_TRACED
     },
@@ -171,13 +113,7 @@ const ROWS: [Row<'static>; 15] = [
         name: "a deleted clause is no candidate, with one clause",
         formula: G,
         second: b"d 1 2 0\n-1 0\n",
-        lines: &[
-            "c formula 2 variables 1 clauses",
-            "c 1 delete",
-            "c 2 add rat",
-            "c end: no empty clause",
-            "s NOT VERIFIED",
-        ],
+        lines: "c formula 2 variables 1 clauses\nc 1 delete\nc 2 add rat\nc end: no empty clause",
         status: 1,
         ..DRAT_TRACED
     },
@@ -185,11 +121,7 @@ const ROWS: [Row<'static>; 15] = [
         name: "a deletion after the verdict",
         formula: E,
         second: b"2 0\n0\nd 7 0\n",
-        lines: &[
-            "c formula 2 variables 4 clauses",
-            "c steps 2 peak 9",
-            "s VERIFIED",
-        ],
+        lines: "c formula 2 variables 4 clauses\nc steps 2 peak 9",
         status: 0,
         ..DRAT_STRICT
     },

@@ -117,36 +117,32 @@ const CLAUSES: [(&str, &str); 37] = [
     ),
 ];
 
-// What these texts give where a read fails after them: a fault that they show already, or the failure.
-const FAILED_READS: [(&str, &str, u8); 20] = [
-    ("", "c cannot read formula", 3),
-    ("c x\n", "c cannot read formula", 3),
-    ("q", "c cannot read formula", 3),
-    ("q ", "c formula 1:1: bad header", 2),
-    ("p dnf", "c cannot read formula", 3),
-    ("p dnf ", "c formula 1:3: bad header", 2),
-    ("p cnf 268435456", "c cannot read formula", 3),
-    ("p cnf 268435456 ", "c formula 1:7: number too large", 2),
-    ("p cnf 2\n", "c formula 1:8: bad header", 2),
-    ("p cnf 2 1", "c cannot read formula", 3),
-    ("p cnf 2 1 7", "c cannot read formula", 3),
-    ("p cnf 2 1 7\n", "c formula 1:11: bad header", 2),
-    ("p cnf 2 1\n", "c cannot read formula", 3),
-    ("p cnf 2 1\n1 3", "c cannot read formula", 3),
-    (
-        "p cnf 2 1\n1 3 0\n",
-        "c formula 2:3: literal out of range",
-        2,
-    ),
-    ("p cnf 2 1\n1 ?", "c cannot read formula", 3),
-    ("p cnf 2 1\n1 ?\t", "c formula 2:3: bad token", 2),
-    ("p cnf 2 1\n1 2 0\n", "c cannot read formula", 3),
-    ("p cnf 2 1\n1 2 0\n\n", "c cannot read formula", 3),
-    (
-        "p cnf 2 1\n1 2 0\n0\r",
-        "c formula 3:1: too many clauses",
-        2,
-    ),
+// Texts that show no fault where a read fails after them.
+const UNREADABLE: [&str; 12] = [
+    "",
+    "c x\n",
+    "q",
+    "p dnf",
+    "p cnf 268435456",
+    "p cnf 2 1",
+    "p cnf 2 1 7",
+    "p cnf 2 1\n",
+    "p cnf 2 1\n1 3",
+    "p cnf 2 1\n1 ?",
+    "p cnf 2 1\n1 2 0\n",
+    "p cnf 2 1\n1 2 0\n\n",
+];
+
+// Texts that show a fault already where a read fails after them.
+const FAULTS_BEFORE: [(&str, &str); 8] = [
+    ("q ", "c formula 1:1: bad header"),
+    ("p dnf ", "c formula 1:3: bad header"),
+    ("p cnf 268435456 ", "c formula 1:7: number too large"),
+    ("p cnf 2\n", "c formula 1:8: bad header"),
+    ("p cnf 2 1 7\n", "c formula 1:11: bad header"),
+    ("p cnf 2 1\n1 3 0\n", "c formula 2:3: literal out of range"),
+    ("p cnf 2 1\n1 ?\t", "c formula 2:3: bad token"),
+    ("p cnf 2 1\n1 2 0\n0\r", "c formula 3:1: too many clauses"),
 ];
 
 // Proofs and a trace, of which nothing shows.
@@ -162,14 +158,12 @@ const UNREAD: [Row<'static>; 3] = [
     },
 ];
 
-const LAST: &str = "s NOT VERIFIED";
-
 fn expect_fault<'a>(
     rt: &impl Abort,
     alloc: Global,
     formula: &'a str,
     formula_cut: Cut,
-    lines: &'a [&'a str],
+    lines: &'a str,
     status: u8,
 ) -> Result<(), Fail> {
     for base in UNREAD {
@@ -186,29 +180,33 @@ fn expect_fault<'a>(
     Ok(())
 }
 
-#[test]
-fn headers(rt: HostRuntime) -> Result<(), Fail> {
-    for (formula, line) in HEADERS {
-        let lines = [line, LAST];
-        expect_fault(&rt, rt.alloc(), formula, Cut::Ends, &lines, 2)?;
+fn expect_faults(
+    rt: &impl Abort,
+    alloc: Global,
+    cut: Cut,
+    rows: &[(&str, &str)],
+) -> Result<(), Fail> {
+    for (formula, line) in rows {
+        expect_fault(rt, alloc, formula, cut, line, 2)?;
     }
     Ok(())
+}
+
+#[test]
+fn headers(rt: HostRuntime) -> Result<(), Fail> {
+    expect_faults(&rt, rt.alloc(), Cut::Ends, &HEADERS)
 }
 
 #[test]
 fn clauses(rt: HostRuntime) -> Result<(), Fail> {
-    for (formula, line) in CLAUSES {
-        let lines = [line, LAST];
-        expect_fault(&rt, rt.alloc(), formula, Cut::Ends, &lines, 2)?;
-    }
-    Ok(())
+    expect_faults(&rt, rt.alloc(), Cut::Ends, &CLAUSES)
 }
 
 #[test]
 fn failed_reads(rt: HostRuntime) -> Result<(), Fail> {
-    for (formula, line, status) in FAILED_READS {
-        let lines = [line, LAST];
-        expect_fault(&rt, rt.alloc(), formula, Cut::Fails, &lines, status)?;
+    let alloc = rt.alloc();
+    for formula in UNREADABLE {
+        expect_fault(&rt, alloc, formula, Cut::Fails, "c cannot read formula", 3)?;
     }
-    Ok(())
+    expect_faults(&rt, alloc, Cut::Fails, &FAULTS_BEFORE)
 }

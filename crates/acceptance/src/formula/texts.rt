@@ -8,12 +8,7 @@ const ROWS: [Row<'static>; 9] = [
         name: "comments_everywhere",
         formula: "c hello\n\np cnf 1 1\nc mid\n1\nc in a clause\n0\n",
         second: b"c note\n2 d 1 0\n",
-        lines: &[
-            "c formula 1 variables 1 clauses",
-            "c 1 delete",
-            "c end: no empty clause",
-            "s NOT VERIFIED",
-        ],
+        lines: "c formula 1 variables 1 clauses\nc 1 delete\nc end: no empty clause",
         status: 1,
         ..LRAT_TRACED
     },
@@ -21,11 +16,7 @@ const ROWS: [Row<'static>; 9] = [
         name: "a first word that begins with c is a comment",
         formula: "cnf 7 7\nc\np cnf 2 4\n1 2 0\ncx 5 0\n-1 2 0\n1 -2 0\n-1 -2 0\nc the end",
         second: E_PROOF,
-        lines: &[
-            "c formula 2 variables 4 clauses",
-            "c steps 2 peak 9",
-            "s VERIFIED",
-        ],
+        lines: "c formula 2 variables 4 clauses\nc steps 2 peak 9",
         status: 0,
         ..LRAT
     },
@@ -33,11 +24,7 @@ const ROWS: [Row<'static>; 9] = [
         name: "a carriage return ends no comment",
         formula: "c x\r?\np cnf 2 4\n1 2 0\nc\r7 0\n-1 2 0\n1 -2 0\n-1 -2 0\n",
         second: E_PROOF,
-        lines: &[
-            "c formula 2 variables 4 clauses",
-            "c steps 2 peak 9",
-            "s VERIFIED",
-        ],
+        lines: "c formula 2 variables 4 clauses\nc steps 2 peak 9",
         status: 0,
         ..LRAT
     },
@@ -45,11 +32,7 @@ const ROWS: [Row<'static>; 9] = [
         name: "carriage returns",
         formula: "p cnf 1 1\r\n1 0\r\n",
         second: b"",
-        lines: &[
-            "c formula 1 variables 1 clauses",
-            "c end: no empty clause",
-            "s NOT VERIFIED",
-        ],
+        lines: "c formula 1 variables 1 clauses\nc end: no empty clause",
         status: 1,
         ..LRAT
     },
@@ -57,11 +40,7 @@ const ROWS: [Row<'static>; 9] = [
         name: "separators of every kind",
         formula: " \tp\rcnf  2\t4 \n\n1\t2\r0 -1 2 0 1\n\n  -2 0 -1\n-2\n0\n \t\r\n",
         second: E_PROOF,
-        lines: &[
-            "c formula 2 variables 4 clauses",
-            "c steps 2 peak 9",
-            "s VERIFIED",
-        ],
+        lines: "c formula 2 variables 4 clauses\nc steps 2 peak 9",
         status: 0,
         ..LRAT
     },
@@ -69,11 +48,7 @@ const ROWS: [Row<'static>; 9] = [
         name: "no clauses, and no last line feed",
         formula: "p cnf 3 0",
         second: b"",
-        lines: &[
-            "c formula 3 variables 0 clauses",
-            "c end: no empty clause",
-            "s NOT VERIFIED",
-        ],
+        lines: "c formula 3 variables 0 clauses\nc end: no empty clause",
         status: 1,
         ..LRAT
     },
@@ -81,11 +56,7 @@ const ROWS: [Row<'static>; 9] = [
         name: "the greatest variable",
         formula: "p cnf 268435455 1\n-268435455 0\n",
         second: b"2 0 1 0\n",
-        lines: &[
-            "c formula 268435455 variables 1 clauses",
-            "c step 1: no conflict",
-            "s NOT VERIFIED",
-        ],
+        lines: "c formula 268435455 variables 1 clauses\nc step 1: no conflict",
         status: 1,
         ..LRAT
     },
@@ -93,11 +64,7 @@ const ROWS: [Row<'static>; 9] = [
         name: "the greatest variable and its complement",
         formula: "p cnf 268435455 2\n-268435455 0\n268435455 0\n",
         second: b"3 0 1 2 0\n",
-        lines: &[
-            "c formula 268435455 variables 2 clauses",
-            "c steps 1 peak 2",
-            "s VERIFIED",
-        ],
+        lines: "c formula 268435455 variables 2 clauses\nc steps 1 peak 2",
         status: 0,
         ..LRAT
     },
@@ -105,11 +72,7 @@ const ROWS: [Row<'static>; 9] = [
         name: "a clause with a literal and its complement",
         formula: "p cnf 1 2\n1 -1 0\n1 0\n",
         second: b"3 0 1 0\n",
-        lines: &[
-            "c formula 1 variables 2 clauses",
-            "c step 1: hint 1 is not unit",
-            "s NOT VERIFIED",
-        ],
+        lines: "c formula 1 variables 2 clauses\nc step 1: hint 1 is not unit",
         status: 1,
         ..LRAT
     },

@@ -1,6 +1,6 @@
 //! Proofs with a malformed place, on the four clauses of two variables.
 
-use crate::support::{Cut, E, LRAT, LRAT_TRACED, Row, expect};
+use crate::support::{Cut, E, E_LINE, LRAT, LRAT_TRACED, Row, expect_after};
 use std::alloc::Global;
 use std::process::Abort;
 use std::test::Fail;
@@ -96,92 +96,94 @@ const UNTERMINATED: [(&str, &str); 9] = [
 
 // After an accepted step, with a trace.
 const LATER: [(&str, &str); 4] = [
-    ("5 2 0 1 2 0\n6 x", "c proof 2:3: bad token"),
-    ("5 2 0 1 2 0\n6 0 5", "c proof 2:6: unterminated step"),
-    ("5 2 0 1 2 0 ?\n6 0 5 3 4 0\n", "c proof 1:13: bad token"),
+    ("5 2 0 1 2 0\n6 x", "c 1 add rup\nc proof 2:3: bad token"),
+    (
+        "5 2 0 1 2 0\n6 0 5",
+        "c 1 add rup\nc proof 2:6: unterminated step",
+    ),
+    (
+        "5 2 0 1 2 0 ?\n6 0 5 3 4 0\n",
+        "c 1 add rup\nc proof 1:13: bad token",
+    ),
     (
         "5 2 0 1 2 0\n268435456 268435456 0 0\n",
-        "c proof 2:11: literal too large",
+        "c 1 add rup\nc proof 2:11: literal too large",
     ),
 ];
 
-// What these texts give where a read fails after them.
-const FAILED_READS: [(&str, &str, u8); 10] = [
-    ("", "c cannot read proof", 3),
-    ("?", "c cannot read proof", 3),
+// Texts of which nothing shows where a read fails after them.
+const UNREADABLE: [&str; 7] = [
+    "",
+    "?",
+    "9223372036854775808",
+    "5 9 0 9 0",
+    "5 2 0 1 2 0\n",
+    "5 2 0 1 2 0\nc 6 0 5 3 4 0\n",
+    "5 2 0 1 2 0\n6 0 5 3 4",
+];
+
+// Texts that are judged before a read fails after them.
+const JUDGED: [(&str, &str, u8); 3] = [
     ("? ", "c proof 1:1: bad token", 2),
-    ("9223372036854775808", "c cannot read proof", 3),
     (
         "9223372036854775808\n",
         "c proof 1:1: identifier too large",
         2,
     ),
-    ("5 9 0 9 0", "c cannot read proof", 3),
     ("5 9 0 9 0 ", "c step 1: unknown id 9", 1),
-    ("5 2 0 1 2 0\n", "c cannot read proof", 3),
-    ("5 2 0 1 2 0\nc 6 0 5 3 4 0\n", "c cannot read proof", 3),
-    ("5 2 0 1 2 0\n6 0 5 3 4", "c cannot read proof", 3),
 ];
-
-const FORMULA_LINE: &str = "c formula 2 variables 4 clauses";
-
-const LAST: &str = "s NOT VERIFIED";
 
 fn expect_lines(
     rt: &impl Abort,
     alloc: Global,
-    proof: &str,
     base: &Row<'_>,
-    lines: &[&str],
+    proof: &str,
+    lines: &str,
     status: u8,
 ) -> Result<(), Fail> {
-    let row = Row {
-        name: proof,
-        formula: E,
-        second: proof.as_bytes(),
-        lines,
-        status,
-        ..*base
-    };
-    expect(rt, alloc, &row)
+    let row = (proof, proof.as_bytes(), lines);
+    expect_after(rt, alloc, base, (E, E_LINE), row, status)
+}
+
+fn expect_faults(
+    rt: &impl Abort,
+    alloc: Global,
+    base: &Row<'_>,
+    rows: &[(&str, &str)],
+) -> Result<(), Fail> {
+    for (proof, lines) in rows {
+        expect_lines(rt, alloc, base, proof, lines, 2)?;
+    }
+    Ok(())
 }
 
 #[test]
 fn tokens(rt: HostRuntime) -> Result<(), Fail> {
-    for (proof, line) in TOKENS {
-        let lines = [FORMULA_LINE, line, LAST];
-        expect_lines(&rt, rt.alloc(), proof, &LRAT, &lines, 2)?;
-    }
-    Ok(())
+    expect_faults(&rt, rt.alloc(), &LRAT, &TOKENS)
 }
 
 #[test]
 fn unterminated(rt: HostRuntime) -> Result<(), Fail> {
-    for (proof, line) in UNTERMINATED {
-        let lines = [FORMULA_LINE, line, LAST];
-        expect_lines(&rt, rt.alloc(), proof, &LRAT, &lines, 2)?;
-    }
-    Ok(())
+    expect_faults(&rt, rt.alloc(), &LRAT, &UNTERMINATED)
 }
 
 #[test]
 fn after_an_accepted_step(rt: HostRuntime) -> Result<(), Fail> {
-    for (proof, line) in LATER {
-        let lines = [FORMULA_LINE, "c 1 add rup", line, LAST];
-        expect_lines(&rt, rt.alloc(), proof, &LRAT_TRACED, &lines, 2)?;
-    }
-    Ok(())
+    expect_faults(&rt, rt.alloc(), &LRAT_TRACED, &LATER)
 }
 
 #[test]
 fn failed_reads(rt: HostRuntime) -> Result<(), Fail> {
+    let alloc = rt.alloc();
     let base = Row {
         second_cut: Cut::Fails,
         ..LRAT
     };
-    for (proof, line, status) in FAILED_READS {
-        let lines = [FORMULA_LINE, line, LAST];
-        expect_lines(&rt, rt.alloc(), proof, &base, &lines, status)?;
+    for proof in UNREADABLE {
+        expect_lines(&rt, alloc, &base, proof, "c cannot read proof", 3)?;
+    }
+    for (proof, line, status) in JUDGED {
+        expect_lines(&rt, alloc, &base, proof, line, status)?;
     }
     Ok(())
 }

@@ -1,6 +1,6 @@
 //! Steps with groups of hints, each for a clause that holds the pivot's complement.
 
-use crate::support::{E, G, LRAT_TRACED, Row, expect, expect_all};
+use crate::support::{E, G, G_LINE, LRAT_TRACED, Row, expect_after, expect_all};
 use std::alloc::Global;
 use std::process::Abort;
 use std::test::Fail;
@@ -97,33 +97,32 @@ const HINTS_IN_GROUP: [(&str, &str, &str); 9] = [
     ),
 ];
 
-const ROWS: [Row<'static>; 6] = [
-    Row {
-        name: "a clause with a literal and its complement needs no hint",
-        formula: G,
-        second: b"2 1 -1 0 0\n",
-        lines: &[
-            "c formula 2 variables 1 clauses",
-            "c 1 add rup",
-            "c end: no empty clause",
-            "s NOT VERIFIED",
-        ],
-        status: 1,
-        ..LRAT_TRACED
-    },
+// On one clause with 1 and 2.
+const ON_G: [(&str, &str, &str); 3] = [
+    (
+        "a clause with a literal and its complement needs no hint",
+        "2 1 -1 0 0\n",
+        "c 1 add rup\nc end: no empty clause",
+    ),
+    (
+        "the first literal written is the pivot",
+        "2 -1 3 0 0\n",
+        "c step 1: clause 1 holds the complement and is not named",
+    ),
+    (
+        "the greatest variable as a pivot",
+        "2 268435455 0 0\n3 -268435455 1 0 0\n",
+        "c 1 add rat\nc step 2: clause 2 holds the complement and is not named",
+    ),
+];
+
+const ROWS: [Row<'static>; 3] = [
     Row {
         name: "definition_by_groups, verified",
         formula: E,
         second: b"5 3 -1 0 0\n6 -3 1 0 -5 0\n7 2 0 1 2 0\n8 0 7 3 4 0\n",
-        lines: &[
-            "c formula 2 variables 4 clauses",
-            "c 1 add rat",
-            "c 2 add rat",
-            "c 3 add rup",
-            "c 4 add rup",
-            "c steps 4 peak 13",
-            "s VERIFIED",
-        ],
+        lines: "c formula 2 variables 4 clauses\n\
+            c 1 add rat\nc 2 add rat\nc 3 add rup\nc 4 add rup\nc steps 4 peak 13",
         status: 0,
         ..LRAT_TRACED
     },
@@ -131,12 +130,7 @@ const ROWS: [Row<'static>; 6] = [
         name: "unit hints count in each group",
         formula: "p cnf 3 3\n-1 2 3 0\n1 -3 0\n2 3 0\n",
         second: b"4 1 0 2 -1 3 0\n",
-        lines: &[
-            "c formula 3 variables 3 clauses",
-            "c 1 add rat",
-            "c end: no empty clause",
-            "s NOT VERIFIED",
-        ],
+        lines: "c formula 3 variables 3 clauses\nc 1 add rat\nc end: no empty clause",
         status: 1,
         ..LRAT_TRACED
     },
@@ -144,85 +138,46 @@ const ROWS: [Row<'static>; 6] = [
         name: "the second candidate is not named",
         formula: "p cnf 3 2\n1 2 0\n1 3 0\n",
         second: b"3 -1 -2 0 0\n",
-        lines: &[
-            "c formula 3 variables 2 clauses",
-            "c step 1: clause 2 holds the complement and is not named",
-            "s NOT VERIFIED",
-        ],
-        status: 1,
-        ..LRAT_TRACED
-    },
-    Row {
-        name: "the first literal written is the pivot",
-        formula: G,
-        second: b"2 -1 3 0 0\n",
-        lines: &[
-            "c formula 2 variables 1 clauses",
-            "c step 1: clause 1 holds the complement and is not named",
-            "s NOT VERIFIED",
-        ],
-        status: 1,
-        ..LRAT_TRACED
-    },
-    Row {
-        name: "the greatest variable as a pivot",
-        formula: G,
-        second: b"2 268435455 0 0\n3 -268435455 1 0 0\n",
-        lines: &[
-            "c formula 2 variables 1 clauses",
-            "c 1 add rat",
-            "c step 2: clause 2 holds the complement and is not named",
-            "s NOT VERIFIED",
-        ],
+        lines: "c formula 3 variables 2 clauses\n\
+            c step 1: clause 2 holds the complement and is not named",
         status: 1,
         ..LRAT_TRACED
     },
 ];
 
-fn after_definition(rt: &impl Abort, alloc: Global, row: (&str, &str, &str)) -> Result<(), Fail> {
-    let (name, step, lines) = row;
-    let mut proof = String::from_str(alloc, "2 3 -1 0 0\n")?;
-    proof.push_str(step)?;
-    let row = Row {
-        name,
-        formula: G,
-        second: proof.as_bytes(),
-        lines: &[
-            "c formula 2 variables 1 clauses\nc 1 add rat",
-            lines,
-            "s NOT VERIFIED",
-        ],
-        status: 1,
-        ..LRAT_TRACED
-    };
-    expect(rt, alloc, &row)
-}
-
 #[test]
 fn definitions(rt: HostRuntime) -> Result<(), Fail> {
-    for row in AFTER_DEFINITION {
-        after_definition(&rt, rt.alloc(), row)?;
+    let alloc = rt.alloc();
+    for (name, step, lines) in AFTER_DEFINITION {
+        let proof = format!(in alloc; "2 3 -1 0 0\n{step}")?;
+        let lines = format!(in alloc; "c 1 add rat\n{lines}")?;
+        let row = (name, proof.as_bytes(), lines.as_str());
+        expect_after(&rt, alloc, &LRAT_TRACED, (G, G_LINE), row, 1)?;
+    }
+    Ok(())
+}
+
+fn expect_on(
+    rt: &impl Abort,
+    alloc: Global,
+    formula: (&str, &str),
+    rows: &[(&str, &str, &str)],
+) -> Result<(), Fail> {
+    for (name, proof, lines) in rows {
+        let row = (*name, proof.as_bytes(), *lines);
+        expect_after(rt, alloc, &LRAT_TRACED, formula, row, 1)?;
     }
     Ok(())
 }
 
 #[test]
 fn hints_in_group(rt: HostRuntime) -> Result<(), Fail> {
-    for (name, proof, lines) in HINTS_IN_GROUP {
-        let row = Row {
-            name,
-            formula: SHOWN,
-            second: proof.as_bytes(),
-            lines: &["c formula 4 variables 4 clauses", lines, "s NOT VERIFIED"],
-            status: 1,
-            ..LRAT_TRACED
-        };
-        expect(&rt, rt.alloc(), &row)?;
-    }
-    Ok(())
+    let shown = (SHOWN, "c formula 4 variables 4 clauses");
+    expect_on(&rt, rt.alloc(), shown, &HINTS_IN_GROUP)
 }
 
 #[test]
 fn rows(rt: HostRuntime) -> Result<(), Fail> {
+    expect_on(&rt, rt.alloc(), (G, G_LINE), &ON_G)?;
     expect_all(&rt, rt.alloc(), &ROWS)
 }

@@ -1,6 +1,6 @@
 //! Long words, comments and lines, and many steps.
 
-use crate::support::{E, E_PROOF, E_REPORT, LRAT, Row, expect_in_pieces};
+use crate::support::{E, E_BY_LRAT, E_LINE, E_PROOF, LRAT, Row, expect_in_pieces};
 use std::alloc::{AllocError, Global};
 use std::fmt::Write;
 use std::process::Abort;
@@ -49,7 +49,7 @@ fn expect_lines(
     alloc: Global,
     formula: &str,
     proof: &[u8],
-    lines: &[&str],
+    lines: &str,
     status: u8,
 ) -> Result<(), AllocError> {
     let row = Row {
@@ -65,10 +65,11 @@ fn expect_lines(
 
 #[test]
 fn proofs(rt: HostRuntime) -> Result<(), Fail> {
+    let alloc = rt.alloc();
     for (before, run, after, line) in PROOFS {
-        let proof = long(rt.alloc(), before, run, after)?;
-        let lines = ["c formula 2 variables 4 clauses", line, "s NOT VERIFIED"];
-        expect_lines(&rt, rt.alloc(), E, proof.as_bytes(), &lines, 2)?;
+        let proof = long(alloc, before, run, after)?;
+        let lines = format!(in alloc; "{E_LINE}\n{line}")?;
+        expect_lines(&rt, alloc, E, proof.as_bytes(), lines.as_str(), 2)?;
     }
     Ok(())
 }
@@ -77,27 +78,21 @@ fn proofs(rt: HostRuntime) -> Result<(), Fail> {
 fn formulas(rt: HostRuntime) -> Result<(), Fail> {
     for (before, run, after, line) in FORMULAS {
         let formula = long(rt.alloc(), before, run, after)?;
-        let lines = [line, "s NOT VERIFIED"];
-        expect_lines(&rt, rt.alloc(), formula.as_str(), E_PROOF, &lines, 2)?;
+        expect_lines(&rt, rt.alloc(), formula.as_str(), E_PROOF, line, 2)?;
     }
     Ok(())
 }
 
 #[test]
 fn comments(rt: HostRuntime) -> Result<(), Fail> {
-    let mut formula = long(rt.alloc(), "c", ' ', "\n")?;
+    let alloc = rt.alloc();
+    let mut formula = long(alloc, "c", ' ', "\n")?;
     formula.push_str(E)?;
-    let comment = long(rt.alloc(), "c ", '7', "\n")?;
-    let mut proof = comment.as_bytes().to_vec(rt.alloc())?;
+    let comment = long(alloc, "c ", '7', "\n")?;
+    let mut proof = comment.as_bytes().to_vec(alloc)?;
     proof.extend_from_slice(E_PROOF)?;
-    expect_lines(
-        &rt,
-        rt.alloc(),
-        formula.as_str(),
-        proof.as_slice(),
-        &E_REPORT,
-        0,
-    )?;
+    let lines = E_BY_LRAT.lines;
+    expect_lines(&rt, alloc, formula.as_str(), proof.as_slice(), lines, 0)?;
     Ok(())
 }
 
@@ -113,11 +108,7 @@ fn steps(rt: HostRuntime) -> Result<(), Fail> {
         push_pair(&mut proof, id)?;
     }
     proof.push_str("1005 2 0 1 2 0\n1006 0 1005 3 4 0\n")?;
-    let lines = [
-        "c formula 2 variables 4 clauses",
-        "c steps 2002 peak 10",
-        "s VERIFIED",
-    ];
-    expect_lines(&rt, rt.alloc(), E, proof.as_bytes(), &lines, 0)?;
+    let lines = "c formula 2 variables 4 clauses\nc steps 2002 peak 10";
+    expect_lines(&rt, rt.alloc(), E, proof.as_bytes(), lines, 0)?;
     Ok(())
 }

@@ -1,8 +1,8 @@
 //! What is read of a proof, and inputs that can't be opened.
 
 use crate::support::{
-    Cut, E, E_PROOF, E_REPORT, LRAT, Row, and_much_more, expect, expect_all, expect_read,
-    expect_unread, expect_unread_rest,
+    Cut, E, E_BY_LRAT, E_PROOF, EMPTY_CLAUSE, LRAT, OUT_OF_RANGE, Row, expect, expect_all,
+    expect_one_piece_further, expect_read, expect_unread,
 };
 use std::test::Fail;
 
@@ -10,44 +10,27 @@ use std::test::Fail;
 const UNREAD: [Row<'static>; 6] = [
     Row {
         name: "an empty clause",
-        formula: "p cnf 0 1\n0\n",
-        lines: &[
-            "c formula 0 variables 1 clauses",
-            "c steps 0 peak 0",
-            "s VERIFIED",
-        ],
-        status: 0,
-        ..LRAT
+        ..EMPTY_CLAUSE
     },
     Row {
         name: "an empty clause after another",
         formula: "p cnf 1 2\n1 0\n0\n",
-        lines: &[
-            "c formula 1 variables 2 clauses",
-            "c steps 0 peak 1",
-            "s VERIFIED",
-        ],
+        lines: "c formula 1 variables 2 clauses\nc steps 0 peak 1",
         status: 0,
         ..LRAT
     },
     Row {
         name: "a bad token after an empty clause",
         formula: "p cnf 1 2\n0\n?\n",
-        lines: &["c formula 3:1: bad token", "s NOT VERIFIED"],
+        lines: "c formula 3:1: bad token",
         status: 2,
         ..LRAT
     },
-    Row {
-        name: "a literal out of range",
-        formula: "p cnf 2 1\n1 3 0\n",
-        lines: &["c formula 2:3: literal out of range", "s NOT VERIFIED"],
-        status: 2,
-        ..LRAT
-    },
+    OUT_OF_RANGE,
     Row {
         name: "no formula",
         formula: "",
-        lines: &["c formula 1:1: bad header", "s NOT VERIFIED"],
+        lines: "c formula 1:1: bad header",
         status: 2,
         ..LRAT
     },
@@ -55,7 +38,7 @@ const UNREAD: [Row<'static>; 6] = [
         name: "a failed read of the formula",
         formula: E,
         formula_cut: Cut::Fails,
-        lines: &["c cannot read formula", "s NOT VERIFIED"],
+        lines: "c cannot read formula",
         status: 3,
         ..LRAT
     },
@@ -77,52 +60,8 @@ fn unread(rt: HostRuntime) -> Result<(), Fail> {
             expect_unread(&rt, rt.alloc(), &row)?;
         }
     }
-    let row = Row {
-        formula: E,
-        second: E_PROOF,
-        lines: &E_REPORT,
-        status: 0,
-        ..LRAT
-    };
-    expect_read(&rt, rt.alloc(), &row)?;
+    expect_read(&rt, rt.alloc(), &E_BY_LRAT)?;
     Ok(())
-}
-
-// A file that can't be opened is a reader whose first read fails.
-const UNOPENED: [Row<'static>; 3] = [
-    Row {
-        name: "no proof",
-        formula: E,
-        second_cut: Cut::Fails,
-        lines: &[
-            "c formula 2 variables 4 clauses",
-            "c cannot read proof",
-            "s NOT VERIFIED",
-        ],
-        status: 3,
-        ..LRAT
-    },
-    Row {
-        name: "no formula",
-        formula_cut: Cut::Fails,
-        second: E_PROOF,
-        lines: &["c cannot read formula", "s NOT VERIFIED"],
-        status: 3,
-        ..LRAT
-    },
-    Row {
-        name: "nothing",
-        formula_cut: Cut::Fails,
-        second_cut: Cut::Fails,
-        lines: &["c cannot read formula", "s NOT VERIFIED"],
-        status: 3,
-        ..LRAT
-    },
-];
-
-#[test]
-fn unopened(rt: HostRuntime) -> Result<(), Fail> {
-    expect_all(&rt, rt.alloc(), &UNOPENED)
 }
 
 // The proof of `E`, so many further lines, and a failed read.
@@ -134,29 +73,48 @@ fn after_the_verdict(rt: HostRuntime) -> Result<(), Fail> {
     }
     let row = Row {
         name: "bad tokens",
-        formula: E,
         second: proof.as_slice(),
         second_cut: Cut::Fails,
-        lines: &E_REPORT,
-        status: 0,
-        ..LRAT
+        ..E_BY_LRAT
     };
     expect(&rt, rt.alloc(), &row)
 }
 
-// No more than one piece is read past the step that decides.
+// The step that decides ends with the byte 23, and the whole has 400024.
 #[test]
 fn one_piece_further(rt: HostRuntime) -> Result<(), Fail> {
-    let proof = and_much_more(rt.alloc(), E_PROOF)?;
-    let row = Row {
+    expect_one_piece_further(&rt, rt.alloc(), &E_BY_LRAT, 400024, 400024 - 65536 - 23)
+}
+
+// A file that can't be opened is a reader whose first read fails.
+const UNOPENED: [Row<'static>; 3] = [
+    Row {
+        name: "no proof",
         formula: E,
-        second: proof.as_slice(),
-        lines: &E_REPORT,
-        status: 0,
+        second_cut: Cut::Fails,
+        lines: "c formula 2 variables 4 clauses\nc cannot read proof",
+        status: 3,
         ..LRAT
-    };
-    // The step ends with the byte 23, and the whole has 400024.
-    assert_eq!(rt; proof.len(), 400024);
-    expect_unread_rest(&rt, rt.alloc(), &row, 400024 - 65536 - 23)?;
-    Ok(())
+    },
+    Row {
+        name: "no formula",
+        formula_cut: Cut::Fails,
+        second: E_PROOF,
+        lines: "c cannot read formula",
+        status: 3,
+        ..LRAT
+    },
+    Row {
+        name: "nothing",
+        formula_cut: Cut::Fails,
+        second_cut: Cut::Fails,
+        lines: "c cannot read formula",
+        status: 3,
+        ..LRAT
+    },
+];
+
+#[test]
+fn unopened(rt: HostRuntime) -> Result<(), Fail> {
+    expect_all(&rt, rt.alloc(), &UNOPENED)
 }

@@ -1,6 +1,6 @@
 //! Steps with unit hints and identifiers, all on the four clauses of two variables.
 
-use crate::support::{E, LRAT, LRAT_TRACED, Row, expect};
+use crate::support::{E, E_LINE, LRAT, LRAT_TRACED, Row, expect_after};
 use std::alloc::Global;
 use std::process::Abort;
 use std::test::Fail;
@@ -191,43 +191,28 @@ const VERIFIED: [(&str, &str, &str); 6] = [
 fn expect_on_e(
     rt: &impl Abort,
     alloc: Global,
-    row: (&str, &str, &str),
     base: &Row<'_>,
-    verdict: &str,
+    rows: &[(&str, &str, &str)],
     status: u8,
 ) -> Result<(), Fail> {
-    let (name, proof, lines) = row;
-    let row = Row {
-        name,
-        formula: E,
-        second: proof.as_bytes(),
-        lines: &["c formula 2 variables 4 clauses", lines, verdict],
-        status,
-        ..*base
-    };
-    expect(rt, alloc, &row)
+    for (name, proof, lines) in rows {
+        let row = (*name, proof.as_bytes(), *lines);
+        expect_after(rt, alloc, base, (E, E_LINE), row, status)?;
+    }
+    Ok(())
 }
 
 #[test]
 fn refused(rt: HostRuntime) -> Result<(), Fail> {
-    for row in REFUSED {
-        expect_on_e(&rt, rt.alloc(), row, &LRAT, "s NOT VERIFIED", 1)?;
-    }
-    Ok(())
+    expect_on_e(&rt, rt.alloc(), &LRAT, &REFUSED, 1)
 }
 
 #[test]
 fn traced(rt: HostRuntime) -> Result<(), Fail> {
-    for row in TRACED {
-        expect_on_e(&rt, rt.alloc(), row, &LRAT_TRACED, "s NOT VERIFIED", 1)?;
-    }
-    Ok(())
+    expect_on_e(&rt, rt.alloc(), &LRAT_TRACED, &TRACED, 1)
 }
 
 #[test]
 fn verified(rt: HostRuntime) -> Result<(), Fail> {
-    for row in VERIFIED {
-        expect_on_e(&rt, rt.alloc(), row, &LRAT_TRACED, "s VERIFIED", 0)?;
-    }
-    Ok(())
+    expect_on_e(&rt, rt.alloc(), &LRAT_TRACED, &VERIFIED, 0)
 }

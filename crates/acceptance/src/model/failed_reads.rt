@@ -5,125 +5,6 @@ use crate::support::{
 };
 use std::test::Fail;
 
-// An output that can't be opened is one whose first read fails.
-const ROWS: [Row<'static>; 12] = [
-    Row {
-        name: "neither can be opened",
-        formula: "?",
-        formula_cut: Cut::Fails,
-        second_cut: Cut::Fails,
-        lines: &["c cannot read output", "s MODEL NOT VERIFIED"],
-        status: 3,
-        ..MODEL
-    },
-    Row {
-        name: "no output",
-        formula: G,
-        second_cut: Cut::Fails,
-        lines: &["c cannot read output", "s MODEL NOT VERIFIED"],
-        status: 3,
-        ..MODEL
-    },
-    Row {
-        name: "an output after its `s`",
-        formula: G,
-        second: b"s ",
-        second_cut: Cut::Fails,
-        lines: &["c cannot read output", "s MODEL NOT VERIFIED"],
-        status: 3,
-        ..MODEL
-    },
-    Row {
-        name: "a status that touches a failed read",
-        formula: G,
-        second: b"s UNKNOWN",
-        second_cut: Cut::Fails,
-        lines: &["c cannot read output", "s MODEL NOT VERIFIED"],
-        status: 3,
-        ..MODEL
-    },
-    Row {
-        name: "a third word that touches a failed read",
-        formula: G,
-        second: b"s SATISFIABLE ?",
-        second_cut: Cut::Fails,
-        lines: &["c cannot read output", "s MODEL NOT VERIFIED"],
-        status: 3,
-        ..MODEL
-    },
-    Row {
-        name: "a status before a failed read",
-        formula: G,
-        second: b"s UNKNOWN ",
-        second_cut: Cut::Fails,
-        lines: &["c output 1:3: no model claimed", "s MODEL NOT VERIFIED"],
-        status: 1,
-        ..MODEL
-    },
-    Row {
-        name: "a third word before a failed read",
-        formula: G,
-        second: b"s SATISFIABLE ? ",
-        second_cut: Cut::Fails,
-        lines: &["c output 1:15: bad line", "s MODEL NOT VERIFIED"],
-        status: 2,
-        ..MODEL
-    },
-    Row {
-        name: "no formula",
-        formula: "",
-        formula_cut: Cut::Fails,
-        second: MODELS_OUTPUT,
-        lines: &["c cannot read formula", "s MODEL NOT VERIFIED"],
-        status: 3,
-        ..MODEL
-    },
-    Row {
-        name: "a formula after a clause",
-        formula: "p cnf 2 2\n1 0\n",
-        formula_cut: Cut::Fails,
-        second: MODELS_OUTPUT,
-        lines: &["c cannot read formula", "s MODEL NOT VERIFIED"],
-        status: 3,
-        ..MODEL
-    },
-    Row {
-        name: "a whole formula without its end",
-        formula: MODELS,
-        formula_cut: Cut::Fails,
-        second: MODELS_OUTPUT,
-        lines: &["c cannot read formula", "s MODEL NOT VERIFIED"],
-        status: 3,
-        ..MODEL
-    },
-    Row {
-        name: "a clause before a failed read",
-        formula: "p cnf 2 2\n-1 0\n",
-        formula_cut: Cut::Fails,
-        second: MODELS_OUTPUT,
-        lines: &["c clause 1 is not satisfied", "s MODEL NOT VERIFIED"],
-        status: 1,
-        ..MODEL
-    },
-    Row {
-        name: "a fault before a failed read",
-        formula: "p cnf 2 2\n1 3 0\n",
-        formula_cut: Cut::Fails,
-        second: MODELS_OUTPUT,
-        lines: &[
-            "c formula 2:3: literal out of range",
-            "s MODEL NOT VERIFIED",
-        ],
-        status: 2,
-        ..MODEL
-    },
-];
-
-#[test]
-fn rows(rt: HostRuntime) -> Result<(), Fail> {
-    expect_all(&rt, rt.alloc(), &ROWS)
-}
-
 // The formula isn't read where the output has a fault, and not past the line feed after the `0` of a clause that isn't met.
 #[test]
 fn reads_no_further(rt: HostRuntime) -> Result<(), Fail> {
@@ -141,4 +22,105 @@ fn reads_no_further(rt: HostRuntime) -> Result<(), Fail> {
     assert_eq!(rt; code, 1);
     assert_eq!(rt; formula.left(), 4);
     Ok(())
+}
+
+const UNREAD_OUTPUT: Row<'static> = Row {
+    formula: G,
+    second_cut: Cut::Fails,
+    lines: "c cannot read output",
+    status: 3,
+    ..MODEL
+};
+
+const UNREAD_FORMULA: Row<'static> = Row {
+    formula_cut: Cut::Fails,
+    second: MODELS_OUTPUT,
+    lines: "c cannot read formula",
+    status: 3,
+    ..MODEL
+};
+
+// An output that can't be opened is one whose first read fails.
+const ROWS: [Row<'static>; 12] = [
+    Row {
+        name: "neither can be opened",
+        formula: "?",
+        formula_cut: Cut::Fails,
+        ..UNREAD_OUTPUT
+    },
+    Row {
+        name: "no output",
+        ..UNREAD_OUTPUT
+    },
+    Row {
+        name: "an output after its `s`",
+        second: b"s ",
+        ..UNREAD_OUTPUT
+    },
+    Row {
+        name: "a status that touches a failed read",
+        second: b"s UNKNOWN",
+        ..UNREAD_OUTPUT
+    },
+    Row {
+        name: "a third word that touches a failed read",
+        second: b"s SATISFIABLE ?",
+        ..UNREAD_OUTPUT
+    },
+    Row {
+        name: "a status before a failed read",
+        formula: G,
+        second: b"s UNKNOWN ",
+        second_cut: Cut::Fails,
+        lines: "c output 1:3: no model claimed",
+        status: 1,
+        ..MODEL
+    },
+    Row {
+        name: "a third word before a failed read",
+        formula: G,
+        second: b"s SATISFIABLE ? ",
+        second_cut: Cut::Fails,
+        lines: "c output 1:15: bad line",
+        status: 2,
+        ..MODEL
+    },
+    Row {
+        name: "no formula",
+        formula: "",
+        ..UNREAD_FORMULA
+    },
+    Row {
+        name: "a formula after a clause",
+        formula: "p cnf 2 2\n1 0\n",
+        ..UNREAD_FORMULA
+    },
+    Row {
+        name: "a whole formula without its end",
+        formula: MODELS,
+        ..UNREAD_FORMULA
+    },
+    Row {
+        name: "a clause before a failed read",
+        formula: "p cnf 2 2\n-1 0\n",
+        formula_cut: Cut::Fails,
+        second: MODELS_OUTPUT,
+        lines: "c clause 1 is not satisfied",
+        status: 1,
+        ..MODEL
+    },
+    Row {
+        name: "a fault before a failed read",
+        formula: "p cnf 2 2\n1 3 0\n",
+        formula_cut: Cut::Fails,
+        second: MODELS_OUTPUT,
+        lines: "c formula 2:3: literal out of range",
+        status: 2,
+        ..MODEL
+    },
+];
+
+#[test]
+fn rows(rt: HostRuntime) -> Result<(), Fail> {
+    expect_all(&rt, rt.alloc(), &ROWS)
 }

@@ -4,4 +4,5 @@ mod cuts;
 mod failed_reads;
 mod failing_writers;
 mod judged;
+mod ordered;
 mod outputs;

@@ -35,15 +35,6 @@ pub fn numbers(alloc: Global, lits: &[Lit]) -> Result<Vec<i32>, AllocError> {
     Ok(all)
 }
 
-fn expect_next<R: StepReader>(
-    rt: &impl Abort,
-    reader: &mut R,
-    step: &mut StepBuf,
-    next: Result<bool, Fault>,
-) {
-    assert_eq!(rt; reader.next(step), next);
-}
-
 fn expect_step(
     rt: &impl Abort,
     alloc: Global,
@@ -70,11 +61,11 @@ fn expect_steps<R: StepReader>(
     let mut step = StepBuf::new(alloc);
     expect_step(rt, alloc, &step, &(StepKind::Add, 0, &[], &[]))?;
     for expected in steps {
-        expect_next(rt, reader, &mut step, Ok(true));
+        assert_eq!(rt; reader.next(&mut step), Ok(true));
         expect_step(rt, alloc, &step, expected)?;
     }
     for _ in 0..3 {
-        expect_next(rt, reader, &mut step, last);
+        assert_eq!(rt; reader.next(&mut step), last);
     }
     Ok(())
 }

@@ -111,7 +111,14 @@ fn whole(rt: HostRuntime) -> Result<(), Fail> {
     expect_formula(&rt, alloc, "p cnf 3 0", Cut::Ends, header, &[], Ok(false))
 }
 
-// A fault is given again at each call.
+// What comes after the first clause of three of 1 and 2, and the fault. It is given again at each call.
+const FAULTS: [(&str, TextFault, u64, u64); 4] = [
+    ("1 3 0\n2 0\n", TextFault::LiteralOutOfRange, 3, 3),
+    ("? 2 0\n", TextFault::BadToken, 3, 1),
+    ("", TextFault::TooFewClauses, 3, 1),
+    ("2", TextFault::UnterminatedClause, 3, 2),
+];
+
 #[test]
 fn faults(rt: HostRuntime) -> Result<(), Fail> {
     let alloc = rt.alloc();
@@ -120,32 +127,14 @@ fn faults(rt: HostRuntime) -> Result<(), Fail> {
         clauses: 3,
     };
     let clauses = [[1, 2].as_slice()];
-    for (text, cut, fault) in [
-        (
-            "p cnf 2 3\n1 2 0\n1 3 0\n2 0\n",
-            Cut::Ends,
-            at(TextFault::LiteralOutOfRange, 3, 3),
-        ),
-        (
-            "p cnf 2 3\n1 2 0\n? 2 0\n",
-            Cut::Ends,
-            at(TextFault::BadToken, 3, 1),
-        ),
-        (
-            "p cnf 2 3\n1 2 0\n",
-            Cut::Ends,
-            at(TextFault::TooFewClauses, 3, 1),
-        ),
-        (
-            "p cnf 2 3\n1 2 0\n2",
-            Cut::Ends,
-            at(TextFault::UnterminatedClause, 3, 2),
-        ),
-        ("p cnf 2 3\n1 2 0\n2", Cut::Fails, Fault::ReadFailed),
-    ] {
-        expect_formula(&rt, alloc, text, cut, header, &clauses, Err(fault))?;
+    for (rest, kind, line, col) in FAULTS {
+        let text = format!(in alloc; "p cnf 2 3\n1 2 0\n{rest}")?;
+        let last = Err(at(kind, line, col));
+        expect_formula(&rt, alloc, text.as_str(), Cut::Ends, header, &clauses, last)?;
     }
-    Ok(())
+    let text = "p cnf 2 3\n1 2 0\n2";
+    let last = Err(Fault::ReadFailed);
+    expect_formula(&rt, alloc, text, Cut::Fails, header, &clauses, last)
 }
 
 fn expect_unopened(rt: &impl Abort, alloc: Global, text: &str, cut: Cut, fault: Fault) {

@@ -3,7 +3,7 @@
 ghost use Rattle.std.specs.Prelude.{◌≡◌, [], false};
 ghost use Rattle.std.specs.FinMap as maps;
 
-use crate::sessions::common::{expect_empty_clause, expect_ended, expect_on_one_clause};
+use crate::sessions::common::{Answer, expect_empty_clause, expect_ended, expect_on_one_clause};
 use crate::support::{Cut, open};
 use clause_db::{Propagate, Scan};
 use proofs::DratText;
@@ -12,37 +12,52 @@ use std::process::Abort;
 use std::test::Fail;
 use steps::{Accepted, DratRules, DratSession, Refusal};
 
-fn empty_clause_by<P: Propagate + Drop>(
+// What a session is tried on.
+#[derive(Clone, Copy)]
+enum Trial<'a> {
+    EmptyClause(&'a [u8]),
+    // A proof after the one clause of 1 and 2.
+    OneClause(&'a [u8], &'a [Answer]),
+    Ended,
+}
+
+fn expect_by<P: Propagate + Drop>(
     rt: &impl Abort,
     alloc: Global,
     clauses: P,
+    strict: bool,
+    trial: Trial<'_>,
 ) -> Result<(), Fail>
     requires empty { (P.state clauses).live ≡ maps.empty }
     requires nothing_assumed { (P.state clauses).assumptions ≡ [] }
     requires none_refused { (P.state clauses).has_refused ≡ false }
 {
-    let mut session = DratSession::new(clauses, DratRules { strict: false });
-    let mut reader = DratText::new(open(alloc, b"0\nd 1 0\n", 7, Cut::Ends)?);
-    expect_empty_clause(rt, alloc, &mut session, &mut reader)
+    let mut session = DratSession::new(clauses, DratRules { strict });
+    match trial {
+        Trial::EmptyClause(proof) => {
+            let mut reader = DratText::new(open(alloc, proof, 7, Cut::Ends)?);
+            expect_empty_clause(rt, alloc, &mut session, &mut reader)?;
+        }
+        Trial::OneClause(proof, answers) => {
+            let mut reader = DratText::new(open(alloc, proof, 7, Cut::Ends)?);
+            expect_on_one_clause(rt, alloc, &mut session, &mut reader, answers)?;
+        }
+        Trial::Ended => expect_ended(rt, alloc, &mut session),
+    }
+    Ok(())
 }
 
 #[test]
 fn empty_clause(rt: HostRuntime) -> Result<(), Fail> {
-    empty_clause_by(&rt, rt.alloc(), Scan::new(rt.alloc())?)
+    let alloc = rt.alloc();
+    let trial = Trial::EmptyClause(b"0\nd 1 0\n");
+    expect_by(&rt, alloc, Scan::new(alloc)?, false, trial)
 }
 
-fn every_answer_by<P: Propagate + Drop>(
-    rt: &impl Abort,
-    alloc: Global,
-    clauses: P,
-) -> Result<(), Fail>
-    requires empty { (P.state clauses).live ≡ maps.empty }
-    requires nothing_assumed { (P.state clauses).assumptions ≡ [] }
-    requires none_refused { (P.state clauses).has_refused ≡ false }
-{
-    let mut session = DratSession::new(clauses, DratRules { strict: false });
+#[test]
+fn every_answer(rt: HostRuntime) -> Result<(), Fail> {
+    let alloc = rt.alloc();
     let proof = b"3 -1 0\nd 2 1 0\n4 -4 1 0\nd 5 0\n0\n0\n";
-    let mut reader = DratText::new(open(alloc, proof, 7, Cut::Ends)?);
     let answers = [
         (Ok(Accepted::Rat), 4, false),
         (Ok(Accepted::Deleted), 4, false),
@@ -51,45 +66,24 @@ fn every_answer_by<P: Propagate + Drop>(
         (Err(Refusal::NotRup), 5, false),
         (Err(Refusal::Ended), 5, false),
     ];
-    expect_on_one_clause(rt, alloc, &mut session, &mut reader, &answers)
+    let trial = Trial::OneClause(proof, &answers);
+    expect_by(&rt, alloc, Scan::new(alloc)?, false, trial)
 }
 
 #[test]
-fn every_answer(rt: HostRuntime) -> Result<(), Fail> {
-    every_answer_by(&rt, rt.alloc(), Scan::new(rt.alloc())?)
-}
-
-fn strict_by<P: Propagate + Drop>(rt: &impl Abort, alloc: Global, clauses: P) -> Result<(), Fail>
-    requires empty { (P.state clauses).live ≡ maps.empty }
-    requires nothing_assumed { (P.state clauses).assumptions ≡ [] }
-    requires none_refused { (P.state clauses).has_refused ≡ false }
-{
-    let mut session = DratSession::new(clauses, DratRules { strict: true });
-    let mut reader = DratText::new(open(alloc, b"d 1 2 0\nd 1 2 0\n1 0\n", 7, Cut::Ends)?);
+fn strict(rt: HostRuntime) -> Result<(), Fail> {
+    let alloc = rt.alloc();
     let answers = [
         (Ok(Accepted::Deleted), 2, false),
         (Err(Refusal::NotAlive), 2, false),
         (Err(Refusal::Ended), 2, false),
     ];
-    expect_on_one_clause(rt, alloc, &mut session, &mut reader, &answers)
-}
-
-#[test]
-fn strict(rt: HostRuntime) -> Result<(), Fail> {
-    strict_by(&rt, rt.alloc(), Scan::new(rt.alloc())?)
-}
-
-fn ended_by<P: Propagate + Drop>(rt: &impl Abort, alloc: Global, clauses: P)
-    requires empty { (P.state clauses).live ≡ maps.empty }
-    requires nothing_assumed { (P.state clauses).assumptions ≡ [] }
-    requires none_refused { (P.state clauses).has_refused ≡ false }
-{
-    let mut session = DratSession::new(clauses, DratRules { strict: false });
-    expect_ended(rt, alloc, &mut session);
+    let trial = Trial::OneClause(b"d 1 2 0\nd 1 2 0\n1 0\n", &answers);
+    expect_by(&rt, alloc, Scan::new(alloc)?, true, trial)
 }
 
 #[test]
 fn ended(rt: HostRuntime) -> Result<(), Fail> {
-    ended_by(&rt, rt.alloc(), Scan::new(rt.alloc())?);
-    Ok(())
+    let alloc = rt.alloc();
+    expect_by(&rt, alloc, Scan::new(alloc)?, false, Trial::Ended)
 }

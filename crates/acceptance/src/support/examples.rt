@@ -1,7 +1,12 @@
 //! Formulas and what is said of them that many rows begin with.
 
+use crate::support::rows::{BINARY_TRACED, DRAT, DRAT_TRACED, LRAT, LRAT_TRACED, MODEL, Row};
+
 // All four clauses of two variables, which have no model.
 pub const E: &str = "p cnf 2 4\n1 2 0\n-1 2 0\n1 -2 0\n-1 -2 0\n";
+
+// What is written of it.
+pub const E_LINE: &str = "c formula 2 variables 4 clauses";
 
 // A proof of that in LRAT.
 pub const E_PROOF: &[u8] = b"5 2 0 1 2 0\n6 0 5 3 4 0\n";
@@ -12,15 +17,11 @@ pub const E_DRAT: &[u8] = b"2 0\n0\n";
 // The same in the binary form.
 pub const E_BINARY: &[u8] = b"a\x04\x00a\x00";
 
-// What is written of each of these.
-pub const E_REPORT: [&str; 3] = [
-    "c formula 2 variables 4 clauses",
-    "c steps 2 peak 9",
-    "s VERIFIED",
-];
-
 // One clause, which has models.
 pub const G: &str = "p cnf 2 1\n1 2 0\n";
+
+// What is written of it.
+pub const G_LINE: &str = "c formula 2 variables 1 clauses";
 
 // Two clauses, with the two models that make 2 true and 1 as one likes.
 pub const MODELS: &str = "p cnf 2 2\n1 -2 0\n2 0\n";
@@ -28,5 +29,90 @@ pub const MODELS: &str = "p cnf 2 2\n1 -2 0\n2 0\n";
 // One of them.
 pub const MODELS_OUTPUT: &[u8] = b"s SATISFIABLE\nv 1 2 0\n";
 
-// What is written then.
-pub const MODELS_REPORT: [&str; 2] = ["c clauses 2", "s MODEL VERIFIED"];
+// Runs on `E`.
+pub const E_BY_LRAT: Row<'static> = Row {
+    name: "e_lrat",
+    formula: E,
+    second: E_PROOF,
+    lines: "c formula 2 variables 4 clauses\nc steps 2 peak 9",
+    status: 0,
+    ..LRAT
+};
+
+pub const E_BY_LRAT_TRACED: Row<'static> = Row {
+    name: "e_lrat, traced",
+    formula: E,
+    second: E_PROOF,
+    lines: "c formula 2 variables 4 clauses\nc 1 add rup\nc 2 add rup\nc steps 2 peak 9",
+    status: 0,
+    ..LRAT_TRACED
+};
+
+pub const E_BY_DRAT: Row<'static> = Row {
+    name: "e_drat",
+    formula: E,
+    second: E_DRAT,
+    lines: "c formula 2 variables 4 clauses\nc steps 2 peak 9",
+    status: 0,
+    ..DRAT
+};
+
+pub const E_BY_DRAT_TRACED: Row<'static> = Row {
+    name: "e_drat, traced",
+    formula: E,
+    second: E_DRAT,
+    lines: "c formula 2 variables 4 clauses\nc 1 add rup\nc 2 add rup\nc steps 2 peak 9",
+    status: 0,
+    ..DRAT_TRACED
+};
+
+pub const E_BY_BINARY_TRACED: Row<'static> = Row {
+    name: "e_drat, traced",
+    formula: E,
+    second: E_BINARY,
+    lines: "c formula 2 variables 4 clauses\nc 1 add rup\nc 2 add rup\nc steps 2 peak 9",
+    status: 0,
+    ..BINARY_TRACED
+};
+
+// What is written with a trace where a clause is added, one is deleted, and the empty clause is added.
+pub const E_WITH_DELETION: &str =
+    "c formula 2 variables 4 clauses\nc 1 add rup\nc 2 delete\nc 3 add rup\nc steps 3 peak 9";
+
+// The empty clause in a formula, of which no proof is read.
+pub const EMPTY_CLAUSE: Row<'static> = Row {
+    name: "empty_clause_in_formula",
+    formula: "p cnf 0 1\n0\n",
+    lines: "c formula 0 variables 1 clauses\nc steps 0 peak 0",
+    status: 0,
+    ..LRAT
+};
+
+// No clause at all, and no proof.
+pub const EMPTY_FORMULA: Row<'static> = Row {
+    name: "empty_formula",
+    formula: "p cnf 0 0\n",
+    second: b"",
+    lines: "c formula 0 variables 0 clauses\nc end: no empty clause",
+    status: 1,
+    ..LRAT
+};
+
+// A fault of the formula.
+pub const OUT_OF_RANGE: Row<'static> = Row {
+    name: "a literal out of range",
+    formula: "p cnf 2 1\n1 3 0\n",
+    lines: "c formula 2:3: literal out of range",
+    status: 2,
+    ..LRAT
+};
+
+// The run of the output.
+pub const MODELS_MET: Row<'static> = Row {
+    name: "models",
+    formula: MODELS,
+    second: MODELS_OUTPUT,
+    lines: "c clauses 2",
+    status: 0,
+    ..MODEL
+};

@@ -1,5 +1,6 @@
 //! What the tables of rows share.
 
+mod cuts;
 mod engines;
 mod examples;
 mod readers;
@@ -10,17 +11,22 @@ mod rows;
 mod search;
 mod writers;
 
+pub use cuts::{Cutting, HEADER, Said, UNREAD_AFTER_ONE, UNREAD_FORMULA, UNREAD_PROOF};
 pub use engines::Engine;
 pub use examples::{
-    E, E_BINARY, E_DRAT, E_PROOF, E_REPORT, G, MODELS, MODELS_OUTPUT, MODELS_REPORT,
+    E, E_BINARY, E_BY_BINARY_TRACED, E_BY_DRAT, E_BY_DRAT_TRACED, E_BY_LRAT, E_BY_LRAT_TRACED,
+    E_DRAT, E_LINE, E_PROOF, E_WITH_DELETION, EMPTY_CLAUSE, EMPTY_FORMULA, G, G_LINE, MODELS,
+    MODELS_MET, MODELS_OUTPUT, OUT_OF_RANGE,
 };
 pub use readers::{Bytes, Cut, Pieces, SIZES, open};
-pub use reading::{and_much_more, expect_read, expect_unread, expect_unread_rest};
-pub use reports::{expect, expect_all, expect_in_pieces, joined, text};
+pub use reading::expect_one_piece_further;
+pub use reports::{
+    expect, expect_after, expect_all, expect_in_pieces, expect_read, expect_unread, text,
+};
 pub use room::{expect_enough_room, expect_ten_bytes, expect_too_little_room};
 pub use rows::{
-    BINARY_STRICT, BINARY_TRACED, DRAT, DRAT_STRICT, DRAT_TRACED, LRAT, LRAT_TRACED, MODEL, Row,
-    Tool,
+    BINARY_STRICT, BINARY_TRACED, BY_DRAT, DRAT, DRAT_STRICT, DRAT_TRACED, LRAT, LRAT_TRACED,
+    MODEL, Row, Tool,
 };
 pub use search::has_model;
 pub use writers::{Stop, Writer};

@@ -18,31 +18,22 @@ pub fn text(alloc: Global, bytes: &[u8]) -> Result<String, AllocError> {
     Ok(all)
 }
 
-// The lines, each with its line feed.
-pub fn joined(alloc: Global, lines: &[&str]) -> Result<String, AllocError> {
-    let mut all = String::new(alloc);
-    for line in lines {
-        all.push_str(line)?;
-        all.push('\n')?;
-    }
-    Ok(all)
-}
-
 // Runs over inputs in pieces of this size, and compares what is written and the status.
-// How often the second input was asked is handed back.
-pub fn expect_run(
+// Where it is given whether the second input is asked for, that is compared too.
+fn expect_run(
     rt: &impl Abort,
     alloc: Global,
     engine: Engine,
     row: &Row<'_>,
     size: usize,
-) -> Result<usize, AllocError> {
+    is_read: Option<bool>,
+) -> Result<(), AllocError> {
     let mut formula = Pieces::new(row.formula, size, row.formula_cut);
     let mut second = Pieces::of_bytes(row.second, size, row.second_cut);
     let writer = Writer::new(alloc, usize::MAX, Stop::TakesNone);
     let (code, written) = engine.run(alloc, &mut formula, &mut second, writer);
     let written = text(alloc, written.as_slice())?;
-    let expected = joined(alloc, row.lines)?;
+    let expected = row.report(alloc)?;
     let name = row.name;
     assert_eq!(rt;
         written.as_str(),
@@ -54,7 +45,24 @@ pub fn expect_run(
         row.status,
         "{name:?} by {engine:?} in pieces of {size}"
     );
-    Ok(second.reads)
+    if let Some(expected) = is_read {
+        assert_eq!(rt; second.reads > 0, expected, "{name:?} by {engine:?}");
+    }
+    Ok(())
+}
+
+fn expect_runs(
+    rt: &impl Abort,
+    alloc: Global,
+    row: &Row<'_>,
+    size: usize,
+    is_read: Option<bool>,
+) -> Result<(), AllocError> {
+    let engines = row.tool.engines(alloc)?;
+    for engine in engines.as_slice() {
+        expect_run(rt, alloc, *engine, row, size, is_read)?;
+    }
+    Ok(())
 }
 
 // Runs each engine of the row over inputs in pieces of this size.
@@ -64,11 +72,17 @@ pub fn expect_in_pieces(
     row: &Row<'_>,
     size: usize,
 ) -> Result<(), AllocError> {
-    let engines = row.tool.engines(alloc)?;
-    for engine in engines.as_slice() {
-        expect_run(rt, alloc, *engine, row, size)?;
-    }
-    Ok(())
+    expect_runs(rt, alloc, row, size, None)
+}
+
+// Nobody asks for the second input.
+pub fn expect_unread(rt: &impl Abort, alloc: Global, row: &Row<'_>) -> Result<(), AllocError> {
+    expect_runs(rt, alloc, row, 7, Some(false))
+}
+
+// Somebody asks for it: the count counts.
+pub fn expect_read(rt: &impl Abort, alloc: Global, row: &Row<'_>) -> Result<(), AllocError> {
+    expect_runs(rt, alloc, row, 7, Some(true))
 }
 
 // A formula of which a proof was verified has no model, and one of which a model was verified has one.
@@ -98,4 +112,27 @@ pub fn expect_all(rt: &impl Abort, alloc: Global, rows: &[Row<'_>]) -> Result<()
         expect(rt, alloc, row)?;
     }
     Ok(())
+}
+
+// A formula and the line of it, with a name, a second input and the lines that come after that of the formula.
+pub fn expect_after(
+    rt: &impl Abort,
+    alloc: Global,
+    base: &Row<'_>,
+    formula: (&str, &str),
+    said: (&str, &[u8], &str),
+    status: u8,
+) -> Result<(), Fail> {
+    let (formula, formula_line) = formula;
+    let (name, second, lines) = said;
+    let lines = format!(in alloc; "{formula_line}\n{lines}")?;
+    let row = Row {
+        name,
+        formula,
+        second,
+        lines: lines.as_str(),
+        status,
+        ..*base
+    };
+    expect(rt, alloc, &row)
 }

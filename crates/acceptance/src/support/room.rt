@@ -2,11 +2,12 @@
 
 use crate::support::engines::Engine;
 use crate::support::readers::Pieces;
-use crate::support::reports::{joined, text};
+use crate::support::reports::text;
 use crate::support::rows::Row;
 use crate::support::writers::{Stop, Writer};
 use std::alloc::{AllocError, Global};
 use std::process::Abort;
+use std::test::Fail;
 
 fn run(alloc: Global, engine: Engine, row: &Row<'_>, writer: Writer) -> (u8, Vec<u8>) {
     let mut formula = Pieces::new(row.formula, 4096, row.formula_cut);
@@ -26,7 +27,7 @@ fn expect_beginning(
 ) -> Result<(), AllocError> {
     let (code, written) = run(alloc, engine, row, writer);
     let written = text(alloc, written.as_slice())?;
-    let report = joined(alloc, row.lines)?;
+    let report = row.report(alloc)?;
     let name = row.name;
     assert_eq!(rt;
         Some(written.as_str()),
@@ -41,17 +42,53 @@ fn expect_beginning(
     Ok(())
 }
 
-fn too_little_room(
+// What room a writer has.
+#[derive(Clone, Copy, Debug, PartialEq, Eq)]
+enum Room {
+    // For each beginning of the report, after which the writer does this.
+    TooLittle(Stop),
+    // For just the report, then one byte a call, and then a flush that fails.
+    Enough,
+}
+
+fn expect_room(
     rt: &impl Abort,
     alloc: Global,
     engine: Engine,
     row: &Row<'_>,
-    stop: Stop,
+    room: Room,
 ) -> Result<(), AllocError> {
-    let report = joined(alloc, row.lines)?;
-    for n in 0..report.len() {
-        let writer = Writer::new(alloc, n, stop);
-        expect_beginning(rt, alloc, engine, row, writer, n, 5)?;
+    let length = row.report(alloc)?.len();
+    match room {
+        Room::TooLittle(stop) => {
+            for n in 0..length {
+                let writer = Writer::new(alloc, n, stop);
+                expect_beginning(rt, alloc, engine, row, writer, n, 5)?;
+            }
+        }
+        Room::Enough => {
+            let just = Writer::new(alloc, length, Stop::Fails);
+            expect_beginning(rt, alloc, engine, row, just, length, row.status)?;
+            let slow = Writer::byte_a_call(alloc);
+            expect_beginning(rt, alloc, engine, row, slow, length, row.status)?;
+            let unflushed = Writer::without_flush(alloc);
+            expect_beginning(rt, alloc, engine, row, unflushed, length, 5)?;
+        }
+    }
+    Ok(())
+}
+
+fn expect_all_room(
+    rt: &impl Abort,
+    alloc: Global,
+    rows: &[Row<'_>],
+    room: Room,
+) -> Result<(), Fail> {
+    for row in rows {
+        let engines = row.tool.engines(alloc)?;
+        for engine in engines.as_slice() {
+            expect_room(rt, alloc, *engine, row, room)?;
+        }
     }
     Ok(())
 }
@@ -60,39 +97,14 @@ fn too_little_room(
 pub fn expect_too_little_room(
     rt: &impl Abort,
     alloc: Global,
-    row: &Row<'_>,
+    rows: &[Row<'_>],
     stop: Stop,
-) -> Result<(), AllocError> {
-    let engines = row.tool.engines(alloc)?;
-    for engine in engines.as_slice() {
-        too_little_room(rt, alloc, *engine, row, stop)?;
-    }
-    Ok(())
+) -> Result<(), Fail> {
+    expect_all_room(rt, alloc, rows, Room::TooLittle(stop))
 }
 
-fn enough_room(
-    rt: &impl Abort,
-    alloc: Global,
-    engine: Engine,
-    row: &Row<'_>,
-) -> Result<(), AllocError> {
-    let report = joined(alloc, row.lines)?;
-    let n = report.len();
-    let just = Writer::new(alloc, n, Stop::Fails);
-    expect_beginning(rt, alloc, engine, row, just, n, row.status)?;
-    let slow = Writer::byte_a_call(alloc);
-    expect_beginning(rt, alloc, engine, row, slow, n, row.status)?;
-    let unflushed = Writer::without_flush(alloc);
-    expect_beginning(rt, alloc, engine, row, unflushed, n, 5)
-}
-
-// Room for just the report, one byte a call, and a flush that fails.
-pub fn expect_enough_room(rt: &impl Abort, alloc: Global, row: &Row<'_>) -> Result<(), AllocError> {
-    let engines = row.tool.engines(alloc)?;
-    for engine in engines.as_slice() {
-        enough_room(rt, alloc, *engine, row)?;
-    }
-    Ok(())
+pub fn expect_enough_room(rt: &impl Abort, alloc: Global, rows: &[Row<'_>]) -> Result<(), Fail> {
+    expect_all_room(rt, alloc, rows, Room::Enough)
 }
 
 // A writer that takes ten bytes and then fails.

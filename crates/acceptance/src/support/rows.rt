@@ -2,6 +2,7 @@
 
 use crate::support::readers::Cut;
 use sat_check::{DratOptions, LratOptions};
+use std::alloc::{AllocError, Global};
 
 // A tool, and what it is asked to do.
 #[derive(Clone, Copy, Debug, PartialEq, Eq)]
@@ -20,9 +21,28 @@ pub struct Row<'a> {
     // A proof, or a solver's output.
     pub second: &'a [u8],
     pub second_cut: Cut,
-    // The whole report, in texts of one or more lines. The last line feed of each is left out.
-    pub lines: &'a [&'a str],
+    // The report but for its last line, which the status decides. The last line feed is left out too.
+    pub lines: &'a str,
     pub status: u8,
+}
+
+impl Row<'_> {
+    // The last line of the report. No status but 0 goes with a proof or a model that was verified.
+    fn verdict(&self) -> &'static str {
+        match (self.tool, self.status) {
+            (Tool::Model, 0) => "s MODEL VERIFIED",
+            (Tool::Model, _) => "s MODEL NOT VERIFIED",
+            (_, 0) => "s VERIFIED",
+            (_, _) => "s NOT VERIFIED",
+        }
+    }
+
+    // What has to be written.
+    pub fn report(&self, alloc: Global) -> Result<String, AllocError> {
+        let lines = self.lines;
+        let verdict = self.verdict();
+        format!(in alloc; "{lines}\n{verdict}\n")
+    }
 }
 
 // The tables fill these in. No run has their status.
@@ -33,7 +53,7 @@ pub const LRAT: Row<'static> = Row {
     formula_cut: Cut::Ends,
     second: b"",
     second_cut: Cut::Ends,
-    lines: &[],
+    lines: "",
     status: 255,
 };
 
@@ -42,47 +62,56 @@ pub const LRAT_TRACED: Row<'static> = Row {
     ..LRAT
 };
 
+const PLAIN: DratOptions = DratOptions {
+    binary: false,
+    trace: false,
+    strict: false,
+};
+
+const TRACED: DratOptions = DratOptions {
+    trace: true,
+    ..PLAIN
+};
+
+const STRICT: DratOptions = DratOptions {
+    strict: true,
+    ..PLAIN
+};
+
+const BINARY: DratOptions = DratOptions {
+    binary: true,
+    ..PLAIN
+};
+
+pub const BY_DRAT: Tool = Tool::Drat(PLAIN);
+
 pub const DRAT: Row<'static> = Row {
-    tool: Tool::Drat(DratOptions {
-        binary: false,
-        trace: false,
-        strict: false,
-    }),
+    tool: BY_DRAT,
     ..LRAT
 };
 
 pub const DRAT_TRACED: Row<'static> = Row {
-    tool: Tool::Drat(DratOptions {
-        binary: false,
-        trace: true,
-        strict: false,
-    }),
+    tool: Tool::Drat(TRACED),
     ..LRAT
 };
 
 pub const DRAT_STRICT: Row<'static> = Row {
-    tool: Tool::Drat(DratOptions {
-        binary: false,
-        trace: false,
-        strict: true,
-    }),
+    tool: Tool::Drat(STRICT),
     ..LRAT
 };
 
 pub const BINARY_TRACED: Row<'static> = Row {
     tool: Tool::Drat(DratOptions {
-        binary: true,
         trace: true,
-        strict: false,
+        ..BINARY
     }),
     ..LRAT
 };
 
 pub const BINARY_STRICT: Row<'static> = Row {
     tool: Tool::Drat(DratOptions {
-        binary: true,
-        trace: false,
         strict: true,
+        ..BINARY
     }),
     ..LRAT
 };

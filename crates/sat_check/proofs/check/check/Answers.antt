@@ -2,7 +2,7 @@
 use Rattle.cnf_base.proofs.StreamLemmas.{Along-map, Along-none}
 use Rattle.cnf_base.proofs.SeenLemmas.{seen_is_some}
 use Rattle.dimacs.specs.Formula.{formula_of}
-use Rattle.steps.specs.Rules.{rule_of}
+use Rattle.steps.specs.Theory.Rules.{rule_of}
 use Rattle.sat_check.proofs.ReportLemmas.{reports_checked, err_report}
 use Rattle.sat_check.proofs.check.check.Goals as goal
 

@@ -1,10 +1,10 @@
 use Rattle.std.proofs.Common.{◌≡◌, ◌∙◌, ap, sym, codes, option_map, Some, None, string_bytes}
 use Rattle.clap.specs.Words.{app_of, first_value, found_of, one_text}
 use Rattle.clap.proofs.WalkLemmas.{first_value-rows, one_text-rows}
-use Rattle.sat_check.specs.Words.{is_among, is_flag, said_by}
+use Rattle.sat_check.specs.CommandLine.Words.{is_among, is_flag, said_by}
 use Rattle.std.proofs.lemmas.Bool.{true≢false}
-use Rattle.sat_check.proofs.WordAccepted.{has_formula, names_full}
-use Rattle.sat_check.proofs.WordReading.{fails_for_memory, flag_read, known_words, knows, reads}
+use Rattle.sat_check.proofs.CommandLineLemmas.Accepted.{has_formula, names_full}
+use Rattle.sat_check.proofs.CommandLineLemmas.Reading.{fails_for_memory, flag_read, known_words, knows, reads}
 use Rattle.sat_check.proofs.command_line.read_args.Goals as goal
 use Rattle.sat_check.proofs.command_line.read_args.Goals.{in-Some-get_str+in_ok-to_string-in-Some-get_str, in-None}
 

@@ -1,7 +1,7 @@
 -- Want of memory, or the check.
 use Rattle.std.proofs.Common.{refl, rules}
 use Rattle.proofs.specs.Binary.{binary_steps, to_come}
-use Rattle.steps.specs.Rules.{rule_of}
+use Rattle.steps.specs.Theory.Rules.{rule_of}
 use Rattle.sat_check.proofs.CheckLemmas.{reports_nothing, reports_run}
 use Rattle.sat_check.proofs.drat.check_binary.Goals as goal
 

@@ -3,7 +3,7 @@ use Rattle.std.proofs.Common.{refl, sym, ap, ◌∙◌}
 use Rattle.proofs.specs.Binary.{binary_steps}
 use Rattle.proofs.specs.Drat.{drat_steps}
 use Rattle.sat_check.specs.Report.{drat_proof, rules_of}
-use Rattle.steps.specs.Rules.{drat}
+use Rattle.steps.specs.Theory.Rules.{drat}
 use Rattle.sat_check.proofs.LoadLemmas.{drat_unused}
 use Rattle.sat_check.proofs.CheckLemmas.{reports_nothing, reports_as}
 use Rattle.sat_check.proofs.drat.check_drat.Goals as goal

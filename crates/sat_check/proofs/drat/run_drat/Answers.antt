@@ -1,7 +1,7 @@
 -- What the lines hold is what the writer holds.
 use Rattle.std.proofs.Common.{rules}
 use Rattle.sat_check.specs.Report.{drat_proof, rules_of}
-use Rattle.steps.specs.Rules.{drat}
+use Rattle.steps.specs.Theory.Rules.{drat}
 use Rattle.sat_check.proofs.OutcomeLemmas.{Outcome-same}
 use Rattle.sat_check.proofs.SoundLemmas.{checks_proof}
 use Rattle.sat_check.proofs.drat.run_drat.Goals as goal

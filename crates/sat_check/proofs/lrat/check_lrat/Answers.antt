@@ -1,7 +1,7 @@
 -- Want of memory, or the check.
 use Rattle.std.proofs.Common.{refl, rules}
 use Rattle.proofs.specs.Lrat.{lrat_steps, to_come}
-use Rattle.steps.specs.Rules.{lrat}
+use Rattle.steps.specs.Theory.Rules.{lrat}
 use Rattle.sat_check.proofs.LoadLemmas.{lrat_unused}
 use Rattle.sat_check.proofs.CheckLemmas.{reports_nothing, reports_run}
 use Rattle.sat_check.proofs.lrat.check_lrat.Goals as goal

@@ -1,7 +1,7 @@
 -- What the lines hold is what the writer holds.
 use Rattle.std.proofs.Common.{rules}
 use Rattle.proofs.specs.Lrat.{lrat_steps}
-use Rattle.steps.specs.Rules.{lrat}
+use Rattle.steps.specs.Theory.Rules.{lrat}
 use Rattle.sat_check.proofs.OutcomeLemmas.{Outcome-same}
 use Rattle.sat_check.proofs.SoundLemmas.{checks_proof}
 use Rattle.sat_check.proofs.lrat.run_lrat.Goals as goal

@@ -1,7 +1,7 @@
 use Rattle.std.proofs.Common.{sym, subst}
 use Rattle.std.specs.FinMap as maps
-use Rattle.clause_db.specs.Trail.{HasRoom}
-use Rattle.steps.proofs.Rooms.{ready_with}
+use Rattle.clause_db.specs.Propagation.Trail.{HasRoom}
+use Rattle.steps.proofs.LratLemmas.Rooms.{ready_with}
 use Rattle.steps.proofs.lrat.take_addition.Goals as goal
 
 pub returns-clause-ready : goal.returns-clause-ready

@@ -1,10 +1,10 @@
 use Rattle.std.proofs.Common.{map, nat_abs, sym, ◌∙◌, subst}
 use Rattle.std.specs.FinMap as maps
-use Rattle.steps.specs.StepAnswer.{StepAnswer, UnlessOutOfMemory}
+use Rattle.steps.specs.Theory.StepAnswer.{StepAnswer, UnlessOutOfMemory}
 use Rattle.steps.specs.Lrat.{AnswersLrat, lrat_step}
-use Rattle.steps.specs.Shelf.{shelf_state}
-use Rattle.steps.proofs.Ending.{never_ended}
-use Rattle.steps.proofs.Rooms.{ready_without, deleted_live}
+use Rattle.steps.specs.Lrat.Shelf.{shelf_state}
+use Rattle.steps.proofs.LratLemmas.Ending.{never_ended}
+use Rattle.steps.proofs.LratLemmas.Rooms.{ready_without, deleted_live}
 use Rattle.steps.proofs.lrat.take_step.Goals as goal
 
 pub returns-in-None-clause-live : goal.returns-in-None-clause-live

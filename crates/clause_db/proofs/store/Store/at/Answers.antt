@@ -1,6 +1,6 @@
 use Rattle.std.proofs.Common.{Some, sym, ap, ◌∙◌}
 use Rattle.std.specs.FinMap as maps
-use Rattle.clause_db.proofs.StoreLemmas.{clause_of, get_stored}
+use Rattle.clause_db.proofs.StoreLemmas.Entries.{clause_of, get_stored}
 use Rattle.clause_db.proofs.store.Store.at.Goals as goal
 
 pub returns-in-Some : goal.returns-in-Some

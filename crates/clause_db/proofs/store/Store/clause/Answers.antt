@@ -1,8 +1,8 @@
 use Rattle.std.proofs.Common.{Some, is_some, length, sym, ap, ◌∙◌}
-use Rattle.clause_db.specs.Clauses.{size}
-use Rattle.clause_db.specs.Entries.{stored}
+use Rattle.clause_db.specs.Store.Clauses.{size}
+use Rattle.clause_db.specs.Store.Entries.{clauses_in}
 use Rattle.std.specs.FinMap as maps
-use Rattle.clause_db.proofs.StoreLemmas.{clause_of, get_stored, live_entry}
+use Rattle.clause_db.proofs.StoreLemmas.Entries.{clause_of, get_stored, live_entry}
 use Rattle.clause_db.proofs.store.Store.clause.Goals as goal
 
 pub index-entry-requires : goal.index-entry-requires
@@ -13,7 +13,7 @@ pub returns-clause-clause : goal.returns-clause-clause
 returns-clause-clause c =
     let entries = c.self.inside.entries in
     ap Some c.as_slice.ensures ∙ sym (ap clause_of c.index-entry.ensures) ∙ sym (get_stored entries c.number.result)
-    ∙ ap (maps.get (stored entries)) c.number.ensures ∙ ap (λ m. maps.get m c.args.slot) c.self.view_is
+    ∙ ap (maps.get (clauses_in entries)) c.number.ensures ∙ ap (λ m. maps.get m c.args.slot) c.self.view_is
 
 pub returns-clause-different : goal.returns-clause-different
 returns-clause-different c =

@@ -2,7 +2,7 @@ use Rattle.std.proofs.Common.{ap, arith, inl, inr}
 use Rattle.std.proofs.lemmas.Bool.{cases_lt, false≢true}
 use Rattle.std.proofs.Common.{length, is_some, sym, ◌∙◌, None}
 use Rattle.std.proofs.lemmas.List.{get_or_past}
-use Rattle.clause_db.proofs.StoreLemmas.{live_entry}
+use Rattle.clause_db.proofs.StoreLemmas.Entries.{live_entry}
 use Rattle.clause_db.proofs.store.Store.end.Goals as goal
 
 pub returns : goal.returns

@@ -4,11 +4,12 @@ use Rattle.std.proofs.lemmas.Bool.{true≢false}
 use Rattle.slab.specs.Slab.{get}
 use Rattle.cnf_base.specs.Literals.{Clause, has}
 use Rattle.cnf_base.proofs.SetLemmas.{all_each, each_all, same_back}
-use Rattle.clause_db.specs.Index.{under}
-use Rattle.clause_db.specs.Marks.{is_marked, count_of}
-use Rattle.clause_db.specs.Table.{at}
-use Rattle.clause_db.proofs.StoreLemmas.{clause_of, get_stored}
-use Rattle.clause_db.proofs.SearchLemmas.{copies_pos, known_from_count, match_same, none_same, if_some_from, if_some_from_none, if_none_from, if_none_from_some}
+use Rattle.clause_db.specs.Store.Index.{under}
+use Rattle.clause_db.specs.Store.LiteralMarks.{is_marked, mark_count}
+use Rattle.clause_db.specs.Store.Table.{at}
+use Rattle.clause_db.proofs.StoreLemmas.Entries.{clause_of, get_stored}
+use Rattle.clause_db.proofs.StoreLemmas.Search.{copies_pos, known_from_count, match_same, none_same}
+use Rattle.clause_db.proofs.StoreLemmas.Options.{if_some_from, if_some_from_none, if_none_from, if_none_from_some}
 use Rattle.clause_db.proofs.store.Store.find.Goals as goal
 use Rattle.clause_db.proofs.store.Store.find.Goals.{in-Some, in-None}
 
@@ -18,7 +19,7 @@ returns-then-not-all_known-clause-none c s d is same =
     let marks = c.self.inside.marks in
     let lits = c.args.lits.now in
     let at_slot = ap (λ m. maps.get m s) c.self.view_is ∙ is in
-    let counted : (l : ℕ) → has lits l ≡ true → 0 < count_of (at marks l) =
+    let counted : (l : ℕ) → has lits l ≡ true → 0 < mark_count (at marks l) =
     λ l h.
     let many = copies_pos _ s d l at_slot (same_back d lits same l h) in
     let count_is = c.self.invariant.counted l in

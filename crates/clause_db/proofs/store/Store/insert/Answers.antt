@@ -3,14 +3,14 @@ use Rattle.std.specs.FinMap as maps
 use Rattle.slab.specs.Slab.{get, slab_len}
 use Rattle.cnf_base.specs.Literals.{has}
 use Rattle.cnf_base.proofs.SetLemmas.{both_pass, same_there, same_back}
-use Rattle.clause_db.specs.Clauses.{size}
-use Rattle.clause_db.specs.Index.{under}
-use Rattle.clause_db.specs.Marks.{count_of}
-use Rattle.clause_db.specs.Table.{at}
-use Rattle.clause_db.proofs.DistinctLemmas.{IsWithin, size_same}
-use Rattle.clause_db.proofs.MarkLemmas.{hash_same}
-use Rattle.clause_db.proofs.StoreLemmas.{clause_of, get_stored, stored_same}
-use Rattle.clause_db.proofs.SoundLemmas.{sound_same, sound_with, copies_few, sum_fits}
+use Rattle.clause_db.specs.Store.Clauses.{size}
+use Rattle.clause_db.specs.Store.Index.{under}
+use Rattle.clause_db.specs.Store.LiteralMarks.{mark_count}
+use Rattle.clause_db.specs.Store.Table.{at}
+use Rattle.clause_db.proofs.StoreLemmas.Distinct.{IsWithin, size_same}
+use Rattle.clause_db.proofs.StoreLemmas.Marks.{hash_same}
+use Rattle.clause_db.proofs.StoreLemmas.Entries.{clause_of, get_stored, stored_same}
+use Rattle.clause_db.proofs.StoreLemmas.Fields.{sound_same, sound_with, copies_few, sum_fits}
 use Rattle.clause_db.proofs.store.Store.insert.Goals as goal
 
 pub gather-requires-clause-few : goal.gather-requires-clause-few
@@ -59,7 +59,7 @@ invariant_of-self-in-Ok c =
     (λ g. c.in-Ok.ensures.ok g ∙ ap (λ x. cond (eqb g h) (under i.index g ++ x ∷ []) (under i.index g)) key_is)
     c.gather.ensures.different
     kept_short
-    (λ l. c.gather.ensures.counts l ∙ ap (λ n. n + cond (has lits l) 1 0) (c.mark_all-digest.ensures.counts l ∙ c.reserve_all.ensures.counts l) ∙ ap (λ b. count_of (at i.marks l) + cond b 1 0) (alike l))
+    (λ l. c.gather.ensures.counts l ∙ ap (λ n. n + cond (has lits l) 1 0) (c.mark_all-digest.ensures.counts l ∙ c.reserve_all.ensures.counts l) ∙ ap (λ b. mark_count (at i.marks l) + cond b 1 0) (alike l))
     c.gather.ensures.clear
     c.mark_all-digest.result.len len_is
 

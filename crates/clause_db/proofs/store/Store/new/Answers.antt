@@ -1,5 +1,5 @@
-use Rattle.clause_db.proofs.StoreLemmas.{stored_none}
-use Rattle.clause_db.proofs.SoundLemmas.{sound_empty}
+use Rattle.clause_db.proofs.StoreLemmas.Entries.{stored_none}
+use Rattle.clause_db.proofs.StoreLemmas.Fields.{sound_empty}
 use Rattle.clause_db.proofs.store.Store.new.Goals as goal
 
 pub invariant_of-result : goal.invariant_of-result

@@ -2,15 +2,15 @@ use Rattle.std.proofs.Common.{◌≡◌, ℕ, ◌+◌, ◌-◌, ◌≤◌, Some,
 use Rattle.std.specs.FinMap as maps
 use Rattle.std.proofs.lemmas.Option.{slice_get_within}
 use Rattle.cnf_base.specs.Literals.{has}
-use Rattle.clause_db.specs.Clauses.{size}
-use Rattle.clause_db.specs.Entries.{spot_of, stored}
-use Rattle.clause_db.specs.Hashes.{hash}
-use Rattle.clause_db.specs.Index.{under}
-use Rattle.clause_db.specs.Marks.{count_of}
-use Rattle.clause_db.specs.Sound.{IsSound}
-use Rattle.clause_db.specs.Table.{at}
-use Rattle.clause_db.proofs.StoreLemmas.{live_entry}
-use Rattle.clause_db.proofs.SoundLemmas.{different_here, within_sum, counted_here, map_without, sound_without}
+use Rattle.clause_db.specs.Store.Clauses.{size}
+use Rattle.clause_db.specs.Store.Entries.{indexed_at, clauses_in}
+use Rattle.clause_db.specs.Store.Hashes.{hash}
+use Rattle.clause_db.specs.Store.Index.{under}
+use Rattle.clause_db.specs.Store.LiteralMarks.{mark_count}
+use Rattle.clause_db.specs.Store.Fields.{IsStore}
+use Rattle.clause_db.specs.Store.Table.{at}
+use Rattle.clause_db.proofs.StoreLemmas.Entries.{live_entry}
+use Rattle.clause_db.proofs.StoreLemmas.Fields.{different_here, within_sum, counted_here, map_without, sound_without}
 use Rattle.clause_db.proofs.store.Store.remove.Goals as goal
 
 pub remove-entry-requires : goal.remove-entry-requires
@@ -46,7 +46,7 @@ remove-last-requires c =
     let k = c.number.result in
     let h = c.hash_of.result in
     let hash_is : h ≡ hash e.lits.items = c.hash_of.ensures ∙ ap hash c.as_slice-lits.ensures in
-    slice_get_within (under i.index h) e.place k (c.self.invariant.placed.there k h e.place (ap spot_of c.remove-entry.ensures.value ∙ ap (λ (x : ℕ). Some (x, e.place)) (sym hash_is)))
+    slice_get_within (under i.index h) e.place k (c.self.invariant.placed.there k h e.place (ap indexed_at c.remove-entry.ensures.value ∙ ap (λ (x : ℕ). Some (x, e.place)) (sym hash_is)))
 
 pub invariant_of-self : goal.invariant_of-self
 invariant_of-self c =
@@ -55,11 +55,11 @@ invariant_of-self c =
     let k = c.number.result in
     let h = c.hash_of.result in
     let hash_is : h ≡ hash e.lits.items = c.hash_of.ensures ∙ ap hash c.as_slice-lits.ensures in
-    subst (λ n. IsSound c.set_place.new.entries c.remove-last.new.self c.release.new.marks (c.self.inside.sum - n)) (ap length (sym c.as_slice-lits.ensures))
+    subst (λ n. IsStore c.set_place.new.entries c.remove-last.new.self c.release.new.marks (c.self.inside.sum - n)) (ap length (sym c.as_slice-lits.ensures))
     (sound_without i.entries c.remove-entry.new.self c.set_place.new.entries i.index c.remove-last.new.self i.marks c.release.new.marks i.sum c.self.invariant k h c.remove-last.result e
     c.remove-entry.ensures.value hash_is c.remove-last.ensures.last c.remove-entry.ensures.updates.changed c.remove-entry.ensures.updates.others
     c.set_place.ensures.placed c.set_place.ensures.others c.remove-last.ensures.slots
-    (λ l. ap (λ ls. count_of (at c.release.new.marks l) + cond (has ls l) 1 0) (sym c.as_slice-lits.ensures) ∙ c.release.ensures.counts l) c.release.ensures.marked)
+    (λ l. ap (λ ls. mark_count (at c.release.new.marks l) + cond (has ls l) 1 0) (sym c.as_slice-lits.ensures) ∙ c.release.ensures.counts l) c.release.ensures.marked)
 
 pub returns : goal.returns
 returns c =
@@ -71,5 +71,5 @@ returns c =
     map_without i.entries c.remove-entry.new.self c.set_place.new.entries i.index c.remove-last.new.self i.marks c.release.new.marks i.sum c.self.invariant k h c.remove-last.result e
     c.remove-entry.ensures.value hash_is c.remove-last.ensures.last c.remove-entry.ensures.updates.changed c.remove-entry.ensures.updates.others
     c.set_place.ensures.placed c.set_place.ensures.others c.remove-last.ensures.slots
-    (λ l. ap (λ ls. count_of (at c.release.new.marks l) + cond (has ls l) 1 0) (sym c.as_slice-lits.ensures) ∙ c.release.ensures.counts l) c.release.ensures.marked
-    ∙ ap (maps.remove (stored c.self.inside.entries)) c.number.ensures ∙ ap (λ m. maps.remove m c.args.slot) c.self.view_is
+    (λ l. ap (λ ls. mark_count (at c.release.new.marks l) + cond (has ls l) 1 0) (sym c.as_slice-lits.ensures) ∙ c.release.ensures.counts l) c.release.ensures.marked
+    ∙ ap (maps.remove (clauses_in c.self.inside.entries)) c.number.ensures ∙ ap (λ m. maps.remove m c.args.slot) c.self.view_is

@@ -1,5 +1,5 @@
 use Rattle.std.proofs.Common.{ap}
-use Rattle.steps.proofs.Rooms.{ready_empty}
+use Rattle.steps.proofs.LratLemmas.Rooms.{ready_empty}
 use Rattle.steps.proofs.lrat.LratSession.new.Goals as goal
 
 pub invariant_of-result : goal.invariant_of-result

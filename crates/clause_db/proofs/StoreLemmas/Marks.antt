@@ -1,0 +1,219 @@
+-- Walks over a clause: what is so of the literals so far, through one more literal.
+use Rattle.std.proofs.Common.{◌≡◌, ℕ, ◌+◌, ◌*◌, ◌/◌, ◌%◌, ◌^◌, ◌<◌, ◌≤◌, ◌&&◌, ◌||◌, Bool, true, false, not, cond, eqb, eqb-true, eq-eqb, [], ◌∷◌, ◌++◌, length, take, drop, get_or, length-append, refl, sym, ap, ◌∙◌, subst, arith, inl, inr}
+use Rattle.std.proofs.lemmas.Bool.{false≢true, true≢false, not-true, not-false, or_cases, or_left, or_right}
+use Rattle.std.proofs.lemmas.Bool.Decides.{nat_tests}
+use Rattle.std.proofs.lemmas.List.{take_more, take-append-drop}
+use Rattle.std.proofs.lemmas.Nat.{div-add-mod'}
+use Rattle.std.proofs.Math.Nat.{add-mul-mod_self_right}
+use Rattle.cnf_base.specs.Literals.{Literal, Clause, has}
+use Rattle.cnf_base.proofs.SetLemmas.{both_pass, has_head, has_cases, has_append_left, has_append_right, has_append_cases}
+use Rattle.clause_db.specs.Store.Clauses.{size}
+use Rattle.clause_db.specs.Store.Hashes.{sum_distinct, mix, hash}
+use Rattle.clause_db.proofs.StoreLemmas.Distinct.{IsWithin, sum_same, sum_push, size_push, size_covered, distinct_before, has_at}
+
+-- ---- One more literal at the end
+
+pub has_push : (c : Clause) (x l : Literal) → has (c ++ x ∷ []) l ≡ (has c l || eqb x l)
+has_push c x l = both_pass (has (c ++ x ∷ []) l) (has c l || eqb x l)
+    (λ h. elim (has_append_cases c (x ∷ []) l h) [
+      | inl g ↦ or_left (has c l) (eqb x l) g
+      | inr g ↦ elim (has_cases x [] l g) [ inl e ↦ or_right (has c l) (eqb x l) (eq-eqb x l e) | inr n ↦ absurd (false≢true n) ]
+    ])
+    (λ h. elim (or_cases (has c l) (eqb x l) h) [
+      | inl g ↦ has_append_left c (x ∷ []) l g
+      | inr e ↦ has_append_right c (x ∷ []) l (subst (λ y. has (x ∷ []) y ≡ true) (eqb-true x l e) (has_head x []))
+    ])
+
+add_rest : (a b m : ℕ) → (a % m + b) % m ≡ (a + b) % m
+add_rest a b m =
+    let whole = div-add-mod' a m in
+    let same : (a % m + b) + a / m * m ≡ a + b = omega arith in
+    sym (add-mul-mod_self_right (a % m + b) (a / m) m) ∙ ap (λ x. x % m) same
+
+pub hash_none : hash [] ≡ 0
+unfolding hash
+hash_none = refl
+
+-- clauses that are the same set have one hash
+pub hash_same : (c d : Clause) → IsWithin c d → IsWithin d c → hash c ≡ hash d
+unfolding hash
+hash_same c d there back = ap (λ n. n % 2 ^ 64) (sum_same mix c d there back)
+
+pub hash_push : (c : Clause) (x : Literal) → has c x ≡ false → hash (c ++ x ∷ []) ≡ (hash c + mix x) % 2 ^ 64
+unfolding hash
+hash_push c x new =
+    let more : sum_distinct mix (c ++ x ∷ []) ≡ mix x + sum_distinct mix c = sum_push mix c x ∙ ap (λ b. cond b (sum_distinct mix c) (mix x + sum_distinct mix c)) new in
+    let turn : mix x + sum_distinct mix c ≡ sum_distinct mix c + mix x = omega arith in
+    ap (λ n. n % 2 ^ 64) (more ∙ turn) ∙ sym (add_rest (sum_distinct mix c) (mix x) (2 ^ 64))
+
+pub hash_again : (c : Clause) (x : Literal) → has c x ≡ true → hash (c ++ x ∷ []) ≡ hash c
+unfolding hash
+hash_again c x old = ap (λ n. n % 2 ^ 64) (sum_push mix c x ∙ ap (λ b. cond b (sum_distinct mix c) (mix x + sum_distinct mix c)) old)
+
+pub has_take : (c : Clause) (n : ℕ) (l : Literal) → has (take n c) l ≡ true → has c l ≡ true
+has_take c n l h = ap (λ ls. has ls l) (sym (take-append-drop n c)) ∙ has_append_left (take n c) (drop n c) l h
+
+-- ---- One turn of a walk: x is the literal at i
+
+module _ (c : Clause) (i : ℕ) (inside : i < length c) (x : Literal) (is : x ≡ get_or c i x) where
+  pub take_is : take (i + 1) c ≡ take i c ++ x ∷ []
+  take_is = take_more c i x inside ∙ ap (λ y. take i c ++ y ∷ []) (sym is)
+
+  pub has_more : (l : Literal) → has (take (i + 1) c) l ≡ (has (take i c) l || eqb x l)
+  has_more l = ap (λ ls. has ls l) take_is ∙ has_push (take i c) x l
+
+  pub is_in : has c x ≡ true
+  is_in = has_at c i x inside is
+
+  pub hash_more : has (take i c) x ≡ false → hash (take (i + 1) c) ≡ (hash (take i c) + mix x) % 2 ^ 64
+  hash_more new = ap hash take_is ∙ hash_push (take i c) x new
+
+  pub hash_kept : has (take i c) x ≡ true → hash (take (i + 1) c) ≡ hash (take i c)
+  hash_kept old = ap hash take_is ∙ hash_again (take i c) x old
+
+  pub size_more : has (take i c) x ≡ false → size (take (i + 1) c) ≡ 1 + size (take i c)
+  size_more new = ap size take_is ∙ size_push (take i c) x ∙ ap (λ b. cond b (size (take i c)) (1 + size (take i c))) new
+
+  pub size_kept : has (take i c) x ≡ true → size (take (i + 1) c) ≡ size (take i c)
+  size_kept old = ap size take_is ∙ size_push (take i c) x ∙ ap (λ b. cond b (size (take i c)) (1 + size (take i c))) old
+
+  pub new_here : size c ≡ length c → has (take i c) x ≡ false
+  new_here different = distinct_before c i x different inside is
+
+-- ---- Digests
+
+-- how many different literals there are among the first i, and their hash
+pub record IsDigest (c : Clause) (i len sum : ℕ) : Type 0 where
+  pub len_is : len ≡ size (take i c)
+  pub hash_is : sum ≡ hash (take i c)
+  pub few : len ≤ i
+
+pub digest_none : (c : Clause) → IsDigest c 0 0 0
+digest_none c = record { len_is = refl; hash_is = sym hash_none; few = omega arith }
+
+module _ (c : Clause) (i : ℕ) (inside : i < length c) (x : Literal) (is : x ≡ get_or c i x) (len sum : ℕ) (so_far : IsDigest c i len sum) where
+  pub digest_more : has (take i c) x ≡ false → IsDigest c (i + 1) (len + 1) ((sum + mix x) % 2 ^ 64)
+  digest_more new = record {
+    len_is = let more = size_more c i inside x is new in omega (arith, so_far.len_is);
+    hash_is = ap (λ n. (n + mix x) % 2 ^ 64) so_far.hash_is ∙ sym (hash_more c i inside x is new);
+    few = omega (arith, so_far.few);
+  }
+
+  pub digest_kept : has (take i c) x ≡ true → IsDigest c (i + 1) len sum
+  digest_kept old = record {
+    len_is = so_far.len_is ∙ sym (size_kept c i inside x is old);
+    hash_is = so_far.hash_is ∙ sym (hash_kept c i inside x is old);
+    few = omega (arith, so_far.few);
+  }
+
+-- ---- Tests
+
+pub eqb_turn : (a b : ℕ) → eqb a b ≡ eqb b a
+eqb_turn a b = grind (arith, nat_tests)
+
+pub swap_or : (a b c d : Bool) → a ≡ c → b ≡ d → (a || b) ≡ (d || c)
+swap_or true true c d e f = cc
+swap_or true false true true e f = refl
+swap_or true false true false e f = refl
+swap_or true false false d e f = absurd (true≢false e)
+swap_or false b c true e f = f
+swap_or false b true false e f = absurd (false≢true e)
+swap_or false b false false e f = f
+
+pub marked_new : (m h : Bool) → (m && not h) ≡ true → h ≡ false
+marked_new true h e = not-true h e
+marked_new false h e = absurd (false≢true e)
+
+pub marked_old : (m h : Bool) → m ≡ true → (m && not h) ≡ false → h ≡ true
+marked_old true h i e = not-false h e
+marked_old false h i e = absurd (false≢true i)
+
+-- ---- Marks and counts, through one more literal
+
+module _ (c : Clause) (i : ℕ) (inside : i < length c) (x : Literal) (is : x ≡ get_or c i x) where
+  pub mark_more : (k : Literal) (before after : Bool) → after ≡ (eqb k x || before) → before ≡ has (take i c) k → after ≡ has (take (i + 1) c) k
+  mark_more k before after step was = step ∙ swap_or (eqb k x) before (eqb x k) (has (take i c) k) (eqb_turn k x) was ∙ sym (has_more c i inside x is k)
+
+  -- a literal that is yet to come is still marked
+  pub gather_more : (k : Literal) (before after : Bool) → after ≡ (not (eqb k x) && before) → before ≡ (has c k && not (has (take i c) k)) → after ≡ (has c k && not (has (take (i + 1) c) k))
+  gather_more k before after step was =
+      step ∙ ap (λ b. not b && before) (eqb_turn k x) ∙ ap (λ b. not (eqb x k) && b) was ∙ by_tests (eqb x k) (has c k) (has (take i c) k)
+      ∙ ap (λ b. has c k && not b) (sym (has_more c i inside x is k))
+    where
+      by_tests : (e m h : Bool) → (not e && (m && not h)) ≡ (m && not (h || e))
+      by_tests true true true = refl
+      by_tests true true false = refl
+      by_tests true false h = refl
+      by_tests false true true = refl
+      by_tests false true false = refl
+      by_tests false false h = refl
+
+  -- the count of each literal that was met is one more
+  pub count_more : (k : Literal) (before after start : ℕ) (was_marked : Bool) → after ≡ before + cond (eqb k x && was_marked) 1 0 → was_marked ≡ (has c k && not (has (take i c) k)) →
+      before ≡ start + cond (has (take i c) k) 1 0 → after ≡ start + cond (has (take (i + 1) c) k) 1 0
+  count_more k before after start was_marked step marked was =
+      step ∙ ap (λ b. before + cond (b && was_marked) 1 0) (eqb_turn k x) ∙ ap (λ b. before + cond (eqb x k && b) 1 0) marked
+      ∙ ap (λ n. n + cond (eqb x k && (has c k && not (has (take i c) k))) 1 0) was
+      ∙ by_tests (eqb x k) (has c k) (has (take i c) k) (λ e. subst (λ l. has c l ≡ true) (eqb-true x k e) (is_in c i inside x is))
+      ∙ ap (λ b. start + cond b 1 0) (sym (has_more c i inside x is k))
+    where
+      by_tests : (e m h : Bool) → (e ≡ true → m ≡ true) → (start + cond h 1 0) + cond (e && (m && not h)) 1 0 ≡ start + cond (h || e) 1 0
+      by_tests true true true in_c = omega arith
+      by_tests true true false in_c = omega arith
+      by_tests true false h in_c = absurd (false≢true (in_c refl))
+      by_tests false m true in_c = omega arith
+      by_tests false m false in_c = omega arith
+
+  -- a literal that is counted up was not met before, so that its count is the first one
+  pub few_more : (before start most : ℕ) (was_marked : Bool) → was_marked ≡ (has c x && not (has (take i c) x)) → was_marked ≡ true → before ≡ start + cond (has (take i c) x) 1 0 → start < most → before < most
+  few_more before start most was_marked marked here was few =
+      let none : cond {A = ℕ} (has (take i c) x) 1 0 ≡ 0 = ap (λ b. cond {A = ℕ} b 1 0) (marked_new (has c x) (has (take i c) x) (sym marked ∙ here)) in
+      omega arith
+
+  -- a literal that is counted down is still counted
+  pub release_counted : size c ≡ length c → (before start : ℕ) → (has c x ≡ true → 0 < start) → before + cond (has (take i c) x) 1 0 ≡ start → 0 < before
+  release_counted different before start counted was =
+      let positive = counted (is_in c i inside x is) in
+      let none : cond {A = ℕ} (has (take i c) x) 1 0 ≡ 0 = ap (λ b. cond {A = ℕ} b 1 0) (new_here c i inside x is different) in
+      omega arith
+
+  pub release_more : size c ≡ length c → (k : Literal) (before after start : ℕ) → after + cond (eqb k x) 1 0 ≡ before → before + cond (has (take i c) k) 1 0 ≡ start → after + cond (has (take (i + 1) c) k) 1 0 ≡ start
+  release_more different k before after start step was =
+      ap (λ b. after + cond b 1 0) (has_more c i inside x is k)
+      ∙ by_tests (eqb x k) (has (take i c) k) (λ e. sym (ap (has (take i c)) (eqb-true x k e)) ∙ new_here c i inside x is different) (ap (λ b. after + cond b 1 0) (eqb_turn x k) ∙ step)
+      ∙ was
+    where
+      by_tests : (e h : Bool) → (e ≡ true → h ≡ false) → after + cond e 1 0 ≡ before → after + cond (h || e) 1 0 ≡ before + cond h 1 0
+      by_tests true true new step = absurd (true≢false (new refl))
+      by_tests true false new step = omega arith
+      by_tests false true new step = omega arith
+      by_tests false false new step = omega arith
+
+  pub has_kept : has (take i c) x ≡ true → (k : Literal) → has (take (i + 1) c) k ≡ has (take i c) k
+  has_kept old k = has_more c i inside x is k ∙ by_test (eqb x k) (has (take i c) k) (λ e. sym (ap (has (take i c)) (eqb-true x k e)) ∙ old)
+    where
+      by_test : (e h : Bool) → (e ≡ true → h ≡ true) → (h || e) ≡ h
+      by_test true h g = by_old h (g refl)
+        where
+          by_old : (h : Bool) → h ≡ true → (h || true) ≡ h
+          by_old true g = refl
+          by_old false g = absurd (false≢true g)
+      by_test false true g = refl
+      by_test false false g = refl
+
+  module _ (kept : Clause) (same : (k : Literal) → has kept k ≡ has (take i c) k) (new : has (take i c) x ≡ false) where
+    pub push_same : (k : Literal) → has (kept ++ x ∷ []) k ≡ has (take (i + 1) c) k
+    push_same k = has_push kept x k ∙ ap (λ b. b || eqb x k) (same k) ∙ sym (has_more c i inside x is k)
+
+    pub push_size : size (kept ++ x ∷ []) ≡ 1 + size kept
+    push_size = size_push kept x ∙ ap (λ b. cond b (size kept) (1 + size kept)) (same x ∙ new)
+
+    pub push_fits : 1 + size kept ≤ size c
+    push_fits =
+        let more = push_size in
+        let within : IsWithin (kept ++ x ∷ []) c = λ k h. has_take c (i + 1) k (sym (push_same k) ∙ h) in
+        let below = size_covered (kept ++ x ∷ []) c within in
+        omega arith
+
+    pub push_different : size kept ≡ length kept → size (kept ++ x ∷ []) ≡ length (kept ++ x ∷ [])
+    push_different different = let more = push_size in omega (arith, length-append kept (x ∷ []))

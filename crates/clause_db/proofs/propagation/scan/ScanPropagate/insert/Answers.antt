@@ -1,0 +1,12 @@
+use Rattle.std.proofs.Common.{◌∙◌, ap}
+use Rattle.clause_db.proofs.PropagationLemmas.Scan.{scan_with, scan_reserved, room_inserted}
+use Rattle.clause_db.proofs.propagation.scan.ScanPropagate.insert.Goals as goal
+
+pub invariant_of-self-2 : goal.invariant_of-self-2
+invariant_of-self-2 c =
+    let s = c.self.inside in
+    let e = c.reserve.ensures in
+    let held = c.reserve.new.self in
+    let roomy = scan_reserved s.store s.assumptions held e.lits e.assumptions e.starts e.met c.self.invariant in
+    scan_with s.store c.insert.new.self held (e.assumptions ∙ ap (λ p. p.assumptions) c.self.view_is ∙ c.requires)
+    (room_inserted held.trail.met s.store c.insert.new.self c.args.lits.now c.insert.result roomy.room c.in_ok-reserve.ensures.room c.insert.ensures.stored c.insert.ensures.others c.insert.ensures.err) roomy

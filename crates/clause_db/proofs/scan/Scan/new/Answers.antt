@@ -1,5 +1,0 @@
-use Rattle.clause_db.proofs.ScanLemmas.{scan_empty}
-use Rattle.clause_db.proofs.scan.Scan.new.Goals as goal
-
-pub invariant_of-result : goal.invariant_of-result
-invariant_of-result c = scan_empty c.in_ok-new.field-0 c.in_ok-new-2.field-0 c.in_ok-new.ensures c.in_ok-new-2.ensures.lits c.in_ok-new-2.ensures.nothing_assumed

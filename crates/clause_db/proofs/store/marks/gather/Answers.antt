@@ -1,0 +1,68 @@
+use Rattle.std.proofs.Common.{◌≡◌, ℕ, ◌<◌, ◌&&◌, false, true, not, take, length, sym, ap, ◌∙◌, arith}
+use Rattle.std.proofs.lemmas.List.{take_all}
+use Rattle.cnf_base.specs.Literals.{has}
+use Rattle.clause_db.specs.Store.Clauses.{size}
+use Rattle.cnf_base.proofs.SetLemmas.{same_from}
+use Rattle.clause_db.proofs.StoreLemmas.Marks.{is_in, marked_new, marked_old, few_more, gather_more, count_more, has_kept, push_same, push_fits, push_different}
+use Rattle.clause_db.proofs.store.marks.gather.Goals as goal
+use Rattle.clause_db.proofs.store.marks.gather.Goals.{then-count_up, else-count_up}
+
+pub count_up-requires-clause-few : goal.count_up-requires-clause-few
+count_up-requires-clause-few c marked =
+    let x = c.l-item.result in
+    few_more c.args.lits.now c.loop-l.l-index c.loop-l-test.true x c.l-item.is _ _ _ _ (c.loop-l.invariant.marked x) marked (c.loop-l.invariant.counts x) (c.requires.few x)
+
+pub push_reserved-requires : goal.push_reserved-requires
+push_reserved-requires c =
+    let lits = c.args.lits.now in
+    let i = c.loop-l.l-index in
+    let x = c.l-item.result in
+    let inside : i < length lits = omega arith in
+    let new : has (take i lits) x ≡ false = marked_new (has lits x) (has (take i lits) x) (sym (c.loop-l.invariant.marked x) ∙ sym c.count_up.ensures.was ∙ c.if-count_up.true) in
+    let fits = push_fits lits i inside x c.l-item.is c.loop-l.kept.items c.loop-l.invariant.items new in
+    let different = c.loop-l.invariant.different in
+    let room = c.loop-l.invariant.room in
+    let enough = c.requires.room in
+    (omega arith, omega arith)
+
+pub loop-l-preserved : goal.loop-l-preserved
+loop-l-preserved c =
+    let lits = c.args.lits.now in
+    let i = c.loop-l.l-index in
+    let x = c.l-item.result in
+    let inside : i < length lits = omega arith in
+    let was : c.count_up.result ≡ (has lits x && not (has (take i lits) x)) = c.count_up.ensures.was ∙ c.loop-l.invariant.marked x in
+    let marked = λ (k : ℕ). gather_more lits i inside x c.l-item.is k _ _ (c.count_up.ensures.marked k) (c.loop-l.invariant.marked k) in
+    let counts = λ (k : ℕ). count_more lits i inside x c.l-item.is k _ _ _ _ (c.count_up.ensures.counts k) (c.loop-l.invariant.marked k) (c.loop-l.invariant.counts k) in
+    let known = λ (k : ℕ). c.count_up.ensures.known k ∙ c.loop-l.invariant.known k in
+    elim c.if-count_up.branch [
+      | then-count_up w ↦
+          let new : has (take i lits) x ≡ false = marked_new (has lits x) (has (take i lits) x) (sym was ∙ w.if-count_up.true) in
+          let items_are = ap (λ v. v.items) w.kept-is ∙ w.push_reserved.ensures.items in
+          record {
+            items = λ k. ap (λ ls. has ls k) items_are ∙ push_same lits i inside x c.l-item.is c.loop-l.kept.items c.loop-l.invariant.items new k;
+            different = ap size items_are ∙ push_different lits i inside x c.l-item.is c.loop-l.kept.items c.loop-l.invariant.items new c.loop-l.invariant.different ∙ ap length (sym items_are);
+            marked = marked;
+            counts = counts;
+            known = known;
+            room = ap (λ v. v.capacity) w.kept-is ∙ w.push_reserved.ensures.capacity ∙ c.loop-l.invariant.room;
+          }
+      | else-count_up w ↦
+          let old : has (take i lits) x ≡ true = marked_old (has lits x) (has (take i lits) x) (is_in lits i inside x c.l-item.is) (sym was ∙ w.if-count_up.false) in
+          record {
+            items = λ k. ap (λ v. has v.items k) w.kept-is ∙ c.loop-l.invariant.items k ∙ sym (has_kept lits i inside x c.l-item.is old k);
+            different = ap (λ v. size v.items) w.kept-is ∙ c.loop-l.invariant.different ∙ ap (λ v. length v.items) (sym w.kept-is);
+            marked = marked;
+            counts = counts;
+            known = known;
+            room = ap (λ v. v.capacity) w.kept-is ∙ c.loop-l.invariant.room;
+          }
+    ]
+
+pub returns-clause-same : goal.returns-clause-same
+returns-clause-same c =
+    let lits = c.args.lits.now in
+    let i = c.loop-l.l-index in
+    let all : take i lits ≡ lits = take_all i lits (omega arith) in
+    let same = λ (k : ℕ). c.loop-l.invariant.items k ∙ ap (λ ls. has ls k) all in
+    same_from c.loop-l.kept.items lits (λ k h. sym (same k) ∙ h) (λ k h. same k ∙ h)

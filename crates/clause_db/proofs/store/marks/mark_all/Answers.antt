@@ -1,0 +1,30 @@
+use Rattle.std.proofs.Common.{◌≡◌, ℕ, not, take, refl, sym, ap, ◌∙◌}
+use Rattle.std.proofs.lemmas.Bool.{not-true, not-false}
+use Rattle.cnf_base.specs.Literals.{has}
+use Rattle.clause_db.proofs.StoreLemmas.Marks.{digest_none, digest_more, digest_kept, mark_more}
+use Rattle.clause_db.proofs.store.marks.mark_all.Goals as goal
+use Rattle.clause_db.proofs.store.marks.mark_all.Goals.{then-set_mark, else-set_mark}
+
+pub loop-l-init : goal.loop-l-init
+loop-l-init c = record { marked = c.requires.clear; counts = λ k. refl; known = λ k. refl; digest = digest_none c.args.lits.now }
+
+pub loop-l-preserved : goal.loop-l-preserved
+loop-l-preserved c =
+    let lits = c.args.lits.now in
+    let i = c.loop-l.l-index in
+    let inside = c.loop-l-test.true in
+    let x = c.l-item.result in
+    let was : c.set_mark.result ≡ not (has (take i lits) x) = c.set_mark.ensures.was ∙ ap not (c.loop-l.invariant.marked x) in
+    let marked = λ (k : ℕ). mark_more lits i inside x c.l-item.is k _ _ (c.set_mark.ensures.marked k) (c.loop-l.invariant.marked k) in
+    let counts = λ (k : ℕ). c.set_mark.ensures.counts k ∙ c.loop-l.invariant.counts k in
+    let known = λ (k : ℕ). c.set_mark.ensures.known k ∙ c.loop-l.invariant.known k in
+    elim c.if-set_mark.branch [
+      | then-set_mark w ↦
+          let new = not-true (has (take i lits) x) (sym was ∙ w.if-set_mark.true) in
+          let digest = digest_more lits i inside x c.l-item.is c.loop-l.len c.loop-l.hash c.loop-l.invariant.digest new in
+          record { marked = marked; counts = counts; known = known; digest = rw (w.len-is, w.hash-is, w.mixed-hash.ensures) digest }
+      | else-set_mark w ↦
+          let old = not-false (has (take i lits) x) (sym was ∙ w.if-set_mark.false) in
+          let digest = digest_kept lits i inside x c.l-item.is c.loop-l.len c.loop-l.hash c.loop-l.invariant.digest old in
+          record { marked = marked; counts = counts; known = known; digest = rw (w.len-is, w.hash-is) digest }
+    ]

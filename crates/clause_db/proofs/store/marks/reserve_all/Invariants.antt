@@ -1,0 +1,12 @@
+use Rattle.std.proofs.Common.{◌≡◌, ℕ, true, take, IsSome}
+use Rattle.cnf_base.specs.Literals.{has}
+use Rattle.clause_db.specs.Store.LiteralMarks.{mark_count, is_marked}
+use Rattle.clause_db.specs.Store.Table.{at}
+use Rattle.clause_db.proofs.store.marks.reserve_all.Given as goal
+
+abbrev pub invariant-loop-l : goal.invariant-loop-l
+invariant-loop-l l = record {
+  known : (k : ℕ) → has (take l.l-index l.lits) k ≡ true → IsSome (at l.marks k);
+  counts : (k : ℕ) → mark_count (at l.marks k) ≡ mark_count (at l.fn.marks k);
+  marked : (k : ℕ) → is_marked (at l.marks k) ≡ is_marked (at l.fn.marks k);
+}

@@ -1,8 +1,0 @@
-use Rattle.std.proofs.Common.{◌≡◌, ℕ, IsSome, None, nat_eq, slice_index_or}
-use Rattle.std.specs.Map.{lookup}
-use Rattle.clause_db.proofs.table.is_covered.Given as goal
-
--- a key that is not among those left has a value
-abbrev pub invariant-loop-key : goal.invariant-loop-key
-invariant-loop-key g l =
-    (k : ℕ) → IsSome (lookup (nat_eq k) l.sparse.entries) → lookup (nat_eq k) l.key-iterator ≡ None → IsSome (slice_index_or l.dense.items k None)

@@ -1,0 +1,74 @@
+//! Unit propagation by passes over all clauses.
+
+ghost use Rattle.std.specs.Prelude.{◌≡◌};
+ghost use Rattle.std.specs.FinMap as maps;
+ghost use Rattle.cnf_base.specs.Literals.{Literal, has};
+ghost use Rattle.std.specs.Prelude.{IsTrue};
+ghost use Rattle.clause_db.specs.Propagation.Assumptions.{IsAnswer};
+ghost use Rattle.clause_db.specs.Propagation.Exact.{Extends};
+ghost use Rattle.clause_db.specs.Propagation.{IsClosed, Forced};
+ghost use Rattle.clause_db.specs.Propagation.Scan.Unit.{IsPassed};
+ghost use Rattle.clause_db.specs.Propagation.Trail.{HasRoomForAll};
+ghost use Rattle.clause_db.specs.declared.propagation.answer.Answer.TheVariants.{Quiet};
+
+use crate::propagation::assumptions::Assumptions;
+use crate::{Answer, Left, Store};
+
+/// What a pass over all clauses ends in.
+#[derive(Clone, Copy)]
+enum Pass {
+    /// All literals of some clause are false.
+    Clash,
+    /// Some literal was set.
+    Changed,
+    /// Nothing was set.
+    Quiet,
+}
+
+/// One pass over all clauses, which sets what follows from each.
+fn run_pass(store: &Store, assumptions: &mut Assumptions) -> Pass
+    requires { HasRoomForAll assumptions.old.trail.met (maps.get store.now) }
+    ensures sound { (l : Literal) → IsTrue (has assumptions.new.trail.lits l) →
+        Forced (maps.get store.now) assumptions.old.trail.lits l }
+    ensures pass { IsPassed (maps.get store.now)
+        assumptions.old.trail assumptions.new.trail.lits result }
+    ensures extends { Extends assumptions.old assumptions.new }
+{
+    let mut found = Pass::Quiet;
+    for number in 0..store.end() {
+        if let Some(clause) = store.at(number) {
+            match assumptions.trail().left(clause) {
+                Left::Nothing => return Pass::Clash,
+                Left::One(l) => {
+                    if assumptions.make_true(l) {
+                        found = Pass::Changed;
+                    }
+                }
+                Left::More => {}
+            }
+        }
+    }
+    found
+}
+
+/// Sets all that follows from the literals that are true, or stops at a clash.
+pub(crate) fn propagate(store: &Store, assumptions: &mut Assumptions) -> Answer
+    requires { HasRoomForAll assumptions.old.trail.met (maps.get store.now) }
+    ensures answer { IsAnswer (maps.get store.now) assumptions.old.trail.lits result }
+    ensures sound { (l : Literal) → IsTrue (has assumptions.new.trail.lits l) →
+        Forced (maps.get store.now) assumptions.old.trail.lits l }
+    ensures closed { result ≡ Quiet → IsClosed (maps.get store.now)
+        (λ l. has assumptions.new.trail.lits l) }
+    ensures extends { Extends assumptions.old assumptions.new }
+{
+    loop {
+        match run_pass(store, assumptions) {
+            Pass::Clash => return Answer::Clash,
+            Pass::Changed => {}
+            Pass::Quiet => {
+                let _different = assumptions.trail().len();
+                return Answer::Quiet;
+            }
+        }
+    }
+}

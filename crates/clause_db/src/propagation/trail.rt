@@ -1,0 +1,276 @@
+//! The trail: the literals that are true.
+
+ghost use Rattle.std.specs.Prelude.{◌≡◌, ℕ, ◌*◌, ◌/◌, ◌==◌, ◌<◌, ◌≤◌, ◌||◌, ◌&&◌, not, [], ◌∷◌, ◌++◌, filter, length, take, is_some, IsTrue, IsFalse, ◌↔◌, IfSome, IfOk, OnOk, OnErr, if◌then◌else◌};
+ghost use Rattle.cnf_base.specs.Literals.{complement, has};
+ghost use Rattle.clause_db.specs.Propagation.Left.{open_literals, how_many};
+ghost use Rattle.clause_db.specs.Propagation.Trail.{value_under, is_variable, HasNoVariableTwice, SameSet, HasRoom, MakesFalse, conflicts};
+ghost use Rattle.clause_db.specs.Propagation.Left.{with_one};
+ghost use Rattle.clause_db.specs.declared.propagation.value.Value.TheVariants.{Open};
+
+use crate::propagation::left::Left;
+use crate::propagation::part::Part;
+use crate::propagation::value::Value;
+use crate::store::table::Table;
+use cnf_base::{Lit, OutOfMemory};
+use std::alloc::Global;
+use std::marker::Model;
+
+/// Where a variable stands in the order, and the literal that stands there.
+#[derive(Clone, Copy)]
+struct Entry {
+    place: u32,
+    lit: Lit,
+}
+
+impl Entry {
+    fn index(&self) -> usize
+        ensures value { result ≡ self.now.place }
+        ensures range { result < 4294967296 }
+    {
+        self.place as usize
+    }
+}
+
+/// The literals that are true, in the order in which they were set. No two are of one variable.
+///
+/// Room is made for a variable with [`Trail::reserve`]. From then on no other call takes memory for it.
+///
+/// Contracts see a trail as the list of the literals and the set of the variables for which there is room.
+#[derive(Drop)]
+pub struct Trail {
+    /// One literal of each variable with room. The first `len` are the trail.
+    order: Vec<Lit>,
+    len: usize,
+    table: Table<Entry>,
+}
+
+impl Model for Trail {
+    ghost use Rattle.std.specs.Prelude.{◌≤◌, length, take, map};
+    ghost use Rattle.clause_db.specs.Propagation.Trail.{TrailState, variable};
+    ghost use Rattle.clause_db.specs.Store.Table.{at};
+    ghost use Rattle.clause_db.specs.Propagation.Places.{IsPlaced};
+
+    ghost Value = { TrailState };
+
+    ghost view = { λ t. record { lits = take t.len t.order.items; met = map variable t.order.items } };
+
+    ghost invariant = { λ t. (t.len ≤ length t.order.items) × IsPlaced t.order.items (at t.table) };
+}
+
+/// The literal that says that the variable is true; none for 0 and past the greatest variable.
+fn positive(var: u32) -> Option<Lit>
+    ensures some { IfSome result (λ l. l ≡ 2 * var) }
+    ensures variant { is_some result ≡ is_variable var }
+{
+    if var > Lit::MAX_VAR {
+        return None;
+    }
+    Lit::new(var as i32)
+}
+
+/// What is left with one more literal.
+fn with_literal(left: Left, l: Lit) -> Left
+    ensures { result ≡ with_one left l }
+{
+    match left {
+        Left::Nothing => Left::One(l),
+        Left::One(m) => if l == m { left } else { Left::More },
+        Left::More => Left::More,
+    }
+}
+
+impl Trail {
+    /// An empty trail. It has room for no variable.
+    pub fn new(alloc: Global) -> Result<Self, OutOfMemory>
+        ensures lits { IfOk result (λ t. t.lits ≡ []) }
+        ensures met { IfOk result (λ t. t.met ≡ []) }
+    {
+        Ok(Trail {
+            order: Vec::new(alloc),
+            len: 0,
+            table: Table::new(alloc),
+        })
+    }
+
+    /// Makes room for a variable. The room stays until the end of the trail. A number that is no literal's variable needs none.
+    ///
+    /// # Errors
+    ///
+    /// Where memory runs out. The trail is then as it was.
+    pub fn reserve(&mut self, var: u32) -> Result<(), OutOfMemory>
+        ensures met { OnOk result ((v : ℕ) → has self.new.met v ≡
+            (has self.old.met v || (v == var && is_variable v))) }
+        ensures lits { OnOk result (self.new.lits ≡ self.old.lits) }
+        ensures err { OnErr result (self.new ≡ self.old) }
+    {
+        let Some(lit) = positive(var) else {
+            return Ok(());
+        };
+        if self.table.get(var).is_some() {
+            return Ok(());
+        }
+        let Ok(place) = u32::try_from(self.order.len()) else {
+            return Err(OutOfMemory);
+        };
+        self.order.reserve(1)?;
+        self.table.reserve(var, Entry { place, lit })?;
+        self.order.push_reserved(lit);
+        Ok(())
+    }
+
+    /// Sets a literal whose variable has room and is open. It takes no memory.
+    pub fn set(&mut self, l: Lit)
+        requires reserved { IsTrue (has self.old.met (l / 2)) }
+        requires open { value_under self.old.lits l ≡ Open }
+        ensures lits { self.new.lits ≡ self.old.lits ++ l ∷ [] }
+        ensures met { (v : ℕ) → has self.new.met v ≡ has self.old.met v }
+    {
+        let n = self.len;
+        if let Some(entry) = self.table.get(l.var()) {
+            let place = entry.index();
+            let set = Entry {
+                place: n as u32,
+                lit: l,
+            };
+            let other = self.order[n];
+            self.order[place] = other;
+            self.order[n] = l;
+            self.table.set(
+                other.var(),
+                Entry {
+                    place: entry.place,
+                    lit: other,
+                },
+            );
+            self.table.set(l.var(), set);
+            self.len = n + 1;
+        }
+    }
+
+    /// What the trail says of a literal. It takes no memory.
+    pub fn value(&self, l: Lit) -> Value
+        ensures value { result ≡ value_under self.now.lits l }
+        ensures different { HasNoVariableTwice self.now.lits }
+    {
+        let Some(entry) = self.table.get(l.var()) else {
+            return Value::Open;
+        };
+        if self.len <= entry.index() {
+            return Value::Open;
+        }
+        if entry.lit == l {
+            Value::True
+        } else {
+            Value::False
+        }
+    }
+
+    /// How many literals were set.
+    pub fn len(&self) -> usize
+        ensures value { result ≡ length self.now.lits }
+        ensures different { HasNoVariableTwice self.now.lits }
+    {
+        self.lits().len()
+    }
+
+    /// Whether no literal was set.
+    pub fn is_empty(&self) -> bool
+        ensures { IsTrue result ↔ (self.now.lits ≡ []) }
+    {
+        self.len == 0
+    }
+
+    /// Takes back all but the first `n` literals, in constant time and with no memory.
+    pub fn undo_to(&mut self, n: usize)
+        requires { n ≤ length self.old.lits }
+        ensures lits { self.new.lits ≡ take n self.old.lits }
+        ensures met { (v : ℕ) → has self.new.met v ≡ has self.old.met v }
+    {
+        self.len = n;
+    }
+
+    /// The literals, in the order in which they were set.
+    pub fn lits(&self) -> &[Lit]
+        ensures value { result.now ≡ self.now.lits }
+        ensures different { HasNoVariableTwice self.now.lits }
+    {
+        &self.order[..self.len]
+    }
+    /// Makes room for the variables of a clause.
+    ///
+    /// # Errors
+    ///
+    /// Where memory runs out. Room for some of them may have been made then.
+    pub fn reserve_all(&mut self, clause: &[Lit]) -> Result<(), OutOfMemory>
+        ensures room { OnOk result (HasRoom self.new.met clause.now) }
+        ensures met { (v : ℕ) → IsTrue (has self.old.met v) → IsTrue (has self.new.met v) }
+        ensures lits { self.new.lits ≡ self.old.lits }
+    {
+        for l in clause {
+            self.reserve(l.var())?;
+        }
+        Ok(())
+    }
+
+    /// Sets a literal that is not false, unless it is true already. Tells whether it was open. It takes no memory.
+    pub fn make_true(&mut self, l: Lit) -> bool
+        requires reserved { IsTrue (has self.old.met (l / 2)) }
+        requires not_false { IsFalse (has self.old.lits (complement l)) }
+        ensures was_open { result ≡ not (has self.old.lits l) }
+        ensures lits { self.new.lits ≡ (if result then self.old.lits ++ l ∷ [] else self.old.lits) }
+        ensures quiet { IsFalse (conflicts self.new.lits) }
+        ensures met { SameSet self.new.met self.old.met }
+    {
+        let is_open = self.value(l) == Value::Open;
+        if is_open {
+            self.set(l);
+        }
+        is_open
+    }
+
+    /// Whether the literal is false.
+    fn is_false(&self, l: Lit) -> bool
+        ensures { result ≡ has self.now.lits (complement l) }
+    {
+        matches!(self.value(l), Value::False)
+    }
+
+    /// Makes the literals of a part of a clause false, up to the first that is true. Tells whether there is one, so that a literal and its
+    /// complement would be true. It takes no memory.
+    pub fn make_false<P: Part>(&mut self, clause: &[Lit], part: &P) -> bool
+        requires { HasRoom self.old.met clause.now }
+        ensures made { MakesFalse self.old.lits
+            (filter (P.keeps part.now) clause.now) result self.new.lits }
+        ensures begins { take (length self.old.lits) self.new.lits ≡ self.old.lits }
+        ensures longer { length self.old.lits ≤ length self.new.lits }
+        ensures met { SameSet self.new.met self.old.met }
+    {
+        let _different = self.len();
+        for l in clause {
+            if part.keeps_literal(*l) {
+                match self.value(*l) {
+                    Value::True => return true,
+                    Value::False => {}
+                    Value::Open => self.set(l.neg()),
+                }
+            }
+        }
+        false
+    }
+
+    /// What is left of a clause. It takes no memory.
+    pub fn left(&self, clause: &[Lit]) -> Left
+        ensures { result ≡ how_many (open_literals self.now.lits clause.now) }
+    {
+        let mut left = Left::Nothing;
+        for l in clause {
+            if !self.is_false(*l) {
+                match with_literal(left, *l) {
+                    Left::More => return Left::More,
+                    next => left = next,
+                }
+            }
+        }
+        left
+    }
+}

@@ -1,0 +1,114 @@
+//! What a table has of a literal, and the writes of one literal.
+
+ghost use Rattle.std.specs.Prelude.{◌≡◌, ℕ, ◌+◌, ◌<◌, ◌==◌, ◌&&◌, ◌||◌, true, not, is_some, if◌then◌else◌, IsSome};
+ghost use Rattle.clause_db.specs.Store.Hashes.{mix};
+ghost use Rattle.clause_db.specs.Store.LiteralMarks.{mark_count, is_marked};
+ghost use Rattle.clause_db.specs.Store.Table.{at};
+
+use crate::store::table::Table;
+use cnf_base::Lit;
+
+/// How many live clauses have a literal, and whether a call has marked it.
+#[derive(Clone, Copy)]
+pub(crate) struct Mark {
+    pub(crate) count: u64,
+    pub(crate) marked: bool,
+}
+
+pub(crate) fn key(l: Lit) -> u32
+    ensures { result ≡ l }
+{
+    l.index() as u32
+}
+
+/// A literal spread over the words.
+#[tactic(auto, unfolding(crate::specs::Store::Hashes::mix))]
+pub(crate) fn mixed(l: Lit) -> u64
+    ensures { result ≡ mix l }
+{
+    let x = (l.index() as u64).wrapping_mul(11400714819323198485);
+    let y = (x ^ (x / 1073741824)).wrapping_mul(13787848793156543929);
+    let z = (y ^ (y / 134217728)).wrapping_mul(10723151780598845931);
+    z ^ (z / 2147483648)
+}
+
+/// Marks a literal, and tells whether it was not marked before.
+pub(crate) fn set_mark(marks: &mut Table<Mark>, l: Lit) -> bool
+    requires { IsSome (at marks.old l) }
+    ensures was { result ≡ not (is_marked (at marks.old l)) }
+    ensures marked { (k : ℕ) → is_marked (at marks.new k) ≡ (k == l || is_marked (at marks.old k)) }
+    ensures counts { (k : ℕ) → mark_count (at marks.new k) ≡ mark_count (at marks.old k) }
+    ensures known { (k : ℕ) → is_some (at marks.new k) ≡ is_some (at marks.old k) }
+{
+    match marks.get(key(l)) {
+        Some(mark) => {
+            let marked = Mark {
+                count: mark.count,
+                marked: true,
+            };
+            marks.set(key(l), marked);
+            !mark.marked
+        }
+        None => true,
+    }
+}
+
+/// Takes the mark off a literal.
+pub(crate) fn clear_mark(marks: &mut Table<Mark>, l: Lit)
+    requires { IsSome (at marks.old l) }
+    ensures marked { (k : ℕ) → is_marked (at marks.new k) ≡
+        (not (k == l) && is_marked (at marks.old k)) }
+    ensures counts { (k : ℕ) → mark_count (at marks.new k) ≡ mark_count (at marks.old k) }
+    ensures known { (k : ℕ) → is_some (at marks.new k) ≡ is_some (at marks.old k) }
+{
+    if let Some(mark) = marks.get(key(l)) {
+        let unmarked = Mark {
+            count: mark.count,
+            marked: false,
+        };
+        marks.set(key(l), unmarked);
+    }
+}
+
+/// Takes the mark off a literal and counts it once more, if it is marked, and tells whether it was.
+pub(crate) fn count_up(marks: &mut Table<Mark>, l: Lit) -> bool
+    requires known { IsSome (at marks.old l) }
+    requires few { is_marked (at marks.old l) ≡ true →
+        mark_count (at marks.old l) < 18446744073709551615 }
+    ensures was { result ≡ is_marked (at marks.old l) }
+    ensures marked { (k : ℕ) → is_marked (at marks.new k) ≡
+        (not (k == l) && is_marked (at marks.old k)) }
+    ensures counts { (k : ℕ) → mark_count (at marks.new k) ≡ mark_count (at marks.old k) +
+        (if k == l && is_marked (at marks.old k) then 1 else 0) }
+    ensures known { (k : ℕ) → is_some (at marks.new k) ≡ is_some (at marks.old k) }
+{
+    match marks.get(key(l)) {
+        Some(mark) => {
+            if mark.marked {
+                let counted = Mark {
+                    count: mark.count + 1,
+                    marked: false,
+                };
+                marks.set(key(l), counted);
+            }
+            mark.marked
+        }
+        None => false,
+    }
+}
+
+/// Counts a literal once less.
+pub(crate) fn count_down(marks: &mut Table<Mark>, l: Lit)
+    requires { 0 < mark_count (at marks.old l) }
+    ensures marked { (k : ℕ) → is_marked (at marks.new k) ≡ is_marked (at marks.old k) }
+    ensures counts { (k : ℕ) →
+        mark_count (at marks.new k) + (if k == l then 1 else 0) ≡ mark_count (at marks.old k) }
+{
+    if let Some(mark) = marks.get(key(l)) {
+        let counted = Mark {
+            count: mark.count - 1,
+            marked: mark.marked,
+        };
+        marks.set(key(l), counted);
+    }
+}

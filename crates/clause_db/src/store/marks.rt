@@ -1,0 +1,139 @@
+//! Walks over a clause that mark, count and compare its literals. Each is linear in the clause.
+
+ghost use Rattle.std.specs.Prelude.{◌≡◌, ℕ, ◌+◌, ◌<◌, ◌≤◌, ◌==◌, ◌&&◌, true, false, is_some, [], length, if◌then◌else◌, IsSome, IsTrue, OnOk};
+ghost use Rattle.std.specs.List.{list_all};
+ghost use Rattle.cnf_base.specs.Literals.{has, same_clause};
+ghost use Rattle.clause_db.specs.Store.Clauses.{size};
+ghost use Rattle.clause_db.specs.Store.Hashes.{hash};
+ghost use Rattle.clause_db.specs.Store.LiteralMarks.{mark_count, is_marked};
+ghost use Rattle.clause_db.specs.Store.Table.{at};
+
+use crate::store::mark::{Mark, clear_mark, count_down, count_up, key, mixed, set_mark};
+use crate::store::table::Table;
+use cnf_base::{Lit, OutOfMemory};
+use smallvec::SmallVec;
+
+/// How many different literals a clause has, and its hash as a set.
+#[derive(Clone, Copy)]
+pub(crate) struct Digest {
+    pub(crate) len: usize,
+    pub(crate) hash: u64,
+}
+
+/// Makes room in the table for the literals.
+pub(crate) fn reserve_all(marks: &mut Table<Mark>, lits: &[Lit]) -> Result<(), OutOfMemory>
+    ensures ok { OnOk result ((l : ℕ) → has lits.now l ≡ true → IsSome (at marks.new l)) }
+    ensures counts { (l : ℕ) → mark_count (at marks.new l) ≡ mark_count (at marks.old l) }
+    ensures marked { (l : ℕ) → is_marked (at marks.new l) ≡ is_marked (at marks.old l) }
+{
+    for l in lits {
+        let blank = Mark {
+            count: 0,
+            marked: false,
+        };
+        marks.reserve(key(*l), blank)?;
+    }
+    Ok(())
+}
+
+/// Whether the table has each literal.
+pub(crate) fn all_known(marks: &Table<Mark>, lits: &[Lit]) -> bool
+    ensures { result ≡ list_all (λ l. is_some (at marks.now l)) lits.now }
+{
+    lits.iter().all(|l| marks.get(key(*l)).is_some())
+}
+
+/// Whether each literal is marked.
+pub(crate) fn all_marked(marks: &Table<Mark>, lits: &[Lit]) -> bool
+    ensures { result ≡ list_all (λ l. is_marked (at marks.now l)) lits.now }
+{
+    lits.iter().all(|l| is_set(marks, *l))
+}
+
+fn is_set(marks: &Table<Mark>, l: Lit) -> bool
+    ensures { result ≡ is_marked (at marks.now l) }
+{
+    match marks.get(key(l)) {
+        Some(mark) => mark.marked,
+        None => false,
+    }
+}
+
+/// Marks the literals, where none is marked.
+pub(crate) fn mark_all(marks: &mut Table<Mark>, lits: &[Lit]) -> Digest
+    requires known { (l : ℕ) → has lits.now l ≡ true → IsSome (at marks.old l) }
+    requires clear { (l : ℕ) → is_marked (at marks.old l) ≡ false }
+    ensures len { result.len ≡ size lits.now }
+    ensures short { size lits.now < 18446744073709551616 }
+    ensures hash { result.hash ≡ hash lits.now }
+    ensures marked { (l : ℕ) → is_marked (at marks.new l) ≡ has lits.now l }
+    ensures counts { (l : ℕ) → mark_count (at marks.new l) ≡ mark_count (at marks.old l) }
+    ensures known { (l : ℕ) → is_some (at marks.new l) ≡ is_some (at marks.old l) }
+{
+    let mut len = 0;
+    let mut hash: u64 = 0;
+    for l in lits {
+        if set_mark(marks, *l) {
+            len += 1;
+            hash = hash.wrapping_add(mixed(*l));
+        }
+    }
+    Digest { len, hash }
+}
+
+/// Takes the marks off the literals.
+pub(crate) fn unmark_all(marks: &mut Table<Mark>, lits: &[Lit])
+    requires known { (l : ℕ) → has lits.now l ≡ true → IsSome (at marks.old l) }
+    requires marked { (l : ℕ) → is_marked (at marks.old l) ≡ has lits.now l }
+    ensures clear { (l : ℕ) → is_marked (at marks.new l) ≡ false }
+    ensures counts { (l : ℕ) → mark_count (at marks.new l) ≡ mark_count (at marks.old l) }
+{
+    for l in lits {
+        clear_mark(marks, *l);
+    }
+}
+
+/// Puts each of the marked literals into `kept` once, counts it once more and takes its mark off.
+pub(crate) fn gather(marks: &mut Table<Mark>, lits: &[Lit], kept: &mut SmallVec<Lit, 4>)
+    requires known { (l : ℕ) → has lits.now l ≡ true → IsSome (at marks.old l) }
+    requires marked { (l : ℕ) → is_marked (at marks.old l) ≡ has lits.now l }
+    requires few { (l : ℕ) → mark_count (at marks.old l) < 18446744073709551615 }
+    requires empty { kept.old.items ≡ [] }
+    requires room { size lits.now ≤ kept.old.capacity }
+    ensures same { IsTrue (same_clause kept.new.items lits.now) }
+    ensures different { size kept.new.items ≡ length kept.new.items }
+    ensures clear { (l : ℕ) → is_marked (at marks.new l) ≡ false }
+    ensures counts { (l : ℕ) → mark_count (at marks.new l) ≡ mark_count (at marks.old l) +
+        (if has lits.now l then 1 else 0) }
+{
+    for l in lits {
+        if count_up(marks, *l) {
+            kept.push_reserved(*l);
+        }
+    }
+}
+
+/// Counts each of the literals once less, where no literal is repeated.
+pub(crate) fn release(marks: &mut Table<Mark>, lits: &[Lit])
+    requires different { size lits.now ≡ length lits.now }
+    requires counted { (l : ℕ) → has lits.now l ≡ true → 0 < mark_count (at marks.old l) }
+    ensures marked { (l : ℕ) → is_marked (at marks.new l) ≡ is_marked (at marks.old l) }
+    ensures counts { (l : ℕ) → mark_count (at marks.new l) +
+        (if has lits.now l then 1 else 0) ≡ mark_count (at marks.old l) }
+{
+    for l in lits {
+        count_down(marks, *l);
+    }
+}
+
+/// The hash of a clause that repeats no literal.
+pub(crate) fn hash_of(lits: &[Lit]) -> u64
+    requires { size lits.now ≡ length lits.now }
+    ensures { result ≡ hash lits.now }
+{
+    let mut sum: u64 = 0;
+    for l in lits {
+        sum = sum.wrapping_add(mixed(*l));
+    }
+    sum
+}

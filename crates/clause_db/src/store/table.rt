@@ -1,0 +1,141 @@
+//! Values by small numbers, in memory of the order of the keys that were met.
+
+ghost use Rattle.std.specs.Prelude.{◌≡◌, ℕ, ◌==◌, ◌<◌, ◌≤◌, if◌then◌else◌, unwrap_or, IsSome, IsTrue, OnOk, OnErr, vec_len, slice_index_or, nat_eq};
+ghost use Rattle.std.specs.HashMap.{get};
+ghost use Rattle.clause_db.specs.Store.Table.{at, looked_up};
+
+use cnf_base::OutOfMemory;
+use std::alloc::Global;
+use std::collections::HashMap;
+
+/// Values by keys, with room for the keys that were reserved.
+///
+/// The keys below `dense.len()` have a place in `dense`, all others in `sparse`. A value in `dense` hides one in `sparse`.
+#[derive(Drop)]
+pub(crate) struct Table<T> {
+    alloc: Global,
+    dense: Vec<Option<T>>,
+    sparse: HashMap<u32, T>,
+    count: usize,
+}
+
+/// The length from which `dense` grows.
+const LEAST: usize = 64;
+
+/// Copies into `dense` what `sparse` has below its length, where it has nothing yet.
+fn bring_in<T: Copy + Drop>(dense: &mut Vec<Option<T>>, sparse: &HashMap<u32, T>)
+    ensures { (k : ℕ) → looked_up dense.new.items sparse.now k ≡
+        looked_up dense.old.items sparse.now k }
+{
+    for (key, value) in sparse {
+        let i = *key as usize;
+        if i < dense.len() && dense[i].is_none() {
+            dense[i] = Some(*value);
+        }
+    }
+}
+
+/// Whether each key of `sparse` has a value in `dense`.
+fn is_covered<T: Copy + Drop>(dense: &Vec<Option<T>>, sparse: &HashMap<u32, T>) -> bool
+    ensures { IsTrue result → (k : ℕ) → IsSome (get nat_eq sparse.now k) →
+        IsSome (slice_index_or dense.now.items k None) }
+{
+    for (key, _) in sparse {
+        let i = *key as usize;
+        if i >= dense.len() || dense[i].is_none() {
+            return false;
+        }
+    }
+    true
+}
+
+#[tactic(auto, using(crate::proofs::StoreLemmas::Table::table_steps), unfolding(crate::specs::Store::Table::at))]
+impl<T: Copy + Drop> Table<T> {
+    /// An empty table. It takes no memory.
+    pub(crate) fn new(alloc: Global) -> Self
+        ensures { (k : ℕ) → at result k ≡ None }
+    {
+        Table {
+            alloc,
+            dense: Vec::new(alloc),
+            sparse: HashMap::new(alloc),
+            count: 0,
+        }
+    }
+
+    /// The value at the key.
+    pub(crate) fn get(&self, key: u32) -> Option<T>
+        ensures { result ≡ at self.now key }
+    {
+        let i = key as usize;
+        if i < self.dense.len()
+            && let Some(value) = self.dense[i]
+        {
+            return Some(value);
+        }
+        self.sparse.get(&key).copied()
+    }
+
+    /// Writes the value at the key, which was reserved.
+    pub(crate) fn set(&mut self, key: u32, value: T)
+        requires { IsSome (at self.old key) }
+        ensures { (k : ℕ) → at self.new k ≡ (if k == key then Some value else at self.old k) }
+    {
+        let i = key as usize;
+        if i < self.dense.len() {
+            self.dense[i] = Some(value);
+        } else {
+            let _ = self.sparse.insert(key, value);
+        }
+    }
+
+    /// Puts a value at a key.
+    fn put(&mut self, key: u32, value: T) -> Result<(), OutOfMemory>
+        ensures ok { OnOk result ((k : ℕ) → at self.new k ≡
+            (if k == key then Some value else at self.old k)) }
+        ensures err { OnErr result ((k : ℕ) → at self.new k ≡ at self.old k) }
+    {
+        let i = key as usize;
+        if i < self.dense.len() {
+            self.dense[i] = Some(value);
+        } else {
+            self.sparse.insert(key, value)?;
+        }
+        Ok(())
+    }
+
+    /// Lengthens `dense`, and empties `sparse` where all that it has lies in `dense`.
+    fn widen(&mut self, len: usize) -> Result<(), OutOfMemory>
+        requires { vec_len self.old.dense ≤ len }
+        ensures { (k : ℕ) → at self.new k ≡ at self.old k }
+    {
+        self.dense.resize(len, None)?;
+        bring_in(&mut self.dense, &self.sparse);
+        if is_covered(&self.dense, &self.sparse) {
+            self.sparse = HashMap::new(self.alloc);
+        }
+        Ok(())
+    }
+
+    /// Makes room for the key, with this value where it has none.
+    pub(crate) fn reserve(&mut self, key: u32, value: T) -> Result<(), OutOfMemory>
+        ensures ok { OnOk result ((k : ℕ) → at self.new k ≡
+            (if k == key then Some (unwrap_or (at self.old key) value) else at self.old k)) }
+        ensures err { OnErr result ((k : ℕ) → at self.new k ≡ at self.old k) }
+    {
+        if self.get(key).is_some() {
+            return Ok(());
+        }
+        let len = self.dense.len();
+        let limit = self.count.saturating_mul(2).saturating_add(LEAST);
+        let is_near = len <= key as usize && (key as usize) < limit;
+        // Keys that fell from high to low would else stay in the sparse part.
+        let is_short = len > 0 && len < self.count;
+        if is_near || is_short {
+            self.widen(limit.max(len.saturating_mul(2)))?;
+        }
+        self.put(key, value)?;
+        self.count = self.count.saturating_add(1);
+        Ok(())
+    }
+}

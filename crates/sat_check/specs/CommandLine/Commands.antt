@@ -1,0 +1,31 @@
+-- The commands that `clap` is given, as its contracts speak of them.
+use Rattle.std.specs.Prelude.{true, codes, Some}
+use Rattle.clap.specs.Words.{App, Rule, Text, new_app, new_rule, with_rule}
+use Rattle.clap.specs.declared.builder.ArgAction.TheVariants.{Set, SetTrue}
+use Rattle.sat_check.specs.declared.command_line.tool.Tool.{Tool}
+use Rattle.sat_check.specs.declared.command_line.tool.Tool.TheVariants.{Drat, Lrat, Model}
+
+abbrev pub flag_rule : Text → Rule
+flag_rule name = record (new_rule name) { long = Some name; action = Some SetTrue }
+
+abbrev pub formula_rule : Rule
+formula_rule = record (new_rule (codes "formula")) {
+  value_names = 1;
+  action = Some Set;
+  required = true;
+}
+
+abbrev pub second_rule : Rule
+second_rule = record (new_rule (codes "second")) { value_names = 1; action = Some Set }
+
+abbrev pub with_files : App → App
+with_files a = with_rule (with_rule a formula_rule) second_rule
+
+abbrev pub command_of : Tool → App
+command_of Drat = with_files
+    (with_rule
+    (with_rule
+    (with_rule (new_app (codes "drat-forward")) (flag_rule (codes "binary")))
+    (flag_rule (codes "trace"))) (flag_rule (codes "strict")))
+command_of Lrat = with_files (with_rule (new_app (codes "lrat-check")) (flag_rule (codes "trace")))
+command_of Model = with_files (new_app (codes "model-check"))

@@ -1,0 +1,5 @@
+pub mod Candidates
+pub mod Copies
+pub mod CopySums
+pub mod Slots
+pub mod Steps

@@ -1,0 +1,69 @@
+-- The search over the clauses with the pivot's complement.
+use Rattle.std.proofs.Common.{◌≡◌, ℕ, ◌+◌, ◌<◌, ◌≤◌, true, Option, Some, None, is_some, IsSome, List, ◌++◌, refl, sym, subst, arith, inl, inr}
+use Rattle.std.specs.Ordering.{nat_cmp}
+use Rattle.std.specs.FinMap as maps
+use Rattle.std.specs.FinMap.{FinMap}
+use Rattle.std.proofs.lemmas.Bool.{cases_lt, false≢true}
+use Rattle.cnf_base.specs.Literals.{Literal, Clause, has, complements, without}
+use Rattle.clause_db.specs.Propagation.Assumptions.{Propagation, Assumption, IsAnswer, HasAt, assumed_by}
+use Rattle.clause_db.specs.declared.propagation.answer.Answer.{Answer}
+use Rattle.clause_db.specs.declared.propagation.answer.Answer.TheVariants.{Clash as AnswersClash, Quiet}
+use Rattle.steps.specs.Theory.Propagation.{Clash}
+use Rattle.steps.specs.Drat.Candidates.{AllClash, SomeQuiet}
+
+-- each clause with the literal in a slot before this one clashes
+abbrev pub Passed : Propagation → Literal → ℕ → Type 0
+Passed p opposite n =
+    (k : ℕ) (d : Clause) → k < n → maps.get p.live k ≡ Some d → has d opposite ≡ true → Clash (maps.get p.live) (assumed_by p.assumptions ++ complements (without d opposite))
+
+-- what propagation answers with the clause in the slot
+abbrev pub AnswersAt : FinMap nat_cmp Clause → List Assumption → Literal → ℕ → Answer → Type 0
+AnswersAt live assumptions opposite slot a =
+    (c : Clause) → maps.get live slot ≡ Some c → IsAnswer (maps.get live) (assumed_by assumptions ++ complements (without c opposite)) a
+
+module _ (old now : Propagation) (opposite : Literal) (live_is : now.live ≡ old.live) (standing : now.assumptions ≡ old.assumptions) where
+  answers_old : (slot : ℕ) (a b : Answer) → a ≡ b → AnswersAt now.live now.assumptions opposite slot a → AnswersAt old.live old.assumptions opposite slot b
+  answers_old slot a b is h =
+      subst (AnswersAt old.live old.assumptions opposite slot) is
+      (subst (λ them. AnswersAt old.live them opposite slot a) standing (subst (λ m. AnswersAt m now.assumptions opposite slot a) live_is h))
+
+  here_old : (slot : ℕ) → HasAt (maps.get now.live) opposite slot → HasAt (maps.get old.live) opposite slot
+  here_old slot h = subst (λ m. HasAt (maps.get m) opposite slot) live_is h
+
+  none_old : (slot : ℕ) → ¬ HasAt (maps.get now.live) opposite slot → ¬ HasAt (maps.get old.live) opposite slot
+  none_old slot none h = none (subst (λ m. HasAt (maps.get m) opposite slot) (sym live_is) h)
+
+  module _ (from : ℕ) (passed : Passed old opposite from) where
+    pub passed_all : ((s : ℕ) → from ≤ s → ¬ HasAt (maps.get now.live) opposite s) → AllClash (maps.get old.live) (assumed_by old.assumptions) opposite
+    passed_all none k d at member =
+        elim (cases_lt k from) [
+          | inl lt ↦ passed k d lt at member
+          | inr le ↦ absurd (none_old k (none k le) (record { clause = d; at = at; member = member }))
+        ]
+
+    module _ (slot : ℕ) (over : (s : ℕ) → from ≤ s → s < slot → ¬ HasAt (maps.get now.live) opposite s) (a : Answer) (answer : AnswersAt now.live now.assumptions opposite slot a) where
+      pub passed_next : a ≡ AnswersClash → (next : ℕ) → next ≡ slot + 1 → Passed old opposite next
+      passed_next is next next_is k d lt at member =
+          elim (cases_lt k from) [
+            | inl lower ↦ passed k d lower at member
+            | inr le ↦ elim (cases_lt k slot) [
+              | inl before ↦ absurd (none_old k (over k le before) (record { clause = d; at = at; member = member }))
+              | inr not_before ↦
+                  let same : k ≡ slot = omega (arith, lt, not_before, next_is) in
+                  answers_old slot a AnswersClash is answer d (subst (λ n. maps.get old.live n ≡ Some d) same at)
+            ]
+          ]
+
+      pub quiet_found : a ≡ Quiet → HasAt (maps.get now.live) opposite slot → SomeQuiet (maps.get old.live) (assumed_by old.assumptions) opposite
+      quiet_found is h =
+          let here = here_old slot h in
+          record { slot = slot; clause = here.clause; at = here.at; member = here.member; quiet = answers_old slot a Quiet is answer here.clause here.at }
+
+      pub passed_last : a ≡ AnswersClash → slot ≡ 18446744073709551615 → ((s : ℕ) → IsSome (maps.get now.live s) → s ≤ 18446744073709551615) → AllClash (maps.get old.live) (assumed_by old.assumptions) opposite
+      passed_last is last slots k d at member =
+          let low : k ≤ 18446744073709551615 = slots k (subst (λ o. IsSome o) (sym (subst (λ m. maps.get m k ≡ Some d) (sym live_is) at)) refl) in
+          passed_next is (slot + 1) refl k d (omega (arith, low, last)) at member
+
+pub clause_there : (o : Option Clause) → is_some o ≡ true → (c : Clause) × (o ≡ Some c)
+clause_there None h = absurd (false≢true h)
+clause_there (Some c) h = (c, refl)

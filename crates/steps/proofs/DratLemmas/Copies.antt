@@ -1,0 +1,184 @@
+-- The rule of DRAT depends only on how many copies of each clause are alive.
+use Rattle.std.proofs.Common.{◌≡◌, ◌≢◌, ℕ, zero, suc, ◌+◌, ◌-◌, ◌<◌, Bool, true, false, cond, Option, Some, Ok, Err, List, [], ◌∷◌, ◌++◌, slice_get, refl, sym, ap, ◌∙◌, subst, inl, inr, arith}
+use Rattle.std.specs.List.{list_any}
+use Rattle.std.proofs.lemmas.Bool.{false≢true, true≢false, cases_Bool, or_cases, or_left, or_right, false_from_ne_true}
+use Rattle.std.proofs.lemmas.List.Sums.{sum_by-cons}
+use Rattle.std.proofs.lemmas.Option.{none-some}
+use Rattle.steps.specs.declared.theory.accepted.Accepted.{Accepted}
+use Rattle.steps.specs.declared.theory.accepted.Accepted.TheVariants.{Rup, Rat, Empty, Deleted, Ignored}
+use Rattle.steps.specs.declared.theory.refusal.Refusal.TheVariants.{NotRup, NeitherRupNorRat, NotAlive}
+use Rattle.cnf_base.specs.Literals.{Literal, complement, Clause, has, complements, without, same_clause}
+use Rattle.steps.specs.Theory.Propagation.{Live, IsClosed, Forced, Clash, HasRup, HasRat, by_empty, by_both}
+use Rattle.steps.specs.Theory.StepAnswer.{StepAnswer}
+use Rattle.steps.specs.Drat.{DratStep, add, delete, AnswersAdd, AnswersDelete, AnswersDrat, take_off, after_drat, copies_of, SameLive}
+use Rattle.cnf_base.proofs.SetLemmas.{same_there, same_back, same_itself, same_symm, same_trans, same_empty, both_pass, has_append_left, has_append_right, has_append_cases, has-complements, complements_has, has-without, without_has}
+use Rattle.cnf_base.proofs.LiteralLemmas.{complement-complement}
+use Rattle.clause_db.proofs.PropagationLemmas.Forced.{forced_assumed, clash_through}
+use Rattle.steps.specs.declared.drat.rules.DratRules.{DratRules}
+
+-- ---- Copies
+
+pub copies-cons : (e d : Clause) (live : List Clause) → copies_of e (d ∷ live) ≡ cond (same_clause e d) 1 0 + copies_of e live
+copies-cons e d live = sum_by-cons (λ x. cond (same_clause e x) 1 0) d live
+
+pub alive_copies : (c : Clause) (live : List Clause) → list_any (same_clause c) live ≡ true → 0 < copies_of c live
+alive_copies c [] h = absurd (false≢true h)
+alive_copies c (d ∷ live) h =
+    elim (or_cases (same_clause c d) (list_any (same_clause c) live) h) [
+      | inl e ↦ omega (arith, copies-cons c d live ∙ ap (λ b. cond b 1 0 + copies_of c live) e)
+      | inr g ↦ omega (arith, copies-cons c d live, alive_copies c live g)
+    ]
+
+pub none_alive : (c : Clause) (live : List Clause) → list_any (same_clause c) live ≡ false → copies_of c live ≡ 0
+none_alive c [] h = refl
+none_alive c (d ∷ live) h =
+    elim (cases_Bool (same_clause c d)) [
+      | inl e ↦ absurd (true≢false (sym (or_left (same_clause c d) (list_any (same_clause c) live) e) ∙ h))
+      | inr e ↦
+          let rest : list_any (same_clause c) live ≡ false = false_from_ne_true _ (λ g. true≢false (sym (or_right (same_clause c d) (list_any (same_clause c) live) g) ∙ h)) in
+          copies-cons c d live ∙ ap (λ b. cond b 1 0 + copies_of c live) e ∙ omega (arith, none_alive c live rest)
+    ]
+
+pub copies_alive : (c : Clause) (live : List Clause) → 0 < copies_of c live → list_any (same_clause c) live ≡ true
+copies_alive c live h = elim (cases_Bool (list_any (same_clause c) live)) [ inl e ↦ e | inr e ↦ absurd (omega (arith, none_alive c live e)) ]
+
+pub alive_at : (c : Clause) (live : List Clause) → list_any (same_clause c) live ≡ true → (j : ℕ) × (d : Clause) × (slice_get live j ≡ Some d) × (same_clause c d ≡ true)
+alive_at c [] h = absurd (false≢true h)
+alive_at c (d ∷ live) h =
+    elim (or_cases (same_clause c d) (list_any (same_clause c) live) h) [
+      | inl e ↦ (zero, d, refl, e)
+      | inr g ↦ let w = alive_at c live g in (suc w.0, w.1, w.2, w.3)
+    ]
+
+pub at_alive : (live : List Clause) (k : ℕ) (d : Clause) → slice_get live k ≡ Some d → list_any (same_clause d) live ≡ true
+at_alive [] k d at = absurd (none-some d at)
+at_alive (e ∷ live) zero d at = or_left (same_clause d e) _ (subst (λ x. same_clause d x ≡ true) (same (sym at)) (same_itself d))
+  where
+    same : ◌≡◌ {A = Option Clause} (Some d) (Some e) → d ≡ e
+    same e = cc
+at_alive (e ∷ live) (suc k) d at = or_right (same_clause d e) _ (at_alive live k d at)
+
+-- taking a clause off leaves one copy less of it, and as many of any other
+taken : (ec ed cd : Bool) (x y : ℕ) → (cd ≡ true → ec ≡ ed) → (cd ≡ false → ec ≡ true → ed ≡ true → ⊥) → y ≡ x - cond ec 1 0 → cond cd x (cond ed 1 0 + y) ≡ (cond ed 1 0 + x) - cond ec 1 0
+taken true true true x y alike apart e = omega arith
+taken false false true x y alike apart e = omega arith
+taken true false true x y alike apart e = absurd (true≢false (alike refl))
+taken false true true x y alike apart e = absurd (false≢true (alike refl))
+taken true true false x y alike apart e = absurd (apart refl refl refl)
+taken true false false x y alike apart e = omega arith
+taken false true false x y alike apart e = omega arith
+taken false false false x y alike apart e = omega arith
+
+pub copies-take_off : (e c : Clause) (live : List Clause) → copies_of e (take_off c live) ≡ copies_of e live - cond (same_clause e c) 1 0
+copies-take_off e c [] = omega arith
+copies-take_off e c (d ∷ live) =
+    pushed (same_clause c d) ∙ taken (same_clause e c) (same_clause e d) (same_clause c d) (copies_of e live) (copies_of e (take_off c live))
+    (λ cd. both_pass (same_clause e c) (same_clause e d) (λ ec. same_trans e c d ec cd) (λ ed. same_trans e d c ed (same_symm c d cd)))
+    (λ cd ec ed. true≢false (sym (same_trans c e d (same_symm e c ec) ed) ∙ cd))
+    (copies-take_off e c live)
+    ∙ ap (λ n. n - cond (same_clause e c) 1 0) (sym (copies-cons e d live))
+  where
+    pushed : (b : Bool) → copies_of e (cond b live (d ∷ take_off c live)) ≡ cond b (copies_of e live) (cond (same_clause e d) 1 0 + copies_of e (take_off c live))
+    pushed true = refl
+    pushed false = copies-cons e d (take_off c live)
+
+taken_off_same : (first second : List Clause) (c : Clause) → SameLive first second → SameLive (take_off c first) (take_off c second)
+taken_off_same first second c same =
+    record { copies = λ e. copies-take_off e c first ∙ ap (λ n. n - cond (same_clause e c) 1 0) (same.copies e) ∙ sym (copies-take_off e c second) }
+
+pub after_same : (first second : List Clause) (step : DratStep) (word : Accepted) → SameLive first second → SameLive (after_drat first step word) (after_drat second step word)
+after_same first second (add c) word same =
+    record { copies = λ e. copies-cons e c first ∙ ap (λ n. cond (same_clause e c) 1 0 + n) (same.copies e) ∙ sym (copies-cons e c second) }
+after_same first second (delete c) Ignored same = same
+after_same first second (delete c) Deleted same = taken_off_same first second c same
+after_same first second (delete c) Rup same = taken_off_same first second c same
+after_same first second (delete c) Rat same = taken_off_same first second c same
+after_same first second (delete c) Empty same = taken_off_same first second c same
+
+same_live_symm : (first second : List Clause) → SameLive first second → SameLive second first
+same_live_symm first second same = record { copies = λ e. sym (same.copies e) }
+
+-- ---- What follows from the same clauses
+
+-- each clause of the one is, as a set, a clause of the other
+abbrev pub Covers : Live → Live → Type 0
+Covers first second = (k : ℕ) (c : Clause) → first k ≡ Some c → (j : ℕ) × (d : Clause) × (second j ≡ Some d) × (same_clause c d ≡ true)
+
+pub covers_of : (first second : List Clause) → SameLive first second → Covers (slice_get first) (slice_get second)
+covers_of first second same k c at =
+    alive_at c second (copies_alive c second (omega (arith, alive_copies c first (at_alive first k c at), same.copies c)))
+
+closed_covers : (first second : Live) → Covers first second → (passes : Literal → Bool) → IsClosed second passes → IsClosed first passes
+closed_covers first second covers passes closed = record { unit = go }
+  where
+    go : (k : ℕ) (c : Clause) → first k ≡ Some c → (m : Literal) → has c m ≡ true → ((l : Literal) → has c l ≡ true → l ≢ m → passes (complement l) ≡ true) → passes m ≡ true
+    go k c at m member others =
+        let w = covers k c at in
+        closed.unit w.0 w.1 w.2 m (same_there c w.1 w.3 m member) (λ l inside ne. others l (same_back c w.1 w.3 l inside) ne)
+
+forced_covers : (first second : Live) → Covers first second → (assumed : List Literal) (l : Literal) → Forced first assumed l → Forced second assumed l
+forced_covers first second covers assumed l forced = record { in_each = λ passes closed start. forced.in_each passes (closed_covers first second covers passes closed) start }
+
+pub clash_covers : (first second : Live) → Covers first second → (assumed : List Literal) → Clash first assumed → Clash second assumed
+clash_covers first second covers assumed (by_empty k at) =
+    let w = covers k [] at in by_empty w.0 (w.2 ∙ ap Some (same_empty w.1 w.3))
+clash_covers first second covers assumed (by_both l f g) =
+    by_both l (forced_covers first second covers assumed l f) (forced_covers first second covers assumed (complement l) g)
+
+-- the complements of clauses that include one another
+complements_more : (live : Live) (c d : Clause) → ((l : Literal) → has c l ≡ true → has d l ≡ true) → HasRup live c → HasRup live d
+complements_more live c d inside rup =
+    clash_through live (complements c) (complements d)
+    (λ a member. forced_assumed live (complements d) a (subst (λ x. has (complements d) x ≡ true) (complement-complement a) (has-complements d (complement a) (inside (complement a) (complements_has c a member))))) rup
+
+pub rat_covers : (first second : Live) → Covers first second → Covers second first → (c : Clause) (pivot : Literal) → HasRat first c pivot → HasRat second c pivot
+rat_covers first second there back c pivot rat = record { holds_pivot = rat.holds_pivot; candidates = go }
+  where
+    go : (k : ℕ) (d : Clause) → second k ≡ Some d → has d (complement pivot) ≡ true → HasRup second (c ++ without d (complement pivot))
+    go k d at member =
+        let w = back k d at in
+        complements_more second (c ++ without w.1 (complement pivot)) (c ++ without d (complement pivot))
+        (λ l h. elim (has_append_cases c (without w.1 (complement pivot)) l h) [
+          | inl g ↦ has_append_left c (without d (complement pivot)) l g
+          | inr g ↦ let p = without_has w.1 (complement pivot) l g in has_append_right c (without d (complement pivot)) l (has-without d (complement pivot) l (same_back d w.1 w.3 l p.0) p.1)
+        ])
+        (clash_covers first second there _ (rat.candidates w.0 w.1 w.2 (same_there d w.1 w.3 (complement pivot) member)))
+
+alive_same : (first second : List Clause) (c : Clause) → SameLive first second → list_any (same_clause c) first ≡ list_any (same_clause c) second
+alive_same first second c same =
+    both_pass (list_any (same_clause c) first) (list_any (same_clause c) second)
+    (λ h. copies_alive c second (omega (arith, alive_copies c first h, same.copies c)))
+    (λ h. copies_alive c first (omega (arith, alive_copies c second h, same.copies c)))
+
+-- ---- The answers
+
+add_same : (first second : List Clause) (c : List Literal) (answer : StepAnswer) → SameLive first second → AnswersAdd first c answer → AnswersAdd second c answer
+add_same first second [] (Ok Empty) same a = clash_covers _ _ (covers_of first second same) [] a
+add_same first second [] (Err NotRup) same a = λ b. a (clash_covers _ _ (covers_of second first (same_live_symm first second same)) [] b)
+add_same first second (l ∷ c) (Ok Rup) same a = clash_covers _ _ (covers_of first second same) _ a
+add_same first second (l ∷ c) (Ok Rat) same a =
+    let there = covers_of first second same in
+    let back = covers_of second first (same_live_symm first second same) in
+    (λ b. a.0 (clash_covers _ _ back _ b), rat_covers _ _ there back (l ∷ c) l a.1)
+add_same first second (l ∷ c) (Err (NeitherRupNorRat m)) same a =
+    let there = covers_of first second same in
+    let back = covers_of second first (same_live_symm first second same) in
+    (a.0, λ b. a.1 (clash_covers _ _ back _ b), λ r. a.2 (rat_covers _ _ back there (l ∷ c) l r))
+add_same first second [] (Ok _) same a = absurd a
+add_same first second [] (Err _) same a = absurd a
+add_same first second (l ∷ c) (Ok _) same a = absurd a
+add_same first second (l ∷ c) (Err _) same a = absurd a
+
+delete_same : (strict : Bool) (first second : List Clause) (c : List Literal) (answer : StepAnswer) → SameLive first second → AnswersDelete strict first c answer → AnswersDelete strict second c answer
+delete_same true first second c (Ok Deleted) same a = sym (alive_same first second c same) ∙ a
+delete_same false first second c (Ok Deleted) same a = sym (alive_same first second c same) ∙ a
+delete_same false first second c (Ok Ignored) same a = sym (alive_same first second c same) ∙ a
+delete_same true first second c (Err NotAlive) same a = sym (alive_same first second c same) ∙ a
+delete_same true first second c (Ok _) same a = absurd a
+delete_same false first second c (Ok _) same a = absurd a
+delete_same true first second c (Err _) same a = absurd a
+delete_same false first second c (Err _) same a = absurd a
+
+pub drat_same : (rules : DratRules) (first second : List Clause) (step : DratStep) (answer : StepAnswer) → SameLive first second → AnswersDrat rules first step answer → AnswersDrat rules second step answer
+drat_same rules first second (add c) answer same a = add_same first second c answer same a
+drat_same rules first second (delete c) answer same a = delete_same rules.strict first second c answer same a

@@ -1,0 +1,128 @@
+-- A map from slots to clauses, whose values are the live clauses.
+use Rattle.std.proofs.Common.{◌≡◌, ℕ, zero, suc, ◌+◌, Bool, true, false, cond, Some, None, List, [], ◌∷◌, map, slice_get, Less, Equal, Greater, refl, sym, ap, ◌∙◌, subst, arith, eqb-true, eq-eqb, T, ◌&&◌, ◌==◌, ◌<◌, ◌↔◌, inl, inr, le-ltb, is_lt}
+use Rattle.std.proofs.lemmas.Option.{none-some}
+use Rattle.std.specs.Ordering.{nat_cmp, eq_by_cmp, is_eq}
+use Rattle.std.specs.FinMap as slots
+use Rattle.std.specs.FinMap.{FinMap, is_sorted, find, put, get-entries, entries-insert, get-insert, get-remove, same_map, nat_cmp-IsAntisymmetric}
+use Rattle.std.specs.FinMap.Entries.{by_order, below_all}
+use Rattle.std.specs.Cmp.{nat_cmp_total, unsigned_tied}
+use Rattle.std.proofs.lemmas.Bool.{cases_Bool, cases_lt, false_from_ne_true}
+use Rattle.cnf_base.specs.Literals.{Literal, Clause, same_clause}
+use Rattle.steps.specs.Theory.Propagation.{Clash, HasRat}
+use Rattle.steps.specs.Drat.{take_off, copies_of, SameLive}
+use Rattle.cnf_base.proofs.SetLemmas.{both_pass, same_itself, same_symm, same_trans}
+use Rattle.steps.proofs.DratLemmas.Copies.{Covers, clash_covers, rat_covers, copies-cons, copies-take_off}
+
+abbrev clauses_in : List (ℕ × Clause) → List Clause
+clauses_in es = map (λ e. e.1) es
+
+copies-put : (e : Clause) (k : ℕ) (c : Clause) (es : List (ℕ × Clause)) → find nat_cmp k es ≡ None → copies_of e (clauses_in (put nat_cmp k c es)) ≡ cond (same_clause e c) 1 0 + copies_of e (clauses_in es)
+copies-put e k c [] absent = copies-cons e c []
+copies-put e k c (x ∷ es) absent =
+    elim (nat_cmp k x.0) as (λ o. nat_cmp k x.0 ≡ o → copies_of e (clauses_in (by_order o ((k, c) ∷ x ∷ es) ((x.0, c) ∷ es) (x ∷ put nat_cmp k c es))) ≡ cond (same_clause e c) 1 0 + copies_of e (clauses_in (x ∷ es))) [
+      | Less ↦ λ p. copies-cons e c (clauses_in (x ∷ es))
+      | Equal ↦ λ p. absurd (none-some x.1 (sym (sym (ap (λ o. cond (is_eq o) (Some x.1) (find nat_cmp k es)) p) ∙ absent)))
+      | Greater ↦ λ p.
+          let rest : find nat_cmp k es ≡ None = sym (ap (λ o. cond (is_eq o) (Some x.1) (find nat_cmp k es)) p) ∙ absent in
+          copies-cons e x.1 (clauses_in (put nat_cmp k c es)) ∙ omega (arith, copies-put e k c es rest, copies-cons e x.1 (clauses_in es))
+    ] refl
+
+-- a clause at a slot that was free is one copy more
+pub slots-insert : (m : FinMap nat_cmp Clause) (k : ℕ) (c : Clause) → slots.get m k ≡ None → SameLive (slots.values (slots.insert m k c)) (c ∷ slots.values m)
+slots-insert m k c absent =
+    record {
+      copies = λ e.
+          ap (λ es. copies_of e (clauses_in es)) (entries-insert nat_cmp_total m k c)
+          ∙ copies-put e k c (slots.entries m) (sym (get-entries m k) ∙ absent)
+          ∙ sym (copies-cons e c (slots.values m));
+    }
+
+pub tied : {k : ℕ} (q : ℕ) → eq_by_cmp nat_cmp q k ≡ true → q ≡ k
+tied {k} q e = eqb-true q k (sym (unsigned_tied q k) ∙ e)
+
+eq_itself : (k : ℕ) → eq_by_cmp nat_cmp k k ≡ true
+eq_itself k = unsigned_tied k k ∙ eq-eqb k k refl
+
+-- a slot that is freed is one copy less
+pub slots-remove : (m : FinMap nat_cmp Clause) (k : ℕ) (c d : Clause) → slots.get m k ≡ Some d → same_clause c d ≡ true → SameLive (slots.values (slots.remove m k)) (take_off c (slots.values m))
+slots-remove m k c d at same =
+    record {
+      copies = λ e.
+          let alike : same_clause e d ≡ same_clause e c = both_pass (same_clause e d) (same_clause e c) (λ h. same_trans e d c h (same_symm c d same)) (λ h. same_trans e c d h same) in
+          let whole : copies_of e (slots.values (slots.insert (slots.remove m k) k d)) ≡ cond (same_clause e d) 1 0 + copies_of e (slots.values (slots.remove m k)) =
+          (slots-insert (slots.remove m k) k d freed).copies e ∙ copies-cons e d (slots.values (slots.remove m k)) in
+          let before : copies_of e (slots.values m) ≡ cond (same_clause e c) 1 0 + copies_of e (slots.values (slots.remove m k)) =
+          ap (λ n. copies_of e (slots.values n)) put_back ∙ whole ∙ ap (λ b. cond b 1 0 + copies_of e (slots.values (slots.remove m k))) alike in
+          omega (arith, before, copies-take_off e c (slots.values m));
+    }
+  where
+    freed : slots.get (slots.remove m k) k ≡ None
+    freed = get-remove nat_cmp_total m k k ∙ ap (λ b. cond b None (slots.get m k)) (eq_itself k)
+
+    by_test : (q : ℕ) (b : Bool) → eq_by_cmp nat_cmp q k ≡ b → cond b (Some d) (cond b None (slots.get m q)) ≡ slots.get m q
+    by_test q true e = sym (ap (slots.get m) (tied q e) ∙ at)
+    by_test q false e = refl
+
+    put_back : m ≡ slots.insert (slots.remove m k) k d
+    put_back = same_map nat_cmp_total nat_cmp-IsAntisymmetric m (slots.insert (slots.remove m k) k d) (λ q. sym (
+        get-insert nat_cmp_total (slots.remove m k) k d q
+        ∙ ap (cond (eq_by_cmp nat_cmp q k) (Some d)) (get-remove nat_cmp_total m k q)
+        ∙ by_test q (eq_by_cmp nat_cmp q k) refl))
+
+-- ---- Looking a slot up, and standing in the list of values
+
+find_listed : (es : List (ℕ × Clause)) (k : ℕ) (c : Clause) → find nat_cmp k es ≡ Some c → (j : ℕ) × (slice_get (clauses_in es) j ≡ Some c)
+find_listed [] k c at = absurd (none-some c at)
+find_listed (x ∷ es) k c at =
+    elim (cases_Bool (eq_by_cmp nat_cmp k x.0)) [
+      | inl e ↦ (zero, sym (ap (λ b. cond b (Some x.1) (find nat_cmp k es)) e) ∙ at)
+      | inr e ↦ let w = find_listed es k c (sym (ap (λ b. cond b (Some x.1) (find nat_cmp k es)) e) ∙ at) in (suc w.0, w.1)
+    ]
+
+above : (x k : ℕ) → T (is_lt (nat_cmp x k)) → x < k
+above x k h =
+    elim (cases_lt x k) [
+      | inl lt ↦ lt
+      | inr le ↦ absurd (not_less (x == k) (subst (λ b. T (is_lt (cond b Less (cond (x == k) Equal Greater)))) (le-ltb x k le) h))
+    ]
+  where
+    not_less : (b : Bool) → T (is_lt (cond b Equal Greater)) → ⊥
+    not_less true t = t
+    not_less false t = t
+
+first_of_both : (a b : Bool) → T (a && b) → T a
+first_of_both true b t = tt
+first_of_both false b t = t
+
+second_of_both : (a b : Bool) → T (a && b) → T b
+second_of_both true b t = t
+second_of_both false b t = absurd t
+
+below_found : (x : ℕ) (es : List (ℕ × Clause)) (k : ℕ) (c : Clause) → T (below_all nat_cmp x es) → find nat_cmp k es ≡ Some c → x < k
+below_found x [] k c below at = absurd (none-some c at)
+below_found x (e ∷ es) k c below at =
+    elim (cases_Bool (eq_by_cmp nat_cmp k e.0)) [
+      | inl same ↦ subst (λ n. x < n) (sym (tied k same)) (above x e.0 (first_of_both (is_lt (nat_cmp x e.0)) (below_all nat_cmp x es) below))
+      | inr other ↦ below_found x es k c (second_of_both (is_lt (nat_cmp x e.0)) (below_all nat_cmp x es) below) (sym (ap (λ b. cond b (Some e.1) (find nat_cmp k es)) other) ∙ at)
+    ]
+
+listed_found : (es : List (ℕ × Clause)) → T (is_sorted nat_cmp es) → (j : ℕ) (c : Clause) → slice_get (clauses_in es) j ≡ Some c → (k : ℕ) × (find nat_cmp k es ≡ Some c)
+listed_found [] sorted j c at = absurd (none-some c at)
+listed_found (x ∷ es) sorted zero c at = (x.0, ap (λ b. cond b (Some x.1) (find nat_cmp x.0 es)) (eq_itself x.0) ∙ at)
+listed_found (x ∷ es) sorted (suc j) c at =
+    let w = listed_found es (second_of_both (below_all nat_cmp x.0 es) (is_sorted nat_cmp es) sorted) j c at in
+    let apart : x.0 < w.0 = below_found x.0 es w.0 c (first_of_both (below_all nat_cmp x.0 es) (is_sorted nat_cmp es) sorted) w.1 in
+    (w.0, ap (λ b. cond b (Some x.1) (find nat_cmp w.0 es)) (false_from_ne_true _ (λ e. absurd (omega (arith, apart, tied w.0 e)))) ∙ w.1)
+
+pub slots_covered : (m : FinMap nat_cmp Clause) → Covers (slots.get m) (slice_get (slots.values m))
+slots_covered m k c at = let w = find_listed (slots.entries m) k c (sym (get-entries m k) ∙ at) in (w.0, c, w.1, same_itself c)
+
+pub covered_by_slots : (m : FinMap nat_cmp Clause) → Covers (slice_get (slots.values m)) (slots.get m)
+covered_by_slots m j c at = let w = listed_found (slots.entries m) (slots.entries_sorted m) j c at in (w.0, c, get-entries m w.0 ∙ w.1, same_itself c)
+
+-- propagation and RAT over the slots are those over the list of values
+pub slots-clash : (m : FinMap nat_cmp Clause) (assumed : List Literal) → Clash (slots.get m) assumed ↔ Clash (slice_get (slots.values m)) assumed
+slots-clash m assumed = (clash_covers _ _ (slots_covered m) assumed, clash_covers _ _ (covered_by_slots m) assumed)
+
+pub slots-rat : (m : FinMap nat_cmp Clause) (c : Clause) (pivot : Literal) → HasRat (slots.get m) c pivot ↔ HasRat (slice_get (slots.values m)) c pivot
+slots-rat m c pivot = (rat_covers _ _ (slots_covered m) (covered_by_slots m) c pivot, rat_covers _ _ (covered_by_slots m) (slots_covered m) c pivot)

@@ -1,0 +1,17 @@
+pub mod Chains
+pub mod Deletions
+pub mod Different
+pub mod Ending
+pub mod Groups
+pub mod Hints
+pub mod Holds
+pub mod LiveSets
+pub mod Remaining
+pub mod Rooms
+pub mod SameSets
+pub mod Sessions
+pub mod Shelf
+pub mod Starts
+pub mod Steps
+pub mod Sums
+pub mod Walks

@@ -1,0 +1,175 @@
+-- Groups of hints, one at a time.
+use Rattle.std.proofs.Common.{◌≡◌, ℕ, ◌+◌, ◌<◌, Bool, true, false, not, ◌||◌, ◌&&◌, Ok, Err, cond, eqb, eqb-true, inl, inr, Option, Some, None, is_some, option_map, subst, List, [], ◌∷◌, ◌++◌, length, get_or, take, drop, refl, sym, ap, ◌∙◌, ℤ, pos, nat_abs, w64}
+use lib.Signed.{lt_z}
+use mir.Val.{SFits}
+use Rattle.std.specs.Bool.{then_some}
+use Rattle.std.specs.Option.{option_or}
+use Rattle.std.specs.Option.{IfNone}
+use Rattle.std.proofs.lemmas.Bool.{false≢true, true≢false, or_cases}
+use Rattle.std.proofs.lemmas.List.Folds.{list_any-append}
+use Rattle.steps.specs.declared.theory.refusal.Refusal.{Refusal}
+use Rattle.steps.specs.declared.theory.refusal.Refusal.TheVariants.{UnknownId, NotUnit, NotCandidate, NamedTwice, GroupWithoutConflict, Unnamed}
+use Rattle.steps.specs.declared.theory.accepted.Accepted.TheVariants.{Rat}
+use Rattle.steps.specs.declared.lrat.walk.WalkEnd.{WalkEnd}
+use Rattle.steps.specs.declared.lrat.walk.WalkEnd.TheVariants.{Conflict, Open, UnknownId as EndUnknown, NotUnit as EndNotUnit}
+use Rattle.cnf_base.specs.Literals.{Literal, complement, Clause, has, complements, without}
+use Rattle.steps.specs.Theory.Propagation.{Live}
+use Rattle.steps.specs.Lrat.{ChainEnd, conflict, open_with, unknown, not_unit, look_at, chain, Group, with_candidate, chain_refusal, group_refusal, groups_refusal, units_of, groups_of, is_unsettled, is_left_out, AnswersGroups}
+use Rattle.clause_db.specs.Propagation.Trail.{conflicts, SameSet}
+use Rattle.clause_db.specs.Propagation.Left.{open_literals, how_many}
+use Rattle.steps.specs.Lrat.Shelf.{Holds}
+use Rattle.steps.specs.Lrat.Walk.{IsEnd, refusal_at}
+use Rattle.steps.specs.Lrat.Groups.{named_in, IsGroupEnd, is_unnamed, IsFirstLeftOut}
+use Rattle.steps.proofs.LratLemmas.SameSets.{same_set_more}
+use Rattle.steps.proofs.LratLemmas.Walks.{chain_same}
+use Rattle.steps.proofs.LratLemmas.Hints.{read, groups_skip, groups_more, named_skip, named_more, any_named}
+
+refusal_at_is : (r : Refusal) (trues : List Literal) (walked : WalkEnd) (end : ChainEnd) → IsEnd trues walked end → refusal_at r walked ≡ chain_refusal r end
+refusal_at_is r trues Conflict conflict h = refl
+refusal_at_is r trues Open (open_with ls) h = refl
+refusal_at_is r trues (EndUnknown j) (unknown k) h = ap (λ x. Some (UnknownId x)) h
+refusal_at_is r trues (EndNotUnit j) (not_unit k) h = ap (λ x. Some (NotUnit x)) h
+refusal_at_is r trues Conflict _ h = absurd h
+refusal_at_is r trues Open _ h = absurd h
+refusal_at_is r trues (EndUnknown j) _ h = absurd h
+refusal_at_is r trues (EndNotUnit j) _ h = absurd h
+
+-- what a test of a clause in code says
+pub tested : (b : Bool) (ls items : List Literal) (n pivot : Literal) → b ≡ has ls n → ls ≡ items → n ≡ complement pivot → has items (complement pivot) ≡ b
+tested b ls items n pivot test items_are n_is = sym (test ∙ ap (λ xs. has xs n) items_are ∙ ap (has items) n_is)
+
+-- ---- One group
+
+module _ (live : Live) (ls : List Literal) (pivot : Literal) (earlier : List ℕ) (k : ℕ) (hints : List ℕ) (c : Clause) (at : live k ≡ Some c) where
+  group_is : (member named : Bool) → has c (complement pivot) ≡ member → has earlier k ≡ named →
+      group_refusal live ls pivot earlier (record { candidate = k; hints = hints }) (live k)
+      ≡ option_or (then_some (not member) (NotCandidate k)) (option_or (then_some named (NamedTwice k)) (chain_refusal (GroupWithoutConflict k) (chain live (with_candidate ls c pivot) hints)))
+  group_is member named e f =
+      ap (group_refusal live ls pivot earlier (record { candidate = k; hints = hints })) at
+      ∙ ap (λ t. option_or (then_some (not t) (NotCandidate k)) (option_or (then_some (has earlier k) (NamedTwice k)) (chain_refusal (GroupWithoutConflict k) (chain live (with_candidate ls c pivot) hints)))) e
+      ∙ ap (λ t. option_or (then_some (not member) (NotCandidate k)) (option_or (then_some t (NamedTwice k)) (chain_refusal (GroupWithoutConflict k) (chain live (with_candidate ls c pivot) hints)))) f
+
+  pub group_not_candidate : has c (complement pivot) ≡ false → Some (NotCandidate k) ≡ group_refusal live ls pivot earlier (record { candidate = k; hints = hints }) (live k)
+  group_not_candidate e = sym (group_is false _ e refl)
+
+  pub group_named_twice : has c (complement pivot) ≡ true → has earlier k ≡ true → Some (NamedTwice k) ≡ group_refusal live ls pivot earlier (record { candidate = k; hints = hints }) (live k)
+  group_named_twice e f = sym (group_is true true e f)
+
+  pub group_walked : has c (complement pivot) ≡ true → has earlier k ≡ false → (opposite : Literal) → opposite ≡ complement pivot → (walked : WalkEnd) (refusal : Option Refusal) →
+      refusal ≡ refusal_at (GroupWithoutConflict k) walked → IsGroupEnd live ls c opposite hints walked →
+      refusal ≡ group_refusal live ls pivot earlier (record { candidate = k; hints = hints }) (live k)
+  group_walked e f opposite opposite_is walked refusal is end =
+      is ∙ refusal_at_is (GroupWithoutConflict k) end.trues walked (chain live (ls ++ complements (without c opposite)) hints) end.is
+      ∙ ap (λ m. chain_refusal (GroupWithoutConflict k) (chain live (ls ++ complements (without c m)) hints)) opposite_is
+      ∙ sym (group_is true false e f)
+
+-- the walk over a group's hints, from literals that conflict, or that do not
+pub chain_conflict : (live : Live) (ls : List Literal) (hints : List ℕ) → conflicts ls ≡ true → chain live ls hints ≡ conflict
+chain_conflict live ls [] h = ap (λ b. cond b conflict (open_with ls)) h
+chain_conflict live ls (k ∷ hints) h = ap (λ b. cond b conflict (look_at k (option_map (λ c. how_many (open_literals ls c)) (live k)) (λ l. chain live (l ∷ ls) hints))) h
+
+module _ (live : Live) (ls : List Literal) (c : Clause) (opposite : Literal) (hints : List ℕ) where
+  pub group_conflicts : conflicts (ls ++ complements (without c opposite)) ≡ true → (end : WalkEnd) → end ≡ Conflict → IsGroupEnd live ls c opposite hints end
+  group_conflicts h end end_is = record {
+    trues = [];
+    is = subst (λ w. IsEnd [] w (chain live (ls ++ complements (without c opposite)) hints)) (sym end_is) (subst (IsEnd [] Conflict) (sym (chain_conflict live (ls ++ complements (without c opposite)) hints h)) tt);
+  }
+
+  pub group_walks : (start trues : List Literal) → SameSet start (ls ++ complements (without c opposite)) → (walked end : WalkEnd) → IsEnd trues walked (chain live start hints) → end ≡ walked → IsGroupEnd live ls c opposite hints end
+  group_walks start trues same walked end h end_is = record {
+    trues = trues;
+    is = subst (λ w. IsEnd trues w (chain live (ls ++ complements (without c opposite)) hints)) (sym end_is) (chain_same live hints start (ls ++ complements (without c opposite)) same trues walked h);
+  }
+
+-- ---- The groups in their order
+
+module _ (live : Live) (ls : List Literal) (pivot : Literal) where
+  group_earlier : (group : Group) (o : Option Clause) (first second : List ℕ) → SameSet first second → group_refusal live ls pivot first group o ≡ group_refusal live ls pivot second group o
+  group_earlier group None first second same = refl
+  group_earlier group (Some c) first second same =
+      ap (λ t. option_or (then_some (not (has c (complement pivot))) (NotCandidate group.candidate)) (option_or (then_some t (NamedTwice group.candidate))
+      (chain_refusal (GroupWithoutConflict group.candidate) (chain live (with_candidate ls c pivot) group.hints)))) (same group.candidate)
+
+  groups_earlier : (groups : List Group) (first second : List ℕ) → SameSet first second → groups_refusal live ls pivot first groups ≡ groups_refusal live ls pivot second groups
+  groups_earlier [] first second same = refl
+  groups_earlier (group ∷ groups) first second same =
+      ap (λ o. option_or o (groups_refusal live ls pivot (group.candidate ∷ first) groups)) (group_earlier group (live group.candidate) first second same)
+      ∙ ap (option_or (group_refusal live ls pivot second group (live group.candidate))) (groups_earlier groups (group.candidate ∷ first) (group.candidate ∷ second) (same_set_more first second group.candidate same))
+
+  module _ (hints : List ℤ) (i : ℕ) (inside : i < length hints) (fits : SFits w64 (get_or hints i (pos 0))) (named : List ℕ) (all : Option Refusal)
+      (so_far : groups_refusal live ls pivot named (groups_of (drop i hints)) ≡ all) where
+    pub groups_pass_over : lt_z (read hints i) (pos 0) ≡ false → groups_refusal live ls pivot named (groups_of (drop (i + 1) hints)) ≡ all
+    groups_pass_over test = ap (groups_refusal live ls pivot named) (sym (groups_skip hints i inside fits test)) ∙ so_far
+
+    module _ (k : ℕ) (test : lt_z (read hints i) (pos 0) ≡ true) (k_is : k ≡ nat_abs (read hints i)) (rest : List ℤ) (rest_is : rest ≡ drop (i + 1) hints)
+        (refusal : Option Refusal) (is : refusal ≡ group_refusal live ls pivot named (record { candidate = k; hints = units_of rest }) (live k)) where
+      unroll : option_or refusal (groups_refusal live ls pivot (k ∷ named) (groups_of (drop (i + 1) hints))) ≡ all
+      unroll =
+          ap (λ o. option_or o (groups_refusal live ls pivot (k ∷ named) (groups_of (drop (i + 1) hints))))
+          (is ∙ ap (λ r. group_refusal live ls pivot named (record { candidate = k; hints = units_of r }) (live k)) rest_is)
+          ∙ ap (groups_refusal live ls pivot named) (sym (groups_more hints i inside fits k test k_is))
+          ∙ so_far
+
+      pub groups_stop : is_some refusal ≡ true → refusal ≡ all
+      groups_stop h = sym (first_wins refusal _ h) ∙ unroll
+        where
+          first_wins : (o p : Option Refusal) → is_some o ≡ true → option_or o p ≡ o
+          first_wins None p h = absurd (false≢true h)
+          first_wins (Some r) p h = refl
+
+      pub groups_go_on : is_some refusal ≡ false → (after : List ℕ) → ((j : ℕ) → has after j ≡ has named j || eqb k j) → groups_refusal live ls pivot after (groups_of (drop (i + 1) hints)) ≡ all
+      groups_go_on h after more =
+          groups_earlier (groups_of (drop (i + 1) hints)) after (k ∷ named) (λ j. more j ∙ or-comm (has named j) (eqb k j))
+          ∙ sym (second_wins refusal _ h)
+          ∙ unroll
+        where
+          second_wins : (o p : Option Refusal) → is_some o ≡ false → option_or o p ≡ p
+          second_wins None p h = refl
+          second_wins (Some r) p h = absurd (true≢false h)
+
+          or-comm : (a b : Bool) → a || b ≡ b || a
+          or-comm true true = refl
+          or-comm true false = refl
+          or-comm false true = refl
+          or-comm false false = refl
+
+-- ---- The candidates that were named
+
+module _ (hints : List ℤ) (i : ℕ) (inside : i < length hints) (fits : SFits w64 (get_or hints i (pos 0))) (named : List ℕ) (same : SameSet named (named_in (take i hints))) where
+  pub named_kept : lt_z (read hints i) (pos 0) ≡ false → SameSet named (named_in (take (i + 1) hints))
+  named_kept test j = same j ∙ ap (λ ks. has ks j) (sym (named_skip hints i inside fits test))
+
+  pub named_grows : (k : ℕ) → lt_z (read hints i) (pos 0) ≡ true → k ≡ nat_abs (read hints i) → (after : List ℕ) → ((j : ℕ) → has after j ≡ has named j || eqb k j) → SameSet after (named_in (take (i + 1) hints))
+  named_grows k test k_is after more j =
+      more j ∙ ap (λ b. b || eqb k j) (same j) ∙ sym (ap (λ ks. has ks j) (named_more hints i inside fits k test k_is) ∙ list_any-append (λ m. eqb m j) (named_in (take i hints)) (k ∷ []) ∙ last (has (named_in (take i hints)) j) (eqb k j))
+    where
+      last : (a b : Bool) → a || (b || false) ≡ a || b
+      last a true = refl
+      last a false = refl
+
+pub when_none : {X : Type 0} (o : Option X) (P : Type 0) → is_some o ≡ false → IfNone o P → P
+when_none None P e h = h
+when_none (Some x) P e h = absurd (true≢false e)
+
+pub held_grow : (live : Live) (l : Literal) (named after : List ℕ) (k : ℕ) → ((j : ℕ) → has after j ≡ has named j || eqb k j) → ((j : ℕ) → has named j ≡ true → Holds live l j) → Holds live l k → (j : ℕ) → has after j ≡ true → Holds live l j
+held_grow live l named after k more hold new j member = elim (or_cases (has named j) (eqb k j) (sym (more j) ∙ member)) [
+  | inl old ↦ hold j old
+  | inr e ↦ subst (Holds live l) (eqb-true k j e) new
+]
+
+-- a candidate that no group names, by the list of those that are named
+pub unnamed_is : (live : Live) (ls : List Literal) (pivot : Literal) (named : List ℕ) (hints : List ℤ) → SameSet named (named_in hints) → (k : ℕ) → is_unnamed live ls pivot named k ≡ is_left_out live ls pivot (groups_of hints) k
+unnamed_is live ls pivot named hints same k = ap (λ b. not b && is_unsettled ls pivot (live k)) (same k ∙ any_named k (groups_of hints))
+
+-- the answer after the groups
+module _ (live : Live) (ls : List Literal) (pivot : Literal) (named : List ℕ) (hints : List ℤ) (same : SameSet named (named_in hints)) (refusal : Option Refusal) (none : None ≡ refusal) where
+  pub answers_unnamed : (id : ℕ) → IsFirstLeftOut live ls pivot named (Some id) → AnswersGroups live ls pivot (groups_of hints) refusal (Err (Unnamed id))
+  answers_unnamed id first =
+      subst (λ r. AnswersGroups live ls pivot (groups_of hints) r (Err (Unnamed id))) none
+      (sym (unnamed_is live ls pivot named hints same id) ∙ first.0, λ j below. sym (unnamed_is live ls pivot named hints same j) ∙ first.1 j below)
+
+  pub answers_rat : IsFirstLeftOut live ls pivot named None → AnswersGroups live ls pivot (groups_of hints) refusal (Ok Rat)
+  answers_rat all = subst (λ r. AnswersGroups live ls pivot (groups_of hints) r (Ok Rat)) none (λ k. sym (unnamed_is live ls pivot named hints same k) ∙ all k)
+
+pub if_none : {X : Type 0} (o : Option X) (P : Type 0) → o ≡ None → IfNone o P → P
+if_none {X} o P e h = subst (λ (o : Option X). IfNone o P) e h

@@ -1,0 +1,70 @@
+-- Signed hints as they are read in code.
+use Rattle.std.proofs.Common.{◌≡◌, ℕ, suc, ◌+◌, ◌<◌, true, false, ◌||◌, eqb, List, [], ◌∷◌, ◌++◌, length, get_or, take, drop, refl, sym, ap, ◌∙◌, ℤ, pos, negsuc, nat_abs, to_z, of_z, w64, map, arith, ltb-true, append-nil}
+use lib.Signed.{lt_z}
+use mir.Val.{SFits}
+use Rattle.std.specs.List.{list_any}
+use Rattle.std.proofs.lemmas.Bool.{true≢false}
+use Rattle.std.proofs.lemmas.Int.{to_z-of_z}
+use Rattle.std.proofs.lemmas.List.{drop_more, take_more}
+use Rattle.cnf_base.specs.Literals.{has}
+use Rattle.steps.specs.Lrat.{Group, units_of, groups_of}
+use Rattle.steps.specs.Lrat.Groups.{named_in}
+
+not_below : (n : ℕ) → lt_z (pos n) (pos 0) ≡ true → ⊥
+not_below n h = let e : n < 0 = ltb-true n 0 h in let bad : ⊥ = omega arith in bad
+
+named_append : (xs ys : List ℤ) → named_in (xs ++ ys) ≡ named_in xs ++ named_in ys
+named_append [] ys = refl
+named_append (pos k ∷ xs) ys = named_append xs ys
+named_append (negsuc k ∷ xs) ys = ap (λ ks. suc k ∷ ks) (named_append xs ys)
+
+pub any_named : (k : ℕ) (groups : List Group) → has (map (λ group. group.candidate) groups) k ≡ list_any (λ group. eqb group.candidate k) groups
+any_named k [] = refl
+any_named k (group ∷ groups) = ap (λ b. eqb group.candidate k || b) (any_named k groups)
+
+-- the hint that is read at the place i
+abbrev pub read : List ℤ → ℕ → ℤ
+read hints i = to_z w64 (of_z w64 (get_or hints i (pos 0)))
+
+not_negative : (x : ℤ) → lt_z x (pos 0) ≡ false → x ≡ pos (nat_abs x)
+not_negative (pos n) h = refl
+not_negative (negsuc n) h = absurd (true≢false h)
+
+module _ (hints : List ℤ) (i : ℕ) (inside : i < length hints) (fits : SFits w64 (get_or hints i (pos 0))) where
+  read_is : read hints i ≡ get_or hints i (pos 0)
+  read_is = to_z-of_z w64 (get_or hints i (pos 0)) fits
+
+  drop_read : drop i hints ≡ read hints i ∷ drop (i + 1) hints
+  drop_read = drop_more hints i (pos 0) inside ∙ ap (λ x. x ∷ drop (i + 1) hints) (sym read_is)
+
+  pub units_more : (k : ℕ) → lt_z (read hints i) (pos 0) ≡ false → k ≡ nat_abs (read hints i) → units_of (drop i hints) ≡ k ∷ units_of (drop (i + 1) hints)
+  units_more k test e = ap units_of (drop_read ∙ ap (λ x. x ∷ drop (i + 1) hints) (not_negative (read hints i) test ∙ ap pos (sym e)))
+
+  pub groups_skip : lt_z (read hints i) (pos 0) ≡ false → groups_of (drop i hints) ≡ groups_of (drop (i + 1) hints)
+  groups_skip test = ap groups_of (drop_read ∙ ap (λ x. x ∷ drop (i + 1) hints) (not_negative (read hints i) test))
+
+  pub groups_more : (k : ℕ) → lt_z (read hints i) (pos 0) ≡ true → k ≡ nat_abs (read hints i) →
+      groups_of (drop i hints) ≡ record { candidate = k; hints = units_of (drop (i + 1) hints) } ∷ groups_of (drop (i + 1) hints)
+  groups_more k test e = ap groups_of drop_read ∙ by_sign (read hints i) test e
+    where
+      by_sign : (x : ℤ) → lt_z x (pos 0) ≡ true → k ≡ nat_abs x → groups_of (x ∷ drop (i + 1) hints) ≡ record { candidate = k; hints = units_of (drop (i + 1) hints) } ∷ groups_of (drop (i + 1) hints)
+      by_sign (pos n) h e = absurd (not_below n h)
+      by_sign (negsuc n) h e = ap (λ j. record { candidate = j; hints = units_of (drop (i + 1) hints) } ∷ groups_of (drop (i + 1) hints)) (sym e)
+
+  pub abs_more : (k : ℕ) → k ≡ nat_abs (read hints i) → map nat_abs (drop i hints) ≡ k ∷ map nat_abs (drop (i + 1) hints)
+  abs_more k e = ap (map nat_abs) drop_read ∙ ap (λ j. j ∷ map nat_abs (drop (i + 1) hints)) (sym e)
+
+  named_last : named_in (take (i + 1) hints) ≡ named_in (take i hints) ++ named_in (read hints i ∷ [])
+  named_last =
+      ap named_in (take_more hints i (pos 0) inside ∙ ap (λ x. take i hints ++ x ∷ []) (sym read_is))
+      ∙ named_append (take i hints) (read hints i ∷ [])
+
+  pub named_skip : lt_z (read hints i) (pos 0) ≡ false → named_in (take (i + 1) hints) ≡ named_in (take i hints)
+  named_skip test = named_last ∙ ap (λ x. named_in (take i hints) ++ named_in (x ∷ [])) (not_negative (read hints i) test) ∙ append-nil _
+
+  pub named_more : (k : ℕ) → lt_z (read hints i) (pos 0) ≡ true → k ≡ nat_abs (read hints i) → named_in (take (i + 1) hints) ≡ named_in (take i hints) ++ k ∷ []
+  named_more k test e = named_last ∙ ap (λ ks. named_in (take i hints) ++ ks) (by_sign (read hints i) test e)
+    where
+      by_sign : (x : ℤ) → lt_z x (pos 0) ≡ true → k ≡ nat_abs x → named_in (x ∷ []) ≡ k ∷ []
+      by_sign (pos n) h e = absurd (not_below n h)
+      by_sign (negsuc n) h e = ap (λ j. j ∷ []) (sym e)

@@ -1,0 +1,93 @@
+-- A walk depends on the set of true literals alone, and goes on hint by hint.
+use Rattle.std.proofs.Common.{◌≡◌, ℕ, true, false, not, cond, Option, Some, None, option_map, List, [], ◌∷◌, ◌++◌, refl, sym, ap, ◌∙◌, subst, inl, inr}
+use Rattle.std.proofs.lemmas.Bool.{false≢true}
+use Rattle.std.proofs.lemmas.List.Elements.{filter_agree}
+use Rattle.clause_db.specs.declared.propagation.left.Left.{Left}
+use Rattle.clause_db.specs.declared.propagation.left.Left.TheVariants.{Nothing, One, More}
+use Rattle.cnf_base.specs.Literals.{Literal, complement, Clause, has}
+use Rattle.steps.specs.Theory.Propagation.{Live}
+use Rattle.steps.specs.Lrat.{ChainEnd, conflict, open_with, look_at, chain}
+use Rattle.clause_db.specs.Propagation.Trail.{conflicts, SameSet}
+use Rattle.clause_db.specs.Propagation.Left.{open_literals, how_many}
+use Rattle.cnf_base.proofs.SetLemmas.{both_pass, has_head, has_tail, has_cases, has_append_left, has_append_right, has_append_cases}
+use Rattle.steps.proofs.LratLemmas.SameSets.{same_set_more}
+use Rattle.clause_db.proofs.PropagationLemmas.MakesFalse.{conflicts_same}
+use Rattle.steps.specs.declared.lrat.walk.WalkEnd.{WalkEnd}
+use Rattle.steps.specs.declared.lrat.walk.WalkEnd.TheVariants.{Conflict, Open, UnknownId, NotUnit}
+use Rattle.steps.specs.Lrat.Walk.{IsEnd}
+
+pub same_set_push : (ls : List Literal) (m : Literal) → SameSet (ls ++ m ∷ []) (m ∷ ls)
+same_set_push ls m l =
+    both_pass (has (ls ++ m ∷ []) l) (has (m ∷ ls) l)
+    (λ h. elim (has_append_cases ls (m ∷ []) l h) [
+      | inl g ↦ has_tail m ls l g
+      | inr g ↦ elim (has_cases m [] l g) [ inl e ↦ subst (λ x. has (m ∷ ls) x ≡ true) e (has_head m ls) | inr absent ↦ absurd (false≢true absent) ]
+    ])
+    (λ h. elim (has_cases m ls l h) [
+      | inl e ↦ has_append_right ls (m ∷ []) l (subst (λ x. has (m ∷ []) x ≡ true) e (has_head m []))
+      | inr g ↦ has_append_left ls (m ∷ []) l g
+    ])
+
+pub same_set_old : (ls : List Literal) (m : Literal) → has ls m ≡ true → SameSet ls (m ∷ ls)
+same_set_old ls m member l =
+    both_pass (has ls l) (has (m ∷ ls) l) (has_tail m ls l)
+    (λ h. elim (has_cases m ls l h) [ inl e ↦ subst (λ x. has ls x ≡ true) e member | inr g ↦ g ])
+
+open_same : (first second : List Literal) (c : Clause) → SameSet first second → open_literals first c ≡ open_literals second c
+open_same first second c same = filter_agree (λ l. not (has first (complement l))) (λ l. not (has second (complement l))) (λ l. ap not (same (complement l))) c
+
+-- who ends as the first walk ends as the second
+abbrev pub Gives : ChainEnd → ChainEnd → Type 0
+Gives first second = (trues : List Literal) (end : WalkEnd) → IsEnd trues end first → IsEnd trues end second
+
+gives_look : (k : ℕ) (o : Option Left) (first second : Literal → ChainEnd) → ((l : Literal) → Gives (first l) (second l)) → Gives (look_at k o first) (look_at k o second)
+gives_look k None first second each trues end h = h
+gives_look k (Some Nothing) first second each trues end h = h
+gives_look k (Some (One l)) first second each trues end h = each l trues end h
+gives_look k (Some More) first second each trues end h = h
+
+gives_open : (first second : List Literal) → SameSet first second → Gives (open_with first) (open_with second)
+gives_open first second same trues Open h = λ l. h l ∙ same l
+gives_open first second same trues Conflict h = h
+gives_open first second same trues (UnknownId j) h = h
+gives_open first second same trues (NotUnit j) h = h
+
+-- a walk depends on the set alone
+pub chain_same : (live : Live) (hints : List ℕ) (first second : List Literal) → SameSet first second → Gives (chain live first hints) (chain live second hints)
+chain_same live [] first second same =
+    subst (λ b. Gives (chain live first []) (cond b conflict (open_with second))) (conflicts_same first second same)
+    (elim (conflicts first) as (λ b. Gives (cond b conflict (open_with first)) (cond b conflict (open_with second))) [
+      | true ↦ λ trues end h. h
+      | false ↦ gives_open first second same
+    ])
+chain_same live (k ∷ hints) first second same =
+    let look_first : Option Left = option_map (λ c. how_many (open_literals first c)) (live k) in
+    let look_second : Option Left = option_map (λ c. how_many (open_literals second c)) (live k) in
+    let on_first : Literal → ChainEnd = λ l. chain live (l ∷ first) hints in
+    let on_second : Literal → ChainEnd = λ l. chain live (l ∷ second) hints in
+    let looks : look_first ≡ look_second = ap (λ (f : Clause → Left). option_map f (live k)) (λ i c. how_many (open_same first second c same i)) in
+    subst (λ b. Gives (chain live first (k ∷ hints)) (cond b conflict (look_at k look_second on_second))) (conflicts_same first second same)
+    (elim (conflicts first) as (λ b. Gives (cond b conflict (look_at k look_first on_first)) (cond b conflict (look_at k look_second on_second))) [
+      | true ↦ λ trues end h. h
+      | false ↦ subst (λ o. Gives (look_at k look_first on_first) (look_at k o on_second)) looks
+          (gives_look k look_first on_first on_second (λ l. chain_same live hints (l ∷ first) (l ∷ second) (same_set_more first second l same)))
+    ])
+
+-- ---- One hint
+
+-- a walk whose next hint is k
+module _ (live : Live) (ls : List Literal) (left more : List ℕ) (k : ℕ) (left_is : left ≡ k ∷ more) (end : ChainEnd) (so_far : Gives (chain live ls left) end) (quiet : conflicts ls ≡ false) (c : Clause) (at : live k ≡ Some c) where
+  next : (o : Left) → how_many (open_literals ls c) ≡ o → chain live ls left ≡ look_at k (Some o) (λ l. chain live (l ∷ ls) more)
+  next o e =
+      ap (chain live ls) left_is
+      ∙ ap (λ b. cond b conflict (look_at k (option_map (λ c. how_many (open_literals ls c)) (live k)) (λ l. chain live (l ∷ ls) more))) quiet
+      ∙ ap (λ o. look_at k o (λ l. chain live (l ∷ ls) more)) (ap (option_map (λ c. how_many (open_literals ls c))) at ∙ ap Some e)
+
+  pub walk_nothing : (trues : List Literal) → Nothing ≡ how_many (open_literals ls c) → IsEnd trues Conflict end
+  walk_nothing trues e = so_far trues Conflict (subst (IsEnd trues Conflict) (sym (next Nothing (sym e))) tt)
+
+  pub walk_more : (trues : List Literal) → More ≡ how_many (open_literals ls c) → IsEnd trues (NotUnit k) end
+  walk_more trues e = so_far trues (NotUnit k) (subst (IsEnd trues (NotUnit k)) (sym (next More (sym e))) refl)
+
+  pub walk_one : (m : Literal) → One m ≡ how_many (open_literals ls c) → (after : List Literal) → SameSet after (m ∷ ls) → Gives (chain live after more) end
+  walk_one m e after same trues w g = so_far trues w (subst (IsEnd trues w) (sym (next (One m) (sym e))) (chain_same live more after (m ∷ ls) same trues w g))

@@ -1,0 +1,9 @@
+pub mod Deciding
+pub mod Existence
+pub mod Keeping
+pub mod Rules
+pub mod Scans
+pub mod Sizes
+pub mod Truth
+pub mod Uniqueness
+pub mod Verdicts

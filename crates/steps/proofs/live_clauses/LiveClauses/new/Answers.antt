@@ -1,8 +1,0 @@
-use Rattle.steps.proofs.Shelves.{start_invariant, start_view}
-use Rattle.steps.proofs.live_clauses.LiveClauses.new.Goals as goal
-
-pub invariant_of-result : goal.invariant_of-result
-invariant_of-result c = start_invariant c.in_ok-ids.ids c.in_ok-store.store c.in_ok-ids.ensures c.in_ok-store.ensures
-
-pub returns : goal.returns
-returns c = λ i. record { live = start_view c.in_ok-ids.ids c.in_ok-store.store c.in_ok-ids.ensures i; top = 0 }

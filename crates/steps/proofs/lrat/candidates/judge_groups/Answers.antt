@@ -1,0 +1,42 @@
+use Rattle.std.proofs.Common.{◌≡◌, ℕ, ◌+◌, ◌<◌, ◌||◌, eqb, true, drop, length, refl, sym, ap, ◌∙◌, subst, arith, rules}
+use Rattle.std.specs.FinMap as maps
+use Rattle.std.proofs.lemmas.List.{take_rest}
+use Rattle.cnf_base.specs.Literals.{has}
+use Rattle.steps.specs.Lrat.{group_refusal, groups_refusal, groups_of, units_of}
+use Rattle.steps.proofs.LratLemmas.Groups.{groups_pass_over, groups_go_on, named_kept, named_grows, when_none, held_grow}
+use Rattle.steps.proofs.lrat.candidates.judge_groups.Goals as goal
+use Rattle.steps.proofs.lrat.candidates.judge_groups.Goals.{then-hint-lt0+in_ok-refusal+else-is_some, else-hint-lt0}
+
+pub loop-i-preserved : goal.loop-i-preserved
+loop-i-preserved c =
+    let live = maps.get c.args.live.now.live in
+    let hints = c.args.hints.now in
+    let i = c.loop-i.i in
+    let named = c.loop-i.named in
+    let after = c.if-hint-lt0.named in
+    let inside : i < length hints = omega arith in
+    elim c.if-hint-lt0.branch [
+      | then-hint-lt0+in_ok-refusal+else-is_some w ↦
+          let k = w.unsigned_abs.result in
+          let refusal = w.in_ok-refusal.refusal in
+          let none = sym w.is_some.ensures ∙ w.if-is_some.false in
+          let more : (j : ℕ) → has after j ≡ has named j || eqb k j = λ j. ap (λ n. has n j) w.named-is ∙ when_none refusal _ none w.in_ok-refusal.ensures.named j in
+          let is = w.in_ok-refusal.ensures.refusal ∙ ap (λ r. group_refusal live c.loop-i.trues.lits c.args.pivot named (record { candidate = k; hints = units_of r }) (live k)) (take_rest hints (i + 1)) ∙ ap (λ ls. group_refusal live ls c.args.pivot named (record { candidate = k; hints = units_of (drop (i + 1) hints) }) (live k)) c.loop-i.invariant.lits in
+          record {
+            refusal = groups_go_on live c.args.trues.now.lits c.args.pivot hints i inside (search rules) named _ c.loop-i.invariant.refusal k w.if-hint-lt0.true w.unsigned_abs.ensures.value (drop (i + 1) hints) refl refusal is none after more;
+            named = named_grows hints i inside (search rules) named c.loop-i.invariant.named k w.if-hint-lt0.true w.unsigned_abs.ensures.value after more;
+            hold = held_grow live _ named after k more c.loop-i.invariant.hold (when_none refusal _ none w.in_ok-refusal.ensures.holds);
+            lits = ap (λ t. t.lits) w.trues-is ∙ w.in_ok-refusal.ensures.lits ∙ c.loop-i.invariant.lits;
+            met = λ v. ap (λ t. has t.met v) w.trues-is ∙ w.in_ok-refusal.ensures.met v ∙ c.loop-i.invariant.met v;
+          }
+      | else-hint-lt0 w ↦
+          record {
+            refusal =
+                ap (λ n. groups_refusal live c.args.trues.now.lits c.args.pivot n (groups_of (drop (i + 1) hints))) w.named-is
+                ∙ groups_pass_over live c.args.trues.now.lits c.args.pivot hints i inside (search rules) named _ c.loop-i.invariant.refusal w.if-hint-lt0.false;
+            named = λ j. ap (λ n. has n j) w.named-is ∙ named_kept hints i inside (search rules) named c.loop-i.invariant.named w.if-hint-lt0.false j;
+            hold = λ k member. c.loop-i.invariant.hold k (subst (λ n. has n k ≡ true) w.named-is member);
+            lits = ap (λ t. t.lits) w.trues-is ∙ c.loop-i.invariant.lits;
+            met = λ v. ap (λ t. has t.met v) w.trues-is ∙ c.loop-i.invariant.met v;
+          }
+    ]

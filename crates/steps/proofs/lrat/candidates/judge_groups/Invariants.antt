@@ -1,0 +1,17 @@
+use Rattle.std.proofs.Common.{◌≡◌, ℕ, true, [], take, drop}
+use Rattle.std.specs.FinMap as maps
+use Rattle.cnf_base.specs.Literals.{complement, has}
+use Rattle.steps.specs.Lrat.{groups_refusal, groups_of}
+use Rattle.steps.specs.Lrat.Shelf.{Holds}
+use Rattle.steps.specs.Lrat.Groups.{named_in}
+use Rattle.clause_db.specs.Propagation.Trail.{SameSet}
+use Rattle.steps.proofs.lrat.candidates.judge_groups.Given as goal
+
+abbrev pub invariant-loop-i : goal.invariant-loop-i
+invariant-loop-i l = record {
+  refusal : groups_refusal (maps.get l.live.live) l.fn.trues.lits l.fn.pivot l.named (groups_of (drop l.i l.hints)) ≡ groups_refusal (maps.get l.live.live) l.fn.trues.lits l.fn.pivot [] (groups_of l.hints);
+  named : SameSet l.named (named_in (take l.i l.hints));
+  hold : (k : ℕ) → has l.named k ≡ true → Holds (maps.get l.live.live) (complement l.fn.pivot) k;
+  lits : l.trues.lits ≡ l.fn.trues.lits;
+  met : SameSet l.trues.met l.fn.trues.met;
+}

@@ -1,0 +1,24 @@
+use Rattle.std.proofs.Common.{◌<◌, ap, sym, subst, ◌∙◌}
+use Rattle.steps.proofs.LratLemmas.Shelf.{add_live, add_invariant, undone_invariant}
+use Rattle.steps.proofs.LratLemmas.Ending.{when_ok, when_err}
+use Rattle.steps.proofs.lrat.live_clauses.LiveClauses.add.Goals as goal
+
+pub invariant_of-self-then-is_err : goal.invariant_of-self-then-is_err
+invariant_of-self-then-is_err c =
+    let inside = c.self.inside in
+    undone_invariant inside.ids c.bind.new.self inside.store c.insert.new.self c.remove.new.self c.args.id c.in_ok-slot.slot inside.top c.self.invariant.0 c.in_ok-slot.ensures.free c.in_ok-slot.ensures.others
+    (when_err c.bind.result _ (sym c.is_err.ensures.value ∙ c.if-is_err.true) c.bind.ensures.err) c.remove.ensures c.self.invariant.1
+
+pub invariant_of-self-2 : goal.invariant_of-self-2
+invariant_of-self-2 c =
+    let inside = c.self.inside in
+    let above : inside.top < c.args.id = subst (λ t. t < c.args.id) (sym (ap (λ s. s.top) c.self.view_is)) c.requires in
+    add_invariant inside.ids c.bind.new.self inside.store c.insert.new.self c.args.id c.in_ok-slot.slot c.args.lits.now c.args.self.now (ap (λ s. s.live) c.self.view_is) c.self.invariant.0 c.in_ok-slot.ensures.free c.in_ok-slot.ensures.others c.in_ok-slot.ensures.stored
+    (when_ok c.bind.result _ (sym c.is_err.ensures.value ∙ c.if-is_err.false) c.bind.ensures.ok)
+    inside.top c.self.invariant.1 above
+
+pub returns-clause-live : goal.returns-clause-live
+returns-clause-live c =
+    let inside = c.self.inside in
+    add_live inside.ids c.bind.new.self inside.store c.insert.new.self c.args.id c.in_ok-slot.slot c.args.lits.now c.args.self.now (ap (λ s. s.live) c.self.view_is) c.self.invariant.0 c.in_ok-slot.ensures.free c.in_ok-slot.ensures.others c.in_ok-slot.ensures.stored
+    (when_ok c.bind.result _ (sym c.is_err.ensures.value ∙ c.if-is_err.false) c.bind.ensures.ok)

@@ -1,0 +1,21 @@
+-- Parts of the answer to an addition in DRAT, as the code finds them.
+use Rattle.std.specs.Prelude.{◌≡◌, ℕ, Bool, true, false, Some, List, ◌++◌, IsTrue}
+use Rattle.cnf_base.specs.Literals.{Literal, Clause, has, complements, without}
+use Rattle.steps.specs.Theory.Propagation.{Live, Clash}
+
+-- each live clause with the literal clashes, but for it, with what is assumed
+abbrev pub AllClash : Live → List Literal → Literal → Type 0
+AllClash live assumed opposite =
+    (k : ℕ) (d : Clause) → live k ≡ Some d → IsTrue (has d opposite) → Clash live (assumed ++ complements (without d opposite))
+
+-- some live clause with the literal doesn't
+pub record SomeQuiet (live : Live) (assumed : List Literal) (opposite : Literal) : Type 0 where
+  pub slot : ℕ
+  pub clause : Clause
+  pub at : live slot ≡ Some clause
+  pub member : IsTrue (has clause opposite)
+  pub quiet : ¬ Clash live (assumed ++ complements (without clause opposite))
+
+abbrev pub SearchedCandidates : Live → List Literal → Literal → Bool → Type 0
+SearchedCandidates live assumed opposite true = AllClash live assumed opposite
+SearchedCandidates live assumed opposite false = SomeQuiet live assumed opposite

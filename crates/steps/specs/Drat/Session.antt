@@ -1,0 +1,38 @@
+-- A DRAT session, as its callers see it.
+use Rattle.std.specs.Prelude.{ℕ, Bool, false, List, refl}
+use Rattle.std.specs.Ordering.{nat_cmp}
+use Rattle.std.specs.Coded.{Coded, code_by, coded×, coded_ℕ, coded_bool, coded_list}
+use Rattle.std.specs.FinMap as maps
+use Rattle.std.specs.FinMap.{FinMap}
+use Rattle.cnf_base.specs.Literals.{Clause}
+use Rattle.steps.specs.declared.drat.rules.DratRules.{DratRules}
+
+pub record DratState : Type 0 where
+  -- the live clauses, each in its slot
+  pub live : FinMap nat_cmp Clause
+  pub rules : DratRules
+  -- whether some step was accepted
+  pub has_stepped : Bool
+  -- whether an empty clause was input or accepted
+  pub is_verified : Bool
+  pub is_ended : Bool
+  -- the greatest sum of the sizes of the live clauses, after each clause that was input and each accepted step, counted
+  -- up to the greatest number of 64 bits
+  pub peak : ℕ
+
+-- a session is stored as the pairs of its fields
+abbrev pub drat_code : Coded DratState
+drat_code =
+    code_by (FinMap nat_cmp Clause × (Bool × (Bool × (Bool × (Bool × ℕ)))))
+    (coded× (maps.code coded_ℕ (coded_list coded_ℕ)) (coded× coded_bool (coded× coded_bool (coded× coded_bool (coded× coded_bool coded_ℕ)))))
+    (λ s. (s.live, (s.rules.strict, (s.has_stepped, (s.is_verified, (s.is_ended, s.peak))))))
+    (λ p. record { live = p.0; rules = record { strict = p.1.0 }; has_stepped = p.1.1.0; is_verified = p.1.1.1.0; is_ended = p.1.1.1.1.0; peak = p.1.1.1.1.1 })
+    (λ _. refl)
+
+-- no clause was input
+abbrev pub fresh_drat : DratRules → DratState
+fresh_drat rules = record { live = maps.empty; rules = rules; has_stepped = false; is_verified = false; is_ended = false; peak = 0 }
+
+-- the live clauses, as the multiset that the rule speaks of
+abbrev pub clauses_of : DratState → List Clause
+clauses_of s = maps.values s.live

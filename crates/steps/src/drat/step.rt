@@ -1,0 +1,166 @@
+//! One step of a DRAT proof, over any store of clauses that propagates.
+
+ghost use Rattle.std.specs.Prelude.{◌≡◌, ◌++◌, ◌∷◌, [], Some, IsSome, IfOk, OnOk};
+ghost use Rattle.std.specs.FinMap as maps;
+ghost use Rattle.cnf_base.specs.Literals.{Clause, complements, without};
+ghost use Rattle.clause_db.specs.Propagation.Assumptions.{IsAnswer, assumed_by, MayAssume};
+ghost use Rattle.clause_db.specs.Propagation.Trail.{SameSet};
+ghost use Rattle.steps.specs.Theory.Propagation.{HasRup};
+ghost use Rattle.steps.specs.Drat.{AnswersAdd, AnswersDelete, AnswersDrat, after_drat, drat_step, SameLive};
+ghost use Rattle.steps.specs.Drat as drat;
+ghost use Rattle.steps.specs.Drat.Candidates.{SearchedCandidates};
+ghost use Rattle.steps.specs.Theory.StepAnswer.{UnlessOutOfMemory};
+
+use crate::drat::rules::DratRules;
+use crate::theory::accepted::{Accepted, word_of};
+use crate::theory::refusal::Refusal;
+use clause_db::{Answer, Propagate, Slot};
+use cnf_base::{Lit, OutOfMemory};
+use proofs::{StepBuf, StepKind};
+
+/// What propagation says where the rest of a candidate is assumed false too, for that moment.
+fn answer_with<P: Propagate>(
+    clauses: &mut P,
+    candidate: Slot,
+    opposite: Lit,
+) -> Result<Answer, OutOfMemory>
+    requires room { MayAssume (P.state clauses.old).assumptions }
+    requires alive { IsSome (maps.get (P.state clauses.old).live candidate) }
+    ensures answer { IfOk result (λ a. (c : Clause) →
+        maps.get (P.state clauses.old).live candidate ≡ Some c →
+        IsAnswer (maps.get (P.state clauses.old).live)
+        (assumed_by (P.state clauses.old).assumptions ++ complements (without c opposite)) a) }
+    ensures live { (P.state clauses.new).live ≡ (P.state clauses.old).live }
+    ensures assumptions { (P.state clauses.new).assumptions ≡ (P.state clauses.old).assumptions }
+{
+    let answer = clauses.assume_rest(candidate, opposite)?;
+    clauses.undo();
+    Ok(answer)
+}
+
+/// Whether each candidate, a clause with the pivot's complement, clashes with what is assumed.
+fn all_clash<P: Propagate>(clauses: &mut P, opposite: Lit) -> Result<bool, OutOfMemory>
+    requires { MayAssume (P.state clauses.old).assumptions }
+    ensures searched { IfOk result (SearchedCandidates (maps.get (P.state clauses.old).live)
+        (assumed_by (P.state clauses.old).assumptions) opposite) }
+    ensures live { (P.state clauses.new).live ≡ (P.state clauses.old).live }
+    ensures assumptions { (P.state clauses.new).assumptions ≡ (P.state clauses.old).assumptions }
+{
+    let mut from = Slot::first();
+    while let Some(slot) = clauses.next_with(opposite, from) {
+        match answer_with(clauses, slot, opposite)? {
+            Answer::Quiet => return Ok(false),
+            Answer::Clash => {}
+        }
+        match slot.next() {
+            Some(next) => from = next,
+            None => return Ok(true),
+        }
+    }
+    Ok(true)
+}
+
+/// The answer to an addition that lacks RUP, where the complements of its literals are assumed.
+fn judge_rat<P: Propagate>(clauses: &mut P, lits: &[Lit]) -> Result<Accepted, Refusal>
+    requires room { MayAssume (P.state clauses.old).assumptions }
+    requires assumed { SameSet (assumed_by (P.state clauses.old).assumptions)
+        (complements lits.now) }
+    requires no_rup { ¬ HasRup (maps.get (P.state clauses.old).live) lits.now }
+    ensures answers { UnlessOutOfMemory result
+        (AnswersAdd (maps.values (P.state clauses.old).live) lits.now result) }
+    ensures live { (P.state clauses.new).live ≡ (P.state clauses.old).live }
+    ensures assumptions { (P.state clauses.new).assumptions ≡ (P.state clauses.old).assumptions }
+{
+    let Some(pivot) = lits.first() else {
+        return Err(Refusal::NotRup);
+    };
+    match all_clash(clauses, pivot.neg()) {
+        Ok(true) => Ok(Accepted::Rat),
+        Ok(false) => Err(Refusal::NeitherRupNorRat(*pivot)),
+        Err(_) => Err(Refusal::OutOfMemory),
+    }
+}
+
+/// The answer to an addition, over the clauses that are alive before it.
+fn judge<P: Propagate>(clauses: &mut P, lits: &[Lit]) -> Result<Accepted, Refusal>
+    requires { (P.state clauses.old).assumptions ≡ [] }
+    ensures answers { UnlessOutOfMemory result
+        (AnswersAdd (maps.values (P.state clauses.old).live) lits.now result) }
+    ensures live { (P.state clauses.new).live ≡ (P.state clauses.old).live }
+    ensures nothing_assumed { (P.state clauses.new).assumptions ≡ [] }
+{
+    match clauses.assume(lits) {
+        Ok(Answer::Clash) => {
+            clauses.undo();
+            Ok(word_of(lits))
+        }
+        Ok(Answer::Quiet) => {
+            let judged = judge_rat(clauses, lits);
+            clauses.undo();
+            judged
+        }
+        Err(_) => Err(Refusal::OutOfMemory),
+    }
+}
+
+/// Adds one copy of the clause.
+pub(crate) fn add_copy<P: Propagate>(clauses: &mut P, lits: &[Lit]) -> Result<(), OutOfMemory>
+    requires { (P.state clauses.old).assumptions ≡ [] }
+    ensures live { OnOk result (SameLive (maps.values (P.state clauses.new).live)
+        (lits.now ∷ maps.values (P.state clauses.old).live)) }
+    ensures nothing_assumed { (P.state clauses.new).assumptions ≡ [] }
+{
+    let _ = clauses.insert(lits)?;
+    Ok(())
+}
+
+/// Judges an addition, and adds the clause where it is accepted.
+fn add<P: Propagate>(clauses: &mut P, lits: &[Lit]) -> Result<Accepted, Refusal>
+    requires { (P.state clauses.old).assumptions ≡ [] }
+    ensures answers { UnlessOutOfMemory result
+        (AnswersAdd (maps.values (P.state clauses.old).live) lits.now result) }
+    ensures live { OnOk result (SameLive (maps.values (P.state clauses.new).live)
+        (lits.now ∷ maps.values (P.state clauses.old).live)) }
+    ensures nothing_assumed { (P.state clauses.new).assumptions ≡ [] }
+{
+    let word = judge(clauses, lits)?;
+    add_copy(clauses, lits)?;
+    Ok(word)
+}
+
+/// Takes one copy of the clause off.
+fn delete<P: Propagate>(clauses: &mut P, strict: bool, lits: &[Lit]) -> Result<Accepted, Refusal>
+    requires { (P.state clauses.old).assumptions ≡ [] }
+    ensures answers { AnswersDelete strict (maps.values (P.state clauses.old).live) lits.now result }
+    ensures live { IfOk result (λ word. SameLive (maps.values (P.state clauses.new).live)
+        (after_drat (maps.values (P.state clauses.old).live) (drat.delete lits.now) word)) }
+    ensures nothing_assumed { (P.state clauses.new).assumptions ≡ [] }
+{
+    match clauses.find(lits) {
+        Some(slot) => {
+            clauses.remove(slot);
+            Ok(Accepted::Deleted)
+        }
+        None if strict => Err(Refusal::NotAlive),
+        None => Ok(Accepted::Ignored),
+    }
+}
+
+/// Takes a step on the live clauses.
+pub(crate) fn take_step<P: Propagate>(
+    clauses: &mut P,
+    rules: DratRules,
+    step: &StepBuf,
+) -> Result<Accepted, Refusal>
+    requires { (P.state clauses.old).assumptions ≡ [] }
+    ensures answers { UnlessOutOfMemory result
+        (AnswersDrat rules (maps.values (P.state clauses.old).live) (drat_step step.now) result) }
+    ensures live { IfOk result (λ word. SameLive (maps.values (P.state clauses.new).live)
+        (after_drat (maps.values (P.state clauses.old).live) (drat_step step.now) word)) }
+    ensures nothing_assumed { (P.state clauses.new).assumptions ≡ [] }
+{
+    match step.kind() {
+        StepKind::Add => add(clauses, step.lits()),
+        StepKind::Delete => delete(clauses, rules.strict, step.lits()),
+    }
+}

@@ -1,0 +1,93 @@
+//! The tests of an added clause.
+
+ghost use Rattle.std.specs.Prelude.{◌≡◌, [], IfOk, IsFalse};
+ghost use Rattle.std.specs.FinMap as maps;
+ghost use Rattle.cnf_base.specs.Literals.{complements};
+ghost use Rattle.steps.specs.Lrat.{chain, groups_refusal, AnswersGroups, AnswersChain, units_of, groups_of};
+ghost use Rattle.clause_db.specs.Propagation.Trail.{conflicts, SameSet, HasRoom, HasRoomForAll};
+ghost use Rattle.steps.specs.Lrat.Walk.{IsEnd};
+
+use crate::lrat::candidates::{first_left_out, judge_groups};
+use crate::lrat::live_clauses::LiveClauses;
+use crate::lrat::named::Named;
+use crate::lrat::walk::{WalkEnd, walk};
+use crate::theory::accepted::{Accepted, word_of};
+use crate::theory::refusal::Refusal;
+use clause_db::{Trail, Whole};
+use cnf_base::Lit;
+use std::alloc::{AllocError, Global};
+
+/// How many groups there are.
+fn count_groups(hints: &[i64]) -> usize {
+    hints.iter().filter(|hint| **hint < 0).count()
+}
+
+/// The answer where the unit hints gave no conflict: the groups in their order, and then the candidates without one.
+fn judge_candidates(
+    live: &LiveClauses,
+    trues: &mut Trail,
+    pivot: Lit,
+    named: &mut Named,
+    hints: &[i64],
+) -> Result<Result<Accepted, Refusal>, AllocError>
+    requires quiet { IsFalse (conflicts trues.old.lits) }
+    requires room { HasRoomForAll trues.old.met (maps.get live.now.live) }
+    requires none_named { named.old ≡ [] }
+    ensures answer { IfOk result (AnswersGroups (maps.get live.now.live) trues.old.lits pivot
+        (groups_of hints.now) (groups_refusal (maps.get live.now.live) trues.old.lits pivot []
+        (groups_of hints.now))) }
+    ensures met { SameSet trues.new.met trues.old.met }
+{
+    match judge_groups(live, trues, pivot, named, hints)? {
+        Some(refusal) => Ok(Err(refusal)),
+        None => match first_left_out(live, trues, pivot, named) {
+            Some(id) => Ok(Err(Refusal::Unnamed(id))),
+            None => Ok(Ok(Accepted::Rat)),
+        },
+    }
+}
+
+/// Walks over the unit hints from where the clause is false.
+fn walk_units(live: &LiveClauses, trues: &mut Trail, clause: &[Lit], hints: &[i64]) -> WalkEnd
+    requires none_true { trues.old.lits ≡ [] }
+    requires room { HasRoomForAll trues.old.met (maps.get live.now.live) }
+    requires clause_room { HasRoom trues.old.met clause.now }
+    ensures end { IsEnd trues.new.lits result (chain (maps.get live.now.live)
+        (complements clause.now) (units_of hints.now)) }
+    ensures quiet { IsFalse (conflicts trues.new.lits) }
+    ensures met { SameSet trues.new.met trues.old.met }
+{
+    if trues.make_false(clause, &Whole) {
+        return WalkEnd::Conflict;
+    }
+    walk(live, trues, hints)
+}
+
+/// The answer to an addition whose identifier is right. Only the list of the candidates that groups name takes memory, and
+/// it does before the first hint is looked at.
+pub(crate) fn judge_addition(
+    alloc: Global,
+    live: &LiveClauses,
+    trues: &mut Trail,
+    clause: &[Lit],
+    hints: &[i64],
+) -> Result<Result<Accepted, Refusal>, AllocError>
+    requires none_true { trues.old.lits ≡ [] }
+    requires room { HasRoomForAll trues.old.met (maps.get live.now.live) }
+    requires clause_room { HasRoom trues.old.met clause.now }
+    ensures answer { IfOk result (AnswersChain (maps.get live.now.live) clause.now
+        (groups_of hints.now) (chain (maps.get live.now.live) (complements clause.now)
+        (units_of hints.now))) }
+    ensures met { SameSet trues.new.met trues.old.met }
+{
+    let mut named = Named::with_room(alloc, count_groups(hints))?;
+    match walk_units(live, trues, clause, hints) {
+        WalkEnd::Conflict => Ok(Ok(word_of(clause))),
+        WalkEnd::UnknownId(k) => Ok(Err(Refusal::UnknownId(k))),
+        WalkEnd::NotUnit(k) => Ok(Err(Refusal::NotUnit(k))),
+        WalkEnd::Open => match clause.first() {
+            Some(pivot) => judge_candidates(live, trues, *pivot, &mut named, hints),
+            None => Ok(Err(Refusal::NoConflict)),
+        },
+    }
+}

@@ -1,0 +1,169 @@
+//! The clauses that hold the complement of the pivot: those that groups of hints name, and the others.
+
+ghost use Rattle.std.specs.Prelude.{◌≡◌, ◌==◌, ◌||◌, ℕ, Some, [], IfOk, IfNone, IsTrue, IsFalse};
+ghost use Rattle.std.specs.FinMap as maps;
+ghost use Rattle.cnf_base.specs.Literals.{complement, has};
+ghost use Rattle.steps.specs.Lrat.{group_refusal, groups_refusal, units_of, groups_of};
+ghost use Rattle.clause_db.specs.Propagation.Trail.{conflicts, SameSet, HasRoom, HasRoomForAll};
+ghost use Rattle.steps.specs.Lrat.Shelf.{Holds};
+ghost use Rattle.steps.specs.Lrat.Groups.{named_in, needs_group_at, IsGroupEnd, IsFirstLeftOut};
+
+use crate::lrat::live_clauses::LiveClauses;
+use crate::lrat::named::Named;
+use crate::lrat::walk::{WalkEnd, refusal_of, walk};
+use crate::theory::refusal::Refusal;
+use clause_db::{Except, Trail};
+use cnf_base::Lit;
+use std::alloc::AllocError;
+
+/// Walks over a group's hints from where what is left of its candidate is false. The true literals stay as they were.
+fn walk_group(
+    live: &LiveClauses,
+    trues: &mut Trail,
+    candidate: &[Lit],
+    opposite: Lit,
+    hints: &[i64],
+) -> WalkEnd
+    requires quiet { IsFalse (conflicts trues.old.lits) }
+    requires room { HasRoomForAll trues.old.met (maps.get live.now.live) }
+    requires candidate_room { HasRoom trues.old.met candidate.now }
+    ensures end { IsGroupEnd (maps.get live.now.live) trues.old.lits candidate.now opposite
+        (units_of hints.now) result }
+    ensures lits { trues.new.lits ≡ trues.old.lits }
+    ensures met { SameSet trues.new.met trues.old.met }
+{
+    let start = trues.len();
+    let end = if trues.make_false(candidate, &Except(opposite)) {
+        WalkEnd::Conflict
+    } else {
+        walk(live, trues, hints)
+    };
+    trues.undo_to(start);
+    end
+}
+
+/// Why the group of `-candidate` is refused, where `named` are the candidates before it and `hints` what follows.
+fn judge_group(
+    live: &LiveClauses,
+    trues: &mut Trail,
+    pivot: Lit,
+    named: &mut Named,
+    candidate: u64,
+    hints: &[i64],
+) -> Result<Option<Refusal>, AllocError>
+    requires quiet { IsFalse (conflicts trues.old.lits) }
+    requires room { HasRoomForAll trues.old.met (maps.get live.now.live) }
+    ensures refusal { IfOk result (λ refusal. refusal ≡ group_refusal
+        (maps.get live.now.live) trues.old.lits pivot named.old
+        (record { candidate = candidate; hints = units_of hints.now })
+        (maps.get live.now.live candidate)) }
+    ensures named { IfOk result (λ refusal. IfNone refusal
+        ((k : ℕ) → has named.new k ≡ (has named.old k || (candidate == k)))) }
+    ensures holds { IfOk result (λ refusal. IfNone refusal
+        (Holds (maps.get live.now.live) (complement pivot) candidate)) }
+    ensures lits { trues.new.lits ≡ trues.old.lits }
+    ensures met { SameSet trues.new.met trues.old.met }
+{
+    let Some(clause) = live.get(candidate) else {
+        return Ok(Some(Refusal::UnknownId(candidate)));
+    };
+    let opposite = pivot.neg();
+    if !clause.contains(&opposite) {
+        return Ok(Some(Refusal::NotCandidate(candidate)));
+    }
+    if !named.insert(candidate)? {
+        return Ok(Some(Refusal::NamedTwice(candidate)));
+    }
+    let end = walk_group(live, trues, clause, opposite, hints);
+    Ok(refusal_of(end, Refusal::GroupWithoutConflict(candidate)))
+}
+
+/// Why the first group that is refused is. Where none is, `named` has all candidates of groups.
+pub(crate) fn judge_groups(
+    live: &LiveClauses,
+    trues: &mut Trail,
+    pivot: Lit,
+    named: &mut Named,
+    hints: &[i64],
+) -> Result<Option<Refusal>, AllocError>
+    requires quiet { IsFalse (conflicts trues.old.lits) }
+    requires room { HasRoomForAll trues.old.met (maps.get live.now.live) }
+    requires none_named { named.old ≡ [] }
+    ensures refusal { IfOk result (λ refusal. refusal ≡ groups_refusal
+        (maps.get live.now.live) trues.old.lits pivot [] (groups_of hints.now)) }
+    ensures named { IfOk result (λ refusal.
+        IfNone refusal (SameSet named.new (named_in hints.now))) }
+    ensures hold { IfOk result (λ refusal. IfNone refusal
+        ((k : ℕ) → IsTrue (has named.new k) →
+        Holds (maps.get live.now.live) (complement pivot) k)) }
+    ensures lits { trues.new.lits ≡ trues.old.lits }
+    ensures met { SameSet trues.new.met trues.old.met }
+{
+    for (i, hint) in hints.iter().enumerate() {
+        if *hint < 0 {
+            let refusal = judge_group(
+                live,
+                trues,
+                pivot,
+                named,
+                hint.unsigned_abs(),
+                &hints[i + 1..],
+            )?;
+            if refusal.is_some() {
+                return Ok(refusal);
+            }
+        }
+    }
+    Ok(None)
+}
+
+/// Whether the clause is a candidate that gives no conflict at once. The true literals stay as they were.
+fn needs_group(trues: &mut Trail, opposite: Lit, clause: &[Lit]) -> bool
+    requires quiet { IsFalse (conflicts trues.old.lits) }
+    requires room { HasRoom trues.old.met clause.now }
+    ensures needs { result ≡ needs_group_at trues.old.lits opposite clause.now }
+    ensures lits { trues.new.lits ≡ trues.old.lits }
+    ensures met { SameSet trues.new.met trues.old.met }
+{
+    if !clause.contains(&opposite) {
+        return false;
+    }
+    let start = trues.len();
+    let is_settled = trues.make_false(clause, &Except(opposite));
+    trues.undo_to(start);
+    !is_settled
+}
+
+/// The lowest identifier of a candidate that no group names and that gives no conflict at once.
+pub(crate) fn first_left_out(
+    live: &LiveClauses,
+    trues: &mut Trail,
+    pivot: Lit,
+    named: &Named,
+) -> Option<u64>
+    requires quiet { IsFalse (conflicts trues.old.lits) }
+    requires room { HasRoomForAll trues.old.met (maps.get live.now.live) }
+    requires hold { (k : ℕ) → IsTrue (has named.now k) →
+        Holds (maps.get live.now.live) (complement pivot) k }
+    ensures first { IsFirstLeftOut (maps.get live.now.live) trues.old.lits pivot named.now result }
+    ensures lits { trues.new.lits ≡ trues.old.lits }
+    ensures met { SameSet trues.new.met trues.old.met }
+{
+    let opposite = pivot.neg();
+    // Each named clause holds the complement, so where the numbers agree no other one does.
+    if live.holding(opposite) == named.len() as u64 {
+        return None;
+    }
+    let top = live.top();
+    let mut from = 0;
+    while let Some((id, clause)) = live.next(from) {
+        if !named.contains(id) && needs_group(trues, opposite, clause) {
+            return Some(id);
+        }
+        if id >= top {
+            return None;
+        }
+        from = id + 1;
+    }
+    None
+}

@@ -1,0 +1,142 @@
+//! The live clauses, each at its identifier, and the sum of their sizes.
+
+ghost use Rattle.std.specs.Prelude.{◌≡◌, ℕ, ◌-◌, ◌<◌, ◌≤◌, ◌^◌, min, Some, None, is_some, option_map, map, nat_abs, length, List, OnOk, IfOk, IfSome, IfNone};
+ghost use Rattle.std.specs.Option.{option_copied};
+ghost use Rattle.std.specs.List.{IsDistinct};
+ghost use Rattle.std.specs.FinMap as maps;
+ghost use Rattle.steps.specs.Lrat.{with_clause, without_id, without_ids, deletion_refusal, SameClauses};
+ghost use Rattle.steps.specs.Theory.Sizes.{total};
+ghost use Rattle.steps.specs.Lrat.Shelf.{empty_shelf, shelf_state, AllHold};
+ghost use Rattle.steps.specs.declared.theory.refusal.Refusal.TheVariants.{UnknownId};
+
+use clause_db::{Ids, Store};
+use cnf_base::{Lit, OutOfMemory};
+use std::alloc::Global;
+use std::marker::Model;
+
+/// The live clauses. Contracts see them as a finite map, with the greatest identifier so far.
+#[derive(Drop)]
+pub(crate) struct LiveClauses {
+    store: Store,
+    ids: Ids,
+    top: u64,
+}
+
+impl Model for LiveClauses {
+    ghost use Rattle.clause_db.specs.Store.Clauses.{literals_in};
+    ghost use Rattle.steps.specs.Lrat.Shelf.{Shelf, shelf_code, joined, held_at, IsPaired, IsTally};
+
+    ghost Value = { Shelf };
+
+    ghost coded = { shelf_code };
+
+    ghost view = { λ s. record { live = joined s.ids s.store; top = s.top } };
+
+    ghost invariant = { λ s. IsPaired s.ids s.store ×
+        IsTally (held_at s.ids s.store) s.top (literals_in s.store) };
+}
+
+impl LiveClauses {
+    pub(crate) fn new(alloc: Global) -> Result<Self, OutOfMemory>
+        ensures { IfOk result (λ live. live ≡ empty_shelf) }
+    {
+        let store = Store::new(alloc)?;
+        let ids = Ids::new(alloc)?;
+        Ok(LiveClauses { store, ids, top: 0 })
+    }
+
+    /// The clause that is alive under the identifier.
+    pub(crate) fn get(&self, id: u64) -> Option<&[Lit]>
+        ensures { option_copied result ≡ maps.get self.now.live id }
+    {
+        match self.ids.slot_of(id) {
+            Some(slot) => Some(self.store.clause(slot)),
+            None => None,
+        }
+    }
+
+    /// The lowest identifier from this one on under which a clause is alive, and the clause.
+    pub(crate) fn next(&self, from: u64) -> Option<(u64, &[Lit])>
+        ensures found { IfSome result (λ e. (from ≤ e.0) ×
+            (maps.get self.now.live e.0 ≡ Some e.1.now)) }
+        ensures passed_over { IfSome result (λ e. (k : ℕ) → from ≤ k → k < e.0 →
+            maps.get self.now.live k ≡ None) }
+        ensures none { IfNone result ((k : ℕ) → from ≤ k → maps.get self.now.live k ≡ None) }
+    {
+        match self.ids.next_bound(from) {
+            Some(bound) => Some((bound.0, self.store.clause(bound.1))),
+            None => None,
+        }
+    }
+
+    /// A number that no list of different identifiers, of clauses that hold the literal, exceeds.
+    pub(crate) fn holding(&self, l: Lit) -> u64
+        ensures { (ids : List ℕ) → AllHold (maps.get self.now.live) l ids → length ids ≤ result }
+    {
+        self.store.count_with(l)
+    }
+
+    /// The greatest identifier so far.
+    pub(crate) fn top(&self) -> u64
+        ensures top { result ≡ self.now.top }
+        ensures none_above { (k : ℕ) → self.now.top < k → maps.get self.now.live k ≡ None }
+    {
+        self.top
+    }
+
+    /// The sum of the sizes of the live clauses. It saturates.
+    pub(crate) fn literals(&self) -> u64
+        ensures { result ≡ min (total (shelf_state self.now)) (2 ^ 64 - 1) }
+    {
+        self.store.literals()
+    }
+
+    /// Adds the clause under an identifier past all earlier ones.
+    pub(crate) fn add(&mut self, id: u64, lits: &[Lit]) -> Result<(), OutOfMemory>
+        requires { self.old.top < id }
+        ensures live { OnOk result (SameClauses (maps.get self.new.live)
+            (with_clause (maps.get self.old.live) id lits.now)) }
+        ensures top { OnOk result (self.new.top ≡ id) }
+    {
+        let slot = self.store.insert(lits)?;
+        if self.ids.bind(id, slot).is_err() {
+            self.store.remove(slot);
+            return Err(OutOfMemory);
+        }
+        self.top = id;
+        Ok(())
+    }
+
+    /// Takes the clause off, and tells whether it was alive.
+    pub(crate) fn remove(&mut self, id: u64) -> bool
+        ensures was { result ≡ is_some (maps.get self.old.live id) }
+        ensures live { (k : ℕ) → maps.get self.new.live k ≡ without_id
+            (maps.get self.old.live) id k }
+        ensures top { self.new.top ≡ self.old.top }
+    {
+        match self.ids.unbind(id) {
+            Some(slot) => {
+                self.store.remove(slot);
+                true
+            }
+            None => false,
+        }
+    }
+}
+
+/// Takes the clauses off in order, up to the first identifier that is not alive at its turn, which is the result.
+pub(crate) fn delete_all(live: &mut LiveClauses, ids: &[i64]) -> Option<u64>
+    ensures missing { option_map UnknownId result ≡ deletion_refusal (maps.get live.old.live)
+        (map nat_abs ids.now) }
+    ensures live { IfNone result ((k : ℕ) → maps.get live.new.live k ≡ without_ids
+        (maps.get live.old.live) (map nat_abs ids.now) k) }
+    ensures top { live.new.top ≡ live.old.top }
+{
+    for id in ids {
+        let id = id.unsigned_abs();
+        if !live.remove(id) {
+            return Some(id);
+        }
+    }
+    None
+}

@@ -1,0 +1,63 @@
+//! The walk over hints.
+
+ghost use Rattle.std.specs.Prelude.{◌≡◌, ◌≤◌, take, length, IsFalse};
+ghost use Rattle.std.specs.FinMap as maps;
+ghost use Rattle.steps.specs.Lrat.{chain, units_of};
+ghost use Rattle.clause_db.specs.Propagation.Trail.{conflicts, SameSet, HasRoomForAll};
+ghost use Rattle.steps.specs.Lrat.Walk.{IsEnd, refusal_at};
+
+use crate::lrat::live_clauses::LiveClauses;
+use crate::theory::refusal::Refusal;
+use clause_db::{Left, Trail};
+
+/// How a walk ends.
+#[derive(Clone, Copy, Debug, PartialEq, Eq)]
+pub(crate) enum WalkEnd {
+    Conflict,
+    Open,
+    UnknownId(u64),
+    NotUnit(u64),
+}
+
+/// Why a walk that should end in a conflict is refused.
+pub(crate) fn refusal_of(end: WalkEnd, if_open: Refusal) -> Option<Refusal>
+    ensures { result ≡ refusal_at if_open end }
+{
+    match end {
+        WalkEnd::Conflict => None,
+        WalkEnd::Open => Some(if_open),
+        WalkEnd::UnknownId(k) => Some(Refusal::UnknownId(k)),
+        WalkEnd::NotUnit(k) => Some(Refusal::NotUnit(k)),
+    }
+}
+
+/// Walks over the hints before the first negative one, from literals without a conflict, and makes true what each of their
+/// clauses gives. It takes no memory: the room was made before.
+pub(crate) fn walk(live: &LiveClauses, trues: &mut Trail, hints: &[i64]) -> WalkEnd
+    requires quiet { IsFalse (conflicts trues.old.lits) }
+    requires room { HasRoomForAll trues.old.met (maps.get live.now.live) }
+    ensures end { IsEnd trues.new.lits result (chain (maps.get live.now.live) trues.old.lits
+        (units_of hints.now)) }
+    ensures quiet { IsFalse (conflicts trues.new.lits) }
+    ensures begins { take (length trues.old.lits) trues.new.lits ≡ trues.old.lits }
+    ensures longer { length trues.old.lits ≤ length trues.new.lits }
+    ensures met { SameSet trues.new.met trues.old.met }
+{
+    for hint in hints {
+        if *hint < 0 {
+            return WalkEnd::Open;
+        }
+        let k = hint.unsigned_abs();
+        let Some(clause) = live.get(k) else {
+            return WalkEnd::UnknownId(k);
+        };
+        match trues.left(clause) {
+            Left::Nothing => return WalkEnd::Conflict,
+            Left::One(l) => {
+                trues.make_true(l);
+            }
+            Left::More => return WalkEnd::NotUnit(k),
+        }
+    }
+    WalkEnd::Open
+}
