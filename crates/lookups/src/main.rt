@@ -33,6 +33,11 @@ fn literal(number: u64) -> Option<Lit> {
     Lit::new((number % 100000) as i32 + 1)
 }
 
+/// The literal that stands for an entry.
+fn positive(entry: u64) -> Option<Lit> {
+    Lit::new((entry % ENTRIES) as i32 + 1)
+}
+
 /// Three literals that an entry determines.
 fn clause_of(entry: u64) -> Option<[Lit; 3]> {
     let first = jump(entry);
@@ -41,6 +46,21 @@ fn clause_of(entry: u64) -> Option<[Lit; 3]> {
     let b = literal(second >> 33)?;
     let c = literal(entry)?;
     Some([a.neg(), b, c])
+}
+
+/// How many of the entries that so many jumps come to are found.
+fn count_found<F: FnMut(u64) -> bool>(count: u64, mut is_found: F) -> u64
+    requires { (f : _) (x : _) → F.pre f x }
+{
+    let mut found = 0u64;
+    let mut at = 1;
+    for _ in 0..count {
+        at = jump(at);
+        if is_found(entry_of(at)) {
+            found = found.wrapping_add(1);
+        }
+    }
+    found
 }
 
 fn fill_ids(alloc: Global) -> Result<Ids, OutOfMemory> {
@@ -55,21 +75,13 @@ fn fill_ids(alloc: Global) -> Result<Ids, OutOfMemory> {
 
 fn look_up_ids(alloc: Global, count: u64) -> Result<u64, OutOfMemory> {
     let ids = fill_ids(alloc)?;
-    let mut found = 0u64;
-    let mut at = 1;
-    for _ in 0..count {
-        at = jump(at);
-        if ids.slot_of(entry_of(at) + 1).is_some() {
-            found = found.wrapping_add(1);
-        }
-    }
-    Ok(found)
+    Ok(count_found(count, |entry| ids.slot_of(entry.wrapping_add(1)).is_some()))
 }
 
 fn fill_trail(alloc: Global) -> Result<Trail, OutOfMemory> {
     let mut trail = Trail::new(alloc)?;
-    for number in 0..1000000u32 {
-        let Some(l) = Lit::new(number as i32 + 1) else {
+    for entry in 0..1000000u64 {
+        let Some(l) = positive(entry) else {
             return Ok(trail);
         };
         trail.reserve(l.var())?;
@@ -82,17 +94,10 @@ fn fill_trail(alloc: Global) -> Result<Trail, OutOfMemory> {
 
 fn look_up_trail(alloc: Global, count: u64) -> Result<u64, OutOfMemory> {
     let trail = fill_trail(alloc)?;
-    let mut found = 0u64;
-    let mut at = 1;
-    for _ in 0..count {
-        at = jump(at);
-        if let Some(l) = Lit::new(entry_of(at) as i32 + 1) {
-            if trail.value(l) == Value::True {
-                found = found.wrapping_add(1);
-            }
-        }
-    }
-    Ok(found)
+    Ok(count_found(count, |entry| match positive(entry) {
+        Some(l) => trail.value(l) == Value::True,
+        None => false,
+    }))
 }
 
 fn fill_store(alloc: Global) -> Result<Store, OutOfMemory> {
@@ -107,17 +112,10 @@ fn fill_store(alloc: Global) -> Result<Store, OutOfMemory> {
 
 fn look_up_store(alloc: Global, count: u64) -> Result<u64, OutOfMemory> {
     let mut store = fill_store(alloc)?;
-    let mut found = 0u64;
-    let mut at = 1;
-    for _ in 0..count {
-        at = jump(at);
-        if let Some(clause) = clause_of(entry_of(at)) {
-            if store.find(clause.as_slice()).is_some() {
-                found = found.wrapping_add(1);
-            }
-        }
-    }
-    Ok(found)
+    Ok(count_found(count, |entry| match clause_of(entry) {
+        Some(clause) => store.find(clause.as_slice()).is_some(),
+        None => false,
+    }))
 }
 
 fn look_up(alloc: Global, what: &str, count: u64) -> Result<u64, OutOfMemory> {

@@ -21,6 +21,7 @@ use Rattle.steps.specs.Lrat.{AnswersChain, conflict}
 use Rattle.steps.specs.Drat.{AnswersAdd, take_off, copies_of, SameLive}
 use Rattle.clause_db.proofs.PropagationLemmas.Forced.{forced_assumed, clash_through}
 use Rattle.steps.proofs.DratLemmas.Copies.{copies-cons, alive_at}
+use Rattle.steps.proofs.LratLemmas.Starts.{first_is}
 use Rattle.steps.proofs.DratLemmas.Slots.{tied, slots-insert, slots-remove, slots-clash, slots-rat, slots_covered, covered_by_slots}
 
 -- ---- RUP and RAT
@@ -73,7 +74,7 @@ module _ (live : FinMap nat_cmp Clause) where
     )
 
 -- the clause begins with the pivot
-pub answers_at : (live : FinMap nat_cmp Clause) (c : List Literal) (pivot : Literal) (rest assumed : List Literal) → c ≡ pivot ∷ rest → SameSet assumed (complements c) → ¬ HasRup (maps.get live) c →
+answers_at : (live : FinMap nat_cmp Clause) (c : List Literal) (pivot : Literal) (rest assumed : List Literal) → c ≡ pivot ∷ rest → SameSet assumed (complements c) → ¬ HasRup (maps.get live) c →
     (b : Bool) → SearchedCandidates (maps.get live) assumed (complement pivot) b → AnswersAdd (maps.values live) c (cond b (Ok Rat) (Err (NeitherRupNorRat pivot)))
 answers_at live c pivot rest assumed is same none true all =
     subst (λ c. AnswersAdd (maps.values live) c (Ok Rat)) (sym is) (answers_rat live pivot rest assumed (subst (λ c. SameSet assumed (complements c)) is same) (subst (λ c. ¬ HasRup (maps.get live) c) is none) all)
@@ -84,9 +85,13 @@ pub answers_none : (live : FinMap nat_cmp Clause) (c : List Literal) → None �
 answers_none live [] first none = no_rup_listed live [] none
 answers_none live (l ∷ c) first none = absurd (none-some l first)
 
-pub searched_pivot : (live : Live) (assumed : List Literal) (opposite complement : Literal) → opposite ≡ complement → (found b : Bool) → found ≡ b → SearchedCandidates live assumed opposite found → SearchedCandidates live assumed complement b
-searched_pivot live assumed opposite complement is found b value searched =
-    subst (SearchedCandidates live assumed complement) value (subst (λ l. SearchedCandidates live assumed l found) is searched)
+-- the clause begins with the pivot, whose candidates were searched
+pub answers_searched : (live : FinMap nat_cmp Clause) (c : List Literal) (pivot : Literal) → Some pivot ≡ slice_get c 0 → (assumed : List Literal) → SameSet assumed (complements c) → ¬ HasRup (maps.get live) c →
+    (opposite : Literal) → opposite ≡ complement pivot → (found b : Bool) → found ≡ b → SearchedCandidates (maps.get live) assumed opposite found → AnswersAdd (maps.values live) c (cond b (Ok Rat) (Err (NeitherRupNorRat pivot)))
+answers_searched live c pivot first assumed same none opposite is found b value searched =
+    let split = first_is c pivot first in
+    answers_at live c pivot split.0 assumed split.1 same none b
+    (subst (SearchedCandidates (maps.get live) assumed (complement pivot)) value (subst (λ l. SearchedCandidates (maps.get live) assumed l found) is searched))
 
 pub no_clash : (first second : FinMap nat_cmp Clause) (c assumed : List Literal) → second ≡ first → ¬ Clash (maps.get first) assumed → assumed ≡ complements c → ¬ HasRup (maps.get second) c
 no_clash first second c assumed is none same rup =

@@ -5,6 +5,7 @@ ghost use Rattle.steps.specs.Theory.Verdicts.{is_last};
 
 use crate::theory::accepted::Accepted;
 
+/// What both sessions keep of it, and how a clause, a step and a refusal change it.
 #[derive(Drop)]
 pub(crate) struct Progress {
     pub(crate) has_stepped: bool,
@@ -16,7 +17,12 @@ pub(crate) struct Progress {
 
 impl Progress {
     pub(crate) fn new() -> Self
-        ensures { result ≡ record { has_stepped = false; is_verified = false; is_ended = false; peak = 0 } }
+        ensures { result ≡ record {
+          has_stepped = false;
+          is_verified = false;
+          is_ended = false;
+          peak = 0;
+        } }
     {
         Progress {
             has_stepped: false,
@@ -35,7 +41,10 @@ impl Progress {
 
     /// A clause was input, which left clauses of this size in sum.
     pub(crate) fn input(&mut self, is_empty: bool, literals: u64)
-        ensures { self.new ≡ record self.old { is_verified = self.old.is_verified || is_empty; peak = max self.old.peak literals } }
+        ensures { self.new ≡ record self.old {
+          is_verified = self.old.is_verified || is_empty;
+          peak = max self.old.peak literals;
+        } }
     {
         self.is_verified = self.is_verified || is_empty;
         self.peak = self.peak.max(literals);
@@ -43,7 +52,12 @@ impl Progress {
 
     /// A step was accepted with this word, and left clauses of this size in sum.
     pub(crate) fn step(&mut self, word: Accepted, literals: u64)
-        ensures { self.new ≡ record { has_stepped = true; is_verified = is_last word; is_ended = is_last word; peak = max self.old.peak literals } }
+        ensures { self.new ≡ record {
+          has_stepped = true;
+          is_verified = is_last word;
+          is_ended = is_last word;
+          peak = max self.old.peak literals;
+        } }
     {
         let is_last = matches!(word, Accepted::Empty);
         self.has_stepped = true;
