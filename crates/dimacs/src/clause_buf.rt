@@ -48,9 +48,7 @@ impl ClauseBuf {
     pub(crate) fn push(&mut self, lit: Lit) -> Result<(), OutOfMemory>
         ensures { OnOk result (self.new ≡ self.old ++ lit ∷ []) }
     {
-        if self.lits.push(lit).is_err() {
-            return Err(OutOfMemory);
-        }
+        self.lits.push(lit)?;
         Ok(())
     }
 

@@ -144,9 +144,7 @@ fn read_clause<R: In>(
         match scanner.next() {
             Ok(Token::Word(place, word)) => match judge(header, complete, word) {
                 Ok(Some(lit)) => {
-                    if clause.push(lit).is_err() {
-                        return Err(Fault::OutOfMemory);
-                    }
+                    clause.push(lit)?;
                 }
                 Ok(None) => return Ok(true),
                 Err(kind) => return Err(Fault::Text(kind, place)),

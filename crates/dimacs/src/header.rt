@@ -1,6 +1,6 @@
 //! The header of a formula.
 
-ghost use Rattle.std.specs.Prelude.{◌≡◌, ◌≢◌, ◌≤◌, IfOk};
+ghost use Rattle.std.specs.Prelude.{◌≡◌, ◌≢◌, ◌≤◌, if◌then◌else◌, IfOk};
 ghost use Rattle.cnf_base.specs.Stream.{Along, most_to_come};
 ghost use Rattle.cnf_base.specs.Text.{listing_at};
 ghost use Rattle.cnf_base.specs.Readers.{TellsOf};
@@ -57,15 +57,8 @@ fn read_p<R: In>(scanner: &mut Scanner<R>) -> Result<(), Fault>
     ensures fewer { most_to_come scanner.new ≤ most_to_come scanner.old }
     ensures tells { TellsOf result scanner.old.reader.has_failed scanner.new.reader.has_failed }
 {
-    match first_word(scanner) {
-        Ok((place, word)) => {
-            if is_p(word) {
-                return Ok(());
-            }
-            Err(Fault::Text(TextFault::BadHeader, place))
-        }
-        Err(fault) => Err(fault),
-    }
+    let (place, word) = first_word(scanner)?;
+    wanted(is_p(word), place)
 }
 
 // The word `cnf`.
@@ -75,15 +68,8 @@ fn read_cnf<R: In>(scanner: &mut Scanner<R>) -> Result<(), Fault>
     ensures fewer { most_to_come scanner.new ≤ most_to_come scanner.old }
     ensures tells { TellsOf result scanner.old.reader.has_failed scanner.new.reader.has_failed }
 {
-    match next_word(scanner) {
-        Ok((place, word)) => {
-            if is_cnf(word) {
-                return Ok(());
-            }
-            Err(Fault::Text(TextFault::BadHeader, place))
-        }
-        Err(fault) => Err(fault),
-    }
+    let (place, word) = next_word(scanner)?;
+    wanted(is_cnf(word), place)
 }
 
 // A number of variables or clauses.
@@ -94,10 +80,8 @@ fn read_count<R: In>(scanner: &mut Scanner<R>, limit: u64) -> Result<u64, Fault>
     ensures tells { TellsOf result scanner.old.reader.has_failed scanner.new.reader.has_failed }
     ensures limit { IfOk result (λ n. n ≤ limit) }
 {
-    match next_word(scanner) {
-        Ok((place, word)) => count_of(limit, place, word),
-        Err(fault) => Err(fault),
-    }
+    let (place, word) = next_word(scanner)?;
+    count_of(limit, place, word)
 }
 
 // The line's end, or the input's.
@@ -145,6 +129,16 @@ fn next_word<R: In>(scanner: &mut Scanner<R>) -> Result<(Place, Word), Fault>
         }
         Err(ReadFailed) => Err(Fault::ReadFailed),
     }
+}
+
+// Whether the word at the place is the one that must stand there.
+fn wanted(is_right: bool, place: Place) -> Result<(), Fault>
+    ensures { result ≡ if is_right then Ok tt else Err (Fault.Text TextFault.BadHeader place) }
+{
+    if is_right {
+        return Ok(());
+    }
+    Err(Fault::Text(TextFault::BadHeader, place))
 }
 
 // A number without a sign, up to the limit.

@@ -52,9 +52,7 @@ impl Model {
         ensures listed { OnOk result ((l : Literal) → has self.new l ≡ has (lit ∷ self.old) l) }
         ensures consistent { IsConsistent self.new }
     {
-        if self.listed.insert(lit.index() as u32).is_err() {
-            return Err(OutOfMemory);
-        }
+        self.listed.insert(lit.index() as u32)?;
         Ok(())
     }
 }

@@ -143,9 +143,7 @@ impl Said {
         if self.model.holds(lit.neg()) {
             return Err(Fault::Text(TextFault::Complement, place));
         }
-        if self.model.insert(lit).is_err() {
-            return Err(Fault::OutOfMemory);
-        }
+        self.model.insert(lit)?;
         Ok(())
     }
 }

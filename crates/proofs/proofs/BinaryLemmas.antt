@@ -77,9 +77,10 @@ module _ (old now new : Stream) (spot : Spot) (s : Step) (so_far : Between old n
   Between-failed nothing met = Along-map old new _ _ looked (λ i j m q.
       gives_fault ReadFailed s _ j (q ∙ ap (steps_from spot s new.byte_no) (shown_end new Failed j nothing met m)))
 
--- what a byte was found to do, by the answer's pattern
-pub moves_told : (result answer : Result (Moved Part) Stopped) (move known : Move) (s : Step) → Moves result move s → move ≡ known → result ≡ answer → Moves answer known s
-moves_told result answer move known s moves same is =
-    let P : Result (Moved Part) Stopped → Type 0 = λ r. Moves r known s in
-    let Q : Move → Type 0 = λ m. Moves result m s in
-    subst P is (subst Q same moves)
+-- what a byte was found to do, by the answer's pattern, and by the byte's number
+pub moves_told : (result answer : Result (Moved Part) Stopped) (spot : Spot) (s t : Step) (at known b : ℕ)
+    → Moves result (move_of spot s at b) t → at ≡ known → result ≡ answer → Moves answer (move_of spot s known b) t
+moves_told result answer spot s t at known b moves number is =
+    let P : Result (Moved Part) Stopped → Type 0 = λ r. Moves r (move_of spot s known b) t in
+    let Q : ℕ → Type 0 = λ n. Moves result (move_of spot s n b) t in
+    subst P is (subst Q number moves)

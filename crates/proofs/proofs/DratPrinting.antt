@@ -1,5 +1,5 @@
 -- A DRAT proof that was printed as text, as it is read.
-use Rattle.std.proofs.Common.{◌≡◌, ℕ, suc, ◌<◌, true, List, [], ◌∷◌, ◌++◌, length, fold, refl, ap, ◌∙◌, arith}
+use Rattle.std.proofs.Common.{◌≡◌, ℕ, ◌<◌, true, List, [], ◌∷◌, ◌++◌, length, fold, refl, ap, ◌∙◌, arith}
 use Rattle.std.specs.Prelude.{codes, All}
 use Rattle.std.specs.List.{flat_map, list_all}
 use Rattle.cnf_base.specs.Literals.{Literal}
@@ -7,9 +7,7 @@ use Rattle.cnf_base.specs.Printing.{input_of, is_literal, literal_text, literal_
 use Rattle.cnf_base.specs.Text.{col_along, line_after}
 use Rattle.cnf_base.specs.Words.{word_of}
 use Rattle.cnf_base.specs.declared.fault.TextFault.TheVariants.{LiteralTooLarge}
-use Rattle.cnf_base.specs.declared.input.Ending.TheVariants.{End}
 use Rattle.cnf_base.specs.declared.place.Place.{Place}
-use Rattle.cnf_base.proofs.TextLemmas.{listing_at-end}
 use Rattle.cnf_base.proofs.PrintLemmas.{line_from, along_from_one, next_line, first_word, both, fixed_plain, zero_plain, literal_word, literal_plain, literal_no_comment, literal_taken}
 use Rattle.proofs.specs.declared.drat_text.part.Part.{Part}
 use Rattle.proofs.specs.declared.drat_text.part.Part.TheVariants.{Start, Literals}
@@ -17,17 +15,17 @@ use Rattle.proofs.specs.declared.step_buf.StepKind.{StepKind}
 use Rattle.proofs.specs.declared.step_buf.StepKind.TheVariants.{Add, Delete}
 use Rattle.proofs.specs.Steps.{Step, named, with_literal}
 use Rattle.proofs.specs.Reading.{Proof, with_step}
-use Rattle.proofs.specs.TextSteps.{goes, faults, steps_from, steps_at}
-use Rattle.proofs.specs.Drat.{literal_or_end, move_of, drat, drat_steps}
+use Rattle.proofs.specs.TextSteps.{goes, completes, faults, literal_or_end, move_of, steps_from, steps_at}
+use Rattle.proofs.specs.Drat.{drat, drat_steps}
 use Rattle.proofs.specs.Printing.{proof_of, drat_words, drat_line, IsDratStep}
-use Rattle.proofs.proofs.PrintedText.{with_literals, drat_step, drat_step_is, word_goes, word_completes, list_read, zero_read}
+use Rattle.proofs.proofs.PrintedText.{with_literals, drat_step, drat_step_is, word_goes, word_completes, list_read, zero_read, lines_read}
 
 -- a literal's word
 literal_move : (part : Part) (s : Step) (l : Literal) → is_literal 268435455 l ≡ true
-    → move_of part s (word_of (literal_text l)) ≡ goes Literals (with_literal s l)
+    → move_of drat part s (word_of (literal_text l)) ≡ goes Literals (with_literal s l)
 literal_move part s l is =
-    ap (move_of part s) (literal_word 268435455 l (omega arith) is)
-    ∙ literal_taken 268435455 l (omega arith) is (literal_or_end s) (faults LiteralTooLarge)
+    ap (move_of drat part s) (literal_word 268435455 l (omega arith) is)
+    ∙ literal_taken 268435455 l (omega arith) is (literal_or_end Literals completes s) (faults LiteralTooLarge)
 
 module _ (rest : List ℕ) (result : Proof)
     (later : (q : Place) → 0 < q.col → steps_at drat q (input_of rest) ≡ result) where
@@ -47,36 +45,32 @@ module _ (rest : List ℕ) (result : Proof)
       → steps_at drat p (input_of (words_line (drat_words kind ls) ++ rest))
       ≡ with_step (drat_step kind ls) (length (10 ∷ rest)) result
   step_read Delete ls p from_one are =
-      word_goes drat (first_word p (codes "d") (literal_words ls) rest refl (fixed_plain 100 [] refl)) refl
+      word_goes drat Start (named 0) (first_word p (codes "d") (literal_words ls) rest refl (fixed_plain 100 [] refl)) refl
       ∙ literals_read ls (drat_step Delete []) (col_along p (codes "d")) (along_from_one p (codes "d") from_one) are
       ∙ ap (λ s. with_step s (length (10 ∷ rest)) result) (with_literals (drat_step Delete []) ls)
   step_read Add [] p from_one are =
-      word_completes drat (first_word p (codes "0") [] rest refl zero_plain)
+      word_completes drat Start (named 0) (first_word p (codes "0") [] rest refl zero_plain)
       (next_line (col_along p (codes "0")) rest) refl
       ∙ ap (with_step (drat_step Add []) (length (10 ∷ rest)))
       (later (line_after (col_along p (codes "0"))) (omega arith))
   step_read Add (l ∷ ls) p from_one are =
       let r = both (is_literal 268435455 l) (list_all (is_literal 268435455) ls) are in
-      word_goes drat (first_word p (literal_text l) (literal_words ls) rest
+      word_goes drat Start (named 0) (first_word p (literal_text l) (literal_words ls) rest
       (literal_no_comment 268435455 l (omega arith) r.0) (literal_plain 268435455 l (omega arith) r.0))
       (literal_move Start (named 0) l r.0)
       ∙ literals_read ls (drat_step Add (l ∷ [])) (col_along p (literal_text l))
       (along_from_one p (literal_text l) from_one) r.1
       ∙ ap (λ s. with_step s (length (10 ∷ rest)) result) (with_literals (drat_step Add (l ∷ [])) ls)
 
--- the steps from a line on
-steps_read : (steps : List Step) (p : Place) → 0 < p.col → All IsDratStep steps
-    → steps_at drat p (input_of (flat_map drat_line steps)) ≡ proof_of (codes "\n") drat_line steps
-steps_read [] p from_one are = ap (steps_from drat Start (named 0)) (listing_at-end p End)
-steps_read (s ∷ ss) p from_one are =
-    let f : IsDratStep s = are 0 s (omega arith) in
-    let rest : List ℕ = flat_map drat_line ss in
-    let result : Proof = proof_of (codes "\n") drat_line ss in
-    step_read rest result (λ q q_from_one. steps_read ss q q_from_one (λ k d l. are (suc k) d (omega arith)))
-    s.kind s.lits p from_one f.literals
+-- a step
+line_read : (s : Step) → IsDratStep s → (rest : List ℕ) (result : Proof)
+    → ((q : Place) → 0 < q.col → steps_at drat q (input_of rest) ≡ result) → (p : Place) → 0 < p.col
+    → steps_at drat p (input_of (drat_line s ++ rest)) ≡ with_step s (length (10 ∷ rest)) result
+line_read s f rest result later p from_one =
+    step_read rest result later s.kind s.lits p from_one f.literals
     ∙ ap (λ x. with_step x (length (10 ∷ rest)) result) (drat_step_is s f)
 
 -- a printed proof is read back
 pub drat_read : (steps : List Step) → All IsDratStep steps
     → drat_steps (input_of (flat_map drat_line steps)) ≡ proof_of (codes "\n") drat_line steps
-drat_read steps are = steps_read steps (record { line = 1; col = 1 }) (omega arith) are
+drat_read steps are = lines_read drat drat_line IsDratStep refl line_read steps (record { line = 1; col = 1 }) (omega arith) are

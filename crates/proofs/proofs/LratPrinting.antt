@@ -9,10 +9,8 @@ use Rattle.cnf_base.specs.Printing.{input_of, is_literal, literal_text, literal_
 use Rattle.cnf_base.specs.Text.{col_along}
 use Rattle.cnf_base.specs.Words.{number, word_of}
 use Rattle.cnf_base.specs.declared.fault.TextFault.TheVariants.{LiteralTooLarge}
-use Rattle.cnf_base.specs.declared.input.Ending.TheVariants.{End}
 use Rattle.cnf_base.specs.declared.place.Place.{Place}
 use Rattle.cnf_base.specs.declared.word.Word.TheVariants as words
-use Rattle.cnf_base.proofs.TextLemmas.{listing_at-end}
 use Rattle.cnf_base.proofs.PrintLemmas.{line_from, IsPlain, along_from_one, past, past_from_one, next_word, first_word, both, fixed_plain, decimal_plain, minus_plain, decimal_no_comment, decimal_word, minus_word, zero_plain, literal_word, literal_plain, literal_taken}
 use Rattle.proofs.specs.declared.lrat_text.part.Part.{Part}
 use Rattle.proofs.specs.declared.lrat_text.part.Part.TheVariants.{Identifier, AfterIdentifier, Literals, Hints, Deletion}
@@ -20,33 +18,33 @@ use Rattle.proofs.specs.declared.step_buf.StepKind.{StepKind}
 use Rattle.proofs.specs.declared.step_buf.StepKind.TheVariants.{Add, Delete}
 use Rattle.proofs.specs.Steps.{Step, is_small, is_hint, named, with_literal, with_hint}
 use Rattle.proofs.specs.Reading.{Proof, with_step}
-use Rattle.proofs.specs.TextSteps.{goes, completes, faults, steps_from, steps_at}
-use Rattle.proofs.specs.Lrat.{literal_or_end, move_of, lrat, lrat_steps}
+use Rattle.proofs.specs.TextSteps.{goes, completes, faults, literal_or_end, move_of, steps_from, steps_at}
+use Rattle.proofs.specs.Lrat.{lrat, lrat_steps}
 use Rattle.proofs.specs.Printing.{proof_of, hint_words, lrat_words, lrat_line, IsLratStep}
-use Rattle.proofs.proofs.PrintedText.{with_literals, with_hints, word_goes, list_read, zero_read}
+use Rattle.proofs.proofs.PrintedText.{with_literals, with_hints, word_goes, list_read, zero_read, lines_read}
 
 -- ---- Words
 
 -- a step's identifier
 identifier_move : (s : Step) (id : ℕ) → 1 ≤ id → is_small id ≡ true
-    → move_of Identifier s (word_of (decimal id)) ≡ goes AfterIdentifier (named id)
+    → move_of lrat Identifier s (word_of (decimal id)) ≡ goes AfterIdentifier (named id)
 identifier_move s id some small =
     let most : id ≤ 9223372036854775807 = grind (arith, nat_tests) in
     let nonzero : nat_le id 0 ≡ false = grind (arith, nat_tests) in
-    ap (move_of Identifier s) (decimal_word id (omega arith) (omega arith)) ∙ rw (nonzero, small) refl
+    ap (move_of lrat Identifier s) (decimal_word id (omega arith) (omega arith)) ∙ rw (nonzero, small) refl
 
 -- a literal's word
 first_literal_move : (s : Step) (l : Literal) → is_literal 268435455 l ≡ true
-    → move_of AfterIdentifier s (word_of (literal_text l)) ≡ goes Literals (with_literal s l)
+    → move_of lrat AfterIdentifier s (word_of (literal_text l)) ≡ goes Literals (with_literal s l)
 first_literal_move s l is =
-    ap (move_of AfterIdentifier s) (literal_word 268435455 l (omega arith) is)
-    ∙ literal_taken 268435455 l (omega arith) is (literal_or_end s) (faults LiteralTooLarge)
+    ap (move_of lrat AfterIdentifier s) (literal_word 268435455 l (omega arith) is)
+    ∙ literal_taken 268435455 l (omega arith) is (literal_or_end Literals (goes Hints) s) (faults LiteralTooLarge)
 
 literal_move : (s : Step) (l : Literal) → is_literal 268435455 l ≡ true
-    → move_of Literals s (word_of (literal_text l)) ≡ goes Literals (with_literal s l)
+    → move_of lrat Literals s (word_of (literal_text l)) ≡ goes Literals (with_literal s l)
 literal_move s l is =
-    ap (move_of Literals s) (literal_word 268435455 l (omega arith) is)
-    ∙ literal_taken 268435455 l (omega arith) is (literal_or_end s) (faults LiteralTooLarge)
+    ap (move_of lrat Literals s) (literal_word 268435455 l (omega arith) is)
+    ∙ literal_taken 268435455 l (omega arith) is (literal_or_end Literals (goes Hints) s) (faults LiteralTooLarge)
 
 -- an identifier within the limit
 id_range : (k : ℕ) → (nat_le 1 k && is_small k) ≡ true → (1 ≤ k) × (k ≤ 9223372036854775807)
@@ -67,23 +65,23 @@ hint_plain Delete (pos k) is = let r = id_range k is in decimal_plain k (omega a
 hint_plain Delete (negsuc k) is = absurd (let bad : false ≡ true = is in cc)
 
 hint_move : (kind : StepKind) (s : Step) (h : ℤ) → is_hint kind h ≡ true
-    → move_of (hint_part kind) s (word_of (signed_decimal h)) ≡ goes (hint_part kind) (with_hint s h)
+    → move_of lrat (hint_part kind) s (word_of (signed_decimal h)) ≡ goes (hint_part kind) (with_hint s h)
 hint_move Add s (pos k) is =
     let r = id_range k is in
     let t = id_tests k is in
-    ap (move_of Hints s) (decimal_word k (omega arith) (omega arith)) ∙ rw (t.1, t.0) refl
+    ap (move_of lrat Hints s) (decimal_word k (omega arith) (omega arith)) ∙ rw (t.1, t.0) refl
 hint_move Add s (negsuc k) is =
     let r = id_range (suc k) is in
     let t = id_tests (suc k) is in
-    ap (move_of Hints s) (minus_word (suc k) (omega arith) (omega arith)) ∙ rw (t.1, t.0) refl
+    ap (move_of lrat Hints s) (minus_word (suc k) (omega arith) (omega arith)) ∙ rw (t.1, t.0) refl
 hint_move Delete s (pos k) is =
     let r = id_range k is in
     let t = id_tests k is in
-    ap (move_of Deletion s) (decimal_word k (omega arith) (omega arith)) ∙ rw (t.1, t.0) refl
+    ap (move_of lrat Deletion s) (decimal_word k (omega arith) (omega arith)) ∙ rw (t.1, t.0) refl
 hint_move Delete s (negsuc k) is = absurd (let bad : false ≡ true = is in cc)
 
 -- the `0` after them
-hint_zero : (kind : StepKind) (s : Step) → move_of (hint_part kind) s (words.Number (number false 0)) ≡ completes s
+hint_zero : (kind : StepKind) (s : Step) → move_of lrat (hint_part kind) s (words.Number (number false 0)) ≡ completes s
 hint_zero Add s = refl
 hint_zero Delete s = refl
 
@@ -114,20 +112,20 @@ module _ (rest : List ℕ) (result : Proof)
       → steps_from lrat AfterIdentifier (named id) (line_from p (literal_words ls ++ hint_words hs) rest)
       ≡ with_step (step_of Add id ls hs) (length (10 ∷ rest)) result
   addition_read id [] hs p from_one are hints =
-      word_goes lrat (next_word p (codes "0") (hint_words hs) rest from_one zero_plain) refl
+      word_goes lrat AfterIdentifier (named id) (next_word p (codes "0") (hint_words hs) rest from_one zero_plain) refl
       ∙ hints_read Add id [] hs (past p (codes "0")) (past_from_one p (codes "0")) hints
   addition_read id (l ∷ ls) hs p from_one are hints =
       let r = both (is_literal 268435455 l) (list_all (is_literal 268435455) ls) are in
       let q : Place = past p (literal_text l) in
       let first : Step = step_of Add id (l ∷ []) [] in
-      word_goes lrat (next_word p (literal_text l) (literal_words ls ++ hint_words hs) rest from_one
+      word_goes lrat AfterIdentifier (named id) (next_word p (literal_text l) (literal_words ls ++ hint_words hs) rest from_one
       (literal_plain 268435455 l (omega arith) r.0)) (first_literal_move (named id) l r.0)
       ∙ ap (λ ws. steps_from lrat Literals first (line_from q ws rest))
       (append_assoc (map literal_text ls) (codes "0" ∷ []) (hint_words hs))
       ∙ list_read lrat literal_text (is_literal 268435455) with_literal Literals
       (λ l is. literal_plain 268435455 l (omega arith) is) literal_move
       ls (codes "0" ∷ hint_words hs) rest _ first q (past_from_one p (literal_text l)) r.1
-      (λ q q_from_one. word_goes lrat (next_word q (codes "0") (hint_words hs) rest q_from_one zero_plain) refl
+      (λ q q_from_one. word_goes lrat Literals _ (next_word q (codes "0") (hint_words hs) rest q_from_one zero_plain) refl
       ∙ ap (λ s. steps_from lrat Hints s (line_from (past q (codes "0")) (hint_words hs) rest))
       (with_literals first ls)
       ∙ hints_read Add id (l ∷ ls) hs (past q (codes "0")) (past_from_one q (codes "0")) hints)
@@ -140,32 +138,25 @@ module _ (rest : List ℕ) (result : Proof)
       ≡ with_step (step_of kind id ls hs) (length (10 ∷ rest)) result
   step_read Add id ls hs p from_one some small are empty hints =
       let most : id ≤ 9223372036854775807 = grind (arith, nat_tests) in
-      word_goes lrat (first_word p (decimal id) (literal_words ls ++ hint_words hs) rest
+      word_goes lrat Identifier (named 0) (first_word p (decimal id) (literal_words ls ++ hint_words hs) rest
       (decimal_no_comment id (omega arith)) (decimal_plain id (omega arith)))
       (identifier_move (named 0) id some small)
       ∙ addition_read id ls hs (col_along p (decimal id)) (along_from_one p (decimal id) from_one) are hints
   step_read Delete id ls hs p from_one some small are empty hints =
       let most : id ≤ 9223372036854775807 = grind (arith, nat_tests) in
       let q : Place = col_along p (decimal id) in
-      word_goes lrat (first_word p (decimal id) (codes "d" ∷ hint_words hs) rest
+      word_goes lrat Identifier (named 0) (first_word p (decimal id) (codes "d" ∷ hint_words hs) rest
       (decimal_no_comment id (omega arith)) (decimal_plain id (omega arith)))
       (identifier_move (named 0) id some small)
-      ∙ word_goes lrat (next_word q (codes "d") (hint_words hs) rest (along_from_one p (decimal id) from_one)
+      ∙ word_goes lrat AfterIdentifier (named id) (next_word q (codes "d") (hint_words hs) rest (along_from_one p (decimal id) from_one)
       (fixed_plain 100 [] refl)) refl
       ∙ hints_read Delete id [] hs (past q (codes "d")) (past_from_one q (codes "d")) hints
       ∙ ap (λ t. with_step (step_of Delete id t hs) (length (10 ∷ rest)) result) (sym (empty refl))
 
--- the steps from a line on
-steps_read : (steps : List Step) (p : Place) → 0 < p.col → All IsLratStep steps
-    → steps_at lrat p (input_of (flat_map lrat_line steps)) ≡ proof_of (codes "\n") lrat_line steps
-steps_read [] p from_one are = ap (steps_from lrat Identifier (named 0)) (listing_at-end p End)
-steps_read (s ∷ ss) p from_one are =
-    let f : IsLratStep s = are 0 s (omega arith) in
-    step_read (flat_map lrat_line ss) (proof_of (codes "\n") lrat_line ss)
-    (λ q q_from_one. steps_read ss q q_from_one (λ k d l. are (suc k) d (omega arith)))
-    s.kind s.id s.lits s.hints p from_one f.some f.small f.literals f.deletion f.hints
-
 -- a printed proof is read back
 pub lrat_read : (steps : List Step) → All IsLratStep steps
     → lrat_steps (input_of (flat_map lrat_line steps)) ≡ proof_of (codes "\n") lrat_line steps
-lrat_read steps are = steps_read steps (record { line = 1; col = 1 }) (omega arith) are
+lrat_read steps are = lines_read lrat lrat_line IsLratStep refl
+    (λ s f rest result later p from_one.
+    step_read rest result later s.kind s.id s.lits s.hints p from_one f.some f.small f.literals f.deletion f.hints)
+    steps (record { line = 1; col = 1 }) (omega arith) are

@@ -14,7 +14,7 @@ use Rattle.cnf_base.specs.declared.fault.TextFault.{TextFault}
 use Rattle.cnf_base.proofs.StreamLemmas.{Along-then, Along-map, Along-none, Along-still}
 use Rattle.proofs.specs.Steps.{Step, named}
 use Rattle.proofs.specs.Reading.{Proof, clean, faulty, unless_ended, GivesStep}
-use Rattle.proofs.specs.TextSteps.{Move, goes, completes, faults, Format, on_move, at_end, steps_from, steps_listed}
+use Rattle.proofs.specs.TextSteps.{Move, goes, completes, faults, Format, move_of, on_move, at_end, steps_from, steps_listed}
 use Rattle.proofs.specs.TextMoves.{left_of, EndsSo, Moves}
 use Rattle.proofs.specs.declared.moved.Moved.{Moved}
 use Rattle.proofs.specs.declared.stopped.Stopped.{Stopped}
@@ -81,10 +81,10 @@ module _ {P : Type 0} (format : Format P) (old now new : Stream) (part : P) (s :
     abbrev follows : Input → Move P → Proof
     follows j move = on_move format p (length j.bytes) move (λ part s. steps_from format part s (listing_at new.place j))
 
-    word_text : Along old new (λ i j. steps_listed format (listing_at old.place i) ≡ follows j (format.move_of part s w))
+    word_text : Along old new (λ i j. steps_listed format (listing_at old.place i) ≡ follows j (move_of format part s w))
     word_text = Along-then old now new _ _ _ so_far.text gives (λ i j k m q r. q ∙ ap (steps_from format part s) r)
 
-    pub Between-word : (next : P) (t : Step) → format.move_of part s w ≡ goes next t → most_to_come new < most_to_come now → new.reader.has_failed ≡ now.reader.has_failed
+    pub Between-word : (next : P) (t : Step) → move_of format part s w ≡ goes next t → most_to_come new < most_to_come now → new.reader.has_failed ≡ now.reader.has_failed
         → Between format old new next t
     Between-word next t is fewer mark = record {
       text = Along-map old new _ _ word_text (λ i j m q. q ∙ ap (follows j) is);
@@ -92,11 +92,11 @@ module _ {P : Type 0} (format : Format P) (old now new : Stream) (part : P) (s :
       mark = mark ∙ so_far.mark;
     }
 
-    pub Between-step : (t : Step) → format.move_of part s w ≡ completes t
+    pub Between-step : (t : Step) → move_of format part s w ≡ completes t
         → Along old new (λ i j. GivesStep (Ok true) t (steps_listed format (listing_at old.place i)) (left_of format (Ok true) (listing_at new.place j)) j)
     Between-step t is = Along-map old new _ _ word_text (λ i j m q. q ∙ ap (follows j) is)
 
-    pub Between-fault : (f : TextFault) (t : Step) → format.move_of part s w ≡ faults f
+    pub Between-fault : (f : TextFault) (t : Step) → move_of format part s w ≡ faults f
         → Along old new (λ i j. GivesStep (Err (Text f p)) t (steps_listed format (listing_at old.place i)) (left_of format (Err (Text f p)) (listing_at new.place j)) j)
     Between-fault f t is = Along-map old new _ _ word_text (λ i j m q. gives_fault (Text f p) t _ j (q ∙ ap (follows j) is))
 

@@ -1,18 +1,14 @@
 -- The steps of a text in LRAT (Cruz-Filipe, Heule and others 2017; that a step may stand over any number of lines, the
 -- faults, their places and the order of judging are our own profile).
-use Rattle.std.specs.Prelude.{nat_le, Bool, true, false, if◌then◌else◌, Option, None, Some, ℤ, pos, neg_ℤ}
-use Rattle.cnf_base.specs.Literals.{Literal}
+use Rattle.std.specs.Prelude.{nat_le, Bool, true, false, if◌then◌else◌, ℤ, pos, neg_ℤ}
 use Rattle.cnf_base.specs.Stream.{Input}
-use Rattle.cnf_base.specs.Words.{number_literal}
 use Rattle.cnf_base.specs.declared.word.Number.{Number}
-use Rattle.cnf_base.specs.declared.word.Word.{Word}
-use Rattle.cnf_base.specs.declared.word.Word.TheVariants as words
-use Rattle.cnf_base.specs.declared.fault.TextFault.TheVariants.{BadToken, LiteralTooLarge, IdTooLarge}
+use Rattle.cnf_base.specs.declared.fault.TextFault.TheVariants.{BadToken, IdTooLarge}
 use Rattle.proofs.specs.declared.lrat_text.part.Part.{Part}
 use Rattle.proofs.specs.declared.lrat_text.part.Part.TheVariants.{Identifier, AfterIdentifier, Literals, Hints, Deletion}
-use Rattle.proofs.specs.Steps.{Step, is_small, named, deleting, with_literal, with_hint}
+use Rattle.proofs.specs.Steps.{Step, is_small, named, deleting, with_hint}
 use Rattle.proofs.specs.Reading.{Proof, Reading}
-use Rattle.proofs.specs.TextSteps.{Move, goes, completes, faults, Format, steps_of, left_to}
+use Rattle.proofs.specs.TextSteps.{Move, goes, completes, faults, literal_or_fault, Format, steps_of, left_to}
 
 -- ---- One word of a step
 
@@ -31,14 +27,8 @@ identifier n =
     else faults IdTooLarge))
 
 -- a literal, or the `0` after which the hints stand
-abbrev pub literal_or_end : Step → Option Literal → Move Part
-literal_or_end s (Some l) = goes Literals (with_literal s l)
-literal_or_end s None = goes Hints s
-
 abbrev pub literal : Step → Number → Move Part
-literal s n =
-    if nat_le n.size 268435455 then literal_or_end s (number_literal n)
-    else faults LiteralTooLarge
+literal s n = literal_or_fault Literals (goes Hints) s n
 
 -- a hint of either sign, or the `0` that ends the step
 abbrev pub hint : Step → Number → Move Part
@@ -66,11 +56,6 @@ abbrev pub d_move : Part → Step → Move Part
 d_move AfterIdentifier s = goes Deletion (deleting s)
 d_move _ s = faults BadToken
 
-abbrev pub move_of : Part → Step → Word → Move Part
-move_of part s (words.Number n) = number_move part s n
-move_of part s words.D = d_move part s
-move_of part s _ = faults BadToken
-
 -- ---- All steps
 
 abbrev pub is_identifier : Part → Bool
@@ -79,7 +64,7 @@ is_identifier _ = false
 
 -- a step begins with its identifier
 abbrev pub lrat : Format Part
-lrat = record { start = Identifier; is_start = is_identifier; move_of = move_of }
+lrat = record { start = Identifier; is_start = is_identifier; number_move = number_move; d_move = d_move }
 
 abbrev pub lrat_steps : Input → Proof
 lrat_steps i = steps_of lrat i

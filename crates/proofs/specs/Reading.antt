@@ -2,7 +2,7 @@
 use Rattle.std.specs.Prelude.{◌≡◌, ℕ, Bool, true, false, List, [], ◌∷◌, length, Option, None, Some, Result, Ok, Err}
 use Rattle.cnf_base.specs.Stream.{Input, Stream}
 use Rattle.cnf_base.specs.declared.fault.Fault.{Fault}
-use Rattle.cnf_base.specs.declared.fault.Fault.TheVariants.{OutOfMemory}
+use Rattle.cnf_base.specs.declared.fault.Fault.TheVariants.{OutOfMemory, ReadFailed}
 use Rattle.proofs.specs.Steps.{Step}
 
 -- a step, and how many bytes of the input follow its last `0`
@@ -34,6 +34,10 @@ unless_ended (Some (Err f)) p = faulty f
 pub record Reading : Type 0 where
   pub stream : Stream
   pub kept : Option (Result Bool Fault)
+
+-- a step is no end, and of a failed read that ended it the reader below tells
+abbrev pub EndsRightly : Reading → Type 0
+EndsRightly r = (r.kept ≡ Some (Ok true) → ⊥) × (r.kept ≡ Some (Err ReadFailed) → r.stream.reader.has_failed ≡ true)
 
 -- A step is the first of what is to come; or nothing is to come, and it stays so; or a fault is, and it stays.
 -- After want of memory that is the fault that stays. `rest` is what follows of the input.

@@ -1,17 +1,21 @@
 -- The steps of a proof as text, over any number of lines, in whatever format.
-use Rattle.std.specs.Prelude.{ℕ, Bool, if◌then◌else◌, List, [], ◌∷◌}
+use Rattle.std.specs.Prelude.{ℕ, nat_le, Bool, if◌then◌else◌, List, [], ◌∷◌, Option, None, Some}
+use Rattle.cnf_base.specs.Literals.{Literal}
 use Rattle.cnf_base.specs.Stream.{Input}
 use Rattle.cnf_base.specs.Text.{Listed, Listing, listing_at, listing_of}
+use Rattle.cnf_base.specs.Words.{number_literal}
 use Rattle.cnf_base.specs.declared.input.Ending.{Ending}
 use Rattle.cnf_base.specs.declared.input.Ending.TheVariants.{End, Failed}
 use Rattle.cnf_base.specs.declared.place.Place.{Place}
+use Rattle.cnf_base.specs.declared.word.Number.{Number}
 use Rattle.cnf_base.specs.declared.word.Word.{Word}
+use Rattle.cnf_base.specs.declared.word.Word.TheVariants as words
 use Rattle.cnf_base.specs.declared.token.Token as tokens
 use Rattle.cnf_base.specs.declared.token.Token.TheVariants as token
 use Rattle.cnf_base.specs.declared.fault.Fault.TheVariants.{Text, ReadFailed}
 use Rattle.cnf_base.specs.declared.fault.TextFault.{TextFault}
-use Rattle.cnf_base.specs.declared.fault.TextFault.TheVariants.{UnterminatedStep}
-use Rattle.proofs.specs.Steps.{Step, named}
+use Rattle.cnf_base.specs.declared.fault.TextFault.TheVariants.{BadToken, LiteralTooLarge, UnterminatedStep}
+use Rattle.proofs.specs.Steps.{Step, named, with_literal}
 use Rattle.proofs.specs.Reading.{Proof, clean, faulty, with_step, Reading, unless_ended}
 
 -- what a word does: the step goes on in some part, it is complete, or the word can't stand there
@@ -20,11 +24,29 @@ pub data Move (Part : Type 0) : Type 0 where
   completes : Step → Move Part
   faults : TextFault → Move Part
 
--- a format: the part before a step's first word, and what a word does in each part
+-- a literal, with which the step goes on in a part, or the `0` that ends the literals
+abbrev pub literal_or_end : {Part : Type 0} → Part → (Step → Move Part) → Step → Option Literal → Move Part
+literal_or_end part ended s (Some l) = goes part (with_literal s l)
+literal_or_end part ended s None = ended s
+
+-- what a number does where a literal stands
+abbrev pub literal_or_fault : {Part : Type 0} → Part → (Step → Move Part) → Step → Number → Move Part
+literal_or_fault part ended s n =
+    if nat_le n.size 268435455 then literal_or_end part ended s (number_literal n)
+    else faults LiteralTooLarge
+
+-- a format: the part before a step's first word, and what a number and a `d` do in each part
 pub record Format (Part : Type 0) : Type 0 where
   pub start : Part
   pub is_start : Part → Bool
-  pub move_of : Part → Step → Word → Move Part
+  pub number_move : Part → Step → Number → Move Part
+  pub d_move : Part → Step → Move Part
+
+-- what a word does: no other one stands in a step
+abbrev pub move_of : {Part : Type 0} → Format Part → Part → Step → Word → Move Part
+move_of format part s (words.Number n) = format.number_move part s n
+move_of format part s words.D = format.d_move part s
+move_of format part s _ = faults BadToken
 
 -- what the end of the input means, by where it stands
 abbrev pub at_end : {Part : Type 0} → Format Part → Part → Place → Ending → Proof
@@ -38,7 +60,7 @@ on_move format p left (completes s) rest = with_step s left (rest format.start (
 on_move format p left (faults f) rest = faulty (Text f p)
 
 abbrev pub on_token : {Part : Type 0} → Format Part → Part → Step → tokens.Token → ℕ → (Part → Step → Proof) → Proof
-on_token format part s (token.Word p w) left rest = on_move format p left (format.move_of part s w) rest
+on_token format part s (token.Word p w) left rest = on_move format p left (move_of format part s w) rest
 on_token format part s (token.LineEnd p) left rest = rest part s
 on_token format part s (token.End p) left rest = rest part s
 

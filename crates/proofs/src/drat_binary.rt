@@ -30,16 +30,13 @@ pub struct DratBinary<R: In> {
 }
 
 impl<R: In> Model for DratBinary<R> {
-    ghost use Rattle.std.specs.Prelude.{◌≡◌, Some, Ok, Err, true};
-    ghost use Rattle.cnf_base.specs.declared.fault.Fault.TheVariants.{ReadFailed};
-    ghost use Rattle.proofs.specs.Reading.{Reading};
+    ghost use Rattle.proofs.specs.Reading.{Reading, EndsRightly};
 
     ghost Value = { Reading };
 
     ghost view = { λ r. record { stream = r.source; kept = r.kept } };
 
-    ghost invariant = { λ r. (r.kept ≡ Some (Ok true) → ⊥)
-        × (r.kept ≡ Some (Err ReadFailed) → r.source.reader.has_failed ≡ true) };
+    ghost invariant = { λ r. EndsRightly (record { stream = r.source; kept = r.kept }) };
 }
 
 impl<R: In> DratBinary<R> {

@@ -104,9 +104,7 @@ impl StepBuf {
     pub(crate) fn push_literal(&mut self, lit: Lit) -> Result<(), OutOfMemory>
         ensures { OnOk result (self.new ≡ with_literal self.old lit) }
     {
-        if self.lits.push(lit).is_err() {
-            return Err(OutOfMemory);
-        }
+        self.lits.push(lit)?;
         Ok(())
     }
 
@@ -114,9 +112,7 @@ impl StepBuf {
         requires { IsTrue (is_hint self.old.kind hint) }
         ensures { OnOk result (self.new ≡ with_hint self.old hint) }
     {
-        if self.hints.push(hint).is_err() {
-            return Err(OutOfMemory);
-        }
+        self.hints.push(hint)?;
         Ok(())
     }
 }

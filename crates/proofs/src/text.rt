@@ -7,16 +7,16 @@ ghost use Rattle.cnf_base.specs.Readers.{Advances, TellsOf};
 ghost use Rattle.cnf_base.specs.declared.input.Ending.TheVariants.{End};
 ghost use Rattle.proofs.specs.Reading.{GivesStep};
 ghost use Rattle.proofs.specs.Steps.{Step, named};
-ghost use Rattle.proofs.specs.TextSteps.{Format, left_to, steps_listed, at_end};
+ghost use Rattle.proofs.specs.TextSteps.{Format, move_of, left_to, steps_listed, at_end};
 ghost use Rattle.proofs.specs.TextMoves.{left_of, EndsSo, FitsMoved, Moves};
 
 use crate::moved::Moved;
 use crate::stopped::Stopped;
 use crate::{StepBuf, StepReader};
-use cnf_base::{Fault, In, Place, ReadFailed, Scanner, Source, TextFault, Token, Word};
+use cnf_base::{Fault, In, Number, Place, ReadFailed, Scanner, Source, TextFault, Token, Word};
 use std::marker::{Model, PhantomData};
 
-/// Where a word of a step stands, in a format that is text. A format says what a word does in each part.
+/// Where a word of a step stands, in a format that is text. A format says what a number and a `d` do in each part.
 pub trait Part: Copy {
     /// The format whose parts these are.
     ghost format: { Format Self };
@@ -33,10 +33,16 @@ pub trait Part: Copy {
     fn is_start(self) -> bool
         ensures { result ≡ format.is_start self };
 
-    /// Puts a word into the step.
-    fn move_on(self, step: &mut StepBuf, word: Word) -> Result<Moved<Self>, Stopped>
+    /// Puts a number into the step.
+    fn take_number(self, step: &mut StepBuf, number: Number) -> Result<Moved<Self>, Stopped>
         requires { IsTrue (fits self step.old) }
-        ensures moves { Moves result (format.move_of self step.old word) step.new }
+        ensures moves { Moves result (format.number_move self step.old number) step.new }
+        ensures fits { FitsMoved fits result step.new };
+
+    /// Puts a `d` into the step.
+    fn take_d(self, step: &mut StepBuf) -> Result<Moved<Self>, Stopped>
+        requires { IsTrue (fits self step.old) }
+        ensures moves { Moves result (format.d_move self step.old) step.new }
         ensures fits { FitsMoved fits result step.new };
 }
 
@@ -50,16 +56,13 @@ pub struct Text<R: In, P: Part> {
 }
 
 impl<R: In, P: Part> Model for Text<R, P> {
-    ghost use Rattle.std.specs.Prelude.{◌≡◌, Some, Ok, Err, true};
-    ghost use Rattle.cnf_base.specs.declared.fault.Fault.TheVariants.{ReadFailed};
-    ghost use Rattle.proofs.specs.Reading.{Reading};
+    ghost use Rattle.proofs.specs.Reading.{Reading, EndsRightly};
 
     ghost Value = { Reading };
 
     ghost view = { λ r. record { stream = r.scanner; kept = r.kept } };
 
-    ghost invariant = { λ r. (r.kept ≡ Some (Ok true) → ⊥)
-        × (r.kept ≡ Some (Err ReadFailed) → r.scanner.reader.has_failed ≡ true) };
+    ghost invariant = { λ r. EndsRightly (record { stream = r.scanner; kept = r.kept }) };
 }
 
 impl<R: In, P: Part> Text<R, P> {
@@ -121,7 +124,7 @@ fn read_step<R: In, P: Part>(
     let mut part = start;
     loop {
         match scanner.next() {
-            Ok(Token::Word(place, word)) => match part.move_on(step, word) {
+            Ok(Token::Word(place, word)) => match move_on(part, step, word) {
                 Ok(Moved::To(next)) => part = next,
                 Ok(Moved::Complete) => return Ok(true),
                 Err(Stopped::Text(kind)) => return Err(Fault::Text(kind, place)),
@@ -131,6 +134,19 @@ fn read_step<R: In, P: Part>(
             Ok(Token::End(place)) => return at_end(part, place),
             Err(ReadFailed) => return Err(Fault::ReadFailed),
         }
+    }
+}
+
+// Puts a word into the step.
+fn move_on<P: Part>(part: P, step: &mut StepBuf, word: Word) -> Result<Moved<P>, Stopped>
+    requires { IsTrue (P.fits part step.old) }
+    ensures moves { Moves result (move_of P.format part step.old word) step.new }
+    ensures fits { FitsMoved P.fits result step.new }
+{
+    match word {
+        Word::Number(number) => part.take_number(step, number),
+        Word::D => part.take_d(step),
+        _ => Err(Stopped::Text(TextFault::BadToken)),
     }
 }
 

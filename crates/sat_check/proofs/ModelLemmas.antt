@@ -7,7 +7,8 @@ use Rattle.cnf_base.specs.Literals.{Literal, Clause, complement, has}
 use Rattle.cnf_base.specs.declared.fault.Fault.{Fault}
 use Rattle.cnf_base.specs.declared.fault.Fault.TheVariants.{Text, Binary, ReadFailed, OutOfMemory}
 use Rattle.cnf_base.proofs.SetLemmas.{any_from, any_some}
-use Rattle.cnf_base.specs.Stream.{Input}
+use Rattle.cnf_base.specs.Seen.{OfBothSeen}
+use Rattle.cnf_base.specs.Stream.{Input, Reader}
 use Rattle.dimacs.specs.Claim.{claim_of, IsClaim, IsConsistent}
 use Rattle.dimacs.specs.Formula.{Formula, formula_of}
 use Rattle.steps.specs.Theory.Models.{Assignment, holds, satisfies, HasModel}
@@ -20,6 +21,7 @@ use Rattle.sat_check.specs.declared.judgement.Judgement.TheVariants.{Met, Unmet}
 use Rattle.sat_check.specs.declared.subject.Subject.TheVariants.{Model}
 use Rattle.sat_check.specs.declared.status.Status.{Status}
 use Rattle.sat_check.specs.declared.status.Status.TheVariants.{Verified, NotVerified}
+use Rattle.sat_check.proofs.OutcomeLemmas.{both_told}
 use Rattle.sat_check.proofs.SoundLemmas.{fault_is_no_verdict, outcome_verified, outcome_complete}
 
 -- ---- Literals that are the same set meet the same clauses
@@ -185,3 +187,11 @@ checks_model i j old new status o consistent = record {
   where
     said : status ≡ Verified → Satisfies (claim_of j) (formula_of i).clauses × ((formula_of i).fault ≡ None)
     said is = verified_satisfied (claim_of j) (formula_of i) (outcome_verified status old new (model_report i j) is o) (consistent is)
+
+-- and by all that was seen of the formula and of the output
+pub both_check_model : (formula formula_new output output_new : Reader) (status : Status) (old new first last : Option (List ℕ)) → old ≡ first → new ≡ last
+    → OfBothSeen formula formula_new output output_new (λ i j. Outcome status old new (model_report i j) × (status ≡ Verified → IfOk (claim_of j) IsConsistent))
+    → OfBothSeen formula formula_new output output_new (λ i j. ChecksModel i j first last status)
+both_check_model formula formula_new output output_new status old new first last before after =
+    both_told formula formula_new output output_new (λ x y i j. Outcome status x y (model_report i j) × (status ≡ Verified → IfOk (claim_of j) IsConsistent)) (λ i j. ChecksModel i j first last status)
+    old new first last before after (λ i j x. checks_model i j first last status x.0 x.1)

@@ -3,6 +3,8 @@ use Rattle.std.proofs.Common.{◌≡◌, ℕ, false, List, [], ◌∷◌, ◌++�
 use Rattle.std.specs.Prelude.{Result, Ok, Err, OnOk}
 use Rattle.std.specs.Io.KnownBytes.{Appends}
 use Rattle.cnf_base.specs.Lines.{Sink, Writes, line_of}
+use Rattle.cnf_base.specs.Seen.{OfBothSeen}
+use Rattle.cnf_base.specs.Stream.{Input, Reader}
 use Rattle.cnf_base.proofs.LineLemmas.{append_nil, Appends-then, Writes-nothing}
 use Rattle.sat_check.specs.Report.{Report, text_of, Outcome, with_lines, concluded}
 use Rattle.sat_check.specs.Lines.{sentence}
@@ -151,9 +153,14 @@ pub on_ok : {A E : Type 0} (r : Result A E) (P Q : Type 0) → OnOk r P → (P �
 on_ok (Ok x) P Q h next = next h
 on_ok (Err e) P Q h next = h
 
--- what a writer holds, by another name
-pub Outcome-same : (status : Status) (old new first last : Option (List ℕ)) (r : Report) → old ≡ first → new ≡ last → Outcome status old new r → Outcome status first last r
-Outcome-same status old new first last r before after o =
-    let P : Option (List ℕ) → Type 0 = λ x. Outcome status x new r in
-    let Q : Option (List ℕ) → Type 0 = λ x. Outcome status first x r in
-    subst Q after (subst P before o)
+-- a fact of all that was seen, and of what the writer holds by another name
+pub both_told : (one one_new two two_new : Reader) (P : Option (List ℕ) → Option (List ℕ) → Input → Input → Type 0) (Q : Input → Input → Type 0) (old new first last : Option (List ℕ)) → old ≡ first → new ≡ last
+    → ((i j : Input) → P first last i j → Q i j) → OfBothSeen one one_new two two_new (P old new) → OfBothSeen one one_new two two_new Q
+both_told one one_new two two_new P Q old new first last before after next both = record {
+  first = both.first;
+  second = both.second;
+  fact = λ i j s t.
+      let F : Option (List ℕ) → Type 0 = λ x. P x new i j in
+      let G : Option (List ℕ) → Type 0 = λ x. P first x i j in
+      next i j (subst G after (subst F before (both.fact i j s t)));
+}

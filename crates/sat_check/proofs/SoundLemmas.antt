@@ -1,6 +1,7 @@
 -- What status 0 and a written `s VERIFIED` mean.
 use Rattle.std.proofs.Common.{◌≡◌, ℕ, ◌+◌, Bool, Option, None, Some, List, length, refl, sym, ap, ◌∙◌, subst, slice_get, inl, inr}
-use Rattle.cnf_base.specs.Stream.{Input}
+use Rattle.cnf_base.specs.Seen.{OfBothSeen}
+use Rattle.cnf_base.specs.Stream.{Input, Reader}
 use Rattle.cnf_base.specs.declared.fault.Fault.{Fault}
 use Rattle.cnf_base.specs.declared.fault.Fault.TheVariants as faults
 use Rattle.cnf_base.specs.declared.fault.TextFault.{TextFault}
@@ -16,6 +17,7 @@ use Rattle.sat_check.specs.Lines.{fault_status, text_status}
 use Rattle.sat_check.specs.Report.{Report, Outcome, ReportsFormula, ProofReport, Verifies, Reports, ChecksProof, IsUnlessBroken, steps_of, peak_of, verdict_report}
 use Rattle.sat_check.specs.declared.status.Status.{Status}
 use Rattle.sat_check.specs.declared.status.Status.TheVariants.{Verified, NotVerified, Malformed, ReadFailed, OutOfMemory, WriteFailed, Usage}
+use Rattle.sat_check.proofs.OutcomeLemmas.{both_told}
 use Rattle.sat_check.proofs.WrittenLemmas.{written_verified}
 
 -- no fault is a positive verdict
@@ -93,3 +95,11 @@ checks_proof rule trace i p old new status x = record {
   where
     refuted : x.report.status ≡ Verified → ¬ HasModel (slice_get (formula_of i).clauses)
     refuted is = verifies_sound rule (formula_of i) p (report_verified rule trace i p x.report x.reports is)
+
+-- and by all that was seen of the formula and of the proof
+pub both_check_proof : (rule : Rule) (trace : Bool) (steps : Input → Proof) (formula formula_new proof proof_new : Reader) (status : Status) (old new first last : Option (List ℕ)) → old ≡ first → new ≡ last
+    → OfBothSeen formula formula_new proof proof_new (λ i j. Reports rule trace i (steps j) old new status)
+    → OfBothSeen formula formula_new proof proof_new (λ i j. ChecksProof rule trace i (steps j) first last status)
+both_check_proof rule trace steps formula formula_new proof proof_new status old new first last before after =
+    both_told formula formula_new proof proof_new (λ x y i j. Reports rule trace i (steps j) x y status) (λ i j. ChecksProof rule trace i (steps j) first last status) old new first last before after
+    (λ i j. checks_proof rule trace i (steps j) first last status)

@@ -60,30 +60,14 @@ pub fn break_off<O: Out>(
     match fault {
         Fault::OutOfMemory => give_up(lines),
         Fault::Text(_, _) | Fault::Binary(_, _) | Fault::ReadFailed => {
-            conclude_fault(alloc, lines, subject, name, fault)
+            conclude(
+                lines,
+                subject,
+                fault_line(alloc, name, fault),
+                fault_status(fault),
+            )
         }
     }
-}
-
-fn conclude_fault<O: Out>(
-    alloc: Global,
-    lines: &mut LineOut<O>,
-    subject: Subject,
-    name: &[u8],
-    fault: Fault,
-) -> Status
-    ensures outcome { Outcome result lines.old.held lines.new.held
-        (concluded subject (fault_line name.now fault) (fault_status fault)) }
-    ensures read_failed { result ≡ Status.ReadFailed → fault ≡ Fault.ReadFailed }
-    ensures write_failed { result ≡ Status.WriteFailed → lines.new.has_failed ≡ true }
-    ensures same_writer { lines.new.borrows ≡ lines.old.borrows }
-{
-    conclude(
-        lines,
-        subject,
-        fault_line(alloc, name, fault),
-        fault_status(fault),
-    )
 }
 
 /// Writes a line that others follow. Where that fails it answers the status.

@@ -1,11 +1,8 @@
 //! A check of a DRAT proof, from bytes to bytes.
 
-ghost use Rattle.std.specs.Prelude.{◌≡◌, [], true, false};
+ghost use Rattle.std.specs.Prelude.{◌≡◌, true, false};
 ghost use Rattle.cnf_base.specs.Seen.{OfBothSeen, OneHasFailed};
-ghost use Rattle.proofs.specs.Binary.{binary_steps};
-ghost use Rattle.proofs.specs.Drat.{drat_steps};
-ghost use Rattle.steps.specs.Theory.Rules.{drat, rule_of};
-ghost use Rattle.sat_check.specs.Checking.{IsLoaded};
+ghost use Rattle.steps.specs.Theory.Rules.{drat};
 ghost use Rattle.sat_check.specs.Report.{Reports, ChecksProof, drat_proof, rules_of};
 
 use crate::check::check;
@@ -15,7 +12,7 @@ use clause_db::Scan;
 use cnf_base::{In, LineOut, Out, Piece, Source};
 use proofs::{DratBinary, DratText};
 use std::alloc::Global;
-use steps::{DratSession, ProofSession};
+use steps::DratSession;
 
 /// Reads a formula in DIMACS CNF whole, then checks a proof of it in DRAT, and writes the report, flushed.
 ///
@@ -67,69 +64,21 @@ fn check_drat<F: In, P: In, O: Out>(
         return give_up(lines);
     };
     let mut session = DratSession::new(clauses, options.rules());
+    let Ok(piece) = Piece::new(alloc) else {
+        return give_up(lines);
+    };
+    let trace = options.trace;
     if options.binary {
-        check_binary(alloc, options.trace, formula, &mut session, proof, lines)
+        let mut reader = DratBinary::new(Source::over(piece, &mut *proof));
+        let status = check(alloc, trace, formula, &mut session, &mut reader, lines);
+        let rest = reader.release();
+        let _ = &*rest;
+        status
     } else {
-        check_text(alloc, options.trace, formula, &mut session, proof, lines)
+        let mut reader = DratText::new(Source::over(piece, &mut *proof));
+        let status = check(alloc, trace, formula, &mut session, &mut reader, lines);
+        let rest = reader.release();
+        let _ = &*rest;
+        status
     }
-}
-
-// The proof is text.
-fn check_text<F: In, S: ProofSession, P: In, O: Out>(
-    alloc: Global,
-    trace: bool,
-    formula: &mut F,
-    session: &mut S,
-    proof: &mut P,
-    lines: &mut LineOut<O>,
-) -> Status
-    requires unused { IsLoaded (rule_of (S.shown session.old).state) (S.shown session.old) [] }
-    requires whole { lines.old.is_broken ≡ false }
-    ensures report { OfBothSeen (F.shown formula.old) (F.shown formula.new)
-        (P.shown proof.old) (P.shown proof.new) (λ i j.
-        Reports (rule_of (S.shown session.old).state) trace i (drat_steps j)
-        lines.old.held lines.new.held result) }
-    ensures read_failed { result ≡ Status.ReadFailed →
-        OneHasFailed (F.shown formula.new) (P.shown proof.new) }
-    ensures write_failed { result ≡ Status.WriteFailed → lines.new.has_failed ≡ true }
-    ensures same_writer { lines.new.borrows ≡ lines.old.borrows }
-{
-    let Ok(piece) = Piece::new(alloc) else {
-        return give_up(lines);
-    };
-    let mut reader = DratText::new(Source::over(piece, &mut *proof));
-    let status = check(alloc, trace, formula, session, &mut reader, lines);
-    let rest = reader.release();
-    let _ = &*rest;
-    status
-}
-
-// The proof is in the binary form.
-fn check_binary<F: In, S: ProofSession, P: In, O: Out>(
-    alloc: Global,
-    trace: bool,
-    formula: &mut F,
-    session: &mut S,
-    proof: &mut P,
-    lines: &mut LineOut<O>,
-) -> Status
-    requires unused { IsLoaded (rule_of (S.shown session.old).state) (S.shown session.old) [] }
-    requires whole { lines.old.is_broken ≡ false }
-    ensures report { OfBothSeen (F.shown formula.old) (F.shown formula.new)
-        (P.shown proof.old) (P.shown proof.new) (λ i j.
-        Reports (rule_of (S.shown session.old).state) trace i (binary_steps j)
-        lines.old.held lines.new.held result) }
-    ensures read_failed { result ≡ Status.ReadFailed →
-        OneHasFailed (F.shown formula.new) (P.shown proof.new) }
-    ensures write_failed { result ≡ Status.WriteFailed → lines.new.has_failed ≡ true }
-    ensures same_writer { lines.new.borrows ≡ lines.old.borrows }
-{
-    let Ok(piece) = Piece::new(alloc) else {
-        return give_up(lines);
-    };
-    let mut reader = DratBinary::new(Source::over(piece, &mut *proof));
-    let status = check(alloc, trace, formula, session, &mut reader, lines);
-    let rest = reader.release();
-    let _ = &*rest;
-    status
 }

@@ -121,37 +121,32 @@ pub fn clauses_line(alloc: Global, number: u64) -> Result<Line, OutOfMemory>
 pub fn sentence(subject: Subject, status: Status) -> &'static [u8]
     ensures { result.now ≡ sentence subject status }
 {
+    match status {
+        Status::Verified => verified_sentence(subject),
+        Status::NotVerified
+        | Status::Malformed
+        | Status::ReadFailed
+        | Status::OutOfMemory
+        | Status::WriteFailed
+        | Status::Usage => unverified_sentence(subject),
+    }
+}
+
+fn verified_sentence(subject: Subject) -> &'static [u8]
+    ensures { result.now ≡ sentence subject Status.Verified }
+{
     match subject {
-        Subject::Proof => proof_sentence(status),
-        Subject::Model => model_sentence(status),
+        Subject::Proof => b"s VERIFIED",
+        Subject::Model => b"s MODEL VERIFIED",
     }
 }
 
-fn proof_sentence(status: Status) -> &'static [u8]
-    ensures { result.now ≡ sentence Subject.Proof status }
+fn unverified_sentence(subject: Subject) -> &'static [u8]
+    ensures { (status : Status) → (status ≡ Status.Verified → ⊥) → result.now ≡ sentence subject status }
 {
-    match status {
-        Status::Verified => b"s VERIFIED",
-        Status::NotVerified
-        | Status::Malformed
-        | Status::ReadFailed
-        | Status::OutOfMemory
-        | Status::WriteFailed
-        | Status::Usage => b"s NOT VERIFIED",
-    }
-}
-
-fn model_sentence(status: Status) -> &'static [u8]
-    ensures { result.now ≡ sentence Subject.Model status }
-{
-    match status {
-        Status::Verified => b"s MODEL VERIFIED",
-        Status::NotVerified
-        | Status::Malformed
-        | Status::ReadFailed
-        | Status::OutOfMemory
-        | Status::WriteFailed
-        | Status::Usage => b"s MODEL NOT VERIFIED",
+    match subject {
+        Subject::Proof => b"s NOT VERIFIED",
+        Subject::Model => b"s MODEL NOT VERIFIED",
     }
 }
 

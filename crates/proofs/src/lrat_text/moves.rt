@@ -1,7 +1,7 @@
 //! What a word does to a step.
 
 ghost use Rattle.std.specs.Prelude.{◌≡◌, ◌≤◌, IsTrue};
-ghost use Rattle.proofs.specs.Lrat.{lrat, number_move, d_move, identifier, literal, hint, deleted, signed};
+ghost use Rattle.proofs.specs.Lrat.{lrat, identifier, literal, hint, deleted, signed};
 ghost use Rattle.proofs.specs.TextMoves.{FitsMoved, Moves};
 ghost use Rattle.proofs.specs.LratMoves.{fits_part, is_addition};
 
@@ -9,7 +9,7 @@ use super::part::Part;
 use crate::moved::Moved;
 use crate::stopped::Stopped;
 use crate::{StepBuf, text};
-use cnf_base::{Lit, Number, TextFault, Word};
+use cnf_base::{Lit, Number, TextFault};
 
 const MOST: u64 = 9223372036854775807;
 
@@ -26,39 +26,24 @@ impl text::Part for Part {
         matches!(self, Part::Identifier)
     }
 
-    fn move_on(self, step: &mut StepBuf, word: Word) -> Result<Moved<Part>, Stopped> {
-        match word {
-            Word::Number(number) => take_number(self, step, number),
-            Word::D => take_d(self, step),
-            _ => Err(Stopped::Text(TextFault::BadToken)),
+    fn take_number(self, step: &mut StepBuf, number: Number) -> Result<Moved<Part>, Stopped> {
+        match self {
+            Part::Identifier => take_identifier(step, number),
+            Part::AfterIdentifier | Part::Literals => take_literal(step, number),
+            Part::Hints => take_hint(step, number),
+            Part::Deletion => take_deleted(step, number),
         }
     }
-}
 
-fn take_number(part: Part, step: &mut StepBuf, number: Number) -> Result<Moved<Part>, Stopped>
-    requires { IsTrue (fits_part part step.old) }
-    ensures moves { Moves result (number_move part step.old number) step.new }
-    ensures fits { FitsMoved fits_part result step.new }
-{
-    match part {
-        Part::Identifier => take_identifier(step, number),
-        Part::AfterIdentifier | Part::Literals => take_literal(step, number),
-        Part::Hints => take_hint(step, number),
-        Part::Deletion => take_deleted(step, number),
-    }
-}
-
-fn take_d(part: Part, step: &mut StepBuf) -> Result<Moved<Part>, Stopped>
-    ensures moves { Moves result (d_move part step.old) step.new }
-    ensures fits { FitsMoved fits_part result step.new }
-{
-    match part {
-        Part::AfterIdentifier => {
-            step.delete();
-            Ok(Moved::To(Part::Deletion))
-        }
-        Part::Identifier | Part::Literals | Part::Hints | Part::Deletion => {
-            Err(Stopped::Text(TextFault::BadToken))
+    fn take_d(self, step: &mut StepBuf) -> Result<Moved<Part>, Stopped> {
+        match self {
+            Part::AfterIdentifier => {
+                step.delete();
+                Ok(Moved::To(Part::Deletion))
+            }
+            Part::Identifier | Part::Literals | Part::Hints | Part::Deletion => {
+                Err(Stopped::Text(TextFault::BadToken))
+            }
         }
     }
 }

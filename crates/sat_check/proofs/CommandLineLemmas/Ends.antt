@@ -90,44 +90,28 @@ flag_text has set = cond has (Some (cond set (codes "true") (codes "false"))) No
 text_at_end : (tool : Tool) (id : Text) → Bool → Option Text
 text_at_end tool id set = option_and_then row_text (end_row tool id (cond (is_flag tool (45 ∷ 45 ∷ id) && set) (Some (flag_row id)) None))
 
-drat_binary : (set : Bool) → text_at_end Drat (codes "binary") set ≡ flag_text true set
-unfolding text_at_end
-drat_binary true = refl
-drat_binary false = refl
-
-drat_trace : (set : Bool) → text_at_end Drat (codes "trace") set ≡ flag_text true set
-unfolding text_at_end
-drat_trace true = refl
-drat_trace false = refl
-
-drat_strict : (set : Bool) → text_at_end Drat (codes "strict") set ≡ flag_text true set
-unfolding text_at_end
-drat_strict true = refl
-drat_strict false = refl
-
-lrat_trace : (set : Bool) → text_at_end Lrat (codes "trace") set ≡ flag_text true set
-unfolding text_at_end
-lrat_trace true = refl
-lrat_trace false = refl
-
 abbrev IsFlagText : Tool → Text → Bool → Type 0
 IsFlagText tool id set = text_at_end tool id set ≡ flag_text (is_flag tool (45 ∷ 45 ∷ id)) set
 
+by_cases : (tool : Tool) (id : Text) → IsFlagText tool id true → IsFlagText tool id false → (set : Bool) → IsFlagText tool id set
+by_cases tool id on off true = on
+by_cases tool id on off false = off
+
 binary_text : (tool : Tool) (set : Bool) → IsFlagText tool (codes "binary") set
 unfolding text_at_end
-binary_text Drat set = drat_binary set
+binary_text Drat set = by_cases Drat (codes "binary") refl refl set
 binary_text Lrat set = refl
 binary_text Model set = refl
 
 trace_text : (tool : Tool) (set : Bool) → IsFlagText tool (codes "trace") set
 unfolding text_at_end
-trace_text Drat set = drat_trace set
-trace_text Lrat set = lrat_trace set
+trace_text Drat set = by_cases Drat (codes "trace") refl refl set
+trace_text Lrat set = by_cases Lrat (codes "trace") refl refl set
 trace_text Model set = refl
 
 strict_text : (tool : Tool) (set : Bool) → IsFlagText tool (codes "strict") set
 unfolding text_at_end
-strict_text Drat set = drat_strict set
+strict_text Drat set = by_cases Drat (codes "strict") refl refl set
 strict_text Lrat set = refl
 strict_text Model set = refl
 

@@ -48,6 +48,14 @@ pub record After (tool : Tool) (done : List Text) (w : Walk) : Type 0 where
 
 -- ---- a flag
 
+bytes_eq_sym : (a b : Text) → bytes_eq a b ≡ bytes_eq b a
+bytes_eq_sym a b = go (bytes_eq a b) (bytes_eq b a) refl refl
+  where
+    go : (x y : Bool) → bytes_eq a b ≡ x → bytes_eq b a ≡ y → x ≡ y
+    go true y e f = sym ((bytes_eq-Decides b a).1 (sym ((bytes_eq-Decides a b).0 e))) ∙ f
+    go false false e f = refl
+    go false true e f = sym e ∙ (bytes_eq-Decides a b).1 (sym ((bytes_eq-Decides b a).0 f))
+
 set_kept : (tool : Tool) (name : Text) (done : List Text) (rows : List Row) (r : Row) (word : Text) → bytes_eq r.id name ≡ false → bytes_eq (45 ∷ 45 ∷ name) word ≡ false
     → row_for name rows ≡ set_row tool name done → row_for name (rows ++ r ∷ []) ≡ set_row tool name (done ++ word ∷ [])
 set_kept tool name done rows r word id other shown =
@@ -72,37 +80,27 @@ file_kept : (name : Text) (a : Rule) (ns : List Text) (k : ℕ) (rows : List Row
 file_kept name a ns k rows r id shown = row_kept name rows r id ∙ shown
 
 module _ (tool : Tool) (done ns : List Text) (rows : List Row) (s : Shows tool done ns rows) where
-  binary_shown : is_flag tool (codes "--binary") ≡ true → has_row (codes "binary") rows ≡ false
-      → Shows tool (done ++ codes "--binary" ∷ []) ns (rows ++ flag_row (codes "binary") ∷ [])
-  binary_shown flag new = record {
-    said = names_kept tool done (codes "--binary") flag ∙ s.said;
-    binary = set_added tool (codes "binary") done rows refl flag (no_row _ rows new);
-    trace = set_kept tool (codes "trace") done rows _ _ refl refl s.trace;
-    strict = set_kept tool (codes "strict") done rows _ _ refl refl s.strict;
-    formula = file_kept _ formula_full ns 0 rows _ refl s.formula;
-    second = file_kept _ second_full ns 1 rows _ refl s.second;
-  }
+  -- the row of a name, after this flag
+  set_after : (flag name : Text) → is_flag tool (45 ∷ 45 ∷ flag) ≡ true → has_row flag rows ≡ false → row_for name rows ≡ set_row tool name done
+      → row_for name (rows ++ flag_row flag ∷ []) ≡ set_row tool name (done ++ (45 ∷ 45 ∷ flag) ∷ [])
+  set_after flag name is new shown = go (bytes_eq flag name) refl
+    where
+      P : Text → Type 0
+      P x = row_for x (rows ++ flag_row flag ∷ []) ≡ set_row tool x (done ++ (45 ∷ 45 ∷ flag) ∷ [])
 
-  trace_shown : is_flag tool (codes "--trace") ≡ true → has_row (codes "trace") rows ≡ false
-      → Shows tool (done ++ codes "--trace" ∷ []) ns (rows ++ flag_row (codes "trace") ∷ [])
-  trace_shown flag new = record {
-    said = names_kept tool done (codes "--trace") flag ∙ s.said;
-    binary = set_kept tool (codes "binary") done rows _ _ refl refl s.binary;
-    trace = set_added tool (codes "trace") done rows refl flag (no_row _ rows new);
-    strict = set_kept tool (codes "strict") done rows _ _ refl refl s.strict;
-    formula = file_kept _ formula_full ns 0 rows _ refl s.formula;
-    second = file_kept _ second_full ns 1 rows _ refl s.second;
-  }
+      go : (b : Bool) → bytes_eq flag name ≡ b → P name
+      go true same = subst P ((bytes_eq-Decides flag name).0 same) (set_added tool flag done rows ((bytes_eq-Decides flag flag).1 refl) is (no_row flag rows new))
+      go false other = set_kept tool name done rows _ _ other (bytes_eq_sym name flag ∙ other) shown
 
-  strict_shown : is_flag tool (codes "--strict") ≡ true → has_row (codes "strict") rows ≡ false
-      → Shows tool (done ++ codes "--strict" ∷ []) ns (rows ++ flag_row (codes "strict") ∷ [])
-  strict_shown flag new = record {
-    said = names_kept tool done (codes "--strict") flag ∙ s.said;
-    binary = set_kept tool (codes "binary") done rows _ _ refl refl s.binary;
-    trace = set_kept tool (codes "trace") done rows _ _ refl refl s.trace;
-    strict = set_added tool (codes "strict") done rows refl flag (no_row _ rows new);
-    formula = file_kept _ formula_full ns 0 rows _ refl s.formula;
-    second = file_kept _ second_full ns 1 rows _ refl s.second;
+  flag_shown : (flag : Text) → bytes_eq flag (codes "formula") ≡ false → bytes_eq flag (codes "second") ≡ false → is_flag tool (45 ∷ 45 ∷ flag) ≡ true → has_row flag rows ≡ false
+      → Shows tool (done ++ (45 ∷ 45 ∷ flag) ∷ []) ns (rows ++ flag_row flag ∷ [])
+  flag_shown flag no_formula no_second is new = record {
+    said = names_kept tool done (45 ∷ 45 ∷ flag) is ∙ s.said;
+    binary = set_after flag (codes "binary") is new s.binary;
+    trace = set_after flag (codes "trace") is new s.trace;
+    strict = set_after flag (codes "strict") is new s.strict;
+    formula = file_kept _ formula_full ns 0 rows _ no_formula s.formula;
+    second = file_kept _ second_full ns 1 rows _ no_second s.second;
   }
 
 -- what the walk asks of a flag, and what it makes of it
@@ -180,25 +178,12 @@ module _ (tool : Tool) (done : List Text) (r : List Row) (p : Option (Text × Li
   no_fault name turn new =
       turn.0 ∙ ap₂ (λ (k : Kinds) (b : Bool). or_else (or_else k (or_else (cond (b && true) (kind.ArgumentConflict ∷ []) []) [])) []) settles new
 
-  binary_met : is_flag tool (codes "--binary") ≡ true → FlagTurn tool (codes "binary") r p (suc (length ns)) → FlagMet tool done r p ns (codes "--binary")
-  binary_met flag turn = record {
-    after = λ f. let new = flag_new tool done (codes "binary") r p ns turn f in
-        flag_after tool done (codes "binary") r p ns few turn new (binary_shown tool done ns _ shows flag new);
-    fine = λ none. no_fault (codes "binary") turn (has_none (codes "binary") shows.binary none);
-  }
-
-  trace_met : is_flag tool (codes "--trace") ≡ true → FlagTurn tool (codes "trace") r p (suc (length ns)) → FlagMet tool done r p ns (codes "--trace")
-  trace_met flag turn = record {
-    after = λ f. let new = flag_new tool done (codes "trace") r p ns turn f in
-        flag_after tool done (codes "trace") r p ns few turn new (trace_shown tool done ns _ shows flag new);
-    fine = λ none. no_fault (codes "trace") turn (has_none (codes "trace") shows.trace none);
-  }
-
-  strict_met : is_flag tool (codes "--strict") ≡ true → FlagTurn tool (codes "strict") r p (suc (length ns)) → FlagMet tool done r p ns (codes "--strict")
-  strict_met flag turn = record {
-    after = λ f. let new = flag_new tool done (codes "strict") r p ns turn f in
-        flag_after tool done (codes "strict") r p ns few turn new (strict_shown tool done ns _ shows flag new);
-    fine = λ none. no_fault (codes "strict") turn (has_none (codes "strict") shows.strict none);
+  one_met : (name : Text) → bytes_eq name (codes "formula") ≡ false → bytes_eq name (codes "second") ≡ false → row_for name (settled_rows (rules_of tool) p r) ≡ set_row tool name done
+      → is_flag tool (45 ∷ 45 ∷ name) ≡ true → FlagTurn tool name r p (suc (length ns)) → FlagMet tool done r p ns (45 ∷ 45 ∷ name)
+  one_met name no_formula no_second shown flag turn = record {
+    after = λ f. let new = flag_new tool done name r p ns turn f in
+        flag_after tool done name r p ns few turn new (flag_shown tool done ns _ shows name no_formula no_second flag new);
+    fine = λ none. no_fault name turn (has_none name shown none);
   }
 
 pick : (P : Text → Type 0) (word f : Text) (rest : Bool) → (bytes_eq word f || rest) ≡ true → P f → (rest ≡ true → P word) → P word
@@ -212,25 +197,17 @@ flag_met : (tool : Tool) (done : List Text) (r : List Row) (p : Option (Text × 
     → Shows tool done ns (settled_rows (rules_of tool) p r) → (word : Text) → is_flag tool word ≡ true → FlagMet tool done r p ns word
 flag_met Drat done r p ns few settles shows word flag =
     let P : Text → Type 0 = FlagMet Drat done r p ns in
-    pick P word (codes "--binary") (is_among (codes "--trace" ∷ codes "--strict" ∷ []) word) flag (binary_met Drat done r p ns few settles shows refl (drat_binary r p (suc (length ns))))
-    (λ e. pick P word (codes "--trace") (is_among (codes "--strict" ∷ []) word) e (trace_met Drat done r p ns few settles shows refl (drat_trace r p (suc (length ns))))
-    (λ e. pick P word (codes "--strict") false e (strict_met Drat done r p ns few settles shows refl (drat_strict r p (suc (length ns))))
+    pick P word (codes "--binary") (is_among (codes "--trace" ∷ codes "--strict" ∷ []) word) flag (one_met Drat done r p ns few settles shows (codes "binary") refl refl shows.binary refl (drat_binary r p (suc (length ns))))
+    (λ e. pick P word (codes "--trace") (is_among (codes "--strict" ∷ []) word) e (one_met Drat done r p ns few settles shows (codes "trace") refl refl shows.trace refl (drat_trace r p (suc (length ns))))
+    (λ e. pick P word (codes "--strict") false e (one_met Drat done r p ns few settles shows (codes "strict") refl refl shows.strict refl (drat_strict r p (suc (length ns))))
     (λ e. absurd (true≢false (sym e)))))
 flag_met Lrat done r p ns few settles shows word flag =
     let P : Text → Type 0 = FlagMet Lrat done r p ns in
-    pick P word (codes "--trace") false flag (trace_met Lrat done r p ns few settles shows refl (lrat_trace r p (suc (length ns))))
+    pick P word (codes "--trace") false flag (one_met Lrat done r p ns few settles shows (codes "trace") refl refl shows.trace refl (lrat_trace r p (suc (length ns))))
     (λ e. absurd (true≢false (sym e)))
 flag_met Model done r p ns few settles shows word flag = absurd (true≢false (sym flag))
 
 -- ---- a name
-
-bytes_eq_sym : (a b : Text) → bytes_eq a b ≡ bytes_eq b a
-bytes_eq_sym a b = go (bytes_eq a b) (bytes_eq b a) refl refl
-  where
-    go : (x y : Bool) → bytes_eq a b ≡ x → bytes_eq b a ≡ y → x ≡ y
-    go true y e f = sym ((bytes_eq-Decides b a).1 (sym ((bytes_eq-Decides a b).0 e))) ∙ f
-    go false false e f = refl
-    go false true e f = sym e ∙ (bytes_eq-Decides a b).1 (sym ((bytes_eq-Decides b a).0 f))
 
 -- a word that is no flag sets none
 set_by_name : (tool : Tool) (name : Text) (done : List Text) (rows : List Row) (r : Row) (word : Text) → bytes_eq r.id name ≡ false → is_flag tool word ≡ false
@@ -300,59 +277,52 @@ module _ (tool : Tool) (done : List Text) (r : List Row) (p : Option (Text × Li
   rowless : (id : Text) (rows : List Row) → row_for id rows ≡ None → has_row id rows ≡ false
   rowless id rows e = has_row-row_for id rows ∙ ap is_some e
 
-  first_met : Shows tool done [] (settled_rows (rules_of tool) p r) → FileMet tool done r p [] word
-  first_met s =
+  -- a name that the rule a takes, after the names ns
+  name_taken : (a : Rule) (ns named : List Text) → length named ≡ suc (length ns) → length named ≤ 2 → FileTurn tool a r p (suc (length ns)) word → has_row a.id (settled_rows (rules_of tool) p r) ≡ false
+      → used a (word ∷ []) (settled_rows (rules_of tool) p r) ≡ settled_rows (rules_of tool) p r ++ new_row a (word ∷ []) ∷ []
+      → Shows tool (done ++ word ∷ []) named (settled_rows (rules_of tool) p r ++ new_row a (word ∷ []) ∷ []) → FileMet tool done r p ns word
+  name_taken a ns named grows few turn new grown shows =
       let rows = settled_rows (rules_of tool) p r in
-      let turn = first_turn tool r p word in
-      let new : has_row (codes "formula") rows ≡ false = rowless (codes "formula") rows s.formula in
-      let grown : settled_rows (rules_of tool) (Some (codes "formula", word ∷ [])) rows ≡ rows ++ new_row formula_full (word ∷ []) ∷ [] =
-      turn.2 ∙ used_first formula_full (word ∷ []) rows new in
       record {
         after = λ f. record {
           rows = rows;
-          pending = Some (codes "formula", word ∷ []);
-          ns = word ∷ [];
-          few = omega arith;
-          is = turn.1;
+          pending = Some (a.id, word ∷ []);
+          ns = named;
+          few = few;
+          is = turn.1 ∙ ap (λ n. at rows (Some (a.id, word ∷ [])) (suc n)) (sym grows);
           settles = turn.3 ∙ ap (λ b. or_else (cond (b && true) (kind.ArgumentConflict ∷ []) []) []) new;
-          shows = subst (Shows tool (done ++ word ∷ []) (word ∷ [])) (sym grown) (record {
-            said = names_added tool done word flag ∙ ap (λ l. l ++ word ∷ []) s.said;
-            binary = set_by_name tool (codes "binary") done rows _ word refl flag s.binary;
-            trace = set_by_name tool (codes "trace") done rows _ word refl flag s.trace;
-            strict = set_by_name tool (codes "strict") done rows _ word refl flag s.strict;
-            formula = row_added (codes "formula") rows _ refl s.formula;
-            second = row_kept (codes "second") rows _ refl ∙ s.second;
-          });
+          shows = subst (Shows tool (done ++ word ∷ []) named) (sym (turn.2 ∙ grown)) shows;
         };
         fine = λ few. turn.0 ∙ settles;
       }
 
+  -- what the rows show with its row
+  name_shown : (a : Rule) (ns : List Text) (rows : List Row) → bytes_eq a.id (codes "binary") ≡ false → bytes_eq a.id (codes "trace") ≡ false → bytes_eq a.id (codes "strict") ≡ false → Shows tool done ns rows
+      → row_for (codes "formula") (rows ++ new_row a (word ∷ []) ∷ []) ≡ file_row formula_full (ns ++ word ∷ []) 0
+      → row_for (codes "second") (rows ++ new_row a (word ∷ []) ∷ []) ≡ file_row second_full (ns ++ word ∷ []) 1
+      → Shows tool (done ++ word ∷ []) (ns ++ word ∷ []) (rows ++ new_row a (word ∷ []) ∷ [])
+  name_shown a ns rows no_binary no_trace no_strict s formula second = record {
+    said = names_added tool done word flag ∙ ap (λ l. l ++ word ∷ []) s.said;
+    binary = set_by_name tool (codes "binary") done rows _ word no_binary flag s.binary;
+    trace = set_by_name tool (codes "trace") done rows _ word no_trace flag s.trace;
+    strict = set_by_name tool (codes "strict") done rows _ word no_strict flag s.strict;
+    formula = formula;
+    second = second;
+  }
+
+  first_met : Shows tool done [] (settled_rows (rules_of tool) p r) → FileMet tool done r p [] word
+  first_met s =
+      let rows = settled_rows (rules_of tool) p r in
+      let new : has_row (codes "formula") rows ≡ false = rowless (codes "formula") rows s.formula in
+      name_taken formula_full [] (word ∷ []) refl (omega arith) (first_turn tool r p word) new (used_first formula_full (word ∷ []) rows new)
+      (name_shown formula_full [] rows refl refl refl s (row_added (codes "formula") rows _ refl s.formula) (row_kept (codes "second") rows _ refl ∙ s.second))
+
   second_met : (a : Text) → Shows tool done (a ∷ []) (settled_rows (rules_of tool) p r) → FileMet tool done r p (a ∷ []) word
   second_met a s =
       let rows = settled_rows (rules_of tool) p r in
-      let turn = second_turn tool r p word in
       let new : has_row (codes "second") rows ≡ false = rowless (codes "second") rows s.second in
-      let grown : settled_rows (rules_of tool) (Some (codes "second", word ∷ [])) rows ≡ rows ++ new_row second_full (word ∷ []) ∷ [] =
-      turn.2 ∙ used_first second_full (word ∷ []) rows new in
-      record {
-        after = λ f. record {
-          rows = rows;
-          pending = Some (codes "second", word ∷ []);
-          ns = a ∷ word ∷ [];
-          few = omega arith;
-          is = turn.1;
-          settles = turn.3 ∙ ap (λ b. or_else (cond (b && true) (kind.ArgumentConflict ∷ []) []) []) new;
-          shows = subst (Shows tool (done ++ word ∷ []) (a ∷ word ∷ [])) (sym grown) (record {
-            said = names_added tool done word flag ∙ ap (λ l. l ++ word ∷ []) s.said;
-            binary = set_by_name tool (codes "binary") done rows _ word refl flag s.binary;
-            trace = set_by_name tool (codes "trace") done rows _ word refl flag s.trace;
-            strict = set_by_name tool (codes "strict") done rows _ word refl flag s.strict;
-            formula = row_kept (codes "formula") rows _ refl ∙ s.formula;
-            second = row_added (codes "second") rows _ refl s.second;
-          });
-        };
-        fine = λ few. turn.0 ∙ settles;
-      }
+      name_taken second_full (a ∷ []) (a ∷ word ∷ []) refl (omega arith) (second_turn tool r p word) new (used_first second_full (word ∷ []) rows new)
+      (name_shown second_full (a ∷ []) rows refl refl refl s (row_kept (codes "formula") rows _ refl ∙ s.formula) (row_added (codes "second") rows _ refl s.second))
 
   file_met : (ns : List Text) → Shows tool done ns (settled_rows (rules_of tool) p r) → FileMet tool done r p ns word
   file_met [] s = first_met s

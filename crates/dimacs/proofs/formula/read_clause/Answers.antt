@@ -1,6 +1,7 @@
 -- A token of a clause.
 use Rattle.std.proofs.Common.{◌≡◌, ◌++◌, ◌∷◌, [], rules}
-use Rattle.std.specs.Prelude.{Ok}
+use Rattle.std.specs.Prelude.{Ok, Err}
+use Rattle.cnf_base.specs.declared.fault.Fault.TheVariants.{OutOfMemory}
 use Rattle.cnf_base.specs.declared.token.Token.TheVariants as token
 use Rattle.cnf_base.proofs.TokenLemmas.{told}
 use Rattle.dimacs.proofs.FormulaLemmas.{Between-start, Between-line, Between-literal, Between-clause, Between-fault, Between-refused, Between-end, Between-failed}
@@ -9,12 +10,13 @@ use Rattle.dimacs.proofs.formula.read_clause.Goals as goal
 pub loop-place-init : goal.loop-place-init
 loop-place-init g c = Between-start _ _ _ _
 
-pub returns-then-is_err-clause-clause : goal.returns-then-is_err-clause-clause
-returns-then-is_err-clause-clause g c =
-    Between-refused _ _ _ _ _ _ _ c.loop-place.invariant c.in-Ok-Word.place c.in-Ok-Word.word (told _ _ _ (Ok (token.Word c.in-Ok-Word.place c.in-Ok-Word.word)) c.next.ensures.tokens (search rules)) c.push.new.self
+pub returns-in_err-push-in-Ok-Some-clause-clause : goal.returns-in_err-push-in-Ok-Some-clause-clause
+returns-in_err-push-in-Ok-Some-clause-clause g c =
+    let refused : c.from_residual.result ≡ Err OutOfMemory = search rules in
+    rw refused (Between-refused _ _ _ _ _ _ _ c.loop-place.invariant c.in-Ok-Word.place c.in-Ok-Word.word (told _ _ _ (Ok (token.Word c.in-Ok-Word.place c.in-Ok-Word.word)) c.next.ensures.tokens (search rules)) c.push.new.self)
 
-pub loop-place-preserved-else-is_err : goal.loop-place-preserved-else-is_err
-loop-place-preserved-else-is_err g c =
+pub loop-place-preserved-in-Continue-1 : goal.loop-place-preserved-in-Continue-1
+loop-place-preserved-in-Continue-1 g c =
     let pushed : c.push.new.self ≡ c.loop-place.clause ++ c.in-Ok-Some.lit ∷ [] = search rules in
     rw pushed
     (Between-literal _ _ _ _ _ _ _ c.loop-place.invariant c.in-Ok-Word.place c.in-Ok-Word.word (told _ _ _ (Ok (token.Word c.in-Ok-Word.place c.in-Ok-Word.word)) c.next.ensures.tokens (search rules))

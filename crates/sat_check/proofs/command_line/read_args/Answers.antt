@@ -1,10 +1,10 @@
 use Rattle.std.proofs.Common.{◌≡◌, ◌∙◌, ap, sym, codes, option_map, Some, None, string_bytes}
-use Rattle.clap.specs.Words.{app_of, first_value, found_of, one_text}
-use Rattle.clap.proofs.WalkLemmas.{first_value-rows, one_text-rows}
-use Rattle.sat_check.specs.CommandLine.Words.{is_among, is_flag, said_by}
+use Rattle.clap.specs.Words.{app_of, first_value, found_of}
+use Rattle.clap.proofs.WalkLemmas.{first_value-rows}
+use Rattle.sat_check.specs.CommandLine.Words.{said_by}
 use Rattle.std.proofs.lemmas.Bool.{true≢false}
 use Rattle.sat_check.proofs.CommandLineLemmas.Accepted.{has_formula, names_full}
-use Rattle.sat_check.proofs.CommandLineLemmas.Reading.{fails_for_memory, flag_read, known_words, knows, reads}
+use Rattle.sat_check.proofs.CommandLineLemmas.Reading.{fails_for_memory, flag_given, known_words, knows, reads}
 use Rattle.sat_check.proofs.command_line.read_args.Goals as goal
 use Rattle.sat_check.proofs.command_line.read_args.Goals.{in-Some-get_str+in_ok-to_string-in-Some-get_str, in-None}
 
@@ -21,25 +21,13 @@ returns-in_default-clause-accepts c accepts =
     absurd (has_formula c.args.tool (said_by c.args.words.now) accepts (sym read.formula ∙ (sym (first_value-rows (found_of c.in-Ok.matches) (codes "formula")) ∙ none)))
 
 pub returns-clause-binary : goal.returns-clause-binary
-returns-clause-binary c free =
-    let read = reads c.args.tool (app_of c.in_ok-command.command) c.in_ok-command.ensures c.args.words.now c.in-Ok.matches c.in-Ok.ensures.matches c.in-Ok.ensures.kinds free in
-    flag_read (is_flag c.args.tool (codes "--binary")) (is_among (said_by c.args.words.now) (codes "--binary")) c.get_flag.result
-    (one_text (found_of c.in-Ok.matches) (codes "binary"))
-    (one_text-rows (found_of c.in-Ok.matches) (codes "binary") ∙ read.binary) c.get_flag.ensures.none c.get_flag.ensures.value c.get_flag.ensures.other
+returns-clause-binary c free = flag_given c.args.tool (app_of c.in_ok-command.command) c.in_ok-command.ensures c.args.words.now c.in-Ok.matches c.in-Ok.ensures.matches c.in-Ok.ensures.kinds free (codes "binary") (λ read. read.binary) c.get_flag.result c.get_flag.ensures.none c.get_flag.ensures.value c.get_flag.ensures.other
 
 pub returns-clause-trace : goal.returns-clause-trace
-returns-clause-trace c free =
-    let read = reads c.args.tool (app_of c.in_ok-command.command) c.in_ok-command.ensures c.args.words.now c.in-Ok.matches c.in-Ok.ensures.matches c.in-Ok.ensures.kinds free in
-    flag_read (is_flag c.args.tool (codes "--trace")) (is_among (said_by c.args.words.now) (codes "--trace")) c.get_flag-2.result
-    (one_text (found_of c.in-Ok.matches) (codes "trace"))
-    (one_text-rows (found_of c.in-Ok.matches) (codes "trace") ∙ read.trace) c.get_flag-2.ensures.none c.get_flag-2.ensures.value c.get_flag-2.ensures.other
+returns-clause-trace c free = flag_given c.args.tool (app_of c.in_ok-command.command) c.in_ok-command.ensures c.args.words.now c.in-Ok.matches c.in-Ok.ensures.matches c.in-Ok.ensures.kinds free (codes "trace") (λ read. read.trace) c.get_flag-2.result c.get_flag-2.ensures.none c.get_flag-2.ensures.value c.get_flag-2.ensures.other
 
 pub returns-clause-strict : goal.returns-clause-strict
-returns-clause-strict c free =
-    let read = reads c.args.tool (app_of c.in_ok-command.command) c.in_ok-command.ensures c.args.words.now c.in-Ok.matches c.in-Ok.ensures.matches c.in-Ok.ensures.kinds free in
-    flag_read (is_flag c.args.tool (codes "--strict")) (is_among (said_by c.args.words.now) (codes "--strict")) c.get_flag-3.result
-    (one_text (found_of c.in-Ok.matches) (codes "strict"))
-    (one_text-rows (found_of c.in-Ok.matches) (codes "strict") ∙ read.strict) c.get_flag-3.ensures.none c.get_flag-3.ensures.value c.get_flag-3.ensures.other
+returns-clause-strict c free = flag_given c.args.tool (app_of c.in_ok-command.command) c.in_ok-command.ensures c.args.words.now c.in-Ok.matches c.in-Ok.ensures.matches c.in-Ok.ensures.kinds free (codes "strict") (λ read. read.strict) c.get_flag-3.result c.get_flag-3.ensures.none c.get_flag-3.ensures.value c.get_flag-3.ensures.other
 
 pub returns-clause-formula : goal.returns-clause-formula
 returns-clause-formula c free =

@@ -7,7 +7,7 @@ use Rattle.dimacs.proofs.ModelLemmas.{has_put, IsConsistent-put}
 use Rattle.dimacs.proofs.model.Model.insert.Goals as goal
 
 -- the set's keys
-has_keys : (c : goal.Else-is_err) (k : Literal) → has c.insert.new.self.keys k ≡ has (c.args.lit ∷ c.self.inside.listed.keys) k
+has_keys : (c : goal.In_ok-insert) (k : Literal) → has c.insert.new.self.keys k ≡ has (c.args.lit ∷ c.self.inside.listed.keys) k
 has_keys c =
     let updates : Updates nat_eq c.self.inside.listed c.insert.new.self c.args.lit true = search (rules, common_steps) in
     has_put _ _ c.args.lit updates.0
