@@ -34,7 +34,14 @@ impl<P: Propagate> Model for DratSession<P> {
 
     ghost coded = { drat_code };
 
-    ghost view = { λ s. record { live = (P.state s.clauses).live; rules = s.rules; has_stepped = s.progress.has_stepped; is_verified = s.progress.is_verified; is_ended = s.progress.is_ended; peak = s.progress.peak } };
+    ghost view = { λ s. record {
+      live = (P.state s.clauses).live;
+      rules = s.rules;
+      has_stepped = s.progress.has_stepped;
+      is_verified = s.progress.is_verified;
+      is_ended = s.progress.is_ended;
+      peak = s.progress.peak;
+    } };
 
     ghost invariant = { λ s. s.progress.is_ended ≡ false → (P.state s.clauses).assumptions ≡ [] };
 }
@@ -58,7 +65,14 @@ impl<P: Propagate> DratSession<P> {
 impl<P: Propagate> ProofSession for DratSession<P> {
     ghost use Rattle.steps.specs.Theory.Rules.{by_copies};
 
-    ghost shown = { λ s. record { state = by_copies s.rules (clauses_of s); has_stepped = s.has_stepped; is_verified = s.is_verified; is_ended = s.is_ended; peak = s.peak; room = 4294967295 } };
+    ghost shown = { λ s. record {
+      state = by_copies s.rules (clauses_of s);
+      has_stepped = s.has_stepped;
+      is_verified = s.is_verified;
+      is_ended = s.is_ended;
+      peak = s.peak;
+      room = 4294967295;
+    } };
 
     fn input(&mut self, lits: &[Lit]) -> Result<(), Refusal> {
         if self.progress.is_ended {

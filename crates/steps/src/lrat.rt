@@ -48,7 +48,14 @@ impl Model for LratSession {
 
     ghost coded = { session_code };
 
-    ghost view = { λ s. record { live = s.held.live; top = s.held.top; has_stepped = s.progress.has_stepped; is_verified = s.progress.is_verified; is_ended = s.progress.is_ended; peak = s.progress.peak } };
+    ghost view = { λ s. record {
+      live = s.held.live;
+      top = s.held.top;
+      has_stepped = s.progress.has_stepped;
+      is_verified = s.progress.is_verified;
+      is_ended = s.progress.is_ended;
+      peak = s.progress.peak;
+    } };
 
     ghost invariant = { λ s. s.progress.is_ended ≡ false → IsReady (maps.get s.held.live) s.trues };
 }
@@ -163,7 +170,14 @@ impl ProofSession for LratSession {
     ghost use Rattle.std.specs.Prelude.{◌-◌};
     ghost use Rattle.steps.specs.Theory.Rules.{by_ids};
 
-    ghost shown = { λ s. record { state = by_ids (state_of s); has_stepped = s.has_stepped; is_verified = s.is_verified; is_ended = s.is_ended; peak = s.peak; room = 4294967295 - s.top } };
+    ghost shown = { λ s. record {
+      state = by_ids (state_of s);
+      has_stepped = s.has_stepped;
+      is_verified = s.is_verified;
+      is_ended = s.is_ended;
+      peak = s.peak;
+      room = 4294967295 - s.top;
+    } };
 
     fn input(&mut self, lits: &[Lit]) -> Result<(), Refusal> {
         if self.progress.is_ended {
