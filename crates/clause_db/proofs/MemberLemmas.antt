@@ -6,9 +6,9 @@ use Rattle.std.proofs.lemmas.List.{get_or-take, length-take, get_or-map, length-
 use Rattle.std.proofs.lemmas.List.Folds.{list_any_at}
 use Rattle.std.proofs.lemmas.Map.Keys.{IsDistinct-from_apart}
 use Rattle.std.specs.List.{list_any}
-use Rattle.cnf_base.specs.Literals.{complement, has}
+use Rattle.cnf_base.specs.Literals.{complement, has, variable}
 use Rattle.cnf_base.proofs.SetLemmas.{has_cases}
-use Rattle.clause_db.specs.Propagation.Trail.{variable, HasNoVariableTwice}
+use Rattle.clause_db.specs.Propagation.Trail.{HasNoVariableTwice}
 
 pub place_of : (ls : List ℕ) (l : ℕ) → has ls l ≡ true → (i : ℕ) × (i < length ls) × (get_or ls i 0 ≡ l)
 place_of [] l h = absurd (false≢true h)

@@ -8,10 +8,10 @@ use Rattle.std.specs.Bool.{then_some}
 use Rattle.std.specs.Int.{IsInRange}
 use Rattle.std.proofs.lemmas.Fmt.{decimal_digit, decimal_nonempty, first_decimal, digits_decimal, digits_value-decimal}
 use Rattle.std.proofs.lemmas.Str.Parse.{IsDigitsTest, IsNumeralModel, numerals_by_fold}
-use Rattle.cnf_base.specs.Literals.{Literal}
-use Rattle.cnf_base.specs.Printing.{input_of, words_line, variable, is_literal, literal_text}
+use Rattle.cnf_base.specs.Literals.{Literal, variable}
+use Rattle.cnf_base.specs.Printing.{input_of, words_line, is_literal, literal_text}
 use Rattle.cnf_base.specs.Text.{is_separator, col_after, line_after, col_along, is_comment, listed, with_front, Listing, listing_at}
-use Rattle.cnf_base.specs.Words.{is_digit, is_counting, value_of, size_of, number, number_literal, word_of}
+use Rattle.cnf_base.specs.Words.{is_digit, is_counting, decimal_value, size_of, number, number_literal, word_of}
 use Rattle.cnf_base.specs.declared.input.Ending.TheVariants.{End}
 use Rattle.cnf_base.specs.declared.place.Place.{Place}
 use Rattle.cnf_base.specs.declared.word.Number.{Number}
@@ -145,14 +145,14 @@ digits_test = record {
     in_range : (d : ℕ) → IsInRange 48 57 d → is_digit d ≡ true
     in_range d k = grind (arith, nat_tests)
 
-numerals : IsNumeralModel AreAllDigits value_of
+numerals : IsNumeralModel AreAllDigits decimal_value
 numerals = numerals_by_fold AreAllDigits digits_test (fold (λ n d. n * 10 + (d - 48)))
     (record { empty = λ n. refl; more = λ n d ds k. refl })
 
 -- the digits of a number other than 0
 module _ (n : ℕ) (some : 0 < n) (small : n < 2 ^ 64) where
   decimal_size : n ≡ size_of (decimal n)
-  decimal_size = let value : value_of (decimal n) ≡ n = digits_value-decimal numerals n small in omega arith
+  decimal_size = let value : decimal_value (decimal n) ≡ n = digits_value-decimal numerals n small in omega arith
 
   decimal_counting : is_counting (decimal n) ≡ true
   decimal_counting =

@@ -2,7 +2,7 @@
 use Rattle.std.proofs.Common.{◌≡◌, ℕ, ◌||◌, List, [], ◌++◌, Option, None, Some, refl, sym, ap, ◌∙◌, subst, append_assoc, append-nil, arith}
 use Rattle.std.proofs.KnownBytes.{Consumes-nil}
 use Rattle.std.specs.Io.KnownBytes.{IsAtEnd}
-use Rattle.cnf_base.specs.Stream.{Input, Reader, Stream, MayGive, MayFollow, MayCome, Meets, Along, fresh, preceded}
+use Rattle.cnf_base.specs.Stream.{Input, Reader, Stream, MayGive, MayFollow, MayCome, Meets, Along, unread_stream, preceded}
 use Rattle.cnf_base.specs.Seen.{Seen, IsSeen, is_failure, SeenMayBeGiven, SeenIsSome}
 use Rattle.cnf_base.specs.declared.input.Ending.{Ending}
 use Rattle.cnf_base.specs.declared.input.Ending.TheVariants.{End, Failed}
@@ -19,7 +19,7 @@ Seen-nothing reader = record {
   told = refl;
 }
 
-module _ (reader : Reader) (borrows : List ℕ) (last : Stream) (P : Input → Input → Type 0) (run : Along (fresh reader borrows) last P) where
+module _ (reader : Reader) (borrows : List ℕ) (last : Stream) (P : Input → Input → Type 0) (run : Along (unread_stream reader borrows) last P) where
   -- the bytes that were read were handed out
   pub Seen-run : Seen reader last.reader
   Seen-run = record {

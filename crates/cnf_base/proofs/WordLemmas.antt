@@ -5,7 +5,7 @@ use Rattle.std.specs.List.{list_all}
 use Rattle.std.specs.Str.{bytes_eq}
 use Rattle.std.proofs.lemmas.Grind.{fold-append}
 use Rattle.std.proofs.lemmas.Bool.Decides.{nat_tests}
-use Rattle.cnf_base.specs.Words.{is_digit, is_counting, value_of, size_of, number, number_of, fixed_word, number_or, word_of}
+use Rattle.cnf_base.specs.Words.{is_digit, is_counting, decimal_value, size_of, number, number_of, fixed_word, number_or, word_of}
 use Rattle.cnf_base.specs.Digits.{with_byte, digits_word, begins_number, first_digits, AreDigits}
 use Rattle.cnf_base.specs.declared.scanner.digits.Digits.{Digits}
 use Rattle.cnf_base.specs.declared.scanner.digits.Digits.TheVariants.{Nothing, Zero, Counting, NoNumber}
@@ -34,8 +34,8 @@ counting-last d ds b =
 
 size-last : (ds : List ℕ) (b : ℕ) → size_of (ds ++ b ∷ []) ≡ min (min (size_of ds * 10) (2 ^ 64 - 1) + (b - 48)) (2 ^ 64 - 1)
 size-last ds b =
-    let more : value_of (ds ++ b ∷ []) ≡ value_of ds * 10 + (b - 48) = fold-append (λ n d. n * 10 + (d - 48)) 0 ds (b ∷ []) in
-    ap (λ v. min v (2 ^ 64 - 1)) more ∙ capped (value_of ds) (b - 48)
+    let more : decimal_value (ds ++ b ∷ []) ≡ decimal_value ds * 10 + (b - 48) = fold-append (λ n d. n * 10 + (d - 48)) 0 ds (b ∷ []) in
+    ap (λ v. min v (2 ^ 64 - 1)) more ∙ capped (decimal_value ds) (b - 48)
   where
     capped : (v e : ℕ) → min (v * 10 + e) (2 ^ 64 - 1) ≡ min (min (min v (2 ^ 64 - 1) * 10) (2 ^ 64 - 1) + e) (2 ^ 64 - 1)
     capped v e = omega arith

@@ -1,9 +1,9 @@
 -- Texts as they are printed plainly: words with one space between two, in lines that each end with a line feed.
-use Rattle.std.specs.Prelude.{ℕ, ◌/◌, ◌%◌, ◌==◌, nat_le, ◌&&◌, if◌then◌else◌, Bool, List, [], ◌∷◌, ◌++◌, map, codes}
+use Rattle.std.specs.Prelude.{ℕ, ◌%◌, ◌==◌, nat_le, ◌&&◌, if◌then◌else◌, Bool, List, [], ◌∷◌, ◌++◌, map, codes}
 use Rattle.std.specs.Fmt.{decimal}
 use Rattle.std.specs.List.{join_with_byte}
 use Rattle.cnf_base.specs.Lines.{line_of}
-use Rattle.cnf_base.specs.Literals.{Literal}
+use Rattle.cnf_base.specs.Literals.{Literal, variable}
 use Rattle.cnf_base.specs.Stream.{Input}
 use Rattle.cnf_base.specs.declared.input.Ending.TheVariants.{End}
 
@@ -14,10 +14,6 @@ input_of bytes = record { bytes = bytes; ending = End }
 -- a line of words
 abbrev pub words_line : List (List ℕ) → List ℕ
 words_line words = line_of (join_with_byte 32 words)
-
--- the variable of a literal
-abbrev pub variable : Literal → ℕ
-variable l = l / 2
 
 -- whether a literal is one of the variables from 1 to a greatest one, or the complement of one
 abbrev pub is_literal : ℕ → Literal → Bool

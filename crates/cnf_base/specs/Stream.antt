@@ -63,8 +63,8 @@ abbrev pub bumped : Stream → Stream
 bumped s = record s { ahead = drop 1 s.ahead; place = place_after (slice_index s.ahead 0) s.place; byte_no = next_count s.byte_no }
 
 -- a source of which nothing was read
-abbrev pub fresh : Reader → List ℕ → Stream
-fresh reader borrows =
+abbrev pub unread_stream : Reader → List ℕ → Stream
+unread_stream reader borrows =
     record { ahead = []; met = None; reader = reader; borrows = borrows; place = record { line = 1; col = 1 }; byte_no = 1 }
 
 -- an end was met where the reader is at its end, a failed read where its mark tells of one

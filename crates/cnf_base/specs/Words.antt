@@ -18,11 +18,11 @@ is_counting [] = false
 is_counting (d ∷ ds) = is_digit d && not (d == 48) && list_all is_digit ds
 
 -- the number that digits write, up to the greatest that is kept
-abbrev pub value_of : List ℕ → ℕ
-value_of digits = fold (λ n d. n * 10 + (d - 48)) 0 digits
+abbrev pub decimal_value : List ℕ → ℕ
+decimal_value digits = fold (λ n d. n * 10 + (d - 48)) 0 digits
 
 abbrev pub size_of : List ℕ → ℕ
-size_of digits = min (value_of digits) (2 ^ 64 - 1)
+size_of digits = min (decimal_value digits) (2 ^ 64 - 1)
 
 abbrev pub has_minus : List ℕ → Bool
 has_minus [] = false

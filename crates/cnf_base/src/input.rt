@@ -72,7 +72,11 @@ impl<R: Read> FromRead<R> {
 }
 
 impl<R: Read> In for FromRead<R> {
-    ghost shown = { λ r. record { left = R.remaining r.inner; has_failed = r.has_failed; most_left = r.most_left } };
+    ghost shown = { λ r. record {
+      left = R.remaining r.inner;
+      has_failed = r.has_failed;
+      most_left = r.most_left;
+    } };
 
     fn read(&mut self, buf: &mut [u8]) -> io::Result<usize> {
         if self.most_left < buf.len() as u64 {

@@ -1,7 +1,7 @@
 //! Lines out.
 ghost use Rattle.std.specs.Prelude.{◌≡◌, true, false, [], ◌∷◌, ◌++◌, Bool, List, ℕ, IsTrue, OnOk, OnErr};
 ghost use Rattle.std.specs.Io.KnownBytes.{Appends};
-ghost use Rattle.cnf_base.specs.Lines.{Writes, AppendsPart, fresh, line_of};
+ghost use Rattle.cnf_base.specs.Lines.{Writes, AppendsPart, unbroken_sink, line_of};
 
 use crate::{Out, WriteFailed};
 use std::marker::Model;
@@ -19,14 +19,19 @@ impl<W: Out> Model for LineOut<W> {
 
     ghost Value = { Sink };
 
-    ghost view = { λ s. record { held = W.held s.writer; has_failed = W.has_failed s.writer; borrows = W.borrows s.writer; is_broken = s.is_broken } };
+    ghost view = { λ s. record {
+      held = W.held s.writer;
+      has_failed = W.has_failed s.writer;
+      borrows = W.borrows s.writer;
+      is_broken = s.is_broken;
+    } };
 
     ghost invariant = { λ s. s.is_broken ≡ true → W.has_failed s.writer ≡ true };
 }
 
 impl<W: Out> LineOut<W> {
     pub fn new(writer: W) -> Self
-        ensures { result ≡ fresh (W.held writer) (W.has_failed writer) (W.borrows writer) }
+        ensures { result ≡ unbroken_sink (W.held writer) (W.has_failed writer) (W.borrows writer) }
     {
         LineOut {
             writer,

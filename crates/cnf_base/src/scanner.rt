@@ -112,7 +112,8 @@ fn read_word<R: In>(source: &mut Source<R>, first: u8) -> Result<Word, ReadFaile
     requires run { is_separator first ≡ false }
     requires text { skips_at source.old.place (first ∷ []) ≡ false }
     ensures text { Along source.old source.new (λ i j.
-        GivesWord result source.old.place (listing_at source.old.place i) (listing_at source.new.place j) j) }
+        GivesWord result source.old.place (listing_at source.old.place i)
+        (listing_at source.new.place j) j) }
     ensures fewer { most_to_come source.new < most_to_come source.old }
     ensures failed { OnErr result (source.new.reader.has_failed ≡ true) }
     ensures mark { OnOk result (source.new.reader.has_failed ≡ source.old.reader.has_failed) }
@@ -132,7 +133,8 @@ fn read_number<R: In>(source: &mut Source<R>, first: u8) -> Result<Word, ReadFai
     requires text { skips_at source.old.place (first ∷ []) ≡ false }
     requires number { begins_number first ≡ true }
     ensures text { Along source.old source.new (λ i j.
-        GivesWord result source.old.place (listing_at source.old.place i) (listing_at source.new.place j) j) }
+        GivesWord result source.old.place (listing_at source.old.place i)
+        (listing_at source.new.place j) j) }
     ensures fewer { most_to_come source.new < most_to_come source.old }
     ensures failed { OnErr result (source.new.reader.has_failed ≡ true) }
     ensures mark { OnOk result (source.new.reader.has_failed ≡ source.old.reader.has_failed) }
@@ -163,7 +165,8 @@ fn read_name<R: In>(source: &mut Source<R>, first: u8) -> Result<Word, ReadFaile
     requires text { skips_at source.old.place (first ∷ []) ≡ false }
     requires name { begins_number first ≡ false }
     ensures text { Along source.old source.new (λ i j.
-        GivesWord result source.old.place (listing_at source.old.place i) (listing_at source.new.place j) j) }
+        GivesWord result source.old.place (listing_at source.old.place i)
+        (listing_at source.new.place j) j) }
     ensures fewer { most_to_come source.new < most_to_come source.old }
     ensures failed { OnErr result (source.new.reader.has_failed ≡ true) }
     ensures mark { OnOk result (source.new.reader.has_failed ≡ source.old.reader.has_failed) }

@@ -1,7 +1,7 @@
 //! An input's bytes, one at a time.
 ghost use Rattle.std.specs.Prelude.{◌≡◌, ◌≢◌, ◌+◌, ◌<◌, ◌≤◌, ◌==◌, true, false, [], length, slice_index, take, Some, IsSome, IfSome, IfNone, IfOk, IfErr, OnOk, OnErr};
 ghost use Rattle.std.specs.Io.KnownBytes.{Keeps, Consumes, IsAtEnd};
-ghost use Rattle.cnf_base.specs.Stream.{IsLook, bumped, fresh, most_to_come, Shows};
+ghost use Rattle.cnf_base.specs.Stream.{IsLook, bumped, unread_stream, most_to_come, Shows};
 
 use crate::{Ending, In, OutOfMemory, Piece, Place, ReadFailed};
 use std::alloc::Global;
@@ -34,13 +34,14 @@ impl<R: In> Model for Source<R> {
       byte_no = s.byte_no;
     } };
 
-    ghost invariant = { λ s. IsSource s.piece.items s.at s.end s.met (R.shown s.reader) s.place.col };
+    ghost invariant = { λ s.
+        IsSource s.piece.items s.at s.end s.met (R.shown s.reader) s.place.col };
 }
 
 impl<R: In> Source<R> {
     /// A source of which nothing was read, over room that was made for it. It takes no memory.
     pub fn over(piece: Piece, reader: R) -> Self
-        ensures { result ≡ fresh (R.shown reader) (R.borrows reader) }
+        ensures { result ≡ unread_stream (R.shown reader) (R.borrows reader) }
     {
         Source {
             reader,
@@ -55,7 +56,7 @@ impl<R: In> Source<R> {
 
     /// A source of which nothing was read. The reader is handed back where its room is refused.
     pub fn new(alloc: Global, reader: R) -> Result<Self, (OutOfMemory, R)>
-        ensures fresh { IfOk result (λ s. s ≡ fresh (R.shown reader) (R.borrows reader)) }
+        ensures fresh { IfOk result (λ s. s ≡ unread_stream (R.shown reader) (R.borrows reader)) }
         ensures refused { IfErr result (λ e. e.1 ≡ reader) }
     {
         match Piece::new(alloc) {

@@ -19,7 +19,7 @@ use Rattle.cnf_base.specs.declared.fault.Fault.TheVariants.{Text, Binary, ReadFa
 use Rattle.cnf_base.specs.declared.fault.TextFault.TheVariants.{BadToken, BadLine, SecondStatus, NotClaimed, AfterEnd, Complement, LiteralTooLarge}
 use Rattle.cnf_base.proofs.StreamLemmas.{Along-then, Along-map}
 use Rattle.dimacs.specs.Formula.{and_then}
-use Rattle.dimacs.specs.Claim.{Said, on_first, on_status, on_literal, on_value, on_word, on_line_end, concluded, placed, on_token, on_end, claim_among, claim_after, IsClaim}
+use Rattle.dimacs.specs.Claim.{Said, on_first, on_status, on_literal, on_value, claim_on_word, on_line_end, claim_at_end, placed, claim_on_token, on_end, claim_among, claim_after, IsClaim}
 use Rattle.dimacs.specs.Claiming.{with_listed, ComesTo, Takes}
 use Rattle.dimacs.specs.declared.position.Position.{Position}
 use Rattle.dimacs.specs.declared.position.Position.TheVariants.{LineStart, AfterS, AfterStatus, Values}
@@ -72,7 +72,7 @@ module _ (place : Place) (xs ls : List Literal) (same : Same xs ls) where
   value_alike p h e (words.Number n) = number_alike p h e (nat_le n.size 268435455) e (number_literal n)
   value_alike p h e _ = neither (Text BadToken place)
 
-  word_alike : (p : Position) (h e : Bool) (w : Word) → Alike (placed place (on_word (said p h e xs) w)) (placed place (on_word (said p h e ls) w))
+  word_alike : (p : Position) (h e : Bool) (w : Word) → Alike (placed place (claim_on_word (said p h e xs) w)) (placed place (claim_on_word (said p h e ls) w))
   word_alike LineStart h e w = first_alike LineStart h e w
   word_alike AfterS h e w = status_alike AfterS h e w
   word_alike AfterStatus h e w = neither (Text BadLine place)
@@ -84,7 +84,7 @@ module _ (place : Place) (xs ls : List Literal) (same : Same xs ls) where
   line_alike AfterStatus h e = both (said LineStart h e xs) ls same
   line_alike Values h e = both (said LineStart h e xs) ls same
 
-token_alike : (s : Said) (ls : List Literal) (t : tokens.Token) → Same s.listed ls → Alike (on_token s t) (on_token (with_listed ls s) t)
+token_alike : (s : Said) (ls : List Literal) (t : tokens.Token) → Same s.listed ls → Alike (claim_on_token s t) (claim_on_token (with_listed ls s) t)
 token_alike s ls (token.Word place w) same = word_alike place s.listed ls same s.position s.has_status s.is_ended w
 token_alike s ls (token.LineEnd place) same = line_alike place s.listed ls same s.position s.has_status s.is_ended
 token_alike s ls (token.End place) same = both s ls same
@@ -108,7 +108,7 @@ claims_same xs ls same (Err (Text f p)) x = absurd (let bad : Ok xs ≡ Err (Tex
 claims_same xs ls same (Err (Binary f n)) x = absurd (let bad : Ok xs ≡ Err (Binary f n) = x in cc)
 
 concluded_alike : (place : Place) (p : Position) (h e : Bool) (xs ls : List Literal) → Same xs ls
-    → Carries (placed place (concluded (said p h e ls))) (placed place (concluded (said p h e xs)))
+    → Carries (placed place (claim_at_end (said p h e ls))) (placed place (claim_at_end (said p h e xs)))
 concluded_alike place p true true xs ls same = claims_same xs ls same
 concluded_alike place p true false xs ls same = λ r x. x
 concluded_alike place p false e xs ls same = λ r x. x
@@ -117,7 +117,7 @@ claim_alike : (ts : List Listed) (place : Place) (ending : Ending) (s : Said) (l
     → Carries (claim_among (with_listed ls s) ts place ending) (claim_among s ts place ending)
 claim_alike [] place Failed s ls same = λ r x. x
 claim_alike [] place End s ls same =
-    then_alike (λ s. placed place (concluded s)) (λ s ls same. concluded_alike place s.position s.has_status s.is_ended s.listed ls same)
+    then_alike (λ s. placed place (claim_at_end s)) (λ s ls same. concluded_alike place s.position s.has_status s.is_ended s.listed ls same)
     _ _ (line_alike place s.listed ls same s.position s.has_status s.is_ended)
 claim_alike (t ∷ ts) place ending s ls same =
     then_alike (λ s. claim_among s ts place ending) (claim_alike ts place ending) _ _ (token_alike s ls t.token same)
@@ -157,13 +157,13 @@ module _ (old now new : Stream) (before so_far : Said) (hears : Hears old now be
     fails f after takes = Along-map old new _ _ went_on (λ i j m q. q (Err f) (fault_claimed f after r _ takes))
 
   module _ (p : Place) (w : Word) (gives : Along now new (λ i j. Gives (Ok (token.Word p w)) (listing_at now.place i) (listing_at new.place j) j)) where
-    word_text : Along now new (λ i j. claim_after so_far (listing_at now.place i) ≡ and_then (placed p (on_word so_far w)) (λ s. claim_after s (listing_at new.place j)))
+    word_text : Along now new (λ i j. claim_after so_far (listing_at now.place i) ≡ and_then (placed p (claim_on_word so_far w)) (λ s. claim_after s (listing_at new.place j)))
     word_text = Along-map now new _ _ gives (λ i j m e. ap (claim_after so_far) e)
 
-    pub Hears-word : (after : Said) → Takes (Ok tt) after (placed p (on_word so_far w)) → new.reader.has_failed ≡ now.reader.has_failed → Hears old new before after
+    pub Hears-word : (after : Said) → Takes (Ok tt) after (placed p (claim_on_word so_far w)) → new.reader.has_failed ≡ now.reader.has_failed → Hears old new before after
     Hears-word after comes mark = took _ word_text after comes mark
 
-    pub Hears-bad_word : (f : Fault) (after : Said) → Takes (Err f) after (placed p (on_word so_far w))
+    pub Hears-bad_word : (f : Fault) (after : Said) → Takes (Err f) after (placed p (claim_on_word so_far w))
         → Along old new (λ i j. IsClaim (Err f) (claim_after before (listing_at old.place i)))
     Hears-bad_word f after takes = fails _ word_text f after takes
 

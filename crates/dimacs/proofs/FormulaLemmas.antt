@@ -13,12 +13,12 @@ use Rattle.cnf_base.specs.declared.fault.Fault.{Fault}
 use Rattle.cnf_base.specs.declared.fault.Fault.TheVariants.{Text, Binary, ReadFailed, OutOfMemory}
 use Rattle.cnf_base.specs.declared.fault.TextFault.{TextFault}
 use Rattle.cnf_base.proofs.StreamLemmas.{Along-then, Along-map, Along-none, Along-still}
-use Rattle.dimacs.specs.Reading.{Reading, to_come, unless_ended, GivesClause, left_of, EndsSo}
-use Rattle.dimacs.specs.Formula.{Body, body_of, judged, on_word, at_end, faulty, whole}
+use Rattle.dimacs.specs.Reading.{FormulaReading, clauses_to_come, body_unless_ended, GivesClause, body_left, EndsBody}
+use Rattle.dimacs.specs.Formula.{Body, body_of, judged, body_on_word, body_at_end, faulty_body, whole}
 use Rattle.dimacs.specs.declared.header.Header.{Header}
 
 -- a fault is what comes, and it stays
-pub gives_fault : (f : Fault) (c : List Literal) (b : Body) → b ≡ faulty f → GivesClause (Err f) c b (faulty f)
+pub gives_fault : (f : Fault) (c : List Literal) (b : Body) → b ≡ faulty_body f → GivesClause (Err f) c b (faulty_body f)
 gives_fault (Text k p) c b e = (e, e)
 gives_fault (Binary k n) c b e = (e, e)
 gives_fault ReadFailed c b e = (e, e)
@@ -26,7 +26,7 @@ gives_fault OutOfMemory c b e = refl
 
 -- an answer that is kept is what comes, and it stays
 kept_gives : (answer : Result Bool Fault) (c : List Literal) (before after : Body) → (answer ≡ Ok true → ⊥)
-    → before ≡ unless_ended (Some answer) whole → after ≡ unless_ended (Some answer) whole → GivesClause answer c before after
+    → before ≡ body_unless_ended (Some answer) whole → after ≡ body_unless_ended (Some answer) whole → GivesClause answer c before after
 kept_gives (Ok true) c before after none b a = absurd (none refl)
 kept_gives (Ok false) c before after none b a = (b ∙ sym a, b)
 kept_gives (Err (Text k p)) c before after none b a = (b ∙ sym a, b)
@@ -34,21 +34,21 @@ kept_gives (Err (Binary k n)) c before after none b a = (b ∙ sym a, b)
 kept_gives (Err ReadFailed) c before after none b a = (b ∙ sym a, b)
 kept_gives (Err OutOfMemory) c before after none b a = a
 
-pub Kept-clause : (r : Reading) (answer : Result Bool Fault) (c : List Literal) → r.kept ≡ Some answer → (r.kept ≡ Some (Ok true) → ⊥)
-    → Along r.stream r.stream (λ i j. GivesClause answer c (to_come r i) (to_come r j))
+pub Kept-clause : (r : FormulaReading) (answer : Result Bool Fault) (c : List Literal) → r.kept ≡ Some answer → (r.kept ≡ Some (Ok true) → ⊥)
+    → Along r.stream r.stream (λ i j. GivesClause answer c (clauses_to_come r i) (clauses_to_come r j))
 Kept-clause r answer c is none =
-    let told : (i : Input) → to_come r i ≡ unless_ended (Some answer) whole =
-    λ i. ap (λ k. unless_ended k (body_of r.header r.complete [] (listing_at r.stream.place i))) is ∙ same answer _ in
+    let told : (i : Input) → clauses_to_come r i ≡ body_unless_ended (Some answer) whole =
+    λ i. ap (λ k. body_unless_ended k (body_of r.header r.complete [] (listing_at r.stream.place i))) is ∙ same answer _ in
     Along-map r.stream r.stream _ _ (Along-none r.stream) (λ i j m e.
     kept_gives answer c _ _ (λ ok. none (is ∙ ap Some ok)) (told i) (told j))
   where
-    same : (answer : Result Bool Fault) (b : Body) → unless_ended (Some answer) b ≡ unless_ended (Some answer) whole
+    same : (answer : Result Bool Fault) (b : Body) → body_unless_ended (Some answer) b ≡ body_unless_ended (Some answer) whole
     same (Ok v) b = refl
     same (Err f) b = refl
 
 ends_so : (h : Header) (complete : ℕ) (p : Place) (result : Result Bool Fault) (ls : List Literal) (before : Body) (l : Listing)
-    → EndsSo result (at_end h complete ls p End) → before ≡ at_end h complete ls p End
-    → GivesClause result ls before (left_of result h complete l)
+    → EndsBody result (body_at_end h complete ls p End) → before ≡ body_at_end h complete ls p End
+    → GivesClause result ls before (body_left result h complete l)
 ends_so h complete p (Ok true) ls before l ends e = absurd ends
 ends_so h complete p (Ok false) ls before l ends e = (e ∙ ends, e ∙ ends)
 ends_so h complete p (Err f) ls before l ends e = gives_fault f ls before (e ∙ ends)
@@ -77,41 +77,41 @@ module _ (h : Header) (complete : ℕ) (old now new : Stream) (before at_hand : 
 
   module _ (p : Place) (w : Word) (gives : Along now new (λ i j. Gives (Ok (token.Word p w)) (listing_at now.place i) (listing_at new.place j) j)) where
     word_text : Along old new (λ i j. body_of h complete before (listing_at old.place i)
-        ≡ on_word complete at_hand p (judged h complete w) (λ c ls. body_of h c ls (listing_at new.place j)))
+        ≡ body_on_word complete at_hand p (judged h complete w) (λ c ls. body_of h c ls (listing_at new.place j)))
     word_text = Along-then old now new _ _ _ so_far.text gives (λ i j k m q r. q ∙ ap (body_of h complete at_hand) r)
 
     pub Between-literal : (l : Literal) → Ok (Some l) ≡ judged h complete w → most_to_come new < most_to_come now → new.reader.has_failed ≡ now.reader.has_failed
         → Between h complete old new before (at_hand ++ l ∷ [])
     Between-literal l is fewer mark = record {
-      text = Along-map old new _ _ word_text (λ i j m q. q ∙ ap (λ r. on_word complete at_hand p r (λ c ls. body_of h c ls (listing_at new.place j))) (sym is));
+      text = Along-map old new _ _ word_text (λ i j m q. q ∙ ap (λ r. body_on_word complete at_hand p r (λ c ls. body_of h c ls (listing_at new.place j))) (sym is));
       fewer = omega (arith, so_far.fewer, fewer);
       mark = mark ∙ so_far.mark;
     }
 
     pub Between-clause : Ok None ≡ judged h complete w
-        → Along old new (λ i j. GivesClause (Ok true) at_hand (body_of h complete before (listing_at old.place i)) (left_of (Ok true) h complete (listing_at new.place j)))
+        → Along old new (λ i j. GivesClause (Ok true) at_hand (body_of h complete before (listing_at old.place i)) (body_left (Ok true) h complete (listing_at new.place j)))
     Between-clause is =
-        Along-map old new _ _ word_text (λ i j m q. q ∙ ap (λ r. on_word complete at_hand p r (λ c ls. body_of h c ls (listing_at new.place j))) (sym is))
+        Along-map old new _ _ word_text (λ i j m q. q ∙ ap (λ r. body_on_word complete at_hand p r (λ c ls. body_of h c ls (listing_at new.place j))) (sym is))
 
     pub Between-fault : (f : TextFault) → Err f ≡ judged h complete w
-        → Along old new (λ i j. GivesClause (Err (Text f p)) at_hand (body_of h complete before (listing_at old.place i)) (left_of (Err (Text f p)) h complete (listing_at new.place j)))
+        → Along old new (λ i j. GivesClause (Err (Text f p)) at_hand (body_of h complete before (listing_at old.place i)) (body_left (Err (Text f p)) h complete (listing_at new.place j)))
     Between-fault f is =
-        Along-map old new _ _ word_text (λ i j m q. gives_fault (Text f p) at_hand _ (q ∙ ap (λ r. on_word complete at_hand p r (λ c ls. body_of h c ls (listing_at new.place j))) (sym is)))
+        Along-map old new _ _ word_text (λ i j m q. gives_fault (Text f p) at_hand _ (q ∙ ap (λ r. body_on_word complete at_hand p r (λ c ls. body_of h c ls (listing_at new.place j))) (sym is)))
 
     pub Between-refused : (c : List Literal)
-        → Along old new (λ i j. GivesClause (Err OutOfMemory) c (body_of h complete before (listing_at old.place i)) (left_of (Err OutOfMemory) h complete (listing_at new.place j)))
+        → Along old new (λ i j. GivesClause (Err OutOfMemory) c (body_of h complete before (listing_at old.place i)) (body_left (Err OutOfMemory) h complete (listing_at new.place j)))
     Between-refused c = Along-map old new _ _ word_text (λ i j m q. refl)
 
   pub Between-end : (p : Place) (result : Result Bool Fault) → Along now new (λ i j. Gives (Ok (token.End p)) (listing_at now.place i) (listing_at new.place j) j)
-      → EndsSo result (at_end h complete at_hand p End)
-      → Along old new (λ i j. GivesClause result at_hand (body_of h complete before (listing_at old.place i)) (left_of result h complete (listing_at new.place j)))
+      → EndsBody result (body_at_end h complete at_hand p End)
+      → Along old new (λ i j. GivesClause result at_hand (body_of h complete before (listing_at old.place i)) (body_left result h complete (listing_at new.place j)))
   Between-end p result gives ends = Along-then old now new _ _ _ so_far.text gives (λ i j k m q r.
       ends_so h complete p result at_hand _ _ ends (q ∙ ap (body_of h complete at_hand) r.1))
 
   pub Between-failed : (cut : Cut) → Along now new (λ i j. Gives (Err cut) (listing_at now.place i) (listing_at new.place j) j)
-      → Along old new (λ i j. GivesClause (Err ReadFailed) at_hand (body_of h complete before (listing_at old.place i)) (left_of (Err ReadFailed) h complete (listing_at new.place j)))
+      → Along old new (λ i j. GivesClause (Err ReadFailed) at_hand (body_of h complete before (listing_at old.place i)) (body_left (Err ReadFailed) h complete (listing_at new.place j)))
   Between-failed cut gives = Along-then old now new _ _ _ so_far.text gives (λ i j k m q r.
       gives_fault ReadFailed at_hand _ (q ∙ empty (listing_at now.place j) r.1 r.2))
     where
-      empty : (l : Listing) → l.tokens ≡ [] → l.ending ≡ Failed → body_of h complete at_hand l ≡ faulty ReadFailed
+      empty : (l : Listing) → l.tokens ≡ [] → l.ending ≡ Failed → body_of h complete at_hand l ≡ faulty_body ReadFailed
       empty l none failed = rw (none, failed) refl

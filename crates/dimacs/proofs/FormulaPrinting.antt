@@ -4,8 +4,8 @@ use Rattle.std.specs.Prelude.{codes}
 use Rattle.std.specs.Fmt.{decimal}
 use Rattle.std.specs.List.{flat_map, list_all}
 use Rattle.std.proofs.lemmas.Bool.Decides.{nat_tests}
-use Rattle.cnf_base.specs.Literals.{Literal, Clause}
-use Rattle.cnf_base.specs.Printing.{input_of, variable, is_literal, literal_text, literal_words}
+use Rattle.cnf_base.specs.Literals.{Literal, Clause, variable}
+use Rattle.cnf_base.specs.Printing.{input_of, is_literal, literal_text, literal_words}
 use Rattle.cnf_base.specs.Text.{col_along, line_after, Listing, listing_at}
 use Rattle.cnf_base.specs.Words.{number, number_literal, word_of}
 use Rattle.cnf_base.specs.declared.input.Ending.TheVariants.{End}
@@ -18,7 +18,7 @@ use Rattle.cnf_base.specs.declared.token.Token.TheVariants as token
 use Rattle.cnf_base.proofs.TextLemmas.{listing_at-end}
 use Rattle.cnf_base.proofs.LineLemmas.{append_nil}
 use Rattle.cnf_base.proofs.PrintLemmas.{line_from, along_from_one, past, past_from_one, Begins, next_word, next_line, first_word, both, fixed_plain, decimal_plain, count_word, zero_plain, literal_number, literal_range, literal_word, literal_plain, literal_no_comment, literal_taken}
-use Rattle.dimacs.specs.Formula.{header_of, judged, Body, with_clause, whole, faulty, body_of, formula_with, formula_of}
+use Rattle.dimacs.specs.Formula.{header_of, judged, Body, with_first_clause, whole, faulty_body, body_of, formula_with, formula_of}
 use Rattle.dimacs.specs.Printing.{header_line, clause_line, formula_text, IsFormula}
 use Rattle.dimacs.specs.declared.header.Header.{Header}
 
@@ -92,36 +92,36 @@ module _ (h : Header) (small : h.vars ≤ 268435455) where
 
   ends_clause : {l m o : Listing} {p q : Place} {w : Word} {n f : ℕ} (k : ℕ) (acc : List Literal)
       → Begins l (token.Word p w) n m → Begins m (token.LineEnd q) f o → judged h k w ≡ Ok None
-      → body_of h k acc l ≡ with_clause acc (body_of h (k + 1) [] o)
+      → body_of h k acc l ≡ with_first_clause acc (body_of h (k + 1) [] o)
   ends_clause k acc b c j = rw (b.is, c.is, j) refl
 
   -- a line's literals after a word, with those at hand
   more_literals : (k : ℕ) (acc ls : List Literal) (rest : List ℕ) (b : Body) (p : Place) → 0 < p.col
       → nat_le h.clauses k ≡ false → list_all (is_literal h.vars) ls ≡ true
       → ((q : Place) → 0 < q.col → body_of h (k + 1) [] (listing_at q (input_of rest)) ≡ b)
-      → body_of h k acc (line_from p (literal_words ls) rest) ≡ with_clause (acc ++ ls) b
+      → body_of h k acc (line_from p (literal_words ls) rest) ≡ with_first_clause (acc ++ ls) b
   more_literals k acc [] rest b p from_one missing are later =
       ends_clause k acc (next_word p (codes "0") [] rest from_one zero_plain) (next_line (past p (codes "0")) rest)
       (judged_zero k missing)
-      ∙ ap (with_clause acc) (later (line_after (past p (codes "0"))) (omega arith))
-      ∙ ap (λ c. with_clause c b) (sym (append_nil acc))
+      ∙ ap (with_first_clause acc) (later (line_after (past p (codes "0"))) (omega arith))
+      ∙ ap (λ c. with_first_clause c b) (sym (append_nil acc))
   more_literals k acc (l ∷ ls) rest b p from_one missing are later =
       let r = both (is_literal h.vars l) (list_all (is_literal h.vars) ls) are in
       takes_literal k acc l (next_word p (literal_text l) (literal_words ls) rest from_one
       (literal_plain h.vars l small r.0)) (judged_literal k l missing r.0)
       ∙ more_literals k (acc ++ l ∷ []) ls rest b (past p (literal_text l))
       (past_from_one p (literal_text l)) missing r.1 later
-      ∙ ap (λ c. with_clause c b) (append_assoc acc (l ∷ []) ls)
+      ∙ ap (λ c. with_first_clause c b) (append_assoc acc (l ∷ []) ls)
 
   -- a clause's line
   clause_read : (k : ℕ) (c : Clause) (rest : List ℕ) (b : Body) (p : Place) → 0 < p.col
       → nat_le h.clauses k ≡ false → list_all (is_literal h.vars) c ≡ true
       → ((q : Place) → 0 < q.col → body_of h (k + 1) [] (listing_at q (input_of rest)) ≡ b)
-      → body_of h k [] (listing_at p (input_of (clause_line c ++ rest))) ≡ with_clause c b
+      → body_of h k [] (listing_at p (input_of (clause_line c ++ rest))) ≡ with_first_clause c b
   clause_read k [] rest b p from_one missing are later =
       ends_clause k [] (first_word p (codes "0") [] rest refl zero_plain) (next_line (col_along p (codes "0")) rest)
       (judged_zero k missing)
-      ∙ ap (with_clause []) (later (line_after (col_along p (codes "0"))) (omega arith))
+      ∙ ap (with_first_clause []) (later (line_after (col_along p (codes "0"))) (omega arith))
   clause_read k (l ∷ ls) rest b p from_one missing are later =
       let r = both (is_literal h.vars l) (list_all (is_literal h.vars) ls) are in
       takes_literal k [] l (first_word p (literal_text l) (literal_words ls) rest
@@ -136,7 +136,7 @@ module _ (h : Header) (small : h.vars ≤ 268435455) where
       ≡ record { clauses = clauses; fault = None }
   clauses_read k [] p from_one count are =
       let all : nat_le h.clauses k ≡ true = grind (arith, nat_tests) in
-      ap (body_of h k []) (listing_at-end p End) ∙ ap (λ v. cond v whole (faulty (Text TooFewClauses p))) all
+      ap (body_of h k []) (listing_at-end p End) ∙ ap (λ v. cond v whole (faulty_body (Text TooFewClauses p))) all
   clauses_read k (c ∷ cs) p from_one count are =
       let r = both (list_all (is_literal h.vars) c) (list_all (list_all (is_literal h.vars)) cs) are in
       let missing : nat_le h.clauses k ≡ false = grind (arith, nat_tests) in

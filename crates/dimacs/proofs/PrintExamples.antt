@@ -4,7 +4,7 @@ use Rattle.std.specs.Fmt.{digits}
 use Rattle.cnf_base.specs.Literals.{complement, has}
 use Rattle.cnf_base.proofs.SetLemmas.{has_cases}
 use Rattle.dimacs.specs.Claim.{IsConsistent}
-use Rattle.dimacs.specs.Printing.{ExamplesArePrinted}
+use Rattle.dimacs.specs.Printing.{FormulasLookSo}
 
 consistent : IsConsistent (2 ∷ 5 ∷ 25 ∷ [])
 unfolding complement
@@ -19,7 +19,7 @@ consistent l h = elim (has_cases 2 (5 ∷ 25 ∷ []) l h) [
   ]
 ]
 
-pub examples_printed : ExamplesArePrinted
+pub examples_printed : FormulasLookSo
 unfolding digits
 examples_printed = (
   record { vars = omega arith; count = refl; most = omega arith; literals = refl },

@@ -64,8 +64,8 @@ on_word_at AfterS s w = on_status s w
 on_word_at AfterStatus s w = Err BadLine
 on_word_at Values s w = on_value s w
 
-abbrev pub on_word : Said → Word → Result Said TextFault
-on_word s w = on_word_at s.position s w
+abbrev pub claim_on_word : Said → Word → Result Said TextFault
+claim_on_word s w = on_word_at s.position s w
 
 -- a line may end everywhere but just after its `s`
 abbrev pub line_ended : Position → Said → Result Said TextFault
@@ -76,8 +76,8 @@ abbrev pub on_line_end : Said → Result Said TextFault
 on_line_end s = line_ended s.position s
 
 -- the output ends after its last line
-abbrev pub concluded : Said → Result (List Literal) TextFault
-concluded s =
+abbrev pub claim_at_end : Said → Result (List Literal) TextFault
+claim_at_end s =
     if s.has_status then (if s.is_ended then Ok s.listed else Err UnterminatedModel)
     else Err NoStatus
 
@@ -86,18 +86,18 @@ abbrev pub placed : {A : Type 0} → Place → Result A TextFault → Result A F
 placed p (Ok x) = Ok x
 placed p (Err f) = Err (Text f p)
 
-abbrev pub on_token : Said → tokens.Token → Result Said Fault
-on_token s (token.Word p w) = placed p (on_word s w)
-on_token s (token.LineEnd p) = placed p (on_line_end s)
-on_token s (token.End p) = Ok s
+abbrev pub claim_on_token : Said → tokens.Token → Result Said Fault
+claim_on_token s (token.Word p w) = placed p (claim_on_word s w)
+claim_on_token s (token.LineEnd p) = placed p (on_line_end s)
+claim_on_token s (token.End p) = Ok s
 
 abbrev pub on_end : Said → Place → Ending → Result (List Literal) Fault
-on_end s p End = and_then (placed p (on_line_end s)) (λ s. placed p (concluded s))
+on_end s p End = and_then (placed p (on_line_end s)) (λ s. placed p (claim_at_end s))
 on_end s p Failed = Err ReadFailed
 
 abbrev pub claim_among : Said → List Listed → Place → Ending → Result (List Literal) Fault
 claim_among s [] p ending = on_end s p ending
-claim_among s (t ∷ ts) p ending = and_then (on_token s t.token) (λ s. claim_among s ts p ending)
+claim_among s (t ∷ ts) p ending = and_then (claim_on_token s t.token) (λ s. claim_among s ts p ending)
 
 -- the claim of an output that has said so much, from a text on
 abbrev pub claim_after : Said → Listing → Result (List Literal) Fault

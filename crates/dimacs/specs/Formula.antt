@@ -113,14 +113,14 @@ pub record Body : Type 0 where
   pub clauses : List Clause
   pub fault : Option Fault
 
-abbrev pub faulty : Fault → Body
-faulty f = record { clauses = []; fault = Some f }
+abbrev pub faulty_body : Fault → Body
+faulty_body f = record { clauses = []; fault = Some f }
 
 abbrev pub whole : Body
 whole = record { clauses = []; fault = None }
 
-abbrev pub with_clause : Clause → Body → Body
-with_clause c b = record { clauses = c ∷ b.clauses; fault = b.fault }
+abbrev pub with_first_clause : Clause → Body → Body
+with_first_clause c b = record { clauses = c ∷ b.clauses; fault = b.fault }
 
 -- a literal, the `0` that ends a clause, or what is wrong with a word after so many clauses, in the order of judging
 abbrev pub judged : Header → ℕ → Word → Result (Option Literal) TextFault
@@ -130,28 +130,28 @@ judged h complete (words.Number n) =
 judged h complete _ = Err BadToken
 
 -- what the end of the input means after so many clauses, with these literals of a clause at hand
-abbrev pub at_end : Header → ℕ → List Literal → Place → Ending → Body
-at_end h complete literals p Failed = faulty ReadFailed
-at_end h complete (l ∷ ls) p End = faulty (Text UnterminatedClause p)
-at_end h complete [] p End =
+abbrev pub body_at_end : Header → ℕ → List Literal → Place → Ending → Body
+body_at_end h complete literals p Failed = faulty_body ReadFailed
+body_at_end h complete (l ∷ ls) p End = faulty_body (Text UnterminatedClause p)
+body_at_end h complete [] p End =
     if nat_le h.clauses complete then whole
-    else faulty (Text TooFewClauses p)
+    else faulty_body (Text TooFewClauses p)
 
 -- what a judged word means; `rest` is what follows
-abbrev pub on_word : ℕ → List Literal → Place → Result (Option Literal) TextFault → (ℕ → List Literal → Body) → Body
-on_word complete literals p (Ok (Some l)) rest = rest complete (literals ++ l ∷ [])
-on_word complete literals p (Ok None) rest = with_clause literals (rest (complete + 1) [])
-on_word complete literals p (Err f) rest = faulty (Text f p)
+abbrev pub body_on_word : ℕ → List Literal → Place → Result (Option Literal) TextFault → (ℕ → List Literal → Body) → Body
+body_on_word complete literals p (Ok (Some l)) rest = rest complete (literals ++ l ∷ [])
+body_on_word complete literals p (Ok None) rest = with_first_clause literals (rest (complete + 1) [])
+body_on_word complete literals p (Err f) rest = faulty_body (Text f p)
 
-abbrev pub on_token : Header → ℕ → List Literal → tokens.Token → (ℕ → List Literal → Body) → Body
-on_token h complete literals (token.Word p w) rest = on_word complete literals p (judged h complete w) rest
-on_token h complete literals (token.LineEnd p) rest = rest complete literals
-on_token h complete literals (token.End p) rest = rest complete literals
+abbrev pub body_on_token : Header → ℕ → List Literal → tokens.Token → (ℕ → List Literal → Body) → Body
+body_on_token h complete literals (token.Word p w) rest = body_on_word complete literals p (judged h complete w) rest
+body_on_token h complete literals (token.LineEnd p) rest = rest complete literals
+body_on_token h complete literals (token.End p) rest = rest complete literals
 
 abbrev pub body_among : Header → ℕ → List Literal → List Listed → Place → Ending → Body
-body_among h complete literals [] p ending = at_end h complete literals p ending
+body_among h complete literals [] p ending = body_at_end h complete literals p ending
 body_among h complete literals (t ∷ ts) p ending =
-    on_token h complete literals t.token (λ complete literals. body_among h complete literals ts p ending)
+    body_on_token h complete literals t.token (λ complete literals. body_among h complete literals ts p ending)
 
 -- the clauses after so many complete ones, with these literals of a clause at hand
 abbrev pub body_of : Header → ℕ → List Literal → Listing → Body

@@ -71,8 +71,8 @@ abbrev pub example_clauses : List Clause
 example_clauses = (2 ∷ 5 ∷ []) ∷ (25 ∷ []) ∷ [] ∷ []
 
 -- The laws speak of them, and this is what they look like.
-abbrev pub ExamplesArePrinted : Type 0
-ExamplesArePrinted =
+abbrev pub FormulasLookSo : Type 0
+FormulasLookSo =
     IsFormula example_header example_clauses
     × (formula_text example_header example_clauses ≡ codes "p cnf 12 3\n1 -2 0\n-12 0\n0\n")
     × IsModel (2 ∷ 5 ∷ 25 ∷ [])

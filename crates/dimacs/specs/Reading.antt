@@ -5,50 +5,50 @@ use Rattle.cnf_base.specs.Stream.{Input, Stream}
 use Rattle.cnf_base.specs.Text.{Listing, listing_at}
 use Rattle.cnf_base.specs.declared.fault.Fault.{Fault}
 use Rattle.cnf_base.specs.declared.fault.Fault.TheVariants.{OutOfMemory}
-use Rattle.dimacs.specs.Formula.{Body, body_of, faulty, whole, with_clause, Formula}
+use Rattle.dimacs.specs.Formula.{Body, body_of, faulty_body, whole, with_first_clause, Formula}
 use Rattle.dimacs.specs.declared.header.Header.{Header}
 
 -- a reader of a formula: where it stands in its input, the header, how many clauses were given, and the answer that it
 -- gives from now on where it has come to an end
-pub record Reading : Type 0 where
+pub record FormulaReading : Type 0 where
   pub stream : Stream
   pub header : Header
   pub complete : ℕ
   pub kept : Option (Result Bool Fault)
 
 -- after an end nothing else is to come
-abbrev pub unless_ended : Option (Result Bool Fault) → Body → Body
-unless_ended None b = b
-unless_ended (Some (Ok _)) b = whole
-unless_ended (Some (Err f)) b = faulty f
+abbrev pub body_unless_ended : Option (Result Bool Fault) → Body → Body
+body_unless_ended None b = b
+body_unless_ended (Some (Ok _)) b = whole
+body_unless_ended (Some (Err f)) b = faulty_body f
 
 -- what is still to come of an input
-abbrev pub to_come : Reading → Input → Body
-to_come r i = unless_ended r.kept (body_of r.header r.complete [] (listing_at r.stream.place i))
+abbrev pub clauses_to_come : FormulaReading → Input → Body
+clauses_to_come r i = body_unless_ended r.kept (body_of r.header r.complete [] (listing_at r.stream.place i))
 
 -- A clause is the first of what is to come; or nothing is to come, and it stays so; or a fault is, and it stays.
 -- After want of memory that is the fault that stays.
 abbrev pub GivesClause : Result Bool Fault → List Literal → Body → Body → Type 0
-GivesClause (Ok true) c before after = before ≡ with_clause c after
+GivesClause (Ok true) c before after = before ≡ with_first_clause c after
 GivesClause (Ok false) c before after = (before ≡ after) × (before ≡ whole)
-GivesClause (Err OutOfMemory) c before after = after ≡ faulty OutOfMemory
-GivesClause (Err f) c before after = (before ≡ after) × (before ≡ faulty f)
+GivesClause (Err OutOfMemory) c before after = after ≡ faulty_body OutOfMemory
+GivesClause (Err f) c before after = (before ≡ after) × (before ≡ faulty_body f)
 
 abbrev pub is_nil : List Literal → Bool
 is_nil [] = true
 is_nil (l ∷ ls) = false
 
 -- what is to come after the clause that was given next
-abbrev pub left_of : Result Bool Fault → Header → ℕ → Listing → Body
-left_of (Ok true) h complete l = body_of h (complete + 1) [] l
-left_of (Ok false) h complete l = whole
-left_of (Err f) h complete l = faulty f
+abbrev pub body_left : Result Bool Fault → Header → ℕ → Listing → Body
+body_left (Ok true) h complete l = body_of h (complete + 1) [] l
+body_left (Ok false) h complete l = whole
+body_left (Err f) h complete l = faulty_body f
 
 -- the end of the input was met in the midst of a clause, after the last one, or before it
-abbrev pub EndsSo : Result Bool Fault → Body → Type 0
-EndsSo (Ok true) b = ⊥
-EndsSo (Ok false) b = b ≡ whole
-EndsSo (Err f) b = b ≡ faulty f
+abbrev pub EndsBody : Result Bool Fault → Body → Type 0
+EndsBody (Ok true) b = ⊥
+EndsBody (Ok false) b = b ≡ whole
+EndsBody (Err f) b = b ≡ faulty_body f
 
 -- the formula of a header and what is to come
 abbrev pub opened : Header → Body → Formula

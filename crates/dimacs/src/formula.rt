@@ -5,8 +5,8 @@ ghost use Rattle.cnf_base.specs.Stream.{Stream, Along, most_to_come};
 ghost use Rattle.cnf_base.specs.Text.{listing_at};
 ghost use Rattle.cnf_base.specs.declared.input.Ending.TheVariants.{End};
 ghost use Rattle.cnf_base.specs.Readers.{Advances, IsLeft, Keeps, Tells, TellsOf};
-ghost use Rattle.dimacs.specs.Formula.{at_end, body_of, formula_at, judged};
-ghost use Rattle.dimacs.specs.Reading.{to_come, left_of, EndsSo, GivesClause, opened, unopened};
+ghost use Rattle.dimacs.specs.Formula.{body_at_end, body_of, formula_at, judged};
+ghost use Rattle.dimacs.specs.Reading.{clauses_to_come, body_left, EndsBody, GivesClause, opened, unopened};
 
 use crate::ClauseBuf;
 use crate::header::{Header, read_header};
@@ -25,9 +25,9 @@ pub struct FormulaReader<R: In> {
 impl<R: In> Model for FormulaReader<R> {
     ghost use Rattle.std.specs.Prelude.{◌≡◌, ◌≤◌, Some, Ok, Err, true};
     ghost use Rattle.cnf_base.specs.declared.fault.Fault.TheVariants.{ReadFailed};
-    ghost use Rattle.dimacs.specs.Reading.{Reading};
+    ghost use Rattle.dimacs.specs.Reading.{FormulaReading};
 
-    ghost Value = { Reading };
+    ghost Value = { FormulaReading };
 
     ghost view = { λ r. record {
       stream = r.scanner;
@@ -46,7 +46,7 @@ impl<R: In> FormulaReader<R> {
     pub fn open(source: Source<R>) -> Result<Self, (Fault, R)>
         // The formula is this header and what is still to come of it.
         ensures opened { IfOk result (λ r. Along source r.stream
-            (λ i j. formula_at source.place i ≡ opened r.header (to_come r j))) }
+            (λ i j. formula_at source.place i ≡ opened r.header (clauses_to_come r j))) }
         ensures started { IfOk result (λ r. (r.complete ≡ 0) × (r.kept ≡ None)) }
         ensures fewer { IfOk result (λ r. most_to_come r.stream ≤ most_to_come source) }
         ensures mark { IfOk result (λ r. r.stream.reader.has_failed ≡ source.reader.has_failed) }
@@ -95,7 +95,8 @@ impl<R: In> FormulaReader<R> {
     /// fault. After a fault or false the buffer's content is open.
     pub fn next(&mut self, clause: &mut ClauseBuf) -> Result<bool, Fault>
         ensures clause { Along self.old.stream self.new.stream
-            (λ i j. GivesClause result clause.new (to_come self.old i) (to_come self.new j)) }
+            (λ i j. GivesClause result clause.new (clauses_to_come self.old i)
+            (clauses_to_come self.new j)) }
         ensures header { self.new.header ≡ self.old.header }
         ensures counts { result ≡ Ok true → (self.new.complete ≡ self.old.complete + 1)
             × (self.new.complete ≤ self.old.header.clauses) × (self.new.complete ≤ 4294967295) }
@@ -135,7 +136,8 @@ fn read_clause<R: In>(
     clause: &mut ClauseBuf,
 ) -> Result<bool, Fault>
     ensures clause { Along scanner.old scanner.new (λ i j. GivesClause result clause.new
-        (body_of header complete clause.old (listing_at scanner.old.place i)) (left_of result header complete (listing_at scanner.new.place j))) }
+        (body_of header complete clause.old (listing_at scanner.old.place i))
+        (body_left result header complete (listing_at scanner.new.place j))) }
     ensures counts { result ≡ Ok true → complete < header.clauses }
     ensures fewer { Advances result scanner.old scanner.new }
     ensures tells { TellsOf result scanner.old.reader.has_failed scanner.new.reader.has_failed }
@@ -178,7 +180,7 @@ fn judge(header: Header, complete: u32, word: Word) -> Result<Option<Lit>, TextF
 
 // What the end of the input means.
 fn at_end(header: Header, complete: u32, clause: &ClauseBuf, place: Place) -> Result<bool, Fault>
-    ensures value { EndsSo result (at_end header complete clause.now place End) }
+    ensures value { EndsBody result (body_at_end header complete clause.now place End) }
 {
     if !clause.is_empty() {
         return Err(Fault::Text(TextFault::UnterminatedClause, place));

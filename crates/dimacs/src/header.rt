@@ -22,7 +22,8 @@ const MOST_CLAUSES: u64 = 4294967295;
 // `p cnf VARIABLES CLAUSES`, up to the line's end.
 pub(crate) fn read_header<R: In>(scanner: &mut Scanner<R>) -> Result<Header, Fault>
     ensures header { Along scanner.old scanner.new (λ i j.
-        header_of (listing_at scanner.old.place i) ≡ and_then result (λ h. Ok (h, listing_at scanner.new.place j))) }
+        header_of (listing_at scanner.old.place i)
+        ≡ and_then result (λ h. Ok (h, listing_at scanner.new.place j))) }
     ensures fewer { most_to_come scanner.new ≤ most_to_come scanner.old }
     ensures tells { TellsOf result scanner.old.reader.has_failed scanner.new.reader.has_failed }
     ensures limit { IfOk result (λ h. h.vars ≤ 268435455) }
@@ -53,7 +54,8 @@ pub(crate) fn read_header<R: In>(scanner: &mut Scanner<R>) -> Result<Header, Fau
 // The word `p`, at the start of the first line that is no comment and not blank.
 fn read_p<R: In>(scanner: &mut Scanner<R>) -> Result<(), Fault>
     ensures text { Along scanner.old scanner.new (λ i j.
-        fixed is_p (skip_blank (listing_at scanner.old.place i)) ≡ and_then result (λ _. Ok (listing_at scanner.new.place j))) }
+        fixed is_p (skip_blank (listing_at scanner.old.place i))
+        ≡ and_then result (λ _. Ok (listing_at scanner.new.place j))) }
     ensures fewer { most_to_come scanner.new ≤ most_to_come scanner.old }
     ensures tells { TellsOf result scanner.old.reader.has_failed scanner.new.reader.has_failed }
 {
@@ -64,7 +66,8 @@ fn read_p<R: In>(scanner: &mut Scanner<R>) -> Result<(), Fault>
 // The word `cnf`.
 fn read_cnf<R: In>(scanner: &mut Scanner<R>) -> Result<(), Fault>
     ensures text { Along scanner.old scanner.new (λ i j.
-        fixed is_cnf (listing_at scanner.old.place i) ≡ and_then result (λ _. Ok (listing_at scanner.new.place j))) }
+        fixed is_cnf (listing_at scanner.old.place i)
+        ≡ and_then result (λ _. Ok (listing_at scanner.new.place j))) }
     ensures fewer { most_to_come scanner.new ≤ most_to_come scanner.old }
     ensures tells { TellsOf result scanner.old.reader.has_failed scanner.new.reader.has_failed }
 {
@@ -75,7 +78,8 @@ fn read_cnf<R: In>(scanner: &mut Scanner<R>) -> Result<(), Fault>
 // A number of variables or clauses.
 fn read_count<R: In>(scanner: &mut Scanner<R>, limit: u64) -> Result<u64, Fault>
     ensures text { Along scanner.old scanner.new (λ i j.
-        count limit (listing_at scanner.old.place i) ≡ and_then result (λ n. Ok (n, listing_at scanner.new.place j))) }
+        count limit (listing_at scanner.old.place i)
+        ≡ and_then result (λ n. Ok (n, listing_at scanner.new.place j))) }
     ensures fewer { most_to_come scanner.new ≤ most_to_come scanner.old }
     ensures tells { TellsOf result scanner.old.reader.has_failed scanner.new.reader.has_failed }
     ensures limit { IfOk result (λ n. n ≤ limit) }
@@ -87,7 +91,8 @@ fn read_count<R: In>(scanner: &mut Scanner<R>, limit: u64) -> Result<u64, Fault>
 // The line's end, or the input's.
 fn read_line_end<R: In>(scanner: &mut Scanner<R>) -> Result<(), Fault>
     ensures text { Along scanner.old scanner.new (λ i j.
-        line_end (listing_at scanner.old.place i) ≡ and_then result (λ _. Ok (listing_at scanner.new.place j))) }
+        line_end (listing_at scanner.old.place i)
+        ≡ and_then result (λ _. Ok (listing_at scanner.new.place j))) }
     ensures fewer { most_to_come scanner.new ≤ most_to_come scanner.old }
     ensures tells { TellsOf result scanner.old.reader.has_failed scanner.new.reader.has_failed }
 {
@@ -101,7 +106,8 @@ fn read_line_end<R: In>(scanner: &mut Scanner<R>) -> Result<(), Fault>
 // The first word of the first line that isn't blank.
 fn first_word<R: In>(scanner: &mut Scanner<R>) -> Result<(Place, Word), Fault>
     ensures text { Along scanner.old scanner.new (λ i j.
-        next_word (skip_blank (listing_at scanner.old.place i)) ≡ and_then result (λ w. Ok (w.0, w.1, listing_at scanner.new.place j))) }
+        next_word (skip_blank (listing_at scanner.old.place i))
+        ≡ and_then result (λ w. Ok (w.0, w.1, listing_at scanner.new.place j))) }
     ensures fewer { most_to_come scanner.new ≤ most_to_come scanner.old }
     ensures tells { TellsOf result scanner.old.reader.has_failed scanner.new.reader.has_failed }
 {
@@ -118,7 +124,8 @@ fn first_word<R: In>(scanner: &mut Scanner<R>) -> Result<(Place, Word), Fault>
 // The line's next word.
 fn next_word<R: In>(scanner: &mut Scanner<R>) -> Result<(Place, Word), Fault>
     ensures text { Along scanner.old scanner.new (λ i j.
-        next_word (listing_at scanner.old.place i) ≡ and_then result (λ w. Ok (w.0, w.1, listing_at scanner.new.place j))) }
+        next_word (listing_at scanner.old.place i)
+        ≡ and_then result (λ w. Ok (w.0, w.1, listing_at scanner.new.place j))) }
     ensures fewer { most_to_come scanner.new ≤ most_to_come scanner.old }
     ensures tells { TellsOf result scanner.old.reader.has_failed scanner.new.reader.has_failed }
 {

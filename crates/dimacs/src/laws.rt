@@ -1,6 +1,6 @@
 //! Laws of the definitions. The functions do nothing: their contracts are the theorems.
 
-ghost use Rattle.dimacs.specs.Printing.{FormulaIsReadBack, ModelIsReadBack, ExamplesArePrinted};
+ghost use Rattle.dimacs.specs.Printing.{FormulaIsReadBack, ModelIsReadBack, FormulasLookSo};
 
 /// A formula that is printed is read back: its header, exactly its clauses, and no fault.
 pub fn formula_is_read_back()
@@ -14,5 +14,5 @@ pub fn model_is_read_back()
 
 /// What printed texts look like: the laws speak of these examples.
 pub fn examples_are_printed()
-    ensures { ExamplesArePrinted }
+    ensures { FormulasLookSo }
 {}

@@ -2,7 +2,7 @@
 
 ghost use Rattle.std.specs.Prelude.{◌≡◌, Some, IfOk};
 ghost use Rattle.cnf_base.specs.declared.input.Ending.TheVariants.{End};
-ghost use Rattle.dimacs.specs.Claim.{nothing, on_first, on_status, on_value, on_literal, on_word, on_line_end, on_end, placed, IsClaim, IsConsistent};
+ghost use Rattle.dimacs.specs.Claim.{nothing, on_first, on_status, on_value, on_literal, claim_on_word, on_line_end, on_end, placed, IsClaim, IsConsistent};
 ghost use Rattle.dimacs.specs.Claiming.{Takes};
 
 use crate::Model;
@@ -25,7 +25,12 @@ impl marker::Model for Said {
 
     ghost Value = { Said };
 
-    ghost view = { λ s. record { position = s.position; has_status = s.has_status; is_ended = s.is_ended; listed = s.model } };
+    ghost view = { λ s. record {
+      position = s.position;
+      has_status = s.has_status;
+      is_ended = s.is_ended;
+      listed = s.model;
+    } };
 
     ghost invariant = { λ s. IsConsistent s.model };
 }
@@ -45,7 +50,7 @@ impl Said {
 
     /// Takes a word. After a fault the content is open.
     pub(crate) fn take_word(&mut self, place: Place, word: Word) -> Result<(), Fault>
-        ensures { Takes result self.new (placed place (on_word self.old word)) }
+        ensures { Takes result self.new (placed place (claim_on_word self.old word)) }
     {
         match self.position {
             Position::LineStart => self.take_first(place, word),

@@ -9,44 +9,44 @@ use Rattle.cnf_base.specs.declared.fault.BinaryFault.{BinaryFault}
 use Rattle.cnf_base.proofs.StreamLemmas.{Along-then, Along-map, Along-look, Along-bumped, Along-still, shown_end, most_to_come-bumped, most_to_come-look}
 use Rattle.proofs.specs.Steps.{Step, named}
 use Rattle.proofs.specs.Reading.{Proof, GivesStep}
-use Rattle.proofs.specs.TextMoves.{EndsSo}
-use Rattle.proofs.specs.Binary.{Spot, at_tag, Move, goes, completes, faults, move_of, on_move, at_end, steps_from, steps_at}
-use Rattle.proofs.specs.BinaryMoves.{Moves, left_of}
+use Rattle.proofs.specs.TextMoves.{EndsProof}
+use Rattle.proofs.specs.Binary.{BinarySpot, at_tag, BinaryMove, goes, completes, faults, binary_move_of, on_binary_move, binary_at_end, binary_steps_from, binary_steps_at}
+use Rattle.proofs.specs.BinaryMoves.{MovesBinary, binary_left}
 use Rattle.proofs.specs.declared.moved.Moved.{Moved}
 use Rattle.proofs.specs.declared.drat_binary.part.Part.{Part}
 use Rattle.proofs.specs.declared.drat_binary.stopped.Stopped.{Stopped}
 use Rattle.proofs.proofs.TextLemmas.{gives_fault}
 
 -- from one moment to another bytes of one step were read
-pub record Between (old now : Stream) (spot : Spot) (s : Step) : Type 0 where
-  pub text : Along old now (λ i j. steps_at old.byte_no i ≡ steps_from spot s now.byte_no j)
+pub record Between (old now : Stream) (spot : BinarySpot) (s : Step) : Type 0 where
+  pub text : Along old now (λ i j. binary_steps_at old.byte_no i ≡ binary_steps_from spot s now.byte_no j)
   pub fewer : most_to_come now ≤ most_to_come old
   pub mark : now.reader.has_failed ≡ old.reader.has_failed
 
 pub Between-none : (s : Stream) → Between s s at_tag (named 0)
-Between-none s = record { text = Along-still s (steps_at s.byte_no); fewer = omega arith; mark = refl }
+Between-none s = record { text = Along-still s (binary_steps_at s.byte_no); fewer = omega arith; mark = refl }
 
 ends_so : (end : Proof) (result : Result Bool Fault) (s : Step) (before : Proof) (at : ℕ) (j : Input)
-    → EndsSo result end → before ≡ end → GivesStep result s before (left_of result at j) j
+    → EndsProof result end → before ≡ end → GivesStep result s before (binary_left result at j) j
 ends_so end (Ok true) s before at j ends e = absurd ends
 ends_so end (Ok false) s before at j ends e = (e ∙ ends, e ∙ ends)
 ends_so end (Err f) s before at j ends e = gives_fault f s before j (e ∙ ends)
 
-module _ (old now new : Stream) (spot : Spot) (s : Step) (so_far : Between old now spot s) (look : IsLook now new) where
-  looked : Along old new (λ i j. steps_at old.byte_no i ≡ steps_from spot s new.byte_no j)
+module _ (old now new : Stream) (spot : BinarySpot) (s : Step) (so_far : Between old now spot s) (look : IsLook now new) where
+  looked : Along old new (λ i j. binary_steps_at old.byte_no i ≡ binary_steps_from spot s new.byte_no j)
   looked = Along-then old now new _ _ _ so_far.text (Along-look now new look) (λ i j k m q r.
-      q ∙ ap (steps_from spot s now.byte_no) r ∙ ap (λ n. steps_from spot s n k) (sym look.byte_no))
+      q ∙ ap (binary_steps_from spot s now.byte_no) r ∙ ap (λ n. binary_steps_from spot s n k) (sym look.byte_no))
 
   -- a byte was taken
   module _ (b : ℕ) (some : 0 < length new.ahead) (first : b ≡ slice_index new.ahead 0) where
-    abbrev follows : Input → Move → Proof
-    follows j move = on_move (length j.bytes) move (λ spot s. steps_from spot s (next_count new.byte_no) j)
+    abbrev follows : Input → BinaryMove → Proof
+    follows j move = on_binary_move (length j.bytes) move (λ spot s. binary_steps_from spot s (next_count new.byte_no) j)
 
-    byte_text : Along old (bumped new) (λ i j. steps_at old.byte_no i ≡ follows j (move_of spot s new.byte_no b))
+    byte_text : Along old (bumped new) (λ i j. binary_steps_at old.byte_no i ≡ follows j (binary_move_of spot s new.byte_no b))
     byte_text = Along-then old new (bumped new) _ _ _ looked (Along-bumped new b some first) (λ i j k m q r.
-        q ∙ ap (steps_from spot s new.byte_no) r)
+        q ∙ ap (binary_steps_from spot s new.byte_no) r)
 
-    pub Between-byte : (next : Spot) (t : Step) → move_of spot s new.byte_no b ≡ goes next t → new.reader.has_failed ≡ now.reader.has_failed
+    pub Between-byte : (next : BinarySpot) (t : Step) → binary_move_of spot s new.byte_no b ≡ goes next t → new.reader.has_failed ≡ now.reader.has_failed
         → Between old (bumped new) next t
     Between-byte next t is mark = record {
       text = Along-map old (bumped new) _ _ byte_text (λ i j m q. q ∙ ap (follows j) is);
@@ -54,33 +54,33 @@ module _ (old now new : Stream) (spot : Spot) (s : Step) (so_far : Between old n
       mark = mark ∙ so_far.mark;
     }
 
-    pub Between-step : (t : Step) → move_of spot s new.byte_no b ≡ completes t
-        → Along old (bumped new) (λ i j. GivesStep (Ok true) t (steps_at old.byte_no i) (left_of (Ok true) (bumped new).byte_no j) j)
+    pub Between-step : (t : Step) → binary_move_of spot s new.byte_no b ≡ completes t
+        → Along old (bumped new) (λ i j. GivesStep (Ok true) t (binary_steps_at old.byte_no i) (binary_left (Ok true) (bumped new).byte_no j) j)
     Between-step t is = Along-map old (bumped new) _ _ byte_text (λ i j m q. q ∙ ap (follows j) is)
 
-    pub Between-fault : (f : BinaryFault) (at : ℕ) (t : Step) → move_of spot s new.byte_no b ≡ faults f at
-        → Along old (bumped new) (λ i j. GivesStep (Err (Binary f at)) t (steps_at old.byte_no i) (left_of (Err (Binary f at)) (bumped new).byte_no j) j)
+    pub Between-fault : (f : BinaryFault) (at : ℕ) (t : Step) → binary_move_of spot s new.byte_no b ≡ faults f at
+        → Along old (bumped new) (λ i j. GivesStep (Err (Binary f at)) t (binary_steps_at old.byte_no i) (binary_left (Err (Binary f at)) (bumped new).byte_no j) j)
     Between-fault f at t is = Along-map old (bumped new) _ _ byte_text (λ i j m q. gives_fault (Binary f at) t _ j (q ∙ ap (follows j) is))
 
     pub Between-refused : (t : Step)
-        → Along old (bumped new) (λ i j. GivesStep (Err OutOfMemory) t (steps_at old.byte_no i) (left_of (Err OutOfMemory) (bumped new).byte_no j) j)
+        → Along old (bumped new) (λ i j. GivesStep (Err OutOfMemory) t (binary_steps_at old.byte_no i) (binary_left (Err OutOfMemory) (bumped new).byte_no j) j)
     Between-refused t = Along-map old (bumped new) _ _ byte_text (λ i j m q. refl)
 
-  pub Between-end : (result : Result Bool Fault) → new.ahead ≡ [] → new.met ≡ Some End → EndsSo result (at_end spot new.byte_no End)
-      → Along old new (λ i j. GivesStep result s (steps_at old.byte_no i) (left_of result new.byte_no j) j)
+  pub Between-end : (result : Result Bool Fault) → new.ahead ≡ [] → new.met ≡ Some End → EndsProof result (binary_at_end spot new.byte_no End)
+      → Along old new (λ i j. GivesStep result s (binary_steps_at old.byte_no i) (binary_left result new.byte_no j) j)
   Between-end result nothing met ends = Along-map old new _ _ looked (λ i j m q.
       let e = shown_end new End j nothing met m in
-      ends_so (at_end spot new.byte_no End) result s _ new.byte_no j ends (q ∙ ap (steps_from spot s new.byte_no) e))
+      ends_so (binary_at_end spot new.byte_no End) result s _ new.byte_no j ends (q ∙ ap (binary_steps_from spot s new.byte_no) e))
 
   pub Between-failed : new.ahead ≡ [] → new.met ≡ Some Failed
-      → Along old new (λ i j. GivesStep (Err ReadFailed) s (steps_at old.byte_no i) (left_of (Err ReadFailed) new.byte_no j) j)
+      → Along old new (λ i j. GivesStep (Err ReadFailed) s (binary_steps_at old.byte_no i) (binary_left (Err ReadFailed) new.byte_no j) j)
   Between-failed nothing met = Along-map old new _ _ looked (λ i j m q.
-      gives_fault ReadFailed s _ j (q ∙ ap (steps_from spot s new.byte_no) (shown_end new Failed j nothing met m)))
+      gives_fault ReadFailed s _ j (q ∙ ap (binary_steps_from spot s new.byte_no) (shown_end new Failed j nothing met m)))
 
 -- what a byte was found to do, by the answer's pattern, and by the byte's number
-pub moves_told : (result answer : Result (Moved Part) Stopped) (spot : Spot) (s t : Step) (at known b : ℕ)
-    → Moves result (move_of spot s at b) t → at ≡ known → result ≡ answer → Moves answer (move_of spot s known b) t
+pub moves_told : (result answer : Result (Moved Part) Stopped) (spot : BinarySpot) (s t : Step) (at known b : ℕ)
+    → MovesBinary result (binary_move_of spot s at b) t → at ≡ known → result ≡ answer → MovesBinary answer (binary_move_of spot s known b) t
 moves_told result answer spot s t at known b moves number is =
-    let P : Result (Moved Part) Stopped → Type 0 = λ r. Moves r (move_of spot s known b) t in
-    let Q : ℕ → Type 0 = λ n. Moves result (move_of spot s n b) t in
+    let P : Result (Moved Part) Stopped → Type 0 = λ r. MovesBinary r (binary_move_of spot s known b) t in
+    let Q : ℕ → Type 0 = λ n. MovesBinary result (binary_move_of spot s n b) t in
     subst P is (subst Q number moves)

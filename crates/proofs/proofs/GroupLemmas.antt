@@ -4,16 +4,16 @@ use Rattle.std.specs.Prelude.{nat_le}
 use Rattle.std.proofs.Math.Nat.{pow-suc}
 use Rattle.std.proofs.lemmas.Bool.Decides.{nat_tests}
 use Rattle.proofs.specs.Steps.{Step}
-use Rattle.proofs.specs.Binary.{value_of, number_move}
-use Rattle.proofs.specs.BinaryMoves.{Keeps}
+use Rattle.proofs.specs.Binary.{groups_value, binary_number_move}
+use Rattle.proofs.specs.BinaryMoves.{KeepsGroups}
 use Rattle.proofs.specs.declared.drat_binary.groups.Groups.{Groups}
 
-value-last : (bs : List ℕ) (b : ℕ) → value_of (bs ++ b ∷ []) ≡ value_of bs + b % 128 * 128 ^ length bs
+value-last : (bs : List ℕ) (b : ℕ) → groups_value (bs ++ b ∷ []) ≡ groups_value bs + b % 128 * 128 ^ length bs
 value-last [] b = omega arith
 value-last (x ∷ xs) b =
     let earlier = value-last xs b in
     let power : 128 ^ suc (length xs) ≡ 128 ^ length xs * 128 = pow-suc 128 (length xs) in
-    step x (value_of xs) (value_of (xs ++ b ∷ [])) (b % 128) (128 ^ length xs) (128 ^ suc (length xs)) earlier power
+    step x (groups_value xs) (groups_value (xs ++ b ∷ [])) (b % 128) (128 ^ length xs) (128 ^ suc (length xs)) earlier power
   where
     step : (x v n g w w' : ℕ) → n ≡ v + g * w → w' ≡ w * 128 → x % 128 + 128 * n ≡ x % 128 + 128 * v + g * w'
     step x v n g w w' e p = rw (e, p) (omega arith)
@@ -33,19 +33,19 @@ cut-product (suc h) w m = by (nat_le w m) refl
 cut-sum : (v p m : ℕ) → min (min v m + min p m) m ≡ min (v + p) m
 cut-sum v p m = omega arith
 
-pub kept_value : (g : Groups) (bytes : List ℕ) (b : ℕ) → Keeps g bytes
-    → min (g.value + min (b % 128 * g.weight) (2 ^ 64 - 1)) (2 ^ 64 - 1) ≡ min (value_of (bytes ++ b ∷ [])) (2 ^ 64 - 1)
+pub kept_value : (g : Groups) (bytes : List ℕ) (b : ℕ) → KeepsGroups g bytes
+    → min (g.value + min (b % 128 * g.weight) (2 ^ 64 - 1)) (2 ^ 64 - 1) ≡ min (groups_value (bytes ++ b ∷ [])) (2 ^ 64 - 1)
 kept_value g bytes b k =
     ap (λ v. min (v + min (b % 128 * g.weight) (2 ^ 64 - 1)) (2 ^ 64 - 1)) k.value
-    ∙ ap (λ w. min (min (value_of bytes) (2 ^ 64 - 1) + min (b % 128 * w) (2 ^ 64 - 1)) (2 ^ 64 - 1)) k.weight
-    ∙ ap (λ p. min (min (value_of bytes) (2 ^ 64 - 1) + p) (2 ^ 64 - 1)) (cut-product (b % 128) (128 ^ length bytes) (2 ^ 64 - 1))
-    ∙ cut-sum (value_of bytes) (b % 128 * 128 ^ length bytes) (2 ^ 64 - 1)
+    ∙ ap (λ w. min (min (groups_value bytes) (2 ^ 64 - 1) + min (b % 128 * w) (2 ^ 64 - 1)) (2 ^ 64 - 1)) k.weight
+    ∙ ap (λ p. min (min (groups_value bytes) (2 ^ 64 - 1) + p) (2 ^ 64 - 1)) (cut-product (b % 128) (128 ^ length bytes) (2 ^ 64 - 1))
+    ∙ cut-sum (groups_value bytes) (b % 128 * 128 ^ length bytes) (2 ^ 64 - 1)
     ∙ ap (λ v. min v (2 ^ 64 - 1)) (sym (value-last bytes b))
 
-pub kept_weight : (g : Groups) (bytes : List ℕ) (b : ℕ) → Keeps g bytes
+pub kept_weight : (g : Groups) (bytes : List ℕ) (b : ℕ) → KeepsGroups g bytes
     → min (g.weight * 128) (2 ^ 64 - 1) ≡ min (128 ^ length (bytes ++ b ∷ [])) (2 ^ 64 - 1)
 kept_weight g bytes b k = let weight = k.weight in let last = weight-last bytes b in omega arith
 
 -- a number that is cut past the limit is judged alike
-pub number_kept : (s : Step) (first last n : ℕ) → number_move s first last (min n (2 ^ 64 - 1)) ≡ number_move s first last n
+pub number_kept : (s : Step) (first last n : ℕ) → binary_number_move s first last (min n (2 ^ 64 - 1)) ≡ binary_number_move s first last n
 number_kept s first last n = grind (arith, nat_tests)

@@ -2,7 +2,7 @@
 use Rattle.std.proofs.Common.{zero, suc, refl, arith}
 use Rattle.std.specs.Prelude.{All}
 use Rattle.std.specs.Fmt.{digits}
-use Rattle.proofs.specs.Printing.{IsDratStep, IsLratStep, example_drat, example_lrat, ExamplesArePrinted}
+use Rattle.proofs.specs.Printing.{IsDratStep, IsLratStep, example_drat, example_lrat, ProofsLookSo}
 
 are_drat : All IsDratStep example_drat
 are_drat zero d l = record { id = refl; hints = refl; literals = refl }
@@ -15,6 +15,6 @@ are_lrat (suc zero) d l =
     record { some = omega arith; small = refl; literals = refl; deletion = λ e. refl; hints = refl }
 are_lrat (suc (suc k)) d l = absurd (omega arith)
 
-pub examples_printed : ExamplesArePrinted
+pub examples_printed : ProofsLookSo
 unfolding digits
 examples_printed = (are_drat, refl, refl, are_lrat, refl)

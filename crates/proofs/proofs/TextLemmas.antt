@@ -13,14 +13,14 @@ use Rattle.cnf_base.specs.declared.fault.Fault.TheVariants.{Text, Binary, ReadFa
 use Rattle.cnf_base.specs.declared.fault.TextFault.{TextFault}
 use Rattle.cnf_base.proofs.StreamLemmas.{Along-then, Along-map, Along-none, Along-still}
 use Rattle.proofs.specs.Steps.{Step, named}
-use Rattle.proofs.specs.Reading.{Proof, clean, faulty, unless_ended, GivesStep}
+use Rattle.proofs.specs.Reading.{Proof, clean, faulty_proof, proof_unless_ended, GivesStep}
 use Rattle.proofs.specs.TextSteps.{Move, goes, completes, faults, Format, move_of, on_move, at_end, steps_from, steps_listed}
-use Rattle.proofs.specs.TextMoves.{left_of, EndsSo, Moves}
+use Rattle.proofs.specs.TextMoves.{text_left, EndsProof, MovesText}
 use Rattle.proofs.specs.declared.moved.Moved.{Moved}
 use Rattle.proofs.specs.declared.stopped.Stopped.{Stopped}
 
 -- a fault is what comes, and it stays
-pub gives_fault : (f : Fault) (s : Step) (p : Proof) (rest : Input) → p ≡ faulty f → GivesStep (Err f) s p (faulty f) rest
+pub gives_fault : (f : Fault) (s : Step) (p : Proof) (rest : Input) → p ≡ faulty_proof f → GivesStep (Err f) s p (faulty_proof f) rest
 gives_fault (Text k p) s b rest e = (e, e)
 gives_fault (Binary k n) s b rest e = (e, e)
 gives_fault ReadFailed s b rest e = (e, e)
@@ -28,7 +28,7 @@ gives_fault OutOfMemory s b rest e = refl
 
 -- an answer that is kept is what comes, and it stays
 kept_gives : (answer : Result Bool Fault) (s : Step) (before after : Proof) (rest : Input) → (answer ≡ Ok true → ⊥)
-    → before ≡ unless_ended (Some answer) clean → after ≡ unless_ended (Some answer) clean → GivesStep answer s before after rest
+    → before ≡ proof_unless_ended (Some answer) clean → after ≡ proof_unless_ended (Some answer) clean → GivesStep answer s before after rest
 kept_gives (Ok true) s before after rest none b a = absurd (none refl)
 kept_gives (Ok false) s before after rest none b a = (b ∙ sym a, b)
 kept_gives (Err (Text k p)) s before after rest none b a = (b ∙ sym a, b)
@@ -38,19 +38,19 @@ kept_gives (Err OutOfMemory) s before after rest none b a = a
 
 pub Kept-step : (stream : Stream) (kept : Option (Result Bool Fault)) (coming : Input → Proof) (answer : Result Bool Fault) (s : Step)
     → kept ≡ Some answer → (kept ≡ Some (Ok true) → ⊥)
-    → Along stream stream (λ i j. GivesStep answer s (unless_ended kept (coming i)) (unless_ended kept (coming j)) j)
+    → Along stream stream (λ i j. GivesStep answer s (proof_unless_ended kept (coming i)) (proof_unless_ended kept (coming j)) j)
 Kept-step stream kept coming answer s is none =
-    let told : (i : Input) → unless_ended kept (coming i) ≡ unless_ended (Some answer) clean =
-    λ i. ap (λ k. unless_ended k (coming i)) is ∙ same answer (coming i) in
+    let told : (i : Input) → proof_unless_ended kept (coming i) ≡ proof_unless_ended (Some answer) clean =
+    λ i. ap (λ k. proof_unless_ended k (coming i)) is ∙ same answer (coming i) in
     Along-map stream stream _ _ (Along-none stream) (λ i j m e. kept_gives answer s _ _ j (λ ok. none (is ∙ ap Some ok)) (told i) (told j))
   where
-    same : (answer : Result Bool Fault) (p : Proof) → unless_ended (Some answer) p ≡ unless_ended (Some answer) clean
+    same : (answer : Result Bool Fault) (p : Proof) → proof_unless_ended (Some answer) p ≡ proof_unless_ended (Some answer) clean
     same (Ok v) p = refl
     same (Err f) p = refl
 
 ends_so : {P : Type 0} (format : Format P) (end : Proof) (result : Result Bool Fault) (s : Step) (before : Proof) (l : Listing) (rest : Input)
-    → EndsSo result end → before ≡ end
-    → GivesStep result s before (left_of format result l) rest
+    → EndsProof result end → before ≡ end
+    → GivesStep result s before (text_left format result l) rest
 ends_so format end (Ok true) s before l rest ends e = absurd ends
 ends_so format end (Ok false) s before l rest ends e = (e ∙ ends, e ∙ ends)
 ends_so format end (Err f) s before l rest ends e = gives_fault f s before rest (e ∙ ends)
@@ -93,30 +93,30 @@ module _ {P : Type 0} (format : Format P) (old now new : Stream) (part : P) (s :
     }
 
     pub Between-step : (t : Step) → move_of format part s w ≡ completes t
-        → Along old new (λ i j. GivesStep (Ok true) t (steps_listed format (listing_at old.place i)) (left_of format (Ok true) (listing_at new.place j)) j)
+        → Along old new (λ i j. GivesStep (Ok true) t (steps_listed format (listing_at old.place i)) (text_left format (Ok true) (listing_at new.place j)) j)
     Between-step t is = Along-map old new _ _ word_text (λ i j m q. q ∙ ap (follows j) is)
 
     pub Between-fault : (f : TextFault) (t : Step) → move_of format part s w ≡ faults f
-        → Along old new (λ i j. GivesStep (Err (Text f p)) t (steps_listed format (listing_at old.place i)) (left_of format (Err (Text f p)) (listing_at new.place j)) j)
+        → Along old new (λ i j. GivesStep (Err (Text f p)) t (steps_listed format (listing_at old.place i)) (text_left format (Err (Text f p)) (listing_at new.place j)) j)
     Between-fault f t is = Along-map old new _ _ word_text (λ i j m q. gives_fault (Text f p) t _ j (q ∙ ap (follows j) is))
 
     pub Between-refused : (t : Step)
-        → Along old new (λ i j. GivesStep (Err OutOfMemory) t (steps_listed format (listing_at old.place i)) (left_of format (Err OutOfMemory) (listing_at new.place j)) j)
+        → Along old new (λ i j. GivesStep (Err OutOfMemory) t (steps_listed format (listing_at old.place i)) (text_left format (Err OutOfMemory) (listing_at new.place j)) j)
     Between-refused t = Along-map old new _ _ word_text (λ i j m q. refl)
 
-  pub Between-end : (p : Place) (result : Result Bool Fault) → Along now new (λ i j. Gives (Ok (token.End p)) (listing_at now.place i) (listing_at new.place j) j) → EndsSo result (at_end format part p End)
-      → Along old new (λ i j. GivesStep result s (steps_listed format (listing_at old.place i)) (left_of format result (listing_at new.place j)) j)
+  pub Between-end : (p : Place) (result : Result Bool Fault) → Along now new (λ i j. Gives (Ok (token.End p)) (listing_at now.place i) (listing_at new.place j) j) → EndsProof result (at_end format part p End)
+      → Along old new (λ i j. GivesStep result s (steps_listed format (listing_at old.place i)) (text_left format result (listing_at new.place j)) j)
   Between-end p result gives ends = Along-then old now new _ _ _ so_far.text gives (λ i j k m q r.
       ends_so format (at_end format part p End) result s _ _ k ends (q ∙ ap (steps_from format part s) r.1))
 
   pub Between-failed : (cut : Cut) → Along now new (λ i j. Gives (Err cut) (listing_at now.place i) (listing_at new.place j) j)
-      → Along old new (λ i j. GivesStep (Err ReadFailed) s (steps_listed format (listing_at old.place i)) (left_of format (Err ReadFailed) (listing_at new.place j)) j)
+      → Along old new (λ i j. GivesStep (Err ReadFailed) s (steps_listed format (listing_at old.place i)) (text_left format (Err ReadFailed) (listing_at new.place j)) j)
   Between-failed cut gives = Along-then old now new _ _ _ so_far.text gives (λ i j k m q r.
       gives_fault ReadFailed s _ k (q ∙ empty (listing_at now.place j) r.1 r.2))
     where
-      empty : (l : Listing) → l.tokens ≡ [] → l.ending ≡ Failed → steps_from format part s l ≡ faulty ReadFailed
+      empty : (l : Listing) → l.tokens ≡ [] → l.ending ≡ Failed → steps_from format part s l ≡ faulty_proof ReadFailed
       empty l none failed = rw (none, failed) refl
 
 -- what a word was found to do, by the answer's pattern
-pub moves_told : {P : Type 0} (result answer : Result (Moved P) Stopped) (m : Move P) (s : Step) → Moves result m s → result ≡ answer → Moves answer m s
-moves_told {P} result answer m s moves is = let Q : Result (Moved P) Stopped → Type 0 = λ r. Moves r m s in subst Q is moves
+pub moves_told : {P : Type 0} (result answer : Result (Moved P) Stopped) (m : Move P) (s : Step) → MovesText result m s → result ≡ answer → MovesText answer m s
+moves_told {P} result answer m s moves is = let Q : Result (Moved P) Stopped → Type 0 = λ r. MovesText r m s in subst Q is moves

@@ -10,84 +10,84 @@ use Rattle.cnf_base.specs.declared.fault.Fault.TheVariants.{Binary, ReadFailed}
 use Rattle.cnf_base.specs.declared.fault.BinaryFault.{BinaryFault}
 use Rattle.cnf_base.specs.declared.fault.BinaryFault.TheVariants.{LiteralTooLarge, UnterminatedStep, BadTag, BadNumber}
 use Rattle.proofs.specs.Steps.{Step, named, deleting, with_literal}
-use Rattle.proofs.specs.Reading.{Proof, clean, faulty, with_step, Reading, unless_ended}
+use Rattle.proofs.specs.Reading.{Proof, clean, faulty_proof, with_step, ProofReading, proof_unless_ended}
 
 -- ---- One byte of a step
 
 -- the number that these bytes spell
-abbrev pub value_of : List ℕ → ℕ
-value_of [] = 0
-value_of (b ∷ bs) = b % 128 + 128 * value_of bs
+abbrev pub groups_value : List ℕ → ℕ
+groups_value [] = 0
+groups_value (b ∷ bs) = b % 128 + 128 * groups_value bs
 
 -- where a byte stands: at a step's tag, at the start of a number or the step's end, or inside a number, of which the first
 -- byte had this number and these bytes were read
-pub data Spot : Type 0 where
-  at_tag : Spot
-  in_step : Spot
-  in_number : ℕ → List ℕ → Spot
+pub data BinarySpot : Type 0 where
+  at_tag : BinarySpot
+  in_step : BinarySpot
+  in_number : ℕ → List ℕ → BinarySpot
 
 -- what a byte does: the step goes on, it is complete, or something is wrong at the byte with this number
-pub data Move : Type 0 where
-  goes : Spot → Step → Move
-  completes : Step → Move
-  faults : BinaryFault → ℕ → Move
+pub data BinaryMove : Type 0 where
+  goes : BinarySpot → Step → BinaryMove
+  completes : Step → BinaryMove
+  faults : BinaryFault → ℕ → BinaryMove
 
-abbrev pub tag_move : Step → ℕ → ℕ → Move
+abbrev pub tag_move : Step → ℕ → ℕ → BinaryMove
 tag_move s at b =
     if b == 97 then goes in_step s
     else (if b == 100 then goes in_step (deleting s)
     else faults BadTag at)
 
 -- a whole number, with its last byte; a literal is 2 at least
-abbrev pub number_move : Step → ℕ → ℕ → ℕ → Move
-number_move s first last n =
+abbrev pub binary_number_move : Step → ℕ → ℕ → ℕ → BinaryMove
+binary_number_move s first last n =
     if last == 0 then faults BadNumber first
     else (if nat_le n 1 then faults BadNumber first
     else (if nat_le n 536870911 then goes in_step (with_literal s n)
     else faults LiteralTooLarge first))
 
 -- one more byte of a number
-abbrev pub group_move : Step → ℕ → List ℕ → ℕ → Move
+abbrev pub group_move : Step → ℕ → List ℕ → ℕ → BinaryMove
 group_move s first bytes b =
     if nat_le 128 b then goes (in_number first (bytes ++ b ∷ [])) s
-    else number_move s first b (value_of (bytes ++ b ∷ []))
+    else binary_number_move s first b (groups_value (bytes ++ b ∷ []))
 
 -- what a byte does, by where it stands; `at` is its number
-abbrev pub move_of : Spot → Step → ℕ → ℕ → Move
-move_of at_tag s at b = tag_move s at b
-move_of in_step s at b = if b == 0 then completes s else group_move s at [] b
-move_of (in_number first bytes) s at b = group_move s first bytes b
+abbrev pub binary_move_of : BinarySpot → Step → ℕ → ℕ → BinaryMove
+binary_move_of at_tag s at b = tag_move s at b
+binary_move_of in_step s at b = if b == 0 then completes s else group_move s at [] b
+binary_move_of (in_number first bytes) s at b = group_move s first bytes b
 
 -- ---- All steps
 
 -- what the end of the input means, by where it stands
-abbrev pub at_end : Spot → ℕ → Ending → Proof
-at_end spot at Failed = faulty ReadFailed
-at_end at_tag at End = clean
-at_end _ at End = faulty (Binary UnterminatedStep at)
+abbrev pub binary_at_end : BinarySpot → ℕ → Ending → Proof
+binary_at_end spot at Failed = faulty_proof ReadFailed
+binary_at_end at_tag at End = clean
+binary_at_end _ at End = faulty_proof (Binary UnterminatedStep at)
 
 -- what a byte's move means; `rest` is what follows, and `left` how many bytes do
-abbrev pub on_move : ℕ → Move → (Spot → Step → Proof) → Proof
-on_move left (goes spot s) rest = rest spot s
-on_move left (completes s) rest = with_step s left (rest at_tag (named 0))
-on_move left (faults f at) rest = faulty (Binary f at)
+abbrev pub on_binary_move : ℕ → BinaryMove → (BinarySpot → Step → Proof) → Proof
+on_binary_move left (goes spot s) rest = rest spot s
+on_binary_move left (completes s) rest = with_step s left (rest at_tag (named 0))
+on_binary_move left (faults f at) rest = faulty_proof (Binary f at)
 
-abbrev pub steps_among : Spot → Step → ℕ → List ℕ → Ending → Proof
-steps_among spot s at [] ending = at_end spot at ending
-steps_among spot s at (b ∷ bs) ending =
-    on_move (length bs) (move_of spot s at b) (λ spot s. steps_among spot s (next_count at) bs ending)
+abbrev pub binary_steps_among : BinarySpot → Step → ℕ → List ℕ → Ending → Proof
+binary_steps_among spot s at [] ending = binary_at_end spot at ending
+binary_steps_among spot s at (b ∷ bs) ending =
+    on_binary_move (length bs) (binary_move_of spot s at b) (λ spot s. binary_steps_among spot s (next_count at) bs ending)
 
 -- the steps from the byte with this number on, where so much of a step was read before
-abbrev pub steps_from : Spot → Step → ℕ → Input → Proof
-steps_from spot s at i = steps_among spot s at i.bytes i.ending
+abbrev pub binary_steps_from : BinarySpot → Step → ℕ → Input → Proof
+binary_steps_from spot s at i = binary_steps_among spot s at i.bytes i.ending
 
 -- the steps from a byte on, and those of a whole input
-abbrev pub steps_at : ℕ → Input → Proof
-steps_at at i = steps_from at_tag (named 0) at i
+abbrev pub binary_steps_at : ℕ → Input → Proof
+binary_steps_at at i = binary_steps_from at_tag (named 0) at i
 
 abbrev pub binary_steps : Input → Proof
-binary_steps i = steps_at 1 i
+binary_steps i = binary_steps_at 1 i
 
 -- what is still to come of an input
-abbrev pub to_come : Reading → Input → Proof
-to_come r i = unless_ended r.kept (steps_at r.stream.byte_no i)
+abbrev pub binary_to_come : ProofReading → Input → Proof
+binary_to_come r i = proof_unless_ended r.kept (binary_steps_at r.stream.byte_no i)

@@ -7,7 +7,7 @@ use Rattle.cnf_base.specs.declared.fault.TextFault.TheVariants.{BadToken, IdTooL
 use Rattle.proofs.specs.declared.lrat_text.part.Part.{Part}
 use Rattle.proofs.specs.declared.lrat_text.part.Part.TheVariants.{Identifier, AfterIdentifier, Literals, Hints, Deletion}
 use Rattle.proofs.specs.Steps.{Step, is_small, named, deleting, with_hint}
-use Rattle.proofs.specs.Reading.{Proof, Reading}
+use Rattle.proofs.specs.Reading.{Proof, ProofReading}
 use Rattle.proofs.specs.TextSteps.{Move, goes, completes, faults, literal_or_fault, Format, steps_of, left_to}
 
 -- ---- One word of a step
@@ -44,17 +44,17 @@ deleted s n =
     else faults IdTooLarge)
 
 -- what a number does, by where it stands
-abbrev pub number_move : Part → Step → Number → Move Part
-number_move Identifier s n = identifier n
-number_move AfterIdentifier s n = literal s n
-number_move Literals s n = literal s n
-number_move Hints s n = hint s n
-number_move Deletion s n = deleted s n
+abbrev pub lrat_number_move : Part → Step → Number → Move Part
+lrat_number_move Identifier s n = identifier n
+lrat_number_move AfterIdentifier s n = literal s n
+lrat_number_move Literals s n = literal s n
+lrat_number_move Hints s n = hint s n
+lrat_number_move Deletion s n = deleted s n
 
 -- `d` stands just after the identifier alone
-abbrev pub d_move : Part → Step → Move Part
-d_move AfterIdentifier s = goes Deletion (deleting s)
-d_move _ s = faults BadToken
+abbrev pub lrat_d_move : Part → Step → Move Part
+lrat_d_move AfterIdentifier s = goes Deletion (deleting s)
+lrat_d_move _ s = faults BadToken
 
 -- ---- All steps
 
@@ -64,11 +64,11 @@ is_identifier _ = false
 
 -- a step begins with its identifier
 abbrev pub lrat : Format Part
-lrat = record { start = Identifier; is_start = is_identifier; number_move = number_move; d_move = d_move }
+lrat = record { start = Identifier; is_start = is_identifier; number_move = lrat_number_move; d_move = lrat_d_move }
 
 abbrev pub lrat_steps : Input → Proof
 lrat_steps i = steps_of lrat i
 
 -- what is still to come of an input
-abbrev pub to_come : Reading → Input → Proof
-to_come r i = left_to lrat r i
+abbrev pub lrat_to_come : ProofReading → Input → Proof
+lrat_to_come r i = left_to lrat r i

@@ -49,8 +49,8 @@ DratIsReadBack = (steps : List Step) → All IsDratStep steps →
 -- ---- Binary DRAT
 
 -- a number's groups of 7 bits, lowest first
-abbrev pub groups_of : ℕ → List ℕ
-groups_of n = reverse (digits_of 128 n)
+abbrev pub seven_bit_groups : ℕ → List ℕ
+seven_bit_groups n = reverse (digits_of 128 n)
 
 -- the bytes of groups: all but the last have their high bit set
 abbrev pub group_bytes : List ℕ → List ℕ
@@ -60,7 +60,7 @@ group_bytes (g ∷ h ∷ gs) = (128 + g) ∷ group_bytes (h ∷ gs)
 
 -- a number (DRAT-trim's page)
 abbrev pub number_bytes : ℕ → List ℕ
-number_bytes n = group_bytes (groups_of n)
+number_bytes n = group_bytes (seven_bit_groups n)
 
 -- the byte that a step begins with, `a` or `d` (DRAT-trim's page)
 abbrev pub tag_bytes : StepKind → List ℕ
@@ -120,8 +120,8 @@ example_lrat =
     ∷ record { kind = Delete; id = 5; lits = []; hints = pos 1 ∷ pos 12 ∷ [] } ∷ []
 
 -- The laws speak of them, and this is what they look like.
-abbrev pub ExamplesArePrinted : Type 0
-ExamplesArePrinted =
+abbrev pub ProofsLookSo : Type 0
+ProofsLookSo =
     All IsDratStep example_drat
     × (flat_map drat_line example_drat ≡ codes "d -63 -8193 0\n129 -8191 0\n")
     × (flat_map binary_step example_drat ≡ 100 ∷ 127 ∷ 131 ∷ 128 ∷ 1 ∷ 0 ∷ 97 ∷ 130 ∷ 2 ∷ 255 ∷ 127 ∷ 0 ∷ [])

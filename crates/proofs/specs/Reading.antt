@@ -18,25 +18,25 @@ pub record Proof : Type 0 where
 abbrev pub clean : Proof
 clean = record { steps = []; fault = None }
 
-abbrev pub faulty : Fault → Proof
-faulty f = record { steps = []; fault = Some f }
+abbrev pub faulty_proof : Fault → Proof
+faulty_proof f = record { steps = []; fault = Some f }
 
 abbrev pub with_step : Step → ℕ → Proof → Proof
 with_step s rest p = record { steps = record { step = s; rest = rest } ∷ p.steps; fault = p.fault }
 
 -- after an end nothing else is to come
-abbrev pub unless_ended : Option (Result Bool Fault) → Proof → Proof
-unless_ended None p = p
-unless_ended (Some (Ok _)) p = clean
-unless_ended (Some (Err f)) p = faulty f
+abbrev pub proof_unless_ended : Option (Result Bool Fault) → Proof → Proof
+proof_unless_ended None p = p
+proof_unless_ended (Some (Ok _)) p = clean
+proof_unless_ended (Some (Err f)) p = faulty_proof f
 
 -- where a reader stands in its input, and the answer that it gives from now on where it has come to an end
-pub record Reading : Type 0 where
+pub record ProofReading : Type 0 where
   pub stream : Stream
   pub kept : Option (Result Bool Fault)
 
 -- a step is no end, and of a failed read that ended it the reader below tells
-abbrev pub EndsRightly : Reading → Type 0
+abbrev pub EndsRightly : ProofReading → Type 0
 EndsRightly r = (r.kept ≡ Some (Ok true) → ⊥) × (r.kept ≡ Some (Err ReadFailed) → r.stream.reader.has_failed ≡ true)
 
 -- A step is the first of what is to come; or nothing is to come, and it stays so; or a fault is, and it stays.
@@ -44,5 +44,5 @@ EndsRightly r = (r.kept ≡ Some (Ok true) → ⊥) × (r.kept ≡ Some (Err Rea
 abbrev pub GivesStep : Result Bool Fault → Step → Proof → Proof → Input → Type 0
 GivesStep (Ok true) s before after rest = before ≡ with_step s (length rest.bytes) after
 GivesStep (Ok false) s before after rest = (before ≡ after) × (before ≡ clean)
-GivesStep (Err OutOfMemory) s before after rest = after ≡ faulty OutOfMemory
-GivesStep (Err f) s before after rest = (before ≡ after) × (before ≡ faulty f)
+GivesStep (Err OutOfMemory) s before after rest = after ≡ faulty_proof OutOfMemory
+GivesStep (Err f) s before after rest = (before ≡ after) × (before ≡ faulty_proof f)

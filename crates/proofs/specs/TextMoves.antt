@@ -7,15 +7,15 @@ use Rattle.proofs.specs.declared.moved.Moved.TheVariants.{To, Complete}
 use Rattle.proofs.specs.declared.stopped.Stopped.{Stopped}
 use Rattle.proofs.specs.declared.stopped.Stopped.TheVariants.{Text, OutOfMemory}
 use Rattle.proofs.specs.Steps.{Step}
-use Rattle.proofs.specs.Reading.{Proof, clean, faulty}
+use Rattle.proofs.specs.Reading.{Proof, clean, faulty_proof}
 use Rattle.proofs.specs.TextSteps.{Move, goes, completes, faults, Format, steps_listed}
 
 -- the step after the word; a refused growth says nothing
-abbrev pub Moves : {Part : Type 0} → Result (Moved Part) Stopped → Move Part → Step → Type 0
-Moves (Ok (To part)) move step = move ≡ goes part step
-Moves (Ok Complete) move step = move ≡ completes step
-Moves (Err (Text f)) move step = move ≡ faults f
-Moves (Err OutOfMemory) move step = Unit {0}
+abbrev pub MovesText : {Part : Type 0} → Result (Moved Part) Stopped → Move Part → Step → Type 0
+MovesText (Ok (To part)) move step = move ≡ goes part step
+MovesText (Ok Complete) move step = move ≡ completes step
+MovesText (Err (Text f)) move step = move ≡ faults f
+MovesText (Err OutOfMemory) move step = Unit {0}
 
 -- the part that comes next can follow what was read of the step
 abbrev pub FitsMoved : {Part : Type 0} → (Part → Step → Bool) → Result (Moved Part) Stopped → Step → Type 0
@@ -24,13 +24,13 @@ FitsMoved fits (Ok Complete) step = Unit {0}
 FitsMoved fits (Err e) step = Unit {0}
 
 -- what is to come after the step that was given next
-abbrev pub left_of : {Part : Type 0} → Format Part → Result Bool Fault → Listing → Proof
-left_of format (Ok true) l = steps_listed format l
-left_of format (Ok false) l = clean
-left_of format (Err f) l = faulty f
+abbrev pub text_left : {Part : Type 0} → Format Part → Result Bool Fault → Listing → Proof
+text_left format (Ok true) l = steps_listed format l
+text_left format (Ok false) l = clean
+text_left format (Err f) l = faulty_proof f
 
 -- the end of the input was met between two steps, or inside one
-abbrev pub EndsSo : Result Bool Fault → Proof → Type 0
-EndsSo (Ok true) p = ⊥
-EndsSo (Ok false) p = p ≡ clean
-EndsSo (Err f) p = p ≡ faulty f
+abbrev pub EndsProof : Result Bool Fault → Proof → Type 0
+EndsProof (Ok true) p = ⊥
+EndsProof (Ok false) p = p ≡ clean
+EndsProof (Err f) p = p ≡ faulty_proof f

@@ -16,7 +16,7 @@ use Rattle.cnf_base.specs.declared.fault.Fault.TheVariants.{Text, ReadFailed}
 use Rattle.cnf_base.specs.declared.fault.TextFault.{TextFault}
 use Rattle.cnf_base.specs.declared.fault.TextFault.TheVariants.{BadToken, LiteralTooLarge, UnterminatedStep}
 use Rattle.proofs.specs.Steps.{Step, named, with_literal}
-use Rattle.proofs.specs.Reading.{Proof, clean, faulty, with_step, Reading, unless_ended}
+use Rattle.proofs.specs.Reading.{Proof, clean, faulty_proof, with_step, ProofReading, proof_unless_ended}
 
 -- what a word does: the step goes on in some part, it is complete, or the word can't stand there
 pub data Move (Part : Type 0) : Type 0 where
@@ -50,14 +50,14 @@ move_of format part s _ = faults BadToken
 
 -- what the end of the input means, by where it stands
 abbrev pub at_end : {Part : Type 0} → Format Part → Part → Place → Ending → Proof
-at_end format part p Failed = faulty ReadFailed
-at_end format part p End = if format.is_start part then clean else faulty (Text UnterminatedStep p)
+at_end format part p Failed = faulty_proof ReadFailed
+at_end format part p End = if format.is_start part then clean else faulty_proof (Text UnterminatedStep p)
 
 -- what a word's move means; `rest` is what follows, and `left` how many bytes do
 abbrev pub on_move : {Part : Type 0} → Format Part → Place → ℕ → Move Part → (Part → Step → Proof) → Proof
 on_move format p left (goes part s) rest = rest part s
 on_move format p left (completes s) rest = with_step s left (rest format.start (named 0))
-on_move format p left (faults f) rest = faulty (Text f p)
+on_move format p left (faults f) rest = faulty_proof (Text f p)
 
 abbrev pub on_token : {Part : Type 0} → Format Part → Part → Step → tokens.Token → ℕ → (Part → Step → Proof) → Proof
 on_token format part s (token.Word p w) left rest = on_move format p left (move_of format part s w) rest
@@ -83,5 +83,5 @@ abbrev pub steps_of : {Part : Type 0} → Format Part → Input → Proof
 steps_of format i = steps_listed format (listing_of i)
 
 -- what is still to come to a reader of the format
-abbrev pub left_to : {Part : Type 0} → Format Part → Reading → Input → Proof
-left_to format r i = unless_ended r.kept (steps_at format r.stream.place i)
+abbrev pub left_to : {Part : Type 0} → Format Part → ProofReading → Input → Proof
+left_to format r i = proof_unless_ended r.kept (steps_at format r.stream.place i)

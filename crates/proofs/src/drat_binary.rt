@@ -5,9 +5,9 @@ ghost use Rattle.cnf_base.specs.Stream.{Along};
 ghost use Rattle.cnf_base.specs.Readers.{Advances, TellsOf};
 ghost use Rattle.cnf_base.specs.declared.input.Ending.TheVariants.{End};
 ghost use Rattle.proofs.specs.Reading.{GivesStep};
-ghost use Rattle.proofs.specs.TextMoves.{EndsSo};
-ghost use Rattle.proofs.specs.Binary.{Spot, steps_at, at_end, to_come};
-ghost use Rattle.proofs.specs.BinaryMoves.{IsAt, left_of};
+ghost use Rattle.proofs.specs.TextMoves.{EndsProof};
+ghost use Rattle.proofs.specs.Binary.{BinarySpot, binary_steps_at, binary_at_end, binary_to_come};
+ghost use Rattle.proofs.specs.BinaryMoves.{IsAt, binary_left};
 
 mod groups;
 mod moves;
@@ -30,9 +30,9 @@ pub struct DratBinary<R: In> {
 }
 
 impl<R: In> Model for DratBinary<R> {
-    ghost use Rattle.proofs.specs.Reading.{Reading, EndsRightly};
+    ghost use Rattle.proofs.specs.Reading.{ProofReading, EndsRightly};
 
-    ghost Value = { Reading };
+    ghost Value = { ProofReading };
 
     ghost view = { λ r. record { stream = r.source; kept = r.kept } };
 
@@ -61,7 +61,7 @@ impl<R: In> StepReader for DratBinary<R> {
 
     ghost kept = { λ r. r.kept };
 
-    ghost to_come = { to_come };
+    ghost to_come = { binary_to_come };
 
     fn next(&mut self, step: &mut StepBuf) -> Result<bool, Fault> {
         if let Some(answer) = self.kept {
@@ -79,7 +79,7 @@ impl<R: In> StepReader for DratBinary<R> {
 // The step that begins with the next byte.
 fn read_step<R: In>(source: &mut Source<R>, step: &mut StepBuf) -> Result<bool, Fault>
     ensures step { Along source.old source.new (λ i j. GivesStep result step.new
-        (steps_at source.old.byte_no i) (left_of result source.new.byte_no j) j) }
+        (binary_steps_at source.old.byte_no i) (binary_left result source.new.byte_no j) j) }
     ensures fewer { Advances result source.old source.new }
     ensures tells { TellsOf result source.old.reader.has_failed source.new.reader.has_failed }
 {
@@ -105,7 +105,8 @@ fn read_step<R: In>(source: &mut Source<R>, step: &mut StepBuf) -> Result<bool, 
 
 // What the end of the input means.
 fn at_end(part: Part, byte_no: u64) -> Result<bool, Fault>
-    ensures value { (spot : Spot) → IsAt part spot → EndsSo result (at_end spot byte_no End) }
+    ensures value { (spot : BinarySpot) → IsAt part spot →
+        EndsProof result (binary_at_end spot byte_no End) }
     ensures read { result ≢ Err Fault.ReadFailed }
 {
     match part {

@@ -1,6 +1,6 @@
 //! Laws of the definitions. The functions do nothing: their contracts are the theorems.
 
-ghost use Rattle.proofs.specs.Printing.{DratIsReadBack, BinaryIsReadBack, LratIsReadBack, ExamplesArePrinted};
+ghost use Rattle.proofs.specs.Printing.{DratIsReadBack, BinaryIsReadBack, LratIsReadBack, ProofsLookSo};
 
 /// A DRAT proof that is printed as text is read back: exactly its steps, and a clean end.
 pub fn drat_is_read_back()
@@ -19,5 +19,5 @@ pub fn lrat_is_read_back()
 
 /// What printed texts look like: the laws speak of these examples.
 pub fn examples_are_printed()
-    ensures { ExamplesArePrinted }
+    ensures { ProofsLookSo }
 {}

@@ -33,9 +33,15 @@ impl Model for StepBuf {
 
     ghost Value = { Step };
 
-    ghost view = { λ s. record { kind = s.kind; id = s.id; lits = s.lits.items; hints = s.hints.items } };
+    ghost view = { λ s. record {
+      kind = s.kind;
+      id = s.id;
+      lits = s.lits.items;
+      hints = s.hints.items;
+    } };
 
-    ghost invariant = { λ s. (IsTrue (is_small s.id)) × (IsTrue (list_all (is_hint s.kind) s.hints.items)) };
+    ghost invariant = { λ s.
+        (IsTrue (is_small s.id)) × (IsTrue (list_all (is_hint s.kind) s.hints.items)) };
 }
 
 impl StepBuf {

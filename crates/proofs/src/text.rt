@@ -8,7 +8,7 @@ ghost use Rattle.cnf_base.specs.declared.input.Ending.TheVariants.{End};
 ghost use Rattle.proofs.specs.Reading.{GivesStep};
 ghost use Rattle.proofs.specs.Steps.{Step, named};
 ghost use Rattle.proofs.specs.TextSteps.{Format, move_of, left_to, steps_listed, at_end};
-ghost use Rattle.proofs.specs.TextMoves.{left_of, EndsSo, FitsMoved, Moves};
+ghost use Rattle.proofs.specs.TextMoves.{text_left, EndsProof, FitsMoved, MovesText};
 
 use crate::moved::Moved;
 use crate::stopped::Stopped;
@@ -36,13 +36,13 @@ pub trait Part: Copy {
     /// Puts a number into the step.
     fn take_number(self, step: &mut StepBuf, number: Number) -> Result<Moved<Self>, Stopped>
         requires { IsTrue (fits self step.old) }
-        ensures moves { Moves result (format.number_move self step.old number) step.new }
+        ensures moves { MovesText result (format.number_move self step.old number) step.new }
         ensures fits { FitsMoved fits result step.new };
 
     /// Puts a `d` into the step.
     fn take_d(self, step: &mut StepBuf) -> Result<Moved<Self>, Stopped>
         requires { IsTrue (fits self step.old) }
-        ensures moves { Moves result (format.d_move self step.old) step.new }
+        ensures moves { MovesText result (format.d_move self step.old) step.new }
         ensures fits { FitsMoved fits result step.new };
 }
 
@@ -56,9 +56,9 @@ pub struct Text<R: In, P: Part> {
 }
 
 impl<R: In, P: Part> Model for Text<R, P> {
-    ghost use Rattle.proofs.specs.Reading.{Reading, EndsRightly};
+    ghost use Rattle.proofs.specs.Reading.{ProofReading, EndsRightly};
 
-    ghost Value = { Reading };
+    ghost Value = { ProofReading };
 
     ghost view = { λ r. record { stream = r.scanner; kept = r.kept } };
 
@@ -116,7 +116,7 @@ fn read_step<R: In, P: Part>(
     requires fits { IsTrue (P.fits start (named 0)) }
     ensures step { Along scanner.old scanner.new (λ i j. GivesStep result step.new
         (steps_listed P.format (listing_at scanner.old.place i))
-        (left_of P.format result (listing_at scanner.new.place j)) j) }
+        (text_left P.format result (listing_at scanner.new.place j)) j) }
     ensures fewer { Advances result scanner.old scanner.new }
     ensures tells { TellsOf result scanner.old.reader.has_failed scanner.new.reader.has_failed }
 {
@@ -140,7 +140,7 @@ fn read_step<R: In, P: Part>(
 // Puts a word into the step.
 fn move_on<P: Part>(part: P, step: &mut StepBuf, word: Word) -> Result<Moved<P>, Stopped>
     requires { IsTrue (P.fits part step.old) }
-    ensures moves { Moves result (move_of P.format part step.old word) step.new }
+    ensures moves { MovesText result (move_of P.format part step.old word) step.new }
     ensures fits { FitsMoved P.fits result step.new }
 {
     match word {
@@ -152,7 +152,7 @@ fn move_on<P: Part>(part: P, step: &mut StepBuf, word: Word) -> Result<Moved<P>,
 
 // What the end of the input means.
 fn at_end<P: Part>(part: P, place: Place) -> Result<bool, Fault>
-    ensures value { EndsSo result (at_end P.format part place End) }
+    ensures value { EndsProof result (at_end P.format part place End) }
     ensures read { result ≢ Err Fault.ReadFailed }
 {
     if part.is_start() {

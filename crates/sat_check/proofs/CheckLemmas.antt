@@ -1,7 +1,7 @@
 -- A check, step by step.
-use Rattle.std.proofs.Common.{◌≡◌, ℕ, ◌+◌, ◌≤◌, Bool, true, false, None, Some, List, [], ◌∷◌, ◌++◌, length, refl, sym, ap, ◌∙◌, subst, arith}
+use Rattle.std.proofs.Common.{◌≡◌, ℕ, ◌+◌, ◌≤◌, Bool, true, false, None, Some, List, [], ◌++◌, length, refl, sym, ap, ◌∙◌, subst, arith, append_assoc}
 use Rattle.std.specs.Prelude.{Result, Ok, Err}
-use Rattle.cnf_base.specs.Stream.{Input, Reader, Stream, Along, fresh as fresh_stream}
+use Rattle.cnf_base.specs.Stream.{Input, Reader, Stream, Along, unread_stream}
 use Rattle.cnf_base.specs.Seen.{Seen, IsSeen, OfBothSeen}
 use Rattle.cnf_base.specs.Lines.{Sink, Writes}
 use Rattle.cnf_base.specs.declared.fault.Fault.{Fault}
@@ -10,7 +10,7 @@ use Rattle.cnf_base.proofs.LineLemmas.{Writes-then}
 use Rattle.cnf_base.proofs.StreamLemmas.{Along-then, Along-map, Along-none}
 use Rattle.cnf_base.proofs.SeenLemmas.{Seen-nothing, Seen-run, Seen-fact}
 use Rattle.proofs.specs.Steps.{Step}
-use Rattle.proofs.specs.Reading.{Reading, Proof, faulty, with_step, GivesStep}
+use Rattle.proofs.specs.Reading.{ProofReading, Proof, faulty_proof, with_step, GivesStep}
 use Rattle.steps.specs.ProofSession.{View, is_over}
 use Rattle.steps.specs.Theory.Rules.{Rule, after, sum_of, IsFinite}
 use Rattle.sat_check.specs.Report.{Report, Outcome, Reports, text_of, with_lines, end_report}
@@ -50,12 +50,8 @@ Checking-start trace start first was whole sound finite least = record {
   least = least;
 }
 
-lines_assoc : (x y z : List (List ℕ)) → (x ++ y) ++ z ≡ x ++ (y ++ z)
-lines_assoc [] y z = refl
-lines_assoc (l ∷ ls) y z = ap (λ t. l ∷ t) (lines_assoc ls y z)
-
 with_both : (front more : List (List ℕ)) (r : Report) → with_lines front (with_lines more r) ≡ with_lines (front ++ more) r
-with_both front more r = ap (λ x. record { lines = x; status = r.status }) (sym (lines_assoc front more r.lines))
+with_both front more r = ap (λ x. record { lines = x; status = r.status }) (sym (append_assoc front more r.lines))
 
 module _ (trace : Bool) (start now new : Standing) (first session : View) (accepted : ℕ) (was lines : Sink) (so_far : Checking trace start now first session accepted was lines) where
   module _ (number : ℕ) (counts : number ≡ counted (so_far.count + 1)) (step : Step)
@@ -116,7 +112,7 @@ module _ (trace : Bool) (start now new : Standing) (first session : View) (accep
   Checking-fault step f status last gives refused other = by f gives refused other
     where
       met : (f : Fault) (i j : Input) → ((r : Report) → Rest trace session.state so_far.count session.peak (now.to_come j) r → Rest trace first.state 0 first.peak (start.to_come i) (with_lines so_far.written r))
-          → now.to_come j ≡ faulty f → Outcome status lines.held last.held (end_report (Some f))
+          → now.to_come j ≡ faulty_proof f → Outcome status lines.held last.held (end_report (Some f))
           → (r : Report) × Rest trace first.state 0 first.peak (start.to_come i) r × Outcome status was.held last.held r
       met f i j p e o =
           let Q : Proof → Type 0 = λ x. Rest trace session.state so_far.count session.peak x (end_report (Some f)) in
@@ -158,15 +154,15 @@ reports_nothing rule trace steps formula proof new status was now same o =
     })
 
 -- a reader that was fresh was read
-module _ (rule : Rule) (trace : Bool) (to_come : Reading → Input → Proof) (steps : Input → Proof) (formula formula_new proof : Reader) (borrows : List ℕ) (source last : Stream) (new : Reader) (status : Status) (was now : Sink)
-    (is : source ≡ fresh_stream proof borrows) (kept : new ≡ last.reader)
-    (all : (j : Input) → to_come (record { stream = fresh_stream proof borrows; kept = None }) j ≡ steps j) where
-  pub reports_run : (reader : Reading) → reader ≡ record { stream = source; kept = None } → (f : Seen formula formula_new)
+module _ (rule : Rule) (trace : Bool) (to_come : ProofReading → Input → Proof) (steps : Input → Proof) (formula formula_new proof : Reader) (borrows : List ℕ) (source last : Stream) (new : Reader) (status : Status) (was now : Sink)
+    (is : source ≡ unread_stream proof borrows) (kept : new ≡ last.reader)
+    (all : (j : Input) → to_come (record { stream = unread_stream proof borrows; kept = None }) j ≡ steps j) where
+  pub reports_run : (reader : ProofReading) → reader ≡ record { stream = source; kept = None } → (f : Seen formula formula_new)
       → Along reader.stream last (λ j k. (i : Input) → IsSeen f i → Reports rule trace i (to_come reader j) was.held now.held status)
       → AllReports rule trace steps formula formula_new proof new status was now
   reports_run reader made f run =
-      let P : Reading → Type 0 = λ x. Along x.stream last (λ j k. (i : Input) → IsSeen f i → Reports rule trace i (to_come x j) was.held now.held status) in
-      let Q : Input → Input → Type 0 = λ j k. (i : Input) → IsSeen f i → Reports rule trace i (to_come (record { stream = fresh_stream proof borrows; kept = None }) j) was.held now.held status in
+      let P : ProofReading → Type 0 = λ x. Along x.stream last (λ j k. (i : Input) → IsSeen f i → Reports rule trace i (to_come x j) was.held now.held status) in
+      let Q : Input → Input → Type 0 = λ j k. (i : Input) → IsSeen f i → Reports rule trace i (to_come (record { stream = unread_stream proof borrows; kept = None }) j) was.held now.held status in
       let R : Reader → Type 0 = λ r. AllReports rule trace steps formula formula_new proof r status was now in
       let from_start = subst P (made ∙ ap (λ x. record { stream = x; kept = None }) is) run in
       subst R (sym kept) (record {

@@ -1,23 +1,24 @@
 -- Clauses go into a session one by one.
-use Rattle.std.proofs.Common.{◌≡◌, ℕ, ◌+◌, ◌≤◌, max, ◌-◌, Bool, true, false, ◌||◌, List, [], ◌∷◌, ◌++◌, length, Option, None, Some, refl, sym, ap, ◌∙◌, subst, arith, cond}
+use Rattle.std.proofs.Common.{◌≡◌, ℕ, ◌+◌, ◌≤◌, max, ◌-◌, Bool, true, false, ◌||◌, List, [], ◌∷◌, ◌++◌, length, Some, refl, sym, ap, ◌∙◌, subst, arith, cond}
 use Rattle.std.specs.Prelude.{Result, Ok, Err}
 use Rattle.std.specs.List.{list_any}
 use Rattle.std.specs.Ordering.{nat_cmp}
 use Rattle.std.specs.FinMap as maps
 use Rattle.std.specs.FinMap.{FinMap, get-empty}
+use Rattle.std.proofs.lemmas.Option.{none-some}
 use Rattle.std.proofs.lemmas.List.Folds.{list_any-append}
 use Rattle.std.proofs.lemmas.List.Sums.{sum_by-append}
 use Rattle.cnf_base.specs.Literals.{Clause, same_clause}
 use Rattle.cnf_base.specs.Seen.{OfSeen}
-use Rattle.cnf_base.specs.Stream.{Reader, Stream, Along, fresh as fresh_stream}
+use Rattle.cnf_base.specs.Stream.{Reader, Stream, Along, unread_stream}
 use Rattle.cnf_base.specs.declared.fault.Fault.{Fault}
 use Rattle.cnf_base.specs.declared.fault.Fault.TheVariants.{Text, Binary, ReadFailed, OutOfMemory}
 use Rattle.cnf_base.proofs.StreamLemmas.{Along-then, Along-map}
 use Rattle.dimacs.specs.Formula.{Body, Formula, formula_at, formula_of}
 use Rattle.dimacs.specs.declared.header.Header.{Header}
-use Rattle.dimacs.specs.Reading.{Reading, to_come, GivesClause, opened, unopened}
+use Rattle.dimacs.specs.Reading.{FormulaReading, clauses_to_come, GivesClause, opened, unopened}
 use Rattle.steps.specs.Drat.Session.{DratState, fresh_drat, clauses_of}
-use Rattle.steps.specs.Lrat.Session.{Session, fresh, state_of}
+use Rattle.steps.specs.Lrat.Session.{Session, fresh_lrat, state_of}
 use Rattle.steps.specs.Theory.Rules.{Rule, lrat, drat, State, by_ids, by_copies, start, with_input, sum_of, Same}
 use Rattle.steps.specs.Lrat.{with_clause, numbered, lrat_start}
 use Rattle.steps.proofs.TheoryLemmas.Existence.{numbered_above}
@@ -101,11 +102,11 @@ loaded_more rule old new cs c l state verified peak unstepped sound room = recor
         (same_trans _ (with_input (start rule cs) c) _ (input_same old.state (start rule cs) c l.state) (start_push rule cs c))
 
 -- a session that is new
-pub lrat_unused : (s : Session) → s ≡ fresh → IsLoaded lrat (record { state = by_ids (state_of s); has_stepped = s.has_stepped; is_verified = s.is_verified; is_ended = s.is_ended; peak = s.peak; room = 4294967295 - s.top }) []
+pub lrat_unused : (s : Session) → s ≡ fresh_lrat → IsLoaded lrat (record { state = by_ids (state_of s); has_stepped = s.has_stepped; is_verified = s.is_verified; is_ended = s.is_ended; peak = s.peak; room = 4294967295 - s.top }) []
 lrat_unused s is =
     let P : Session → Type 0 = λ s. IsLoaded lrat (record { state = by_ids (state_of s); has_stepped = s.has_stepped; is_verified = s.is_verified; is_ended = s.is_ended; peak = s.peak; room = 4294967295 - s.top }) [] in
     subst P (sym is) (record {
-      state = (SameClauses-eq (state_of fresh).live (numbered []) fresh_is_numbered, refl);
+      state = (SameClauses-eq (state_of fresh_lrat).live (numbered []) fresh_is_numbered, refl);
       verified = refl;
       sound = refl;
       unstepped = refl;
@@ -114,10 +115,7 @@ lrat_unused s is =
     })
 
 none_there : (live : FinMap nat_cmp Clause) → live ≡ maps.empty → (e : Clause) (k : ℕ) (c : Clause) → maps.get live k ≡ Some c → same_clause c e ≡ true → ⊥
-none_there live is e k c at same = absurd (none_some (sym (ap (λ m. maps.get m k) is ∙ get-empty nat_cmp k) ∙ at))
-  where
-    none_some : ◌≡◌ {A = Option Clause} None (Some c) → ⊥
-    none_some e = cc
+none_there live is e k c at same = absurd (none-some c (sym (ap (λ m. maps.get m k) is ∙ get-empty nat_cmp k) ∙ at))
 
 pub drat_unused : (rules : DratRules) (s : DratState) → s ≡ fresh_drat rules → IsLoaded (drat s.rules) (record { state = by_copies s.rules (clauses_of s); has_stepped = s.has_stepped; is_verified = s.is_verified; is_ended = s.is_ended; peak = s.peak; room = 4294967295 }) []
 drat_unused rules s is =
@@ -134,31 +132,31 @@ drat_unused rules s is =
 -- ---- A formula's clauses
 
 -- from one moment to another these clauses were read, and input
-pub record Loading (rule : Rule) (old now : Reading) (s : View) : Type 0 where
+pub record Loading (rule : Rule) (old now : FormulaReading) (s : View) : Type 0 where
   pub clauses : List Clause
   pub reads : Reads old now clauses
   pub loaded : IsLoaded rule s clauses
 
-pub Loading-start : (rule : Rule) (r : Reading) (s : View) → IsLoaded rule s [] → r.complete ≡ 0 → Loading rule r r s
+pub Loading-start : (rule : Rule) (r : FormulaReading) (s : View) → IsLoaded rule s [] → r.complete ≡ 0 → Loading rule r r s
 Loading-start rule r s loaded none = record { clauses = []; reads = Reads-start r none; loaded = loaded }
 
-module _ (rule : Rule) (old now new : Reading) (s : View) (so_far : Loading rule old now s) where
-  pub Loading-clause : (t : View) (c : Clause) → Along now.stream new.stream (λ i j. GivesClause (Ok true) c (to_come now i) (to_come new j))
+module _ (rule : Rule) (old now new : FormulaReading) (s : View) (so_far : Loading rule old now s) where
+  pub Loading-clause : (t : View) (c : Clause) → Along now.stream new.stream (λ i j. GivesClause (Ok true) c (clauses_to_come now i) (clauses_to_come new j))
       → IsLoaded rule t (so_far.clauses ++ c ∷ []) → new.complete ≡ now.complete + 1 → new.header ≡ now.header → Loading rule old new t
   Loading-clause t c gives loaded count header = record { clauses = so_far.clauses ++ c ∷ []; reads = Reads-clause old now new so_far.clauses so_far.reads c gives count header; loaded = loaded }
 
-  pub Loading-done : (c : Clause) → Along now.stream new.stream (λ i j. GivesClause (Ok false) c (to_come now i) (to_come new j))
-      → Along old.stream new.stream (λ i j. LoadsBody rule s (Ok tt) (to_come old i))
+  pub Loading-done : (c : Clause) → Along now.stream new.stream (λ i j. GivesClause (Ok false) c (clauses_to_come now i) (clauses_to_come new j))
+      → Along old.stream new.stream (λ i j. LoadsBody rule s (Ok tt) (clauses_to_come old i))
   Loading-done c gives = Along-map _ _ _ _ (Reads-done old now new so_far.clauses so_far.reads c gives) (λ i j m e.
       let P : List Clause → Type 0 = IsLoaded rule s in
       (ap (λ b. b.fault) e, subst P (sym (ap (λ b. b.clauses) e)) so_far.loaded))
 
   pub Loading-fault : (t : View) (c : Clause) (f : Fault) (result : Result (Unit {0}) Fault) → result ≡ Err f
-      → Along now.stream new.stream (λ i j. GivesClause (Err f) c (to_come now i) (to_come new j))
-      → Along old.stream new.stream (λ i j. LoadsBody rule t result (to_come old i))
+      → Along now.stream new.stream (λ i j. GivesClause (Err f) c (clauses_to_come now i) (clauses_to_come new j))
+      → Along old.stream new.stream (λ i j. LoadsBody rule t result (clauses_to_come old i))
   Loading-fault t c f result is gives =
-      let P : Result (Unit {0}) Fault → Type 0 = λ r. Along old.stream new.stream (λ i j. LoadsBody rule t r (to_come old i)) in
-      subst P (sym is) (Along-map _ _ _ _ (Reads-fault old now new so_far.clauses so_far.reads c f gives) (λ i j m e. by f (to_come old i) e))
+      let P : Result (Unit {0}) Fault → Type 0 = λ r. Along old.stream new.stream (λ i j. LoadsBody rule t r (clauses_to_come old i)) in
+      subst P (sym is) (Along-map _ _ _ _ (Reads-fault old now new so_far.clauses so_far.reads c f gives) (λ i j m e. by f (clauses_to_come old i) e))
     where
       by : (f : Fault) (b : Body) → FaultAfter so_far.clauses f b → LoadsBody rule t (Err f) b
       by (Text k p) b e = ap (λ b. b.fault) e
@@ -166,8 +164,8 @@ module _ (rule : Rule) (old now new : Reading) (s : View) (so_far : Loading rule
       by ReadFailed b e = ap (λ b. b.fault) e
       by OutOfMemory b e = tt
 
-  pub Loading-refused : (t : View) (c : Clause) → Along now.stream new.stream (λ i j. GivesClause (Ok true) c (to_come now i) (to_come new j))
-      → Along old.stream new.stream (λ i j. LoadsBody rule t (Err OutOfMemory) (to_come old i))
+  pub Loading-refused : (t : View) (c : Clause) → Along now.stream new.stream (λ i j. GivesClause (Ok true) c (clauses_to_come now i) (clauses_to_come new j))
+      → Along old.stream new.stream (λ i j. LoadsBody rule t (Err OutOfMemory) (clauses_to_come old i))
   Loading-refused t c gives = Along-then _ _ _ _ _ _ so_far.reads.run gives (λ i j k m p q. tt)
 
 -- ---- A whole formula
@@ -181,7 +179,7 @@ loads_refused rule s left new result same is =
     let P : Result Header Fault → Type 0 = AllLoads rule s left new in
     subst P (sym is) (seen_nothing (λ i. Loads rule s (Err OutOfMemory) (formula_of i)) left new same (λ i. tt))
 
-module _ (rule : Rule) (s : View) (left : Reader) (borrows : List ℕ) (source : Stream) (is : source ≡ fresh_stream left borrows) where
+module _ (rule : Rule) (s : View) (left : Reader) (borrows : List ℕ) (source : Stream) (is : source ≡ unread_stream left borrows) where
   all_loads : (last : Stream) (new : Reader) (result : Result Header Fault) → new ≡ last.reader
       → Along source last (λ i j. Loads rule s result (formula_at source.place i)) → AllLoads rule s left new result
   all_loads last new result kept run = seen_run (λ p i. Loads rule s result (formula_at p i)) left borrows source last new is kept run
@@ -201,14 +199,14 @@ module _ (rule : Rule) (s : View) (left : Reader) (borrows : List ℕ) (source :
   pub loads_fault : (f : Fault) (last : Stream) (new : Reader) → new ≡ last.reader → Along source last (λ i j. formula_at source.place i ≡ unopened f) → AllLoads rule s left new (Err f)
   loads_fault f last new kept run = all_loads last new (Err f) kept (Along-map _ _ _ _ run (λ i j m p. fault_loads f _ (ap (λ y. y.fault) p)))
 
-  module _ (r : Reading) (last : Stream) (new : Reader) (kept : new ≡ last.reader)
-      (opens : Along source r.stream (λ i j. formula_at source.place i ≡ opened r.header (to_come r j))) where
-    pub loads_body : (h : Header) → h ≡ r.header → Along r.stream last (λ i j. LoadsBody rule s (Ok tt) (to_come r i)) → AllLoads rule s left new (Ok h)
+  module _ (r : FormulaReading) (last : Stream) (new : Reader) (kept : new ≡ last.reader)
+      (opens : Along source r.stream (λ i j. formula_at source.place i ≡ opened r.header (clauses_to_come r j))) where
+    pub loads_body : (h : Header) → h ≡ r.header → Along r.stream last (λ i j. LoadsBody rule s (Ok tt) (clauses_to_come r i)) → AllLoads rule s left new (Ok h)
     loads_body h same body = all_loads last new (Ok h) kept (Along-then _ _ _ _ _ _ opens body (λ i j k m p q.
         let P : List Clause → Type 0 = IsLoaded rule s in
         (ap (λ y. y.header) p ∙ ap Some (sym same), ap (λ y. y.fault) p ∙ q.0, subst P (sym (ap (λ y. y.clauses) p)) q.1)))
 
-    pub loads_body_fault : (f : Fault) (result : Result Header Fault) → result ≡ Err f → Along r.stream last (λ i j. LoadsBody rule s (Err f) (to_come r i))
+    pub loads_body_fault : (f : Fault) (result : Result Header Fault) → result ≡ Err f → Along r.stream last (λ i j. LoadsBody rule s (Err f) (clauses_to_come r i))
         → AllLoads rule s left new result
     loads_body_fault f result is body =
         let P : Result Header Fault → Type 0 = AllLoads rule s left new in

@@ -45,10 +45,6 @@ Outcome-after status old now new front r a o = by status o
     all : Appends now new (text_of r.lines) → Appends old new (text_of (front ++ r.lines))
     all b = let P : List ℕ → Type 0 = Appends old new in subst P (sym (text_of-append front r.lines)) (Appends-then old now new _ _ a b)
 
-    lines_assoc : (x y z : List (List ℕ)) → (x ++ y) ++ z ≡ x ++ (y ++ z)
-    lines_assoc [] y z = refl
-    lines_assoc (l ∷ ls) y z = ap (λ t. l ∷ t) (lines_assoc ls y z)
-
     by : (status : Status) → Outcome status now new r → Outcome status old new (with_lines front r)
     by Verified o = (o.0, all o.1)
     by NotVerified o = (o.0, all o.1)
@@ -58,7 +54,7 @@ Outcome-after status old now new front r a o = by status o
     by OutOfMemory o = (
       front ++ o.0,
       o.1,
-      ap (λ t. front ++ t) o.2 ∙ sym (lines_assoc front o.0 o.1),
+      ap (λ t. front ++ t) o.2 ∙ sym (append_assoc front o.0 o.1),
       (let P : List ℕ → Type 0 = Appends old new in subst P (sym (text_of-append front o.0)) (Appends-then old now new _ _ a o.3)),
     )
     by WriteFailed o = (

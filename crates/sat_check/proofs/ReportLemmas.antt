@@ -20,7 +20,7 @@ use Rattle.steps.proofs.TheoryLemmas.Existence.{same_finite, start_finite}
 use Rattle.steps.proofs.TheoryLemmas.Rules.{sum_same}
 use Rattle.steps.proofs.TheoryLemmas.Verdicts.{ends_same, some_ending, some_verdict}
 use Rattle.sat_check.specs.Lines.{formula_line, steps_line, fault_line, fault_status}
-use Rattle.sat_check.specs.Report.{Report, Outcome, Reports, concluded, with_lines, Checks, ReportsFormula, ProofReport, steps_of, peak_of, proof_report}
+use Rattle.sat_check.specs.Report.{Report, Outcome, Reports, concluded, with_lines, Checks, ReportsFormula, ProofReport, bare_steps, peak_of, proof_report}
 use Rattle.sat_check.specs.Checking.{IsLoaded, Loads, Rest}
 use Rattle.sat_check.proofs.ShownLemmas.{steps_same}
 use Rattle.sat_check.specs.declared.subject.Subject.TheVariants as subjects
@@ -49,15 +49,15 @@ module _ (rule : Rule) (s : View) (clauses : List Clause) (l : IsLoaded rule s c
     words = rest.words;
     ending = rest.ending;
     verdict =
-        let P : Bool → Type 0 = λ b. MatchBool b ((rest.words ≡ []) × (rest.ending ≡ verified)) (Ends (start rule clauses) (steps_of p) rest.words rest.ending) in
-        subst P (sym (sym l.verified ∙ unverified)) (ends_same (steps_of p) rest.words rest.ending s.state (start rule clauses) l.state rest.verdict);
+        let P : Bool → Type 0 = λ b. MatchBool b ((rest.words ≡ []) × (rest.ending ≡ verified)) (Ends (start rule clauses) (bare_steps p) rest.words rest.ending) in
+        subst P (sym (sym l.verified ∙ unverified)) (ends_same (bare_steps p) rest.words rest.ending s.state (start rule clauses) l.state rest.verdict);
     report = ap (with_lines (formula_line h ∷ [])) (rest.report ∙ ap (λ m. proof_report trace 0 m rest.words rest.ending p.fault) peaks);
   }
     where
-      peaks : max s.peak (peak_of s.state (steps_of p) rest.words) ≡ peak_of (start rule clauses) (steps_of p) rest.words
+      peaks : max s.peak (peak_of s.state (bare_steps p) rest.words) ≡ peak_of (start rule clauses) (bare_steps p) rest.words
       peaks =
-          let e = peak_same (steps_of p) rest.words s.state (start rule clauses) l.state in
-          let low = peak_least (steps_of p) rest.words (start rule clauses) in
+          let e = peak_same (bare_steps p) rest.words s.state (start rule clauses) l.state in
+          let low = peak_least (bare_steps p) rest.words (start rule clauses) in
           omega (arith, e, low, l.peak)
 
   -- some clause is empty
@@ -67,9 +67,9 @@ module _ (rule : Rule) (s : View) (clauses : List Clause) (l : IsLoaded rule s c
     words = [];
     ending = verified;
     verdict =
-        let P : Bool → Type 0 = λ b. MatchBool b ((no_words ≡ no_words) × (verified ≡ verified)) (Ends (start rule clauses) (steps_of p) no_words verified) in
+        let P : Bool → Type 0 = λ b. MatchBool b ((no_words ≡ no_words) × (verified ≡ verified)) (Ends (start rule clauses) (bare_steps p) no_words verified) in
         subst P (sym (sym l.verified ∙ is)) (refl, refl);
-    report = ap (λ m. with_lines (formula_line h ∷ []) (concluded subjects.Proof (steps_line 0 m) Verified)) (l.peak ∙ sym (none (steps_of p))) ∙ ap (with_lines (formula_line h ∷ [])) (untraced trace (peak_of (start rule clauses) (steps_of p) []));
+    report = ap (λ m. with_lines (formula_line h ∷ []) (concluded subjects.Proof (steps_line 0 m) Verified)) (l.peak ∙ sym (none (bare_steps p))) ∙ ap (with_lines (formula_line h ∷ [])) (untraced trace (peak_of (start rule clauses) (bare_steps p) []));
   }
     where
       none : (steps : List Step) → peak_of (start rule clauses) steps [] ≡ sum_of (start rule clauses)
@@ -87,8 +87,8 @@ module _ (rule : Rule) (s : View) (clauses : List Clause) (l : IsLoaded rule s c
       by : (v : Bool) → s.is_verified ≡ v → (r : Report) × Checks rule trace h clauses p (with_lines (formula_line h ∷ []) r)
       by true e = (concluded subjects.Proof (steps_line 0 s.peak) Verified, checks_verified trace h p e)
       by false e =
-          let v = some_ending (steps_of p) s.state loaded_finite in
-          let r = proof_report trace 0 (max s.peak (peak_of s.state (steps_of p) v.0)) v.0 v.1 p.fault in
+          let v = some_ending (bare_steps p) s.state loaded_finite in
+          let r = proof_report trace 0 (max s.peak (peak_of s.state (bare_steps p) v.0)) v.0 v.1 p.fault in
           (r, checks_rest trace h p r e (record { words = v.0; ending = v.1; verdict = v.2; report = refl }))
 
 -- ---- From the formula to the report
@@ -111,7 +111,7 @@ reports_fault rule trace f p e fault =
 -- each formula and proof has a report
 checks_any : (rule : Rule) (trace : Bool) (h : Header) (clauses : List Clause) (p : Proof) → (r : Report) × Checks rule trace h clauses p r
 checks_any rule trace h clauses p =
-    let v = some_verdict rule clauses (steps_of p) in
+    let v = some_verdict rule clauses (bare_steps p) in
     (_, record { words = v.0; ending = v.1; verdict = v.2; report = refl })
 
 pub report_any : (rule : Rule) (trace : Bool) (h : Result (Header × Listing) Fault) (p : Proof)

@@ -3,7 +3,7 @@ use Rattle.std.proofs.Common.{◌≡◌, ℕ, ◌+◌, ◌≤◌, max, cond, Boo
 use Rattle.std.specs.Bool.{MatchBool}
 use Rattle.cnf_base.specs.declared.fault.Fault.{Fault}
 use Rattle.proofs.specs.Steps.{Step}
-use Rattle.proofs.specs.Reading.{Proof, clean, faulty, with_step}
+use Rattle.proofs.specs.Reading.{Proof, clean, faulty_proof, with_step}
 use Rattle.steps.specs.declared.theory.accepted.Accepted.{Accepted}
 use Rattle.steps.specs.declared.theory.accepted.Accepted.TheVariants.{Empty}
 use Rattle.steps.specs.declared.theory.refusal.Refusal.{Refusal}
@@ -11,7 +11,7 @@ use Rattle.steps.specs.Theory.Rules.{State, Answers, after, sum_of, Same, IsFini
 use Rattle.steps.specs.Theory.Verdicts.{verified, refused, no_empty_clause, is_last, Ends}
 use Rattle.steps.proofs.TheoryLemmas.Rules.{after_same, sum_same}
 use Rattle.sat_check.specs.Lines.{refusal_line, steps_line}
-use Rattle.sat_check.specs.Report.{Report, concluded, with_lines, trace_lines, end_report, verdict_report, peak_of, steps_of, proof_report}
+use Rattle.sat_check.specs.Report.{Report, concluded, with_lines, trace_lines, end_report, verdict_report, peak_of, bare_steps, proof_report}
 use Rattle.sat_check.specs.Checking.{Rest, traced}
 use Rattle.sat_check.specs.declared.subject.Subject.TheVariants as subjects
 use Rattle.sat_check.specs.declared.status.Status.TheVariants.{Verified, NotVerified}
@@ -42,13 +42,13 @@ module _ (trace : Bool) (s : State) (n peak : ℕ) where
   pub Rest-clean : Rest trace s n peak clean (end_report None)
   Rest-clean = record { words = []; ending = no_empty_clause; verdict = refl; report = sym (no_trace trace (end_report None)) }
 
-  pub Rest-fault : (f : Fault) → Rest trace s n peak (faulty f) (end_report (Some f))
+  pub Rest-fault : (f : Fault) → Rest trace s n peak (faulty_proof f) (end_report (Some f))
   Rest-fault f = record { words = []; ending = no_empty_clause; verdict = refl; report = sym (no_trace trace (end_report (Some f))) }
 
   pub Rest-some : IsFinite s → (p : Proof) → (r : Report) × Rest trace s n peak p r
   Rest-some b p =
-      let v = some_ending (steps_of p) s b in
-      (proof_report trace n (max peak (peak_of s (steps_of p) v.0)) v.0 v.1 p.fault, record { words = v.0; ending = v.1; verdict = v.2; report = refl })
+      let v = some_ending (bare_steps p) s b in
+      (proof_report trace n (max peak (peak_of s (bare_steps p) v.0)) v.0 v.1 p.fault, record { words = v.0; ending = v.1; verdict = v.2; report = refl })
 
   module _ (st : Step) (left : ℕ) (p : Proof) where
     pub Rest-refused : (r : Refusal) → Answers s st (Err r) → Rest trace s n peak (with_step st left p) (concluded subjects.Proof (refusal_line (n + 1) r) NotVerified)
@@ -69,10 +69,10 @@ module _ (trace : Bool) (s : State) (n peak : ℕ) where
       report = ap (λ m. with_lines (traced trace (n + 1) Empty) (concluded subjects.Proof (steps_line (n + 1) m) Verified)) peaks;
     }
       where
-        peaks : max peak (sum_of t) ≡ max peak (peak_of s (st ∷ steps_of p) (Empty ∷ []))
+        peaks : max peak (sum_of t) ≡ max peak (peak_of s (st ∷ bare_steps p) (Empty ∷ []))
         peaks =
             let here = sum_same t (after s st Empty) same in
-            let none = peak_none (steps_of p) (after s st Empty) in
+            let none = peak_none (bare_steps p) (after s st Empty) in
             omega (arith, here, none, least)
 
     pub Rest-step : (word : Accepted) (t : State) (r : Report) → Answers s st (Ok word) → is_last word ≡ false
@@ -83,18 +83,18 @@ module _ (trace : Bool) (s : State) (n peak : ℕ) where
       ending = rest.ending;
       verdict = (
         a,
-        (let P : Bool → Type 0 = λ v. MatchBool v ((rest.words ≡ []) × (rest.ending ≡ verified)) (Ends (after s st word) (steps_of p) rest.words rest.ending) in
-            subst P (sym not_last) (ends_same (steps_of p) rest.words rest.ending t (after s st word) same rest.verdict)),
+        (let P : Bool → Type 0 = λ v. MatchBool v ((rest.words ≡ []) × (rest.ending ≡ verified)) (Ends (after s st word) (bare_steps p) rest.words rest.ending) in
+            subst P (sym not_last) (ends_same (bare_steps p) rest.words rest.ending t (after s st word) same rest.verdict)),
       );
       report = ap (with_lines (traced trace (n + 1) word)) rest.report
           ∙ ap (λ m. with_lines (traced trace (n + 1) word) (proof_report trace (n + 1) m rest.words rest.ending p.fault)) peaks
-          ∙ joined trace (max peak (peak_of s (st ∷ steps_of p) (word ∷ rest.words)));
+          ∙ joined trace (max peak (peak_of s (st ∷ bare_steps p) (word ∷ rest.words)));
     }
       where
-        peaks : max (max peak (sum_of t)) (peak_of t (steps_of p) rest.words) ≡ max peak (peak_of s (st ∷ steps_of p) (word ∷ rest.words))
+        peaks : max (max peak (sum_of t)) (peak_of t (bare_steps p) rest.words) ≡ max peak (peak_of s (st ∷ bare_steps p) (word ∷ rest.words))
         peaks =
-            let later = peak_same (steps_of p) rest.words t (after s st word) same in
-            let low = peak_least (steps_of p) rest.words t in
+            let later = peak_same (bare_steps p) rest.words t (after s st word) same in
+            let low = peak_least (bare_steps p) rest.words t in
             omega (arith, later, low, least)
 
         count : n + 1 + length rest.words ≡ n + length (word ∷ rest.words)

@@ -14,7 +14,7 @@ use Rattle.steps.specs.Theory.Rules.{Rule, start}
 use Rattle.steps.specs.Theory.Verdicts.{Ending, verified, refused, no_empty_clause, Verdict}
 use Rattle.steps.proofs.TheoryLemmas.Verdicts.{verdict_sound, verdict_unique}
 use Rattle.sat_check.specs.Lines.{fault_status, text_status}
-use Rattle.sat_check.specs.Report.{Report, Outcome, ReportsFormula, ProofReport, Verifies, Reports, ChecksProof, IsUnlessBroken, steps_of, peak_of, verdict_report}
+use Rattle.sat_check.specs.Report.{Report, Outcome, ReportsFormula, ProofReport, Verifies, Reports, ChecksProof, IsUnlessBroken, bare_steps, peak_of, verdict_report}
 use Rattle.sat_check.specs.declared.status.Status.{Status}
 use Rattle.sat_check.specs.declared.status.Status.TheVariants.{Verified, NotVerified, Malformed, ReadFailed, OutOfMemory, WriteFailed, Usage}
 use Rattle.sat_check.proofs.OutcomeLemmas.{both_told}
@@ -47,7 +47,7 @@ report_verified rule trace i p r reports is = by (formula_of i).header (formula_
     by header (Some f) whole e = absurd (fault_is_no_verdict f (sym (ap (λ x. x.status) e) ∙ is))
     by (Some h) None whole c =
         let ends : c.ending ≡ verified = verdict_is_verified _ _ c.ending p.fault (sym (ap (λ x. x.status) c.report) ∙ is) in
-        let P : Ending → Type 0 = Verdict rule (formula_of i).clauses (steps_of p) c.words in
+        let P : Ending → Type 0 = Verdict rule (formula_of i).clauses (bare_steps p) c.words in
         record { whole = whole; words = c.words; verdict = subst P ends c.verdict }
     by None None whole c = absurd c
 
@@ -58,13 +58,13 @@ verifies_reported rule trace i p r v reports = by (formula_of i).header (formula
     by : (header : Option Header) (fault : Option Fault) → fault ≡ None → ReportsFormula rule trace header (formula_of i).clauses fault p r → r.status ≡ Verified
     by header (Some f) whole e = absurd (cc)
     by (Some h) None whole c =
-        let same = verdict_unique rule (formula_of i).clauses (steps_of p) c.words v.words c.ending verified c.verdict v.verdict in
-        ap (λ x. x.status) c.report ∙ ap (λ e. (verdict_report (0 + length c.words) (peak_of (start rule (formula_of i).clauses) (steps_of p) c.words) e p.fault).status) same.1
+        let same = verdict_unique rule (formula_of i).clauses (bare_steps p) c.words v.words c.ending verified c.verdict v.verdict in
+        ap (λ x. x.status) c.report ∙ ap (λ e. (verdict_report (0 + length c.words) (peak_of (start rule (formula_of i).clauses) (bare_steps p) c.words) e p.fault).status) same.1
     by None None whole c = absurd c
 
 -- a formula that a proof verifies has no model
 pub verifies_sound : (rule : Rule) (f : Formula) (p : Proof) → Verifies rule f p → ¬ HasModel (slice_get f.clauses)
-verifies_sound rule f p v = verdict_sound rule f.clauses (steps_of p) v.words v.verdict
+verifies_sound rule f p v = verdict_sound rule f.clauses (bare_steps p) v.words v.verdict
 
 -- status 0 is that of the report
 pub outcome_verified : (status : Status) (old new : Option (List ℕ)) (r : Report) → status ≡ Verified → Outcome status old new r → r.status ≡ Verified

@@ -10,16 +10,16 @@ use Rattle.steps.specs.Theory.Verdicts.{Ending}
 use Rattle.steps.specs.declared.theory.accepted.Accepted.{Accepted}
 use Rattle.steps.proofs.TheoryLemmas.Verdicts.{verdict_unique}
 use Rattle.sat_check.specs.Lines.{formula_line}
-use Rattle.sat_check.specs.Report.{Report, Checks, ReportsFormula, ReportsAreUnique, with_lines, proof_report, peak_of, steps_of}
+use Rattle.sat_check.specs.Report.{Report, Checks, ReportsFormula, ReportsAreUnique, with_lines, proof_report, peak_of, bare_steps}
 
 checks_unique : (rule : Rule) (trace : Bool) (h : Header) (clauses : List Clause) (p : Proof) (first second : Report)
     → Checks rule trace h clauses p first → Checks rule trace h clauses p second → first ≡ second
 checks_unique rule trace h clauses p first second c d =
-    let same = verdict_unique rule clauses (steps_of p) c.words d.words c.ending d.ending c.verdict d.verdict in
+    let same = verdict_unique rule clauses (bare_steps p) c.words d.words c.ending d.ending c.verdict d.verdict in
     c.report ∙ ap (λ words. report_of words c.ending) same.0 ∙ ap (report_of d.words) same.1 ∙ sym d.report
   where
     report_of : List Accepted → Ending → Report
-    report_of words ending = with_lines (formula_line h ∷ []) (proof_report trace 0 (peak_of (start rule clauses) (steps_of p) words) words ending p.fault)
+    report_of words ending = with_lines (formula_line h ∷ []) (proof_report trace 0 (peak_of (start rule clauses) (bare_steps p) words) words ending p.fault)
 
 pub reports_unique : ReportsAreUnique
 reports_unique rule trace i p first second a b = by (formula_of i).header (formula_of i).clauses (formula_of i).fault a b

@@ -17,7 +17,7 @@ use Rattle.steps.specs.declared.theory.accepted.Accepted.{Accepted}
 use Rattle.steps.specs.declared.theory.refusal.Refusal.{Refusal}
 use Rattle.steps.specs.declared.theory.refusal.Refusal.TheVariants.{OutOfMemory as RefusedMemory}
 use Rattle.sat_check.specs.Lines.{trace_line}
-use Rattle.sat_check.specs.Report.{Report, Outcome, text_of, steps_of, peak_of, proof_report}
+use Rattle.sat_check.specs.Report.{Report, Outcome, text_of, bare_steps, peak_of, proof_report}
 use Rattle.sat_check.specs.declared.status.Status.{Status}
 use Rattle.sat_check.specs.declared.status.Status.TheVariants.{ReadFailed, OutOfMemory as NoMemory, WriteFailed}
 
@@ -50,8 +50,8 @@ Loads rule s (Err e) f = f.fault ≡ Some e
 pub record Rest (trace : Bool) (state : State) (n : ℕ) (peak : ℕ) (proof : Proof) (r : Report) : Type 0 where
   pub words : List Accepted
   pub ending : Ending
-  pub verdict : Ends state (steps_of proof) words ending
-  pub report : r ≡ proof_report trace n (max peak (peak_of state (steps_of proof) words)) words ending proof.fault
+  pub verdict : Ends state (bare_steps proof) words ending
+  pub report : r ≡ proof_report trace n (max peak (peak_of state (bare_steps proof) words)) words ending proof.fault
 
 -- numbers are counted up to the greatest of 64 bits
 abbrev pub counted : ℕ → ℕ

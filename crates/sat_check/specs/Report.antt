@@ -73,8 +73,8 @@ peak_of state [] words = sum_of state
 peak_of state (step ∷ steps) [] = sum_of state
 peak_of state (step ∷ steps) (word ∷ words) = max (sum_of state) (peak_of (after state step word) steps words)
 
-abbrev pub steps_of : Proof → List Step
-steps_of proof = map (λ placed. placed.step) proof.steps
+abbrev pub bare_steps : Proof → List Step
+bare_steps proof = map (λ placed. placed.step) proof.steps
 
 -- the trace, if it is asked for, and the verdict
 abbrev pub proof_report : Bool → ℕ → ℕ → List Accepted → Ending → Option Fault → Report
@@ -85,8 +85,8 @@ proof_report trace n peak words ending fault =
 pub record Checks (rule : Rule) (trace : Bool) (h : Header) (clauses : List Clause) (proof : Proof) (r : Report) : Type 0 where
   pub words : List Accepted
   pub ending : Ending
-  pub verdict : Verdict rule clauses (steps_of proof) words ending
-  pub report : r ≡ with_lines (formula_line h ∷ []) (proof_report trace 0 (peak_of (start rule clauses) (steps_of proof) words) words ending proof.fault)
+  pub verdict : Verdict rule clauses (bare_steps proof) words ending
+  pub report : r ≡ with_lines (formula_line h ∷ []) (proof_report trace 0 (peak_of (start rule clauses) (bare_steps proof) words) words ending proof.fault)
 
 abbrev pub ReportsFormula : Rule → Bool → Option Header → List Clause → Option Fault → Proof → Report → Type 0
 ReportsFormula rule trace header clauses (Some f) proof r = r ≡ concluded subjects.Proof (fault_line (codes "formula") f) (fault_status f)
@@ -125,7 +125,7 @@ IsUnlessBroken expected status = (status ≡ expected) ⊎ (status ≡ OutOfMemo
 pub record Verifies (rule : Rule) (f : Formula) (p : Proof) : Type 0 where
   pub whole : f.fault ≡ None
   pub words : List Accepted
-  pub verdict : Verdict rule f.clauses (steps_of p) words verified
+  pub verdict : Verdict rule f.clauses (bare_steps p) words verified
 
 -- What was written and the status are those of the report of this formula and this proof.
 pub record Reports (rule : Rule) (trace : Bool) (formula : Input) (proof : Proof) (old new : Option (List ℕ)) (status : Status) : Type 0 where

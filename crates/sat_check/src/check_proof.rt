@@ -43,7 +43,7 @@ pub fn check_proof<S: ProofSession, R: StepReader, O: Out>(
         match reader.next(&mut step) {
             Ok(true) => {
                 let number = accepted.saturating_add(1);
-                if let Err(status) = take_step(alloc, trace, session, &step, number, lines) {
+                if let Some(status) = take_step(alloc, trace, session, &step, number, lines) {
                     return status;
                 }
                 accepted = number;

@@ -10,7 +10,7 @@ ghost use Rattle.std.specs.Prelude.{IfErr, IfOk};
 ghost use Rattle.std.specs.List.{list_all};
 ghost use Rattle.clap.specs.Words.{app_of, rule_of, kind_of};
 ghost use Rattle.sat_check.specs.CommandLine.Commands.{command_of, flag_rule, formula_rule, second_rule};
-ghost use Rattle.sat_check.specs.CommandLine.Words.{Accepts, args, end_mark, is_among, is_empty, is_known, is_some_empty, names, said_by};
+ghost use Rattle.sat_check.specs.CommandLine.Words.{Accepts, args, end_mark, is_among, is_empty_word, is_known, is_some_empty, names, said_by};
 
 use crate::command_line::args::{Args, ArgsFault};
 use crate::command_line::tool::Tool;
@@ -112,7 +112,7 @@ fn fault_from(alloc: Global, error: &Error) -> ArgsFault
 
 /// Whether a name has no letter.
 fn is_any_empty(formula: &String, second: &Option<String>) -> bool
-    ensures { result ≡ (is_empty (string_bytes formula.now) || is_some_empty second.now) }
+    ensures { result ≡ (is_empty_word (string_bytes formula.now) || is_some_empty second.now) }
 {
     match second {
         Some(name) => formula.is_empty() || name.is_empty(),
@@ -137,7 +137,7 @@ pub fn read_args(alloc: Global, tool: Tool, words: &[String]) -> Result<Args, Ar
     ensures hyphens { IfOk result (λ a. is_among (said_by words.now) end_mark ≡ false
         → list_all (is_known tool) (said_by words.now) ≡ true) }
     ensures full { IfOk result (λ a.
-        (is_empty (string_bytes a.formula) || is_some_empty a.second) ≡ false) }
+        (is_empty_word (string_bytes a.formula) || is_some_empty a.second) ≡ false) }
     ensures accepts { IfErr result (λ e. Accepts tool (said_by words.now)
         → e ≡ ArgsFault.OutOfMemory) }
 {

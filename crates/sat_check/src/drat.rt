@@ -28,8 +28,8 @@ pub fn run_drat<F: In, P: In, O: Out>(
     // What was seen of the two readers is one pair of inputs, and of this the check is true.
     ensures checks { OfBothSeen (F.shown formula.old) (F.shown formula.new)
         (P.shown proof.old) (P.shown proof.new) (λ i j.
-        ChecksProof (drat (rules_of options.now)) options.now.trace i (drat_proof options.now.binary j)
-        (O.held out.old) (O.held out.new) result) }
+        ChecksProof (drat (rules_of options.now)) options.now.trace i
+        (drat_proof options.now.binary j) (O.held out.old) (O.held out.new) result) }
 
     // A reader or the writer tells of each failure.
     ensures read_failed { result ≡ Status.ReadFailed →

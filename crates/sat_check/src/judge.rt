@@ -4,7 +4,7 @@ ghost use Rattle.std.specs.Prelude.{◌≡◌, true, IfErr};
 ghost use Rattle.cnf_base.specs.Stream.{Along};
 ghost use Rattle.cnf_base.specs.Seen.{OfSeen};
 ghost use Rattle.dimacs.specs.Formula.{formula_of};
-ghost use Rattle.dimacs.specs.Reading.{to_come};
+ghost use Rattle.dimacs.specs.Reading.{clauses_to_come};
 ghost use Rattle.sat_check.specs.ModelReport.{meets};
 ghost use Rattle.sat_check.specs.Judging.{Judges};
 
@@ -44,7 +44,8 @@ fn judge_clauses<F: In>(
 ) -> Result<Judgement, Fault>
     requires { reader.old.complete ≡ 0 }
     ensures judges { Along reader.old.stream reader.new.stream (λ i j.
-        Judges model.now result (to_come reader.old i).clauses (to_come reader.old i).fault) }
+        Judges model.now result (clauses_to_come reader.old i).clauses
+        (clauses_to_come reader.old i).fault) }
     ensures tells { IfErr result (λ f. f ≡ Fault.ReadFailed →
         reader.new.stream.reader.has_failed ≡ true) }
 {

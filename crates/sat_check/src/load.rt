@@ -4,7 +4,7 @@ ghost use Rattle.std.specs.Prelude.{◌≡◌, true, [], IfErr};
 ghost use Rattle.cnf_base.specs.Stream.{Along};
 ghost use Rattle.cnf_base.specs.Seen.{OfSeen};
 ghost use Rattle.dimacs.specs.Formula.{formula_of};
-ghost use Rattle.dimacs.specs.Reading.{to_come};
+ghost use Rattle.dimacs.specs.Reading.{clauses_to_come};
 ghost use Rattle.steps.specs.Theory.Rules.{rule_of};
 ghost use Rattle.sat_check.specs.Checking.{IsLoaded, Loads, LoadsBody};
 
@@ -53,7 +53,7 @@ fn load_clauses<F: In, S: ProofSession>(
     requires unused { IsLoaded (rule_of (S.shown session.old).state) (S.shown session.old) [] }
     ensures loads { Along reader.old.stream reader.new.stream
         (λ i j. LoadsBody (rule_of (S.shown session.old).state) (S.shown session.new) result
-        (to_come reader.old i)) }
+        (clauses_to_come reader.old i)) }
     ensures tells { IfErr result (λ f. f ≡ Fault.ReadFailed →
         reader.new.stream.reader.has_failed ≡ true) }
 {

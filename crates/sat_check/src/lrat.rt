@@ -28,7 +28,8 @@ pub fn run_lrat<F: In, P: In, O: Out>(
     // What was seen of the two readers is one pair of inputs, and of this the check is true.
     ensures checks { OfBothSeen (F.shown formula.old) (F.shown formula.new)
         (P.shown proof.old) (P.shown proof.new) (λ i j.
-        ChecksProof lrat options.now.trace i (lrat_steps j) (O.held out.old) (O.held out.new) result) }
+        ChecksProof lrat options.now.trace i (lrat_steps j)
+        (O.held out.old) (O.held out.new) result) }
 
     // A reader or the writer tells of each failure.
     ensures read_failed { result ≡ Status.ReadFailed →

@@ -142,7 +142,8 @@ fn verified_sentence(subject: Subject) -> &'static [u8]
 }
 
 fn unverified_sentence(subject: Subject) -> &'static [u8]
-    ensures { (status : Status) → (status ≡ Status.Verified → ⊥) → result.now ≡ sentence subject status }
+    ensures { (status : Status) → (status ≡ Status.Verified → ⊥) →
+        result.now ≡ sentence subject status }
 {
     match subject {
         Subject::Proof => b"s NOT VERIFIED",

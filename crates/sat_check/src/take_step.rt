@@ -1,6 +1,6 @@
 //! One step of a proof, and its line.
 
-ghost use Rattle.std.specs.Prelude.{◌≡◌, ◌≢◌, true, false, IfErr, OnOk, IsFalse};
+ghost use Rattle.std.specs.Prelude.{◌≡◌, ◌≢◌, true, false, IfErr, IfNone, IfSome, OnOk, IsFalse};
 ghost use Rattle.cnf_base.specs.Lines.{Writes};
 ghost use Rattle.steps.specs.ProofSession.{is_over};
 ghost use Rattle.steps.specs.Theory.Verdicts.{is_last};
@@ -26,28 +26,28 @@ pub fn take_step<S: ProofSession, O: Out>(
     step: &StepBuf,
     number: u64,
     lines: &mut LineOut<O>,
-) -> Result<(), Status>
+) -> Option<Status>
     requires sound { is_over (S.shown session.old) ≡ false }
     requires whole { lines.old.is_broken ≡ false }
-    ensures goes_on { OnOk result (GoesOn trace number (S.shown session.old)
+    ensures goes_on { IfNone result (GoesOn trace number (S.shown session.old)
         (S.shown session.new) step.now lines.old lines.new) }
-    ensures stops { IfErr result (λ status. Stops trace number
+    ensures stops { IfSome result (λ status. Stops trace number
         (S.shown session.old) step.now lines.old lines.new status) }
-    ensures told { IfErr result (λ status. IsTold status lines.new) }
+    ensures told { IfSome result (λ status. IsTold status lines.new) }
     ensures same_writer { lines.new.borrows ≡ lines.old.borrows }
 {
     let word = match session.step(step) {
         Ok(word) => word,
-        Err(refusal) => return Err(refuse(alloc, number, refusal, lines)),
+        Err(refusal) => return Some(refuse(alloc, number, refusal, lines)),
     };
     if let Err(status) = write_trace(alloc, trace, number, word, lines) {
-        return Err(status);
+        return Some(status);
     }
     if is_last(word) {
         let line = steps_line(alloc, number, session.peak());
-        return Err(conclude(lines, Subject::Proof, line, Status::Verified));
+        return Some(conclude(lines, Subject::Proof, line, Status::Verified));
     }
-    Ok(())
+    None
 }
 
 // Writes the line of an accepted step, if a trace is asked for.

@@ -14,7 +14,7 @@ ghost use Rattle.cnf_base.specs.Literals.{complements};
 ghost use Rattle.steps.specs.Lrat.{chain, units_of, groups_of, AnswersChain, AnswersLrat, after_lrat, lrat_step, with_clause, SameClauses};
 ghost use Rattle.clause_db.specs.Propagation.Trail.{HasRoom};
 ghost use Rattle.steps.specs.Lrat.Shelf.{shelf_state};
-ghost use Rattle.steps.specs.Lrat.Session.{fresh, state_of, IsReady};
+ghost use Rattle.steps.specs.Lrat.Session.{fresh_lrat, state_of, IsReady};
 ghost use Rattle.steps.specs.Theory.StepAnswer.{UnlessOutOfMemory};
 
 use crate::lrat::addition::judge_addition;
@@ -66,18 +66,18 @@ fn judge(
     held: &LiveClauses,
     trues: &mut Trail,
     step: &StepBuf,
-) -> Result<Result<Accepted, Refusal>, OutOfMemory>
+) -> Result<Accepted, Refusal>
     requires ready { IsReady (maps.get held.now.live) trues.old }
-    ensures answer { IfOk result (AnswersChain (maps.get held.now.live) step.now.lits
+    ensures answer { UnlessOutOfMemory result (AnswersChain (maps.get held.now.live) step.now.lits
         (groups_of step.now.hints) (chain (maps.get held.now.live) (complements step.now.lits)
-        (units_of step.now.hints))) }
+        (units_of step.now.hints)) result) }
     ensures ready { IsReady (maps.get held.now.live) trues.new }
     ensures room { OnOk result (HasRoom trues.new.met step.now.lits) }
 {
     trues.reserve_all(step.lits())?;
     let answer = judge_addition(alloc, held, trues, step.lits(), step.hints());
     trues.undo_to(0);
-    answer.map_err(|_| OutOfMemory)
+    answer
 }
 
 /// Judges an addition, and adds the clause where it is accepted.
@@ -101,7 +101,7 @@ fn take_addition(
     if id <= held.top() {
         return Err(Refusal::IdOutOfOrder);
     }
-    let word = judge(alloc, held, trues, step)??;
+    let word = judge(alloc, held, trues, step)?;
     held.add(id, step.lits())?;
     Ok(word)
 }
@@ -153,7 +153,7 @@ fn take_step(
 impl LratSession {
     /// A session without clauses.
     pub fn new(alloc: Global) -> Result<Self, OutOfMemory>
-        ensures { IfOk result (λ session. session ≡ fresh) }
+        ensures { IfOk result (λ session. session ≡ fresh_lrat) }
     {
         let held = LiveClauses::new(alloc)?;
         let trues = Trail::new(alloc)?;

@@ -193,12 +193,8 @@ fn expect_faults(
 }
 
 #[test]
-fn headers(rt: HostRuntime) -> Result<(), Fail> {
-    expect_faults(&rt, rt.alloc(), Cut::Ends, &HEADERS)
-}
-
-#[test]
-fn clauses(rt: HostRuntime) -> Result<(), Fail> {
+fn headers_and_clauses(rt: HostRuntime) -> Result<(), Fail> {
+    expect_faults(&rt, rt.alloc(), Cut::Ends, &HEADERS)?;
     expect_faults(&rt, rt.alloc(), Cut::Ends, &CLAUSES)
 }
 

@@ -1,8 +1,8 @@
 -- The variables for which a trail has room.
 use Rattle.std.proofs.Common.{◌≡◌, ℕ, Bool, true, false, ◌||◌, ◌&&◌, eqb, Option, None, is_some, List, map, ap, sym, ◌∙◌, refl, eqb-true, ◌⊎◌, inl, inr}
 use Rattle.std.proofs.lemmas.Bool.{false≢true}
-use Rattle.cnf_base.specs.Literals.{has}
-use Rattle.clause_db.specs.Propagation.Trail.{variable, is_variable}
+use Rattle.cnf_base.specs.Literals.{has, variable}
+use Rattle.clause_db.specs.Propagation.Trail.{is_variable}
 use Rattle.clause_db.specs.Propagation.Places.{IsPlaced}
 use Rattle.clause_db.specs.declared.propagation.trail.Entry.{Entry}
 use Rattle.clause_db.proofs.PropagationLemmas.Places.{met_by_entry}

@@ -4,12 +4,12 @@ use Rattle.std.proofs.lemmas.Bool.{false≢true, cases_eq}
 use Rattle.std.proofs.lemmas.List.{take-append-le, take-append-drop}
 use Rattle.std.proofs.lemmas.Option.{none-some, same_Some}
 use Rattle.std.proofs.lemmas.List.Sums.{sum_by-cons}
-use Rattle.cnf_base.specs.Literals.{Literal, complement, Clause, has}
+use Rattle.cnf_base.specs.Literals.{Literal, complement, Clause, has, variable}
 use Rattle.cnf_base.proofs.SetLemmas.{has_cases, has_append_left, has_append_right, has_append_cases, has_head}
 use Rattle.clause_db.specs.Propagation.Left.{open_literals, how_many, IsSettled}
 use Rattle.clause_db.specs.Propagation.{Live}
 use Rattle.clause_db.specs.Propagation.Scan.Unit.{unset}
-use Rattle.clause_db.specs.Propagation.Trail.{TrailState, variable}
+use Rattle.clause_db.specs.Propagation.Trail.{TrailState}
 use Rattle.clause_db.specs.declared.propagation.scan.unit.Pass.{Pass}
 use Rattle.clause_db.specs.declared.propagation.scan.unit.Pass.TheVariants.{Clash as PassClash, Changed, Quiet}
 use Rattle.clause_db.proofs.PropagationLemmas.Truth.{variable_open}

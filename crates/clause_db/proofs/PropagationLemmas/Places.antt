@@ -1,7 +1,7 @@
 -- What the places of variables say of a trail.
 use Rattle.std.proofs.Common.{◌≡◌, ◌≢◌, ℕ, ◌<◌, ◌≤◌, ◌+◌, Bool, true, false, cond, eqb, Option, Some, None, is_some, unwrap_or, List, [], ◌∷◌, ◌++◌, map, take, length, get_or, set, arith, ap, sym, ◌∙◌, inl, inr, ⊎_elim, ◌⊎◌, eq-eqb, refl, subst}
-use Rattle.cnf_base.specs.Literals.{complement, has}
-use Rattle.clause_db.specs.Propagation.Trail.{variable, value_under, HasNoVariableTwice}
+use Rattle.cnf_base.specs.Literals.{complement, has, variable}
+use Rattle.clause_db.specs.Propagation.Trail.{value_under, HasNoVariableTwice}
 use Rattle.clause_db.specs.Propagation.Places.{IsPlaced}
 use Rattle.clause_db.specs.declared.propagation.trail.Entry.{Entry}
 use Rattle.clause_db.specs.declared.propagation.value.Value.TheVariants.{True, False, Open}

@@ -3,9 +3,9 @@ use Rattle.std.proofs.Common.{◌≡◌, ℕ, ◌+◌, ◌<◌, Bool, true, fals
 use Rattle.std.proofs.lemmas.Bool.{true≢false, false_from_ne_true, or_cases, cases_eq, cases_lt}
 use Rattle.std.proofs.lemmas.List.{get_or-map, length-map}
 use Rattle.std.proofs.lemmas.Map.Keys.{apart_from_distinct}
-use Rattle.cnf_base.specs.Literals.{Literal, complement, Clause, has}
+use Rattle.cnf_base.specs.Literals.{Literal, complement, Clause, has, variable}
 use Rattle.cnf_base.proofs.LiteralLemmas.{complement-other}
-use Rattle.clause_db.specs.Propagation.Trail.{variable, value_under, HasNoVariableTwice}
+use Rattle.clause_db.specs.Propagation.Trail.{value_under, HasNoVariableTwice}
 use Rattle.clause_db.specs.declared.propagation.value.Value.{Value}
 use Rattle.clause_db.specs.declared.propagation.value.Value.TheVariants.{True, False, Open}
 use Rattle.clause_db.proofs.StoreLemmas.Marks.{has_more}

@@ -1,9 +1,9 @@
 -- How the code holds the assumptions that stand: by variable the number of the assumption that has a literal of it.
 use Rattle.std.specs.Prelude.{◌≡◌, ◌≢◌, ℕ, ◌/◌, ◌==◌, ◌≤◌, ◌<◌, ◌||◌, Bool, List, [], ◌∷◌, map, filter, take, length, unwrap_or, IsTrue, IsSome, ⊤}
-use Rattle.cnf_base.specs.Literals.{Literal, has}
+use Rattle.cnf_base.specs.Literals.{Literal, has, variable}
 use Rattle.clause_db.specs.Propagation.Assumptions.{Assumption}
 use Rattle.clause_db.specs.Store.Table.{at}
-use Rattle.clause_db.specs.Propagation.Trail.{TrailState, variable}
+use Rattle.clause_db.specs.Propagation.Trail.{TrailState}
 use Rattle.clause_db.specs.declared.propagation.answer.Answer.{Answer}
 use Rattle.clause_db.specs.declared.propagation.levels.Level.{Level}
 use Rattle.clause_db.specs.declared.propagation.levels.Levels.{Levels}

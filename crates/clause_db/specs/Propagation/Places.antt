@@ -1,7 +1,6 @@
 -- How the code holds a trail: each variable's place in the order.
 use Rattle.std.specs.Prelude.{◌≡◌, ℕ, ◌<◌, List, length, slice_index, Option, Some}
-use Rattle.cnf_base.specs.Literals.{Literal}
-use Rattle.clause_db.specs.Propagation.Trail.{variable}
+use Rattle.cnf_base.specs.Literals.{Literal, variable}
 use Rattle.clause_db.specs.declared.propagation.trail.Entry.{Entry}
 
 -- the entry of each literal's variable says where the literal stands, and there are no other entries

@@ -1,8 +1,8 @@
 -- Trails: the literals that are true, in the order in which they were set.
-use Rattle.std.specs.Prelude.{◌≡◌, ℕ, ◌/◌, ◌++◌, Bool, IsFalse, ◌&&◌, nat_le, Some, List, map, nat_eq, IsTrue, if◌then◌else◌}
+use Rattle.std.specs.Prelude.{◌≡◌, ℕ, ◌++◌, Bool, IsFalse, ◌&&◌, nat_le, Some, List, map, nat_eq, IsTrue, if◌then◌else◌}
 use Rattle.std.specs.Bool.{OnFalse}
 use Rattle.std.specs.List.{IsDistinct, list_any}
-use Rattle.cnf_base.specs.Literals.{Literal, complement, complements, Clause, has}
+use Rattle.cnf_base.specs.Literals.{Literal, variable, complement, complements, Clause, has}
 use Rattle.clause_db.specs.Propagation.{Live}
 use Rattle.clause_db.specs.declared.propagation.value.Value.{Value}
 use Rattle.clause_db.specs.declared.propagation.value.Value.TheVariants.{True, False, Open}
@@ -11,9 +11,6 @@ use Rattle.clause_db.specs.declared.propagation.value.Value.TheVariants.{True, F
 pub record TrailState : Type 0 where
   pub lits : List Literal
   pub met : List ℕ
-
-abbrev pub variable : Literal → ℕ
-variable l = l / 2
 
 -- whether the number is a literal's variable
 abbrev pub is_variable : ℕ → Bool
@@ -43,7 +40,7 @@ pub record MakesFalse (before : List Literal) (c : Clause) (clashes : Bool) (aft
 
 -- there is room for the clause's variables
 abbrev pub HasRoom : List ℕ → Clause → Type 0
-HasRoom met c = (l : Literal) → IsTrue (has c l) → IsTrue (has met (l / 2))
+HasRoom met c = (l : Literal) → IsTrue (has c l) → IsTrue (has met (variable l))
 
 pub record HasRoomForAll (met : List ℕ) (live : Live) : Type 0 where
   pub each : (k : ℕ) (c : Clause) → live k ≡ Some c → HasRoom met c

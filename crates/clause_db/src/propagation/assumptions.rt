@@ -38,7 +38,11 @@ impl Model for Assumptions {
 
     ghost coded = { assumptions_code };
 
-    ghost view = { λ a. record { trail = a.trail; assumptions = assumptions_of (number_at a.numbers) a.trail.lits a.levels; starts = starts_of a.levels } };
+    ghost view = { λ a. record {
+      trail = a.trail;
+      assumptions = assumptions_of (number_at a.numbers) a.trail.lits a.levels;
+      starts = starts_of a.levels;
+    } };
 
     ghost invariant = { λ a. IsNumbered a.trail a.numbers a.made a.levels };
 }
@@ -157,7 +161,8 @@ impl Assumptions {
         ensures assumed { IfOk result (λ is_clash. (all : List Literal) ×
             (self.new.assumptions ≡ record { answer = Clash; assumed = all } ∷ self.old.assumptions)
             × OnFalse is_clash (SameSet all
-            (assumed_by self.old.assumptions ++ complements (filter (P.keeps part.now) clause.now)))) }
+            (assumed_by self.old.assumptions
+            ++ complements (filter (P.keeps part.now) clause.now)))) }
         ensures starts { OnOk result (self.new.starts ≡
             length self.old.trail.lits ∷ self.old.starts) }
         ensures begins { OnOk result (take (length self.old.trail.lits) self.new.trail.lits ≡

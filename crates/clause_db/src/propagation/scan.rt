@@ -37,7 +37,12 @@ impl Model for Scan {
     ghost use Rattle.clause_db.specs.Store.Clauses.{literals_in};
     ghost use Rattle.clause_db.specs.Propagation.Scan.{IsScan};
 
-    ghost view = { λ s. record { live = s.store; assumptions = s.assumptions.assumptions; stored = literals_in s.store; has_refused = s.has_refused } };
+    ghost view = { λ s. record {
+      live = s.store;
+      assumptions = s.assumptions.assumptions;
+      stored = literals_in s.store;
+      has_refused = s.has_refused;
+    } };
 
     ghost invariant = { λ s. IsScan s.store s.assumptions };
 }

@@ -46,13 +46,17 @@ pub struct Trail {
 
 impl Model for Trail {
     ghost use Rattle.std.specs.Prelude.{◌≤◌, length, take, map};
-    ghost use Rattle.clause_db.specs.Propagation.Trail.{TrailState, variable};
+    ghost use Rattle.cnf_base.specs.Literals.{variable};
+    ghost use Rattle.clause_db.specs.Propagation.Trail.{TrailState};
     ghost use Rattle.clause_db.specs.Store.Table.{at};
     ghost use Rattle.clause_db.specs.Propagation.Places.{IsPlaced};
 
     ghost Value = { TrailState };
 
-    ghost view = { λ t. record { lits = take t.len t.order.items; met = map variable t.order.items } };
+    ghost view = { λ t. record {
+      lits = take t.len t.order.items;
+      met = map variable t.order.items;
+    } };
 
     ghost invariant = { λ t. (t.len ≤ length t.order.items) × IsPlaced t.order.items (at t.table) };
 }

@@ -1,7 +1,7 @@
 //! The groups of a number.
 
 ghost use Rattle.std.specs.Prelude.{◌≡◌, ℕ, List, [], ◌∷◌, ◌++◌};
-ghost use Rattle.proofs.specs.BinaryMoves.{Keeps};
+ghost use Rattle.proofs.specs.BinaryMoves.{KeepsGroups};
 
 /// What is kept of a number's bytes so far: the number of the first one, the sum of the groups, and what one in the next
 /// group counts. The sum and the weight go up to `u64::MAX`.
@@ -15,7 +15,7 @@ pub struct Groups {
 impl Groups {
     pub fn new(first: u64) -> Self
         ensures first { result.first ≡ first }
-        ensures empty { Keeps result [] }
+        ensures empty { KeepsGroups result [] }
     {
         Groups {
             first,
@@ -27,7 +27,8 @@ impl Groups {
     /// With one more byte.
     pub fn with(self, byte: u8) -> Self
         ensures first { result.first ≡ self.first }
-        ensures more { (bytes : List ℕ) → Keeps self bytes → Keeps result (bytes ++ byte ∷ []) }
+        ensures more { (bytes : List ℕ) → KeepsGroups self bytes →
+            KeepsGroups result (bytes ++ byte ∷ []) }
     {
         let group = u64::from(byte % 128);
         Groups {

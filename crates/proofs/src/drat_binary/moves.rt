@@ -1,8 +1,8 @@
 //! What a byte does to a step.
 
 ghost use Rattle.std.specs.Prelude.{◌≡◌, ℕ, ◌<◌, List, [], ◌∷◌, ◌++◌};
-ghost use Rattle.proofs.specs.Binary.{Spot, move_of, tag_move, group_move, number_move};
-ghost use Rattle.proofs.specs.BinaryMoves.{Keeps, IsAt, Moves};
+ghost use Rattle.proofs.specs.Binary.{BinarySpot, binary_move_of, tag_move, group_move, binary_number_move};
+ghost use Rattle.proofs.specs.BinaryMoves.{KeepsGroups, IsAt, MovesBinary};
 
 use super::groups::Groups;
 use super::part::Part;
@@ -18,8 +18,8 @@ pub fn move_on(
     byte_no: u64,
     byte: u8,
 ) -> Result<Moved<Part>, Stopped>
-    ensures { (spot : Spot) → IsAt part spot →
-        Moves result (move_of spot step.old byte_no byte) step.new }
+    ensures { (spot : BinarySpot) → IsAt part spot →
+        MovesBinary result (binary_move_of spot step.old byte_no byte) step.new }
 {
     match part {
         Part::Tag => take_tag(step, byte_no, byte),
@@ -34,7 +34,7 @@ pub fn move_on(
 }
 
 fn take_tag(step: &mut StepBuf, byte_no: u64, byte: u8) -> Result<Moved<Part>, Stopped>
-    ensures { Moves result (tag_move step.old byte_no byte) step.new }
+    ensures { MovesBinary result (tag_move step.old byte_no byte) step.new }
 {
     match byte {
         b'a' => {}
@@ -46,8 +46,8 @@ fn take_tag(step: &mut StepBuf, byte_no: u64, byte: u8) -> Result<Moved<Part>, S
 
 // One more byte of a number.
 fn take_group(groups: Groups, step: &mut StepBuf, byte: u8) -> Result<Moved<Part>, Stopped>
-    ensures { (bytes : List ℕ) → Keeps groups bytes →
-        Moves result (group_move step.old groups.first bytes byte) step.new }
+    ensures { (bytes : List ℕ) → KeepsGroups groups bytes →
+        MovesBinary result (group_move step.old groups.first bytes byte) step.new }
 {
     let groups = groups.with(byte);
     if byte >= 128 {
@@ -58,7 +58,8 @@ fn take_group(groups: Groups, step: &mut StepBuf, byte: u8) -> Result<Moved<Part
 
 // A whole number, with its last byte.
 fn take_number(groups: Groups, step: &mut StepBuf, last: u8) -> Result<Moved<Part>, Stopped>
-    ensures { Moves result (number_move step.old groups.first last groups.value) step.new }
+    ensures { MovesBinary result (binary_number_move step.old groups.first last groups.value)
+        step.new }
 {
     if last == 0 || groups.value <= 1 {
         return Err(Stopped::Binary(BinaryFault::BadNumber, groups.first));

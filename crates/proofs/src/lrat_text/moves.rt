@@ -2,7 +2,7 @@
 
 ghost use Rattle.std.specs.Prelude.{◌≡◌, ◌≤◌, IsTrue};
 ghost use Rattle.proofs.specs.Lrat.{lrat, identifier, literal, hint, deleted, signed};
-ghost use Rattle.proofs.specs.TextMoves.{FitsMoved, Moves};
+ghost use Rattle.proofs.specs.TextMoves.{FitsMoved, MovesText};
 ghost use Rattle.proofs.specs.LratMoves.{fits_part, is_addition};
 
 use super::part::Part;
@@ -49,7 +49,7 @@ impl text::Part for Part {
 }
 
 fn take_identifier(step: &mut StepBuf, number: Number) -> Result<Moved<Part>, Stopped>
-    ensures moves { Moves result (identifier number) step.new }
+    ensures moves { MovesText result (identifier number) step.new }
     ensures fits { FitsMoved fits_part result step.new }
 {
     if number.is_negative || number.size == 0 {
@@ -64,7 +64,7 @@ fn take_identifier(step: &mut StepBuf, number: Number) -> Result<Moved<Part>, St
 
 fn take_literal(step: &mut StepBuf, number: Number) -> Result<Moved<Part>, Stopped>
     requires { IsTrue (is_addition step.old.kind) }
-    ensures moves { Moves result (literal step.old number) step.new }
+    ensures moves { MovesText result (literal step.old number) step.new }
     ensures fits { FitsMoved fits_part result step.new }
 {
     if number.size > u64::from(Lit::MAX_VAR) {
@@ -79,7 +79,7 @@ fn take_literal(step: &mut StepBuf, number: Number) -> Result<Moved<Part>, Stopp
 
 fn take_hint(step: &mut StepBuf, number: Number) -> Result<Moved<Part>, Stopped>
     requires { IsTrue (is_addition step.old.kind) }
-    ensures moves { Moves result (hint step.old number) step.new }
+    ensures moves { MovesText result (hint step.old number) step.new }
     ensures fits { FitsMoved fits_part result step.new }
 {
     if number.size > MOST {
@@ -93,7 +93,7 @@ fn take_hint(step: &mut StepBuf, number: Number) -> Result<Moved<Part>, Stopped>
 }
 
 fn take_deleted(step: &mut StepBuf, number: Number) -> Result<Moved<Part>, Stopped>
-    ensures moves { Moves result (deleted step.old number) step.new }
+    ensures moves { MovesText result (deleted step.old number) step.new }
     ensures fits { FitsMoved fits_part result step.new }
 {
     if number.is_negative {

@@ -13,7 +13,7 @@ use Rattle.clap.specs.Takes.{is_given}
 use Rattle.clap.specs.Walk.{Held, Row, Text, Walk, finished, has_row, nothing_held, settled, settled_rows, walk, walked, with_default}
 use Rattle.clap.specs.declared.error.kind.ErrorKind.TheVariants as kind
 use Rattle.sat_check.specs.CommandLine.Commands.{command_of}
-use Rattle.sat_check.specs.CommandLine.Words.{Accepts, begins_with_hyphen, is_among, is_empty, is_flag, is_some_empty, names, plain, times}
+use Rattle.sat_check.specs.CommandLine.Words.{Accepts, begins_with_hyphen, is_among, is_empty_word, is_flag, is_some_empty, names, plain, times}
 use Rattle.sat_check.proofs.CommandLineLemmas.Rules.{fault_is, flag_full, formula_full, help_full, rules_of, second_full, top_of}
 use Rattle.sat_check.proofs.CommandLineLemmas.Rows.{names_added, names_kept}
 use Rattle.sat_check.proofs.CommandLineLemmas.Turns.{at}
@@ -153,7 +153,7 @@ never_among f (x ∷ done) none = go (bytes_eq f x) none (never_among f done)
 
 -- what is left of the words is accepted after those before them
 record Fits (tool : Tool) (done words : List Text) : Type 0 where
-  full : list_any is_empty words ≡ false
+  full : list_any is_empty_word words ≡ false
   most : length (names tool done) + length (names tool words) ≤ 2
   known : list_all (is_accepted tool) words ≡ true
   once : (f : Text) → is_flag tool f ≡ true → times f done + times f words ≤ 1
@@ -202,7 +202,7 @@ turn_passes : (tool : Tool) (done : List Text) (word : Text) (words : List Text)
     → turn_fault (top_of tool) [] w word ≡ []
 turn_passes tool done word words fits w a = go (is_flag tool word) refl
   where
-    plain_word : (word : Text) → is_empty word ≡ false → is_accepted tool word ≡ true → is_flag tool word ≡ false → length (names tool done) < 2
+    plain_word : (word : Text) → is_empty_word word ≡ false → is_accepted tool word ≡ true → is_flag tool word ≡ false → length (names tool done) < 2
         → turn_fault (top_of tool) [] w word ≡ []
     plain_word [] full known flag few = absurd (true≢false full)
     plain_word (x ∷ xs) full known flag few = name_passes tool done w a x xs flag (at_start (x == 45) (sym (ap (λ b. not (x == 45) || b) flag) ∙ known)) few
@@ -277,13 +277,13 @@ at_none t (x ∷ xs) (suc k) w e is = at_none t xs k w (by (t x) e) is
 -- the names of accepted words are not empty
 pub names_full : {Z : Type 0} (tool : Tool) (words : List Text) (formula : Text) (second : Option (String Z)) → Accepts tool words
     → Some formula ≡ slice_get (names tool words) 0 → option_map string_bytes second ≡ slice_get (names tool words) 1
-    → (is_empty formula || is_some_empty second) ≡ false
+    → (is_empty_word formula || is_some_empty second) ≡ false
 names_full {Z} tool words formula second accepts first then_second =
-    ap (λ v. v || is_some_empty second) (at_none is_empty (names tool words) 0 formula full first) ∙ by second then_second
+    ap (λ v. v || is_some_empty second) (at_none is_empty_word (names tool words) 0 formula full first) ∙ by second then_second
   where
-    full : list_any is_empty (names tool words) ≡ false
-    full = none_left _ is_empty words accepts.full
+    full : list_any is_empty_word (names tool words) ≡ false
+    full = none_left _ is_empty_word words accepts.full
 
     by : (s : Option (String Z)) → option_map string_bytes s ≡ slice_get (names tool words) 1 → is_some_empty s ≡ false
     by None is = refl
-    by (Some name) is = at_none is_empty (names tool words) 1 (string_bytes name) full is
+    by (Some name) is = at_none is_empty_word (names tool words) 1 (string_bytes name) full is

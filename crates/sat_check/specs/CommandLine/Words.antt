@@ -60,18 +60,18 @@ plain words = filter (λ word. not (begins_with_hyphen word)) words
 abbrev pub times : List ℕ → List (List ℕ) → ℕ
 times word words = length (filter (bytes_eq word) words)
 
-abbrev pub is_empty : List ℕ → Bool
-is_empty word = length word == 0
+abbrev pub is_empty_word : List ℕ → Bool
+is_empty_word word = length word == 0
 
 -- the second name is there, and empty
 abbrev pub is_some_empty : {Z : Type 0} → Option (String Z) → Bool
 is_some_empty None = false
-is_some_empty (Some name) = is_empty (string_bytes name)
+is_some_empty (Some name) = is_empty_word (string_bytes name)
 
 -- no word is empty; one or two do not begin with a hyphen; each other word is a flag that the tool
 -- has, and no flag is there twice
 pub record Accepts (tool : Tool) (words : List (List ℕ)) : Type 0 where
-  pub full : list_any is_empty words ≡ false
+  pub full : list_any is_empty_word words ≡ false
   pub least : 1 ≤ length (plain words)
   pub most : length (plain words) ≤ 2
   pub known : list_all (λ word. not (begins_with_hyphen word) || is_flag tool word) words ≡ true

@@ -95,6 +95,11 @@ unless_given (Err OutOfMemory) P p = tt
 unless_given (Ok word) P p = p
 unless_given (Err _) P p = p
 
+pub unless_map : (answer : StepAnswer) {P Q : Type 0} → (P → Q) → UnlessOutOfMemory answer P → UnlessOutOfMemory answer Q
+unless_map (Err OutOfMemory) f p = tt
+unless_map (Ok word) f p = f p
+unless_map (Err _) f p = f p
+
 pub when_ok : {X Y : Type 0} (r : Result X Y) (P : Type 0) → is_err r ≡ false → OnOk r P → P
 when_ok (Ok x) P h p = p
 when_ok (Err y) P h p = absurd (true≢false h)

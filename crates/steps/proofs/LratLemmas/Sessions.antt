@@ -10,7 +10,7 @@ use Rattle.steps.specs.Theory.Models.{Assignment, holds, satisfies, Models, HasM
 use Rattle.steps.specs.Theory.StepAnswer.{StepAnswer}
 use Rattle.steps.specs.Drat.{SameLive}
 use Rattle.steps.specs.Lrat.{LratState, LratStep, add, delete, AnswersLrat, after_lrat, with_clause, numbered, SameAt, SameClauses}
-use Rattle.steps.specs.Lrat.Session.{fresh, state_of}
+use Rattle.steps.specs.Lrat.Session.{fresh_lrat, state_of}
 use Rattle.steps.proofs.DratLemmas.Copies.{covers_of}
 use Rattle.steps.proofs.LratLemmas.SameSets.{with_same, without_all_same, lrat_same}
 
@@ -68,6 +68,6 @@ numbered_push formula c (suc k) = ap (λ b. cond b (Some c) (slice_get formula k
     sucs : (m n : ℕ) → eqb (suc m) (n + 1) ≡ eqb m n
     sucs m n = grind (arith, nat_tests)
 
-pub fresh_is_numbered : (k : ℕ) → (state_of fresh).live k ≡ numbered [] k
+pub fresh_is_numbered : (k : ℕ) → (state_of fresh_lrat).live k ≡ numbered [] k
 fresh_is_numbered zero = maps.get-empty nat_cmp zero
 fresh_is_numbered (suc k) = maps.get-empty nat_cmp (suc k)

@@ -32,8 +32,8 @@ session_code =
     (λ _. refl)
 
 -- no clause was input
-abbrev pub fresh : Session
-fresh = record { live = map.empty; top = 0; has_stepped = false; is_verified = false; is_ended = false; peak = 0 }
+abbrev pub fresh_lrat : Session
+fresh_lrat = record { live = map.empty; top = 0; has_stepped = false; is_verified = false; is_ended = false; peak = 0 }
 
 -- nothing is true, and there is room for all that may become true
 pub record IsReady (live : Live) (trues : TrailState) : Type 0 where

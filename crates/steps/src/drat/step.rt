@@ -131,7 +131,8 @@ fn add<P: Propagate>(clauses: &mut P, lits: &[Lit]) -> Result<Accepted, Refusal>
 /// Takes one copy of the clause off.
 fn delete<P: Propagate>(clauses: &mut P, strict: bool, lits: &[Lit]) -> Result<Accepted, Refusal>
     requires { (P.state clauses.old).assumptions ≡ [] }
-    ensures answers { AnswersDelete strict (maps.values (P.state clauses.old).live) lits.now result }
+    ensures answers { AnswersDelete strict (maps.values (P.state clauses.old).live) lits.now
+        result }
     ensures live { IfOk result (λ word. SameLive (maps.values (P.state clauses.new).live)
         (after_drat (maps.values (P.state clauses.old).live) (drat.delete lits.now) word)) }
     ensures nothing_assumed { (P.state clauses.new).assumptions ≡ [] }

@@ -1,11 +1,12 @@
 //! The tests of an added clause.
 
-ghost use Rattle.std.specs.Prelude.{◌≡◌, [], IfOk, IsFalse};
+ghost use Rattle.std.specs.Prelude.{◌≡◌, [], IsFalse};
 ghost use Rattle.std.specs.FinMap as maps;
 ghost use Rattle.cnf_base.specs.Literals.{complements};
 ghost use Rattle.steps.specs.Lrat.{chain, groups_refusal, AnswersGroups, AnswersChain, units_of, groups_of};
 ghost use Rattle.clause_db.specs.Propagation.Trail.{conflicts, SameSet, HasRoom, HasRoomForAll};
 ghost use Rattle.steps.specs.Lrat.Walk.{IsEnd};
+ghost use Rattle.steps.specs.Theory.StepAnswer.{UnlessOutOfMemory};
 
 use crate::lrat::candidates::{first_left_out, judge_groups};
 use crate::lrat::live_clauses::LiveClauses;
@@ -15,7 +16,7 @@ use crate::theory::accepted::{Accepted, word_of};
 use crate::theory::refusal::Refusal;
 use clause_db::{Trail, Whole};
 use cnf_base::Lit;
-use std::alloc::{AllocError, Global};
+use std::alloc::Global;
 
 /// How many groups there are.
 fn count_groups(hints: &[i64]) -> usize {
@@ -29,20 +30,21 @@ fn judge_candidates(
     pivot: Lit,
     named: &mut Named,
     hints: &[i64],
-) -> Result<Result<Accepted, Refusal>, AllocError>
+) -> Result<Accepted, Refusal>
     requires quiet { IsFalse (conflicts trues.old.lits) }
     requires room { HasRoomForAll trues.old.met (maps.get live.now.live) }
     requires none_named { named.old ≡ [] }
-    ensures answer { IfOk result (AnswersGroups (maps.get live.now.live) trues.old.lits pivot
-        (groups_of hints.now) (groups_refusal (maps.get live.now.live) trues.old.lits pivot []
-        (groups_of hints.now))) }
+    ensures answer { UnlessOutOfMemory result
+        (AnswersGroups (maps.get live.now.live) trues.old.lits pivot (groups_of hints.now)
+        (groups_refusal (maps.get live.now.live) trues.old.lits pivot [] (groups_of hints.now))
+        result) }
     ensures met { SameSet trues.new.met trues.old.met }
 {
     match judge_groups(live, trues, pivot, named, hints)? {
-        Some(refusal) => Ok(Err(refusal)),
+        Some(refusal) => Err(refusal),
         None => match first_left_out(live, trues, pivot, named) {
-            Some(id) => Ok(Err(Refusal::Unnamed(id))),
-            None => Ok(Ok(Accepted::Rat)),
+            Some(id) => Err(Refusal::Unnamed(id)),
+            None => Ok(Accepted::Rat),
         },
     }
 }
@@ -71,23 +73,23 @@ pub(crate) fn judge_addition(
     trues: &mut Trail,
     clause: &[Lit],
     hints: &[i64],
-) -> Result<Result<Accepted, Refusal>, AllocError>
+) -> Result<Accepted, Refusal>
     requires none_true { trues.old.lits ≡ [] }
     requires room { HasRoomForAll trues.old.met (maps.get live.now.live) }
     requires clause_room { HasRoom trues.old.met clause.now }
-    ensures answer { IfOk result (AnswersChain (maps.get live.now.live) clause.now
+    ensures answer { UnlessOutOfMemory result (AnswersChain (maps.get live.now.live) clause.now
         (groups_of hints.now) (chain (maps.get live.now.live) (complements clause.now)
-        (units_of hints.now))) }
+        (units_of hints.now)) result) }
     ensures met { SameSet trues.new.met trues.old.met }
 {
     let mut named = Named::with_room(alloc, count_groups(hints))?;
     match walk_units(live, trues, clause, hints) {
-        WalkEnd::Conflict => Ok(Ok(word_of(clause))),
-        WalkEnd::UnknownId(k) => Ok(Err(Refusal::UnknownId(k))),
-        WalkEnd::NotUnit(k) => Ok(Err(Refusal::NotUnit(k))),
+        WalkEnd::Conflict => Ok(word_of(clause)),
+        WalkEnd::UnknownId(k) => Err(Refusal::UnknownId(k)),
+        WalkEnd::NotUnit(k) => Err(Refusal::NotUnit(k)),
         WalkEnd::Open => match clause.first() {
             Some(pivot) => judge_candidates(live, trues, *pivot, &mut named, hints),
-            None => Ok(Err(Refusal::NoConflict)),
+            None => Err(Refusal::NoConflict),
         },
     }
 }

@@ -4,6 +4,7 @@ ghost use Rattle.std.specs.Prelude.{◌≡◌};
 ghost use Rattle.steps.specs.declared.theory.refusal.Refusal.TheVariants.{OutOfMemory as RefusedMemory};
 
 use cnf_base::{Lit, OutOfMemory};
+use std::alloc::AllocError;
 
 /// Why a step, or a clause of the formula, was refused.
 #[derive(Clone, Copy, Debug, PartialEq, Eq)]
@@ -40,6 +41,14 @@ impl From<OutOfMemory> for Refusal {
     ghost from_gives = { λ _ r. r ≡ RefusedMemory };
 
     fn from(_refused: OutOfMemory) -> Refusal {
+        Refusal::OutOfMemory
+    }
+}
+
+impl From<AllocError> for Refusal {
+    ghost from_gives = { λ _ r. r ≡ RefusedMemory };
+
+    fn from(_refused: AllocError) -> Refusal {
         Refusal::OutOfMemory
     }
 }

@@ -1,9 +1,9 @@
 -- A pass over all clauses, the plainest propagation.
 use Rattle.std.specs.Prelude.{◌≡◌, ℕ, ◌<◌, not, Some, List, map, count_by, IsTrue}
-use Rattle.cnf_base.specs.Literals.{Literal, Clause, has}
+use Rattle.cnf_base.specs.Literals.{Literal, Clause, has, variable}
 use Rattle.clause_db.specs.Propagation.Left.{open_literals, how_many, IsSettled}
 use Rattle.clause_db.specs.Propagation.{Live, Clash}
-use Rattle.clause_db.specs.Propagation.Trail.{TrailState, variable}
+use Rattle.clause_db.specs.Propagation.Trail.{TrailState}
 use Rattle.clause_db.specs.declared.propagation.scan.unit.Pass.{Pass}
 use Rattle.clause_db.specs.declared.propagation.scan.unit.Pass.TheVariants.{Clash as PassClash, Changed, Quiet as PassQuiet}
 

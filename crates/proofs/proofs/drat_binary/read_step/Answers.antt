@@ -4,8 +4,8 @@ use Rattle.std.specs.Prelude.{Ok, Err}
 use Rattle.proofs.specs.declared.moved.Moved.TheVariants.{To, Complete}
 use Rattle.proofs.specs.declared.drat_binary.stopped.Stopped.TheVariants.{Binary}
 use Rattle.cnf_base.specs.declared.input.Ending.TheVariants.{End}
-use Rattle.proofs.specs.TextMoves.{EndsSo}
-use Rattle.proofs.specs.Binary.{at_tag, at_end}
+use Rattle.proofs.specs.TextMoves.{EndsProof}
+use Rattle.proofs.specs.Binary.{at_tag, binary_at_end}
 use Rattle.proofs.proofs.BinaryLemmas.{Between-none, Between-end, Between-byte, Between-step, Between-fault, Between-refused, moves_told}
 use Rattle.proofs.proofs.drat_binary.read_step.Goals as goal
 
@@ -16,7 +16,7 @@ pub returns-in-Ok-None-clause-step : goal.returns-in-Ok-None-clause-step
 returns-in-Ok-None-clause-step g c =
     let so_far = c.loop-byte.invariant in
     let number : c.byte_no-byte_no.result ≡ c.peek.new.self.byte_no = search rules in
-    let ends = let P : ℕ → Type 0 = λ n. EndsSo c.at_end.result (at_end so_far.0 n End) in subst P number (c.at_end.ensures.value so_far.0 so_far.2) in
+    let ends = let P : ℕ → Type 0 = λ n. EndsProof c.at_end.result (binary_at_end so_far.0 n End) in subst P number (c.at_end.ensures.value so_far.0 so_far.2) in
     Between-end _ _ _ _ _ so_far.1 c.in-Ok-None.ensures.look c.at_end.result (search rules) (search rules) ends
 
 pub loop-byte-preserved : goal.loop-byte-preserved

@@ -11,14 +11,14 @@ loop-number-init g c =
     Checking-start c.args.trace (record { stream = g.R.StepReader.stream c.args.reader.now; to_come = g.R.StepReader.to_come c.args.reader.now }) (g.S.ProofSession.shown c.args.session.now) c.args.lines.now
     c.requires.whole c.requires.sound c.requires.finite c.requires.least
 
-pub returns-in-Err-take_step-clause-report : goal.returns-in-Err-take_step-clause-report
-returns-in-Err-take_step-clause-report g c =
+pub returns-in-Some-clause-report : goal.returns-in-Some-clause-report
+returns-in-Some-clause-report g c =
     let counts : c.saturating_add-number.result ≡ counted (c.loop-number.invariant.count + 1) = omega (arith, c.loop-number.invariant.counts, c.saturating_add-number.ensures) in
     let start : Standing = record { stream = g.R.StepReader.stream c.args.reader.now; to_come = g.R.StepReader.to_come c.args.reader.now } in
     let now : Standing = record { stream = g.R.StepReader.stream c.loop-number.reader; to_come = g.R.StepReader.to_come c.loop-number.reader } in
     let new : Standing = record { stream = g.R.StepReader.stream c.next.new.self; to_come = g.R.StepReader.to_come c.next.new.self } in
     Checking-stop c.args.trace start now new _ _ _ _ _ c.loop-number.invariant c.saturating_add-number.result counts c.next.new.step (step_told now new _ (Ok true) _ c.next.ensures.step (search rules))
-    c.in-Err-take_step.status c.take_step.new.lines c.in-Err-take_step.ensures.stops
+    c.in-Some.status c.take_step.new.lines c.in-Some.ensures.stops
 
 pub loop-number-preserved : goal.loop-number-preserved
 loop-number-preserved g c =

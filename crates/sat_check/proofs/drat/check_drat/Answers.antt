@@ -1,7 +1,7 @@
 -- Want of memory, or the check in the form that was asked for.
 use Rattle.std.proofs.Common.{refl, sym, ap, ◌∙◌, rules}
-use Rattle.proofs.specs.Binary.{binary_steps, to_come as binary_to_come}
-use Rattle.proofs.specs.Drat.{drat_steps, to_come}
+use Rattle.proofs.specs.Binary.{binary_steps, binary_to_come}
+use Rattle.proofs.specs.Drat.{drat_steps, drat_to_come}
 use Rattle.sat_check.specs.Report.{drat_proof, rules_of}
 use Rattle.steps.specs.Theory.Rules.{drat}
 use Rattle.sat_check.proofs.LoadLemmas.{drat_unused}
@@ -33,5 +33,5 @@ pub returns-clause-report : goal.returns-clause-report
 returns-clause-report g c =
     reports_as (drat c.new-session.result.rules) (drat (rules_of c.args.options)) c.args.options.trace drat_steps (drat_proof c.args.options.binary) _ _ _ _ c.check-status-else-options.result c.args.lines.now c.check-status-else-options.new.lines (ap (λ s. drat s.rules) c.new-session.ensures ∙ ap drat c.rules.ensures)
     (λ j. ap (λ b. drat_proof b j) (sym c.if-options.false))
-    (reports_run (drat c.new-session.result.rules) c.args.options.trace to_come drat_steps _ _ _ _ c.over-else-options.result _ _ c.check-status-else-options.result c.args.lines.now c.check-status-else-options.new.lines c.over-else-options.ensures (search rules) (λ j. refl)
+    (reports_run (drat c.new-session.result.rules) c.args.options.trace drat_to_come drat_steps _ _ _ _ c.over-else-options.result _ _ c.check-status-else-options.result c.args.lines.now c.check-status-else-options.new.lines c.over-else-options.ensures (search rules) (λ j. refl)
     c.new-reader-else-options.result c.new-reader-else-options.ensures c.check-status-else-options.ensures.report.0 c.check-status-else-options.ensures.report.1)

@@ -1,6 +1,6 @@
 -- Want of memory, or the check.
 use Rattle.std.proofs.Common.{refl, rules}
-use Rattle.proofs.specs.Lrat.{lrat_steps, to_come}
+use Rattle.proofs.specs.Lrat.{lrat_steps, lrat_to_come}
 use Rattle.steps.specs.Theory.Rules.{lrat}
 use Rattle.sat_check.proofs.LoadLemmas.{lrat_unused}
 use Rattle.sat_check.proofs.CheckLemmas.{reports_nothing, reports_run}
@@ -19,5 +19,5 @@ check-status-requires-clause-unused g c = lrat_unused c.in-Ok.session c.in-Ok.en
 
 pub returns-clause-report : goal.returns-clause-report
 returns-clause-report g c =
-    reports_run lrat c.args.trace to_come lrat_steps _ _ _ _ c.over.result _ _ c.check-status.result c.args.lines.now c.check-status.new.lines c.over.ensures (search rules) (λ j. refl)
+    reports_run lrat c.args.trace lrat_to_come lrat_steps _ _ _ _ c.over.result _ _ c.check-status.result c.args.lines.now c.check-status.new.lines c.over.ensures (search rules) (λ j. refl)
     c.new-reader.result c.new-reader.ensures c.check-status.ensures.report.0 c.check-status.ensures.report.1

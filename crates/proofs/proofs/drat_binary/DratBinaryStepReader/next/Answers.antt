@@ -1,9 +1,9 @@
 -- An answer that is kept.
 use Rattle.std.proofs.Common.{rules}
-use Rattle.proofs.specs.Binary.{steps_at}
+use Rattle.proofs.specs.Binary.{binary_steps_at}
 use Rattle.proofs.proofs.TextLemmas.{Kept-step}
 use Rattle.proofs.proofs.drat_binary.DratBinaryStepReader.next.Goals as goal
 
 pub returns-in-Some-clause-step : goal.returns-in-Some-clause-step
 returns-in-Some-clause-step g c =
-    Kept-step _ _ (λ i. steps_at c.args.self.now.stream.byte_no i) c.in-Some.answer c.args.step.now (search rules) (search rules)
+    Kept-step _ _ (λ i. binary_steps_at c.args.self.now.stream.byte_no i) c.in-Some.answer c.args.step.now (search rules) (search rules)

@@ -1,10 +1,10 @@
-use Rattle.std.proofs.Common.{[], subst}
+use Rattle.std.proofs.Common.{subst}
 use Rattle.std.specs.FinMap as maps
-use Rattle.std.proofs.lemmas.Result.{IfOk-weaker}
 use Rattle.cnf_base.specs.Literals.{complements}
-use Rattle.steps.specs.Lrat.{chain, units_of, groups_of, groups_refusal, AnswersGroups, AnswersChain}
+use Rattle.steps.specs.Lrat.{chain, units_of, groups_of}
 use Rattle.steps.specs.Lrat.Walk.{IsEnd}
 use Rattle.steps.proofs.LratLemmas.Starts.{answers_open, first_is}
+use Rattle.steps.proofs.LratLemmas.Ending.{unless_map}
 use Rattle.steps.proofs.lrat.addition.judge_addition.Goals as goal
 
 pub returns-in-Some-clause-answer : goal.returns-in-Some-clause-answer
@@ -18,5 +18,4 @@ returns-in-Some-clause-answer c =
     let end = chain live (complements clause) (units_of hints) in
     let split = first_is clause pivot c.in-Some.ensures.value in
     let is_end = subst (λ w. IsEnd trues w end) c.in-Open.is c.walk_units.ensures.end in
-    IfOk-weaker c.judge_candidates.result (AnswersGroups live trues pivot groups (groups_refusal live trues pivot [] groups)) (AnswersChain live clause groups end)
-    (λ answer a. answers_open live trues pivot split.0 clause groups end answer split.1 is_end a) c.judge_candidates.ensures.answer
+    unless_map c.judge_candidates.result (answers_open live trues pivot split.0 clause groups end c.judge_candidates.result split.1 is_end) c.judge_candidates.ensures.answer

@@ -1,10 +1,10 @@
 use Rattle.std.proofs.Common.{◌≡◌, ◌≤◌, None, [], ◌∷◌, ◌++◌, length, ◌||◌, ◌&&◌, eqb, ap, sym, ◌∙◌, subst, arith, rules}
 use Rattle.std.proofs.lemmas.Grind.{common_steps}
-use Rattle.cnf_base.specs.Literals.{has}
+use Rattle.cnf_base.specs.Literals.{has, variable}
 use Rattle.std.proofs.lemmas.List.{length-append}
 use Rattle.clause_db.specs.Store.Table.{at}
 use Rattle.clause_db.specs.Propagation.Places.{IsPlaced}
-use Rattle.clause_db.specs.Propagation.Trail.{variable, is_variable}
+use Rattle.clause_db.specs.Propagation.Trail.{is_variable}
 use Rattle.clause_db.proofs.PropagationLemmas.Places.{placed_reserved, placed_same}
 use Rattle.clause_db.proofs.PropagationLemmas.Met.{met_already, met_none}
 use Rattle.clause_db.proofs.propagation.trail.Trail.reserve.Goals as goal

@@ -1,9 +1,8 @@
 use Rattle.std.proofs.Common.{[], ◌∷◌, ◌++◌, ap, sym, ◌∙◌, arith, is_some}
 use Rattle.std.proofs.lemmas.Bool.{true≢false}
 use Rattle.std.proofs.lemmas.List.{get_or_read}
-use Rattle.cnf_base.specs.Literals.{has}
+use Rattle.cnf_base.specs.Literals.{has, variable}
 use Rattle.clause_db.specs.Store.Table.{at}
-use Rattle.clause_db.specs.Propagation.Trail.{variable}
 use Rattle.clause_db.proofs.PropagationLemmas.Places.{place_low, place_past, front_low, is_set}
 use Rattle.clause_db.proofs.PropagationLemmas.Met.{unmet_variable}
 use Rattle.clause_db.proofs.propagation.trail.Trail.set.Goals as goal
