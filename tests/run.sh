@@ -1,7 +1,7 @@
 #!/usr/bin/env bash
 # All tests: the gate (every proof from nothing, the must-fail edits, the crates' tests and the programs' stored runs), then
-# the control of the edits that try the clauses on models alone, and then the programs as users run them. The last line is
-# "N passed, M failed" over all.
+# the control of the edits that try the clauses on models alone, then the programs as users run them, and then counts of
+# allocations. The last line is "N passed, M failed" over all.
 #
 # RT names the command rt, where it isn't on the PATH.
 set -uo pipefail
@@ -48,6 +48,10 @@ fi
 
 echo "== tests/programs.sh"
 LRAT_CHECK=$lrat_check DRAT_FORWARD=$drat_forward MODEL_CHECK=$model_check tests/programs.sh 2>&1 | tee "$log"
+count "${PIPESTATUS[0]}"
+
+echo "== tests/allocations.py"
+DRAT_FORWARD=$drat_forward python3 tests/allocations.py 2>&1 | tee "$log"
 count "${PIPESTATUS[0]}"
 
 echo "$passed passed, $failed failed"

@@ -14,8 +14,8 @@ pub(crate) mod value;
 ghost use Rattle.std.specs.Prelude.{◌≡◌, ◌≢◌, [], ◌≤◌, ◌<◌, ◌∷◌, ℕ, min, not, ◌==◌, length, Some, None, List, IsTrue, IsSome, IfSome, IfNone, IfOk, OnErr};
 ghost use Rattle.std.specs.FinMap as maps;
 ghost use Rattle.cnf_base.specs.Literals.{Clause, same_clause, complements};
-ghost use Rattle.clause_db.specs.Store.Clauses.{size, literals_in};
-ghost use Rattle.clause_db.specs.Propagation.Assumptions.{Propagation, Assumption, Assuming, AssumingPart, HasAt, LastIsAnswered, IsValue, MayAssume, assumed_by};
+ghost use Rattle.clause_db.specs.Store.Clauses.{size};
+ghost use Rattle.clause_db.specs.Propagation.Assumptions.{Propagation, Assumption, Assuming, AssumingPart, HoldsLiveAlone, HasAt, LastIsAnswered, IsValue, MayAssume, assumed_by};
 ghost use Rattle.clause_db.specs.declared.propagation.answer.Answer.TheVariants.{Quiet};
 
 use crate::{Answer, Slot, Value};
@@ -25,7 +25,7 @@ use cnf_base::{Lit, OutOfMemory};
 ///
 /// At most two assumptions stand, the second on the first. One that adds no literal stands too.
 pub trait Propagate {
-    /// The live clauses, the assumptions that stand, how much is stored, and whether an assumption was refused.
+    /// The live clauses, the assumptions that stand, how many literals are kept, and whether an assumption was refused.
     ghost state: { Self → Propagation };
 
     /// Stores a clause in a slot that is free, where nothing is assumed. It fails only where memory is refused.
@@ -37,6 +37,7 @@ pub trait Propagate {
         ensures others { IfOk result (λ slot. (s : ℕ) → s ≢ slot →
             maps.get (state self.new).live s ≡ maps.get (state self.old).live s) }
         ensures nothing_assumed { (state self.new).assumptions ≡ [] }
+        ensures live_alone { HoldsLiveAlone (state self.new) }
         ensures refused { (state self.new).has_refused ≡ (state self.old).has_refused }
         ensures err { OnErr result (state self.new ≡ state self.old) };
 
@@ -45,6 +46,7 @@ pub trait Propagate {
         requires alive { IsSome (maps.get (state self.old).live slot) }
         requires nothing_assumed { (state self.old).assumptions ≡ [] }
         ensures live { (state self.new).live ≡ maps.remove (state self.old).live slot }
+        ensures live_alone { HoldsLiveAlone (state self.new) }
         ensures nothing_assumed { (state self.new).assumptions ≡ [] }
         ensures refused { (state self.new).has_refused ≡ (state self.old).has_refused };
 
@@ -67,7 +69,7 @@ pub trait Propagate {
     /// greater. It takes no memory.
     fn literals(&self) -> u64
         ensures value { result ≡ min (state self.now).stored 18446744073709551615 }
-        ensures live_alone { (state self.now).stored ≡ literals_in (state self.now).live };
+        ensures live_alone { HoldsLiveAlone (state self.now) };
 
     /// The first slot from this one on whose clause has the literal, if there is one. It takes no memory.
     fn next_with(&self, l: Lit, from: Slot) -> Option<Slot>
@@ -106,6 +108,7 @@ pub trait Propagate {
         ensures assumptions { (last : Assumption) (rest : List Assumption) →
             (state self.old).assumptions ≡ last ∷ rest → (state self.new).assumptions ≡ rest }
         ensures live { (state self.new).live ≡ (state self.old).live }
+        ensures live_alone { HoldsLiveAlone (state self.new) }
         ensures refused { (state self.new).has_refused ≡ (state self.old).has_refused };
 
     /// What propagation says of a literal, after an assumption that was quiet. It takes no memory.

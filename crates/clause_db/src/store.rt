@@ -40,7 +40,7 @@ use std::marker::Model;
 
 /// The live clauses of a proof checker, each in a slot that the store picks.
 ///
-/// Contracts see it as a finite map from the numbers of the slots to the clauses.
+/// Contracts see it as a finite map from the numbers of the slots to the clauses, and the number of literals that it keeps.
 /// A clause is the set of its literals: the store keeps each literal once, in an order that it picks.
 #[derive(Drop)]
 pub struct Store {
@@ -52,20 +52,19 @@ pub struct Store {
 }
 
 impl Model for Store {
-    ghost use Rattle.std.specs.Ordering.{nat_cmp};
-    ghost use Rattle.std.specs.FinMap as maps;
-    ghost use Rattle.std.specs.FinMap.{FinMap};
-    ghost use Rattle.std.specs.Coded.{coded_ℕ, coded_list};
-    ghost use Rattle.cnf_base.specs.Literals.{Clause};
-
-    ghost Value = { FinMap nat_cmp Clause };
-
-    ghost coded = { maps.code coded_ℕ (coded_list coded_ℕ) };
-
-    ghost use Rattle.clause_db.specs.Store.Entries.{clauses_in};
+    ghost use Rattle.clause_db.specs.Store.Clauses.{StoreState, store_code};
+    ghost use Rattle.clause_db.specs.Store.Entries.{clauses_in, literals_kept};
     ghost use Rattle.clause_db.specs.Store.Fields.{IsStore};
 
-    ghost view = { λ s. clauses_in s.entries };
+    ghost Value = { StoreState };
+
+    ghost coded = { store_code };
+
+    // Of its fields the entries alone have lists of literals.
+    ghost view = { λ s. record {
+      live = clauses_in s.entries;
+      stored = literals_kept s.entries;
+    } };
 
     ghost invariant = { λ s. IsStore s.entries s.index s.marks s.sum };
 }
@@ -99,7 +98,7 @@ fn make_room(
 impl Store {
     /// No clauses.
     pub fn new(alloc: Global) -> Result<Self, OutOfMemory>
-        ensures { IfOk result (λ s. s ≡ maps.empty) }
+        ensures { IfOk result (λ s. s ≡ record { live = maps.empty; stored = 0 }) }
     {
         Ok(Store {
             alloc,
@@ -112,11 +111,12 @@ impl Store {
 
     /// Stores a clause in a slot that is free, and fails only where memory is refused. A repeated literal is kept once.
     pub fn insert(&mut self, lits: &[Lit]) -> Result<Slot, OutOfMemory>
-        ensures free { IfOk result (λ slot. maps.get self.old slot ≡ None) }
-        ensures stored { IfOk result (λ slot. (c : Clause) × (maps.get self.new slot ≡ Some c) ×
+        ensures free { IfOk result (λ slot. maps.get self.old.live slot ≡ None) }
+        ensures stored { IfOk result (λ slot. (c : Clause) × (maps.get self.new.live slot ≡ Some c) ×
             IsTrue (same_clause c lits.now)) }
         ensures others { IfOk result (λ slot. (s : ℕ) → s ≢ slot →
-            maps.get self.new s ≡ maps.get self.old s) }
+            maps.get self.new.live s ≡ maps.get self.old.live s) }
+        ensures live_alone { self.new.stored ≡ literals_in self.new.live }
         ensures err { OnErr result (self.new ≡ self.old) }
     {
         reserve_all(&mut self.marks, lits)?;
@@ -137,8 +137,9 @@ impl Store {
 
     /// Takes the clause out of its slot. Other copies of it stay.
     pub fn remove(&mut self, slot: Slot)
-        requires { IsSome (maps.get self.old slot) }
-        ensures { self.new ≡ maps.remove self.old slot }
+        requires { IsSome (maps.get self.old.live slot) }
+        ensures live { self.new.live ≡ maps.remove self.old.live slot }
+        ensures live_alone { self.new.stored ≡ literals_in self.new.live }
     {
         let entry = self.entries.remove(slot.number());
         let lits = entry.lits.as_slice();
@@ -150,9 +151,9 @@ impl Store {
 
     /// A slot with the same clause as a set, if there is one. It takes no memory.
     pub fn find(&mut self, lits: &[Lit]) -> Option<Slot>
-        ensures found { IfSome result (λ slot. (c : Clause) × (maps.get self.old slot ≡ Some c) ×
+        ensures found { IfSome result (λ slot. (c : Clause) × (maps.get self.old.live slot ≡ Some c) ×
             IsTrue (same_clause c lits.now)) }
-        ensures none { IfNone result ((s : ℕ) (c : Clause) → maps.get self.old s ≡ Some c →
+        ensures none { IfNone result ((s : ℕ) (c : Clause) → maps.get self.old.live s ≡ Some c →
             IsTrue (same_clause c lits.now) → ⊥) }
         ensures same { self.new ≡ self.old }
     {
@@ -170,8 +171,8 @@ impl Store {
 
     /// The literals of the clause in the slot, in the order of the store.
     pub fn clause(&self, slot: Slot) -> &[Lit]
-        requires { IsSome (maps.get self.now slot) }
-        ensures clause { Some result.now ≡ maps.get self.now slot }
+        requires { IsSome (maps.get self.now.live slot) }
+        ensures clause { Some result.now ≡ maps.get self.now.live slot }
         ensures different { length result.now ≡ size result.now }
     {
         let entry = &self.entries[slot.number()];
@@ -180,14 +181,14 @@ impl Store {
 
     /// No slot from this number on has a clause.
     pub(crate) fn end(&self) -> usize
-        ensures { (s : ℕ) → IsSome (maps.get self.now s) → s < result }
+        ensures { (s : ℕ) → IsSome (maps.get self.now.live s) → s < result }
     {
         self.entries.capacity()
     }
 
     /// The clause in the slot with this number, if there is one.
     pub(crate) fn at(&self, number: usize) -> Option<&[Lit]>
-        ensures { option_map (λ c. c.now) result ≡ maps.get self.now number }
+        ensures { option_map (λ c. c.now) result ≡ maps.get self.now.live number }
     {
         match self.entries.get(number) {
             Some(entry) => Some(entry.lits.as_slice()),
@@ -197,14 +198,15 @@ impl Store {
 
     /// The sum of the lengths of the lists of literals that it keeps, which is that of the sizes of the clauses; `2^64 - 1` where it is greater.
     pub fn literals(&self) -> u64
-        ensures { result ≡ min (literals_in self.now) 18446744073709551615 }
+        ensures value { result ≡ min self.now.stored 18446744073709551615 }
+        ensures live_alone { self.now.stored ≡ literals_in self.now.live }
     {
         self.sum.min(18446744073709551615) as u64
     }
 
     /// How many of the clauses have the literal.
     pub fn count_with(&self, l: Lit) -> u64
-        ensures { result ≡ copies_with self.now l }
+        ensures { result ≡ copies_with self.now.live l }
     {
         match self.marks.get(key(l)) {
             Some(mark) => mark.count,

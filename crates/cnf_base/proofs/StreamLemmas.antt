@@ -4,7 +4,7 @@ use Rattle.std.specs.Prelude.{slice_range, slice_index}
 use Rattle.std.specs.Io.KnownBytes.{Consumes, Keeps, IsAtEnd}
 use Rattle.std.proofs.KnownBytes.{Consumes-nil, Consumes-trans, Consumes-kept}
 use Rattle.std.proofs.lemmas.Grind.{common_steps}
-use Rattle.cnf_base.specs.Stream.{Input, Reader, Stream, MayGive, MayFollow, MayCome, Meets, Moves, Along, IsLook, bumped, most_to_come, preceded}
+use Rattle.cnf_base.specs.Stream.{Input, Reader, Stream, MayGive, MayFollow, MayCome, Meets, Moves, Along, IsLook, bumped, bytes_read, most_to_come, preceded}
 use Rattle.cnf_base.specs.declared.input.Ending.{Ending}
 use Rattle.cnf_base.specs.declared.input.Ending.TheVariants.{End, Failed}
 
@@ -159,6 +159,24 @@ Along-then a b c P Q R first second joined = record {
   where
     whole : (k : Input) → preceded (first.taken ++ second.taken) k ≡ preceded first.taken (preceded second.taken k)
     whole k = ap (λ t. record { bytes = t; ending = k.ending }) (append_assoc first.taken second.taken k.bytes)
+
+-- A run that began with no more than 65536 bytes ahead has read no more than so many past what it took.
+pub Along-within : (old new : Stream) (P : Input → Input → Type 0) → length old.ahead ≤ 65536 → Along old new P
+    → Along old new (λ i j. P i j × (bytes_read old.reader new.reader + length j.bytes ≤ length i.bytes + 65536))
+Along-within old new P few run = record {
+  bytes = run.bytes;
+  taken = run.taken;
+  moves = run.moves;
+  fact = λ j m. (run.fact j m, within j);
+}
+  where
+    within : (j : Input) → bytes_read old.reader new.reader + length j.bytes ≤ length (run.taken ++ j.bytes) + 65536
+    within j =
+        let whole : length old.ahead + length run.bytes ≡ length run.taken + length new.ahead =
+        sym (length-append old.ahead run.bytes) ∙ ap length run.moves.whole ∙ length-append run.taken new.ahead in
+        let all = length-append run.taken j.bytes in
+        let ahead = run.moves.ahead few in
+        omega (arith, whole, all, ahead, run.moves.count)
 
 -- a run of no call at all
 pub Along-none : (s : Stream) → Along s s (λ i j. i ≡ j)

@@ -18,6 +18,10 @@ pub record Reader : Type 0 where
   pub has_failed : Bool
   pub most_left : ℕ
 
+-- how many bytes were read of a reader
+abbrev pub bytes_read : Reader → Reader → ℕ
+bytes_read old new = old.most_left - new.most_left
+
 -- a source: the bytes that were read and not yet taken, the end where it was met, its reader, by which borrows that is
 -- known again, and where the next byte is
 pub record Stream : Type 0 where

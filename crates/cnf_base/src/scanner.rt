@@ -23,7 +23,8 @@ impl<R: In> Model for Scanner<R> {
 
     ghost Value = { Stream };
 
-    ghost view = { λ s. s.source };
+    // Each field has to be named here: from call to call a scanner holds nothing beside its source.
+    ghost view = { λ record { source = source }. source };
 }
 
 impl<R: In> Scanner<R> {

@@ -8,13 +8,15 @@ use Rattle.cnf_base.specs.declared.fault.Fault.TheVariants.{OutOfMemory}
 use Rattle.dimacs.specs.Formula.{Body, body_of, faulty_body, whole, with_first_clause, Formula}
 use Rattle.dimacs.specs.declared.header.Header.{Header}
 
--- a reader of a formula: where it stands in its input, the header, how many clauses were given, and the answer that it
--- gives from now on where it has come to an end
+-- a reader of a formula: where it stands in its input, the header, how many clauses were given, the answer that it
+-- gives from now on where it has come to an end, and how many literals it keeps of what it has read: the sum of the
+-- lengths of all lists of literals in its own fields
 pub record FormulaReading : Type 0 where
   pub stream : Stream
   pub header : Header
   pub complete : ℕ
   pub kept : Option (Result Bool Fault)
+  pub stored : ℕ
 
 -- after an end nothing else is to come
 abbrev pub body_unless_ended : Option (Result Bool Fault) → Body → Body

@@ -23,22 +23,32 @@ pub struct FormulaReader<R: In> {
 }
 
 impl<R: In> Model for FormulaReader<R> {
-    ghost use Rattle.std.specs.Prelude.{◌≡◌, ◌≤◌, Some, Ok, Err, true};
+    ghost use Rattle.std.specs.Prelude.{◌≡◌, ◌≤◌, [], Some, Ok, Err, true};
+    ghost use Rattle.std.specs.List.{sum};
     ghost use Rattle.cnf_base.specs.declared.fault.Fault.TheVariants.{ReadFailed};
     ghost use Rattle.dimacs.specs.Reading.{FormulaReading};
 
     ghost Value = { FormulaReading };
 
-    ghost view = { λ r. record {
-      stream = r.scanner;
-      header = r.header;
-      complete = r.complete;
-      kept = r.kept;
+    // Each field has to be named here. `stored` is the sum of the lengths of those that are lists
+    // of literals: no field is a list.
+    ghost view = { λ record {
+      scanner = scanner;
+      header = header;
+      complete = complete;
+      kept = kept;
+    }. record {
+      stream = scanner;
+      header = header;
+      complete = complete;
+      kept = kept;
+      stored = sum [];
     } };
 
     ghost invariant = { λ r. (r.header.vars ≤ 268435455) × (r.complete ≤ r.header.clauses)
         × (r.kept ≡ Some (Ok true) → ⊥)
-        × (r.kept ≡ Some (Err ReadFailed) → r.scanner.reader.has_failed ≡ true) };
+        × (r.kept ≡ Some (Err ReadFailed) → r.scanner.reader.has_failed ≡ true)
+        × ((view r).stored ≡ 0) };
 }
 
 impl<R: In> FormulaReader<R> {
@@ -48,6 +58,7 @@ impl<R: In> FormulaReader<R> {
         ensures opened { IfOk result (λ r. Along source r.stream
             (λ i j. formula_at source.place i ≡ opened r.header (clauses_to_come r j))) }
         ensures started { IfOk result (λ r. (r.complete ≡ 0) × (r.kept ≡ None)) }
+        ensures stored { IfOk result (λ r. r.stored ≡ 0) }
         ensures fewer { IfOk result (λ r. most_to_come r.stream ≤ most_to_come source) }
         ensures mark { IfOk result (λ r. r.stream.reader.has_failed ≡ source.reader.has_failed) }
 
@@ -103,6 +114,7 @@ impl<R: In> FormulaReader<R> {
         ensures stays { (answer : Result Bool Fault) → self.old.kept ≡ Some answer →
             (result ≡ answer) × (self.new ≡ self.old) }
         ensures keeps { Keeps result self.new.kept }
+        ensures stored { self.new.stored ≡ 0 }
         ensures fewer { Advances result self.old.stream self.new.stream }
         ensures tells { TellsOf result self.old.stream.reader.has_failed
             self.new.stream.reader.has_failed }

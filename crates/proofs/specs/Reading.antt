@@ -30,10 +30,12 @@ proof_unless_ended None p = p
 proof_unless_ended (Some (Ok _)) p = clean
 proof_unless_ended (Some (Err f)) p = faulty_proof f
 
--- where a reader stands in its input, and the answer that it gives from now on where it has come to an end
+-- where a reader stands in its input, the answer that it gives from now on where it has come to an end, and how many
+-- literals and hints it keeps of what it has read
 pub record ProofReading : Type 0 where
   pub stream : Stream
   pub kept : Option (Result Bool Fault)
+  pub stored : ℕ
 
 -- a step is no end, and of a failed read that ended it the reader below tells
 abbrev pub EndsRightly : ProofReading → Type 0

@@ -30,19 +30,27 @@ pub struct DratBinary<R: In> {
 }
 
 impl<R: In> Model for DratBinary<R> {
+    ghost use Rattle.std.specs.Prelude.{◌≡◌, []};
+    ghost use Rattle.std.specs.List.{sum};
     ghost use Rattle.proofs.specs.Reading.{ProofReading, EndsRightly};
 
     ghost Value = { ProofReading };
 
-    ghost view = { λ r. record { stream = r.source; kept = r.kept } };
+    // Each field has to be named here. `stored` is the sum of the lengths of those that are lists
+    // of literals or hints: no field is a list.
+    ghost view = { λ record { source = source; kept = kept }. record {
+      stream = source;
+      kept = kept;
+      stored = sum [];
+    } };
 
-    ghost invariant = { λ r. EndsRightly (record { stream = r.source; kept = r.kept }) };
+    ghost invariant = { λ r. EndsRightly (view r) × ((view r).stored ≡ 0) };
 }
 
 impl<R: In> DratBinary<R> {
     /// A reader that stands where the source does. It reads nothing and takes no memory.
     pub fn new(source: Source<R>) -> Self
-        ensures { result ≡ record { stream = source; kept = None } }
+        ensures { result ≡ record { stream = source; kept = None; stored = 0 } }
     {
         DratBinary { source, kept: None }
     }
@@ -60,6 +68,8 @@ impl<R: In> StepReader for DratBinary<R> {
     ghost stream = { λ r. r.stream };
 
     ghost kept = { λ r. r.kept };
+
+    ghost stored = { λ r. r.stored };
 
     ghost to_come = { binary_to_come };
 

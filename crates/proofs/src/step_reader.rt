@@ -1,6 +1,6 @@
 //! What every reader of proofs does.
 
-ghost use Rattle.std.specs.Prelude.{◌≡◌, Bool, Option, Result};
+ghost use Rattle.std.specs.Prelude.{◌≡◌, ℕ, Bool, Option, Result};
 ghost use Rattle.cnf_base.specs.Stream.{Input, Stream, Along};
 ghost use Rattle.cnf_base.specs.Readers.{Advances, Keeps, TellsOf};
 ghost use Rattle.cnf_base.specs.declared.fault.Fault.{Fault};
@@ -17,6 +17,10 @@ pub trait StepReader {
     /// The answer that it gives from now on, where it has come to an end: false, or its fault.
     ghost kept: { Self → Option (Result Bool Fault) };
 
+    /// How many literals and hints it keeps of what it has read: the sum of the lengths of all lists
+    /// of literals or hints in its own fields.
+    ghost stored: { Self → ℕ };
+
     /// What is still to come of an input: steps, and how they end.
     ghost to_come: { Self → Input → Proof };
 
@@ -28,6 +32,7 @@ pub trait StepReader {
         ensures stays { (answer : Result Bool Fault) → kept self.old ≡ Some answer →
             (result ≡ answer) × (self.new ≡ self.old) }
         ensures keeps { Keeps result (kept self.new) }
+        ensures stored { stored self.new ≡ 0 }
         ensures fewer { Advances result (stream self.old) (stream self.new) }
         ensures tells { TellsOf result (stream self.old).reader.has_failed
             (stream self.new).reader.has_failed };

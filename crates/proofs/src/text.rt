@@ -56,19 +56,27 @@ pub struct Text<R: In, P: Part> {
 }
 
 impl<R: In, P: Part> Model for Text<R, P> {
+    ghost use Rattle.std.specs.Prelude.{◌≡◌, []};
+    ghost use Rattle.std.specs.List.{sum};
     ghost use Rattle.proofs.specs.Reading.{ProofReading, EndsRightly};
 
     ghost Value = { ProofReading };
 
-    ghost view = { λ r. record { stream = r.scanner; kept = r.kept } };
+    // Each field has to be named here. `stored` is the sum of the lengths of those that are lists
+    // of literals or hints: no field is a list.
+    ghost view = { λ record { scanner = scanner; kept = kept; parts = _ }. record {
+      stream = scanner;
+      kept = kept;
+      stored = sum [];
+    } };
 
-    ghost invariant = { λ r. EndsRightly (record { stream = r.scanner; kept = r.kept }) };
+    ghost invariant = { λ r. EndsRightly (view r) × ((view r).stored ≡ 0) };
 }
 
 impl<R: In, P: Part> Text<R, P> {
     /// A reader that stands where the source does. It reads nothing and takes no memory.
     pub fn new(source: Source<R>) -> Self
-        ensures { result ≡ record { stream = source; kept = None } }
+        ensures { result ≡ record { stream = source; kept = None; stored = 0 } }
     {
         Text {
             scanner: Scanner::new(source),
@@ -90,6 +98,8 @@ impl<R: In, P: Part> StepReader for Text<R, P> {
     ghost stream = { λ r. r.stream };
 
     ghost kept = { λ r. r.kept };
+
+    ghost stored = { λ r. r.stored };
 
     ghost to_come = { left_to P.format };
 

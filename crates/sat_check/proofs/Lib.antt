@@ -4,6 +4,7 @@ pub mod JudgeLemmas
 pub mod LoadLemmas
 pub mod ModelLemmas
 pub mod OutcomeLemmas
+pub mod ReachLemmas
 pub mod ReadLemmas
 pub mod ReportLemmas
 pub mod RestLemmas

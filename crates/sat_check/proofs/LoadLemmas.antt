@@ -102,9 +102,9 @@ loaded_more rule old new cs c l state verified peak unstepped sound room = recor
         (same_trans _ (with_input (start rule cs) c) _ (input_same old.state (start rule cs) c l.state) (start_push rule cs c))
 
 -- a session that is new
-pub lrat_unused : (s : Session) → s ≡ fresh_lrat → IsLoaded lrat (record { state = by_ids (state_of s); has_stepped = s.has_stepped; is_verified = s.is_verified; is_ended = s.is_ended; peak = s.peak; room = 4294967295 - s.top }) []
+pub lrat_unused : (s : Session) → s ≡ fresh_lrat → IsLoaded lrat (record { state = by_ids (state_of s); has_stepped = s.has_stepped; is_verified = s.is_verified; is_ended = s.is_ended; peak = s.peak; stored = s.stored; room = 4294967295 - s.top }) []
 lrat_unused s is =
-    let P : Session → Type 0 = λ s. IsLoaded lrat (record { state = by_ids (state_of s); has_stepped = s.has_stepped; is_verified = s.is_verified; is_ended = s.is_ended; peak = s.peak; room = 4294967295 - s.top }) [] in
+    let P : Session → Type 0 = λ s. IsLoaded lrat (record { state = by_ids (state_of s); has_stepped = s.has_stepped; is_verified = s.is_verified; is_ended = s.is_ended; peak = s.peak; stored = s.stored; room = 4294967295 - s.top }) [] in
     subst P (sym is) (record {
       state = (SameClauses-eq (state_of fresh_lrat).live (numbered []) fresh_is_numbered, refl);
       verified = refl;
@@ -117,9 +117,9 @@ lrat_unused s is =
 none_there : (live : FinMap nat_cmp Clause) → live ≡ maps.empty → (e : Clause) (k : ℕ) (c : Clause) → maps.get live k ≡ Some c → same_clause c e ≡ true → ⊥
 none_there live is e k c at same = absurd (none-some c (sym (ap (λ m. maps.get m k) is ∙ get-empty nat_cmp k) ∙ at))
 
-pub drat_unused : (rules : DratRules) (s : DratState) → s ≡ fresh_drat rules → IsLoaded (drat s.rules) (record { state = by_copies s.rules (clauses_of s); has_stepped = s.has_stepped; is_verified = s.is_verified; is_ended = s.is_ended; peak = s.peak; room = 4294967295 }) []
+pub drat_unused : (rules : DratRules) (s : DratState) → s ≡ fresh_drat rules → IsLoaded (drat s.rules) (record { state = by_copies s.rules (clauses_of s); has_stepped = s.has_stepped; is_verified = s.is_verified; is_ended = s.is_ended; peak = s.peak; stored = s.stored; room = 4294967295 }) []
 drat_unused rules s is =
-    let P : DratState → Type 0 = λ s. IsLoaded (drat s.rules) (record { state = by_copies s.rules (clauses_of s); has_stepped = s.has_stepped; is_verified = s.is_verified; is_ended = s.is_ended; peak = s.peak; room = 4294967295 }) [] in
+    let P : DratState → Type 0 = λ s. IsLoaded (drat s.rules) (record { state = by_copies s.rules (clauses_of s); has_stepped = s.has_stepped; is_verified = s.is_verified; is_ended = s.is_ended; peak = s.peak; stored = s.stored; room = 4294967295 }) [] in
     subst P (sym is) (record {
       state = (refl, record { copies = λ e. none_alive e (clauses_of (fresh_drat rules)) (none_listed (fresh_drat rules).live e (none_there (fresh_drat rules).live refl e)) });
       verified = refl;

@@ -1,7 +1,7 @@
 -- What status 0 and a written `s VERIFIED` mean.
 use Rattle.std.proofs.Common.{◌≡◌, ℕ, ◌+◌, Bool, Option, None, Some, List, length, refl, sym, ap, ◌∙◌, subst, slice_get, inl, inr}
 use Rattle.cnf_base.specs.Seen.{OfBothSeen}
-use Rattle.cnf_base.specs.Stream.{Input, Reader}
+use Rattle.cnf_base.specs.Stream.{Input, Reader, bytes_read}
 use Rattle.cnf_base.specs.declared.fault.Fault.{Fault}
 use Rattle.cnf_base.specs.declared.fault.Fault.TheVariants as faults
 use Rattle.cnf_base.specs.declared.fault.TextFault.{TextFault}
@@ -14,6 +14,7 @@ use Rattle.steps.specs.Theory.Rules.{Rule, start}
 use Rattle.steps.specs.Theory.Verdicts.{Ending, verified, refused, no_empty_clause, Verdict}
 use Rattle.steps.proofs.TheoryLemmas.Verdicts.{verdict_sound, verdict_unique}
 use Rattle.sat_check.specs.Lines.{fault_status, text_status}
+use Rattle.sat_check.specs.Reach.{ReadsNoFurther}
 use Rattle.sat_check.specs.Report.{Report, Outcome, ReportsFormula, ProofReport, Verifies, Reports, ChecksProof, IsUnlessBroken, bare_steps, peak_of, verdict_report}
 use Rattle.sat_check.specs.declared.status.Status.{Status}
 use Rattle.sat_check.specs.declared.status.Status.TheVariants.{Verified, NotVerified, Malformed, ReadFailed, OutOfMemory, WriteFailed, Usage}
@@ -98,8 +99,11 @@ checks_proof rule trace i p old new status x = record {
 
 -- and by all that was seen of the formula and of the proof
 pub both_check_proof : (rule : Rule) (trace : Bool) (steps : Input → Proof) (formula formula_new proof proof_new : Reader) (status : Status) (old new first last : Option (List ℕ)) → old ≡ first → new ≡ last
-    → OfBothSeen formula formula_new proof proof_new (λ i j. Reports rule trace i (steps j) old new status)
-    → OfBothSeen formula formula_new proof proof_new (λ i j. ChecksProof rule trace i (steps j) first last status)
+    → OfBothSeen formula formula_new proof proof_new (λ i j. Reports rule trace i (steps j) old new status
+    × ReadsNoFurther rule (formula_of i) j (steps j) (bytes_read proof proof_new) status)
+    → OfBothSeen formula formula_new proof proof_new (λ i j. ChecksProof rule trace i (steps j) first last status
+    × ReadsNoFurther rule (formula_of i) j (steps j) (bytes_read proof proof_new) status)
 both_check_proof rule trace steps formula formula_new proof proof_new status old new first last before after =
-    both_told formula formula_new proof proof_new (λ x y i j. Reports rule trace i (steps j) x y status) (λ i j. ChecksProof rule trace i (steps j) first last status) old new first last before after
-    (λ i j. checks_proof rule trace i (steps j) first last status)
+    both_told formula formula_new proof proof_new (λ x y i j. Reports rule trace i (steps j) x y status × ReadsNoFurther rule (formula_of i) j (steps j) (bytes_read proof proof_new) status)
+    (λ i j. ChecksProof rule trace i (steps j) first last status × ReadsNoFurther rule (formula_of i) j (steps j) (bytes_read proof proof_new) status) old new first last before after
+    (λ i j x. (checks_proof rule trace i (steps j) first last status x.0, x.1))

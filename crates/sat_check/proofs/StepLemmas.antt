@@ -1,5 +1,5 @@
 -- What a step that ends a check leaves of the report.
-use Rattle.std.proofs.Common.{◌≡◌, ℕ, ◌+◌, ◌≤◌, max, Bool, true, false, List, refl, sym, subst}
+use Rattle.std.proofs.Common.{◌≡◌, ℕ, ◌+◌, ◌≤◌, max, Bool, true, false, List, [], refl, sym, subst, inl}
 use Rattle.std.specs.Prelude.{Ok, Err}
 use Rattle.cnf_base.specs.Lines.{Sink, Writes}
 use Rattle.proofs.specs.Steps.{Step}
@@ -14,11 +14,13 @@ use Rattle.steps.specs.Theory.StepAnswer.{UnlessOutOfMemory}
 use Rattle.steps.specs.Theory.Verdicts.{is_last}
 use Rattle.sat_check.specs.Lines.{refusal_line, steps_line}
 use Rattle.sat_check.specs.Report.{Report, Outcome, concluded, with_lines, text_of}
-use Rattle.sat_check.specs.Checking.{Rest, Stops, traced, is_memory}
+use Rattle.sat_check.specs.Reach.{IsVerdict}
+use Rattle.sat_check.specs.Checking.{Rest, Stops, Decides, traced, is_memory}
 use Rattle.sat_check.specs.declared.subject.Subject.TheVariants as subjects
 use Rattle.sat_check.specs.declared.status.Status.{Status}
-use Rattle.sat_check.specs.declared.status.Status.TheVariants.{Verified, NotVerified}
+use Rattle.sat_check.specs.declared.status.Status.TheVariants.{Verified, NotVerified, Malformed}
 use Rattle.sat_check.proofs.OutcomeLemmas.{Outcome-after, Writes-all}
+use Rattle.sat_check.proofs.ReachLemmas.{no_verdict}
 use Rattle.sat_check.proofs.RestLemmas.{Rest-some, Rest-refused, Rest-verified, Rest-step}
 use Rattle.sat_check.proofs.ShownLemmas.{traced_same, refusal_same, steps_same}
 use Rattle.steps.proofs.TheoryLemmas.Existence.{after_finite, same_finite}
@@ -55,6 +57,15 @@ module _ (trace : Bool) (number : ℕ) (old : View) (step : Step) (was now : Sin
             Rest-refused trace old.state n old.peak step left p r (given r _ e answers),
             subst P (refusal_same number (n + 1) r is) (refused e),
           )
+
+  -- a refused step decides, if there was memory
+  pub Decides-refused : (status : Status) (r : Refusal) → (is_memory r ≡ true → (x : Report) → Outcome status was.held now.held x)
+      → UnlessOutOfMemory (Err r) (Answers old.state step (Err r)) → IsVerdict status → Decides old.state step
+  Decides-refused status r memory answers v = by (is_memory r) refl
+    where
+      by : (b : Bool) → is_memory r ≡ b → Decides old.state step
+      by true e = absurd (no_verdict status was.held now.held [] (memory e (record { lines = []; status = Malformed })) v)
+      by false e = inl (r, given r _ e answers)
 
   module _ (new : View) (word : Accepted) (answers : Answers old.state step (Ok word))
       (same : Same new.state (after old.state step word))

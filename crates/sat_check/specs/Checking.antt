@@ -1,22 +1,23 @@
 -- The parts of a check.
-use Rattle.std.specs.Prelude.{◌≡◌, ℕ, ◌+◌, ◌-◌, ◌^◌, ◌≤◌, min, max, if◌then◌else◌, Bool, true, false, List, [], ◌∷◌, length, None, Some, Result, Ok, Err}
+use Rattle.std.specs.Prelude.{◌≡◌, ◌⊎◌, ℕ, ◌+◌, ◌-◌, ◌^◌, ◌≤◌, min, max, if◌then◌else◌, Bool, true, false, List, [], ◌∷◌, length, Option, None, Some, Result, Ok, Err}
 use Rattle.std.specs.List.{list_any}
 use Rattle.cnf_base.specs.Literals.{Clause}
 use Rattle.cnf_base.specs.Lines.{Sink, Writes}
-use Rattle.cnf_base.specs.Stream.{Input, Stream}
+use Rattle.cnf_base.specs.Stream.{Input, Reader, Stream}
 use Rattle.cnf_base.specs.declared.fault.Fault.{Fault}
 use Rattle.cnf_base.specs.declared.fault.Fault.TheVariants.{OutOfMemory}
 use Rattle.dimacs.specs.Formula.{Body, Formula}
 use Rattle.dimacs.specs.declared.header.Header.{Header}
 use Rattle.proofs.specs.Steps.{Step}
-use Rattle.proofs.specs.Reading.{Proof, with_step}
+use Rattle.proofs.specs.Reading.{PlacedStep, Proof, with_step}
 use Rattle.steps.specs.Theory.Rules.{Rule, State, start, Answers, after, sum_of, Same, IsFinite}
 use Rattle.steps.specs.ProofSession.{View, is_over}
-use Rattle.steps.specs.Theory.Verdicts.{Ending, Ends, is_empty, is_last}
+use Rattle.steps.specs.Theory.Verdicts.{Ending, Ends, Verdict, is_empty, is_last}
 use Rattle.steps.specs.declared.theory.accepted.Accepted.{Accepted}
 use Rattle.steps.specs.declared.theory.refusal.Refusal.{Refusal}
 use Rattle.steps.specs.declared.theory.refusal.Refusal.TheVariants.{OutOfMemory as RefusedMemory}
 use Rattle.sat_check.specs.Lines.{trace_line}
+use Rattle.sat_check.specs.Reach.{deciding_step, NeedsNoProof, IsVerdict}
 use Rattle.sat_check.specs.Report.{Report, Outcome, text_of, bare_steps, peak_of, proof_report}
 use Rattle.sat_check.specs.declared.status.Status.{Status}
 use Rattle.sat_check.specs.declared.status.Status.TheVariants.{ReadFailed, OutOfMemory as NoMemory, WriteFailed}
@@ -52,6 +53,25 @@ pub record Rest (trace : Bool) (state : State) (n : ℕ) (peak : ℕ) (proof : P
   pub ending : Ending
   pub verdict : Ends state (bare_steps proof) words ending
   pub report : r ≡ proof_report trace n (max peak (peak_of state (bare_steps proof) words)) words ending proof.fault
+
+-- What is left of the steps of a proof from a state on: where a verdict was answered, what follows the step that
+-- decides.
+abbrev pub LeavesRest : State → Proof → Input → Status → Type 0
+LeavesRest state p rest status =
+    (words : List Accepted) (ending : Ending) (last : PlacedStep) → IsVerdict status → Ends state (bare_steps p) words ending
+    → deciding_step p.steps words ending ≡ Some last → last.rest ≡ length rest.bytes
+
+-- What is left of a proof: all of it where the formula decides alone, and where a verdict was answered, what follows
+-- the step that decides.
+pub record LeavesProof (rule : Rule) (fault : Option Fault) (clauses : List Clause) (p : Proof) (old new : Reader) (rest : Input) (status : Status) : Type 0 where
+  pub unread : NeedsNoProof fault clauses → new ≡ old
+  pub past : (words : List Accepted) (ending : Ending) (last : PlacedStep) → fault ≡ None → IsVerdict status
+      → Verdict rule clauses (bare_steps p) words ending → deciding_step p.steps words ending ≡ Some last → last.rest ≡ length rest.bytes
+
+-- a step that decides: it is refused, or it is the accepted empty clause
+abbrev pub Decides : State → Step → Type 0
+Decides state step =
+    ((r : Refusal) × Answers state step (Err r)) ⊎ ((word : Accepted) × Answers state step (Ok word) × (is_last word ≡ true))
 
 -- numbers are counted up to the greatest of 64 bits
 abbrev pub counted : ℕ → ℕ

@@ -1,12 +1,13 @@
 //! A check of a proof under any rule and in any format.
 
-ghost use Rattle.std.specs.Prelude.{◌≡◌, [], true, false, List};
+ghost use Rattle.std.specs.Prelude.{◌≡◌, [], true, false, List, None};
 ghost use Rattle.cnf_base.specs.Literals.{Clause};
 ghost use Rattle.cnf_base.specs.Stream.{Input, Along};
 ghost use Rattle.cnf_base.specs.Seen.{Seen, IsSeen, OneHasFailed};
+ghost use Rattle.dimacs.specs.Formula.{formula_of};
 ghost use Rattle.steps.specs.Theory.Rules.{Rule, rule_of};
 ghost use Rattle.sat_check.specs.Report.{Report, Outcome, Checks, Reports};
-ghost use Rattle.sat_check.specs.Checking.{IsLoaded};
+ghost use Rattle.sat_check.specs.Checking.{IsLoaded, LeavesProof};
 
 use crate::Status;
 use crate::check_proof::check_proof;
@@ -34,7 +35,10 @@ pub fn check<F: In, S: ProofSession, R: StepReader, O: Out>(
     ensures report { (f : Seen (F.shown formula.old) (F.shown formula.new))
         × Along (R.stream reader.old) (R.stream reader.new) (λ j k. (i : Input) → IsSeen f i →
         Reports (rule_of (S.shown session.old).state) trace i (R.to_come reader.old j)
-        lines.old.held lines.new.held result) }
+        lines.old.held lines.new.held result
+        × LeavesProof (rule_of (S.shown session.old).state) (formula_of i).fault
+        (formula_of i).clauses (R.to_come reader.old j) (R.stream reader.old).reader
+        (R.stream reader.new).reader k result) }
     ensures read_failed { result ≡ Status.ReadFailed →
         OneHasFailed (F.shown formula.new) (R.stream reader.new).reader }
     ensures write_failed { result ≡ Status.WriteFailed → lines.new.has_failed ≡ true }
@@ -62,7 +66,9 @@ fn check_loaded<S: ProofSession, R: StepReader, O: Out>(
         (λ j k. (rule : Rule) (clauses : List Clause) →
         IsLoaded rule (S.shown session.old) clauses →
         (r : Report) × Checks rule trace header clauses (R.to_come reader.old j) r
-        × Outcome result lines.old.held lines.new.held r) }
+        × Outcome result lines.old.held lines.new.held r
+        × LeavesProof rule None clauses (R.to_come reader.old j) (R.stream reader.old).reader
+        (R.stream reader.new).reader k result) }
     ensures read_failed { result ≡ Status.ReadFailed →
         (R.stream reader.new).reader.has_failed ≡ true }
     ensures write_failed { result ≡ Status.WriteFailed → lines.new.has_failed ≡ true }

@@ -5,7 +5,7 @@ ghost use Rattle.cnf_base.specs.Stream.{Along};
 ghost use Rattle.steps.specs.ProofSession.{is_over};
 ghost use Rattle.steps.specs.Theory.Rules.{sum_of, IsFinite};
 ghost use Rattle.sat_check.specs.Report.{Report, Outcome};
-ghost use Rattle.sat_check.specs.Checking.{Rest};
+ghost use Rattle.sat_check.specs.Checking.{Rest, LeavesRest};
 
 use crate::Status;
 use crate::conclude::{break_off, conclude};
@@ -31,7 +31,8 @@ pub fn check_proof<S: ProofSession, R: StepReader, O: Out>(
     requires whole { lines.old.is_broken ≡ false }
     ensures report { Along (R.stream reader.old) (R.stream reader.new) (λ i j.
         (r : Report) × Rest trace (S.shown session.old).state 0 (S.shown session.old).peak
-        (R.to_come reader.old i) r × Outcome result lines.old.held lines.new.held r) }
+        (R.to_come reader.old i) r × Outcome result lines.old.held lines.new.held r
+        × LeavesRest (S.shown session.old).state (R.to_come reader.old i) j result) }
     ensures read_failed { result ≡ Status.ReadFailed →
         (R.stream reader.new).reader.has_failed ≡ true }
     ensures write_failed { result ≡ Status.WriteFailed → lines.new.has_failed ≡ true }

@@ -2,7 +2,10 @@
 
 ghost use Rattle.std.specs.Prelude.{◌≡◌, true, false};
 ghost use Rattle.cnf_base.specs.Seen.{OfBothSeen, OneHasFailed};
+ghost use Rattle.cnf_base.specs.Stream.{bytes_read};
+ghost use Rattle.dimacs.specs.Formula.{formula_of};
 ghost use Rattle.steps.specs.Theory.Rules.{drat};
+ghost use Rattle.sat_check.specs.Reach.{ReadsNoFurther};
 ghost use Rattle.sat_check.specs.Report.{Reports, ChecksProof, drat_proof, rules_of};
 
 use crate::check::check;
@@ -25,11 +28,15 @@ pub fn run_drat<F: In, P: In, O: Out>(
     proof: &mut P,
     out: &mut O,
 ) -> Status
-    // What was seen of the two readers is one pair of inputs, and of this the check is true.
+    // What was seen of the two readers is one pair of inputs, and of this the check is true. No
+    // more of the proof was read than it takes.
     ensures checks { OfBothSeen (F.shown formula.old) (F.shown formula.new)
         (P.shown proof.old) (P.shown proof.new) (λ i j.
         ChecksProof (drat (rules_of options.now)) options.now.trace i
-        (drat_proof options.now.binary j) (O.held out.old) (O.held out.new) result) }
+        (drat_proof options.now.binary j) (O.held out.old) (O.held out.new) result
+        × ReadsNoFurther (drat (rules_of options.now)) (formula_of i) j
+        (drat_proof options.now.binary j)
+        (bytes_read (P.shown proof.old) (P.shown proof.new)) result) }
 
     // A reader or the writer tells of each failure.
     ensures read_failed { result ≡ Status.ReadFailed →
@@ -54,7 +61,9 @@ fn check_drat<F: In, P: In, O: Out>(
     ensures report { OfBothSeen (F.shown formula.old) (F.shown formula.new)
         (P.shown proof.old) (P.shown proof.new) (λ i j.
         Reports (drat (rules_of options)) options.trace i (drat_proof options.binary j)
-        lines.old.held lines.new.held result) }
+        lines.old.held lines.new.held result
+        × ReadsNoFurther (drat (rules_of options)) (formula_of i) j
+        (drat_proof options.binary j) (bytes_read (P.shown proof.old) (P.shown proof.new)) result) }
     ensures read_failed { result ≡ Status.ReadFailed →
         OneHasFailed (F.shown formula.new) (P.shown proof.new) }
     ensures write_failed { result ≡ Status.WriteFailed → lines.new.has_failed ≡ true }

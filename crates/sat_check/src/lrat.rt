@@ -2,8 +2,11 @@
 
 ghost use Rattle.std.specs.Prelude.{◌≡◌, true, false};
 ghost use Rattle.cnf_base.specs.Seen.{OfBothSeen, OneHasFailed};
+ghost use Rattle.cnf_base.specs.Stream.{bytes_read};
+ghost use Rattle.dimacs.specs.Formula.{formula_of};
 ghost use Rattle.proofs.specs.Lrat.{lrat_steps};
 ghost use Rattle.steps.specs.Theory.Rules.{lrat};
+ghost use Rattle.sat_check.specs.Reach.{ReadsNoFurther};
 ghost use Rattle.sat_check.specs.Report.{Reports, ChecksProof};
 
 use crate::check::check;
@@ -25,11 +28,14 @@ pub fn run_lrat<F: In, P: In, O: Out>(
     proof: &mut P,
     out: &mut O,
 ) -> Status
-    // What was seen of the two readers is one pair of inputs, and of this the check is true.
+    // What was seen of the two readers is one pair of inputs, and of this the check is true. No
+    // more of the proof was read than it takes.
     ensures checks { OfBothSeen (F.shown formula.old) (F.shown formula.new)
         (P.shown proof.old) (P.shown proof.new) (λ i j.
         ChecksProof lrat options.now.trace i (lrat_steps j)
-        (O.held out.old) (O.held out.new) result) }
+        (O.held out.old) (O.held out.new) result
+        × ReadsNoFurther lrat (formula_of i) j (lrat_steps j)
+        (bytes_read (P.shown proof.old) (P.shown proof.new)) result) }
 
     // A reader or the writer tells of each failure.
     ensures read_failed { result ≡ Status.ReadFailed →
@@ -53,7 +59,9 @@ fn check_lrat<F: In, P: In, O: Out>(
     requires { lines.old.is_broken ≡ false }
     ensures report { OfBothSeen (F.shown formula.old) (F.shown formula.new)
         (P.shown proof.old) (P.shown proof.new) (λ i j.
-        Reports lrat trace i (lrat_steps j) lines.old.held lines.new.held result) }
+        Reports lrat trace i (lrat_steps j) lines.old.held lines.new.held result
+        × ReadsNoFurther lrat (formula_of i) j (lrat_steps j)
+        (bytes_read (P.shown proof.old) (P.shown proof.new)) result) }
     ensures read_failed { result ≡ Status.ReadFailed →
         OneHasFailed (F.shown formula.new) (P.shown proof.new) }
     ensures write_failed { result ≡ Status.WriteFailed → lines.new.has_failed ≡ true }

@@ -5,6 +5,7 @@ pub mod Ending
 pub mod Groups
 pub mod Hints
 pub mod Holds
+pub mod Kept
 pub mod LiveSets
 pub mod Remaining
 pub mod Rooms

@@ -11,6 +11,8 @@ pub record View : Type 0 where
   pub is_ended : Bool
   -- the greatest sum of the sizes, after each clause that was input and each accepted step
   pub peak : ℕ
+  -- the sum of the lengths of all lists of literals that it keeps
+  pub stored : ℕ
   -- how many clauses may still be input
   pub room : ℕ
 

@@ -28,6 +28,7 @@ pub struct DratSession<P: Propagate> {
 
 impl<P: Propagate> Model for DratSession<P> {
     ghost use Rattle.std.specs.Prelude.{◌≡◌, [], false};
+    ghost use Rattle.clause_db.specs.Propagation.Assumptions.{HoldsLiveAlone};
     ghost use Rattle.steps.specs.Drat.Session.{DratState, drat_code};
 
     ghost Value = { DratState };
@@ -41,9 +42,11 @@ impl<P: Propagate> Model for DratSession<P> {
       is_verified = s.progress.is_verified;
       is_ended = s.progress.is_ended;
       peak = s.progress.peak;
+      stored = (P.state s.clauses).stored;
     } };
 
-    ghost invariant = { λ s. s.progress.is_ended ≡ false → (P.state s.clauses).assumptions ≡ [] };
+    ghost invariant = { λ s. HoldsLiveAlone (P.state s.clauses)
+        × (s.progress.is_ended ≡ false → (P.state s.clauses).assumptions ≡ []) };
 }
 
 impl<P: Propagate> DratSession<P> {
@@ -54,10 +57,11 @@ impl<P: Propagate> DratSession<P> {
         requires none_refused { (P.state clauses).has_refused ≡ false }
         ensures { result ≡ fresh_drat rules }
     {
+        let progress = Progress::new(clauses.literals());
         DratSession {
             clauses,
             rules,
-            progress: Progress::new(),
+            progress,
         }
     }
 }
@@ -71,6 +75,7 @@ impl<P: Propagate> ProofSession for DratSession<P> {
       is_verified = s.is_verified;
       is_ended = s.is_ended;
       peak = s.peak;
+      stored = s.stored;
       room = 4294967295;
     } };
 
@@ -106,6 +111,10 @@ impl<P: Propagate> ProofSession for DratSession<P> {
 
     fn verified(&self) -> bool {
         self.progress.is_verified
+    }
+
+    fn held(&self) -> u64 {
+        self.clauses.literals()
     }
 
     fn peak(&self) -> u64 {

@@ -8,7 +8,7 @@ mod named;
 mod tests;
 mod walk;
 
-ghost use Rattle.std.specs.Prelude.{◌≡◌, ◌≢◌, ◌⊎◌, ◌+◌, ◌-◌, ◌<◌, ◌^◌, ◌||◌, ◌↔◌, min, max, true, false, IsTrue, IsFalse, IfOk, IfErr, OnOk, OnErr, ℕ};
+ghost use Rattle.std.specs.Prelude.{◌≡◌, ◌≢◌, ◌⊎◌, ◌+◌, ◌-◌, ◌<◌, ◌≤◌, ◌^◌, ◌||◌, ◌↔◌, min, max, true, false, IsTrue, IsFalse, IfOk, IfErr, OnOk, OnErr, ℕ};
 ghost use Rattle.std.specs.FinMap as maps;
 ghost use Rattle.cnf_base.specs.Literals.{complements};
 ghost use Rattle.steps.specs.Lrat.{chain, units_of, groups_of, AnswersChain, AnswersLrat, after_lrat, lrat_step, with_clause, SameClauses};
@@ -55,6 +55,7 @@ impl Model for LratSession {
       is_verified = s.progress.is_verified;
       is_ended = s.progress.is_ended;
       peak = s.progress.peak;
+      stored = s.held.stored;
     } };
 
     ghost invariant = { λ s. s.progress.is_ended ≡ false → IsReady (maps.get s.held.live) s.trues };
@@ -96,6 +97,7 @@ fn take_addition(
     ensures top { OnOk result (held.new.top ≡ (after_lrat (shelf_state held.old)
         (lrat_step step.now)).top) }
     ensures ready { OnOk result (IsReady (maps.get held.new.live) trues.new) }
+    ensures refused { OnErr result (held.new.stored ≤ held.old.stored) }
 {
     let id = step.id();
     if id <= held.top() {
@@ -119,6 +121,7 @@ fn add_input(
         (with_clause (maps.get held.old.live) id lits.now)) }
     ensures top { OnOk result (held.new.top ≡ id) }
     ensures ready { OnOk result (IsReady (maps.get held.new.live) trues.new) }
+    ensures refused { OnErr result (held.new.stored ≡ held.old.stored) }
 {
     trues.reserve_all(lits)?;
     held.add(id, lits)
@@ -139,6 +142,7 @@ fn take_step(
     ensures top { OnOk result (held.new.top ≡ (after_lrat (shelf_state held.old)
         (lrat_step step.now)).top) }
     ensures ready { OnOk result (IsReady (maps.get held.new.live) trues.new) }
+    ensures refused { OnErr result (held.new.stored ≤ held.old.stored) }
     ensures never_ended { result ≢ Err Refusal.Ended }
 {
     match step.kind() {
@@ -157,11 +161,12 @@ impl LratSession {
     {
         let held = LiveClauses::new(alloc)?;
         let trues = Trail::new(alloc)?;
+        let progress = Progress::new(held.literals());
         Ok(LratSession {
             alloc,
             held,
             trues,
-            progress: Progress::new(),
+            progress,
         })
     }
 }
@@ -176,6 +181,7 @@ impl ProofSession for LratSession {
       is_verified = s.is_verified;
       is_ended = s.is_ended;
       peak = s.peak;
+      stored = s.stored;
       room = 4294967295 - s.top;
     } };
 
@@ -211,6 +217,10 @@ impl ProofSession for LratSession {
 
     fn verified(&self) -> bool {
         self.progress.is_verified
+    }
+
+    fn held(&self) -> u64 {
+        self.held.literals()
     }
 
     fn peak(&self) -> u64 {

@@ -2,9 +2,9 @@
 
 pub(crate) mod progress;
 
-ghost use Rattle.std.specs.Prelude.{◌≡◌, ◌⊎◌, ◌+◌, ◌<◌, ◌≤◌, ◌||◌, ◌↔◌, max, true, false, IsTrue, IsFalse, IfOk, IfErr, OnOk, OnErr};
+ghost use Rattle.std.specs.Prelude.{◌≡◌, ◌⊎◌, ◌+◌, ◌-◌, ◌^◌, ◌<◌, ◌≤◌, ◌||◌, ◌↔◌, min, max, length, true, false, IsTrue, IsFalse, IfOk, IfErr, OnOk, OnErr};
 ghost use Rattle.steps.specs.ProofSession.{View, is_over, IsCutOff};
-ghost use Rattle.steps.specs.Theory.Rules.{Same, with_input, Answers, after, sum_of, rule_of, IsSatisfiable};
+ghost use Rattle.steps.specs.Theory.Rules.{Same, with_input, Answers, after, literals_of, sum_of, rule_of, IsSatisfiable};
 ghost use Rattle.steps.specs.Theory.StepAnswer.{UnlessOutOfMemory};
 ghost use Rattle.steps.specs.Theory.Verdicts.{is_empty, is_last};
 
@@ -34,6 +34,13 @@ pub trait ProofSession {
             ((shown self.old).is_verified || is_empty lits.now)) }
         ensures peak { OnOk result ((shown self.new).peak ≡ max (shown self.old).peak
             (sum_of (shown self.new).state)) }
+        // What it keeps is the live clauses, and after a refusal no more than before it and the clause.
+        ensures held { OnOk result ((shown self.new).stored ≡
+            literals_of (shown self.new).state) }
+        ensures held_at_most { OnErr result ((shown self.new).stored ≤
+            (shown self.old).stored + length lits.now) }
+        ensures held_stays { result ≡ Err Refusal.Ended →
+            (shown self.new).stored ≡ (shown self.old).stored }
         // Steps and further clauses may follow.
         ensures room { OnOk result ((shown self.old).room ≤ (shown self.new).room + 1) }
         ensures steps { OnOk result ((shown self.new).has_stepped ≡ false) }
@@ -57,6 +64,13 @@ pub trait ProofSession {
         ensures ends { IfOk result (λ word. (shown self.new).is_ended ≡ is_last word) }
         ensures peak { OnOk result ((shown self.new).peak ≡ max (shown self.old).peak
             (sum_of (shown self.new).state)) }
+        // What it keeps is the live clauses, and after a refusal no more than before it and the step.
+        ensures held { OnOk result ((shown self.new).stored ≡
+            literals_of (shown self.new).state) }
+        ensures held_at_most { OnErr result ((shown self.new).stored ≤
+            (shown self.old).stored + length step.now.lits) }
+        ensures held_stays { result ≡ Err Refusal.Ended →
+            (shown self.new).stored ≡ (shown self.old).stored }
         // It keeps satisfiability.
         ensures keeps_models { OnOk result (IsSatisfiable (shown self.old).state →
             IsSatisfiable (shown self.new).state) }
@@ -66,6 +80,11 @@ pub trait ProofSession {
     /// Whether an empty clause was input or accepted.
     fn verified(&self) -> bool
         ensures { result ≡ (shown self.now).is_verified };
+
+    /// How many literals it keeps: the sum of the lengths of all lists of literals of clauses or of steps in it; `2^64 - 1` where it
+    /// is greater. After an accepted call that is the sum of the sizes of the live clauses. It takes no memory.
+    fn held(&self) -> u64
+        ensures { result ≡ min (shown self.now).stored (2 ^ 64 - 1) };
 
     /// The greatest sum of the sizes of the live clauses, after each clause that was input and each accepted step. It saturates.
     fn peak(&self) -> u64

@@ -5,3 +5,4 @@ mod binary;
 mod cuts;
 mod deletions;
 mod inputs;
+mod long_inputs;

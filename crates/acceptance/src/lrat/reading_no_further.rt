@@ -2,7 +2,7 @@
 
 use crate::support::{
     Cut, E, E_BY_LRAT, E_PROOF, EMPTY_CLAUSE, LRAT, OUT_OF_RANGE, Row, expect, expect_all,
-    expect_one_piece_further, expect_read, expect_unread,
+    expect_one_piece_further, expect_read, expect_unread, repeated,
 };
 use std::test::Fail;
 
@@ -67,10 +67,7 @@ fn unread(rt: HostRuntime) -> Result<(), Fail> {
 // The proof of `E`, so many further lines, and a failed read.
 #[test]
 fn after_the_verdict(rt: HostRuntime) -> Result<(), Fail> {
-    let mut proof = E_PROOF.to_vec(rt.alloc())?;
-    for _ in 0..10 {
-        proof.extend_from_slice(b"?\n")?;
-    }
+    let proof = repeated(rt.alloc(), E_PROOF, b"?\n", 10, b"")?;
     let row = Row {
         name: "bad tokens",
         second: proof.as_slice(),

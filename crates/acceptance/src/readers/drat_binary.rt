@@ -1,7 +1,7 @@
 //! The reader of binary DRAT.
 
 use crate::readers::forms::{Form, Step, add, delete, expect_proof};
-use crate::support::Cut;
+use crate::support::{Cut, MANY, repeated};
 use cnf_base::{BinaryFault, Fault};
 use std::alloc::{AllocError, Global};
 use std::process::Abort;
@@ -123,17 +123,7 @@ fn faults(rt: HostRuntime) -> Result<(), Fail> {
     expect_faults(&rt, rt.alloc(), &[add(&[2])], &rows)
 }
 
-// A number of many groups, which ends so.
-fn long_number(alloc: Global, last: u8) -> Result<Vec<u8>, AllocError> {
-    let mut all = Vec::new(alloc);
-    all.push(b'a')?;
-    for _ in 0..100000 {
-        all.push(0x80)?;
-    }
-    all.push(last)?;
-    Ok(all)
-}
-
+// Numbers of many groups, which end so.
 #[test]
 fn long_numbers(rt: HostRuntime) -> Result<(), Fail> {
     for (last, kind, byte_no) in [
@@ -141,7 +131,7 @@ fn long_numbers(rt: HostRuntime) -> Result<(), Fail> {
         (1, BinaryFault::LiteralTooLarge, 2),
         (0x80, BinaryFault::UnterminatedStep, 100003),
     ] {
-        let bytes = long_number(rt.alloc(), last)?;
+        let bytes = repeated(rt.alloc(), b"a", b"\x80", MANY, &[last])?;
         expect_faults(&rt, rt.alloc(), &[], &[(bytes.as_slice(), kind, byte_no)])?;
     }
     Ok(())

@@ -19,8 +19,8 @@ fn literals(alloc: Global, numbers: &[i32]) -> Result<Vec<Lit>, AllocError> {
     Ok(all)
 }
 
-// What a session answers to a step, the greatest sum of sizes after it, and whether it has verified.
-pub type Answer = (Result<Accepted, Refusal>, u64, bool);
+// What a session answers to a step, and after it the greatest sum of sizes, how many literals are kept, and whether it has verified.
+pub type Answer = (Result<Accepted, Refusal>, u64, u64, bool);
 
 fn expect_answer<S: ProofSession>(
     rt: &impl Abort,
@@ -28,9 +28,10 @@ fn expect_answer<S: ProofSession>(
     step: &StepBuf,
     answer: Answer,
 ) {
-    let (expected, peak, verified) = answer;
+    let (expected, peak, held, verified) = answer;
     assert_eq!(rt; session.step(step), expected);
     assert_eq!(rt; session.peak(), peak);
+    assert_eq!(rt; session.held(), held);
     assert_eq!(rt; session.verified(), verified);
 }
 
@@ -81,10 +82,11 @@ pub fn expect_empty_clause<S: ProofSession, R: StepReader>(
     assert_eq!(rt; session.input(positive.as_slice()), Ok(()));
     assert_eq!(rt; session.input(negative.as_slice()), Ok(()));
     assert_eq!(rt; session.peak(), 2);
+    assert_eq!(rt; session.held(), 2);
     assert!(rt; !session.verified());
     let answers = [
-        (Ok(Accepted::Empty), 2, true),
-        (Err(Refusal::Ended), 2, true),
+        (Ok(Accepted::Empty), 2, 2, true),
+        (Err(Refusal::Ended), 2, 2, true),
     ];
     expect_answers(rt, alloc, session, reader, &answers)
 }
@@ -101,4 +103,5 @@ pub fn expect_ended<S: ProofSession>(rt: &impl Abort, alloc: Global, session: &m
     assert_eq!(rt; session.input(&[]), Err(Refusal::Ended));
     assert!(rt; session.verified());
     assert_eq!(rt; session.peak(), 0);
+    assert_eq!(rt; session.held(), 0);
 }

@@ -59,12 +59,12 @@ fn every_answer(rt: HostRuntime) -> Result<(), Fail> {
     let alloc = rt.alloc();
     let proof = b"3 -1 0\nd 2 1 0\n4 -4 1 0\nd 5 0\n0\n0\n";
     let answers = [
-        (Ok(Accepted::Rat), 4, false),
-        (Ok(Accepted::Deleted), 4, false),
-        (Ok(Accepted::Rup), 5, false),
-        (Ok(Accepted::Ignored), 5, false),
-        (Err(Refusal::NotRup), 5, false),
-        (Err(Refusal::Ended), 5, false),
+        (Ok(Accepted::Rat), 4, 4, false),
+        (Ok(Accepted::Deleted), 4, 2, false),
+        (Ok(Accepted::Rup), 5, 5, false),
+        (Ok(Accepted::Ignored), 5, 5, false),
+        (Err(Refusal::NotRup), 5, 5, false),
+        (Err(Refusal::Ended), 5, 5, false),
     ];
     let trial = Trial::OneClause(proof, &answers);
     expect_by(&rt, alloc, Scan::new(alloc)?, false, trial)
@@ -74,9 +74,9 @@ fn every_answer(rt: HostRuntime) -> Result<(), Fail> {
 fn strict(rt: HostRuntime) -> Result<(), Fail> {
     let alloc = rt.alloc();
     let answers = [
-        (Ok(Accepted::Deleted), 2, false),
-        (Err(Refusal::NotAlive), 2, false),
-        (Err(Refusal::Ended), 2, false),
+        (Ok(Accepted::Deleted), 2, 0, false),
+        (Err(Refusal::NotAlive), 2, 0, false),
+        (Err(Refusal::Ended), 2, 0, false),
     ];
     let trial = Trial::OneClause(b"d 1 2 0\nd 1 2 0\n1 0\n", &answers);
     expect_by(&rt, alloc, Scan::new(alloc)?, true, trial)

@@ -21,11 +21,11 @@ fn every_answer(rt: HostRuntime) -> Result<(), Fail> {
     let proof = b"2 3 -1 0 0\n3 d 1 0\n3 4 -4 1 0 0\n3 5 0 0\n4 5 0 0\n";
     let mut reader = LratText::new(open(alloc, proof, 7, Cut::Ends)?);
     let answers = [
-        (Ok(Accepted::Rat), 4, false),
-        (Ok(Accepted::Deleted), 4, false),
-        (Ok(Accepted::Rup), 5, false),
-        (Err(Refusal::IdOutOfOrder), 5, false),
-        (Err(Refusal::Ended), 5, false),
+        (Ok(Accepted::Rat), 4, 4, false),
+        (Ok(Accepted::Deleted), 4, 2, false),
+        (Ok(Accepted::Rup), 5, 5, false),
+        (Err(Refusal::IdOutOfOrder), 5, 5, false),
+        (Err(Refusal::Ended), 5, 5, false),
     ];
     expect_on_one_clause(&rt, alloc, &mut session, &mut reader, &answers)
 }

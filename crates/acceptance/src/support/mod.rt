@@ -3,6 +3,7 @@
 mod cuts;
 mod engines;
 mod examples;
+mod long;
 mod readers;
 mod reading;
 mod reports;
@@ -18,6 +19,7 @@ pub use examples::{
     E_DRAT, E_LINE, E_PROOF, E_WITH_DELETION, EMPTY_CLAUSE, EMPTY_FORMULA, G, G_LINE, MODELS,
     MODELS_MET, MODELS_OUTPUT, OUT_OF_RANGE,
 };
+pub use long::{MANY, repeated};
 pub use readers::{Bytes, Cut, Pieces, SIZES, open};
 pub use reading::expect_one_piece_further;
 pub use reports::{

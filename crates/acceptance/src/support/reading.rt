@@ -1,5 +1,6 @@
 //! How much is read of a second input.
 
+use crate::support::long::{MANY, repeated};
 use crate::support::readers::Pieces;
 use crate::support::rows::Row;
 use crate::support::writers::{Stop, Writer};
@@ -16,10 +17,7 @@ pub fn expect_one_piece_further(
     length: usize,
     least: usize,
 ) -> Result<(), Fail> {
-    let mut bytes = row.second.to_vec(alloc)?;
-    for _ in 0..100000 {
-        bytes.extend_from_slice(b"1 0\n")?;
-    }
+    let bytes = repeated(alloc, row.second, b"1 0\n", MANY, b"")?;
     assert_eq!(rt; bytes.len(), length);
     let report = row.report(alloc)?;
     let engines = row.tool.engines(alloc)?;

@@ -13,12 +13,13 @@ use Rattle.clause_db.specs.Propagation.Assumptions.{Assumes, Assuming, Assumptio
 use Rattle.clause_db.specs.Propagation.Exact.{IsExact, AreExact}
 use Rattle.clause_db.specs.Propagation.{Live, IsClosed, Forced, Clash}
 use Rattle.clause_db.specs.Propagation.Scan.{IsScan}
+use Rattle.clause_db.specs.Store.Clauses.{StoreState, size, literals_in}
 use Rattle.clause_db.specs.Propagation.Trail.{HasRoom, HasRoomForAll, SameSet, conflicts}
 use Rattle.clause_db.specs.declared.propagation.answer.Answer.{Answer}
 use Rattle.clause_db.specs.declared.propagation.answer.Answer.TheVariants.{Quiet}
 use Rattle.cnf_base.proofs.SetLemmas.{same_there}
 use Rattle.clause_db.proofs.PropagationLemmas.Exact.{exact_nothing, exact_same, nothing_true, sound_before, start_before, conflict_clashes, answer_from, exact_after}
-use Rattle.clause_db.proofs.StoreLemmas.Sums.{get_remove}
+use Rattle.clause_db.proofs.StoreLemmas.Sums.{get_remove, sum_empty}
 
 pub scan_empty : (live : FinMap nat_cmp Clause) (held : AssumptionsState) → live ≡ maps.empty → held.trail.lits ≡ [] → held.assumptions ≡ [] → IsScan live held
 scan_empty live held none unset nothing = record {
@@ -65,6 +66,14 @@ pub room_inserted : {E : Type 0} (met : List ℕ) (live after : FinMap nat_cmp C
 room_inserted met live after lits (Ok slot) all room stored others err = room_added met live after slot lits all room stored others
 room_inserted met live after lits (Err e) all room stored others err = subst (λ m. HasRoomForAll met (maps.get m)) (sym err) all
 
+-- what is kept in a store that is left as it was, and in one without clauses
+pub err_live : {X E : Type 0} (r : Result X E) (old new : StoreState) → OnErr r (new ≡ old) → OnErr r (new.live ≡ old.live)
+err_live (Ok x) old new h = tt
+err_live (Err e) old new h = ap (λ s. s.live) h
+
+pub none_alone : (s : StoreState) → s ≡ record { live = maps.empty; stored = 0 } → s.stored ≡ literals_in s.live
+none_alone s is = ap (λ s. s.stored) is ∙ sym (sum_empty size) ∙ ap (λ s. literals_in s.live) (sym is)
+
 -- ---- One more assumption
 
 -- nothing is true where nothing is assumed, so what is true is forced
@@ -106,23 +115,25 @@ module _ (live : FinMap nat_cmp Clause) (before after : AssumptionsState) (added
 
 -- what an assumption of the given literals does is what one of the added ones does
 pub assuming_from : {E : Type 0} (before after : Propagation) (live : FinMap nat_cmp Clause) (held last : AssumptionsState) (given added : List Literal) (r : Result Answer E) →
-    live ≡ before.live → held.assumptions ≡ before.assumptions → given ≡ added → before.has_refused ≡ false → after.live ≡ live → after.assumptions ≡ last.assumptions → after.has_refused ≡ is_err r →
+    live ≡ before.live → held.assumptions ≡ before.assumptions → given ≡ added → before.has_refused ≡ false → after.live ≡ live → after.stored ≡ literals_in after.live → after.assumptions ≡ last.assumptions → after.has_refused ≡ is_err r →
     IfOk r (λ a. IsAnswer (maps.get live) (assumed_by held.assumptions ++ given) a) → IfOk r (λ a. Assumes held.assumptions last.assumptions a (assumed_by held.assumptions ++ given)) → OnErr r (last ≡ held) → Assuming before after added r
-assuming_from before after live held last given added (Ok answer) live_is held_is given_is none same after_is refused answers stands stays = record {
+assuming_from before after live held last given added (Ok answer) live_is held_is given_is none same alone after_is refused answers stands stays = record {
   answer = subst (λ m. IsAnswer (maps.get m) (assumed_by before.assumptions ++ added) answer) live_is
       (subst (λ xs. IsAnswer (maps.get live) (assumed_by xs ++ added) answer) held_is (subst (λ ls. IsAnswer (maps.get live) (assumed_by held.assumptions ++ ls) answer) given_is answers));
   stands = subst (λ xs. Assumes before.assumptions xs answer (assumed_by before.assumptions ++ added)) (sym after_is)
       (subst (λ xs. Assumes xs last.assumptions answer (assumed_by xs ++ added)) held_is (subst (λ ls. Assumes held.assumptions last.assumptions answer (assumed_by held.assumptions ++ ls)) given_is stands));
   live = same ∙ live_is;
+  live_alone = alone;
   never_refused = none;
   not_refused = refused;
   refused = tt;
   stays = tt;
 }
-assuming_from before after live held last given added (Err e) live_is held_is given_is none same after_is refused answers stands stays = record {
+assuming_from before after live held last given added (Err e) live_is held_is given_is none same alone after_is refused answers stands stays = record {
   answer = tt;
   stands = tt;
   live = same ∙ live_is;
+  live_alone = alone;
   never_refused = tt;
   not_refused = tt;
   refused = refused;

@@ -1,5 +1,5 @@
 -- The entries of a store as a finite map of clauses.
-use Rattle.std.proofs.Common.{◌≡◌, ◌≢◌, ℕ, zero, suc, ◌+◌, ◌*◌, ◌<◌, ◌≤◌, true, cond, eqb, eq-eqb, ne_eqb, Option, Some, None, option_map, is_some, List, [], ◌∷◌, get_or, count_by, refl, sym, ap, ◌∙◌, subst, arith, inl, inr}
+use Rattle.std.proofs.Common.{◌≡◌, ◌≢◌, ℕ, zero, suc, ◌+◌, ◌*◌, ◌<◌, ◌≤◌, true, cond, eqb, eq-eqb, ne_eqb, Option, Some, None, option_map, is_some, List, [], ◌∷◌, get_or, count_by, sum_by, length, refl, sym, ap, ◌∙◌, subst, arith, inl, inr}
 use Rattle.std.specs.Ordering.{nat_cmp}
 use Rattle.std.specs.FinMap as maps
 use Rattle.std.specs.FinMap.{FinMap}
@@ -7,8 +7,8 @@ use Rattle.std.proofs.lemmas.Bool.{cases_eq}
 use Rattle.std.proofs.lemmas.List.Sums.{sum_by-cons}
 use Rattle.slab.specs.Slab.{Slab, get}
 use Rattle.cnf_base.specs.Literals.{Clause}
-use Rattle.clause_db.specs.Store.Clauses.{sum_over}
-use Rattle.clause_db.specs.Store.Entries.{clauses_from, clauses_in}
+use Rattle.clause_db.specs.Store.Clauses.{StoreState, size, sum_over, literals_in}
+use Rattle.clause_db.specs.Store.Entries.{kept_in, literals_kept, clauses_from, clauses_in}
 use Rattle.clause_db.specs.declared.store.entry.Entry.{Entry}
 use Rattle.clause_db.proofs.StoreLemmas.Sums.{get_insert, get_remove, same_maps, sum_insert, sum_empty}
 
@@ -79,6 +79,37 @@ module _ (w : Clause → ℕ) (most : ℕ) where
   pub sum_bound : (entries : Slab Entry) → ((s : ℕ) (e : Entry) → get entries s ≡ Some e → w e.lits.items ≤ most) → sum_over w (clauses_in entries) ≤ most * count_by is_some entries.slots
   unfolding clauses_in
   sum_bound entries each = bound_from entries.slots 0 each
+
+-- what is kept is what is alive, where no clause repeats a literal
+kept_from : (slots : List (Option Entry)) (n : ℕ) → ((k : ℕ) (e : Entry) → get_or slots k None ≡ Some e → size e.lits.items ≡ length e.lits.items) → sum_by kept_in slots ≡ sum_over size (clauses_from n slots)
+kept_from [] n each = sym (sum_empty size)
+kept_from (None ∷ rest) n each =
+    let none : Option Entry = None in
+    let step = sum_by-cons kept_in none rest in
+    let later = kept_from rest (n + 1) (λ k e is. each (suc k) e is) in
+    omega arith
+kept_from (Some e ∷ rest) n each =
+    let step = sum_by-cons kept_in (Some e) rest in
+    let later = kept_from rest (n + 1) (λ k x is. each (suc k) x is) in
+    let here = each 0 e refl in
+    let more = sum_insert size (clauses_from (n + 1) rest) n e.lits.items (below_from rest (n + 1) n (omega arith)) in
+    omega arith
+
+-- what a store of these entries is seen as
+abbrev pub seen_as : Slab Entry → StoreState
+seen_as entries = record { live = clauses_in entries; stored = literals_kept entries }
+
+pub seen_none : (entries : Slab Entry) → entries.slots ≡ [] → seen_as entries ≡ record { live = maps.empty; stored = 0 }
+unfolding clauses_in
+seen_none entries e = ap (λ slots. record { live = clauses_from 0 slots; stored = sum_by kept_in slots }) e
+
+pub seen_same : (old new : Slab Entry) → new.slots ≡ old.slots → seen_as new ≡ seen_as old
+unfolding clauses_in
+seen_same old new e = ap (λ slots. record { live = clauses_from 0 slots; stored = sum_by kept_in slots }) e
+
+pub kept_is : (entries : Slab Entry) → ((s : ℕ) (c : Clause) → maps.get (clauses_in entries) s ≡ Some c → size c ≡ length c) → literals_kept entries ≡ literals_in (clauses_in entries)
+unfolding clauses_in
+kept_is entries different = kept_from entries.slots 0 (λ k e is. different k e.lits.items (get_stored entries k ∙ ap clause_of is))
 
 -- ---- Changes
 

@@ -8,7 +8,7 @@ use Rattle.std.proofs.lemmas.Bool.{cases_eq}
 use Rattle.slab.specs.Slab.{Slab, get, slab_len}
 use Rattle.cnf_base.specs.Literals.{Clause, has}
 use Rattle.clause_db.specs.Store.Clauses.{size, sum_over, literals_in, copies_with}
-use Rattle.clause_db.specs.Store.Entries.{indexed_at, clauses_in, with_place}
+use Rattle.clause_db.specs.Store.Entries.{indexed_at, clauses_in, literals_kept, with_place}
 use Rattle.clause_db.specs.Store.Hashes.{hash}
 use Rattle.clause_db.specs.Store.Index.{under}
 use Rattle.clause_db.specs.Store.LiteralMarks.{mark_count, is_marked}
@@ -21,7 +21,7 @@ use Rattle.clause_db.specs.declared.store.table.Table.{Table}
 use Rattle.clause_db.proofs.StoreLemmas.Distinct.{size_le_length}
 use Rattle.clause_db.proofs.StoreLemmas.Sums.{get_insert, get_remove, sum_insert, sum_remove, sum_empty}
 use Rattle.clause_db.proofs.StoreLemmas.Indexed.{placed_with, placed_without, spot_end, same_hash}
-use Rattle.clause_db.proofs.StoreLemmas.Entries.{clause_of, get_stored, stored_none, stored_same, stored_with, stored_without, sum_bound}
+use Rattle.clause_db.proofs.StoreLemmas.Entries.{clause_of, get_stored, stored_none, stored_same, stored_with, stored_without, sum_bound, kept_is}
 
 -- ---- Look-ups in a changed map
 
@@ -57,6 +57,14 @@ sound_empty entries index marks empty no_buckets no_marks =
       clear = λ l. ap is_marked (no_marks l);
       sum_is = sym (sum_empty size) ∙ ap literals_in (sym map_is);
     }
+
+-- ---- What is kept
+
+pub live_kept : (entries : Slab Entry) (index : Index) (marks : Table Mark) (sum : ℕ) → IsStore entries index marks sum → literals_kept entries ≡ literals_in (clauses_in entries)
+live_kept entries index marks sum sound = kept_is entries sound.different
+
+pub kept_count : (entries : Slab Entry) (index : Index) (marks : Table Mark) (sum : ℕ) → IsStore entries index marks sum → sum ≡ literals_kept entries
+kept_count entries index marks sum sound = sound.sum_is ∙ sym (live_kept entries index marks sum sound)
 
 -- ---- The same clauses
 

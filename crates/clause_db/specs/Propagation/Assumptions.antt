@@ -5,6 +5,7 @@ use Rattle.std.specs.FinMap as maps
 use Rattle.std.specs.FinMap.{FinMap}
 use Rattle.cnf_base.specs.Literals.{Literal, Clause, has, complement, complements}
 use Rattle.clause_db.specs.Propagation.{Live, Forced, Clash}
+use Rattle.clause_db.specs.Store.Clauses.{literals_in}
 use Rattle.clause_db.specs.Propagation.Trail.{TrailState, SameSet}
 use Rattle.clause_db.specs.declared.propagation.answer.Answer.{Answer}
 use Rattle.clause_db.specs.declared.propagation.answer.Answer.TheVariants.{Clash as AnswersClash, Quiet}
@@ -21,10 +22,14 @@ pub record Propagation : Type 0 where
   pub live : FinMap nat_cmp Clause
   -- those that stand, the last one first
   pub assumptions : List Assumption
-  -- the sum of the lengths of all lists of literals that are kept
+  -- the sum of the lengths of all lists of literals that it keeps
   pub stored : ℕ
   -- whether memory was refused to an assumption
   pub has_refused : Bool
+
+-- no literals are kept but those of the live clauses
+abbrev pub HoldsLiveAlone : Propagation → Type 0
+HoldsLiveAlone p = p.stored ≡ literals_in p.live
 
 -- what the assumptions that stand are seen as, with the literals that are true
 pub record AssumptionsState : Type 0 where
@@ -66,6 +71,7 @@ pub record Assuming {E : Type 0} (before after : Propagation) (added : List Lite
   pub answer : IfOk result (λ a. IsAnswer (maps.get before.live) (assumed_by before.assumptions ++ added) a)
   pub stands : IfOk result (λ a. Assumes before.assumptions after.assumptions a (assumed_by before.assumptions ++ added))
   pub live : after.live ≡ before.live
+  pub live_alone : HoldsLiveAlone after
   pub never_refused : OnOk result (before.has_refused ≡ false)
   pub not_refused : OnOk result (after.has_refused ≡ false)
   pub refused : OnErr result (after.has_refused ≡ true)

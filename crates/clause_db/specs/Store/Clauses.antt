@@ -1,9 +1,23 @@
--- How large clauses are, and what is summed over the clauses of a store.
-use Rattle.std.specs.Prelude.{ℕ, ◌+◌, sum_by, [], ◌∷◌, if◌then◌else◌}
+-- The clauses of a store, how large they are, and what is summed over them.
+use Rattle.std.specs.Prelude.{ℕ, ◌+◌, sum_by, [], ◌∷◌, if◌then◌else◌, refl}
 use Rattle.std.specs.Ordering.{nat_cmp}
+use Rattle.std.specs.Coded.{Coded, code_by, coded×, coded_ℕ, coded_list}
 use Rattle.std.specs.FinMap as maps
 use Rattle.std.specs.FinMap.{FinMap}
 use Rattle.cnf_base.specs.Literals.{Literal, Clause, has}
+
+-- a store, as its callers see it
+pub record StoreState : Type 0 where
+  -- the live clauses, each in its slot
+  pub live : FinMap nat_cmp Clause
+  -- the sum of the lengths of all lists of literals that it keeps
+  pub stored : ℕ
+
+-- a store is kept as the pair of its fields
+abbrev pub store_code : Coded StoreState
+store_code =
+    code_by (FinMap nat_cmp Clause × ℕ) (coded× (maps.code coded_ℕ (coded_list coded_ℕ)) coded_ℕ)
+    (λ s. (s.live, s.stored)) (λ p. record { live = p.0; stored = p.1 }) (λ _. refl)
 
 -- the number of different literals
 abbrev pub size : Clause → ℕ

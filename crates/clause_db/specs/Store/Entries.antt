@@ -1,5 +1,5 @@
 -- The entries of a store.
-use Rattle.std.specs.Prelude.{ℕ, ◌+◌, ◌==◌, ◌&&◌, Bool, false, Option, Some, None, option_map, List, [], ◌∷◌, length}
+use Rattle.std.specs.Prelude.{ℕ, ◌+◌, sum_by, ◌==◌, ◌&&◌, Bool, false, Option, Some, None, option_map, List, [], ◌∷◌, length}
 use Rattle.std.specs.List.{list_all}
 use Rattle.std.specs.Ordering.{nat_cmp}
 use Rattle.std.specs.FinMap as maps
@@ -27,6 +27,15 @@ abbrev pub clauses_from : ℕ → List (Option Entry) → FinMap nat_cmp Clause
 clauses_from n [] = maps.empty
 clauses_from n (None ∷ rest) = clauses_from (n + 1) rest
 clauses_from n (Some e ∷ rest) = maps.insert (clauses_from (n + 1) rest) n e.lits.items
+
+-- how many literals the list in a slot has
+abbrev pub kept_in : Option Entry → ℕ
+kept_in None = 0
+kept_in (Some e) = length e.lits.items
+
+-- the lengths of all lists of literals in the slots
+abbrev pub literals_kept : Slab Entry → ℕ
+literals_kept entries = sum_by kept_in entries.slots
 
 -- the clauses in the slots
 unfoldable pub clauses_in : Slab Entry → FinMap nat_cmp Clause

@@ -34,23 +34,25 @@ impl Model for Scan {
 
     ghost coded = { propagation_code };
 
+    ghost use Rattle.std.specs.Prelude.{◌≡◌};
     ghost use Rattle.clause_db.specs.Store.Clauses.{literals_in};
     ghost use Rattle.clause_db.specs.Propagation.Scan.{IsScan};
 
     ghost view = { λ s. record {
-      live = s.store;
+      live = s.store.live;
       assumptions = s.assumptions.assumptions;
-      stored = literals_in s.store;
+      stored = s.store.stored;
       has_refused = s.has_refused;
     } };
 
-    ghost invariant = { λ s. IsScan s.store s.assumptions };
+    ghost invariant = { λ s.
+        IsScan s.store.live s.assumptions × (s.store.stored ≡ literals_in s.store.live) };
 }
 
 /// Whether there is a clause in the slot with this number, and it has the literal.
 fn has_at(store: &Store, number: usize, l: Lit) -> bool
-    ensures yes { result ≡ true → HasAt (maps.get store.now) l number }
-    ensures no { result ≡ false → ¬ HasAt (maps.get store.now) l number }
+    ensures yes { result ≡ true → HasAt (maps.get store.now.live) l number }
+    ensures no { result ≡ false → ¬ HasAt (maps.get store.now.live) l number }
 {
     match store.at(number) {
         Some(clause) => clause.contains(&l),
@@ -60,11 +62,11 @@ fn has_at(store: &Store, number: usize, l: Lit) -> bool
 
 /// The first slot from this one on whose clause has the literal.
 fn first_with(store: &Store, l: Lit, from: Slot) -> Option<Slot>
-    ensures found { IfSome result (λ slot. (from ≤ slot) × HasAt (maps.get store.now) l slot) }
+    ensures found { IfSome result (λ slot. (from ≤ slot) × HasAt (maps.get store.now.live) l slot) }
     ensures passed_over { IfSome result (λ slot. (s : ℕ) → from ≤ s → s < slot →
-        ¬ HasAt (maps.get store.now) l s) }
-    ensures none { IfNone result ((s : ℕ) → from ≤ s → ¬ HasAt (maps.get store.now) l s) }
-    ensures slots { (s : ℕ) → IsSome (maps.get store.now s) → s ≤ 18446744073709551615 }
+        ¬ HasAt (maps.get store.now.live) l s) }
+    ensures none { IfNone result ((s : ℕ) → from ≤ s → ¬ HasAt (maps.get store.now.live) l s) }
+    ensures slots { (s : ℕ) → IsSome (maps.get store.now.live s) → s ≤ 18446744073709551615 }
 {
     for number in from.number()..store.end() {
         if has_at(store, number, l) {
@@ -83,15 +85,15 @@ fn assume_part<P: Part>(
 ) -> Result<Answer, OutOfMemory>
     requires may { MayAssume assumptions.old.assumptions }
     requires room { HasRoom assumptions.old.trail.met clause.now }
-    requires scan { IsScan store.now assumptions.old }
-    ensures answer { IfOk result (λ a. IsAnswer (maps.get store.now)
+    requires scan { IsScan store.now.live assumptions.old }
+    ensures answer { IfOk result (λ a. IsAnswer (maps.get store.now.live)
         (assumed_by assumptions.old.assumptions ++ complements
         (filter (P.keeps part.now) clause.now)) a) }
     ensures assumed { IfOk result (λ a. Assumes assumptions.old.assumptions
         assumptions.new.assumptions a (assumed_by assumptions.old.assumptions ++ complements
         (filter (P.keeps part.now) clause.now))) }
     ensures err { OnErr result (assumptions.new ≡ assumptions.old) }
-    ensures scan { IsScan store.now assumptions.new }
+    ensures scan { IsScan store.now.live assumptions.new }
 {
     if assumptions.assume(clause, part)? {
         return Ok(Answer::Clash);

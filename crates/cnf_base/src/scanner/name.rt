@@ -1,6 +1,6 @@
 //! The bytes of a fixed word.
 
-ghost use Rattle.std.specs.Prelude.{◌≡◌, ◌∷◌, ◌++◌, [], ℕ, List, cond, take};
+ghost use Rattle.std.specs.Prelude.{◌≡◌, ◌≤◌, ◌∷◌, ◌++◌, [], ℕ, List, cond, length, take};
 ghost use Rattle.std.specs.Str.{bytes_eq};
 ghost use Rattle.cnf_base.specs.Words.{fixed_word};
 ghost use Rattle.cnf_base.specs.Digits.{AreKept};
@@ -9,7 +9,7 @@ use crate::Word;
 
 const ROOM: usize = 16;
 
-/// The first bytes of a run.
+/// The first bytes of a run, no more than 16.
 #[derive(Clone, Copy)]
 pub struct Name {
     bytes: [u8; ROOM],
@@ -19,7 +19,8 @@ pub struct Name {
 
 impl Name {
     pub fn new() -> Name
-        ensures { AreKept result.bytes result.len result.is_longer [] }
+        ensures empty { AreKept result.bytes result.len result.is_longer [] }
+        ensures most { length result.bytes ≤ 16 }
     {
         Name {
             bytes: [0; ROOM],
@@ -30,8 +31,9 @@ impl Name {
 
     /// Takes one more byte of the run.
     pub fn push(&mut self, byte: u8)
-        ensures { (run : List ℕ) → AreKept self.old.bytes self.old.len self.old.is_longer run →
+        ensures more { (run : List ℕ) → AreKept self.old.bytes self.old.len self.old.is_longer run →
             AreKept self.new.bytes self.new.len self.new.is_longer (run ++ byte ∷ []) }
+        ensures most { length self.new.bytes ≤ 16 }
     {
         if self.len < ROOM {
             self.bytes[self.len] = byte;

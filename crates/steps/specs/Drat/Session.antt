@@ -10,6 +10,8 @@ use Rattle.steps.specs.declared.drat.rules.DratRules.{DratRules}
 pub record DratState : Type 0 where
   -- the live clauses, each in its slot
   pub live : FinMap nat_cmp Clause
+  -- the sum of the lengths of all lists of literals that it keeps
+  pub stored : ℕ
   pub rules : DratRules
   -- whether some step was accepted
   pub has_stepped : Bool
@@ -23,15 +25,15 @@ pub record DratState : Type 0 where
 -- a session is stored as the pairs of its fields
 abbrev pub drat_code : Coded DratState
 drat_code =
-    code_by (FinMap nat_cmp Clause × (Bool × (Bool × (Bool × (Bool × ℕ)))))
-    (coded× (maps.code coded_ℕ (coded_list coded_ℕ)) (coded× coded_bool (coded× coded_bool (coded× coded_bool (coded× coded_bool coded_ℕ)))))
-    (λ s. (s.live, (s.rules.strict, (s.has_stepped, (s.is_verified, (s.is_ended, s.peak))))))
-    (λ p. record { live = p.0; rules = record { strict = p.1.0 }; has_stepped = p.1.1.0; is_verified = p.1.1.1.0; is_ended = p.1.1.1.1.0; peak = p.1.1.1.1.1 })
+    code_by (FinMap nat_cmp Clause × (Bool × (Bool × (Bool × (Bool × (ℕ × ℕ))))))
+    (coded× (maps.code coded_ℕ (coded_list coded_ℕ)) (coded× coded_bool (coded× coded_bool (coded× coded_bool (coded× coded_bool (coded× coded_ℕ coded_ℕ))))))
+    (λ s. (s.live, (s.rules.strict, (s.has_stepped, (s.is_verified, (s.is_ended, (s.peak, s.stored)))))))
+    (λ p. record { live = p.0; rules = record { strict = p.1.0 }; has_stepped = p.1.1.0; is_verified = p.1.1.1.0; is_ended = p.1.1.1.1.0; peak = p.1.1.1.1.1.0; stored = p.1.1.1.1.1.1 })
     (λ _. refl)
 
 -- no clause was input
 abbrev pub fresh_drat : DratRules → DratState
-fresh_drat rules = record { live = maps.empty; rules = rules; has_stepped = false; is_verified = false; is_ended = false; peak = 0 }
+fresh_drat rules = record { live = maps.empty; rules = rules; has_stepped = false; is_verified = false; is_ended = false; peak = 0; stored = 0 }
 
 -- the live clauses, as the multiset that the rule speaks of
 abbrev pub clauses_of : DratState → List Clause

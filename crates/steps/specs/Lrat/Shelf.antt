@@ -22,16 +22,19 @@ held_at ids store id = option_map (clause_at store) (maps.get ids id)
 abbrev pub joined : FinMap nat_cmp ℕ → FinMap nat_cmp Clause → FinMap nat_cmp Clause
 joined ids store = maps.from_entries (map (λ e. (e.0, clause_at store e.1)) (maps.entries ids))
 
--- the live clauses, and the greatest identifier so far
+-- the live clauses, the greatest identifier so far, and the sum of the lengths of all lists of literals that are kept
 pub record Shelf : Type 0 where
   pub live : FinMap nat_cmp Clause
   pub top : ℕ
+  pub stored : ℕ
 
 abbrev pub shelf_code : Coded Shelf
-shelf_code = code_by (FinMap nat_cmp Clause × ℕ) (coded× (maps.code coded_ℕ (coded_list coded_ℕ)) coded_ℕ) (λ s. (s.live, s.top)) (λ p. record { live = p.0; top = p.1 }) (λ _. refl)
+shelf_code =
+    code_by (FinMap nat_cmp Clause × (ℕ × ℕ)) (coded× (maps.code coded_ℕ (coded_list coded_ℕ)) (coded× coded_ℕ coded_ℕ))
+    (λ s. (s.live, (s.top, s.stored))) (λ p. record { live = p.0; top = p.1.0; stored = p.1.1 }) (λ _. refl)
 
 abbrev pub empty_shelf : Shelf
-empty_shelf = record { live = maps.empty; top = 0 }
+empty_shelf = record { live = maps.empty; top = 0; stored = 0 }
 
 abbrev pub shelf_state : Shelf → LratState
 shelf_state s = record { live = maps.get s.live; top = s.top }

@@ -40,10 +40,14 @@ abbrev pub after : State → Step → Accepted → State
 after (by_ids s) step word = by_ids (after_lrat s (lrat_step step))
 after (by_copies rules live) step word = by_copies rules (after_drat live (drat_step step) word)
 
--- the sum of the sizes of the live clauses, counted up to the greatest number of 64 bits
+-- the sum of the sizes of the live clauses
+abbrev pub literals_of : State → ℕ
+literals_of (by_ids s) = total s
+literals_of (by_copies rules live) = sum_by size live
+
+-- that sum, counted up to the greatest number of 64 bits
 abbrev pub sum_of : State → ℕ
-sum_of (by_ids s) = min (total s) (2 ^ 64 - 1)
-sum_of (by_copies rules live) = min (sum_by size live) (2 ^ 64 - 1)
+sum_of s = min (literals_of s) (2 ^ 64 - 1)
 
 -- the same clauses: at the same identifiers, or in as many copies
 abbrev pub Same : State → State → Type 0

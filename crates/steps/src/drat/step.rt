@@ -1,9 +1,9 @@
 //! One step of a DRAT proof, over any store of clauses that propagates.
 
-ghost use Rattle.std.specs.Prelude.{◌≡◌, ◌++◌, ◌∷◌, [], Some, IsSome, IfOk, OnOk};
+ghost use Rattle.std.specs.Prelude.{◌≡◌, ◌++◌, ◌∷◌, [], Some, IsSome, IfOk, OnOk, OnErr};
 ghost use Rattle.std.specs.FinMap as maps;
 ghost use Rattle.cnf_base.specs.Literals.{Clause, complements, without};
-ghost use Rattle.clause_db.specs.Propagation.Assumptions.{IsAnswer, assumed_by, MayAssume};
+ghost use Rattle.clause_db.specs.Propagation.Assumptions.{IsAnswer, HoldsLiveAlone, assumed_by, MayAssume};
 ghost use Rattle.clause_db.specs.Propagation.Trail.{SameSet};
 ghost use Rattle.steps.specs.Theory.Propagation.{HasRup};
 ghost use Rattle.steps.specs.Drat.{AnswersAdd, AnswersDelete, AnswersDrat, after_drat, drat_step, SameLive};
@@ -88,6 +88,7 @@ fn judge<P: Propagate>(clauses: &mut P, lits: &[Lit]) -> Result<Accepted, Refusa
         (AnswersAdd (maps.values (P.state clauses.old).live) lits.now result) }
     ensures live { (P.state clauses.new).live ≡ (P.state clauses.old).live }
     ensures nothing_assumed { (P.state clauses.new).assumptions ≡ [] }
+    ensures live_alone { HoldsLiveAlone (P.state clauses.new) }
 {
     match clauses.assume(lits) {
         Ok(Answer::Clash) => {
@@ -109,6 +110,8 @@ pub(crate) fn add_copy<P: Propagate>(clauses: &mut P, lits: &[Lit]) -> Result<()
     ensures live { OnOk result (SameLive (maps.values (P.state clauses.new).live)
         (lits.now ∷ maps.values (P.state clauses.old).live)) }
     ensures nothing_assumed { (P.state clauses.new).assumptions ≡ [] }
+    ensures live_alone { HoldsLiveAlone (P.state clauses.new) }
+    ensures refused { OnErr result ((P.state clauses.new).live ≡ (P.state clauses.old).live) }
 {
     let _ = clauses.insert(lits)?;
     Ok(())
@@ -122,6 +125,8 @@ fn add<P: Propagate>(clauses: &mut P, lits: &[Lit]) -> Result<Accepted, Refusal>
     ensures live { OnOk result (SameLive (maps.values (P.state clauses.new).live)
         (lits.now ∷ maps.values (P.state clauses.old).live)) }
     ensures nothing_assumed { (P.state clauses.new).assumptions ≡ [] }
+    ensures live_alone { HoldsLiveAlone (P.state clauses.new) }
+    ensures refused { OnErr result ((P.state clauses.new).live ≡ (P.state clauses.old).live) }
 {
     let word = judge(clauses, lits)?;
     add_copy(clauses, lits)?;
@@ -130,12 +135,15 @@ fn add<P: Propagate>(clauses: &mut P, lits: &[Lit]) -> Result<Accepted, Refusal>
 
 /// Takes one copy of the clause off.
 fn delete<P: Propagate>(clauses: &mut P, strict: bool, lits: &[Lit]) -> Result<Accepted, Refusal>
-    requires { (P.state clauses.old).assumptions ≡ [] }
+    requires nothing_assumed { (P.state clauses.old).assumptions ≡ [] }
+    requires live_alone { HoldsLiveAlone (P.state clauses.old) }
     ensures answers { AnswersDelete strict (maps.values (P.state clauses.old).live) lits.now
         result }
     ensures live { IfOk result (λ word. SameLive (maps.values (P.state clauses.new).live)
         (after_drat (maps.values (P.state clauses.old).live) (drat.delete lits.now) word)) }
     ensures nothing_assumed { (P.state clauses.new).assumptions ≡ [] }
+    ensures live_alone { HoldsLiveAlone (P.state clauses.new) }
+    ensures refused { OnErr result ((P.state clauses.new).live ≡ (P.state clauses.old).live) }
 {
     match clauses.find(lits) {
         Some(slot) => {
@@ -153,12 +161,15 @@ pub(crate) fn take_step<P: Propagate>(
     rules: DratRules,
     step: &StepBuf,
 ) -> Result<Accepted, Refusal>
-    requires { (P.state clauses.old).assumptions ≡ [] }
+    requires nothing_assumed { (P.state clauses.old).assumptions ≡ [] }
+    requires live_alone { HoldsLiveAlone (P.state clauses.old) }
     ensures answers { UnlessOutOfMemory result
         (AnswersDrat rules (maps.values (P.state clauses.old).live) (drat_step step.now) result) }
     ensures live { IfOk result (λ word. SameLive (maps.values (P.state clauses.new).live)
         (after_drat (maps.values (P.state clauses.old).live) (drat_step step.now) word)) }
     ensures nothing_assumed { (P.state clauses.new).assumptions ≡ [] }
+    ensures live_alone { HoldsLiveAlone (P.state clauses.new) }
+    ensures refused { OnErr result ((P.state clauses.new).live ≡ (P.state clauses.old).live) }
 {
     match step.kind() {
         StepKind::Add => add(clauses, step.lits()),

@@ -1,6 +1,6 @@
 //! The live clauses, each at its identifier, and the sum of their sizes.
 
-ghost use Rattle.std.specs.Prelude.{◌≡◌, ℕ, ◌-◌, ◌<◌, ◌≤◌, ◌^◌, min, Some, None, is_some, option_map, map, nat_abs, length, List, OnOk, IfOk, IfSome, IfNone};
+ghost use Rattle.std.specs.Prelude.{◌≡◌, ℕ, ◌-◌, ◌<◌, ◌≤◌, ◌^◌, min, Some, None, is_some, option_map, map, nat_abs, length, List, OnOk, OnErr, IfOk, IfSome, IfNone};
 ghost use Rattle.std.specs.Option.{option_copied};
 ghost use Rattle.std.specs.List.{IsDistinct};
 ghost use Rattle.std.specs.FinMap as maps;
@@ -14,7 +14,7 @@ use cnf_base::{Lit, OutOfMemory};
 use std::alloc::Global;
 use std::marker::Model;
 
-/// The live clauses. Contracts see them as a finite map, with the greatest identifier so far.
+/// The live clauses. Contracts see them as a finite map, with the greatest identifier so far and what is kept.
 #[derive(Drop)]
 pub(crate) struct LiveClauses {
     store: Store,
@@ -23,6 +23,7 @@ pub(crate) struct LiveClauses {
 }
 
 impl Model for LiveClauses {
+    ghost use Rattle.std.specs.Prelude.{◌≡◌};
     ghost use Rattle.clause_db.specs.Store.Clauses.{literals_in};
     ghost use Rattle.steps.specs.Lrat.Shelf.{Shelf, shelf_code, joined, held_at, IsPaired, IsTally};
 
@@ -30,10 +31,16 @@ impl Model for LiveClauses {
 
     ghost coded = { shelf_code };
 
-    ghost view = { λ s. record { live = joined s.ids s.store; top = s.top } };
+    // Of its fields the store alone has lists of literals.
+    ghost view = { λ s. record {
+      live = joined s.ids s.store.live;
+      top = s.top;
+      stored = s.store.stored;
+    } };
 
-    ghost invariant = { λ s. IsPaired s.ids s.store ×
-        IsTally (held_at s.ids s.store) s.top (literals_in s.store) };
+    ghost invariant = { λ s. (IsPaired s.ids s.store.live ×
+        IsTally (held_at s.ids s.store.live) s.top (literals_in s.store.live)) ×
+        (s.store.stored ≡ literals_in s.store.live) };
 }
 
 impl LiveClauses {
@@ -86,7 +93,8 @@ impl LiveClauses {
 
     /// The sum of the sizes of the live clauses. It saturates.
     pub(crate) fn literals(&self) -> u64
-        ensures { result ≡ min (total (shelf_state self.now)) (2 ^ 64 - 1) }
+        ensures value { result ≡ min (total (shelf_state self.now)) (2 ^ 64 - 1) }
+        ensures live_alone { self.now.stored ≡ total (shelf_state self.now) }
     {
         self.store.literals()
     }
@@ -97,6 +105,7 @@ impl LiveClauses {
         ensures live { OnOk result (SameClauses (maps.get self.new.live)
             (with_clause (maps.get self.old.live) id lits.now)) }
         ensures top { OnOk result (self.new.top ≡ id) }
+        ensures refused { OnErr result (self.new.stored ≡ self.old.stored) }
     {
         let slot = self.store.insert(lits)?;
         if self.ids.bind(id, slot).is_err() {
@@ -113,6 +122,7 @@ impl LiveClauses {
         ensures live { (k : ℕ) → maps.get self.new.live k ≡ without_id
             (maps.get self.old.live) id k }
         ensures top { self.new.top ≡ self.old.top }
+        ensures fewer { self.new.stored ≤ self.old.stored }
     {
         match self.ids.unbind(id) {
             Some(slot) => {
@@ -131,6 +141,7 @@ pub(crate) fn delete_all(live: &mut LiveClauses, ids: &[i64]) -> Option<u64>
     ensures live { IfNone result ((k : ℕ) → maps.get live.new.live k ≡ without_ids
         (maps.get live.old.live) (map nat_abs ids.now) k) }
     ensures top { live.new.top ≡ live.old.top }
+    ensures fewer { live.new.stored ≤ live.old.stored }
 {
     for id in ids {
         let id = id.unsigned_abs();

@@ -16,19 +16,20 @@ pub(crate) struct Progress {
 }
 
 impl Progress {
-    pub(crate) fn new() -> Self
+    /// Nothing was done yet, and so many literals are alive.
+    pub(crate) fn new(literals: u64) -> Self
         ensures { result ≡ record {
           has_stepped = false;
           is_verified = false;
           is_ended = false;
-          peak = 0;
+          peak = literals;
         } }
     {
         Progress {
             has_stepped: false,
             is_verified: false,
             is_ended: false,
-            peak: 0,
+            peak: literals,
         }
     }
 

@@ -27,10 +27,10 @@ enum Pass {
 
 /// One pass over all clauses, which sets what follows from each.
 fn run_pass(store: &Store, assumptions: &mut Assumptions) -> Pass
-    requires { HasRoomForAll assumptions.old.trail.met (maps.get store.now) }
+    requires { HasRoomForAll assumptions.old.trail.met (maps.get store.now.live) }
     ensures sound { (l : Literal) → IsTrue (has assumptions.new.trail.lits l) →
-        Forced (maps.get store.now) assumptions.old.trail.lits l }
-    ensures pass { IsPassed (maps.get store.now)
+        Forced (maps.get store.now.live) assumptions.old.trail.lits l }
+    ensures pass { IsPassed (maps.get store.now.live)
         assumptions.old.trail assumptions.new.trail.lits result }
     ensures extends { Extends assumptions.old assumptions.new }
 {
@@ -53,11 +53,11 @@ fn run_pass(store: &Store, assumptions: &mut Assumptions) -> Pass
 
 /// Sets all that follows from the literals that are true, or stops at a clash.
 pub(crate) fn propagate(store: &Store, assumptions: &mut Assumptions) -> Answer
-    requires { HasRoomForAll assumptions.old.trail.met (maps.get store.now) }
-    ensures answer { IsAnswer (maps.get store.now) assumptions.old.trail.lits result }
+    requires { HasRoomForAll assumptions.old.trail.met (maps.get store.now.live) }
+    ensures answer { IsAnswer (maps.get store.now.live) assumptions.old.trail.lits result }
     ensures sound { (l : Literal) → IsTrue (has assumptions.new.trail.lits l) →
-        Forced (maps.get store.now) assumptions.old.trail.lits l }
-    ensures closed { result ≡ Quiet → IsClosed (maps.get store.now)
+        Forced (maps.get store.now.live) assumptions.old.trail.lits l }
+    ensures closed { result ≡ Quiet → IsClosed (maps.get store.now.live)
         (λ l. has assumptions.new.trail.lits l) }
     ensures extends { Extends assumptions.old assumptions.new }
 {

@@ -7,13 +7,13 @@ use Rattle.cnf_base.proofs.scanner.read_name.Goals as goal
 pub loop-byte-init : goal.loop-byte-init
 loop-byte-init g c =
     rw c.bump.ensures
-    (c.args.first ∷ [], InRun-first _ _ c.requires.ahead c.requires.first c.requires.run c.requires.text, c.push.ensures [] c.new-name.ensures, record { first = c.args.first; others = []; is = refl; begins = c.requires.name })
+    (c.args.first ∷ [], InRun-first _ _ c.requires.ahead c.requires.first c.requires.run c.requires.text, c.push.ensures.more [] c.new-name.ensures.empty, record { first = c.args.first; others = []; is = refl; begins = c.requires.name })
 
 pub loop-byte-preserved : goal.loop-byte-preserved
 loop-byte-preserved g c =
     let so_far = c.loop-byte.invariant in
     rw c.bump_in_line.ensures
-    (so_far.0 ++ c.in-Ok-Some.byte ∷ [], InRun-bumped _ _ _ _ (InRun-looked _ _ _ _ so_far.1 c.peek.ensures.look (search rules)) (search rules) (search rules) (search rules), c.push-in-Ok-Some.ensures so_far.0 so_far.2, IsName-more _ c.in-Ok-Some.byte so_far.3)
+    (so_far.0 ++ c.in-Ok-Some.byte ∷ [], InRun-bumped _ _ _ _ (InRun-looked _ _ _ _ so_far.1 c.peek.ensures.look (search rules)) (search rules) (search rules) (search rules), c.push-in-Ok-Some.ensures.more so_far.0 so_far.2, IsName-more _ c.in-Ok-Some.byte so_far.3)
 
 pub returns-then-is_separator-clause-text : goal.returns-then-is_separator-clause-text
 returns-then-is_separator-clause-text g c =

@@ -1,8 +1,13 @@
 -- The formula was loaded, or it has a fault.
+use Rattle.std.proofs.Common.{Option, [], sym, subst}
+use Rattle.cnf_base.specs.declared.fault.Fault.{Fault}
 use Rattle.cnf_base.proofs.StreamLemmas.{Along-map, Along-none}
 use Rattle.cnf_base.proofs.SeenLemmas.{seen_is_some}
 use Rattle.dimacs.specs.Formula.{formula_of}
 use Rattle.steps.specs.Theory.Rules.{rule_of}
+use Rattle.sat_check.specs.Checking.{LeavesProof}
+use Rattle.sat_check.specs.declared.status.Status.TheVariants.{Malformed}
+use Rattle.sat_check.proofs.ReachLemmas.{no_verdict, LeavesProof-fault}
 use Rattle.sat_check.proofs.ReportLemmas.{reports_checked, err_report}
 use Rattle.sat_check.proofs.check.check.Goals as goal
 
@@ -19,13 +24,19 @@ returns-in-Ok-clause-report g c =
       Along-map _ _ _ _ c.check_loaded.ensures.report (λ j k m x i s.
           let l = c.in-Ok.ensures.loads.fact i s in
           let y = x rule (formula_of i).clauses l.2 in
-          record { report = y.0; reports = reports_checked rule c.args.trace (formula_of i) _ _ y.0 l.0 l.1 y.1; outcome = y.2 }),
+          let P : Option Fault → Type 0 = λ f. LeavesProof rule f (formula_of i).clauses (g.R.StepReader.to_come c.args.reader.now j) (g.R.StepReader.stream c.args.reader.now).reader (g.R.StepReader.stream c.check_loaded.new.reader).reader k c.check_loaded.result in (
+            record { report = y.0; reports = reports_checked rule c.args.trace (formula_of i) _ _ y.0 l.0 l.1 y.1; outcome = y.2 },
+            subst P (sym l.1) y.3,
+          )),
     )
 
 pub returns-in-Err-clause-report : goal.returns-in-Err-clause-report
 returns-in-Err-clause-report g c =
     let rule = rule_of (g.S.ProofSession.shown c.args.session.now).state in (
       c.in-Err.ensures.loads.seen,
-      Along-map _ _ _ _ (Along-none _) (λ j k m e i s.
-          err_report rule (g.S.ProofSession.shown c.load.new.session) c.args.trace c.in-Err.fault i _ c.break_off.result c.args.lines.now c.break_off.new.lines (c.in-Err.ensures.loads.fact i s) c.break_off.ensures.memory c.break_off.ensures.told),
+      Along-map _ _ _ _ (Along-none _) (λ j k m e i s. (
+        err_report rule (g.S.ProofSession.shown c.load.new.session) c.args.trace c.in-Err.fault i _ c.break_off.result c.args.lines.now c.break_off.new.lines (c.in-Err.ensures.loads.fact i s) c.break_off.ensures.memory c.break_off.ensures.told,
+        LeavesProof-fault rule (g.S.ProofSession.shown c.load.new.session) c.in-Err.fault i _ _ k c.break_off.result (c.in-Err.ensures.loads.fact i s)
+            (λ is. no_verdict c.break_off.result c.args.lines.now.held c.break_off.new.lines.held [] (c.break_off.ensures.memory is (record { lines = []; status = Malformed }))),
+      )),
     )

@@ -1,23 +1,31 @@
 -- The formula's line broke off, a clause is empty, or the proof is checked.
-use Rattle.std.proofs.Common.{rules}
+use Rattle.std.proofs.Common.{None, [], sym, ◌∙◌, rules}
 use Rattle.cnf_base.proofs.StreamLemmas.{Along-map, Along-none}
 use Rattle.sat_check.specs.Lines.{formula_line, steps_line}
+use Rattle.sat_check.specs.declared.status.Status.TheVariants.{Malformed}
 use Rattle.sat_check.proofs.OutcomeLemmas.{Outcome-line}
+use Rattle.sat_check.proofs.ReachLemmas.{no_verdict, LeavesProof-broken, LeavesProof-empty, LeavesProof-checked}
 use Rattle.sat_check.proofs.ReportLemmas.{loaded_finite, loaded_least, checks_some, checks_rest, verified_report}
 use Rattle.sat_check.proofs.check.check_loaded.Goals as goal
 
 pub returns-in-Err-clause-report : goal.returns-in-Err-clause-report
 returns-in-Err-clause-report g c =
-    Along-map _ _ _ _ (Along-none _) (λ j k m e rule clauses l.
+    Along-map _ _ _ _ (Along-none _) (λ j k m same rule clauses l.
     let some = checks_some rule (g.S.ProofSession.shown c.args.session.now) clauses l c.args.trace c.args.header _ in
-    (_, some.1, c.in-Err.ensures.stopped (formula_line c.args.header) some.0 c.formula_line.ensures))
+    let stopped = c.in-Err.ensures.stopped (formula_line c.args.header) in (
+      _,
+      some.1,
+      stopped some.0 c.formula_line.ensures,
+      LeavesProof-broken rule None clauses _ _ k _ (no_verdict _ _ _ _ (stopped (record { lines = []; status = Malformed }) c.formula_line.ensures)),
+    ))
 
 pub returns-then-verified-clause-report : goal.returns-then-verified-clause-report
 returns-then-verified-clause-report g c =
     Along-map _ _ _ _ (Along-none _) (λ j k m e rule clauses l.
-    verified_report rule (g.S.ProofSession.shown c.args.session.now) clauses l c.args.trace c.args.header _ c.conclude.result c.args.lines.now c.write_line.new.lines c.conclude.new.lines _ (search rules) c.peak.ensures
+    let done = verified_report rule (g.S.ProofSession.shown c.args.session.now) clauses l c.args.trace c.args.header _ c.conclude.result c.args.lines.now c.write_line.new.lines c.conclude.new.lines _ (search rules) c.peak.ensures
     (c.in_default.ensures.written (formula_line c.args.header) c.formula_line.ensures) c.in_default.ensures.ok.0
-    (c.conclude.ensures.outcome (steps_line 0 c.peak.result) c.steps_line.ensures))
+    (c.conclude.ensures.outcome (steps_line 0 c.peak.result) c.steps_line.ensures) in
+    (done.0, done.1, done.2, LeavesProof-empty rule None clauses _ _ k _ (sym l.verified ∙ search rules)))
 
 pub check_proof-requires-clause-finite : goal.check_proof-requires-clause-finite
 check_proof-requires-clause-finite g c = loaded_finite c.requires.loaded.0 (g.S.ProofSession.shown c.args.session.now) c.requires.loaded.1 c.requires.loaded.2
@@ -32,4 +40,5 @@ returns-clause-report g c =
       checks_rest rule (g.S.ProofSession.shown c.args.session.now) clauses l c.args.trace c.args.header _ rest.0 (search rules) rest.1,
       Outcome-line c.check_proof.result c.args.lines.now c.write_line.new.lines _ (formula_line c.args.header) rest.0
           (c.in_default.ensures.written (formula_line c.args.header) c.formula_line.ensures) c.in_default.ensures.ok.0 rest.2,
+      LeavesProof-checked rule (g.S.ProofSession.shown c.args.session.now) clauses l _ _ _ k _ (search rules) rest.3,
     ))

@@ -12,15 +12,15 @@ loop-clause-init g c = Judging-start c.args.model.now c.args.reader.now c.requir
 pub returns-then-not-meets-clause-judges : goal.returns-then-not-meets-clause-judges
 returns-then-not-meets-clause-judges g c =
     let unmet : meets c.args.model.now c.next.new.clause ≡ false = search rules in
-    Judging-unmet _ _ _ _ _ c.loop-clause.invariant c.next.new.clause (clause_told _ _ _ (Ok true) _ c.next.ensures.clause (search rules)) unmet
+    Judging-unmet _ _ _ c.next.new.self _ c.loop-clause.invariant c.next.new.clause (clause_told c.loop-clause.reader c.next.new.self _ (Ok true) _ c.next.ensures.clause (search rules)) unmet
 
 pub loop-clause-preserved : goal.loop-clause-preserved
 loop-clause-preserved g c =
     let met : meets c.args.model.now c.next.new.clause ≡ true = search rules in
-    Judging-clause _ _ _ _ _ c.loop-clause.invariant c.next.new.clause (clause_told _ _ _ (Ok true) _ c.next.ensures.clause (search rules)) met (search rules) (search rules)
+    Judging-clause _ _ _ c.next.new.self _ c.loop-clause.invariant c.next.new.clause (clause_told c.loop-clause.reader c.next.new.self _ (Ok true) _ c.next.ensures.clause (search rules)) met (search rules) (search rules)
 
 pub returns-clause-judges : goal.returns-clause-judges
-returns-clause-judges g c = Judging-done _ _ _ _ _ c.loop-clause.invariant c.next.new.clause (clause_told _ _ _ (Ok false) _ c.next.ensures.clause (search rules))
+returns-clause-judges g c = Judging-done _ _ _ c.next.new.self _ c.loop-clause.invariant c.next.new.clause (clause_told c.loop-clause.reader c.next.new.self _ (Ok false) _ c.next.ensures.clause (search rules))
 
 pub returns-in_err-next-clause-judges : goal.returns-in_err-next-clause-judges
-returns-in_err-next-clause-judges g c = Judging-fault _ _ _ _ _ c.loop-clause.invariant c.next.new.clause c.in_err-next.field-0.0 c.from_residual.result (search rules) c.in_err-next.ensures.clause
+returns-in_err-next-clause-judges g c = Judging-fault _ _ _ c.next.new.self _ c.loop-clause.invariant c.next.new.clause c.in_err-next.field-0.0 c.from_residual.result (search rules) c.in_err-next.ensures.clause

@@ -12,7 +12,7 @@ loop-clause-init g c = Loading-start _ _ _ c.requires.unused c.requires.first
 
 pub returns-then-is_err-clause-loads : goal.returns-then-is_err-clause-loads
 returns-then-is_err-clause-loads g c =
-    Loading-refused _ _ _ _ _ c.loop-clause.invariant (g.S.ProofSession.shown c.input.new.self) c.next.new.clause (clause_told _ _ _ (Ok true) _ c.next.ensures.clause (search rules))
+    Loading-refused _ _ _ c.next.new.self _ c.loop-clause.invariant (g.S.ProofSession.shown c.input.new.self) c.next.new.clause (clause_told c.loop-clause.reader c.next.new.self _ (Ok true) _ c.next.ensures.clause (search rules))
 
 pub loop-clause-preserved : goal.loop-clause-preserved
 loop-clause-preserved g c =
@@ -24,12 +24,12 @@ loop-clause-preserved g c =
     let unstepped : new.has_stepped ≡ false = search rules in
     let sound : new.is_ended ≡ false = search rules in
     let room : old.room ≤ new.room + 1 = search rules in
-    Loading-clause _ _ _ _ _ c.loop-clause.invariant _ c.next.new.clause (clause_told _ _ _ (Ok true) _ c.next.ensures.clause (search rules))
+    Loading-clause _ _ _ c.next.new.self _ c.loop-clause.invariant _ c.next.new.clause (clause_told c.loop-clause.reader c.next.new.self _ (Ok true) _ c.next.ensures.clause (search rules))
     (loaded_more _ old new _ _ c.loop-clause.invariant.loaded state verified peak unstepped sound room)
     (search rules) (search rules)
 
 pub returns-clause-loads : goal.returns-clause-loads
-returns-clause-loads g c = Loading-done _ _ _ _ _ c.loop-clause.invariant c.next.new.clause (clause_told _ _ _ (Ok false) _ c.next.ensures.clause (search rules))
+returns-clause-loads g c = Loading-done _ _ _ c.next.new.self _ c.loop-clause.invariant c.next.new.clause (clause_told c.loop-clause.reader c.next.new.self _ (Ok false) _ c.next.ensures.clause (search rules))
 
 pub returns-in_err-next-clause-loads : goal.returns-in_err-next-clause-loads
-returns-in_err-next-clause-loads g c = Loading-fault _ _ _ _ _ c.loop-clause.invariant (g.S.ProofSession.shown c.loop-clause.session) c.next.new.clause c.in_err-next.field-0.0 c.from_residual.result (search rules) c.in_err-next.ensures.clause
+returns-in_err-next-clause-loads g c = Loading-fault _ _ _ c.next.new.self _ c.loop-clause.invariant (g.S.ProofSession.shown c.loop-clause.session) c.next.new.clause c.in_err-next.field-0.0 c.from_residual.result (search rules) c.in_err-next.ensures.clause

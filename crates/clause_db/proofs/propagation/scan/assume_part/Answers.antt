@@ -11,16 +11,16 @@ use Rattle.clause_db.proofs.propagation.scan.assume_part.Goals as goal
 
 pub returns-then-branch-clause-answer : goal.returns-then-branch-clause-answer
 returns-then-branch-clause-answer g c =
-    part_clashes c.args.store.now c.args.assumptions.now c.assume.new.self (complements (filter (g.P.Part.keeps c.args.part.now) c.args.clause.now)) c.requires.may c.requires.scan (sym c.in_ok-assume.ensures.conflict ∙ c.if-branch.true)
+    part_clashes c.args.store.now.live c.args.assumptions.now c.assume.new.self (complements (filter (g.P.Part.keeps c.args.part.now) c.args.clause.now)) c.requires.may c.requires.scan (sym c.in_ok-assume.ensures.conflict ∙ c.if-branch.true)
 
 pub returns-clause-answer : goal.returns-clause-answer
 returns-clause-answer g c =
-    part_answer c.args.store.now c.args.assumptions.now c.assume.new.self (complements (filter (g.P.Part.keeps c.args.part.now) c.args.clause.now)) c.requires.may c.requires.scan (subst (λ b. OnFalse b (SameSet c.assume.new.self.trail.lits (c.args.assumptions.now.trail.lits ++ complements (filter (g.P.Part.keeps c.args.part.now) c.args.clause.now)))) c.if-branch.false c.in_ok-assume.ensures.added)
+    part_answer c.args.store.now.live c.args.assumptions.now c.assume.new.self (complements (filter (g.P.Part.keeps c.args.part.now) c.args.clause.now)) c.requires.may c.requires.scan (subst (λ b. OnFalse b (SameSet c.assume.new.self.trail.lits (c.args.assumptions.now.trail.lits ++ complements (filter (g.P.Part.keeps c.args.part.now) c.args.clause.now)))) c.if-branch.false c.in_ok-assume.ensures.added)
     c.propagate-answer.result c.propagate-answer.ensures.answer
 
 pub returns-clause-scan : goal.returns-clause-scan
 returns-clause-scan g c =
-    let live = c.args.store.now in
+    let live = c.args.store.now.live in
     let before = c.args.assumptions.now in
     let after = c.assume.new.self in
     let found = c.propagate-answer.new.assumptions in

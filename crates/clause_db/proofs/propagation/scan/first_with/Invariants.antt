@@ -4,4 +4,4 @@ use Rattle.clause_db.specs.Propagation.Assumptions.{HasAt}
 use Rattle.clause_db.proofs.propagation.scan.first_with.Given as goal
 
 abbrev pub invariant-loop-number : goal.invariant-loop-number
-invariant-loop-number l = (s : ℕ) → l.fn.from ≤ s → s < l.number → HasAt (maps.get l.store) l.l s → ⊥
+invariant-loop-number l = (s : ℕ) → l.fn.from ≤ s → s < l.number → HasAt (maps.get l.store.live) l.l s → ⊥

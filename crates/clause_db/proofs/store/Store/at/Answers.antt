@@ -5,7 +5,7 @@ use Rattle.clause_db.proofs.store.Store.at.Goals as goal
 
 pub returns-in-Some : goal.returns-in-Some
 returns-in-Some c =
-    ap Some c.as_slice.ensures ∙ ap clause_of c.in-Some.ensures ∙ sym (get_stored c.self.inside.entries c.args.number) ∙ ap (λ m. maps.get m c.args.number) c.self.view_is
+    ap Some c.as_slice.ensures ∙ ap clause_of c.in-Some.ensures ∙ sym (get_stored c.self.inside.entries c.args.number) ∙ ap (λ v. maps.get v.live c.args.number) c.self.view_is
 
 pub returns-in-None : goal.returns-in-None
-returns-in-None c = ap clause_of c.in-None.ensures ∙ sym (get_stored c.self.inside.entries c.args.number) ∙ ap (λ m. maps.get m c.args.number) c.self.view_is
+returns-in-None c = ap clause_of c.in-None.ensures ∙ sym (get_stored c.self.inside.entries c.args.number) ∙ ap (λ v. maps.get v.live c.args.number) c.self.view_is

@@ -9,7 +9,7 @@ pub returns : goal.returns
 returns c s live =
     let slots = c.self.inside.entries.slots in
     let most = c.capacity.ensures.slots in
-    let there = live_entry c.self.inside.entries c.args.self.now s c.self.view_is live in
+    let there = live_entry c.self.inside.entries c.args.self.now.live s (ap (λ v. v.live) c.self.view_is) live in
     elim (cases_lt s (length slots)) [
       | inl low ↦ omega arith
       | inr past ↦ absurd (false≢true (sym (ap is_some (get_or_past slots s None past)) ∙ there))

@@ -18,7 +18,7 @@ returns-then-not-all_known-clause-none c s d is same =
     let i = c.self.inside in
     let marks = c.self.inside.marks in
     let lits = c.args.lits.now in
-    let at_slot = ap (λ m. maps.get m s) c.self.view_is ∙ is in
+    let at_slot = ap (λ v. maps.get v.live s) c.self.view_is ∙ is in
     let counted : (l : ℕ) → has lits l ≡ true → 0 < mark_count (at marks l) =
     λ l h.
     let many = copies_pos _ s d l at_slot (same_back d lits same l h) in
@@ -42,7 +42,7 @@ returns-clause-found c =
           let different = λ (d : Clause) (is : clause_of (get i.entries slot) ≡ Some d). c.self.invariant.different slot d (get_stored i.entries slot ∙ is) in
           let matched = match_same c.args.lits.now (λ l. is_marked (at digest.new.marks l)) digest.ensures.marked digest.result.len digest.ensures.len (get i.entries slot) different w.in-Some.ensures.found in
           if_some_from c.match-found.result w.at.result _ w.result-is
-          (matched.0, ap (maps.get now) w.at.ensures ∙ ap (λ m. maps.get m slot) (sym c.self.view_is) ∙ get_stored i.entries slot ∙ matched.1, matched.2)
+          (matched.0, ap (maps.get now.live) w.at.ensures ∙ ap (λ v. maps.get v.live slot) (sym c.self.view_is) ∙ get_stored i.entries slot ∙ matched.1, matched.2)
       | in-None w ↦ if_some_from_none c.match-found.result _ w.result-is
     ]
 
@@ -55,5 +55,5 @@ returns-clause-none c =
       | in-None w ↦ if_none_from c.match-found.result _ w.result-is (λ s d is same.
           none_same i.entries (under i.index) c.self.invariant.placed c.args.lits.now (λ l. is_marked (at digest.new.marks l)) digest.ensures.marked
           digest.result.len digest.ensures.len digest.result.hash digest.ensures.hash c.self.invariant.different w.in-None.ensures.none
-          s d (ap (λ m. maps.get m s) c.self.view_is ∙ is) same)
+          s d (ap (λ v. maps.get v.live s) c.self.view_is ∙ is) same)
     ]

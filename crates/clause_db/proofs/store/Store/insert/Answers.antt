@@ -9,8 +9,8 @@ use Rattle.clause_db.specs.Store.LiteralMarks.{mark_count}
 use Rattle.clause_db.specs.Store.Table.{at}
 use Rattle.clause_db.proofs.StoreLemmas.Distinct.{IsWithin, size_same}
 use Rattle.clause_db.proofs.StoreLemmas.Marks.{hash_same}
-use Rattle.clause_db.proofs.StoreLemmas.Entries.{clause_of, get_stored, stored_same}
-use Rattle.clause_db.proofs.StoreLemmas.Fields.{sound_same, sound_with, copies_few, sum_fits}
+use Rattle.clause_db.proofs.StoreLemmas.Entries.{clause_of, get_stored, seen_same}
+use Rattle.clause_db.proofs.StoreLemmas.Fields.{live_kept, sound_same, sound_with, copies_few, sum_fits}
 use Rattle.clause_db.proofs.store.Store.insert.Goals as goal
 
 pub gather-requires-clause-few : goal.gather-requires-clause-few
@@ -73,7 +73,7 @@ pub returns-in-Ok-clause-free : goal.returns-in-Ok-clause-free
 returns-in-Ok-clause-free c =
     let i = c.self.inside in
     let k = c.insert_reserved-slot.result in
-    ap (maps.get c.args.self.now) c.at.ensures ∙ ap (λ m. maps.get m k) (sym c.self.view_is) ∙ get_stored i.entries k
+    ap (maps.get c.args.self.now.live) c.at.ensures ∙ ap (λ v. maps.get v.live k) (sym c.self.view_is) ∙ get_stored i.entries k
     ∙ ap clause_of (ap (λ xs. get_or xs k None) (sym c.in-Ok.ensures.slots) ∙ c.insert_reserved-slot.ensures.was_vacant)
 
 pub returns-in-Ok-clause-stored : goal.returns-in-Ok-clause-stored
@@ -88,7 +88,18 @@ returns-in-Ok-clause-others c s apart =
     let slots = c.in-Ok.ensures.slots in
     get_stored c.insert_reserved-slot.new.self s
     ∙ ap clause_of (c.insert_reserved-slot.ensures.updates.others s (λ e. apart (e ∙ sym c.at.ensures)) ∙ ap (λ xs. get_or xs s None) slots)
-    ∙ sym (get_stored i.entries s) ∙ ap (λ m. maps.get m s) c.self.view_is
+    ∙ sym (get_stored i.entries s) ∙ ap (λ v. maps.get v.live s) c.self.view_is
 
 pub returns-in-Err-clause-err : goal.returns-in-Err-clause-err
-returns-in-Err-clause-err c = stored_same c.self.inside.entries c.make_room.new.entries c.in-Err.ensures.slots ∙ c.self.view_is
+returns-in-Err-clause-err c = seen_same c.self.inside.entries c.make_room.new.entries c.in-Err.ensures.slots ∙ c.self.view_is
+
+pub returns-in_err-reserve_all-clause-live_alone : goal.returns-in_err-reserve_all-clause-live_alone
+returns-in_err-reserve_all-clause-live_alone c =
+    let i = c.self.inside in
+    live_kept i.entries i.index i.marks i.sum c.self.invariant
+
+pub returns-in-Ok-clause-live_alone : goal.returns-in-Ok-clause-live_alone
+returns-in-Ok-clause-live_alone c = live_kept c.insert_reserved-slot.new.self c.make_room.new.index c.gather.new.marks _ (invariant_of-self-in-Ok c)
+
+pub returns-in-Err-clause-live_alone : goal.returns-in-Err-clause-live_alone
+returns-in-Err-clause-live_alone c = live_kept c.make_room.new.entries c.make_room.new.index c.unmark_all.new.marks _ (invariant_of-self-in-Err c)

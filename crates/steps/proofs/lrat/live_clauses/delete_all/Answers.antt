@@ -16,4 +16,5 @@ loop-id-preserved c =
       missing = deletion_more live _ _ id ids_are after c.remove.ensures.live (sym c.if-not-remove.false ∙ c.remove.ensures.was) ∙ c.loop-id.invariant.missing;
       left = without_more live _ _ id ids_are after c.remove.ensures.live ∙ c.loop-id.invariant.left;
       top = c.remove.ensures.top ∙ c.loop-id.invariant.top;
+      fewer = let now = c.remove.ensures.fewer in let before = c.loop-id.invariant.fewer in omega arith;
     }

@@ -4,6 +4,8 @@ use Rattle.clause_db.proofs.propagation.scan.ScanPropagate.remove.Goals as goal
 
 pub invariant_of-self : goal.invariant_of-self
 invariant_of-self c =
-    let s = c.self.inside in
-    scan_with s.store c.remove.new.self s.assumptions (ap (λ p. p.assumptions) c.self.view_is ∙ c.requires.nothing_assumed)
-    (room_removed s.assumptions.trail.met s.store c.remove.new.self c.args.slot c.remove.ensures c.self.invariant.room) c.self.invariant
+    let s = c.self.inside in (
+      scan_with s.store.live c.remove.new.self.live s.assumptions (ap (λ p. p.assumptions) c.self.view_is ∙ c.requires.nothing_assumed)
+          (room_removed s.assumptions.trail.met s.store.live c.remove.new.self.live c.args.slot c.remove.ensures.live c.self.invariant.0.room) c.self.invariant.0,
+      c.remove.ensures.live_alone,
+    )

@@ -8,7 +8,7 @@ use Rattle.clause_db.proofs.propagation.scan.unit.propagate.Given as goal
 
 abbrev pub invariant-loop-assumptions : goal.invariant-loop-assumptions
 invariant-loop-assumptions l = record {
-  sound : (k : Literal) → has l.assumptions.trail.lits k ≡ true → Forced (maps.get l.store) l.fn.assumptions.trail.lits k;
+  sound : (k : Literal) → has l.assumptions.trail.lits k ≡ true → Forced (maps.get l.store.live) l.fn.assumptions.trail.lits k;
   extends : Extends l.fn.assumptions l.assumptions;
 }
 

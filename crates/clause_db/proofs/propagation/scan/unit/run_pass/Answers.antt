@@ -15,7 +15,7 @@ use Rattle.clause_db.proofs.propagation.scan.unit.run_pass.Goals.{in-Some+in-One
 
 pub returns-in-Nothing-clause-pass : goal.returns-in-Nothing-clause-pass
 returns-in-Nothing-clause-pass c =
-    let live = maps.get c.args.store.now in
+    let live = maps.get c.args.store.now.live in
     let lits = c.loop-number.assumptions.trail.lits in
     let d = c.in-Some.clause.now in
     let left = subst (λ t. Nothing ≡ how_many (open_literals t.lits d)) c.trail.ensures c.in-Nothing.ensures in
@@ -36,7 +36,7 @@ make_true-requires-clause-not_false c =
 
 pub loop-number-preserved : goal.loop-number-preserved
 loop-number-preserved c =
-    let live = maps.get c.args.store.now in
+    let live = maps.get c.args.store.now.live in
     let before = c.args.assumptions.now in
     let state = c.loop-number.assumptions in
     let lits = state.trail.lits in

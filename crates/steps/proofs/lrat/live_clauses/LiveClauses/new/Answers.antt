@@ -1,8 +1,11 @@
+use Rattle.std.proofs.Common.{ap}
+use Rattle.clause_db.proofs.PropagationLemmas.Scan.{none_alone}
 use Rattle.steps.proofs.LratLemmas.Shelf.{start_invariant, start_view}
 use Rattle.steps.proofs.lrat.live_clauses.LiveClauses.new.Goals as goal
 
 pub invariant_of-result : goal.invariant_of-result
-invariant_of-result c = start_invariant c.in_ok-ids.ids c.in_ok-store.store c.in_ok-ids.ensures c.in_ok-store.ensures
+invariant_of-result c =
+    (start_invariant c.in_ok-ids.ids c.in_ok-store.store.live c.in_ok-ids.ensures (ap (λ s. s.live) c.in_ok-store.ensures), none_alone c.in_ok-store.store c.in_ok-store.ensures)
 
 pub returns : goal.returns
-returns c = λ i. record { live = start_view c.in_ok-ids.ids c.in_ok-store.store c.in_ok-ids.ensures i; top = 0 }
+returns c = λ i. record { live = start_view c.in_ok-ids.ids c.in_ok-store.store.live c.in_ok-ids.ensures i; top = 0; stored = (c.in_ok-store.ensures i).stored }

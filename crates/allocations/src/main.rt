@@ -1,0 +1,155 @@
+//! Makes calls of the readers and of the store again and again. `tests/allocations.py` counts their allocations.
+//!
+//!     allocations CASE COUNT
+//!
+//! It reads COUNT steps of one form into one buffer, or as many clauses, or stores and removes as many, and prints how many it
+//! did, or that memory was refused there. What is read is handed out with no memory of its own.
+#![tactic(auto)]
+
+use clause_db::Store;
+use cnf_base::{Fault, FromRead, Lit, OutOfMemory, Source};
+use dimacs::{ClauseBuf, FormulaReader};
+use proofs::{DratBinary, DratText, LratText, StepBuf, StepReader};
+use std::alloc::Global;
+use std::io::Read;
+use std::{env, io};
+
+/// What comes first, and then one text so many times.
+#[derive(Drop)]
+struct Repeated<'a> {
+    rest: &'a [u8],
+    text: &'a [u8],
+    times: u64,
+}
+
+impl Read for Repeated<'_> {
+    fn read(&mut self, buf: &mut [u8]) -> io::Result<usize> {
+        if self.rest.is_empty() && self.times > 0 {
+            self.times -= 1;
+            self.rest = self.text;
+        }
+        self.rest.read(buf)
+    }
+}
+
+fn open<'a>(
+    alloc: Global,
+    first: &'a [u8],
+    text: &'a [u8],
+    times: u64,
+) -> Result<Source<FromRead<Repeated<'a>>>, OutOfMemory> {
+    let reader = Repeated {
+        rest: first,
+        text,
+        times,
+    };
+    match Source::new(alloc, FromRead::new(reader)) {
+        Ok(source) => Ok(source),
+        Err((refused, _)) => Err(refused),
+    }
+}
+
+/// How many of so many calls say that they did something.
+fn count_calls<F: FnMut(u64) -> Result<bool, Fault>>(times: u64, mut call: F) -> Result<u64, Fault>
+    requires { (f : _) (x : _) → F.pre f x }
+{
+    let mut count = 0u64;
+    for number in 0..times {
+        if call(number)? {
+            count = count.wrapping_add(1);
+        }
+    }
+    Ok(count)
+}
+
+/// How many of so many steps the reader gives.
+fn count_steps<R: StepReader>(alloc: Global, reader: &mut R, times: u64) -> Result<u64, Fault> {
+    let mut step = StepBuf::new(alloc);
+    count_calls(times, |_| reader.next(&mut step))
+}
+
+fn read_drat(alloc: Global, step: &[u8], times: u64) -> Result<u64, Fault> {
+    let mut reader = DratText::new(open(alloc, b"", step, times)?);
+    count_steps(alloc, &mut reader, times)
+}
+
+fn read_binary(alloc: Global, step: &[u8], times: u64) -> Result<u64, Fault> {
+    let mut reader = DratBinary::new(open(alloc, b"", step, times)?);
+    count_steps(alloc, &mut reader, times)
+}
+
+fn read_lrat(alloc: Global, step: &[u8], times: u64) -> Result<u64, Fault> {
+    let mut reader = LratText::new(open(alloc, b"", step, times)?);
+    count_steps(alloc, &mut reader, times)
+}
+
+/// How many of so many clauses are read, after this header.
+fn read_formula(alloc: Global, header: &str, times: u64) -> Result<u64, Fault> {
+    let source = open(alloc, header.as_bytes(), b"1 -2 0\n", times)?;
+    let mut reader = match FormulaReader::open(source) {
+        Ok(reader) => reader,
+        Err((fault, _)) => return Err(fault),
+    };
+    let mut clause = ClauseBuf::new(alloc);
+    count_calls(times, |_| reader.next(&mut clause))
+}
+
+/// Stores the clause and takes it out again, so many times.
+fn store_and_remove(alloc: Global, lits: &[Lit], times: u64) -> Result<u64, Fault> {
+    let mut store = Store::new(alloc)?;
+    let mut count = 0u64;
+    for _ in 0..times {
+        let slot = store.insert(lits)?;
+        store.remove(slot);
+        count = count.wrapping_add(1);
+    }
+    Ok(count)
+}
+
+fn make_calls(
+    alloc: Global,
+    name: &str,
+    header: &str,
+    lits: &[Lit],
+    times: u64,
+) -> Result<u64, Fault> {
+    match name {
+        "drat_additions" => read_drat(alloc, b"1 -2 0\n", times),
+        "drat_deletions" => read_drat(alloc, b"d 1 -2 0\n", times),
+        "binary_additions" => read_binary(alloc, b"a\x02\x05\x00", times),
+        "binary_deletions" => read_binary(alloc, b"d\x02\x05\x00", times),
+        "lrat_additions" => read_lrat(alloc, b"5 1 -2 0 3 4 0\n", times),
+        "lrat_deletions" => read_lrat(alloc, b"5 d 3 4 0\n", times),
+        "formula" => read_formula(alloc, header, times),
+        "store" => store_and_remove(alloc, lits, times),
+        _ => Ok(0),
+    }
+}
+
+fn times_of(words: &[String]) -> u64 {
+    match words.get(2) {
+        Some(word) => word.parse::<u64>().unwrap_or(0),
+        None => 0,
+    }
+}
+
+fn main(rt: HostRuntime) -> anyhow::Result<()> {
+    let alloc = rt.alloc();
+    let words = env::args(&rt)?.collect::<Vec<String>>(alloc)?;
+    let times = times_of(words.as_slice());
+    let name = match words.get(1) {
+        Some(word) => word.as_str(),
+        None => "",
+    };
+    let header = format!(in alloc; "p cnf 2 {times}\n")?;
+    let lits = [Lit::new(1), Lit::new(-2)];
+    let [Some(first), Some(second)] = lits else {
+        return Ok(());
+    };
+    match make_calls(alloc, name, header.as_str(), &[first, second], times) {
+        Ok(count) => println!(rt; "{count}")?,
+        Err(Fault::OutOfMemory) => println!(rt; "out of memory")?,
+        Err(_) => println!(rt; "a fault")?,
+    }
+    Ok(())
+}

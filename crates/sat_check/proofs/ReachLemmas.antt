@@ -1,0 +1,161 @@
+-- How far a proof is read, step by step.
+use Rattle.std.proofs.Common.{◌≡◌, ℕ, true, false, Option, None, Some, List, [], ◌∷◌, length, refl, sym, ap, ◌∙◌, subst, inl, inr, Ok, Err}
+use Rattle.std.specs.List.{list_any}
+use Rattle.std.proofs.lemmas.Bool.{false≢true, MatchBool-at_true, MatchBool-at_false}
+use Rattle.std.proofs.lemmas.Option.{none-some}
+use Rattle.cnf_base.specs.Literals.{Clause}
+use Rattle.cnf_base.specs.Stream.{Input, Reader}
+use Rattle.cnf_base.specs.declared.fault.Fault.{Fault}
+use Rattle.cnf_base.specs.declared.fault.Fault.TheVariants.{Text, Binary, ReadFailed, OutOfMemory}
+use Rattle.dimacs.specs.Formula.{formula_of}
+use Rattle.proofs.specs.Steps.{Step}
+use Rattle.proofs.specs.Reading.{PlacedStep, Proof, with_step}
+use Rattle.steps.specs.ProofSession.{View}
+use Rattle.steps.specs.Theory.Rules.{Rule, State, by_ids, by_copies, start, Answers, after, Same}
+use Rattle.steps.specs.Theory.Verdicts.{Ending, verified, refused, no_empty_clause, Ends, is_last, is_empty}
+use Rattle.steps.specs.declared.theory.accepted.Accepted.{Accepted}
+use Rattle.steps.proofs.LratLemmas.LiveSets.{SameClauses-sym}
+use Rattle.steps.proofs.LratLemmas.Steps.{ok_is, ok_err}
+use Rattle.steps.proofs.TheoryLemmas.Rules.{answer_unique}
+use Rattle.steps.proofs.TheoryLemmas.Verdicts.{ends_same}
+use Rattle.sat_check.specs.Reach.{deciding_step, NeedsNoProof, IsVerdict}
+use Rattle.sat_check.specs.Report.{Outcome, bare_steps}
+use Rattle.sat_check.specs.Checking.{IsLoaded, Loads, Decides, LeavesRest, LeavesProof}
+use Rattle.sat_check.specs.declared.status.Status.{Status}
+use Rattle.sat_check.specs.declared.status.Status.TheVariants.{Verified, NotVerified, Malformed}
+
+same_sym : (s t : State) → Same s t → Same t s
+same_sym (by_ids s) (by_ids t) same = (SameClauses-sym _ _ same.0, sym same.1)
+same_sym (by_copies a x) (by_copies b y) same = (sym same.0, record { copies = λ e. sym (same.1.copies e) })
+same_sym (by_ids s) (by_copies b y) same = absurd same
+same_sym (by_copies a x) (by_ids t) same = absurd same
+
+-- what was written of a report of another status is no verdict's
+pub no_verdict : (status : Status) (old new : Option (List ℕ)) (lines : List (List ℕ)) → Outcome status old new (record { lines = lines; status = Malformed })
+    → IsVerdict status → ⊥
+no_verdict status old new lines o v = by status o v
+  where
+    at : (s : Status) → s ≡ Malformed → (s ≡ Verified → ⊥) × (s ≡ NotVerified → ⊥)
+    at s is = (λ e. cc, λ e. cc)
+
+    by : (status : Status) → Outcome status old new (record { lines = lines; status = Malformed }) → IsVerdict status → ⊥
+    by status o (inl is) =
+        let P : Status → Type 0 = λ s. Outcome s old new (record { lines = lines; status = Malformed }) in
+        let x = subst P is o in (at Verified x.0).0 refl
+    by status o (inr is) =
+        let P : Status → Type 0 = λ s. Outcome s old new (record { lines = lines; status = Malformed }) in
+        let x = subst P is o in (at NotVerified x.0).1 refl
+
+-- ---- The steps of a proof
+
+-- no step decides where none is to come
+pub LeavesRest-none : (s : State) (fault : Option Fault) (rest : Input) (status : Status) → LeavesRest s (record { steps = []; fault = fault }) rest status
+LeavesRest-none s fault rest status words ending last v e d = by words ending e d
+  where
+    by : (words : List Accepted) (ending : Ending) → Ends s [] words ending → deciding_step [] words ending ≡ Some last → last.rest ≡ length rest.bytes
+    by [] verified e d = absurd (none-some last d)
+    by [] (refused r) e d = absurd (none-some last d)
+    by [] no_empty_clause e d = absurd (none-some last d)
+    by (w ∷ ws) ending e d = absurd e
+
+-- no verdict was answered
+pub LeavesRest-broken : (s : State) (p : Proof) (rest : Input) (status : Status) → (IsVerdict status → ⊥) → LeavesRest s p rest status
+LeavesRest-broken s p rest status broken words ending last v e d = absurd (broken v)
+
+module _ (s : State) (step : Step) (left : ℕ) (p : Proof) (rest : Input) (status : Status) where
+  abbrev here : PlacedStep
+  here = record { step = step; rest = left }
+
+  first_is : (last : PlacedStep) → Some here ≡ Some last → last.rest ≡ left
+  first_is last e = let same : here ≡ last = cc in sym (ap (λ x. x.rest) same)
+
+  -- the step that was taken last decides
+  pub LeavesRest-decided : (IsVerdict status → Decides s step) → left ≡ length rest.bytes → LeavesRest s (with_step step left p) rest status
+  LeavesRest-decided decides is words ending last v e d = by (decides v) words ending e d ∙ is
+    where
+      by : Decides s step → (words : List Accepted) (ending : Ending) → Ends s (step ∷ bare_steps p) words ending
+          → deciding_step (here ∷ p.steps) words ending ≡ Some last → last.rest ≡ left
+      by (inl a) [] ending e d =
+          let P : Ending → Type 0 = λ x. deciding_step (here ∷ p.steps) [] x ≡ Some last in
+          first_is last (subst P e.1 d)
+      by (inl a) (w ∷ ws) ending e d = absurd (ok_err w a.0 (answer_unique s step _ _ e.0 a.1))
+      by (inr a) [] ending e d = absurd (ok_err a.0 e.0 (answer_unique s step _ _ a.1 e.2))
+      by (inr a) (w ∷ ws) ending e d =
+          let same = ok_is w a.0 (answer_unique s step _ _ e.0 a.1) in
+          let q = MatchBool-at_true _ _ (ap is_last same ∙ a.2) e.1 in
+          let P : Ending → Type 0 = λ x. deciding_step (here ∷ p.steps) (w ∷ ws) x ≡ Some last in
+          let Q : List Accepted → Type 0 = λ xs. deciding_step (here ∷ p.steps) (w ∷ xs) verified ≡ Some last in
+          first_is last (subst Q q.0 (subst P q.1 d))
+
+  -- it was accepted, and the check went on
+  pub LeavesRest-step : (t : State) (word : Accepted) → Answers s step (Ok word) → is_last word ≡ false → Same t (after s step word)
+      → LeavesRest t p rest status → LeavesRest s (with_step step left p) rest status
+  LeavesRest-step t word a not_last same later words ending last v e d = by words ending e d
+    where
+      -- the same step decides among the later ones
+      later_step : (ps : List PlacedStep) (w : Accepted) (ws : List Accepted) (ending : Ending) → Ends t (bare_steps (record { steps = ps; fault = p.fault })) ws ending
+          → deciding_step (here ∷ ps) (w ∷ ws) ending ≡ deciding_step ps ws ending
+      later_step [] w [] verified e = absurd (cc)
+      later_step (x ∷ ps) w [] verified e = absurd (let bad = e.1 in cc)
+      later_step ps w (v ∷ ws) verified e = refl
+      later_step ps w ws (refused r) e = refl
+      later_step ps w ws no_empty_clause e = refl
+
+      by : (words : List Accepted) (ending : Ending) → Ends s (step ∷ bare_steps p) words ending
+          → deciding_step (here ∷ p.steps) words ending ≡ Some last → last.rest ≡ length rest.bytes
+      by [] ending e d = absurd (ok_err word e.0 (answer_unique s step _ _ a e.2))
+      by (w ∷ ws) ending e d =
+          let is = ok_is w word (answer_unique s step _ _ e.0 a) in
+          let P : Accepted → Type 0 = λ x. Ends (after s step x) (bare_steps p) ws ending in
+          let ends = subst P is (MatchBool-at_false _ _ (ap is_last is ∙ not_last) e.1) in
+          let now = ends_same (bare_steps p) ws ending (after s step word) t (same_sym t (after s step word) same) ends in
+          later ws ending last v now (sym (later_step p.steps w ws ending now) ∙ d)
+
+-- ---- A whole proof
+
+module _ (rule : Rule) (fault : Option Fault) (clauses : List Clause) (p : Proof) (reader : Reader) (rest : Input) (status : Status) where
+  -- no verdict was answered, and nothing was read
+  pub LeavesProof-broken : (IsVerdict status → ⊥) → LeavesProof rule fault clauses p reader reader rest status
+  LeavesProof-broken broken = record { unread = λ n. refl; past = λ words ending last whole v e d. absurd (broken v) }
+
+  -- some clause is empty
+  pub LeavesProof-empty : list_any is_empty clauses ≡ true → LeavesProof rule fault clauses p reader reader rest status
+  LeavesProof-empty empty = record {
+    unread = λ n. refl;
+    past = λ words ending last whole v e d.
+        let q = MatchBool-at_true _ _ empty e in
+        let P : Ending → Type 0 = λ x. deciding_step p.steps words x ≡ Some last in
+        let Q : List Accepted → Type 0 = λ xs. deciding_step p.steps xs verified ≡ Some last in
+        absurd (none-some last (subst Q q.0 (subst P q.1 d)));
+  }
+
+-- the steps were checked
+pub LeavesProof-checked : (rule : Rule) (s : View) (clauses : List Clause) (l : IsLoaded rule s clauses) (p : Proof) (old new : Reader) (rest : Input) (status : Status)
+    → s.is_verified ≡ false → LeavesRest s.state p rest status → LeavesProof rule None clauses p old new rest status
+LeavesProof-checked rule s clauses l p old new rest status unverified leaves = record {
+  unread = λ n. needed n;
+  past = λ words ending last whole v e d.
+      leaves words ending last v (ends_same (bare_steps p) words ending (start rule clauses) s.state (same_sym s.state (start rule clauses) l.state) (MatchBool-at_false _ _ none e)) d;
+}
+  where
+    none : list_any is_empty clauses ≡ false
+    none = sym l.verified ∙ unverified
+
+    needed : NeedsNoProof None clauses → new ≡ old
+    needed (inl fault) = absurd (fault refl)
+    needed (inr empty) = absurd (false≢true (sym none ∙ empty))
+
+-- the formula has a fault, or memory ran out
+pub LeavesProof-fault : (rule : Rule) (s : View) (f : Fault) (i : Input) (p : Proof) (reader : Reader) (rest : Input) (status : Status) → Loads rule s (Err f) (formula_of i)
+    → (f ≡ OutOfMemory → IsVerdict status → ⊥) → LeavesProof rule (formula_of i).fault (formula_of i).clauses p reader reader rest status
+LeavesProof-fault rule s f i p reader rest status loads broken = by f loads broken
+  where
+    faulty : (f : Fault) → (formula_of i).fault ≡ Some f → LeavesProof rule (formula_of i).fault (formula_of i).clauses p reader reader rest status
+    faulty f is = record { unread = λ n. refl; past = λ words ending last whole v e d. absurd (none-some f (sym whole ∙ is)) }
+
+    by : (f : Fault) → Loads rule s (Err f) (formula_of i) → (f ≡ OutOfMemory → IsVerdict status → ⊥)
+        → LeavesProof rule (formula_of i).fault (formula_of i).clauses p reader reader rest status
+    by (Text k x) loads broken = faulty (Text k x) loads
+    by (Binary k x) loads broken = faulty (Binary k x) loads
+    by ReadFailed loads broken = faulty ReadFailed loads
+    by OutOfMemory loads broken = LeavesProof-broken rule (formula_of i).fault (formula_of i).clauses p reader rest status (broken refl)

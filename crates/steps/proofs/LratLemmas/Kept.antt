@@ -1,0 +1,28 @@
+-- What is kept once a clause is taken out.
+use Rattle.std.proofs.Common.{◌≡◌, ℕ, ◌≤◌, ◌≢◌, Option, Some, None, refl, sym, ap, ◌∙◌, arith}
+use Rattle.std.specs.Option.{IsSome}
+use Rattle.std.proofs.lemmas.Bool.{false≢true}
+use Rattle.std.specs.Ordering.{nat_cmp}
+use Rattle.std.specs.FinMap as maps
+use Rattle.std.specs.FinMap.{FinMap}
+use Rattle.cnf_base.specs.Literals.{Clause}
+use Rattle.clause_db.specs.Store.Clauses.{StoreState, size, literals_in}
+use Rattle.clause_db.proofs.StoreLemmas.Sums.{sum_remove}
+use Rattle.steps.specs.Lrat.Shelf.{IsPaired}
+use Rattle.steps.proofs.LratLemmas.Shelf.{freed_is}
+
+module _ (store freed : StoreState) (alone : store.stored ≡ literals_in store.live) (freed_alone : freed.stored ≡ literals_in freed.live) where
+  pub kept_fewer : (slot : ℕ) → freed.live ≡ maps.remove store.live slot → IsSome (maps.get store.live slot) → freed.stored ≤ store.stored
+  kept_fewer slot is filled = by_clause (maps.get store.live slot) refl filled
+    where
+      by_clause : (o : Option Clause) → maps.get store.live slot ≡ o → IsSome o → freed.stored ≤ store.stored
+      by_clause None e none = absurd (false≢true none)
+      by_clause (Some c) e some =
+          let split = sum_remove size store.live slot c e in
+          let left : literals_in freed.live ≡ literals_in (maps.remove store.live slot) = ap literals_in is in
+          omega arith
+
+  -- a clause that was put into a free slot
+  pub kept_back : (ids : FinMap nat_cmp ℕ) (after : FinMap nat_cmp Clause) (id slot : ℕ) → IsPaired ids store.live → maps.get store.live slot ≡ None → ((k : ℕ) → k ≢ slot → maps.get after k ≡ maps.get store.live k) →
+      freed.live ≡ maps.remove after slot → freed.stored ≡ store.stored
+  kept_back ids after id slot paired free others is = freed_alone ∙ ap literals_in (is ∙ freed_is ids store.live after id slot paired free others) ∙ sym alone

@@ -1,0 +1,58 @@
+// Counts what a program asks the C library's allocator for, and refuses one of these. tests/allocations.py loads it before the
+// C library (glibc):
+//     cc -shared -fPIC -o allocations.so allocations.c
+//     LD_PRELOAD=./allocations.so COUNT_INTO=FILE [REFUSED=N] PROGRAM
+// At the end the number is written into FILE. The Nth one is refused.
+#include <errno.h>
+#include <fcntl.h>
+#include <stddef.h>
+#include <stdio.h>
+#include <stdlib.h>
+#include <unistd.h>
+
+void *__libc_malloc(size_t size);
+void *__libc_calloc(size_t count, size_t size);
+void *__libc_realloc(void *old, size_t size);
+void *__libc_memalign(size_t alignment, size_t size);
+
+static unsigned long long count;
+static unsigned long long refused;
+
+static int is_refused(void) {
+    count++;
+    if (count != refused) return 0;
+    errno = ENOMEM;
+    return 1;
+}
+
+void *malloc(size_t size) { return is_refused() ? NULL : __libc_malloc(size); }
+
+void *calloc(size_t times, size_t size) { return is_refused() ? NULL : __libc_calloc(times, size); }
+
+void *realloc(void *old, size_t size) { return is_refused() ? NULL : __libc_realloc(old, size); }
+
+void *aligned_alloc(size_t alignment, size_t size) {
+    return is_refused() ? NULL : __libc_memalign(alignment, size);
+}
+
+int posix_memalign(void **result, size_t alignment, size_t size) {
+    if (is_refused()) return ENOMEM;
+    *result = __libc_memalign(alignment, size);
+    return *result == NULL ? ENOMEM : 0;
+}
+
+// What was asked for before the program began is not counted.
+__attribute__((constructor)) static void begin(void) {
+    const char *word = getenv("REFUSED");
+    refused = word == NULL ? 0 : strtoull(word, NULL, 10);
+    count = 0;
+}
+
+__attribute__((destructor)) static void end(void) {
+    unsigned long long counted = count;
+    const char *name = getenv("COUNT_INTO");
+    int file = name == NULL ? -1 : open(name, O_WRONLY | O_CREAT | O_TRUNC, 0600);
+    if (file < 0) return;
+    dprintf(file, "%llu\n", counted);
+    close(file);
+}

@@ -1,0 +1,143 @@
+#!/usr/bin/env python3
+"""Shows that memory that was taken is used again.
+
+The number of allocations inside a whole check, and inside the calls of the readers and of the store, is the same for 1000 as
+for 100000 pairs of steps, steps, clauses or insertions of one form.
+
+The programs run as they were compiled, with tests/allocations.c before the C library: it refuses the Nth allocation of a
+run. What is counted goes from the least N whose refusal is met inside these calls to the greatest.
+
+DRAT_FORWARD and ALLOCATIONS name the programs; they are bin/drat-forward and that of crates/allocations otherwise. CC names
+a C compiler, which is cc otherwise. The last line is "N passed, M failed".
+"""
+
+import os
+import subprocess
+import sys
+import tempfile
+
+ROOT = os.path.dirname(os.path.dirname(os.path.abspath(__file__)))
+DRAT_FORWARD = os.environ.get("DRAT_FORWARD") or "bin/drat-forward"
+ALLOCATIONS = os.environ.get("ALLOCATIONS") or "crates/allocations/out/allocations"
+CC = os.environ.get("CC") or "cc"
+FEW, MANY = 1000, 100000
+# The whole check, and what crates/allocations does again and again.
+CHECK = "run_drat"
+CASES = [
+    "drat_additions",
+    "drat_deletions",
+    "binary_additions",
+    "binary_deletions",
+    "lrat_additions",
+    "lrat_deletions",
+    "formula",
+    "store",
+]
+
+
+class Run:
+    """A program with its words, what it has to write, and with what status and last line its calls say that memory was
+    refused."""
+
+    def __init__(self, words, wanted, status, last_line):
+        self.words = words
+        self.wanted = (0, wanted)
+        self.status = status
+        self.last_line = last_line
+
+    def answer(self, room, refused=0):
+        """The status and what was written, where this allocation is refused, and the number of all."""
+        counted = f"{room}/count"
+        settings = {
+            "LD_PRELOAD": f"{room}/allocations.so",
+            "COUNT_INTO": counted,
+            "REFUSED": str(refused),
+        }
+        ended = subprocess.run(
+            self.words,
+            env={**os.environ, **settings},
+            stdin=subprocess.DEVNULL,
+            stdout=subprocess.PIPE,
+            stderr=subprocess.DEVNULL,
+            timeout=60,
+        )
+        with open(counted, encoding="ascii") as text:
+            total = int(text.read())
+        os.remove(counted)
+        return (ended.returncode, ended.stdout.decode("latin-1")), total
+
+    def is_met(self, room, refused):
+        """Whether the calls say that memory was refused, where this allocation is."""
+        (status, written), _ = self.answer(room, refused)
+        return status == self.status and written.endswith(self.last_line)
+
+    def allocations(self, room):
+        """The number of allocations inside the calls."""
+        answer, total = self.answer(room)
+        if answer != self.wanted:
+            raise ValueError(f"the answer is {answer}, and not {self.wanted}")
+        greatest = total
+        while greatest > 0 and not self.is_met(room, greatest):
+            greatest -= 1
+        if greatest == 0:
+            raise ValueError(f"of {total} allocations none is met")
+        least = 1
+        while not self.is_met(room, least):
+            least += 1
+        return greatest - least + 1
+
+
+def check_of_pairs(room, times):
+    """A check of a proof that adds a clause and deletes it, so many times."""
+    proof = f"{room}/{times}.drat"
+    with open(proof, "wb") as out:
+        out.write(b"-1 -2 0\nd -1 -2 0\n" * times + b"2 0\n0\n")
+    lines = f"c formula 2 variables 4 clauses\nc steps {2 * times + 2} peak 10\ns VERIFIED\n"
+    return Run([DRAT_FORWARD, "examples/e.cnf", proof], lines, 4, "")
+
+
+def calls(name, times):
+    """Calls of the readers or of the store."""
+    return Run([ALLOCATIONS, name, str(times)], f"{times}\n", 0, "out of memory\n")
+
+
+def run_of(name, room, times):
+    return check_of_pairs(room, times) if name == CHECK else calls(name, times)
+
+
+def compile_shim(room):
+    shim = f"{room}/allocations.so"
+    words = [CC, "-O2", "-shared", "-fPIC", "-o", shim, "tests/allocations.c"]
+    subprocess.run(words, check=True)
+
+
+def main():
+    os.chdir(ROOT)
+    passed = failed = 0
+    with tempfile.TemporaryDirectory() as room:
+        try:
+            compile_shim(room)
+        except (OSError, subprocess.SubprocessError) as error:
+            print(f"FAILED: tests/allocations.c is not compiled: {error}")
+            print("0 passed, 1 failed")
+            return 1
+        for name in [CHECK, *CASES]:
+            try:
+                few = run_of(name, room, FEW).allocations(room)
+                many = run_of(name, room, MANY).allocations(room)
+            except (OSError, ValueError, subprocess.SubprocessError) as error:
+                print(f"FAILED: {name}: {error}")
+                failed += 1
+                continue
+            if few == many:
+                print(f"{name}: {few} allocations for {FEW} and for {MANY}")
+                passed += 1
+            else:
+                print(f"FAILED: {name}: {few} allocations for {FEW}, and {many} for {MANY}")
+                failed += 1
+    print(f"{passed} passed, {failed} failed")
+    return 0 if failed == 0 else 1
+
+
+if __name__ == "__main__":
+    sys.exit(main())

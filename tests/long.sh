@@ -1,0 +1,106 @@
+#!/usr/bin/env bash
+# Streams long inputs through a pipe into the three programs: a proof in DRAT, one in LRAT, and a formula for model-check. What
+# is alive at once stays small in them, and so has the memory of each program to stay: below 4 MB, as GNU time tells the
+# greatest resident set. The last line is "N passed, M failed". It takes long, and is no part of `make test`.
+#
+#   tests/long.sh [SIZE]        about SIZE bytes for each program, 10000000000 where it isn't said
+#
+# LRAT_CHECK, DRAT_FORWARD and MODEL_CHECK name the programs; they are those in bin/ otherwise.
+set -uo pipefail
+cd "$(dirname "$0")/.."
+
+size=${1:-10000000000}
+lrat_check=${LRAT_CHECK:-bin/lrat-check}
+drat_forward=${DRAT_FORWARD:-bin/drat-forward}
+model_check=${MODEL_CHECK:-bin/model-check}
+most=4000000
+passed=0 failed=0
+room=$(mktemp -d)
+trap 'rm -rf "$room"' EXIT
+
+# a formula has at most 4294967295 clauses, here of 7 bytes each
+if ! [[ $size =~ ^[1-9][0-9]{5,10}$ ]] || [ "$size" -gt 30000000000 ]; then
+    echo "usage: tests/long.sh [SIZE], with a SIZE from 100000 to 30000000000" >&2
+    exit 6
+fi
+for program in "$lrat_check" "$drat_forward" "$model_check" /usr/bin/time; do
+    [ -x "$program" ] || { echo "tests/long.sh: there is no program $program" >&2; exit 1; }
+done
+
+# row NAME BYTES PROGRAM WORD..: runs the program on standard input, of so many bytes, and compares the lines with $room/wanted
+row() {
+    local name=$1 bytes=$2 status seconds kib peak wrong=
+    shift 2
+    /usr/bin/time -q -f '%e %M' -o "$room/used" "$@" > "$room/out" 2> "$room/err"
+    status=$?
+    read -r seconds kib < "$room/used"
+    peak=$((kib * 1024))
+    [ "$status" -eq 0 ] || wrong+=" status $status;"
+    cmp -s "$room/wanted" "$room/out" || wrong+=" lines $(tr '\n' '|' < "$room/out");"
+    [ "$peak" -lt "$most" ] || wrong+=" too much memory;"
+    if [ -z "$wrong" ]; then
+        passed=$((passed + 1))
+    else
+        echo "FAILED: $name:$wrong"
+        failed=$((failed + 1))
+    fi
+    echo "$name: $bytes bytes in $seconds s, with $peak bytes of memory"
+}
+
+# ---- A clause is added and deleted, again and again: 18 bytes in DRAT
+
+pairs=$((size / 18))
+
+drat() {
+    yes -- $'-1 -2 0\nd -1 -2 0' | head -c $((pairs * 18))
+    printf '2 0\n0\n'
+}
+
+cat > "$room/wanted" <<LINES
+c formula 2 variables 4 clauses
+c steps $((2 * pairs + 2)) peak 10
+s VERIFIED
+LINES
+row drat-forward $((pairs * 18 + 6)) "$drat_forward" examples/e.cnf < <(drat)
+
+# ---- The same in LRAT, under identifiers of 10 digits that rise: 49 bytes, a thousand pairs at a time
+
+thousands=$((size / 49000))
+last=$((1000000000 + 1000 * thousands))
+
+lrat() {
+    python3 - "$thousands" <<'CODE'
+import sys
+
+pairs = "".join(f"@{i:03} -1 -2 0 4 0\n@{i:03} d @{i:03} 0\n" for i in range(1000)).encode()
+for thousand in range(int(sys.argv[1])):
+    sys.stdout.buffer.write(pairs.replace(b"@", b"%d" % (1000000 + thousand)))
+CODE
+    printf '%d 2 0 1 2 0\n%d 0 %d 3 4 0\n' "$last" $((last + 1)) "$last"
+}
+
+cat > "$room/wanted" <<LINES
+c formula 2 variables 4 clauses
+c steps $((2000 * thousands + 2)) peak 10
+s VERIFIED
+LINES
+row lrat-check $((thousands * 49000 + 51)) "$lrat_check" examples/e.cnf < <(lrat)
+
+# ---- A formula that has one clause of 7 bytes again and again, and a model of it
+
+clauses=$((size / 7))
+header="p cnf 2 $clauses"
+
+formula() {
+    echo "$header"
+    yes '1 -2 0' | head -c $((clauses * 7))
+}
+
+cat > "$room/wanted" <<LINES
+c clauses $clauses
+s MODEL VERIFIED
+LINES
+row model-check $((clauses * 7 + ${#header} + 1)) "$model_check" /dev/stdin examples/models.out < <(formula)
+
+echo "$passed passed, $failed failed"
+[ "$failed" -eq 0 ]
