@@ -112,8 +112,8 @@ impl Store {
     /// Stores a clause in a slot that is free, and fails only where memory is refused. A repeated literal is kept once.
     pub fn insert(&mut self, lits: &[Lit]) -> Result<Slot, OutOfMemory>
         ensures free { IfOk result (λ slot. maps.get self.old.live slot ≡ None) }
-        ensures stored { IfOk result (λ slot. (c : Clause) × (maps.get self.new.live slot ≡ Some c) ×
-            IsTrue (same_clause c lits.now)) }
+        ensures stored { IfOk result (λ slot. (c : Clause) ×
+            (maps.get self.new.live slot ≡ Some c) × IsTrue (same_clause c lits.now)) }
         ensures others { IfOk result (λ slot. (s : ℕ) → s ≢ slot →
             maps.get self.new.live s ≡ maps.get self.old.live s) }
         ensures live_alone { self.new.stored ≡ literals_in self.new.live }
@@ -151,8 +151,8 @@ impl Store {
 
     /// A slot with the same clause as a set, if there is one. It takes no memory.
     pub fn find(&mut self, lits: &[Lit]) -> Option<Slot>
-        ensures found { IfSome result (λ slot. (c : Clause) × (maps.get self.old.live slot ≡ Some c) ×
-            IsTrue (same_clause c lits.now)) }
+        ensures found { IfSome result (λ slot. (c : Clause) ×
+            (maps.get self.old.live slot ≡ Some c) × IsTrue (same_clause c lits.now)) }
         ensures none { IfNone result ((s : ℕ) (c : Clause) → maps.get self.old.live s ≡ Some c →
             IsTrue (same_clause c lits.now) → ⊥) }
         ensures same { self.new ≡ self.old }
