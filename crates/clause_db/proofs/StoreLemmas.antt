@@ -2,9 +2,9 @@ pub mod Distinct
 pub mod Entries
 pub mod Fields
 pub mod Ids
+pub mod Index
 pub mod Indexed
 pub mod Marks
 pub mod Options
 pub mod Search
 pub mod Sums
-pub mod Table

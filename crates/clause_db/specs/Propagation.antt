@@ -4,9 +4,9 @@ pub mod Code
 pub mod Exact
 pub mod Left
 pub mod Levels
-pub mod Places
 pub mod Scan
 pub mod Trail
+pub mod Values
 use Rattle.std.specs.Prelude.{◌≡◌, ◌≢◌, ℕ, Bool, Option, Some, List, [], IsTrue}
 use Rattle.cnf_base.specs.Literals.{Literal, complement, Clause, has}
 

@@ -8,4 +8,3 @@ pub mod Ids
 pub mod Index
 pub mod Indexed
 pub mod LiteralMarks
-pub mod Table

@@ -13,4 +13,5 @@ pub use propagation::trail::Trail;
 pub use propagation::value::Value;
 pub use store::Store;
 pub use store::ids::Ids;
+pub use store::index::{Index, Indexing, NoIndex};
 pub use store::slot::Slot;

@@ -5,14 +5,11 @@ mod entry;
 pub(crate) mod ids;
 #[cfg(test)]
 mod ids_tests;
-mod index;
+pub(crate) mod index;
 mod mark;
 mod marks;
 mod search;
 pub(crate) mod slot;
-pub(crate) mod table;
-#[cfg(test)]
-mod table_tests;
 #[cfg(test)]
 mod tests;
 
@@ -21,37 +18,38 @@ ghost use Rattle.std.specs.FinMap as maps;
 ghost use Rattle.cnf_base.specs.Literals.{Clause, same_clause};
 ghost use Rattle.slab.specs.Slab.{slab_len, HasRoomFor};
 ghost use Rattle.clause_db.specs.Store.Clauses.{size, literals_in, copies_with};
-ghost use Rattle.clause_db.specs.Store.Index.{under};
+ghost use Rattle.std.specs.Ordering.{nat_cmp};
+ghost use Rattle.std.specs.FinMap.{FinMap};
+ghost use Rattle.clause_db.specs.Store.Hashes.{hash};
 
 use crate::Slot;
-use crate::store::entry::{Entry, set_place};
-use crate::store::index::Index;
-use crate::store::mark::{Mark, key};
-use crate::store::marks::{
-    Digest, all_known, gather, hash_of, mark_all, release, reserve_all, unmark_all,
-};
+use crate::store::entry::Entry;
+use crate::store::index::{Index, Indexing};
+use crate::store::mark::Mark;
+use crate::store::marks::{Digest, all_known, gather, mark_all, release, reserve_all, unmark_all};
 use crate::store::search::find_marked;
-use crate::store::table::Table;
 use cnf_base::{Lit, OutOfMemory};
 use slab::Slab;
 use smallvec::SmallVec;
 use std::alloc::Global;
 use std::marker::Model;
+use tables::{Table, key};
 
 /// The live clauses of a proof checker, each in a slot that the store picks.
 ///
 /// Contracts see it as a finite map from the numbers of the slots to the clauses, and the number of literals that it keeps.
-/// A clause is the set of its literals: the store keeps each literal once, in an order that it picks.
+/// A clause is the set of its literals: the store keeps each literal once, in an order that it picks. One with
+/// [`NoIndex`](crate::NoIndex) finds no clause by its literals, and takes less memory.
 #[derive(Drop)]
-pub struct Store {
+pub struct Store<I: Indexing = Index> {
     alloc: Global,
     entries: Slab<Entry>,
-    index: Index,
+    index: I,
     marks: Table<Mark>,
     sum: u128,
 }
 
-impl Model for Store {
+impl<I: Indexing> Model for Store<I> {
     ghost use Rattle.clause_db.specs.Store.Clauses.{StoreState, store_code};
     ghost use Rattle.clause_db.specs.Store.Entries.{clauses_in, literals_kept};
     ghost use Rattle.clause_db.specs.Store.Fields.{IsStore};
@@ -66,36 +64,43 @@ impl Model for Store {
       stored = literals_kept s.entries;
     } };
 
-    ghost invariant = { λ s. IsStore s.entries s.index s.marks s.sum };
+    ghost invariant = { λ s.
+        IsStore s.entries s.marks s.sum × I.indexes s.index (clauses_in s.entries) };
 }
 
+/// A store with more clauses would take far more memory than there is. Counts and places have four bytes.
+const MOST: usize = 4294967295;
+
 /// Makes room for a clause of the digest, and puts the slot that it will have into the index.
-fn make_room(
+fn make_room<I: Indexing>(
     alloc: Global,
     entries: &mut Slab<Entry>,
-    index: &mut Index,
+    index: &mut I,
     digest: &Digest,
 ) -> Result<Entry, OutOfMemory>
     ensures empty { IfOk result (λ e. e.lits.items ≡ []) }
     ensures wide { IfOk result (λ e. digest.now.len ≤ e.lits.capacity) }
-    ensures place { IfOk result (λ e. e.place ≡ length (under index.old digest.now.hash)) }
     ensures room { OnOk result (HasRoomFor entries.new 1) }
-    ensures few { OnOk result (slab_len entries.new < 18446744073709551615) }
+    ensures few { OnOk result (slab_len entries.new < 4294967295) }
     ensures slots { entries.new.slots ≡ entries.old.slots }
     ensures key { entries.new.vacant_key ≡ entries.old.vacant_key }
-    ensures ok { OnOk result ((h : ℕ) → under index.new h ≡
-        (if h == digest.now.hash
-        then under index.old h ++ entries.old.vacant_key ∷ [] else under index.old h)) }
-    ensures err { OnErr result ((h : ℕ) → under index.new h ≡ under index.old h) }
+    ensures ok { OnOk result ((live : FinMap nat_cmp Clause) (c : Clause) →
+        I.indexes index.old live → maps.get live entries.old.vacant_key ≡ None →
+        digest.now.hash ≡ hash c →
+        I.indexes index.new (maps.insert live entries.old.vacant_key c)) }
+    ensures err { OnErr result ((live : FinMap nat_cmp Clause) →
+        I.indexes index.old live → I.indexes index.new live) }
 {
+    if entries.len() >= MOST {
+        return Err(OutOfMemory);
+    }
     let lits = SmallVec::with_capacity(alloc, digest.len)?;
     entries.reserve(1)?;
-    let _limit = entries.capacity();
-    let place = index.add(digest.hash, entries.vacant_key())?;
-    Ok(Entry { lits, place })
+    index.add(digest.hash, entries.vacant_key())?;
+    Ok(Entry { lits })
 }
 
-impl Store {
+impl<I: Indexing> Store<I> {
     /// No clauses.
     pub fn new(alloc: Global) -> Result<Self, OutOfMemory>
         ensures { IfOk result (λ s. s ≡ record { live = maps.empty; stored = 0 }) }
@@ -103,7 +108,7 @@ impl Store {
         Ok(Store {
             alloc,
             entries: Slab::new(alloc),
-            index: Index::new(alloc),
+            index: I::new(alloc),
             marks: Table::new(alloc),
             sum: 0,
         })
@@ -145,28 +150,7 @@ impl Store {
         let lits = entry.lits.as_slice();
         release(&mut self.marks, lits);
         self.sum -= lits.len() as u128;
-        let last = self.index.remove(hash_of(lits), entry.place);
-        set_place(&mut self.entries, last, entry.place);
-    }
-
-    /// A slot with the same clause as a set, if there is one. It takes no memory.
-    pub fn find(&mut self, lits: &[Lit]) -> Option<Slot>
-        ensures found { IfSome result (λ slot. (c : Clause) ×
-            (maps.get self.old.live slot ≡ Some c) × IsTrue (same_clause c lits.now)) }
-        ensures none { IfNone result ((s : ℕ) (c : Clause) → maps.get self.old.live s ≡ Some c →
-            IsTrue (same_clause c lits.now) → ⊥) }
-        ensures same { self.new ≡ self.old }
-    {
-        if !all_known(&self.marks, lits) {
-            return None;
-        }
-        let digest = mark_all(&mut self.marks, lits);
-        let found = find_marked(&self.entries, &self.index, &self.marks, &digest);
-        unmark_all(&mut self.marks, lits);
-        match found {
-            Some(slot) => Some(Slot::at(slot)),
-            None => None,
-        }
+        self.index.remove(slot.number(), lits);
     }
 
     /// The literals of the clause in the slot, in the order of the store.
@@ -209,8 +193,30 @@ impl Store {
         ensures { result ≡ copies_with self.now.live l }
     {
         match self.marks.get(key(l)) {
-            Some(mark) => mark.count,
+            Some(mark) => u64::from(mark.count),
             None => 0,
+        }
+    }
+}
+
+impl Store {
+    /// A slot with the same clause as a set, if there is one. It takes no memory.
+    pub fn find(&mut self, lits: &[Lit]) -> Option<Slot>
+        ensures found { IfSome result (λ slot. (c : Clause) ×
+            (maps.get self.old.live slot ≡ Some c) × IsTrue (same_clause c lits.now)) }
+        ensures none { IfNone result ((s : ℕ) (c : Clause) → maps.get self.old.live s ≡ Some c →
+            IsTrue (same_clause c lits.now) → ⊥) }
+        ensures same { self.new ≡ self.old }
+    {
+        if !all_known(&self.marks, lits) {
+            return None;
+        }
+        let digest = mark_all(&mut self.marks, lits);
+        let found = find_marked(&self.entries, &self.index, &self.marks, &digest);
+        unmark_all(&mut self.marks, lits);
+        match found {
+            Some(slot) => Some(Slot::at(slot)),
+            None => None,
         }
     }
 

@@ -1,31 +1,30 @@
 -- A set of literals, where none is there with its complement.
-use Rattle.std.proofs.Common.{◌≡◌, ℕ, eqb, nat_eq, Bool, true, false, cond, List, [], ◌∷◌, refl, sym, ap, subst, ◌∙◌, inl, inr, ne_eqb, arith}
+use Rattle.std.proofs.Common.{◌≡◌, ℕ, eqb, eqb-true, eq-eqb, Bool, true, false, cond, Option, Some, is_some, List, [], ◌∷◌, ◌++◌, refl, sym, ap, subst, ◌∙◌, inl, inr, ne_eqb}
 use Rattle.std.specs.Prelude.{◌||◌}
-use Rattle.std.specs.List.{list_any}
-use Rattle.std.proofs.lemmas.Bool.{both_ways, or_from}
-use Rattle.std.proofs.lemmas.Bool.Decides.{nat_tests}
+use Rattle.std.proofs.lemmas.Bool.{both_ways, or_from, false≢true}
 use Rattle.cnf_base.specs.Literals.{Literal, complement, has}
 use Rattle.cnf_base.proofs.LiteralLemmas.{complement-complement, complement-other}
 use Rattle.cnf_base.proofs.SetLemmas.{has_cases}
 use Rattle.dimacs.specs.Claim.{IsConsistent}
 
-test_flips : (q k : ℕ) → nat_eq q k ≡ eqb k q
-test_flips q k = grind (arith, nat_tests)
+-- at the end or in front
+pub has_pushed : (ls : List ℕ) (x k : ℕ) → has (ls ++ x ∷ []) k ≡ has (x ∷ ls) k
+has_pushed [] x k = refl
+has_pushed (y ∷ ls) x k = ap (λ b. eqb y k || b) (has_pushed ls x k) ∙ swapped (eqb y k) (eqb x k) (has ls k)
+  where
+    swapped : (a b c : Bool) → (a || (b || c)) ≡ (b || (a || c))
+    swapped true true c = refl
+    swapped true false c = refl
+    swapped false b c = refl
 
--- the set's own test
-contained : (ks : List ℕ) (q : ℕ) → list_any (nat_eq q) ks ≡ has ks q
-contained [] q = refl
-contained (k ∷ ks) q = ap (λ b. b || list_any (nat_eq q) ks) (test_flips q k) ∙ ap (λ b. eqb k q || b) (contained ks q)
-
-cond_or : (a b : Bool) → cond a true b ≡ (a || b)
-cond_or true b = refl
-cond_or false b = refl
-
--- a literal was put into the set
-pub has_put : (old new : List ℕ) (l : Literal) → ((q : ℕ) → list_any (nat_eq q) new ≡ cond (nat_eq l q) true (list_any (nat_eq q) old))
-    → (k : Literal) → has new k ≡ has (l ∷ old) k
-has_put old new l put k =
-    sym (contained new k) ∙ put k ∙ ap (cond (nat_eq l k) true) (contained old k) ∙ cond_or (eqb l k) (has old k)
+-- the table has one more key
+pub listed_more : {T : Type 0} (listed after : ℕ → Option T) (ls : List ℕ) (x : ℕ) (value : T) → ((l : ℕ) → is_some (listed l) ≡ has ls l) →
+    ((l : ℕ) → after l ≡ cond (eqb l x) (Some value) (listed l)) → (l : ℕ) → is_some (after l) ≡ has (x ∷ ls) l
+listed_more listed after ls x value was put l = by_test (eqb l x) refl
+  where
+    by_test : (b : Bool) → eqb l x ≡ b → is_some (after l) ≡ has (x ∷ ls) l
+    by_test true e = ap is_some (put l ∙ ap (λ b. cond b (Some value) (listed l)) e) ∙ sym (ap (λ b. b || has ls l) (eq-eqb x l (sym (eqb-true l x e))))
+    by_test false e = ap is_some (put l ∙ ap (λ b. cond b (Some value) (listed l)) e) ∙ was l ∙ sym (ap (λ b. b || has ls l) (ne_eqb x l (λ same. false≢true (sym e ∙ eq-eqb l x (sym same)))))
 
 -- one more literal, whose complement is not there
 more : (ls : List Literal) (x : Literal) → IsConsistent ls → has ls (complement x) ≡ false → IsConsistent (x ∷ ls)

@@ -3,3 +3,4 @@ pub mod Reading
 pub mod Claim
 pub mod Claiming
 pub mod Printing
+pub mod Models

@@ -6,35 +6,40 @@ ghost use Rattle.dimacs.specs.Claim.{IsConsistent};
 
 use cnf_base::{Lit, OutOfMemory};
 use std::alloc::Global;
-use std::collections::HashSet;
 use std::marker;
+use tables::{Table, key};
 
 /// The literals that a solver's output lists as true. No other literal is true, and none is listed with its complement.
 ///
 /// Contracts see it as the list of these literals, in some order.
 #[derive(Drop)]
 pub struct Model {
-    listed: HashSet<u32>,
+    lits: Vec<Lit>,
+    listed: Table<()>,
 }
 
 impl marker::Model for Model {
     ghost use Rattle.std.specs.Prelude.{List};
     ghost use Rattle.cnf_base.specs.Literals.{Literal};
     ghost use Rattle.dimacs.specs.Claim.{IsConsistent};
+    ghost use Rattle.dimacs.specs.Models.{IsListed};
+    ghost use Rattle.tables.specs.Table.{at};
 
     ghost Value = { List Literal };
 
-    ghost view = { λ m. m.listed.keys };
+    ghost view = { λ m. m.lits.items };
 
-    ghost invariant = { λ m. IsConsistent m.listed.keys };
+    ghost invariant = { λ m.
+        IsConsistent m.lits.items × IsListed (at m.listed) m.lits.items };
 }
 
 impl Model {
     /// Whether the literal is listed. It takes no memory, and constant expected time.
+    #[inline(always)]
     pub fn holds(&self, lit: Lit) -> bool
         ensures { result ≡ has self.now lit }
     {
-        self.listed.contains(&(lit.index() as u32))
+        self.listed.get(key(lit)).is_some()
     }
 
     /// No literal is listed. It takes no memory.
@@ -42,7 +47,8 @@ impl Model {
         ensures { result ≡ [] }
     {
         Model {
-            listed: HashSet::new(alloc),
+            lits: Vec::new(alloc),
+            listed: Table::new(alloc),
         }
     }
 
@@ -52,7 +58,11 @@ impl Model {
         ensures listed { OnOk result ((l : Literal) → has self.new l ≡ has (lit ∷ self.old) l) }
         ensures consistent { IsConsistent self.new }
     {
-        self.listed.insert(lit.index() as u32)?;
+        if !self.holds(lit) {
+            self.lits.reserve(1)?;
+            self.listed.reserve(key(lit), ())?;
+            self.lits.push_reserved(lit);
+        }
         Ok(())
     }
 }

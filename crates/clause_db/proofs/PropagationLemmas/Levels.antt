@@ -7,9 +7,9 @@ use Rattle.cnf_base.specs.Literals.{Literal, complement, complements, has, varia
 use Rattle.cnf_base.proofs.SetLemmas.{both_pass, has-filter, filter_has, has_append_left, has_append_right, has_append_cases, has-complements, complements_has}
 use Rattle.clause_db.specs.Propagation.Assumptions.{Assumption, MayAssume, assumed_by}
 use Rattle.clause_db.specs.Propagation.Levels.{number_at, pushed, first_number, of_variables, IsNumbered, is_noted, is_noted_by_two, assumptions_of, IsLevel, AreLevels, Notes}
-use Rattle.clause_db.specs.Store.Table.{at}
+use Rattle.tables.specs.Table.{at}
 use Rattle.clause_db.specs.Propagation.Trail.{TrailState, SameSet, HasNoVariableTwice}
-use Rattle.clause_db.specs.declared.store.table.Table.{Table}
+use Rattle.tables.specs.declared.table.Table.{Table}
 use Rattle.clause_db.specs.declared.propagation.answer.Answer.TheVariants.{Clash}
 use Rattle.clause_db.specs.declared.propagation.levels.Level.{Level}
 use Rattle.clause_db.specs.declared.propagation.levels.Levels.{Levels}

@@ -13,7 +13,7 @@ use Rattle.clause_db.proofs.MemberLemmas.{place_of, has_place, place_of_variable
 
 -- literals of one variable are equal
 module _ (ls : List ℕ) (apart : HasNoVariableTwice ls) where
-  places_apart : (i j : ℕ) → i < j → j < length ls → variable (get_or ls i 0) ≡ variable (get_or ls j 0) → ⊥
+  pub places_apart : (i j : ℕ) → i < j → j < length ls → variable (get_or ls i 0) ≡ variable (get_or ls j 0) → ⊥
   places_apart i j low high e =
       let first : i < length ls = omega arith in
       let within : j < length (map variable ls) = omega (arith, length-map ls variable) in

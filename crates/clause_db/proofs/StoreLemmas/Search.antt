@@ -1,5 +1,5 @@
 -- What a search in a bucket says of the clauses.
-use Rattle.std.proofs.Common.{◌≡◌, ℕ, ◌<◌, Bool, true, false, cond, eqb, eqb-true, eq-eqb, Option, Some, None, is_some, List, length, slice_get, refl, sym, ap, ◌∙◌, arith}
+use Rattle.std.proofs.Common.{◌≡◌, ℕ, ◌<◌, Bool, true, false, cond, eqb, eqb-true, eq-eqb, Option, Some, None, option_map, unwrap_or, is_some, List, length, slice_get, refl, sym, ap, ◌∙◌, arith}
 use Rattle.std.specs.List.{list_all}
 use Rattle.std.specs.FinMap as maps
 use Rattle.std.specs.FinMap.{FinMap}
@@ -10,10 +10,10 @@ use Rattle.slab.specs.Slab.{Slab, get}
 use Rattle.cnf_base.specs.Literals.{Literal, Clause, has, same_clause}
 use Rattle.cnf_base.proofs.SetLemmas.{all_each, each_all, same_there, same_back, same_from}
 use Rattle.clause_db.specs.Store.Clauses.{size, copies_with}
-use Rattle.clause_db.specs.Store.Entries.{is_match, indexed_at, clauses_in}
+use Rattle.clause_db.specs.Store.Entries.{is_match, clauses_in}
 use Rattle.clause_db.specs.Store.Hashes.{hash}
 use Rattle.clause_db.specs.Store.LiteralMarks.{mark_count}
-use Rattle.clause_db.specs.Store.Indexed.{IsIndexed}
+use Rattle.clause_db.specs.Store.Index.{spot_in, IsIndex}
 use Rattle.clause_db.specs.declared.store.entry.Entry.{Entry}
 use Rattle.clause_db.specs.declared.store.mark.Mark.{Mark}
 use Rattle.clause_db.proofs.StoreLemmas.Distinct.{IsWithin, size_same, all_covered}
@@ -56,19 +56,16 @@ module _ (lits : Clause) (passes : Literal → Bool) (marked : (l : Literal) →
       and_from (eqb (length items) len) (list_all passes items) (eq-eqb (length items) len length_is)
       (each_all passes items (λ l g. marked l ∙ there l (ap (λ ls. has ls l) (sym items_are) ∙ g)))
 
-spot_from : (o : Option Entry) (c : Clause) → clause_of o ≡ Some c → (i : ℕ) × (indexed_at o ≡ Some (hash c, i))
-spot_from None c is = absurd (none-some c is)
-spot_from (Some e) c is = (e.place, ap (λ (x : Clause). Some (hash x, e.place)) (same_Some e.lits.items c is))
-
 -- where no slot in the bucket matches, no clause is the same
-pub none_same : (entries : Slab Entry) (buckets : ℕ → List ℕ) → IsIndexed (λ s. indexed_at (get entries s)) buckets →
+pub none_same : (entries : Slab Entry) (buckets : ℕ → List ℕ) (place_of : ℕ → Option ℕ) → IsIndex buckets place_of (clauses_in entries) →
     (lits : Clause) (passes : Literal → Bool) → ((l : Literal) → passes l ≡ has lits l) → (len : ℕ) → len ≡ size lits → (h : ℕ) → h ≡ hash lits →
     ((s : ℕ) (c : Clause) → maps.get (clauses_in entries) s ≡ Some c → size c ≡ length c) →
     ((i s : ℕ) → slice_get (buckets h) i ≡ Some s → is_match passes len (get entries s) ≡ false) →
     (s : ℕ) (c : Clause) → maps.get (clauses_in entries) s ≡ Some c → same_clause c lits ≡ true → ⊥
-none_same entries buckets placed lits passes marked len len_is h h_is different none s c is same =
+none_same entries buckets place_of sound lits passes marked len len_is h h_is different none s c is same =
     let at_slot : clause_of (get entries s) ≡ Some c = sym (get_stored entries s) ∙ is in
-    let spot = spot_from (get entries s) c at_slot in
+    let i = unwrap_or (place_of s) 0 in
+    let spot : spot_in (clauses_in entries) place_of s ≡ Some (hash c, i) = ap (option_map (λ (d : Clause). (hash d, i))) is in
     let hash_is : hash c ≡ h = hash_same c lits (same_there c lits same) (same_back c lits same) ∙ sym h_is in
-    let stands : slice_get (buckets h) spot.0 ≡ Some s = ap (λ x. slice_get (buckets x) spot.0) (sym hash_is) ∙ placed.there s (hash c) spot.0 spot.1 in
-    true≢false (sym (same_match lits passes marked len len_is (get entries s) c (different s c is) at_slot same) ∙ none spot.0 s stands)
+    let stands : slice_get (buckets h) i ≡ Some s = ap (λ x. slice_get (buckets x) i) (sym hash_is) ∙ sound.placed.there s (hash c) i spot in
+    true≢false (sym (same_match lits passes marked len len_is (get entries s) c (different s c is) at_slot same) ∙ none i s stands)

@@ -2,13 +2,13 @@
 use Rattle.std.specs.Prelude.{◌≡◌, ◌≢◌, ℕ, ◌/◌, ◌==◌, ◌≤◌, ◌<◌, ◌||◌, Bool, List, [], ◌∷◌, map, filter, take, length, unwrap_or, IsTrue, IsSome, ⊤}
 use Rattle.cnf_base.specs.Literals.{Literal, has, variable}
 use Rattle.clause_db.specs.Propagation.Assumptions.{Assumption}
-use Rattle.clause_db.specs.Store.Table.{at}
+use Rattle.tables.specs.Table.{at}
 use Rattle.clause_db.specs.Propagation.Trail.{TrailState}
 use Rattle.clause_db.specs.declared.propagation.answer.Answer.{Answer}
 use Rattle.clause_db.specs.declared.propagation.levels.Level.{Level}
 use Rattle.clause_db.specs.declared.propagation.levels.Levels.{Levels}
 use Rattle.clause_db.specs.declared.propagation.levels.Levels.TheVariants.{Nothing, One, Two}
-use Rattle.clause_db.specs.declared.store.table.Table.{Table}
+use Rattle.tables.specs.declared.table.Table.{Table}
 
 -- ---- One on the other
 

@@ -1,26 +1,17 @@
 -- The entries of a store.
-use Rattle.std.specs.Prelude.{ℕ, ◌+◌, sum_by, ◌==◌, ◌&&◌, Bool, false, Option, Some, None, option_map, List, [], ◌∷◌, length}
+use Rattle.std.specs.Prelude.{ℕ, ◌+◌, sum_by, ◌==◌, ◌&&◌, Bool, false, Option, Some, None, List, [], ◌∷◌, length}
 use Rattle.std.specs.List.{list_all}
 use Rattle.std.specs.Ordering.{nat_cmp}
 use Rattle.std.specs.FinMap as maps
 use Rattle.std.specs.FinMap.{FinMap}
 use Rattle.slab.specs.Slab.{Slab}
 use Rattle.cnf_base.specs.Literals.{Literal, Clause}
-use Rattle.clause_db.specs.Store.Hashes.{hash}
 use Rattle.clause_db.specs.declared.store.entry.Entry.{Entry}
 
 -- whether there is a clause of this many literals that all pass the test
 abbrev pub is_match : (Literal → Bool) → ℕ → Option Entry → Bool
 is_match passes len None = false
 is_match passes len (Some e) = length e.lits.items == len && list_all passes e.lits.items
-
--- the hash of a clause and its place in the bucket
-abbrev pub indexed_at : Option Entry → Option (ℕ × ℕ)
-indexed_at o = option_map (λ e. (hash e.lits.items, e.place)) o
-
--- a clause at another place in its bucket
-abbrev pub with_place : ℕ → Entry → Entry
-with_place place e = record e { place = place }
 
 -- the clauses in a row of slots, the first of which has this number
 abbrev pub clauses_from : ℕ → List (Option Entry) → FinMap nat_cmp Clause

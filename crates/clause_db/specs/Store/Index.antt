@@ -1,8 +1,24 @@
 -- The slots by hash.
-use Rattle.std.specs.Prelude.{ℕ, List, [], unwrap_or, nat_eq}
+use Rattle.std.specs.Prelude.{ℕ, ◌<◌, List, [], Option, IsSome, unwrap_or, option_map, nat_eq}
+use Rattle.std.specs.Ordering.{nat_cmp}
 use Rattle.std.specs.HashMap.{get}
+use Rattle.std.specs.FinMap as maps
+use Rattle.std.specs.FinMap.{FinMap}
+use Rattle.cnf_base.specs.Literals.{Clause}
+use Rattle.clause_db.specs.Store.Hashes.{hash}
+use Rattle.clause_db.specs.Store.Indexed.{IsIndexed}
 use Rattle.clause_db.specs.declared.store.index.Index.{Index}
 
 -- the slots with this hash, in the order of their places
 abbrev pub under : Index → ℕ → List ℕ
 under index h = unwrap_or (get nat_eq index.buckets h) []
+
+-- the hash of the clause in a slot, and the place that is noted for the slot
+abbrev pub spot_in : FinMap nat_cmp Clause → (ℕ → Option ℕ) → ℕ → Option (ℕ × ℕ)
+spot_in live place_of s = option_map (λ c. (hash c, unwrap_or (place_of s) 0)) (maps.get live s)
+
+-- each slot stands in the bucket of its clause's hash, at the place that is noted for it
+pub record IsIndex (buckets : ℕ → List ℕ) (place_of : ℕ → Option ℕ) (live : FinMap nat_cmp Clause) : Type 0 where
+  pub placed : IsIndexed (spot_in live place_of) buckets
+  pub noted : (s : ℕ) → IsSome (maps.get live s) → IsSome (place_of s)
+  pub low : (s : ℕ) → IsSome (maps.get live s) → s < 4294967296

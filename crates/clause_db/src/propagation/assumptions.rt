@@ -5,16 +5,16 @@ ghost use Rattle.std.specs.Bool.{OnFalse};
 ghost use Rattle.cnf_base.specs.Literals.{Literal, complement, complements, has};
 ghost use Rattle.clause_db.specs.Propagation.Assumptions.{Assumption, MayAssume, assumed_by};
 ghost use Rattle.clause_db.specs.Propagation.Levels.{Notes, number_at};
-ghost use Rattle.clause_db.specs.Store.Table.{at};
+ghost use Rattle.tables.specs.Table.{at};
 ghost use Rattle.clause_db.specs.Propagation.Trail.{HasRoom, SameSet, conflicts};
 ghost use Rattle.clause_db.specs.declared.propagation.answer.Answer.TheVariants.{Clash};
 
 use crate::propagation::levels::{Level, Levels};
-use crate::store::table::Table;
 use crate::{Answer, Part, Trail};
 use cnf_base::{Lit, OutOfMemory};
 use std::alloc::Global;
 use std::marker::Model;
+use tables::Table;
 
 /// At most two assumptions that stand, the second on the first, and the literals that are true: what each propagation has in common.
 ///

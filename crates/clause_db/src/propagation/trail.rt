@@ -1,6 +1,6 @@
 //! The trail: the literals that are true.
 
-ghost use Rattle.std.specs.Prelude.{◌≡◌, ℕ, ◌*◌, ◌/◌, ◌==◌, ◌<◌, ◌≤◌, ◌||◌, ◌&&◌, not, [], ◌∷◌, ◌++◌, filter, length, take, is_some, IsTrue, IsFalse, ◌↔◌, IfSome, IfOk, OnOk, OnErr, if◌then◌else◌};
+ghost use Rattle.std.specs.Prelude.{◌≡◌, ℕ, ◌*◌, ◌/◌, ◌-◌, ◌==◌, ◌<◌, ◌≤◌, ◌||◌, ◌&&◌, not, [], ◌∷◌, ◌++◌, filter, length, take, is_some, IsTrue, IsFalse, ◌↔◌, IfSome, IfOk, OnOk, OnErr, if◌then◌else◌};
 ghost use Rattle.cnf_base.specs.Literals.{complement, has};
 ghost use Rattle.clause_db.specs.Propagation.Left.{open_literals, how_many};
 ghost use Rattle.clause_db.specs.Propagation.Trail.{value_under, is_variable, HasNoVariableTwice, SameSet, HasRoom, MakesFalse, conflicts};
@@ -10,26 +10,10 @@ ghost use Rattle.clause_db.specs.declared.propagation.value.Value.TheVariants.{O
 use crate::propagation::left::Left;
 use crate::propagation::part::Part;
 use crate::propagation::value::Value;
-use crate::store::table::Table;
 use cnf_base::{Lit, OutOfMemory};
 use std::alloc::Global;
 use std::marker::Model;
-
-/// Where a variable stands in the order, and the literal that stands there.
-#[derive(Clone, Copy)]
-struct Entry {
-    place: u32,
-    lit: Lit,
-}
-
-impl Entry {
-    fn index(&self) -> usize
-        ensures value { result ≡ self.now.place }
-        ensures range { result < 4294967296 }
-    {
-        self.place as usize
-    }
-}
+use tables::{Table, key};
 
 /// The literals that are true, in the order in which they were set. No two are of one variable.
 ///
@@ -38,27 +22,28 @@ impl Entry {
 /// Contracts see a trail as the list of the literals and the set of the variables for which there is room.
 #[derive(Drop)]
 pub struct Trail {
-    /// One literal of each variable with room. The first `len` are the trail.
-    order: Vec<Lit>,
-    len: usize,
-    table: Table<Entry>,
+    /// It has room for one literal of each variable that was met.
+    lits: Vec<Lit>,
+    met: Vec<u32>,
+    /// By literal, for both literals of each variable that was met.
+    values: Table<Value>,
 }
 
 impl Model for Trail {
-    ghost use Rattle.std.specs.Prelude.{◌≤◌, length, take, map};
-    ghost use Rattle.cnf_base.specs.Literals.{variable};
+    ghost use Rattle.std.specs.Prelude.{vec_capacity};
     ghost use Rattle.clause_db.specs.Propagation.Trail.{TrailState};
-    ghost use Rattle.clause_db.specs.Store.Table.{at};
-    ghost use Rattle.clause_db.specs.Propagation.Places.{IsPlaced};
+    ghost use Rattle.clause_db.specs.Propagation.Values.{IsTrail};
+    ghost use Rattle.tables.specs.Table.{at};
 
     ghost Value = { TrailState };
 
     ghost view = { λ t. record {
-      lits = take t.len t.order.items;
-      met = map variable t.order.items;
+      lits = t.lits.items;
+      met = t.met.items;
     } };
 
-    ghost invariant = { λ t. (t.len ≤ length t.order.items) × IsPlaced t.order.items (at t.table) };
+    ghost invariant = { λ t.
+        IsTrail t.lits.items t.met.items (vec_capacity t.lits) (at t.values) };
 }
 
 /// The literal that says that the variable is true; none for 0 and past the greatest variable.
@@ -90,9 +75,9 @@ impl Trail {
         ensures met { IfOk result (λ t. t.met ≡ []) }
     {
         Ok(Trail {
-            order: Vec::new(alloc),
-            len: 0,
-            table: Table::new(alloc),
+            lits: Vec::new(alloc),
+            met: Vec::new(alloc),
+            values: Table::new(alloc),
         })
     }
 
@@ -110,15 +95,15 @@ impl Trail {
         let Some(lit) = positive(var) else {
             return Ok(());
         };
-        if self.table.get(var).is_some() {
+        // The negative one gets its room last.
+        if self.values.get(key(lit.neg())).is_some() {
             return Ok(());
         }
-        let Ok(place) = u32::try_from(self.order.len()) else {
-            return Err(OutOfMemory);
-        };
-        self.order.reserve(1)?;
-        self.table.reserve(var, Entry { place, lit })?;
-        self.order.push_reserved(lit);
+        self.lits.reserve(self.met.len() + 1)?;
+        self.met.reserve(1)?;
+        self.values.reserve(key(lit), Value::Open)?;
+        self.values.reserve(key(lit.neg()), Value::Open)?;
+        self.met.push_reserved(var);
         Ok(())
     }
 
@@ -129,26 +114,9 @@ impl Trail {
         ensures lits { self.new.lits ≡ self.old.lits ++ l ∷ [] }
         ensures met { (v : ℕ) → has self.new.met v ≡ has self.old.met v }
     {
-        let n = self.len;
-        if let Some(entry) = self.table.get(l.var()) {
-            let place = entry.index();
-            let set = Entry {
-                place: n as u32,
-                lit: l,
-            };
-            let other = self.order[n];
-            self.order[place] = other;
-            self.order[n] = l;
-            self.table.set(
-                other.var(),
-                Entry {
-                    place: entry.place,
-                    lit: other,
-                },
-            );
-            self.table.set(l.var(), set);
-            self.len = n + 1;
-        }
+        self.lits.push_reserved(l);
+        self.values.set(key(l), Value::True);
+        self.values.set(key(l.neg()), Value::False);
     }
 
     /// What the trail says of a literal. It takes no memory.
@@ -156,16 +124,9 @@ impl Trail {
         ensures value { result ≡ value_under self.now.lits l }
         ensures different { HasNoVariableTwice self.now.lits }
     {
-        let Some(entry) = self.table.get(l.var()) else {
-            return Value::Open;
-        };
-        if self.len <= entry.index() {
-            return Value::Open;
-        }
-        if entry.lit == l {
-            Value::True
-        } else {
-            Value::False
+        match self.values.get(key(l)) {
+            Some(value) => value,
+            None => Value::Open,
         }
     }
 
@@ -174,23 +135,37 @@ impl Trail {
         ensures value { result ≡ length self.now.lits }
         ensures different { HasNoVariableTwice self.now.lits }
     {
-        self.lits().len()
+        self.lits.len()
     }
 
     /// Whether no literal was set.
     pub fn is_empty(&self) -> bool
         ensures { IsTrue result ↔ (self.now.lits ≡ []) }
     {
-        self.len == 0
+        self.lits.is_empty()
     }
 
-    /// Takes back all but the first `n` literals, in constant time and with no memory.
+    /// Takes back the last literal. It takes no memory.
+    fn take_back(&mut self)
+        requires { 0 < length self.old.lits }
+        ensures lits { self.new.lits ≡ take (length self.old.lits - 1) self.old.lits }
+        ensures met { self.new.met ≡ self.old.met }
+    {
+        if let Some(l) = self.lits.pop() {
+            self.values.set(key(l), Value::Open);
+            self.values.set(key(l.neg()), Value::Open);
+        }
+    }
+
+    /// Takes back all but the first `n` literals, the last one first. It takes no memory.
     pub fn undo_to(&mut self, n: usize)
         requires { n ≤ length self.old.lits }
         ensures lits { self.new.lits ≡ take n self.old.lits }
         ensures met { (v : ℕ) → has self.new.met v ≡ has self.old.met v }
     {
-        self.len = n;
+        while self.lits.len() > n {
+            self.take_back();
+        }
     }
 
     /// The literals, in the order in which they were set.
@@ -198,8 +173,9 @@ impl Trail {
         ensures value { result.now ≡ self.now.lits }
         ensures different { HasNoVariableTwice self.now.lits }
     {
-        &self.order[..self.len]
+        self.lits.as_slice()
     }
+
     /// Makes room for the variables of a clause.
     ///
     /// # Errors

@@ -1,31 +1,76 @@
-//! Slots by the hashes of their clauses.
+//! What finds a clause again.
 
-ghost use Rattle.std.specs.Prelude.{◌≡◌, ℕ, ◌+◌, ◌-◌, ◌==◌, ◌<◌, [], ◌∷◌, ◌++◌, length, swap_remove, slice_index, if◌then◌else◌, MatchOption, IfOk, OnOk, OnErr};
-ghost use Rattle.clause_db.specs.Store.Index.{under};
+ghost use Rattle.std.specs.Prelude.{◌≡◌, ℕ, ◌+◌, ◌-◌, ◌==◌, ◌<◌, [], ◌∷◌, ◌++◌, length, swap_remove, slice_index, if◌then◌else◌, Some, None, ⊤, MatchOption, IfOk, OnOk, OnErr};
+ghost use Rattle.std.specs.Ordering.{nat_cmp};
+ghost use Rattle.std.specs.FinMap as maps;
+ghost use Rattle.std.specs.FinMap.{FinMap};
+ghost use Rattle.cnf_base.specs.Literals.{Clause};
+ghost use Rattle.clause_db.specs.Store.Clauses.{size};
+ghost use Rattle.clause_db.specs.Store.Hashes.{hash};
+ghost use Rattle.clause_db.specs.Store.Index.{under, IsIndex};
+ghost use Rattle.tables.specs.Table.{at};
 
 use crate::store::bucket::Bucket;
-use cnf_base::OutOfMemory;
+use crate::store::marks::hash_of;
+use cnf_base::{Lit, OutOfMemory};
 use std::alloc::Global;
 use std::collections::HashMap;
+use tables::Table;
+
+/// What a store keeps to find the slots of a clause again.
+pub trait Indexing: Sized {
+    /// It indexes these clauses, each in its slot.
+    ghost indexes: { Self → FinMap nat_cmp Clause → Type 0 };
+
+    /// It indexes no clause. It takes no memory.
+    fn new(alloc: Global) -> Self
+        ensures { indexes result maps.empty };
+
+    /// Adds the slot of a clause with this hash.
+    fn add(&mut self, code: u64, slot: usize) -> Result<(), OutOfMemory>
+        ensures ok { OnOk result ((live : FinMap nat_cmp Clause) (c : Clause) →
+            indexes self.old live → maps.get live slot ≡ None → code ≡ hash c →
+            indexes self.new (maps.insert live slot c)) }
+        ensures err { OnErr result ((live : FinMap nat_cmp Clause) →
+            indexes self.old live → indexes self.new live) };
+
+    /// Takes the slot of the clause out.
+    fn remove(&mut self, slot: usize, lits: &[Lit])
+        requires different { size lits.now ≡ length lits.now }
+        requires there { (live : FinMap nat_cmp Clause) × indexes self.old live
+            × (maps.get live slot ≡ Some lits.now) }
+        ensures { (live : FinMap nat_cmp Clause) → indexes self.old live →
+            maps.get live slot ≡ Some lits.now → indexes self.new (maps.remove live slot) };
+}
+
+/// Clauses that are never searched for need no index.
+#[derive(Clone, Copy)]
+pub struct NoIndex {}
+
+impl Indexing for NoIndex {
+    ghost indexes = { λ _ _. ⊤ };
+
+    fn new(_alloc: Global) -> Self {
+        NoIndex {}
+    }
+
+    fn add(&mut self, _code: u64, _slot: usize) -> Result<(), OutOfMemory> {
+        Ok(())
+    }
+
+    fn remove(&mut self, _slot: usize, _lits: &[Lit]) {}
+}
 
 /// The slots of the clauses, in a bucket for each hash. No bucket is empty.
 #[derive(Drop)]
-pub(crate) struct Index {
+pub struct Index {
     alloc: Global,
     buckets: HashMap<u64, Bucket>,
+    /// By slot its place in its bucket.
+    places: Table<u32>,
 }
 
 impl Index {
-    /// No slots. It takes no memory.
-    pub(crate) fn new(alloc: Global) -> Self
-        ensures { (h : ℕ) → under result h ≡ [] }
-    {
-        Index {
-            alloc,
-            buckets: HashMap::new(alloc),
-        }
-    }
-
     /// The slots with this hash.
     pub(crate) fn bucket(&self, hash: u64) -> Option<&Bucket>
         ensures { MatchOption result (under self.now hash ≡ []) (λ b. b.now ≡ under self.now hash) }
@@ -34,15 +79,18 @@ impl Index {
     }
 
     /// Adds a slot under a hash, and tells its place in the bucket.
-    pub(crate) fn add(&mut self, hash: u64, slot: usize) -> Result<usize, OutOfMemory>
+    fn push(&mut self, hash: u64, slot: usize) -> Result<u32, OutOfMemory>
         ensures place { IfOk result (λ place. place ≡ length (under self.old hash)) }
         ensures ok { OnOk result ((h : ℕ) → under self.new h ≡
             (if h == hash then under self.old h ++ slot ∷ [] else under self.old h)) }
         ensures err { OnErr result ((h : ℕ) → under self.new h ≡ under self.old h) }
+        ensures places { (s : ℕ) → at self.new.places s ≡ at self.old.places s }
     {
         let alloc = self.alloc;
         if let Some(bucket) = self.buckets.get_mut(&hash) {
-            let place = bucket.len();
+            let Ok(place) = u32::try_from(bucket.len()) else {
+                return Err(OutOfMemory);
+            };
             bucket.push(alloc, slot)?;
             return Ok(place);
         }
@@ -51,12 +99,13 @@ impl Index {
     }
 
     /// Takes the slot at a place out from under a hash. The last slot takes that place, and is the result.
-    pub(crate) fn remove(&mut self, hash: u64, place: usize) -> usize
+    fn take(&mut self, hash: u64, place: usize) -> usize
         requires { place < length (under self.old hash) }
         ensures last { result ≡ slice_index (under self.old hash)
             (length (under self.old hash) - 1) }
         ensures slots { (h : ℕ) → under self.new h ≡
             (if h == hash then swap_remove (under self.old h) place 0 else under self.old h) }
+        ensures places { (s : ℕ) → at self.new.places s ≡ at self.old.places s }
     {
         let mut last = 0;
         let mut is_alone = false;
@@ -78,5 +127,34 @@ impl Index {
     #[cfg(test)]
     pub(crate) fn room(&self) -> usize {
         self.buckets.capacity()
+    }
+}
+
+impl Indexing for Index {
+    ghost indexes = { λ i live. IsIndex (under i) (at i.places) live };
+
+    fn new(alloc: Global) -> Self {
+        Index {
+            alloc,
+            buckets: HashMap::new(alloc),
+            places: Table::new(alloc),
+        }
+    }
+
+    fn add(&mut self, code: u64, slot: usize) -> Result<(), OutOfMemory> {
+        let Ok(key) = u32::try_from(slot) else {
+            return Err(OutOfMemory);
+        };
+        self.places.reserve(key, 0)?;
+        let place = self.push(code, slot)?;
+        self.places.set(key, place);
+        Ok(())
+    }
+
+    fn remove(&mut self, slot: usize, lits: &[Lit]) {
+        if let Some(place) = self.places.get(slot as u32) {
+            let last = self.take(hash_of(lits), place as usize);
+            self.places.set(last as u32, place);
+        }
     }
 }

@@ -3,22 +3,16 @@
 ghost use Rattle.std.specs.Prelude.{◌≡◌, ℕ, ◌+◌, ◌<◌, ◌==◌, ◌&&◌, ◌||◌, true, not, is_some, if◌then◌else◌, IsSome};
 ghost use Rattle.clause_db.specs.Store.Hashes.{mix};
 ghost use Rattle.clause_db.specs.Store.LiteralMarks.{mark_count, is_marked};
-ghost use Rattle.clause_db.specs.Store.Table.{at};
+ghost use Rattle.tables.specs.Table.{at};
 
-use crate::store::table::Table;
 use cnf_base::Lit;
+use tables::{Table, key};
 
 /// How many live clauses have a literal, and whether a call has marked it.
 #[derive(Clone, Copy)]
 pub(crate) struct Mark {
-    pub(crate) count: u64,
+    pub(crate) count: u32,
     pub(crate) marked: bool,
-}
-
-pub(crate) fn key(l: Lit) -> u32
-    ensures { result ≡ l }
-{
-    l.index() as u32
 }
 
 /// A literal spread over the words.
@@ -74,7 +68,7 @@ pub(crate) fn clear_mark(marks: &mut Table<Mark>, l: Lit)
 pub(crate) fn count_up(marks: &mut Table<Mark>, l: Lit) -> bool
     requires known { IsSome (at marks.old l) }
     requires few { is_marked (at marks.old l) ≡ true →
-        mark_count (at marks.old l) < 18446744073709551615 }
+        mark_count (at marks.old l) < 4294967295 }
     ensures was { result ≡ is_marked (at marks.old l) }
     ensures marked { (k : ℕ) → is_marked (at marks.new k) ≡
         (not (k == l) && is_marked (at marks.old k)) }

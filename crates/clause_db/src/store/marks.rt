@@ -6,12 +6,12 @@ ghost use Rattle.cnf_base.specs.Literals.{has, same_clause};
 ghost use Rattle.clause_db.specs.Store.Clauses.{size};
 ghost use Rattle.clause_db.specs.Store.Hashes.{hash};
 ghost use Rattle.clause_db.specs.Store.LiteralMarks.{mark_count, is_marked};
-ghost use Rattle.clause_db.specs.Store.Table.{at};
+ghost use Rattle.tables.specs.Table.{at};
 
-use crate::store::mark::{Mark, clear_mark, count_down, count_up, key, mixed, set_mark};
-use crate::store::table::Table;
+use crate::store::mark::{Mark, clear_mark, count_down, count_up, mixed, set_mark};
 use cnf_base::{Lit, OutOfMemory};
 use smallvec::SmallVec;
+use tables::{Table, key};
 
 /// How many different literals a clause has, and its hash as a set.
 #[derive(Clone, Copy)]
@@ -97,7 +97,7 @@ pub(crate) fn unmark_all(marks: &mut Table<Mark>, lits: &[Lit])
 pub(crate) fn gather(marks: &mut Table<Mark>, lits: &[Lit], kept: &mut SmallVec<Lit, 4>)
     requires known { (l : ℕ) → has lits.now l ≡ true → IsSome (at marks.old l) }
     requires marked { (l : ℕ) → is_marked (at marks.old l) ≡ has lits.now l }
-    requires few { (l : ℕ) → mark_count (at marks.old l) < 18446744073709551615 }
+    requires few { (l : ℕ) → mark_count (at marks.old l) < 4294967295 }
     requires empty { kept.old.items ≡ [] }
     requires room { size lits.now ≤ kept.old.capacity }
     ensures same { IsTrue (same_clause kept.new.items lits.now) }

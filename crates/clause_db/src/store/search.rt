@@ -4,7 +4,7 @@ ghost use Rattle.std.specs.Prelude.{◌≡◌, ℕ, false, true, Some, slice_get
 ghost use Rattle.clause_db.specs.Store.Entries.{is_match};
 ghost use Rattle.clause_db.specs.Store.Index.{under};
 ghost use Rattle.clause_db.specs.Store.LiteralMarks.{is_marked};
-ghost use Rattle.clause_db.specs.Store.Table.{at};
+ghost use Rattle.tables.specs.Table.{at};
 ghost use Rattle.slab.specs.Slab.{get};
 
 use crate::store::bucket::Bucket;
@@ -12,8 +12,8 @@ use crate::store::entry::{Entry, is_match_at};
 use crate::store::index::Index;
 use crate::store::mark::Mark;
 use crate::store::marks::Digest;
-use crate::store::table::Table;
 use slab::Slab;
+use tables::Table;
 
 /// The first slot of the bucket that has a clause of this many literals, each of them marked.
 fn first_match(

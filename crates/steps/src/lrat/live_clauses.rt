@@ -9,7 +9,7 @@ ghost use Rattle.steps.specs.Theory.Sizes.{total};
 ghost use Rattle.steps.specs.Lrat.Shelf.{empty_shelf, shelf_state, AllHold};
 ghost use Rattle.steps.specs.declared.theory.refusal.Refusal.TheVariants.{UnknownId};
 
-use clause_db::{Ids, Store};
+use clause_db::{Ids, NoIndex, Store};
 use cnf_base::{Lit, OutOfMemory};
 use std::alloc::Global;
 use std::marker::Model;
@@ -17,7 +17,7 @@ use std::marker::Model;
 /// The live clauses. Contracts see them as a finite map, with the greatest identifier so far and what is kept.
 #[derive(Drop)]
 pub(crate) struct LiveClauses {
-    store: Store,
+    store: Store<NoIndex>,
     ids: Ids,
     top: u64,
 }

@@ -1,6 +1,6 @@
 use Rattle.std.proofs.Common.{◌≡◌, ℕ, is_some}
 use Rattle.clause_db.specs.Propagation.Levels.{number_at}
-use Rattle.clause_db.specs.Store.Table.{at}
+use Rattle.tables.specs.Table.{at}
 use Rattle.clause_db.proofs.PropagationLemmas.Levels.{NotesTo}
 use Rattle.clause_db.proofs.propagation.assumptions.note_all.Given as goal
 

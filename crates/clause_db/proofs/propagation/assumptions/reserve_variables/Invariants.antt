@@ -1,7 +1,7 @@
 use Rattle.std.proofs.Common.{◌≡◌, ℕ, ◌/◌, true, take, IsSome}
 use Rattle.cnf_base.specs.Literals.{Literal, has}
 use Rattle.clause_db.specs.Propagation.Levels.{number_at}
-use Rattle.clause_db.specs.Store.Table.{at}
+use Rattle.tables.specs.Table.{at}
 use Rattle.clause_db.proofs.propagation.assumptions.reserve_variables.Given as goal
 
 abbrev pub invariant-loop-l : goal.invariant-loop-l

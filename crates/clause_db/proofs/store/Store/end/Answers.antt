@@ -6,7 +6,7 @@ use Rattle.clause_db.proofs.StoreLemmas.Entries.{live_entry}
 use Rattle.clause_db.proofs.store.Store.end.Goals as goal
 
 pub returns : goal.returns
-returns c s live =
+returns g c s live =
     let slots = c.self.inside.entries.slots in
     let most = c.capacity.ensures.slots in
     let there = live_entry c.self.inside.entries c.args.self.now.live s (ap (λ v. v.live) c.self.view_is) live in

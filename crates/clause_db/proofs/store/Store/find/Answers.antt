@@ -6,7 +6,7 @@ use Rattle.cnf_base.specs.Literals.{Clause, has}
 use Rattle.cnf_base.proofs.SetLemmas.{all_each, each_all, same_back}
 use Rattle.clause_db.specs.Store.Index.{under}
 use Rattle.clause_db.specs.Store.LiteralMarks.{is_marked, mark_count}
-use Rattle.clause_db.specs.Store.Table.{at}
+use Rattle.tables.specs.Table.{at}
 use Rattle.clause_db.proofs.StoreLemmas.Entries.{clause_of, get_stored}
 use Rattle.clause_db.proofs.StoreLemmas.Search.{copies_pos, known_from_count, match_same, none_same}
 use Rattle.clause_db.proofs.StoreLemmas.Options.{if_some_from, if_some_from_none, if_none_from, if_none_from_some}
@@ -22,7 +22,7 @@ returns-then-not-all_known-clause-none c s d is same =
     let counted : (l : ℕ) → has lits l ≡ true → 0 < mark_count (at marks l) =
     λ l h.
     let many = copies_pos _ s d l at_slot (same_back d lits same l h) in
-    let count_is = c.self.invariant.counted l in
+    let count_is = c.self.invariant.0.counted l in
     omega arith in
     let known = each_all (λ l. is_some (at marks l)) lits (λ l h. known_from_count (at marks l) (counted l h)) in
     true≢false (sym known ∙ sym c.all_known.ensures ∙ c.if-not-all_known.true)
@@ -39,7 +39,7 @@ returns-clause-found c =
     elim c.match-found.branch [
       | in-Some w ↦
           let slot = w.in-Some.slot in
-          let different = λ (d : Clause) (is : clause_of (get i.entries slot) ≡ Some d). c.self.invariant.different slot d (get_stored i.entries slot ∙ is) in
+          let different = λ (d : Clause) (is : clause_of (get i.entries slot) ≡ Some d). c.self.invariant.0.different slot d (get_stored i.entries slot ∙ is) in
           let matched = match_same c.args.lits.now (λ l. is_marked (at digest.new.marks l)) digest.ensures.marked digest.result.len digest.ensures.len (get i.entries slot) different w.in-Some.ensures.found in
           if_some_from c.match-found.result w.at.result _ w.result-is
           (matched.0, ap (maps.get now.live) w.at.ensures ∙ ap (λ v. maps.get v.live slot) (sym c.self.view_is) ∙ get_stored i.entries slot ∙ matched.1, matched.2)
@@ -53,7 +53,7 @@ returns-clause-none c =
     elim c.match-found.branch [
       | in-Some w ↦ if_none_from_some c.match-found.result w.at.result _ w.result-is
       | in-None w ↦ if_none_from c.match-found.result _ w.result-is (λ s d is same.
-          none_same i.entries (under i.index) c.self.invariant.placed c.args.lits.now (λ l. is_marked (at digest.new.marks l)) digest.ensures.marked
-          digest.result.len digest.ensures.len digest.result.hash digest.ensures.hash c.self.invariant.different w.in-None.ensures.none
+          none_same i.entries (under i.index) (at i.index.places) c.self.invariant.1 c.args.lits.now (λ l. is_marked (at digest.new.marks l)) digest.ensures.marked
+          digest.result.len digest.ensures.len digest.result.hash digest.ensures.hash c.self.invariant.0.different w.in-None.ensures.none
           s d (ap (λ v. maps.get v.live s) c.self.view_is ∙ is) same)
     ]

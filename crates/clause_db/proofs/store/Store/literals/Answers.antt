@@ -4,11 +4,11 @@ use Rattle.clause_db.proofs.StoreLemmas.Fields.{live_kept, kept_count}
 use Rattle.clause_db.proofs.store.Store.literals.Goals as goal
 
 pub returns-clause-value : goal.returns-clause-value
-returns-clause-value c =
+returns-clause-value g c =
     let i = c.self.inside in
-    c.min.ensures ∙ ap (λ n. min n 18446744073709551615) (kept_count i.entries i.index i.marks i.sum c.self.invariant ∙ ap (λ v. v.stored) c.self.view_is)
+    c.min.ensures ∙ ap (λ n. min n 18446744073709551615) (kept_count i.entries i.marks i.sum c.self.invariant.0 ∙ ap (λ v. v.stored) c.self.view_is)
 
 pub returns-clause-live_alone : goal.returns-clause-live_alone
-returns-clause-live_alone c =
+returns-clause-live_alone g c =
     let i = c.self.inside in
-    ap (λ v. v.stored) (sym c.self.view_is) ∙ live_kept i.entries i.index i.marks i.sum c.self.invariant ∙ ap (λ v. literals_in v.live) c.self.view_is
+    ap (λ v. v.stored) (sym c.self.view_is) ∙ live_kept i.entries i.marks i.sum c.self.invariant.0 ∙ ap (λ v. literals_in v.live) c.self.view_is

@@ -2,7 +2,7 @@ use Rattle.std.proofs.Common.{◌≡◌, ℕ, ◌+◌, ◌&&◌, not, is_some, c
 use Rattle.cnf_base.specs.Literals.{has}
 use Rattle.clause_db.specs.Store.Clauses.{size}
 use Rattle.clause_db.specs.Store.LiteralMarks.{mark_count, is_marked}
-use Rattle.clause_db.specs.Store.Table.{at}
+use Rattle.tables.specs.Table.{at}
 use Rattle.clause_db.proofs.store.marks.gather.Given as goal
 
 abbrev pub invariant-loop-l : goal.invariant-loop-l

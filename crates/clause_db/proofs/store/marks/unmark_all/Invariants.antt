@@ -1,7 +1,7 @@
 use Rattle.std.proofs.Common.{◌≡◌, ℕ, true, is_some, drop}
 use Rattle.cnf_base.specs.Literals.{has}
 use Rattle.clause_db.specs.Store.LiteralMarks.{mark_count, is_marked}
-use Rattle.clause_db.specs.Store.Table.{at}
+use Rattle.tables.specs.Table.{at}
 use Rattle.clause_db.proofs.store.marks.unmark_all.Given as goal
 
 abbrev pub invariant-loop-l : goal.invariant-loop-l

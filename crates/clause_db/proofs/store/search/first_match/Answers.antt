@@ -4,7 +4,7 @@ use Rattle.std.proofs.lemmas.Option.{slice_get_within, get_or_from_slice_get}
 use Rattle.slab.specs.Slab.{get}
 use Rattle.clause_db.specs.Store.Entries.{is_match}
 use Rattle.clause_db.specs.Store.LiteralMarks.{is_marked}
-use Rattle.clause_db.specs.Store.Table.{at}
+use Rattle.tables.specs.Table.{at}
 use Rattle.clause_db.proofs.store.search.first_match.Goals as goal
 
 pub loop-i-preserved : goal.loop-i-preserved

@@ -1,22 +1,20 @@
--- The set has the literal and those of before.
-use Rattle.std.proofs.Common.{◌≡◌, ◌∷◌, nat_eq, true, rules}
-use Rattle.std.proofs.lemmas.Grind.{common_steps}
-use Rattle.std.specs.HashSet.{Updates}
+use Rattle.std.proofs.Common.{◌≡◌, ℕ, ◌∷◌, [], ◌++◌, Some, cond, eqb, unwrap_or, ap, ◌∙◌, sym, subst, rules}
 use Rattle.cnf_base.specs.Literals.{Literal, has}
-use Rattle.dimacs.proofs.ModelLemmas.{has_put, IsConsistent-put}
+use Rattle.tables.specs.Table.{at}
+use Rattle.dimacs.proofs.ModelLemmas.{has_pushed, listed_more, IsConsistent-put}
 use Rattle.dimacs.proofs.model.Model.insert.Goals as goal
 
--- the set's keys
-has_keys : (c : goal.In_ok-insert) (k : Literal) → has c.insert.new.self.keys k ≡ has (c.args.lit ∷ c.self.inside.listed.keys) k
-has_keys c =
-    let updates : Updates nat_eq c.self.inside.listed c.insert.new.self c.args.lit true = search (rules, common_steps) in
-    has_put _ _ c.args.lit updates.0
+-- the listed literals
+listed_now : (c : goal.After-push_reserved) (k : Literal) → has c.push_reserved.new.self.items k ≡ has (c.args.lit ∷ c.self.inside.lits.items) k
+listed_now c k = ap (λ ls. has ls k) (c.push_reserved.ensures.items ∙ ap (λ ls. ls ++ c.args.lit ∷ []) c.reserve.ensures.items) ∙ has_pushed c.self.inside.lits.items c.args.lit k
 
-pub invariant_of-self-2 : goal.invariant_of-self-2
-invariant_of-self-2 c = IsConsistent-put c.self.inside.listed.keys _ c.args.lit c.self.invariant (search rules) (has_keys c)
+pub invariant_of-self-then-not-holds : goal.invariant_of-self-then-not-holds
+invariant_of-self-then-not-holds c =
+    let old = c.self.inside in
+    let put = subst (λ m. (l : ℕ) → at c.reserve-then-not-holds.new.self l ≡ cond (eqb l m) (Some (unwrap_or (at old.listed m) tt)) (at old.listed l)) c.key.ensures c.in_ok-reserve-2.ensures.ok in (
+      IsConsistent-put old.lits.items _ c.args.lit c.self.invariant.0 (search rules) (listed_now c),
+      λ l. listed_more (at old.listed) (at c.reserve-then-not-holds.new.self) old.lits.items c.args.lit _ c.self.invariant.1 put l ∙ sym (listed_now c l),
+    )
 
-pub returns-clause-listed : goal.returns-clause-listed
-returns-clause-listed c = rw (← c.self.view_is) (has_keys c)
-
-pub returns-clause-consistent : goal.returns-clause-consistent
-returns-clause-consistent c = IsConsistent-put c.self.inside.listed.keys _ c.args.lit c.self.invariant (search rules) (has_keys c)
+pub returns-in_ok-reserve-2-clause-consistent : goal.returns-in_ok-reserve-2-clause-consistent
+returns-in_ok-reserve-2-clause-consistent c = IsConsistent-put c.self.inside.lits.items _ c.args.lit c.self.invariant.0 (search rules) (listed_now c)

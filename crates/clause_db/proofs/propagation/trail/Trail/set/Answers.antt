@@ -1,67 +1,36 @@
-use Rattle.std.proofs.Common.{[], ◌∷◌, ◌++◌, ap, sym, ◌∙◌, arith, is_some}
-use Rattle.std.proofs.lemmas.Bool.{true≢false}
-use Rattle.std.proofs.lemmas.List.{get_or_read}
+use Rattle.std.proofs.Common.{◌≡◌, ℕ, ◌∙◌, Some, cond, eqb, is_some, sym, ap, subst, arith}
+use Rattle.std.specs.Vec.{vec_capacity}
 use Rattle.cnf_base.specs.Literals.{has, variable}
-use Rattle.clause_db.specs.Store.Table.{at}
-use Rattle.clause_db.proofs.PropagationLemmas.Places.{place_low, place_past, front_low, is_set}
-use Rattle.clause_db.proofs.PropagationLemmas.Met.{unmet_variable}
+use Rattle.tables.specs.Table.{at}
+use Rattle.clause_db.specs.Propagation.Trail.{value_under}
+use Rattle.clause_db.specs.Propagation.Values.{IsTrail}
+use Rattle.clause_db.specs.declared.propagation.value.Value.TheVariants.{True, False}
+use Rattle.clause_db.proofs.PropagationLemmas.Values.{room_for, both_known, trail_set, wrote_known}
 use Rattle.clause_db.proofs.propagation.trail.Trail.set.Goals as goal
 
-pub overflow_cast-set : goal.overflow_cast-set
-overflow_cast-set c =
+pub push_reserved-requires : goal.push_reserved-requires
+push_reserved-requires c =
     let t = c.self.inside in
-    let past = place_past t.order.items (at t.table) c.self.invariant.1 t.len c.args.l _ (ap (λ s. s.lits) c.self.view_is) c.requires.open _ _ _ c.var.ensures.value c.get.ensures c.in-Some.is in
-    omega (arith, past, c.index-place.ensures.value, c.index-place.ensures.range)
+    let open_now = ap (λ s. value_under s.lits c.args.l) c.self.view_is ∙ c.requires.open in
+    let here = ap (λ s. has s.met (variable c.args.l)) c.self.view_is ∙ c.requires.reserved in
+    let room = room_for t.lits.items t.met.items (vec_capacity t.lits) (at t.values) c.self.invariant c.args.l open_now here in
+    omega (arith, room, t.lits.ok.0)
 
-pub index-other-requires : goal.index-other-requires
-index-other-requires c =
+pub set-requires-2 : goal.set-requires-2
+set-requires-2 c =
     let t = c.self.inside in
-    let low = front_low t.order.items (at t.table) c.self.invariant.1 t.len c.args.l _ (ap (λ s. s.lits) c.self.view_is) c.requires.open _ _ _ c.var.ensures.value c.get.ensures c.in-Some.is in
-    omega (arith, low, t.order.ok.0)
-
-pub index_mut-requires : goal.index_mut-requires
-index_mut-requires c =
-    let t = c.self.inside in
-    let low = place_low t.order.items (at t.table) c.self.invariant.1 t.len c.args.l _ (ap (λ s. s.lits) c.self.view_is) c.requires.open _ _ _ c.var.ensures.value c.get.ensures c.in-Some.is in
-    omega (arith, low, t.order.ok.0)
-
-pub index_mut-requires-in-Some : goal.index_mut-requires-in-Some
-index_mut-requires-in-Some c =
-    let t = c.self.inside in
-    let low = front_low t.order.items (at t.table) c.self.invariant.1 t.len c.args.l _ (ap (λ s. s.lits) c.self.view_is) c.requires.open _ _ _ c.var.ensures.value c.get.ensures c.in-Some.is in
-    omega (arith, low, t.order.ok.0)
-
-pub set-requires : goal.set-requires
-set-requires c =
-    let t = c.self.inside in
-    let low = front_low t.order.items (at t.table) c.self.invariant.1 t.len c.args.l _ (ap (λ s. s.lits) c.self.view_is) c.requires.open _ _ _ c.var.ensures.value c.get.ensures c.in-Some.is in
-    let other = get_or_read t.order.items t.len c.index-other.result.now low c.index-other.ensures 0 in
-    ap (λ v. is_some (at t.table v)) (c.var-in-Some.ensures.value ∙ ap variable other) ∙ ap is_some (c.self.invariant.1.found t.len low)
+    let here = ap (λ s. has s.met (variable c.args.l)) c.self.view_is ∙ c.requires.reserved in
+    let known = (both_known t.lits.items t.met.items (vec_capacity t.lits) (at t.values) c.self.invariant c.args.l here).1 in
+    wrote_known True (at t.values) (at c.set.new.self) c.key.result c.set.ensures c.key-2.result (ap (λ k. is_some (at t.values k)) (c.key-2.ensures ∙ c.neg.ensures) ∙ known)
 
 pub invariant_of-self : goal.invariant_of-self
 invariant_of-self c =
     let t = c.self.inside in
-    let set = is_set t.order.items (at t.table) c.self.invariant.1 t.len c.args.l _ (ap (λ s. s.lits) c.self.view_is) c.requires.open _ _ _ c.var.ensures.value c.get.ensures c.in-Some.is (at c.set.new.self) (at c.set-in-Some.new.self)
-    _ _ _ _ c.index-place.ensures.value c.index-other.ensures c.var-in-Some.ensures.value c.var-in-Some-2.ensures.value c.set.ensures c.set-in-Some.ensures in
-    (set.long, set.placed)
-
-pub returns-in-Some-clause-lits : goal.returns-in-Some-clause-lits
-returns-in-Some-clause-lits c =
-    let t = c.self.inside in
-    let set = is_set t.order.items (at t.table) c.self.invariant.1 t.len c.args.l _ (ap (λ s. s.lits) c.self.view_is) c.requires.open _ _ _ c.var.ensures.value c.get.ensures c.in-Some.is (at c.set.new.self) (at c.set-in-Some.new.self)
-    _ _ _ _ c.index-place.ensures.value c.index-other.ensures c.var-in-Some.ensures.value c.var-in-Some-2.ensures.value c.set.ensures c.set-in-Some.ensures in
-    set.lits ∙ ap (λ s. s.lits ++ c.args.l ∷ []) c.self.view_is
-
-pub returns-in-Some-clause-met : goal.returns-in-Some-clause-met
-returns-in-Some-clause-met c =
-    let t = c.self.inside in
-    let set = is_set t.order.items (at t.table) c.self.invariant.1 t.len c.args.l _ (ap (λ s. s.lits) c.self.view_is) c.requires.open _ _ _ c.var.ensures.value c.get.ensures c.in-Some.is (at c.set.new.self) (at c.set-in-Some.new.self)
-    _ _ _ _ c.index-place.ensures.value c.index-other.ensures c.var-in-Some.ensures.value c.var-in-Some-2.ensures.value c.set.ensures c.set-in-Some.ensures in
-    λ v. set.met v ∙ ap (λ s. has s.met v) c.self.view_is
-
-pub returns-in_default-clause-lits : goal.returns-in_default-clause-lits
-returns-in_default-clause-lits c =
-    let t = c.self.inside in
-    let none = sym (ap (at t.table) c.var.ensures.value) ∙ sym c.get.ensures ∙ c.in_default.is in
-    let lacks = unmet_variable t.order.items (at t.table) c.self.invariant.1 (variable c.args.l) none in
-    absurd (true≢false (sym c.requires.reserved ∙ ap (λ s. has s.met (variable c.args.l)) (sym c.self.view_is) ∙ lacks))
+    let l = c.args.l in
+    let open_now = ap (λ s. value_under s.lits l) c.self.view_is ∙ c.requires.open in
+    let here = ap (λ s. has s.met (variable l)) c.self.view_is ∙ c.requires.reserved in
+    let one = subst (λ m. (k : ℕ) → at c.set.new.self k ≡ cond (eqb k m) (Some True) (at t.values k)) c.key.ensures c.set.ensures in
+    let other = subst (λ m. (k : ℕ) → at c.set-2.new.self k ≡ cond (eqb k m) (Some False) (at c.set.new.self k)) (c.key-2.ensures ∙ c.neg.ensures) c.set-2.ensures in
+    let set = trail_set t.lits.items t.met.items (vec_capacity t.lits) (at t.values) c.self.invariant l open_now here (at c.set.new.self) (at c.set-2.new.self) one other in
+    subst (λ n. IsTrail c.push_reserved.new.self.items t.met.items n (at c.set-2.new.self)) (sym c.push_reserved.ensures.capacity)
+    (subst (λ ls. IsTrail ls t.met.items (vec_capacity t.lits) (at c.set-2.new.self)) (sym c.push_reserved.ensures.items) set)

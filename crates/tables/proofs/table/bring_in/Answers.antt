@@ -3,8 +3,8 @@ use Rattle.std.specs.Cmp.{nat_eq_equiv}
 use Rattle.std.specs.Map.Iter.{deref_pair}
 use Rattle.std.proofs.lemmas.Grind.{common_steps}
 use Rattle.std.proofs.lemmas.Map.Iter.{hash_map_turn}
-use Rattle.clause_db.proofs.StoreLemmas.Table.{looked_up-copied, is_none_there}
-use Rattle.clause_db.proofs.store.table.bring_in.Goals as goal
+use Rattle.tables.proofs.TableLemmas.{looked_up-copied, is_none_there}
+use Rattle.tables.proofs.table.bring_in.Goals as goal
 
 pub loop-key-preserved-then-is_none : goal.loop-key-preserved-then-is_none
 loop-key-preserved-then-is_none g c =

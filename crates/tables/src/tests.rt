@@ -1,6 +1,6 @@
 //! Tests of the table.
 
-use crate::store::table::Table;
+use crate::Table;
 use std::test::Fail;
 
 /// Reserves the keys, each with its own number, and counts those that read back otherwise.

@@ -1,6 +1,6 @@
 use Rattle.std.proofs.Common.{◌≡◌, ℕ, IsSome, None, nat_eq, slice_index_or}
 use Rattle.std.specs.Map.{lookup}
-use Rattle.clause_db.proofs.store.table.is_covered.Given as goal
+use Rattle.tables.proofs.table.is_covered.Given as goal
 
 -- a key that is not among those left has a value
 abbrev pub invariant-loop-key : goal.invariant-loop-key

@@ -2,9 +2,9 @@
 
 ghost use Rattle.std.specs.Prelude.{◌≡◌, ℕ, ◌==◌, ◌<◌, ◌≤◌, if◌then◌else◌, unwrap_or, IsSome, IsTrue, OnOk, OnErr, vec_len, slice_index_or, nat_eq};
 ghost use Rattle.std.specs.HashMap.{get};
-ghost use Rattle.clause_db.specs.Store.Table.{at, looked_up};
+ghost use Rattle.tables.specs.Table.{at, looked_up};
 
-use cnf_base::OutOfMemory;
+use cnf_base::{Lit, OutOfMemory};
 use std::alloc::Global;
 use std::collections::HashMap;
 
@@ -12,7 +12,7 @@ use std::collections::HashMap;
 ///
 /// The keys below `dense.len()` have a place in `dense`, all others in `sparse`. A value in `dense` hides one in `sparse`.
 #[derive(Drop)]
-pub(crate) struct Table<T> {
+pub struct Table<T> {
     alloc: Global,
     dense: Vec<Option<T>>,
     sparse: HashMap<u32, T>,
@@ -21,6 +21,13 @@ pub(crate) struct Table<T> {
 
 /// The length from which `dense` grows.
 const LEAST: usize = 64;
+
+/// The key of a literal.
+pub fn key(l: Lit) -> u32
+    ensures { result ≡ l }
+{
+    l.index() as u32
+}
 
 /// Copies into `dense` what `sparse` has below its length, where it has nothing yet.
 fn bring_in<T: Copy + Drop>(dense: &mut Vec<Option<T>>, sparse: &HashMap<u32, T>)
@@ -49,10 +56,10 @@ fn is_covered<T: Copy + Drop>(dense: &Vec<Option<T>>, sparse: &HashMap<u32, T>) 
     true
 }
 
-#[tactic(auto, using(crate::proofs::StoreLemmas::Table::table_steps), unfolding(crate::specs::Store::Table::at))]
+#[tactic(auto, using(crate::proofs::TableLemmas::table_steps), unfolding(crate::specs::Table::at))]
 impl<T: Copy + Drop> Table<T> {
     /// An empty table. It takes no memory.
-    pub(crate) fn new(alloc: Global) -> Self
+    pub fn new(alloc: Global) -> Self
         ensures { (k : ℕ) → at result k ≡ None }
     {
         Table {
@@ -64,7 +71,8 @@ impl<T: Copy + Drop> Table<T> {
     }
 
     /// The value at the key.
-    pub(crate) fn get(&self, key: u32) -> Option<T>
+    #[inline(always)]
+    pub fn get(&self, key: u32) -> Option<T>
         ensures { result ≡ at self.now key }
     {
         let i = key as usize;
@@ -73,11 +81,19 @@ impl<T: Copy + Drop> Table<T> {
         {
             return Some(value);
         }
+        self.get_far(key)
+    }
+
+    #[inline(never)]
+    fn get_far(&self, key: u32) -> Option<T>
+        ensures { result ≡ get nat_eq self.now.sparse key }
+    {
         self.sparse.get(&key).copied()
     }
 
     /// Writes the value at the key, which was reserved.
-    pub(crate) fn set(&mut self, key: u32, value: T)
+    #[inline(always)]
+    pub fn set(&mut self, key: u32, value: T)
         requires { IsSome (at self.old key) }
         ensures { (k : ℕ) → at self.new k ≡ (if k == key then Some value else at self.old k) }
     {
@@ -85,8 +101,17 @@ impl<T: Copy + Drop> Table<T> {
         if i < self.dense.len() {
             self.dense[i] = Some(value);
         } else {
-            let _ = self.sparse.insert(key, value);
+            self.set_far(key, value);
         }
+    }
+
+    #[inline(never)]
+    fn set_far(&mut self, key: u32, value: T)
+        requires far { vec_len self.old.dense ≤ key }
+        requires reserved { IsSome (at self.old key) }
+        ensures { (k : ℕ) → at self.new k ≡ (if k == key then Some value else at self.old k) }
+    {
+        let _ = self.sparse.insert(key, value);
     }
 
     /// Puts a value at a key.
@@ -118,7 +143,7 @@ impl<T: Copy + Drop> Table<T> {
     }
 
     /// Makes room for the key, with this value where it has none.
-    pub(crate) fn reserve(&mut self, key: u32, value: T) -> Result<(), OutOfMemory>
+    pub fn reserve(&mut self, key: u32, value: T) -> Result<(), OutOfMemory>
         ensures ok { OnOk result ((k : ℕ) → at self.new k ≡
             (if k == key then Some (unwrap_or (at self.old key) value) else at self.old k)) }
         ensures err { OnErr result ((k : ℕ) → at self.new k ≡ at self.old k) }

@@ -2,7 +2,7 @@
 use Rattle.std.specs.Prelude.{ℕ, List, Option, None, nat_eq, slice_index_or}
 use Rattle.std.specs.Option.{option_or}
 use Rattle.std.specs.HashMap.{HashMap, get}
-use Rattle.clause_db.specs.declared.store.table.Table.{Table}
+use Rattle.tables.specs.declared.table.Table.{Table}
 
 -- the value in the dense part, or else that in the sparse part
 abbrev pub looked_up : {T S : Type 0} → List (Option T) → HashMap ℕ T S → ℕ → Option T

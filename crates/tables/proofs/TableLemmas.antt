@@ -5,7 +5,7 @@ use Rattle.std.proofs.lemmas.Bool.{true≢false}
 use Rattle.std.proofs.lemmas.List.{get_or_read}
 use Rattle.std.proofs.lemmas.Bool.Decides.{nat_tests}
 use Rattle.std.specs.HashMap.{HashMap, get, IsUnchanged, Updates}
-use Rattle.clause_db.specs.Store.Table.{looked_up}
+use Rattle.tables.specs.Table.{looked_up}
 
 module _ {T S : Type 0} (dense : List (Option T)) (sparse : HashMap ℕ T S) where
   pub looked_up-set : (i : ℕ) (v : T) → i < length dense → (k : ℕ) → looked_up (set dense i (Some v)) sparse k ≡ cond (eqb k i) (Some v) (looked_up dense sparse k)

@@ -1,0 +1,8 @@
+//! Values by numbers of 32 bits, such as variables, literals and slots.
+#![tactic(auto)]
+
+mod table;
+#[cfg(test)]
+mod tests;
+
+pub use table::{Table, key};
