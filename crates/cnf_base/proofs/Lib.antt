@@ -4,6 +4,7 @@ pub mod LineLemmas
 pub mod StreamLemmas
 pub mod TextLemmas
 pub mod WordLemmas
+pub mod WholeLemmas
 pub mod RunLemmas
 pub mod TokenLemmas
 pub mod SeenLemmas

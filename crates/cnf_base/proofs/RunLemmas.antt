@@ -1,18 +1,23 @@
 -- What a scanner has seen of a text, byte by byte.
-use Rattle.std.proofs.Common.{◌≡◌, ℕ, ◌<◌, ◌≤◌, ◌==◌, cond, true, false, List, [], ◌∷◌, ◌++◌, length, refl, sym, ap, ◌∙◌, append_assoc, arith, Some, length-append}
+use Rattle.std.proofs.Common.{◌≡◌, ℕ, ◌<◌, ◌≤◌, ◌==◌, cond, true, false, List, [], ◌∷◌, ◌++◌, length, take, drop, length-drop, refl, sym, ap, ◌∙◌, append_assoc, arith, Some, length-append}
 use Rattle.std.specs.Prelude.{slice_index, Result, Ok, Err, IsErr}
 use Rattle.cnf_base.specs.declared.input.ReadFailed.{ReadFailed}
 use Rattle.std.proofs.lemmas.Bool.Decides.{nat_tests}
-use Rattle.cnf_base.specs.Stream.{Input, Stream, Along, IsLook, bumped, most_to_come, place_after}
+use Rattle.cnf_base.specs.Stream.{Input, Stream, Along, IsLook, bumped, skipped, more_count, most_to_come, place_after}
 use Rattle.cnf_base.specs.Text.{is_separator, col_after, line_after, col_along, listed, with_front, skips_at, comment_at, listing_at, FailsAt}
 use Rattle.cnf_base.specs.Words.{word_of}
+use Rattle.cnf_base.specs.Whole.{IsWholeNumber}
+use Rattle.cnf_base.specs.declared.word.Number.{Number}
+use Rattle.cnf_base.specs.declared.word.Word.TheVariants as words
+use Rattle.std.proofs.lemmas.List.{length-take-le}
+use Rattle.std.proofs.lemmas.Grind.{common_steps}
 use Rattle.cnf_base.specs.declared.word.Word.{Word}
 use Rattle.cnf_base.specs.declared.input.Ending.{Ending}
 use Rattle.cnf_base.specs.declared.input.Ending.TheVariants.{End, Failed}
 use Rattle.cnf_base.specs.declared.place.Place.{Place}
 use Rattle.cnf_base.specs.declared.token.Token.TheVariants as token
-use Rattle.cnf_base.proofs.StreamLemmas.{Along-look, Along-still, Along-map, Along-then, Along-bumped, shown_byte, shown_end, most_to_come-bumped, most_to_come-look}
-use Rattle.cnf_base.proofs.TextLemmas.{none, more, Each-append, IsRun, no_feed, col_along-append, skips_at-append, listing_at-separator, listing_at-feed, listing_at-end, listing_at-comment, listing_at-run, listing_at-last_run, listing_at-cut_run, comment_at-more, comment_at-feed, comment_at-end}
+use Rattle.cnf_base.proofs.StreamLemmas.{Along-look, Along-still, Along-map, Along-then, Along-bumped, Along-skipped, shown_byte, shown_end, most_to_come-bumped, most_to_come-look}
+use Rattle.cnf_base.proofs.TextLemmas.{none, more, Each-append, Each-all, skips_at-front, col_along-length, IsRun, no_feed, col_along-append, skips_at-append, listing_at-separator, listing_at-feed, listing_at-end, listing_at-comment, listing_at-run, listing_at-last_run, listing_at-cut_run, comment_at-more, comment_at-feed, comment_at-end}
 
 -- the place after a byte
 pub place_after-line : (b : ℕ) (p : Place) → (b == 10) ≡ false → place_after b p ≡ col_after p
@@ -92,6 +97,39 @@ InRun-separator old now word run b says r some first h =
     ∙ ap (λ w. with_front (listed (token.Word old.place w) (length (b ∷ s.0)) ∷ []) (listing_at (col_along old.place run) (record { bytes = b ∷ s.0; ending = j.ending }))) (sym says)
     ∙ ap (λ q. with_front (listed (token.Word old.place word) (length (b ∷ s.0)) ∷ []) (listing_at q (record { bytes = b ∷ s.0; ending = j.ending }))) (sym r.place)
     ∙ ap (λ t. with_front (listed (token.Word old.place word) (length t.bytes) ∷ []) (listing_at now.place t)) (sym s.1))
+
+-- a number's run was taken at once
+pub InRun-whole : (old : Stream) (first count : ℕ) (number : Number) → 0 < length old.ahead → first ≡ slice_index old.ahead 0 → skips_at old.place (first ∷ []) ≡ false
+    → IsWholeNumber old.ahead count number → InRun old (skipped count old) (take count old.ahead)
+InRun-whole old first count number some shown skips w = record {
+  is_run = record {
+    each = Each-all is_separator (take count old.ahead) w.inner;
+    some = omega (arith, taken, w.some);
+    text = skips_at-front old.place old.ahead count some w.some ∙ ap (λ b. skips_at old.place (b ∷ [])) (sym shown) ∙ skips;
+  };
+  place = ap (λ n. record { line = old.place.line; col = more_count old.place.col n }) (sym taken)
+      ∙ sym (col_along-length old.place (take count old.ahead) (omega (arith, taken, w.some)));
+  text = Along-skipped old count;
+  fewer = omega (arith, w.some, w.ended.within, length-drop count old.ahead);
+  mark = refl;
+}
+  where
+    taken : length (take count old.ahead) ≡ count
+    taken = let within = w.ended.within in length-take-le count old.ahead (omega arith)
+
+-- and a separator follows
+pub whole_number-read : (old : Stream) (first count : ℕ) (number : Number) → 0 < length old.ahead → first ≡ slice_index old.ahead 0 → skips_at old.place (first ∷ []) ≡ false
+    → IsWholeNumber old.ahead count number
+    → Along old (skipped count old) (λ i j. listing_at old.place i ≡ with_front (listed (token.Word old.place (words.Number number)) (length j.bytes) ∷ []) (listing_at (skipped count old).place j))
+whole_number-read old first count number some shown skips w =
+    InRun-separator old (skipped count old) (words.Number number) (take count old.ahead) (slice_index (drop count old.ahead) 0) (sym w.says)
+    (InRun-whole old first count number some shown skips w)
+    (omega (arith, w.ended.within, length-drop count old.ahead))
+    refl
+    (ap is_separator next ∙ w.ended.separator)
+  where
+    next : slice_index (drop count old.ahead) 0 ≡ slice_index old.ahead count
+    next = grind (arith, common_steps)
 
 -- the run is at the end
 pub InRun-end : (old now : Stream) (word : Word) (run : List ℕ) → word ≡ word_of run → InRun old now run → now.ahead ≡ [] → now.met ≡ Some End
@@ -205,13 +243,12 @@ Stands-cut old now new b (Err x) s some first is_c start comment err =
     (moved, ap (λ l. l.tokens) empty, ap (λ l. l.ending) empty))
 
 -- the end
-pub Stands-end : (old now new : Stream) (p : Place) → Stands old now → IsLook now new → new.ahead ≡ [] → new.met ≡ Some End → p ≡ now.place
+pub Stands-end : (old now new : Stream) (p : Place) → Stands old now → IsLook now new → new.ahead ≡ [] → new.met ≡ Some End → p ≡ new.place
     → Along old new (λ i j. (listing_at old.place i ≡ listing_at new.place j) × (listing_at old.place i ≡ record { tokens = []; end = p; ending = End }))
 Stands-end old now new p s look nothing met is =
     Along-then old now new _ _ _ s.text (Along-look now new look) (λ i j k m e q.
     let moved = e ∙ ap (listing_at now.place) q ∙ ap (λ x. listing_at x k) (sym look.place) in
-    let place : new.place ≡ p = look.place ∙ sym is in
-    (moved, moved ∙ ap (listing_at new.place) (shown_end new End k nothing met m) ∙ listing_at-end new.place End ∙ ap (λ x. record { tokens = []; end = x; ending = End }) place))
+    (moved, moved ∙ ap (listing_at new.place) (shown_end new End k nothing met m) ∙ listing_at-end new.place End ∙ ap (λ x. record { tokens = []; end = x; ending = End }) (sym is)))
 
 -- a failed read
 pub Stands-failed : (old now new : Stream) → Stands old now

@@ -1,10 +1,11 @@
 -- What may still come of an input, from one moment to the next.
-use Rattle.std.proofs.Common.{◌≡◌, ℕ, ◌+◌, ◌-◌, ◌<◌, ◌≤◌, List, [], ◌∷◌, ◌++◌, length, take, drop, Option, None, Some, refl, sym, ap, ◌∙◌, subst, append_assoc, append-nil, length-append, arith}
+use Rattle.std.proofs.Common.{◌≡◌, ℕ, ◌+◌, ◌-◌, ◌<◌, ◌≤◌, List, [], ◌∷◌, ◌++◌, length, take, drop, Option, None, Some, refl, sym, ap, ◌∙◌, subst, append_assoc, append-nil, length-append, length-drop, arith}
 use Rattle.std.specs.Prelude.{slice_range, slice_index}
 use Rattle.std.specs.Io.KnownBytes.{Consumes, Keeps, IsAtEnd}
 use Rattle.std.proofs.KnownBytes.{Consumes-nil, Consumes-trans, Consumes-kept}
 use Rattle.std.proofs.lemmas.Grind.{common_steps}
-use Rattle.cnf_base.specs.Stream.{Input, Reader, Stream, MayGive, MayFollow, MayCome, Meets, Moves, Along, IsLook, bumped, bytes_read, most_to_come, preceded}
+use Rattle.std.proofs.lemmas.List.{drop-drop, drop-take, take-append-drop}
+use Rattle.cnf_base.specs.Stream.{Input, Reader, Stream, MayGive, MayFollow, MayCome, Meets, Moves, Along, IsLook, bumped, skipped, bytes_read, most_to_come, preceded}
 use Rattle.cnf_base.specs.declared.input.Ending.{Ending}
 use Rattle.cnf_base.specs.declared.input.Ending.TheVariants.{End, Failed}
 
@@ -27,6 +28,14 @@ slice_range-front n piece = grind (arith, common_steps)
 
 pub slice_range-same : (at : ℕ) (piece : List ℕ) → slice_range piece at at ≡ []
 slice_range-same at piece = grind (arith, common_steps)
+
+-- past the first bytes of what is ahead
+pub slice_range-skipped : (at end n : ℕ) (piece : List ℕ) → n ≤ end - at → slice_range piece (at + n) end ≡ drop n (slice_range piece at end)
+slice_range-skipped at end n piece most =
+    let size : end - at ≡ n + (end - (at + n)) = omega arith in
+    ap (λ xs. take (end - (at + n)) xs) (sym (drop-drop n at piece))
+    ∙ sym (drop-take n (end - (at + n)) (drop at piece))
+    ∙ ap (λ k. drop n (take k (drop at piece))) (sym size)
 
 -- a piece of which nothing is ahead is used up
 pub used_up : (at end : ℕ) (piece : List ℕ) → at ≤ end → end ≤ length piece → slice_range piece at end ≡ [] → at ≡ end
@@ -55,6 +64,9 @@ Moves-nothing s = record {
   ahead = λ h. h;
   same_reader = refl;
 }
+
+pub IsLook-still : (s : Stream) → IsLook s s
+IsLook-still s = record { bytes = []; moves = Moves-nothing s; place = refl; byte_no = refl }
 
 -- one run after another
 Meets-then : (a b c : Option Ending) (first second : List ℕ) (old mid new : Reader) → Meets a b first old mid → Meets b c second mid new → Meets a c (first ++ second) old new
@@ -253,6 +265,23 @@ Along-bumped s b some first = record {
   where
     fewer_ahead : (ahead : List ℕ) → length ahead ≤ 65536 → length (drop 1 ahead) ≤ 65536
     fewer_ahead ahead h = grind (arith, common_steps)
+
+-- bytes of a line were taken
+pub Along-skipped : (s : Stream) (n : ℕ)
+    → Along s (skipped n s) (λ i j. i ≡ record { bytes = take n s.ahead ++ j.bytes; ending = j.ending })
+Along-skipped s n = record {
+  bytes = [];
+  taken = take n s.ahead;
+  moves = record {
+    whole = append-nil s.ahead ∙ sym (take-append-drop n s.ahead);
+    lost = Consumes-nil s.reader.left;
+    count = omega arith;
+    met = Meets-nothing s.met s.reader;
+    ahead = λ h. omega (arith, length-drop n s.ahead, h);
+    same_reader = refl;
+  };
+  fact = λ j m. refl;
+}
 
 pub most_to_come-bumped : (s : Stream) → 0 < length s.ahead → most_to_come (bumped s) < most_to_come s
 most_to_come-bumped s some = grind (arith, common_steps)

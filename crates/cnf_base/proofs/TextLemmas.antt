@@ -1,6 +1,9 @@
 -- A text's listing, byte by byte and run by run.
-use Rattle.std.proofs.Common.{◌≡◌, ℕ, ◌+◌, ◌-◌, ◌^◌, ◌<◌, ◌==◌, ◌&&◌, min, cond, Bool, true, false, List, [], ◌∷◌, ◌++◌, length, refl, sym, ap, ◌∙◌, arith}
-use Rattle.std.specs.List.{slice_split, onto_first}
+use Rattle.std.proofs.Common.{◌≡◌, ℕ, ◌+◌, ◌-◌, ◌^◌, ◌<◌, ◌==◌, ◌&&◌, min, cond, Bool, true, false, List, [], ◌∷◌, ◌++◌, length, take, zero, suc, not, refl, sym, ap, ◌∙◌, arith}
+use Rattle.std.specs.Prelude.{slice_index}
+use Rattle.std.specs.List.{slice_split, onto_first, list_all}
+use Rattle.std.proofs.lemmas.Bool.{and_parts}
+use Rattle.cnf_base.specs.Stream.{more_count}
 use Rattle.std.proofs.lemmas.Bool.Decides.{nat_tests}
 use Rattle.cnf_base.specs.Words.{word_of}
 use Rattle.cnf_base.specs.Text.{is_separator, col_after, line_after, col_along, Spot, spot, one_on, next_line, along, Listed, listed, words_of, but_last, is_comment, line_tokens, last_tokens, with_front, Listing, lines_listing, lines_of, comment_at, skips_at, listing_at}
@@ -18,6 +21,16 @@ pub data Each (p : ℕ → Bool) : List ℕ → Type 0 where
 pub Each-append : (p : ℕ → Bool) (bs : List ℕ) (b : ℕ) → Each p bs → p b ≡ false → Each p (bs ++ b ∷ [])
 Each-append p [] b e h = more b [] h none
 Each-append p (x ∷ xs) b (more _ _ k e) h = more x (xs ++ b ∷ []) k (Each-append p xs b e h)
+
+pub Each-all : (p : ℕ → Bool) (xs : List ℕ) → list_all (λ x. not (p x)) xs ≡ true → Each p xs
+Each-all p [] h = none
+Each-all p (x ∷ xs) h =
+    let both = and_parts _ _ h in
+    more x xs (not_true (p x) both.0) (Each-all p xs both.1)
+  where
+    not_true : (b : Bool) → not b ≡ true → b ≡ false
+    not_true true h = cc
+    not_true false h = refl
 
 -- a list that is cut has a first part
 pub first_part : (p : ℕ → Bool) (xs : List ℕ) → (first : List ℕ) × (rest : List (List ℕ)) × (slice_split p xs ≡ first ∷ rest)
@@ -173,6 +186,16 @@ pub listing_at-comment : (p : Place) (bs : List ℕ) (ending : Ending) → (p.co
 listing_at-comment p bs ending h =
     ap (λ v. lines_listing (v && true) (spot p (length (99 ∷ bs))) (lines_of (99 ∷ bs)) ending) h ∙ comment_at-more p 99 bs ending refl
 
+-- the column goes on by the bytes
+pub col_along-length : (p : Place) (run : List ℕ) → 0 < length run → col_along p run ≡ record { line = p.line; col = more_count p.col (length run) }
+col_along-length p [] some = absurd (omega arith)
+col_along-length p (b ∷ []) some = refl
+col_along-length p (b ∷ c ∷ cs) some =
+    col_along-length (col_after p) (c ∷ cs) (omega arith) ∙ ap (λ n. record { line = p.line; col = n }) further
+  where
+    further : more_count (more_count p.col 1) (length (c ∷ cs)) ≡ more_count p.col (length (b ∷ c ∷ cs))
+    further = omega arith
+
 pub col_along-append : (p : Place) (xs ys : List ℕ) → col_along p (xs ++ ys) ≡ col_along (col_along p xs) ys
 col_along-append p [] ys = refl
 col_along-append p (x ∷ xs) ys = col_along-append (col_after p) xs ys
@@ -199,6 +222,11 @@ pub record IsRun (p : Place) (run : List ℕ) : Type 0 where
 pub skips_at-append : (p : Place) (run bytes : List ℕ) → 0 < length run → skips_at p (run ++ bytes) ≡ skips_at p run
 skips_at-append p [] bytes some = absurd (omega arith)
 skips_at-append p (b ∷ bs) bytes some = refl
+
+pub skips_at-front : (p : Place) (bytes : List ℕ) (count : ℕ) → 0 < length bytes → 0 < count → skips_at p (take count bytes) ≡ skips_at p (slice_index bytes 0 ∷ [])
+skips_at-front p [] count some front = absurd (omega arith)
+skips_at-front p (b ∷ bs) zero some front = absurd (omega arith)
+skips_at-front p (b ∷ bs) (suc n) some front = refl
 
 -- a run's token
 abbrev token_of : Spot → List ℕ → Listed

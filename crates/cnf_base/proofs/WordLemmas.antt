@@ -111,7 +111,7 @@ module _ (b : ℕ) (bs : List ℕ) where
       none digit minus nought = rw (digit, minus, nought) refl
 
 -- the word of digits after a `-`
-negative_word : (s : Digits) (ds : List ℕ) → AreDigits s ds → word_of (45 ∷ ds) ≡ digits_word true s
+pub negative_word : (s : Digits) (ds : List ℕ) → AreDigits s ds → word_of (45 ∷ ds) ≡ digits_word true s
 negative_word s ds h = ap (number_or (number_of (45 ∷ ds))) (number_is_no_word 45 ds refl) ∙ by s h
   where
     by : (s : Digits) → AreDigits s ds → number_or (number_of (45 ∷ ds)) words.Other ≡ digits_word true s
@@ -121,7 +121,7 @@ negative_word s ds h = ap (number_or (number_of (45 ∷ ds))) (number_is_no_word
     by NoNumber h = rw h.0 refl
 
 -- the word of digits
-positive_word : (s : Digits) (b : ℕ) (bs : List ℕ) → is_digit b ≡ true → AreDigits s (b ∷ bs) → word_of (b ∷ bs) ≡ digits_word false s
+pub positive_word : (s : Digits) (b : ℕ) (bs : List ℕ) → is_digit b ≡ true → AreDigits s (b ∷ bs) → word_of (b ∷ bs) ≡ digits_word false s
 positive_word s b bs digit h =
     ap (number_or (number_of (b ∷ bs))) (number_is_no_word b bs begins) ∙ by s h
   where

@@ -54,9 +54,12 @@ Shows (Ok (Some b)) s = (0 < length s.ahead) × (b ≡ slice_index s.ahead 0)
 Shows (Ok None) s = (s.ahead ≡ []) × (s.met ≡ Some End)
 Shows (Err _) s = (s.ahead ≡ []) × (s.met ≡ Some Failed)
 
--- one more, up to the greatest number
+-- so many more, up to the greatest number
+abbrev pub more_count : ℕ → ℕ → ℕ
+more_count n more = min (n + more) (2 ^ 64 - 1)
+
 abbrev pub next_count : ℕ → ℕ
-next_count n = min (n + 1) (2 ^ 64 - 1)
+next_count n = more_count n 1
 
 -- the place after a byte
 abbrev pub place_after : ℕ → Place → Place
@@ -65,6 +68,14 @@ place_after b p = if b == 10 then record { line = next_count p.line; col = 1 } e
 -- the source with its next byte taken
 abbrev pub bumped : Stream → Stream
 bumped s = record s { ahead = drop 1 s.ahead; place = place_after (slice_index s.ahead 0) s.place; byte_no = next_count s.byte_no }
+
+-- the source with so many bytes of a line taken
+abbrev pub skipped : ℕ → Stream → Stream
+skipped n s = record s {
+  ahead = drop n s.ahead;
+  place = record { line = s.place.line; col = more_count s.place.col n };
+  byte_no = more_count s.byte_no n;
+}
 
 -- a source of which nothing was read
 abbrev pub unread_stream : Reader → List ℕ → Stream
@@ -83,7 +94,8 @@ IsUsedUp None at end = Unit {0}
 IsUsedUp (Some met) at end = at ≡ end
 
 -- what is true of the fields of a source
-pub record IsSource (piece : List ℕ) (at end : ℕ) (met : Option Ending) (reader : Reader) (col : ℕ) : Type 0 where
+pub record IsSource (piece : List ℕ) (from at end : ℕ) (met : Option Ending) (reader : Reader) (col : ℕ) : Type 0 where
+  pub behind : from ≤ at
   pub ordered : at ≤ end
   pub within : end ≤ length piece
   pub size : length piece ≡ 65536

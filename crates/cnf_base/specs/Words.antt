@@ -17,9 +17,13 @@ abbrev pub is_counting : List ℕ → Bool
 is_counting [] = false
 is_counting (d ∷ ds) = is_digit d && not (d == 48) && list_all is_digit ds
 
+-- the number that digits write after the digits of a number
+abbrev pub decimal_after : ℕ → List ℕ → ℕ
+decimal_after number digits = fold (λ n d. n * 10 + (d - 48)) number digits
+
 -- the number that digits write, up to the greatest that is kept
 abbrev pub decimal_value : List ℕ → ℕ
-decimal_value digits = fold (λ n d. n * 10 + (d - 48)) 0 digits
+decimal_value digits = decimal_after 0 digits
 
 abbrev pub size_of : List ℕ → ℕ
 size_of digits = min (decimal_value digits) (2 ^ 64 - 1)

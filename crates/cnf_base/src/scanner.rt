@@ -6,11 +6,13 @@ ghost use Rattle.cnf_base.specs.Text.{Gives, GivesWord, FailsAt, is_separator, s
 
 mod digits;
 mod name;
+mod whole;
 
 use crate::{In, Place, ReadFailed, Source, Token, Word};
 use digits::Digits;
 use name::Name;
 use std::marker::Model;
+use whole::whole_number;
 
 /// The tokens of a text in order. Comment lines have none.
 #[derive(Drop)]
@@ -35,6 +37,7 @@ impl<R: In> Scanner<R> {
     }
 
     /// The next token. A failed read, and the end, are given at each further call.
+    #[inline(always)]
     pub fn next(&mut self) -> Result<Token, ReadFailed>
         ensures tokens { Along self.old self.new
             (λ i j. Gives result (listing_at self.old.place i) (listing_at self.new.place j) j) }
@@ -55,6 +58,7 @@ impl<R: In> Scanner<R> {
 }
 
 // The text's next token.
+#[inline(always)]
 fn next_token<R: In>(source: &mut Source<R>) -> Result<Token, ReadFailed>
     ensures tokens { Along source.old source.new
         (λ i j. Gives result (listing_at source.old.place i) (listing_at source.new.place j) j) }
@@ -63,33 +67,36 @@ fn next_token<R: In>(source: &mut Source<R>) -> Result<Token, ReadFailed>
     ensures mark { OnOk result (source.new.reader.has_failed ≡ source.old.reader.has_failed) }
 {
     loop {
-        let place = source.place();
         match source.peek() {
             Ok(Some(byte)) => {
                 if is_separator(byte) {
+                    let place = source.place();
                     source.bump();
                     if byte == b'\n' {
                         return Ok(Token::LineEnd(place));
                     }
-                } else if begins_comment(byte, place) {
-                    source.bump();
+                } else if begins_comment(byte, source.place()) {
+                    source.bump_in_line();
                     if skip_comment(source).is_err() {
                         return Err(ReadFailed);
                     }
                 } else {
-                    return match read_word(source, byte) {
-                        Ok(word) => Ok(Token::Word(place, word)),
-                        Err(failed) => Err(failed),
-                    };
+                    let place = source.place();
+                    if let Some((count, number)) = whole_number(source.ahead()) {
+                        source.skip_in_line(count);
+                        return Ok(Token::Word(place, Word::Number(number)));
+                    }
+                    return Ok(Token::Word(place, read_word(source, byte)?));
                 }
             }
-            Ok(None) => return Ok(Token::End(place)),
+            Ok(None) => return Ok(Token::End(source.place())),
             Err(failed) => return Err(failed),
         }
     }
 }
 
 // Goes past a comment's line feed, or to the end.
+#[inline(never)]
 fn skip_comment<R: In>(source: &mut Source<R>) -> Result<(), ReadFailed>
     ensures text { Along source.old source.new (λ i j.
         (comment_at source.old.place i ≡ listing_at source.new.place j) × FailsAt result j) }
@@ -107,6 +114,7 @@ fn skip_comment<R: In>(source: &mut Source<R>) -> Result<(), ReadFailed>
 }
 
 // The run that begins with the byte that was shown.
+#[inline(never)]
 fn read_word<R: In>(source: &mut Source<R>, first: u8) -> Result<Word, ReadFailed>
     requires ahead { 0 < length source.old.ahead }
     requires first { first ≡ slice_index source.old.ahead 0 }
@@ -209,12 +217,14 @@ fn first_digits(byte: u8) -> Digits
 }
 
 // Whether a comment begins with the byte.
+#[inline(always)]
 fn begins_comment(byte: u8, place: Place) -> bool
     ensures { result ≡ ((place.col == 1) && (byte == 99)) }
 {
-    place.col == 1 && byte == b'c'
+    byte == b'c' && place.col == 1
 }
 
+#[inline(always)]
 fn is_separator(byte: u8) -> bool
     ensures { result ≡ is_separator byte }
 {

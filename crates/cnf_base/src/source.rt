@@ -1,7 +1,7 @@
 //! An input's bytes, one at a time.
 ghost use Rattle.std.specs.Prelude.{◌≡◌, ◌≢◌, ◌+◌, ◌<◌, ◌≤◌, ◌==◌, true, false, [], length, slice_index, take, Some, IsSome, IfSome, IfNone, IfOk, IfErr, OnOk, OnErr};
 ghost use Rattle.std.specs.Io.KnownBytes.{Keeps, Consumes, IsAtEnd};
-ghost use Rattle.cnf_base.specs.Stream.{IsLook, bumped, unread_stream, most_to_come, Shows};
+ghost use Rattle.cnf_base.specs.Stream.{IsLook, bumped, skipped, unread_stream, most_to_come, Shows};
 
 use crate::{Ending, In, OutOfMemory, Piece, Place, ReadFailed};
 use std::alloc::Global;
@@ -15,13 +15,17 @@ pub struct Source<R: In> {
     at: usize,
     end: usize,
     met: Option<Ending>,
-    place: Place,
+    line: u64,
+    // The column of the byte at `from`, from which on the piece has no line feed up to `at`.
+    col: u64,
+    from: usize,
+    // The number of the piece's first byte.
     byte_no: u64,
 }
 
 impl<R: In> Model for Source<R> {
-    ghost use Rattle.std.specs.Prelude.{slice_range};
-    ghost use Rattle.cnf_base.specs.Stream.{Stream, IsSource};
+    ghost use Rattle.std.specs.Prelude.{◌-◌, slice_range};
+    ghost use Rattle.cnf_base.specs.Stream.{Stream, IsSource, more_count};
 
     ghost Value = { Stream };
 
@@ -30,12 +34,12 @@ impl<R: In> Model for Source<R> {
       met = s.met;
       reader = R.shown s.reader;
       borrows = R.borrows s.reader;
-      place = s.place;
-      byte_no = s.byte_no;
+      place = record { line = s.line; col = more_count s.col (s.at - s.from) };
+      byte_no = more_count s.byte_no s.at;
     } };
 
     ghost invariant = { λ s.
-        IsSource s.piece.items s.at s.end s.met (R.shown s.reader) s.place.col };
+        IsSource s.piece.items s.from s.at s.end s.met (R.shown s.reader) s.col };
 }
 
 impl<R: In> Source<R> {
@@ -49,7 +53,9 @@ impl<R: In> Source<R> {
             at: 0,
             end: 0,
             met: None,
-            place: Place { line: 1, col: 1 },
+            line: 1,
+            col: 1,
+            from: 0,
             byte_no: 1,
         }
     }
@@ -66,7 +72,7 @@ impl<R: In> Source<R> {
     }
 
     /// The next byte, if there is one. It reads only where the piece is used up.
-    #[inline]
+    #[inline(always)]
     pub fn peek(&mut self) -> Result<Option<u8>, ReadFailed>
         ensures look { IsLook self.old self.new }
         ensures count { most_to_come self.new ≡ most_to_come self.old }
@@ -76,32 +82,19 @@ impl<R: In> Source<R> {
         ensures mark { OnOk result (self.new.reader.has_failed ≡ self.old.reader.has_failed) }
     {
         if self.at == self.end {
-            return self.peek_further();
+            self.fill();
+            if self.at == self.end {
+                return match self.met {
+                    Some(Ending::End) => Ok(None),
+                    Some(Ending::Failed) => Err(ReadFailed),
+                    None => unreachable!(),
+                };
+            }
         }
         Ok(Some(self.piece[self.at]))
     }
 
     #[inline(never)]
-    fn peek_further(&mut self) -> Result<Option<u8>, ReadFailed>
-        requires { self.old.ahead ≡ [] }
-        ensures look { IsLook self.old self.new }
-        ensures count { most_to_come self.new ≡ most_to_come self.old }
-        ensures shown { Shows result self.new }
-        ensures most { length self.new.ahead ≤ 65536 }
-        ensures failed { OnErr result (self.new.reader.has_failed ≡ true) }
-        ensures mark { OnOk result (self.new.reader.has_failed ≡ self.old.reader.has_failed) }
-    {
-        self.fill();
-        if self.at < self.end {
-            return Ok(Some(self.piece[self.at]));
-        }
-        match self.met {
-            Some(Ending::End) => Ok(None),
-            Some(Ending::Failed) => Err(ReadFailed),
-            None => unreachable!(),
-        }
-    }
-
     fn fill(&mut self)
         requires { self.old.ahead ≡ [] }
         ensures look { IsLook self.old self.new }
@@ -115,6 +108,9 @@ impl<R: In> Source<R> {
             match read_piece(&mut self.reader, &mut self.piece) {
                 Some(0) => self.met = Some(Ending::End),
                 Some(n) => {
+                    self.col = self.col.saturating_add((self.at - self.from) as u64);
+                    self.byte_no = self.byte_no.saturating_add(self.at as u64);
+                    self.from = 0;
                     self.at = 0;
                     self.end = n;
                 }
@@ -124,7 +120,7 @@ impl<R: In> Source<R> {
     }
 
     /// Takes the byte that was shown.
-    #[inline]
+    #[inline(always)]
     pub fn bump(&mut self)
         requires { 0 < length self.old.ahead }
         ensures { self.new ≡ bumped self.old }
@@ -132,39 +128,56 @@ impl<R: In> Source<R> {
         let byte = self.piece[self.at];
         self.at += 1;
         if byte == b'\n' {
-            self.place.line = self.place.line.saturating_add(1);
-            self.place.col = 1;
-        } else {
-            self.place.col = self.place.col.saturating_add(1);
+            self.line = self.line.saturating_add(1);
+            self.col = 1;
+            self.from = self.at;
         }
-        self.byte_no = self.byte_no.saturating_add(1);
     }
 
     // Takes the byte that was shown, where it is no line feed: one comparison less for each byte of a token.
-    #[inline]
+    #[inline(always)]
     pub(crate) fn bump_in_line(&mut self)
         requires ahead { 0 < length self.old.ahead }
         requires inner { (slice_index self.old.ahead 0 == 10) ≡ false }
         ensures { self.new ≡ bumped self.old }
     {
         self.at += 1;
-        self.place.col = self.place.col.saturating_add(1);
-        self.byte_no = self.byte_no.saturating_add(1);
     }
 
     /// The place of the next byte, or of the end.
+    #[inline(always)]
     pub fn place(&self) -> Place
         ensures value { result ≡ self.now.place }
         ensures from_one { 0 < result.col }
     {
-        self.place
+        Place {
+            line: self.line,
+            col: self.col.saturating_add((self.at - self.from) as u64),
+        }
+    }
+
+    // What is ahead in the piece.
+    #[inline(always)]
+    pub(crate) fn ahead(&self) -> &[u8]
+        ensures { result.now ≡ self.now.ahead }
+    {
+        &self.piece[self.at..self.end]
+    }
+
+    // Takes so many bytes of a line.
+    #[inline(always)]
+    pub(crate) fn skip_in_line(&mut self, count: usize)
+        requires { count ≤ length self.old.ahead }
+        ensures { self.new ≡ skipped count self.old }
+    {
+        self.at += count;
     }
 
     /// The number of the next byte, from 1.
     pub fn byte_no(&self) -> u64
         ensures { result ≡ self.now.byte_no }
     {
-        self.byte_no
+        self.byte_no.saturating_add(self.at as u64)
     }
 
     /// Gives the reader back. Bytes that were read ahead are lost.

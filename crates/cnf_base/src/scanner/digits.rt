@@ -37,6 +37,7 @@ impl Digits {
     }
 
     /// The word that they make.
+    #[inline(always)]
     pub fn word(self, is_negative: bool) -> Word
         ensures { result ≡ digits_word is_negative self }
     {

@@ -1,0 +1,105 @@
+-- Numbers that stand whole among bytes.
+use Rattle.std.proofs.Common.{◌≡◌, ℕ, ◌+◌, ◌-◌, ◌*◌, ◌^◌, ◌<◌, ◌≤◌, ◌==◌, not, true, false, List, [], ◌∷◌, length, take, refl, sym, ap, ◌∙◌, subst, arith, add-one}
+use Rattle.std.specs.Prelude.{slice_index, slice_range}
+use Rattle.std.proofs.Math.Seq.{take-length}
+use Rattle.std.specs.List.{list_all}
+use Rattle.std.proofs.lemmas.Bool.{and_parts}
+use Rattle.std.proofs.lemmas.Bool.Decides.{nat_tests}
+use Rattle.std.proofs.lemmas.Grind.{common_steps}
+use Rattle.cnf_base.specs.Text.{is_separator}
+use Rattle.cnf_base.specs.Words.{is_digit, is_counting, decimal_after, decimal_value, size_of, word_of}
+use Rattle.cnf_base.specs.Digits.{digits_word, AreDigits}
+use Rattle.cnf_base.specs.Whole.{is_inner, IsEnded, IsWholeNumber, AreWholeDigits, GoOn}
+use Rattle.cnf_base.specs.declared.scanner.digits.Digits.{Digits}
+use Rattle.cnf_base.specs.declared.scanner.digits.Digits.TheVariants.{Counting}
+use Rattle.cnf_base.specs.declared.word.Number.{Number}
+use Rattle.cnf_base.specs.declared.word.Word.TheVariants as words
+use Rattle.cnf_base.proofs.WordLemmas.{negative_word, positive_word}
+
+-- one byte more in front
+take-front : (n b : ℕ) (bs : List ℕ) → take (n + 1) (b ∷ bs) ≡ b ∷ take n bs
+take-front n b bs = ap (λ k. take k (b ∷ bs)) (add-one n)
+
+IsEnded-front : (n b : ℕ) (bs : List ℕ) → IsEnded bs n → IsEnded (b ∷ bs) (n + 1)
+IsEnded-front n b bs w = record {
+  within = omega arith;
+  separator = ap (λ k. is_separator (slice_index (b ∷ bs) k)) (add-one n) ∙ w.separator;
+}
+
+-- all bytes but the first
+tail : (b : ℕ) (bs : List ℕ) → slice_range (b ∷ bs) 1 (length (b ∷ bs)) ≡ bs
+tail b bs =
+    let size : length (b ∷ bs) - 1 ≡ length bs = omega arith in
+    ap (λ k. take k bs) size ∙ take-length bs
+
+-- digits after a first one that isn't 0
+pub GoOn-counting : (bytes : List ℕ) (first more size : ℕ) → 0 < length bytes → first + 48 ≡ slice_index bytes 0
+    → 0 < first → first ≤ 9 → size < 2 ^ 64 → GoOn first (slice_range bytes 1 (length bytes)) more size
+    → AreWholeDigits bytes (more + 1) (Counting size)
+GoOn-counting [] first more size front is some most fits m = absurd (omega arith)
+GoOn-counting (b ∷ bs) first more size front is some most fits m = record {
+  some = omega arith;
+  ended = IsEnded-front more b bs rest.ended;
+  each = ap (list_all is_digit) (take-front more b bs) ∙ rw (digit, rest.each) refl;
+  says = let P : List ℕ → Type 0 = λ ds. AreDigits (Counting size) ds in subst P (sym (take-front more b bs)) (counting, is_size);
+}
+  where
+    rest : GoOn first bs more size
+    rest = let P : List ℕ → Type 0 = λ xs. GoOn first xs more size in subst P (tail b bs) m
+
+    digit : is_digit b ≡ true
+    digit = grind (arith, nat_tests)
+
+    counting : is_counting (b ∷ take more bs) ≡ true
+    counting = let other : (b == 48) ≡ false = grind (arith, nat_tests) in rw (digit, other, rest.each) refl
+
+    is_size : size ≡ size_of (b ∷ take more bs)
+    is_size =
+        let same : 0 * 10 + (b - 48) ≡ first = omega arith in
+        let value : decimal_value (b ∷ take more bs) ≡ decimal_after first (take more bs) = ap (λ n. decimal_after n (take more bs)) same in
+        omega (arith, value, rest.says)
+
+digits-inner : (ds : List ℕ) → list_all is_digit ds ≡ true → list_all is_inner ds ≡ true
+digits-inner [] h = refl
+digits-inner (d ∷ ds) h =
+    let both = and_parts _ _ h in
+    rw (inner both.0, digits-inner ds both.1) refl
+  where
+    inner : is_digit d ≡ true → is_inner d ≡ true
+    inner digit =
+        let other : is_separator d ≡ false = grind (arith, nat_tests) in
+        ap not other
+
+-- digits after a `-`
+pub IsWholeNumber-negative : (bytes : List ℕ) (count : ℕ) (digits : Digits) (number : Number) → 0 < length bytes → slice_index bytes 0 ≡ 45
+    → AreWholeDigits (slice_range bytes 1 (length bytes)) count digits → digits_word true digits ≡ words.Number number → IsWholeNumber bytes (count + 1) number
+IsWholeNumber-negative [] count digits number front minus d says = absurd (omega arith)
+IsWholeNumber-negative (b ∷ bs) count digits number front minus d says = record {
+  some = omega arith;
+  ended = IsEnded-front count b bs rest.ended;
+  inner = ap (list_all is_inner) run ∙ digits-inner (take count bs) rest.each;
+  says = ap word_of run ∙ negative_word digits (take count bs) rest.says ∙ says;
+}
+  where
+    rest : AreWholeDigits bs count digits
+    rest = let P : List ℕ → Type 0 = λ xs. AreWholeDigits xs count digits in subst P (tail b bs) d
+
+    run : take (count + 1) (b ∷ bs) ≡ 45 ∷ take count bs
+    run = take-front count b bs ∙ ap (λ x. x ∷ take count bs) minus
+
+-- digits alone
+pub IsWholeNumber-positive : (bytes : List ℕ) (count : ℕ) (digits : Digits) (number : Number)
+    → AreWholeDigits bytes count digits → digits_word false digits ≡ words.Number number → IsWholeNumber bytes count number
+IsWholeNumber-positive bytes count digits number d says = record {
+  some = d.some;
+  ended = d.ended;
+  inner = digits-inner (take count bytes) d.each;
+  says = by (take count bytes) some d.each d.says ∙ says;
+}
+  where
+    some : 0 < length (take count bytes)
+    some = let within = d.ended.within in let front = d.some in grind (arith, common_steps)
+
+    by : (run : List ℕ) → 0 < length run → list_all is_digit run ≡ true → AreDigits digits run → word_of run ≡ digits_word false digits
+    by [] some each is = absurd (omega arith)
+    by (b ∷ bs) some each is = let both = and_parts _ _ each in positive_word digits b bs both.0 is

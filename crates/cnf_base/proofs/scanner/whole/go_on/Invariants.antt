@@ -1,0 +1,11 @@
+-- The bytes so far are digits, and the number is theirs.
+use Rattle.std.proofs.Common.{◌≡◌, true, take}
+use Rattle.std.specs.List.{list_all}
+use Rattle.cnf_base.specs.Words.{is_digit, decimal_after}
+use Rattle.cnf_base.proofs.scanner.whole.go_on.Given as goal
+
+abbrev pub invariant-loop-count : goal.invariant-loop-count
+invariant-loop-count l = record {
+  each : list_all is_digit (take l.count l.bytes) ≡ true;
+  says : l.size ≡ decimal_after l.number (take l.count l.bytes);
+}

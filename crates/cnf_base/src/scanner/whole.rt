@@ -1,0 +1,81 @@
+//! Numbers that stand whole in what was read at once: they are read with no look at the source for each byte.
+ghost use Rattle.std.specs.Prelude.{◌≡◌, ◌+◌, ◌<◌, ◌≤◌, length, IfSome};
+ghost use Rattle.cnf_base.specs.Whole.{IsWholeNumber, AreWholeDigits, GoOn};
+
+use super::digits::Digits;
+use super::is_separator;
+use crate::{Number, Word};
+
+// A number that is as great and goes on is read byte by byte, up to `u64::MAX`.
+const GREAT: u64 = 1_000_000_000_000_000_000;
+
+/// The number at the front of the bytes, where a separator follows: its length and what it says.
+#[inline(always)]
+pub fn whole_number(bytes: &[u8]) -> Option<(usize, Number)>
+    requires { 0 < length bytes.now }
+    ensures { IfSome result (λ r. IsWholeNumber bytes.now r.0 r.1) }
+{
+    if bytes[0] == b'-' {
+        let (count, digits) = whole_digits(&bytes[1..])?;
+        return match digits.word(true) {
+            Word::Number(number) => Some((count + 1, number)),
+            _ => None,
+        };
+    }
+    let (count, digits) = whole_digits(bytes)?;
+    match digits.word(false) {
+        Word::Number(number) => Some((count, number)),
+        _ => None,
+    }
+}
+
+// The digits at the front of the bytes, where a separator follows.
+#[inline(always)]
+fn whole_digits(bytes: &[u8]) -> Option<(usize, Digits)>
+    ensures { IfSome result (λ r. AreWholeDigits bytes.now r.0 r.1) }
+{
+    let first = digit_of(*bytes.first()?)?;
+    let (more, size) = go_on(&bytes[1..], first)?;
+    if first > 0 {
+        return Some((more + 1, Digits::Counting(size)));
+    }
+    if more > 0 {
+        return None;
+    }
+    Some((1, Digits::Zero))
+}
+
+// How many digits go on with the number, where a separator follows, and what it is with them.
+#[inline(always)]
+fn go_on(bytes: &[u8], number: u64) -> Option<(usize, u64)>
+    ensures { IfSome result (λ r. GoOn number bytes.now r.0 r.1) }
+{
+    let mut size = number;
+    for (count, byte) in bytes.iter().enumerate() {
+        let Some(digit) = digit_of(*byte) else {
+            return if is_separator(*byte) {
+                Some((count, size))
+            } else {
+                None
+            };
+        };
+        if size >= GREAT {
+            return None;
+        }
+        size = size * 10 + digit;
+    }
+    None
+}
+
+// The digit that a byte is.
+#[inline(always)]
+fn digit_of(byte: u8) -> Option<u64>
+    ensures digit { IfSome result (λ digit. digit + 48 ≡ byte) }
+    ensures small { IfSome result (λ digit. digit ≤ 9) }
+{
+    let digit = u64::from(byte).wrapping_sub(u64::from(b'0'));
+    if digit > 9 {
+        return None;
+    }
+    Some(digit)
+}
