@@ -1,3 +1,4 @@
+pub mod Directory
 pub mod Distinct
 pub mod Entries
 pub mod Fields
@@ -6,5 +7,6 @@ pub mod Index
 pub mod Indexed
 pub mod Marks
 pub mod Options
+pub mod Pages
 pub mod Search
 pub mod Sums

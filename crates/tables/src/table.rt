@@ -75,11 +75,8 @@ impl<T: Copy + Drop> Table<T> {
     pub fn get(&self, key: u32) -> Option<T>
         ensures { result ≡ at self.now key }
     {
-        let i = key as usize;
-        if i < self.dense.len()
-            && let Some(value) = self.dense[i]
-        {
-            return Some(value);
+        if let Some(Some(value)) = self.dense.as_slice().get(key as usize) {
+            return Some(*value);
         }
         self.get_far(key)
     }

@@ -1,5 +1,5 @@
 -- What the values by literal say of a trail.
-use Rattle.std.proofs.Common.{◌≡◌, ◌≢◌, ℕ, ◌*◌, ◌+◌, ◌<◌, ◌≤◌, Bool, true, false, ◌||◌, cond, eqb, eqb-true, eq-eqb, Option, Some, None, is_some, unwrap_or, List, [], ◌∷◌, ◌++◌, map, length, nat_eq, length-append, arith, ap, sym, ◌∙◌, inl, inr, ◌⊎◌, refl, subst}
+use Rattle.std.proofs.Common.{◌≡◌, ◌≢◌, ℕ, ◌*◌, ◌+◌, ◌<◌, ◌≤◌, Bool, true, false, ◌||◌, cond, eqb, eqb-true, eq-eqb, Option, Some, None, is_some, List, [], ◌∷◌, ◌++◌, map, length, nat_eq, length-append, arith, ap, sym, ◌∙◌, inl, inr, ◌⊎◌, refl, subst}
 use Rattle.std.specs.List.{IsDistinct, list_any}
 use Rattle.std.specs.Cmp.{nat_eq_equiv}
 use Rattle.std.proofs.lemmas.Bool.{false≢true, false_from_ne_true, or_cases, or_right, cases_eq, ne_eqb}
@@ -11,7 +11,7 @@ use Rattle.cnf_base.specs.Literals.{complement, has, variable}
 use Rattle.cnf_base.proofs.SetLemmas.{has_append_left}
 use Rattle.cnf_base.proofs.LiteralLemmas.{complement-complement, complement-other}
 use Rattle.clause_db.specs.Propagation.Trail.{value_under, HasNoVariableTwice}
-use Rattle.clause_db.specs.Propagation.Values.{IsTrail}
+use Rattle.clause_db.specs.Propagation.Values.{IsTrail, known_value}
 use Rattle.clause_db.specs.declared.propagation.value.Value.{Value}
 use Rattle.clause_db.specs.declared.propagation.value.Value.TheVariants.{True, False, Open}
 use Rattle.clause_db.proofs.MemberLemmas.{place_of, has_any, variable-complement, HasNoVariableTwice-from_places}
@@ -20,10 +20,6 @@ use Rattle.clause_db.proofs.StoreLemmas.Marks.{has_push}
 
 abbrev Values : Type 0
 Values = ℕ → Option Value
-
--- the value, where none is Open
-abbrev pub known_value : Option Value → Value
-known_value o = unwrap_or o Open
 
 value_by_tests : (lits : List ℕ) (l : ℕ) (a b : Bool) → has lits l ≡ a → has lits (complement l) ≡ b → value_under lits l ≡ cond a True (cond b False Open)
 value_by_tests lits l a b p q = rw (p, q) refl
@@ -109,21 +105,21 @@ module _ (front : List ℕ) (l : ℕ) (different : HasNoVariableTwice (front ++ 
 
 -- ---- The invariant
 
-pub trail_empty : (lits met : List ℕ) (capacity : ℕ) (value_of : Values) → lits ≡ [] → met ≡ [] → ((k : ℕ) → value_of k ≡ None) → IsTrail lits met capacity value_of
+pub trail_empty : {T : Type 0} (lits met : List ℕ) (capacity : ℕ) (seen : ℕ → Option T) (value_of : Values) → lits ≡ [] → met ≡ [] → ((v : ℕ) → seen v ≡ None) → ((k : ℕ) → value_of k ≡ None) → IsTrail lits met capacity seen value_of
 unfolding IsDistinct
-trail_empty lits met capacity value_of no_lits none_met none = rw (no_lits, none_met) (record {
+trail_empty lits met capacity seen value_of no_lits none_met none_seen none = rw (no_lits, none_met) (record {
   different = tt;
   within = λ v h. h;
   fits = omega arith;
+  noted = λ v. ap is_some (none_seen v);
   known = λ l h. absurd (false≢true h);
-  noted = λ v h. absurd (false≢true (sym (ap is_some (none (2 * v + 1))) ∙ h));
   values = λ l. ap known_value (none l);
 })
 
 -- the positive literal's complement
-pub negative_key : (v l k : ℕ) → l ≡ 2 * v → k ≡ complement l → k ≡ 2 * v + 1
+pub negative_key : (v l : ℕ) → l ≡ 2 * v → complement l ≡ 2 * v + 1
 unfolding complement
-negative_key v l k e f = grind (arith, nat_tests, e, f)
+negative_key v l e = grind (arith, nat_tests, e)
 
 -- one write
 module _ (x : Value) (value_of after : Values) (key : ℕ) (writes : (k : ℕ) → after k ≡ cond (eqb k key) (Some x) (value_of k)) where
@@ -135,13 +131,6 @@ module _ (x : Value) (value_of after : Values) (key : ℕ) (writes : (k : ℕ) �
 
   pub wrote_known : (k : ℕ) → is_some (value_of k) ≡ true → is_some (after k) ≡ true
   wrote_known k h = elim (cases_eq k key) [ inl same ↦ ap is_some (wrote_here k same) | inr other ↦ ap is_some (wrote_apart k other) ∙ h ]
-
-  -- what was there already is written
-  wrote_same : known_value (value_of key) ≡ x → (k : ℕ) → known_value (after k) ≡ known_value (value_of k)
-  wrote_same is k = elim (cases_eq k key) [
-    | inl same ↦ ap known_value (wrote_here k same) ∙ sym is ∙ ap (λ m. known_value (value_of m)) (sym same)
-    | inr other ↦ ap known_value (wrote_apart k other)
-  ]
 
 -- two writes, of both literals of a variable that has values
 module _ (l : ℕ) (a b : Value) (value_of first after : Values)
@@ -176,65 +165,55 @@ within_pushed lits met l within here v h =
       | inr new ↦ subst (λ w. has met w ≡ true) (eqb-true (variable l) v new) here
     ]
 
-module _ (lits met : List ℕ) (capacity : ℕ) (value_of : Values) (trail : IsTrail lits met capacity value_of) where
-  -- the room for literals has grown, and the values are the same
-  pub trail_wider : (more : ℕ) (after : Values) → capacity ≤ more → ((k : ℕ) → after k ≡ value_of k) → IsTrail lits met more after
-  trail_wider more after wide same = record {
+module _ {T : Type 0} (lits met : List ℕ) (capacity : ℕ) (seen : ℕ → Option T) (value_of : Values) (trail : IsTrail lits met capacity seen value_of) where
+  -- there is more room, for literals and for values
+  pub trail_wider : (more : ℕ) (seen_too : ℕ → Option T) (after : Values) → capacity ≤ more → ((v : ℕ) → is_some (seen_too v) ≡ is_some (seen v)) →
+      ((k : ℕ) → known_value (after k) ≡ known_value (value_of k)) → ((k : ℕ) → is_some (value_of k) ≡ true → is_some (after k) ≡ true) → IsTrail lits met more seen_too after
+  trail_wider more seen_too after wide same_seen same kept = record {
     different = trail.different;
     within = trail.within;
     fits = let fits = trail.fits in omega arith;
-    known = λ l h. ap is_some (same l) ∙ trail.known l h;
-    noted = λ v h. trail.noted v (sym (ap is_some (same (2 * v + 1))) ∙ h);
-    values = λ l. ap known_value (same l) ∙ trail.values l;
+    noted = λ v. same_seen v ∙ trail.noted v;
+    known = λ l h. kept l (trail.known l h);
+    values = λ l. same l ∙ trail.values l;
   }
 
-  module _ (v : ℕ) (first : Values) (makes_first : (k : ℕ) → first k ≡ cond (eqb k (2 * v)) (Some (known_value (value_of (2 * v)))) (value_of k)) where
-    abbrev x : Value
-    x = known_value (value_of (2 * v))
+  -- one more variable is met
+  module _ (v : ℕ) (value : T) (seen_too : ℕ → Option T) (puts : (k : ℕ) → seen_too k ≡ cond (eqb k v) (Some value) (seen k)) (room : length met < capacity)
+      (positive : is_some (value_of (2 * v)) ≡ true) (negative : is_some (value_of (2 * v + 1)) ≡ true) where
+    of_v : (l : ℕ) → variable l ≡ v → (l ≡ 2 * v) ⊎ (l ≡ 2 * v + 1)
+    of_v l e = grind (arith, nat_tests, e)
 
-    -- there is a value for the positive literal alone
-    pub trail_half : IsTrail lits met capacity first
-    trail_half = record {
+    known_both : (l : ℕ) → has (met ++ v ∷ []) (variable l) ≡ true → is_some (value_of l) ≡ true
+    known_both l h = elim (or_cases (has met (variable l)) (eqb v (variable l)) (sym (has_push met v (variable l)) ∙ h)) [
+      | inl old ↦ trail.known l old
+      | inr new ↦ elim (of_v l (sym (eqb-true v (variable l) new))) [
+        | inl even ↦ ap (λ k. is_some (value_of k)) even ∙ positive
+        | inr odd ↦ ap (λ k. is_some (value_of k)) odd ∙ negative
+      ]
+    ]
+
+    noted_too : (w : ℕ) → is_some (seen_too w) ≡ has (met ++ v ∷ []) w
+    noted_too w = elim (cases_eq w v) [
+      | inl same ↦ ap is_some (puts w ∙ ap (λ b. cond b (Some value) (seen w)) (eq-eqb w v same)) ∙ sym (has_push met v w ∙ or_right (has met w) (eqb v w) (eq-eqb v w (sym same)))
+      | inr other ↦
+          ap is_some (puts w ∙ ap (λ b. cond b (Some value) (seen w)) (ne_eqb w v other)) ∙ trail.noted w
+          ∙ sym (has_push met v w ∙ ap (λ b. has met w || b) (ne_eqb v w (λ e. other (sym e))) ∙ or_nothing (has met w))
+    ]
+      where
+        or_nothing : (b : Bool) → (b || false) ≡ b
+        or_nothing true = refl
+        or_nothing false = refl
+
+    pub trail_met : IsTrail lits (met ++ v ∷ []) capacity seen_too value_of
+    trail_met = record {
       different = trail.different;
-      within = trail.within;
-      fits = trail.fits;
-      known = λ l h. wrote_known x value_of first (2 * v) makes_first l (trail.known l h);
-      noted = λ w h. trail.noted w (sym (ap is_some (wrote_apart x value_of first (2 * v) makes_first (2 * w + 1) (λ e. absurd (omega (arith, e))))) ∙ h);
-      values = λ l. wrote_same x value_of first (2 * v) makes_first refl l ∙ trail.values l;
+      within = λ w h. has_append_left met (v ∷ []) w (trail.within w h);
+      fits = let e = length-append met (v ∷ []) in omega (arith, e, room);
+      noted = noted_too;
+      known = known_both;
+      values = trail.values;
     }
-
-    -- there are values for both literals of one more variable, and there is room for one more literal
-    module _ (both : Values) (makes_both : (k : ℕ) → both k ≡ cond (eqb k (2 * v + 1)) (Some (known_value (first (2 * v + 1)))) (first k)) (room : length met < capacity) where
-      abbrev y : Value
-      y = known_value (first (2 * v + 1))
-
-      of_v : (l : ℕ) → variable l ≡ v → (l ≡ 2 * v) ⊎ (l ≡ 2 * v + 1)
-      of_v l e = grind (arith, nat_tests, e)
-
-      known_both : (l : ℕ) → has (met ++ v ∷ []) (variable l) ≡ true → is_some (both l) ≡ true
-      known_both l h = elim (or_cases (has met (variable l)) (eqb v (variable l)) (sym (has_push met v (variable l)) ∙ h)) [
-        | inl old ↦ wrote_known y first both (2 * v + 1) makes_both l (trail_half.known l old)
-        | inr new ↦ elim (of_v l (sym (eqb-true v (variable l) new))) [
-          | inl even ↦ wrote_known y first both (2 * v + 1) makes_both l (ap is_some (wrote_here x value_of first (2 * v) makes_first l even))
-          | inr odd ↦ ap is_some (wrote_here y first both (2 * v + 1) makes_both l odd)
-        ]
-      ]
-
-      noted_both : (w : ℕ) → is_some (both (2 * w + 1)) ≡ true → has (met ++ v ∷ []) w ≡ true
-      noted_both w h = elim (cases_eq w v) [
-        | inl same ↦ has_push met v w ∙ or_right (has met w) (eqb v w) (eq-eqb v w (sym same))
-        | inr other ↦ has_append_left met (v ∷ []) w (trail_half.noted w (sym (ap is_some (wrote_apart y first both (2 * v + 1) makes_both (2 * w + 1) (λ e. other (omega (arith, e))))) ∙ h))
-      ]
-
-      pub trail_met : IsTrail lits (met ++ v ∷ []) capacity both
-      trail_met = record {
-        different = trail.different;
-        within = λ w h. has_append_left met (v ∷ []) w (trail.within w h);
-        fits = let e = length-append met (v ∷ []) in omega (arith, e, room);
-        known = known_both;
-        noted = noted_both;
-        values = λ l. wrote_same y first both (2 * v + 1) makes_both refl l ∙ trail_half.values l;
-      }
 
   -- each literal's variable was met, and no variable is there twice, so that there is room for one more where it is open
   pub room_for : (l : ℕ) → value_under lits l ≡ Open → has met (variable l) ≡ true → length lits < capacity
@@ -256,7 +235,7 @@ module _ (lits met : List ℕ) (capacity : ℕ) (value_of : Values) (trail : IsT
   module _ (l : ℕ) (is_open : value_under lits l ≡ Open) (here : has met (variable l) ≡ true) (first after : Values)
       (makes_true : (k : ℕ) → first k ≡ cond (eqb k l) (Some True) (value_of k))
       (makes_false : (k : ℕ) → after k ≡ cond (eqb k (complement l)) (Some False) (first k)) where
-    pub trail_set : IsTrail (lits ++ l ∷ []) met capacity after
+    pub trail_set : IsTrail (lits ++ l ∷ []) met capacity seen after
     trail_set =
         let known = both_known l here in
         let some = written_some l True False value_of first after makes_true makes_false known.0 known.1 in
@@ -264,15 +243,15 @@ module _ (lits met : List ℕ) (capacity : ℕ) (value_of : Values) (trail : IsT
           different = different_pushed lits l is_open trail.different;
           within = within_pushed lits met l trail.within here;
           fits = trail.fits;
+          noted = trail.noted;
           known = λ k h. some k ∙ trail.known k h;
-          noted = λ v h. trail.noted v (sym (some (2 * v + 1)) ∙ h);
           values = λ k.
               written_value l True False value_of first after makes_true makes_false k
               ∙ ap (λ u. cond (eqb k (complement l)) False (cond (eqb k l) True u)) (trail.values k)
               ∙ sym (value_pushed lits l is_open k);
         }
 
-module _ (front met : List ℕ) (l capacity : ℕ) (value_of : Values) (trail : IsTrail (front ++ l ∷ []) met capacity value_of) where
+module _ {T : Type 0} (front met : List ℕ) (l capacity : ℕ) (seen : ℕ → Option T) (value_of : Values) (trail : IsTrail (front ++ l ∷ []) met capacity seen value_of) where
   -- the last literal's variable was met
   pub last_met : has met (variable l) ≡ true
   last_met = trail.within (variable l) (
@@ -282,20 +261,20 @@ module _ (front met : List ℕ) (l capacity : ℕ) (value_of : Values) (trail : 
       )
 
   pub last_known : (is_some (value_of l) ≡ true) × (is_some (value_of (complement l)) ≡ true)
-  last_known = both_known (front ++ l ∷ []) met capacity value_of trail l last_met
+  last_known = both_known (front ++ l ∷ []) met capacity seen value_of trail l last_met
 
   module _ (first after : Values)
       (opens_one : (k : ℕ) → first k ≡ cond (eqb k l) (Some Open) (value_of k))
       (opens_other : (k : ℕ) → after k ≡ cond (eqb k (complement l)) (Some Open) (first k)) where
-    pub trail_taken : IsTrail front met capacity after
+    pub trail_taken : IsTrail front met capacity seen after
     trail_taken =
         let some = written_some l Open Open value_of first after opens_one opens_other last_known.0 last_known.1 in
         record {
           different = different_popped front l trail.different;
           within = λ v h. trail.within v (ap (λ vs. has vs v) (map-append variable front (l ∷ [])) ∙ has_append_left (map variable front) (variable l ∷ []) v h);
           fits = trail.fits;
+          noted = trail.noted;
           known = λ k h. some k ∙ trail.known k h;
-          noted = λ v h. trail.noted v (sym (some (2 * v + 1)) ∙ h);
           values = λ k.
               written_value l Open Open value_of first after opens_one opens_other k
               ∙ ap (λ u. cond (eqb k (complement l)) Open (cond (eqb k l) Open u)) (trail.values k)

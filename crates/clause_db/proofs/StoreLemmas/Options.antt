@@ -5,6 +5,10 @@ pub if_none_then : {T : Type 0} (o : Option T) {P Q : Type 0} → IfNone o P →
 if_none_then None h f = f h
 if_none_then (Some x) h f = tt
 
+pub if_none_always : {T : Type 0} (o : Option T) {P : Type 0} → P → IfNone o P
+if_none_always None h = h
+if_none_always (Some x) h = tt
+
 pub if_some_from : (o : Option ℕ) (x : ℕ) (P : ℕ → Type 0) → o ≡ Some x → P x → IfSome o P
 if_some_from o x P e h = subst (λ q. IfSome q P) (sym e) h
 

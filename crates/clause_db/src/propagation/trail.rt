@@ -1,5 +1,7 @@
 //! The trail: the literals that are true.
 
+mod values;
+
 ghost use Rattle.std.specs.Prelude.{◌≡◌, ℕ, ◌*◌, ◌/◌, ◌-◌, ◌==◌, ◌<◌, ◌≤◌, ◌||◌, ◌&&◌, not, [], ◌∷◌, ◌++◌, filter, length, take, is_some, IsTrue, IsFalse, ◌↔◌, IfSome, IfOk, OnOk, OnErr, if◌then◌else◌};
 ghost use Rattle.cnf_base.specs.Literals.{complement, has};
 ghost use Rattle.clause_db.specs.Propagation.Left.{open_literals, how_many};
@@ -7,6 +9,7 @@ ghost use Rattle.clause_db.specs.Propagation.Trail.{value_under, is_variable, Ha
 ghost use Rattle.clause_db.specs.Propagation.Left.{with_one};
 ghost use Rattle.clause_db.specs.declared.propagation.value.Value.TheVariants.{Open};
 
+use self::values::Values;
 use crate::propagation::left::Left;
 use crate::propagation::part::Part;
 use crate::propagation::value::Value;
@@ -25,14 +28,16 @@ pub struct Trail {
     /// It has room for one literal of each variable that was met.
     lits: Vec<Lit>,
     met: Vec<u32>,
+    /// The variables that were met.
+    seen: Table<()>,
     /// By literal, for both literals of each variable that was met.
-    values: Table<Value>,
+    values: Values,
 }
 
 impl Model for Trail {
     ghost use Rattle.std.specs.Prelude.{vec_capacity};
     ghost use Rattle.clause_db.specs.Propagation.Trail.{TrailState};
-    ghost use Rattle.clause_db.specs.Propagation.Values.{IsTrail};
+    ghost use Rattle.clause_db.specs.Propagation.Values.{IsTrail, value_at};
     ghost use Rattle.tables.specs.Table.{at};
 
     ghost Value = { TrailState };
@@ -43,7 +48,7 @@ impl Model for Trail {
     } };
 
     ghost invariant = { λ t.
-        IsTrail t.lits.items t.met.items (vec_capacity t.lits) (at t.values) };
+        IsTrail t.lits.items t.met.items (vec_capacity t.lits) (at t.seen) (value_at t.values) };
 }
 
 /// The literal that says that the variable is true; none for 0 and past the greatest variable.
@@ -77,7 +82,8 @@ impl Trail {
         Ok(Trail {
             lits: Vec::new(alloc),
             met: Vec::new(alloc),
-            values: Table::new(alloc),
+            seen: Table::new(alloc),
+            values: Values::new(alloc),
         })
     }
 
@@ -95,14 +101,13 @@ impl Trail {
         let Some(lit) = positive(var) else {
             return Ok(());
         };
-        // The negative one gets its room last.
-        if self.values.get(key(lit.neg())).is_some() {
+        if self.seen.get(var).is_some() {
             return Ok(());
         }
         self.lits.reserve(self.met.len() + 1)?;
         self.met.reserve(1)?;
-        self.values.reserve(key(lit), Value::Open)?;
-        self.values.reserve(key(lit.neg()), Value::Open)?;
+        self.values.reserve(lit, self.met.len())?;
+        self.seen.reserve(var, ())?;
         self.met.push_reserved(var);
         Ok(())
     }

@@ -1,26 +1,28 @@
 //! Identifiers of clauses.
 
-ghost use Rattle.std.specs.Prelude.{◌≡◌, ℕ, ◌<◌, ◌≤◌, length, slice_index, nat_eq, IsTrue, IsSome, Some, None, IfSome, IfNone, IfOk, OnOk, OnErr};
-ghost use Rattle.std.specs.FinMap as maps;
-ghost use Rattle.std.specs.HashMap.{get};
-ghost use Rattle.std.specs.List.Sorted.{IsStrictlyIncreasing};
-ghost use Rattle.cnf_base.specs.Literals.{has};
-ghost use Rattle.clause_db.specs.Store.Ids.{IsFirstBound};
+mod directory;
+mod pages;
+mod row;
 
+ghost use Rattle.std.specs.Prelude.{◌≡◌, ◌≢◌, ℕ, ◌+◌, ◌-◌, ◌*◌, ◌/◌, ◌^◌, ◌<◌, ◌≤◌, slice_index, Some, None, IfSome, IfNone, IfOk, OnOk, OnErr};
+ghost use Rattle.std.specs.FinMap as maps;
+ghost use Rattle.clause_db.specs.Store.Ids.{entry_at, page_at, slot_from, IsPaged, IsFirst};
+
+use crate::store::ids::directory::Directory;
+use crate::store::ids::pages::{PAGE, Pages, place_in};
+use crate::store::ids::row::first_set;
 use crate::store::slot::Slot;
 use cnf_base::OutOfMemory;
 use std::alloc::Global;
-use std::collections::HashMap;
 use std::marker::Model;
 
 /// The identifiers of clauses, each with the slot of its clause.
 ///
-/// Contracts see it as a finite map. It is made for identifiers that rise: to bind one above all others takes constant time.
+/// Contracts see it as a finite map. It is made for identifiers that rise: a page has 1024 in a row, and one in which none is bound is used again.
 #[derive(Drop)]
 pub struct Ids {
-    slots: HashMap<u64, Slot>,
-    /// Each bound identifier, and some that are bound no more.
-    order: Vec<u64>,
+    directory: Directory,
+    pages: Pages,
 }
 
 impl Model for Ids {
@@ -29,70 +31,105 @@ impl Model for Ids {
     ghost use Rattle.std.specs.Coded.{coded_ℕ};
     ghost use Rattle.std.specs.FinMap as maps;
     ghost use Rattle.std.specs.FinMap.{FinMap};
-    ghost use Rattle.clause_db.specs.Store.Ids.{as_map, IsOrder};
+    ghost use Rattle.clause_db.specs.Store.Ids.{as_map, IsPaged};
 
     ghost Value = { FinMap nat_cmp ℕ };
 
     ghost coded = { maps.code coded_ℕ coded_ℕ };
 
-    ghost view = { λ i. as_map i.slots };
+    ghost view = { λ i. as_map i.directory i.pages };
 
-    ghost invariant = { λ i. IsOrder i.order.items i.slots };
+    ghost invariant = { λ i. IsPaged i.directory i.pages };
 }
 
-/// The order may have so many identifiers that are bound no more, besides as many as are bound.
-const STALE: usize = 64;
-
-/// The first place of an identifier that is not below this one.
-fn place_of(order: &[u64], id: u64) -> usize
-    requires { IsStrictlyIncreasing order.now }
-    ensures bound { result ≤ length order.now }
-    ensures below { (k : ℕ) → k < result → slice_index order.now k < id }
-    ensures above { (k : ℕ) → result ≤ k → k < length order.now → id ≤ slice_index order.now k }
+/// What a page says of an identifier that is bound to the slot. An entry has four bytes.
+fn entry_of(slot: Slot) -> Result<u32, OutOfMemory>
+    ensures { IfOk result (λ entry. entry ≡ slot + 1) }
 {
-    match order.last() {
-        Some(last) if id <= *last => order.partition_point(|x| *x < id),
-        _ => order.len(),
+    match u32::try_from(slot.number()) {
+        Ok(number) if number < u32::MAX => Ok(number + 1),
+        _ => Err(OutOfMemory),
     }
 }
 
-/// Puts an identifier into the order, where it is not in it.
-fn note(order: &mut Vec<u64>, id: u64) -> Result<(), OutOfMemory>
-    requires { IsStrictlyIncreasing order.old.items }
-    ensures rises { IsStrictlyIncreasing order.new.items }
-    ensures noted { OnOk result (IsTrue (has order.new.items id)) }
-    ensures keeps { (k : ℕ) → IsTrue (has order.old.items k) → IsTrue (has order.new.items k) }
+/// The slot that an entry names.
+#[inline]
+fn slot_in(entry: u32) -> Option<Slot>
+    ensures { result ≡ slot_from entry }
 {
-    let place = place_of(order, id);
-    if place < order.len() && order[place] == id {
-        return Ok(());
+    if entry == 0 {
+        None
+    } else {
+        Some(Slot::at(entry as usize - 1))
     }
-    order.insert(place, id)?;
-    Ok(())
 }
 
-/// Takes out of the order what is bound no more.
-fn keep_bound(order: &mut Vec<u64>, slots: &HashMap<u64, Slot>)
-    requires { IsStrictlyIncreasing order.old.items }
-    ensures rises { IsStrictlyIncreasing order.new.items }
-    ensures keeps { (k : ℕ) → IsTrue (has order.old.items k) → IsSome (get nat_eq slots.now k) →
-        IsTrue (has order.new.items k) }
+/// The entry of an identifier, 0 where it is not bound.
+#[inline]
+fn entry(directory: &Directory, pages: &Pages, id: u64) -> u32
+    requires { IsPaged directory.now pages.now }
+    ensures { result ≡ entry_at directory.now pages.now id }
 {
-    order.retain(|id| slots.contains_key(id));
+    let page = directory.page(id / PAGE);
+    if page == 0 {
+        return 0;
+    }
+    pages.entries[place_in(page, id)]
 }
 
-/// The first of the identifiers that is bound.
-fn first_bound(ids: &[u64], slots: &HashMap<u64, Slot>) -> Option<(u64, Slot)>
-    ensures some { IfSome result (λ p. IsFirstBound ids.now slots.now p) }
-    ensures none { IfNone result ((j : ℕ) → j < length ids.now →
-        get nat_eq slots.now (slice_index ids.now j) ≡ None) }
+/// The page of a page number. Where it has none, it gets one in which nothing is bound.
+fn open(directory: &mut Directory, pages: &mut Pages, number: u64) -> Result<u32, OutOfMemory>
+    requires paged { IsPaged directory.old pages.old }
+    requires number { number < 2 ^ 54 }
+    ensures paged { IsPaged directory.new pages.new }
+    ensures same { (id : ℕ) → entry_at directory.new pages.new id ≡
+        entry_at directory.old pages.old id }
+    ensures ok { IfOk result (λ page. (page_at directory.new number ≡ page) × (page ≢ 0)) }
 {
-    for id in ids {
-        if let Some(slot) = slots.get(id) {
-            return Some((*id, *slot));
-        }
+    let page = directory.page(number);
+    if page != 0 {
+        return Ok(page);
     }
-    None
+    let page = pages.vacant()?;
+    directory.put(number, page)?;
+    pages.own(page, number);
+    Ok(page)
+}
+
+/// Takes a page from its page number where nothing is bound in it. It takes no memory.
+fn close(directory: &mut Directory, pages: &mut Pages, number: u64, page: u32)
+    requires paged { IsPaged directory.old pages.old }
+    requires page { page_at directory.old number ≡ page }
+    requires some { page ≢ 0 }
+    ensures paged { IsPaged directory.new pages.new }
+    ensures same { (id : ℕ) → entry_at directory.new pages.new id ≡
+        entry_at directory.old pages.old id }
+{
+    if pages.is_empty(page) {
+        directory.remove(number);
+        pages.release(page);
+    }
+}
+
+/// The first identifier of a page from one on that is bound.
+fn first_in(directory: &Directory, pages: &Pages, from: u64) -> Option<(u64, Slot)>
+    requires { IsPaged directory.now pages.now }
+    ensures some { IfSome result (λ p. IsFirst (entry_at directory.now pages.now) from
+        (1024 * (from / 1024) + 1024) p.0) }
+    ensures slot { IfSome result (λ p. slot_from (entry_at directory.now pages.now p.0) ≡
+        Some p.1) }
+    ensures none { IfNone result ((k : ℕ) → from ≤ k → k < 1024 * (from / 1024) + 1024 →
+        entry_at directory.now pages.now k ≡ 0) }
+{
+    let page = directory.page(from / PAGE);
+    if page == 0 {
+        return None;
+    }
+    let start = place_in(page, from);
+    let end = page as usize * PAGE as usize;
+    let place = first_set(&pages.entries, start, end)?;
+    let slot = slot_in(pages.entries[place])?;
+    Some((from + (place - start) as u64, slot))
 }
 
 impl Ids {
@@ -101,8 +138,8 @@ impl Ids {
         ensures { IfOk result (λ ids. ids ≡ maps.empty) }
     {
         Ok(Ids {
-            slots: HashMap::new(alloc),
-            order: Vec::new(alloc),
+            directory: Directory::new(alloc),
+            pages: Pages::new(alloc),
         })
     }
 
@@ -116,16 +153,18 @@ impl Ids {
         ensures ok { OnOk result (self.new ≡ maps.insert self.old id slot) }
         ensures err { OnErr result (self.new ≡ self.old) }
     {
-        note(&mut self.order, id)?;
-        self.slots.insert(id, slot)?;
+        let entry = entry_of(slot)?;
+        let page = open(&mut self.directory, &mut self.pages, id / PAGE)?;
+        self.pages.fill(page, id, entry);
         Ok(())
     }
 
     /// The slot of an identifier, in constant expected time.
+    #[inline]
     pub fn slot_of(&self, id: u64) -> Option<Slot>
         ensures { result ≡ maps.get self.now id }
     {
-        self.slots.get(&id).copied()
+        slot_in(entry(&self.directory, &self.pages, id))
     }
 
     /// Takes back what an identifier is bound to, and returns its slot. It takes no memory.
@@ -133,11 +172,14 @@ impl Ids {
         ensures was { result ≡ maps.get self.old id }
         ensures ids { self.new ≡ maps.remove self.old id }
     {
-        let slot = self.slots.remove(&id);
-        if self.order.len().saturating_sub(STALE) / 2 > self.slots.len() {
-            keep_bound(&mut self.order, &self.slots);
+        let entry = entry(&self.directory, &self.pages, id);
+        if entry == 0 {
+            return None;
         }
-        slot
+        let page = self.directory.page(id / PAGE);
+        self.pages.clear(page, id);
+        close(&mut self.directory, &mut self.pages, id / PAGE, page);
+        slot_in(entry)
     }
 
     /// The least bound identifier that is not below `from`, with its slot. It takes no memory.
@@ -150,15 +192,25 @@ impl Ids {
             maps.get self.now k ≡ None) }
         ensures none { IfNone result ((k : ℕ) → from ≤ k → maps.get self.now k ≡ None) }
     {
-        let start = place_of(&self.order, from);
-        first_bound(&self.order[start..], &self.slots)
+        let mut start = from;
+        loop {
+            if let Some(found) = first_in(&self.directory, &self.pages, start) {
+                return Some(found);
+            }
+            start = self.directory.next(start / PAGE + 1)? * PAGE;
+        }
     }
 }
 
 #[cfg(test)]
 impl Ids {
-    /// How many identifiers the map and the order can hold with no more memory.
-    pub(crate) fn capacities(&self) -> (usize, usize) {
-        (self.slots.capacity(), self.order.capacity())
+    /// How many near and far page numbers it can hold with no more memory.
+    pub(crate) fn directory_capacities(&self) -> (usize, usize) {
+        self.directory.capacities()
+    }
+
+    /// How many entries, counts, page numbers and free pages it can hold with no more memory.
+    pub(crate) fn capacities(&self) -> [usize; 4] {
+        self.pages.capacities()
     }
 }

@@ -70,3 +70,75 @@ fn stays_where_memory_runs_out(rt: HostRuntime) -> Result<(), Fail> {
     }
     Ok(())
 }
+
+/// The page numbers near 2^63 have no place in the near part, whose length follows what was met.
+#[test]
+fn keeps_far_identifiers(rt: HostRuntime) -> Result<(), Fail> {
+    let slot = Slot::first();
+    let far = 1u64 << 63;
+    let mut ids = Ids::new(rt.alloc())?;
+    for id in 0..3000u64 {
+        bind_new(&mut ids, far + id, slot)?;
+    }
+    assert_eq!(rt; ids.directory_capacities().0, 0);
+    for id in 0..3000u64 {
+        assert_eq!(rt; ids.slot_of(far + id), Some(slot), "at {id}");
+    }
+    assert_eq!(rt; ids.slot_of(far + 3000), None);
+    assert_eq!(rt; ids.next_bound(0), Some((far, slot)));
+    assert_eq!(rt; ids.next_bound(far + 1024), Some((far + 1024, slot)));
+    assert_eq!(rt; ids.next_bound(far + 3000), None);
+    Ok(())
+}
+
+/// A page that was far when it was opened, among near ones that came later.
+#[test]
+fn walks_over_far_and_near(rt: HostRuntime) -> Result<(), Fail> {
+    let slot = Slot::first();
+    let mut ids = Ids::new(rt.alloc())?;
+    for page in [70, 80, 1 << 50, 0, 1, 2, 3, 4, 5, 6, 7, 8, 75] {
+        bind_new(&mut ids, 1024 * page + 9, slot)?;
+    }
+    assert_eq!(rt; ids.next_bound(8202), Some((1024 * 70 + 9, slot)));
+    assert_eq!(rt; ids.next_bound(1024 * 70 + 10), Some((1024 * 75 + 9, slot)));
+    assert_eq!(rt; ids.next_bound(1024 * 75 + 10), Some((1024 * 80 + 9, slot)));
+    assert_eq!(rt; ids.next_bound(1024 * 80 + 10), Some(((1 << 60) + 9, slot)));
+    assert_eq!(rt; ids.unbind(1024 * 70 + 9), Some(slot));
+    assert_eq!(rt; ids.slot_of(1024 * 70 + 9), None);
+    assert_eq!(rt; ids.next_bound(8202), Some((1024 * 75 + 9, slot)));
+    bind_new(&mut ids, 1024 * 70 + 8, slot)?;
+    assert_eq!(rt; ids.next_bound(8202), Some((1024 * 70 + 8, slot)));
+    Ok(())
+}
+
+#[test]
+fn uses_pages_again(rt: HostRuntime) -> Result<(), Fail> {
+    let slot = Slot::first();
+    let mut ids = Ids::new(rt.alloc())?;
+    let mut room = ids.capacities();
+    for round in 0..20u64 {
+        for id in 0..5000u64 {
+            bind_new(&mut ids, 102400 * round + id, slot)?;
+        }
+        if round == 0 {
+            room = ids.capacities();
+        }
+        for id in 0..5000u64 {
+            assert_eq!(rt; ids.unbind(102400 * round + id), Some(slot), "at {id}");
+        }
+        assert_eq!(rt; ids.next_bound(0), None);
+    }
+    assert_eq!(rt; ids.capacities(), room);
+    Ok(())
+}
+
+#[test]
+fn has_four_bytes_for_a_slot(rt: HostRuntime) -> Result<(), Fail> {
+    let mut ids = Ids::new(rt.alloc())?;
+    let last = Slot::at(4294967294);
+    bind_new(&mut ids, 1, last)?;
+    assert_eq!(rt; ids.slot_of(1), Some(last));
+    assert_eq!(rt; bind_new(&mut ids, 2, Slot::at(4294967295)).is_err(), true);
+    assert_eq!(rt; ids.slot_of(2), None);
+    Ok(())
+}

@@ -1,28 +1,30 @@
-use Rattle.std.proofs.Common.{drop, ap, sym, ◌∙◌}
+use Rattle.std.proofs.Common.{sym, ap, ◌∙◌, inl, inr, arith}
 use Rattle.std.specs.FinMap as maps
-use Rattle.std.proofs.lemmas.List.{take_rest}
-use Rattle.std.proofs.lemmas.Option.{IfSome_then}
-use Rattle.clause_db.proofs.StoreLemmas.Ids.{get-as_map, none_past, none_before}
-use Rattle.clause_db.proofs.StoreLemmas.Options.{if_none_then}
+use Rattle.std.proofs.lemmas.Bool.{cases_lt}
+use Rattle.clause_db.specs.Store.Ids.{page_at}
+use Rattle.clause_db.proofs.StoreLemmas.Ids.{get-as_map, get-unbound, passed_all}
+use Rattle.clause_db.proofs.StoreLemmas.Options.{if_none_always}
 use Rattle.clause_db.proofs.store.ids.Ids.next_bound.Goals as goal
 
-pub returns-clause-bound : goal.returns-clause-bound
-returns-clause-bound c =
-    let slots = c.self.inside.slots in
-    IfSome_then c.first_bound.result c.first_bound.ensures.some (λ p f. ap (λ m. maps.get m p.0) (sym c.self.view_is) ∙ get-as_map slots p.0 ∙ f.bound)
-
-pub returns-clause-first : goal.returns-clause-first
-returns-clause-first c =
+pub returns-in-Some-clause-bound : goal.returns-in-Some-clause-bound
+returns-in-Some-clause-bound c =
     let i = c.self.inside in
-    let rest_is = take_rest c.deref-2.result.now c.place_of-start.result ∙ ap (drop c.place_of-start.result) c.deref-2.ensures.value in
-    IfSome_then c.first_bound.result c.first_bound.ensures.some (λ p f k low high.
-    ap (λ m. maps.get m k) (sym c.self.view_is) ∙ get-as_map i.slots k
-    ∙ none_before i.order.items _ _ i.slots c.self.invariant c.args.from _ c.deref.ensures.value rest_is c.place_of-start.ensures.below p f k low high)
+    let id = c.in-Some.found.0 in
+    let below = c.in-Some.ensures.some.below in
+    ap (λ m. maps.get m id) (sym c.self.view_is) ∙ get-as_map i.directory i.pages id (omega arith) ∙ c.in-Some.ensures.slot
 
-pub returns-clause-none : goal.returns-clause-none
-returns-clause-none c =
+pub returns-in-Some-clause-first : goal.returns-in-Some-clause-first
+returns-in-Some-clause-first c = λ k above low.
     let i = c.self.inside in
-    let rest_is = take_rest c.deref-2.result.now c.place_of-start.result ∙ ap (drop c.place_of-start.result) c.deref-2.ensures.value in
-    if_none_then c.first_bound.result c.first_bound.ensures.none (λ each k low.
-    ap (λ m. maps.get m k) (sym c.self.view_is) ∙ get-as_map i.slots k
-    ∙ none_past i.order.items _ _ i.slots c.self.invariant c.args.from _ c.deref.ensures.value rest_is c.place_of-start.ensures.below each k low)
+    ap (λ m. maps.get m k) (sym c.self.view_is)
+    ∙ get-unbound i.directory i.pages k (elim (cases_lt k c.loop-found.start) [
+      | inl before ↦ c.loop-found.invariant.passed k above before
+      | inr past ↦ c.in-Some.ensures.some.before k past low
+    ])
+
+pub returns-in_err-start-clause-none : goal.returns-in_err-start-clause-none
+returns-in_err-start-clause-none c =
+    let i = c.self.inside in
+    if_none_always c.from_residual.result (λ k above.
+    ap (λ m. maps.get m k) (sym c.self.view_is)
+    ∙ get-unbound i.directory i.pages k (passed_all (page_at i.directory) i.pages.entries.items c.args.from c.loop-found.start c.loop-found.invariant.passed c.in_default.ensures.none c.in_err-start.ensures.none k above))

@@ -1,7 +1,10 @@
-use Rattle.std.proofs.Common.{sym, ap, ◌∙◌}
+use Rattle.std.proofs.Common.{sym, ap, ◌∙◌, arith}
 use Rattle.std.specs.FinMap as maps
+use Rattle.clause_db.specs.Store.Ids.{slot_from}
 use Rattle.clause_db.proofs.StoreLemmas.Ids.{get-as_map}
 use Rattle.clause_db.proofs.store.ids.Ids.slot_of.Goals as goal
 
 pub returns : goal.returns
-returns c = c.copied.ensures ∙ c.get.ensures.value ∙ sym (get-as_map c.self.inside.slots c.args.id) ∙ ap (λ m. maps.get m c.args.id) c.self.view_is
+returns c =
+    let i = c.self.inside in
+    c.slot_in.ensures ∙ ap slot_from c.entry.ensures ∙ sym (get-as_map i.directory i.pages c.args.id (omega arith)) ∙ ap (λ m. maps.get m c.args.id) c.self.view_is

@@ -1,0 +1,128 @@
+//! What is known of each literal.
+
+ghost use Rattle.std.specs.Prelude.{◌≡◌, ℕ, ◌==◌, ◌≤◌, ◌+◌, ◌*◌, if◌then◌else◌, Some, None, IsSome, IsTrue, is_some, OnOk, vec_len};
+ghost use Rattle.cnf_base.specs.Literals.{complement};
+ghost use Rattle.clause_db.specs.Propagation.Values.{value_at, known_value};
+ghost use Rattle.tables.specs.Table.{at};
+
+use crate::propagation::value::Value;
+use cnf_base::{Lit, OutOfMemory};
+use std::alloc::Global;
+use tables::{Table, key};
+
+/// A value by literal, for both literals of each variable that was reserved.
+///
+/// The keys below `dense.len()` have their values in `dense`, all others in `far`: a look-up among dense keys reads one byte.
+#[derive(Drop)]
+pub(crate) struct Values {
+    dense: Vec<Value>,
+    far: Table<Value>,
+}
+
+/// The length from which `dense` grows.
+const LEAST: usize = 128;
+
+/// The key past the greatest one.
+const MOST: usize = 536870912;
+
+impl Values {
+    /// No literal has a value. It takes no memory.
+    pub(crate) fn new(alloc: Global) -> Self
+        ensures { (k : ℕ) → value_at result k ≡ None }
+    {
+        Values {
+            dense: Vec::new(alloc),
+            far: Table::new(alloc),
+        }
+    }
+
+    /// The value of the literal with this key.
+    #[inline(always)]
+    pub(crate) fn get(&self, key: u32) -> Option<Value>
+        ensures { result ≡ value_at self.now key }
+    {
+        match self.dense.as_slice().get(key as usize) {
+            Some(value) => Some(*value),
+            None => self.get_far(key),
+        }
+    }
+
+    #[inline(never)]
+    fn get_far(&self, key: u32) -> Option<Value>
+        ensures { result ≡ at self.now.far key }
+    {
+        self.far.get(key)
+    }
+
+    /// Writes the value of a literal that has one.
+    #[inline(always)]
+    pub(crate) fn set(&mut self, key: u32, value: Value)
+        requires { IsSome (value_at self.old key) }
+        ensures { (k : ℕ) → value_at self.new k ≡
+            (if k == key then Some value else value_at self.old k) }
+    {
+        let i = key as usize;
+        if i < self.dense.len() {
+            self.dense[i] = value;
+        } else {
+            self.set_far(key, value);
+        }
+    }
+
+    #[inline(never)]
+    fn set_far(&mut self, key: u32, value: Value)
+        requires far { vec_len self.old.dense ≤ key }
+        requires reserved { IsSome (value_at self.old key) }
+        ensures { (k : ℕ) → value_at self.new k ≡
+            (if k == key then Some value else value_at self.old k) }
+    {
+        self.far.set(key, value);
+    }
+
+    /// Lengthens `dense`, with what `far` has there.
+    fn widen(&mut self, len: usize) -> Result<(), OutOfMemory>
+        requires { len ≤ 536870912 }
+        ensures same { (k : ℕ) →
+            known_value (value_at self.new k) ≡ known_value (value_at self.old k) }
+        ensures kept { (k : ℕ) → IsSome (value_at self.old k) → IsSome (value_at self.new k) }
+    {
+        for key in self.dense.len()..len {
+            let value = match self.far.get(key as u32) {
+                Some(value) => value,
+                None => Value::Open,
+            };
+            self.dense.push(value)?;
+        }
+        Ok(())
+    }
+
+    /// Makes room for a literal, which is open where it had no value.
+    fn make_room(&mut self, key: u32) -> Result<(), OutOfMemory>
+        ensures same { (k : ℕ) →
+            known_value (value_at self.new k) ≡ known_value (value_at self.old k) }
+        ensures kept { (k : ℕ) → IsSome (value_at self.old k) → IsSome (value_at self.new k) }
+        ensures room { OnOk result (IsSome (value_at self.new key)) }
+    {
+        if key as usize >= self.dense.len() {
+            self.far.reserve(key, Value::Open)?;
+        }
+        Ok(())
+    }
+
+    /// Makes room for both literals of a variable, where so many variables were met.
+    pub(crate) fn reserve(&mut self, l: Lit, count: usize) -> Result<(), OutOfMemory>
+        ensures same { (k : ℕ) →
+            known_value (value_at self.new k) ≡ known_value (value_at self.old k) }
+        ensures kept { (k : ℕ) → IsSome (value_at self.old k) → IsSome (value_at self.new k) }
+        ensures room { OnOk result (IsSome (value_at self.new l)) }
+        ensures other { OnOk result (IsSome (value_at self.new (complement l))) }
+    {
+        let limit = count.saturating_mul(4).saturating_add(LEAST);
+        let len = self.dense.len();
+        if len <= l.index() && l.index() < limit {
+            self.widen(limit.max(len.saturating_mul(2)).min(MOST))?;
+        }
+        self.make_room(key(l))?;
+        self.make_room(key(l.neg()))
+    }
+}
