@@ -34,7 +34,7 @@ bin/model-check: $(SOURCES)
 test:
 	@RT="$(RT)" tests/run.sh
 
-bench: bin/lrat-check bin/model-check
+bench: bin/lrat-check bin/drat-forward bin/model-check
 	bench/run.sh
 
 clean:

@@ -7,11 +7,12 @@ The plain checker follows docs/FORMATS.md and docs/RULES.md, holds its inputs wh
 MODEL_CHECK names the program; it is bin/model-check otherwise.
 """
 
-import os
 import random
 import subprocess
 import sys
 import tempfile
+
+from common import program, write
 
 MOST = 268435455
 WORDS = [b"s", b"v", b"c", b"p", b"cnf", b"SATISFIABLE", b"UNSATISFIABLE", b"UNKNOWN", b"x", b"\x00"]
@@ -196,14 +197,13 @@ def inputs(source):
 def main(words):
     if len(words) not in (1, 2) or not all(word.isdigit() for word in words):
         sys.exit(__doc__)
-    program = os.environ.get("MODEL_CHECK", "bin/model-check")
+    checker = program("MODEL_CHECK", "bin/model-check")
     source, seen = random.Random(int(words[1]) if len(words) == 2 else 1), {}
     with tempfile.TemporaryDirectory() as room:
         for _ in range(int(words[0])):
             formula, output = inputs(source)
-            with open(f"{room}/formula.cnf", "wb") as it:
-                it.write(formula)
-            ran = subprocess.run([program, f"{room}/formula.cnf"], input=output, stdout=subprocess.PIPE)
+            write(f"{room}/formula.cnf", formula)
+            ran = subprocess.run([checker, f"{room}/formula.cnf"], input=output, stdout=subprocess.PIPE)
             line, status = report(formula, output)
             sentence = "s MODEL VERIFIED" if status == 0 else "s MODEL NOT VERIFIED"
             if (ran.stdout.decode(), ran.returncode) != (f"{line}\n{sentence}\n", status):

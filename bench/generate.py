@@ -11,6 +11,15 @@
     python3 generate.py model BYTES FORMULA OUTPUT
         A formula as above of which each clause has a true literal where the even variables are true and the odd ones are
         false, and a solver's output that lists this model.
+    python3 generate.py leaps VARIABLES WIDTH STEPS FORMULA PROOF
+        Implications 1 -> 2 -> .. -> VARIABLES -> -1, and back to 1 by way of as many other variables. A DRAT proof of about
+        STEPS steps: each second one adds a clause that leaps over WIDTH implications, and the next one deletes it.
+    python3 generate.py units VARIABLES FORMULA PROOF
+        The unit clause 1 and implications 1 -> 2 -> .. -> VARIABLES. A DRAT proof that adds the unit clauses that follow, one
+        by one. After each it deletes the implication that its literal came from and a clause that no literal came from, and
+        after each hundredth one the unit clause before it.
+    python3 generate.py drat FORMULA LRAT PROOF
+        The additions and deletions of an LRAT proof with a step a line, as a DRAT proof.
 """
 
 import sys
@@ -93,18 +102,94 @@ def model(size, formula, output):
         it.write("v 0\n")
 
 
+def leap_words(words):
+    variables, width, steps = map(int, words)
+    if not 0 < width < variables:
+        sys.exit("generate.py: WIDTH is from 1 to VARIABLES - 1")
+    return variables, width, steps
+
+
+# ---- DRAT. A step is a deletion or not, and its literals.
+
+
+def in_text(steps):
+    lines = (" ".join(map(str, ["d"] * is_deletion + literals + [0])) + "\n" for is_deletion, literals in steps)
+    return "".join(lines).encode()
+
+
+def write_both(clauses, steps, formula, proof):
+    variables = max(abs(literal) for clause in clauses for literal in clause)
+    with open(formula, "wb") as it:
+        it.write(f"p cnf {variables} {len(clauses)}\n".encode() + in_text((False, clause) for clause in clauses))
+    with open(proof, "wb") as it:
+        it.write(in_text(steps))
+
+
+def implications(literals):
+    return [[-before, after] for before, after in zip(literals, literals[1:])]
+
+
+def leaps(variables, width, steps):
+    """The clauses of the formula, and the steps."""
+    there, back = range(1, variables + 1), range(variables + 1, 2 * variables + 1)
+    clauses = implications([*there, -1, *back, 1])
+    taken = []
+    for step in range(steps // 2):
+        v = 1 + step * 7919 % (variables - width)
+        taken += [(False, [-v, v + width]), (True, [-v, v + width])]
+    return clauses, taken + [(False, [-1]), (False, [])]
+
+
+def units(variables):
+    """The clauses of the formula, and the steps. That the last variable is true is refuted over two further ones."""
+    last, one, other = range(variables, variables + 3)
+    clauses = [[1]] + implications(range(1, variables + 1)) + [[v, v + 1] for v in range(1, variables)]
+    clauses += [[-last, one * sign, other * second] for sign in (1, -1) for second in (1, -1)]
+    steps = []
+    for v in range(2, variables + 1):
+        steps += [(False, [v]), (True, [1 - v, v]), (True, [v - 1, v])]
+        if v % 100 == 0:
+            steps.append((True, [v - 1]))
+    return clauses, steps + [(False, [one]), (False, [])]
+
+
+def drat_steps(formula, lrat):
+    """The steps of an LRAT proof with a step a line, without identifiers and hints. Both are given as bytes."""
+    lines = [line for line in formula.split(b"\n") if line[:1] not in (b"c", b"p", b"")]
+    live = {number: list(map(int, line.split()[:-1])) for number, line in enumerate(lines, 1)}
+    steps = []
+    for line in lrat.split(b"\n")[:-1]:
+        identifier, *words = line.split()
+        if words[0] == b"d":
+            steps += [(True, live.pop(int(it))) for it in words[1:-1]]
+        else:
+            live[int(identifier)] = list(map(int, words[: words.index(b"0")]))
+            steps.append((False, live[int(identifier)]))
+    return steps
+
+
+def drat(formula, lrat, proof):
+    with open(formula, "rb") as one, open(lrat, "rb") as other:
+        steps = drat_steps(one.read(), other.read())
+    with open(proof, "wb") as it:
+        it.write(in_text(steps))
+
+
 def main(words):
     if len(words) == 6 and words[0] == "chain":
-        variables, width, steps = map(int, words[1:4])
-        if not 0 < width < variables:
-            sys.exit("generate.py: WIDTH is from 1 to VARIABLES - 1")
-        chain(variables, width, steps, words[4], words[5])
+        chain(*leap_words(words[1:4]), *words[4:])
     elif len(words) == 3 and words[0] == "formula":
         clauses(int(words[1]), words[2], literals(1))
     elif len(words) == 3 and words[0] == "literals":
         one_clause(int(words[1]), words[2])
     elif len(words) == 4 and words[0] == "model":
         model(int(words[1]), words[2], words[3])
+    elif len(words) == 6 and words[0] == "leaps":
+        write_both(*leaps(*leap_words(words[1:4])), *words[4:])
+    elif len(words) == 4 and words[0] == "units":
+        write_both(*units(int(words[1])), *words[2:])
+    elif len(words) == 4 and words[0] == "drat":
+        drat(*words[1:])
     else:
         sys.exit(__doc__)
 

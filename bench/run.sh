@@ -1,29 +1,33 @@
 #!/usr/bin/env bash
-# Measures bin/lrat-check beside a plain C++ checker, and bin/model-check and the reading of formulas beside a C loop that
-# splits words.
+# Measures bin/lrat-check and bin/drat-forward, each beside a plain C++ checker, and bin/model-check and the reading of
+# formulas beside a C loop that splits words.
 #
-#   bench/run.sh            inputs of 50 to 60 MB
-#   bench/run.sh small      inputs of about 2 MB, to see that it runs
+#   bench/run.sh            inputs of 50 to 60 MB, and DRAT proofs that take seconds
+#   bench/run.sh small      inputs of about 2 MB, and short DRAT proofs, to see that it runs
 #
-# The inputs are made once, in bench/out/ (not committed). LRAT_CHECK and MODEL_CHECK name other programs than those in bin/.
+# The inputs are made once, in bench/out/ (not committed). LRAT_CHECK, DRAT_FORWARD and MODEL_CHECK name other programs than
+# those in bin/.
 set -euo pipefail
 cd "$(dirname "$0")/.."
 
 case "${1:-large}" in
-    large) size=large bytes=55000000 holes=40 variables=100000 steps=450000 ;;
-    small) size=small bytes=2000000 holes=18 variables=10000 steps=18000 ;;
+    large) size=large bytes=55000000 holes=40 variables=100000 steps=450000 drat_holes=20 leap_steps=400000 units=10000 ;;
+    small) size=small bytes=2000000 holes=18 variables=10000 steps=18000 drat_holes=10 leap_steps=20000 units=2000 ;;
     *) echo "usage: bench/run.sh [large|small]" >&2; exit 6 ;;
 esac
 
 checker=${LRAT_CHECK:-bin/lrat-check}
+drat_checker=${DRAT_FORWARD:-bin/drat-forward}
 model_checker=${MODEL_CHECK:-bin/model-check}
-for program in "$checker" "$model_checker"; do
+for program in "$checker" "$drat_checker" "$model_checker"; do
     [ -x "$program" ] || { echo "bench/run.sh: there is no $program: run make" >&2; exit 1; }
 done
 
 out=bench/out
 mkdir -p "$out/$size"
-c++ -O2 -std=c++17 -o "$out/reference" bench/reference.cpp
+for name in reference reference_drat; do
+    c++ -O2 -std=c++17 -Wall -Wextra -o "$out/$name" "bench/$name.cpp"
+done
 cc -O2 -o "$out/words" bench/words.c
 c++ -O2 -std=c++17 -o "$out/lookups" bench/lookups.cpp
 cc -O2 -o "$out/measure" bench/measure.c
@@ -42,6 +46,10 @@ make_once() {
 in=$out/$size
 make_once "$in/pigeonhole.lrat" python3 examples/pigeonhole.py "$holes" "$in/pigeonhole.cnf" "$in/pigeonhole.lrat"
 make_once "$in/chain.lrat" python3 bench/generate.py chain "$variables" 10 "$steps" "$in/chain.cnf" "$in/chain.lrat"
+make_once "$in/drat-pigeonhole.lrat" python3 examples/pigeonhole.py "$drat_holes" "$in/drat-pigeonhole.cnf" "$in/drat-pigeonhole.lrat"
+make_once "$in/drat-pigeonhole.drat" python3 bench/generate.py drat "$in/drat-pigeonhole.cnf" "$in/drat-pigeonhole.lrat" "$in/drat-pigeonhole.drat"
+make_once "$in/drat-leaps.drat" python3 bench/generate.py leaps 2000 10 "$leap_steps" "$in/drat-leaps.cnf" "$in/drat-leaps.drat"
+make_once "$in/drat-units.drat" python3 bench/generate.py units "$units" "$in/drat-units.cnf" "$in/drat-units.drat"
 make_once "$in/formula.cnf" python3 bench/generate.py formula "$bytes" "$in/formula.cnf"
 make_once "$in/literals.cnf" python3 bench/generate.py literals "$bytes" "$in/literals.cnf"
 make_once "$in/model.cnf" python3 bench/generate.py model "$bytes" "$in/model.cnf" "$in/model.out"
@@ -62,6 +70,12 @@ measure "formula read and kept, reference.cpp" 1 "$in/formula.cnf" -- "$out/refe
 measure "literals read, lrat-check" 2 "$in/literals.cnf" -- "$checker" "$in/literals.cnf" /dev/null
 measure "literals read, reference.cpp" 2 "$in/literals.cnf" -- "$out/reference" "$in/literals.cnf" /dev/null
 measure "literals split into words, words.c" 0 "$in/literals.cnf" -- "$out/words" "$in/literals.cnf"
+# drat-forward propagates by plain passes, so these proofs are short
+for name in leaps pigeonhole units; do
+    cnf=$in/drat-$name.cnf drat=$in/drat-$name.drat
+    measure "$name in DRAT, drat-forward" 0 "$cnf" "$drat" -- "$drat_checker" "$cnf" "$drat"
+    measure "$name in DRAT, reference_drat.cpp" 0 "$cnf" "$drat" -- "$out/reference_drat" "$cnf" "$drat"
+done
 # the output is read and kept, the formula is judged, and no clause is kept
 measure "model checked, model-check" 0 "$in/model.out" "$in/model.cnf" -- "$model_checker" "$in/model.cnf" "$in/model.out"
 measure "its formula split into words, words.c" 0 "$in/model.cnf" -- "$out/words" "$in/model.cnf"

@@ -43,6 +43,10 @@ pub has_variable : (ls : List ℕ) (i : ℕ) → i < length ls → has (map vari
 has_variable ls i h =
     subst (λ x. has (map variable ls) x ≡ true) (get_or-map variable ls i 0 0 h) (has_place (map variable ls) i (omega (arith, length-map ls variable)))
 
+-- a member's variable
+pub has_mapped : (ls : List ℕ) (l : ℕ) → has ls l ≡ true → has (map variable ls) (variable l) ≡ true
+has_mapped ls l h = let w = place_of ls l h in subst (λ k. has (map variable ls) (variable k) ≡ true) w.2 (has_variable ls w.0 w.1)
+
 -- the test of a key against those of a set, the other way round
 pub has_any : (ls : List ℕ) (l : ℕ) → has ls l ≡ list_any (nat_eq l) ls
 has_any [] l = refl

@@ -1,5 +1,7 @@
 -- What the other lemmas use of literals.
-use Rattle.std.proofs.Common.{◌≡◌, ◌≢◌, arith}
+use Rattle.std.proofs.Common.{◌≡◌, ◌≢◌, ℕ, ◌%◌, arith}
+use Rattle.std.specs.Int.Bits.{bit_and, bit_xor, xor_add_and}
+use Rattle.std.proofs.lemmas.Nat.{and_mask}
 use Rattle.std.proofs.lemmas.Bool.Decides.{nat_tests}
 use Rattle.cnf_base.specs.Literals.{Literal, complement}
 
@@ -10,3 +12,11 @@ complement-complement l = grind (arith, nat_tests)
 pub complement-other : (l : Literal) → complement l ≢ l
 unfolding complement
 complement-other l = grind (arith, nat_tests)
+
+-- the lowest bit is the sign
+pub xor_one : (l : ℕ) → bit_xor l 1 ≡ complement l
+unfolding complement
+xor_one l =
+    let sum = xor_add_and l 1 in
+    let low : bit_and l 1 ≡ l % 2 = and_mask l 1 in
+    grind (arith, nat_tests, sum, low)

@@ -74,16 +74,14 @@ impl Lit {
     }
 
     /// The complement.
-    #[tactic(auto, using(std::proofs::lemmas::Bool::Decides::nat_tests), unfolding(crate::specs::Literals::complement))]
+    #[inline(always)]
+    #[tactic(auto, using(std::proofs::lemmas::Bool::Decides::nat_tests, crate::proofs::LiteralLemmas::xor_one), unfolding(crate::specs::Literals::complement))]
     pub fn neg(self) -> Lit
         ensures { result ≡ complement self }
     {
-        let code = if self.code % 2 == 0 {
-            self.code + 1
-        } else {
-            self.code - 1
-        };
-        Lit { code }
+        Lit {
+            code: self.code ^ 1,
+        }
     }
 
     /// The variable.

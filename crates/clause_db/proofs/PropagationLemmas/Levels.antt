@@ -16,14 +16,11 @@ use Rattle.clause_db.specs.declared.propagation.levels.Levels.{Levels}
 use Rattle.clause_db.specs.declared.propagation.levels.Levels.TheVariants.{Nothing, One, Two}
 use Rattle.clause_db.proofs.PropagationLemmas.MakesFalse.{by_open}
 use Rattle.clause_db.proofs.StoreLemmas.Marks.{has_take, is_in}
-use Rattle.clause_db.proofs.MemberLemmas.{place_of, has_place, has_variable, place_of_variable, variable-complement}
+use Rattle.clause_db.proofs.MemberLemmas.{has_mapped, has_place, place_of_variable, variable-complement}
 use Rattle.clause_db.proofs.PropagationLemmas.Passes.{still_set}
 use Rattle.clause_db.proofs.PropagationLemmas.Truth.{same_literal, more_cases, variable_open}
 
 -- ---- Variables of lists
-
-has_mapped : (ls : List ℕ) (l : ℕ) → has ls l ≡ true → has (map variable ls) (variable l) ≡ true
-has_mapped ls l h = let w = place_of ls l h in subst (λ k. has (map variable ls) (variable k) ≡ true) w.2 (has_variable ls w.0 w.1)
 
 mapped_member : (ls : List ℕ) (v : ℕ) → has (map variable ls) v ≡ true → (k : ℕ) × (has ls k ≡ true) × (variable k ≡ v)
 mapped_member ls v h = let w = place_of_variable ls v h in (get_or ls w.0 0, has_place ls w.0 w.1, w.2)

@@ -1,25 +1,29 @@
 -- What the values by literal say of a trail.
-use Rattle.std.proofs.Common.{◌≡◌, ◌≢◌, ℕ, ◌*◌, ◌+◌, ◌<◌, ◌≤◌, Bool, true, false, ◌||◌, cond, eqb, eqb-true, eq-eqb, Option, Some, None, is_some, List, [], ◌∷◌, ◌++◌, map, length, nat_eq, length-append, arith, ap, sym, ◌∙◌, inl, inr, ◌⊎◌, refl, subst}
+use Rattle.std.proofs.Common.{◌≡◌, ◌≢◌, ℕ, ◌*◌, ◌+◌, ◌-◌, ◌<◌, ◌≤◌, Bool, true, false, ◌||◌, cond, eqb, eqb-true, eq-eqb, Option, Some, None, is_some, List, [], ◌∷◌, ◌++◌, map, take, drop, get_or, length, nat_eq, length-append, arith, ap, sym, ◌∙◌, inl, inr, ◌⊎◌, refl, subst}
 use Rattle.std.specs.List.{IsDistinct, list_any}
 use Rattle.std.specs.Cmp.{nat_eq_equiv}
-use Rattle.std.proofs.lemmas.Bool.{false≢true, false_from_ne_true, or_cases, or_right, cases_eq, ne_eqb}
+use Rattle.std.proofs.lemmas.Bool.{false≢true, false_from_ne_true, or_cases, or_left, or_right, cases_eq, ne_eqb}
 use Rattle.std.proofs.lemmas.Bool.Decides.{nat_tests}
-use Rattle.std.proofs.lemmas.List.{map-append, length-map, get_or_append_left, get_or_push}
+use Rattle.std.proofs.lemmas.List.{map-append, length-map, length-drop, get_or_append_left, get_or-append_right, take_all, take-append-drop}
 use Rattle.std.proofs.lemmas.Map.Keys.{IsDistinct-push}
 use Rattle.std.proofs.lemmas.Map.Made.{length-le_from_is_member}
 use Rattle.cnf_base.specs.Literals.{complement, has, variable}
-use Rattle.cnf_base.proofs.SetLemmas.{has_append_left}
+use Rattle.cnf_base.proofs.SetLemmas.{both_pass, has_append_left, has_append_right, has_append_cases}
 use Rattle.cnf_base.proofs.LiteralLemmas.{complement-complement, complement-other}
 use Rattle.clause_db.specs.Propagation.Trail.{value_under, HasNoVariableTwice}
 use Rattle.clause_db.specs.Propagation.Values.{IsTrail, known_value}
 use Rattle.clause_db.specs.declared.propagation.value.Value.{Value}
 use Rattle.clause_db.specs.declared.propagation.value.Value.TheVariants.{True, False, Open}
-use Rattle.clause_db.proofs.MemberLemmas.{place_of, has_any, variable-complement, HasNoVariableTwice-from_places}
+use Rattle.clause_db.proofs.MemberLemmas.{place_of, has_mapped, has_any, variable-complement, HasNoVariableTwice-from_places}
 use Rattle.clause_db.proofs.PropagationLemmas.Truth.{places_apart, open_from_value, variable_open}
-use Rattle.clause_db.proofs.StoreLemmas.Marks.{has_push}
+use Rattle.clause_db.proofs.StoreLemmas.Marks.{has_push, has_more}
 
 abbrev Values : Type 0
 Values = ℕ → Option Value
+
+or_nothing : (b : Bool) → (b || false) ≡ b
+or_nothing true = refl
+or_nothing false = refl
 
 value_by_tests : (lits : List ℕ) (l : ℕ) (a b : Bool) → has lits l ≡ a → has lits (complement l) ≡ b → value_under lits l ≡ cond a True (cond b False Open)
 value_by_tests lits l a b p q = rw (p, q) refl
@@ -43,65 +47,61 @@ module _ (lits : List ℕ) (l : ℕ) (is_open : value_under lits l ≡ Open) whe
           ∙ sym (ap (λ b. cond b False (cond (eqb k l) True (value_under lits k))) (ne_eqb k (complement l) other) ∙ ap (λ b. cond b True (value_under lits k)) (eq-eqb k l here))
       | inr apart ↦
           value_by_tests (lits ++ l ∷ []) k (has lits k) (has lits (complement k))
-          (has_push lits l k ∙ ap (λ b. has lits k || b) (ne_eqb l k (λ e. apart (sym e))) ∙ or_none (has lits k))
-          (has_push lits l (complement k) ∙ ap (λ b. has lits (complement k) || b) (ne_eqb l (complement k) (λ e. other (sym (complement-complement k) ∙ ap complement (sym e)))) ∙ or_none (has lits (complement k)))
+          (has_push lits l k ∙ ap (λ b. has lits k || b) (ne_eqb l k (λ e. apart (sym e))) ∙ or_nothing (has lits k))
+          (has_push lits l (complement k) ∙ ap (λ b. has lits (complement k) || b) (ne_eqb l (complement k) (λ e. other (sym (complement-complement k) ∙ ap complement (sym e)))) ∙ or_nothing (has lits (complement k)))
           ∙ sym (ap (λ b. cond b False (cond (eqb k l) True (value_under lits k))) (ne_eqb k (complement l) other) ∙ ap (λ b. cond b True (value_under lits k)) (ne_eqb k l apart))
     ]
   ]
-    where
-      or_none : (b : Bool) → (b || false) ≡ b
-      or_none true = refl
-      or_none false = refl
 
   pub different_pushed : HasNoVariableTwice lits → HasNoVariableTwice (lits ++ l ∷ [])
   different_pushed different =
       subst (IsDistinct nat_eq) (sym (map-append variable lits (l ∷ [])))
       (IsDistinct-push nat_eq_equiv (map variable lits) (variable l) different (sym (has_any (map variable lits) (variable l)) ∙ variable_open lits l tests.0 tests.1))
 
--- ---- The last literal taken off
+-- ---- The last literals taken off
 
-module _ (front : List ℕ) (l : ℕ) (different : HasNoVariableTwice (front ++ l ∷ [])) where
-  long : length (front ++ l ∷ []) ≡ length front + 1
-  long = length-append front (l ∷ [])
+-- all but the first ones follow them
+pub front_and_rest : (ls : List ℕ) (n : ℕ) → ls ≡ take n ls ++ take (length ls - n) (drop n ls)
+front_and_rest ls n = sym (ap (λ rest. take n ls ++ rest) (take_all (length ls - n) (drop n ls) (omega (arith, length-drop n ls))) ∙ take-append-drop n ls)
 
-  -- no literal of the variable stands before it
-  lacks : (k : ℕ) → variable k ≡ variable l → has front k ≡ false
-  lacks k same = false_from_ne_true (has front k) (λ h.
-      let w = place_of front k h in
-      let low = w.1 in
-      let e = long in
-      places_apart (front ++ l ∷ []) different w.0 (length front) low (omega (arith, e))
-      (ap variable (get_or_append_left front (l ∷ []) 0 w.0 low ∙ w.2) ∙ same ∙ sym (ap variable (get_or_push front l 0 (length front) refl))))
-
-  pub last_open : value_under front l ≡ Open
-  last_open = value_by_tests front l false false (lacks l refl) (lacks (complement l) (variable-complement l))
-
-  pub different_popped : HasNoVariableTwice front
-  different_popped = HasNoVariableTwice-from_places front (λ i j low high same.
-      let e = long in
+module _ (front rest : List ℕ) (different : HasNoVariableTwice (front ++ rest)) where
+  pub different_front : HasNoVariableTwice front
+  different_front = HasNoVariableTwice-from_places front (λ i j low high same.
+      let e = length-append front rest in
       let first : i < length front = omega arith in
-      places_apart (front ++ l ∷ []) different i j low (omega (arith, e))
-      (ap variable (get_or_append_left front (l ∷ []) 0 i first) ∙ same ∙ sym (ap variable (get_or_append_left front (l ∷ []) 0 j high))))
+      places_apart (front ++ rest) different i j low (omega (arith, e))
+      (ap variable (get_or_append_left front rest 0 i first) ∙ same ∙ sym (ap variable (get_or_append_left front rest 0 j high))))
 
-  pub value_popped : (k : ℕ) → value_under front k ≡ cond (eqb k (complement l)) Open (cond (eqb k l) Open (value_under (front ++ l ∷ []) k))
-  value_popped k = elim (cases_eq k (complement l)) [
-    | inl same ↦
-        value_by_tests front k false false (lacks k (ap variable same ∙ variable-complement l)) (lacks (complement k) (variable-complement k ∙ ap variable same ∙ variable-complement l))
-        ∙ sym (ap (λ b. cond b Open (cond (eqb k l) Open (value_under (front ++ l ∷ []) k))) (eq-eqb k (complement l) same))
-    | inr other ↦ elim (cases_eq k l) [
-      | inl here ↦
-          ap (value_under front) here ∙ last_open
-          ∙ sym (ap (λ b. cond b Open (cond (eqb k l) Open (value_under (front ++ l ∷ []) k))) (ne_eqb k (complement l) other) ∙ ap (λ b. cond b Open (value_under (front ++ l ∷ []) k)) (eq-eqb k l here))
-      | inr apart ↦
-          sym (
-          ap (λ b. cond b Open (cond (eqb k l) Open (value_under (front ++ l ∷ []) k))) (ne_eqb k (complement l) other)
-          ∙ ap (λ b. cond b Open (value_under (front ++ l ∷ []) k)) (ne_eqb k l apart)
-          ∙ value_pushed front l last_open k
-          ∙ ap (λ b. cond b False (cond (eqb k l) True (value_under front k))) (ne_eqb k (complement l) other)
-          ∙ ap (λ b. cond b True (value_under front k)) (ne_eqb k l apart)
-          )
-    ]
-  ]
+  -- what one of the last ones says, none before says
+  lacks : (l k : ℕ) → has rest l ≡ true → variable k ≡ variable l → has front k ≡ false
+  lacks l k last same = false_from_ne_true (has front k) (λ h.
+      let w = place_of front k h in
+      let u = place_of rest l last in
+      let low = w.1 in
+      let high = u.1 in
+      let e = length-append front rest in
+      places_apart (front ++ rest) different w.0 (length front + u.0) (omega arith) (omega (arith, e))
+      (ap variable (get_or_append_left front rest 0 w.0 low ∙ w.2) ∙ same ∙ sym (ap variable (get_or-append_right front rest (length front) (length front + u.0) 0 refl (omega arith) ∙ ap (λ i. get_or rest i 0) (omega arith) ∙ u.2))))
+
+  pub value_front : (k : ℕ) → value_under front k ≡ cond (has rest k || has rest (complement k)) Open (value_under (front ++ rest) k)
+  value_front k = by_tests (has rest k) (has rest (complement k)) refl refl
+    where
+      same_has : (l : ℕ) → has rest l ≡ false → has (front ++ rest) l ≡ has front l
+      same_has l none = both_pass (has (front ++ rest) l) (has front l)
+          (λ h. elim (has_append_cases front rest l h) [ inl g ↦ g | inr g ↦ absurd (false≢true (sym none ∙ g)) ])
+          (λ h. has_append_left front rest l h)
+
+      by_tests : (a b : Bool) → has rest k ≡ a → has rest (complement k) ≡ b → value_under front k ≡ cond (has rest k || has rest (complement k)) Open (value_under (front ++ rest) k)
+      by_tests true b e f =
+          value_by_tests front k false false (lacks k k e refl) (lacks k (complement k) e (variable-complement k))
+          ∙ sym (ap (λ t. cond (t || has rest (complement k)) Open (value_under (front ++ rest) k)) e)
+      by_tests false true e f =
+          value_by_tests front k false false (lacks (complement k) k f (sym (variable-complement k))) (lacks (complement k) (complement k) f refl)
+          ∙ sym (ap (λ t. cond (t || has rest (complement k)) Open (value_under (front ++ rest) k)) e ∙ ap (λ t. cond t Open (value_under (front ++ rest) k)) f)
+      by_tests false false e f =
+          value_by_tests front k _ _ refl refl
+          ∙ sym (value_by_tests (front ++ rest) k _ _ (same_has k e) (same_has (complement k) f))
+          ∙ sym (ap (λ t. cond (t || has rest (complement k)) Open (value_under (front ++ rest) k)) e ∙ ap (λ t. cond t Open (value_under (front ++ rest) k)) f)
 
 -- ---- The invariant
 
@@ -147,7 +147,7 @@ module _ (l : ℕ) (a b : Value) (value_of first after : Values)
       inside false true o = refl
       inside false false o = refl
 
-  written_some : is_some (value_of l) ≡ true → is_some (value_of (complement l)) ≡ true → (k : ℕ) → is_some (after k) ≡ is_some (value_of k)
+  pub written_some : is_some (value_of l) ≡ true → is_some (value_of (complement l)) ≡ true → (k : ℕ) → is_some (after k) ≡ is_some (value_of k)
   written_some one other k = elim (cases_eq k (complement l)) [
     | inl same ↦ ap is_some (written k ∙ ap (λ t. cond t (Some b) (cond (eqb k l) (Some a) (value_of k))) (eq-eqb k (complement l) same)) ∙ sym (ap (λ m. is_some (value_of m)) same ∙ other)
     | inr apart ↦ elim (cases_eq k l) [
@@ -200,10 +200,6 @@ module _ {T : Type 0} (lits met : List ℕ) (capacity : ℕ) (seen : ℕ → Opt
           ap is_some (puts w ∙ ap (λ b. cond b (Some value) (seen w)) (ne_eqb w v other)) ∙ trail.noted w
           ∙ sym (has_push met v w ∙ ap (λ b. has met w || b) (ne_eqb v w (λ e. other (sym e))) ∙ or_nothing (has met w))
     ]
-      where
-        or_nothing : (b : Bool) → (b || false) ≡ b
-        or_nothing true = refl
-        or_nothing false = refl
 
     pub trail_met : IsTrail lits (met ++ v ∷ []) capacity seen_too value_of
     trail_met = record {
@@ -251,32 +247,47 @@ module _ {T : Type 0} (lits met : List ℕ) (capacity : ℕ) (seen : ℕ → Opt
               ∙ sym (value_pushed lits l is_open k);
         }
 
-module _ {T : Type 0} (front met : List ℕ) (l capacity : ℕ) (seen : ℕ → Option T) (value_of : Values) (trail : IsTrail (front ++ l ∷ []) met capacity seen value_of) where
-  -- the last literal's variable was met
-  pub last_met : has met (variable l) ≡ true
-  last_met = trail.within (variable l) (
-      ap (λ vs. has vs (variable l)) (map-append variable front (l ∷ []))
-      ∙ has_push (map variable front) (variable l) (variable l)
-      ∙ or_right (has (map variable front) (variable l)) (eqb (variable l) (variable l)) (eq-eqb (variable l) (variable l) refl)
-      )
+module _ {T : Type 0} (front rest met : List ℕ) (capacity : ℕ) (seen : ℕ → Option T) (value_of : Values) (trail : IsTrail (front ++ rest) met capacity seen value_of) where
+  -- both literals of each variable that was set have a value
+  pub last_known : (l : ℕ) → has rest l ≡ true → (is_some (value_of l) ≡ true) × (is_some (value_of (complement l)) ≡ true)
+  last_known l h = both_known (front ++ rest) met capacity seen value_of trail l (trail.within (variable l) (has_mapped (front ++ rest) l (has_append_right front rest l h)))
 
-  pub last_known : (is_some (value_of l) ≡ true) × (is_some (value_of (complement l)) ≡ true)
-  last_known = both_known (front ++ l ∷ []) met capacity seen value_of trail l last_met
-
-  module _ (first after : Values)
-      (opens_one : (k : ℕ) → first k ≡ cond (eqb k l) (Some Open) (value_of k))
-      (opens_other : (k : ℕ) → after k ≡ cond (eqb k (complement l)) (Some Open) (first k)) where
+  module _ (after : Values) (known : (k : ℕ) → is_some (after k) ≡ is_some (value_of k))
+      (opened : (k : ℕ) → known_value (after k) ≡ cond (has rest k || has rest (complement k)) Open (known_value (value_of k))) where
     pub trail_taken : IsTrail front met capacity seen after
-    trail_taken =
-        let some = written_some l Open Open value_of first after opens_one opens_other last_known.0 last_known.1 in
-        record {
-          different = different_popped front l trail.different;
-          within = λ v h. trail.within v (ap (λ vs. has vs v) (map-append variable front (l ∷ [])) ∙ has_append_left (map variable front) (variable l ∷ []) v h);
-          fits = trail.fits;
-          noted = trail.noted;
-          known = λ k h. some k ∙ trail.known k h;
-          values = λ k.
-              written_value l Open Open value_of first after opens_one opens_other k
-              ∙ ap (λ u. cond (eqb k (complement l)) Open (cond (eqb k l) Open u)) (trail.values k)
-              ∙ sym (value_popped front l trail.different k);
-        }
+    trail_taken = record {
+      different = different_front front rest trail.different;
+      within = λ v h. trail.within v (ap (λ vs. has vs v) (map-append variable front rest) ∙ has_append_left (map variable front) (map variable rest) v h);
+      fits = trail.fits;
+      noted = trail.noted;
+      known = λ k h. known k ∙ trail.known k h;
+      values = λ k. opened k ∙ ap (cond (has rest k || has rest (complement k)) Open) (trail.values k) ∙ sym (value_front front rest trail.different k);
+    }
+
+-- ---- Literals made open, one after the other
+
+module _ (c : List ℕ) (i : ℕ) (inside : i < length c) (x : ℕ) (is : x ≡ get_or c i x) (was before after : ℕ → Value) where
+  pub opened_more : ((k : ℕ) → before k ≡ cond (has (take i c) k || has (take i c) (complement k)) Open (was k)) →
+      ((k : ℕ) → after k ≡ cond (eqb k (complement x)) Open (cond (eqb k x) Open (before k))) →
+      (k : ℕ) → after k ≡ cond (has (take (i + 1) c) k || has (take (i + 1) c) (complement k)) Open (was k)
+  opened_more so_far step k = elim (cases_eq k (complement x)) [
+    | inl same ↦
+        step k ∙ ap (λ b. cond b Open (cond (eqb k x) Open (before k))) (eq-eqb k (complement x) same)
+        ∙ sym (ap (λ b. cond b Open (was k)) (or_right (has (take (i + 1) c) k) _ (more (complement k) ∙ or_right (has (take i c) (complement k)) _ (eq-eqb x (complement k) (sym (ap complement same ∙ complement-complement x))))))
+    | inr other ↦ elim (cases_eq k x) [
+      | inl here ↦
+          step k ∙ ap (λ b. cond b Open (cond (eqb k x) Open (before k))) (ne_eqb k (complement x) other) ∙ ap (λ b. cond b Open (before k)) (eq-eqb k x here)
+          ∙ sym (ap (λ b. cond b Open (was k)) (or_left _ (has (take (i + 1) c) (complement k)) (more k ∙ or_right (has (take i c) k) _ (eq-eqb x k (sym here)))))
+      | inr apart ↦
+          step k ∙ ap (λ b. cond b Open (cond (eqb k x) Open (before k))) (ne_eqb k (complement x) other) ∙ ap (λ b. cond b Open (before k)) (ne_eqb k x apart)
+          ∙ so_far k
+          ∙ sym (
+          ap (λ b. cond (b || has (take (i + 1) c) (complement k)) Open (was k)) (more k ∙ ap (λ b. has (take i c) k || b) (ne_eqb x k (λ e. apart (sym e))) ∙ or_nothing (has (take i c) k))
+          ∙ ap (λ b. cond (has (take i c) k || b) Open (was k))
+          (more (complement k) ∙ ap (λ b. has (take i c) (complement k) || b) (ne_eqb x (complement k) (λ e. other (sym (complement-complement k) ∙ ap complement (sym e)))) ∙ or_nothing (has (take i c) (complement k)))
+          )
+    ]
+  ]
+    where
+      more : (l : ℕ) → has (take (i + 1) c) l ≡ (has (take i c) l || eqb x l)
+      more = has_more c i inside x is

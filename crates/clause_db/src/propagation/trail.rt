@@ -2,11 +2,12 @@
 
 mod values;
 
-ghost use Rattle.std.specs.Prelude.{◌≡◌, ℕ, ◌*◌, ◌/◌, ◌-◌, ◌==◌, ◌<◌, ◌≤◌, ◌||◌, ◌&&◌, not, [], ◌∷◌, ◌++◌, filter, length, take, is_some, IsTrue, IsFalse, ◌↔◌, IfSome, IfOk, OnOk, OnErr, if◌then◌else◌};
+ghost use Rattle.std.specs.Prelude.{◌≡◌, ℕ, ◌*◌, ◌/◌, ◌-◌, ◌==◌, ◌<◌, ◌≤◌, ◌||◌, ◌&&◌, not, [], ◌∷◌, ◌++◌, filter, length, take, is_some, IsSome, IsTrue, IsFalse, ◌↔◌, IfSome, IfOk, OnOk, OnErr, if◌then◌else◌};
 ghost use Rattle.cnf_base.specs.Literals.{complement, has};
 ghost use Rattle.clause_db.specs.Propagation.Left.{open_literals, how_many};
 ghost use Rattle.clause_db.specs.Propagation.Trail.{value_under, is_variable, HasNoVariableTwice, SameSet, HasRoom, MakesFalse, conflicts};
 ghost use Rattle.clause_db.specs.Propagation.Left.{with_one};
+ghost use Rattle.clause_db.specs.Propagation.Values.{value_at, known_value};
 ghost use Rattle.clause_db.specs.declared.propagation.value.Value.TheVariants.{Open};
 
 use self::values::Values;
@@ -62,6 +63,21 @@ fn positive(var: u32) -> Option<Lit>
     Lit::new(var as i32)
 }
 
+/// Makes the literals and their complements open.
+fn open_all(values: &mut Values, lits: &[Lit])
+    requires { (l : ℕ) → IsTrue (has lits.now l) → IsSome (value_at values.old l)
+        × IsSome (value_at values.old (complement l)) }
+    ensures known { (k : ℕ) → is_some (value_at values.new k) ≡ is_some (value_at values.old k) }
+    ensures opened { (k : ℕ) → known_value (value_at values.new k) ≡
+        (if has lits.now k || has lits.now (complement k) then Open
+        else known_value (value_at values.old k)) }
+{
+    for l in lits {
+        values.set(key(*l), Value::Open);
+        values.set(key(l.neg()), Value::Open);
+    }
+}
+
 /// What is left with one more literal.
 fn with_literal(left: Left, l: Lit) -> Left
     ensures { result ≡ with_one left l }
@@ -98,12 +114,12 @@ impl Trail {
         ensures lits { OnOk result (self.new.lits ≡ self.old.lits) }
         ensures err { OnErr result (self.new ≡ self.old) }
     {
-        let Some(lit) = positive(var) else {
-            return Ok(());
-        };
         if self.seen.get(var).is_some() {
             return Ok(());
         }
+        let Some(lit) = positive(var) else {
+            return Ok(());
+        };
         self.lits.reserve(self.met.len() + 1)?;
         self.met.reserve(1)?;
         self.values.reserve(lit, self.met.len())?;
@@ -129,10 +145,7 @@ impl Trail {
         ensures value { result ≡ value_under self.now.lits l }
         ensures different { HasNoVariableTwice self.now.lits }
     {
-        match self.values.get(key(l)) {
-            Some(value) => value,
-            None => Value::Open,
-        }
+        self.values.value(key(l))
     }
 
     /// How many literals were set.
@@ -150,27 +163,14 @@ impl Trail {
         self.lits.is_empty()
     }
 
-    /// Takes back the last literal. It takes no memory.
-    fn take_back(&mut self)
-        requires { 0 < length self.old.lits }
-        ensures lits { self.new.lits ≡ take (length self.old.lits - 1) self.old.lits }
-        ensures met { self.new.met ≡ self.old.met }
-    {
-        if let Some(l) = self.lits.pop() {
-            self.values.set(key(l), Value::Open);
-            self.values.set(key(l.neg()), Value::Open);
-        }
-    }
-
-    /// Takes back all but the first `n` literals, the last one first. It takes no memory.
+    /// Takes back all but the first `n` literals. It takes no memory.
     pub fn undo_to(&mut self, n: usize)
         requires { n ≤ length self.old.lits }
         ensures lits { self.new.lits ≡ take n self.old.lits }
         ensures met { (v : ℕ) → has self.new.met v ≡ has self.old.met v }
     {
-        while self.lits.len() > n {
-            self.take_back();
-        }
+        open_all(&mut self.values, &self.lits[n..]);
+        self.lits.truncate(n);
     }
 
     /// The literals, in the order in which they were set.

@@ -36,22 +36,25 @@ impl Values {
         }
     }
 
-    /// The value of the literal with this key.
+    /// The value of the literal with this key, open where it has none.
     #[inline(always)]
-    pub(crate) fn get(&self, key: u32) -> Option<Value>
-        ensures { result ≡ value_at self.now key }
+    pub(crate) fn value(&self, key: u32) -> Value
+        ensures { result ≡ known_value (value_at self.now key) }
     {
         match self.dense.as_slice().get(key as usize) {
-            Some(value) => Some(*value),
-            None => self.get_far(key),
+            Some(value) => *value,
+            None => self.far_value(key),
         }
     }
 
     #[inline(never)]
-    fn get_far(&self, key: u32) -> Option<Value>
-        ensures { result ≡ at self.now.far key }
+    fn far_value(&self, key: u32) -> Value
+        ensures { result ≡ known_value (at self.now.far key) }
     {
-        self.far.get(key)
+        match self.far.get(key) {
+            Some(value) => value,
+            None => Value::Open,
+        }
     }
 
     /// Writes the value of a literal that has one.
@@ -87,10 +90,7 @@ impl Values {
         ensures kept { (k : ℕ) → IsSome (value_at self.old k) → IsSome (value_at self.new k) }
     {
         for key in self.dense.len()..len {
-            let value = match self.far.get(key as u32) {
-                Some(value) => value,
-                None => Value::Open,
-            };
+            let value = self.far_value(key as u32);
             self.dense.push(value)?;
         }
         Ok(())

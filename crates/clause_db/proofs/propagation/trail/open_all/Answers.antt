@@ -1,0 +1,26 @@
+use Rattle.std.proofs.Common.{◌≡◌, ℕ, ◌∙◌, Some, cond, eqb, subst}
+use Rattle.cnf_base.specs.Literals.{complement}
+use Rattle.clause_db.specs.Propagation.Values.{value_at, known_value}
+use Rattle.clause_db.specs.declared.propagation.value.Value.TheVariants.{Open}
+use Rattle.clause_db.proofs.StoreLemmas.Marks.{is_in}
+use Rattle.clause_db.proofs.PropagationLemmas.Values.{written_some, written_value, opened_more}
+use Rattle.clause_db.proofs.propagation.trail.open_all.Goals as goal
+
+pub loop-l-preserved : goal.loop-l-preserved
+loop-l-preserved c =
+    let x = c.l-item.result in
+    let clause = c.args.lits.now in
+    let inside = c.loop-l-test.true in
+    let was = value_at c.args.values.now in
+    let before = value_at c.loop-l.values in
+    let first = value_at c.set.new.self in
+    let after = value_at c.set-in-loop-l.new.self in
+    let one = subst (λ m. (k : ℕ) → first k ≡ cond (eqb k m) (Some Open) (before k)) c.key.ensures c.set.ensures in
+    let other = subst (λ m. (k : ℕ) → after k ≡ cond (eqb k m) (Some Open) (first k)) (c.key-in-loop-l.ensures ∙ c.neg.ensures) c.set-in-loop-l.ensures in
+    let known = c.requires x (is_in clause c.loop-l.l-index inside x c.l-item.is) in
+    let so_far = c.loop-l.invariant in
+    record {
+      known = λ k. written_some x Open Open before first after one other (so_far.known x ∙ known.0) (so_far.known (complement x) ∙ known.1) k ∙ so_far.known k;
+      opened = opened_more clause c.loop-l.l-index inside x c.l-item.is (λ k. known_value (was k)) (λ k. known_value (before k)) (λ k. known_value (after k)) so_far.opened
+          (written_value x Open Open before first after one other);
+    }
