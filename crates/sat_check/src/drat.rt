@@ -4,6 +4,7 @@ ghost use Rattle.std.specs.Prelude.{◌≡◌, true, false};
 ghost use Rattle.cnf_base.specs.Seen.{OfBothSeen, OneHasFailed};
 ghost use Rattle.cnf_base.specs.Stream.{bytes_read};
 ghost use Rattle.dimacs.specs.Formula.{formula_of};
+ghost use Rattle.steps.specs.Drat.Session.{fresh_drat};
 ghost use Rattle.steps.specs.Theory.Rules.{drat};
 ghost use Rattle.sat_check.specs.Reach.{ReadsNoFurther};
 ghost use Rattle.sat_check.specs.Report.{Reports, ChecksProof, drat_proof, rules_of};
@@ -73,19 +74,44 @@ fn check_drat<F: In, P: In, O: Out>(
         return give_up(lines);
     };
     let mut session = DratSession::new(clauses, options.rules());
+    check_form(alloc, options, formula, &mut session, proof, lines)
+}
+
+// The check by a session without clauses, in the form that was asked for.
+fn check_form<F: In, P: In, O: Out>(
+    alloc: Global,
+    options: DratOptions,
+    formula: &mut F,
+    session: &mut DratSession<Scan>,
+    proof: &mut P,
+    lines: &mut LineOut<O>,
+) -> Status
+    requires fresh { session.old ≡ fresh_drat (rules_of options) }
+    requires whole { lines.old.is_broken ≡ false }
+    ensures report { OfBothSeen (F.shown formula.old) (F.shown formula.new)
+        (P.shown proof.old) (P.shown proof.new) (λ i j.
+        Reports (drat (rules_of options)) options.trace i (drat_proof options.binary j)
+        lines.old.held lines.new.held result
+        × ReadsNoFurther (drat (rules_of options)) (formula_of i) j
+        (drat_proof options.binary j) (bytes_read (P.shown proof.old) (P.shown proof.new)) result) }
+    ensures read_failed { result ≡ Status.ReadFailed →
+        OneHasFailed (F.shown formula.new) (P.shown proof.new) }
+    ensures write_failed { result ≡ Status.WriteFailed → lines.new.has_failed ≡ true }
+    ensures same_writer { lines.new.borrows ≡ lines.old.borrows }
+{
     let Ok(piece) = Piece::new(alloc) else {
         return give_up(lines);
     };
     let trace = options.trace;
     if options.binary {
         let mut reader = DratBinary::new(Source::over(piece, &mut *proof));
-        let status = check(alloc, trace, formula, &mut session, &mut reader, lines);
+        let status = check(alloc, trace, formula, session, &mut reader, lines);
         let rest = reader.release();
         let _ = &*rest;
         status
     } else {
         let mut reader = DratText::new(Source::over(piece, &mut *proof));
-        let status = check(alloc, trace, formula, &mut session, &mut reader, lines);
+        let status = check(alloc, trace, formula, session, &mut reader, lines);
         let rest = reader.release();
         let _ = &*rest;
         status
