@@ -61,7 +61,7 @@ module _ (lits : List ℕ) (l : ℕ) (is_open : value_under lits l ≡ Open) whe
 -- ---- The last literals taken off
 
 -- all but the first ones follow them
-pub front_and_rest : (ls : List ℕ) (n : ℕ) → ls ≡ take n ls ++ take (length ls - n) (drop n ls)
+front_and_rest : (ls : List ℕ) (n : ℕ) → ls ≡ take n ls ++ take (length ls - n) (drop n ls)
 front_and_rest ls n = sym (ap (λ rest. take n ls ++ rest) (take_all (length ls - n) (drop n ls) (omega (arith, length-drop n ls))) ∙ take-append-drop n ls)
 
 module _ (front rest : List ℕ) (different : HasNoVariableTwice (front ++ rest)) where
@@ -263,6 +263,11 @@ module _ {T : Type 0} (front rest met : List ℕ) (capacity : ℕ) (seen : ℕ �
       known = λ k h. known k ∙ trail.known k h;
       values = λ k. opened k ∙ ap (cond (has rest k || has rest (complement k)) Open) (trail.values k) ∙ sym (value_front front rest trail.different k);
     }
+
+-- the trail as what stays and what is taken back
+pub trail_cut : {T : Type 0} (lits shown met : List ℕ) (capacity : ℕ) (seen : ℕ → Option T) (value_of : Values) → shown ≡ lits → IsTrail lits met capacity seen value_of → (n : ℕ) →
+    IsTrail (take n shown ++ take (length shown - n) (drop n shown)) met capacity seen value_of
+trail_cut lits shown met capacity seen value_of same trail n = subst (λ ls. IsTrail ls met capacity seen value_of) (sym same ∙ front_and_rest shown n) trail
 
 -- ---- Literals made open, one after the other
 

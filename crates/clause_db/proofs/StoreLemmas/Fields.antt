@@ -135,6 +135,10 @@ module _ (old : Slab Entry) (marks : Table Mark) (sum : ℕ) (sound : IsStore ol
   pub different_here : size e.lits.items ≡ length e.lits.items
   different_here = sound.different k e.lits.items clause_here
 
+  -- its literals, as they are read
+  pub different_read : (shown : Clause) → shown ≡ e.lits.items → size shown ≡ length shown
+  different_read shown same = ap size same ∙ different_here ∙ ap length (sym same)
+
   pub within_sum : length e.lits.items ≤ sum
   within_sum =
       let split = sum_remove size (clauses_in old) k e.lits.items clause_here in

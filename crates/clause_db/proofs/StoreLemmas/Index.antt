@@ -91,12 +91,15 @@ module _ (buckets : ℕ → List ℕ) (place_of : ℕ → Option ℕ) (live : Fi
         ap (option_map (λ (d : Clause). (hash d, unwrap_or (place_of k) 0))) there ∙ ap (λ p. Some (hash c, unwrap_or p 0)) place_is ∙ ap (λ g. Some (g, place)) (sym hash_is)
 
     -- the last slot of the bucket has a clause with the same hash
-    pub last_live : (m : ℕ) → m ≡ get_or (buckets h) (length (buckets h) - 1) 0 → is_some (maps.get live m) ≡ true
+    last_live : (m : ℕ) → m ≡ get_or (buckets h) (length (buckets h) - 1) 0 → is_some (maps.get live m) ≡ true
     last_live m m_is = by_clause (maps.get live m) (spot_end (spot_in live place_of) buckets k h sound.placed place m spot_here m_is)
       where
         by_clause : (o : Option Clause) → option_map {U = ℕ × ℕ} (λ (d : Clause). (hash d, unwrap_or (place_of m) 0)) o ≡ Some (h, length (buckets h) - 1) → is_some o ≡ true
         by_clause None e = absurd (none-some (h, length (buckets h) - 1) e)
         by_clause (Some d) e = refl
+
+    pub last_fits : (m : ℕ) → m ≡ get_or (buckets h) (length (buckets h) - 1) 0 → (m < 4294967296) × (is_some (place_of m) ≡ true)
+    last_fits m m_is = (sound.low m (last_live m m_is), sound.noted m (last_live m m_is))
 
     module _ (m : ℕ) (m_is : m ≡ get_or (buckets h) (length (buckets h) - 1) 0) (left : ℕ → List ℕ) (after : ℕ → Option ℕ)
         (taken : (g : ℕ) → left g ≡ cond (eqb g h) (swap_remove (buckets g) place 0) (buckets g))

@@ -1,13 +1,12 @@
 use Rattle.std.proofs.Common.{ℕ, ◌+◌, ◌-◌, ◌≤◌, Some, is_some, length, cond, sym, ap, ◌∙◌, subst}
 use Rattle.std.specs.FinMap as maps
 use Rattle.cnf_base.specs.Literals.{has}
-use Rattle.clause_db.specs.Store.Clauses.{size}
 use Rattle.clause_db.specs.Store.Entries.{clauses_in}
 use Rattle.clause_db.specs.Store.LiteralMarks.{mark_count}
 use Rattle.clause_db.specs.Store.Fields.{IsStore}
 use Rattle.tables.specs.Table.{at}
 use Rattle.clause_db.proofs.StoreLemmas.Entries.{live_entry}
-use Rattle.clause_db.proofs.StoreLemmas.Fields.{clause_here, different_here, within_sum, counted_here, live_kept, map_without, sound_without}
+use Rattle.clause_db.proofs.StoreLemmas.Fields.{clause_here, different_read, within_sum, counted_here, live_kept, map_without, sound_without}
 use Rattle.clause_db.proofs.store.Store.remove.Goals as goal
 
 pub remove-entry-requires : goal.remove-entry-requires
@@ -17,8 +16,7 @@ remove-entry-requires g c =
 pub release-requires-clause-different : goal.release-requires-clause-different
 release-requires-clause-different g c =
     let i = c.self.inside in
-    let items_are = c.as_slice-lits.ensures in
-    ap size items_are ∙ different_here i.entries i.marks i.sum c.self.invariant.0 c.number.result c.remove-entry.result c.remove-entry.ensures.value ∙ ap length (sym items_are)
+    different_read i.entries i.marks i.sum c.self.invariant.0 c.number.result c.remove-entry.result c.remove-entry.ensures.value c.as_slice-lits.result.now c.as_slice-lits.ensures
 
 pub release-requires-clause-counted : goal.release-requires-clause-counted
 release-requires-clause-counted g c l h =
@@ -33,8 +31,7 @@ overflow_sub-self g c =
 pub remove-requires-clause-different : goal.remove-requires-clause-different
 remove-requires-clause-different g c =
     let i = c.self.inside in
-    let items_are = c.as_slice-lits.ensures in
-    ap size items_are ∙ different_here i.entries i.marks i.sum c.self.invariant.0 c.number.result c.remove-entry.result c.remove-entry.ensures.value ∙ ap length (sym items_are)
+    different_read i.entries i.marks i.sum c.self.invariant.0 c.number.result c.remove-entry.result c.remove-entry.ensures.value c.as_slice-lits.result.now c.as_slice-lits.ensures
 
 pub remove-requires-clause-there : goal.remove-requires-clause-there
 remove-requires-clause-there g c =

@@ -2,7 +2,7 @@ use Rattle.std.proofs.Common.{cond, eqb, is_some, Some, sym, ap, ◌∙◌, arit
 use Rattle.std.proofs.lemmas.Option.{slice_get_within}
 use Rattle.tables.specs.Table.{at}
 use Rattle.clause_db.specs.Store.Index.{under}
-use Rattle.clause_db.proofs.StoreLemmas.Index.{spot_here, last_live, index_without}
+use Rattle.clause_db.proofs.StoreLemmas.Index.{spot_here, last_fits, index_without}
 use Rattle.clause_db.proofs.store.index.IndexIndexing.remove.Goals as goal
 
 pub take-last-requires : goal.take-last-requires
@@ -17,9 +17,8 @@ pub overflow_cast-last : goal.overflow_cast-last
 overflow_cast-last c =
     let old = c.args.self.now in
     let w = c.requires.there in
-    let place_is = sym c.get.ensures ∙ c.in-Some.is in
-    let alive = last_live (under old) (at old.places) w.0 w.1 c.args.slot c.args.lits.now c.hash_of.result c.in-Some.place w.2 c.hash_of.ensures place_is c.take-last.result c.take-last.ensures.last in
-    let low = w.1.low c.take-last.result alive in
+    let fits = last_fits (under old) (at old.places) w.0 w.1 c.args.slot c.args.lits.now c.hash_of.result c.in-Some.place w.2 c.hash_of.ensures (sym c.get.ensures ∙ c.in-Some.is) c.take-last.result c.take-last.ensures.last in
+    let low = fits.0 in
     omega (arith, low)
 
 pub set-requires : goal.set-requires
@@ -27,8 +26,8 @@ set-requires c =
     let old = c.args.self.now in
     let w = c.requires.there in
     let place_is = sym c.get.ensures ∙ c.in-Some.is in
-    let alive = last_live (under old) (at old.places) w.0 w.1 c.args.slot c.args.lits.now c.hash_of.result c.in-Some.place w.2 c.hash_of.ensures place_is c.take-last.result c.take-last.ensures.last in
-    ap is_some (c.take-last.ensures.places c.take-last.result) ∙ w.1.noted c.take-last.result alive
+    ap is_some (c.take-last.ensures.places c.take-last.result)
+    ∙ (last_fits (under old) (at old.places) w.0 w.1 c.args.slot c.args.lits.now c.hash_of.result c.in-Some.place w.2 c.hash_of.ensures place_is c.take-last.result c.take-last.ensures.last).1
 
 pub returns-in-Some : goal.returns-in-Some
 returns-in-Some c live sound there =
