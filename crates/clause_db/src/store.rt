@@ -24,7 +24,7 @@ ghost use Rattle.clause_db.specs.Store.Hashes.{hash};
 
 use crate::Slot;
 use crate::store::entry::Entry;
-use crate::store::index::{Index, Indexing};
+use crate::store::index::{Index, Indexing, NoIndex};
 use crate::store::mark::Mark;
 use crate::store::marks::{Digest, all_known, gather, mark_all, release, reserve_all, unmark_all};
 use crate::store::search::find_marked;
@@ -101,17 +101,16 @@ fn make_room<I: Indexing>(
 }
 
 impl<I: Indexing> Store<I> {
-    /// No clauses.
-    pub fn new(alloc: Global) -> Result<Self, OutOfMemory>
-        ensures { IfOk result (λ s. s ≡ record { live = maps.empty; stored = 0 }) }
+    fn empty(alloc: Global) -> Self
+        ensures { result ≡ record { live = maps.empty; stored = 0 } }
     {
-        Ok(Store {
+        Store {
             alloc,
             entries: Slab::new(alloc),
             index: I::new(alloc),
             marks: Table::new(alloc),
             sum: 0,
-        })
+        }
     }
 
     /// Stores a clause in a slot that is free, and fails only where memory is refused. A repeated literal is kept once.
@@ -199,7 +198,24 @@ impl<I: Indexing> Store<I> {
     }
 }
 
+impl Store<NoIndex> {
+    /// No clauses, and none will be searched for by its literals.
+    pub fn without_index(alloc: Global) -> Result<Self, OutOfMemory>
+        ensures { IfOk result (λ s. s ≡ record { live = maps.empty; stored = 0 }) }
+    {
+        let store = Store::empty(alloc);
+        Ok(store)
+    }
+}
+
 impl Store {
+    /// No clauses.
+    pub fn new(alloc: Global) -> Result<Self, OutOfMemory>
+        ensures { IfOk result (λ s. s ≡ record { live = maps.empty; stored = 0 }) }
+    {
+        Ok(Store::empty(alloc))
+    }
+
     /// A slot with the same clause as a set, if there is one. It takes no memory.
     pub fn find(&mut self, lits: &[Lit]) -> Option<Slot>
         ensures found { IfSome result (λ slot. (c : Clause) ×

@@ -78,16 +78,22 @@ fn look_up_ids(alloc: Global, count: u64) -> Result<u64, OutOfMemory> {
     Ok(count_found(count, |entry| ids.slot_of(entry.wrapping_add(1)).is_some()))
 }
 
+/// Sets a literal where it is open.
+fn set_open(trail: &mut Trail, l: Lit) -> Result<(), OutOfMemory> {
+    trail.reserve(l.var())?;
+    if trail.value(l) == Value::Open {
+        trail.set(l);
+    }
+    Ok(())
+}
+
 fn fill_trail(alloc: Global) -> Result<Trail, OutOfMemory> {
     let mut trail = Trail::new(alloc)?;
     for entry in 0..1000000u64 {
         let Some(l) = positive(entry) else {
             return Ok(trail);
         };
-        trail.reserve(l.var())?;
-        if trail.value(l) == Value::Open {
-            trail.set(l);
-        }
+        set_open(&mut trail, l)?;
     }
     Ok(trail)
 }

@@ -47,7 +47,7 @@ impl LiveClauses {
     pub(crate) fn new(alloc: Global) -> Result<Self, OutOfMemory>
         ensures { IfOk result (λ live. live ≡ empty_shelf) }
     {
-        let store = Store::new(alloc)?;
+        let store = Store::without_index(alloc)?;
         let ids = Ids::new(alloc)?;
         Ok(LiveClauses { store, ids, top: 0 })
     }

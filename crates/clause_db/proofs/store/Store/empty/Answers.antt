@@ -1,7 +1,7 @@
 use Rattle.std.proofs.Common.{sym, subst}
 use Rattle.clause_db.proofs.StoreLemmas.Entries.{seen_none, stored_none}
 use Rattle.clause_db.proofs.StoreLemmas.Fields.{sound_empty}
-use Rattle.clause_db.proofs.store.Store.new.Goals as goal
+use Rattle.clause_db.proofs.store.Store.empty.Goals as goal
 
 pub invariant_of-result : goal.invariant_of-result
 invariant_of-result g c =
