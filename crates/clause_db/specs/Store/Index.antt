@@ -7,6 +7,7 @@ use Rattle.std.specs.FinMap.{FinMap}
 use Rattle.cnf_base.specs.Literals.{Clause}
 use Rattle.clause_db.specs.Store.Hashes.{hash}
 use Rattle.clause_db.specs.Store.Indexed.{IsIndexed}
+use Rattle.tables.specs.Table.{at}
 use Rattle.clause_db.specs.declared.store.index.Index.{Index}
 
 -- the slots with this hash, in the order of their places
@@ -22,3 +23,7 @@ pub record IsIndex (buckets : ℕ → List ℕ) (place_of : ℕ → Option ℕ) 
   pub placed : IsIndexed (spot_in live place_of) buckets
   pub noted : (s : ℕ) → IsSome (maps.get live s) → IsSome (place_of s)
   pub low : (s : ℕ) → IsSome (maps.get live s) → s < 4294967296
+
+-- the index fits the clauses
+abbrev pub Indexes : Index → FinMap nat_cmp Clause → Type 0
+Indexes index live = IsIndex (under index) (at index.places) live

@@ -7,7 +7,7 @@ ghost use Rattle.std.specs.FinMap.{FinMap};
 ghost use Rattle.cnf_base.specs.Literals.{Clause};
 ghost use Rattle.clause_db.specs.Store.Clauses.{size};
 ghost use Rattle.clause_db.specs.Store.Hashes.{hash};
-ghost use Rattle.clause_db.specs.Store.Index.{under, IsIndex};
+ghost use Rattle.clause_db.specs.Store.Index.{under, Indexes};
 ghost use Rattle.tables.specs.Table.{at};
 
 use crate::store::bucket::Bucket;
@@ -131,7 +131,7 @@ impl Index {
 }
 
 impl Indexing for Index {
-    ghost indexes = { λ i live. IsIndex (under i) (at i.places) live };
+    ghost indexes = { Indexes };
 
     fn new(alloc: Global) -> Self {
         Index {
