@@ -1,5 +1,5 @@
 -- Identifiers of clauses, by pages of 1024.
-use Rattle.std.specs.Prelude.{◌≡◌, ◌≢◌, ℕ, zero, suc, ◌+◌, ◌-◌, ◌*◌, ◌/◌, ◌%◌, ◌^◌, ◌<◌, ◌≤◌, ◌==◌, cond, unwrap_or, Option, Some, None, List, length, slice_index, nat_eq}
+use Rattle.std.specs.Prelude.{◌≡◌, ◌≢◌, ℕ, zero, suc, ◌+◌, ◌-◌, ◌*◌, ◌/◌, ◌%◌, ◌^◌, ◌<◌, ◌≤◌, ◌==◌, if◌then◌else◌, unwrap_or, Option, Some, None, List, length, slice_index, nat_eq}
 use Rattle.std.specs.Ordering.{nat_cmp}
 use Rattle.std.specs.HashMap.{HashMap, get}
 use Rattle.std.specs.FinMap as maps
@@ -14,12 +14,14 @@ far_page far number = unwrap_or (get nat_eq far number) 0
 
 -- the near page of a page number, or else the far one
 unfoldable pub page_at : Directory → ℕ → ℕ
-page_at directory number = cond (slice_index directory.near.items number == 0) (far_page directory.far number) (slice_index directory.near.items number)
+page_at directory number =
+    if slice_index directory.near.items number == 0 then far_page directory.far number
+    else slice_index directory.near.items number
 
 -- ---- Entries: a slot's number and 1, or 0 where nothing is bound
 
 abbrev pub slot_from : ℕ → Option ℕ
-slot_from entry = cond (entry == 0) None (Some (entry - 1))
+slot_from entry = if entry == 0 then None else Some (entry - 1)
 
 -- where a page has the entry of an identifier
 abbrev pub place : ℕ → ℕ → ℕ
@@ -27,14 +29,15 @@ place page id = 1024 * (page - 1) + id % 1024
 
 -- the entry of an identifier, by the pages of the page numbers
 abbrev pub entry_in : (ℕ → ℕ) → List ℕ → ℕ → ℕ
-entry_in page entries id = cond (page (id / 1024) == 0) 0 (slice_index entries (place (page (id / 1024)) id))
+entry_in page entries id =
+    if page (id / 1024) == 0 then 0 else slice_index entries (place (page (id / 1024)) id)
 
 abbrev pub entry_at : Directory → Pages → ℕ → ℕ
 entry_at directory pages id = entry_in (page_at directory) pages.entries.items id
 
 -- 1 where something is bound
 abbrev pub counted_as : ℕ → ℕ
-counted_as entry = cond (entry == 0) 0 1
+counted_as entry = if entry == 0 then 0 else 1
 
 -- how many of the n entries from the start on are bound
 unfoldable pub bound_from : List ℕ → ℕ → ℕ → ℕ
