@@ -1,9 +1,12 @@
 -- Numbers that stand whole among bytes.
-use Rattle.std.proofs.Common.{◌≡◌, ℕ, ◌+◌, ◌-◌, ◌*◌, ◌^◌, ◌<◌, ◌≤◌, ◌==◌, not, true, false, List, [], ◌∷◌, length, take, refl, sym, ap, ◌∙◌, subst, arith, add-one}
+use Rattle.std.proofs.Common.{◌≡◌, ℕ, zero, suc, ◌+◌, ◌-◌, ◌*◌, ◌^◌, ◌<◌, ◌≤◌, ◌==◌, not, true, false, List, [], ◌∷◌, ◌++◌, length, take, inl, inr, ◌⊎◌, refl, sym, ap, ◌∙◌, subst, arith, add-one}
 use Rattle.std.specs.Prelude.{slice_index, slice_range}
 use Rattle.std.proofs.Math.Seq.{take-length}
 use Rattle.std.specs.List.{list_all}
 use Rattle.std.proofs.lemmas.Bool.{and_parts}
+use Rattle.std.proofs.lemmas.List.{take_more}
+use Rattle.std.proofs.lemmas.List.Folds.{list_all-append}
+use Rattle.std.proofs.lemmas.List.Sums.{fold-append}
 use Rattle.std.proofs.lemmas.Bool.Decides.{nat_tests}
 use Rattle.std.proofs.lemmas.Grind.{common_steps}
 use Rattle.cnf_base.specs.Text.{is_separator}
@@ -31,6 +34,72 @@ tail : (b : ℕ) (bs : List ℕ) → slice_range (b ∷ bs) 1 (length (b ∷ bs)
 tail b bs =
     let size : length (b ∷ bs) - 1 ≡ length bs = omega arith in
     ap (λ k. take k bs) size ∙ take-length bs
+
+-- the greatest number of so many digits after the first
+pub most : ℕ → ℕ
+most zero = 9
+most (suc n) = 10 * most n + 9
+
+pub most_first : most 0 ≡ 9
+unfolding most
+most_first = refl
+
+pub most_next : (n : ℕ) → most (n + 1) ≡ 10 * most n + 9
+unfolding most
+most_next n = ap most (add-one n)
+
+pub most_small : (n : ℕ) → n ≤ 4 → most n ≤ 99999
+unfolding most
+most_small zero h = omega arith
+most_small (suc zero) h = omega arith
+most_small (suc (suc zero)) h = omega arith
+most_small (suc (suc (suc zero))) h = omega arith
+most_small (suc (suc (suc (suc zero)))) h = omega arith
+most_small (suc (suc (suc (suc (suc n))))) h = absurd (omega arith)
+
+-- so many of the first i bytes are digits that go on with the number, and more is 1 where these are all of them
+pub record IsFew (bytes : List ℕ) (number i count value more : ℕ) : Type 0 where
+  pub each : list_all is_digit (take count bytes) ≡ true
+  pub says : value ≡ decimal_after number (take count bytes)
+  pub turns : ((more ≡ 1) × (count ≡ i)) ⊎ ((more ≡ 0) × (count ≤ i))
+  pub small : value ≤ most i
+
+module _ (bytes : List ℕ) (number i count value more after next : ℕ) (so_far : IsFew bytes number i count value more) where
+  low : count ≤ i
+  low = elim so_far.turns [ inl t ↦ omega (arith, t.1) | inr t ↦ t.1 ]
+
+  pub IsFew-ended : after ≡ 0 → next ≡ value → IsFew bytes number (i + 1) (count + after) next after
+  IsFew-ended none same =
+      let below = low in
+      let greater = most_next i in
+      let small = so_far.small in
+      let stays : count + after ≡ count = omega arith in
+      record {
+        each = ap (λ n. list_all is_digit (take n bytes)) stays ∙ so_far.each;
+        says = same ∙ so_far.says ∙ ap (λ n. decimal_after number (take n bytes)) (sym stays);
+        turns = inr (none, omega arith);
+        small = omega arith;
+      }
+
+  pub IsFew-digit : (digit : ℕ) → i < length bytes → more ≡ 1 → after ≡ 1 → digit ≤ 9 → digit + 48 ≡ slice_index bytes i → next ≡ value * 10 + digit
+      → IsFew bytes number (i + 1) (count + after) next after
+  IsFew-digit digit inside one still few is next_is =
+      let greater = most_next i in
+      let small = so_far.small in
+      let all : count ≡ i = elim so_far.turns [ inl t ↦ t.1 | inr t ↦ absurd (omega (arith, t.0)) ] in
+      let longer : count + after ≡ i + 1 = omega arith in
+      let front : take (i + 1) bytes ≡ take i bytes ++ slice_index bytes i ∷ [] = take_more bytes i 0 inside in
+      let ten : is_digit (slice_index bytes i) ≡ true = grind (arith, nat_tests) in
+      let before : list_all is_digit (take i bytes) ≡ true = ap (λ n. list_all is_digit (take n bytes)) (sym all) ∙ so_far.each in
+      let was : value ≡ decimal_after number (take i bytes) = so_far.says ∙ ap (λ n. decimal_after number (take n bytes)) all in
+      let is_digit_of : digit ≡ slice_index bytes i - 48 = omega arith in
+      record {
+        each = ap (λ n. list_all is_digit (take n bytes)) longer ∙ ap (list_all is_digit) front ∙ list_all-append is_digit (take i bytes) (slice_index bytes i ∷ []) ∙ rw (before, ten) refl;
+        says = next_is ∙ ap (λ v. v * 10 + digit) was ∙ ap (λ d. decimal_after number (take i bytes) * 10 + d) is_digit_of
+            ∙ sym (ap (λ n. decimal_after number (take n bytes)) longer ∙ ap (decimal_after number) front ∙ fold-append (λ n d. n * 10 + (d - 48)) number (take i bytes) (slice_index bytes i ∷ []));
+        turns = inl (still, longer);
+        small = omega arith;
+      }
 
 -- digits after a first one that isn't 0
 pub GoOn-counting : (bytes : List ℕ) (first more size : ℕ) → 0 < length bytes → first + 48 ≡ slice_index bytes 0

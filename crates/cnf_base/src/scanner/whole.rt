@@ -1,5 +1,7 @@
 //! Numbers that stand whole in what was read at once: they are read with no look at the source for each byte.
-ghost use Rattle.std.specs.Prelude.{◌≡◌, ◌+◌, ◌<◌, ◌≤◌, length, IfSome};
+ghost use Rattle.std.specs.Prelude.{◌≡◌, ◌+◌, ◌*◌, ◌<◌, ◌≤◌, true, length, take, IfSome};
+ghost use Rattle.std.specs.List.{list_all};
+ghost use Rattle.cnf_base.specs.Words.{is_digit, decimal_after};
 ghost use Rattle.cnf_base.specs.Whole.{IsWholeNumber, AreWholeDigits, GoOn};
 
 use super::digits::Digits;
@@ -8,6 +10,9 @@ use crate::{Number, Word};
 
 // A number that is as great and goes on is read byte by byte, up to `u64::MAX`.
 const GREAT: u64 = 1_000_000_000_000_000_000;
+
+// So many bytes after the first digit are looked at with no branch for each.
+const FEW: usize = 5;
 
 /// The number at the front of the bytes, where a separator follows: its length and what it says.
 #[inline(always)]
@@ -48,6 +53,56 @@ fn whole_digits(bytes: &[u8]) -> Option<(usize, Digits)>
 // How many digits go on with the number, where a separator follows, and what it is with them.
 #[inline(always)]
 fn go_on(bytes: &[u8], number: u64) -> Option<(usize, u64)>
+    requires { number ≤ 9 }
+    ensures { IfSome result (λ r. GoOn number bytes.now r.0 r.1) }
+{
+    if bytes.len() > FEW {
+        let (count, size) = few_more(&bytes[..FEW], number);
+        if is_separator(bytes[count]) {
+            return Some((count, size));
+        }
+    }
+    go_on_long(bytes, number)
+}
+
+// How many of a few bytes go on with the number, and what it is with them. How many digits a number has can't be foretold, so
+// that a branch for each would often be guessed wrong.
+#[inline(always)]
+fn few_more(bytes: &[u8], number: u64) -> (usize, u64)
+    requires few { length bytes.now ≤ 5 }
+    requires small { number ≤ 9 }
+    ensures count { result.0 ≤ length bytes.now }
+    ensures each { list_all is_digit (take result.0 bytes.now) ≡ true }
+    ensures says { result.1 ≡ decimal_after number (take result.0 bytes.now) }
+{
+    let mut count = 0;
+    let mut value = number;
+    let mut more = 1;
+    for byte in bytes {
+        let digit = byte.wrapping_sub(b'0');
+        if digit > 9 {
+            more = 0;
+        }
+        value = with_digit(value, digit, more);
+        count += more as usize;
+    }
+    (count, value)
+}
+
+// The number with one more digit, or without it where `more` is 0.
+#[inline(always)]
+fn with_digit(size: u64, digit: u8, more: u64) -> u64
+    requires size { size ≤ 1000000 }
+    requires more { more ≤ 1 }
+    ensures with { more ≡ 1 → result ≡ size * 10 + digit }
+    ensures without { more ≡ 0 → result ≡ size }
+{
+    size + (size * 9 + u64::from(digit)) * more
+}
+
+// The same as `go_on`, digit by digit.
+#[inline(never)]
+fn go_on_long(bytes: &[u8], number: u64) -> Option<(usize, u64)>
     ensures { IfSome result (λ r. GoOn number bytes.now r.0 r.1) }
 {
     let mut size = number;

@@ -2,7 +2,7 @@
 use Rattle.std.proofs.Common.{◌≡◌, true, take}
 use Rattle.std.specs.List.{list_all}
 use Rattle.cnf_base.specs.Words.{is_digit, decimal_after}
-use Rattle.cnf_base.proofs.scanner.whole.go_on.Given as goal
+use Rattle.cnf_base.proofs.scanner.whole.go_on_long.Given as goal
 
 abbrev pub invariant-loop-count : goal.invariant-loop-count
 invariant-loop-count l = record {
