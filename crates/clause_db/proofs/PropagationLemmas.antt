@@ -10,3 +10,4 @@ pub mod Scan
 pub mod Truth
 pub mod Unit
 pub mod Values
+pub mod Watch

@@ -10,3 +10,4 @@ pub mod Options
 pub mod Pages
 pub mod Search
 pub mod Sums
+pub mod Swap

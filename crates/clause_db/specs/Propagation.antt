@@ -7,6 +7,7 @@ pub mod Levels
 pub mod Scan
 pub mod Trail
 pub mod Values
+pub mod Watch
 use Rattle.std.specs.Prelude.{◌≡◌, ◌≢◌, ℕ, Bool, Option, Some, List, [], IsTrue}
 use Rattle.cnf_base.specs.Literals.{Literal, complement, Clause, has}
 

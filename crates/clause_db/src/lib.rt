@@ -11,6 +11,7 @@ pub use propagation::part::{Except, Part, Whole};
 pub use propagation::scan::Scan;
 pub use propagation::trail::Trail;
 pub use propagation::value::Value;
+pub use propagation::watch::Watch;
 pub use store::Store;
 pub use store::ids::Ids;
 pub use store::index::{Index, Indexing, NoIndex};

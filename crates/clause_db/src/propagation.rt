@@ -6,10 +6,15 @@ pub(crate) mod left;
 mod levels;
 pub(crate) mod part;
 pub(crate) mod scan;
+#[cfg(test)]
+mod sequence_tests;
+#[cfg(test)]
+mod tests;
 pub(crate) mod trail;
 #[cfg(test)]
 mod trail_tests;
 pub(crate) mod value;
+pub(crate) mod watch;
 
 ghost use Rattle.std.specs.Prelude.{◌≡◌, ◌≢◌, [], ◌≤◌, ◌<◌, ◌∷◌, ℕ, min, not, ◌==◌, length, Some, None, List, IsTrue, IsSome, IfSome, IfNone, IfOk, OnErr};
 ghost use Rattle.std.specs.FinMap as maps;

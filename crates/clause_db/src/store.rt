@@ -13,20 +13,20 @@ pub(crate) mod slot;
 #[cfg(test)]
 mod tests;
 
-ghost use Rattle.std.specs.Prelude.{◌≡◌, ◌≢◌, ℕ, ◌+◌, ◌-◌, ◌<◌, ◌≤◌, ◌==◌, ◌++◌, [], ◌∷◌, ◌^◌, min, Some, None, option_map, length, if◌then◌else◌, IsTrue, IsSome, IfSome, IfNone, IfOk, OnOk, OnErr};
+ghost use Rattle.std.specs.Prelude.{◌≡◌, ◌≢◌, ℕ, ◌+◌, ◌-◌, ◌<◌, ◌≤◌, ◌==◌, ◌++◌, [], ◌∷◌, ◌^◌, min, true, false, Some, None, option_map, length, if◌then◌else◌, IsTrue, IsSome, IfSome, IfNone, IfOk, OnOk, OnErr};
+ghost use Rattle.std.specs.List.{swap};
 ghost use Rattle.std.specs.FinMap as maps;
-ghost use Rattle.cnf_base.specs.Literals.{Clause, same_clause};
+ghost use Rattle.cnf_base.specs.Literals.{Clause, has, same_clause};
 ghost use Rattle.slab.specs.Slab.{slab_len, HasRoomFor};
 ghost use Rattle.clause_db.specs.Store.Clauses.{size, literals_in, copies_with};
-ghost use Rattle.std.specs.Ordering.{nat_cmp};
-ghost use Rattle.std.specs.FinMap.{FinMap};
-ghost use Rattle.clause_db.specs.Store.Hashes.{hash};
+ghost use Rattle.clause_db.specs.Store.LiteralMarks.{is_marked, mark_count};
+ghost use Rattle.tables.specs.Table.{at};
 
 use crate::Slot;
-use crate::store::entry::Entry;
+use crate::store::entry::{Entry, swap_literals};
 use crate::store::index::{Index, Indexing, NoIndex};
 use crate::store::mark::Mark;
-use crate::store::marks::{Digest, all_known, gather, mark_all, release, reserve_all, unmark_all};
+use crate::store::marks::{all_known, gather, mark_all, mark_new, release, unmark_all};
 use crate::store::search::find_marked;
 use cnf_base::{Lit, OutOfMemory};
 use slab::Slab;
@@ -71,33 +71,65 @@ impl<I: Indexing> Model for Store<I> {
 /// A store with more clauses would take far more memory than there is. Counts and places have four bytes.
 const MOST: usize = 4294967295;
 
-/// Makes room for a clause of the digest, and puts the slot that it will have into the index.
-fn make_room<I: Indexing>(
-    alloc: Global,
-    entries: &mut Slab<Entry>,
-    index: &mut I,
-    digest: &Digest,
-) -> Result<Entry, OutOfMemory>
+/// Makes room for one more clause of so many literals.
+fn make_room(alloc: Global, entries: &mut Slab<Entry>, len: usize) -> Result<Entry, OutOfMemory>
     ensures empty { IfOk result (λ e. e.lits.items ≡ []) }
-    ensures wide { IfOk result (λ e. digest.now.len ≤ e.lits.capacity) }
+    ensures wide { IfOk result (λ e. len ≤ e.lits.capacity) }
     ensures room { OnOk result (HasRoomFor entries.new 1) }
     ensures few { OnOk result (slab_len entries.new < 4294967295) }
     ensures slots { entries.new.slots ≡ entries.old.slots }
     ensures key { entries.new.vacant_key ≡ entries.old.vacant_key }
-    ensures ok { OnOk result ((live : FinMap nat_cmp Clause) (c : Clause) →
-        I.indexes index.old live → maps.get live entries.old.vacant_key ≡ None →
-        digest.now.hash ≡ hash c →
-        I.indexes index.new (maps.insert live entries.old.vacant_key c)) }
-    ensures err { OnErr result ((live : FinMap nat_cmp Clause) →
-        I.indexes index.old live → I.indexes index.new live) }
 {
     if entries.len() >= MOST {
         return Err(OutOfMemory);
     }
-    let lits = SmallVec::with_capacity(alloc, digest.len)?;
+    let lits = SmallVec::with_capacity(alloc, len)?;
     entries.reserve(1)?;
-    index.add(digest.hash, entries.vacant_key())?;
     Ok(Entry { lits })
+}
+
+/// Makes room for a clause with these literals, and counts each of them. Where memory is refused, nothing is counted.
+fn take_in(
+    alloc: Global,
+    entries: &mut Slab<Entry>,
+    marks: &mut Table<Mark>,
+    lits: &[Lit],
+) -> Result<Entry, OutOfMemory>
+    requires clear { (l : ℕ) → is_marked (at marks.old l) ≡ false }
+    requires counted { (l : ℕ) → mark_count (at marks.old l) ≤ slab_len entries.old }
+    ensures same { IfOk result (λ e. IsTrue (same_clause e.lits.items lits.now)) }
+    ensures different { IfOk result (λ e. size e.lits.items ≡ length e.lits.items) }
+    ensures short { IfOk result (λ e. length e.lits.items < 18446744073709551616) }
+    ensures counts { OnOk result ((l : ℕ) → mark_count (at marks.new l) ≡
+        mark_count (at marks.old l) + (if has lits.now l then 1 else 0)) }
+    ensures room { OnOk result (HasRoomFor entries.new 1) }
+    ensures few { OnOk result (slab_len entries.new < 4294967295) }
+    ensures clear { (l : ℕ) → is_marked (at marks.new l) ≡ false }
+    ensures slots { entries.new.slots ≡ entries.old.slots }
+    ensures key { entries.new.vacant_key ≡ entries.old.vacant_key }
+    ensures refused { OnErr result ((l : ℕ) → mark_count (at marks.new l) ≡
+        mark_count (at marks.old l)) }
+{
+    if let Ok(len) = mark_new(marks, lits) {
+        if let Ok(mut entry) = make_room(alloc, entries, len) {
+            gather(marks, lits, &mut entry.lits);
+            return Ok(entry);
+        }
+    }
+    unmark_all(marks, lits);
+    Err(OutOfMemory)
+}
+
+/// Counts the literals of a clause that isn't stored once less.
+fn give_back(marks: &mut Table<Mark>, entry: Entry)
+    requires different { size entry.lits.items ≡ length entry.lits.items }
+    requires counted { (l : ℕ) → has entry.lits.items l ≡ true →
+        0 < mark_count (at marks.old l) }
+    ensures marked { (l : ℕ) → is_marked (at marks.new l) ≡ is_marked (at marks.old l) }
+    ensures counts { (l : ℕ) → mark_count (at marks.new l) +
+        (if has entry.lits.items l then 1 else 0) ≡ mark_count (at marks.old l) }
+{
+    release(marks, entry.lits.as_slice());
 }
 
 impl<I: Indexing> Store<I> {
@@ -123,17 +155,18 @@ impl<I: Indexing> Store<I> {
         ensures live_alone { self.new.stored ≡ literals_in self.new.live }
         ensures err { OnErr result (self.new ≡ self.old) }
     {
-        reserve_all(&mut self.marks, lits)?;
-        let digest = mark_all(&mut self.marks, lits);
-        match make_room(self.alloc, &mut self.entries, &mut self.index, &digest) {
-            Ok(mut entry) => {
-                gather(&mut self.marks, lits, &mut entry.lits);
+        let entry = take_in(self.alloc, &mut self.entries, &mut self.marks, lits)?;
+        match self
+            .index
+            .add(self.entries.vacant_key(), entry.lits.as_slice())
+        {
+            Ok(()) => {
+                self.sum += entry.lits.len() as u128;
                 let slot = self.entries.insert_reserved(entry);
-                self.sum += digest.len as u128;
                 Ok(Slot::at(slot))
             }
             Err(refused) => {
-                unmark_all(&mut self.marks, lits);
+                give_back(&mut self.marks, entry);
                 Err(refused)
             }
         }
@@ -160,6 +193,15 @@ impl<I: Indexing> Store<I> {
     {
         let entry = &self.entries[slot.number()];
         entry.lits.as_slice()
+    }
+
+    /// What holds of each store: no clause repeats a literal, and no literals are kept but those of the live clauses.
+    pub(crate) fn is_sound(&self)
+        ensures different { (s : ℕ) (c : Clause) → maps.get self.now.live s ≡ Some c →
+            size c ≡ length c }
+        ensures live_alone { self.now.stored ≡ literals_in self.now.live }
+    {
+        let _sum = self.sum;
     }
 
     /// No slot from this number on has a clause.
@@ -234,6 +276,17 @@ impl Store {
             Some(slot) => Some(Slot::at(slot)),
             None => None,
         }
+    }
+
+    /// Puts two literals of the clause in the slot in each other's place. It takes no memory.
+    pub(crate) fn swap(&mut self, slot: Slot, a: usize, b: usize)
+        requires { (c : Clause) × (maps.get self.old.live slot ≡ Some c)
+            × (a < length c) × (b < length c) }
+        ensures live { (c : Clause) → maps.get self.old.live slot ≡ Some c →
+            self.new.live ≡ maps.insert self.old.live slot (swap c a b) }
+        ensures live_alone { self.new.stored ≡ literals_in self.new.live }
+    {
+        swap_literals(&mut self.entries[slot.number()], a, b);
     }
 
     /// For how many clauses and for how many hashes there is room.

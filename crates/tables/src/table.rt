@@ -1,6 +1,7 @@
 //! Values by small numbers, in memory of the order of the keys that were met.
 
 ghost use Rattle.std.specs.Prelude.{◌≡◌, ℕ, ◌==◌, ◌<◌, ◌≤◌, if◌then◌else◌, unwrap_or, IsSome, IsTrue, OnOk, OnErr, vec_len, slice_index_or, nat_eq};
+ghost use Rattle.std.specs.Option.{option_copied};
 ghost use Rattle.std.specs.HashMap.{get};
 ghost use Rattle.tables.specs.Table.{at, looked_up};
 
@@ -75,17 +76,27 @@ impl<T: Copy + Drop> Table<T> {
     pub fn get(&self, key: u32) -> Option<T>
         ensures { result ≡ at self.now key }
     {
-        if let Some(Some(value)) = self.dense.as_slice().get(key as usize) {
-            return Some(*value);
+        match self.look_up(key) {
+            Some(value) => Some(*value),
+            None => None,
         }
-        self.get_far(key)
+    }
+
+    #[inline(always)]
+    fn look_up(&self, key: u32) -> Option<&T>
+        ensures { option_copied result ≡ at self.now key }
+    {
+        if let Some(Some(value)) = self.dense.as_slice().get(key as usize) {
+            return Some(value);
+        }
+        self.look_up_far(key)
     }
 
     #[inline(never)]
-    fn get_far(&self, key: u32) -> Option<T>
-        ensures { result ≡ get nat_eq self.now.sparse key }
+    fn look_up_far(&self, key: u32) -> Option<&T>
+        ensures { option_copied result ≡ get nat_eq self.now.sparse key }
     {
-        self.sparse.get(&key).copied()
+        self.sparse.get(&key)
     }
 
     /// Writes the value at the key, which was reserved.

@@ -15,7 +15,7 @@ use Rattle.clause_db.proofs.PropagationLemmas.Passes.{has_begun}
 use Rattle.clause_db.proofs.PropagationLemmas.Unit.{clash_of_conflict}
 
 -- what is forced by each of two lists that force one another is the same
-answer_through : (live : Live) (first second : List Literal) → ((l : Literal) → has first l ≡ true → Forced live second l) → ((l : Literal) → has second l ≡ true → Forced live first l) → (a : Answer) → IsAnswer live first a → IsAnswer live second a
+pub answer_through : (live : Live) (first second : List Literal) → ((l : Literal) → has first l ≡ true → Forced live second l) → ((l : Literal) → has second l ≡ true → Forced live first l) → (a : Answer) → IsAnswer live first a → IsAnswer live second a
 answer_through live first second there back AnswersClash h = clash_through live first second there h
 answer_through live first second there back Quiet h = λ clash. h (clash_through live second first back clash)
 

@@ -1,5 +1,5 @@
 -- What is left of a clause.
-use Rattle.std.proofs.Common.{◌≡◌, ℕ, ◌+◌, ◌<◌, Bool, true, false, not, ◌&&◌, cond, eqb, eqb-true, eq-eqb, List, [], ◌∷◌, ◌++◌, length, get_or, take, drop, refl, sym, ap, ◌∙◌, subst, append-nil, inl, inr, ◌⊎◌}
+use Rattle.std.proofs.Common.{◌≡◌, ℕ, ◌+◌, ◌<◌, Bool, true, false, not, ◌&&◌, cond, eqb, eqb-true, eq-eqb, List, [], ◌∷◌, ◌++◌, length, get_or, take, drop, length-append, arith, refl, sym, ap, ◌∙◌, subst, append-nil, inl, inr, ◌⊎◌}
 use Rattle.std.specs.List.{list_all}
 use Rattle.std.proofs.lemmas.Bool.{false≢true, cases_Bool, not-true}
 use Rattle.std.proofs.lemmas.List.{take-append-drop}
@@ -7,7 +7,7 @@ use Rattle.std.proofs.lemmas.List.Elements.{filter_more, filter-append}
 use Rattle.std.proofs.lemmas.List.Folds.{list_all-append}
 use Rattle.cnf_base.specs.Literals.{Literal, complement, Clause, has}
 use Rattle.cnf_base.proofs.SetLemmas.{has_head, has_tail, has_cases, all_each, each_all, has-filter, filter_has}
-use Rattle.clause_db.specs.Propagation.Left.{open_literals, how_many, with_one}
+use Rattle.clause_db.specs.Propagation.Left.{open_literals, how_many, with_one, IsCount}
 use Rattle.clause_db.specs.declared.propagation.left.Left.{Left}
 use Rattle.clause_db.specs.declared.propagation.left.Left.TheVariants.{Nothing, One, More}
 
@@ -86,6 +86,10 @@ more_stays (m ∷ xs) ys h = ap (λ b. cond b (One m) More) (list_all-append (λ
     by_test true h = absurd (one_more m h)
     by_test false h = refl
 
+none_in : (ls : List Literal) → length ls ≡ 0 → ls ≡ []
+none_in [] e = refl
+none_in (l ∷ ls) e = absurd (let wrong : ⊥ = omega arith in wrong)
+
 -- one turn: x is the literal, and t whether it is false
 module _ (trues : List Literal) (c : Clause) (i : ℕ) (inside : i < length c) (x : Literal) (is : x ≡ get_or c i x) where
   next_open : (t : Bool) → has trues (complement x) ≡ t → open_literals trues (take (i + 1) c) ≡ open_literals trues (take i c) ++ cond (not t) (x ∷ []) []
@@ -106,3 +110,23 @@ module _ (trues : List Literal) (c : Clause) (i : ℕ) (inside : i < length c) (
       ap (λ d. how_many (open_literals trues d)) (sym (take-append-drop (i + 1) c))
       ∙ ap how_many (filter-append (λ l. not (has trues (complement l))) (take (i + 1) c) (drop (i + 1) c))
       ∙ more_stays (open_literals trues (take (i + 1) c)) (open_literals trues (drop (i + 1) c)) (sym (left_with e left (with_one left x) so_far refl) ∙ more)
+
+  -- one more literal is counted
+  pub count_with : has trues (complement x) ≡ false → (n last : ℕ) → IsCount (open_literals trues (take i c)) n last → IsCount (open_literals trues (take (i + 1) c)) (n + 1) x
+  count_with e n last so_far =
+      let before = open_literals trues (take i c) in
+      let more : open_literals trues (take (i + 1) c) ≡ before ++ x ∷ [] = next_open false e in
+      let longer = length-append before (x ∷ []) in
+      let was = so_far.count_is in
+      record {
+        count_is = let same = ap length more in omega arith;
+        alone = λ first. more ∙ ap (λ ls. ls ++ x ∷ []) (none_in before (omega arith));
+      }
+
+  pub count_same : has trues (complement x) ≡ true → (n last : ℕ) → IsCount (open_literals trues (take i c)) n last → IsCount (open_literals trues (take (i + 1) c)) n last
+  count_same e n last so_far =
+      let same : open_literals trues (take (i + 1) c) ≡ open_literals trues (take i c) = next_open true e ∙ append-nil _ in
+      record {
+        count_is = so_far.count_is ∙ ap length (sym same);
+        alone = λ one. same ∙ so_far.alone one;
+      }

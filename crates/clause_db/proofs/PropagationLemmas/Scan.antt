@@ -17,8 +17,9 @@ use Rattle.clause_db.specs.Store.Clauses.{StoreState, size, literals_in}
 use Rattle.clause_db.specs.Propagation.Trail.{HasRoom, HasRoomForAll, SameSet, conflicts}
 use Rattle.clause_db.specs.declared.propagation.answer.Answer.{Answer}
 use Rattle.clause_db.specs.declared.propagation.answer.Answer.TheVariants.{Quiet}
-use Rattle.cnf_base.proofs.SetLemmas.{same_there}
-use Rattle.clause_db.proofs.PropagationLemmas.Exact.{exact_nothing, exact_same, nothing_true, sound_before, start_before, conflict_clashes, answer_from, exact_after}
+use Rattle.cnf_base.proofs.SetLemmas.{both_pass, has_append_cases, has_append_left, has_append_right, same_there}
+use Rattle.clause_db.proofs.PropagationLemmas.Exact.{answer_through, exact_nothing, exact_same, nothing_true, sound_before, start_before, conflict_clashes, answer_from, exact_after}
+use Rattle.clause_db.proofs.PropagationLemmas.Forced.{forced_assumed}
 use Rattle.clause_db.proofs.StoreLemmas.Sums.{get_remove, sum_empty}
 
 pub scan_empty : (live : FinMap nat_cmp Clause) (held : AssumptionsState) → live ≡ maps.empty → held.trail.lits ≡ [] → held.assumptions ≡ [] → IsScan live held
@@ -36,7 +37,7 @@ scan_reserved live before after lits_are assumptions_are starts_are within scan 
 }
 
 -- a clause that is added, for which there is room
-room_added : (met : List ℕ) (live after : FinMap nat_cmp Clause) (slot : ℕ) (lits : Clause) → HasRoomForAll met (maps.get live) → HasRoom met lits →
+pub room_added : (met : List ℕ) (live after : FinMap nat_cmp Clause) (slot : ℕ) (lits : Clause) → HasRoomForAll met (maps.get live) → HasRoom met lits →
     (c : Clause) × (maps.get after slot ≡ Some c) × (same_clause c lits ≡ true) → ((s : ℕ) → s ≢ slot → maps.get after s ≡ maps.get live s) → HasRoomForAll met (maps.get after)
 room_added met live after slot lits all room stored others = record {
   each = λ k c here l member. elim (cases_eq k slot) [
@@ -116,7 +117,7 @@ module _ (live : FinMap nat_cmp Clause) (before after : AssumptionsState) (added
 -- what an assumption of the given literals does is what one of the added ones does
 pub assuming_from : {E : Type 0} (before after : Propagation) (live : FinMap nat_cmp Clause) (held last : AssumptionsState) (given added : List Literal) (r : Result Answer E) →
     live ≡ before.live → held.assumptions ≡ before.assumptions → given ≡ added → before.has_refused ≡ false → after.live ≡ live → after.stored ≡ literals_in after.live → after.assumptions ≡ last.assumptions → after.has_refused ≡ is_err r →
-    IfOk r (λ a. IsAnswer (maps.get live) (assumed_by held.assumptions ++ given) a) → IfOk r (λ a. Assumes held.assumptions last.assumptions a (assumed_by held.assumptions ++ given)) → OnErr r (last ≡ held) → Assuming before after added r
+    IfOk r (λ a. IsAnswer (maps.get live) (assumed_by held.assumptions ++ given) a) → IfOk r (λ a. Assumes held.assumptions last.assumptions a (assumed_by held.assumptions ++ given)) → OnErr r (last.assumptions ≡ held.assumptions) → Assuming before after added r
 assuming_from before after live held last given added (Ok answer) live_is held_is given_is none same alone after_is refused answers stands stays = record {
   answer = subst (λ m. IsAnswer (maps.get m) (assumed_by before.assumptions ++ added) answer) live_is
       (subst (λ xs. IsAnswer (maps.get live) (assumed_by xs ++ added) answer) held_is (subst (λ ls. IsAnswer (maps.get live) (assumed_by held.assumptions ++ ls) answer) given_is answers));
@@ -137,5 +138,34 @@ assuming_from before after live held last given added (Err e) live_is held_is gi
   never_refused = tt;
   not_refused = tt;
   refused = refused;
-  stays = after_is ∙ ap (λ h. h.assumptions) stays ∙ held_is;
+  stays = after_is ∙ stays ∙ held_is;
+}
+
+-- the same literals in another order
+pub assuming_alike : {E : Type 0} (before after : Propagation) (first second : List Literal) (r : Result Answer E) → SameSet first second → Assuming before after first r → Assuming before after second r
+assuming_alike before after first second (Ok answer) same assuming = record {
+  answer = answer_through (maps.get before.live) (assumed_by before.assumptions ++ first) (assumed_by before.assumptions ++ second)
+      (λ l h. forced_assumed (maps.get before.live) (assumed_by before.assumptions ++ second) l (sym (alike l) ∙ h)) (λ l h. forced_assumed (maps.get before.live) (assumed_by before.assumptions ++ first) l (alike l ∙ h)) answer assuming.answer;
+  stands = record { all = assuming.stands.all; stands = assuming.stands.stands; same = λ quiet l. assuming.stands.same quiet l ∙ alike l };
+  live = assuming.live;
+  live_alone = assuming.live_alone;
+  never_refused = assuming.never_refused;
+  not_refused = assuming.not_refused;
+  refused = tt;
+  stays = tt;
+}
+  where
+    alike : (l : Literal) → has (assumed_by before.assumptions ++ first) l ≡ has (assumed_by before.assumptions ++ second) l
+    alike l = both_pass _ _
+        (λ h. elim (has_append_cases (assumed_by before.assumptions) first l h) [ inl g ↦ has_append_left (assumed_by before.assumptions) second l g | inr g ↦ has_append_right (assumed_by before.assumptions) second l (sym (same l) ∙ g) ])
+        (λ h. elim (has_append_cases (assumed_by before.assumptions) second l h) [ inl g ↦ has_append_left (assumed_by before.assumptions) first l g | inr g ↦ has_append_right (assumed_by before.assumptions) first l (same l ∙ g) ])
+assuming_alike before after first second (Err e) same assuming = record {
+  answer = tt;
+  stands = tt;
+  live = assuming.live;
+  live_alone = assuming.live_alone;
+  never_refused = tt;
+  not_refused = tt;
+  refused = assuming.refused;
+  stays = assuming.stays;
 }

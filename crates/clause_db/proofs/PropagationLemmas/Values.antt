@@ -1,6 +1,6 @@
 -- What the values by literal say of a trail.
-use Rattle.std.proofs.Common.{◌≡◌, ◌≢◌, ℕ, ◌*◌, ◌+◌, ◌-◌, ◌<◌, ◌≤◌, Bool, true, false, ◌||◌, cond, eqb, eqb-true, eq-eqb, Option, Some, None, is_some, List, [], ◌∷◌, ◌++◌, map, take, drop, get_or, length, nat_eq, length-append, arith, ap, sym, ◌∙◌, inl, inr, ◌⊎◌, refl, subst}
-use Rattle.std.specs.List.{IsDistinct, list_any}
+use Rattle.std.proofs.Common.{◌≡◌, ℕ, ◌*◌, ◌+◌, ◌-◌, ◌<◌, ◌≤◌, Bool, true, false, ◌||◌, cond, eqb, eqb-true, eq-eqb, Option, Some, None, is_some, List, [], ◌∷◌, ◌++◌, map, take, drop, get_or, length, nat_eq, length-append, arith, ap, sym, ◌∙◌, inl, inr, ◌⊎◌, refl, subst}
+use Rattle.std.specs.List.{AllByRecursion, IsDistinct}
 use Rattle.std.specs.Cmp.{nat_eq_equiv}
 use Rattle.std.proofs.lemmas.Bool.{false≢true, false_from_ne_true, or_cases, or_left, or_right, cases_eq, ne_eqb}
 use Rattle.std.proofs.lemmas.Bool.Decides.{nat_tests}
@@ -8,8 +8,10 @@ use Rattle.std.proofs.lemmas.List.{map-append, length-map, length-drop, get_or_a
 use Rattle.std.proofs.lemmas.Map.Keys.{IsDistinct-push}
 use Rattle.std.proofs.lemmas.Map.Made.{length-le_from_is_member}
 use Rattle.cnf_base.specs.Literals.{complement, has, variable}
-use Rattle.cnf_base.proofs.SetLemmas.{both_pass, has_append_left, has_append_right, has_append_cases}
+use Rattle.cnf_base.proofs.SetLemmas.{both_pass, has_cases, has_append_left, has_append_right, has_append_cases}
 use Rattle.cnf_base.proofs.LiteralLemmas.{complement-complement, complement-other}
+use Rattle.clause_db.specs.Store.Clauses.{size}
+use Rattle.clause_db.proofs.StoreLemmas.Distinct.{size_covered}
 use Rattle.clause_db.specs.Propagation.Trail.{value_under, HasNoVariableTwice}
 use Rattle.clause_db.specs.Propagation.Values.{IsTrail, known_value}
 use Rattle.clause_db.specs.declared.propagation.value.Value.{Value}
@@ -105,6 +107,36 @@ module _ (front rest : List ℕ) (different : HasNoVariableTwice (front ++ rest)
 
 -- ---- The invariant
 
+distinct_size : (vs : List ℕ) → IsDistinct nat_eq vs → size vs ≡ length vs
+unfolding IsDistinct
+distinct_size [] apart = refl
+distinct_size (v ∷ vs) apart =
+    let rest = distinct_size vs apart.1 in
+    let more = ap (λ b. cond b (size vs) (1 + size vs)) (absent vs apart.0) in
+    omega (arith, rest, more)
+  where
+    absent : (vs : List ℕ) → AllByRecursion (λ w. nat_eq v w ≡ false) vs → has vs v ≡ false
+    absent [] all = refl
+    absent (w ∷ vs) all = false_from_ne_true (has (w ∷ vs) v) (λ h. elim (has_cases w vs v h) [
+      | inl e ↦ false≢true (sym all.0 ∙ eq-eqb v w (sym e))
+      | inr g ↦ false≢true (sym (absent vs all.1) ∙ g)
+    ])
+
+-- there are at most as many literals as different variables
+pub fits_different : (lits met : List ℕ) → HasNoVariableTwice lits → ((v : ℕ) → has (map variable lits) v ≡ true → has met v ≡ true) → length lits ≤ size met
+fits_different lits met different within =
+    let covered = size_covered (map variable lits) met within in
+    let each = distinct_size (map variable lits) different in
+    let long = length-map lits variable in
+    omega (arith, covered, each, long)
+
+-- where no variable is there twice, there are at most as many literals as variables
+pub fits_within : (lits met : List ℕ) → HasNoVariableTwice lits → ((v : ℕ) → has (map variable lits) v ≡ true → has met v ≡ true) → length lits ≤ length met
+fits_within lits met different within =
+    let most = length-le_from_is_member nat_eq_equiv (map variable lits) met different (λ v h. sym (has_any met v) ∙ within v (has_any (map variable lits) v ∙ h)) in
+    let long = length-map lits variable in
+    omega (arith, most, long)
+
 pub trail_empty : {T : Type 0} (lits met : List ℕ) (capacity : ℕ) (seen : ℕ → Option T) (value_of : Values) → lits ≡ [] → met ≡ [] → ((v : ℕ) → seen v ≡ None) → ((k : ℕ) → value_of k ≡ None) → IsTrail lits met capacity seen value_of
 unfolding IsDistinct
 trail_empty lits met capacity seen value_of no_lits none_met none_seen none = rw (no_lits, none_met) (record {
@@ -120,17 +152,6 @@ trail_empty lits met capacity seen value_of no_lits none_met none_seen none = rw
 pub negative_key : (v l : ℕ) → l ≡ 2 * v → complement l ≡ 2 * v + 1
 unfolding complement
 negative_key v l e = grind (arith, nat_tests, e)
-
--- one write
-module _ (x : Value) (value_of after : Values) (key : ℕ) (writes : (k : ℕ) → after k ≡ cond (eqb k key) (Some x) (value_of k)) where
-  wrote_here : (k : ℕ) → k ≡ key → after k ≡ Some x
-  wrote_here k same = writes k ∙ ap (λ b. cond b (Some x) (value_of k)) (eq-eqb k key same)
-
-  wrote_apart : (k : ℕ) → k ≢ key → after k ≡ value_of k
-  wrote_apart k other = writes k ∙ ap (λ b. cond b (Some x) (value_of k)) (ne_eqb k key other)
-
-  pub wrote_known : (k : ℕ) → is_some (value_of k) ≡ true → is_some (after k) ≡ true
-  wrote_known k h = elim (cases_eq k key) [ inl same ↦ ap is_some (wrote_here k same) | inr other ↦ ap is_some (wrote_apart k other) ∙ h ]
 
 -- two writes, of both literals of a variable that has values
 module _ (l : ℕ) (a b : Value) (value_of first after : Values)
@@ -214,15 +235,10 @@ module _ {T : Type 0} (lits met : List ℕ) (capacity : ℕ) (seen : ℕ → Opt
   -- each literal's variable was met, and no variable is there twice, so that there is room for one more where it is open
   pub room_for : (l : ℕ) → value_under lits l ≡ Open → has met (variable l) ≡ true → length lits < capacity
   room_for l is_open here =
-      let pushed = different_pushed lits l is_open trail.different in
-      let most = length-le_from_is_member nat_eq_equiv (map variable (lits ++ l ∷ [])) met pushed within in
+      let most = fits_within (lits ++ l ∷ []) met (different_pushed lits l is_open trail.different) (within_pushed lits met l trail.within here) in
       let fits = trail.fits in
-      let long = length-map (lits ++ l ∷ []) variable in
       let more = length-append lits (l ∷ []) in
-      omega (arith, most, fits, long, more)
-    where
-      within : (v : ℕ) → list_any (nat_eq v) (map variable (lits ++ l ∷ [])) ≡ true → list_any (nat_eq v) met ≡ true
-      within v h = sym (has_any met v) ∙ within_pushed lits met l trail.within here v (has_any (map variable (lits ++ l ∷ [])) v ∙ h)
+      omega (arith, most, fits, more)
 
   -- both literals of a variable that was met have a value
   pub both_known : (l : ℕ) → has met (variable l) ≡ true → (is_some (value_of l) ≡ true) × (is_some (value_of (complement l)) ≡ true)

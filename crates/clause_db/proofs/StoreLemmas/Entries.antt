@@ -1,11 +1,13 @@
 -- The entries of a store as a finite map of clauses.
-use Rattle.std.proofs.Common.{◌≡◌, ◌≢◌, ℕ, zero, suc, ◌+◌, ◌*◌, ◌<◌, ◌≤◌, true, cond, eqb, eq-eqb, ne_eqb, Option, Some, None, option_map, is_some, List, [], ◌∷◌, get_or, count_by, sum_by, length, refl, sym, ap, ◌∙◌, subst, arith, inl, inr}
+use Rattle.std.proofs.Common.{◌≡◌, ◌≢◌, ℕ, zero, suc, ◌+◌, ◌*◌, ◌<◌, ◌≤◌, true, cond, eqb, eq-eqb, ne_eqb, Option, Some, None, option_map, is_some, List, [], ◌∷◌, get_or, count_by, sum_by, length, get_or-set_same, get_or-set_other, refl, sym, ap, ◌∙◌, subst, arith, inl, inr}
 use Rattle.std.specs.Ordering.{nat_cmp}
 use Rattle.std.specs.FinMap as maps
 use Rattle.std.specs.FinMap.{FinMap}
-use Rattle.std.proofs.lemmas.Bool.{cases_eq}
+use Rattle.std.proofs.lemmas.Bool.{cases_eq, cases_lt}
+use Rattle.std.proofs.lemmas.List.{get_or_past}
+use Rattle.std.proofs.lemmas.Option.{none-some}
 use Rattle.std.proofs.lemmas.List.Sums.{sum_by-cons}
-use Rattle.slab.specs.Slab.{Slab, get}
+use Rattle.slab.specs.Slab.{Slab, get, with_value}
 use Rattle.cnf_base.specs.Literals.{Clause}
 use Rattle.clause_db.specs.Store.Clauses.{StoreState, size, sum_over, literals_in}
 use Rattle.clause_db.specs.Store.Entries.{kept_in, literals_kept, clauses_from, clauses_in}
@@ -133,3 +135,14 @@ module _ (old new : Slab Entry) (k : ℕ) where
         | inl is ↦ ap (λ x. clause_of (get new x)) is ∙ ap clause_of here ∙ ap (λ b. cond b None (clause_of (get old s))) (sym (eq-eqb s k is))
         | inr apart ↦ others s apart ∙ ap (λ b. cond b None (clause_of (get old s))) (sym (ne_eqb s k apart))
       ]
+
+-- a value that is written at a key with one
+module _ (old : Slab Entry) (k : ℕ) (e f : Entry) (here : get old k ≡ Some e) where
+  inside_slots : k < length old.slots
+  inside_slots = elim (cases_lt k (length old.slots)) [ inl low ↦ low | inr past ↦ absurd (none-some e (sym (get_or_past old.slots k None past) ∙ here)) ]
+
+  pub wrote_entry : get (with_value old k f) k ≡ Some f
+  wrote_entry = get_or-set_same old.slots k (Some f) None inside_slots
+
+  pub other_entry : (s : ℕ) → s ≢ k → get (with_value old k f) s ≡ get old s
+  other_entry s apart = get_or-set_other old.slots k s (Some f) None apart

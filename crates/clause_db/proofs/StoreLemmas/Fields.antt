@@ -14,8 +14,8 @@ use Rattle.tables.specs.Table.{at}
 use Rattle.clause_db.specs.declared.store.entry.Entry.{Entry}
 use Rattle.clause_db.specs.declared.store.mark.Mark.{Mark}
 use Rattle.tables.specs.declared.table.Table.{Table}
-use Rattle.clause_db.proofs.StoreLemmas.Distinct.{size_le_length}
-use Rattle.clause_db.proofs.StoreLemmas.Sums.{get_insert, get_remove, sum_insert, sum_remove, sum_empty}
+use Rattle.clause_db.proofs.StoreLemmas.Distinct.{size_le_length, size_same}
+use Rattle.clause_db.proofs.StoreLemmas.Sums.{get_insert, get_remove, sum_insert, sum_remove, sum_replace, sum_empty}
 use Rattle.clause_db.proofs.StoreLemmas.Entries.{clause_of, get_stored, stored_none, stored_same, stored_with, stored_without, sum_bound, kept_is}
 
 -- ---- Look-ups in a changed map
@@ -177,4 +177,33 @@ module _ (old new : Slab Entry) (marks marks2 : Table Mark) (sum : ℕ) (sound :
         let length_is = different_here old marks sum sound k e here in
         let as_map : literals_in (clauses_in new) ≡ literals_in (maps.remove (clauses_in old) k) = ap literals_in map_without in
         omega arith;
+  }
+
+-- ---- A clause in the place of one with the same literals
+
+module _ (old new : Slab Entry) (marks : Table Mark) (sum : ℕ) (sound : IsStore old marks sum) (k : ℕ) (e f : Entry)
+    (here : get old k ≡ Some e) (changed : get new k ≡ Some f) (others : (s : ℕ) → s ≢ k → get new s ≡ get old s)
+    (alike : (l : ℕ) → has f.lits.items l ≡ has e.lits.items l) (as_long : length f.lits.items ≡ length e.lits.items) where
+  pub map_replaced : clauses_in new ≡ maps.insert (clauses_in old) k f.lits.items
+  map_replaced = stored_with old new k f changed others
+
+  was_here : maps.get (clauses_in old) k ≡ Some e.lits.items
+  was_here = get_stored old k ∙ ap clause_of here
+
+  same_size : size f.lits.items ≡ size e.lits.items
+  same_size = size_same f.lits.items e.lits.items (λ l h. sym (alike l) ∙ h) (λ l h. alike l ∙ h)
+
+  pub sound_replaced : IsStore new marks sum
+  sound_replaced = record {
+    different = λ s c is. elim (after_insert (clauses_in old) k f.lits.items s c (ap (λ m. maps.get m s) (sym map_replaced) ∙ is)) [
+      | inl same ↦ ap size (sym same) ∙ same_size ∙ sound.different k e.lits.items was_here ∙ sym as_long ∙ ap length same
+      | inr was ↦ sound.different s c was
+    ];
+    short = λ s c is. elim (after_insert (clauses_in old) k f.lits.items s c (ap (λ m. maps.get m s) (sym map_replaced) ∙ is)) [
+      | inl same ↦ subst (λ n. n < 18446744073709551616) (sym as_long ∙ ap length same) (sound.short k e.lits.items was_here)
+      | inr was ↦ sound.short s c was
+    ];
+    counted = λ l. sound.counted l ∙ sym (ap (λ m. copies_with m l) map_replaced ∙ sum_replace (λ c. cond (has c l) 1 0) (clauses_in old) k e.lits.items f.lits.items was_here (ap (λ b. cond b 1 0) (alike l)));
+    clear = sound.clear;
+    sum_is = sound.sum_is ∙ sym (ap literals_in map_replaced ∙ sum_replace size (clauses_in old) k e.lits.items f.lits.items was_here same_size);
   }

@@ -1,5 +1,5 @@
 -- What an index says of the clauses, through a change.
-use Rattle.std.proofs.Common.{◌≡◌, ◌≢◌, ℕ, ◌-◌, ◌<◌, true, cond, eqb, eq-eqb, ne_eqb, Option, Some, None, is_some, option_map, unwrap_or, List, [], ◌∷◌, ◌++◌, length, get_or, slice_get, swap_remove, refl, sym, ap, ◌∙◌, subst, inl, inr}
+use Rattle.std.proofs.Common.{◌≡◌, ◌≢◌, ℕ, ◌-◌, ◌<◌, Bool, true, false, cond, eqb, eqb-true, eq-eqb, ne_eqb, Option, Some, None, is_some, option_map, unwrap_or, List, [], ◌∷◌, ◌++◌, length, get_or, slice_get, swap_remove, refl, sym, ap, ◌∙◌, subst, inl, inr}
 use Rattle.std.specs.Ordering.{nat_cmp}
 use Rattle.std.specs.FinMap as maps
 use Rattle.std.specs.FinMap.{FinMap}
@@ -148,3 +148,31 @@ module _ (buckets : ℕ → List ℕ) (place_of : ℕ → Option ℕ) (live : Fi
         ];
         low = λ s is. sound.low s (was_live s is);
       }
+
+-- a clause in the place of one with the same hash
+pub index_replaced : (buckets : ℕ → List ℕ) (place_of : ℕ → Option ℕ) (live : FinMap nat_cmp Clause) → IsIndex buckets place_of live → (k : ℕ) (c d : Clause) → maps.get live k ≡ Some c → hash d ≡ hash c →
+    IsIndex buckets place_of (maps.insert live k d)
+index_replaced buckets place_of live sound k c d here alike = record {
+  placed = record {
+    there = λ s h i is. sound.placed.there s h i (sym (spots s) ∙ is);
+    back = λ s h i is. spots s ∙ sound.placed.back s h i is;
+  };
+  noted = λ s is. sound.noted s (sym (still s) ∙ is);
+  low = λ s is. sound.low s (sym (still s) ∙ is);
+}
+  where
+    by_test : {X : Type 0} (f : Clause → X) → f d ≡ f c → (s : ℕ) → option_map f (maps.get (maps.insert live k d) s) ≡ option_map f (maps.get live s)
+    by_test f same s = elim (cases_eq s k) [
+      | inl e ↦ ap (option_map f) (get_insert live k d s ∙ ap (λ b. cond b (Some d) (maps.get live s)) (eq-eqb s k e)) ∙ ap Some same ∙ ap (option_map f) (sym here ∙ ap (maps.get live) (sym e))
+      | inr apart ↦ ap (option_map f) (get_insert live k d s ∙ ap (λ b. cond b (Some d) (maps.get live s)) (ne_eqb s k apart))
+    ]
+
+    spots : (s : ℕ) → spot_in (maps.insert live k d) place_of s ≡ spot_in live place_of s
+    spots s = by_test (λ c. (hash c, unwrap_or (place_of s) 0)) (ap (λ h. (h, unwrap_or (place_of s) 0)) alike) s
+
+    noted_alike : (s : ℕ) (b : Bool) → eqb s k ≡ b → is_some (cond b (Some d) (maps.get live s)) ≡ is_some (maps.get live s)
+    noted_alike s true e = ap is_some (sym here) ∙ ap (λ q. is_some (maps.get live q)) (sym (eqb-true s k e))
+    noted_alike s false e = refl
+
+    still : (s : ℕ) → is_some (maps.get (maps.insert live k d) s) ≡ is_some (maps.get live s)
+    still s = ap is_some (get_insert live k d s) ∙ noted_alike s (eqb s k) refl

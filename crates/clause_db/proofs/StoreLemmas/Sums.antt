@@ -72,6 +72,19 @@ module _ (w : Clause → ℕ) where
       back : (q : ℕ) → cond (eqb q k) (Some c) (cond (eqb q k) None (maps.get m q)) ≡ maps.get m q
       back q = both (eqb q k) (Some c) (maps.get m q) (λ h. sym here ∙ ap (maps.get m) (sym (eq_to q h)))
 
+-- a clause in the place of one
+insert_again : (m : FinMap nat_cmp Clause) (k : ℕ) (d : Clause) → maps.insert (maps.remove m k) k d ≡ maps.insert m k d
+insert_again m k d = same_maps _ _ (λ q. get_insert (maps.remove m k) k d q ∙ ap (cond (eqb q k) (Some d)) (get_remove m k q) ∙ hidden (eqb q k) (maps.get m q) ∙ sym (get_insert m k d q))
+  where
+    hidden : (b : Bool) (o : Option Clause) → cond b (Some d) (cond b None o) ≡ cond b (Some d) o
+    hidden true o = refl
+    hidden false o = refl
+
+pub sum_replace : (w : Clause → ℕ) (m : FinMap nat_cmp Clause) (k : ℕ) (c d : Clause) → maps.get m k ≡ Some c → w d ≡ w c → sum_over w (maps.insert m k d) ≡ sum_over w m
+sum_replace w m k c d here alike =
+    sym (ap (sum_over w) (insert_again m k d)) ∙ sum_insert w (maps.remove m k) k d (get_remove m k k ∙ ap (λ b. cond b None (maps.get m k)) (eq-eqb k k refl))
+    ∙ ap (λ n. n + sum_over w (maps.remove m k)) alike ∙ sum_remove w m k c here
+
 pub sum_empty : (w : Clause → ℕ) → sum_over w maps.empty ≡ 0
 sum_empty w = ap (λ es. sum_by w (map (λ e. e.1) es)) (no_entries (maps.entries maps.empty) (sym (maps.len-entries maps.empty) ∙ maps.len-empty nat_cmp Clause))
   where

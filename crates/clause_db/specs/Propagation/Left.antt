@@ -1,5 +1,5 @@
 -- What is left of a clause where some literals are true: the literals of it that are not false.
-use Rattle.std.specs.Prelude.{not, ◌==◌, List, [], ◌∷◌, filter, IsTrue, ⊤, if◌then◌else◌}
+use Rattle.std.specs.Prelude.{◌≡◌, ℕ, not, ◌==◌, List, [], ◌∷◌, filter, length, IsTrue, ⊤, if◌then◌else◌}
 use Rattle.std.specs.List.{list_all}
 use Rattle.cnf_base.specs.Literals.{Literal, complement, Clause, has}
 use Rattle.clause_db.specs.declared.propagation.left.Left.{Left}
@@ -25,3 +25,8 @@ abbrev pub IsSettled : List Literal → Left → Type 0
 IsSettled trues Nothing = ⊥
 IsSettled trues (One l) = IsTrue (has trues l)
 IsSettled trues More = ⊤
+
+-- how many literals there are, and which one where it is alone
+pub record IsCount (ls : List Literal) (count : ℕ) (last : Literal) : Type 0 where
+  pub count_is : count ≡ length ls
+  pub alone : count ≡ 1 → ls ≡ last ∷ []

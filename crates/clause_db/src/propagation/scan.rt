@@ -1,7 +1,5 @@
 //! Propagation by plain passes over all clauses.
 
-#[cfg(test)]
-mod tests;
 mod unit;
 
 ghost use Rattle.std.specs.Prelude.{◌≡◌, ℕ, [], ◌≤◌, ◌<◌, ◌++◌, filter, true, false, IfOk, OnErr, IfSome, IfNone, IsSome};
@@ -61,7 +59,7 @@ fn has_at(store: &Store, number: usize, l: Lit) -> bool
 }
 
 /// The first slot from this one on whose clause has the literal.
-fn first_with(store: &Store, l: Lit, from: Slot) -> Option<Slot>
+pub(crate) fn first_with(store: &Store, l: Lit, from: Slot) -> Option<Slot>
     ensures found { IfSome result (λ slot. (from ≤ slot) × HasAt (maps.get store.now.live) l slot) }
     ensures passed_over { IfSome result (λ slot. (s : ℕ) → from ≤ s → s < slot →
         ¬ HasAt (maps.get store.now.live) l s) }

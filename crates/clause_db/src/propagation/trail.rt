@@ -2,9 +2,9 @@
 
 mod values;
 
-ghost use Rattle.std.specs.Prelude.{◌≡◌, ℕ, ◌*◌, ◌/◌, ◌-◌, ◌==◌, ◌<◌, ◌≤◌, ◌||◌, ◌&&◌, not, [], ◌∷◌, ◌++◌, filter, length, take, is_some, IsSome, IsTrue, IsFalse, ◌↔◌, IfSome, IfOk, OnOk, OnErr, if◌then◌else◌};
-ghost use Rattle.cnf_base.specs.Literals.{complement, has};
-ghost use Rattle.clause_db.specs.Propagation.Left.{open_literals, how_many};
+ghost use Rattle.std.specs.Prelude.{◌≡◌, ℕ, ◌*◌, ◌/◌, ◌-◌, ◌==◌, ◌<◌, ◌≤◌, ◌||◌, ◌&&◌, not, [], ◌∷◌, ◌++◌, filter, length, map, take, is_some, IsSome, IsTrue, IsFalse, ◌↔◌, IfSome, IfOk, OnOk, OnErr, if◌then◌else◌};
+ghost use Rattle.cnf_base.specs.Literals.{complement, has, variable};
+ghost use Rattle.clause_db.specs.Propagation.Left.{open_literals, how_many, IsCount};
 ghost use Rattle.clause_db.specs.Propagation.Trail.{value_under, is_variable, HasNoVariableTwice, SameSet, HasRoom, MakesFalse, conflicts};
 ghost use Rattle.clause_db.specs.Propagation.Left.{with_one};
 ghost use Rattle.clause_db.specs.Propagation.Values.{value_at, known_value};
@@ -73,8 +73,7 @@ fn open_all(values: &mut Values, lits: &[Lit])
         else known_value (value_at values.old k)) }
 {
     for l in lits {
-        values.set(key(*l), Value::Open);
-        values.set(key(l.neg()), Value::Open);
+        values.set_both(*l, Value::Open, Value::Open);
     }
 }
 
@@ -136,8 +135,7 @@ impl Trail {
         ensures met { (v : ℕ) → has self.new.met v ≡ has self.old.met v }
     {
         self.lits.push_reserved(l);
-        self.values.set(key(l), Value::True);
-        self.values.set(key(l.neg()), Value::False);
+        self.values.set_both(l, Value::True, Value::False);
     }
 
     /// What the trail says of a literal. It takes no memory.
@@ -148,10 +146,13 @@ impl Trail {
         self.values.value(key(l))
     }
 
-    /// How many literals were set.
+    /// How many literals were set. They are at most as many as the variables for which there is room.
     pub fn len(&self) -> usize
         ensures value { result ≡ length self.now.lits }
         ensures different { HasNoVariableTwice self.now.lits }
+        ensures within { (v : ℕ) → IsTrue (has (map variable self.now.lits) v) →
+            IsTrue (has self.now.met v) }
+        ensures fits { length self.now.lits ≤ length self.now.met }
     {
         self.lits.len()
     }
@@ -214,7 +215,7 @@ impl Trail {
     }
 
     /// Whether the literal is false.
-    fn is_false(&self, l: Lit) -> bool
+    pub(crate) fn is_false(&self, l: Lit) -> bool
         ensures { result ≡ has self.now.lits (complement l) }
     {
         matches!(self.value(l), Value::False)
@@ -241,6 +242,36 @@ impl Trail {
             }
         }
         false
+    }
+
+    /// How many literals of a clause are not false, where each counts as often as it is repeated, and the last of them.
+    fn open_in(&self, clause: &[Lit]) -> (usize, Lit)
+        ensures { IsCount (open_literals self.now.lits clause.now) result.0 result.1 }
+    {
+        let mut count = 0;
+        let mut last = Lit::default();
+        for l in clause {
+            let is_left = !self.is_false(*l);
+            if is_left {
+                count += 1;
+                last = *l;
+            }
+        }
+        (count, last)
+    }
+
+    /// What is left of a clause, as [`Trail::left`] says it. It takes no memory.
+    ///
+    /// It is made for clauses of which at most one literal is left: it looks at all literals, with no branch for each.
+    pub fn unit_left(&self, clause: &[Lit]) -> Left
+        ensures { result ≡ how_many (open_literals self.now.lits clause.now) }
+    {
+        let (count, last) = self.open_in(clause);
+        match count {
+            0 => Left::Nothing,
+            1 => Left::One(last),
+            _ => self.left(clause),
+        }
     }
 
     /// What is left of a clause. It takes no memory.

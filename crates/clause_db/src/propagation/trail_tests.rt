@@ -95,3 +95,20 @@ fn stays_where_memory_runs_out(rt: HostRuntime) -> Result<(), Fail> {
     }
     Ok(())
 }
+
+#[test]
+fn counts_what_is_left(rt: HostRuntime) -> Result<(), Fail> {
+    let one = Lit::new(1).ok_or("no literal")?;
+    let two = Lit::new(2).ok_or("no literal")?;
+    let far = Lit::new(268435455).ok_or("no literal")?;
+    let mut trail = Trail::new(rt.alloc())?;
+    assert_eq!(rt; trail.unit_left(&[]), Left::Nothing);
+    assert_eq!(rt; trail.unit_left(&[one, far]), Left::More);
+    assert_eq!(rt; trail.unit_left(&[far, far]), Left::One(far));
+    assert!(rt; !make_false(&mut trail, &[one, two.neg()], &Whole)?);
+    assert_eq!(rt; trail.unit_left(&[one, far, two.neg()]), Left::One(far));
+    assert_eq!(rt; trail.unit_left(&[one, two]), Left::One(two));
+    assert_eq!(rt; trail.unit_left(&[two.neg(), one]), Left::Nothing);
+    assert_eq!(rt; trail.unit_left(&[two, one, two, far]), Left::More);
+    Ok(())
+}

@@ -1,6 +1,7 @@
 //! A clause in its slot.
 
-ghost use Rattle.std.specs.Prelude.{◌≡◌};
+ghost use Rattle.std.specs.Prelude.{◌≡◌, ◌<◌, length};
+ghost use Rattle.std.specs.List.{swap};
 ghost use Rattle.clause_db.specs.Store.Entries.{is_match};
 ghost use Rattle.clause_db.specs.Store.LiteralMarks.{is_marked};
 ghost use Rattle.tables.specs.Table.{at};
@@ -32,4 +33,14 @@ pub(crate) fn is_match_at(
         Some(entry) => entry.lits.len() == len && all_marked(marks, entry.lits.as_slice()),
         None => false,
     }
+}
+
+/// Puts two literals in each other's place.
+pub(crate) fn swap_literals(entry: &mut Entry, a: usize, b: usize)
+    requires first { a < length entry.old.lits.items }
+    requires second { b < length entry.old.lits.items }
+    ensures swapped { entry.new.lits.items ≡ swap entry.old.lits.items a b }
+    ensures len { length entry.new.lits.items ≡ length entry.old.lits.items }
+{
+    entry.lits.as_mut_slice().swap(a, b);
 }

@@ -6,7 +6,6 @@ ghost use Rattle.std.specs.FinMap as maps;
 ghost use Rattle.std.specs.FinMap.{FinMap};
 ghost use Rattle.cnf_base.specs.Literals.{Clause};
 ghost use Rattle.clause_db.specs.Store.Clauses.{size};
-ghost use Rattle.clause_db.specs.Store.Hashes.{hash};
 ghost use Rattle.clause_db.specs.Store.Index.{under, Indexes};
 ghost use Rattle.tables.specs.Table.{at};
 
@@ -26,11 +25,12 @@ pub trait Indexing: Sized {
     fn new(alloc: Global) -> Self
         ensures { indexes result maps.empty };
 
-    /// Adds the slot of a clause with this hash.
-    fn add(&mut self, code: u64, slot: usize) -> Result<(), OutOfMemory>
-        ensures ok { OnOk result ((live : FinMap nat_cmp Clause) (c : Clause) →
-            indexes self.old live → maps.get live slot ≡ None → code ≡ hash c →
-            indexes self.new (maps.insert live slot c)) }
+    /// Adds the slot of a clause.
+    fn add(&mut self, slot: usize, lits: &[Lit]) -> Result<(), OutOfMemory>
+        requires different { size lits.now ≡ length lits.now }
+        ensures ok { OnOk result ((live : FinMap nat_cmp Clause) →
+            indexes self.old live → maps.get live slot ≡ None →
+            indexes self.new (maps.insert live slot lits.now)) }
         ensures err { OnErr result ((live : FinMap nat_cmp Clause) →
             indexes self.old live → indexes self.new live) };
 
@@ -54,7 +54,7 @@ impl Indexing for NoIndex {
         NoIndex {}
     }
 
-    fn add(&mut self, _code: u64, _slot: usize) -> Result<(), OutOfMemory> {
+    fn add(&mut self, _slot: usize, _lits: &[Lit]) -> Result<(), OutOfMemory> {
         Ok(())
     }
 
@@ -141,12 +141,12 @@ impl Indexing for Index {
         }
     }
 
-    fn add(&mut self, code: u64, slot: usize) -> Result<(), OutOfMemory> {
+    fn add(&mut self, slot: usize, lits: &[Lit]) -> Result<(), OutOfMemory> {
         let Ok(key) = u32::try_from(slot) else {
             return Err(OutOfMemory);
         };
         self.places.reserve(key, 0)?;
-        let place = self.push(code, slot)?;
+        let place = self.push(hash_of(lits), slot)?;
         self.places.set(key, place);
         Ok(())
     }

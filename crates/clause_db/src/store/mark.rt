@@ -1,11 +1,11 @@
 //! What a table has of a literal, and the writes of one literal.
 
-ghost use Rattle.std.specs.Prelude.{◌≡◌, ℕ, ◌+◌, ◌<◌, ◌==◌, ◌&&◌, ◌||◌, true, not, is_some, if◌then◌else◌, IsSome};
+ghost use Rattle.std.specs.Prelude.{◌≡◌, ℕ, ◌+◌, ◌<◌, ◌==◌, ◌&&◌, ◌||◌, true, not, is_some, if◌then◌else◌, IsSome, IfOk, OnOk, OnErr};
 ghost use Rattle.clause_db.specs.Store.Hashes.{mix};
 ghost use Rattle.clause_db.specs.Store.LiteralMarks.{mark_count, is_marked};
 ghost use Rattle.tables.specs.Table.{at};
 
-use cnf_base::Lit;
+use cnf_base::{Lit, OutOfMemory};
 use tables::{Table, key};
 
 /// How many live clauses have a literal, and whether a call has marked it.
@@ -47,9 +47,39 @@ pub(crate) fn set_mark(marks: &mut Table<Mark>, l: Lit) -> bool
     }
 }
 
+/// Marks a literal, for which it makes room, and tells whether it was not marked before.
+pub(crate) fn add_mark(marks: &mut Table<Mark>, l: Lit) -> Result<bool, OutOfMemory>
+    ensures was { IfOk result (λ is_new. is_new ≡ not (is_marked (at marks.old l))) }
+    ensures marked { OnOk result ((k : ℕ) → is_marked (at marks.new k) ≡
+        (k == l || is_marked (at marks.old k))) }
+    ensures counts { (k : ℕ) → mark_count (at marks.new k) ≡ mark_count (at marks.old k) }
+    ensures known { OnOk result ((k : ℕ) → is_some (at marks.new k) ≡
+        (k == l || is_some (at marks.old k))) }
+    ensures err { OnErr result ((k : ℕ) → is_marked (at marks.new k) ≡
+        is_marked (at marks.old k)) }
+{
+    match marks.get(key(l)) {
+        Some(mark) => {
+            let marked = Mark {
+                count: mark.count,
+                marked: true,
+            };
+            marks.set(key(l), marked);
+            Ok(!mark.marked)
+        }
+        None => {
+            let first = Mark {
+                count: 0,
+                marked: true,
+            };
+            marks.reserve(key(l), first)?;
+            Ok(true)
+        }
+    }
+}
+
 /// Takes the mark off a literal.
 pub(crate) fn clear_mark(marks: &mut Table<Mark>, l: Lit)
-    requires { IsSome (at marks.old l) }
     ensures marked { (k : ℕ) → is_marked (at marks.new k) ≡
         (not (k == l) && is_marked (at marks.old k)) }
     ensures counts { (k : ℕ) → mark_count (at marks.new k) ≡ mark_count (at marks.old k) }

@@ -1,6 +1,6 @@
 //! Walks over a clause that mark, count and compare its literals. Each is linear in the clause.
 
-ghost use Rattle.std.specs.Prelude.{◌≡◌, ℕ, ◌+◌, ◌<◌, ◌≤◌, ◌==◌, ◌&&◌, true, false, is_some, [], length, if◌then◌else◌, IsSome, IsTrue, OnOk};
+ghost use Rattle.std.specs.Prelude.{◌≡◌, ℕ, ◌+◌, ◌<◌, ◌≤◌, ◌==◌, ◌&&◌, true, false, is_some, [], length, if◌then◌else◌, IsSome, IsTrue, IfOk, OnOk};
 ghost use Rattle.std.specs.List.{list_all};
 ghost use Rattle.cnf_base.specs.Literals.{has, same_clause};
 ghost use Rattle.clause_db.specs.Store.Clauses.{size};
@@ -8,7 +8,7 @@ ghost use Rattle.clause_db.specs.Store.Hashes.{hash};
 ghost use Rattle.clause_db.specs.Store.LiteralMarks.{mark_count, is_marked};
 ghost use Rattle.tables.specs.Table.{at};
 
-use crate::store::mark::{Mark, clear_mark, count_down, count_up, mixed, set_mark};
+use crate::store::mark::{Mark, add_mark, clear_mark, count_down, count_up, mixed, set_mark};
 use cnf_base::{Lit, OutOfMemory};
 use smallvec::SmallVec;
 use tables::{Table, key};
@@ -20,20 +20,23 @@ pub(crate) struct Digest {
     pub(crate) hash: u64,
 }
 
-/// Makes room in the table for the literals.
-pub(crate) fn reserve_all(marks: &mut Table<Mark>, lits: &[Lit]) -> Result<(), OutOfMemory>
-    ensures ok { OnOk result ((l : ℕ) → has lits.now l ≡ true → IsSome (at marks.new l)) }
+/// Makes room in the table for the literals and marks them, where none is marked, and counts the different ones.
+pub(crate) fn mark_new(marks: &mut Table<Mark>, lits: &[Lit]) -> Result<usize, OutOfMemory>
+    requires { (l : ℕ) → is_marked (at marks.old l) ≡ false }
+    ensures len { IfOk result (λ len. len ≡ size lits.now) }
+    ensures short { OnOk result (size lits.now < 18446744073709551616) }
+    ensures known { OnOk result ((l : ℕ) → has lits.now l ≡ true → IsSome (at marks.new l)) }
+    ensures all { OnOk result ((l : ℕ) → is_marked (at marks.new l) ≡ has lits.now l) }
+    ensures some { (l : ℕ) → is_marked (at marks.new l) ≡ true → has lits.now l ≡ true }
     ensures counts { (l : ℕ) → mark_count (at marks.new l) ≡ mark_count (at marks.old l) }
-    ensures marked { (l : ℕ) → is_marked (at marks.new l) ≡ is_marked (at marks.old l) }
 {
+    let mut len = 0;
     for l in lits {
-        let blank = Mark {
-            count: 0,
-            marked: false,
-        };
-        marks.reserve(key(*l), blank)?;
+        if add_mark(marks, *l)? {
+            len += 1;
+        }
     }
-    Ok(())
+    Ok(len)
 }
 
 /// Whether the table has each literal.
@@ -81,10 +84,9 @@ pub(crate) fn mark_all(marks: &mut Table<Mark>, lits: &[Lit]) -> Digest
     Digest { len, hash }
 }
 
-/// Takes the marks off the literals.
+/// Takes the marks off the literals, where no others are marked.
 pub(crate) fn unmark_all(marks: &mut Table<Mark>, lits: &[Lit])
-    requires known { (l : ℕ) → has lits.now l ≡ true → IsSome (at marks.old l) }
-    requires marked { (l : ℕ) → is_marked (at marks.old l) ≡ has lits.now l }
+    requires { (l : ℕ) → is_marked (at marks.old l) ≡ true → has lits.now l ≡ true }
     ensures clear { (l : ℕ) → is_marked (at marks.new l) ≡ false }
     ensures counts { (l : ℕ) → mark_count (at marks.new l) ≡ mark_count (at marks.old l) }
 {

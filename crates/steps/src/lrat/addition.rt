@@ -49,6 +49,27 @@ fn judge_candidates(
     }
 }
 
+/// The answer where the unit hints gave no conflict. Only the list of the candidates that groups name takes memory, and it does before
+/// the first group is looked at.
+fn judge_rat(
+    alloc: Global,
+    live: &LiveClauses,
+    trues: &mut Trail,
+    pivot: Lit,
+    hints: &[i64],
+) -> Result<Accepted, Refusal>
+    requires quiet { IsFalse (conflicts trues.old.lits) }
+    requires room { HasRoomForAll trues.old.met (maps.get live.now.live) }
+    ensures answer { UnlessOutOfMemory result
+        (AnswersGroups (maps.get live.now.live) trues.old.lits pivot (groups_of hints.now)
+        (groups_refusal (maps.get live.now.live) trues.old.lits pivot [] (groups_of hints.now))
+        result) }
+    ensures met { SameSet trues.new.met trues.old.met }
+{
+    let mut named = Named::with_room(alloc, count_groups(hints))?;
+    judge_candidates(live, trues, pivot, &mut named, hints)
+}
+
 /// Walks over the unit hints from where the clause is false.
 fn walk_units(live: &LiveClauses, trues: &mut Trail, clause: &[Lit], hints: &[i64]) -> WalkEnd
     requires none_true { trues.old.lits ≡ [] }
@@ -65,8 +86,7 @@ fn walk_units(live: &LiveClauses, trues: &mut Trail, clause: &[Lit], hints: &[i6
     walk(live, trues, hints)
 }
 
-/// The answer to an addition whose identifier is right. Only the list of the candidates that groups name takes memory, and
-/// it does before the first hint is looked at.
+/// The answer to an addition whose identifier is right. It takes memory only where the unit hints give no conflict.
 pub(crate) fn judge_addition(
     alloc: Global,
     live: &LiveClauses,
@@ -82,13 +102,12 @@ pub(crate) fn judge_addition(
         (units_of hints.now)) result) }
     ensures met { SameSet trues.new.met trues.old.met }
 {
-    let mut named = Named::with_room(alloc, count_groups(hints))?;
     match walk_units(live, trues, clause, hints) {
         WalkEnd::Conflict => Ok(word_of(clause)),
         WalkEnd::UnknownId(k) => Err(Refusal::UnknownId(k)),
         WalkEnd::NotUnit(k) => Err(Refusal::NotUnit(k)),
         WalkEnd::Open => match clause.first() {
-            Some(pivot) => judge_candidates(live, trues, *pivot, &mut named, hints),
+            Some(pivot) => judge_rat(alloc, live, trues, *pivot, hints),
             None => Err(Refusal::NoConflict),
         },
     }

@@ -51,7 +51,7 @@ pub(crate) fn walk(live: &LiveClauses, trues: &mut Trail, hints: &[i64]) -> Walk
         let Some(clause) = live.get(k) else {
             return WalkEnd::UnknownId(k);
         };
-        match trues.left(clause) {
+        match trues.unit_left(clause) {
             Left::Nothing => return WalkEnd::Conflict,
             Left::One(l) => {
                 trues.make_true(l);

@@ -1,6 +1,6 @@
 //! What is known of each literal.
 
-ghost use Rattle.std.specs.Prelude.{◌≡◌, ℕ, ◌==◌, ◌≤◌, ◌+◌, ◌*◌, if◌then◌else◌, Some, None, IsSome, IsTrue, is_some, OnOk, vec_len};
+ghost use Rattle.std.specs.Prelude.{◌≡◌, ℕ, ◌==◌, ◌≤◌, ◌<◌, ◌+◌, ◌*◌, if◌then◌else◌, Some, None, IsSome, IsTrue, is_some, OnOk, vec_len};
 ghost use Rattle.cnf_base.specs.Literals.{complement};
 ghost use Rattle.clause_db.specs.Propagation.Values.{value_at, known_value};
 ghost use Rattle.tables.specs.Table.{at};
@@ -57,16 +57,52 @@ impl Values {
         }
     }
 
-    /// Writes the value of a literal that has one.
     #[inline(always)]
-    pub(crate) fn set(&mut self, key: u32, value: Value)
+    fn set_near(&mut self, key: u32, value: Value)
+        requires { key < vec_len self.old.dense }
+        ensures value { (k : ℕ) → value_at self.new k ≡
+            (if k == key then Some value else value_at self.old k) }
+        ensures near { vec_len self.new.dense ≡ vec_len self.old.dense }
+    {
+        self.dense[key as usize] = value;
+    }
+
+    /// Writes the values of a literal and of its complement, which both have one.
+    #[inline(always)]
+    pub(crate) fn set_both(&mut self, l: Lit, value: Value, other: Value)
+        requires literal { IsSome (value_at self.old l) }
+        requires complement { IsSome (value_at self.old (complement l)) }
+        ensures { (k : ℕ) → value_at self.new k ≡ (if k == complement l then Some other
+            else if k == l then Some value else value_at self.old k) }
+    {
+        let len = self.dense.len();
+        if l.index() < len && l.neg().index() < len {
+            self.set_near(key(l), value);
+            self.set_near(key(l.neg()), other);
+        } else {
+            self.set_both_far(l, value, other);
+        }
+    }
+
+    #[inline(never)]
+    fn set_both_far(&mut self, l: Lit, value: Value, other: Value)
+        requires literal { IsSome (value_at self.old l) }
+        requires complement { IsSome (value_at self.old (complement l)) }
+        ensures { (k : ℕ) → value_at self.new k ≡ (if k == complement l then Some other
+            else if k == l then Some value else value_at self.old k) }
+    {
+        self.set(key(l), value);
+        self.set(key(l.neg()), other);
+    }
+
+    /// Writes the value of a literal that has one.
+    fn set(&mut self, key: u32, value: Value)
         requires { IsSome (value_at self.old key) }
         ensures { (k : ℕ) → value_at self.new k ≡
             (if k == key then Some value else value_at self.old k) }
     {
-        let i = key as usize;
-        if i < self.dense.len() {
-            self.dense[i] = value;
+        if (key as usize) < self.dense.len() {
+            self.set_near(key, value);
         } else {
             self.set_far(key, value);
         }

@@ -1,6 +1,7 @@
-use Rattle.std.proofs.Common.{◌≡◌, ℕ, ◌∙◌, Some, cond, eqb, subst}
+use Rattle.std.proofs.Common.{ℕ, ◌∙◌, refl, Some, cond, eqb, Option}
 use Rattle.cnf_base.specs.Literals.{complement}
 use Rattle.clause_db.specs.Propagation.Values.{value_at, known_value}
+use Rattle.clause_db.specs.declared.propagation.value.Value.{Value}
 use Rattle.clause_db.specs.declared.propagation.value.Value.TheVariants.{Open}
 use Rattle.clause_db.proofs.StoreLemmas.Marks.{is_in}
 use Rattle.clause_db.proofs.PropagationLemmas.Values.{written_some, written_value, opened_more}
@@ -13,10 +14,10 @@ loop-l-preserved c =
     let inside = c.loop-l-test.true in
     let was = value_at c.args.values.now in
     let before = value_at c.loop-l.values in
-    let first = value_at c.set.new.self in
-    let after = value_at c.set-in-loop-l.new.self in
-    let one = subst (λ m. (k : ℕ) → first k ≡ cond (eqb k m) (Some Open) (before k)) c.key.ensures c.set.ensures in
-    let other = subst (λ m. (k : ℕ) → after k ≡ cond (eqb k m) (Some Open) (first k)) (c.key-in-loop-l.ensures ∙ c.neg.ensures) c.set-in-loop-l.ensures in
+    let first : ℕ → Option Value = λ k. cond (eqb k x) (Some Open) (before k) in
+    let after = value_at c.set_both.new.self in
+    let one = λ (k : ℕ). refl in
+    let other = c.set_both.ensures in
     let known = c.requires x (is_in clause c.loop-l.l-index inside x c.l-item.is) in
     let so_far = c.loop-l.invariant in
     record {

@@ -18,4 +18,4 @@ returns-in-Some-clause-answer c =
     let end = chain live (complements clause) (units_of hints) in
     let split = first_is clause pivot c.in-Some.ensures.value in
     let is_end = subst (λ w. IsEnd trues w end) c.in-Open.is c.walk_units.ensures.end in
-    unless_map c.judge_candidates.result (answers_open live trues pivot split.0 clause groups end c.judge_candidates.result split.1 is_end) c.judge_candidates.ensures.answer
+    unless_map c.judge_rat.result (answers_open live trues pivot split.0 clause groups end c.judge_rat.result split.1 is_end) c.judge_rat.ensures.answer

@@ -24,7 +24,7 @@ returns-in_err-place-clause-err c =
     (λ s is. ap is_some (kept s) ∙ still_noted (at old.places) (at c.reserve.new.self) key (unwrap_or (at old.places key) 0) made s is))
 
 pub returns-clause-ok : goal.returns-clause-ok
-returns-clause-ok c live clause sound free hash_is =
+returns-clause-ok c live sound free =
     let old = c.args.self.now in
     let key = c.in-Ok.key in
     let place = c.in_ok-place.place in
@@ -41,4 +41,4 @@ returns-clause-ok c live clause sound free hash_is =
     let still = λ (s : ℕ) (is : is_some (at old.places s) ≡ true).
     still_noted (at c.push.new.self.places) (at c.set.new.self) key place wrote s
     (ap is_some (before s) ∙ still_noted (at old.places) (at c.reserve.new.self) key (unwrap_or (at old.places key) 0) made s is) in
-    index_with (under old) (at old.places) live sound c.args.slot clause c.args.code place free low hash_is _ (at c.set.new.self) c.in_ok-place.ensures.ok here others still
+    index_with (under old) (at old.places) live sound c.args.slot c.args.lits.now c.hash_of.result place free low c.hash_of.ensures _ (at c.set.new.self) c.in_ok-place.ensures.ok here others still

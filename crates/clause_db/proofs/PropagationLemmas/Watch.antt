@@ -1,0 +1,12 @@
+-- Watched literals.
+pub mod Lists
+pub mod SlotList
+pub mod Order
+pub mod Visits
+pub mod Moves
+pub mod Carries
+pub mod Follow
+pub mod Units
+pub mod Entries
+pub mod Closed
+pub mod State

@@ -1,0 +1,12 @@
+use Rattle.std.proofs.Common.{◌≡◌, ℕ, true, Some, take}
+use Rattle.std.specs.FinMap as maps
+use Rattle.cnf_base.specs.Literals.{Clause, has}
+use Rattle.clause_db.specs.Propagation.Watch.Watched.{HasUnit}
+use Rattle.clause_db.specs.Propagation.Watch.Visits.{Carries}
+use Rattle.clause_db.proofs.propagation.watch.units.set_units.Given as goal
+
+abbrev pub invariant-loop-place : goal.invariant-loop-place
+invariant-loop-place l = record {
+  units : (s : ℕ) → has (take l.place l.slots) s ≡ true → (c : Clause) → maps.get l.store.live s ≡ Some c → HasUnit c l.assumptions.trail.lits;
+  carries : Carries l.store.live l.store.live l.fn.assumptions l.assumptions;
+}

@@ -1,0 +1,13 @@
+use Rattle.std.proofs.Common.{sym, ap, ◌∙◌}
+use Rattle.std.specs.FinMap as maps
+use Rattle.clause_db.specs.Store.Clauses.{literals_in}
+use Rattle.clause_db.proofs.StoreLemmas.Fields.{live_kept}
+use Rattle.clause_db.proofs.store.Store.is_sound.Goals as goal
+
+pub returns-clause-different : goal.returns-clause-different
+returns-clause-different g c s d is = c.self.invariant.0.different s d (ap (λ v. maps.get v.live s) c.self.view_is ∙ is)
+
+pub returns-clause-live_alone : goal.returns-clause-live_alone
+returns-clause-live_alone g c =
+    let i = c.self.inside in
+    ap (λ v. v.stored) (sym c.self.view_is) ∙ live_kept i.entries i.marks i.sum c.self.invariant.0 ∙ ap (λ v. literals_in v.live) c.self.view_is

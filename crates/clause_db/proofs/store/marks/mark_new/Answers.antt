@@ -1,0 +1,39 @@
+use Rattle.std.proofs.Common.{◌≡◌, ℕ, ◌+◌, not, true, is_some, eqb, take, sym, ap, ◌∙◌, arith, inl, inr}
+use Rattle.std.proofs.lemmas.Bool.{not-true, not-false, or_cases, or_left, or_right}
+use Rattle.cnf_base.specs.Literals.{has}
+use Rattle.tables.specs.Table.{at}
+use Rattle.clause_db.proofs.StoreLemmas.Marks.{eqb_turn, has_more, has_take, mark_more, size_kept, size_more}
+use Rattle.clause_db.proofs.store.marks.mark_new.Goals as goal
+use Rattle.clause_db.proofs.store.marks.mark_new.Goals.{then-branch, else-branch}
+
+pub returns-in_err-add_mark-clause-some : goal.returns-in_err-add_mark-clause-some
+returns-in_err-add_mark-clause-some c l marked =
+    has_take c.args.lits.now c.loop-l.l-index l (sym (c.in_err-add_mark.ensures.err l ∙ c.loop-l.invariant.marked l) ∙ marked)
+
+pub loop-l-preserved : goal.loop-l-preserved
+loop-l-preserved c =
+    let lits = c.args.lits.now in
+    let i = c.loop-l.l-index in
+    let inside = c.loop-l-test.true in
+    let x = c.l-item.result in
+    let so_far = c.loop-l.invariant in
+    let made = c.in_ok-add_mark.ensures in
+    let was = made.was ∙ ap not (so_far.marked x) in
+    let marked = λ (k : ℕ). mark_more lits i inside x c.l-item.is k _ _ (made.marked k) (so_far.marked k) in
+    let counts = λ (k : ℕ). made.counts k ∙ so_far.counts k in
+    let known = λ (k : ℕ) (h : has (take (i + 1) lits) k ≡ true). made.known k ∙ elim (or_cases (has (take i lits) k) (eqb x k) (sym (has_more lits i inside x c.l-item.is k) ∙ h)) [
+      | inl g ↦ or_right (eqb k x) (is_some (at c.loop-l.marks k)) (so_far.known k g)
+      | inr e ↦ or_left (eqb k x) (is_some (at c.loop-l.marks k)) (eqb_turn k x ∙ e)
+    ] in
+    let len = so_far.len_is in
+    let few = so_far.few in
+    elim c.if-branch.branch [
+      | then-branch w ↦
+          let new = not-true (has (take i lits) x) (sym was ∙ w.if-branch.true) in
+          let more = size_more lits i inside x c.l-item.is new in
+          record { marked = marked; counts = counts; known = known; len_is = omega (arith, w.len-is); few = omega (arith, w.len-is) }
+      | else-branch w ↦
+          let old = not-false (has (take i lits) x) (sym was ∙ w.if-branch.false) in
+          let same = size_kept lits i inside x c.l-item.is old in
+          record { marked = marked; counts = counts; known = known; len_is = omega (arith, w.len-is); few = omega (arith, w.len-is) }
+    ]

@@ -1,0 +1,13 @@
+use Rattle.std.proofs.Common.{arith}
+use Rattle.cnf_base.proofs.SetLemmas.{same_there, same_back}
+use Rattle.clause_db.proofs.StoreLemmas.Distinct.{size_same}
+use Rattle.clause_db.proofs.store.take_in.Goals as goal
+
+pub returns-in-Ok-make_room-clause-short : goal.returns-in-Ok-make_room-clause-short
+returns-in-Ok-make_room-clause-short c =
+    let lits = c.args.lits.now in
+    let kept = c.gather.new.kept.items in
+    let same = size_same kept lits (same_there kept lits c.gather.ensures.same) (same_back kept lits c.gather.ensures.same) in
+    let different = c.gather.ensures.different in
+    let short = c.in-Ok.ensures.short in
+    omega arith

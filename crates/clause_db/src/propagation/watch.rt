@@ -1,0 +1,237 @@
+//! Propagation with two watched literals a clause.
+
+mod entries;
+mod follow;
+mod lists;
+mod run;
+mod slot_list;
+mod source;
+mod units;
+mod visit;
+
+ghost use Rattle.std.specs.Prelude.{◌≡◌, ◌≢◌, ℕ, [], ◌*◌, ◌≤◌, ◌<◌, ◌++◌, filter, min, true, false, IfOk, OnOk, OnErr, IfSome, IfNone, IsSome};
+ghost use Rattle.std.specs.FinMap as maps;
+ghost use Rattle.cnf_base.specs.Literals.{complements};
+ghost use Rattle.clause_db.specs.Propagation.Assumptions.{Assumes, HasAt, IsAnswer, MayAssume, assumed_by};
+ghost use Rattle.clause_db.specs.Propagation.Trail.{HasRoom};
+ghost use Rattle.clause_db.specs.Propagation.Watch.Order.{each_in_order};
+ghost use Rattle.clause_db.specs.Propagation.Watch.Source.{IsThere, clause_of};
+ghost use Rattle.clause_db.specs.Propagation.Watch.State.{IsWatch};
+ghost use Rattle.clause_db.specs.Propagation.Watch.Watched.{long_clauses, short_clauses};
+
+use crate::propagation::assumptions::Assumptions;
+use crate::propagation::scan::first_with;
+use crate::propagation::watch::entries::{add_entries, remove_entries};
+use crate::propagation::watch::lists::WatchLists;
+use crate::propagation::watch::run::run;
+use crate::propagation::watch::slot_list::SlotList;
+use crate::propagation::watch::source::{Source, assume_from};
+use crate::{Answer, Except, Part, Propagate, Slot, Store, Value, Whole};
+use cnf_base::{Lit, OutOfMemory};
+use std::alloc::Global;
+use std::marker::Model;
+
+/// Live clauses, and unit propagation with two watched literals a clause: what follows from an assumption is found without a
+/// look at the clauses that have nothing to do with it.
+///
+/// Contracts see what they see of any propagation, and how many entries its lists have.
+#[derive(Drop)]
+pub struct Watch {
+    /// Of a clause of two literals or more it watches the first two.
+    store: Store,
+    lists: WatchLists,
+    /// The slots of the clauses of one literal and of none.
+    short: SlotList,
+    assumptions: Assumptions,
+    has_refused: bool,
+}
+
+impl Model for Watch {
+    ghost use Rattle.std.specs.Prelude.{◌≡◌, length};
+    ghost use Rattle.clause_db.specs.Store.Clauses.{literals_in};
+    ghost use Rattle.clause_db.specs.Propagation.Watch.Lists.{entries_in};
+    ghost use Rattle.clause_db.specs.Propagation.Watch.Order.{each_in_order};
+    ghost use Rattle.clause_db.specs.Propagation.Watch.State.{IsWatch, WatchState, variables_in, watch_code};
+
+    ghost Value = { WatchState };
+
+    ghost coded = { watch_code };
+
+    // The order of a clause's literals changes with each move, so it is not shown.
+    ghost view = { λ w. record {
+      propagation = record {
+        live = each_in_order w.store.live;
+        assumptions = w.assumptions.assumptions;
+        stored = w.store.stored;
+        has_refused = w.has_refused;
+      };
+      entries = entries_in w.lists;
+      loose = length w.short;
+      trues = length w.assumptions.trail.lits;
+      variables = variables_in w.assumptions.trail.met;
+    } };
+
+    ghost invariant = { λ w.
+        IsWatch w.store.live w.lists w.short w.assumptions
+        × (w.store.stored ≡ literals_in (each_in_order w.store.live)) };
+}
+
+/// Assumes the complements of a part of a clause, beside what is assumed, and propagates.
+fn assume_part<P: Part>(
+    store: &mut Store,
+    lists: &mut WatchLists,
+    short: &SlotList,
+    assumptions: &mut Assumptions,
+    source: &Source<'_>,
+    part: &P,
+) -> Result<Answer, OutOfMemory>
+    requires may { MayAssume assumptions.old.assumptions }
+    requires alive { IsThere store.old.live source.now }
+    requires room { HasRoom assumptions.old.trail.met (clause_of store.old.live source.now) }
+    requires watch { IsWatch store.old.live lists.old short.now assumptions.old }
+    ensures answer { IfOk result (λ a. IsAnswer (maps.get (each_in_order store.old.live))
+        (assumed_by assumptions.old.assumptions ++ complements
+        (filter (P.keeps part.now) (clause_of store.old.live source.now))) a) }
+    ensures assumed { IfOk result (λ a. Assumes assumptions.old.assumptions
+        assumptions.new.assumptions a (assumed_by assumptions.old.assumptions ++ complements
+        (filter (P.keeps part.now) (clause_of store.old.live source.now)))) }
+    ensures err { OnErr result (assumptions.new.assumptions ≡ assumptions.old.assumptions) }
+    ensures watch { IsWatch store.new.live lists.new short.now assumptions.new }
+    ensures same { each_in_order store.new.live ≡ each_in_order store.old.live }
+{
+    let from = assumptions.trail().len();
+    if assume_from(store, assumptions, source, part)? {
+        return Ok(Answer::Clash);
+    }
+    match run(store, lists, short, assumptions, from) {
+        Ok(answer) => {
+            assumptions.answer(answer);
+            Ok(answer)
+        }
+        Err(refused) => {
+            assumptions.undo();
+            Err(refused)
+        }
+    }
+}
+
+impl Watch {
+    /// No clauses, and nothing is assumed.
+    pub fn new(alloc: Global) -> Result<Self, OutOfMemory>
+        ensures live { IfOk result (λ w. w.propagation.live ≡ maps.empty) }
+        ensures nothing_assumed { IfOk result (λ w. w.propagation.assumptions ≡ []) }
+        ensures refused { IfOk result (λ w. w.propagation.has_refused ≡ false) }
+    {
+        Ok(Watch {
+            store: Store::new(alloc)?,
+            lists: WatchLists::new(alloc),
+            short: SlotList::new(alloc),
+            assumptions: Assumptions::new(alloc)?,
+            has_refused: false,
+        })
+    }
+
+    /// How many entries all watch lists have, two for each clause of two literals or more; `2^64 - 1` where they are more.
+    pub fn watch_entries(&self) -> u64
+        ensures value { result ≡ min self.now.entries 18446744073709551615 }
+        ensures two_each { self.now.entries ≡ 2 * long_clauses self.now.propagation.live }
+    {
+        self.lists.entries()
+    }
+
+    /// How many entries the list of the other clauses has, one for each.
+    pub fn short_entries(&self) -> usize
+        ensures value { result ≡ self.now.loose }
+        ensures one_each { self.now.loose ≡ short_clauses self.now.propagation.live }
+    {
+        self.short.slots().len()
+    }
+
+    /// How many literals are true: at most one of each variable that was met.
+    pub fn trail_len(&self) -> usize
+        ensures value { result ≡ self.now.trues }
+        ensures fits { self.now.trues ≤ self.now.variables }
+    {
+        self.assumptions.trail().len()
+    }
+}
+
+impl Propagate for Watch {
+    ghost state = { λ w. w.propagation };
+
+    fn insert(&mut self, lits: &[Lit]) -> Result<Slot, OutOfMemory> {
+        self.assumptions.reserve(lits)?;
+        let slot = self.store.insert(lits)?;
+        match add_entries(&self.store, &mut self.lists, &mut self.short, slot) {
+            Ok(()) => Ok(slot),
+            Err(refused) => {
+                self.store.remove(slot);
+                Err(refused)
+            }
+        }
+    }
+
+    fn remove(&mut self, slot: Slot) {
+        remove_entries(&self.store, &mut self.lists, &mut self.short, slot);
+        self.store.remove(slot);
+    }
+
+    fn find(&mut self, lits: &[Lit]) -> Option<Slot> {
+        self.store.find(lits)
+    }
+
+    fn clause(&self, slot: Slot) -> &[Lit] {
+        self.store.clause(slot)
+    }
+
+    fn literals(&self) -> u64 {
+        self.store.literals()
+    }
+
+    fn next_with(&self, l: Lit, from: Slot) -> Option<Slot> {
+        first_with(&self.store, l, from)
+    }
+
+    fn assume(&mut self, lits: &[Lit]) -> Result<Answer, OutOfMemory> {
+        if self.has_refused || self.assumptions.reserve(lits).is_err() {
+            self.has_refused = true;
+            return Err(OutOfMemory);
+        }
+        let assumed = assume_part(
+            &mut self.store,
+            &mut self.lists,
+            &self.short,
+            &mut self.assumptions,
+            &Source::Given(lits),
+            &Whole,
+        );
+        self.store.is_sound();
+        self.has_refused = assumed.is_err();
+        assumed
+    }
+
+    fn assume_rest(&mut self, slot: Slot, l: Lit) -> Result<Answer, OutOfMemory> {
+        if self.has_refused {
+            return Err(OutOfMemory);
+        }
+        let assumed = assume_part(
+            &mut self.store,
+            &mut self.lists,
+            &self.short,
+            &mut self.assumptions,
+            &Source::Stored(slot),
+            &Except(l),
+        );
+        self.store.is_sound();
+        self.has_refused = assumed.is_err();
+        assumed
+    }
+
+    fn undo(&mut self) {
+        self.assumptions.undo();
+    }
+
+    fn value(&self, l: Lit) -> Value {
+        self.assumptions.trail().value(l)
+    }
+}
