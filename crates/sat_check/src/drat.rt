@@ -1,6 +1,7 @@
 //! A check of a DRAT proof, from bytes to bytes.
 
-ghost use Rattle.std.specs.Prelude.{◌≡◌, true, false};
+ghost use Rattle.std.specs.Prelude.{◌≡◌, [], true, false};
+ghost use Rattle.std.specs.FinMap as maps;
 ghost use Rattle.cnf_base.specs.Seen.{OfBothSeen, OneHasFailed};
 ghost use Rattle.cnf_base.specs.Stream.{bytes_read};
 ghost use Rattle.dimacs.specs.Formula.{formula_of};
@@ -12,7 +13,7 @@ ghost use Rattle.sat_check.specs.Report.{Reports, ChecksProof, drat_proof, rules
 use crate::check::check;
 use crate::conclude::give_up;
 use crate::{DratOptions, Status};
-use clause_db::Scan;
+use clause_db::{Propagate, Watch};
 use cnf_base::{In, LineOut, Out, Piece, Source};
 use proofs::{DratBinary, DratText};
 use std::alloc::Global;
@@ -70,19 +71,46 @@ fn check_drat<F: In, P: In, O: Out>(
     ensures write_failed { result ≡ Status.WriteFailed → lines.new.has_failed ≡ true }
     ensures same_writer { lines.new.borrows ≡ lines.old.borrows }
 {
-    let Ok(clauses) = Scan::new(alloc) else {
+    let Ok(clauses) = Watch::new(alloc) else {
         return give_up(lines);
     };
+    check_with(alloc, options, clauses, formula, proof, lines)
+}
+
+// The check by a propagation without clauses.
+pub(crate) fn check_with<C: Propagate + Drop, F: In, P: In, O: Out>(
+    alloc: Global,
+    options: DratOptions,
+    clauses: C,
+    formula: &mut F,
+    proof: &mut P,
+    lines: &mut LineOut<O>,
+) -> Status
+    requires empty { (C.state clauses).live ≡ maps.empty }
+    requires nothing_assumed { (C.state clauses).assumptions ≡ [] }
+    requires none_refused { (C.state clauses).has_refused ≡ false }
+    requires whole { lines.old.is_broken ≡ false }
+    ensures report { OfBothSeen (F.shown formula.old) (F.shown formula.new)
+        (P.shown proof.old) (P.shown proof.new) (λ i j.
+        Reports (drat (rules_of options)) options.trace i (drat_proof options.binary j)
+        lines.old.held lines.new.held result
+        × ReadsNoFurther (drat (rules_of options)) (formula_of i) j
+        (drat_proof options.binary j) (bytes_read (P.shown proof.old) (P.shown proof.new)) result) }
+    ensures read_failed { result ≡ Status.ReadFailed →
+        OneHasFailed (F.shown formula.new) (P.shown proof.new) }
+    ensures write_failed { result ≡ Status.WriteFailed → lines.new.has_failed ≡ true }
+    ensures same_writer { lines.new.borrows ≡ lines.old.borrows }
+{
     let mut session = DratSession::new(clauses, options.rules());
     check_form(alloc, options, formula, &mut session, proof, lines)
 }
 
 // The check by a session without clauses, in the form that was asked for.
-fn check_form<F: In, P: In, O: Out>(
+fn check_form<C: Propagate + Drop, F: In, P: In, O: Out>(
     alloc: Global,
     options: DratOptions,
     formula: &mut F,
-    session: &mut DratSession<Scan>,
+    session: &mut DratSession<C>,
     proof: &mut P,
     lines: &mut LineOut<O>,
 ) -> Status

@@ -1,9 +1,11 @@
 //! Additions of DRAT.
 
-use crate::support::{DRAT, DRAT_TRACED, E, E_BY_DRAT, E_BY_DRAT_TRACED, G, Row, expect_all};
+use crate::support::{
+    DRAT, DRAT_TRACED, E, E_BY_DRAT, E_BY_DRAT_TRACED, EIGHT, G, Row, expect_all,
+};
 use std::test::Fail;
 
-const ROWS: [Row<'static>; 16] = [
+const ROWS: [Row<'static>; 18] = [
     E_BY_DRAT,
     Row {
         name: "e_drat, without the last line feed",
@@ -20,6 +22,22 @@ const ROWS: [Row<'static>; 16] = [
         second: b"3 -1 0\n-3 1 0\n",
         lines: "c formula 2 variables 1 clauses\nc 1 add rat\nc 2 add rat\nc end: no empty clause",
         status: 1,
+        ..DRAT_TRACED
+    },
+    Row {
+        name: "eight_clauses",
+        formula: EIGHT,
+        second: b"1 2 0\n1 0\n2 0\n0\n",
+        lines: "c formula 3 variables 8 clauses\nc 1 add rup\nc 2 add rup\nc 3 add rup\nc 4 add rup\nc steps 4 peak 28",
+        status: 0,
+        ..DRAT_TRACED
+    },
+    Row {
+        name: "eight_clauses, with a deletion",
+        formula: EIGHT,
+        second: b"1 2 0\n1 0\nd 1 2 0\n2 0\n0\n",
+        lines: "c formula 3 variables 8 clauses\nc 1 add rup\nc 2 add rup\nc 3 delete\nc 4 add rup\nc 5 add rup\nc steps 5 peak 27",
+        status: 0,
         ..DRAT_TRACED
     },
     Row {

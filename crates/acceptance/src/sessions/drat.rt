@@ -5,7 +5,7 @@ ghost use Rattle.std.specs.FinMap as maps;
 
 use crate::sessions::common::{Answer, expect_empty_clause, expect_ended, expect_on_one_clause};
 use crate::support::{Cut, open};
-use clause_db::{Propagate, Scan};
+use clause_db::{Propagate, Scan, Watch};
 use proofs::DratText;
 use std::alloc::Global;
 use std::process::Abort;
@@ -51,7 +51,8 @@ fn expect_by<P: Propagate + Drop>(
 fn empty_clause(rt: HostRuntime) -> Result<(), Fail> {
     let alloc = rt.alloc();
     let trial = Trial::EmptyClause(b"0\nd 1 0\n");
-    expect_by(&rt, alloc, Scan::new(alloc)?, false, trial)
+    expect_by(&rt, alloc, Scan::new(alloc)?, false, trial)?;
+    expect_by(&rt, alloc, Watch::new(alloc)?, false, trial)
 }
 
 #[test]
@@ -67,7 +68,8 @@ fn every_answer(rt: HostRuntime) -> Result<(), Fail> {
         (Err(Refusal::Ended), 5, 5, false),
     ];
     let trial = Trial::OneClause(proof, &answers);
-    expect_by(&rt, alloc, Scan::new(alloc)?, false, trial)
+    expect_by(&rt, alloc, Scan::new(alloc)?, false, trial)?;
+    expect_by(&rt, alloc, Watch::new(alloc)?, false, trial)
 }
 
 #[test]
@@ -79,11 +81,13 @@ fn strict(rt: HostRuntime) -> Result<(), Fail> {
         (Err(Refusal::Ended), 2, 0, false),
     ];
     let trial = Trial::OneClause(b"d 1 2 0\nd 1 2 0\n1 0\n", &answers);
-    expect_by(&rt, alloc, Scan::new(alloc)?, true, trial)
+    expect_by(&rt, alloc, Scan::new(alloc)?, true, trial)?;
+    expect_by(&rt, alloc, Watch::new(alloc)?, true, trial)
 }
 
 #[test]
 fn ended(rt: HostRuntime) -> Result<(), Fail> {
     let alloc = rt.alloc();
-    expect_by(&rt, alloc, Scan::new(alloc)?, false, Trial::Ended)
+    expect_by(&rt, alloc, Scan::new(alloc)?, false, Trial::Ended)?;
+    expect_by(&rt, alloc, Watch::new(alloc)?, false, Trial::Ended)
 }

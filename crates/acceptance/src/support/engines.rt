@@ -3,18 +3,22 @@
 use crate::support::readers::Pieces;
 use crate::support::rows::Tool;
 use crate::support::writers::Writer;
+use clause_db::{Scan, Watch};
 use cnf_base::{FromRead, In, Out, ToWrite};
-use sat_check::{DratOptions, LratOptions, Status, run_drat, run_lrat, run_model};
+use sat_check::{DratOptions, LratOptions, Status, run_drat, run_drat_with, run_lrat, run_model};
 use std::alloc::{AllocError, Global};
 
 // How a check of DRAT propagates.
 #[derive(Clone, Copy, Debug, PartialEq, Eq)]
 pub enum Propagation {
+    // The one that the program picks.
+    Picked,
     Scan,
+    Watch,
 }
 
 // Each row of DRAT is run with each of these.
-const PROPAGATIONS: [Propagation; 1] = [Propagation::Scan];
+const PROPAGATIONS: [Propagation; 3] = [Propagation::Picked, Propagation::Scan, Propagation::Watch];
 
 // A tool with what it is asked to do and, for DRAT, how it propagates.
 #[derive(Clone, Copy, Debug, PartialEq, Eq)]
@@ -50,7 +54,15 @@ fn check_drat<F: In, P: In, O: Out>(
     out: &mut O,
 ) -> Status {
     match propagation {
-        Propagation::Scan => run_drat(alloc, options, formula, proof, out),
+        Propagation::Picked => run_drat(alloc, options, formula, proof, out),
+        Propagation::Scan => match Scan::new(alloc) {
+            Ok(clauses) => run_drat_with(alloc, options, clauses, formula, proof, out),
+            Err(_) => Status::OutOfMemory,
+        },
+        Propagation::Watch => match Watch::new(alloc) {
+            Ok(clauses) => run_drat_with(alloc, options, clauses, formula, proof, out),
+            Err(_) => Status::OutOfMemory,
+        },
     }
 }
 

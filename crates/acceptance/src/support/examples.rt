@@ -17,6 +17,10 @@ pub const E_DRAT: &[u8] = b"2 0\n0\n";
 // The same in the binary form.
 pub const E_BINARY: &[u8] = b"a\x04\x00a\x00";
 
+// All eight clauses of three variables, which have no model.
+pub const EIGHT: &str =
+    "p cnf 3 8\n1 2 3 0\n1 2 -3 0\n1 -2 3 0\n1 -2 -3 0\n-1 2 3 0\n-1 2 -3 0\n-1 -2 3 0\n-1 -2 -3 0\n";
+
 // One clause, which has models.
 pub const G: &str = "p cnf 2 1\n1 2 0\n";
 

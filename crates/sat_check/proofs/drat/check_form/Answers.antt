@@ -1,5 +1,5 @@
 -- Want of memory, or the check in the form that was asked for.
-use Rattle.std.proofs.Common.{refl, sym, ap, ◌∙◌, rules}
+use Rattle.std.proofs.Common.{refl, sym, ap, rules}
 use Rattle.proofs.specs.Binary.{binary_steps, binary_to_come}
 use Rattle.proofs.specs.Drat.{drat_steps, drat_to_come}
 use Rattle.sat_check.specs.Report.{drat_proof, rules_of}

@@ -1,0 +1,47 @@
+//! A check of a DRAT proof by a propagation of the caller's choice.
+
+ghost use Rattle.std.specs.Prelude.{◌≡◌, [], true, false};
+ghost use Rattle.std.specs.FinMap as maps;
+ghost use Rattle.cnf_base.specs.Seen.{OfBothSeen, OneHasFailed};
+ghost use Rattle.cnf_base.specs.Stream.{bytes_read};
+ghost use Rattle.dimacs.specs.Formula.{formula_of};
+ghost use Rattle.steps.specs.Theory.Rules.{drat};
+ghost use Rattle.sat_check.specs.Reach.{ReadsNoFurther};
+ghost use Rattle.sat_check.specs.Report.{ChecksProof, drat_proof, rules_of};
+
+use crate::drat::check_with;
+use crate::{DratOptions, Status};
+use clause_db::Propagate;
+use cnf_base::{In, LineOut, Out};
+use std::alloc::Global;
+
+/// As [`run_drat`](crate::run_drat), with a propagation of the caller's choice: it has no clause, nothing is assumed, and no
+/// memory was refused to it.
+pub fn run_drat_with<C: Propagate + Drop, F: In, P: In, O: Out>(
+    alloc: Global,
+    options: &DratOptions,
+    clauses: C,
+    formula: &mut F,
+    proof: &mut P,
+    out: &mut O,
+) -> Status
+    requires empty { (C.state clauses).live ≡ maps.empty }
+    requires nothing_assumed { (C.state clauses).assumptions ≡ [] }
+    requires none_refused { (C.state clauses).has_refused ≡ false }
+    ensures checks { OfBothSeen (F.shown formula.old) (F.shown formula.new)
+        (P.shown proof.old) (P.shown proof.new) (λ i j.
+        ChecksProof (drat (rules_of options.now)) options.now.trace i
+        (drat_proof options.now.binary j) (O.held out.old) (O.held out.new) result
+        × ReadsNoFurther (drat (rules_of options.now)) (formula_of i) j
+        (drat_proof options.now.binary j)
+        (bytes_read (P.shown proof.old) (P.shown proof.new)) result) }
+    ensures read_failed { result ≡ Status.ReadFailed →
+        OneHasFailed (F.shown formula.new) (P.shown proof.new) }
+    ensures write_failed { result ≡ Status.WriteFailed → O.has_failed out.new ≡ true }
+{
+    let mut lines = LineOut::new(&mut *out);
+    let status = check_with(alloc, *options, clauses, formula, proof, &mut lines);
+    let writer = lines.release();
+    let _ = &*writer;
+    status
+}
