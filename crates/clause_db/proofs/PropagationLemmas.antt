@@ -1,3 +1,4 @@
+pub mod Counts
 pub mod Exact
 pub mod Forced
 pub mod HasAt

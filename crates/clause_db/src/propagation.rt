@@ -19,7 +19,7 @@ pub(crate) mod watch;
 ghost use Rattle.std.specs.Prelude.{◌≡◌, ◌≢◌, [], ◌≤◌, ◌<◌, ◌∷◌, ℕ, min, not, ◌==◌, length, Some, None, List, IsTrue, IsSome, IfSome, IfNone, IfOk, OnErr};
 ghost use Rattle.std.specs.FinMap as maps;
 ghost use Rattle.cnf_base.specs.Literals.{Clause, same_clause, complements};
-ghost use Rattle.clause_db.specs.Store.Clauses.{size};
+ghost use Rattle.clause_db.specs.Store.Clauses.{size, copies_with};
 ghost use Rattle.clause_db.specs.Propagation.Assumptions.{Propagation, Assumption, Assuming, AssumingPart, HoldsLiveAlone, HasAt, LastIsAnswered, IsValue, MayAssume, assumed_by};
 ghost use Rattle.clause_db.specs.declared.propagation.answer.Answer.TheVariants.{Quiet};
 
@@ -86,6 +86,12 @@ pub trait Propagate {
             ¬ HasAt (maps.get (state self.now).live) l s) }
         ensures slots { (s : ℕ) → IsSome (maps.get (state self.now).live s) →
             s ≤ 18446744073709551615 };
+
+    /// How many of the live clauses have the literal, each copy counted. It takes no memory.
+    fn count_with(&self, l: Lit) -> u64
+        ensures value { result ≡ copies_with (state self.now).live l }
+        ensures none { result ≡ 0 → (s : ℕ) → ¬ HasAt (maps.get (state self.now).live) l s }
+        ensures some { result ≢ 0 → (s : ℕ) × HasAt (maps.get (state self.now).live) l s };
 
     /// Assumes the complements of the literals, beside what is assumed, and propagates.
     ///

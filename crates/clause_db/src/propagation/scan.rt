@@ -144,6 +144,10 @@ impl Propagate for Scan {
         first_with(&self.store, l, from)
     }
 
+    fn count_with(&self, l: Lit) -> u64 {
+        self.store.count_with(l)
+    }
+
     fn assume(&mut self, lits: &[Lit]) -> Result<Answer, OutOfMemory> {
         if self.has_refused || self.assumptions.reserve(lits).is_err() {
             self.has_refused = true;

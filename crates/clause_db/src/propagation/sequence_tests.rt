@@ -100,6 +100,16 @@ fn assume_twice<P: Propagate>(
     Ok(())
 }
 
+/// Notes how many clauses have each literal.
+fn note_counts<P: Propagate>(clauses: &P, log: &mut Vec<u8>) -> Result<(), Fail> {
+    for var in 1..8 {
+        let l = Lit::new(var).ok_or("no literal")?;
+        log.push(clauses.count_with(l).min(255) as u8)?;
+        log.push(clauses.count_with(l.neg()).min(255) as u8)?;
+    }
+    Ok(())
+}
+
 /// Inserts a clause, takes out another if it is there, and assumes two others.
 fn change<P: Propagate>(
     alloc: Global,
@@ -119,6 +129,7 @@ fn change<P: Propagate>(
         clauses.remove(slot);
         log.push(5)?;
     }
+    note_counts(clauses, log)?;
     let first = dice.literals(alloc, 1)?;
     let second = dice.literals(alloc, 2)?;
     assume_twice(clauses, first.as_slice(), second.as_slice(), log)

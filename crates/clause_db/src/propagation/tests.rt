@@ -178,6 +178,41 @@ fn looks_up(rt: HostRuntime) -> Result<(), Fail> {
     Ok(())
 }
 
+/// How many clauses have the literal 2, and whether a slot with it is found, as the clauses `1 2` are taken out one by one.
+fn counts_down<P: Propagate>(
+    alloc: Global,
+    clauses: &mut P,
+    rows: &[[i32; 2]],
+) -> Result<Vec<(u64, bool)>, Fail>
+    requires { (P.state clauses.old).assumptions ≡ [] }
+{
+    fill(alloc, clauses, rows)?;
+    let l = Lit::new(2).ok_or("no literal")?;
+    let clause = lits(alloc, &[1, 2])?;
+    let mut counts = Vec::new(alloc);
+    for _ in 0..3 {
+        let slot = clauses.next_with(l, Slot::first());
+        counts.push((clauses.count_with(l), slot.is_some()))?;
+        if let Some(slot) = clauses.find(clause.as_slice()) {
+            clauses.remove(slot);
+        }
+    }
+    Ok(counts)
+}
+
+const TWO_COPIES: [[i32; 2]; 3] = [[1, 2], [2, 1], [1, -2]];
+
+#[test]
+fn counts_copies(rt: HostRuntime) -> Result<(), Fail> {
+    let alloc = rt.alloc();
+    let expected = [(2, true), (1, true), (0, false)];
+    let scanned = counts_down(alloc, &mut Scan::new(alloc)?, &TWO_COPIES)?;
+    assert!(rt; scanned.as_slice() == expected.as_slice());
+    let watched = counts_down(alloc, &mut Watch::new(alloc)?, &TWO_COPIES)?;
+    assert!(rt; watched.as_slice() == expected.as_slice());
+    Ok(())
+}
+
 /// Whether an assumption that was refused is refused ever after, and changes nothing.
 fn is_refused_again<P: Propagate>(alloc: Global, clauses: &mut P) -> Result<bool, Fail>
     requires { (P.state clauses.old).assumptions ≡ [] }

@@ -1,5 +1,5 @@
 -- The search over the clauses with the pivot's complement.
-use Rattle.std.proofs.Common.{◌≡◌, ℕ, ◌+◌, ◌<◌, ◌≤◌, true, Option, Some, None, is_some, IsSome, List, ◌++◌, refl, sym, subst, arith, inl, inr}
+use Rattle.std.proofs.Common.{◌≡◌, ℕ, ◌+◌, ◌<◌, ◌≤◌, true, cond, ne_eqb, Option, Some, None, is_some, IsSome, List, ◌++◌, refl, sym, ap, ◌∙◌, subst, arith, inl, inr}
 use Rattle.std.specs.Ordering.{nat_cmp}
 use Rattle.std.specs.FinMap as maps
 use Rattle.std.specs.FinMap.{FinMap}
@@ -8,6 +8,9 @@ use Rattle.cnf_base.specs.Literals.{Literal, Clause, has, complements, without}
 use Rattle.clause_db.specs.Propagation.Assumptions.{Propagation, Assumption, IsAnswer, HasAt, assumed_by}
 use Rattle.clause_db.specs.declared.propagation.answer.Answer.{Answer}
 use Rattle.clause_db.specs.declared.propagation.answer.Answer.TheVariants.{Clash as AnswersClash, Quiet}
+use Rattle.clause_db.specs.Store.Clauses.{copies_with}
+use Rattle.clause_db.proofs.PropagationLemmas.Counts.{copies_without, none_with}
+use Rattle.clause_db.proofs.StoreLemmas.Sums.{get_remove}
 use Rattle.steps.specs.Theory.Propagation.{Clash}
 use Rattle.steps.specs.Drat.Candidates.{AllClash, SomeQuiet}
 
@@ -21,13 +24,44 @@ abbrev pub AnswersAt : FinMap nat_cmp Clause → List Assumption → Literal →
 AnswersAt live assumptions opposite slot a =
     (c : Clause) → maps.get live slot ≡ Some c → IsAnswer (maps.get live) (assumed_by assumptions ++ complements (without c opposite)) a
 
+-- ---- How many are left
+
+-- no more than so many clauses in the slots from this one on have the literal: a map that has the same clauses there has so many with it
+pub record Remaining (live : FinMap nat_cmp Clause) (opposite : Literal) (from left : ℕ) : Type 0 where
+  pub rest : FinMap nat_cmp Clause
+  pub alike : (s : ℕ) → from ≤ s → maps.get rest s ≡ maps.get live s
+  pub counted : copies_with rest opposite ≡ left
+
+module _ (live : FinMap nat_cmp Clause) (opposite : Literal) where
+  pub remaining_first : (from left : ℕ) → left ≡ copies_with live opposite → Remaining live opposite from left
+  remaining_first from left is = record { rest = live; alike = λ s low. refl; counted = sym is }
+
+  pub remaining_none : (from left : ℕ) → left ≡ 0 → Remaining live opposite from left → (s : ℕ) → from ≤ s → ¬ HasAt (maps.get live) opposite s
+  remaining_none from left is r s low h =
+      none_with r.rest opposite (r.counted ∙ is) s (record { clause = h.clause; at = r.alike s low ∙ h.at; member = h.member })
+
+  pub remaining_next : (from left slot : ℕ) → from ≤ slot → HasAt (maps.get live) opposite slot → (next : ℕ) → next ≡ slot + 1 → (fewer : ℕ) → fewer + 1 ≡ left → Remaining live opposite from left → Remaining live opposite next fewer
+  remaining_next from left slot low h next next_is fewer fewer_is r =
+      record {
+        rest = maps.remove r.rest slot;
+        alike = λ s past.
+            get_remove r.rest slot s
+            ∙ ap (λ b. cond b None (maps.get r.rest s)) (ne_eqb s slot (λ same. absurd (omega (arith, past, next_is, same))))
+            ∙ r.alike s (omega (arith, past, next_is, low));
+        counted =
+            let one_less = copies_without r.rest opposite slot (record { clause = h.clause; at = r.alike slot low ∙ h.at; member = h.member }) in
+            omega (arith, one_less, fewer_is, r.counted);
+      }
+
+-- ---- The walk
+
 module _ (old now : Propagation) (opposite : Literal) (live_is : now.live ≡ old.live) (standing : now.assumptions ≡ old.assumptions) where
   answers_old : (slot : ℕ) (a b : Answer) → a ≡ b → AnswersAt now.live now.assumptions opposite slot a → AnswersAt old.live old.assumptions opposite slot b
   answers_old slot a b is h =
       subst (AnswersAt old.live old.assumptions opposite slot) is
       (subst (λ them. AnswersAt old.live them opposite slot a) standing (subst (λ m. AnswersAt m now.assumptions opposite slot a) live_is h))
 
-  here_old : (slot : ℕ) → HasAt (maps.get now.live) opposite slot → HasAt (maps.get old.live) opposite slot
+  pub here_old : (slot : ℕ) → HasAt (maps.get now.live) opposite slot → HasAt (maps.get old.live) opposite slot
   here_old slot h = subst (λ m. HasAt (maps.get m) opposite slot) live_is h
 
   none_old : (slot : ℕ) → ¬ HasAt (maps.get now.live) opposite slot → ¬ HasAt (maps.get old.live) opposite slot
@@ -40,6 +74,9 @@ module _ (old now : Propagation) (opposite : Literal) (live_is : now.live ≡ ol
           | inl lt ↦ passed k d lt at member
           | inr le ↦ absurd (none_old k (none k le) (record { clause = d; at = at; member = member }))
         ]
+
+    pub passed_counted : (left : ℕ) → left ≡ 0 → Remaining old.live opposite from left → AllClash (maps.get old.live) (assumed_by old.assumptions) opposite
+    passed_counted left is r = passed_all (λ s low h. remaining_none old.live opposite from left is r s low (here_old s h))
 
     module _ (slot : ℕ) (over : (s : ℕ) → from ≤ s → s < slot → ¬ HasAt (maps.get now.live) opposite s) (a : Answer) (answer : AnswersAt now.live now.assumptions opposite slot a) where
       pub passed_next : a ≡ AnswersClash → (next : ℕ) → next ≡ slot + 1 → Passed old opposite next

@@ -46,12 +46,17 @@ fn all_clash<P: Propagate>(clauses: &mut P, opposite: Lit) -> Result<bool, OutOf
     ensures live { (P.state clauses.new).live ≡ (P.state clauses.old).live }
     ensures assumptions { (P.state clauses.new).assumptions ≡ (P.state clauses.old).assumptions }
 {
+    let mut left = clauses.count_with(opposite);
     let mut from = Slot::first();
-    while let Some(slot) = clauses.next_with(opposite, from) {
+    while left > 0 {
+        let Some(slot) = clauses.next_with(opposite, from) else {
+            return Ok(true);
+        };
         match answer_with(clauses, slot, opposite)? {
             Answer::Quiet => return Ok(false),
             Answer::Clash => {}
         }
+        left -= 1;
         match slot.next() {
             Some(next) => from = next,
             None => return Ok(true),

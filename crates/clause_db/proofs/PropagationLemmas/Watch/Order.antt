@@ -14,7 +14,7 @@ use Rattle.cnf_base.specs.Literals.{Literal, Clause, complement, complements, ha
 use Rattle.cnf_base.proofs.LiteralLemmas.{complement-complement}
 use Rattle.cnf_base.proofs.SetLemmas.{both_pass, complements_has, filter_has, has-complements, has-filter, same_from}
 use Rattle.clause_db.specs.Propagation.Assumptions.{HasAt}
-use Rattle.clause_db.specs.Store.Clauses.{size, sum_over, literals_in}
+use Rattle.clause_db.specs.Store.Clauses.{size, sum_over, literals_in, copies_with}
 use Rattle.clause_db.specs.Propagation.Watch.Order.{set_of, in_order, each_in_order}
 use Rattle.clause_db.proofs.StoreLemmas.Distinct.{size_same}
 use Rattle.clause_db.proofs.StoreLemmas.Sums.{get_insert, get_remove, same_maps}
@@ -98,6 +98,9 @@ unfolding each_in_order
 sum_ordered w alike live =
     ap (λ es. sum_by w (map (λ e. e.1) es)) (maps.entries-from_sorted nat_cmp (ordered (maps.entries live)) (still_sorted live))
     ∙ weights_ordered w alike (maps.entries live)
+
+pub copies_ordered : (live : FinMap nat_cmp Clause) (l : Literal) → copies_with (each_in_order live) l ≡ copies_with live l
+copies_ordered live l = sum_ordered (λ c. cond (has c l) 1 0) (λ c. ap (λ b. cond b 1 0) (has-in_order c l)) live
 
 pub literals_ordered : (live : FinMap nat_cmp Clause) → literals_in (each_in_order live) ≡ literals_in live
 literals_ordered = sum_ordered size size-in_order
