@@ -1,15 +1,15 @@
 -- What a scanner has seen of a text, byte by byte.
-use Rattle.std.proofs.Common.{◌≡◌, ℕ, ◌<◌, ◌≤◌, ◌==◌, cond, true, false, List, [], ◌∷◌, ◌++◌, length, take, drop, length-drop, refl, sym, ap, ◌∙◌, append_assoc, arith, Some, length-append}
-use Rattle.std.specs.Prelude.{slice_index, Result, Ok, Err, IsErr}
+use Rattle.std.proofs.Common.{◌≡◌, ℕ, ◌<◌, ◌≤◌, ◌==◌, cond, true, false, List, [], ◌∷◌, ◌++◌, length, take, drop, length-drop, refl, sym, ap, subst, ◌∙◌, append_assoc, arith, Some, length-append}
+use Rattle.std.specs.Prelude.{slice_index, slice_range, ◌-◌, ◌&&◌, Result, Ok, Err, IsErr}
 use Rattle.cnf_base.specs.declared.input.ReadFailed.{ReadFailed}
 use Rattle.std.proofs.lemmas.Bool.Decides.{nat_tests}
-use Rattle.cnf_base.specs.Stream.{Input, Stream, Along, IsLook, bumped, skipped, more_count, most_to_come, place_after}
-use Rattle.cnf_base.specs.Text.{is_separator, col_after, line_after, col_along, listed, with_front, skips_at, comment_at, listing_at, FailsAt}
+use Rattle.cnf_base.specs.Stream.{Input, Stream, Along, IsLook, bumped, skipped, more_count, next_count, most_to_come, place_after}
+use Rattle.cnf_base.specs.Text.{is_separator, is_comment, col_after, line_after, col_along, listed, with_front, skips_at, comment_at, listing_at, FailsAt}
 use Rattle.cnf_base.specs.Words.{word_of}
 use Rattle.cnf_base.specs.Whole.{IsWholeNumber}
 use Rattle.cnf_base.specs.declared.word.Number.{Number}
 use Rattle.cnf_base.specs.declared.word.Word.TheVariants as words
-use Rattle.std.proofs.lemmas.List.{length-take-le}
+use Rattle.std.proofs.lemmas.List.{length-take-le, take_all}
 use Rattle.std.proofs.lemmas.Grind.{common_steps}
 use Rattle.cnf_base.specs.declared.word.Word.{Word}
 use Rattle.cnf_base.specs.declared.input.Ending.{Ending}
@@ -292,3 +292,27 @@ pub Stands-cut_word : (old now new : Stream) → Stands old now
     → Along old new (λ i j. (listing_at old.place i ≡ listing_at new.place j) × ((listing_at old.place i).tokens ≡ []) × ((listing_at old.place i).ending ≡ Failed))
 Stands-cut_word old now new s run =
     Along-then old now new _ _ _ s.text run (λ i j k m p q. (p ∙ q.0, ap (λ l. l.tokens) p ∙ q.1, ap (λ l. l.ending) p ∙ q.2))
+
+-- ---- A number after a space
+
+pub spaced-read : (old : Stream) (p : Place) (count : ℕ) (number : Number) → 0 < old.place.col → 2 ≤ length old.ahead → slice_index old.ahead 0 ≡ 32
+    → IsWholeNumber (slice_range old.ahead 1 (length old.ahead)) count number → p ≡ (bumped old).place
+    → Along old (skipped count (bumped old)) (λ i j. listing_at old.place i
+    ≡ with_front (listed (token.Word p (words.Number number)) (length j.bytes) ∷ []) (listing_at (skipped count (bumped old)).place j))
+spaced-read old p count number from_one enough space w here =
+    Stands-word old (bumped old) (skipped count (bumped old)) p (words.Number number)
+    (Stands-separator old old 32 (Stands-start old) from_one (omega arith) (sym space) refl refl)
+    here
+    (whole_number-read (bumped old) (slice_index (drop 1 old.ahead) 0) count number (omega (arith, length-drop 1 old.ahead)) refl skips number_is)
+  where
+    rest_is : slice_range old.ahead 1 (length old.ahead) ≡ drop 1 old.ahead
+    rest_is = take_all (length old.ahead - 1) (drop 1 old.ahead) (omega (arith, length-drop 1 old.ahead))
+
+    number_is : IsWholeNumber (drop 1 old.ahead) count number
+    number_is = let P : List ℕ → Type 0 = λ xs. IsWholeNumber xs count number in subst P rest_is w
+
+    later : (next_count old.place.col == 1) ≡ false
+    later = grind (arith, nat_tests)
+
+    skips : skips_at (bumped old).place (slice_index (drop 1 old.ahead) 0 ∷ []) ≡ false
+    skips = ap (λ b. skips_at (place_after b old.place) (slice_index (drop 1 old.ahead) 0 ∷ [])) space ∙ ap (λ b. b && is_comment (slice_index (drop 1 old.ahead) 0 ∷ [])) later

@@ -1,10 +1,10 @@
 -- Numbers that stand whole among bytes.
-use Rattle.std.proofs.Common.{◌≡◌, ℕ, zero, suc, ◌+◌, ◌-◌, ◌*◌, ◌^◌, ◌<◌, ◌≤◌, ◌==◌, not, true, false, List, [], ◌∷◌, ◌++◌, length, take, inl, inr, ◌⊎◌, refl, sym, ap, ◌∙◌, subst, arith, add-one}
-use Rattle.std.specs.Prelude.{slice_index, slice_range}
+use Rattle.std.proofs.Common.{◌≡◌, ℕ, zero, suc, ◌+◌, ◌-◌, ◌*◌, ◌^◌, ◌<◌, ◌≤◌, ◌==◌, ◌≢◌, not, true, false, List, [], ◌∷◌, ◌++◌, length, take, inl, inr, ◌⊎◌, refl, sym, ap, ◌∙◌, subst, arith, add-one}
+use Rattle.std.specs.Prelude.{slice_index, slice_index_or, slice_set, slice_range}
 use Rattle.std.proofs.Math.Seq.{take-length}
 use Rattle.std.specs.List.{list_all}
 use Rattle.std.proofs.lemmas.Bool.{and_parts}
-use Rattle.std.proofs.lemmas.List.{take_more}
+use Rattle.std.proofs.lemmas.List.{take_more, get_or-set_same, get_or-set_other, length-set}
 use Rattle.std.proofs.lemmas.List.Folds.{list_all-append}
 use Rattle.std.proofs.lemmas.List.Sums.{fold-append}
 use Rattle.std.proofs.lemmas.Bool.Decides.{nat_tests}
@@ -35,20 +35,20 @@ tail b bs =
     let size : length (b ∷ bs) - 1 ≡ length bs = omega arith in
     ap (λ k. take k bs) size ∙ take-length bs
 
--- the greatest number of so many digits after the first
+-- no less than a number and so many bytes after it, each taken as a digit
 pub most : ℕ → ℕ
 most zero = 9
-most (suc n) = 10 * most n + 9
+most (suc n) = 10 * most n + 255
 
 pub most_first : most 0 ≡ 9
 unfolding most
 most_first = refl
 
-pub most_next : (n : ℕ) → most (n + 1) ≡ 10 * most n + 9
+pub most_next : (n : ℕ) → most (n + 1) ≡ 10 * most n + 255
 unfolding most
 most_next n = ap most (add-one n)
 
-pub most_small : (n : ℕ) → n ≤ 4 → most n ≤ 99999
+pub most_small : (n : ℕ) → n ≤ 4 → most n ≤ 999999
 unfolding most
 most_small zero h = omega arith
 most_small (suc zero) h = omega arith
@@ -57,48 +57,61 @@ most_small (suc (suc (suc zero))) h = omega arith
 most_small (suc (suc (suc (suc zero)))) h = omega arith
 most_small (suc (suc (suc (suc (suc n))))) h = absurd (omega arith)
 
--- so many of the first i bytes are digits that go on with the number, and more is 1 where these are all of them
-pub record IsFew (bytes : List ℕ) (number i count value more : ℕ) : Type 0 where
+-- so many of the first i bytes are digits that go on with the number, and more is 1 where these are all of them: then the value is
+-- the number with them. The values have the number with the digits at their count.
+pub record IsFew (bytes : List ℕ) (number i : ℕ) (values : List ℕ) (count value more : ℕ) : Type 0 where
   pub each : list_all is_digit (take count bytes) ≡ true
-  pub says : value ≡ decimal_after number (take count bytes)
+  pub says : slice_index_or values count 0 ≡ decimal_after number (take count bytes)
   pub turns : ((more ≡ 1) × (count ≡ i)) ⊎ ((more ≡ 0) × (count ≤ i))
+  pub last : more ≡ 1 → value ≡ decimal_after number (take i bytes)
   pub small : value ≤ most i
+  pub room : length values ≡ 6
 
-module _ (bytes : List ℕ) (number i count value more after next : ℕ) (so_far : IsFew bytes number i count value more) where
+module _ (bytes : List ℕ) (number i : ℕ) (values : List ℕ) (count value more after next digit : ℕ) (so_far : IsFew bytes number i values count value more)
+    (few : i ≤ 4) (next_is : next ≡ value * 10 + digit) (byte : digit ≤ 255) where
   low : count ≤ i
   low = elim so_far.turns [ inl t ↦ omega (arith, t.1) | inr t ↦ t.1 ]
 
-  pub IsFew-ended : after ≡ 0 → next ≡ value → IsFew bytes number (i + 1) (count + after) next after
-  IsFew-ended none same =
+  greater : next ≤ most (i + 1)
+  greater = let more_is = most_next i in let small = so_far.small in omega arith
+
+  roomy : length (slice_set values (i + 1) next) ≡ 6
+  roomy = length-set values (i + 1) next ∙ so_far.room
+
+  pub IsFew-ended : after ≡ 0 → IsFew bytes number (i + 1) (slice_set values (i + 1) next) (count + after) next after
+  IsFew-ended none =
       let below = low in
-      let greater = most_next i in
-      let small = so_far.small in
       let stays : count + after ≡ count = omega arith in
+      let apart : count ≢ i + 1 = λ e. absurd (omega arith) in
       record {
         each = ap (λ n. list_all is_digit (take n bytes)) stays ∙ so_far.each;
-        says = same ∙ so_far.says ∙ ap (λ n. decimal_after number (take n bytes)) (sym stays);
+        says = ap (λ n. slice_index_or (slice_set values (i + 1) next) n 0) stays ∙ get_or-set_other values (i + 1) count next 0 apart ∙ so_far.says ∙ ap (λ n. decimal_after number (take n bytes)) (sym stays);
         turns = inr (none, omega arith);
-        small = omega arith;
+        last = λ one. absurd (omega arith);
+        small = greater;
+        room = roomy;
       }
 
-  pub IsFew-digit : (digit : ℕ) → i < length bytes → more ≡ 1 → after ≡ 1 → digit ≤ 9 → digit + 48 ≡ slice_index bytes i → next ≡ value * 10 + digit
-      → IsFew bytes number (i + 1) (count + after) next after
-  IsFew-digit digit inside one still few is next_is =
-      let greater = most_next i in
-      let small = so_far.small in
+  pub IsFew-digit : i < length bytes → more ≡ 1 → after ≡ 1 → digit ≤ 9 → digit + 48 ≡ slice_index bytes i
+      → IsFew bytes number (i + 1) (slice_set values (i + 1) next) (count + after) next after
+  IsFew-digit inside one still nine is_byte =
       let all : count ≡ i = elim so_far.turns [ inl t ↦ t.1 | inr t ↦ absurd (omega (arith, t.0)) ] in
       let longer : count + after ≡ i + 1 = omega arith in
       let front : take (i + 1) bytes ≡ take i bytes ++ slice_index bytes i ∷ [] = take_more bytes i 0 inside in
       let ten : is_digit (slice_index bytes i) ≡ true = grind (arith, nat_tests) in
       let before : list_all is_digit (take i bytes) ≡ true = ap (λ n. list_all is_digit (take n bytes)) (sym all) ∙ so_far.each in
-      let was : value ≡ decimal_after number (take i bytes) = so_far.says ∙ ap (λ n. decimal_after number (take n bytes)) all in
       let is_digit_of : digit ≡ slice_index bytes i - 48 = omega arith in
+      let within : i + 1 < length values = let room = so_far.room in omega arith in
+      let now : next ≡ decimal_after number (take (i + 1) bytes) =
+      next_is ∙ ap (λ v. v * 10 + digit) (so_far.last one) ∙ ap (λ d. decimal_after number (take i bytes) * 10 + d) is_digit_of
+      ∙ sym (ap (decimal_after number) front ∙ fold-append (λ n d. n * 10 + (d - 48)) number (take i bytes) (slice_index bytes i ∷ [])) in
       record {
         each = ap (λ n. list_all is_digit (take n bytes)) longer ∙ ap (list_all is_digit) front ∙ list_all-append is_digit (take i bytes) (slice_index bytes i ∷ []) ∙ rw (before, ten) refl;
-        says = next_is ∙ ap (λ v. v * 10 + digit) was ∙ ap (λ d. decimal_after number (take i bytes) * 10 + d) is_digit_of
-            ∙ sym (ap (λ n. decimal_after number (take n bytes)) longer ∙ ap (decimal_after number) front ∙ fold-append (λ n d. n * 10 + (d - 48)) number (take i bytes) (slice_index bytes i ∷ []));
+        says = ap (λ n. slice_index_or (slice_set values (i + 1) next) n 0) longer ∙ get_or-set_same values (i + 1) next 0 within ∙ now ∙ ap (λ n. decimal_after number (take n bytes)) (sym longer);
         turns = inl (still, longer);
-        small = omega arith;
+        last = λ one. now;
+        small = greater;
+        room = roomy;
       }
 
 -- digits after a first one that isn't 0

@@ -1,5 +1,5 @@
 //! A text's tokens, with their places.
-ghost use Rattle.std.specs.Prelude.{◌≡◌, ◌<◌, ◌≤◌, ◌==◌, ◌&&◌, true, false, [], ◌∷◌, OnOk, OnErr, length, slice_index};
+ghost use Rattle.std.specs.Prelude.{◌≡◌, ◌<◌, ◌≤◌, ◌==◌, ◌&&◌, true, false, [], ◌∷◌, Ok, IfSome, IfNone, OnOk, OnErr, length, slice_index};
 ghost use Rattle.cnf_base.specs.Stream.{Along, most_to_come};
 ghost use Rattle.cnf_base.specs.Digits.{begins_number, first_digits};
 ghost use Rattle.cnf_base.specs.Text.{Gives, GivesWord, FailsAt, is_separator, skips_at, listing_at, comment_at, MovesOn};
@@ -57,6 +57,28 @@ impl<R: In> Scanner<R> {
     }
 }
 
+// The next token, where it is a number that stands whole after one space, as most tokens of a proof are. The place in the piece
+// is written once for both, since the next token waits for it.
+#[inline(always)]
+fn spaced_number<R: In>(source: &mut Source<R>) -> Option<Token>
+    ensures tokens { IfSome result (λ token. Along source.old source.new (λ i j.
+        Gives (Ok token) (listing_at source.old.place i) (listing_at source.new.place j) j)) }
+    ensures fewer { IfSome result (λ token. MovesOn (Ok token) source.old source.new) }
+    ensures none { IfNone result (source.new ≡ source.old) }
+    ensures mark { source.new.reader.has_failed ≡ source.old.reader.has_failed }
+{
+    let ahead = source.ahead();
+    if ahead.len() < 2 || ahead[0] != b' ' {
+        return None;
+    }
+    let (count, number) = whole_number(&ahead[1..])?;
+    let _from_one = source.place();
+    source.bump_in_line();
+    let place = source.place();
+    source.skip_in_line(count);
+    Some(Token::Word(place, Word::Number(number)))
+}
+
 // The text's next token.
 #[inline(always)]
 fn next_token<R: In>(source: &mut Source<R>) -> Result<Token, ReadFailed>
@@ -66,6 +88,9 @@ fn next_token<R: In>(source: &mut Source<R>) -> Result<Token, ReadFailed>
     ensures failed { OnErr result (source.new.reader.has_failed ≡ true) }
     ensures mark { OnOk result (source.new.reader.has_failed ≡ source.old.reader.has_failed) }
 {
+    if let Some(token) = spaced_number(source) {
+        return Ok(token);
+    }
     loop {
         match source.peek() {
             Ok(Some(byte)) => {

@@ -66,7 +66,7 @@ fn go_on(bytes: &[u8], number: u64) -> Option<(usize, u64)>
 }
 
 // How many of a few bytes go on with the number, and what it is with them. How many digits a number has can't be foretold, so
-// that a branch for each would often be guessed wrong.
+// that a branch for each would often be guessed wrong: all bytes are taken as digits, and the value at the count is picked.
 #[inline(always)]
 fn few_more(bytes: &[u8], number: u64) -> (usize, u64)
     requires few { length bytes.now ≤ 5 }
@@ -75,29 +75,20 @@ fn few_more(bytes: &[u8], number: u64) -> (usize, u64)
     ensures each { list_all is_digit (take result.0 bytes.now) ≡ true }
     ensures says { result.1 ≡ decimal_after number (take result.0 bytes.now) }
 {
-    let mut count = 0;
+    let mut values = [number; FEW + 1];
     let mut value = number;
+    let mut count = 0;
     let mut more = 1;
-    for byte in bytes {
+    for (i, byte) in bytes.iter().enumerate() {
         let digit = byte.wrapping_sub(b'0');
         if digit > 9 {
             more = 0;
         }
-        value = with_digit(value, digit, more);
-        count += more as usize;
+        count += more;
+        value = value * 10 + u64::from(digit);
+        values[i + 1] = value;
     }
-    (count, value)
-}
-
-// The number with one more digit, or without it where `more` is 0.
-#[inline(always)]
-fn with_digit(size: u64, digit: u8, more: u64) -> u64
-    requires size { size ≤ 1000000 }
-    requires more { more ≤ 1 }
-    ensures with { more ≡ 1 → result ≡ size * 10 + digit }
-    ensures without { more ≡ 0 → result ≡ size }
-{
-    size + (size * 9 + u64::from(digit)) * more
+    (count, values[count])
 }
 
 // The same as `go_on`, digit by digit.

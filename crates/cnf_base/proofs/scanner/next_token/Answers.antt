@@ -8,7 +8,7 @@ use Rattle.cnf_base.proofs.TokenLemmas.{failed}
 use Rattle.cnf_base.proofs.scanner.next_token.Goals as goal
 
 pub loop-byte-init : goal.loop-byte-init
-loop-byte-init g c = Stands-start _
+loop-byte-init g c = rw c.in_default.ensures.none (Stands-start _)
 
 pub returns-in-Ok-None-clause-tokens : goal.returns-in-Ok-None-clause-tokens
 returns-in-Ok-None-clause-tokens g c =
@@ -48,9 +48,9 @@ loop-byte-preserved g c =
       mark = search rules;
     }
 
-pub returns-in-Some-clause-tokens : goal.returns-in-Some-clause-tokens
-returns-in-Some-clause-tokens g c =
-    let number = rw c.ahead.ensures at c.in-Some.ensures in
+pub returns-in-Some-whole_number-clause-tokens : goal.returns-in-Some-whole_number-clause-tokens
+returns-in-Some-whole_number-clause-tokens g c =
+    let number = rw c.ahead.ensures at c.in-Some-whole_number.ensures in
     rw c.skip_in_line.ensures
     (Stands-word _ _ _ _ _ (Stands-looked _ _ _ c.loop-byte.invariant c.peek.ensures.look (search rules))
     c.place-place-else-begins_comment.ensures.value

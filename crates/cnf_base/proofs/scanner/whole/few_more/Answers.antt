@@ -4,39 +4,72 @@ use Rattle.cnf_base.proofs.WholeLemmas.{most_first, most_small, IsFew-digit, IsF
 use Rattle.cnf_base.proofs.scanner.whole.few_more.Goals as goal
 use Rattle.cnf_base.proofs.scanner.whole.few_more.Goals.{then-digit-gt9, else-digit-gt9}
 
-pub loop-byte-init : goal.loop-byte-init
-loop-byte-init c = record {
+pub loop-i-init : goal.loop-i-init
+loop-i-init c = record {
   each = refl;
   says = refl;
   turns = inl (refl, refl);
+  last = λ one. refl;
   small = let first = most_first in let small = c.requires.small in omega arith;
+  room = refl;
 }
 
-pub with_digit-value-requires-clause-size : goal.with_digit-value-requires-clause-size
-with_digit-value-requires-clause-size c =
-    let i = c.loop-byte.byte-index in
+pub overflow_add-count : goal.overflow_add-count
+overflow_add-count c =
     let few = c.requires.few in
-    let inside = c.loop-byte-test.true in
-    let below : i ≤ 4 = omega arith in
-    let most = most_small i below in
-    let small = c.loop-byte.invariant.small in
+    let inside = c.loop-i-test.true in
+    elim c.if-digit-gt9.branch [
+      | then-digit-gt9 w ↦ elim c.loop-i.invariant.turns [ inl t ↦ omega (arith, w.more-is, t.1) | inr t ↦ omega (arith, w.more-is, t.1) ]
+      | else-digit-gt9 w ↦ elim c.loop-i.invariant.turns [ inl t ↦ omega (arith, w.more-is, t.0, t.1) | inr t ↦ omega (arith, w.more-is, t.0, t.1) ]
+    ]
+
+pub overflow_mul-value : goal.overflow_mul-value
+overflow_mul-value c =
+    let few = c.requires.few in
+    let inside = c.loop-i-test.true in
+    let most = most_small c.loop-i.i (omega arith) in
+    let small = c.loop-i.invariant.small in
     omega arith
 
-pub with_digit-value-requires-clause-more : goal.with_digit-value-requires-clause-more
-with_digit-value-requires-clause-more c =
-    let turns = c.loop-byte.invariant.turns in
-    elim c.if-digit-gt9.branch [
-      | then-digit-gt9 w ↦ omega (arith, w.more-is)
-      | else-digit-gt9 w ↦ elim turns [ inl t ↦ omega (arith, w.more-is, t.0) | inr t ↦ omega (arith, w.more-is, t.0) ]
-    ]
+pub overflow_add-value : goal.overflow_add-value
+overflow_add-value c =
+    let few = c.requires.few in
+    let inside = c.loop-i-test.true in
+    let most = most_small c.loop-i.i (omega arith) in
+    let small = c.loop-i.invariant.small in
+    let byte = c.from.ensures in
+    omega arith
 
-pub loop-byte-preserved : goal.loop-byte-preserved
-loop-byte-preserved c =
-    let so_far = c.loop-byte.invariant in
+pub loop-i-preserved : goal.loop-i-preserved
+loop-i-preserved c =
+    let so_far = c.loop-i.invariant in
+    let inside = c.loop-i-test.true in
+    let few = c.requires.few in
+    let below : c.loop-i.i ≤ 4 = omega arith in
     elim c.if-digit-gt9.branch [
-      | then-digit-gt9 w ↦ IsFew-ended _ _ _ _ _ _ _ _ so_far w.more-is (c.with_digit-value.ensures.without w.more-is)
+      | then-digit-gt9 w ↦ IsFew-ended _ _ _ _ _ _ _ _ _ _ so_far below refl (omega arith) w.more-is
       | else-digit-gt9 w ↦ elim so_far.turns [
-        | inl t ↦ IsFew-digit _ _ _ _ _ _ _ _ so_far _ c.loop-byte-test.true t.0 (w.more-is ∙ t.0) (omega (arith, w.if-digit-gt9.false)) (let byte = c.type_inv.bytes c.loop-byte.byte-index in omega (arith, byte, w.if-digit-gt9.false)) (c.with_digit-value.ensures.with (w.more-is ∙ t.0))
-        | inr t ↦ IsFew-ended _ _ _ _ _ _ _ _ so_far (w.more-is ∙ t.0) (c.with_digit-value.ensures.without (w.more-is ∙ t.0))
+        | inl t ↦ IsFew-digit _ _ _ _ _ _ _ _ _ _ so_far below refl (omega arith) inside t.0 (w.more-is ∙ t.0) (omega (arith, w.if-digit-gt9.false)) (let byte = c.type_inv.bytes c.loop-i.i in omega (arith, byte, w.if-digit-gt9.false))
+        | inr t ↦ IsFew-ended _ _ _ _ _ _ _ _ _ _ so_far below refl (omega arith) (w.more-is ∙ t.0)
       ]
     ]
+
+pub offset_bounds-values-count : goal.offset_bounds-values-count
+offset_bounds-values-count c =
+    let few = c.requires.few in
+    let done = c.loop-i-test.false in
+    elim c.loop-i.invariant.turns [ inl t ↦ omega (arith, t.1) | inr t ↦ omega (arith, t.1) ]
+
+pub bounds-values-count : goal.bounds-values-count
+bounds-values-count c =
+    let few = c.requires.few in
+    elim c.loop-i.invariant.turns [ inl t ↦ omega (arith, t.1) | inr t ↦ omega (arith, t.1) ]
+
+pub returns-clause-count : goal.returns-clause-count
+returns-clause-count c = elim c.loop-i.invariant.turns [ inl t ↦ omega (arith, t.1) | inr t ↦ omega (arith, t.1) ]
+
+pub returns-clause-each : goal.returns-clause-each
+returns-clause-each c = c.loop-i.invariant.each
+
+pub returns-clause-says : goal.returns-clause-says
+returns-clause-says c = c.loop-i.invariant.says
