@@ -245,7 +245,39 @@ impl Trail {
     }
 
     /// How many literals of a clause are not false, where each counts as often as it is repeated, and the last of them.
+    #[inline(always)]
     fn open_in(&self, clause: &[Lit]) -> (usize, Lit)
+        ensures { IsCount (open_literals self.now.lits clause.now) result.0 result.1 }
+    {
+        match self.open_near(clause) {
+            Some(found) => found,
+            None => self.open_far(clause),
+        }
+    }
+
+    /// The same as `open_in`, where the values of all literals lie near. A call in the loop would have the place of the values read
+    /// again for each literal.
+    #[inline(always)]
+    fn open_near(&self, clause: &[Lit]) -> Option<(usize, Lit)>
+        ensures { IfSome result (λ r.
+            IsCount (open_literals self.now.lits clause.now) r.0 r.1) }
+    {
+        let near = self.values.near();
+        let mut count = 0;
+        let mut open = Lit::default();
+        for l in clause {
+            let value = near.get(l.index())?;
+            if !matches!(value, Value::False) {
+                count += 1;
+                open = *l;
+            }
+        }
+        Some((count, open))
+    }
+
+    /// The same as `open_in`, wherever the values lie.
+    #[inline(never)]
+    fn open_far(&self, clause: &[Lit]) -> (usize, Lit)
         ensures { IsCount (open_literals self.now.lits clause.now) result.0 result.1 }
     {
         let mut count = 0;

@@ -47,6 +47,14 @@ impl Values {
         }
     }
 
+    /// The values of the literals whose keys have a place in `dense`.
+    #[inline(always)]
+    pub(crate) fn near(&self) -> &[Value]
+        ensures { result.now ≡ self.now.dense.items }
+    {
+        self.dense.as_slice()
+    }
+
     #[inline(never)]
     fn far_value(&self, key: u32) -> Value
         ensures { result ≡ known_value (at self.now.far key) }

@@ -1,7 +1,7 @@
 use Rattle.std.proofs.Common.{sym, ◌∙◌, arith}
 use Rattle.clause_db.proofs.PropagationLemmas.Left.{count_with, count_same}
-use Rattle.clause_db.proofs.propagation.trail.Trail.open_in.Goals as goal
-use Rattle.clause_db.proofs.propagation.trail.Trail.open_in.Goals.{then-is_left, else-is_left}
+use Rattle.clause_db.proofs.propagation.trail.Trail.open_far.Goals as goal
+use Rattle.clause_db.proofs.propagation.trail.Trail.open_far.Goals.{then-is_left, else-is_left}
 
 pub loop-l-preserved : goal.loop-l-preserved
 loop-l-preserved c =
