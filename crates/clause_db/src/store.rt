@@ -26,7 +26,7 @@ use crate::Slot;
 use crate::store::entry::{Entry, swap_literals};
 use crate::store::index::{Index, Indexing, NoIndex};
 use crate::store::mark::Mark;
-use crate::store::marks::{all_known, gather, mark_all, mark_new, release, unmark_all};
+use crate::store::marks::{all_known, count_all, gather, mark_all, mark_new, release, unmark_all};
 use crate::store::search::find_marked;
 use cnf_base::{Lit, OutOfMemory};
 use slab::Slab;
@@ -88,6 +88,22 @@ fn make_room(alloc: Global, entries: &mut Slab<Entry>, len: usize) -> Result<Ent
     Ok(Entry { lits })
 }
 
+/// Makes room for one more clause, which repeats no literal, and copies its literals.
+fn make_copy(alloc: Global, entries: &mut Slab<Entry>, lits: &[Lit]) -> Result<Entry, OutOfMemory>
+    ensures items { IfOk result (λ e. e.lits.items ≡ lits.now) }
+    ensures room { OnOk result (HasRoomFor entries.new 1) }
+    ensures few { OnOk result (slab_len entries.new < 4294967295) }
+    ensures slots { entries.new.slots ≡ entries.old.slots }
+    ensures key { entries.new.vacant_key ≡ entries.old.vacant_key }
+{
+    if entries.len() >= MOST {
+        return Err(OutOfMemory);
+    }
+    let lits = SmallVec::from_slice(alloc, lits)?;
+    entries.reserve(1)?;
+    Ok(Entry { lits })
+}
+
 /// Makes room for a clause with these literals, and counts each of them. Where memory is refused, nothing is counted.
 fn take_in(
     alloc: Global,
@@ -111,7 +127,12 @@ fn take_in(
         mark_count (at marks.old l)) }
 {
     if let Ok(len) = mark_new(marks, lits) {
-        if let Ok(mut entry) = make_room(alloc, entries, len) {
+        if len == lits.len() {
+            if let Ok(entry) = make_copy(alloc, entries, lits) {
+                count_all(marks, lits);
+                return Ok(entry);
+            }
+        } else if let Ok(mut entry) = make_room(alloc, entries, len) {
             gather(marks, lits, &mut entry.lits);
             return Ok(entry);
         }

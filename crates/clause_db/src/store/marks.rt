@@ -115,6 +115,20 @@ pub(crate) fn gather(marks: &mut Table<Mark>, lits: &[Lit], kept: &mut SmallVec<
     }
 }
 
+/// Counts each of the marked literals once more and takes its mark off.
+pub(crate) fn count_all(marks: &mut Table<Mark>, lits: &[Lit])
+    requires known { (l : ℕ) → has lits.now l ≡ true → IsSome (at marks.old l) }
+    requires marked { (l : ℕ) → is_marked (at marks.old l) ≡ has lits.now l }
+    requires few { (l : ℕ) → mark_count (at marks.old l) < 4294967295 }
+    ensures clear { (l : ℕ) → is_marked (at marks.new l) ≡ false }
+    ensures counts { (l : ℕ) → mark_count (at marks.new l) ≡ mark_count (at marks.old l) +
+        (if has lits.now l then 1 else 0) }
+{
+    for l in lits {
+        count_up(marks, *l);
+    }
+}
+
 /// Counts each of the literals once less, where no literal is repeated.
 pub(crate) fn release(marks: &mut Table<Mark>, lits: &[Lit])
     requires different { size lits.now ≡ length lits.now }

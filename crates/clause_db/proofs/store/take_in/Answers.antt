@@ -1,5 +1,6 @@
-use Rattle.std.proofs.Common.{arith}
-use Rattle.cnf_base.proofs.SetLemmas.{same_there, same_back}
+use Rattle.std.proofs.Common.{◌≡◌, true, sym, subst, arith}
+use Rattle.cnf_base.specs.Literals.{same_clause}
+use Rattle.cnf_base.proofs.SetLemmas.{same_from, same_there, same_back}
 use Rattle.clause_db.proofs.StoreLemmas.Distinct.{size_same}
 use Rattle.clause_db.proofs.store.take_in.Goals as goal
 
@@ -11,3 +12,8 @@ returns-in-Ok-make_room-clause-short c =
     let different = c.gather.ensures.different in
     let short = c.in-Ok.ensures.short in
     omega arith
+
+pub returns-in-Ok-make_copy-clause-same : goal.returns-in-Ok-make_copy-clause-same
+returns-in-Ok-make_copy-clause-same c =
+    let lits = c.args.lits.now in
+    subst (λ xs. same_clause xs lits ≡ true) (sym c.in-Ok-make_copy.ensures.items) (same_from lits lits (λ k h. h) (λ k h. h))
