@@ -31,7 +31,7 @@ not_negative (pos n) h = refl
 not_negative (negsuc n) h = absurd (true≢false h)
 
 module _ (hints : List ℤ) (i : ℕ) (inside : i < length hints) (fits : SFits w64 (get_or hints i (pos 0))) where
-  read_is : read hints i ≡ get_or hints i (pos 0)
+  pub read_is : read hints i ≡ get_or hints i (pos 0)
   read_is = to_z-of_z w64 (get_or hints i (pos 0)) fits
 
   drop_read : drop i hints ≡ read hints i ∷ drop (i + 1) hints

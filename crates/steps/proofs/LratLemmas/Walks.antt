@@ -75,6 +75,16 @@ chain_same live (k ∷ hints) first second same =
 
 -- ---- One hint
 
+-- the next hint names nothing
+pub walk_unknown : (live : Live) (ls : List Literal) (left more : List ℕ) (k : ℕ) → left ≡ k ∷ more → (end : ChainEnd) → Gives (chain live ls left) end → conflicts ls ≡ false →
+    live k ≡ None → (trues : List Literal) → IsEnd trues (UnknownId k) end
+walk_unknown live ls left more k left_is end so_far quiet none trues =
+    let next : chain live ls left ≡ look_at k None (λ l. chain live (l ∷ ls) more) =
+    ap (chain live ls) left_is
+    ∙ ap (λ b. cond b conflict (look_at k (option_map (λ c. how_many (open_literals ls c)) (live k)) (λ l. chain live (l ∷ ls) more))) quiet
+    ∙ ap (λ o. look_at k o (λ l. chain live (l ∷ ls) more)) (ap (option_map (λ c. how_many (open_literals ls c))) none) in
+    so_far trues (UnknownId k) (subst (IsEnd trues (UnknownId k)) (sym next) refl)
+
 -- a walk whose next hint is k
 module _ (live : Live) (ls : List Literal) (left more : List ℕ) (k : ℕ) (left_is : left ≡ k ∷ more) (end : ChainEnd) (so_far : Gives (chain live ls left) end) (quiet : conflicts ls ≡ false) (c : Clause) (at : live k ≡ Some c) where
   next : (o : Left) → how_many (open_literals ls c) ≡ o → chain live ls left ≡ look_at k (Some o) (λ l. chain live (l ∷ ls) more)

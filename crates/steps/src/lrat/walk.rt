@@ -1,6 +1,7 @@
 //! The walk over hints.
 
-ghost use Rattle.std.specs.Prelude.{◌≡◌, ◌≤◌, take, length, IsFalse};
+ghost use Rattle.std.specs.Prelude.{◌≡◌, ◌≤◌, ◌<◌, take, length, nat_abs, pos, slice_index_or, IsFalse};
+ghost use Rattle.std.specs.Option.{option_copied};
 ghost use Rattle.std.specs.FinMap as maps;
 ghost use Rattle.steps.specs.Lrat.{chain, units_of};
 ghost use Rattle.clause_db.specs.Propagation.Trail.{conflicts, SameSet, HasRoomForAll};
@@ -9,6 +10,7 @@ ghost use Rattle.steps.specs.Lrat.Walk.{IsEnd, refusal_at};
 use crate::lrat::live_clauses::LiveClauses;
 use crate::theory::refusal::Refusal;
 use clause_db::{Left, Trail};
+use cnf_base::Lit;
 
 /// How a walk ends.
 #[derive(Clone, Copy, Debug, PartialEq, Eq)]
@@ -31,8 +33,22 @@ pub(crate) fn refusal_of(end: WalkEnd, if_open: Refusal) -> Option<Refusal>
     }
 }
 
+/// The clause that the hint at a place names, if it is alive.
+#[inline(always)]
+fn named_at<'a>(live: &'a LiveClauses, hints: &[i64], place: usize) -> Option<&'a [Lit]>
+    ensures { place < length hints.now → option_copied result ≡
+        maps.get live.now.live (nat_abs (slice_index_or hints.now place (pos 0))) }
+{
+    match hints.get(place) {
+        Some(hint) => live.get(hint.unsigned_abs()),
+        None => None,
+    }
+}
+
 /// Walks over the hints before the first negative one, from literals without a conflict, and makes true what each of their
 /// clauses gives. It takes no memory: the room was made before.
+///
+/// Clauses lie far apart in memory, so each is looked up before the walk over the one before it, which goes on meanwhile.
 pub(crate) fn walk(live: &LiveClauses, trues: &mut Trail, hints: &[i64]) -> WalkEnd
     requires quiet { IsFalse (conflicts trues.old.lits) }
     requires room { HasRoomForAll trues.old.met (maps.get live.now.live) }
@@ -43,14 +59,16 @@ pub(crate) fn walk(live: &LiveClauses, trues: &mut Trail, hints: &[i64]) -> Walk
     ensures longer { length trues.old.lits ≤ length trues.new.lits }
     ensures met { SameSet trues.new.met trues.old.met }
 {
-    for hint in hints {
+    let mut next = named_at(live, hints, 0);
+    for (i, hint) in hints.iter().enumerate() {
         if *hint < 0 {
             return WalkEnd::Open;
         }
         let k = hint.unsigned_abs();
-        let Some(clause) = live.get(k) else {
+        let Some(clause) = next else {
             return WalkEnd::UnknownId(k);
         };
+        next = named_at(live, hints, i + 1);
         match trues.unit_left(clause) {
             Left::Nothing => return WalkEnd::Conflict,
             Left::One(l) => {

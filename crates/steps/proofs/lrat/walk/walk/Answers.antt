@@ -1,36 +1,56 @@
-use Rattle.std.proofs.Common.{sym, ◌∙◌, arith, rules, ◌/◌}
+use Rattle.std.proofs.Common.{sym, ap, ◌∙◌, arith, rules, ◌/◌, nat_abs}
+use Rattle.std.specs.Option.{option_copied}
 use Rattle.std.specs.FinMap as maps
-use Rattle.steps.proofs.LratLemmas.Hints.{units_more}
-use Rattle.steps.proofs.LratLemmas.Walks.{walk_one, same_set_push}
+use Rattle.steps.proofs.LratLemmas.Hints.{units_more, read_is}
+use Rattle.steps.proofs.LratLemmas.Walks.{walk_one, walk_nothing, walk_more, walk_unknown, same_set_push}
 use Rattle.clause_db.proofs.PropagationLemmas.Exact.{begins_on}
 use Rattle.clause_db.proofs.PropagationLemmas.Left.{left_open}
 use Rattle.clause_db.proofs.PropagationLemmas.MakesFalse.{made_true, begins_made, longer_made}
 use Rattle.steps.proofs.lrat.walk.walk.Goals as goal
 
 pub make_true-requires-clause-not_false : goal.make_true-requires-clause-not_false
-make_true-requires-clause-not_false c = (left_open c.loop-hint.trues.lits c.in-Some.clause.now c.in-One.l c.in-One.ensures).1
+make_true-requires-clause-not_false c = (left_open c.loop-i.trues.lits c.in-Some.clause.now c.in-One.l c.in-One.ensures).1
 
 pub make_true-requires-clause-reserved : goal.make_true-requires-clause-reserved
 make_true-requires-clause-reserved c =
-    let member = (left_open c.loop-hint.trues.lits c.in-Some.clause.now c.in-One.l c.in-One.ensures).0 in
-    c.loop-hint.invariant.met (c.in-One.l / 2) ∙ c.requires.room.each c.unsigned_abs-k.result c.in-Some.clause.now (sym c.in-Some.ensures) c.in-One.l member
+    let member = (left_open c.loop-i.trues.lits c.in-Some.clause.now c.in-One.l c.in-One.ensures).0 in
+    c.loop-i.invariant.met (c.in-One.l / 2) ∙ c.requires.room.each c.unsigned_abs-k.result c.in-Some.clause.now (let hints = c.args.hints.now in let i = c.loop-i.i in ap (λ k. maps.get c.args.live.now.live k) (c.unsigned_abs-k.ensures.value ∙ ap nat_abs (read_is hints i (omega arith) (search rules))) ∙ sym (c.loop-i.invariant.next c.loop-i-test.true) ∙ ap option_copied c.in-Some.is) c.in-One.l member
 
-pub loop-hint-preserved : goal.loop-hint-preserved
-loop-hint-preserved c =
-    let trues = c.loop-hint.trues.lits in
+pub loop-i-preserved : goal.loop-i-preserved
+loop-i-preserved c =
+    let trues = c.loop-i.trues.lits in
     let live = maps.get c.args.live.now.live in
     let m = c.in-One.l in
     let after = c.make_true.new.self.lits in
     let is_open = c.make_true.result in
     let was = c.make_true.ensures.was_open in
     let is = c.make_true.ensures.lits in
-    let left_is = units_more c.args.hints.now c.loop-hint.hint-index (omega arith) (search rules) c.unsigned_abs-k.result c.if-hint-lt0.false c.unsigned_abs-k.ensures.value in
+    let left_is = units_more c.args.hints.now c.loop-i.i (omega arith) (search rules) c.unsigned_abs-k.result c.if-hint-lt0.false c.unsigned_abs-k.ensures.value in
     record {
       so_far =
-          walk_one live trues _ _ c.unsigned_abs-k.result left_is _ c.loop-hint.invariant.so_far c.loop-hint.invariant.quiet c.in-Some.clause.now (sym c.in-Some.ensures) c.in-One.l c.in-One.ensures
+          walk_one live trues _ _ c.unsigned_abs-k.result left_is _ c.loop-i.invariant.so_far c.loop-i.invariant.quiet c.in-Some.clause.now (let hints = c.args.hints.now in let i = c.loop-i.i in ap (λ k. maps.get c.args.live.now.live k) (c.unsigned_abs-k.ensures.value ∙ ap nat_abs (read_is hints i (omega arith) (search rules))) ∙ sym (c.loop-i.invariant.next c.loop-i-test.true) ∙ ap option_copied c.in-Some.is) c.in-One.l c.in-One.ensures
           after (λ l. made_true trues after m is_open was is l ∙ same_set_push trues m l);
       quiet = c.make_true.ensures.quiet;
-      begins = begins_on c.args.trues.now.lits trues after c.loop-hint.invariant.begins c.loop-hint.invariant.longer (begins_made trues after m is_open was is);
-      longer = omega (arith, longer_made trues after m is_open was is, c.loop-hint.invariant.longer);
-      met = λ v. c.make_true.ensures.met v ∙ c.loop-hint.invariant.met v;
+      begins = begins_on c.args.trues.now.lits trues after c.loop-i.invariant.begins c.loop-i.invariant.longer (begins_made trues after m is_open was is);
+      longer = omega (arith, longer_made trues after m is_open was is, c.loop-i.invariant.longer);
+      next = c.named_at-next-in-loop-i.ensures;
+      met = λ v. c.make_true.ensures.met v ∙ c.loop-i.invariant.met v;
     }
+
+pub returns-in_default-clause-end : goal.returns-in_default-clause-end
+returns-in_default-clause-end c =
+    let left_is = units_more c.args.hints.now c.loop-i.i (omega arith) (search rules) c.unsigned_abs-k.result c.if-hint-lt0.false c.unsigned_abs-k.ensures.value in
+    walk_unknown (maps.get c.args.live.now.live) c.loop-i.trues.lits _ _ c.unsigned_abs-k.result left_is _ c.loop-i.invariant.so_far c.loop-i.invariant.quiet
+    (let hints = c.args.hints.now in let i = c.loop-i.i in ap (λ k. maps.get c.args.live.now.live k) (c.unsigned_abs-k.ensures.value ∙ ap nat_abs (read_is hints i (omega arith) (search rules))) ∙ sym (c.loop-i.invariant.next c.loop-i-test.true) ∙ ap option_copied c.in_default.is) c.loop-i.trues.lits
+
+pub returns-in-Nothing-clause-end : goal.returns-in-Nothing-clause-end
+returns-in-Nothing-clause-end c =
+    let left_is = units_more c.args.hints.now c.loop-i.i (omega arith) (search rules) c.unsigned_abs-k.result c.if-hint-lt0.false c.unsigned_abs-k.ensures.value in
+    walk_nothing (maps.get c.args.live.now.live) c.loop-i.trues.lits _ _ c.unsigned_abs-k.result left_is _ c.loop-i.invariant.so_far c.loop-i.invariant.quiet c.in-Some.clause.now
+    (let hints = c.args.hints.now in let i = c.loop-i.i in ap (λ k. maps.get c.args.live.now.live k) (c.unsigned_abs-k.ensures.value ∙ ap nat_abs (read_is hints i (omega arith) (search rules))) ∙ sym (c.loop-i.invariant.next c.loop-i-test.true) ∙ ap option_copied c.in-Some.is) c.loop-i.trues.lits c.in-Nothing.ensures
+
+pub returns-in-More-clause-end : goal.returns-in-More-clause-end
+returns-in-More-clause-end c =
+    let left_is = units_more c.args.hints.now c.loop-i.i (omega arith) (search rules) c.unsigned_abs-k.result c.if-hint-lt0.false c.unsigned_abs-k.ensures.value in
+    walk_more (maps.get c.args.live.now.live) c.loop-i.trues.lits _ _ c.unsigned_abs-k.result left_is _ c.loop-i.invariant.so_far c.loop-i.invariant.quiet c.in-Some.clause.now
+    (let hints = c.args.hints.now in let i = c.loop-i.i in ap (λ k. maps.get c.args.live.now.live k) (c.unsigned_abs-k.ensures.value ∙ ap nat_abs (read_is hints i (omega arith) (search rules))) ∙ sym (c.loop-i.invariant.next c.loop-i-test.true) ∙ ap option_copied c.in-Some.is) c.loop-i.trues.lits c.in-More.ensures
