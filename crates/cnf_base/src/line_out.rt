@@ -6,7 +6,9 @@ ghost use Rattle.cnf_base.specs.Lines.{Writes, AppendsPart, unbroken_sink, line_
 use crate::{Out, WriteFailed};
 use std::marker::Model;
 
-/// Writes lines, up to the first failure.
+const ROOM: usize = 128;
+
+/// Writes lines, up to the first failure. A line of fewer than 128 bytes goes to the writer in one call with its line feed.
 #[derive(Drop)]
 pub struct LineOut<W: Out> {
     writer: W,
@@ -46,6 +48,13 @@ impl<W: Out> LineOut<W> {
             ((self.new.is_broken ≡ false) × (self.new.has_failed ≡ self.old.has_failed)) }
         ensures err { OnErr result ((self.new.is_broken ≡ true) × (self.new.has_failed ≡ true)) }
     {
+        let end = bytes.len();
+        if end < ROOM {
+            let mut room = [0; ROOM];
+            room[..end].copy_from_slice(bytes);
+            room[end] = b'\n';
+            return self.write(&room[..end + 1]);
+        }
         self.write(bytes)?;
         self.write(b"\n")
     }

@@ -140,6 +140,25 @@ fn lines(rt: HostRuntime) -> Result<(), Fail> {
     Ok(())
 }
 
+// The bytes of a line, and how often the writer is given some of it, where it takes all that it is given.
+const WRITES: [(usize, usize); 5] = [(0, 1), (1, 1), (127, 1), (128, 2), (200, 2)];
+
+// A line of ordinary length is handed over together with its line feed.
+#[test]
+fn writes(rt: HostRuntime) -> Result<(), Fail> {
+    let bytes = [b'x'; 200];
+    for (length, writes) in WRITES {
+        let mut writer = Writer::new(rt.alloc(), usize::MAX, Stop::TakesNone);
+        let mut lines = LineOut::new(ToWrite::new(&mut writer));
+        assert_eq!(rt; lines.line(bytes.get(..length).unwrap_or(&bytes)), Ok(()));
+        let _ = lines.release();
+        assert_eq!(rt; writer.writes, writes, "{length} bytes");
+        assert_eq!(rt; writer.taken.len(), length.saturating_add(1));
+        assert_eq!(rt; writer.taken.last(), Some(&b'\n'));
+    }
+    Ok(())
+}
+
 // Nothing is written after a failure.
 #[test]
 fn failed_write(rt: HostRuntime) -> Result<(), Fail> {

@@ -14,10 +14,12 @@ pub enum Stop {
     FailsOnce,
 }
 
-// Takes `room` bytes, at most `most` a call.
+// Takes `room` bytes, at most `most` a call. It counts.
 #[derive(Drop)]
 pub struct Writer {
     pub taken: Vec<u8>,
+    // How often it was given bytes.
+    pub writes: usize,
     room: usize,
     most: usize,
     stop: Stop,
@@ -28,6 +30,7 @@ impl Writer {
     pub fn new(alloc: Global, room: usize, stop: Stop) -> Writer {
         Writer {
             taken: Vec::new(alloc),
+            writes: 0,
             room,
             most: usize::MAX,
             stop,
@@ -54,6 +57,7 @@ impl Writer {
 
 impl Write for Writer {
     fn write(&mut self, buf: &[u8]) -> io::Result<usize> {
+        self.writes = self.writes.saturating_add(1);
         let n = buf.len().min(self.room).min(self.most);
         if n == 0 && !buf.is_empty() {
             match self.stop {
