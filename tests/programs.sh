@@ -66,6 +66,33 @@ write_failed() {
 
 x=examples
 
+# writes NAME WORD..: runs the program $checker with these words on a socket that keeps each write apart, and compares the
+# writes with the lines of standard input: one for each.
+writes() {
+    local name=$1
+    shift
+    cat > "$room/wanted"
+    python3 - "$checker" "$@" > "$room/out" <<'SCRIPT'
+import socket, subprocess, sys
+ours, theirs = socket.socketpair(socket.AF_UNIX, socket.SOCK_SEQPACKET)
+program = subprocess.Popen(sys.argv[1:], stdin=subprocess.DEVNULL, stdout=theirs)
+theirs.close()
+while piece := ours.recv(65536):
+    print(piece.decode("ascii").replace("\n", "|"))
+program.wait()
+SCRIPT
+    judge "$name" 0 $?
+}
+
+# without_stdin NAME STATUS WORD..: as row, with standard input closed. The file that is opened first gets its number.
+without_stdin() {
+    local name=$1 status=$2
+    shift 2
+    cat > "$room/wanted"
+    "$checker" "$@" > "$room/out" 2> "$room/err" <&-
+    judge "$name" "$status" $?
+}
+
 # of_every_tool PREFIX PROGRAM FORMULA SECOND: what each tool does alike, with two right inputs
 of_every_tool() {
     if [ -w /dev/full ]; then
@@ -109,6 +136,26 @@ LINES
 c formula 2 variables 4 clauses
 c cannot read proof
 s NOT VERIFIED
+LINES
+
+    without_stdin "$1_closed_standard_input" 3 $x/e.cnf <<'LINES'
+c formula 2 variables 4 clauses
+c cannot read proof
+s NOT VERIFIED
+LINES
+
+    without_stdin "$1_closed_standard_input_is_not_needed" 0 $x/e.cnf "$3" <<'LINES'
+c formula 2 variables 4 clauses
+c steps 2 peak 9
+s VERIFIED
+LINES
+
+    writes "$1_a_line_a_write" --trace $x/e.cnf "$3" <<'LINES'
+c formula 2 variables 4 clauses|
+c 1 add rup|
+c 2 add rup|
+c steps 2 peak 9|
+s VERIFIED|
 LINES
 
     of_every_tool "$1" "$2" $x/e.cnf "$3"
@@ -493,6 +540,27 @@ LINES
 row folder_as_output 3 $x/models.cnf $x <<'LINES'
 c cannot read output
 s MODEL NOT VERIFIED
+LINES
+
+without_stdin model_closed_standard_input 3 $x/models.cnf <<'LINES'
+c cannot read output
+s MODEL NOT VERIFIED
+LINES
+
+# the first file that is opened is a right output, and must not be taken for one
+without_stdin model_closed_standard_input_and_an_output 3 $x/models.out <<'LINES'
+c cannot read output
+s MODEL NOT VERIFIED
+LINES
+
+without_stdin model_closed_standard_input_is_not_needed 0 $x/models.cnf $x/models.out <<'LINES'
+c clauses 2
+s MODEL VERIFIED
+LINES
+
+writes model_a_line_a_write $x/models.cnf $x/models.out <<'LINES'
+c clauses 2|
+s MODEL VERIFIED|
 LINES
 
 of_every_tool model model-check $x/models.cnf $x/models.out

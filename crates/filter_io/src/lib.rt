@@ -7,6 +7,6 @@ mod input;
 mod words;
 
 pub use ending::exit_code;
-pub use files::{open, open_second, standard_output};
+pub use files::{open_both, standard_output};
 pub use input::Input;
 pub use words::ask;

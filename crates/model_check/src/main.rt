@@ -2,7 +2,7 @@
 #![tactic(auto)]
 
 use cnf_base::{FromRead, ToWrite};
-use filter_io::{ask, exit_code, open, open_second, standard_output};
+use filter_io::{ask, exit_code, open_both, standard_output};
 use sat_check::{Status, Tool, run_model};
 use std::process::ExitCode;
 
@@ -16,8 +16,7 @@ fn main(rt: HostRuntime) -> ExitCode {
 // Both files are opened before the first byte is read.
 fn check(rt: &HostRuntime) -> Result<Status, Status> {
     let args = ask(rt, Tool::Model, NAME)?;
-    let formula = open(rt, args.formula.as_str())?;
-    let output = open_second(rt, &args)?;
+    let (formula, output) = open_both(rt, &args)?;
     let out = standard_output(rt)?;
     Ok(run_model(
         rt.alloc(),
