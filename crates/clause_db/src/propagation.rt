@@ -5,6 +5,8 @@ mod assumptions;
 pub(crate) mod left;
 mod levels;
 pub(crate) mod part;
+#[cfg(test)]
+mod roots_tests;
 pub(crate) mod scan;
 #[cfg(test)]
 mod sequence_tests;

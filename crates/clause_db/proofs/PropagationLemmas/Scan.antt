@@ -12,7 +12,7 @@ use Rattle.cnf_base.specs.Literals.{Literal, Clause, has, same_clause}
 use Rattle.clause_db.specs.Propagation.Assumptions.{Assumes, Assuming, AssumptionsState, IsAnswer, MayAssume, Propagation, assumed_by}
 use Rattle.clause_db.specs.Propagation.Exact.{IsExact, AreExact}
 use Rattle.clause_db.specs.Propagation.{Live, IsClosed, Forced, Clash}
-use Rattle.clause_db.specs.Propagation.Scan.{IsScan}
+use Rattle.clause_db.specs.Propagation.Scan.{IsHeld, IsScan}
 use Rattle.clause_db.specs.Store.Clauses.{StoreState, size, literals_in}
 use Rattle.clause_db.specs.Propagation.Trail.{HasRoom, HasRoomForAll, SameSet, conflicts}
 use Rattle.clause_db.specs.declared.propagation.answer.Answer.{Answer}
@@ -29,11 +29,11 @@ scan_empty live held none unset nothing = record {
 }
 
 -- more room, and else nothing new
-pub scan_reserved : (live : FinMap nat_cmp Clause) (before after : AssumptionsState) → after.trail.lits ≡ before.trail.lits → after.assumptions ≡ before.assumptions → after.starts ≡ before.starts →
-    ((v : ℕ) → has before.trail.met v ≡ true → has after.trail.met v ≡ true) → IsScan live before → IsScan live after
-scan_reserved live before after lits_are assumptions_are starts_are within scan = record {
-  room = record { each = λ k c here l member. within (l / 2) (scan.room.each k c here l member) };
-  exact = exact_same (maps.get live) (λ ls. ls ≡ []) before after lits_are assumptions_are starts_are scan.exact;
+pub held_reserved : (live : FinMap nat_cmp Clause) (Roots : List Literal → Type 0) (before after : AssumptionsState) → after.trail.lits ≡ before.trail.lits → after.assumptions ≡ before.assumptions → after.starts ≡ before.starts →
+    ((v : ℕ) → has before.trail.met v ≡ true → has after.trail.met v ≡ true) → IsHeld live Roots before → IsHeld live Roots after
+held_reserved live Roots before after lits_are assumptions_are starts_are within held = record {
+  room = record { each = λ k c here l member. within (l / 2) (held.room.each k c here l member) };
+  exact = exact_same (maps.get live) Roots before after lits_are assumptions_are starts_are held.exact;
 }
 
 -- a clause that is added, for which there is room
@@ -78,15 +78,16 @@ none_alone s is = ap (λ s. s.stored) is ∙ sym (sum_empty size) ∙ ap (λ s. 
 -- ---- One more assumption
 
 -- nothing is true where nothing is assumed, so what is true is forced
-no_roots : (live : Live) (lits : List Literal) → lits ≡ [] → (l : Literal) → has lits l ≡ true → Forced live [] l
+pub no_roots : (live : Live) (lits : List Literal) → lits ≡ [] → (l : Literal) → has lits l ≡ true → Forced live [] l
 no_roots live lits none l h = absurd (false≢true (ap (λ ls. has ls l) (sym none) ∙ h))
 
-module _ (live : FinMap nat_cmp Clause) (before after : AssumptionsState) (added : List Literal) (may : MayAssume before.assumptions) (scan : IsScan live before) where
+module _ (live : FinMap nat_cmp Clause) (Roots : List Literal → Type 0) (sound : (ls : List Literal) → Roots ls → (l : Literal) → has ls l ≡ true → Forced (maps.get live) [] l)
+    (before after : AssumptionsState) (added : List Literal) (may : MayAssume before.assumptions) (scan : IsHeld live Roots before) where
   before_sound : (l : Literal) → has before.trail.lits l ≡ true → Forced (maps.get live) (assumed_by before.assumptions) l
-  before_sound = sound_before (maps.get live) (λ ls. ls ≡ []) before.trail.lits (no_roots (maps.get live) before.trail.lits) before.assumptions before.starts may scan.exact
+  before_sound = sound_before (maps.get live) Roots before.trail.lits (sound before.trail.lits) before.assumptions before.starts may scan.exact
 
   before_start : (l : Literal) → has (assumed_by before.assumptions) l ≡ true → has before.trail.lits l ≡ true
-  before_start = start_before (maps.get live) (λ ls. ls ≡ []) before.trail.lits (no_roots (maps.get live) before.trail.lits) before.assumptions before.starts may scan.exact
+  before_start = start_before (maps.get live) Roots before.trail.lits (sound before.trail.lits) before.assumptions before.starts may scan.exact
 
   pub part_clashes : conflicts (before.trail.lits ++ added) ≡ true → Clash (maps.get live) (assumed_by before.assumptions ++ added)
   part_clashes = conflict_clashes (maps.get live) (assumed_by before.assumptions) before.trail.lits added before_sound
@@ -100,13 +101,13 @@ module _ (live : FinMap nat_cmp Clause) (before after : AssumptionsState) (added
     room_last : HasRoomForAll last.trail.met (maps.get live)
     room_last = record { each = λ k c here l member. met (l / 2) ∙ scan.room.each k c here l member }
 
-    exact_last : (answer ≡ Quiet → IsExact (maps.get live) all last.trail.lits) → AreExact (maps.get live) (λ ls. ls ≡ []) last.trail.lits last.assumptions last.starts
+    exact_last : (answer ≡ Quiet → IsExact (maps.get live) all last.trail.lits) → AreExact (maps.get live) Roots last.trail.lits last.assumptions last.starts
     exact_last exact =
-        subst (λ xs. AreExact (maps.get live) (λ ls. ls ≡ []) last.trail.lits xs last.starts) (sym stand)
-        (subst (λ ns. AreExact (maps.get live) (λ ls. ls ≡ []) last.trail.lits (record { answer = answer; assumed = all } ∷ before.assumptions) ns) (sym starts)
-        (exact, subst (λ ls. AreExact (maps.get live) (λ ls. ls ≡ []) ls before.assumptions before.starts) (sym begins) scan.exact))
+        subst (λ xs. AreExact (maps.get live) Roots last.trail.lits xs last.starts) (sym stand)
+        (subst (λ ns. AreExact (maps.get live) Roots last.trail.lits (record { answer = answer; assumed = all } ∷ before.assumptions) ns) (sym starts)
+        (exact, subst (λ ls. AreExact (maps.get live) Roots ls before.assumptions before.starts) (sym begins) scan.exact))
 
-    pub scan_after : (answer ≡ Quiet → IsExact (maps.get live) all last.trail.lits) → IsScan live last
+    pub scan_after : (answer ≡ Quiet → IsExact (maps.get live) all last.trail.lits) → IsHeld live Roots last
     scan_after exact = record { room = room_last; exact = exact_last exact }
 
   pub part_exact : SameSet after.trail.lits (before.trail.lits ++ added) → (all lits : List Literal) → SameSet all (assumed_by before.assumptions ++ added) → take (length after.trail.lits) lits ≡ after.trail.lits →

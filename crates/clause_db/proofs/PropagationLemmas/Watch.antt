@@ -4,9 +4,13 @@ pub mod SlotList
 pub mod Order
 pub mod Visits
 pub mod Moves
+pub mod Reasons
 pub mod Carries
 pub mod Follow
 pub mod Units
 pub mod Entries
 pub mod Closed
+pub mod Kept
+pub mod Arrange
+pub mod Entered
 pub mod State

@@ -2,6 +2,7 @@
 pub mod Lists
 pub mod SlotList
 pub mod Order
+pub mod Roots
 pub mod Visits
 pub mod Watched
 pub mod State

@@ -1,10 +1,11 @@
 //! The assumptions that stand, and the literals that are true.
 
-ghost use Rattle.std.specs.Prelude.{◌≡◌, ◌≢◌, ℕ, ◌/◌, ◌++◌, ◌∷◌, [], not, filter, take, drop, length, slice_index, is_some, List, IsTrue, IsFalse, IsSome, IfOk, OnOk, OnErr, if◌then◌else◌};
+ghost use Rattle.std.specs.Prelude.{◌≡◌, ◌≢◌, ◌≤◌, ℕ, ◌/◌, ◌++◌, ◌∷◌, [], not, filter, take, drop, length, slice_index, is_some, List, IsTrue, IsFalse, IsSome, IfOk, OnOk, OnErr, if◌then◌else◌};
 ghost use Rattle.std.specs.Bool.{OnFalse};
 ghost use Rattle.cnf_base.specs.Literals.{Literal, complement, complements, has};
 ghost use Rattle.clause_db.specs.Propagation.Assumptions.{Assumption, MayAssume, assumed_by};
 ghost use Rattle.clause_db.specs.Propagation.Levels.{Notes, number_at};
+ghost use Rattle.clause_db.specs.Propagation.Watch.Roots.{roots_in};
 ghost use Rattle.tables.specs.Table.{at};
 ghost use Rattle.clause_db.specs.Propagation.Trail.{HasRoom, SameSet, conflicts};
 ghost use Rattle.clause_db.specs.declared.propagation.answer.Answer.TheVariants.{Clash};
@@ -198,6 +199,30 @@ impl Assumptions {
         ensures trail { self.new.trail ≡ self.old.trail }
     {
         self.levels = self.levels.answered(answer);
+    }
+
+    /// How many literals are true with nothing assumed.
+    pub(crate) fn root_count(&self) -> usize
+        ensures roots { roots_in self.now.trail.lits self.now.assumptions self.now.starts ≡
+            take result self.now.trail.lits }
+        ensures fits { result ≤ length self.now.trail.lits }
+    {
+        match self.levels {
+            Levels::Nothing => self.trail.len(),
+            Levels::One(first) => first.start,
+            Levels::Two(first, _) => first.start,
+        }
+    }
+
+    /// No literal is true any more, where nothing is assumed. It takes no memory.
+    pub(crate) fn clear(&mut self)
+        requires { self.old.assumptions ≡ [] }
+        ensures lits { self.new.trail.lits ≡ [] }
+        ensures met { SameSet self.new.trail.met self.old.trail.met }
+        ensures assumptions { self.new.assumptions ≡ [] }
+        ensures starts { self.new.starts ≡ self.old.starts }
+    {
+        self.trail.undo_to(0);
     }
 
     /// Takes back the last assumption, in constant time and with no memory.

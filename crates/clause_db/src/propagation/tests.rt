@@ -11,7 +11,7 @@ use std::alloc::Global;
 use std::test::Fail;
 
 /// The literals that DIMACS writes so.
-fn lits(alloc: Global, numbers: &[i32]) -> Result<Vec<Lit>, Fail> {
+pub(crate) fn lits(alloc: Global, numbers: &[i32]) -> Result<Vec<Lit>, Fail> {
     let mut all = Vec::new(alloc);
     for number in numbers {
         let l = Lit::new(*number).ok_or("no literal")?;

@@ -214,6 +214,13 @@ impl Trail {
         is_open
     }
 
+    /// Whether the literal is true.
+    pub(crate) fn is_true(&self, l: Lit) -> bool
+        ensures { result ≡ has self.now.lits l }
+    {
+        matches!(self.value(l), Value::True)
+    }
+
     /// Whether the literal is false.
     pub(crate) fn is_false(&self, l: Lit) -> bool
         ensures { result ≡ has self.now.lits (complement l) }

@@ -1,28 +1,36 @@
 //! Propagation with two watched literals a clause.
 
+mod arrange;
 mod entries;
 mod follow;
 mod lists;
+mod refresh;
+mod roots;
 mod run;
 mod slot_list;
 mod source;
 mod units;
 mod visit;
 
-ghost use Rattle.std.specs.Prelude.{◌≡◌, ◌≢◌, ℕ, [], ◌*◌, ◌≤◌, ◌<◌, ◌++◌, filter, min, true, false, IfOk, OnOk, OnErr, IfSome, IfNone, IsSome};
+ghost use Rattle.std.specs.Prelude.{◌≡◌, ◌≢◌, ℕ, [], ◌*◌, ◌≤◌, ◌<◌, ◌++◌, drop, filter, min, true, false, IsTrue, IfOk, OnOk, OnErr, IfSome, IfNone, IsSome};
 ghost use Rattle.std.specs.FinMap as maps;
-ghost use Rattle.cnf_base.specs.Literals.{complements};
-ghost use Rattle.clause_db.specs.Propagation.Assumptions.{Assumes, HasAt, IsAnswer, MayAssume, assumed_by};
+ghost use Rattle.cnf_base.specs.Literals.{Literal, complements, has};
+ghost use Rattle.clause_db.specs.Propagation.{Clash, Forced};
+ghost use Rattle.clause_db.specs.Propagation.Assumptions.{Assumes, HasAt, HoldsLiveAlone, IsAnswer, MayAssume, assumed_by};
 ghost use Rattle.clause_db.specs.Propagation.Trail.{HasRoom};
 ghost use Rattle.clause_db.specs.Propagation.Watch.Order.{each_in_order};
+ghost use Rattle.clause_db.specs.Propagation.Watch.Roots.{is_up_to_date};
 ghost use Rattle.clause_db.specs.Propagation.Watch.Source.{IsThere, clause_of};
 ghost use Rattle.clause_db.specs.Propagation.Watch.State.{IsWatch};
 ghost use Rattle.clause_db.specs.Propagation.Watch.Watched.{long_clauses, short_clauses};
 
 use crate::propagation::assumptions::Assumptions;
 use crate::propagation::scan::first_with;
+use crate::propagation::watch::arrange::arrange;
 use crate::propagation::watch::entries::{add_entries, remove_entries};
 use crate::propagation::watch::lists::WatchLists;
+use crate::propagation::watch::refresh::refresh;
+use crate::propagation::watch::roots::Roots;
 use crate::propagation::watch::run::run;
 use crate::propagation::watch::slot_list::SlotList;
 use crate::propagation::watch::source::{Source, assume_from};
@@ -43,6 +51,8 @@ pub struct Watch {
     /// The slots of the clauses of one literal and of none.
     short: SlotList,
     assumptions: Assumptions,
+    /// What is known of the literals that are true with nothing assumed.
+    roots: Roots,
     has_refused: bool,
 }
 
@@ -51,6 +61,7 @@ impl Model for Watch {
     ghost use Rattle.clause_db.specs.Store.Clauses.{literals_in};
     ghost use Rattle.clause_db.specs.Propagation.Watch.Lists.{entries_in};
     ghost use Rattle.clause_db.specs.Propagation.Watch.Order.{each_in_order};
+    ghost use Rattle.clause_db.specs.Propagation.Watch.Roots.{has_clash, is_up_to_date, roots_in};
     ghost use Rattle.clause_db.specs.Propagation.Watch.State.{IsWatch, WatchState, variables_in, watch_code};
 
     ghost Value = { WatchState };
@@ -69,10 +80,13 @@ impl Model for Watch {
       loose = length w.short;
       trues = length w.assumptions.trail.lits;
       variables = variables_in w.assumptions.trail.met;
+      roots = roots_in w.assumptions.trail.lits w.assumptions.assumptions w.assumptions.starts;
+      is_up_to_date = is_up_to_date w.roots.kept;
+      has_clash = has_clash w.roots.kept;
     } };
 
     ghost invariant = { λ w.
-        IsWatch w.store.live w.lists w.short w.assumptions
+        IsWatch w.store.live w.lists w.short w.roots w.assumptions
         × (w.store.stored ≡ literals_in (each_in_order w.store.live)) };
 }
 
@@ -82,13 +96,15 @@ fn assume_part<P: Part>(
     lists: &mut WatchLists,
     short: &SlotList,
     assumptions: &mut Assumptions,
+    roots: &mut Roots,
     source: &Source<'_>,
     part: &P,
 ) -> Result<Answer, OutOfMemory>
     requires may { MayAssume assumptions.old.assumptions }
     requires alive { IsThere store.old.live source.now }
     requires room { HasRoom assumptions.old.trail.met (clause_of store.old.live source.now) }
-    requires watch { IsWatch store.old.live lists.old short.now assumptions.old }
+    requires up_to_date { is_up_to_date roots.old.kept ≡ true }
+    requires watch { IsWatch store.old.live lists.old short.now roots.old assumptions.old }
     ensures answer { IfOk result (λ a. IsAnswer (maps.get (each_in_order store.old.live))
         (assumed_by assumptions.old.assumptions ++ complements
         (filter (P.keeps part.now) (clause_of store.old.live source.now))) a) }
@@ -96,14 +112,17 @@ fn assume_part<P: Part>(
         assumptions.new.assumptions a (assumed_by assumptions.old.assumptions ++ complements
         (filter (P.keeps part.now) (clause_of store.old.live source.now)))) }
     ensures err { OnErr result (assumptions.new.assumptions ≡ assumptions.old.assumptions) }
-    ensures watch { IsWatch store.new.live lists.new short.now assumptions.new }
+    ensures watch { IsWatch store.new.live lists.new short.now roots.new assumptions.new }
     ensures same { each_in_order store.new.live ≡ each_in_order store.old.live }
 {
     let from = assumptions.trail().len();
     if assume_from(store, assumptions, source, part)? {
         return Ok(Answer::Clash);
     }
-    match run(store, lists, short, assumptions, from) {
+    if roots.has_clash() {
+        return Ok(Answer::Clash);
+    }
+    match run(store, lists, assumptions, &mut roots.reasons, from) {
         Ok(answer) => {
             assumptions.answer(answer);
             Ok(answer)
@@ -127,6 +146,7 @@ impl Watch {
             lists: WatchLists::new(alloc),
             short: SlotList::new(alloc),
             assumptions: Assumptions::new(alloc)?,
+            roots: Roots::new(alloc),
             has_refused: false,
         })
     }
@@ -154,6 +174,53 @@ impl Watch {
     {
         self.assumptions.trail().len()
     }
+
+    /// Whether what follows with nothing assumed is known: all of it, or a clash. It is while an assumption stands.
+    pub fn is_up_to_date(&self) -> bool
+        ensures value { result ≡ self.now.is_up_to_date }
+        ensures standing { self.now.propagation.assumptions ≢ [] → result ≡ true }
+    {
+        self.roots.is_up_to_date()
+    }
+
+    /// Whether propagation with nothing assumed is known to be a clash.
+    pub fn has_root_clash(&self) -> bool
+        ensures value { result ≡ self.now.has_clash }
+        ensures clash { result ≡ true → Clash (maps.get self.now.propagation.live) [] }
+        ensures quiet { self.now.is_up_to_date ≡ true → result ≡ false →
+            ¬ Clash (maps.get self.now.propagation.live) [] }
+    {
+        self.store.is_sound();
+        let _different = self.assumptions.trail().len();
+        self.roots.has_clash()
+    }
+
+    /// The literals that are kept as true with nothing assumed. Where that is up to date and no clash, they are all that follows.
+    pub fn root_literals(&self) -> &[Lit]
+        ensures value { result.now ≡ self.now.roots }
+        ensures sound { (l : Literal) → IsTrue (has result.now l) →
+            Forced (maps.get self.now.propagation.live) [] l }
+        ensures all { self.now.is_up_to_date ≡ true → self.now.has_clash ≡ false → (l : Literal) →
+            Forced (maps.get self.now.propagation.live) [] l → IsTrue (has result.now l) }
+    {
+        self.store.is_sound();
+        &self.assumptions.trail().lits()[..self.assumptions.root_count()]
+    }
+
+    /// Takes back the last assumption. What is known with nothing assumed stays. It takes no memory.
+    pub fn take_back(&mut self)
+        requires { self.old.propagation.assumptions ≢ [] }
+        ensures assumptions { self.new.propagation.assumptions ≡
+            drop 1 self.old.propagation.assumptions }
+        ensures live { self.new.propagation.live ≡ self.old.propagation.live }
+        ensures live_alone { HoldsLiveAlone self.new.propagation }
+        ensures refused { self.new.propagation.has_refused ≡ self.old.propagation.has_refused }
+        ensures up_to_date { self.new.is_up_to_date ≡ true }
+        ensures roots { self.new.roots ≡ self.old.roots }
+        ensures clash { self.new.has_clash ≡ self.old.has_clash }
+    {
+        self.assumptions.undo();
+    }
 }
 
 impl Propagate for Watch {
@@ -161,9 +228,15 @@ impl Propagate for Watch {
 
     fn insert(&mut self, lits: &[Lit]) -> Result<Slot, OutOfMemory> {
         self.assumptions.reserve(lits)?;
+        self.roots.reserve(lits)?;
         let slot = self.store.insert(lits)?;
+        let left = arrange(&mut self.store, self.assumptions.trail(), slot);
         match add_entries(&self.store, &mut self.lists, &mut self.short, slot) {
-            Ok(()) => Ok(slot),
+            Ok(()) => {
+                self.roots
+                    .enter(&self.store, &mut self.assumptions, slot, left);
+                Ok(slot)
+            }
             Err(refused) => {
                 self.store.remove(slot);
                 Err(refused)
@@ -172,6 +245,7 @@ impl Propagate for Watch {
     }
 
     fn remove(&mut self, slot: Slot) {
+        self.roots.leave(&self.store, &mut self.assumptions, slot);
         remove_entries(&self.store, &mut self.lists, &mut self.short, slot);
         self.store.remove(slot);
     }
@@ -197,7 +271,18 @@ impl Propagate for Watch {
     }
 
     fn assume(&mut self, lits: &[Lit]) -> Result<Answer, OutOfMemory> {
-        if self.has_refused || self.assumptions.reserve(lits).is_err() {
+        if self.has_refused
+            || refresh(
+                &mut self.store,
+                &mut self.lists,
+                &self.short,
+                &mut self.assumptions,
+                &mut self.roots,
+            )
+            .is_err()
+            || self.assumptions.reserve(lits).is_err()
+        {
+            self.store.is_sound();
             self.has_refused = true;
             return Err(OutOfMemory);
         }
@@ -206,6 +291,7 @@ impl Propagate for Watch {
             &mut self.lists,
             &self.short,
             &mut self.assumptions,
+            &mut self.roots,
             &Source::Given(lits),
             &Whole,
         );
@@ -215,7 +301,18 @@ impl Propagate for Watch {
     }
 
     fn assume_rest(&mut self, slot: Slot, l: Lit) -> Result<Answer, OutOfMemory> {
-        if self.has_refused {
+        if self.has_refused
+            || refresh(
+                &mut self.store,
+                &mut self.lists,
+                &self.short,
+                &mut self.assumptions,
+                &mut self.roots,
+            )
+            .is_err()
+        {
+            self.store.is_sound();
+            self.has_refused = true;
             return Err(OutOfMemory);
         }
         let assumed = assume_part(
@@ -223,6 +320,7 @@ impl Propagate for Watch {
             &mut self.lists,
             &self.short,
             &mut self.assumptions,
+            &mut self.roots,
             &Source::Stored(slot),
             &Except(l),
         );
@@ -232,7 +330,7 @@ impl Propagate for Watch {
     }
 
     fn undo(&mut self) {
-        self.assumptions.undo();
+        self.take_back();
     }
 
     fn value(&self, l: Lit) -> Value {

@@ -1,29 +1,37 @@
 -- What holds of watched literals, as assumptions come and go.
-use Rattle.std.proofs.Common.{◌≡◌, ◌≢◌, ℕ, suc, ◌+◌, ◌*◌, ◌<◌, Bool, true, false, not, ◌&&◌, cond, eqb, eq-eqb, ne_eqb, Option, Some, None, is_some, nat_le, drop, slice_index, List, [], ◌∷◌, length, take, refl, sym, ap, ◌∙◌, subst, arith, inl, inr}
+use Rattle.std.proofs.Common.{◌≡◌, ◌≢◌, ℕ, suc, ◌+◌, ◌*◌, ◌/◌, ◌<◌, Bool, true, false, not, ◌&&◌, cond, eqb, eq-eqb, ne_eqb, Option, Some, None, is_some, nat_le, drop, slice_index, List, [], ◌∷◌, length, take, refl, sym, ap, ◌∙◌, subst, arith, inl, inr}
 use Rattle.std.specs.Ordering.{nat_cmp}
 use Rattle.std.specs.FinMap as maps
 use Rattle.std.specs.FinMap.{FinMap}
 use Rattle.std.proofs.lemmas.Bool.Decides.{nat_tests}
 use Rattle.std.proofs.lemmas.Bool.{cases_eq, false≢true}
+use Rattle.std.proofs.lemmas.Option.{none-some}
 use Rattle.cnf_base.specs.Literals.{Literal, Clause, has}
 use Rattle.clause_db.specs.Propagation.Assumptions.{Assumption, AssumptionsState, Propagation}
-use Rattle.clause_db.specs.Propagation.Scan.{IsScan}
+use Rattle.clause_db.specs.Propagation.Exact.{AreExact}
+use Rattle.clause_db.specs.Propagation.Scan.{IsHeld}
 use Rattle.clause_db.specs.Propagation.Trail.{SameSet, HasRoomForAll}
 use Rattle.clause_db.specs.Store.Clauses.{size}
 use Rattle.clause_db.specs.Propagation.Watch.Lists.{AreApart, entries_in, list_at, times_in}
 use Rattle.clause_db.specs.Propagation.Watch.Order.{each_in_order}
+use Rattle.clause_db.specs.Propagation.Watch.Roots.{AreForced, IsKept, IsKnown, IsStanding, is_up_to_date, roots_in}
 use Rattle.clause_db.specs.Propagation.Watch.State.{IsWatch}
 use Rattle.clause_db.specs.Propagation.Watch.Visits.{Carries, IsPart}
 use Rattle.clause_db.specs.Propagation.Watch.Watched.{AreWatched, IsListed, IsShortList, IsWatched, watches, is_short, entries_for, short_for, long_clauses, short_clauses}
 use Rattle.clause_db.specs.declared.propagation.answer.Answer.{Answer}
 use Rattle.clause_db.specs.declared.propagation.answer.Answer.TheVariants.{Quiet}
 use Rattle.clause_db.specs.declared.propagation.watch.lists.WatchLists.{WatchLists}
+use Rattle.clause_db.specs.declared.propagation.watch.roots.Kept.TheVariants.{Lost}
+use Rattle.clause_db.specs.declared.propagation.watch.roots.Roots.{Roots}
+use Rattle.tables.specs.Table.{at}
 use Rattle.clause_db.proofs.PropagationLemmas.Exact.{begins_on, longer_from}
 use Rattle.clause_db.proofs.PropagationLemmas.Passes.{has_begun}
-use Rattle.clause_db.proofs.PropagationLemmas.Scan.{scan_empty, scan_reserved, scan_with}
+use Rattle.clause_db.proofs.PropagationLemmas.Scan.{held_reserved}
 use Rattle.clause_db.proofs.PropagationLemmas.Watch.Follow.{front_part}
+use Rattle.clause_db.proofs.PropagationLemmas.Watch.Kept.{kept_carried, kept_forced, roots_alone, roots_part}
 use Rattle.clause_db.proofs.PropagationLemmas.Watch.Moves.{and_false, and_true}
 use Rattle.clause_db.proofs.PropagationLemmas.Watch.Order.{ordered_empty, size-in_order, sum_ordered}
+use Rattle.clause_db.proofs.PropagationLemmas.Watch.Reasons.{reasoned_none, reasoned_same, reasoned_some}
 use Rattle.clause_db.proofs.StoreLemmas.Sums.{get_insert, get_remove, sum_insert, sum_remove, sum_empty}
 
 -- ---- Numbers
@@ -42,63 +50,88 @@ short_alike before after same = sym (short_shown after) ∙ ap short_clauses sam
 
 -- ---- Levels
 
-are_kept : (a b : FinMap nat_cmp Clause) (x y : AssumptionsState) → Carries a b x y → (lits : List Literal) → IsPart lits x.trail.lits → (assumptions : List Assumption) (starts : List ℕ) →
+are_kept : (a b : FinMap nat_cmp Clause) (x y : AssumptionsState) (r t : Literal → Option ℕ) → Carries a b x y r t → (lits : List Literal) → IsPart lits x.trail.lits → (assumptions : List Assumption) (starts : List ℕ) →
     AreWatched (maps.get a) lits assumptions starts → AreWatched (maps.get b) lits assumptions starts
-are_kept a b x y carried lits part [] starts watched = tt
-are_kept a b x y carried lits part (last ∷ rest) [] watched = tt
-are_kept a b x y carried lits part (last ∷ rest) (start ∷ starts) watched =
-    (λ quiet. carried.kept lits lits part part (watched.0 quiet), are_kept a b x y carried (take start lits) (λ l h. part l (front_part start lits l h)) rest starts watched.1)
+are_kept a b x y r t carried lits part [] starts watched = tt
+are_kept a b x y r t carried lits part (last ∷ rest) [] watched = tt
+are_kept a b x y r t carried lits part (last ∷ rest) (start ∷ starts) watched =
+    (λ quiet. carried.kept lits lits part part (watched.0 quiet), are_kept a b x y r t carried (take start lits) (λ l h. part l (front_part start lits l h)) rest starts watched.1)
+
+-- ---- The literals that are true with nothing assumed
+
+same_roots : (before after : AssumptionsState) → after.trail.lits ≡ before.trail.lits → after.assumptions ≡ before.assumptions → after.starts ≡ before.starts →
+    roots_in after.trail.lits after.assumptions after.starts ≡ roots_in before.trail.lits before.assumptions before.starts
+same_roots before after lits_are assumptions_are starts_are =
+    ap (λ ls. roots_in ls after.assumptions after.starts) lits_are ∙ ap (λ xs. roots_in before.trail.lits xs after.starts) assumptions_are
+    ∙ ap (roots_in before.trail.lits before.assumptions) starts_are
 
 -- ---- One more assumption
 
-module _ (live live2 : FinMap nat_cmp Clause) (lists lists2 : WatchLists) (short : List ℕ) (before after found : AssumptionsState) (watch : IsWatch live lists short before) (carried : Carries live live2 after found)
-    (apart : AreApart lists2) (listed : IsListed (maps.get live2) (list_at lists2)) (entries : entries_in lists2 ≡ entries_in lists) (begins : take (length before.trail.lits) after.trail.lits ≡ before.trail.lits) where
+module _ (live live2 : FinMap nat_cmp Clause) (lists lists2 : WatchLists) (short : List ℕ) (roots roots2 : Roots) (before after found : AssumptionsState) (watch : IsWatch live lists short roots before)
+    (carried : Carries live live2 after found (at roots.reasons) (at roots2.reasons)) (as_known : roots2.kept ≡ roots.kept) (apart : AreApart lists2) (listed : IsListed (maps.get live2) (list_at lists2)) (entries : entries_in lists2 ≡ entries_in lists)
+    (begins : take (length before.trail.lits) after.trail.lits ≡ before.trail.lits) where
   begins_found : take (length before.trail.lits) found.trail.lits ≡ before.trail.lits
   begins_found = begins_on before.trail.lits after.trail.lits found.trail.lits begins (longer_from before.trail.lits after.trail.lits begins) carried.extends.begins
 
   below : AreWatched (maps.get live2) before.trail.lits before.assumptions before.starts
-  below = are_kept live live2 after found carried before.trail.lits (λ l h. has_begun before.trail.lits after.trail.lits l begins h) before.assumptions before.starts watch.watched
+  below = are_kept live live2 after found (at roots.reasons) (at roots2.reasons) carried before.trail.lits (λ l h. has_begun before.trail.lits after.trail.lits l begins h) before.assumptions before.starts watch.watched
 
-  watch_with : (last : AssumptionsState) → IsScan (each_in_order live) last → AreWatched (maps.get live2) last.trail.lits last.assumptions last.starts → IsWatch live2 lists2 short last
-  watch_with last scan watched = record {
-    scan = subst (λ m. IsScan m last) (sym carried.same) scan;
+  roots_below : IsKept live2 roots2 (roots_in before.trail.lits before.assumptions before.starts)
+  roots_below =
+      kept_carried live live2 after found (at roots.reasons) (at roots2.reasons) carried roots roots2 (roots_in before.trail.lits before.assumptions before.starts) as_known (λ l. refl) (λ l. refl)
+      (λ l h. has_begun before.trail.lits after.trail.lits l begins (roots_part before.trail.lits before.assumptions before.starts l h)) watch.kept
+
+  watch_with : (last : AssumptionsState) → IsHeld (each_in_order live) (AreForced (maps.get (each_in_order live))) last → AreWatched (maps.get live2) last.trail.lits last.assumptions last.starts →
+      IsKept live2 roots2 (roots_in last.trail.lits last.assumptions last.starts) → IsStanding roots2.kept last.assumptions → IsWatch live2 lists2 short roots2 last
+  watch_with last scan watched kept standing = record {
+    scan = subst (λ m. IsHeld m (AreForced (maps.get m)) last) (sym carried.same) scan;
     apart = apart;
     listed = listed;
     rest = record { listed = λ s. watch.rest.listed s ∙ sym (carried.short s) };
     watched = watched;
     two_each = entries ∙ watch.two_each ∙ ap (λ n. 2 * n) (sym (long_alike live live2 carried.same));
     one_each = watch.one_each ∙ sym (short_alike live live2 carried.same);
+    kept = kept;
+    standing = standing;
   }
 
   -- it is answered
-  pub watch_answered : (last : AssumptionsState) (answer : Answer) (all : List Literal) → last.trail ≡ found.trail → last.assumptions ≡ record { answer = answer; assumed = all } ∷ before.assumptions → last.starts ≡ length before.trail.lits ∷ before.starts →
-      (answer ≡ Quiet → IsWatched (maps.get live2) found.trail.lits found.trail.lits) → IsScan (each_in_order live) last → IsWatch live2 lists2 short last
-  watch_answered last answer all trail stand starts quiet scan =
+  pub watch_answered : is_up_to_date roots.kept ≡ true → (last : AssumptionsState) (answer : Answer) (all : List Literal) → last.trail ≡ found.trail → last.assumptions ≡ record { answer = answer; assumed = all } ∷ before.assumptions →
+      last.starts ≡ length before.trail.lits ∷ before.starts → (answer ≡ Quiet → IsWatched (maps.get live2) found.trail.lits found.trail.lits) → IsHeld (each_in_order live) (AreForced (maps.get (each_in_order live))) last →
+      IsWatch live2 lists2 short roots2 last
+  watch_answered up last answer all trail stand starts quiet scan =
       watch_with last scan
       (subst (λ t. AreWatched (maps.get live2) t.lits last.assumptions last.starts) (sym trail)
       (subst (λ xs. AreWatched (maps.get live2) found.trail.lits xs last.starts) (sym stand)
       (subst (λ ns. AreWatched (maps.get live2) found.trail.lits (record { answer = answer; assumed = all } ∷ before.assumptions) ns) (sym starts)
       (quiet, subst (λ ls. AreWatched (maps.get live2) ls before.assumptions before.starts) (sym begins_found) below))))
+      (subst (λ t. IsKept live2 roots2 (roots_in t.lits last.assumptions last.starts)) (sym trail)
+      (subst (λ xs. IsKept live2 roots2 (roots_in found.trail.lits xs last.starts)) (sym stand)
+      (subst (λ ns. IsKept live2 roots2 (roots_in found.trail.lits (record { answer = answer; assumed = all } ∷ before.assumptions) ns)) (sym starts)
+      (subst (λ ls. IsKept live2 roots2 (roots_in ls before.assumptions before.starts)) (sym begins_found) roots_below))))
+      (subst (λ xs. IsStanding roots2.kept xs) (sym stand) (ap is_up_to_date as_known ∙ up))
 
   -- it is taken back
   pub watch_undone : (last : AssumptionsState) (all : Assumption) → found.assumptions ≡ all ∷ before.assumptions → found.starts ≡ length before.trail.lits ∷ before.starts → last.assumptions ≡ drop 1 found.assumptions →
-      last.starts ≡ drop 1 found.starts → last.trail.lits ≡ take (slice_index found.starts 0) found.trail.lits → SameSet last.trail.met before.trail.met → IsWatch live2 lists2 short last
+      last.starts ≡ drop 1 found.starts → last.trail.lits ≡ take (slice_index found.starts 0) found.trail.lits → SameSet last.trail.met before.trail.met → IsWatch live2 lists2 short roots2 last
   watch_undone last all stand starts assumptions_are starts_are lits_are met =
       let same_assumptions = assumptions_are ∙ ap (drop 1) stand in
       let same_starts = starts_are ∙ ap (drop 1) starts in
       let same_lits = lits_are ∙ ap (λ ns. take (slice_index ns 0) found.trail.lits) starts ∙ begins_found in
       watch_with last
-      (scan_reserved (each_in_order live) before last same_lits same_assumptions same_starts (λ v h. met v ∙ h) watch.scan)
+      (held_reserved (each_in_order live) (AreForced (maps.get (each_in_order live))) before last same_lits same_assumptions same_starts (λ v h. met v ∙ h) watch.scan)
       (subst (λ ls. AreWatched (maps.get live2) ls last.assumptions last.starts) (sym same_lits)
       (subst (λ xs. AreWatched (maps.get live2) before.trail.lits xs last.starts) (sym same_assumptions)
       (subst (λ ns. AreWatched (maps.get live2) before.trail.lits before.assumptions ns) (sym same_starts) below)))
+      (subst (IsKept live2 roots2) (sym (same_roots before last same_lits same_assumptions same_starts)) roots_below)
+      (subst (IsStanding roots2.kept) (sym same_assumptions) (subst (λ k. IsStanding k before.assumptions) (sym as_known) watch.standing))
 
 -- ---- Where nothing changes but room and order
 
-pub watch_reserved : (live : FinMap nat_cmp Clause) (lists : WatchLists) (short : List ℕ) (before after : AssumptionsState) → after.trail.lits ≡ before.trail.lits → after.assumptions ≡ before.assumptions → after.starts ≡ before.starts →
-    ((v : ℕ) → has before.trail.met v ≡ true → has after.trail.met v ≡ true) → IsWatch live lists short before → IsWatch live lists short after
-watch_reserved live lists short before after lits_are assumptions_are starts_are within watch = record {
-  scan = scan_reserved (each_in_order live) before after lits_are assumptions_are starts_are within watch.scan;
+pub watch_reserved : (live : FinMap nat_cmp Clause) (lists : WatchLists) (short : List ℕ) (roots : Roots) (before after : AssumptionsState) → after.trail.lits ≡ before.trail.lits → after.assumptions ≡ before.assumptions → after.starts ≡ before.starts →
+    ((v : ℕ) → has before.trail.met v ≡ true → has after.trail.met v ≡ true) → IsWatch live lists short roots before → IsWatch live lists short roots after
+watch_reserved live lists short roots before after lits_are assumptions_are starts_are within watch = record {
+  scan = held_reserved (each_in_order live) (AreForced (maps.get (each_in_order live))) before after lits_are assumptions_are starts_are within watch.scan;
   apart = watch.apart;
   listed = watch.listed;
   rest = watch.rest;
@@ -108,11 +141,34 @@ watch_reserved live lists short before after lits_are assumptions_are starts_are
       (subst (λ ns. AreWatched (maps.get live) before.trail.lits before.assumptions ns) (sym starts_are) watch.watched));
   two_each = watch.two_each;
   one_each = watch.one_each;
+  kept = subst (IsKept live roots) (sym (same_roots before after lits_are assumptions_are starts_are)) watch.kept;
+  standing = subst (IsStanding roots.kept) (sym assumptions_are) watch.standing;
 }
 
-pub watch_same : (live : FinMap nat_cmp Clause) (lists after : WatchLists) (short : List ℕ) (held : AssumptionsState) → AreApart after → ((l s : ℕ) → times_in s (list_at after l) ≡ times_in s (list_at lists l)) →
-    entries_in after ≡ entries_in lists → IsWatch live lists short held → IsWatch live after short held
-watch_same live lists after short held apart times entries watch = record {
+-- more room for reasons
+pub watch_noted : (live : FinMap nat_cmp Clause) (lists : WatchLists) (short : List ℕ) (roots after : Roots) (held : AssumptionsState) → after.kept ≡ roots.kept →
+    ((l : Literal) → is_some (at roots.reasons l) ≡ true → at after.reasons l ≡ at roots.reasons l) → IsWatch live lists short roots held → IsWatch live lists short after held
+watch_noted live lists short roots after held as_known old watch = record {
+  scan = watch.scan;
+  apart = watch.apart;
+  listed = watch.listed;
+  rest = watch.rest;
+  watched = watch.watched;
+  two_each = watch.two_each;
+  one_each = watch.one_each;
+  kept = record {
+    noted = record { each = λ s c is l member. let was = watch.kept.noted.each s c is l member in ap is_some (old l was) ∙ was };
+    reasoned = let lits = roots_in held.trail.lits held.assumptions held.starts in
+        let live_shown = maps.get (each_in_order live) in
+        reasoned_same live_shown (at roots.reasons) lits watch.kept.reasoned (at after.reasons) (λ l h. old l (reasoned_some live_shown (at roots.reasons) lits watch.kept.reasoned l h));
+    known = subst (λ k. IsKnown live k (roots_in held.trail.lits held.assumptions held.starts)) (sym as_known) watch.kept.known;
+  };
+  standing = subst (λ k. IsStanding k held.assumptions) (sym as_known) watch.standing;
+}
+
+pub watch_same : (live : FinMap nat_cmp Clause) (lists after : WatchLists) (short : List ℕ) (roots : Roots) (held : AssumptionsState) → AreApart after → ((l s : ℕ) → times_in s (list_at after l) ≡ times_in s (list_at lists l)) →
+    entries_in after ≡ entries_in lists → IsWatch live lists short roots held → IsWatch live after short roots held
+watch_same live lists after short roots held apart times entries watch = record {
   scan = watch.scan;
   apart = apart;
   listed = record { watched = λ l s. times l s ∙ watch.listed.watched l s; low = watch.listed.low };
@@ -120,25 +176,60 @@ watch_same live lists after short held apart times entries watch = record {
   watched = watch.watched;
   two_each = entries ∙ watch.two_each;
   one_each = watch.one_each;
+  kept = watch.kept;
+  standing = watch.standing;
 }
+
+-- ---- Where nothing is assumed
+
+pub watch_alone : (live : FinMap nat_cmp Clause) (lists : WatchLists) (short : List ℕ) (roots : Roots) (held : AssumptionsState) → held.assumptions ≡ [] → HasRoomForAll held.trail.met (maps.get (each_in_order live)) →
+    AreApart lists → IsListed (maps.get live) (list_at lists) → IsShortList (maps.get live) short → entries_in lists ≡ 2 * long_clauses live → length short ≡ short_clauses live → IsKept live roots held.trail.lits → IsWatch live lists short roots held
+watch_alone live lists short roots held nothing room apart listed rest two_each one_each kept = record {
+  scan = record {
+    room = room;
+    exact = subst (λ xs. AreExact (maps.get (each_in_order live)) (AreForced (maps.get (each_in_order live))) held.trail.lits xs held.starts) (sym nothing) (kept_forced live roots held.trail.lits kept);
+  };
+  apart = apart;
+  listed = listed;
+  rest = rest;
+  watched = subst (λ xs. AreWatched (maps.get live) held.trail.lits xs held.starts) (sym nothing) tt;
+  two_each = two_each;
+  one_each = one_each;
+  kept = subst (IsKept live roots) (sym (roots_alone held.trail.lits held.assumptions held.starts nothing)) kept;
+  standing = subst (IsStanding roots.kept) (sym nothing) tt;
+}
+
+-- what is kept there
+pub alone_kept : (live : FinMap nat_cmp Clause) (lists : WatchLists) (short : List ℕ) (roots : Roots) (held : AssumptionsState) → IsWatch live lists short roots held → held.assumptions ≡ [] → IsKept live roots held.trail.lits
+alone_kept live lists short roots held watch nothing = subst (IsKept live roots) (roots_alone held.trail.lits held.assumptions held.starts nothing) watch.kept
+
+-- it is brought up to date
+pub watch_refreshed : (live live2 : FinMap nat_cmp Clause) (lists lists2 : WatchLists) (short : List ℕ) (roots roots2 : Roots) (held held2 : AssumptionsState) → IsWatch live lists short roots held → held2.assumptions ≡ [] → SameSet held2.trail.met held.trail.met →
+    each_in_order live2 ≡ each_in_order live → ((s : ℕ) → short_for (maps.get live2 s) ≡ short_for (maps.get live s)) → AreApart lists2 → IsListed (maps.get live2) (list_at lists2) → entries_in lists2 ≡ entries_in lists →
+    IsKept live2 roots2 held2.trail.lits → IsWatch live2 lists2 short roots2 held2
+watch_refreshed live live2 lists lists2 short roots roots2 held held2 watch nothing met same shorts apart listed entries kept =
+    watch_alone live2 lists2 short roots2 held2 nothing (record { each = λ k c here l member. met (l / 2) ∙ watch.scan.room.each k c (ap (λ m. maps.get m k) (sym same) ∙ here) l member }) apart listed
+    (record { listed = λ s. watch.rest.listed s ∙ sym (shorts s) }) (entries ∙ watch.two_each ∙ ap (λ n. 2 * n) (sym (long_alike live live2 same))) (watch.one_each ∙ sym (short_alike live live2 same)) kept
 
 -- ---- No clauses
 
-pub watch_empty : (live : FinMap nat_cmp Clause) (lists : WatchLists) (short : List ℕ) (held : AssumptionsState) → live ≡ maps.empty → ((l : Literal) → list_at lists l ≡ []) → entries_in lists ≡ 0 → AreApart lists → short ≡ [] →
-    held.trail.lits ≡ [] → held.assumptions ≡ [] → IsWatch live lists short held
-watch_empty live lists short held none empty no_entries apart no_short unset nothing =
-    let gone = λ (s : ℕ). ap (λ m. maps.get m s) none ∙ maps.get-empty nat_cmp s in record {
-      scan = scan_empty (each_in_order live) held (ap each_in_order none ∙ ordered_empty) unset nothing;
-      apart = apart;
-      listed = record {
-        watched = λ l s. ap (times_in s) (empty l) ∙ sym (ap (λ o. entries_for o l) (gone s));
-        low = λ s is. absurd (false≢true (sym (ap is_some (gone s)) ∙ is));
-      };
-      rest = record { listed = λ s. ap (times_in s) no_short ∙ sym (ap short_for (gone s)) };
-      watched = subst (λ xs. AreWatched (maps.get live) held.trail.lits xs held.starts) (sym nothing) tt;
-      two_each = no_entries ∙ sym (ap (λ n. 2 * n) (ap long_clauses none ∙ sum_empty (λ c. cond (nat_le 2 (size c)) 1 0)));
-      one_each = ap length no_short ∙ sym (ap short_clauses none ∙ sum_empty (λ c. cond (nat_le 2 (size c)) 0 1));
-    }
+pub watch_empty : (live : FinMap nat_cmp Clause) (lists : WatchLists) (short : List ℕ) (roots : Roots) (held : AssumptionsState) → live ≡ maps.empty → ((l : Literal) → list_at lists l ≡ []) → entries_in lists ≡ 0 → AreApart lists → short ≡ [] →
+    roots.kept ≡ Lost → held.trail.lits ≡ [] → held.assumptions ≡ [] → IsWatch live lists short roots held
+watch_empty live lists short roots held none empty no_entries apart no_short lost unset nothing =
+    let gone = λ (s : ℕ). ap (λ m. maps.get m s) none ∙ maps.get-empty nat_cmp s in
+    let gone_shown = λ (s : ℕ). ap (λ m. maps.get m s) (ap each_in_order none ∙ ordered_empty) ∙ maps.get-empty nat_cmp s in
+    watch_alone live lists short roots held nothing (record { each = λ k c here. absurd (none-some c (sym (gone_shown k) ∙ here)) }) apart
+    (record {
+      watched = λ l s. ap (times_in s) (empty l) ∙ sym (ap (λ o. entries_for o l) (gone s));
+      low = λ s is. absurd (false≢true (sym (ap is_some (gone s)) ∙ is));
+    })
+    (record { listed = λ s. ap (times_in s) no_short ∙ sym (ap short_for (gone s)) }) (no_entries ∙ sym (ap (λ n. 2 * n) (ap long_clauses none ∙ sum_empty (λ c. cond (nat_le 2 (size c)) 1 0))))
+    (ap length no_short ∙ sym (ap short_clauses none ∙ sum_empty (λ c. cond (nat_le 2 (size c)) 0 1)))
+    (record {
+      noted = record { each = λ s c here. absurd (none-some c (sym (gone_shown s) ∙ here)) };
+      reasoned = reasoned_none (maps.get (each_in_order live)) (at roots.reasons) held.trail.lits unset;
+      known = subst (λ k. IsKnown live k held.trail.lits) (sym lost) unset;
+    })
 
 -- ---- One clause more or less, where nothing is assumed
 
@@ -164,25 +255,14 @@ short_weight c different = ap (λ b. cond b 0 1) (long_is c different) ∙ by_te
     by_test true = refl
     by_test false = refl
 
-module _ (live after : FinMap nat_cmp Clause) (lists lists2 : WatchLists) (short short2 : List ℕ) (held : AssumptionsState) (watch : IsWatch live lists short held) (nothing : held.assumptions ≡ [])
-    (slot : ℕ) (c : Clause) (different : size c ≡ length c) (apart : AreApart lists2) (room : HasRoomForAll held.trail.met (maps.get (each_in_order after))) where
-  still_watched : AreWatched (maps.get after) held.trail.lits held.assumptions held.starts
-  still_watched = subst (λ xs. AreWatched (maps.get after) held.trail.lits xs held.starts) (sym nothing) tt
-
-  two : entries_in lists2 ≡ 2 * long_clauses after → length short2 ≡ short_clauses after → IsListed (maps.get after) (list_at lists2) → IsShortList (maps.get after) short2 → IsWatch after lists2 short2 held
-  two two_each one_each listed rest = record {
-    scan = scan_with (each_in_order live) (each_in_order after) held nothing room watch.scan;
-    apart = apart;
-    listed = listed;
-    rest = rest;
-    watched = still_watched;
-    two_each = two_each;
-    one_each = one_each;
-  }
+module _ (live after : FinMap nat_cmp Clause) (lists lists2 : WatchLists) (short short2 : List ℕ) (roots roots2 : Roots) (held held2 : AssumptionsState) (watch : IsWatch live lists short roots held) (nothing : held2.assumptions ≡ [])
+    (slot : ℕ) (c : Clause) (different : size c ≡ length c) (apart : AreApart lists2) (room : HasRoomForAll held2.trail.met (maps.get (each_in_order after))) (kept : IsKept after roots2 held2.trail.lits) where
+  two : entries_in lists2 ≡ 2 * long_clauses after → length short2 ≡ short_clauses after → IsListed (maps.get after) (list_at lists2) → IsShortList (maps.get after) short2 → IsWatch after lists2 short2 roots2 held2
+  two two_each one_each listed rest = watch_alone after lists2 short2 roots2 held2 nothing room apart listed rest two_each one_each kept
 
   pub watch_added : maps.get live slot ≡ None → after ≡ maps.insert live slot c → slot < 4294967296 →
       ((l s : ℕ) → times_in s (list_at lists2 l) ≡ times_in s (list_at lists l) + cond (watches c l && eqb s slot) 1 0) → ((s : ℕ) → times_in s short2 ≡ times_in s short + cond (is_short c && eqb s slot) 1 0) →
-      entries_in lists2 ≡ entries_in lists + cond (is_short c) 0 2 → length short2 ≡ length short + cond (is_short c) 1 0 → IsWatch after lists2 short2 held
+      entries_in lists2 ≡ entries_in lists + cond (is_short c) 0 2 → length short2 ≡ length short + cond (is_short c) 1 0 → IsWatch after lists2 short2 roots2 held2
   watch_added free is low times short_times entries longer =
       let more = ap long_clauses is ∙ sum_insert (λ c. cond (nat_le 2 (size c)) 1 0) live slot c free in
       let more_short = ap short_clauses is ∙ sum_insert (λ c. cond (nat_le 2 (size c)) 0 1) live slot c free in
@@ -220,7 +300,7 @@ module _ (live after : FinMap nat_cmp Clause) (lists lists2 : WatchLists) (short
 
   pub watch_removed : maps.get live slot ≡ Some c → after ≡ maps.remove live slot →
       ((l s : ℕ) → times_in s (list_at lists2 l) + cond (watches c l && eqb s slot) 1 0 ≡ times_in s (list_at lists l)) → ((s : ℕ) → times_in s short2 + cond (is_short c && eqb s slot) 1 0 ≡ times_in s short) →
-      entries_in lists2 + cond (is_short c) 0 2 ≡ entries_in lists → length short2 + cond (is_short c) 1 0 ≡ length short → IsWatch after lists2 short2 held
+      entries_in lists2 + cond (is_short c) 0 2 ≡ entries_in lists → length short2 + cond (is_short c) 1 0 ≡ length short → IsWatch after lists2 short2 roots2 held2
   watch_removed there is times short_times entries shorter =
       let less = sum_remove (λ c. cond (nat_le 2 (size c)) 1 0) live slot c there in
       let less_short = sum_remove (λ c. cond (nat_le 2 (size c)) 0 1) live slot c there in

@@ -1,5 +1,5 @@
 -- What visits of clauses do.
-use Rattle.std.specs.Prelude.{◌≡◌, ◌≢◌, ℕ, ◌<◌, ◌≤◌, ◌==◌, ◌∷◌, List, [], length, slice_index, if◌then◌else◌, IsTrue, IsFalse, IsSome}
+use Rattle.std.specs.Prelude.{◌≡◌, ◌≢◌, ℕ, ◌<◌, ◌≤◌, ◌==◌, ◌∷◌, List, [], Option, length, slice_index, if◌then◌else◌, IsTrue, IsFalse, IsSome}
 use Rattle.std.specs.Ordering.{nat_cmp}
 use Rattle.std.specs.FinMap as maps
 use Rattle.std.specs.FinMap.{FinMap}
@@ -10,6 +10,7 @@ use Rattle.clause_db.specs.Propagation.Assumptions.{AssumptionsState}
 use Rattle.clause_db.specs.Propagation.Exact.{Extends}
 use Rattle.clause_db.specs.Propagation.Watch.Lists.{AreApart, list_at}
 use Rattle.clause_db.specs.Propagation.Watch.Order.{each_in_order}
+use Rattle.clause_db.specs.Propagation.Watch.Roots.{AreReasoned}
 use Rattle.clause_db.specs.Propagation.Watch.Watched.{HasPartner, IsWatched, short_for}
 use Rattle.clause_db.specs.declared.propagation.watch.lists.WatchLists.{WatchLists}
 use Rattle.clause_db.specs.declared.propagation.watch.visit.Visit.{Visit}
@@ -30,8 +31,9 @@ IsVisit trues c l (Unit m) =
     × ((k : Literal) → IsTrue (has c k) → k ≢ m → IsTrue (has trues (complement k)))
 IsVisit trues c l Clash = (k : Literal) → IsTrue (has c k) → IsTrue (has trues (complement k))
 
--- the clauses are the same but for the order of their literals, what was watched still is, and more literals are true, all forced
-pub record Carries (before after : FinMap nat_cmp Clause) (held now : AssumptionsState) : Type 0 where
+-- the clauses are the same but for the order of their literals, what was watched still is, and more literals are true, all
+-- forced, each by a reason
+pub record Carries (before after : FinMap nat_cmp Clause) (held now : AssumptionsState) (reason_of reason_now : Literal → Option ℕ) : Type 0 where
   pub same : each_in_order after ≡ each_in_order before
   pub short : (s : ℕ) → short_for (maps.get after s) ≡ short_for (maps.get before s)
   pub kept : (done trues : List Literal) → IsPart done held.trail.lits → IsPart trues held.trail.lits →
@@ -39,6 +41,10 @@ pub record Carries (before after : FinMap nat_cmp Clause) (held now : Assumption
   pub sound : (l : Literal) → IsTrue (has now.trail.lits l) →
       Forced (maps.get (each_in_order before)) held.trail.lits l
   pub extends : Extends held now
+  pub noted : (l : Literal) → IsSome (reason_of l) → IsSome (reason_now l)
+  pub as_before : (l : Literal) → IsTrue (has held.trail.lits l) → reason_now l ≡ reason_of l
+  pub reasoned : AreReasoned (maps.get (each_in_order before)) reason_of held.trail.lits →
+      AreReasoned (maps.get (each_in_order before)) reason_now now.trail.lits
 
 -- the list of the literal is in hand, and an empty one in its place
 pub record IsInHand (lists : WatchLists) (l : Literal) : Type 0 where

@@ -2,12 +2,14 @@
 
 ghost use Rattle.std.specs.Prelude.{◌≡◌, ℕ, ◌≤◌, length, take, Some, IfOk};
 ghost use Rattle.std.specs.FinMap as maps;
-ghost use Rattle.cnf_base.specs.Literals.{Clause, has};
+ghost use Rattle.cnf_base.specs.Literals.{has};
+ghost use Rattle.tables.specs.Table.{at};
 ghost use Rattle.clause_db.specs.Propagation.Assumptions.{IsAnswer};
 ghost use Rattle.clause_db.specs.Propagation.Trail.{HasRoomForAll};
 ghost use Rattle.clause_db.specs.Propagation.Watch.Lists.{AreApart, entries_in, list_at};
 ghost use Rattle.clause_db.specs.Propagation.Watch.Order.{each_in_order};
-ghost use Rattle.clause_db.specs.Propagation.Watch.Watched.{IsListed, IsShortList, IsWatched};
+ghost use Rattle.clause_db.specs.Propagation.Watch.Roots.{AreNoted, HaveUnits};
+ghost use Rattle.clause_db.specs.Propagation.Watch.Watched.{IsListed, IsWatched};
 ghost use Rattle.clause_db.specs.Propagation.Watch.Visits.{Carries};
 ghost use Rattle.clause_db.specs.Propagation.{IsClosed};
 ghost use Rattle.clause_db.specs.declared.propagation.answer.Answer.TheVariants.{Quiet};
@@ -15,27 +17,27 @@ ghost use Rattle.clause_db.specs.declared.propagation.answer.Answer.TheVariants.
 use crate::propagation::assumptions::Assumptions;
 use crate::propagation::watch::follow::propagate;
 use crate::propagation::watch::lists::WatchLists;
-use crate::propagation::watch::slot_list::SlotList;
-use crate::propagation::watch::units::set_units;
 use crate::{Answer, Store};
 use cnf_base::OutOfMemory;
+use tables::Table;
 
 /// Sets all that follows from the literals that are true, or stops at a clash. Those before the place `from` are propagated.
 pub(crate) fn run(
     store: &mut Store,
     lists: &mut WatchLists,
-    short: &SlotList,
     assumptions: &mut Assumptions,
+    reasons: &mut Table<u32>,
     from: usize,
 ) -> Result<Answer, OutOfMemory>
     requires from { from ≤ length assumptions.old.trail.lits }
     requires apart { AreApart lists.old }
     requires listed { IsListed (maps.get store.old.live) (list_at lists.old) }
-    requires rest { IsShortList (maps.get store.old.live) short.now }
     requires watched { IsWatched (maps.get store.old.live)
         (take from assumptions.old.trail.lits) assumptions.old.trail.lits }
+    requires units { HaveUnits (maps.get store.old.live) assumptions.old.trail.lits }
     requires room { HasRoomForAll assumptions.old.trail.met
         (maps.get (each_in_order store.old.live)) }
+    requires noted { AreNoted (maps.get (each_in_order store.old.live)) (at reasons.old) }
     ensures answer { IfOk result (λ a. IsAnswer (maps.get (each_in_order store.old.live))
         assumptions.old.trail.lits a) }
     ensures closed { IfOk result (λ a. a ≡ Quiet → IsClosed
@@ -45,14 +47,13 @@ pub(crate) fn run(
     ensures apart { AreApart lists.new }
     ensures listed { IsListed (maps.get store.new.live) (list_at lists.new) }
     ensures entries { entries_in lists.new ≡ entries_in lists.old }
-    ensures carries { Carries store.old.live store.new.live assumptions.old assumptions.new }
+    ensures carries { Carries store.old.live store.new.live assumptions.old assumptions.new
+        (at reasons.old) (at reasons.new) }
 {
-    match set_units(store, short.slots(), assumptions) {
-        Answer::Clash => Ok(Answer::Clash),
-        Answer::Quiet => {
-            let answer = propagate(store, lists, assumptions, from)?;
-            store.is_sound();
-            Ok(answer)
-        }
+    let found = propagate(store, lists, assumptions, reasons, from)?;
+    store.is_sound();
+    match found {
+        Some(_) => Ok(Answer::Clash),
+        None => Ok(Answer::Quiet),
     }
 }

@@ -2,17 +2,18 @@
 
 ghost use Rattle.std.specs.Prelude.{◌≡◌, ℕ, ◌∷◌, [], Some, IsTrue, IfSome, IfNone};
 ghost use Rattle.std.specs.FinMap as maps;
-ghost use Rattle.cnf_base.specs.Literals.{Clause};
+ghost use Rattle.tables.specs.Table.{at};
 ghost use Rattle.clause_db.specs.Propagation.Trail.{HasRoomForAll};
 ghost use Rattle.clause_db.specs.Propagation.Watch.Order.{each_in_order};
-ghost use Rattle.clause_db.specs.Propagation.Watch.Watched.{HasUnit, IsShortList, is_short};
+ghost use Rattle.clause_db.specs.Propagation.Watch.Roots.{AreNoted, HaveUnits, IsFalseAt};
+ghost use Rattle.clause_db.specs.Propagation.Watch.Watched.{IsShortList, is_short};
 ghost use Rattle.clause_db.specs.Propagation.Watch.Visits.{Carries};
-ghost use Rattle.clause_db.specs.Propagation.{Clash};
-ghost use Rattle.clause_db.specs.declared.propagation.answer.Answer.TheVariants.{Clash as AnswersClash, Quiet};
 
 use crate::propagation::assumptions::Assumptions;
-use crate::{Answer, Slot, Store};
+use crate::propagation::watch::roots::set_by;
+use crate::{Slot, Store};
 use cnf_base::Lit;
+use tables::Table;
 
 /// The literal of a clause that has one or none.
 fn literal_of(clause: &[Lit]) -> Option<Lit>
@@ -23,26 +24,34 @@ fn literal_of(clause: &[Lit]) -> Option<Lit>
     clause.first().copied()
 }
 
-/// Makes the literals of the clauses in these slots true, each of which has one or none, up to a clash.
-pub(crate) fn set_units(store: &Store, slots: &[u32], assumptions: &mut Assumptions) -> Answer
+/// Makes the literals of the clauses in these slots true, each of which has one or none, up to one that is false: its slot.
+pub(crate) fn set_units(
+    store: &Store,
+    slots: &[u32],
+    assumptions: &mut Assumptions,
+    reasons: &mut Table<u32>,
+) -> Option<u32>
     requires listed { IsShortList (maps.get store.now.live) slots.now }
     requires room { HasRoomForAll assumptions.old.trail.met
         (maps.get (each_in_order store.now.live)) }
-    ensures clash { result ≡ AnswersClash →
-        Clash (maps.get (each_in_order store.now.live)) assumptions.old.trail.lits }
-    ensures units { result ≡ Quiet → (s : ℕ) (c : Clause) →
-        maps.get store.now.live s ≡ Some c → HasUnit c assumptions.new.trail.lits }
-    ensures carries { Carries store.now.live store.now.live assumptions.old assumptions.new }
+    requires noted { AreNoted (maps.get (each_in_order store.now.live)) (at reasons.old) }
+    ensures clash { IfSome result (λ s.
+        IsFalseAt (maps.get (each_in_order store.now.live)) s assumptions.new.trail.lits) }
+    ensures units { IfNone result
+        (HaveUnits (maps.get store.now.live) assumptions.new.trail.lits) }
+    ensures carries { Carries store.now.live store.now.live assumptions.old assumptions.new
+        (at reasons.old) (at reasons.new) }
 {
     for place in 0..slots.len() {
-        let clause = store.clause(Slot::at(slots[place] as usize));
+        let slot = slots[place];
+        let clause = store.clause(Slot::at(slot as usize));
         let Some(l) = literal_of(clause) else {
-            return Answer::Clash;
+            return Some(slot);
         };
         if assumptions.trail().is_false(l) {
-            return Answer::Clash;
+            return Some(slot);
         }
-        assumptions.make_true(l);
+        set_by(assumptions, reasons, l, slot);
     }
-    Answer::Quiet
+    None
 }

@@ -23,14 +23,14 @@ pub(crate) enum Visit {
     Clash,
 }
 
-/// The first place past the watched literals whose literal is not false.
-fn open_place(trail: &Trail, clause: &[Lit]) -> Option<usize>
-    ensures found { IfSome result (λ k. (2 ≤ k) × (k < length clause.now)
+/// The first place from this one on whose literal is not false.
+pub(crate) fn open_place(trail: &Trail, clause: &[Lit], from: usize) -> Option<usize>
+    ensures found { IfSome result (λ k. (from ≤ k) × (k < length clause.now)
         × IsFalse (has trail.now.lits (complement (slice_index clause.now k)))) }
-    ensures none { IfNone result ((k : ℕ) → 2 ≤ k → k < length clause.now →
+    ensures none { IfNone result ((k : ℕ) → from ≤ k → k < length clause.now →
         IsTrue (has trail.now.lits (complement (slice_index clause.now k)))) }
 {
-    for place in 2..clause.len() {
+    for place in from..clause.len() {
         if !trail.is_false(clause[place]) {
             return Some(place);
         }
@@ -62,7 +62,7 @@ pub(crate) fn look(trail: &Trail, clause: &[Lit], l: Lit) -> Visit
     if matches!(value, Value::True) {
         return Visit::Stays;
     }
-    match open_place(trail, clause) {
+    match open_place(trail, clause, 2) {
         Some(to) => Visit::Moves(from, to),
         None => match value {
             Value::False => Visit::Clash,

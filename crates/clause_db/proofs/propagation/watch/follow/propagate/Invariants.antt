@@ -1,5 +1,6 @@
 use Rattle.std.proofs.Common.{◌≡◌, ◌-◌, ◌≤◌, length, take}
 use Rattle.std.specs.FinMap as maps
+use Rattle.tables.specs.Table.{at}
 use Rattle.clause_db.specs.Propagation.Watch.Lists.{AreApart, entries_in, list_at}
 use Rattle.clause_db.specs.Propagation.Watch.Watched.{IsListed, IsWatched}
 use Rattle.clause_db.specs.Propagation.Watch.Visits.{Carries}
@@ -12,7 +13,7 @@ invariant-loop-done l = record {
   listed : IsListed (maps.get l.store.live) (list_at l.lists);
   entries : entries_in l.lists ≡ entries_in l.fn.lists;
   watched : IsWatched (maps.get l.store.live) (take l.done l.assumptions.trail.lits) l.assumptions.trail.lits;
-  carries : Carries l.fn.store.live l.store.live l.fn.assumptions l.assumptions;
+  carries : Carries l.fn.store.live l.store.live l.fn.assumptions l.assumptions (at l.fn.reasons) (at l.reasons);
 }
 
 abbrev pub decreases-loop-done : goal.decreases-loop-done

@@ -1,9 +1,10 @@
 use Rattle.std.proofs.Common.{◌+◌, ◌<◌, ◌≤◌, length, take, sym, ap, ◌∙◌, arith}
 use Rattle.std.specs.FinMap as maps
+use Rattle.tables.specs.Table.{at}
 use Rattle.cnf_base.specs.Literals.{complement, has}
 use Rattle.clause_db.specs.Propagation.Watch.Lists.{list_at}
 use Rattle.clause_db.proofs.PropagationLemmas.Passes.{has_begun}
-use Rattle.clause_db.proofs.PropagationLemmas.Watch.Carries.{carries_on, clash_back}
+use Rattle.clause_db.proofs.PropagationLemmas.Watch.Carries.{carries_on}
 use Rattle.clause_db.proofs.PropagationLemmas.Watch.Follow.{all_partners, front_apart, visited_further, visited_here}
 use Rattle.clause_db.proofs.propagation.watch.follow.visit_all.Goals as goal
 
@@ -13,7 +14,7 @@ visit-requires-clause-is_false c =
 
 pub returns-in_err-visit-clause-carries : goal.returns-in_err-visit-clause-carries
 returns-in_err-visit-clause-carries c =
-    carries_on c.args.store.now.live c.loop-place.store.live c.visit.new.store.live c.args.assumptions.now c.loop-place.assumptions c.visit.new.assumptions c.loop-place.invariant.carries c.visit.ensures.carries
+    carries_on c.args.store.now.live c.loop-place.store.live c.visit.new.store.live c.args.assumptions.now c.loop-place.assumptions c.visit.new.assumptions (at c.args.reasons.now) (at c.loop-place.reasons) (at c.visit.new.reasons) c.loop-place.invariant.carries c.visit.ensures.carries
 
 pub loop-place-preserved-in-Further : goal.loop-place-preserved-in-Further
 loop-place-preserved-in-Further c =
@@ -26,7 +27,7 @@ loop-place-preserved-in-Further c =
       hand = e.hand;
       listed = e.listed;
       entries = let step = e.entries in let was = so_far.entries in omega arith;
-      carries = carries_on c.args.store.now.live before.store.live c.visit.new.store.live c.args.assumptions.now before.assumptions c.visit.new.assumptions so_far.carries e.carries;
+      carries = carries_on c.args.store.now.live before.store.live c.visit.new.store.live c.args.assumptions.now before.assumptions c.visit.new.assumptions (at c.args.reasons.now) (at before.reasons) (at c.visit.new.reasons) so_far.carries e.carries;
       visited = λ s there. visited s (ap (λ xs. has (take (before.place + 1) xs) s) (sym (e.further c.in-Further.is)) ∙ there);
     }
 
@@ -39,23 +40,19 @@ loop-place-preserved c =
       hand = e.hand;
       listed = e.listed;
       entries = let step = e.entries in let was = so_far.entries in omega arith;
-      carries = carries_on c.args.store.now.live before.store.live c.visit.new.store.live c.args.assumptions.now before.assumptions c.visit.new.assumptions so_far.carries e.carries;
+      carries = carries_on c.args.store.now.live before.store.live c.visit.new.store.live c.args.assumptions.now before.assumptions c.visit.new.assumptions (at c.args.reasons.now) (at before.reasons) (at c.visit.new.reasons) so_far.carries e.carries;
       visited =
           visited_here (maps.get before.store.live) (maps.get c.visit.new.store.live) c.args.l before.assumptions.trail.lits c.visit.new.assumptions.trail.lits
           (λ l h. has_begun before.assumptions.trail.lits c.visit.new.assumptions.trail.lits l e.carries.extends.begins h) before.list.items before.place inside so_far.visited e.others
           c.visit.new.list.items e.front (λ s there. front_apart (maps.get before.store.live) (list_at before.lists) c.args.l before.list.items so_far.listed before.place s inside there);
     }
 
-pub returns-in-Nothing-clause-clash : goal.returns-in-Nothing-clause-clash
-returns-in-Nothing-clause-clash c = λ _.
-    clash_back c.args.store.now.live c.loop-place.store.live c.args.assumptions.now c.loop-place.assumptions c.loop-place.invariant.carries (c.in_ok-visit.ensures.clash c.in-Nothing.is)
-
 pub returns-in-Nothing-clause-carries : goal.returns-in-Nothing-clause-carries
 returns-in-Nothing-clause-carries c =
-    carries_on c.args.store.now.live c.loop-place.store.live c.visit.new.store.live c.args.assumptions.now c.loop-place.assumptions c.visit.new.assumptions c.loop-place.invariant.carries c.visit.ensures.carries
+    carries_on c.args.store.now.live c.loop-place.store.live c.visit.new.store.live c.args.assumptions.now c.loop-place.assumptions c.visit.new.assumptions (at c.args.reasons.now) (at c.loop-place.reasons) (at c.visit.new.reasons) c.loop-place.invariant.carries c.visit.ensures.carries
 
 pub returns-clause-partners : goal.returns-clause-partners
-returns-clause-partners c = λ _.
+returns-clause-partners c =
     let now = c.loop-place in
     let past : length now.list.items ≤ now.place = let high = c.loop-place-test.false in let n = c.len.ensures in let fits = now.list.ok in omega arith in
     all_partners (maps.get now.store.live) (list_at now.lists) c.args.l now.list.items now.invariant.listed now.assumptions.trail.lits now.place past now.invariant.visited

@@ -1,5 +1,6 @@
 use Rattle.std.proofs.Common.{◌≡◌, ℕ, ◌+◌, ◌-◌, true, Some, length, take}
 use Rattle.std.specs.FinMap as maps
+use Rattle.tables.specs.Table.{at}
 use Rattle.cnf_base.specs.Literals.{Clause, has}
 use Rattle.clause_db.specs.Propagation.Watch.Lists.{entries_in}
 use Rattle.clause_db.specs.Propagation.Watch.Watched.{HasPartner, IsListed}
@@ -11,7 +12,7 @@ invariant-loop-place l = record {
   hand : IsInHand l.lists l.l;
   listed : IsListed (maps.get l.store.live) (with_list l.lists l.l l.list.items);
   entries : entries_in l.lists + length l.list.items ≡ entries_in l.fn.lists + length l.fn.list.items;
-  carries : Carries l.fn.store.live l.store.live l.fn.assumptions l.assumptions;
+  carries : Carries l.fn.store.live l.store.live l.fn.assumptions l.assumptions (at l.fn.reasons) (at l.reasons);
   visited : (s : ℕ) → has (take l.place l.list.items) s ≡ true → (c : Clause) → maps.get l.store.live s ≡ Some c → HasPartner c l.l l.assumptions.trail.lits;
 }
 

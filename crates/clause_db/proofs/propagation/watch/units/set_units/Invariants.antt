@@ -1,5 +1,6 @@
 use Rattle.std.proofs.Common.{◌≡◌, ℕ, true, Some, take}
 use Rattle.std.specs.FinMap as maps
+use Rattle.tables.specs.Table.{at}
 use Rattle.cnf_base.specs.Literals.{Clause, has}
 use Rattle.clause_db.specs.Propagation.Watch.Watched.{HasUnit}
 use Rattle.clause_db.specs.Propagation.Watch.Visits.{Carries}
@@ -8,5 +9,5 @@ use Rattle.clause_db.proofs.propagation.watch.units.set_units.Given as goal
 abbrev pub invariant-loop-place : goal.invariant-loop-place
 invariant-loop-place l = record {
   units : (s : ℕ) → has (take l.place l.slots) s ≡ true → (c : Clause) → maps.get l.store.live s ≡ Some c → HasUnit c l.assumptions.trail.lits;
-  carries : Carries l.store.live l.store.live l.fn.assumptions l.assumptions;
+  carries : Carries l.store.live l.store.live l.fn.assumptions l.assumptions (at l.fn.reasons) (at l.reasons);
 }
