@@ -3,14 +3,25 @@
 # make bench  measures; see bench/README.md
 # make clean  removes what these made, but for what the proofs keep in crates/*/out
 #
-# They need the Rattle kit's command rt on the PATH, or named by RT=..
+# make install       copies the programs in bin/ and their manual pages to PREFIX, under DESTDIR where that is set
+# make uninstall     removes them there
+# make test-solvers  runs real SAT solvers, and the programs on what they wrote
+# make test-package  builds the Debian package, and runs the programs that are in it
+#
+# The first two need the Rattle kit's command rt on the PATH, or named by RT=..
 
 RT ?= rt
+PREFIX ?= /usr/local
+BINDIR ?= $(PREFIX)/bin
+MANDIR ?= $(PREFIX)/share/man
+INSTALL ?= install
+
+PROGRAMS := drat-forward lrat-check model-check
 
 SOURCES := crates.txt HANDLES $(shell find crates -name out -prune -o -type f -print)
 
 .DELETE_ON_ERROR:
-.PHONY: all test bench clean
+.PHONY: all test test-solvers test-package bench clean install uninstall
 
 all: bin/lrat-check bin/drat-forward bin/model-check
 
@@ -34,8 +45,28 @@ bin/model-check: $(SOURCES)
 test:
 	@RT="$(RT)" tests/run.sh
 
+test-solvers:
+	tests/solvers.sh
+
+test-package:
+	packaging/test-deb.sh
+
 bench: bin/lrat-check bin/drat-forward bin/model-check
 	bench/run.sh
+
+# nothing is proved here: root, who often installs, need not have the kit
+install:
+	@for program in $(PROGRAMS); do \
+	    [ -x bin/$$program ] || { echo "make install: there is no bin/$$program: run make" >&2; exit 1; }; \
+	done
+	$(INSTALL) -d "$(DESTDIR)$(BINDIR)" "$(DESTDIR)$(MANDIR)/man1"
+	$(INSTALL) -m 755 $(PROGRAMS:%=bin/%) "$(DESTDIR)$(BINDIR)"
+	$(INSTALL) -m 644 $(PROGRAMS:%=man/%.1) "$(DESTDIR)$(MANDIR)/man1"
+
+uninstall:
+	for program in $(PROGRAMS); do \
+	    rm -f "$(DESTDIR)$(BINDIR)/$$program" "$(DESTDIR)$(MANDIR)/man1/$$program.1"; \
+	done
 
 clean:
 	rm -rf bin bench/out

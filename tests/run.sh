@@ -1,7 +1,7 @@
 #!/usr/bin/env bash
 # All tests: the gate (every proof from nothing, the must-fail edits, the crates' tests and the programs' stored runs), then
-# the control of the edits that try the clauses on models alone, then the programs as users run them, and then counts of
-# allocations. The last line is "N passed, M failed" over all.
+# the control of the edits that try the clauses on models alone, then the programs as users run them, their manual pages,
+# counts of allocations, and runs in which each allocation is refused. The last line is "N passed, M failed" over all.
 #
 # RT names the command rt, where it isn't on the PATH.
 set -uo pipefail
@@ -50,8 +50,16 @@ echo "== tests/programs.sh"
 LRAT_CHECK=$lrat_check DRAT_FORWARD=$drat_forward MODEL_CHECK=$model_check tests/programs.sh 2>&1 | tee "$log"
 count "${PIPESTATUS[0]}"
 
+echo "== tests/manual.sh"
+LRAT_CHECK=$lrat_check DRAT_FORWARD=$drat_forward MODEL_CHECK=$model_check tests/manual.sh 2>&1 | tee "$log"
+count "${PIPESTATUS[0]}"
+
 echo "== tests/allocations.py"
 DRAT_FORWARD=$drat_forward python3 tests/allocations.py 2>&1 | tee "$log"
+count "${PIPESTATUS[0]}"
+
+echo "== tests/refusals.py"
+LRAT_CHECK=$lrat_check DRAT_FORWARD=$drat_forward MODEL_CHECK=$model_check python3 tests/refusals.py 2>&1 | tee "$log"
 count "${PIPESTATUS[0]}"
 
 echo "$passed passed, $failed failed"

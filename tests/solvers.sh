@@ -1,0 +1,262 @@
+#!/usr/bin/env bash
+# Runs real SAT solvers as README shows, and the checkers on what these wrote. By hand, with make test-solvers: the gate needs
+# no solver. A solver that isn't installed is skipped, and said. The last line is "N passed, M failed".
+#
+# Debian: apt-get install cadical cryptominisat picosat minisat clasp sat4j, and from Debian 13 on drat-trim
+#
+# Each command is taken only if README has it, so that README shows nothing that was not run. DRAT_FORWARD, LRAT_CHECK and
+# MODEL_CHECK name the programs; they are those in bin/ otherwise.
+set -uo pipefail
+cd "$(dirname "$0")/.."
+root=$PWD
+
+passed=0 failed=0
+room=$(mktemp -d)
+trap 'rm -rf "$room"' EXIT
+
+mkdir "$room/bin"
+for program in drat-forward lrat-check model-check; do
+    variable=${program^^}
+    variable=${variable//-/_}
+    path=$(realpath -m "${!variable:-bin/$program}")
+    if [ ! -x "$path" ]; then
+        echo "FAILED: there is no program $path"
+        echo "0 passed, 1 failed"
+        exit 1
+    fi
+    ln -s "$path" "$room/bin/$program"
+done
+PATH=$room/bin:$PATH
+
+# ---- Formulas. Of each without a model a weakened one, which has one, is made by leaving out the clause that says that one
+# pigeon has a hole, or that one row has a queen.
+
+cd "$room" || exit 1
+python3 "$root/examples/pigeonhole.py" 6 pigeonhole.cnf /dev/null
+python3 "$root/examples/queens.py" 3 queens-3.cnf
+python3 "$root/examples/queens.py" 8 queens-8.cnf
+
+# with_clause FORMULA CLAUSE: the formula with one more clause
+with_clause() {
+    awk -v clause="$2" '/^p cnf/ { $4 += 1 } { print } END { print clause, 0 }' "$1"
+}
+
+# without_clause FORMULA N: the formula without its clause N, from 1
+without_clause() {
+    awk -v left_out="$2" '/^c/ { next } /^p cnf/ { $4 -= 1; print; next } ++n != left_out { print }' "$1"
+}
+
+# the first pigeon sits in the first hole, and the second in the second: clauses of one literal, which solvers simplify by
+with_clause pigeonhole.cnf 1 > one.cnf
+with_clause one.cnf 8 > units.cnf
+unsatisfiable="pigeonhole units queens-3"
+without_clause pigeonhole.cnf 1 > pigeonhole-weak.cnf
+without_clause units.cnf 3 > units-weak.cnf
+without_clause queens-3.cnf 1 > queens-3-weak.cnf
+for which in $unsatisfiable queens-8; do
+    if ! [ -s "$which.cnf" ]; then
+        echo "FAILED: $which.cnf was not made"
+        echo "0 passed, 1 failed"
+        exit 1
+    fi
+done
+
+# ---- Judging
+
+pass() { passed=$((passed + 1)); }
+
+# fail TEXT: with what the last command wrote
+fail() {
+    echo "FAILED: $1"
+    tail -n 5 out err
+    failed=$((failed + 1))
+}
+
+# runs NAME STATUS LINE: runs a line of README as a user's shell does; its status has to be this
+runs() {
+    local name=$1 status=$2 ended
+    if ! grep -qF -- "$3" "$root/README.md"; then
+        : > out > err
+        fail "$name: README does not have: $3"
+        return
+    fi
+    bash -c "$3" > out 2> err
+    ended=$?
+    if [ "$ended" -eq "$status" ]; then pass; else fail "$name: status $ended, and not $status: $3"; fi
+}
+
+# checks NAME STATUS VERDICT LINE: runs a line of README; its status, and the last line it writes, have to be these
+checks() {
+    local before=$failed last
+    runs "$1" "$2" "$4"
+    [ "$failed" -eq "$before" ] || return
+    last=$(tail -n 1 out)
+    if [ "$last" = "$3" ]; then pass; else fail "$1: the verdict is $last"; fi
+}
+
+# refuses NAME VERDICT WORD..: what is in the room is not verified of another formula: status 1
+refuses() {
+    local name=$1 verdict=$2 ended
+    shift 2
+    "$@" > out 2> err
+    ended=$?
+    if [ "$ended" -eq 1 ] && [ "$(tail -n 1 out)" = "$verdict" ]; then pass; else fail "$name: status $ended: $*"; fi
+}
+
+# of_proof NAME STATUS LINE..: for each formula without a model, the solver's line, with the solver's status, and the lines
+# after it, with status 0, make proof.drat. It verifies the formula, also where each deletion has to name a live clause, and
+# not the weakened one.
+of_proof() {
+    local solver=$1 ended=$2 which line
+    shift 2
+    for which in $unsatisfiable; do
+        cp "$which.cnf" formula.cnf
+        runs "$solver on $which" "$ended" "$1"
+        for line in "${@:2}"; do
+            runs "$solver's proof of $which" 0 "$line"
+        done
+        checks "$solver's proof of $which" 0 "s VERIFIED" "drat-forward formula.cnf proof.drat"
+        if drat-forward --strict formula.cnf proof.drat > out 2> err; then pass; else fail "$solver on $which, strictly"; fi
+        refuses "$solver's proof of $which, weakened" "s NOT VERIFIED" drat-forward "$which-weak.cnf" proof.drat
+    done
+}
+
+# of_model NAME: what the solver wrote of queens-8.cnf, in `output`, is a model; it is none where a queen is forbidden
+of_model() {
+    local queen
+    cp queens-8.cnf formula.cnf
+    checks "$1's model" 0 "s MODEL VERIFIED" "model-check formula.cnf output"
+    queen=$(grep '^v' output | tr ' ' '\n' | grep -m 1 '^[1-9]')
+    with_clause queens-8.cnf "-$queen" > forbidden.cnf
+    refuses "$1's model without a queen" "s MODEL NOT VERIFIED" model-check forbidden.cnf output
+}
+
+# of_competition_output NAME WORD..: a solver that writes the lines of the SAT Competition, with its statuses 10 and 20
+of_competition_output() {
+    local name=$1 ended
+    shift
+    "$@" queens-8.cnf > output 2> err
+    ended=$?
+    cp output out
+    if [ "$ended" -eq 10 ]; then pass; else fail "$name on queens-8: status $ended, and not 10"; fi
+    of_model "$name"
+    "$@" queens-3.cnf > output 2> err
+    ended=$?
+    cp output out
+    if [ "$ended" -eq 20 ]; then pass; else fail "$name on queens-3: status $ended, and not 20"; fi
+    refuses "$name's answer that there is no model" "s MODEL NOT VERIFIED" model-check queens-3.cnf output
+}
+
+# has PROGRAM: whether it is installed
+has() {
+    command -v "$1" > /dev/null && return
+    echo "skipped: $1 is not installed"
+    return 1
+}
+
+# the versions, where the system can tell
+dpkg-query -W -f '${Package} ${Version}\n' cadical cryptominisat picosat minisat clasp sat4j drat-trim 2> /dev/null
+
+# ---- CaDiCaL
+
+if has cadical; then
+    of_competition_output CaDiCaL cadical
+    for which in $unsatisfiable; do
+        cp "$which.cnf" formula.cnf
+        runs "CaDiCaL on $which" 20 "cadical formula.cnf proof.bin"
+        checks "CaDiCaL's proof of $which" 0 "s VERIFIED" "drat-forward --binary formula.cnf proof.bin"
+        refuses "CaDiCaL's proof of $which, weakened" "s NOT VERIFIED" drat-forward --binary "$which-weak.cnf" proof.bin
+        gzip -c proof.bin > proof.bin.gz
+        checks "CaDiCaL's proof of $which, compressed" 0 "s VERIFIED" \
+            "zcat proof.bin.gz | drat-forward --binary formula.cnf"
+        checks "CaDiCaL's proof of $which, as text through a pipe" 0 "s VERIFIED" \
+            "cadical -q --no-binary formula.cnf - | grep -v '^[sv]' | drat-forward formula.cnf"
+        checks "CaDiCaL's proof of $which, binary through a pipe" 0 "s VERIFIED" \
+            "cadical -q formula.cnf /dev/stderr 2>&1 >/dev/null | drat-forward --binary formula.cnf"
+    done
+    of_proof CaDiCaL 20 "cadical --no-binary formula.cnf proof.drat"
+    cp queens-8.cnf formula.cnf
+    runs "CaDiCaL on queens-8" 10 "cadical formula.cnf > output"
+    of_model CaDiCaL
+    checks "CaDiCaL's model through a pipe" 0 "s MODEL VERIFIED" "cadical -q formula.cnf | model-check formula.cnf"
+
+    # the script of README, on a formula of each kind
+    sed -n '/^    answer=0$/,/^    esac$/p' "$root/README.md" > script
+    for row in "queens-8 SATISFIABLE" "pigeonhole UNSATISFIABLE"; do
+        read -r which answer <<< "$row"
+        cp "$which.cnf" formula.cnf
+        bash script > out 2> err
+        if [ "$(tail -n 1 out)" = "$answer" ]; then pass; else fail "README's script on $which"; fi
+    done
+
+    if cadical --help | grep -q -e '--lrat'; then
+        for which in $unsatisfiable; do
+            cp "$which.cnf" formula.cnf
+            runs "CaDiCaL's LRAT of $which" 20 "cadical --lrat --no-binary formula.cnf proof.lrat"
+            checks "CaDiCaL's LRAT of $which" 0 "s VERIFIED" "lrat-check formula.cnf proof.lrat"
+            refuses "CaDiCaL's LRAT of $which, weakened" "s NOT VERIFIED" lrat-check "$which-weak.cnf" proof.lrat
+        done
+    else
+        echo "skipped: this cadical has no --lrat"
+    fi
+fi
+
+# ---- CryptoMiniSat
+
+if has cryptominisat5; then
+    of_competition_output CryptoMiniSat cryptominisat5
+    of_proof CryptoMiniSat 20 "cryptominisat5 formula.cnf proof.frat" \
+        "sed -n 's/ l .*//; s/^a [0-9]* //p; s/^d [0-9]* /d /p' proof.frat > proof.drat"
+fi
+
+# ---- PicoSAT
+
+if has picosat; then
+    of_competition_output PicoSAT picosat
+fi
+if has picosat.trace; then
+    of_proof PicoSAT 20 "picosat.trace -R proof.rup formula.cnf" "sed 1d proof.rup > proof.drat"
+fi
+
+# ---- MiniSat
+
+if has minisat; then
+    turned="sed 's/^SAT\$/s SATISFIABLE/; s/^UNSAT\$/s UNSATISFIABLE/; s/^[-0-9]/v &/' result > output"
+    cp queens-8.cnf formula.cnf
+    runs "MiniSat on queens-8" 10 "minisat formula.cnf result"
+    runs "MiniSat's model" 0 "$turned"
+    of_model MiniSat
+    cp queens-3.cnf formula.cnf
+    runs "MiniSat on queens-3" 20 "minisat formula.cnf result"
+    runs "MiniSat's answer" 0 "$turned"
+    refuses "MiniSat's answer that there is no model" "s MODEL NOT VERIFIED" model-check queens-3.cnf output
+fi
+
+# ---- clasp
+
+if has clasp; then
+    of_competition_output clasp clasp
+fi
+
+# ---- Sat4j: a jar, which not every system starts by itself
+
+if has sat4j; then
+    of_competition_output Sat4j java -jar "$(command -v sat4j)"
+fi
+
+# ---- DRAT-trim
+
+if has drat-trim; then
+    for which in $unsatisfiable; do
+        cp "$which.cnf" formula.cnf
+        if has cadical; then
+            cadical -q --no-binary formula.cnf proof.drat > /dev/null
+            runs "DRAT-trim on $which" 0 "drat-trim formula.cnf proof.drat -L proof.lrat"
+            checks "DRAT-trim's LRAT of $which" 0 "s VERIFIED" "lrat-check formula.cnf proof.lrat"
+            refuses "DRAT-trim's LRAT of $which, weakened" "s NOT VERIFIED" lrat-check "$which-weak.cnf" proof.lrat
+        fi
+    done
+fi
+
+echo "$passed passed, $failed failed"
+[ "$failed" -eq 0 ]
