@@ -1,3 +1,1 @@
-pub mod MemberLemmas
-pub mod PropagationLemmas
 pub mod StoreLemmas

@@ -1,2 +1,1 @@
-pub mod Propagation
 pub mod Store

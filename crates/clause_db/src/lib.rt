@@ -1,17 +1,8 @@
-//! The live clauses of a proof checker, their identifiers, and the literals that are true.
+//! The live clauses of a proof checker, and their identifiers.
 #![tactic(auto)]
 
-mod propagation;
 mod store;
 
-pub use propagation::Propagate;
-pub use propagation::answer::Answer;
-pub use propagation::left::Left;
-pub use propagation::part::{Except, Part, Whole};
-pub use propagation::scan::Scan;
-pub use propagation::trail::Trail;
-pub use propagation::value::Value;
-pub use propagation::watch::Watch;
 pub use store::Store;
 pub use store::ids::Ids;
 pub use store::index::{Index, Indexing, NoIndex};

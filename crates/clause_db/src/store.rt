@@ -217,7 +217,7 @@ impl<I: Indexing> Store<I> {
     }
 
     /// What holds of each store: no clause repeats a literal, and no literals are kept but those of the live clauses.
-    pub(crate) fn is_sound(&self)
+    pub fn is_sound(&self)
         ensures different { (s : ℕ) (c : Clause) → maps.get self.now.live s ≡ Some c →
             size c ≡ length c }
         ensures live_alone { self.now.stored ≡ literals_in self.now.live }
@@ -226,14 +226,14 @@ impl<I: Indexing> Store<I> {
     }
 
     /// No slot from this number on has a clause.
-    pub(crate) fn end(&self) -> usize
+    pub fn end(&self) -> usize
         ensures { (s : ℕ) → IsSome (maps.get self.now.live s) → s < result }
     {
         self.entries.capacity()
     }
 
     /// The clause in the slot with this number, if there is one.
-    pub(crate) fn at(&self, number: usize) -> Option<&[Lit]>
+    pub fn at(&self, number: usize) -> Option<&[Lit]>
         ensures { option_map (λ c. c.now) result ≡ maps.get self.now.live number }
     {
         match self.entries.get(number) {
@@ -300,7 +300,7 @@ impl Store {
     }
 
     /// Puts two literals of the clause in the slot in each other's place. It takes no memory.
-    pub(crate) fn swap(&mut self, slot: Slot, a: usize, b: usize)
+    pub fn swap(&mut self, slot: Slot, a: usize, b: usize)
         requires { (c : Clause) × (maps.get self.old.live slot ≡ Some c)
             × (a < length c) × (b < length c) }
         ensures live { (c : Clause) → maps.get self.old.live slot ≡ Some c →

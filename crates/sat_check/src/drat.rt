@@ -13,11 +13,12 @@ ghost use Rattle.sat_check.specs.Report.{Reports, ChecksProof, drat_proof, rules
 use crate::check::check;
 use crate::conclude::give_up;
 use crate::{DratOptions, Status};
-use clause_db::{Propagate, Watch};
 use cnf_base::{In, LineOut, Out, Piece, Source};
 use proofs::{DratBinary, DratText};
+use propagation::Propagate;
 use std::alloc::Global;
 use steps::DratSession;
+use watch::Watch;
 
 /// Reads a formula in DIMACS CNF whole, then checks a proof of it in DRAT, and writes the report, flushed.
 ///

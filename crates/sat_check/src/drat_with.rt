@@ -11,8 +11,8 @@ ghost use Rattle.sat_check.specs.Report.{ChecksProof, drat_proof, rules_of};
 
 use crate::drat::check_with;
 use crate::{DratOptions, Status};
-use clause_db::Propagate;
 use cnf_base::{In, LineOut, Out};
+use propagation::Propagate;
 use std::alloc::Global;
 
 /// As [`run_drat`](crate::run_drat), with a propagation of the caller's choice: it has no clause, nothing is assumed, and no

@@ -13,14 +13,14 @@ use Rattle.std.specs.List.{list_any}
 use Rattle.steps.specs.declared.theory.accepted.Accepted.TheVariants.{Rup, Rat, Empty, Deleted}
 use Rattle.steps.specs.declared.theory.refusal.Refusal.{Refusal}
 use Rattle.steps.specs.declared.theory.refusal.Refusal.TheVariants.{IdOutOfOrder, UnknownId, NotUnit, NotCandidate, NamedTwice, GroupWithoutConflict, Unnamed, NoConflict}
-use Rattle.clause_db.specs.declared.propagation.left.Left.{Left}
-use Rattle.clause_db.specs.declared.propagation.left.Left.TheVariants.{Nothing, One, More}
+use Rattle.propagation.specs.declared.left.Left.{Left}
+use Rattle.propagation.specs.declared.left.Left.TheVariants.{Nothing, One, More}
 use Rattle.proofs.specs.declared.step_buf.StepKind.{StepKind}
 use Rattle.proofs.specs.declared.step_buf.StepKind.TheVariants.{Add, Delete}
 use Rattle.proofs.specs.Steps.{Step}
 use Rattle.cnf_base.specs.Literals.{Literal, complement, Clause, has, complements, without, same_clause}
-use Rattle.clause_db.specs.Propagation.Left.{open_literals, how_many}
-use Rattle.clause_db.specs.Propagation.Trail.{conflicts}
+use Rattle.propagation.specs.Left.{open_literals, how_many}
+use Rattle.propagation.specs.Trail.{conflicts}
 use Rattle.steps.specs.Theory.Propagation.{Live}
 use Rattle.steps.specs.Theory.StepAnswer.{StepAnswer}
 

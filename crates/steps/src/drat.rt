@@ -13,9 +13,9 @@ use crate::proof_session::ProofSession;
 use crate::proof_session::progress::Progress;
 use crate::theory::accepted::Accepted;
 use crate::theory::refusal::Refusal;
-use clause_db::Propagate;
 use cnf_base::Lit;
 use proofs::StepBuf;
+use propagation::Propagate;
 use std::marker::Model;
 
 /// A check of a DRAT proof: the clauses of the formula are input first, and then the steps are taken in order.
@@ -28,7 +28,7 @@ pub struct DratSession<P: Propagate> {
 
 impl<P: Propagate> Model for DratSession<P> {
     ghost use Rattle.std.specs.Prelude.{◌≡◌, [], false};
-    ghost use Rattle.clause_db.specs.Propagation.Assumptions.{HoldsLiveAlone};
+    ghost use Rattle.propagation.specs.Assumptions.{HoldsLiveAlone};
     ghost use Rattle.steps.specs.Drat.Session.{DratState, drat_code};
 
     ghost Value = { DratState };

@@ -12,7 +12,7 @@ ghost use Rattle.std.specs.Prelude.{◌≡◌, ◌≢◌, ◌⊎◌, ◌+◌, �
 ghost use Rattle.std.specs.FinMap as maps;
 ghost use Rattle.cnf_base.specs.Literals.{complements};
 ghost use Rattle.steps.specs.Lrat.{chain, units_of, groups_of, AnswersChain, AnswersLrat, after_lrat, lrat_step, with_clause, SameClauses};
-ghost use Rattle.clause_db.specs.Propagation.Trail.{HasRoom};
+ghost use Rattle.propagation.specs.Trail.{HasRoom};
 ghost use Rattle.steps.specs.Lrat.Shelf.{shelf_state};
 ghost use Rattle.steps.specs.Lrat.Session.{fresh_lrat, state_of, IsReady};
 ghost use Rattle.steps.specs.Theory.StepAnswer.{UnlessOutOfMemory};
@@ -23,9 +23,9 @@ use crate::proof_session::ProofSession;
 use crate::proof_session::progress::Progress;
 use crate::theory::accepted::Accepted;
 use crate::theory::refusal::Refusal;
-use clause_db::Trail;
 use cnf_base::{Lit, OutOfMemory};
 use proofs::{StepBuf, StepKind};
+use propagation::Trail;
 use std::alloc::Global;
 use std::marker::Model;
 

@@ -5,12 +5,13 @@ ghost use Rattle.std.specs.FinMap as maps;
 
 use crate::sessions::common::{Answer, expect_empty_clause, expect_ended, expect_on_one_clause};
 use crate::support::{Cut, open};
-use clause_db::{Propagate, Scan, Watch};
 use proofs::DratText;
+use propagation::{Propagate, Scan};
 use std::alloc::Global;
 use std::process::Abort;
 use std::test::Fail;
 use steps::{Accepted, DratRules, DratSession, Refusal};
+use watch::Watch;
 
 // What a session is tried on.
 #[derive(Clone, Copy)]

@@ -3,10 +3,11 @@
 use crate::support::readers::Pieces;
 use crate::support::rows::Tool;
 use crate::support::writers::Writer;
-use clause_db::{Scan, Watch};
 use cnf_base::{FromRead, In, Out, ToWrite};
+use propagation::Scan;
 use sat_check::{DratOptions, LratOptions, Status, run_drat, run_drat_with, run_lrat, run_model};
 use std::alloc::{AllocError, Global};
+use watch::Watch;
 
 // How a check of DRAT propagates.
 #[derive(Clone, Copy, Debug, PartialEq, Eq)]

@@ -39,13 +39,15 @@ impl Slot {
         }
     }
 
-    pub(crate) fn at(number: usize) -> Slot
+    /// The slot with this number.
+    pub fn at(number: usize) -> Slot
         ensures { result ≡ number }
     {
         Slot { number }
     }
 
-    pub(crate) fn number(self) -> usize
+    /// Its number.
+    pub fn number(self) -> usize
         ensures { result ≡ self }
     {
         self.number

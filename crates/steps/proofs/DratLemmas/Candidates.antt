@@ -5,11 +5,11 @@ use Rattle.std.specs.FinMap as maps
 use Rattle.std.specs.FinMap.{FinMap}
 use Rattle.std.proofs.lemmas.Bool.{cases_lt, false≢true}
 use Rattle.cnf_base.specs.Literals.{Literal, Clause, has, complements, without}
-use Rattle.clause_db.specs.Propagation.Assumptions.{Propagation, Assumption, IsAnswer, HasAt, assumed_by}
-use Rattle.clause_db.specs.declared.propagation.answer.Answer.{Answer}
-use Rattle.clause_db.specs.declared.propagation.answer.Answer.TheVariants.{Clash as AnswersClash, Quiet}
+use Rattle.propagation.specs.Assumptions.{Propagation, Assumption, IsAnswer, HasAt, assumed_by}
+use Rattle.propagation.specs.declared.answer.Answer.{Answer}
+use Rattle.propagation.specs.declared.answer.Answer.TheVariants.{Clash as AnswersClash, Quiet}
 use Rattle.clause_db.specs.Store.Clauses.{copies_with}
-use Rattle.clause_db.proofs.PropagationLemmas.Counts.{copies_without, none_with}
+use Rattle.propagation.proofs.PropagationLemmas.Counts.{copies_without, none_with}
 use Rattle.clause_db.proofs.StoreLemmas.Sums.{get_remove}
 use Rattle.steps.specs.Theory.Propagation.{Clash}
 use Rattle.steps.specs.Drat.Candidates.{AllClash, SomeQuiet}

@@ -13,7 +13,7 @@ use Rattle.steps.specs.Theory.StepAnswer.{StepAnswer}
 use Rattle.steps.specs.Drat.{DratStep, add, delete, AnswersAdd, AnswersDelete, AnswersDrat, take_off, after_drat, copies_of, SameLive}
 use Rattle.cnf_base.proofs.SetLemmas.{same_there, same_back, same_itself, same_symm, same_trans, same_empty, both_pass, has_append_left, has_append_right, has_append_cases, has-complements, complements_has, has-without, without_has}
 use Rattle.cnf_base.proofs.LiteralLemmas.{complement-complement}
-use Rattle.clause_db.proofs.PropagationLemmas.Forced.{forced_assumed, clash_through}
+use Rattle.propagation.proofs.PropagationLemmas.Forced.{forced_assumed, clash_through}
 use Rattle.steps.specs.declared.drat.rules.DratRules.{DratRules}
 
 -- ---- Copies

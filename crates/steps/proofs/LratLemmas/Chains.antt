@@ -1,12 +1,12 @@
 -- A walk over hints adds only literals that are forced, and a conflict in it is a clash.
 use Rattle.std.proofs.Common.{◌≡◌, ℕ, true, false, cond, Some, None, option_map, List, [], ◌∷◌, refl, subst, inl, inr}
-use Rattle.clause_db.proofs.PropagationLemmas.Unit.{clash_of_conflict, left_is_forced, none_left_clashes}
-use Rattle.clause_db.specs.declared.propagation.left.Left.TheVariants.{Nothing, One, More}
+use Rattle.propagation.proofs.PropagationLemmas.Unit.{clash_of_conflict, left_is_forced, none_left_clashes}
+use Rattle.propagation.specs.declared.left.Left.TheVariants.{Nothing, One, More}
 use Rattle.cnf_base.specs.Literals.{Literal, has}
 use Rattle.steps.specs.Theory.Propagation.{Live, Forced, Clash}
 use Rattle.steps.specs.Lrat.{ChainEnd, conflict, open_with, unknown, not_unit, look_at, chain}
-use Rattle.clause_db.specs.Propagation.Trail.{conflicts}
-use Rattle.clause_db.specs.Propagation.Left.{open_literals, how_many}
+use Rattle.propagation.specs.Trail.{conflicts}
+use Rattle.propagation.specs.Left.{open_literals, how_many}
 use Rattle.cnf_base.proofs.SetLemmas.{has_cases}
 
 -- what a walk's end says of the live clauses and of what is assumed

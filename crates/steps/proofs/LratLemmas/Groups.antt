@@ -15,8 +15,8 @@ use Rattle.steps.specs.declared.lrat.walk.WalkEnd.TheVariants.{Conflict, Open, U
 use Rattle.cnf_base.specs.Literals.{Literal, complement, Clause, has, complements, without}
 use Rattle.steps.specs.Theory.Propagation.{Live}
 use Rattle.steps.specs.Lrat.{ChainEnd, conflict, open_with, unknown, not_unit, look_at, chain, Group, with_candidate, chain_refusal, group_refusal, groups_refusal, units_of, groups_of, is_unsettled, is_left_out, AnswersGroups}
-use Rattle.clause_db.specs.Propagation.Trail.{conflicts, SameSet}
-use Rattle.clause_db.specs.Propagation.Left.{open_literals, how_many}
+use Rattle.propagation.specs.Trail.{conflicts, SameSet}
+use Rattle.propagation.specs.Left.{open_literals, how_many}
 use Rattle.steps.specs.Lrat.Shelf.{Holds}
 use Rattle.steps.specs.Lrat.Walk.{IsEnd, refusal_at}
 use Rattle.steps.specs.Lrat.Groups.{named_in, IsGroupEnd, is_unnamed, IsFirstLeftOut}

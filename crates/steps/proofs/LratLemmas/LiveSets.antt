@@ -7,7 +7,7 @@ use Rattle.cnf_base.proofs.SetLemmas.{each_all, same_symm}
 use Rattle.steps.specs.Theory.Propagation.{Live}
 use Rattle.steps.specs.Lrat.{SameAt, SameClauses}
 use Rattle.steps.proofs.LratLemmas.SameSets.{same_set_from}
-use Rattle.clause_db.specs.Propagation.Trail.{SameSet}
+use Rattle.propagation.specs.Trail.{SameSet}
 
 pub same_clause_from : (c d : Clause) → SameSet c d → same_clause c d ≡ true
 same_clause_from c d same =

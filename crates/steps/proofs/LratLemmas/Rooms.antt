@@ -8,7 +8,7 @@ use Rattle.std.specs.declared.result.Result.{Result}
 use Rattle.std.specs.declared.result.Result.TheVariants.{Ok, Err}
 use Rattle.std.proofs.lemmas.Option.{none-some}
 use Rattle.cnf_base.specs.Literals.{Literal, Clause, has}
-use Rattle.clause_db.specs.Propagation.Trail.{TrailState, HasRoom, HasRoomForAll}
+use Rattle.propagation.specs.Trail.{TrailState, HasRoom, HasRoomForAll}
 use Rattle.proofs.specs.declared.step_buf.StepKind.TheVariants.{Delete}
 use Rattle.proofs.specs.Steps.{Step}
 use Rattle.steps.specs.Theory.Propagation.{Live}

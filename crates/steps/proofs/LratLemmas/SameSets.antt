@@ -7,19 +7,19 @@ use Rattle.std.proofs.lemmas.Bool.{false≢true}
 use Rattle.steps.specs.declared.theory.accepted.Accepted.TheVariants.{Rat}
 use Rattle.steps.specs.declared.theory.refusal.Refusal.{Refusal}
 use Rattle.steps.specs.declared.theory.refusal.Refusal.TheVariants.{IdOutOfOrder, UnknownId, NotCandidate, NamedTwice, GroupWithoutConflict, Unnamed}
-use Rattle.clause_db.specs.declared.propagation.left.Left.{Left}
-use Rattle.clause_db.specs.declared.propagation.left.Left.TheVariants.{Nothing, One, More}
+use Rattle.propagation.specs.declared.left.Left.{Left}
+use Rattle.propagation.specs.declared.left.Left.TheVariants.{Nothing, One, More}
 use Rattle.cnf_base.specs.Literals.{Literal, complement, Clause, has, complements, without, same_clause}
 use Rattle.steps.specs.Theory.Propagation.{Live}
 use Rattle.steps.specs.Theory.StepAnswer.{StepAnswer}
 use Rattle.steps.specs.Lrat.{ChainEnd, conflict, open_with, unknown, not_unit, look_at, chain, Group, LratStep, add, delete, with_candidate, chain_refusal, group_refusal, groups_refusal, is_unsettled, is_left_out, AnswersGroups, AnswersChain, with_clause, without_id, without_ids, deletion_refusal, answer_of, AnswersLrat, SameAt, SameClauses}
-use Rattle.clause_db.specs.Propagation.Trail.{conflicts}
-use Rattle.clause_db.specs.Propagation.Left.{open_literals, how_many}
-use Rattle.clause_db.specs.Propagation.Trail.{SameSet}
-use Rattle.clause_db.proofs.PropagationLemmas.MakesFalse.{conflicts_same}
+use Rattle.propagation.specs.Trail.{conflicts}
+use Rattle.propagation.specs.Left.{open_literals, how_many}
+use Rattle.propagation.specs.Trail.{SameSet}
+use Rattle.propagation.proofs.PropagationLemmas.MakesFalse.{conflicts_same}
 use Rattle.cnf_base.proofs.SetLemmas.{both_pass, has_head, has_tail, each_all, has-filter, filter_has, has_append_left, has_append_right, has_append_cases, has-complements, complements_has, has-without, without_has, same_there, same_back, same_symm}
 use Rattle.cnf_base.proofs.LiteralLemmas.{complement-complement}
-use Rattle.clause_db.proofs.PropagationLemmas.Left.{left-none, left-one, nothing_more, one_more}
+use Rattle.propagation.proofs.PropagationLemmas.Left.{left-none, left-one, nothing_more, one_more}
 
 pub same_set_from : (c d : Clause) → same_clause c d ≡ true → SameSet c d
 same_set_from c d same l = both_pass (has c l) (has d l) (same_there c d same l) (same_back c d same l)

@@ -14,12 +14,12 @@ use Rattle.cnf_base.specs.Literals.{Literal, complement, Clause, has, complement
 use Rattle.steps.specs.Theory.Propagation.{Live}
 use Rattle.steps.specs.Theory.StepAnswer.{StepAnswer}
 use Rattle.steps.specs.Lrat.{chain, ChainEnd, conflict, open_with, unknown, not_unit, Group, with_candidate, group_refusal, groups_refusal, is_unsettled, is_left_out, AnswersGroups, AnswersChain}
-use Rattle.clause_db.specs.Propagation.Trail.{conflicts, SameSet}
+use Rattle.propagation.specs.Trail.{conflicts, SameSet}
 use Rattle.steps.specs.Lrat.Walk.{IsEnd}
 use Rattle.steps.proofs.LratLemmas.Walks.{chain_same}
 use Rattle.steps.proofs.LratLemmas.Groups.{chain_conflict}
 use Rattle.steps.proofs.LratLemmas.SameSets.{chain_alike}
-use Rattle.clause_db.proofs.PropagationLemmas.MakesFalse.{conflicts_same}
+use Rattle.propagation.proofs.PropagationLemmas.MakesFalse.{conflicts_same}
 use Rattle.steps.proofs.LratLemmas.LiveSets.{SameClauses-refl}
 
 module _ (live : Live) (first second : List Literal) (same : SameSet first second) (pivot : Literal) where

@@ -13,12 +13,12 @@ use Rattle.cnf_base.specs.Literals.{Literal, complement, Clause, has, complement
 use Rattle.steps.specs.Theory.Propagation.{Live, Forced, Clash, HasRat, by_both}
 use Rattle.steps.specs.Theory.StepAnswer.{StepAnswer}
 use Rattle.steps.specs.Lrat.{ChainEnd, conflict, open_with, unknown, not_unit, chain, Group, LratState, add, with_candidate, chain_refusal, group_refusal, groups_refusal, is_unsettled, is_left_out, AnswersGroups, AnswersChain, AnswersLrat, answer_of}
-use Rattle.clause_db.specs.Propagation.Trail.{conflicts}
+use Rattle.propagation.specs.Trail.{conflicts}
 use Rattle.steps.specs.Theory.Theorems.{IsRedundant}
 use Rattle.cnf_base.proofs.LiteralLemmas.{complement-complement}
 use Rattle.cnf_base.proofs.SetLemmas.{has_head, has_append_left, has_append_right, has_append_cases, complements_has, has-complements}
-use Rattle.clause_db.proofs.PropagationLemmas.Forced.{forced_assumed, forced_through, clash_through}
-use Rattle.clause_db.proofs.PropagationLemmas.MakesFalse.{conflicts_some}
+use Rattle.propagation.proofs.PropagationLemmas.Forced.{forced_assumed, forced_through, clash_through}
+use Rattle.propagation.proofs.PropagationLemmas.MakesFalse.{conflicts_some}
 use Rattle.steps.proofs.LratLemmas.Chains.{ChainMeans, chain_means}
 
 -- ---- Refusals in a row

@@ -5,17 +5,17 @@ use Rattle.std.proofs.lemmas.Bool.{false≢true, true≢false, cases_Bool}
 use Rattle.std.proofs.lemmas.Option.{none-some}
 use Rattle.steps.specs.declared.theory.accepted.Accepted.TheVariants.{Rup, Rat, Empty, Deleted, Ignored}
 use Rattle.steps.specs.declared.theory.refusal.Refusal.TheVariants.{NotRup, NeitherRupNorRat, NotAlive}
-use Rattle.clause_db.specs.declared.propagation.left.Left.TheVariants.{One}
+use Rattle.propagation.specs.declared.left.Left.TheVariants.{One}
 use Rattle.cnf_base.specs.Literals.{Literal, complement, Clause, has, complements, without, same_clause}
 use Rattle.steps.specs.Theory.Propagation.{Clash, HasRup, HasRat}
 use Rattle.steps.specs.Theory.StepAnswer.{StepAnswer}
 use Rattle.steps.specs.Drat.{DratStep, add, delete, AnswersAdd, AnswersDelete, AnswersDrat}
-use Rattle.clause_db.specs.Propagation.Trail.{conflicts}
-use Rattle.clause_db.specs.Propagation.Left.{open_literals, how_many}
+use Rattle.propagation.specs.Trail.{conflicts}
+use Rattle.propagation.specs.Left.{open_literals, how_many}
 use Rattle.cnf_base.proofs.SetLemmas.{has_head, has_tail, has_cases, has_append_left, has_append_right, filter_has}
-use Rattle.clause_db.proofs.PropagationLemmas.Forced.{forced_assumed}
-use Rattle.clause_db.proofs.PropagationLemmas.Left.{left-one}
-use Rattle.clause_db.proofs.PropagationLemmas.Unit.{clash_of_conflict, none_left_clashes, settled_quiet}
+use Rattle.propagation.proofs.PropagationLemmas.Forced.{forced_assumed}
+use Rattle.propagation.proofs.PropagationLemmas.Left.{left-one}
+use Rattle.propagation.proofs.PropagationLemmas.Unit.{clash_of_conflict, none_left_clashes, settled_quiet}
 use Rattle.steps.proofs.TheoryLemmas.Scans.{Found, all_false, one_left, none_new, scan, IsPart, part_more}
 use Rattle.steps.specs.declared.drat.rules.DratRules.{DratRules}
 

@@ -2,12 +2,12 @@
 use Rattle.std.proofs.Common.{◌≡◌, ℕ, zero, suc, true, false, Option, Some, List, [], ◌∷◌, slice_get, refl, sym, subst, inl, inr}
 use Rattle.std.proofs.lemmas.Bool.{cases_Bool}
 use Rattle.std.proofs.lemmas.Option.{none-some}
-use Rattle.clause_db.specs.declared.propagation.left.Left.TheVariants.{Nothing, One, More}
+use Rattle.propagation.specs.declared.left.Left.TheVariants.{Nothing, One, More}
 use Rattle.cnf_base.specs.Literals.{Literal, Clause, has}
 use Rattle.steps.specs.Theory.Propagation.{Live, Forced}
-use Rattle.clause_db.specs.Propagation.Left.{open_literals, how_many, IsSettled}
+use Rattle.propagation.specs.Left.{open_literals, how_many, IsSettled}
 use Rattle.cnf_base.proofs.SetLemmas.{has_tail, has_cases}
-use Rattle.clause_db.proofs.PropagationLemmas.Unit.{left_is_forced}
+use Rattle.propagation.proofs.PropagationLemmas.Unit.{left_is_forced}
 
 -- what a scan finds
 pub data Found (live : Live) (trues : List Literal) : Type 0 where

@@ -3,7 +3,7 @@ use Rattle.std.specs.Prelude.{ℕ, ◌<◌, Bool, not, ◌&&◌, ◌++◌, Optio
 use Rattle.cnf_base.specs.Literals.{Literal, Clause, has, complements, without}
 use Rattle.steps.specs.Theory.Propagation.{Live}
 use Rattle.steps.specs.Lrat.{groups_of, chain, is_unsettled}
-use Rattle.clause_db.specs.Propagation.Trail.{conflicts}
+use Rattle.propagation.specs.Trail.{conflicts}
 use Rattle.steps.specs.Lrat.Walk.{IsEnd}
 use Rattle.steps.specs.declared.lrat.walk.WalkEnd.{WalkEnd}
 

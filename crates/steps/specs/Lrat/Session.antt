@@ -5,7 +5,7 @@ use Rattle.std.specs.Coded.{Coded, code_by, coded×, coded_ℕ, coded_bool, code
 use Rattle.std.specs.FinMap as map
 use Rattle.std.specs.FinMap.{FinMap}
 use Rattle.cnf_base.specs.Literals.{Clause}
-use Rattle.clause_db.specs.Propagation.Trail.{TrailState, HasRoomForAll}
+use Rattle.propagation.specs.Trail.{TrailState, HasRoomForAll}
 use Rattle.steps.specs.Lrat.{LratState}
 use Rattle.steps.specs.Theory.Propagation.{Live}
 

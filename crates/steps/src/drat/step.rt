@@ -3,8 +3,8 @@
 ghost use Rattle.std.specs.Prelude.{◌≡◌, ◌++◌, ◌∷◌, [], Some, IsSome, IfOk, OnOk, OnErr};
 ghost use Rattle.std.specs.FinMap as maps;
 ghost use Rattle.cnf_base.specs.Literals.{Clause, complements, without};
-ghost use Rattle.clause_db.specs.Propagation.Assumptions.{IsAnswer, HoldsLiveAlone, assumed_by, MayAssume};
-ghost use Rattle.clause_db.specs.Propagation.Trail.{SameSet};
+ghost use Rattle.propagation.specs.Assumptions.{IsAnswer, HoldsLiveAlone, assumed_by, MayAssume};
+ghost use Rattle.propagation.specs.Trail.{SameSet};
 ghost use Rattle.steps.specs.Theory.Propagation.{HasRup};
 ghost use Rattle.steps.specs.Drat.{AnswersAdd, AnswersDelete, AnswersDrat, after_drat, drat_step, SameLive};
 ghost use Rattle.steps.specs.Drat as drat;
@@ -14,9 +14,10 @@ ghost use Rattle.steps.specs.Theory.StepAnswer.{UnlessOutOfMemory};
 use crate::drat::rules::DratRules;
 use crate::theory::accepted::{Accepted, word_of};
 use crate::theory::refusal::Refusal;
-use clause_db::{Answer, Propagate, Slot};
+use clause_db::Slot;
 use cnf_base::{Lit, OutOfMemory};
 use proofs::{StepBuf, StepKind};
+use propagation::{Answer, Propagate};
 
 /// What propagation says where the rest of a candidate is assumed false too, for that moment.
 fn answer_with<P: Propagate>(

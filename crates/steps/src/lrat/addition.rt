@@ -4,7 +4,7 @@ ghost use Rattle.std.specs.Prelude.{◌≡◌, [], IsFalse};
 ghost use Rattle.std.specs.FinMap as maps;
 ghost use Rattle.cnf_base.specs.Literals.{complements};
 ghost use Rattle.steps.specs.Lrat.{chain, groups_refusal, AnswersGroups, AnswersChain, units_of, groups_of};
-ghost use Rattle.clause_db.specs.Propagation.Trail.{conflicts, SameSet, HasRoom, HasRoomForAll};
+ghost use Rattle.propagation.specs.Trail.{conflicts, SameSet, HasRoom, HasRoomForAll};
 ghost use Rattle.steps.specs.Lrat.Walk.{IsEnd};
 ghost use Rattle.steps.specs.Theory.StepAnswer.{UnlessOutOfMemory};
 
@@ -14,8 +14,8 @@ use crate::lrat::named::Named;
 use crate::lrat::walk::{WalkEnd, walk};
 use crate::theory::accepted::{Accepted, word_of};
 use crate::theory::refusal::Refusal;
-use clause_db::{Trail, Whole};
 use cnf_base::Lit;
+use propagation::{Trail, Whole};
 use std::alloc::Global;
 
 /// How many groups there are.

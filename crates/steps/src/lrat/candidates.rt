@@ -4,7 +4,7 @@ ghost use Rattle.std.specs.Prelude.{◌≡◌, ◌==◌, ◌||◌, ℕ, Some, []
 ghost use Rattle.std.specs.FinMap as maps;
 ghost use Rattle.cnf_base.specs.Literals.{complement, has};
 ghost use Rattle.steps.specs.Lrat.{group_refusal, groups_refusal, units_of, groups_of};
-ghost use Rattle.clause_db.specs.Propagation.Trail.{conflicts, SameSet, HasRoom, HasRoomForAll};
+ghost use Rattle.propagation.specs.Trail.{conflicts, SameSet, HasRoom, HasRoomForAll};
 ghost use Rattle.steps.specs.Lrat.Shelf.{Holds};
 ghost use Rattle.steps.specs.Lrat.Groups.{named_in, needs_group_at, IsGroupEnd, IsFirstLeftOut};
 
@@ -12,8 +12,8 @@ use crate::lrat::live_clauses::LiveClauses;
 use crate::lrat::named::Named;
 use crate::lrat::walk::{WalkEnd, refusal_of, walk};
 use crate::theory::refusal::Refusal;
-use clause_db::{Except, Trail};
 use cnf_base::Lit;
+use propagation::{Except, Trail};
 use std::alloc::AllocError;
 
 /// Walks over a group's hints from where what is left of its candidate is false. The true literals stay as they were.

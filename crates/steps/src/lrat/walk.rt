@@ -4,13 +4,13 @@ ghost use Rattle.std.specs.Prelude.{◌≡◌, ◌≤◌, ◌<◌, take, length,
 ghost use Rattle.std.specs.Option.{option_copied};
 ghost use Rattle.std.specs.FinMap as maps;
 ghost use Rattle.steps.specs.Lrat.{chain, units_of};
-ghost use Rattle.clause_db.specs.Propagation.Trail.{conflicts, SameSet, HasRoomForAll};
+ghost use Rattle.propagation.specs.Trail.{conflicts, SameSet, HasRoomForAll};
 ghost use Rattle.steps.specs.Lrat.Walk.{IsEnd, refusal_at};
 
 use crate::lrat::live_clauses::LiveClauses;
 use crate::theory::refusal::Refusal;
-use clause_db::{Left, Trail};
 use cnf_base::Lit;
+use propagation::{Left, Trail};
 
 /// How a walk ends.
 #[derive(Clone, Copy, Debug, PartialEq, Eq)]

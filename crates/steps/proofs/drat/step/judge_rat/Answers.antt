@@ -1,5 +1,5 @@
 use Rattle.std.proofs.Common.{true, false}
-use Rattle.clause_db.specs.Propagation.Assumptions.{assumed_by}
+use Rattle.propagation.specs.Assumptions.{assumed_by}
 use Rattle.steps.proofs.DratLemmas.Steps.{answers_none, answers_searched}
 use Rattle.steps.proofs.drat.step.judge_rat.Goals as goal
 

@@ -4,7 +4,7 @@ use Rattle.cnf_base.specs.Literals.{complement, has}
 use Rattle.steps.specs.Lrat.{groups_refusal, groups_of}
 use Rattle.steps.specs.Lrat.Shelf.{Holds}
 use Rattle.steps.specs.Lrat.Groups.{named_in}
-use Rattle.clause_db.specs.Propagation.Trail.{SameSet}
+use Rattle.propagation.specs.Trail.{SameSet}
 use Rattle.steps.proofs.lrat.candidates.judge_groups.Given as goal
 
 abbrev pub invariant-loop-i : goal.invariant-loop-i

@@ -2,7 +2,7 @@ use Rattle.std.proofs.Common.{◌≡◌, ◌≤◌, ◌<◌, false, length, take
 use Rattle.std.specs.Option.{option_copied}
 use Rattle.std.specs.FinMap as maps
 use Rattle.steps.specs.Lrat.{chain, units_of}
-use Rattle.clause_db.specs.Propagation.Trail.{conflicts, SameSet}
+use Rattle.propagation.specs.Trail.{conflicts, SameSet}
 use Rattle.steps.proofs.LratLemmas.Walks.{Gives}
 use Rattle.steps.proofs.lrat.walk.walk.Given as goal
 

@@ -1,5 +1,5 @@
 use Rattle.std.proofs.Common.{ap}
-use Rattle.clause_db.proofs.PropagationLemmas.Scan.{none_alone}
+use Rattle.propagation.proofs.PropagationLemmas.Scan.{none_alone}
 use Rattle.steps.proofs.LratLemmas.Shelf.{start_invariant, start_view}
 use Rattle.steps.proofs.lrat.live_clauses.LiveClauses.new.Goals as goal
 

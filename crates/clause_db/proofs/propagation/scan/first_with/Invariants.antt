@@ -1,7 +1,0 @@
-use Rattle.std.proofs.Common.{◌≤◌, ◌<◌, ℕ}
-use Rattle.std.specs.FinMap as maps
-use Rattle.clause_db.specs.Propagation.Assumptions.{HasAt}
-use Rattle.clause_db.proofs.propagation.scan.first_with.Given as goal
-
-abbrev pub invariant-loop-number : goal.invariant-loop-number
-invariant-loop-number l = (s : ℕ) → l.fn.from ≤ s → s < l.number → HasAt (maps.get l.store.live) l.l s → ⊥

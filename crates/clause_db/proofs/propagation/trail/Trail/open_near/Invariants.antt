@@ -1,9 +1,0 @@
-use Rattle.std.proofs.Common.{◌≤◌, take}
-use Rattle.clause_db.specs.Propagation.Left.{open_literals, IsCount}
-use Rattle.clause_db.proofs.propagation.trail.Trail.open_near.Given as goal
-
-abbrev pub invariant-loop-l : goal.invariant-loop-l
-invariant-loop-l l = record {
-  counted : IsCount (open_literals l.self.lits (take l.l-index l.clause)) l.count l.open;
-  few : l.count ≤ l.l-index;
-}

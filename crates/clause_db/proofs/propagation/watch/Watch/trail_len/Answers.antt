@@ -1,8 +1,0 @@
-use Rattle.std.proofs.Common.{◌≤◌, length, subst}
-use Rattle.clause_db.specs.Store.Clauses.{size}
-use Rattle.clause_db.proofs.PropagationLemmas.Values.{fits_different}
-use Rattle.clause_db.proofs.propagation.watch.Watch.trail_len.Goals as goal
-
-pub returns-clause-fits : goal.returns-clause-fits
-returns-clause-fits c =
-    subst (λ w. w.trues ≤ w.variables) c.self.view_is (subst (λ t. length t.lits ≤ size t.met) c.trail.ensures (fits_different c.trail.result.now.lits c.trail.result.now.met c.len.ensures.different c.len.ensures.within))

@@ -1,6 +1,0 @@
-use Rattle.std.proofs.Common.{◌≡◌, take}
-use Rattle.clause_db.specs.Propagation.Watch.Lists.{times_in}
-use Rattle.clause_db.proofs.propagation.watch.lists.place_in.Given as goal
-
-abbrev pub invariant-loop-place : goal.invariant-loop-place
-invariant-loop-place l = record { none : times_in l.slot (take l.place l.list) ≡ 0 }

@@ -1,9 +1,0 @@
-use Rattle.std.proofs.Common.{◌∙◌}
-use Rattle.clause_db.proofs.PropagationLemmas.Watch.State.{watch_refreshed}
-use Rattle.clause_db.proofs.propagation.watch.refresh.refresh.Goals as goal
-
-pub returns-clause-watch : goal.returns-clause-watch
-returns-clause-watch c =
-    let e = c.catch_up.ensures in
-    watch_refreshed c.args.store.now.live c.catch_up.new.store.live c.args.lists.now c.catch_up.new.lists c.args.short.now c.args.roots.now c.catch_up.new.roots c.args.assumptions.now c.catch_up.new.assumptions c.requires.watch e.assumptions
-    (λ v. e.met v ∙ c.start.ensures.met v) e.same e.short e.apart e.listed e.entries e.kept

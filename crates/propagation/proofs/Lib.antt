@@ -1,0 +1,2 @@
+pub mod MemberLemmas
+pub mod PropagationLemmas

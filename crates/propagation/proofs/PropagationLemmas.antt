@@ -1,0 +1,13 @@
+pub mod Counts
+pub mod Exact
+pub mod Forced
+pub mod HasAt
+pub mod Left
+pub mod Levels
+pub mod MakesFalse
+pub mod Met
+pub mod Passes
+pub mod Scan
+pub mod Truth
+pub mod Unit
+pub mod Values

@@ -1,0 +1,73 @@
+-- How many clauses have a literal, and that one is found where the number isn't 0.
+use Rattle.std.proofs.Common.{◌≡◌, ◌≢◌, ℕ, ◌+◌, ◌<◌, Bool, true, false, cond, T, ◌&&◌, ◌==◌, Some, List, [], ◌∷◌, map, sum_by, Less, Equal, Greater, is_lt, le-ltb, eqb-true, eq-eqb, refl, sym, ap, ◌∙◌, subst, arith, inl, inr}
+use Rattle.std.specs.Ordering.{nat_cmp, eq_by_cmp}
+use Rattle.std.specs.Cmp.{unsigned_tied}
+use Rattle.std.specs.FinMap as maps
+use Rattle.std.specs.FinMap.{FinMap, find, is_sorted}
+use Rattle.std.specs.FinMap.Entries.{below_all}
+use Rattle.std.proofs.lemmas.Bool.{cases_Bool, cases_lt, cases_eq, false_from_ne_true}
+use Rattle.std.proofs.lemmas.List.Sums.{sum_by-cons}
+use Rattle.std.proofs.lemmas.Option.{none-some}
+use Rattle.cnf_base.specs.Literals.{Literal, Clause, has}
+use Rattle.propagation.specs.Assumptions.{HasAt}
+use Rattle.clause_db.specs.Store.Clauses.{copies_with}
+use Rattle.clause_db.proofs.StoreLemmas.Sums.{sum_remove}
+
+-- ---- One that is there is counted
+
+pub copies_without : (live : FinMap nat_cmp Clause) (l : Literal) (s : ℕ) → HasAt (maps.get live) l s → 1 + copies_with (maps.remove live s) l ≡ copies_with live l
+copies_without live l s h =
+    ap (λ b. cond b 1 0 + copies_with (maps.remove live s) l) (sym h.member) ∙ sum_remove (λ c. cond (has c l) 1 0) live s h.clause h.at
+
+pub none_with : (live : FinMap nat_cmp Clause) (l : Literal) → copies_with live l ≡ 0 → (s : ℕ) → ¬ HasAt (maps.get live) l s
+none_with live l none s h = let more = copies_without live l s h in let wrong : ⊥ = omega (arith, none, more) in wrong
+
+-- ---- One that is counted is there
+
+tied : {k : ℕ} (q : ℕ) → eq_by_cmp nat_cmp q k ≡ true → q ≡ k
+tied {k} q e = eqb-true q k (sym (unsigned_tied q k) ∙ e)
+
+above : (x k : ℕ) → T (is_lt (nat_cmp x k)) → x < k
+above x k h =
+    elim (cases_lt x k) [
+      | inl lt ↦ lt
+      | inr le ↦ absurd (not_less (x == k) (subst (λ b. T (is_lt (cond b Less (cond (x == k) Equal Greater)))) (le-ltb x k le) h))
+    ]
+  where
+    not_less : (b : Bool) → T (is_lt (cond b Equal Greater)) → ⊥
+    not_less true t = t
+    not_less false t = t
+
+both : (a b : Bool) → T (a && b) → T a × T b
+both true b t = (tt, t)
+both false b t = absurd t
+
+below_found : (x : ℕ) (es : List (ℕ × Clause)) (k : ℕ) (c : Clause) → T (below_all nat_cmp x es) → find nat_cmp k es ≡ Some c → x < k
+below_found x [] k c below at = absurd (none-some c at)
+below_found x (e ∷ es) k c below at =
+    let parts = both (is_lt (nat_cmp x e.0)) (below_all nat_cmp x es) below in
+    elim (cases_Bool (eq_by_cmp nat_cmp k e.0)) [
+      | inl same ↦ subst (λ n. x < n) (sym (tied k same)) (above x e.0 parts.0)
+      | inr other ↦ below_found x es k c parts.1 (sym (ap (λ b. cond b (Some e.1) (find nat_cmp k es)) other) ∙ at)
+    ]
+
+counted_found : (w : Clause → ℕ) (es : List (ℕ × Clause)) → T (is_sorted nat_cmp es) → sum_by w (map (λ e. e.1) es) ≢ 0 → (k : ℕ) × (c : Clause) × (find nat_cmp k es ≡ Some c) × (w c ≢ 0)
+counted_found w [] sorted some = absurd (some refl)
+counted_found w (e ∷ es) sorted some =
+    elim (cases_eq (w e.1) 0) [
+      | inl none ↦
+          let parts = both (below_all nat_cmp e.0 es) (is_sorted nat_cmp es) sorted in
+          let rest = counted_found w es parts.1 (λ zero. some (let first = sum_by-cons w e.1 (map (λ e. e.1) es) in omega (arith, first, none, zero))) in
+          let apart : e.0 < rest.0 = below_found e.0 es rest.0 rest.1 parts.0 rest.2 in
+          (rest.0, rest.1, ap (λ b. cond b (Some e.1) (find nat_cmp rest.0 es)) (false_from_ne_true _ (λ same. absurd (omega (arith, apart, tied rest.0 same)))) ∙ rest.2, rest.3)
+      | inr counts ↦ (e.0, e.1, ap (λ b. cond b (Some e.1) (find nat_cmp e.0 es)) (unsigned_tied e.0 e.0 ∙ eq-eqb e.0 e.0 refl), counts)
+    ]
+
+pub some_with : (live : FinMap nat_cmp Clause) (l : Literal) → copies_with live l ≢ 0 → (s : ℕ) × HasAt (maps.get live) l s
+some_with live l some =
+    let w = counted_found (λ c. cond (has c l) 1 0) (maps.entries live) (maps.entries_sorted live) some in
+    (w.0, record { clause = w.1; at = maps.get-entries live w.0 ∙ w.2; member = member (has w.1 l) w.3 })
+  where
+    member : (b : Bool) → (let n : ℕ = cond b 1 0 in n) ≢ 0 → b ≡ true
+    member true counts = refl
+    member false counts = absurd (counts refl)

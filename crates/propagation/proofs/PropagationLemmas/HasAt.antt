@@ -1,0 +1,21 @@
+-- Slots whose clauses lack a literal.
+use Rattle.std.proofs.Common.{◌≡◌, ℕ, ◌+◌, ◌<◌, ◌≤◌, false, Some, None, sym, ap, ◌∙◌, subst, inl, inr, arith}
+use Rattle.std.proofs.lemmas.Option.{none-some, same_Some}
+use Rattle.std.proofs.lemmas.Bool.{true≢false, cases_eq}
+use Rattle.cnf_base.specs.Literals.{Literal, Clause, has}
+use Rattle.propagation.specs.Assumptions.{HasAt}
+use Rattle.propagation.specs.Forced.{Live}
+
+module _ (live : Live) (l : Literal) where
+  pub lacks_none : (n : ℕ) → None ≡ live n → HasAt live l n → ⊥
+  lacks_none n none h = none-some h.clause (none ∙ h.at)
+
+  pub lacks_more : (n : ℕ) (c : Clause) → Some c ≡ live n → has c l ≡ false → HasAt live l n → ⊥
+  lacks_more n c here absent h = true≢false (sym h.member ∙ ap (λ d. has d l) (sym (same_Some c h.clause (here ∙ h.at))) ∙ absent)
+
+  pub lacks_next : (from n : ℕ) → ((s : ℕ) → from ≤ s → s < n → HasAt live l s → ⊥) → (HasAt live l n → ⊥) → (s : ℕ) → from ≤ s → s < n + 1 → HasAt live l s → ⊥
+  lacks_next from n below here s low high h =
+      elim (cases_eq s n) [
+        | inl e ↦ here (subst (HasAt live l) e h)
+        | inr ne ↦ below s low (omega arith) h
+      ]

@@ -1,0 +1,118 @@
+-- Passes over the clauses: what they keep, and why they end.
+use Rattle.std.proofs.Common.{◌≡◌, ℕ, ◌+◌, ◌/◌, ◌<◌, ◌≤◌, Bool, true, false, not, cond, Some, None, List, [], ◌∷◌, ◌++◌, map, length, take, drop, refl, sym, ap, ◌∙◌, subst, inl, inr, arith}
+use Rattle.std.proofs.lemmas.Bool.{false≢true, cases_eq}
+use Rattle.std.proofs.lemmas.List.{take-append-le, take-append-drop}
+use Rattle.std.proofs.lemmas.Option.{none-some, same_Some}
+use Rattle.std.proofs.lemmas.List.Sums.{sum_by-cons}
+use Rattle.cnf_base.specs.Literals.{Literal, complement, Clause, has, variable}
+use Rattle.cnf_base.proofs.SetLemmas.{has_cases, has_append_left, has_append_right, has_append_cases, has_head}
+use Rattle.propagation.specs.Left.{open_literals, how_many, IsSettled}
+use Rattle.propagation.specs.Forced.{Live}
+use Rattle.propagation.specs.Scan.Unit.{unset}
+use Rattle.propagation.specs.Trail.{TrailState}
+use Rattle.propagation.specs.declared.scan.unit.Pass.{Pass}
+use Rattle.propagation.specs.declared.scan.unit.Pass.TheVariants.{Clash as PassClash, Changed, Quiet}
+use Rattle.propagation.proofs.PropagationLemmas.Truth.{variable_open}
+
+-- ---- A longer trail
+
+pub begins_push : (first ls : List ℕ) (m : ℕ) → take (length first) ls ≡ first → length first ≤ length ls → take (length first) (ls ++ m ∷ []) ≡ first
+begins_push first ls m begins longer = take-append-le (length first) ls (m ∷ []) longer ∙ begins
+
+pub has_begun : (first ls : List ℕ) (l : ℕ) → take (length first) ls ≡ first → has first l ≡ true → has ls l ≡ true
+has_begun first ls l begins h =
+    subst (λ xs. has xs l ≡ true) (take-append-drop (length first) ls) (has_append_left (take (length first) ls) (drop (length first) ls) l (ap (λ xs. has xs l) begins ∙ h))
+
+pub pushed_each : (P : ℕ → Type 0) (ls : List ℕ) (m : ℕ) → ((l : ℕ) → has ls l ≡ true → P l) → P m → (l : ℕ) → has (ls ++ m ∷ []) l ≡ true → P l
+pushed_each P ls m each here l h =
+    elim (has_append_cases ls (m ∷ []) l h) [
+      | inl g ↦ each l g
+      | inr g ↦ elim (has_cases m [] l g) [ inl e ↦ subst P e here | inr none ↦ absurd (false≢true none) ]
+    ]
+
+-- ---- How many variables are open
+
+mapped_push : (ls : List ℕ) (m : ℕ) → map variable (ls ++ m ∷ []) ≡ map variable ls ++ variable m ∷ []
+mapped_push [] m = refl
+mapped_push (l ∷ ls) m = ap (λ xs. variable l ∷ xs) (mapped_push ls m)
+
+unset-cons : (lits : List ℕ) (v : ℕ) (vs : List ℕ) → unset lits (v ∷ vs) ≡ cond (not (has (map variable lits) v)) 1 0 + unset lits vs
+unset-cons lits v vs = sum_by-cons (λ w. cond (not (has (map variable lits) w)) 1 0) v vs
+
+module _ (lits : List ℕ) (m : ℕ) where
+  pub still_set : (v : ℕ) → has (map variable lits) v ≡ true → has (map variable (lits ++ m ∷ [])) v ≡ true
+  still_set v h = ap (λ xs. has xs v) (mapped_push lits m) ∙ has_append_left (map variable lits) (variable m ∷ []) v h
+
+  now_set : has (map variable (lits ++ m ∷ [])) (variable m) ≡ true
+  now_set = ap (λ xs. has xs (variable m)) (mapped_push lits m) ∙ has_append_right (map variable lits) (variable m ∷ []) (variable m) (has_head (variable m) [])
+
+  weight_le : (a b : Bool) → (a ≡ true → b ≡ true) → cond {A = ℕ} (not b) 1 0 ≤ cond (not a) 1 0
+  weight_le true true keeps = omega arith
+  weight_le true false keeps = absurd (false≢true (keeps refl))
+  weight_le false true keeps = omega arith
+  weight_le false false keeps = omega arith
+
+  unset_le : (vs : List ℕ) → unset (lits ++ m ∷ []) vs ≤ unset lits vs
+  unset_le [] = omega arith
+  unset_le (v ∷ vs) =
+      let first = unset-cons (lits ++ m ∷ []) v vs in
+      let second = unset-cons lits v vs in
+      let here = weight_le (has (map variable lits) v) (has (map variable (lits ++ m ∷ [])) v) (still_set v) in
+      let rest = unset_le vs in
+      omega arith
+
+  unset_falls : has (map variable lits) (variable m) ≡ false → (vs : List ℕ) → has vs (variable m) ≡ true → unset (lits ++ m ∷ []) vs < unset lits vs
+  unset_falls absent [] h = absurd (false≢true h)
+  unset_falls absent (v ∷ vs) h =
+      let first = unset-cons (lits ++ m ∷ []) v vs in
+      let second = unset-cons lits v vs in
+      elim (has_cases v vs (variable m) h) [
+        | inl e ↦
+            let old : cond {A = ℕ} (not (has (map variable lits) v)) 1 0 ≡ 1 = ap (λ b. cond {A = ℕ} (not b) 1 0) (ap (has (map variable lits)) e ∙ absent) in
+            let new : cond {A = ℕ} (not (has (map variable (lits ++ m ∷ [])) v)) 1 0 ≡ 0 = ap (λ b. cond {A = ℕ} (not b) 1 0) (ap (has (map variable (lits ++ m ∷ []))) e ∙ now_set) in
+            let rest = unset_le vs in
+            omega arith
+        | inr g ↦
+            let here = weight_le (has (map variable lits) v) (has (map variable (lits ++ m ∷ [])) v) (still_set v) in
+            let rest = unset_falls absent vs g in
+            omega arith
+      ]
+
+-- ---- One pass, up to a slot
+
+abbrev pub IsPassedTo : Live → TrailState → List Literal → ℕ → Pass → Type 0
+IsPassedTo live before lits n PassClash = ⊥
+IsPassedTo live before lits n Changed = (vs : List ℕ) → ((v : ℕ) → has before.met v ≡ true → has vs v ≡ true) → unset lits vs < unset before.lits vs
+IsPassedTo live before lits n Quiet = (lits ≡ before.lits) × ((k : ℕ) (c : Clause) → k < n → live k ≡ Some c → IsSettled before.lits (how_many (open_literals before.lits c)))
+
+module _ (live : Live) (before : TrailState) (lits : List Literal) (n : ℕ) where
+  pub passed_none : None ≡ live n → (p : Pass) → IsPassedTo live before lits n p → IsPassedTo live before lits (n + 1) p
+  passed_none none PassClash h = h
+  passed_none none Changed h = h
+  passed_none none Quiet h = (
+    h.0,
+    λ k c low at. elim (cases_eq k n) [
+      | inl e ↦ absurd (none-some c (none ∙ ap live (sym e) ∙ at))
+      | inr ne ↦ h.1 k c (omega arith) at
+    ],
+  )
+
+  pub passed_settled : (d : Clause) → Some d ≡ live n → IsSettled lits (how_many (open_literals lits d)) → (p : Pass) → IsPassedTo live before lits n p → IsPassedTo live before lits (n + 1) p
+  passed_settled d here settled PassClash h = h
+  passed_settled d here settled Changed h = h
+  passed_settled d here settled Quiet h = (
+    h.0,
+    λ k c low at. elim (cases_eq k n) [
+      | inl e ↦ subst (λ x. IsSettled before.lits (how_many (open_literals before.lits x))) (same_Some d c (here ∙ ap live (sym e) ∙ at)) (subst (λ ls. IsSettled ls (how_many (open_literals ls d))) h.0 settled)
+      | inr ne ↦ h.1 k c (omega arith) at
+    ],
+  )
+
+  pub passed_unit : (m : Literal) → has lits m ≡ false → has lits (complement m) ≡ false → has before.met (m / 2) ≡ true → (p : Pass) → IsPassedTo live before lits n p → IsPassedTo live before (lits ++ m ∷ []) (n + 1) Changed
+  passed_unit m e f member PassClash h = absurd h
+  passed_unit m e f member Changed h = λ vs covers.
+      let falls = unset_falls lits m (variable_open lits m e f) vs (covers (m / 2) member) in
+      let so_far = h vs covers in
+      omega arith
+  passed_unit m e f member Quiet h = λ vs covers.
+      subst (λ ls. unset (lits ++ m ∷ []) vs < unset ls vs) h.0 (unset_falls lits m (variable_open lits m e f) vs (covers (m / 2) member))

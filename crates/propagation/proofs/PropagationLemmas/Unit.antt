@@ -1,0 +1,53 @@
+-- The unit rule by what is left of clauses: what follows, and where nothing more does.
+use Rattle.std.proofs.Common.{◌≡◌, ◌≢◌, ℕ, true, false, not, Some, List, [], refl, sym, ap, ◌∙◌, inl, inr}
+use Rattle.std.proofs.lemmas.Bool.{true≢false, cases_eq, not-true}
+use Rattle.cnf_base.specs.Literals.{Literal, complement, Clause, has}
+use Rattle.cnf_base.proofs.SetLemmas.{filter_has}
+use Rattle.propagation.specs.Left.{open_literals, how_many, IsSettled}
+use Rattle.propagation.specs.Forced.{Live, IsClosed, Forced, Clash, by_empty, by_both}
+use Rattle.propagation.specs.Trail.{conflicts}
+use Rattle.propagation.specs.declared.left.Left.{Left}
+use Rattle.propagation.specs.declared.left.Left.TheVariants.{Nothing, One, More}
+use Rattle.propagation.proofs.PropagationLemmas.MakesFalse.{conflict_from, conflicts_some}
+use Rattle.propagation.proofs.PropagationLemmas.Forced.{forced_unit, clash_by_false}
+use Rattle.propagation.proofs.PropagationLemmas.Left.{left-none, left-one, left-more, open_cases}
+
+module _ (live : Live) (assumed : List Literal) where
+  pub clash_of_conflict : (ls : List Literal) → ((a : Literal) → has ls a ≡ true → Forced live assumed a) → conflicts ls ≡ true → Clash live assumed
+  clash_of_conflict ls forced h = let w = conflicts_some ls h in by_both w.0 (forced w.0 w.1) (forced (complement w.0) w.2)
+
+  -- the literal that is left is forced
+  pub left_is_forced : (ls : List Literal) → ((a : Literal) → has ls a ≡ true → Forced live assumed a) → (k : ℕ) (c : Clause) → live k ≡ Some c → (m : Literal) → how_many (open_literals ls c) ≡ One m → Forced live assumed m
+  left_is_forced ls forced k c at m e =
+      let only = left-one (open_literals ls c) m e in
+      forced_unit live assumed k c at m (filter_has (λ l. not (has ls (complement l))) c m only.0).0
+      (λ l member ne. elim (open_cases ls c l member) [ inl h ↦ absurd (ne (only.1 l h)) | inr h ↦ forced (complement l) h ])
+
+  pub none_left_clashes : (ls : List Literal) → ((a : Literal) → has ls a ≡ true → Forced live assumed a) → (k : ℕ) (c : Clause) → live k ≡ Some c → how_many (open_literals ls c) ≡ Nothing → Clash live assumed
+  none_left_clashes ls forced k c at e =
+      clash_by_false live assumed k c at (λ l member. elim (open_cases ls c l member) [ inl h ↦ absurd (left-none (open_literals ls c) e l h) | inr h ↦ forced (complement l) h ])
+
+-- ---- Where nothing more follows
+
+module _ (live : Live) (trues : List Literal) (settled : (k : ℕ) (c : Clause) → live k ≡ Some c → IsSettled trues (how_many (open_literals trues c))) where
+  open_is : (c : Clause) (m : Literal) → ((l : Literal) → has c l ≡ true → l ≢ m → has trues (complement l) ≡ true) → (l : Literal) → has (open_literals trues c) l ≡ true → l ≡ m
+  open_is c m others l h =
+      let w = filter_has (λ l. not (has trues (complement l))) c l h in
+      elim (cases_eq l m) [
+        | inl e ↦ e
+        | inr ne ↦ absurd (true≢false (sym (others l w.0 ne) ∙ not-true _ w.1))
+      ]
+
+  settled_unit : (c : Clause) (m : Literal) → ((l : Literal) → has c l ≡ true → l ≢ m → has trues (complement l) ≡ true) → (left : Left) → how_many (open_literals trues c) ≡ left → IsSettled trues left → has trues m ≡ true
+  settled_unit c m others Nothing e h = absurd h
+  settled_unit c m others (One l) e h = sym (ap (has trues) (open_is c m others l (left-one (open_literals trues c) l e).0)) ∙ h
+  settled_unit c m others More e h = absurd (left-more (open_literals trues c) m e (open_is c m others))
+
+  pub settled_closed : IsClosed live (λ l. has trues l)
+  settled_closed = record { unit = λ k c at m member others. settled_unit c m others (how_many (open_literals trues c)) refl (settled k c at) }
+
+  -- where no two of the literals clash either, nothing does
+  pub settled_quiet : (assumed : List Literal) → ((a : Literal) → has assumed a ≡ true → has trues a ≡ true) → conflicts trues ≡ false → Clash live assumed → ⊥
+  settled_quiet assumed start quiet (by_empty k at) = settled k [] at
+  settled_quiet assumed start quiet (by_both l f g) =
+      true≢false (sym (conflict_from trues l (f.in_each (λ l. has trues l) settled_closed start) (g.in_each (λ l. has trues l) settled_closed start)) ∙ quiet)

@@ -1,0 +1,40 @@
+use Rattle.std.proofs.Common.{◌≡◌, [], ◌++◌, filter, take, length, sym, ◌∙◌, ap, subst}
+use Rattle.std.specs.Bool.{OnFalse}
+use Rattle.std.specs.FinMap as maps
+use Rattle.cnf_base.specs.Literals.{complements, has}
+use Rattle.propagation.specs.Assumptions.{assumed_by}
+use Rattle.propagation.specs.Exact.{IsExact}
+use Rattle.propagation.specs.Trail.{SameSet}
+use Rattle.propagation.proofs.PropagationLemmas.Scan.{no_roots, part_clashes, part_answer, part_exact, scan_after}
+use Rattle.propagation.proofs.PropagationLemmas.Exact.{begins_on, longer_from}
+use Rattle.propagation.proofs.scan.assume_part.Goals as goal
+
+pub returns-then-branch-clause-answer : goal.returns-then-branch-clause-answer
+returns-then-branch-clause-answer g c =
+    part_clashes c.args.store.now.live (λ ls. ls ≡ []) (no_roots (maps.get c.args.store.now.live)) c.args.assumptions.now c.assume.new.self (complements (filter (g.P.Part.keeps c.args.part.now) c.args.clause.now)) c.requires.may c.requires.scan (sym c.in_ok-assume.ensures.conflict ∙ c.if-branch.true)
+
+pub returns-clause-answer : goal.returns-clause-answer
+returns-clause-answer g c =
+    part_answer c.args.store.now.live (λ ls. ls ≡ []) (no_roots (maps.get c.args.store.now.live)) c.args.assumptions.now c.assume.new.self (complements (filter (g.P.Part.keeps c.args.part.now) c.args.clause.now)) c.requires.may c.requires.scan (subst (λ b. OnFalse b (SameSet c.assume.new.self.trail.lits (c.args.assumptions.now.trail.lits ++ complements (filter (g.P.Part.keeps c.args.part.now) c.args.clause.now)))) c.if-branch.false c.in_ok-assume.ensures.added)
+    c.propagate-answer.result c.propagate-answer.ensures.answer
+
+pub returns-clause-scan : goal.returns-clause-scan
+returns-clause-scan g c =
+    let live = c.args.store.now.live in
+    let before = c.args.assumptions.now in
+    let after = c.assume.new.self in
+    let found = c.propagate-answer.new.assumptions in
+    let last = c.answer.new.self in
+    let answer = c.propagate-answer.result in
+    let added = complements (filter (g.P.Part.keeps c.args.part.now) c.args.clause.now) in
+    let e = c.in_ok-assume.ensures in
+    let p = c.propagate-answer.ensures in
+    let all = e.assumed.0 in
+    let same = subst (λ b. OnFalse b (SameSet after.trail.lits (before.trail.lits ++ added))) c.if-branch.false e.added in
+    let alike = subst (λ b. OnFalse b (SameSet all (assumed_by before.assumptions ++ added))) c.if-branch.false e.assumed.2 in
+    let stand = c.answer.ensures.assumptions _ _ (p.extends.assumptions ∙ e.assumed.1) in
+    let begins = begins_on before.trail.lits after.trail.lits found.trail.lits e.begins (longer_from before.trail.lits after.trail.lits e.begins) p.extends.begins in
+    scan_after live (λ ls. ls ≡ []) (no_roots (maps.get live)) before after added c.requires.may c.requires.scan last answer all stand (c.answer.ensures.starts ∙ p.extends.starts ∙ e.starts)
+    (ap (λ t. take (length before.trail.lits) t.lits) c.answer.ensures.trail ∙ begins) (λ v. ap (λ t. has t.met v) c.answer.ensures.trail ∙ p.extends.met v ∙ e.met v)
+    (λ quiet. subst (λ t. IsExact (maps.get live) all t.lits) (sym c.answer.ensures.trail)
+    (part_exact live (λ ls. ls ≡ []) (no_roots (maps.get live)) before after added c.requires.may c.requires.scan same all found.trail.lits alike p.extends.begins p.sound (p.closed quiet)))

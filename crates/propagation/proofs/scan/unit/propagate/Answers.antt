@@ -1,0 +1,32 @@
+use Rattle.std.proofs.Common.{◌≡◌, false, ◌∙◌, sym, ap, subst}
+use Rattle.std.specs.FinMap as maps
+use Rattle.propagation.specs.Forced.{IsClosed}
+use Rattle.cnf_base.specs.Literals.{has}
+use Rattle.propagation.specs.Trail.{conflicts}
+use Rattle.propagation.proofs.PropagationLemmas.MakesFalse.{no_conflict}
+use Rattle.propagation.proofs.PropagationLemmas.Forced.{clash_through}
+use Rattle.propagation.proofs.PropagationLemmas.Passes.{has_begun}
+use Rattle.propagation.proofs.PropagationLemmas.Unit.{settled_closed, settled_quiet}
+use Rattle.propagation.proofs.scan.unit.propagate.Goals as goal
+
+pub returns-in-Clash-clause-answer : goal.returns-in-Clash-clause-answer
+returns-in-Clash-clause-answer c =
+    clash_through (maps.get c.args.store.now.live) c.loop-assumptions.assumptions.trail.lits c.args.assumptions.now.trail.lits c.loop-assumptions.invariant.sound c.in-Clash.ensures.pass
+
+pub loop-assumptions-smaller : goal.loop-assumptions-smaller
+loop-assumptions-smaller c = c.in-Changed.ensures.pass c.args.assumptions.now.trail.met (λ v h. sym (c.loop-assumptions.invariant.extends.met v) ∙ h)
+
+pub returns-in-Quiet-clause-answer : goal.returns-in-Quiet-clause-answer
+returns-in-Quiet-clause-answer c =
+    let lits = c.loop-assumptions.assumptions.trail.lits in
+    let before = c.args.assumptions.now.trail.lits in
+    let quiet = c.in-Quiet.ensures.pass in
+    let after = c.trail.result.now.lits in
+    let same = ap (λ t. t.lits) c.trail.ensures ∙ quiet.0 in
+    settled_quiet (maps.get c.args.store.now.live) lits quiet.1 before (λ l h. has_begun before lits l c.loop-assumptions.invariant.extends.begins h)
+    (subst (λ ls. conflicts ls ≡ false) same (no_conflict after c.len-different.ensures.different))
+
+pub returns-in-Quiet-clause-closed : goal.returns-in-Quiet-clause-closed
+returns-in-Quiet-clause-closed c = λ _.
+    let quiet = c.in-Quiet.ensures.pass in
+    subst (λ ls. IsClosed (maps.get c.args.store.now.live) (λ l. has ls l)) (sym quiet.0) (settled_closed (maps.get c.args.store.now.live) c.loop-assumptions.assumptions.trail.lits quiet.1)

@@ -1,0 +1,16 @@
+use Rattle.std.proofs.Common.{◌≡◌, true}
+use Rattle.std.specs.FinMap as maps
+use Rattle.cnf_base.specs.Literals.{Literal, has}
+use Rattle.propagation.specs.Exact.{Extends}
+use Rattle.propagation.specs.Forced.{Forced}
+use Rattle.propagation.specs.Scan.Unit.{unset}
+use Rattle.propagation.proofs.scan.unit.propagate.Given as goal
+
+abbrev pub invariant-loop-assumptions : goal.invariant-loop-assumptions
+invariant-loop-assumptions l = record {
+  sound : (k : Literal) → has l.assumptions.trail.lits k ≡ true → Forced (maps.get l.store.live) l.fn.assumptions.trail.lits k;
+  extends : Extends l.fn.assumptions l.assumptions;
+}
+
+abbrev pub decreases-loop-assumptions : goal.decreases-loop-assumptions
+decreases-loop-assumptions l = unset l.assumptions.trail.lits l.fn.assumptions.trail.met

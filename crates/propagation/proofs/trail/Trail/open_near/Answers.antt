@@ -1,0 +1,40 @@
+use Rattle.std.proofs.Common.{◌≡◌, sym, ap, ◌∙◌, arith, subst}
+use Rattle.std.proofs.lemmas.Bool.{ltb-true}
+use Rattle.cnf_base.specs.Literals.{complement, has}
+use Rattle.tables.specs.Table.{at}
+use Rattle.propagation.specs.Trail.{value_under, HasNoVariableTwice}
+use Rattle.propagation.proofs.PropagationLemmas.Left.{count_with, count_same}
+use Rattle.propagation.proofs.PropagationLemmas.MakesFalse.{value_not_false}
+use Rattle.propagation.proofs.PropagationLemmas.Values.{near_value, value_false}
+use Rattle.propagation.proofs.trail.Trail.open_near.Goals as goal
+use Rattle.propagation.proofs.trail.Trail.open_near.Goals.{in-False, in_default, then-not-matches, else-not-matches}
+
+pub loop-l-preserved : goal.loop-l-preserved
+loop-l-preserved c =
+    let trues = c.args.self.now.lits in
+    let clause = c.args.clause.now in
+    let i = c.loop-l.l-index in
+    let inside = c.loop-l-test.true in
+    let x = c.l-item.result in
+    let so_far = c.loop-l.invariant in
+    let values = c.self.inside.values in
+    let near = values.dense.items in
+    let shown = ap (λ s. s.lits) c.self.view_is in
+    let apart = subst HasNoVariableTwice shown c.self.invariant.different in
+    let found = rw c.near-near.ensures at c.in_ok-value.ensures.lookup in
+    let v = c.in_ok-value.value.now in
+    let is : v ≡ value_under trues x = subst (λ ls. v ≡ value_under ls x) shown (near_value near (at values.far) c.self.inside.lits.items c.self.invariant.values x c.index.result v c.index.ensures.value (ltb-true _ _ (sym found.0)) found.1) in
+    let matches : has trues (complement x) ≡ c.match-matches.matches = elim c.match-matches.branch [
+      | in-False w ↦ value_false trues x v is w.in-False.is ∙ sym w.matches-is
+      | in_default w ↦ sym (value_not_false trues x apart v is w.in_default.not-False) ∙ sym w.matches-is
+    ] in
+    elim c.if-not-matches.branch [
+      | then-not-matches w ↦ record {
+        counted = rw (w.count-is, w.open-is) (count_with trues clause i inside x c.l-item.is (matches ∙ w.if-not-matches.true) c.loop-l.count c.loop-l.open so_far.counted);
+        few = let few = so_far.few in omega (arith, w.count-is);
+      }
+      | else-not-matches w ↦ record {
+        counted = rw (w.count-is, w.open-is) (count_same trues clause i inside x c.l-item.is (matches ∙ w.if-not-matches.false) c.loop-l.count c.loop-l.open so_far.counted);
+        few = let few = so_far.few in omega (arith, w.count-is);
+      }
+    ]

@@ -1,0 +1,9 @@
+use Rattle.std.proofs.Common.{◌≤◌, take}
+use Rattle.propagation.specs.Left.{open_literals, IsCount}
+use Rattle.propagation.proofs.trail.Trail.open_near.Given as goal
+
+abbrev pub invariant-loop-l : goal.invariant-loop-l
+invariant-loop-l l = record {
+  counted : IsCount (open_literals l.self.lits (take l.l-index l.clause)) l.count l.open;
+  few : l.count ≤ l.l-index;
+}

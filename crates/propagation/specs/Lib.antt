@@ -1,0 +1,9 @@
+pub mod Assumptions
+pub mod Code
+pub mod Exact
+pub mod Forced
+pub mod Left
+pub mod Levels
+pub mod Scan
+pub mod Trail
+pub mod Values

@@ -1,0 +1,115 @@
+//! What every store of live clauses does that propagates.
+
+ghost use Rattle.std.specs.Prelude.{◌≡◌, ◌≢◌, [], ◌≤◌, ◌<◌, ◌∷◌, ℕ, min, not, ◌==◌, length, Some, None, List, IsTrue, IsSome, IfSome, IfNone, IfOk, OnErr};
+ghost use Rattle.std.specs.FinMap as maps;
+ghost use Rattle.cnf_base.specs.Literals.{Clause, same_clause, complements};
+ghost use Rattle.clause_db.specs.Store.Clauses.{size, copies_with};
+ghost use Rattle.propagation.specs.Assumptions.{Propagation, Assumption, Assuming, AssumingPart, HoldsLiveAlone, HasAt, LastIsAnswered, IsValue, MayAssume, assumed_by};
+ghost use Rattle.propagation.specs.declared.answer.Answer.TheVariants.{Quiet};
+
+use crate::{Answer, Value};
+use clause_db::Slot;
+use cnf_base::{Lit, OutOfMemory};
+
+/// Live clauses, each in a slot, and unit propagation from literals that are assumed.
+///
+/// At most two assumptions stand, the second on the first. One that adds no literal stands too.
+pub trait Propagate {
+    /// The live clauses, the assumptions that stand, how many literals are kept, and whether an assumption was refused.
+    ghost state: { Self → Propagation };
+
+    /// Stores a clause in a slot that is free, where nothing is assumed. It fails only where memory is refused.
+    fn insert(&mut self, lits: &[Lit]) -> Result<Slot, OutOfMemory>
+        requires { (state self.old).assumptions ≡ [] }
+        ensures free { IfOk result (λ slot. maps.get (state self.old).live slot ≡ None) }
+        ensures stored { IfOk result (λ slot. (c : Clause) ×
+            (maps.get (state self.new).live slot ≡ Some c) × IsTrue (same_clause c lits.now)) }
+        ensures others { IfOk result (λ slot. (s : ℕ) → s ≢ slot →
+            maps.get (state self.new).live s ≡ maps.get (state self.old).live s) }
+        ensures nothing_assumed { (state self.new).assumptions ≡ [] }
+        ensures live_alone { HoldsLiveAlone (state self.new) }
+        ensures refused { (state self.new).has_refused ≡ (state self.old).has_refused }
+        ensures err { OnErr result (state self.new ≡ state self.old) };
+
+    /// Takes the clause out of its slot, where nothing is assumed. Other copies of it stay. It takes no memory.
+    fn remove(&mut self, slot: Slot)
+        requires alive { IsSome (maps.get (state self.old).live slot) }
+        requires nothing_assumed { (state self.old).assumptions ≡ [] }
+        ensures live { (state self.new).live ≡ maps.remove (state self.old).live slot }
+        ensures live_alone { HoldsLiveAlone (state self.new) }
+        ensures nothing_assumed { (state self.new).assumptions ≡ [] }
+        ensures refused { (state self.new).has_refused ≡ (state self.old).has_refused };
+
+    /// A slot with the same clause as a set, if there is one. It takes no memory.
+    fn find(&mut self, lits: &[Lit]) -> Option<Slot>
+        ensures found { IfSome result (λ slot. (c : Clause) ×
+            (maps.get (state self.old).live slot ≡ Some c) × IsTrue (same_clause c lits.now)) }
+        ensures none { IfNone result ((s : ℕ) (c : Clause) →
+            maps.get (state self.old).live s ≡ Some c → IsTrue (same_clause c lits.now) → ⊥) }
+        ensures same { state self.new ≡ state self.old };
+
+    /// The different literals of the clause in the slot, in any order. It takes no memory.
+    fn clause(&self, slot: Slot) -> &[Lit]
+        requires { IsSome (maps.get (state self.now).live slot) }
+        ensures clause { (c : Clause) × (maps.get (state self.now).live slot ≡ Some c) ×
+            IsTrue (same_clause c result.now) }
+        ensures different { length result.now ≡ size result.now };
+
+    /// The sum of the lengths of the lists of literals that it keeps, which is that of the sizes of the clauses; `2^64 - 1` where it is
+    /// greater. It takes no memory.
+    fn literals(&self) -> u64
+        ensures value { result ≡ min (state self.now).stored 18446744073709551615 }
+        ensures live_alone { HoldsLiveAlone (state self.now) };
+
+    /// The first slot from this one on whose clause has the literal, if there is one. It takes no memory.
+    fn next_with(&self, l: Lit, from: Slot) -> Option<Slot>
+        ensures found { IfSome result (λ slot. (from ≤ slot) ×
+            HasAt (maps.get (state self.now).live) l slot) }
+        ensures passed_over { IfSome result (λ slot. (s : ℕ) → from ≤ s → s < slot →
+            ¬ HasAt (maps.get (state self.now).live) l s) }
+        ensures none { IfNone result ((s : ℕ) → from ≤ s →
+            ¬ HasAt (maps.get (state self.now).live) l s) }
+        ensures slots { (s : ℕ) → IsSome (maps.get (state self.now).live s) →
+            s ≤ 18446744073709551615 };
+
+    /// How many of the live clauses have the literal, each copy counted. It takes no memory.
+    fn count_with(&self, l: Lit) -> u64
+        ensures value { result ≡ copies_with (state self.now).live l }
+        ensures none { result ≡ 0 → (s : ℕ) → ¬ HasAt (maps.get (state self.now).live) l s }
+        ensures some { result ≢ 0 → (s : ℕ) × HasAt (maps.get (state self.now).live) l s };
+
+    /// Assumes the complements of the literals, beside what is assumed, and propagates.
+    ///
+    /// # Errors
+    ///
+    /// Where memory runs out, and ever after. What is assumed is then as it was.
+    fn assume(&mut self, lits: &[Lit]) -> Result<Answer, OutOfMemory>
+        requires { MayAssume (state self.old).assumptions }
+        ensures { Assuming (state self.old) (state self.new) (complements lits.now) result };
+
+    /// Assumes the complements of the literals of a live clause but for one, beside what is assumed, and propagates.
+    ///
+    /// # Errors
+    ///
+    /// Where memory runs out, and ever after. What is assumed is then as it was.
+    fn assume_rest(&mut self, slot: Slot, l: Lit) -> Result<Answer, OutOfMemory>
+        requires may { MayAssume (state self.old).assumptions }
+        requires alive { IsSome (maps.get (state self.old).live slot) }
+        ensures { AssumingPart (state self.old) (state self.new) slot (λ k. not (k == l)) result };
+
+    /// Takes back the last assumption. It takes no memory.
+    fn undo(&mut self)
+        requires { (last : Assumption) × (rest : List Assumption) ×
+            ((state self.old).assumptions ≡ last ∷ rest) }
+        ensures assumptions { (last : Assumption) (rest : List Assumption) →
+            (state self.old).assumptions ≡ last ∷ rest → (state self.new).assumptions ≡ rest }
+        ensures live { (state self.new).live ≡ (state self.old).live }
+        ensures live_alone { HoldsLiveAlone (state self.new) }
+        ensures refused { (state self.new).has_refused ≡ (state self.old).has_refused };
+
+    /// What propagation says of a literal, after an assumption that was quiet. It takes no memory.
+    fn value(&self, l: Lit) -> Value
+        requires { LastIsAnswered Quiet (state self.now).assumptions }
+        ensures { IsValue (maps.get (state self.now).live)
+            (assumed_by (state self.now).assumptions) l result };
+}

@@ -1,0 +1,88 @@
+-- Clauses whose literals that are not false are brought to the front.
+use Rattle.std.proofs.Common.{◌≡◌, ℕ, ◌<◌, ◌≤◌, true, false, eq-eqb, cond, Some, List, [], ◌∷◌, length, get_or, set, swap, refl, sym, ap, ◌∙◌, subst, arith, inl, inr}
+use Rattle.std.specs.Ordering.{nat_cmp}
+use Rattle.std.specs.FinMap as maps
+use Rattle.std.specs.FinMap.{FinMap}
+use Rattle.std.proofs.lemmas.Bool.{cases_eq, true≢false, false≢true}
+use Rattle.std.proofs.lemmas.Grind.{get_or-set_at, get_or_default_zero}
+use Rattle.std.proofs.lemmas.List.{get_or-set_other, get_or-set_same, length-set}
+use Rattle.std.proofs.lemmas.Option.{same_Some}
+use Rattle.cnf_base.specs.Literals.{Literal, complement, Clause, has}
+use Rattle.watch.specs.Roots.{IsArranged, IsBrought}
+use Rattle.propagation.specs.declared.left.Left.TheVariants.{Nothing, One, More}
+use Rattle.propagation.proofs.MemberLemmas.{has_place, place_of}
+use Rattle.clause_db.proofs.StoreLemmas.Sums.{get_insert}
+use Rattle.clause_db.proofs.StoreLemmas.Swap.{has_swapped}
+
+swap_first : (c : Clause) (i j : ℕ) → i ≤ j → j < length c → get_or (swap c i j) i 0 ≡ get_or c j 0
+swap_first [] i j low inside = absurd (omega (arith, inside))
+swap_first (d ∷ ys) i j low inside =
+    let c = d ∷ ys in
+    let first = set c i (get_or c j d) in
+    let i_inside : i < length c = omega (arith, low, inside) in
+    let j_inside : j < length first = let n = length-set c i (get_or c j d) in omega (arith, inside, n) in
+    elim (cases_eq i j) [
+      | inl e ↦ get_or-set_at first j i (get_or c i d) 0 e j_inside ∙ ap (λ k. get_or c k d) e ∙ get_or_default_zero c j d inside
+      | inr ne ↦ get_or-set_other first j i (get_or c i d) 0 ne ∙ get_or-set_same c i (get_or c j d) 0 i_inside ∙ get_or_default_zero c j d inside
+    ]
+
+swap_before : (c : Clause) (i j k : ℕ) → k < i → k < j → get_or (swap c i j) k 0 ≡ get_or c k 0
+swap_before [] i j k first second = refl
+swap_before (d ∷ ys) i j k first second =
+    let c = d ∷ ys in
+    get_or-set_other (set c i (get_or c j d)) j k (get_or c i d) 0 (λ e. omega (arith, second, e)) ∙ get_or-set_other c i k (get_or c j d) 0 (λ e. omega (arith, first, e))
+
+swap_length : (c : Clause) (i j : ℕ) → length (swap c i j) ≡ length c
+swap_length [] i j = refl
+swap_length (d ∷ ys) i j = let c = d ∷ ys in length-set (set c i (get_or c j d)) j (get_or c i d) ∙ length-set c i (get_or c j d)
+
+module _ (live : FinMap nat_cmp Clause) (slot : ℕ) (trues : List Literal) (place : ℕ) (c : Clause) (here : maps.get live slot ≡ Some c) where
+  pub brought : (after : FinMap nat_cmp Clause) (found : ℕ) → place ≤ found → found < length c → has trues (complement (get_or c found 0)) ≡ false → after ≡ maps.insert live slot (swap c place found) →
+      (d : Clause) → maps.get live slot ≡ Some d → (e : Clause) × (maps.get after slot ≡ Some e) × IsBrought trues d e place true
+  brought after found low inside is_open is d there =
+      let same = same_Some c d (sym here ∙ there) in (
+        swap c place found,
+        ap (λ m. maps.get m slot) is ∙ get_insert live slot (swap c place found) slot ∙ ap (λ b. cond b (Some (swap c place found)) (maps.get live slot)) (eq-eqb slot slot refl),
+        subst (λ x. IsBrought trues x (swap c place found) place true) same
+            (record {
+              alike = has_swapped c (swap c place found) place found (omega (arith, low, inside)) inside refl;
+              before = λ k front. swap_before c place found k front (omega (arith, front, low));
+              found = λ _. (let n = swap_length c place found in omega (arith, n, low, inside), ap (λ x. has trues (complement x)) (swap_first c place found low inside) ∙ is_open);
+              none = λ e. absurd (true≢false e);
+            }),
+      )
+
+  pub not_brought : ((k : ℕ) → place ≤ k → k < length c → has trues (complement (get_or c k 0)) ≡ true) →
+      (d : Clause) → maps.get live slot ≡ Some d → (e : Clause) × (maps.get live slot ≡ Some e) × IsBrought trues d e place false
+  not_brought falses d there = (
+    d,
+    there,
+    subst (λ x. IsBrought trues x x place false) (same_Some c d (sym here ∙ there)) (record { alike = λ l. refl; before = λ k front. refl; found = λ e. absurd (false≢true e); none = λ _. falses }),
+  )
+
+pub arranged_nothing : (trues : List Literal) (c d : Clause) → IsBrought trues c d 0 false → IsArranged trues d Nothing
+arranged_nothing trues c d first k h = let w = place_of d k h in ap (λ x. has trues (complement x)) (sym w.2) ∙ first.none refl w.0 (omega arith) w.1
+
+module _ (trues : List Literal) (c d e : Clause) (first : IsBrought trues c d 0 true) where
+  pub first_there : has d (get_or d 0 0) ≡ true
+  first_there = has_place d 0 (first.found refl).0
+
+  pub arranged_more : IsBrought trues d e 1 true → IsArranged trues e More
+  arranged_more second = (let n = (second.found refl).0 in omega (arith, n), ap (λ x. has trues (complement x)) (second.before 0 (omega arith)) ∙ (first.found refl).1, (second.found refl).1)
+
+  pub arranged_one : IsBrought trues d e 1 false → (l : Literal) → get_or e 0 0 ≡ l → IsArranged trues e (One l)
+  arranged_one second l is =
+      let same = sym is ∙ second.before 0 (omega arith) in (
+        second.alike l ∙ ap (has d) same ∙ first_there,
+        is,
+        ap (λ x. has trues (complement x)) same ∙ (first.found refl).1,
+        λ k h ne.
+            let w = place_of e k h in
+            elim (cases_eq w.0 0) [
+              | inl z ↦ absurd (ne (sym w.2 ∙ ap (λ i. get_or e i 0) z ∙ is))
+              | inr past ↦ ap (λ x. has trues (complement x)) (sym w.2) ∙ second.none refl w.0 (omega (arith, past)) w.1
+            ],
+      )
+
+  pub one_inside : IsBrought trues d e 1 false → 0 < length e
+  one_inside second = let w = place_of e (get_or d 0 0) (second.alike (get_or d 0 0) ∙ first_there) in let n = w.1 in omega (arith, n)

@@ -1,0 +1,87 @@
+-- Where all is propagated, nothing more follows.
+use Rattle.std.proofs.Common.{◌≡◌, ◌≢◌, ℕ, Bool, true, false, cond, Some, List, [], ◌∷◌, length, refl, sym, ap, ◌∙◌, subst, arith, inl, inr}
+use Rattle.std.specs.Ordering.{nat_cmp}
+use Rattle.std.specs.FinMap as maps
+use Rattle.std.specs.FinMap.{FinMap}
+use Rattle.std.proofs.lemmas.Bool.{cases_eq, true≢false, false≢true}
+use Rattle.cnf_base.specs.Literals.{Literal, complement, Clause, has}
+use Rattle.cnf_base.proofs.SetLemmas.{has_head, has_tail, has_cases}
+use Rattle.propagation.specs.Forced.{IsClosed, Clash, by_empty, by_both}
+use Rattle.propagation.specs.Trail.{conflicts}
+use Rattle.clause_db.specs.Store.Clauses.{size}
+use Rattle.watch.specs.Order.{in_order, each_in_order}
+use Rattle.watch.specs.Watched.{is_short, short_for, HasPartner, HasUnit, IsWatched}
+use Rattle.propagation.proofs.PropagationLemmas.MakesFalse.{conflict_from}
+use Rattle.watch.proofs.WatchLemmas.Order.{has-in_order, seen_there, there_seen}
+use Rattle.clause_db.proofs.StoreLemmas.Distinct.{distinct_parts}
+
+-- the unit rule of one clause
+pub clause_closed : (c : Clause) (trues : List Literal) → size c ≡ length c → HasUnit c trues → ((l : Literal) → has trues (complement l) ≡ true → HasPartner c l trues) →
+    ((l : Literal) → has trues l ≡ true → has trues (complement l) ≡ true → ⊥) →
+    (m : Literal) → has c m ≡ true → ((l : Literal) → has c l ≡ true → l ≢ m → has trues (complement l) ≡ true) → has trues m ≡ true
+clause_closed [] trues different unit partner apart m member others = absurd unit
+clause_closed (a ∷ []) trues different unit partner apart m member others =
+    elim (has_cases a [] m member) [ inl e ↦ subst (λ x. has trues x ≡ true) e unit | inr none ↦ absurd (false≢true none) ]
+clause_closed (a ∷ b ∷ c) trues different unit partner apart m member others =
+    elim (cases_eq a m) [
+      | inl first ↦
+          let b_false = others b (has_tail a (b ∷ c) b (has_head b c)) (λ e. a_b (first ∙ sym e)) in
+          subst (λ x. has trues x ≡ true) first ((partner b b_false).1 refl)
+      | inr not_first ↦
+          let a_false = others a (has_head a (b ∷ c)) not_first in
+          let b_true = (partner a a_false).0 refl in
+          elim (cases_eq b m) [
+            | inl second ↦ subst (λ x. has trues x ≡ true) second b_true
+            | inr not_second ↦ absurd (apart b b_true (others b (has_tail a (b ∷ c) b (has_head b c)) not_second))
+          ]
+    ]
+  where
+    a_b : a ≢ b
+    a_b same = true≢false (sym (has_head b c) ∙ ap (has (b ∷ c)) (sym same) ∙ (distinct_parts a (b ∷ c) different).0)
+
+-- a unit in another order
+pub unit_alike : (c d : Clause) (trues : List Literal) → is_short d ≡ is_short c → ((l : Literal) → has d l ≡ has c l) → HasUnit c trues → HasUnit d trues
+unit_alike c [] trues short alike unit = no_unit c (λ l. sym (alike l)) unit
+  where
+    no_unit : (c : Clause) → ((l : Literal) → has c l ≡ false) → HasUnit c trues → HasUnit [] trues
+    no_unit [] none h = h
+    no_unit (a ∷ c) none h = absurd (true≢false (sym (has_head a c) ∙ none a))
+unit_alike [] (a ∷ []) trues short alike unit = absurd unit
+unit_alike (b ∷ []) (a ∷ []) trues short alike unit =
+    elim (has_cases b [] a (sym (alike a) ∙ has_head a [])) [ inl e ↦ subst (λ x. has trues x ≡ true) e unit | inr none ↦ absurd (false≢true none) ]
+unit_alike (b ∷ e ∷ c) (a ∷ []) trues short alike unit = absurd (true≢false short)
+unit_alike c (a ∷ b ∷ d) trues short alike unit = tt
+
+module _ (live : FinMap nat_cmp Clause) (trues : List Literal) (different : (s : ℕ) (c : Clause) → maps.get live s ≡ Some c → size c ≡ length c)
+    (units : (s : ℕ) (c : Clause) → maps.get live s ≡ Some c → HasUnit c trues) (watched : IsWatched (maps.get live) trues trues) (quiet : conflicts trues ≡ false) where
+  apart : (l : Literal) → has trues l ≡ true → has trues (complement l) ≡ true → ⊥
+  apart l h g = true≢false (sym (conflict_from trues l h g) ∙ quiet)
+
+  pub all_closed : IsClosed (maps.get (each_in_order live)) (λ l. has trues l)
+  all_closed = record {
+    unit = λ k d at m member others.
+        let w = there_seen live k d at in
+        clause_closed w.0 trues (different k w.0 w.1) (units k w.0 w.1) (λ l h. watched.each k w.0 w.1 l h) apart m (sym (w.2 m) ∙ member) (λ l h ne. others l (w.2 l ∙ h) ne);
+  }
+
+  no_empty : (c : Clause) → ((l : Literal) → has c l ≡ false) → HasUnit c trues → ⊥
+  no_empty [] none h = h
+  no_empty (a ∷ c) none h = true≢false (sym (has_head a c) ∙ none a)
+
+  pub all_quiet : (assumed : List Literal) → ((a : Literal) → has assumed a ≡ true → has trues a ≡ true) → Clash (maps.get (each_in_order live)) assumed → ⊥
+  all_quiet assumed start (by_empty k at) = let w = there_seen live k [] at in no_empty w.0 (λ l. sym (w.2 l)) (units k w.0 w.1)
+  all_quiet assumed start (by_both l f g) = apart l (f.in_each (λ l. has trues l) all_closed start) (g.in_each (λ l. has trues l) all_closed start)
+
+-- the units are those of the clauses in another order too
+pub units_carried : (before after : FinMap nat_cmp Clause) (trues : List Literal) → each_in_order after ≡ each_in_order before → ((s : ℕ) → short_for (maps.get after s) ≡ short_for (maps.get before s)) →
+    ((s : ℕ) (c : Clause) → maps.get before s ≡ Some c → HasUnit c trues) → (s : ℕ) (c : Clause) → maps.get after s ≡ Some c → HasUnit c trues
+units_carried before after trues same short units s c is =
+    let seen = ap (λ m. maps.get m s) (sym same) ∙ seen_there after s c is in
+    let w = there_seen before s (in_order c) seen in
+    unit_alike w.0 c trues (by_test (is_short c) (is_short w.0) (sym (ap short_for is) ∙ short s ∙ ap short_for w.1)) (λ l. sym (has-in_order c l) ∙ w.2 l) (units s w.0 w.1)
+  where
+    by_test : (a b : Bool) → cond {A = ℕ} a 1 0 ≡ cond b 1 0 → a ≡ b
+    by_test true true e = refl
+    by_test true false e = absurd (let wrong : ⊥ = omega (arith, e) in wrong)
+    by_test false true e = absurd (let wrong : ⊥ = omega (arith, e) in wrong)
+    by_test false false e = refl

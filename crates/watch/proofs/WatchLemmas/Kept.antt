@@ -1,0 +1,226 @@
+-- What is kept of the literals that are true with nothing assumed.
+use Rattle.std.proofs.Common.{◌≡◌, ◌≢◌, ℕ, true, false, cond, eq-eqb, ne_eqb, Option, Some, None, is_some, option_map, List, [], ◌∷◌, length, take, refl, sym, ap, ◌∙◌, subst, arith, inl, inr}
+use Rattle.std.specs.Ordering.{nat_cmp}
+use Rattle.std.specs.FinMap as maps
+use Rattle.std.specs.FinMap.{FinMap}
+use Rattle.std.proofs.lemmas.Bool.{cases_eq, false_from_ne_true, true≢false, false≢true}
+use Rattle.std.proofs.lemmas.Option.{none-some, same_Some}
+use Rattle.cnf_base.specs.Literals.{Literal, complement, Clause, has}
+use Rattle.tables.specs.Table.{at}
+use Rattle.propagation.specs.Forced.{Clash, Forced}
+use Rattle.propagation.specs.Assumptions.{Assumption, AssumptionsState, roots_in}
+use Rattle.watch.specs.Order.{in_order, each_in_order}
+use Rattle.watch.specs.Roots.{AreForced, AreNoted, AreReasoned, HasReasons, HaveUnits, IsArranged, IsFalseAt, IsKept, IsKnown, IsStanding, is_up_to_date, has_clash}
+use Rattle.watch.specs.Visits.{Carries, IsPart}
+use Rattle.watch.specs.Watched.{HasPartner, HasUnit, IsWatched}
+use Rattle.propagation.specs.declared.left.Left.TheVariants.{One, More}
+use Rattle.watch.specs.declared.roots.Kept.{Kept}
+use Rattle.watch.specs.declared.roots.Kept.TheVariants.{Lost, Behind, All, Clash as KeptClash}
+use Rattle.watch.specs.declared.roots.Roots.{Roots}
+use Rattle.propagation.specs.Trail.{HasNoVariableTwice, conflicts}
+use Rattle.clause_db.specs.Store.Clauses.{size}
+use Rattle.propagation.proofs.PropagationLemmas.Forced.{clash_by_false}
+use Rattle.propagation.proofs.PropagationLemmas.MakesFalse.{conflicts_more, no_conflict}
+use Rattle.watch.proofs.WatchLemmas.Closed.{all_closed, all_quiet, units_carried}
+use Rattle.watch.proofs.WatchLemmas.Follow.{front_part}
+use Rattle.watch.proofs.WatchLemmas.Order.{get_ordered, has-in_order, seen_there}
+use Rattle.clause_db.proofs.StoreLemmas.Sums.{get_remove}
+use Rattle.watch.proofs.WatchLemmas.Reasons.{reasoned_among, reasoned_forced, reasoned_none, reasoned_same}
+
+pub kept_forced : (live : FinMap nat_cmp Clause) (roots : Roots) (lits : List Literal) → IsKept live roots lits → AreForced (maps.get (each_in_order live)) lits
+kept_forced live roots lits kept = reasoned_forced (maps.get (each_in_order live)) (at roots.reasons) lits kept.reasoned
+
+-- ---- What is up to date
+
+-- all that is kept is propagated where it is up to date and no clash
+pub all_known : (live : FinMap nat_cmp Clause) (kept : Kept) (lits : List Literal) → is_up_to_date kept ≡ true → has_clash kept ≡ false → IsKnown live kept lits → IsWatched (maps.get live) lits lits × HaveUnits (maps.get live) lits
+all_known live Lost lits up quiet known = absurd (false≢true up)
+all_known live (Behind from) lits up quiet known = absurd (false≢true up)
+all_known live All lits up quiet known = known
+all_known live (KeptClash slot) lits up quiet known = absurd (true≢false quiet)
+
+-- a clash is one
+pub kept_clash : (live : FinMap nat_cmp Clause) (kept : Kept) (lits : List Literal) → has_clash kept ≡ true → AreForced (maps.get (each_in_order live)) lits → IsKnown live kept lits → Clash (maps.get (each_in_order live)) []
+kept_clash live Lost lits clash forced known = absurd (false≢true clash)
+kept_clash live (Behind from) lits clash forced known = absurd (false≢true clash)
+kept_clash live All lits clash forced known = absurd (false≢true clash)
+kept_clash live (KeptClash slot) lits clash forced known =
+    clash_by_false (maps.get (each_in_order live)) [] slot known.clause known.at (λ k h. forced (complement k) (known.falses k h))
+
+-- what isn't up to date has nothing assumed
+pub nothing_stands : (kept : Kept) (assumptions : List Assumption) → IsStanding kept assumptions → is_up_to_date kept ≡ false → assumptions ≡ []
+nothing_stands kept [] standing up = refl
+nothing_stands kept (last ∷ rest) standing up = absurd (true≢false (sym standing ∙ up))
+
+pub roots_alone : (lits : List Literal) (assumptions : List Assumption) (starts : List ℕ) → assumptions ≡ [] → roots_in lits assumptions starts ≡ lits
+roots_alone lits assumptions starts nothing = ap (λ xs. roots_in lits xs starts) nothing
+
+pub roots_part : (lits : List Literal) (assumptions : List Assumption) (starts : List ℕ) → IsPart (roots_in lits assumptions starts) lits
+roots_part lits [] starts l h = h
+roots_part lits (last ∷ rest) [] l h = absurd (false≢true h)
+roots_part lits (last ∷ rest) (start ∷ starts) l h = front_part start lits l (roots_part (take start lits) rest starts l h)
+
+-- where all is kept that follows with nothing assumed
+module _ (live : FinMap nat_cmp Clause) (roots : Roots) (lits : List Literal) (assumptions : List Assumption) (starts : List ℕ) (different : (s : ℕ) (c : Clause) → maps.get live s ≡ Some c → size c ≡ length c) (apart : HasNoVariableTwice lits)
+    (kept : IsKept live roots (roots_in lits assumptions starts)) (up : is_up_to_date roots.kept ≡ true) (quiet : has_clash roots.kept ≡ false) where
+  no_conflict_kept : conflicts (roots_in lits assumptions starts) ≡ false
+  no_conflict_kept = false_from_ne_true (conflicts (roots_in lits assumptions starts)) (λ h.
+      true≢false (sym (conflicts_more (roots_in lits assumptions starts) lits (roots_part lits assumptions starts) h) ∙ no_conflict lits apart))
+
+  pub all_forced : (l : Literal) → Forced (maps.get (each_in_order live)) [] l → has (roots_in lits assumptions starts) l ≡ true
+  all_forced l forced =
+      let known = all_known live roots.kept (roots_in lits assumptions starts) up quiet kept.known in
+      forced.in_each (λ k. has (roots_in lits assumptions starts) k) (all_closed live (roots_in lits assumptions starts) different known.1 known.0 no_conflict_kept) (λ a h. absurd (false≢true h))
+
+  pub no_clash : Clash (maps.get (each_in_order live)) [] → ⊥
+  no_clash clash =
+      let known = all_known live roots.kept (roots_in lits assumptions starts) up quiet kept.known in
+      all_quiet live (roots_in lits assumptions starts) different known.1 known.0 no_conflict_kept [] (λ a h. absurd (false≢true h)) clash
+
+-- ---- What visits leave
+
+module _ (a b : FinMap nat_cmp Clause) (x y : AssumptionsState) (r s : Literal → Option ℕ) (carried : Carries a b x y r s) where
+  pub noted_carried : AreNoted (maps.get (each_in_order a)) r → AreNoted (maps.get (each_in_order b)) s
+  noted_carried noted = record { each = λ k c is l member. carried.noted l (noted.each k c (ap (λ m. maps.get m k) (sym carried.same) ∙ is) l member) }
+
+  pub known_carried : (kept : Kept) (lits : List Literal) → IsPart lits x.trail.lits → IsKnown a kept lits → IsKnown b kept lits
+  known_carried Lost lits part known = known
+  known_carried (Behind from) lits part known =
+      (known.0, carried.kept (take from lits) lits (λ l h. part l (front_part from lits l h)) part known.1, units_carried a b lits carried.same carried.short known.2)
+  known_carried All lits part known = (carried.kept lits lits part part known.0, units_carried a b lits carried.same carried.short known.1)
+  known_carried (KeptClash slot) lits part known = record { clause = known.clause; at = ap (λ m. maps.get m slot) carried.same ∙ known.at; falses = known.falses }
+
+  pub reasoned_carried : (lits : List Literal) → IsPart lits x.trail.lits → AreReasoned (maps.get (each_in_order a)) r lits → AreReasoned (maps.get (each_in_order b)) s lits
+  reasoned_carried lits part are =
+      subst (λ m. AreReasoned (maps.get m) s lits) (sym carried.same) (reasoned_same (maps.get (each_in_order a)) r lits are s (λ l h. carried.as_before l (part l h)))
+
+  -- the same literals are kept, by the same reasons
+  pub kept_carried : (roots after : Roots) (lits : List Literal) → after.kept ≡ roots.kept → ((l : Literal) → at roots.reasons l ≡ r l) → ((l : Literal) → at after.reasons l ≡ s l) → IsPart lits x.trail.lits → IsKept a roots lits → IsKept b after lits
+  kept_carried roots after lits kept_is before_is after_is part kept = record {
+    noted = record {
+      each = λ k c is l member.
+          ap is_some (after_is l)
+          ∙ carried.noted l (ap is_some (sym (before_is l)) ∙ kept.noted.each k c (ap (λ m. maps.get m k) (sym carried.same) ∙ is) l member);
+    };
+    reasoned =
+        reasoned_same (maps.get (each_in_order b)) s lits
+        (reasoned_carried lits part (reasoned_same (maps.get (each_in_order a)) (at roots.reasons) lits kept.reasoned r (λ l h. sym (before_is l)))) (at after.reasons) (λ l h. after_is l);
+    known = subst (λ k. IsKnown b k lits) (sym kept_is) (known_carried roots.kept lits part kept.known);
+  }
+
+-- ---- One clause more
+
+module _ (live after : FinMap nat_cmp Clause) (slot : ℕ) (c : Clause) (free : maps.get live slot ≡ None) (here : maps.get after slot ≡ Some c) (others : (s : ℕ) → s ≢ slot → maps.get after s ≡ maps.get live s) where
+  pub watched_added : (done trues : List Literal) → IsWatched (maps.get live) done trues → ((l : Literal) → has done (complement l) ≡ true → HasPartner c l trues) → IsWatched (maps.get after) done trues
+  watched_added done trues watched partner = record {
+    each = λ s d is. elim (cases_eq s slot) [
+      | inl e ↦ λ l h. subst (λ x. HasPartner x l trues) (same_Some c d (sym here ∙ ap (maps.get after) (sym e) ∙ is)) (partner l h)
+      | inr ne ↦ watched.each s d (sym (others s ne) ∙ is)
+    ];
+  }
+
+  pub units_added : (trues : List Literal) → HaveUnits (maps.get live) trues → HasUnit c trues → HaveUnits (maps.get after) trues
+  units_added trues units unit s d is = elim (cases_eq s slot) [
+    | inl e ↦ subst (λ x. HasUnit x trues) (same_Some c d (sym here ∙ ap (maps.get after) (sym e) ∙ is)) unit
+    | inr ne ↦ units s d (sym (others s ne) ∙ is)
+  ]
+
+  pub still_there : (s : ℕ) (d : Clause) → maps.get (each_in_order live) s ≡ Some d → maps.get (each_in_order after) s ≡ Some d
+  still_there s d is = elim (cases_eq s slot) [
+    | inl e ↦ absurd (none-some d (sym (ap (option_map in_order) free) ∙ sym (get_ordered live slot) ∙ ap (maps.get (each_in_order live)) (sym e) ∙ is))
+    | inr ne ↦ get_ordered after s ∙ ap (option_map in_order) (others s ne) ∙ sym (get_ordered live s) ∙ is
+  ]
+
+  pub noted_added : (reason_of : Literal → Option ℕ) → AreNoted (maps.get (each_in_order live)) reason_of → HasReasons c reason_of → AreNoted (maps.get (each_in_order after)) reason_of
+  noted_added reason_of noted reasons = record {
+    each = λ s d is l member. elim (cases_eq s slot) [
+      | inl e ↦ reasons l (sym (has-in_order c l) ∙ ap (λ x. has x l) (same_Some (in_order c) d (sym (seen_there after slot c here) ∙ ap (maps.get (each_in_order after)) (sym e) ∙ is)) ∙ member)
+      | inr ne ↦ noted.each s d (get_ordered live s ∙ ap (option_map in_order) (sym (others s ne)) ∙ sym (get_ordered after s) ∙ is) l member
+    ];
+  }
+
+  pub reasoned_added : (reason_of : Literal → Option ℕ) (lits : List Literal) → AreReasoned (maps.get (each_in_order live)) reason_of lits → AreReasoned (maps.get (each_in_order after)) reason_of lits
+  reasoned_added reason_of lits are = reasoned_among (maps.get (each_in_order live)) reason_of lits are (maps.get (each_in_order after)) (λ l s d _ _ is. still_there s d is)
+
+  pub false_added : (s : ℕ) (trues : List Literal) → IsFalseAt (maps.get (each_in_order live)) s trues → IsFalseAt (maps.get (each_in_order after)) s trues
+  false_added s trues false_at = record { clause = false_at.clause; at = still_there s false_at.clause false_at.at; falses = false_at.falses }
+
+-- two literals are not false, and stand first
+pub partner_open : (c : Clause) (trues done more : List Literal) → IsPart done trues → IsArranged trues c More → (l : Literal) → has done (complement l) ≡ true → HasPartner c l more
+partner_open [] trues done more part first l h = tt
+partner_open (a ∷ []) trues done more part first l h = tt
+partner_open (a ∷ b ∷ c) trues done more part first l h =
+    (λ e. absurd (true≢false (sym (part (complement l) h) ∙ ap (λ x. has trues (complement x)) (sym e) ∙ first.1)), λ e. absurd (true≢false (sym (part (complement l) h) ∙ ap (λ x. has trues (complement x)) (sym e) ∙ first.2)))
+
+pub unit_open : (c : Clause) (trues more : List Literal) → IsArranged trues c More → HasUnit c more
+unit_open [] trues more first = absurd (let n = first.0 in let wrong : ⊥ = omega (arith, n) in wrong)
+unit_open (a ∷ []) trues more first = absurd (let n = first.0 in let wrong : ⊥ = omega (arith, n) in wrong)
+unit_open (a ∷ b ∷ c) trues more first = tt
+
+-- one literal is not false, stands first, and becomes true
+module _ (trues more : List Literal) (m : Literal) (set : has more m ≡ true) where
+  pub partner_alone : (c : Clause) (done : List Literal) → IsPart done trues → IsArranged trues c (One m) → (l : Literal) → has done (complement l) ≡ true → HasPartner c l more
+  partner_alone [] done part first l h = tt
+  partner_alone (a ∷ []) done part first l h = tt
+  partner_alone (a ∷ b ∷ c) done part first l h =
+      (λ e. absurd (true≢false (sym (part (complement l) h) ∙ ap (λ x. has trues (complement x)) (sym e ∙ first.1) ∙ first.2)), λ e. ap (has more) first.1 ∙ set)
+
+  pub unit_alone : (c : Clause) → IsArranged trues c (One m) → HasUnit c more
+  unit_alone [] first = absurd (false≢true first.0)
+  unit_alone (a ∷ []) first = ap (has more) first.1 ∙ set
+  unit_alone (a ∷ b ∷ c) first = tt
+
+-- ---- One clause fewer
+
+module _ (live : FinMap nat_cmp Clause) (slot : ℕ) where
+  pub elsewhere : (s : ℕ) → s ≢ slot → maps.get (maps.remove live slot) s ≡ maps.get live s
+  elsewhere s ne = get_remove live slot s ∙ ap (λ b. cond b None (maps.get live s)) (ne_eqb s slot ne)
+
+  pub gone : (s : ℕ) → s ≡ slot → maps.get (maps.remove live slot) s ≡ None
+  gone s e = get_remove live slot s ∙ ap (λ b. cond b None (maps.get live s)) (eq-eqb s slot e)
+
+  was_there : (s : ℕ) (d : Clause) → maps.get (maps.remove live slot) s ≡ Some d → maps.get live s ≡ Some d
+  was_there s d is = elim (cases_eq s slot) [
+    | inl e ↦ absurd (none-some d (sym (gone s e) ∙ is))
+    | inr ne ↦ sym (elsewhere s ne) ∙ is
+  ]
+
+  was_seen : (s : ℕ) (d : Clause) → maps.get (each_in_order (maps.remove live slot)) s ≡ Some d → maps.get (each_in_order live) s ≡ Some d
+  was_seen s d is = elim (cases_eq s slot) [
+    | inl e ↦ absurd (none-some d (sym (ap (option_map in_order) (gone s e)) ∙ sym (get_ordered (maps.remove live slot) s) ∙ is))
+    | inr ne ↦ get_ordered live s ∙ ap (option_map in_order) (sym (elsewhere s ne)) ∙ sym (get_ordered (maps.remove live slot) s) ∙ is
+  ]
+
+  still_seen : (s : ℕ) → s ≢ slot → (d : Clause) → maps.get (each_in_order live) s ≡ Some d → maps.get (each_in_order (maps.remove live slot)) s ≡ Some d
+  still_seen s ne d is = get_ordered (maps.remove live slot) s ∙ ap (option_map in_order) (elsewhere s ne) ∙ sym (get_ordered live s) ∙ is
+
+  noted_left : (reason_of : Literal → Option ℕ) → AreNoted (maps.get (each_in_order live)) reason_of → AreNoted (maps.get (each_in_order (maps.remove live slot))) reason_of
+  noted_left reason_of noted = record { each = λ s d is. noted.each s d (was_seen s d is) }
+
+  -- nothing is kept any more
+  pub kept_nothing : (roots after : Roots) (lits now : List Literal) → IsKept live roots lits → after.kept ≡ Lost → after.reasons ≡ roots.reasons → now ≡ [] → IsKept (maps.remove live slot) after now
+  kept_nothing roots after lits now kept lost reasons none = record {
+    noted = subst (λ t. AreNoted (maps.get (each_in_order (maps.remove live slot))) (at t)) (sym reasons) (noted_left (at roots.reasons) kept.noted);
+    reasoned = reasoned_none (maps.get (each_in_order (maps.remove live slot))) (at after.reasons) now none;
+    known = subst (λ k. IsKnown (maps.remove live slot) k now) (sym lost) none;
+  }
+
+  -- nothing that is kept rests on it
+  module _ (roots : Roots) (lits : List Literal) (kept : IsKept live roots lits) (c : Clause) (here : maps.get live slot ≡ Some c) (no_clash : roots.kept ≢ KeptClash slot)
+      (no_reason : (l : Literal) → has c l ≡ true → has lits l ≡ true → at roots.reasons l ≢ Some slot) where
+    still_known : (k : Kept) → roots.kept ≡ k → IsKnown live k lits → IsKnown (maps.remove live slot) k lits
+    still_known Lost is known = known
+    still_known (Behind from) is known = (known.0, record { each = λ s d at_s. known.1.each s d (was_there s d at_s) }, λ s d at_s. known.2 s d (was_there s d at_s))
+    still_known All is known = (record { each = λ s d at_s. known.0.each s d (was_there s d at_s) }, λ s d at_s. known.1 s d (was_there s d at_s))
+    still_known (KeptClash s) is known = record { clause = known.clause; at = still_seen s (λ e. no_clash (is ∙ ap KeptClash e)) known.clause known.at; falses = known.falses }
+
+    pub kept_left : IsKept (maps.remove live slot) roots lits
+    kept_left = record {
+      noted = noted_left (at roots.reasons) kept.noted;
+      reasoned = reasoned_among (maps.get (each_in_order live)) (at roots.reasons) lits kept.reasoned (maps.get (each_in_order (maps.remove live slot))) (λ l s d member is at_s.
+          still_seen s (λ e.
+          let w = kept.reasoned.has_it l s member is in
+          let same = same_Some (in_order c) w.clause (sym (seen_there live slot c here) ∙ ap (maps.get (each_in_order live)) (sym e) ∙ w.at) in
+          no_reason l (sym (has-in_order c l) ∙ ap (λ x. has x l) same ∙ w.member) member (is ∙ ap Some e)) d at_s);
+      known = still_known roots.kept refl kept.known;
+    }

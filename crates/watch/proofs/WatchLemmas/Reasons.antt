@@ -1,0 +1,75 @@
+-- Literals that follow from their reasons.
+use Rattle.std.proofs.Common.{◌≡◌, ◌≢◌, ℕ, true, Option, Some, is_some, List, [], ◌∷◌, ◌++◌, sym, ap, ◌∙◌, subst, inl, inr}
+use Rattle.std.proofs.lemmas.Bool.{cases_eq, false≢true}
+use Rattle.std.proofs.lemmas.Option.{same_Some}
+use Rattle.cnf_base.specs.Literals.{Literal, complement, Clause, has}
+use Rattle.cnf_base.proofs.SetLemmas.{has_append_left, has_append_right, has_head}
+use Rattle.propagation.specs.Forced.{Live, Forced}
+use Rattle.propagation.specs.Assumptions.{HasAt}
+use Rattle.watch.specs.Roots.{AreReasoned}
+use Rattle.propagation.proofs.PropagationLemmas.Passes.{pushed_each}
+
+pub reasoned_none : (live : Live) (reason_of : Literal → Option ℕ) (lits : List Literal) → lits ≡ [] → AreReasoned live reason_of lits
+reasoned_none live reason_of lits none = record {
+  has_it = λ l s member. absurd (no_member l member);
+  in_each = λ passes follows l member. absurd (no_member l member);
+}
+  where
+    no_member : (l : Literal) → has lits l ≡ true → ⊥
+    no_member l member = false≢true (ap (λ ls. has ls l) (sym none) ∙ member)
+
+module _ (live : Live) (reason_of : Literal → Option ℕ) (lits : List Literal) (are : AreReasoned live reason_of lits) where
+  pub reasoned_forced : (l : Literal) → has lits l ≡ true → Forced live [] l
+  reasoned_forced l member = record {
+    in_each = λ passes closed start. are.in_each passes (λ k s c there is at others. closed.unit s c at k (in_reason k s c there is at) others) l member;
+  }
+    where
+      in_reason : (k : Literal) (s : ℕ) (c : Clause) → has lits k ≡ true → reason_of k ≡ Some s → live s ≡ Some c → has c k ≡ true
+      in_reason k s c there is at = let w = are.has_it k s there is in ap (λ d. has d k) (same_Some c w.clause (sym at ∙ w.at)) ∙ w.member
+
+  -- each has one
+  pub reasoned_some : (l : Literal) → has lits l ≡ true → is_some (reason_of l) ≡ true
+  reasoned_some = are.in_each (λ k. is_some (reason_of k)) (λ k s c there is _ _. ap is_some is)
+
+  -- the same reasons
+  pub reasoned_same : (reason_now : Literal → Option ℕ) → ((l : Literal) → has lits l ≡ true → reason_now l ≡ reason_of l) → AreReasoned live reason_now lits
+  reasoned_same reason_now same = record {
+    has_it = λ l s member is. are.has_it l s member (sym (same l member) ∙ is);
+    in_each = λ passes follows. are.in_each passes (λ l s c member is. follows l s c member (same l member ∙ is));
+  }
+
+  -- other clauses, among which all reasons are
+  pub reasoned_among : (after : Live) → ((l : Literal) (s : ℕ) (c : Clause) → has lits l ≡ true → reason_of l ≡ Some s → live s ≡ Some c → after s ≡ Some c) → AreReasoned after reason_of lits
+  reasoned_among after among = record {
+    has_it = λ l s member is. let w = are.has_it l s member is in record { clause = w.clause; at = among l s w.clause member is w.at; member = w.member };
+    in_each = λ passes follows. are.in_each passes (λ l s c member is at. follows l s c member is (among l s c member is at));
+  }
+
+  -- one more literal, which a clause makes true
+  module _ (reason_now : Literal → Option ℕ) (m : Literal) (slot : ℕ) (c : Clause) (there : live slot ≡ Some c) (m_there : has c m ≡ true) (set : reason_now m ≡ Some slot) where
+    pub reasoned_more : ((k : Literal) → has c k ≡ true → k ≢ m → has lits (complement k) ≡ true) → ((l : Literal) → has lits l ≡ true → reason_now l ≡ reason_of l) → AreReasoned live reason_now (lits ++ m ∷ [])
+    reasoned_more others same = record {
+      has_it = λ l s member is.
+          pushed_each (λ k. (n : ℕ) → reason_now k ≡ Some n → HasAt live k n) lits m (λ k h n e. are.has_it k n h (sym (same k h) ∙ e))
+          (λ n e. subst (λ x. HasAt live m x) (same_Some slot n (sym set ∙ e)) (record { clause = c; at = there; member = m_there })) l member s is;
+      in_each = λ passes follows l member.
+          let so_far = are.in_each passes (λ k s d h is. follows k s d (has_append_left lits (m ∷ []) k h) (same k h ∙ is)) in
+          pushed_each (λ k. passes k ≡ true) lits m so_far (follows m slot c (has_append_right lits (m ∷ []) m (has_head m [])) set there (λ k h ne. so_far (complement k) (others k h ne))) l member;
+    }
+
+    -- a clause of this literal alone takes over
+    pub reasoned_taken : ((k : Literal) → has c k ≡ true → k ≡ m) → ((l : Literal) → l ≢ m → reason_now l ≡ reason_of l) → has lits m ≡ true → AreReasoned live reason_now lits
+    reasoned_taken alone same m_true = record {
+      has_it = λ l s member is. elim (cases_eq l m) [
+        | inl e ↦
+            subst (λ x. HasAt live x s) (sym e)
+            (subst (λ x. HasAt live m x) (same_Some slot s (sym set ∙ ap reason_now (sym e) ∙ is)) (record { clause = c; at = there; member = m_there }))
+        | inr ne ↦ are.has_it l s member (sym (same l ne) ∙ is)
+      ];
+      in_each = λ passes follows.
+          let taken = follows m slot c m_true set there (λ k h ne. absurd (ne (alone k h))) in
+          are.in_each passes (λ l s d member is at others. elim (cases_eq l m) [
+            | inl e ↦ subst (λ x. passes x ≡ true) (sym e) taken
+            | inr ne ↦ follows l s d member (same l ne ∙ is) at others
+          ]);
+    }

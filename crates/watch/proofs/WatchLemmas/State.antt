@@ -1,0 +1,344 @@
+-- What holds of watched literals, as assumptions come and go.
+use Rattle.std.proofs.Common.{◌≡◌, ◌≢◌, ℕ, suc, ◌+◌, ◌*◌, ◌/◌, ◌<◌, Bool, true, false, not, ◌&&◌, cond, eqb, eq-eqb, ne_eqb, Option, Some, None, is_some, nat_le, drop, slice_index, List, [], ◌∷◌, length, take, refl, sym, ap, ◌∙◌, subst, arith, inl, inr}
+use Rattle.std.specs.Ordering.{nat_cmp}
+use Rattle.std.specs.FinMap as maps
+use Rattle.std.specs.FinMap.{FinMap}
+use Rattle.std.proofs.lemmas.Bool.Decides.{nat_tests}
+use Rattle.std.proofs.lemmas.Bool.{cases_eq, false≢true}
+use Rattle.std.proofs.lemmas.Option.{none-some}
+use Rattle.cnf_base.specs.Literals.{Literal, Clause, has}
+use Rattle.propagation.specs.Assumptions.{Assumption, AssumptionsState, Propagation, roots_in}
+use Rattle.propagation.specs.Exact.{AreExact}
+use Rattle.propagation.specs.Scan.{IsHeld}
+use Rattle.propagation.specs.Trail.{SameSet, HasRoomForAll}
+use Rattle.clause_db.specs.Store.Clauses.{size}
+use Rattle.watch.specs.Lists.{AreApart, entries_in, list_at, times_in}
+use Rattle.watch.specs.Order.{each_in_order}
+use Rattle.watch.specs.Roots.{AreForced, IsKept, IsKnown, IsStanding, is_up_to_date}
+use Rattle.watch.specs.State.{IsWatch}
+use Rattle.watch.specs.Visits.{Carries, IsPart}
+use Rattle.watch.specs.Watched.{AreWatched, IsListed, IsShortList, IsWatched, watches, is_short, entries_for, short_for, long_clauses, short_clauses}
+use Rattle.propagation.specs.declared.answer.Answer.{Answer}
+use Rattle.propagation.specs.declared.answer.Answer.TheVariants.{Quiet}
+use Rattle.watch.specs.declared.lists.WatchLists.{WatchLists}
+use Rattle.watch.specs.declared.roots.Kept.TheVariants.{Lost}
+use Rattle.watch.specs.declared.roots.Roots.{Roots}
+use Rattle.tables.specs.Table.{at}
+use Rattle.propagation.proofs.PropagationLemmas.Exact.{begins_on, longer_from}
+use Rattle.propagation.proofs.PropagationLemmas.Passes.{has_begun}
+use Rattle.propagation.proofs.PropagationLemmas.Scan.{held_reserved}
+use Rattle.watch.proofs.WatchLemmas.Follow.{front_part}
+use Rattle.watch.proofs.WatchLemmas.Kept.{kept_carried, kept_forced, roots_alone, roots_part}
+use Rattle.watch.proofs.WatchLemmas.Moves.{and_false, and_true}
+use Rattle.watch.proofs.WatchLemmas.Order.{ordered_empty, size-in_order, sum_ordered}
+use Rattle.watch.proofs.WatchLemmas.Reasons.{reasoned_none, reasoned_same, reasoned_some}
+use Rattle.clause_db.proofs.StoreLemmas.Sums.{get_insert, get_remove, sum_insert, sum_remove, sum_empty}
+
+-- ---- Numbers
+
+pub long_shown : (live : FinMap nat_cmp Clause) → long_clauses (each_in_order live) ≡ long_clauses live
+long_shown = sum_ordered (λ c. cond (nat_le 2 (size c)) 1 0) (λ c. ap (λ n. cond (nat_le 2 n) 1 0) (size-in_order c))
+
+pub short_shown : (live : FinMap nat_cmp Clause) → short_clauses (each_in_order live) ≡ short_clauses live
+short_shown = sum_ordered (λ c. cond (nat_le 2 (size c)) 0 1) (λ c. ap (λ n. cond (nat_le 2 n) 0 1) (size-in_order c))
+
+pub long_alike : (before after : FinMap nat_cmp Clause) → each_in_order after ≡ each_in_order before → long_clauses after ≡ long_clauses before
+long_alike before after same = sym (long_shown after) ∙ ap long_clauses same ∙ long_shown before
+
+pub short_alike : (before after : FinMap nat_cmp Clause) → each_in_order after ≡ each_in_order before → short_clauses after ≡ short_clauses before
+short_alike before after same = sym (short_shown after) ∙ ap short_clauses same ∙ short_shown before
+
+-- ---- Levels
+
+are_kept : (a b : FinMap nat_cmp Clause) (x y : AssumptionsState) (r t : Literal → Option ℕ) → Carries a b x y r t → (lits : List Literal) → IsPart lits x.trail.lits → (assumptions : List Assumption) (starts : List ℕ) →
+    AreWatched (maps.get a) lits assumptions starts → AreWatched (maps.get b) lits assumptions starts
+are_kept a b x y r t carried lits part [] starts watched = tt
+are_kept a b x y r t carried lits part (last ∷ rest) [] watched = tt
+are_kept a b x y r t carried lits part (last ∷ rest) (start ∷ starts) watched =
+    (λ quiet. carried.kept lits lits part part (watched.0 quiet), are_kept a b x y r t carried (take start lits) (λ l h. part l (front_part start lits l h)) rest starts watched.1)
+
+-- ---- The literals that are true with nothing assumed
+
+same_roots : (before after : AssumptionsState) → after.trail.lits ≡ before.trail.lits → after.assumptions ≡ before.assumptions → after.starts ≡ before.starts →
+    roots_in after.trail.lits after.assumptions after.starts ≡ roots_in before.trail.lits before.assumptions before.starts
+same_roots before after lits_are assumptions_are starts_are =
+    ap (λ ls. roots_in ls after.assumptions after.starts) lits_are ∙ ap (λ xs. roots_in before.trail.lits xs after.starts) assumptions_are
+    ∙ ap (roots_in before.trail.lits before.assumptions) starts_are
+
+-- ---- One more assumption
+
+module _ (live live2 : FinMap nat_cmp Clause) (lists lists2 : WatchLists) (short : List ℕ) (roots roots2 : Roots) (before after found : AssumptionsState) (watch : IsWatch live lists short roots before)
+    (carried : Carries live live2 after found (at roots.reasons) (at roots2.reasons)) (as_known : roots2.kept ≡ roots.kept) (apart : AreApart lists2) (listed : IsListed (maps.get live2) (list_at lists2)) (entries : entries_in lists2 ≡ entries_in lists)
+    (begins : take (length before.trail.lits) after.trail.lits ≡ before.trail.lits) where
+  begins_found : take (length before.trail.lits) found.trail.lits ≡ before.trail.lits
+  begins_found = begins_on before.trail.lits after.trail.lits found.trail.lits begins (longer_from before.trail.lits after.trail.lits begins) carried.extends.begins
+
+  below : AreWatched (maps.get live2) before.trail.lits before.assumptions before.starts
+  below = are_kept live live2 after found (at roots.reasons) (at roots2.reasons) carried before.trail.lits (λ l h. has_begun before.trail.lits after.trail.lits l begins h) before.assumptions before.starts watch.watched
+
+  roots_below : IsKept live2 roots2 (roots_in before.trail.lits before.assumptions before.starts)
+  roots_below =
+      kept_carried live live2 after found (at roots.reasons) (at roots2.reasons) carried roots roots2 (roots_in before.trail.lits before.assumptions before.starts) as_known (λ l. refl) (λ l. refl)
+      (λ l h. has_begun before.trail.lits after.trail.lits l begins (roots_part before.trail.lits before.assumptions before.starts l h)) watch.kept
+
+  watch_with : (last : AssumptionsState) → IsHeld (each_in_order live) (AreForced (maps.get (each_in_order live))) last → AreWatched (maps.get live2) last.trail.lits last.assumptions last.starts →
+      IsKept live2 roots2 (roots_in last.trail.lits last.assumptions last.starts) → IsStanding roots2.kept last.assumptions → IsWatch live2 lists2 short roots2 last
+  watch_with last scan watched kept standing = record {
+    scan = subst (λ m. IsHeld m (AreForced (maps.get m)) last) (sym carried.same) scan;
+    apart = apart;
+    listed = listed;
+    rest = record { listed = λ s. watch.rest.listed s ∙ sym (carried.short s) };
+    watched = watched;
+    two_each = entries ∙ watch.two_each ∙ ap (λ n. 2 * n) (sym (long_alike live live2 carried.same));
+    one_each = watch.one_each ∙ sym (short_alike live live2 carried.same);
+    kept = kept;
+    standing = standing;
+  }
+
+  -- it is answered
+  pub watch_answered : is_up_to_date roots.kept ≡ true → (last : AssumptionsState) (answer : Answer) (all : List Literal) → last.trail ≡ found.trail → last.assumptions ≡ record { answer = answer; assumed = all } ∷ before.assumptions →
+      last.starts ≡ length before.trail.lits ∷ before.starts → (answer ≡ Quiet → IsWatched (maps.get live2) found.trail.lits found.trail.lits) → IsHeld (each_in_order live) (AreForced (maps.get (each_in_order live))) last →
+      IsWatch live2 lists2 short roots2 last
+  watch_answered up last answer all trail stand starts quiet scan =
+      watch_with last scan
+      (subst (λ t. AreWatched (maps.get live2) t.lits last.assumptions last.starts) (sym trail)
+      (subst (λ xs. AreWatched (maps.get live2) found.trail.lits xs last.starts) (sym stand)
+      (subst (λ ns. AreWatched (maps.get live2) found.trail.lits (record { answer = answer; assumed = all } ∷ before.assumptions) ns) (sym starts)
+      (quiet, subst (λ ls. AreWatched (maps.get live2) ls before.assumptions before.starts) (sym begins_found) below))))
+      (subst (λ t. IsKept live2 roots2 (roots_in t.lits last.assumptions last.starts)) (sym trail)
+      (subst (λ xs. IsKept live2 roots2 (roots_in found.trail.lits xs last.starts)) (sym stand)
+      (subst (λ ns. IsKept live2 roots2 (roots_in found.trail.lits (record { answer = answer; assumed = all } ∷ before.assumptions) ns)) (sym starts)
+      (subst (λ ls. IsKept live2 roots2 (roots_in ls before.assumptions before.starts)) (sym begins_found) roots_below))))
+      (subst (λ xs. IsStanding roots2.kept xs) (sym stand) (ap is_up_to_date as_known ∙ up))
+
+  -- it is taken back
+  pub watch_undone : (last : AssumptionsState) (all : Assumption) → found.assumptions ≡ all ∷ before.assumptions → found.starts ≡ length before.trail.lits ∷ before.starts → last.assumptions ≡ drop 1 found.assumptions →
+      last.starts ≡ drop 1 found.starts → last.trail.lits ≡ take (slice_index found.starts 0) found.trail.lits → SameSet last.trail.met before.trail.met → IsWatch live2 lists2 short roots2 last
+  watch_undone last all stand starts assumptions_are starts_are lits_are met =
+      let same_assumptions = assumptions_are ∙ ap (drop 1) stand in
+      let same_starts = starts_are ∙ ap (drop 1) starts in
+      let same_lits = lits_are ∙ ap (λ ns. take (slice_index ns 0) found.trail.lits) starts ∙ begins_found in
+      watch_with last
+      (held_reserved (each_in_order live) (AreForced (maps.get (each_in_order live))) before last same_lits same_assumptions same_starts (λ v h. met v ∙ h) watch.scan)
+      (subst (λ ls. AreWatched (maps.get live2) ls last.assumptions last.starts) (sym same_lits)
+      (subst (λ xs. AreWatched (maps.get live2) before.trail.lits xs last.starts) (sym same_assumptions)
+      (subst (λ ns. AreWatched (maps.get live2) before.trail.lits before.assumptions ns) (sym same_starts) below)))
+      (subst (IsKept live2 roots2) (sym (same_roots before last same_lits same_assumptions same_starts)) roots_below)
+      (subst (IsStanding roots2.kept) (sym same_assumptions) (subst (λ k. IsStanding k before.assumptions) (sym as_known) watch.standing))
+
+-- ---- Where nothing changes but room and order
+
+pub watch_reserved : (live : FinMap nat_cmp Clause) (lists : WatchLists) (short : List ℕ) (roots : Roots) (before after : AssumptionsState) → after.trail.lits ≡ before.trail.lits → after.assumptions ≡ before.assumptions → after.starts ≡ before.starts →
+    ((v : ℕ) → has before.trail.met v ≡ true → has after.trail.met v ≡ true) → IsWatch live lists short roots before → IsWatch live lists short roots after
+watch_reserved live lists short roots before after lits_are assumptions_are starts_are within watch = record {
+  scan = held_reserved (each_in_order live) (AreForced (maps.get (each_in_order live))) before after lits_are assumptions_are starts_are within watch.scan;
+  apart = watch.apart;
+  listed = watch.listed;
+  rest = watch.rest;
+  watched =
+      subst (λ ls. AreWatched (maps.get live) ls after.assumptions after.starts) (sym lits_are)
+      (subst (λ xs. AreWatched (maps.get live) before.trail.lits xs after.starts) (sym assumptions_are)
+      (subst (λ ns. AreWatched (maps.get live) before.trail.lits before.assumptions ns) (sym starts_are) watch.watched));
+  two_each = watch.two_each;
+  one_each = watch.one_each;
+  kept = subst (IsKept live roots) (sym (same_roots before after lits_are assumptions_are starts_are)) watch.kept;
+  standing = subst (IsStanding roots.kept) (sym assumptions_are) watch.standing;
+}
+
+-- more room for reasons
+pub watch_noted : (live : FinMap nat_cmp Clause) (lists : WatchLists) (short : List ℕ) (roots after : Roots) (held : AssumptionsState) → after.kept ≡ roots.kept →
+    ((l : Literal) → is_some (at roots.reasons l) ≡ true → at after.reasons l ≡ at roots.reasons l) → IsWatch live lists short roots held → IsWatch live lists short after held
+watch_noted live lists short roots after held as_known old watch = record {
+  scan = watch.scan;
+  apart = watch.apart;
+  listed = watch.listed;
+  rest = watch.rest;
+  watched = watch.watched;
+  two_each = watch.two_each;
+  one_each = watch.one_each;
+  kept = record {
+    noted = record { each = λ s c is l member. let was = watch.kept.noted.each s c is l member in ap is_some (old l was) ∙ was };
+    reasoned = let lits = roots_in held.trail.lits held.assumptions held.starts in
+        let live_shown = maps.get (each_in_order live) in
+        reasoned_same live_shown (at roots.reasons) lits watch.kept.reasoned (at after.reasons) (λ l h. old l (reasoned_some live_shown (at roots.reasons) lits watch.kept.reasoned l h));
+    known = subst (λ k. IsKnown live k (roots_in held.trail.lits held.assumptions held.starts)) (sym as_known) watch.kept.known;
+  };
+  standing = subst (λ k. IsStanding k held.assumptions) (sym as_known) watch.standing;
+}
+
+pub watch_same : (live : FinMap nat_cmp Clause) (lists after : WatchLists) (short : List ℕ) (roots : Roots) (held : AssumptionsState) → AreApart after → ((l s : ℕ) → times_in s (list_at after l) ≡ times_in s (list_at lists l)) →
+    entries_in after ≡ entries_in lists → IsWatch live lists short roots held → IsWatch live after short roots held
+watch_same live lists after short roots held apart times entries watch = record {
+  scan = watch.scan;
+  apart = apart;
+  listed = record { watched = λ l s. times l s ∙ watch.listed.watched l s; low = watch.listed.low };
+  rest = watch.rest;
+  watched = watch.watched;
+  two_each = entries ∙ watch.two_each;
+  one_each = watch.one_each;
+  kept = watch.kept;
+  standing = watch.standing;
+}
+
+-- ---- Where nothing is assumed
+
+pub watch_alone : (live : FinMap nat_cmp Clause) (lists : WatchLists) (short : List ℕ) (roots : Roots) (held : AssumptionsState) → held.assumptions ≡ [] → HasRoomForAll held.trail.met (maps.get (each_in_order live)) →
+    AreApart lists → IsListed (maps.get live) (list_at lists) → IsShortList (maps.get live) short → entries_in lists ≡ 2 * long_clauses live → length short ≡ short_clauses live → IsKept live roots held.trail.lits → IsWatch live lists short roots held
+watch_alone live lists short roots held nothing room apart listed rest two_each one_each kept = record {
+  scan = record {
+    room = room;
+    exact = subst (λ xs. AreExact (maps.get (each_in_order live)) (AreForced (maps.get (each_in_order live))) held.trail.lits xs held.starts) (sym nothing) (kept_forced live roots held.trail.lits kept);
+  };
+  apart = apart;
+  listed = listed;
+  rest = rest;
+  watched = subst (λ xs. AreWatched (maps.get live) held.trail.lits xs held.starts) (sym nothing) tt;
+  two_each = two_each;
+  one_each = one_each;
+  kept = subst (IsKept live roots) (sym (roots_alone held.trail.lits held.assumptions held.starts nothing)) kept;
+  standing = subst (IsStanding roots.kept) (sym nothing) tt;
+}
+
+-- what is kept there
+pub alone_kept : (live : FinMap nat_cmp Clause) (lists : WatchLists) (short : List ℕ) (roots : Roots) (held : AssumptionsState) → IsWatch live lists short roots held → held.assumptions ≡ [] → IsKept live roots held.trail.lits
+alone_kept live lists short roots held watch nothing = subst (IsKept live roots) (roots_alone held.trail.lits held.assumptions held.starts nothing) watch.kept
+
+-- it is brought up to date
+pub watch_refreshed : (live live2 : FinMap nat_cmp Clause) (lists lists2 : WatchLists) (short : List ℕ) (roots roots2 : Roots) (held held2 : AssumptionsState) → IsWatch live lists short roots held → held2.assumptions ≡ [] → SameSet held2.trail.met held.trail.met →
+    each_in_order live2 ≡ each_in_order live → ((s : ℕ) → short_for (maps.get live2 s) ≡ short_for (maps.get live s)) → AreApart lists2 → IsListed (maps.get live2) (list_at lists2) → entries_in lists2 ≡ entries_in lists →
+    IsKept live2 roots2 held2.trail.lits → IsWatch live2 lists2 short roots2 held2
+watch_refreshed live live2 lists lists2 short roots roots2 held held2 watch nothing met same shorts apart listed entries kept =
+    watch_alone live2 lists2 short roots2 held2 nothing (record { each = λ k c here l member. met (l / 2) ∙ watch.scan.room.each k c (ap (λ m. maps.get m k) (sym same) ∙ here) l member }) apart listed
+    (record { listed = λ s. watch.rest.listed s ∙ sym (shorts s) }) (entries ∙ watch.two_each ∙ ap (λ n. 2 * n) (sym (long_alike live live2 same))) (watch.one_each ∙ sym (short_alike live live2 same)) kept
+
+-- ---- No clauses
+
+pub watch_empty : (live : FinMap nat_cmp Clause) (lists : WatchLists) (short : List ℕ) (roots : Roots) (held : AssumptionsState) → live ≡ maps.empty → ((l : Literal) → list_at lists l ≡ []) → entries_in lists ≡ 0 → AreApart lists → short ≡ [] →
+    roots.kept ≡ Lost → held.trail.lits ≡ [] → held.assumptions ≡ [] → IsWatch live lists short roots held
+watch_empty live lists short roots held none empty no_entries apart no_short lost unset nothing =
+    let gone = λ (s : ℕ). ap (λ m. maps.get m s) none ∙ maps.get-empty nat_cmp s in
+    let gone_shown = λ (s : ℕ). ap (λ m. maps.get m s) (ap each_in_order none ∙ ordered_empty) ∙ maps.get-empty nat_cmp s in
+    watch_alone live lists short roots held nothing (record { each = λ k c here. absurd (none-some c (sym (gone_shown k) ∙ here)) }) apart
+    (record {
+      watched = λ l s. ap (times_in s) (empty l) ∙ sym (ap (λ o. entries_for o l) (gone s));
+      low = λ s is. absurd (false≢true (sym (ap is_some (gone s)) ∙ is));
+    })
+    (record { listed = λ s. ap (times_in s) no_short ∙ sym (ap short_for (gone s)) }) (no_entries ∙ sym (ap (λ n. 2 * n) (ap long_clauses none ∙ sum_empty (λ c. cond (nat_le 2 (size c)) 1 0))))
+    (ap length no_short ∙ sym (ap short_clauses none ∙ sum_empty (λ c. cond (nat_le 2 (size c)) 0 1)))
+    (record {
+      noted = record { each = λ s c here. absurd (none-some c (sym (gone_shown s) ∙ here)) };
+      reasoned = reasoned_none (maps.get (each_in_order live)) (at roots.reasons) held.trail.lits unset;
+      known = subst (λ k. IsKnown live k held.trail.lits) (sym lost) unset;
+    })
+
+-- ---- One clause more or less, where nothing is assumed
+
+two_le : (n : ℕ) → nat_le 2 (suc (suc n)) ≡ true
+two_le n = grind (arith, nat_tests)
+
+long_is : (c : Clause) → size c ≡ length c → nat_le 2 (size c) ≡ not (is_short c)
+long_is [] different = refl
+long_is (a ∷ []) different = ap (nat_le 2) different
+long_is (a ∷ b ∷ c) different = ap (nat_le 2) different ∙ two_le (length c)
+
+long_weight : (c : Clause) → size c ≡ length c → 2 * cond (nat_le 2 (size c)) 1 0 ≡ cond (is_short c) 0 2
+long_weight c different = ap (λ b. 2 * cond b 1 0) (long_is c different) ∙ by_test (is_short c)
+  where
+    by_test : (b : Bool) → 2 * cond (not b) 1 0 ≡ cond b 0 2
+    by_test true = refl
+    by_test false = refl
+
+short_weight : (c : Clause) → size c ≡ length c → cond {A = ℕ} (nat_le 2 (size c)) 0 1 ≡ cond (is_short c) 1 0
+short_weight c different = ap (λ b. cond b 0 1) (long_is c different) ∙ by_test (is_short c)
+  where
+    by_test : (b : Bool) → cond {A = ℕ} (not b) 0 1 ≡ cond b 1 0
+    by_test true = refl
+    by_test false = refl
+
+module _ (live after : FinMap nat_cmp Clause) (lists lists2 : WatchLists) (short short2 : List ℕ) (roots roots2 : Roots) (held held2 : AssumptionsState) (watch : IsWatch live lists short roots held) (nothing : held2.assumptions ≡ [])
+    (slot : ℕ) (c : Clause) (different : size c ≡ length c) (apart : AreApart lists2) (room : HasRoomForAll held2.trail.met (maps.get (each_in_order after))) (kept : IsKept after roots2 held2.trail.lits) where
+  two : entries_in lists2 ≡ 2 * long_clauses after → length short2 ≡ short_clauses after → IsListed (maps.get after) (list_at lists2) → IsShortList (maps.get after) short2 → IsWatch after lists2 short2 roots2 held2
+  two two_each one_each listed rest = watch_alone after lists2 short2 roots2 held2 nothing room apart listed rest two_each one_each kept
+
+  pub watch_added : maps.get live slot ≡ None → after ≡ maps.insert live slot c → slot < 4294967296 →
+      ((l s : ℕ) → times_in s (list_at lists2 l) ≡ times_in s (list_at lists l) + cond (watches c l && eqb s slot) 1 0) → ((s : ℕ) → times_in s short2 ≡ times_in s short + cond (is_short c && eqb s slot) 1 0) →
+      entries_in lists2 ≡ entries_in lists + cond (is_short c) 0 2 → length short2 ≡ length short + cond (is_short c) 1 0 → IsWatch after lists2 short2 roots2 held2
+  watch_added free is low times short_times entries longer =
+      let more = ap long_clauses is ∙ sum_insert (λ c. cond (nat_le 2 (size c)) 1 0) live slot c free in
+      let more_short = ap short_clauses is ∙ sum_insert (λ c. cond (nat_le 2 (size c)) 0 1) live slot c free in
+      let weight = long_weight c different in
+      let weight_short = short_weight c different in
+      let was = watch.two_each in
+      let was_short = watch.one_each in
+      two (omega (arith, more, weight, was, entries)) (omega (arith, more_short, weight_short, was_short, longer))
+      (record {
+        watched = λ l s. times l s ∙ added (λ o. entries_for o l) refl (watches c l) refl s (times_in s (list_at lists l)) (watch.listed.watched l s);
+        low = λ s there. elim (cases_eq s slot) [
+          | inl e ↦ subst (λ n. n < 4294967296) (sym e) low
+          | inr ne ↦ watch.listed.low s (ap is_some (sym (others s ne)) ∙ there)
+        ];
+      }) (record { listed = λ s. short_times s ∙ added short_for refl (is_short c) refl s (times_in s short) (watch.rest.listed s) })
+    where
+      others : (s : ℕ) → s ≢ slot → maps.get after s ≡ maps.get live s
+      others s ne = ap (λ m. maps.get m s) is ∙ get_insert live slot c s ∙ ap (λ b. cond b (Some c) (maps.get live s)) (ne_eqb s slot ne)
+
+      here : (s : ℕ) → s ≡ slot → maps.get after s ≡ Some c
+      here s e = ap (λ m. maps.get m s) is ∙ get_insert live slot c s ∙ ap (λ b. cond b (Some c) (maps.get live s)) (eq-eqb s slot e)
+
+      added : (f : Option Clause → ℕ) → f None ≡ 0 → (b : Bool) → f (Some c) ≡ cond b 1 0 → (s n : ℕ) → n ≡ f (maps.get live s) → n + cond {A = ℕ} (b && eqb s slot) 1 0 ≡ f (maps.get after s)
+      added f zero b one s n was = elim (cases_eq s slot) [
+        | inl e ↦
+            let now = ap f (here s e) ∙ one in
+            let before = was ∙ ap (λ k. f (maps.get live k)) e ∙ ap f free ∙ zero in
+            let test = ap (λ t. cond {A = ℕ} (b && t) 1 0) (eq-eqb s slot e) ∙ and_true b in
+            omega (arith, now, before, test)
+        | inr ne ↦
+            let now = ap f (others s ne) in
+            let test = ap (λ t. cond {A = ℕ} (b && t) 1 0) (ne_eqb s slot ne) ∙ and_false b in
+            omega (arith, now, was, test)
+      ]
+
+  pub watch_removed : maps.get live slot ≡ Some c → after ≡ maps.remove live slot →
+      ((l s : ℕ) → times_in s (list_at lists2 l) + cond (watches c l && eqb s slot) 1 0 ≡ times_in s (list_at lists l)) → ((s : ℕ) → times_in s short2 + cond (is_short c && eqb s slot) 1 0 ≡ times_in s short) →
+      entries_in lists2 + cond (is_short c) 0 2 ≡ entries_in lists → length short2 + cond (is_short c) 1 0 ≡ length short → IsWatch after lists2 short2 roots2 held2
+  watch_removed there is times short_times entries shorter =
+      let less = sum_remove (λ c. cond (nat_le 2 (size c)) 1 0) live slot c there in
+      let less_short = sum_remove (λ c. cond (nat_le 2 (size c)) 0 1) live slot c there in
+      let as_map = ap long_clauses is in
+      let as_map_short = ap short_clauses is in
+      let weight = long_weight c different in
+      let weight_short = short_weight c different in
+      let was = watch.two_each in
+      let was_short = watch.one_each in
+      two (omega (arith, less, as_map, weight, was, entries)) (omega (arith, less_short, as_map_short, weight_short, was_short, shorter))
+      (record {
+        watched = λ l s. removed (λ o. entries_for o l) refl (watches c l) refl s (times_in s (list_at lists2 l)) (times l s ∙ watch.listed.watched l s);
+        low = λ s alive. elim (cases_eq s slot) [
+          | inl e ↦ absurd (false≢true (sym (ap is_some (gone s e)) ∙ alive))
+          | inr ne ↦ watch.listed.low s (ap is_some (sym (others s ne)) ∙ alive)
+        ];
+      }) (record { listed = λ s. removed short_for refl (is_short c) refl s (times_in s short2) (short_times s ∙ watch.rest.listed s) })
+    where
+      others : (s : ℕ) → s ≢ slot → maps.get after s ≡ maps.get live s
+      others s ne = ap (λ m. maps.get m s) is ∙ get_remove live slot s ∙ ap (λ b. cond b None (maps.get live s)) (ne_eqb s slot ne)
+
+      gone : (s : ℕ) → s ≡ slot → maps.get after s ≡ None
+      gone s e = ap (λ m. maps.get m s) is ∙ get_remove live slot s ∙ ap (λ b. cond b None (maps.get live s)) (eq-eqb s slot e)
+
+      removed : (f : Option Clause → ℕ) → f None ≡ 0 → (b : Bool) → f (Some c) ≡ cond b 1 0 → (s n : ℕ) → n + cond {A = ℕ} (b && eqb s slot) 1 0 ≡ f (maps.get live s) → n ≡ f (maps.get after s)
+      removed f zero b one s n was = elim (cases_eq s slot) [
+        | inl e ↦
+            let now = ap f (gone s e) ∙ zero in
+            let before = ap (λ k. f (maps.get live k)) e ∙ ap f there ∙ one in
+            let test = ap (λ t. cond {A = ℕ} (b && t) 1 0) (eq-eqb s slot e) ∙ and_true b in
+            omega (arith, now, before, test, was)
+        | inr ne ↦
+            let now = ap f (others s ne) in
+            let test = ap (λ t. cond {A = ℕ} (b && t) 1 0) (ne_eqb s slot ne) ∙ and_false b in
+            omega (arith, now, was, test)
+      ]
+
+-- what is seen, field by field
+pub same_state : (live live2 : FinMap nat_cmp Clause) (assumptions assumptions2 : List Assumption) (stored stored2 : ℕ) (has_refused : Bool) → live ≡ live2 → assumptions ≡ assumptions2 → stored ≡ stored2 →
+    ◌≡◌ {A = Propagation} (record { live = live; assumptions = assumptions; stored = stored; has_refused = has_refused }) (record { live = live2; assumptions = assumptions2; stored = stored2; has_refused = has_refused })
+same_state live live2 assumptions assumptions2 stored stored2 has_refused p q r = λ i. record { live = p i; assumptions = q i; stored = r i; has_refused = has_refused }

@@ -1,0 +1,53 @@
+-- What a look at a clause says of it.
+use Rattle.std.proofs.Common.{◌≡◌, ◌≢◌, ℕ, zero, suc, ◌-◌, ◌<◌, ◌≤◌, true, false, cond, List, [], ◌∷◌, length, get_or, sym, ap, ◌∙◌, arith, inl, inr}
+use Rattle.std.proofs.lemmas.Grind.{get_or_default_zero}
+use Rattle.std.proofs.lemmas.Bool.{false_from_ne_true, cases_eq, cases_lt, true≢false}
+use Rattle.cnf_base.specs.Literals.{Literal, complement, Clause, has}
+use Rattle.cnf_base.proofs.LiteralLemmas.{complement-complement}
+use Rattle.cnf_base.proofs.SetLemmas.{has_head}
+use Rattle.clause_db.specs.Store.Clauses.{size}
+use Rattle.propagation.specs.Trail.{value_under, HasNoVariableTwice}
+use Rattle.watch.specs.Watched.{HasPartner}
+use Rattle.propagation.specs.declared.value.Value.{Value}
+use Rattle.propagation.specs.declared.value.Value.TheVariants.{True, False, Open}
+use Rattle.propagation.proofs.MemberLemmas.{place_of, has_place}
+use Rattle.propagation.proofs.PropagationLemmas.Truth.{consistent}
+use Rattle.clause_db.proofs.StoreLemmas.Distinct.{distinct_parts}
+
+-- a literal whose value isn't false isn't false
+pub not_false : (trues : List Literal) → HasNoVariableTwice trues → (m : Literal) (v : Value) → v ≡ value_under trues m → (v ≡ False → ⊥) → has trues (complement m) ≡ false
+not_false trues apart m v is ne = false_from_ne_true (has trues (complement m)) (λ h.
+    let open_m : has trues m ≡ false = ap (has trues) (sym (complement-complement m)) ∙ consistent trues apart (complement m) h in
+    ne (is ∙ ap (λ b. cond b True (cond (has trues (complement m)) False Open)) open_m ∙ ap (λ b. cond b False Open) h))
+
+module _ (trues : List Literal) (c : Clause) (l : Literal) (from : ℕ) (inside : from < 2) (long : 2 ≤ length c) (there : get_or c from 0 ≡ l) (m : Literal) (read : m ≡ get_or c (1 - from) m)
+    (l_false : has trues (complement l) ≡ true) (rest : (k : ℕ) → 2 ≤ k → k < length c → has trues (complement (get_or c k 0)) ≡ true) where
+  m_is : m ≡ get_or c (1 - from) 0
+  m_is = read ∙ get_or_default_zero c (1 - from) m (omega (arith, inside, long))
+
+  pub others_false : (k : Literal) → has c k ≡ true → k ≢ m → has trues (complement k) ≡ true
+  others_false k member other =
+      let w = place_of c k member in
+      elim (cases_eq w.0 from) [
+        | inl e ↦ ap (λ x. has trues (complement x)) (sym w.2 ∙ ap (λ i. get_or c i 0) e ∙ there) ∙ l_false
+        | inr ne ↦ elim (cases_lt w.0 2) [
+          | inl low ↦ absurd (other (sym w.2 ∙ ap (λ i. get_or c i 0) (let same : w.0 ≡ 1 - from = omega arith in same) ∙ sym m_is))
+          | inr past ↦ ap (λ x. has trues (complement x)) (sym w.2) ∙ rest w.0 past w.1
+        ]
+      ]
+
+  pub each_false : has trues (complement m) ≡ true → (k : Literal) → has c k ≡ true → has trues (complement k) ≡ true
+  each_false h k member = elim (cases_eq k m) [ inl e ↦ ap (λ x. has trues (complement x)) e ∙ h | inr ne ↦ others_false k member ne ]
+
+  pub other_member : has c m ≡ true
+  other_member = ap (has c) m_is ∙ has_place c (1 - from) (omega (arith, inside, long))
+
+-- the other watched literal, where it becomes true
+pub partner_made : (trues : List Literal) (c : Clause) (l : Literal) (from : ℕ) → from < 2 → 2 ≤ length c → size c ≡ length c → get_or c from 0 ≡ l → (m : Literal) → m ≡ get_or c (1 - from) m → HasPartner c l (m ∷ trues)
+partner_made trues [] l from inside long different there m m_is = tt
+partner_made trues (a ∷ []) l from inside long different there m m_is = tt
+partner_made trues (a ∷ b ∷ c) l zero inside long different there m m_is =
+    (λ _. ap (λ x. has (x ∷ trues) b) m_is ∙ has_head b trues, λ same. absurd (true≢false (sym (has_head b c) ∙ ap (has (b ∷ c)) (same ∙ sym there) ∙ (distinct_parts a (b ∷ c) different).0)))
+partner_made trues (a ∷ b ∷ c) l (suc zero) inside long different there m m_is =
+    (λ same. absurd (true≢false (sym (has_head b c) ∙ ap (has (b ∷ c)) (there ∙ sym same) ∙ (distinct_parts a (b ∷ c) different).0)), λ _. ap (λ x. has (x ∷ trues) a) m_is ∙ has_head a trues)
+partner_made trues (a ∷ b ∷ c) l (suc (suc from)) inside long different there m m_is = absurd (omega (arith, inside))

@@ -1,0 +1,19 @@
+use Rattle.std.proofs.Common.{sym, ap, ◌∙◌}
+use Rattle.std.specs.FinMap as maps
+use Rattle.watch.proofs.WatchLemmas.Arrange.{brought, not_brought}
+use Rattle.watch.proofs.WatchLemmas.Moves.{others_moved}
+use Rattle.watch.proofs.arrange.bring.Goals as goal
+
+pub returns-in-Some-clause-others : goal.returns-in-Some-clause-others
+returns-in-Some-clause-others c s ne =
+    ap (λ m. maps.get m s) (c.swap.ensures.live c.clause.result.now (sym c.clause.ensures.clause)) ∙ others_moved c.args.store.now.live c.args.slot _ s ne
+
+pub returns-in-Some-clause-brought : goal.returns-in-Some-clause-brought
+returns-in-Some-clause-brought c =
+    let here = sym c.clause.ensures.clause in
+    let e = c.in-Some.ensures.found in
+    brought c.args.store.now.live c.args.slot c.args.trail.now.lits c.args.place c.clause.result.now here c.swap.new.self.live c.in-Some.found e.0 e.1 e.2 (c.swap.ensures.live c.clause.result.now here)
+
+pub returns-in-None-clause-brought : goal.returns-in-None-clause-brought
+returns-in-None-clause-brought c =
+    not_brought c.args.store.now.live c.args.slot c.args.trail.now.lits c.args.place c.clause.result.now (sym c.clause.ensures.clause) c.in-None.ensures.none

@@ -1,0 +1,43 @@
+use Rattle.std.proofs.Common.{◌≡◌, true, false, IfSome, IfNone, sym, subst}
+use Rattle.std.specs.FinMap as maps
+use Rattle.tables.specs.Table.{at}
+use Rattle.propagation.specs.Forced.{Clash, IsClosed}
+use Rattle.cnf_base.specs.Literals.{Literal, has}
+use Rattle.propagation.specs.Trail.{conflicts}
+use Rattle.watch.specs.Order.{each_in_order}
+use Rattle.watch.specs.Roots.{IsFalseAt}
+use Rattle.watch.specs.Watched.{IsWatched}
+use Rattle.propagation.proofs.PropagationLemmas.Passes.{has_begun}
+use Rattle.watch.proofs.WatchLemmas.Carries.{clash_from}
+use Rattle.watch.proofs.WatchLemmas.Closed.{all_closed, all_quiet, units_carried}
+use Rattle.watch.proofs.WatchLemmas.Units.{unit_more}
+use Rattle.watch.proofs.run.run.Goals as goal
+
+pub returns-in-Some-clause-answer : goal.returns-in-Some-clause-answer
+returns-in-Some-clause-answer c =
+    clash_from c.args.store.now.live c.propagate.new.store.live c.args.assumptions.now c.propagate.new.assumptions (at c.args.reasons.now) (at c.propagate.new.reasons) c.propagate.ensures.carries c.in-Some.field-0
+    (subst (λ o. IfSome o (λ s. IsFalseAt (maps.get (each_in_order c.propagate.new.store.live)) s c.propagate.new.assumptions.trail.lits)) c.in-Some.is c.in_ok-found.ensures.clash)
+
+pub returns-in-None-clause-answer : goal.returns-in-None-clause-answer
+returns-in-None-clause-answer c = λ clash.
+    let held = c.args.assumptions.now in
+    let after = c.propagate.new.store.live in
+    let trues = c.propagate.new.assumptions.trail.lits in
+    let e = c.propagate.ensures.carries in
+    let more : (l : Literal) → has held.trail.lits l ≡ true → has trues l ≡ true = λ l h. has_begun held.trail.lits trues l e.extends.begins h in
+    let units = units_carried c.args.store.now.live after trues e.same e.short (λ s d is. unit_more d held.trail.lits trues more (c.requires.units s d is)) in
+    let watched = subst (λ o. IfNone o (IsWatched (maps.get after) trues trues)) c.in-None.is c.in_ok-found.ensures.watched in
+    let quiet = subst (λ o. IfNone o (conflicts trues ≡ false)) c.in-None.is c.in_ok-found.ensures.quiet in
+    all_quiet after trues c.is_sound.ensures.different units watched quiet held.trail.lits more (subst (λ m. Clash (maps.get m) held.trail.lits) (sym e.same) clash)
+
+pub returns-in-None-clause-closed : goal.returns-in-None-clause-closed
+returns-in-None-clause-closed c = λ _.
+    let held = c.args.assumptions.now in
+    let after = c.propagate.new.store.live in
+    let trues = c.propagate.new.assumptions.trail.lits in
+    let e = c.propagate.ensures.carries in
+    let more : (l : Literal) → has held.trail.lits l ≡ true → has trues l ≡ true = λ l h. has_begun held.trail.lits trues l e.extends.begins h in
+    let units = units_carried c.args.store.now.live after trues e.same e.short (λ s d is. unit_more d held.trail.lits trues more (c.requires.units s d is)) in
+    let watched = subst (λ o. IfNone o (IsWatched (maps.get after) trues trues)) c.in-None.is c.in_ok-found.ensures.watched in
+    let quiet = subst (λ o. IfNone o (conflicts trues ≡ false)) c.in-None.is c.in_ok-found.ensures.quiet in
+    subst (λ m. IsClosed (maps.get m) (λ l. has trues l)) e.same (all_closed after trues c.is_sound.ensures.different units watched quiet)

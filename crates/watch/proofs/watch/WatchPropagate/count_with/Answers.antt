@@ -1,0 +1,18 @@
+use Rattle.std.proofs.Common.{sym, ap, ◌∙◌}
+use Rattle.clause_db.specs.Store.Clauses.{copies_with}
+use Rattle.propagation.proofs.PropagationLemmas.Counts.{none_with, some_with}
+use Rattle.watch.proofs.WatchLemmas.Order.{copies_ordered}
+use Rattle.watch.proofs.watch.WatchPropagate.count_with.Goals as goal
+
+pub returns-clause-value : goal.returns-clause-value
+returns-clause-value c =
+    c.count_with.ensures ∙ sym (copies_ordered c.self.inside.store.live c.args.l) ∙ ap (λ w. copies_with w.propagation.live c.args.l) c.self.view_is
+
+pub returns-clause-none : goal.returns-clause-none
+returns-clause-none c none =
+    none_with c.args.self.now.propagation.live c.args.l (sym (ap (λ w. copies_with w.propagation.live c.args.l) c.self.view_is) ∙ copies_ordered c.self.inside.store.live c.args.l ∙ sym c.count_with.ensures ∙ none)
+
+pub returns-clause-some : goal.returns-clause-some
+returns-clause-some c some =
+    some_with c.args.self.now.propagation.live c.args.l
+    (λ zero. some (c.count_with.ensures ∙ sym (copies_ordered c.self.inside.store.live c.args.l) ∙ ap (λ w. copies_with w.propagation.live c.args.l) c.self.view_is ∙ zero))

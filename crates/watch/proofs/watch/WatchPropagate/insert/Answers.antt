@@ -1,0 +1,148 @@
+use Rattle.std.proofs.Common.{◌≡◌, ◌≢◌, ℕ, ◌/◌, option_map, is_some, sym, ap, subst, ◌∙◌, arith}
+use Rattle.std.specs.FinMap as maps
+use Rattle.std.proofs.lemmas.Bool.{false_from_ne_true}
+use Rattle.cnf_base.specs.Literals.{has}
+use Rattle.cnf_base.proofs.SetLemmas.{same_from, same_there, same_trans}
+use Rattle.watch.specs.Order.{each_in_order, in_order}
+use Rattle.watch.specs.Roots.{IsArranged, IsKept}
+use Rattle.watch.specs.State.{IsWatch}
+use Rattle.std.proofs.lemmas.Option.{same_Some}
+use Rattle.watch.specs.Watched.{short_for}
+use Rattle.clause_db.specs.Store.Clauses.{literals_in}
+use Rattle.propagation.proofs.PropagationLemmas.Scan.{room_added}
+use Rattle.watch.proofs.WatchLemmas.Follow.{times_has}
+use Rattle.watch.proofs.WatchLemmas.Order.{get_ordered, inserted_is, literals_ordered, removed_back, same-in_order, seen_there}
+use Rattle.watch.proofs.WatchLemmas.State.{alone_kept, same_state, watch_added, watch_noted, watch_reserved, watch_same}
+use Rattle.watch.proofs.watch.WatchPropagate.insert.Goals as goal
+
+pub arrange-left-requires : goal.arrange-left-requires
+arrange-left-requires c = record { alive = ap is_some c.in_ok-slot.ensures.stored.1 }
+
+pub add_entries-requires-clause-alive : goal.add_entries-requires-clause-alive
+add_entries-requires-clause-alive c =
+    let d = c.in_ok-slot.ensures.stored in
+    let e = c.arrange-left.ensures.arranged d.0 d.1 in
+    ap is_some e.1
+
+pub add_entries-requires-clause-absent : goal.add_entries-requires-clause-absent
+add_entries-requires-clause-absent c =
+    let i = c.self.inside in
+    let slot = c.in_ok-slot.slot in
+    let none = c.self.invariant.0.rest.listed slot ∙ ap short_for c.in_ok-slot.ensures.free in
+    false_from_ne_true (has i.short slot) (λ h. let some = times_has i.short slot h in omega (arith, none, some))
+
+pub enter-requires-clause-kept : goal.enter-requires-clause-kept
+enter-requires-clause-kept c =
+    let i = c.self.inside in
+    let live = i.store.live in
+    let r = c.reserve.ensures in
+    let watch = watch_noted live i.lists i.short i.roots c.reserve-2.new.self c.reserve.new.self c.reserve-2.ensures.kept c.reserve-2.ensures.old (watch_reserved live i.lists i.short i.roots i.assumptions c.reserve.new.self r.lits r.assumptions r.starts r.met c.self.invariant.0) in
+    subst (λ m. IsKept m c.reserve-2.new.self c.reserve.new.self.trail.lits)
+    (sym (removed_back live c.arrange-left.new.store.live c.in_ok-slot.slot c.in_ok-slot.ensures.free (λ s ne. c.arrange-left.ensures.others s ne ∙ c.in_ok-slot.ensures.others s ne)))
+    (alone_kept live i.lists i.short c.reserve-2.new.self c.reserve.new.self watch (r.assumptions ∙ ap (λ w. w.propagation.assumptions) c.self.view_is ∙ c.requires))
+
+pub enter-requires-clause-reasons : goal.enter-requires-clause-reasons
+enter-requires-clause-reasons c clause here l member =
+    let d = c.in_ok-slot.ensures.stored in
+    let e = c.arrange-left.ensures.arranged d.0 d.1 in
+    c.in_ok-reserve-2.ensures.room l (same_there d.0 c.args.lits.now d.2 l (sym (e.2 l) ∙ ap (λ x. has x l) (same_Some e.0 clause (sym e.1 ∙ here)) ∙ member))
+
+pub enter-requires-clause-room : goal.enter-requires-clause-room
+enter-requires-clause-room c clause here l member =
+    let d = c.in_ok-slot.ensures.stored in
+    let e = c.arrange-left.ensures.arranged d.0 d.1 in
+    c.in_ok-reserve.ensures.room l (same_there d.0 c.args.lits.now d.2 l (sym (e.2 l) ∙ ap (λ x. has x l) (same_Some e.0 clause (sym e.1 ∙ here)) ∙ member))
+
+pub enter-requires-clause-arranged : goal.enter-requires-clause-arranged
+enter-requires-clause-arranged c clause here =
+    let d = c.in_ok-slot.ensures.stored in
+    let e = c.arrange-left.ensures.arranged d.0 d.1 in
+    subst (λ t. IsArranged t.lits clause c.arrange-left.result) c.trail.ensures (subst (λ x. IsArranged c.trail.result.now.lits x c.arrange-left.result) (same_Some e.0 clause (sym e.1 ∙ here)) e.3)
+
+pub invariant_of-self-in-Ok : goal.invariant_of-self-in-Ok
+invariant_of-self-in-Ok c =
+    let i = c.self.inside in
+    let live = i.store.live in
+    let after = c.arrange-left.new.store.live in
+    let slot = c.in_ok-slot.slot in
+    let held = c.reserve.new.self in
+    let now = c.enter.new.assumptions in
+    let r = c.reserve.ensures in
+    let watch = watch_noted live i.lists i.short i.roots c.reserve-2.new.self held c.reserve-2.ensures.kept c.reserve-2.ensures.old (watch_reserved live i.lists i.short i.roots i.assumptions held r.lits r.assumptions r.starts r.met c.self.invariant.0) in
+    let d = c.in_ok-slot.ensures.stored in
+    let w = c.arrange-left.ensures.arranged d.0 d.1 in
+    let e = c.in-Ok.ensures in
+    let n = c.enter.ensures in
+    let others : (s : ℕ) → s ≢ slot → maps.get after s ≡ maps.get live s = λ s ne. c.arrange-left.ensures.others s ne ∙ c.in_ok-slot.ensures.others s ne in
+    let is_same = same_trans (in_order w.0) w.0 c.args.lits.now (same-in_order w.0) (same_trans w.0 d.0 c.args.lits.now (same_from w.0 d.0 (λ l g. sym (w.2 l) ∙ g) (λ l g. w.2 l ∙ g)) d.2) in
+    let room = room_added held.trail.met (each_in_order live) (each_in_order after) slot c.args.lits.now watch.scan.room c.in_ok-reserve.ensures.room
+    (in_order w.0, seen_there after slot w.0 w.1, is_same) (λ s ne. get_ordered after s ∙ ap (option_map in_order) (others s ne) ∙ sym (get_ordered live s)) in (
+      watch_added live after i.lists c.add_entries.new.lists i.short c.add_entries.new.short c.reserve-2.new.self c.enter.new.self held now watch (n.assumptions ∙ r.assumptions ∙ ap (λ w. w.propagation.assumptions) c.self.view_is ∙ c.requires)
+          slot w.0 (e.different w.0 w.1) e.apart (record { each = λ k x here l member. n.met (l / 2) ∙ room.each k x here l member }) n.kept
+          c.in_ok-slot.ensures.free (inserted_is live after slot w.0 w.1 others) e.low (e.watched w.0 w.1) (e.rest w.0 w.1) (e.more w.0 w.1) (e.longer w.0 w.1),
+      c.arrange-left.ensures.live_alone ∙ sym (literals_ordered after),
+    )
+
+pub invariant_of-self-in-Err : goal.invariant_of-self-in-Err
+invariant_of-self-in-Err c =
+    let i = c.self.inside in
+    let live = i.store.live in
+    let held = c.reserve.new.self in
+    let roots = c.reserve-2.new.self in
+    let r = c.reserve.ensures in
+    let watch = watch_noted live i.lists i.short i.roots roots held c.reserve-2.ensures.kept c.reserve-2.ensures.old (watch_reserved live i.lists i.short i.roots i.assumptions held r.lits r.assumptions r.starts r.met c.self.invariant.0) in
+    let e = c.in-Err.ensures in
+    let back = c.remove.ensures.live ∙ removed_back live c.arrange-left.new.store.live c.in_ok-slot.slot c.in_ok-slot.ensures.free (λ s ne. c.arrange-left.ensures.others s ne ∙ c.in_ok-slot.ensures.others s ne) in (
+      subst (λ m. IsWatch m c.add_entries.new.lists c.add_entries.new.short roots held) (sym back)
+          (subst (λ xs. IsWatch live c.add_entries.new.lists xs roots held) (sym e.err_rest) (watch_same live i.lists c.add_entries.new.lists i.short roots held e.apart e.err_watched e.err_entries watch)),
+      c.remove.ensures.live_alone ∙ sym (literals_ordered c.remove.new.self.live),
+    )
+
+pub returns-in-Ok-clause-free : goal.returns-in-Ok-clause-free
+returns-in-Ok-clause-free c =
+    ap (λ w. maps.get w.propagation.live c.in_ok-slot.slot) (sym c.self.view_is) ∙ get_ordered c.self.inside.store.live c.in_ok-slot.slot ∙ ap (option_map in_order) c.in_ok-slot.ensures.free
+
+pub returns-in-Ok-clause-stored : goal.returns-in-Ok-clause-stored
+returns-in-Ok-clause-stored c =
+    let d = c.in_ok-slot.ensures.stored in
+    let w = c.arrange-left.ensures.arranged d.0 d.1 in (
+      in_order w.0,
+      seen_there c.arrange-left.new.store.live c.in_ok-slot.slot w.0 w.1,
+      same_trans (in_order w.0) w.0 c.args.lits.now (same-in_order w.0) (same_trans w.0 d.0 c.args.lits.now (same_from w.0 d.0 (λ l g. sym (w.2 l) ∙ g) (λ l g. w.2 l ∙ g)) d.2),
+    )
+
+pub returns-in-Ok-clause-others : goal.returns-in-Ok-clause-others
+returns-in-Ok-clause-others c s apart =
+    get_ordered c.arrange-left.new.store.live s ∙ ap (option_map in_order) (c.arrange-left.ensures.others s apart ∙ c.in_ok-slot.ensures.others s apart) ∙ sym (get_ordered c.self.inside.store.live s)
+    ∙ ap (λ w. maps.get w.propagation.live s) c.self.view_is
+
+pub returns-in-Ok-clause-live_alone : goal.returns-in-Ok-clause-live_alone
+returns-in-Ok-clause-live_alone c = c.arrange-left.ensures.live_alone ∙ sym (literals_ordered c.arrange-left.new.store.live)
+
+pub returns-in-Err-clause-live_alone : goal.returns-in-Err-clause-live_alone
+returns-in-Err-clause-live_alone c = c.remove.ensures.live_alone ∙ sym (literals_ordered c.remove.new.self.live)
+
+pub returns-in-Err-clause-err : goal.returns-in-Err-clause-err
+returns-in-Err-clause-err c =
+    let i = c.self.inside in
+    let live = i.store.live in
+    let back = c.remove.ensures.live ∙ removed_back live c.arrange-left.new.store.live c.in_ok-slot.slot c.in_ok-slot.ensures.free (λ s ne. c.arrange-left.ensures.others s ne ∙ c.in_ok-slot.ensures.others s ne) in
+    let stored = c.remove.ensures.live_alone ∙ ap literals_in back ∙ sym (literals_ordered live) ∙ sym c.self.invariant.1 in
+    same_state (each_in_order c.remove.new.self.live) (each_in_order live) _ _ _ _ i.has_refused (ap each_in_order back) c.reserve.ensures.assumptions stored ∙ ap (λ w. w.propagation) c.self.view_is
+
+pub invariant_of-self-in_err-reserve-2 : goal.invariant_of-self-in_err-reserve-2
+invariant_of-self-in_err-reserve-2 c =
+    let i = c.self.inside in
+    let r = c.reserve.ensures in (
+      watch_noted i.store.live i.lists i.short i.roots c.reserve-2.new.self c.reserve.new.self c.reserve-2.ensures.kept c.reserve-2.ensures.old
+          (watch_reserved i.store.live i.lists i.short i.roots i.assumptions c.reserve.new.self r.lits r.assumptions r.starts r.met c.self.invariant.0),
+      c.self.invariant.1,
+    )
+
+pub invariant_of-self-in_err-slot : goal.invariant_of-self-in_err-slot
+invariant_of-self-in_err-slot c =
+    let i = c.self.inside in
+    let r = c.reserve.ensures in
+    let watch = watch_noted i.store.live i.lists i.short i.roots c.reserve-2.new.self c.reserve.new.self c.reserve-2.ensures.kept c.reserve-2.ensures.old
+    (watch_reserved i.store.live i.lists i.short i.roots i.assumptions c.reserve.new.self r.lits r.assumptions r.starts r.met c.self.invariant.0) in
+    subst (λ s. IsWatch s.live i.lists i.short c.reserve-2.new.self c.reserve.new.self × (s.stored ≡ literals_in (each_in_order s.live))) (sym c.in_err-slot.ensures.err) (watch, c.self.invariant.1)

@@ -1,0 +1,52 @@
+use Rattle.std.proofs.Common.{◌/◌, is_some, sym, ap, ◌∙◌, subst}
+use Rattle.std.specs.FinMap as maps
+use Rattle.watch.specs.Order.{each_in_order}
+use Rattle.watch.specs.Roots.{IsKept}
+use Rattle.propagation.proofs.PropagationLemmas.Scan.{room_removed}
+use Rattle.watch.proofs.WatchLemmas.Order.{alive_alike, alive_clause, literals_ordered, ordered_remove}
+use Rattle.watch.proofs.WatchLemmas.State.{alone_kept, watch_removed}
+use Rattle.watch.proofs.watch.WatchPropagate.remove.Goals as goal
+
+pub remove_entries-requires-clause-alive : goal.remove_entries-requires-clause-alive
+remove_entries-requires-clause-alive c =
+    sym (alive_alike c.self.inside.store.live c.args.slot) ∙ ap (λ w. is_some (maps.get w.propagation.live c.args.slot)) c.self.view_is ∙ c.requires.alive
+
+pub remove-requires : goal.remove-requires
+remove-requires c =
+    sym (alive_alike c.self.inside.store.live c.args.slot) ∙ ap (λ w. is_some (maps.get w.propagation.live c.args.slot)) c.self.view_is ∙ c.requires.alive
+
+pub leave-requires-clause-alive : goal.leave-requires-clause-alive
+leave-requires-clause-alive c =
+    sym (alive_alike c.self.inside.store.live c.args.slot) ∙ ap (λ w. is_some (maps.get w.propagation.live c.args.slot)) c.self.view_is ∙ c.requires.alive
+
+pub leave-requires-clause-kept : goal.leave-requires-clause-kept
+leave-requires-clause-kept c =
+    let i = c.self.inside in
+    alone_kept i.store.live i.lists i.short i.roots i.assumptions c.self.invariant.0 (ap (λ w. w.propagation.assumptions) c.self.view_is ∙ c.requires.nothing_assumed)
+
+pub invariant_of-self : goal.invariant_of-self
+invariant_of-self c =
+    let i = c.self.inside in
+    let live = i.store.live in
+    let after = c.remove.new.self.live in
+    let slot = c.args.slot in
+    let watch = c.self.invariant.0 in
+    let left = c.leave.ensures in
+    let held = c.leave.new.assumptions in
+    let e = c.remove_entries.ensures in
+    let d = alive_clause live slot (sym (alive_alike live slot) ∙ ap (λ w. is_some (maps.get w.propagation.live slot)) c.self.view_is ∙ c.requires.alive) in
+    let gone = ap each_in_order c.remove.ensures.live ∙ ordered_remove live slot in
+    let room = room_removed i.assumptions.trail.met (each_in_order live) (each_in_order after) slot gone watch.scan.room in (
+      watch_removed live after i.lists c.remove_entries.new.lists i.short c.remove_entries.new.short i.roots c.leave.new.self i.assumptions held watch left.assumptions
+          slot d.0 (e.different d.0 d.1) e.apart (record { each = λ k x here l member. left.met (l / 2) ∙ room.each k x here l member })
+          (subst (λ m. IsKept m c.leave.new.self held.trail.lits) (sym c.remove.ensures.live) left.kept)
+          d.1 c.remove.ensures.live (e.watched d.0 d.1) (e.rest d.0 d.1) (e.fewer d.0 d.1) (e.shorter d.0 d.1),
+      c.remove.ensures.live_alone ∙ sym (literals_ordered after),
+    )
+
+pub returns-clause-live : goal.returns-clause-live
+returns-clause-live c =
+    ap each_in_order c.remove.ensures.live ∙ ordered_remove c.self.inside.store.live c.args.slot ∙ ap (λ w. maps.remove w.propagation.live c.args.slot) c.self.view_is
+
+pub returns-clause-live_alone : goal.returns-clause-live_alone
+returns-clause-live_alone c = c.remove.ensures.live_alone ∙ sym (literals_ordered c.remove.new.self.live)

@@ -1,0 +1,71 @@
+use Rattle.std.proofs.Common.{[], refl, ◌++◌, filter, take, length, sym, ◌∙◌, ap, subst}
+use Rattle.std.specs.Bool.{OnFalse}
+use Rattle.std.specs.FinMap as maps
+use Rattle.cnf_base.specs.Literals.{complements, has}
+use Rattle.propagation.specs.Assumptions.{assumed_by, roots_in}
+use Rattle.propagation.specs.Exact.{IsExact}
+use Rattle.propagation.specs.Trail.{SameSet}
+use Rattle.watch.specs.Order.{each_in_order}
+use Rattle.watch.specs.Roots.{AreForced}
+use Rattle.watch.specs.Source.{clause_of}
+use Rattle.propagation.proofs.PropagationLemmas.Scan.{part_clashes, part_answer, part_exact, scan_after}
+use Rattle.propagation.proofs.PropagationLemmas.Exact.{begins_on, longer_from}
+use Rattle.propagation.proofs.PropagationLemmas.Forced.{clash_through}
+use Rattle.watch.proofs.WatchLemmas.Kept.{kept_clash, kept_forced}
+use Rattle.std.proofs.lemmas.Bool.{false≢true}
+use Rattle.watch.proofs.WatchLemmas.State.{watch_answered, watch_undone}
+use Rattle.watch.proofs.watch.assume_part.Goals as goal
+
+pub returns-then-branch-clause-answer : goal.returns-then-branch-clause-answer
+returns-then-branch-clause-answer g c =
+    part_clashes (each_in_order c.args.store.now.live) (AreForced (maps.get (each_in_order c.args.store.now.live))) (λ ls forced. forced) c.args.assumptions.now c.assume_from.new.assumptions (complements (filter (g.P.Part.keeps c.args.part.now) (clause_of c.args.store.now.live c.args.source.now)))
+    c.requires.may c.requires.watch.scan (sym c.in_ok-assume_from.ensures.conflict ∙ c.if-branch.true)
+
+pub returns-in-Ok-clause-answer : goal.returns-in-Ok-clause-answer
+returns-in-Ok-clause-answer g c =
+    let added = complements (filter (g.P.Part.keeps c.args.part.now) (clause_of c.args.store.now.live c.args.source.now)) in
+    part_answer (each_in_order c.args.store.now.live) (AreForced (maps.get (each_in_order c.args.store.now.live))) (λ ls forced. forced) c.args.assumptions.now c.assume_from.new.assumptions added c.requires.may c.requires.watch.scan
+    (subst (λ b. OnFalse b (SameSet c.assume_from.new.assumptions.trail.lits (c.args.assumptions.now.trail.lits ++ added))) c.if-branch.false c.in_ok-assume_from.ensures.added)
+    c.in-Ok.answer c.in-Ok.ensures.answer
+
+pub returns-in-Ok-clause-watch : goal.returns-in-Ok-clause-watch
+returns-in-Ok-clause-watch g c =
+    let live = c.args.store.now.live in
+    let before = c.args.assumptions.now in
+    let after = c.assume_from.new.assumptions in
+    let found = c.run.new.assumptions in
+    let last = c.answer.new.self in
+    let answer = c.in-Ok.answer in
+    let added = complements (filter (g.P.Part.keeps c.args.part.now) (clause_of live c.args.source.now)) in
+    let e = c.in_ok-assume_from.ensures in
+    let p = c.in-Ok.ensures in
+    let extends = p.carries.extends in
+    let all = e.assumed.0 in
+    let same = subst (λ b. OnFalse b (SameSet after.trail.lits (before.trail.lits ++ added))) c.if-branch.false e.added in
+    let alike = subst (λ b. OnFalse b (SameSet all (assumed_by before.assumptions ++ added))) c.if-branch.false e.assumed.2 in
+    let stand = c.answer.ensures.assumptions _ _ (extends.assumptions ∙ e.assumed.1) in
+    let starts = c.answer.ensures.starts ∙ extends.starts ∙ e.starts in
+    let begins = begins_on before.trail.lits after.trail.lits found.trail.lits e.begins (longer_from before.trail.lits after.trail.lits e.begins) extends.begins in
+    watch_answered live c.run.new.store.live c.args.lists.now c.run.new.lists c.args.short.now c.args.roots.now _ before after found c.requires.watch p.carries refl p.apart p.listed p.entries e.begins c.requires.up_to_date last answer all c.answer.ensures.trail stand starts p.watched
+    (scan_after (each_in_order live) (AreForced (maps.get (each_in_order live))) (λ ls forced. forced) before after added c.requires.may c.requires.watch.scan last answer all stand starts
+    (ap (λ t. take (length before.trail.lits) t.lits) c.answer.ensures.trail ∙ begins) (λ v. ap (λ t. has t.met v) c.answer.ensures.trail ∙ extends.met v ∙ e.met v)
+    (λ quiet. subst (λ t. IsExact (maps.get (each_in_order live)) all t.lits) (sym c.answer.ensures.trail)
+    (part_exact (each_in_order live) (AreForced (maps.get (each_in_order live))) (λ ls forced. forced) before after added c.requires.may c.requires.watch.scan same all found.trail.lits alike extends.begins p.carries.sound (p.closed quiet))))
+
+pub returns-in-Err-clause-watch : goal.returns-in-Err-clause-watch
+returns-in-Err-clause-watch g c =
+    let e = c.in_ok-assume_from.ensures in
+    let p = c.in-Err.ensures in
+    let extends = p.carries.extends in
+    let u = c.undo.ensures in
+    watch_undone c.args.store.now.live c.run.new.store.live c.args.lists.now c.run.new.lists c.args.short.now c.args.roots.now _ c.args.assumptions.now c.assume_from.new.assumptions c.run.new.assumptions c.requires.watch p.carries refl p.apart p.listed p.entries e.begins
+    c.undo.new.self _ (extends.assumptions ∙ e.assumed.1) (extends.starts ∙ e.starts) u.assumptions u.starts u.lits (λ v. u.met v ∙ extends.met v ∙ e.met v)
+
+pub returns-then-has_clash-clause-answer : goal.returns-then-has_clash-clause-answer
+returns-then-has_clash-clause-answer g c =
+    let live = c.args.store.now.live in
+    let held = c.args.assumptions.now in
+    let roots = c.args.roots.now in
+    let lits = roots_in held.trail.lits held.assumptions held.starts in
+    let kept = c.requires.watch.kept in
+    clash_through (maps.get (each_in_order live)) [] _ (λ a h. absurd (false≢true h)) (kept_clash live roots.kept lits (sym c.has_clash.ensures ∙ c.if-has_clash.true) (kept_forced live roots lits kept) kept.known)

@@ -1,0 +1,57 @@
+-- What visits of clauses do.
+use Rattle.std.specs.Prelude.{◌≡◌, ◌≢◌, ℕ, ◌<◌, ◌≤◌, ◌==◌, ◌∷◌, List, [], Option, length, slice_index, if◌then◌else◌, IsTrue, IsFalse, IsSome}
+use Rattle.std.specs.Ordering.{nat_cmp}
+use Rattle.std.specs.FinMap as maps
+use Rattle.std.specs.FinMap.{FinMap}
+use Rattle.cnf_base.specs.Literals.{Literal, complement, Clause, has}
+use Rattle.tables.specs.Table.{at}
+use Rattle.propagation.specs.Forced.{Forced}
+use Rattle.propagation.specs.Assumptions.{AssumptionsState}
+use Rattle.propagation.specs.Exact.{Extends}
+use Rattle.watch.specs.Lists.{AreApart, list_at}
+use Rattle.watch.specs.Order.{each_in_order}
+use Rattle.watch.specs.Roots.{AreReasoned}
+use Rattle.watch.specs.Watched.{HasPartner, IsWatched, short_for}
+use Rattle.watch.specs.declared.lists.WatchLists.{WatchLists}
+use Rattle.watch.specs.declared.visit.Visit.{Visit}
+use Rattle.watch.specs.declared.visit.Visit.TheVariants.{Stays, Moves, Unit, Clash}
+
+-- all its literals are in the other list
+abbrev pub IsPart : List Literal → List Literal → Type 0
+IsPart part whole = (l : Literal) → IsTrue (has part l) → IsTrue (has whole l)
+
+-- what is to be done with a clause that watches a literal which became false
+abbrev pub IsVisit : List Literal → Clause → Literal → Visit → Type 0
+IsVisit trues c l Stays = HasPartner c l trues
+IsVisit trues c l (Moves from to) =
+    (from < 2) × (slice_index c from ≡ l) × (2 ≤ to) × (to < length c)
+    × IsFalse (has trues (complement (slice_index c to)))
+IsVisit trues c l (Unit m) =
+    IsTrue (has c m) × IsFalse (has trues (complement m)) × HasPartner c l (m ∷ trues)
+    × ((k : Literal) → IsTrue (has c k) → k ≢ m → IsTrue (has trues (complement k)))
+IsVisit trues c l Clash = (k : Literal) → IsTrue (has c k) → IsTrue (has trues (complement k))
+
+-- the clauses are the same but for the order of their literals, what was watched still is, and more literals are true, all
+-- forced, each by a reason
+pub record Carries (before after : FinMap nat_cmp Clause) (held now : AssumptionsState) (reason_of reason_now : Literal → Option ℕ) : Type 0 where
+  pub same : each_in_order after ≡ each_in_order before
+  pub short : (s : ℕ) → short_for (maps.get after s) ≡ short_for (maps.get before s)
+  pub kept : (done trues : List Literal) → IsPart done held.trail.lits → IsPart trues held.trail.lits →
+      IsWatched (maps.get before) done trues → IsWatched (maps.get after) done trues
+  pub sound : (l : Literal) → IsTrue (has now.trail.lits l) →
+      Forced (maps.get (each_in_order before)) held.trail.lits l
+  pub extends : Extends held now
+  pub noted : (l : Literal) → IsSome (reason_of l) → IsSome (reason_now l)
+  pub as_before : (l : Literal) → IsTrue (has held.trail.lits l) → reason_now l ≡ reason_of l
+  pub reasoned : AreReasoned (maps.get (each_in_order before)) reason_of held.trail.lits →
+      AreReasoned (maps.get (each_in_order before)) reason_now now.trail.lits
+
+-- the list of the literal is in hand, and an empty one in its place
+pub record IsInHand (lists : WatchLists) (l : Literal) : Type 0 where
+  pub known : IsSome (at lists.numbers l)
+  pub taken : list_at lists l ≡ []
+  pub apart : AreApart lists
+
+-- the lists with the one that is in hand
+abbrev pub with_list : WatchLists → Literal → List ℕ → Literal → List ℕ
+with_list lists l list k = if k == l then list else list_at lists k

@@ -1,0 +1,51 @@
+//! Which two literals a clause watches at first.
+
+ghost use Rattle.std.specs.Prelude.{◌≡◌, ◌≢◌, ℕ, Some, IsSome};
+ghost use Rattle.std.specs.FinMap as maps;
+ghost use Rattle.cnf_base.specs.Literals.{Clause, Literal, has};
+ghost use Rattle.clause_db.specs.Store.Clauses.{literals_in};
+ghost use Rattle.watch.specs.Roots.{IsArranged, IsBrought};
+
+use crate::visit::open_place;
+use clause_db::{Slot, Store};
+use propagation::{Left, Trail};
+
+/// Brings a literal that is not false to this place, if there is one from it on. Tells whether there is.
+fn bring(store: &mut Store, trail: &Trail, slot: Slot, place: usize) -> bool
+    requires alive { IsSome (maps.get store.old.live slot) }
+    ensures others { (s : ℕ) → s ≢ slot →
+        maps.get store.new.live s ≡ maps.get store.old.live s }
+    ensures brought { (c : Clause) → maps.get store.old.live slot ≡ Some c → (d : Clause) ×
+        (maps.get store.new.live slot ≡ Some d) × IsBrought trail.now.lits c d place result }
+{
+    match open_place(trail, store.clause(slot), place) {
+        Some(found) => {
+            store.swap(slot, place, found);
+            true
+        }
+        None => false,
+    }
+}
+
+/// Puts literals of a clause that are not false first, two if there are, and tells what is left of it. It takes no memory.
+pub(crate) fn arrange(store: &mut Store, trail: &Trail, slot: Slot) -> Left
+    requires alive { IsSome (maps.get store.old.live slot) }
+    ensures others { (s : ℕ) → s ≢ slot →
+        maps.get store.new.live s ≡ maps.get store.old.live s }
+    ensures arranged { (c : Clause) → maps.get store.old.live slot ≡ Some c → (d : Clause) ×
+        (maps.get store.new.live slot ≡ Some d) × ((l : Literal) → has d l ≡ has c l)
+        × IsArranged trail.now.lits d result }
+    ensures live_alone { store.new.stored ≡ literals_in store.new.live }
+{
+    if !bring(store, trail, slot, 0) {
+        store.is_sound();
+        return Left::Nothing;
+    }
+    let is_more = bring(store, trail, slot, 1);
+    store.is_sound();
+    if is_more {
+        Left::More
+    } else {
+        Left::One(store.clause(slot)[0])
+    }
+}

@@ -1,0 +1,87 @@
+//! The entries of one clause in the lists.
+
+ghost use Rattle.std.specs.Prelude.{◌≡◌, ◌≢◌, ℕ, ◌+◌, ◌<◌, ◌==◌, ◌&&◌, Some, length, if◌then◌else◌, IsTrue, IsFalse, IsSome, OnOk, OnErr};
+ghost use Rattle.std.specs.FinMap as maps;
+ghost use Rattle.cnf_base.specs.Literals.{Clause, has};
+ghost use Rattle.clause_db.specs.Store.Clauses.{size};
+ghost use Rattle.watch.specs.Lists.{AreApart, entries_in, list_at, times_in};
+ghost use Rattle.watch.specs.Watched.{IsListed, IsShortList, is_short, watches};
+
+use crate::lists::WatchLists;
+use crate::slot_list::SlotList;
+use clause_db::{Slot, Store};
+use cnf_base::OutOfMemory;
+
+/// Puts the slot of a clause into the lists of its first two literals, or into that of the short clauses.
+pub(crate) fn add_entries(
+    store: &Store,
+    lists: &mut WatchLists,
+    short: &mut SlotList,
+    slot: Slot,
+) -> Result<(), OutOfMemory>
+    requires alive { IsSome (maps.get store.now.live slot) }
+    requires apart { AreApart lists.old }
+    requires absent { IsFalse (has short.old slot) }
+    ensures watched { OnOk result ((c : Clause) → maps.get store.now.live slot ≡ Some c →
+        (l s : ℕ) → times_in s (list_at lists.new l) ≡ times_in s (list_at lists.old l)
+        + (if watches c l && s == slot then 1 else 0)) }
+    ensures rest { OnOk result ((c : Clause) → maps.get store.now.live slot ≡ Some c →
+        (s : ℕ) → times_in s short.new ≡ times_in s short.old
+        + (if is_short c && s == slot then 1 else 0)) }
+    ensures more { OnOk result ((c : Clause) → maps.get store.now.live slot ≡ Some c →
+        entries_in lists.new ≡ entries_in lists.old + (if is_short c then 0 else 2)) }
+    ensures longer { OnOk result ((c : Clause) → maps.get store.now.live slot ≡ Some c →
+        length short.new ≡ length short.old + (if is_short c then 1 else 0)) }
+    ensures low { OnOk result (slot < 4294967296) }
+    ensures err_watched { OnErr result ((l s : ℕ) → times_in s (list_at lists.new l) ≡
+        times_in s (list_at lists.old l)) }
+    ensures err_entries { OnErr result (entries_in lists.new ≡ entries_in lists.old) }
+    ensures err_rest { OnErr result (short.new ≡ short.old) }
+    ensures different { OnOk result ((c : Clause) → maps.get store.now.live slot ≡ Some c →
+        size c ≡ length c) }
+    ensures apart { AreApart lists.new }
+{
+    let Ok(number) = u32::try_from(slot.number()) else {
+        return Err(OutOfMemory);
+    };
+    let clause = store.clause(slot);
+    if clause.len() < 2 {
+        short.add(number)
+    } else {
+        lists.watch(clause[0], clause[1], number)
+    }
+}
+
+/// Takes the slot of a clause out of all lists. It takes no memory.
+pub(crate) fn remove_entries(
+    store: &Store,
+    lists: &mut WatchLists,
+    short: &mut SlotList,
+    slot: Slot,
+)
+    requires alive { IsSome (maps.get store.now.live slot) }
+    requires apart { AreApart lists.old }
+    requires listed { IsListed (maps.get store.now.live) (list_at lists.old) }
+    requires rest { IsShortList (maps.get store.now.live) short.old }
+    ensures watched { (c : Clause) → maps.get store.now.live slot ≡ Some c →
+        (l s : ℕ) → times_in s (list_at lists.new l)
+        + (if watches c l && s == slot then 1 else 0) ≡ times_in s (list_at lists.old l) }
+    ensures rest { (c : Clause) → maps.get store.now.live slot ≡ Some c →
+        (s : ℕ) → times_in s short.new + (if is_short c && s == slot then 1 else 0) ≡
+        times_in s short.old }
+    ensures fewer { (c : Clause) → maps.get store.now.live slot ≡ Some c →
+        entries_in lists.new + (if is_short c then 0 else 2) ≡ entries_in lists.old }
+    ensures shorter { (c : Clause) → maps.get store.now.live slot ≡ Some c →
+        length short.new + (if is_short c then 1 else 0) ≡ length short.old }
+    ensures different { (c : Clause) → maps.get store.now.live slot ≡ Some c →
+        size c ≡ length c }
+    ensures apart { AreApart lists.new }
+{
+    let clause = store.clause(slot);
+    if clause.len() < 2 {
+        short.remove(slot.number() as u32);
+    } else {
+        lists.take_off(clause[0], slot.number());
+        lists.take_off(clause[1], slot.number());
+    }
+}

@@ -1,0 +1,59 @@
+//! Propagation after an assumption.
+
+ghost use Rattle.std.specs.Prelude.{◌≡◌, ℕ, ◌≤◌, length, take, Some, IfOk};
+ghost use Rattle.std.specs.FinMap as maps;
+ghost use Rattle.cnf_base.specs.Literals.{has};
+ghost use Rattle.tables.specs.Table.{at};
+ghost use Rattle.propagation.specs.Assumptions.{IsAnswer};
+ghost use Rattle.propagation.specs.Trail.{HasRoomForAll};
+ghost use Rattle.watch.specs.Lists.{AreApart, entries_in, list_at};
+ghost use Rattle.watch.specs.Order.{each_in_order};
+ghost use Rattle.watch.specs.Roots.{AreNoted, HaveUnits};
+ghost use Rattle.watch.specs.Watched.{IsListed, IsWatched};
+ghost use Rattle.watch.specs.Visits.{Carries};
+ghost use Rattle.propagation.specs.Forced.{IsClosed};
+ghost use Rattle.propagation.specs.declared.answer.Answer.TheVariants.{Quiet};
+
+use crate::follow::propagate;
+use crate::lists::WatchLists;
+use clause_db::Store;
+use cnf_base::OutOfMemory;
+use propagation::{Answer, Assumptions};
+use tables::Table;
+
+/// Sets all that follows from the literals that are true, or stops at a clash. Those before the place `from` are propagated.
+pub(crate) fn run(
+    store: &mut Store,
+    lists: &mut WatchLists,
+    assumptions: &mut Assumptions,
+    reasons: &mut Table<u32>,
+    from: usize,
+) -> Result<Answer, OutOfMemory>
+    requires from { from ≤ length assumptions.old.trail.lits }
+    requires apart { AreApart lists.old }
+    requires listed { IsListed (maps.get store.old.live) (list_at lists.old) }
+    requires watched { IsWatched (maps.get store.old.live)
+        (take from assumptions.old.trail.lits) assumptions.old.trail.lits }
+    requires units { HaveUnits (maps.get store.old.live) assumptions.old.trail.lits }
+    requires room { HasRoomForAll assumptions.old.trail.met
+        (maps.get (each_in_order store.old.live)) }
+    requires noted { AreNoted (maps.get (each_in_order store.old.live)) (at reasons.old) }
+    ensures answer { IfOk result (λ a. IsAnswer (maps.get (each_in_order store.old.live))
+        assumptions.old.trail.lits a) }
+    ensures closed { IfOk result (λ a. a ≡ Quiet → IsClosed
+        (maps.get (each_in_order store.old.live)) (λ l. has assumptions.new.trail.lits l)) }
+    ensures watched { IfOk result (λ a. a ≡ Quiet → IsWatched (maps.get store.new.live)
+        assumptions.new.trail.lits assumptions.new.trail.lits) }
+    ensures apart { AreApart lists.new }
+    ensures listed { IsListed (maps.get store.new.live) (list_at lists.new) }
+    ensures entries { entries_in lists.new ≡ entries_in lists.old }
+    ensures carries { Carries store.old.live store.new.live assumptions.old assumptions.new
+        (at reasons.old) (at reasons.new) }
+{
+    let found = propagate(store, lists, assumptions, reasons, from)?;
+    store.is_sound();
+    match found {
+        Some(_) => Ok(Answer::Clash),
+        None => Ok(Answer::Quiet),
+    }
+}

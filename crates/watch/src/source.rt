@@ -1,0 +1,60 @@
+//! Where the clause stands of which a part is assumed.
+
+ghost use Rattle.std.specs.Prelude.{◌≡◌, ◌++◌, ◌∷◌, filter, length, take, List, IfOk, OnOk, OnErr};
+ghost use Rattle.std.specs.Bool.{OnFalse};
+ghost use Rattle.cnf_base.specs.Literals.{Literal, complements};
+ghost use Rattle.propagation.specs.Assumptions.{Assumption, MayAssume, assumed_by};
+ghost use Rattle.propagation.specs.Trail.{HasRoom, SameSet, conflicts};
+ghost use Rattle.watch.specs.Source.{IsThere, clause_of};
+ghost use Rattle.propagation.specs.declared.answer.Answer.TheVariants.{Clash};
+
+use clause_db::{Slot, Store};
+use cnf_base::{Lit, OutOfMemory};
+use propagation::{Assumptions, Part};
+
+/// A clause that is given, or that of a slot.
+#[derive(Clone, Copy)]
+pub(crate) enum Source<'a> {
+    /// These literals.
+    Given(&'a [Lit]),
+    /// Those of the clause in this slot.
+    Stored(Slot),
+}
+
+/// One more assumption, by a part of a clause, as [`Assumptions::assume`] makes it.
+///
+/// # Errors
+///
+/// As there.
+pub(crate) fn assume_from<P: Part>(
+    store: &Store,
+    assumptions: &mut Assumptions,
+    source: &Source<'_>,
+    part: &P,
+) -> Result<bool, OutOfMemory>
+    requires may { MayAssume assumptions.old.assumptions }
+    requires alive { IsThere store.now.live source.now }
+    requires room { HasRoom assumptions.old.trail.met (clause_of store.now.live source.now) }
+    ensures conflict { IfOk result (λ is_clash. is_clash ≡ conflicts
+        (assumptions.old.trail.lits
+        ++ complements (filter (P.keeps part.now) (clause_of store.now.live source.now)))) }
+    ensures added { IfOk result (λ is_clash.
+        OnFalse is_clash (SameSet assumptions.new.trail.lits (assumptions.old.trail.lits
+        ++ complements (filter (P.keeps part.now) (clause_of store.now.live source.now))))) }
+    ensures assumed { IfOk result (λ is_clash. (all : List Literal) ×
+        (assumptions.new.assumptions ≡
+        record { answer = Clash; assumed = all } ∷ assumptions.old.assumptions)
+        × OnFalse is_clash (SameSet all (assumed_by assumptions.old.assumptions
+        ++ complements (filter (P.keeps part.now) (clause_of store.now.live source.now))))) }
+    ensures starts { OnOk result (assumptions.new.starts ≡
+        length assumptions.old.trail.lits ∷ assumptions.old.starts) }
+    ensures begins { OnOk result (take (length assumptions.old.trail.lits)
+        assumptions.new.trail.lits ≡ assumptions.old.trail.lits) }
+    ensures met { SameSet assumptions.new.trail.met assumptions.old.trail.met }
+    ensures err { OnErr result (assumptions.new ≡ assumptions.old) }
+{
+    match *source {
+        Source::Given(lits) => assumptions.assume(lits, part),
+        Source::Stored(slot) => assumptions.assume(store.clause(slot), part),
+    }
+}

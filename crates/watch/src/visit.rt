@@ -1,0 +1,72 @@
+//! Visits of clauses that watch a literal which became false.
+
+ghost use Rattle.std.specs.Prelude.{◌≡◌, ◌≢◌, ℕ, ◌+◌, ◌<◌, ◌≤◌, true, length, slice_index, Some, IsTrue, IsFalse, IsSome, IfSome, IfNone};
+ghost use Rattle.cnf_base.specs.Literals.{complement, has};
+ghost use Rattle.clause_db.specs.Store.Clauses.{size};
+ghost use Rattle.propagation.specs.Trail.{HasNoVariableTwice};
+ghost use Rattle.watch.specs.Watched.{watches};
+ghost use Rattle.watch.specs.Visits.{IsVisit};
+
+use cnf_base::Lit;
+use propagation::{Trail, Value};
+
+/// What is to be done with a clause that watches a literal which became false.
+#[derive(Clone, Copy)]
+pub(crate) enum Visit {
+    /// Nothing: the other watched literal is true.
+    Stays,
+    /// The watched literal at the first place gives it up to the literal at the second, which is not false.
+    Moves(usize, usize),
+    /// All its other literals are false.
+    Unit(Lit),
+    /// All its literals are false.
+    Clash,
+}
+
+/// The first place from this one on whose literal is not false.
+pub(crate) fn open_place(trail: &Trail, clause: &[Lit], from: usize) -> Option<usize>
+    ensures found { IfSome result (λ k. (from ≤ k) × (k < length clause.now)
+        × IsFalse (has trail.now.lits (complement (slice_index clause.now k)))) }
+    ensures none { IfNone result ((k : ℕ) → from ≤ k → k < length clause.now →
+        IsTrue (has trail.now.lits (complement (slice_index clause.now k)))) }
+{
+    for place in from..clause.len() {
+        if !trail.is_false(clause[place]) {
+            return Some(place);
+        }
+    }
+    None
+}
+
+/// The place of a literal that the clause watches.
+fn watched_place(clause: &[Lit], l: Lit) -> usize
+    requires { IsTrue (watches clause.now l) }
+    ensures inside { result < 2 }
+    ensures long { 2 ≤ length clause.now }
+    ensures there { slice_index clause.now result ≡ l }
+{
+    if clause[0] == l { 0 } else { 1 }
+}
+
+/// What is to be done with a clause that watches this literal, which is false.
+pub(crate) fn look(trail: &Trail, clause: &[Lit], l: Lit) -> Visit
+    requires watched { IsTrue (watches clause.now l) }
+    requires is_false { IsTrue (has trail.now.lits (complement l)) }
+    requires different { size clause.now ≡ length clause.now }
+    ensures visit { IsVisit trail.now.lits clause.now l result }
+    ensures different { HasNoVariableTwice trail.now.lits }
+{
+    let from = watched_place(clause, l);
+    let other = clause[1 - from];
+    let value = trail.value(other);
+    if matches!(value, Value::True) {
+        return Visit::Stays;
+    }
+    match open_place(trail, clause, 2) {
+        Some(to) => Visit::Moves(from, to),
+        None => match value {
+            Value::False => Visit::Clash,
+            _ => Visit::Unit(other),
+        },
+    }
+}

@@ -1,0 +1,327 @@
+//! Propagation with two watched literals a clause.
+
+ghost use Rattle.std.specs.Prelude.{◌≡◌, ◌≢◌, ℕ, [], ◌*◌, ◌≤◌, ◌<◌, ◌++◌, drop, filter, min, true, false, IsTrue, IfOk, OnOk, OnErr, IfSome, IfNone, IsSome};
+ghost use Rattle.std.specs.FinMap as maps;
+ghost use Rattle.cnf_base.specs.Literals.{Literal, complements, has};
+ghost use Rattle.propagation.specs.Forced.{Clash, Forced};
+ghost use Rattle.propagation.specs.Assumptions.{Assumes, HasAt, HoldsLiveAlone, IsAnswer, MayAssume, assumed_by};
+ghost use Rattle.propagation.specs.Trail.{HasRoom};
+ghost use Rattle.watch.specs.Order.{each_in_order};
+ghost use Rattle.watch.specs.Roots.{is_up_to_date};
+ghost use Rattle.watch.specs.Source.{IsThere, clause_of};
+ghost use Rattle.watch.specs.State.{IsWatch};
+ghost use Rattle.watch.specs.Watched.{long_clauses, short_clauses};
+
+use crate::arrange::arrange;
+use crate::entries::{add_entries, remove_entries};
+use crate::lists::WatchLists;
+use crate::refresh::refresh;
+use crate::roots::Roots;
+use crate::run::run;
+use crate::slot_list::SlotList;
+use crate::source::{Source, assume_from};
+use clause_db::{Slot, Store};
+use cnf_base::{Lit, OutOfMemory};
+use propagation::{Answer, Assumptions, Except, Part, Propagate, Value, Whole, first_with};
+use std::alloc::Global;
+use std::marker::Model;
+
+/// Live clauses, and unit propagation with two watched literals a clause: what follows from an assumption is found without a
+/// look at the clauses that have nothing to do with it.
+///
+/// Contracts see what they see of any propagation, and how many entries its lists have.
+#[derive(Drop)]
+pub struct Watch {
+    /// Of a clause of two literals or more it watches the first two.
+    store: Store,
+    lists: WatchLists,
+    /// The slots of the clauses of one literal and of none.
+    short: SlotList,
+    assumptions: Assumptions,
+    /// What is known of the literals that are true with nothing assumed.
+    roots: Roots,
+    has_refused: bool,
+}
+
+impl Model for Watch {
+    ghost use Rattle.std.specs.Prelude.{◌≡◌, length};
+    ghost use Rattle.clause_db.specs.Store.Clauses.{literals_in};
+    ghost use Rattle.watch.specs.Lists.{entries_in};
+    ghost use Rattle.watch.specs.Order.{each_in_order};
+    ghost use Rattle.propagation.specs.Assumptions.{roots_in};
+    ghost use Rattle.watch.specs.Roots.{has_clash, is_up_to_date};
+    ghost use Rattle.watch.specs.State.{IsWatch, WatchState, variables_in, watch_code};
+
+    ghost Value = { WatchState };
+
+    ghost coded = { watch_code };
+
+    // The order of a clause's literals changes with each move, so it is not shown.
+    ghost view = { λ w. record {
+      propagation = record {
+        live = each_in_order w.store.live;
+        assumptions = w.assumptions.assumptions;
+        stored = w.store.stored;
+        has_refused = w.has_refused;
+      };
+      entries = entries_in w.lists;
+      loose = length w.short;
+      trues = length w.assumptions.trail.lits;
+      variables = variables_in w.assumptions.trail.met;
+      roots = roots_in w.assumptions.trail.lits w.assumptions.assumptions w.assumptions.starts;
+      is_up_to_date = is_up_to_date w.roots.kept;
+      has_clash = has_clash w.roots.kept;
+    } };
+
+    ghost invariant = { λ w.
+        IsWatch w.store.live w.lists w.short w.roots w.assumptions
+        × (w.store.stored ≡ literals_in (each_in_order w.store.live)) };
+}
+
+/// Assumes the complements of a part of a clause, beside what is assumed, and propagates.
+fn assume_part<P: Part>(
+    store: &mut Store,
+    lists: &mut WatchLists,
+    short: &SlotList,
+    assumptions: &mut Assumptions,
+    roots: &mut Roots,
+    source: &Source<'_>,
+    part: &P,
+) -> Result<Answer, OutOfMemory>
+    requires may { MayAssume assumptions.old.assumptions }
+    requires alive { IsThere store.old.live source.now }
+    requires room { HasRoom assumptions.old.trail.met (clause_of store.old.live source.now) }
+    requires up_to_date { is_up_to_date roots.old.kept ≡ true }
+    requires watch { IsWatch store.old.live lists.old short.now roots.old assumptions.old }
+    ensures answer { IfOk result (λ a. IsAnswer (maps.get (each_in_order store.old.live))
+        (assumed_by assumptions.old.assumptions ++ complements
+        (filter (P.keeps part.now) (clause_of store.old.live source.now))) a) }
+    ensures assumed { IfOk result (λ a. Assumes assumptions.old.assumptions
+        assumptions.new.assumptions a (assumed_by assumptions.old.assumptions ++ complements
+        (filter (P.keeps part.now) (clause_of store.old.live source.now)))) }
+    ensures err { OnErr result (assumptions.new.assumptions ≡ assumptions.old.assumptions) }
+    ensures watch { IsWatch store.new.live lists.new short.now roots.new assumptions.new }
+    ensures same { each_in_order store.new.live ≡ each_in_order store.old.live }
+{
+    let from = assumptions.trail().len();
+    if assume_from(store, assumptions, source, part)? {
+        return Ok(Answer::Clash);
+    }
+    if roots.has_clash() {
+        return Ok(Answer::Clash);
+    }
+    match run(store, lists, assumptions, &mut roots.reasons, from) {
+        Ok(answer) => {
+            assumptions.answer(answer);
+            Ok(answer)
+        }
+        Err(refused) => {
+            assumptions.undo();
+            Err(refused)
+        }
+    }
+}
+
+impl Watch {
+    /// No clauses, and nothing is assumed.
+    pub fn new(alloc: Global) -> Result<Self, OutOfMemory>
+        ensures live { IfOk result (λ w. w.propagation.live ≡ maps.empty) }
+        ensures nothing_assumed { IfOk result (λ w. w.propagation.assumptions ≡ []) }
+        ensures refused { IfOk result (λ w. w.propagation.has_refused ≡ false) }
+    {
+        Ok(Watch {
+            store: Store::new(alloc)?,
+            lists: WatchLists::new(alloc),
+            short: SlotList::new(alloc),
+            assumptions: Assumptions::new(alloc)?,
+            roots: Roots::new(alloc),
+            has_refused: false,
+        })
+    }
+
+    /// How many entries all watch lists have, two for each clause of two literals or more; `2^64 - 1` where they are more.
+    pub fn watch_entries(&self) -> u64
+        ensures value { result ≡ min self.now.entries 18446744073709551615 }
+        ensures two_each { self.now.entries ≡ 2 * long_clauses self.now.propagation.live }
+    {
+        self.lists.entries()
+    }
+
+    /// How many entries the list of the other clauses has, one for each.
+    pub fn short_entries(&self) -> usize
+        ensures value { result ≡ self.now.loose }
+        ensures one_each { self.now.loose ≡ short_clauses self.now.propagation.live }
+    {
+        self.short.slots().len()
+    }
+
+    /// How many literals are true: at most one of each variable that was met.
+    pub fn trail_len(&self) -> usize
+        ensures value { result ≡ self.now.trues }
+        ensures fits { self.now.trues ≤ self.now.variables }
+    {
+        self.assumptions.trail().len()
+    }
+
+    /// Whether what follows with nothing assumed is known: all of it, or a clash. It is while an assumption stands.
+    pub fn is_up_to_date(&self) -> bool
+        ensures value { result ≡ self.now.is_up_to_date }
+        ensures standing { self.now.propagation.assumptions ≢ [] → result ≡ true }
+    {
+        self.roots.is_up_to_date()
+    }
+
+    /// Whether propagation with nothing assumed is known to be a clash.
+    pub fn has_root_clash(&self) -> bool
+        ensures value { result ≡ self.now.has_clash }
+        ensures clash { result ≡ true → Clash (maps.get self.now.propagation.live) [] }
+        ensures quiet { self.now.is_up_to_date ≡ true → result ≡ false →
+            ¬ Clash (maps.get self.now.propagation.live) [] }
+    {
+        self.store.is_sound();
+        let _different = self.assumptions.trail().len();
+        self.roots.has_clash()
+    }
+
+    /// The literals that are kept as true with nothing assumed. Where that is up to date and no clash, they are all that follows.
+    pub fn root_literals(&self) -> &[Lit]
+        ensures value { result.now ≡ self.now.roots }
+        ensures sound { (l : Literal) → IsTrue (has result.now l) →
+            Forced (maps.get self.now.propagation.live) [] l }
+        ensures all { self.now.is_up_to_date ≡ true → self.now.has_clash ≡ false → (l : Literal) →
+            Forced (maps.get self.now.propagation.live) [] l → IsTrue (has result.now l) }
+    {
+        self.store.is_sound();
+        &self.assumptions.trail().lits()[..self.assumptions.root_count()]
+    }
+
+    /// Takes back the last assumption. What is known with nothing assumed stays. It takes no memory.
+    pub fn take_back(&mut self)
+        requires { self.old.propagation.assumptions ≢ [] }
+        ensures assumptions { self.new.propagation.assumptions ≡
+            drop 1 self.old.propagation.assumptions }
+        ensures live { self.new.propagation.live ≡ self.old.propagation.live }
+        ensures live_alone { HoldsLiveAlone self.new.propagation }
+        ensures refused { self.new.propagation.has_refused ≡ self.old.propagation.has_refused }
+        ensures up_to_date { self.new.is_up_to_date ≡ true }
+        ensures roots { self.new.roots ≡ self.old.roots }
+        ensures clash { self.new.has_clash ≡ self.old.has_clash }
+    {
+        self.assumptions.undo();
+    }
+}
+
+impl Propagate for Watch {
+    ghost state = { λ w. w.propagation };
+
+    fn insert(&mut self, lits: &[Lit]) -> Result<Slot, OutOfMemory> {
+        self.assumptions.reserve(lits)?;
+        self.roots.reserve(lits)?;
+        let slot = self.store.insert(lits)?;
+        let left = arrange(&mut self.store, self.assumptions.trail(), slot);
+        match add_entries(&self.store, &mut self.lists, &mut self.short, slot) {
+            Ok(()) => {
+                self.roots
+                    .enter(&self.store, &mut self.assumptions, slot, left);
+                Ok(slot)
+            }
+            Err(refused) => {
+                self.store.remove(slot);
+                Err(refused)
+            }
+        }
+    }
+
+    fn remove(&mut self, slot: Slot) {
+        self.roots.leave(&self.store, &mut self.assumptions, slot);
+        remove_entries(&self.store, &mut self.lists, &mut self.short, slot);
+        self.store.remove(slot);
+    }
+
+    fn find(&mut self, lits: &[Lit]) -> Option<Slot> {
+        self.store.find(lits)
+    }
+
+    fn clause(&self, slot: Slot) -> &[Lit] {
+        self.store.clause(slot)
+    }
+
+    fn literals(&self) -> u64 {
+        self.store.literals()
+    }
+
+    fn next_with(&self, l: Lit, from: Slot) -> Option<Slot> {
+        first_with(&self.store, l, from)
+    }
+
+    fn count_with(&self, l: Lit) -> u64 {
+        self.store.count_with(l)
+    }
+
+    fn assume(&mut self, lits: &[Lit]) -> Result<Answer, OutOfMemory> {
+        if self.has_refused
+            || refresh(
+                &mut self.store,
+                &mut self.lists,
+                &self.short,
+                &mut self.assumptions,
+                &mut self.roots,
+            )
+            .is_err()
+            || self.assumptions.reserve(lits).is_err()
+        {
+            self.store.is_sound();
+            self.has_refused = true;
+            return Err(OutOfMemory);
+        }
+        let assumed = assume_part(
+            &mut self.store,
+            &mut self.lists,
+            &self.short,
+            &mut self.assumptions,
+            &mut self.roots,
+            &Source::Given(lits),
+            &Whole,
+        );
+        self.store.is_sound();
+        self.has_refused = assumed.is_err();
+        assumed
+    }
+
+    fn assume_rest(&mut self, slot: Slot, l: Lit) -> Result<Answer, OutOfMemory> {
+        if self.has_refused
+            || refresh(
+                &mut self.store,
+                &mut self.lists,
+                &self.short,
+                &mut self.assumptions,
+                &mut self.roots,
+            )
+            .is_err()
+        {
+            self.store.is_sound();
+            self.has_refused = true;
+            return Err(OutOfMemory);
+        }
+        let assumed = assume_part(
+            &mut self.store,
+            &mut self.lists,
+            &self.short,
+            &mut self.assumptions,
+            &mut self.roots,
+            &Source::Stored(slot),
+            &Except(l),
+        );
+        self.store.is_sound();
+        self.has_refused = assumed.is_err();
+        assumed
+    }
+
+    fn undo(&mut self) {
+        self.take_back();
+    }
+
+    fn value(&self, l: Lit) -> Value {
+        self.assumptions.trail().value(l)
+    }
+}
