@@ -81,7 +81,7 @@ pub(crate) fn remove_entries(
     if clause.len() < 2 {
         short.remove(slot.number() as u32);
     } else {
-        lists.take_off(clause[0], slot.number());
-        lists.take_off(clause[1], slot.number());
+        lists.take_off(clause[0], slot.number() as u32);
+        lists.take_off(clause[1], slot.number() as u32);
     }
 }

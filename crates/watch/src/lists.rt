@@ -1,6 +1,6 @@
 //! Watch lists: by literal the slots of the clauses that watch it.
 
-ghost use Rattle.std.specs.Prelude.{◌≡◌, ℕ, ◌+◌, ◌==◌, ◌&&◌, ◌++◌, ◌∷◌, [], length, min, if◌then◌else◌, IsSome, IfOk, OnOk, OnErr, Some, true, false, slice_index, ◌≢◌, ◌<◌};
+ghost use Rattle.std.specs.Prelude.{◌≡◌, ℕ, ◌+◌, ◌==◌, ◌&&◌, ◌++◌, ◌∷◌, [], length, min, if◌then◌else◌, IsSome, IsTrue, IfOk, OnOk, OnErr, Some, take, true, false, slice_index, ◌≢◌, ◌<◌};
 ghost use Rattle.cnf_base.specs.Literals.{Literal};
 ghost use Rattle.tables.specs.Table.{at};
 ghost use Rattle.watch.specs.Lists.{AreApart, entries_in, list_at, times_in};
@@ -19,22 +19,50 @@ pub(crate) struct WatchLists {
     lists: Vec<Vec<u32>>,
 }
 
-/// The place of a slot in a list in which it stands.
-fn place_in(list: &[u32], slot: usize) -> usize
-    requires { 0 < times_in slot list.now }
+/// How many slots are looked at without a branch: by a processor's wide registers.
+const AT_ONCE: usize = 16;
+
+/// Whether a slot stands nowhere among these.
+fn lacks(slots: &[u32], slot: u32) -> bool
+    ensures { IsTrue result → times_in slot slots.now ≡ 0 }
+{
+    let mut is_absent = true;
+    for place in 0..slots.len() {
+        is_absent &= slots[place] != slot;
+    }
+    is_absent
+}
+
+/// The place of a slot in a list in which it stands, from this place on.
+fn place_from(list: &[u32], slot: u32, from: usize) -> usize
+    requires there { 0 < times_in slot list.now }
+    requires absent { times_in slot (take from list.now) ≡ 0 }
     ensures inside { result < length list.now }
     ensures there { slice_index list.now result ≡ slot }
 {
-    for place in 0..list.len() {
-        if list[place] as usize == slot {
+    for place in from..list.len() {
+        if list[place] == slot {
             return place;
         }
     }
     0
 }
 
+/// The place of a slot in a list in which it stands.
+fn place_in(list: &[u32], slot: u32) -> usize
+    requires { 0 < times_in slot list.now }
+    ensures inside { result < length list.now }
+    ensures there { slice_index list.now result ≡ slot }
+{
+    let mut from = 0;
+    while list.len() - from >= AT_ONCE && lacks(&list[from..from + AT_ONCE], slot) {
+        from += AT_ONCE;
+    }
+    place_from(list, slot, from)
+}
+
 /// Takes a slot out of a list in which it stands.
-fn take_off(list: &mut Vec<u32>, slot: usize)
+fn take_off(list: &mut Vec<u32>, slot: u32)
     requires { 0 < times_in slot list.old.items }
     ensures times { (s : ℕ) → times_in s list.new.items + (if s == slot then 1 else 0) ≡
         times_in s list.old.items }
@@ -152,7 +180,7 @@ impl WatchLists {
     }
 
     /// Takes a slot out of the list of a literal in which it stands. It takes no memory.
-    pub(crate) fn take_off(&mut self, l: Lit, slot: usize)
+    pub(crate) fn take_off(&mut self, l: Lit, slot: u32)
         requires apart { AreApart self.old }
         requires there { 0 < times_in slot (list_at self.old l) }
         ensures others { (k : Literal) → k ≢ l → list_at self.new k ≡ list_at self.old k }
@@ -180,7 +208,7 @@ impl WatchLists {
     {
         self.push(first, slot)?;
         if self.push(second, slot).is_err() {
-            self.take_off(first, slot as usize);
+            self.take_off(first, slot);
             return Err(OutOfMemory);
         }
         Ok(())

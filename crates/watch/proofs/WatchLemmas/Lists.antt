@@ -1,11 +1,11 @@
 -- How often slots stand in lists.
-use Rattle.std.proofs.Common.{◌≡◌, ℕ, ◌+◌, ◌<◌, ◌≤◌, cond, eqb, ne_eqb, List, length, get_or, take, set, slice_get, swap_remove, Vec, sum_by, min, [], sym, ap, ◌∙◌, arith}
+use Rattle.std.proofs.Common.{◌≡◌, ℕ, ◌+◌, ◌-◌, ◌<◌, ◌≤◌, cond, eqb, ne_eqb, List, length, get_or, drop, take, set, slice_get, swap_remove, Vec, sum_by, min, [], sym, ap, ◌∙◌, arith}
 use Rattle.std.specs.Global.{Global}
 use Rattle.std.proofs.lemmas.Bool.Decides.{nat_tests}
 use Rattle.std.proofs.lemmas.Grind.{get_or_default_zero}
-use Rattle.std.proofs.lemmas.List.{take_all}
+use Rattle.std.proofs.lemmas.List.{drop-take, take-append-drop, take-take, take_all}
 use Rattle.std.proofs.lemmas.Option.{slice_get-get_or}
-use Rattle.std.proofs.lemmas.List.Sums.{sum_by-set, sum_by-swap_remove, sum_by_more}
+use Rattle.std.proofs.lemmas.List.Sums.{sum_by-append, sum_by-set, sum_by-swap_remove, sum_by_more}
 use Rattle.watch.specs.Lists.{times_in, items_of}
 
 pub eqb_turned : (a b : ℕ) → eqb a b ≡ eqb b a
@@ -25,6 +25,16 @@ times_next xs i s inside other none =
     let more = sum_by_more (λ x. cond (eqb x s) 1 0) xs i 0 inside in
     let here : cond {A = ℕ} (eqb (get_or xs i 0) s) 1 0 ≡ 0 = ap (λ b. cond {A = ℕ} b 1 0) (ne_eqb (get_or xs i 0) s other) in
     omega arith
+
+-- a slot that is none of the next ones
+pub times_chunk : (xs : List ℕ) (from n s : ℕ) → times_in s (take from xs) ≡ 0 → times_in s (take (from + n - from) (drop from xs)) ≡ 0 → times_in s (take (from + n) xs) ≡ 0
+times_chunk xs from n s none absent =
+    let whole = ap (times_in s) (sym (take-append-drop from (take (from + n) xs))) in
+    let split = sum_by-append (λ x. cond (eqb x s) 1 0) (take from (take (from + n) xs)) (drop from (take (from + n) xs)) in
+    let front = ap (times_in s) (take-take from (from + n) xs (omega arith)) ∙ none in
+    let same : from + n - from ≡ n = omega arith in
+    let rest = ap (times_in s) (drop-take from n xs) ∙ ap (λ k. times_in s (take k (drop from xs))) (sym same) ∙ absent in
+    omega (arith, whole, split, front, rest)
 
 -- a slot that is in no place
 pub times_none : (xs : List ℕ) (i s : ℕ) → length xs ≤ i → times_in s (take i xs) ≡ 0 → 0 < times_in s xs → ⊥

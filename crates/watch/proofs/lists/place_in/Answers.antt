@@ -1,11 +1,9 @@
-use Rattle.watch.proofs.WatchLemmas.Lists.{times_next, times_none}
+use Rattle.std.proofs.Common.{◌≤◌, ◌+◌, length, arith}
+use Rattle.watch.proofs.WatchLemmas.Lists.{times_chunk}
 use Rattle.watch.proofs.lists.place_in.Goals as goal
 
-pub loop-place-preserved : goal.loop-place-preserved
-loop-place-preserved c = record { none = times_next c.args.list.now c.loop-place.place c.args.slot c.loop-place-test.true c.if-list-place.false c.loop-place.invariant.none }
-
-pub returns-clause-inside : goal.returns-clause-inside
-returns-clause-inside c = absurd (times_none c.args.list.now c.loop-place.place c.args.slot c.loop-place-test.false c.loop-place.invariant.none c.requires)
-
-pub returns-clause-there : goal.returns-clause-there
-returns-clause-there c = absurd (times_none c.args.list.now c.loop-place.place c.args.slot c.loop-place-test.false c.loop-place.invariant.none c.requires)
+pub loop-from-preserved : goal.loop-from-preserved
+loop-from-preserved c = record {
+  inside = let low = c.loop-from-test.true in let so_far = c.loop-from.invariant.inside in omega (arith, low, so_far);
+  none = times_chunk c.args.list.now c.loop-from.from 16 c.args.slot c.loop-from.invariant.none (c.lacks.ensures c.if-lacks.true);
+}
