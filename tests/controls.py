@@ -8,6 +8,7 @@ turned body is refused. With the turned body too, the goal of the clause on mode
 RT names the command rt, where it isn't on the PATH. The last line is "N passed, M failed".
 """
 
+import concurrent.futures
 import glob
 import os
 import re
@@ -58,33 +59,37 @@ def check(room, crate, pairs):
             return None, f"an old text is in {file} {before.count(old)} times: {old}"
         with open(f"{folder}/{file}", "w", encoding="utf-8") as text:
             text.write(before.replace(old, new))
-    ran = subprocess.run([RT, "check"], cwd=folder, stdin=subprocess.DEVNULL, stdout=subprocess.PIPE,
+    ran = subprocess.run([RT, "check", "--jobs", "1"], cwd=folder, stdin=subprocess.DEVNULL, stdout=subprocess.PIPE,
                          stderr=subprocess.STDOUT, text=True, errors="replace", check=False)
     return ran.returncode == 0, ran.stdout
 
 
-def main():
-    passed = failed = 0
-
-    def judge(well, name, why):
-        nonlocal passed, failed
-        passed += well
-        failed += not well
-        print(f"{name}: {'as it must be' if well else 'FAILED: ' + why}", flush=True)
-
-    edits = sorted(glob.glob(f"{ROOT}/crates/*/must-fail/*_by_models_alone.edit"))
+def tried(edits):
+    """What is to be said of each edit: its name, whether it is well, and why not. They are tried in a room of their own."""
+    said = []
     with tempfile.TemporaryDirectory() as room:
         lay_out(room)
         for edit in edits:
             crate = edit.split("/")[-3]
             name, pairs = f"{crate}/{os.path.basename(edit)}", pairs_of(edit)
             proved, told = check(room, crate, pairs[:-1])
-            judge(proved is True, f"{name} with the right body", "it is not proved\n" + told[-2000:])
+            said.append((f"{name} with the right body", proved is True, "it is not proved\n" + told[-2000:]))
             proved, told = check(room, crate, pairs)
-            judge(proved is False and GOAL.search(told) is not None, f"{name} with the wrong body",
-                  "no goal on models stays open\n" + told[-2000:])
-    print(f"{passed} passed, {failed} failed")
-    return 1 if failed or not passed else 0
+            said.append((f"{name} with the wrong body", proved is False and GOAL.search(told) is not None,
+                         "no goal on models stays open\n" + told[-2000:]))
+    return said
+
+
+def main():
+    edits = sorted(glob.glob(f"{ROOT}/crates/*/must-fail/*_by_models_alone.edit"))
+    rooms = min(len(edits), len(os.sched_getaffinity(0))) or 1
+    with concurrent.futures.ThreadPoolExecutor(rooms) as pool:
+        said = [it for room in pool.map(tried, [edits[number::rooms] for number in range(rooms)]) for it in room]
+    for name, well, why in said:
+        print(f"{name}: {'as it must be' if well else 'FAILED: ' + why}")
+    passed = sum(well for _, well, _ in said)
+    print(f"{passed} passed, {len(said) - passed} failed")
+    return 0 if said and passed == len(said) else 1
 
 
 if __name__ == "__main__":
