@@ -5,7 +5,7 @@ Such an edit takes away the clauses on exact answers, with the lines that prove 
 each is tried in two parts. With the clauses gone and the body as it is, the crate has to be proved: so nothing but the
 turned body is refused. With the turned body too, the goal of the clause on models has to stay open.
 
-RT names the command rt, where it isn't on the PATH. The last line is "N passed, M failed".
+With --anew nothing is taken from what earlier checks left, so that it may run beside the gate. RT names the command rt, where it isn't on the PATH. The last line is "N passed, M failed".
 """
 
 import concurrent.futures
@@ -38,14 +38,7 @@ def pairs_of(edit):
     return pairs
 
 
-def lay_out(room):
-    """A copy of the repository's crates, with what earlier checks of them left."""
-    shutil.copytree(f"{ROOT}/crates", f"{room}/crates", symlinks=True)
-    for name in ["crates.txt", "HANDLES"]:
-        shutil.copy(f"{ROOT}/{name}", room)
-
-
-def check(room, crate, pairs):
+def check(room, crate, pairs, jobs=("--jobs", "1")):
     """Whether the crate is proved with these pairs, and what the check wrote."""
     folder = f"{room}/crates/{crate}"
     for part in PARTS:
@@ -59,18 +52,17 @@ def check(room, crate, pairs):
             return None, f"an old text is in {file} {before.count(old)} times: {old}"
         with open(f"{folder}/{file}", "w", encoding="utf-8") as text:
             text.write(before.replace(old, new))
-    ran = subprocess.run([RT, "check", "--jobs", "1"], cwd=folder, stdin=subprocess.DEVNULL, stdout=subprocess.PIPE,
+    ran = subprocess.run([RT, "check", *jobs], cwd=folder, stdin=subprocess.DEVNULL, stdout=subprocess.PIPE,
                          stderr=subprocess.STDOUT, text=True, errors="replace", check=False)
     return ran.returncode == 0, ran.stdout
 
 
-def tried(edits):
-    """What is to be said of each edit: its name, whether it is well, and why not. They are tried in a room of their own."""
+def tried(base, crate, edits):
+    """What is to be said of each edit: its name, whether it is well, and why not. A crate's edits have a room of their own."""
     said = []
     with tempfile.TemporaryDirectory() as room:
-        lay_out(room)
+        shutil.copytree(base, room, symlinks=True, dirs_exist_ok=True)
         for edit in edits:
-            crate = edit.split("/")[-3]
             name, pairs = f"{crate}/{os.path.basename(edit)}", pairs_of(edit)
             proved, told = check(room, crate, pairs[:-1])
             said.append((f"{name} with the right body", proved is True, "it is not proved\n" + told[-2000:]))
@@ -81,10 +73,19 @@ def tried(edits):
 
 
 def main():
-    edits = sorted(glob.glob(f"{ROOT}/crates/*/must-fail/*_by_models_alone.edit"))
-    rooms = min(len(edits), len(os.sched_getaffinity(0))) or 1
-    with concurrent.futures.ThreadPoolExecutor(rooms) as pool:
-        said = [it for room in pool.map(tried, [edits[number::rooms] for number in range(rooms)]) for it in room]
+    edits = {}
+    for edit in sorted(glob.glob(f"{ROOT}/crates/*/must-fail/*_by_models_alone.edit")):
+        edits.setdefault(edit.split("/")[-3], []).append(edit)
+    with tempfile.TemporaryDirectory() as base, concurrent.futures.ThreadPoolExecutor() as pool:
+        # What stands below these crates is proved once, and both have what that leaves.
+        ignored = shutil.ignore_patterns("out") if "--anew" in sys.argv[1:] else None
+        shutil.copytree(f"{ROOT}/crates", f"{base}/crates", symlinks=True, ignore=ignored)
+        for name in ["crates.txt", "HANDLES"]:
+            shutil.copy(f"{ROOT}/{name}", base)
+        for crate in edits:
+            check(base, crate, [], jobs=())
+        rooms = [pool.submit(tried, base, crate, those) for crate, those in edits.items()]
+        said = [it for room in rooms for it in room.result()]
     for name, well, why in said:
         print(f"{name}: {'as it must be' if well else 'FAILED: ' + why}")
     passed = sum(well for _, well, _ in said)
