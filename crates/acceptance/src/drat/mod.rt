@@ -4,5 +4,6 @@ mod additions;
 mod binary;
 mod cuts;
 mod deletions;
+mod failing_writers;
 mod inputs;
 mod long_inputs;

@@ -1,4 +1,5 @@
 //! Formulas, as the checkers take them.
 
 mod faults;
+mod greatest_numbers;
 mod texts;

@@ -1,7 +1,7 @@
 //! Inputs that are cut after each of their bytes, by their end or by a failed read.
 
 use crate::support::{
-    Cutting, E, E_BY_LRAT, E_BY_LRAT_TRACED, E_PROOF, HEADER, Said, UNREAD_AFTER_ONE,
+    Cutting, E, E_BY_LRAT, E_BY_LRAT_TRACED, E_CLAUSES, E_PROOF, HEADER, Said, UNREAD_AFTER_ONE,
     UNREAD_FORMULA, UNREAD_PROOF,
 };
 use std::test::Fail;
@@ -13,40 +13,6 @@ const FORMULA: Cutting<'static> = Cutting::Formula(E_BY_LRAT);
 const PROOF: Cutting<'static> = Cutting::Second(E_BY_LRAT, SHOWN);
 
 const TRACED_PROOF: Cutting<'static> = Cutting::Second(E_BY_LRAT_TRACED, SHOWN);
-
-// For the first n bytes of the formula, for each n from 11 to 36. The whole one has 38, and its header 10.
-const CLAUSES: [Said<'static>; 26] = [
-    // The first clause, of 6 bytes.
-    ("c formula 2:2: unterminated clause", 2),
-    ("c formula 2:3: unterminated clause", 2),
-    ("c formula 2:4: unterminated clause", 2),
-    ("c formula 2:5: unterminated clause", 2),
-    ("c formula 2:6: too few clauses", 2),
-    ("c formula 3:1: too few clauses", 2),
-    // The second, of 7 bytes.
-    ("c formula 3:1: bad token", 2),
-    ("c formula 3:3: unterminated clause", 2),
-    ("c formula 3:4: unterminated clause", 2),
-    ("c formula 3:5: unterminated clause", 2),
-    ("c formula 3:6: unterminated clause", 2),
-    ("c formula 3:7: too few clauses", 2),
-    ("c formula 4:1: too few clauses", 2),
-    // The third, of 7 bytes.
-    ("c formula 4:2: unterminated clause", 2),
-    ("c formula 4:3: unterminated clause", 2),
-    ("c formula 4:3: bad token", 2),
-    ("c formula 4:5: unterminated clause", 2),
-    ("c formula 4:6: unterminated clause", 2),
-    ("c formula 4:7: too few clauses", 2),
-    ("c formula 5:1: too few clauses", 2),
-    // The fourth, of 8 bytes.
-    ("c formula 5:1: bad token", 2),
-    ("c formula 5:3: unterminated clause", 2),
-    ("c formula 5:4: unterminated clause", 2),
-    ("c formula 5:4: bad token", 2),
-    ("c formula 5:6: unterminated clause", 2),
-    ("c formula 5:7: unterminated clause", 2),
-];
 
 // For the first n bytes of the proof, for each n from 0 to 22. The whole one has 24.
 const STEPS: [Said<'static>; 23] = [
@@ -80,7 +46,7 @@ const STEPS: [Said<'static>; 23] = [
 #[test]
 fn formula_ends(rt: HostRuntime) -> Result<(), Fail> {
     assert_eq!(rt; E.len(), 38);
-    FORMULA.expect_ends(&rt, rt.alloc(), &[&HEADER, &CLAUSES])
+    FORMULA.expect_ends(&rt, rt.alloc(), &[&HEADER, &E_CLAUSES])
 }
 
 #[test]

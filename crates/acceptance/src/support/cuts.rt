@@ -35,6 +35,40 @@ pub const HEADER: [Said<'static>; 11] = [
     ("c formula 2:1: too few clauses", 2),
 ];
 
+// The first n bytes of the formula `E`, for each n from 11 to 36. The whole one has 38, and its header 10.
+pub const E_CLAUSES: [Said<'static>; 26] = [
+    // The first clause, of 6 bytes.
+    ("c formula 2:2: unterminated clause", 2),
+    ("c formula 2:3: unterminated clause", 2),
+    ("c formula 2:4: unterminated clause", 2),
+    ("c formula 2:5: unterminated clause", 2),
+    ("c formula 2:6: too few clauses", 2),
+    ("c formula 3:1: too few clauses", 2),
+    // The second, of 7 bytes.
+    ("c formula 3:1: bad token", 2),
+    ("c formula 3:3: unterminated clause", 2),
+    ("c formula 3:4: unterminated clause", 2),
+    ("c formula 3:5: unterminated clause", 2),
+    ("c formula 3:6: unterminated clause", 2),
+    ("c formula 3:7: too few clauses", 2),
+    ("c formula 4:1: too few clauses", 2),
+    // The third, of 7 bytes.
+    ("c formula 4:2: unterminated clause", 2),
+    ("c formula 4:3: unterminated clause", 2),
+    ("c formula 4:3: bad token", 2),
+    ("c formula 4:5: unterminated clause", 2),
+    ("c formula 4:6: unterminated clause", 2),
+    ("c formula 4:7: too few clauses", 2),
+    ("c formula 5:1: too few clauses", 2),
+    // The fourth, of 8 bytes.
+    ("c formula 5:1: bad token", 2),
+    ("c formula 5:3: unterminated clause", 2),
+    ("c formula 5:4: unterminated clause", 2),
+    ("c formula 5:4: bad token", 2),
+    ("c formula 5:6: unterminated clause", 2),
+    ("c formula 5:7: unterminated clause", 2),
+];
+
 // What is said of a proof where a read of it fails, also after one accepted step.
 pub const UNREAD_PROOF: Said<'static> = ("c cannot read proof", 3);
 

@@ -1,6 +1,8 @@
 //! Formulas and what is said of them that many rows begin with.
 
-use crate::support::rows::{BINARY_TRACED, DRAT, DRAT_TRACED, LRAT, LRAT_TRACED, MODEL, Row};
+use crate::support::rows::{
+    BINARY_TRACED, BY_BINARY, DRAT, DRAT_TRACED, LRAT, LRAT_TRACED, MODEL, Row,
+};
 
 // All four clauses of two variables, which have no model.
 pub const E: &str = "p cnf 2 4\n1 2 0\n-1 2 0\n1 -2 0\n-1 -2 0\n";
@@ -68,6 +70,15 @@ pub const E_BY_DRAT_TRACED: Row<'static> = Row {
     lines: "c formula 2 variables 4 clauses\nc 1 add rup\nc 2 add rup\nc steps 2 peak 9",
     status: 0,
     ..DRAT_TRACED
+};
+
+pub const E_BY_BINARY: Row<'static> = Row {
+    name: "e_drat, in binary",
+    formula: E,
+    second: E_BINARY,
+    lines: "c formula 2 variables 4 clauses\nc steps 2 peak 9",
+    status: 0,
+    ..BY_BINARY
 };
 
 pub const E_BY_BINARY_TRACED: Row<'static> = Row {

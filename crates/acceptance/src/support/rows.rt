@@ -100,6 +100,11 @@ pub const DRAT_STRICT: Row<'static> = Row {
     ..LRAT
 };
 
+pub const BY_BINARY: Row<'static> = Row {
+    tool: Tool::Drat(BINARY),
+    ..LRAT
+};
+
 pub const BINARY_TRACED: Row<'static> = Row {
     tool: Tool::Drat(DratOptions {
         trace: true,
