@@ -309,6 +309,7 @@ LINES
 
 of_a_proof_checker lrat lrat-check $x/e.lrat
 usage lrat_flag_of_another_tool --binary $x/e.cnf $x/e.lrat
+usage lrat_pr --pr $x/e.cnf $x/e.lrat
 usage lrat_flag_alone --trace
 
 # ==== drat-forward
@@ -363,6 +364,27 @@ LINES
 row pigeonhole_by_cadical_strict 0 --strict $x/pigeonhole-5.cnf $x/pigeonhole-5.drat <<'LINES'
 c formula 30 variables 81 clauses
 c steps 242 peak 402
+s VERIFIED
+LINES
+
+# additions that list a set, which pigeonhole_pr.py writes
+row pigeonhole_by_pr 0 --pr $x/pigeonhole-5.cnf $x/pigeonhole-5-pr.drat <<'LINES'
+c formula 30 variables 81 clauses
+c steps 56 peak 275
+s VERIFIED
+LINES
+
+row pigeonhole_by_pr_without_the_option 1 $x/pigeonhole-5.cnf $x/pigeonhole-5-pr.drat <<'LINES'
+c formula 30 variables 81 clauses
+c step 1: neither RUP nor RAT on -5
+s NOT VERIFIED
+LINES
+
+# thirty holes, of which no proof by resolution is short
+python3 $x/pigeonhole_pr.py 30 "$room/pigeonhole.cnf" "$room/pigeonhole.drat"
+row pigeonhole_of_thirty_holes_by_pr 0 --pr "$room/pigeonhole.cnf" "$room/pigeonhole.drat" <<'LINES'
+c formula 930 variables 13981 clauses
+c steps 9456 peak 47275
 s VERIFIED
 LINES
 
@@ -565,6 +587,7 @@ LINES
 
 of_every_tool model model-check $x/models.cnf $x/models.out
 usage model_flag_of_another_tool $x/models.cnf --trace
+usage model_pr --pr $x/models.cnf $x/models.out
 
 echo "$passed passed, $failed failed"
 [ "$failed" -eq 0 ]

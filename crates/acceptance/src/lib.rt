@@ -2,6 +2,8 @@
 #![tactic(auto)]
 
 #[cfg(test)]
+mod command_lines;
+#[cfg(test)]
 mod drat;
 #[cfg(test)]
 mod formula;
@@ -11,6 +13,8 @@ mod lrat;
 mod model;
 #[cfg(test)]
 mod never_verified;
+#[cfg(test)]
+mod propagate;
 #[cfg(test)]
 mod readers;
 #[cfg(test)]

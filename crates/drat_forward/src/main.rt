@@ -1,4 +1,4 @@
-//! `drat-forward [--binary] [--trace] [--strict] FORMULA [PROOF]`: checks a proof in DRAT of a formula in DIMACS CNF.
+//! `drat-forward [--binary] [--trace] [--strict] [--pr] FORMULA [PROOF]`: checks a proof in DRAT of a formula in DIMACS CNF.
 #![tactic(auto)]
 
 use cnf_base::{FromRead, ToWrite};
@@ -22,6 +22,7 @@ fn check(rt: &HostRuntime) -> Result<Status, Status> {
         binary: args.binary,
         trace: args.trace,
         strict: args.strict,
+        pr: args.pr,
     };
     Ok(run_drat(
         rt.alloc(),

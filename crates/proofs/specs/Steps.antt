@@ -1,5 +1,5 @@
 -- The steps of a proof.
-use Rattle.std.specs.Prelude.{ℕ, ◌&&◌, nat_le, ℤ, pos, negsuc, Bool, false, List, [], ◌∷◌, ◌++◌, nat_abs}
+use Rattle.std.specs.Prelude.{ℕ, ◌&&◌, ◌==◌, not, nat_le, ℤ, pos, negsuc, Bool, false, List, [], ◌∷◌, ◌++◌, take_while, drop, length, nat_abs}
 use Rattle.cnf_base.specs.Literals.{Literal}
 use Rattle.proofs.specs.declared.step_buf.StepKind.{StepKind}
 use Rattle.proofs.specs.declared.step_buf.StepKind.TheVariants.{Add, Delete}
@@ -21,6 +21,15 @@ abbrev pub is_hint : StepKind → ℤ → Bool
 is_hint Add h = nat_le 1 (nat_abs h) && is_small (nat_abs h)
 is_hint Delete (pos k) = nat_le 1 k && is_small k
 is_hint Delete (negsuc k) = false
+
+-- The clause and the set that an addition lists, as in PR proofs (DPR): the clause ends before its first literal stands a
+-- second time, and the set begins there. Where it does not, all is the clause, and the set is empty.
+abbrev pub clause_part : List Literal → List Literal
+clause_part [] = []
+clause_part (first ∷ rest) = first ∷ take_while (λ l. not (l == first)) rest
+
+abbrev pub set_part : List Literal → List Literal
+set_part lits = drop (length (clause_part lits)) lits
 
 -- an addition and a deletion without literals and hints, and a step with one more of each
 abbrev pub named : ℕ → Step

@@ -1,8 +1,11 @@
 //! One step of a proof.
 
-ghost use Rattle.std.specs.Prelude.{◌≡◌, [], IsTrue, OnOk};
+#[cfg(test)]
+mod tests;
+
+ghost use Rattle.std.specs.Prelude.{◌≡◌, [], length, IsTrue, OnOk};
 ghost use Rattle.std.specs.List.{list_all};
-ghost use Rattle.proofs.specs.Steps.{is_hint, is_small, named, deleting, with_literal, with_hint};
+ghost use Rattle.proofs.specs.Steps.{clause_part, set_part, is_hint, is_small, named, deleting, with_literal, with_hint};
 
 use cnf_base::{Lit, OutOfMemory};
 use std::alloc::Global;
@@ -44,6 +47,23 @@ impl Model for StepBuf {
         (IsTrue (is_small s.id)) × (IsTrue (list_all (is_hint s.kind) s.hints.items)) };
 }
 
+/// How many literals stand before the first one stands a second time: all of them where it does not.
+fn clause_len(lits: &[Lit]) -> usize
+    ensures { result ≡ length (clause_part lits.now) }
+{
+    let Some((first, rest)) = lits.split_first() else {
+        return 0;
+    };
+    let mut len = 1;
+    for l in rest {
+        if l == first {
+            return len;
+        }
+        len += 1;
+    }
+    len
+}
+
 impl StepBuf {
     /// A step without literals, which takes no memory.
     pub fn new(alloc: Global) -> Self
@@ -77,6 +97,16 @@ impl StepBuf {
         ensures { result.now ≡ self.now.lits }
     {
         self.lits.as_slice()
+    }
+
+    /// The clause and the set that the literals list: the clause ends before its first literal stands a second time, and the
+    /// set begins there. No literal is copied, and it takes no memory.
+    pub fn parts(&self) -> (&[Lit], &[Lit])
+        ensures clause { result.0.now ≡ clause_part self.now.lits }
+        ensures set { result.1.now ≡ set_part self.now.lits }
+    {
+        let lits = self.lits();
+        lits.split_at(clause_len(lits))
     }
 
     /// Its hints, or the identifiers that it deletes, in written order.

@@ -7,6 +7,7 @@ pub mod Levels
 pub mod MakesFalse
 pub mod Met
 pub mod Passes
+pub mod Reduced
 pub mod Scan
 pub mod Truth
 pub mod Unit

@@ -1,5 +1,6 @@
 -- Clauses in slots, and what is assumed of their literals (our own profile).
-use Rattle.std.specs.Prelude.{◌≡◌, ℕ, Bool, true, false, List, [], ◌∷◌, ◌++◌, filter, Some, Result, IfOk, OnOk, OnErr, ⊤, take, IsTrue}
+use Rattle.std.specs.Prelude.{◌≡◌, ℕ, Bool, true, false, not, ◌&&◌, List, [], ◌∷◌, ◌++◌, filter, Some, Result, IfOk, OnOk, OnErr, ⊤, take, IsTrue}
+use Rattle.std.specs.List.{list_any}
 use Rattle.std.specs.Ordering.{nat_cmp}
 use Rattle.std.specs.FinMap as maps
 use Rattle.std.specs.FinMap.{FinMap}
@@ -99,3 +100,13 @@ abbrev pub roots_in : List Literal → List Assumption → List ℕ → List Lit
 roots_in lits [] starts = lits
 roots_in lits (last ∷ rest) [] = []
 roots_in lits (last ∷ rest) (start ∷ starts) = roots_in (take start lits) rest starts
+
+-- whether the set makes a literal of the clause false and none true: the set reduces the clause, as DPR proofs have it
+abbrev pub is_reduced : (Literal → Bool) → Clause → Bool
+is_reduced in_set c = list_any (λ l. in_set (complement l)) c && not (list_any in_set c)
+
+-- the set reduces the clause in the slot
+pub record IsReducedAt (live : Live) (set : List Literal) (slot : ℕ) : Type 0 where
+  pub clause : Clause
+  pub at : live slot ≡ Some clause
+  pub reduced : IsTrue (is_reduced (has set) clause)

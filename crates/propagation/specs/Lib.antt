@@ -4,6 +4,7 @@ pub mod Exact
 pub mod Forced
 pub mod Left
 pub mod Levels
+pub mod LiteralSet
 pub mod Scan
 pub mod Trail
 pub mod Values

@@ -5,19 +5,19 @@ mod answer;
 mod assumptions;
 mod left;
 mod levels;
+mod literal_set;
 mod part;
 mod propagate;
 mod scan;
 mod trail;
-#[cfg(test)]
-mod trail_tests;
 mod value;
 
 pub use answer::Answer;
 pub use assumptions::Assumptions;
 pub use left::Left;
-pub use part::{Except, Part, Whole};
+pub use literal_set::LiteralSet;
+pub use part::{Except, Part, Unless, Whole};
 pub use propagate::Propagate;
-pub use scan::{Scan, first_with};
+pub use scan::{Scan, first_reduced, first_with};
 pub use trail::Trail;
 pub use value::Value;

@@ -1,8 +1,10 @@
-//! Parts of clauses: all literals, or all but one.
+//! Parts of clauses: all literals, all but one, or all but those that a set makes false.
 
 ghost use Rattle.std.specs.Prelude.{◌≡◌, ◌==◌, Bool, not, true};
-ghost use Rattle.cnf_base.specs.Literals.{Literal};
+ghost use Rattle.cnf_base.specs.Literals.{Literal, complement};
+ghost use Rattle.propagation.specs.LiteralSet.{in_set};
 
+use crate::LiteralSet;
 use cnf_base::Lit;
 
 /// Which literals of a clause are meant. The others are left out.
@@ -36,5 +38,17 @@ impl Part for Except {
 
     fn keeps_literal(&self, l: Lit) -> bool {
         l != self.0
+    }
+}
+
+/// All literals of a clause but those whose complement is in the set.
+#[derive(Clone, Copy)]
+pub struct Unless<'a>(pub &'a LiteralSet);
+
+impl Part for Unless<'_> {
+    ghost keeps = { λ part l. not (in_set part.0.now (complement l)) };
+
+    fn keeps_literal(&self, l: Lit) -> bool {
+        !self.0.has(l.neg())
     }
 }

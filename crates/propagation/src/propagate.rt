@@ -1,10 +1,11 @@
 //! What every store of live clauses does that propagates.
 
-ghost use Rattle.std.specs.Prelude.{◌≡◌, ◌≢◌, [], ◌≤◌, ◌<◌, ◌∷◌, ℕ, min, not, ◌==◌, length, Some, None, List, IsTrue, IsSome, IfSome, IfNone, IfOk, OnErr};
+ghost use Rattle.std.specs.Prelude.{◌≡◌, ◌≢◌, [], ◌≤◌, ◌<◌, ◌∷◌, ℕ, min, not, ◌==◌, length, Some, None, List, IsTrue, IsSome, IfSome, IfNone, IfOk, OnOk, OnErr};
 ghost use Rattle.std.specs.FinMap as maps;
-ghost use Rattle.cnf_base.specs.Literals.{Clause, same_clause, complements};
+ghost use Rattle.cnf_base.specs.Literals.{Clause, has, same_clause, complement, complements};
 ghost use Rattle.clause_db.specs.Store.Clauses.{size, copies_with};
-ghost use Rattle.propagation.specs.Assumptions.{Propagation, Assumption, Assuming, AssumingPart, HoldsLiveAlone, HasAt, LastIsAnswered, IsValue, MayAssume, assumed_by};
+ghost use Rattle.propagation.specs.Assumptions.{Propagation, Assumption, Assuming, AssumingPart, HoldsLiveAlone, HasAt, IsReducedAt, LastIsAnswered, IsValue, MayAssume, assumed_by};
+ghost use Rattle.propagation.specs.Trail.{conflicts};
 ghost use Rattle.propagation.specs.declared.answer.Answer.TheVariants.{Quiet};
 
 use crate::{Answer, Value};
@@ -96,6 +97,44 @@ pub trait Propagate {
         requires may { MayAssume (state self.old).assumptions }
         requires alive { IsSome (maps.get (state self.old).live slot) }
         ensures { AssumingPart (state self.old) (state self.new) slot (λ k. not (k == l)) result };
+
+    /// Assumes the complements of the literals of a live clause but for those whose complement is in the set, beside what is
+    /// assumed, and propagates.
+    ///
+    /// # Errors
+    ///
+    /// Where memory runs out, and ever after. What is assumed is then as it was.
+    fn assume_unless(&mut self, slot: Slot, set: &[Lit]) -> Result<Answer, OutOfMemory>
+        requires may { MayAssume (state self.old).assumptions }
+        requires alive { IsSome (maps.get (state self.old).live slot) }
+        ensures { AssumingPart (state self.old) (state self.new) slot
+            (λ k. not (has set.now (complement k))) result };
+
+    /// Whether the set has a literal and its complement.
+    ///
+    /// # Errors
+    ///
+    /// Where memory runs out.
+    fn conflicts(&mut self, set: &[Lit]) -> Result<bool, OutOfMemory>
+        ensures found { IfOk result (λ found. found ≡ conflicts set.now) }
+        ensures same { state self.new ≡ state self.old };
+
+    /// The first slot from this one on whose clause the set reduces, if there is one: the clause has the complement of a
+    /// literal of the set, and no literal of the set. Each look-up in the set costs the same, however large it is.
+    ///
+    /// # Errors
+    ///
+    /// Where memory runs out.
+    fn next_reduced(&mut self, set: &[Lit], from: Slot) -> Result<Option<Slot>, OutOfMemory>
+        ensures found { IfOk result (λ next. IfSome next (λ slot. (from ≤ slot) ×
+            IsReducedAt (maps.get (state self.old).live) set.now slot)) }
+        ensures passed_over { IfOk result (λ next. IfSome next (λ slot. (s : ℕ) → from ≤ s → s < slot →
+            ¬ IsReducedAt (maps.get (state self.old).live) set.now s)) }
+        ensures none { IfOk result (λ next. IfNone next ((s : ℕ) → from ≤ s →
+            ¬ IsReducedAt (maps.get (state self.old).live) set.now s)) }
+        ensures slots { OnOk result ((s : ℕ) → IsSome (maps.get (state self.old).live s) →
+            s ≤ 18446744073709551615) }
+        ensures same { state self.new ≡ state self.old };
 
     /// Takes back the last assumption. It takes no memory.
     fn undo(&mut self)

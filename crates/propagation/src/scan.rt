@@ -2,16 +2,17 @@
 
 mod unit;
 
-ghost use Rattle.std.specs.Prelude.{◌≡◌, ℕ, [], ◌≤◌, ◌<◌, ◌++◌, filter, true, false, IfOk, OnErr, IfSome, IfNone, IsSome};
+ghost use Rattle.std.specs.Prelude.{◌≡◌, ℕ, [], ◌≤◌, ◌<◌, ◌++◌, filter, true, false, IfOk, OnErr, IfSome, IfNone, IsSome, IsTrue, IsFalse};
 ghost use Rattle.std.specs.FinMap as maps;
 ghost use Rattle.cnf_base.specs.Literals.{complements};
 ghost use Rattle.propagation.specs.Assumptions.{Assumes, HasAt, IsAnswer, MayAssume, assumed_by};
+ghost use Rattle.propagation.specs.LiteralSet.{in_set, reduced_there};
 ghost use Rattle.propagation.specs.Scan.{IsScan};
 ghost use Rattle.propagation.specs.Trail.{HasRoom};
 
 use crate::assumptions::Assumptions;
 use crate::scan::unit::propagate;
-use crate::{Answer, Except, Part, Propagate, Value, Whole};
+use crate::{Answer, Except, LiteralSet, Part, Propagate, Unless, Value, Whole};
 use clause_db::{Slot, Store};
 use cnf_base::{Lit, OutOfMemory};
 use std::alloc::Global;
@@ -22,6 +23,8 @@ use std::marker::Model;
 pub struct Scan {
     store: Store,
     assumptions: Assumptions,
+    /// The set that the last call was given, if it was given one.
+    set: LiteralSet,
     has_refused: bool,
 }
 
@@ -75,6 +78,34 @@ pub fn first_with(store: &Store, l: Lit, from: Slot) -> Option<Slot>
     None
 }
 
+/// Whether there is a clause in the slot with this number, and the set reduces it.
+fn is_reduced_at(store: &Store, number: usize, set: &LiteralSet) -> bool
+    ensures { result ≡ reduced_there (in_set set.now) (maps.get store.now.live number) }
+{
+    match store.at(number) {
+        Some(clause) => set.reduces(clause),
+        None => false,
+    }
+}
+
+/// The first slot from this one on whose clause the set reduces.
+pub fn first_reduced(store: &Store, set: &LiteralSet, from: Slot) -> Option<Slot>
+    ensures found { IfSome result (λ slot. (from ≤ slot) ×
+        IsTrue (reduced_there (in_set set.now) (maps.get store.now.live slot))) }
+    ensures passed_over { IfSome result (λ slot. (s : ℕ) → from ≤ s → s < slot →
+        IsFalse (reduced_there (in_set set.now) (maps.get store.now.live s))) }
+    ensures none { IfNone result ((s : ℕ) → from ≤ s →
+        IsFalse (reduced_there (in_set set.now) (maps.get store.now.live s))) }
+    ensures slots { (s : ℕ) → IsSome (maps.get store.now.live s) → s ≤ 18446744073709551615 }
+{
+    for number in from.number()..store.end() {
+        if is_reduced_at(store, number, set) {
+            return Some(Slot::at(number));
+        }
+    }
+    None
+}
+
 /// Assumes the complements of a part of a clause, beside what is assumed, and propagates.
 fn assume_part<P: Part>(
     store: &Store,
@@ -112,6 +143,7 @@ impl Scan {
         Ok(Scan {
             store: Store::new(alloc)?,
             assumptions: Assumptions::new(alloc)?,
+            set: LiteralSet::new(alloc),
             has_refused: false,
         })
     }
@@ -167,6 +199,28 @@ impl Propagate for Scan {
         let assumed = assume_part(&self.store, &mut self.assumptions, clause, &Except(l));
         self.has_refused = assumed.is_err();
         assumed
+    }
+
+    fn assume_unless(&mut self, slot: Slot, set: &[Lit]) -> Result<Answer, OutOfMemory> {
+        if self.has_refused || self.set.fill(set).is_err() {
+            self.has_refused = true;
+            return Err(OutOfMemory);
+        }
+        let clause = self.store.clause(slot);
+        let part = Unless(&self.set);
+        let assumed = assume_part(&self.store, &mut self.assumptions, clause, &part);
+        self.has_refused = assumed.is_err();
+        assumed
+    }
+
+    fn conflicts(&mut self, set: &[Lit]) -> Result<bool, OutOfMemory> {
+        self.set.fill(set)?;
+        Ok(self.set.falsifies(set))
+    }
+
+    fn next_reduced(&mut self, set: &[Lit], from: Slot) -> Result<Option<Slot>, OutOfMemory> {
+        self.set.fill(set)?;
+        Ok(first_reduced(&self.store, &self.set, from))
     }
 
     fn undo(&mut self) {

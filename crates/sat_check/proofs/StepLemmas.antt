@@ -5,7 +5,7 @@ use Rattle.cnf_base.specs.Lines.{Sink, Writes}
 use Rattle.proofs.specs.Steps.{Step}
 use Rattle.proofs.specs.Reading.{Proof, with_step}
 use Rattle.steps.specs.declared.theory.accepted.Accepted.{Accepted}
-use Rattle.steps.specs.declared.theory.accepted.Accepted.TheVariants.{Empty, Rup, Rat, Deleted, Ignored}
+use Rattle.steps.specs.declared.theory.accepted.Accepted.TheVariants.{Empty, Rup, Rat, Pr, Deleted, Ignored}
 use Rattle.steps.specs.declared.theory.refusal.Refusal.{Refusal}
 use Rattle.steps.specs.declared.theory.refusal.Refusal.TheVariants.{OutOfMemory}
 use Rattle.steps.specs.ProofSession.{View}
@@ -37,6 +37,7 @@ pub last_word : (w : Accepted) → is_last w ≡ true → w ≡ Empty
 last_word Empty h = refl
 last_word Rup h = absurd (let e : false ≡ true = h in cc)
 last_word Rat h = absurd (let e : false ≡ true = h in cc)
+last_word Pr h = absurd (let e : false ≡ true = h in cc)
 last_word Deleted h = absurd (let e : false ≡ true = h in cc)
 last_word Ignored h = absurd (let e : false ≡ true = h in cc)
 

@@ -25,7 +25,7 @@ use Rattle.proofs.specs.Reading.{Proof}
 use Rattle.steps.specs.Theory.Rules.{Rule}
 use Rattle.steps.specs.Theory.Verdicts.{Ending, verified, refused, no_empty_clause}
 use Rattle.steps.specs.declared.theory.accepted.Accepted.{Accepted}
-use Rattle.steps.specs.declared.theory.accepted.Accepted.TheVariants.{Rup, Rat, Deleted, Ignored, Empty}
+use Rattle.steps.specs.declared.theory.accepted.Accepted.TheVariants.{Rup, Rat, Pr, Deleted, Ignored, Empty}
 use Rattle.steps.specs.declared.theory.refusal.Refusal.{Refusal}
 use Rattle.steps.specs.declared.theory.refusal.Refusal.TheVariants as refusal
 use Rattle.sat_check.specs.Lines.{shown, formula_line, kind_text, binary_text, fault_line, fault_status, word_text, trace_line, sign_text, with_cause, refusal_line, steps_line, end_line, sentence}
@@ -240,6 +240,7 @@ fault_tells name f e = concluded_tells (fault_line name f) (fault_status f) (fau
 word_plain : (w : Accepted) → Plain (word_text w)
 word_plain Rup = fixed _ refl
 word_plain Rat = fixed _ refl
+word_plain Pr = fixed _ refl
 word_plain Deleted = fixed _ refl
 word_plain Ignored = fixed _ refl
 word_plain Empty = fixed _ refl
@@ -255,6 +256,8 @@ cause_plain : (front : List ℕ) (r : Refusal) → Plain front → Plain (with_c
 cause_plain front refusal.NotRup e = e ⊕ fixed (codes "not RUP") refl
 cause_plain front (refusal.NeitherRupNorRat l) e = e ⊕ fixed (codes "neither RUP nor RAT on ") refl ⊕ sign_plain l ⊕ number_plain (l / 2)
 cause_plain front refusal.NotAlive e = e ⊕ fixed (codes "clause is not alive") refl
+cause_plain front refusal.InconsistentSet e = e ⊕ fixed (codes "set holds a literal and its complement") refl
+cause_plain front refusal.NeitherRupNorPr e = e ⊕ fixed (codes "neither RUP nor PR") refl
 cause_plain front refusal.IdOutOfOrder e = e ⊕ fixed (codes "identifier is not above all earlier ones") refl
 cause_plain front (refusal.UnknownId k) e = e ⊕ fixed (codes "unknown id ") refl ⊕ number_plain k
 cause_plain front (refusal.NotUnit k) e = e ⊕ fixed (codes "hint ") refl ⊕ number_plain k ⊕ fixed (codes " is not unit") refl
@@ -270,6 +273,8 @@ refusal_other : (n : ℕ) (r : Refusal) → begins positive (refusal_line n r) �
 refusal_other n refusal.NotRup = refl
 refusal_other n (refusal.NeitherRupNorRat l) = refl
 refusal_other n refusal.NotAlive = refl
+refusal_other n refusal.InconsistentSet = refl
+refusal_other n refusal.NeitherRupNorPr = refl
 refusal_other n refusal.IdOutOfOrder = refl
 refusal_other n (refusal.UnknownId k) = refl
 refusal_other n (refusal.NotUnit k) = refl

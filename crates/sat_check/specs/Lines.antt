@@ -9,7 +9,7 @@ use Rattle.cnf_base.specs.declared.fault.BinaryFault.{BinaryFault}
 use Rattle.cnf_base.specs.declared.fault.BinaryFault.TheVariants as binary
 use Rattle.dimacs.specs.declared.header.Header.{Header}
 use Rattle.steps.specs.declared.theory.accepted.Accepted.{Accepted}
-use Rattle.steps.specs.declared.theory.accepted.Accepted.TheVariants.{Rup, Rat, Deleted, Ignored, Empty}
+use Rattle.steps.specs.declared.theory.accepted.Accepted.TheVariants.{Rup, Rat, Pr, Deleted, Ignored, Empty}
 use Rattle.steps.specs.declared.theory.refusal.Refusal.{Refusal}
 use Rattle.steps.specs.declared.theory.refusal.Refusal.TheVariants as refusal
 use Rattle.sat_check.specs.declared.subject.Subject.{Subject}
@@ -74,6 +74,7 @@ fault_status fault.OutOfMemory = status.OutOfMemory
 abbrev pub word_text : Accepted → List ℕ
 word_text Rup = codes " add rup"
 word_text Rat = codes " add rat"
+word_text Pr = codes " add pr"
 word_text Deleted = codes " delete"
 word_text Ignored = codes " ignored"
 word_text Empty = codes " add rup"
@@ -90,6 +91,8 @@ abbrev pub with_cause : List ℕ → Refusal → List ℕ
 with_cause front refusal.NotRup = front ++ codes "not RUP"
 with_cause front (refusal.NeitherRupNorRat l) = front ++ codes "neither RUP nor RAT on " ++ sign_text l ++ decimal (l / 2)
 with_cause front refusal.NotAlive = front ++ codes "clause is not alive"
+with_cause front refusal.InconsistentSet = front ++ codes "set holds a literal and its complement"
+with_cause front refusal.NeitherRupNorPr = front ++ codes "neither RUP nor PR"
 with_cause front refusal.IdOutOfOrder = front ++ codes "identifier is not above all earlier ones"
 with_cause front (refusal.UnknownId k) = front ++ codes "unknown id " ++ decimal k
 with_cause front (refusal.NotUnit k) = front ++ codes "hint " ++ decimal k ++ codes " is not unit"

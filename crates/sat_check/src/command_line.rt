@@ -1,8 +1,6 @@
 //! The reader of the words.
 
 pub(crate) mod args;
-#[cfg(test)]
-mod tests;
 pub(crate) mod tool;
 
 ghost use Rattle.std.specs.Prelude.{◌≡◌, ◌≤◌, ◌||◌, Some, codes, false, length, option_map, string_bytes, true};
@@ -71,10 +69,16 @@ fn command<'a>(alloc: Global, tool: Tool) -> Result<Command<'a>, AllocError>
                 "strict",
                 "Refuse a deletion of a clause that is not alive",
             );
+            let pr = flag(
+                alloc,
+                "pr",
+                "Take additions that list a set, by propagation redundancy",
+            );
             Command::new(alloc, "drat-forward")
                 .arg(binary)?
                 .arg(trace(alloc))?
                 .arg(strict)?
+                .arg(pr)?
                 .arg(formula(alloc))?
                 .arg(second(alloc, "PROOF", "The proof (standard input if absent)"))
         }
@@ -128,6 +132,8 @@ pub fn read_args(alloc: Global, tool: Tool, words: &[String]) -> Result<Args, Ar
         → a.trace ≡ (args tool (said_by words.now)).trace) }
     ensures strict { IfOk result (λ a. is_among (said_by words.now) end_mark ≡ false
         → a.strict ≡ (args tool (said_by words.now)).strict) }
+    ensures pr { IfOk result (λ a. is_among (said_by words.now) end_mark ≡ false
+        → a.pr ≡ (args tool (said_by words.now)).pr) }
     ensures formula { IfOk result (λ a. is_among (said_by words.now) end_mark ≡ false
         → Some (string_bytes a.formula) ≡ (args tool (said_by words.now)).formula) }
     ensures second { IfOk result (λ a. is_among (said_by words.now) end_mark ≡ false
@@ -161,6 +167,7 @@ pub fn read_args(alloc: Global, tool: Tool, words: &[String]) -> Result<Args, Ar
         binary: matches.get_flag("binary"),
         trace: matches.get_flag("trace"),
         strict: matches.get_flag("strict"),
+        pr: matches.get_flag("pr"),
         formula,
         second,
     })

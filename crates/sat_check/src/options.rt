@@ -21,6 +21,8 @@ pub struct DratOptions {
     pub trace: bool,
     /// Whether a deletion of a clause that is not alive is refused.
     pub strict: bool,
+    /// Whether an addition may list a set after its clause, by which it may be propagation redundant (PR).
+    pub pr: bool,
 }
 
 impl DratOptions {
@@ -30,6 +32,7 @@ impl DratOptions {
     {
         DratRules {
             strict: self.strict,
+            pr: self.pr,
         }
     }
 }

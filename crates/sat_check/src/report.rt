@@ -158,6 +158,8 @@ fn with_cause(line: Line, refusal: Refusal) -> Result<Line, OutOfMemory>
         Refusal::NotRup => line.text(b"not RUP"),
         Refusal::NeitherRupNorRat(pivot) => with_pivot(line, pivot),
         Refusal::NotAlive => line.text(b"clause is not alive"),
+        Refusal::InconsistentSet => line.text(b"set holds a literal and its complement"),
+        Refusal::NeitherRupNorPr => line.text(b"neither RUP nor PR"),
         Refusal::IdOutOfOrder => line.text(b"identifier is not above all earlier ones"),
         Refusal::UnknownId(id) => line.text(b"unknown id ")?.number(id),
         Refusal::NotUnit(id) => with_id(line, b"hint ", id, b" is not unit"),
@@ -207,6 +209,7 @@ fn word_text(word: Accepted) -> &'static [u8]
     match word {
         Accepted::Rup | Accepted::Empty => b" add rup",
         Accepted::Rat => b" add rat",
+        Accepted::Pr => b" add pr",
         Accepted::Deleted => b" delete",
         Accepted::Ignored => b" ignored",
     }

@@ -100,6 +100,7 @@ fn is_last(word: Accepted) -> bool
 {
     match word {
         Accepted::Empty => true,
-        Accepted::Rup | Accepted::Rat | Accepted::Deleted | Accepted::Ignored => false,
+        Accepted::Rup | Accepted::Rat | Accepted::Pr | Accepted::Deleted | Accepted::Ignored =>
+            false,
     }
 }

@@ -1,33 +1,40 @@
 -- One step of a DRAT proof, over the list of the live clauses. Additions by RUP, or by RAT on the first literal written,
 -- and deletions are those of DRAT, as DRAT-trim's page has it. Our own profile: RUP is asked first, a deletion of a unit
 -- clause is done as written, and one of a clause that is not alive is ignored, or refused where the rules are strict.
+-- Additions that list a set after their clause are those of DPR proofs; that they are tried by RUP and PR alone is our own.
 pub mod Candidates
 pub mod Session
 use Rattle.std.specs.Prelude.{◌≡◌, ℕ, Bool, true, false, List, [], ◌∷◌, Ok, Err, count_by, slice_get, IsTrue, IsFalse, if◌then◌else◌}
 use Rattle.std.specs.List.{list_any}
 use Rattle.steps.specs.declared.theory.accepted.Accepted.{Accepted}
-use Rattle.steps.specs.declared.theory.accepted.Accepted.TheVariants.{Rup, Rat, Empty, Deleted, Ignored}
-use Rattle.steps.specs.declared.theory.refusal.Refusal.TheVariants.{NotRup, NeitherRupNorRat, NotAlive}
+use Rattle.steps.specs.declared.theory.accepted.Accepted.TheVariants.{Rup, Rat, Pr, Empty, Deleted, Ignored}
+use Rattle.steps.specs.declared.theory.refusal.Refusal.TheVariants.{NotRup, NeitherRupNorRat, NotAlive, InconsistentSet, NeitherRupNorPr}
 use Rattle.cnf_base.specs.Literals.{Literal, Clause, same_clause}
-use Rattle.steps.specs.Theory.Propagation.{HasRup, HasRat}
+use Rattle.steps.specs.Theory.Propagation.{HasRup, HasRat, HasPr}
 use Rattle.steps.specs.Theory.StepAnswer.{StepAnswer}
 use Rattle.steps.specs.declared.drat.rules.DratRules.{DratRules}
-use Rattle.proofs.specs.Steps.{Step}
+use Rattle.propagation.specs.Trail.{conflicts}
+use Rattle.proofs.specs.Steps.{Step, clause_part, set_part}
 use Rattle.proofs.specs.declared.step_buf.StepKind.{StepKind}
 use Rattle.proofs.specs.declared.step_buf.StepKind.TheVariants.{Add, Delete}
 
--- a step, with its literals in the order in which they were written
+-- a step, with its literals in the order in which they were written: an addition of a clause with the set that it lists, or a deletion
 pub data DratStep : Type 0 where
-  add : List Literal → DratStep
+  add : List Literal → List Literal → DratStep
   delete : List Literal → DratStep
 
--- what a step of a proof says in DRAT, where identifiers and hints mean nothing
-abbrev pub drat_step_of : StepKind → List ℕ → DratStep
-drat_step_of Add lits = add lits
-drat_step_of Delete lits = delete lits
+-- an addition lists a set only where the rules have PR
+abbrev pub addition_of : Bool → List Literal → DratStep
+addition_of true lits = add (clause_part lits) (set_part lits)
+addition_of false lits = add lits []
 
-abbrev pub drat_step : Step → DratStep
-drat_step s = drat_step_of s.kind s.lits
+-- what a step of a proof says in DRAT, where identifiers and hints mean nothing; a deletion is never divided
+abbrev pub drat_step_of : DratRules → StepKind → List ℕ → DratStep
+drat_step_of rules Add lits = addition_of rules.pr lits
+drat_step_of rules Delete lits = delete lits
+
+abbrev pub drat_step : DratRules → Step → DratStep
+drat_step rules s = drat_step_of rules s.kind s.lits
 
 -- What an addition may be answered. The pivot is the first literal written.
 abbrev pub AnswersAdd : List Clause → List Literal → StepAnswer → Type 0
@@ -39,6 +46,21 @@ AnswersAdd live (pivot ∷ rest) (Err (NeitherRupNorRat l)) =
     (l ≡ pivot) × ¬ HasRup (slice_get live) (pivot ∷ rest) × ¬ HasRat (slice_get live) (pivot ∷ rest) pivot
 AnswersAdd live c _ = ⊥
 
+-- What an addition may be answered that lists a set. A set with a literal and its complement is refused before all else, and
+-- RAT is not asked.
+abbrev pub AnswersWithSet : List Clause → List Literal → List Literal → StepAnswer → Type 0
+AnswersWithSet live c set (Err InconsistentSet) = IsTrue (conflicts set)
+AnswersWithSet live c set (Ok Rup) = IsFalse (conflicts set) × HasRup (slice_get live) c
+AnswersWithSet live c set (Ok Pr) = IsFalse (conflicts set) × ¬ HasRup (slice_get live) c × HasPr (slice_get live) c set
+AnswersWithSet live c set (Err NeitherRupNorPr) =
+    IsFalse (conflicts set) × ¬ HasRup (slice_get live) c × ¬ HasPr (slice_get live) c set
+AnswersWithSet live c set _ = ⊥
+
+-- What an addition may be answered, whether it lists a set or not.
+abbrev pub AnswersListed : List Clause → List Literal → List Literal → StepAnswer → Type 0
+AnswersListed live c [] answer = AnswersAdd live c answer
+AnswersListed live c (l ∷ set) answer = AnswersWithSet live c (l ∷ set) answer
+
 -- What a deletion may be answered. One of a clause that is not alive is ignored, or refused where the rules are strict.
 abbrev pub AnswersDelete : Bool → List Clause → List Literal → StepAnswer → Type 0
 AnswersDelete strict live c (Ok Deleted) = IsTrue (list_any (same_clause c) live)
@@ -47,7 +69,7 @@ AnswersDelete true live c (Err NotAlive) = IsFalse (list_any (same_clause c) liv
 AnswersDelete strict live c _ = ⊥
 
 abbrev pub AnswersDrat : DratRules → List Clause → DratStep → StepAnswer → Type 0
-AnswersDrat rules live (add c) answer = AnswersAdd live c answer
+AnswersDrat rules live (add c set) answer = AnswersListed live c set answer
 AnswersDrat rules live (delete c) answer = AnswersDelete rules.strict live c answer
 
 -- without one copy of the clause, if there is one
@@ -57,7 +79,7 @@ take_off c (d ∷ live) = if same_clause c d then live else d ∷ take_off c liv
 
 -- What is alive after a step that was accepted with this word. An ignored deletion changes nothing.
 abbrev pub after_drat : List Clause → DratStep → Accepted → List Clause
-after_drat live (add c) word = c ∷ live
+after_drat live (add c set) word = c ∷ live
 after_drat live (delete c) Ignored = live
 after_drat live (delete c) word = take_off c live
 

@@ -1,5 +1,6 @@
 //! Sessions that check a DRAT proof.
 
+mod pr;
 pub(crate) mod rules;
 mod step;
 

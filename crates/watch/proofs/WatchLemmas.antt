@@ -14,3 +14,4 @@ pub mod Kept
 pub mod Arrange
 pub mod Entered
 pub mod State
+pub mod Reduced

@@ -22,7 +22,10 @@ use crate::slot_list::SlotList;
 use crate::source::{Source, assume_from};
 use clause_db::{Slot, Store};
 use cnf_base::{Lit, OutOfMemory};
-use propagation::{Answer, Assumptions, Except, Part, Propagate, Value, Whole, first_with};
+use propagation::{
+    Answer, Assumptions, Except, LiteralSet, Part, Propagate, Unless, Value, Whole, first_reduced,
+    first_with,
+};
 use std::alloc::Global;
 use std::marker::Model;
 
@@ -40,6 +43,8 @@ pub struct Watch {
     assumptions: Assumptions,
     /// What is known of the literals that are true with nothing assumed.
     roots: Roots,
+    /// The set that the last call was given, if it was given one.
+    set: LiteralSet,
     has_refused: bool,
 }
 
@@ -135,6 +140,7 @@ impl Watch {
             short: SlotList::new(alloc),
             assumptions: Assumptions::new(alloc)?,
             roots: Roots::new(alloc),
+            set: LiteralSet::new(alloc),
             has_refused: false,
         })
     }
@@ -315,6 +321,46 @@ impl Propagate for Watch {
         self.store.is_sound();
         self.has_refused = assumed.is_err();
         assumed
+    }
+
+    fn assume_unless(&mut self, slot: Slot, set: &[Lit]) -> Result<Answer, OutOfMemory> {
+        if self.has_refused
+            || self.set.fill(set).is_err()
+            || refresh(
+                &mut self.store,
+                &mut self.lists,
+                &self.short,
+                &mut self.assumptions,
+                &mut self.roots,
+            )
+            .is_err()
+        {
+            self.store.is_sound();
+            self.has_refused = true;
+            return Err(OutOfMemory);
+        }
+        let assumed = assume_part(
+            &mut self.store,
+            &mut self.lists,
+            &self.short,
+            &mut self.assumptions,
+            &mut self.roots,
+            &Source::Stored(slot),
+            &Unless(&self.set),
+        );
+        self.store.is_sound();
+        self.has_refused = assumed.is_err();
+        assumed
+    }
+
+    fn conflicts(&mut self, set: &[Lit]) -> Result<bool, OutOfMemory> {
+        self.set.fill(set)?;
+        Ok(self.set.falsifies(set))
+    }
+
+    fn next_reduced(&mut self, set: &[Lit], from: Slot) -> Result<Option<Slot>, OutOfMemory> {
+        self.set.fill(set)?;
+        Ok(first_reduced(&self.store, &self.set, from))
     }
 
     fn undo(&mut self) {

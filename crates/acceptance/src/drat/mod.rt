@@ -6,4 +6,5 @@ mod cuts;
 mod deletions;
 mod failing_writers;
 mod inputs;
+mod listed_sets;
 mod long_inputs;

@@ -33,7 +33,7 @@ fn expect_by<P: Propagate + Drop>(
     requires nothing_assumed { (P.state clauses).assumptions ≡ [] }
     requires none_refused { (P.state clauses).has_refused ≡ false }
 {
-    let mut session = DratSession::new(clauses, DratRules { strict });
+    let mut session = DratSession::new(clauses, DratRules { strict, pr: false });
     match trial {
         Trial::EmptyClause(proof) => {
             let mut reader = DratText::new(open(alloc, proof, 7, Cut::Ends)?);

@@ -66,6 +66,7 @@ const PLAIN: DratOptions = DratOptions {
     binary: false,
     trace: false,
     strict: false,
+    pr: false,
 };
 
 const TRACED: DratOptions = DratOptions {
@@ -109,6 +110,21 @@ pub const BINARY_TRACED: Row<'static> = Row {
     tool: Tool::Drat(DratOptions {
         trace: true,
         ..BINARY
+    }),
+    ..LRAT
+};
+
+pub const DRAT_PR: Row<'static> = Row {
+    tool: Tool::Drat(DratOptions { pr: true, ..TRACED }),
+    ..LRAT
+};
+
+pub const BINARY_PR: Row<'static> = Row {
+    tool: Tool::Drat(DratOptions {
+        binary: true,
+        trace: true,
+        pr: true,
+        ..PLAIN
     }),
     ..LRAT
 };

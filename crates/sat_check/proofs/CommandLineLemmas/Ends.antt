@@ -64,7 +64,7 @@ files_default rows =
     ∙ (ap (λ (l : List Row). with_default l help_full) (stays (has_row (codes "second") rows) rows) ∙ stays (has_row (codes "help") rows) rows)
 
 abbrev pub end_row : Tool → Text → Option Row → Option Row
-end_row Drat id o = option_or (option_or (option_or o (off_for (codes "binary") id)) (off_for (codes "trace") id)) (off_for (codes "strict") id)
+end_row Drat id o = option_or (option_or (option_or (option_or o (off_for (codes "binary") id)) (off_for (codes "trace") id)) (off_for (codes "strict") id)) (off_for (codes "pr") id)
 end_row Lrat id o = option_or o (off_for (codes "trace") id)
 end_row Model id o = o
 
@@ -73,10 +73,12 @@ row_at_end Drat id rows =
     let one = with_default rows (flag_full (codes "binary")) in
     let two = with_default one (flag_full (codes "trace")) in
     let three = with_default two (flag_full (codes "strict")) in
-    ap (row_for id) (files_default three)
-    ∙ (flag_default (codes "strict") id two
-    ∙ (ap (λ o. option_or o (off_for (codes "strict") id)) (flag_default (codes "trace") id one)
-    ∙ ap (λ o. option_or (option_or o (off_for (codes "trace") id)) (off_for (codes "strict") id)) (flag_default (codes "binary") id rows)))
+    let four = with_default three (flag_full (codes "pr")) in
+    ap (row_for id) (files_default four)
+    ∙ (flag_default (codes "pr") id three
+    ∙ (ap (λ o. option_or o (off_for (codes "pr") id)) (flag_default (codes "strict") id two)
+    ∙ (ap (λ o. option_or (option_or o (off_for (codes "strict") id)) (off_for (codes "pr") id)) (flag_default (codes "trace") id one)
+    ∙ ap (λ o. option_or (option_or (option_or o (off_for (codes "trace") id)) (off_for (codes "strict") id)) (off_for (codes "pr") id)) (flag_default (codes "binary") id rows))))
 row_at_end Lrat id rows =
     ap (row_for id) (files_default (with_default rows (flag_full (codes "trace")))) ∙ flag_default (codes "trace") id rows
 row_at_end Model id rows = ap (row_for id) (files_default rows)
@@ -115,17 +117,23 @@ strict_text Drat set = by_cases Drat (codes "strict") refl refl set
 strict_text Lrat set = refl
 strict_text Model set = refl
 
-kept_thrice : (o : Option Row) → option_or (option_or (option_or o None) None) None ≡ o
-kept_thrice None = refl
-kept_thrice (Some r) = refl
+pr_text : (tool : Tool) (set : Bool) → IsFlagText tool (codes "pr") set
+unfolding text_at_end
+pr_text Drat set = by_cases Drat (codes "pr") refl refl set
+pr_text Lrat set = refl
+pr_text Model set = refl
+
+kept_through : (o : Option Row) → option_or (option_or (option_or (option_or o None) None) None) None ≡ o
+kept_through None = refl
+kept_through (Some r) = refl
 
 pub formula_row_end : (tool : Tool) (o : Option Row) → end_row tool (codes "formula") o ≡ o
-formula_row_end Drat o = kept_thrice o
+formula_row_end Drat o = kept_through o
 formula_row_end Lrat o = option_or-None o
 formula_row_end Model o = refl
 
 second_row_end : (tool : Tool) (o : Option Row) → end_row tool (codes "second") o ≡ o
-second_row_end Drat o = kept_thrice o
+second_row_end Drat o = kept_through o
 second_row_end Lrat o = option_or-None o
 second_row_end Model o = refl
 
@@ -134,6 +142,7 @@ pub record Reads (tool : Tool) (words : List Text) (rows : List Row) : Type 0 wh
   pub binary : one_of (codes "binary") rows ≡ flag_text (is_flag tool (codes "--binary")) (is_among words (codes "--binary"))
   pub trace : one_of (codes "trace") rows ≡ flag_text (is_flag tool (codes "--trace")) (is_among words (codes "--trace"))
   pub strict : one_of (codes "strict") rows ≡ flag_text (is_flag tool (codes "--strict")) (is_among words (codes "--strict"))
+  pub pr : one_of (codes "pr") rows ≡ flag_text (is_flag tool (codes "--pr")) (is_among words (codes "--pr"))
   pub formula : first_of (codes "formula") rows ≡ slice_get (names tool words) 0
   pub second : first_of (codes "second") rows ≡ slice_get (names tool words) 1
   pub few : length (names tool words) ≤ 2
@@ -151,6 +160,7 @@ reads_shown tool words ns rows few s = record {
   binary = ap (option_and_then row_text) (row_at_end tool (codes "binary") rows ∙ ap (end_row tool (codes "binary")) s.binary) ∙ binary_text tool (is_among words (codes "--binary"));
   trace = ap (option_and_then row_text) (row_at_end tool (codes "trace") rows ∙ ap (end_row tool (codes "trace")) s.trace) ∙ trace_text tool (is_among words (codes "--trace"));
   strict = ap (option_and_then row_text) (row_at_end tool (codes "strict") rows ∙ ap (end_row tool (codes "strict")) s.strict) ∙ strict_text tool (is_among words (codes "--strict"));
+  pr = ap (option_and_then row_text) (row_at_end tool (codes "pr") rows ∙ ap (end_row tool (codes "pr")) s.pr) ∙ pr_text tool (is_among words (codes "--pr"));
   formula = ap (option_and_then (λ (r : Row). slice_get r.values 0)) (row_at_end tool (codes "formula") rows ∙ (formula_row_end tool _ ∙ s.formula))
       ∙ (first_text formula_full ns 0 ∙ ap (λ (l : List Text). slice_get l 0) (sym s.said));
   second = ap (option_and_then (λ (r : Row). slice_get r.values 0)) (row_at_end tool (codes "second") rows ∙ (second_row_end tool _ ∙ s.second))

@@ -24,7 +24,7 @@ abbrev pub files_and_help : List Rule
 files_and_help = formula_full ∷ second_full ∷ help_full ∷ []
 
 abbrev pub rules_of : Tool → List Rule
-rules_of Drat = flag_full (codes "binary") ∷ flag_full (codes "trace") ∷ flag_full (codes "strict") ∷ files_and_help
+rules_of Drat = flag_full (codes "binary") ∷ flag_full (codes "trace") ∷ flag_full (codes "strict") ∷ flag_full (codes "pr") ∷ files_and_help
 rules_of Lrat = flag_full (codes "trace") ∷ files_and_help
 rules_of Model = files_and_help
 

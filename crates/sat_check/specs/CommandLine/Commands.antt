@@ -25,7 +25,8 @@ abbrev pub command_of : Tool → App
 command_of Drat = with_files
     (with_rule
     (with_rule
+    (with_rule
     (with_rule (new_app (codes "drat-forward")) (flag_rule (codes "binary")))
-    (flag_rule (codes "trace"))) (flag_rule (codes "strict")))
+    (flag_rule (codes "trace"))) (flag_rule (codes "strict"))) (flag_rule (codes "pr")))
 command_of Lrat = with_files (with_rule (new_app (codes "lrat-check")) (flag_rule (codes "trace")))
 command_of Model = with_files (new_app (codes "model-check"))

@@ -8,7 +8,7 @@ use Rattle.sat_check.specs.declared.command_line.tool.Tool.TheVariants.{Drat, Lr
 
 -- the flags that the tool has
 abbrev pub flags : Tool → List (List ℕ)
-flags Drat = codes "--binary" ∷ codes "--trace" ∷ codes "--strict" ∷ []
+flags Drat = codes "--binary" ∷ codes "--trace" ∷ codes "--strict" ∷ codes "--pr" ∷ []
 flags Lrat = codes "--trace" ∷ []
 flags Model = []
 
@@ -28,6 +28,7 @@ pub record Asked : Type 0 where
   pub binary : Bool
   pub trace : Bool
   pub strict : Bool
+  pub pr : Bool
   pub formula : Option (List ℕ)
   pub second : Option (List ℕ)
 
@@ -42,6 +43,7 @@ args tool words = record {
   binary = is_set tool (codes "--binary") words;
   trace = is_set tool (codes "--trace") words;
   strict = is_set tool (codes "--strict") words;
+  pr = is_set tool (codes "--pr") words;
   formula = slice_get (names tool words) 0;
   second = slice_get (names tool words) 1;
 }

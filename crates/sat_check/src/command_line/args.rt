@@ -15,6 +15,8 @@ pub struct Args {
     pub trace: bool,
     /// `--strict`: a deletion of a clause that is not alive is refused.
     pub strict: bool,
+    /// `--pr`: an addition may list a set after its clause.
+    pub pr: bool,
     /// The name of the file with the formula.
     pub formula: String,
     /// The name of the file with the proof, or with the solver's output.

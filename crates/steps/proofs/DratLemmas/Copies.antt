@@ -1,17 +1,17 @@
 -- The rule of DRAT depends only on how many copies of each clause are alive.
-use Rattle.std.proofs.Common.{◌≡◌, ◌≢◌, ℕ, zero, suc, ◌+◌, ◌-◌, ◌<◌, Bool, true, false, cond, Option, Some, Ok, Err, List, [], ◌∷◌, ◌++◌, slice_get, refl, sym, ap, ◌∙◌, subst, inl, inr, arith}
+use Rattle.std.proofs.Common.{◌≡◌, ◌≢◌, ℕ, zero, suc, ◌+◌, ◌-◌, ◌<◌, Bool, true, false, cond, Option, Some, Ok, Err, List, [], ◌∷◌, ◌++◌, slice_get, refl, sym, ap, ◌∙◌, subst, inl, inr, ◌⊎◌, not, arith}
 use Rattle.std.specs.List.{list_any}
 use Rattle.std.proofs.lemmas.Bool.{false≢true, true≢false, cases_Bool, or_cases, or_left, or_right, false_from_ne_true}
 use Rattle.std.proofs.lemmas.List.Sums.{sum_by-cons}
 use Rattle.std.proofs.lemmas.Option.{none-some}
 use Rattle.steps.specs.declared.theory.accepted.Accepted.{Accepted}
-use Rattle.steps.specs.declared.theory.accepted.Accepted.TheVariants.{Rup, Rat, Empty, Deleted, Ignored}
-use Rattle.steps.specs.declared.theory.refusal.Refusal.TheVariants.{NotRup, NeitherRupNorRat, NotAlive}
+use Rattle.steps.specs.declared.theory.accepted.Accepted.TheVariants.{Rup, Rat, Pr, Empty, Deleted, Ignored}
+use Rattle.steps.specs.declared.theory.refusal.Refusal.TheVariants.{NotRup, NeitherRupNorRat, NotAlive, InconsistentSet, NeitherRupNorPr}
 use Rattle.cnf_base.specs.Literals.{Literal, complement, Clause, has, complements, without, same_clause}
-use Rattle.steps.specs.Theory.Propagation.{Live, IsClosed, Forced, Clash, HasRup, HasRat, by_empty, by_both}
+use Rattle.steps.specs.Theory.Propagation.{Live, IsClosed, Forced, Clash, HasRup, HasRat, HasPr, not_falsified, by_empty, by_both}
 use Rattle.steps.specs.Theory.StepAnswer.{StepAnswer}
-use Rattle.steps.specs.Drat.{DratStep, add, delete, AnswersAdd, AnswersDelete, AnswersDrat, take_off, after_drat, copies_of, SameLive}
-use Rattle.cnf_base.proofs.SetLemmas.{same_there, same_back, same_itself, same_symm, same_trans, same_empty, both_pass, has_append_left, has_append_right, has_append_cases, has-complements, complements_has, has-without, without_has}
+use Rattle.steps.specs.Drat.{DratStep, add, delete, AnswersAdd, AnswersDelete, AnswersDrat, AnswersWithSet, take_off, after_drat, copies_of, SameLive}
+use Rattle.cnf_base.proofs.SetLemmas.{same_there, same_back, same_itself, same_symm, same_trans, same_empty, both_pass, has_append_left, has_append_right, has_append_cases, has-complements, complements_has, has-without, without_has, has-filter, filter_has}
 use Rattle.cnf_base.proofs.LiteralLemmas.{complement-complement}
 use Rattle.propagation.proofs.PropagationLemmas.Forced.{forced_assumed, clash_through}
 use Rattle.steps.specs.declared.drat.rules.DratRules.{DratRules}
@@ -87,12 +87,13 @@ taken_off_same first second c same =
     record { copies = λ e. copies-take_off e c first ∙ ap (λ n. n - cond (same_clause e c) 1 0) (same.copies e) ∙ sym (copies-take_off e c second) }
 
 pub after_same : (first second : List Clause) (step : DratStep) (word : Accepted) → SameLive first second → SameLive (after_drat first step word) (after_drat second step word)
-after_same first second (add c) word same =
+after_same first second (add c set) word same =
     record { copies = λ e. copies-cons e c first ∙ ap (λ n. cond (same_clause e c) 1 0 + n) (same.copies e) ∙ sym (copies-cons e c second) }
 after_same first second (delete c) Ignored same = same
 after_same first second (delete c) Deleted same = taken_off_same first second c same
 after_same first second (delete c) Rup same = taken_off_same first second c same
 after_same first second (delete c) Rat same = taken_off_same first second c same
+after_same first second (delete c) Pr same = taken_off_same first second c same
 after_same first second (delete c) Empty same = taken_off_same first second c same
 
 same_live_symm : (first second : List Clause) → SameLive first second → SameLive second first
@@ -144,6 +145,22 @@ rat_covers first second there back c pivot rat = record { holds_pivot = rat.hold
         ])
         (clash_covers first second there _ (rat.candidates w.0 w.1 w.2 (same_there d w.1 w.3 (complement pivot) member)))
 
+pub pr_covers : (first second : Live) → Covers first second → Covers second first → (c set : List Literal) → HasPr first c set → HasPr second c set
+pr_covers first second there back c set pr = record { consistent = pr.consistent; meets = pr.meets; others = go }
+  where
+    go : (k : ℕ) (d : Clause) → second k ≡ Some d → ((l : Literal) × (has d l ≡ true) × (has set l ≡ true)) ⊎ HasRup second (c ++ not_falsified set d)
+    go k d at =
+        let w = back k d at in
+        elim (pr.others w.0 w.1 w.2) [
+          | inl met ↦ inl (met.0, same_back d w.1 w.3 met.0 met.1, met.2)
+          | inr rup ↦ inr (complements_more second (c ++ not_falsified set w.1) (c ++ not_falsified set d)
+              (λ l h. elim (has_append_cases c (not_falsified set w.1) l h) [
+                | inl g ↦ has_append_left c (not_falsified set d) l g
+                | inr g ↦ let p = filter_has (λ l. not (has set (complement l))) w.1 l g in has_append_right c (not_falsified set d) l (has-filter (λ l. not (has set (complement l))) d l (same_back d w.1 w.3 l p.0) p.1)
+              ])
+              (clash_covers first second there _ rup))
+        ]
+
 alive_same : (first second : List Clause) (c : Clause) → SameLive first second → list_any (same_clause c) first ≡ list_any (same_clause c) second
 alive_same first second c same =
     both_pass (list_any (same_clause c) first) (list_any (same_clause c) second)
@@ -169,6 +186,20 @@ add_same first second [] (Err _) same a = absurd a
 add_same first second (l ∷ c) (Ok _) same a = absurd a
 add_same first second (l ∷ c) (Err _) same a = absurd a
 
+set_same : (first second : List Clause) (c set : List Literal) (answer : StepAnswer) → SameLive first second → AnswersWithSet first c set answer → AnswersWithSet second c set answer
+set_same first second c set (Err InconsistentSet) same a = a
+set_same first second c set (Ok Rup) same a = (a.0, clash_covers _ _ (covers_of first second same) _ a.1)
+set_same first second c set (Ok Pr) same a =
+    let there = covers_of first second same in
+    let back = covers_of second first (same_live_symm first second same) in
+    (a.0, λ b. a.1 (clash_covers _ _ back _ b), pr_covers _ _ there back c set a.2)
+set_same first second c set (Err NeitherRupNorPr) same a =
+    let there = covers_of first second same in
+    let back = covers_of second first (same_live_symm first second same) in
+    (a.0, λ b. a.1 (clash_covers _ _ back _ b), λ r. a.2 (pr_covers _ _ back there c set r))
+set_same first second c set (Ok _) same a = absurd a
+set_same first second c set (Err _) same a = absurd a
+
 delete_same : (strict : Bool) (first second : List Clause) (c : List Literal) (answer : StepAnswer) → SameLive first second → AnswersDelete strict first c answer → AnswersDelete strict second c answer
 delete_same true first second c (Ok Deleted) same a = sym (alive_same first second c same) ∙ a
 delete_same false first second c (Ok Deleted) same a = sym (alive_same first second c same) ∙ a
@@ -180,5 +211,6 @@ delete_same true first second c (Err _) same a = absurd a
 delete_same false first second c (Err _) same a = absurd a
 
 pub drat_same : (rules : DratRules) (first second : List Clause) (step : DratStep) (answer : StepAnswer) → SameLive first second → AnswersDrat rules first step answer → AnswersDrat rules second step answer
-drat_same rules first second (add c) answer same a = add_same first second c answer same a
+drat_same rules first second (add c []) answer same a = add_same first second c answer same a
+drat_same rules first second (add c (l ∷ set)) answer same a = set_same first second c (l ∷ set) answer same a
 drat_same rules first second (delete c) answer same a = delete_same rules.strict first second c answer same a

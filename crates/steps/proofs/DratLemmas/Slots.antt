@@ -8,10 +8,10 @@ use Rattle.std.specs.FinMap.Entries.{by_order, below_all}
 use Rattle.std.specs.Cmp.{nat_cmp_total, unsigned_tied}
 use Rattle.std.proofs.lemmas.Bool.{cases_Bool, cases_lt, false_from_ne_true}
 use Rattle.cnf_base.specs.Literals.{Literal, Clause, same_clause}
-use Rattle.steps.specs.Theory.Propagation.{Clash, HasRat}
+use Rattle.steps.specs.Theory.Propagation.{Clash, HasRat, HasPr}
 use Rattle.steps.specs.Drat.{take_off, copies_of, SameLive}
 use Rattle.cnf_base.proofs.SetLemmas.{both_pass, same_itself, same_symm, same_trans}
-use Rattle.steps.proofs.DratLemmas.Copies.{Covers, clash_covers, rat_covers, copies-cons, copies-take_off}
+use Rattle.steps.proofs.DratLemmas.Copies.{Covers, clash_covers, rat_covers, pr_covers, copies-cons, copies-take_off}
 
 abbrev clauses_in : List (ℕ × Clause) → List Clause
 clauses_in es = map (λ e. e.1) es
@@ -120,9 +120,12 @@ slots_covered m k c at = let w = find_listed (slots.entries m) k c (sym (get-ent
 pub covered_by_slots : (m : FinMap nat_cmp Clause) → Covers (slice_get (slots.values m)) (slots.get m)
 covered_by_slots m j c at = let w = listed_found (slots.entries m) (slots.entries_sorted m) j c at in (w.0, c, get-entries m w.0 ∙ w.1, same_itself c)
 
--- propagation and RAT over the slots are those over the list of values
+-- propagation, RAT and PR over the slots are those over the list of values
 pub slots-clash : (m : FinMap nat_cmp Clause) (assumed : List Literal) → Clash (slots.get m) assumed ↔ Clash (slice_get (slots.values m)) assumed
 slots-clash m assumed = (clash_covers _ _ (slots_covered m) assumed, clash_covers _ _ (covered_by_slots m) assumed)
 
 pub slots-rat : (m : FinMap nat_cmp Clause) (c : Clause) (pivot : Literal) → HasRat (slots.get m) c pivot ↔ HasRat (slice_get (slots.values m)) c pivot
 slots-rat m c pivot = (rat_covers _ _ (slots_covered m) (covered_by_slots m) c pivot, rat_covers _ _ (covered_by_slots m) (slots_covered m) c pivot)
+
+pub slots-pr : (m : FinMap nat_cmp Clause) (c set : List Literal) → HasPr (slots.get m) c set ↔ HasPr (slice_get (slots.values m)) c set
+slots-pr m c set = (pr_covers _ _ (slots_covered m) (covered_by_slots m) c set, pr_covers _ _ (covered_by_slots m) (slots_covered m) c set)

@@ -31,13 +31,13 @@ pub clash_same : (live : Live) (first second : List Literal) → ((a : Literal) 
 clash_same live first second into = clash_through live first second (λ a h. forced_assumed live second a (into a h))
 
 module _ (c : Clause) (assumed : List Literal) (same : SameSet assumed (complements c)) (d : Clause) where
-  there : (a : Literal) → has (assumed ++ complements d) a ≡ true → has (complements (c ++ d)) a ≡ true
+  pub there : (a : Literal) → has (assumed ++ complements d) a ≡ true → has (complements (c ++ d)) a ≡ true
   there a h = subst (λ ls. has ls a ≡ true) (sym (map-append complement c d)) (elim (has_append_cases assumed (complements d) a h) [
     | inl e ↦ has_append_left (complements c) (complements d) a (sym (same a) ∙ e)
     | inr e ↦ has_append_right (complements c) (complements d) a e
   ])
 
-  back : (a : Literal) → has (complements (c ++ d)) a ≡ true → has (assumed ++ complements d) a ≡ true
+  pub back : (a : Literal) → has (complements (c ++ d)) a ≡ true → has (assumed ++ complements d) a ≡ true
   back a h = elim (has_append_cases (complements c) (complements d) a (subst (λ ls. has ls a ≡ true) (map-append complement c d) h)) [
     | inl e ↦ has_append_left assumed (complements d) a (same a ∙ e)
     | inr e ↦ has_append_right assumed (complements d) a e

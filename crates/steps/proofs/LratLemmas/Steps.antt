@@ -6,7 +6,7 @@ use Rattle.std.specs.Option.{option_or}
 use Rattle.std.specs.List.{list_any}
 use Rattle.std.proofs.lemmas.Option.{none-some}
 use Rattle.steps.specs.declared.theory.accepted.Accepted.{Accepted}
-use Rattle.steps.specs.declared.theory.accepted.Accepted.TheVariants.{Rup, Rat, Empty, Deleted, Ignored}
+use Rattle.steps.specs.declared.theory.accepted.Accepted.TheVariants.{Rup, Rat, Pr, Empty, Deleted, Ignored}
 use Rattle.steps.specs.declared.theory.refusal.Refusal.{Refusal}
 use Rattle.steps.specs.declared.theory.refusal.Refusal.TheVariants.{IdOutOfOrder, UnknownId, NotUnit, GroupWithoutConflict, NoConflict}
 use Rattle.cnf_base.specs.Literals.{Literal, complement, Clause, has, complements, without}
@@ -111,6 +111,7 @@ groups_redundant live pivot rest ls groups word forced (Some r) e answer = absur
 groups_redundant live pivot rest ls groups Rat forced None e answer = rat_of_groups live pivot rest ls groups forced e answer
 groups_redundant live pivot rest ls groups Rup forced None e answer = absurd answer
 groups_redundant live pivot rest ls groups Empty forced None e answer = absurd answer
+groups_redundant live pivot rest ls groups Pr forced None e answer = absurd answer
 groups_redundant live pivot rest ls groups Deleted forced None e answer = absurd answer
 groups_redundant live pivot rest ls groups Ignored forced None e answer = absurd answer
 

@@ -3,17 +3,18 @@ use Rattle.std.proofs.Common.{◌≡◌, ℕ, zero, suc, ◌+◌, ◌<◌, ◌�
 use Rattle.std.specs.List.{list_any}
 use Rattle.std.proofs.lemmas.Bool.{false≢true, true≢false, cases_Bool}
 use Rattle.std.proofs.lemmas.Option.{none-some}
-use Rattle.steps.specs.declared.theory.accepted.Accepted.TheVariants.{Rup, Rat, Empty, Deleted, Ignored}
-use Rattle.steps.specs.declared.theory.refusal.Refusal.TheVariants.{NotRup, NeitherRupNorRat, NotAlive}
+use Rattle.steps.specs.declared.theory.accepted.Accepted.TheVariants.{Rup, Rat, Pr, Empty, Deleted, Ignored}
+use Rattle.steps.specs.declared.theory.refusal.Refusal.TheVariants.{NotRup, NeitherRupNorRat, NotAlive, InconsistentSet, NeitherRupNorPr}
 use Rattle.propagation.specs.declared.left.Left.TheVariants.{One}
 use Rattle.cnf_base.specs.Literals.{Literal, complement, Clause, has, complements, without, same_clause}
-use Rattle.steps.specs.Theory.Propagation.{Clash, HasRup, HasRat}
+use Rattle.steps.specs.Theory.Propagation.{Clash, HasRup, HasRat, HasPr, not_falsified}
 use Rattle.steps.specs.Theory.StepAnswer.{StepAnswer}
-use Rattle.steps.specs.Drat.{DratStep, add, delete, AnswersAdd, AnswersDelete, AnswersDrat}
+use Rattle.steps.specs.Drat.{DratStep, add, delete, AnswersAdd, AnswersDelete, AnswersDrat, AnswersWithSet}
 use Rattle.propagation.specs.Trail.{conflicts}
 use Rattle.propagation.specs.Left.{open_literals, how_many}
-use Rattle.cnf_base.proofs.SetLemmas.{has_head, has_tail, has_cases, has_append_left, has_append_right, filter_has}
+use Rattle.cnf_base.proofs.SetLemmas.{any_from, any_some, has_head, has_tail, has_cases, has_append_left, has_append_right, filter_has}
 use Rattle.propagation.proofs.PropagationLemmas.Forced.{forced_assumed}
+use Rattle.propagation.proofs.PropagationLemmas.MakesFalse.{not_both}
 use Rattle.propagation.proofs.PropagationLemmas.Left.{left-one}
 use Rattle.propagation.proofs.PropagationLemmas.Unit.{clash_of_conflict, none_left_clashes, settled_quiet}
 use Rattle.steps.proofs.TheoryLemmas.Scans.{Found, all_false, one_left, none_new, scan, IsPart, part_more}
@@ -142,7 +143,48 @@ module _ (live : List Clause) (c : Clause) (pivot : Literal) where
     ]
   ]
 
+module _ (live : List Clause) (c set : List Literal) where
+  -- what PR asks of a clause
+  abbrev PrPasses : Clause → Type 0
+  PrPasses d = ((l : Literal) × (has d l ≡ true) × (has set l ≡ true)) ⊎ HasRup (slice_get live) (c ++ not_falsified set d)
+
+  met_decided : (d : Clause) → IsDecided ((l : Literal) × (has d l ≡ true) × (has set l ≡ true))
+  met_decided d = elim (cases_Bool (list_any (has set) d)) [
+    | inl met ↦ inl (any_some (has set) d met)
+    | inr none ↦ inr (λ w. true≢false (sym (any_from (has set) d w.0 w.1 w.2) ∙ none))
+  ]
+
+  pr_passes_decided : (d : Clause) → IsDecided (PrPasses d)
+  pr_passes_decided d = elim (met_decided d) [
+    | inl met ↦ inl (inl met)
+    | inr unmet ↦ elim (clash_decided live (complements (c ++ not_falsified set d))) [
+      | inl clash ↦ inl (inr clash)
+      | inr none ↦ inr (λ passes. elim passes [ inl met ↦ unmet met | inr clash ↦ none clash ])
+    ]
+  ]
+
+  pub pr_decided : conflicts set ≡ false → IsDecided (HasPr (slice_get live) c set)
+  pr_decided consistent = elim (met_decided c) [
+    | inr unmet ↦ inr (λ pr. unmet pr.meets)
+    | inl met ↦ elim (each_or_one PrPasses pr_passes_decided live) [
+      | inl each ↦ inl (record { consistent = λ l h. not_both set l consistent h; meets = met; others = each })
+      | inr w ↦ inr (λ pr. w.3 (pr.others w.0 w.1 w.2))
+    ]
+  ]
+
 -- ---- Answers
+
+set_answer : (live : List Clause) (c set : List Literal) → (answer : StepAnswer) × AnswersWithSet live c set answer
+set_answer live c set = elim (cases_Bool (conflicts set)) [
+  | inl both ↦ (Err InconsistentSet, both)
+  | inr consistent ↦ elim (clash_decided live (complements c)) [
+    | inl clash ↦ (Ok Rup, (consistent, clash))
+    | inr none ↦ elim (pr_decided live c set consistent) [
+      | inl pr ↦ (Ok Pr, (consistent, none, pr))
+      | inr neither ↦ (Err NeitherRupNorPr, (consistent, none, neither))
+    ]
+  ]
+]
 
 add_answer : (live : List Clause) (c : List Literal) → (answer : StepAnswer) × AnswersAdd live c answer
 add_answer live [] = elim (clash_decided live []) [
@@ -168,5 +210,6 @@ delete_answer false live c = elim (cases_Bool (list_any (same_clause c) live)) [
 ]
 
 pub drat_answer : (rules : DratRules) (live : List Clause) (step : DratStep) → (answer : StepAnswer) × AnswersDrat rules live step answer
-drat_answer rules live (add c) = add_answer live c
+drat_answer rules live (add c []) = add_answer live c
+drat_answer rules live (add c (l ∷ set)) = set_answer live c (l ∷ set)
 drat_answer rules live (delete c) = delete_answer rules.strict live c

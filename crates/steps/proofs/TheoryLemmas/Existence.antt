@@ -103,7 +103,7 @@ live_finite first second same b = record {
 -- each step has an answer
 pub some_answer : (state : State) (step : Step) → IsFinite state → (answer : StepAnswer) × Answers state step answer
 some_answer (by_ids s) step b = lrat_answer s b (lrat_step step)
-some_answer (by_copies rules live) step b = drat_answer rules live (drat_step step)
+some_answer (by_copies rules live) step b = drat_answer rules live (drat_step rules step)
 
 pub after_finite : (state : State) (step : Step) (word : Accepted) → IsFinite state → IsFinite (after state step word)
 after_finite (by_ids s) step word b = lrat_finite s (lrat_step step) b

@@ -3,14 +3,14 @@ use Rattle.std.proofs.Common.{◌≡◌, ℕ, zero, suc, Bool, true, false, cond
 use Rattle.std.proofs.lemmas.Option.{none-some, same_Some}
 use Rattle.std.proofs.lemmas.Bool.{false≢true}
 use Rattle.steps.specs.declared.theory.accepted.Accepted.{Accepted}
-use Rattle.steps.specs.declared.theory.accepted.Accepted.TheVariants.{Rup, Rat, Empty, Deleted, Ignored}
+use Rattle.steps.specs.declared.theory.accepted.Accepted.TheVariants.{Rup, Rat, Pr, Empty, Deleted, Ignored}
 use Rattle.cnf_base.specs.Literals.{Literal, Clause, same_clause}
 use Rattle.steps.specs.Theory.Propagation.{Live}
 use Rattle.steps.specs.Theory.Models.{Assignment, satisfies, Models, HasModel}
-use Rattle.steps.specs.Drat.{AnswersDelete, DratStep, add, delete, AnswersAdd, AnswersDrat, take_off, after_drat}
+use Rattle.steps.specs.Drat.{AnswersDelete, DratStep, add, delete, AnswersAdd, AnswersDrat, AnswersListed, take_off, after_drat}
 use Rattle.steps.specs.Lrat.{LratState, LratStep, add as add_lrat, delete as delete_lrat, AnswersLrat, after_lrat, with_clause, without_id, without_ids, deletion_refusal}
 use Rattle.steps.specs.Theory.Theorems.{IsRedundant}
-use Rattle.steps.proofs.TheoryLemmas.Truth.{rup_true, rat_keeps, HasModelWith}
+use Rattle.steps.proofs.TheoryLemmas.Truth.{rup_true, rat_keeps, pr_keeps, HasModelWith}
 use Rattle.steps.proofs.LratLemmas.Steps.{lrat_redundant, deletion_word}
 use Rattle.steps.specs.declared.drat.rules.DratRules.{DratRules}
 
@@ -21,6 +21,7 @@ redundant_keeps live [] Empty rup m = (m.0, m.1, rup_true m.0 live [] m.1 rup)
 redundant_keeps live (l ∷ c) Empty never m = absurd never
 redundant_keeps live [] Rat never m = absurd never
 redundant_keeps live (pivot ∷ rest) Rat rat m = rat_keeps m.0 live (pivot ∷ rest) pivot m.1 rat
+redundant_keeps live c Pr pr m = pr_keeps m.0 live c pr.0 m.1 pr.1
 redundant_keeps live c Deleted never m = absurd never
 redundant_keeps live c Ignored never m = absurd never
 
@@ -35,13 +36,24 @@ add_redundant : (live : List Clause) (c : List Literal) (word : Accepted) → An
 add_redundant live [] Empty a = a
 add_redundant live [] Rup a = absurd a
 add_redundant live [] Rat a = absurd a
+add_redundant live [] Pr a = absurd a
 add_redundant live [] Deleted a = absurd a
 add_redundant live [] Ignored a = absurd a
 add_redundant live (l ∷ c) Rup a = a
 add_redundant live (l ∷ c) Rat a = a.1
 add_redundant live (l ∷ c) Empty a = absurd a
+add_redundant live (l ∷ c) Pr a = absurd a
 add_redundant live (l ∷ c) Deleted a = absurd a
 add_redundant live (l ∷ c) Ignored a = absurd a
+
+listed_redundant : (live : List Clause) (c set : List Literal) (word : Accepted) → AnswersListed live c set (Ok word) → IsRedundant (slice_get live) c word
+listed_redundant live c [] word a = add_redundant live c word a
+listed_redundant live c (l ∷ set) Rup a = a.1
+listed_redundant live c (l ∷ set) Pr a = (l ∷ set, a.2)
+listed_redundant live c (l ∷ set) Rat a = absurd a
+listed_redundant live c (l ∷ set) Empty a = absurd a
+listed_redundant live c (l ∷ set) Deleted a = absurd a
+listed_redundant live c (l ∷ set) Ignored a = absurd a
 
 models_more : (v : Assignment) (live : List Clause) (c : Clause) → Models v (slice_get live) → satisfies v c ≡ true → Models v (slice_get (c ∷ live))
 models_more v live c models h zero d at = sym (ap (satisfies v) (same_Some c d at)) ∙ h
@@ -64,13 +76,14 @@ taken_off_keeps : (live : List Clause) (c : Clause) → HasModel (slice_get live
 taken_off_keeps live c m = (m.0, λ k d at. let w = take_off_from c live k d at in m.1 w.0 d w.1)
 
 pub drat_keeps : (rules : DratRules) (live : List Clause) (step : DratStep) (word : Accepted) → AnswersDrat rules live step (Ok word) → HasModel (slice_get live) → HasModel (slice_get (after_drat live step word))
-drat_keeps rules live (add c) word answer m =
-    let w = redundant_keeps (slice_get live) c word (add_redundant live c word answer) m in
+drat_keeps rules live (add c set) word answer m =
+    let w = redundant_keeps (slice_get live) c word (listed_redundant live c set word answer) m in
     (w.0, models_more w.0 live c w.1 w.2)
 drat_keeps rules live (delete c) Ignored answer m = m
 drat_keeps rules live (delete c) Deleted answer m = taken_off_keeps live c m
 drat_keeps rules live (delete c) Rup answer m = taken_off_keeps live c m
 drat_keeps rules live (delete c) Rat answer m = taken_off_keeps live c m
+drat_keeps rules live (delete c) Pr answer m = taken_off_keeps live c m
 drat_keeps rules live (delete c) Empty answer m = taken_off_keeps live c m
 
 -- no deletion is answered so
@@ -79,7 +92,7 @@ no_deletion true live c answer = answer
 no_deletion false live c answer = answer
 
 pub drat_refutes : (rules : DratRules) (live : List Clause) (step : DratStep) → AnswersDrat rules live step (Ok Empty) → HasModel (slice_get live) → ⊥
-drat_refutes rules live (add c) answer m = empty_refutes (slice_get live) c (add_redundant live c Empty answer) m
+drat_refutes rules live (add c set) answer m = empty_refutes (slice_get live) c (listed_redundant live c set Empty answer) m
 drat_refutes rules live (delete c) answer m = no_deletion rules.strict live c answer
 
 -- ---- LRAT

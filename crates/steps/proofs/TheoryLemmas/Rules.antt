@@ -6,7 +6,7 @@ use Rattle.proofs.specs.Steps.{Step}
 use Rattle.steps.specs.declared.theory.accepted.Accepted.{Accepted}
 use Rattle.steps.specs.declared.theory.accepted.Accepted.TheVariants.{Empty}
 use Rattle.steps.specs.Theory.StepAnswer.{StepAnswer}
-use Rattle.steps.specs.Drat.{AnswersDrat, drat_step}
+use Rattle.steps.specs.Drat.{AnswersDrat, SameLive, after_drat, drat_step}
 use Rattle.steps.specs.Lrat.{lrat_step, numbered}
 use Rattle.steps.specs.Theory.Rules.{State, by_ids, by_copies, Answers, after, sum_of, Same, IsSatisfiable, Rule, lrat, drat, start}
 use Rattle.steps.specs.Theory.Models.{Assignment, Models, HasModel}
@@ -23,13 +23,14 @@ use Rattle.steps.proofs.TheoryLemmas.Sizes.{total_same}
 pub answers_same : (s t : State) (step : Step) (answer : StepAnswer) → Same s t → Answers s step answer → Answers t step answer
 answers_same (by_ids s) (by_ids t) step answer same a = ids.answers_same s t (lrat_step step) answer (record { live = same.0; top = same.1 }) a
 answers_same (by_copies rules x) (by_copies rules_too y) step answer same a =
-    subst (λ b. AnswersDrat b y (drat_step step) answer) same.0 (drat_same rules x y (drat_step step) answer same.1 a)
+    subst (λ b. AnswersDrat b y (drat_step b step) answer) same.0 (drat_same rules x y (drat_step rules step) answer same.1 a)
 answers_same (by_ids s) (by_copies rules y) step answer same a = absurd same
 answers_same (by_copies rules x) (by_ids t) step answer same a = absurd same
 
 pub after_same : (s t : State) (step : Step) (word : Accepted) → Same s t → Same (after s step word) (after t step word)
 after_same (by_ids s) (by_ids t) step word same = let w = ids.after_same s t (lrat_step step) (record { live = same.0; top = same.1 }) in (w.live, w.top)
-after_same (by_copies rules x) (by_copies rules_too y) step word same = (same.0, copies.after_same x y (drat_step step) word same.1)
+after_same (by_copies rules x) (by_copies rules_too y) step word same =
+    (same.0, subst (λ b. SameLive (after_drat x (drat_step rules step) word) (after_drat y (drat_step b step) word)) same.0 (copies.after_same x y (drat_step rules step) word same.1))
 after_same (by_ids s) (by_copies rules y) step word same = absurd same
 after_same (by_copies rules x) (by_ids t) step word same = absurd same
 
@@ -51,11 +52,11 @@ same_trans (by_copies a x) (by_copies b y) (by_ids u) first second = absurd seco
 
 pub keeps : (s : State) (step : Step) (word : Accepted) → Answers s step (Ok word) → IsSatisfiable s → IsSatisfiable (after s step word)
 keeps (by_ids s) step word a m = lrat_keeps s (lrat_step step) word a m
-keeps (by_copies rules live) step word a m = drat_keeps rules live (drat_step step) word a m
+keeps (by_copies rules live) step word a m = drat_keeps rules live (drat_step rules step) word a m
 
 pub refutes : (s : State) (step : Step) → Answers s step (Ok Empty) → IsSatisfiable s → ⊥
 refutes (by_ids s) step a m = lrat_refutes s (lrat_step step) a m
-refutes (by_copies rules live) step a m = drat_refutes rules live (drat_step step) a m
+refutes (by_copies rules live) step a m = drat_refutes rules live (drat_step rules step) a m
 
 pub started : (rule : Rule) (formula : List Clause) → HasModel (slice_get formula) → IsSatisfiable (start rule formula)
 started lrat formula m = (m.0, models_numbered m.0 formula m.1)
@@ -69,4 +70,4 @@ started (drat rules) formula m = m
 
 pub answer_unique : (s : State) (step : Step) (first second : StepAnswer) → Answers s step first → Answers s step second → first ≡ second
 answer_unique (by_ids s) step first second a b = lrat_unique s (lrat_step step) first second a b
-answer_unique (by_copies rules live) step first second a b = drat_unique rules live (drat_step step) first second a b
+answer_unique (by_copies rules live) step first second a b = drat_unique rules live (drat_step rules step) first second a b

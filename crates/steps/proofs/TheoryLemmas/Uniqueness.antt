@@ -2,13 +2,14 @@
 use Rattle.std.proofs.Common.{◌≡◌, ℕ, ◌<◌, Bool, true, false, nat_le, Option, Some, None, Ok, Err, List, [], ◌∷◌, slice_get, refl, sym, ap, ◌∙◌, inl, inr}
 use Rattle.std.proofs.lemmas.Bool.{true≢false, cases_Bool, cases_order, MatchBool-at_true, MatchBool-at_false}
 use Rattle.std.specs.List.{list_any}
-use Rattle.steps.specs.declared.theory.accepted.Accepted.TheVariants.{Rup, Rat, Empty, Deleted, Ignored}
+use Rattle.steps.specs.declared.theory.accepted.Accepted.TheVariants.{Rup, Rat, Pr, Empty, Deleted, Ignored}
 use Rattle.steps.specs.declared.theory.refusal.Refusal.{Refusal}
-use Rattle.steps.specs.declared.theory.refusal.Refusal.TheVariants.{NotRup, NeitherRupNorRat, NotAlive, Unnamed}
+use Rattle.steps.specs.declared.theory.refusal.Refusal.TheVariants.{NotRup, NeitherRupNorRat, NotAlive, InconsistentSet, NeitherRupNorPr, Unnamed}
 use Rattle.cnf_base.specs.Literals.{Literal, Clause, complements, same_clause}
-use Rattle.steps.specs.Theory.Propagation.{Live, HasRup, HasRat}
+use Rattle.steps.specs.Theory.Propagation.{Live, HasRup, HasRat, HasPr}
 use Rattle.steps.specs.Theory.StepAnswer.{StepAnswer}
-use Rattle.steps.specs.Drat.{DratStep, add, delete, AnswersAdd, AnswersDelete, AnswersDrat}
+use Rattle.steps.specs.Drat.{DratStep, add, delete, AnswersAdd, AnswersDelete, AnswersDrat, AnswersWithSet}
+use Rattle.propagation.specs.Trail.{conflicts}
 use Rattle.steps.specs.Lrat.{LratState, LratStep, add as add_lrat, delete as delete_lrat, Group, ChainEnd, conflict, open_with, unknown, not_unit, chain, groups_refusal, is_left_out, AnswersGroups, AnswersChain, AnswersLrat}
 use Rattle.steps.specs.declared.drat.rules.DratRules.{DratRules}
 
@@ -24,6 +25,7 @@ add_cases : (live : List Clause) (pivot : Literal) (rest : List Literal) (answer
 add_cases live pivot rest (Ok Rup) a = rup refl a
 add_cases live pivot rest (Ok Rat) a = rat refl a.0 a.1
 add_cases live pivot rest (Ok Empty) a = absurd a
+add_cases live pivot rest (Ok Pr) a = absurd a
 add_cases live pivot rest (Ok Deleted) a = absurd a
 add_cases live pivot rest (Ok Ignored) a = absurd a
 add_cases live pivot rest (Err (NeitherRupNorRat l)) a = neither (ap (λ x. Err (NeitherRupNorRat x)) a.0) a.1 a.2
@@ -49,6 +51,7 @@ empty_cases : (live : List Clause) (answer : StepAnswer) → AnswersAdd live [] 
 empty_cases live (Ok Empty) a = rup refl a
 empty_cases live (Ok Rup) a = absurd a
 empty_cases live (Ok Rat) a = absurd a
+empty_cases live (Ok Pr) a = absurd a
 empty_cases live (Ok Deleted) a = absurd a
 empty_cases live (Ok Ignored) a = absurd a
 empty_cases live (Err NotRup) a = not_rup refl a
@@ -76,9 +79,43 @@ delete_is false live c (Ok _) a = absurd a
 delete_is true live c (Err _) a = absurd a
 delete_is false live c (Err _) a = absurd a
 
+-- the four answers to an addition that lists a set
+data SetCases (live : Live) (c set : List Literal) (answer : StepAnswer) : Type 0 where
+  inconsistent : answer ≡ Err InconsistentSet → conflicts set ≡ true → SetCases live c set answer
+  rup : answer ≡ Ok Rup → conflicts set ≡ false → HasRup live c → SetCases live c set answer
+  pr : answer ≡ Ok Pr → conflicts set ≡ false → ¬ HasRup live c → HasPr live c set → SetCases live c set answer
+  neither : answer ≡ Err NeitherRupNorPr → conflicts set ≡ false → ¬ HasRup live c → ¬ HasPr live c set → SetCases live c set answer
+
+set_cases : (live : List Clause) (c set : List Literal) (answer : StepAnswer) → AnswersWithSet live c set answer → SetCases (slice_get live) c set answer
+set_cases live c set (Err InconsistentSet) a = inconsistent refl a
+set_cases live c set (Ok Rup) a = rup refl a.0 a.1
+set_cases live c set (Ok Pr) a = pr refl a.0 a.1 a.2
+set_cases live c set (Err NeitherRupNorPr) a = neither refl a.0 a.1 a.2
+set_cases live c set (Ok _) a = absurd a
+set_cases live c set (Err _) a = absurd a
+
+set_unique : (live : Live) (c set : List Literal) (first second : StepAnswer) → SetCases live c set first → SetCases live c set second → first ≡ second
+set_unique live c set first second (inconsistent e p) (inconsistent f q) = e ∙ sym f
+set_unique live c set first second (inconsistent e p) (rup f q r) = absurd (true≢false (sym p ∙ q))
+set_unique live c set first second (inconsistent e p) (pr f q r s) = absurd (true≢false (sym p ∙ q))
+set_unique live c set first second (inconsistent e p) (neither f q r s) = absurd (true≢false (sym p ∙ q))
+set_unique live c set first second (rup e p h) (inconsistent f q) = absurd (true≢false (sym q ∙ p))
+set_unique live c set first second (rup e p h) (rup f q r) = e ∙ sym f
+set_unique live c set first second (rup e p h) (pr f q r s) = absurd (r h)
+set_unique live c set first second (rup e p h) (neither f q r s) = absurd (r h)
+set_unique live c set first second (pr e p h k) (inconsistent f q) = absurd (true≢false (sym q ∙ p))
+set_unique live c set first second (pr e p h k) (rup f q r) = absurd (h r)
+set_unique live c set first second (pr e p h k) (pr f q r s) = e ∙ sym f
+set_unique live c set first second (pr e p h k) (neither f q r s) = absurd (s k)
+set_unique live c set first second (neither e p h k) (inconsistent f q) = absurd (true≢false (sym q ∙ p))
+set_unique live c set first second (neither e p h k) (rup f q r) = absurd (h r)
+set_unique live c set first second (neither e p h k) (pr f q r s) = absurd (k s)
+set_unique live c set first second (neither e p h k) (neither f q r s) = e ∙ sym f
+
 pub drat_unique : (rules : DratRules) (live : List Clause) (step : DratStep) (first second : StepAnswer) → AnswersDrat rules live step first → AnswersDrat rules live step second → first ≡ second
-drat_unique rules live (add []) first second a b = empty_unique (slice_get live) first second (empty_cases live first a) (empty_cases live second b)
-drat_unique rules live (add (pivot ∷ rest)) first second a b = add_unique (slice_get live) pivot rest first second (add_cases live pivot rest first a) (add_cases live pivot rest second b)
+drat_unique rules live (add [] []) first second a b = empty_unique (slice_get live) first second (empty_cases live first a) (empty_cases live second b)
+drat_unique rules live (add (pivot ∷ rest) []) first second a b = add_unique (slice_get live) pivot rest first second (add_cases live pivot rest first a) (add_cases live pivot rest second b)
+drat_unique rules live (add c (l ∷ set)) first second a b = set_unique (slice_get live) c (l ∷ set) first second (set_cases live c (l ∷ set) first a) (set_cases live c (l ∷ set) second b)
 drat_unique rules live (delete c) first second a b = delete_is rules.strict live c first a ∙ sym (delete_is rules.strict live c second b)
 
 -- ---- LRAT

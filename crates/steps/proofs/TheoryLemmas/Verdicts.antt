@@ -6,7 +6,7 @@ use Rattle.std.proofs.lemmas.Bool.{false≢true, cases_Bool, MatchBool-at_true, 
 use Rattle.cnf_base.specs.Literals.{Clause}
 use Rattle.proofs.specs.Steps.{Step}
 use Rattle.steps.specs.declared.theory.accepted.Accepted.{Accepted}
-use Rattle.steps.specs.declared.theory.accepted.Accepted.TheVariants.{Rup, Rat, Empty, Deleted, Ignored}
+use Rattle.steps.specs.declared.theory.accepted.Accepted.TheVariants.{Rup, Rat, Pr, Empty, Deleted, Ignored}
 use Rattle.steps.specs.declared.theory.refusal.Refusal.{Refusal}
 use Rattle.steps.specs.Theory.StepAnswer.{StepAnswer}
 use Rattle.steps.specs.Theory.Models.{HasModel}
@@ -107,6 +107,7 @@ last_is_empty : (word : Accepted) → is_last word ≡ true → word ≡ Empty
 last_is_empty Empty e = refl
 last_is_empty Rup e = absurd (false≢true e)
 last_is_empty Rat e = absurd (false≢true e)
+last_is_empty Pr e = absurd (false≢true e)
 last_is_empty Deleted e = absurd (false≢true e)
 last_is_empty Ignored e = absurd (false≢true e)
 

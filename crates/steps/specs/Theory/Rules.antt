@@ -33,12 +33,12 @@ with_input (by_copies rules live) c = by_copies rules (c ∷ live)
 -- what a step may be answered
 abbrev pub Answers : State → Step → StepAnswer → Type 0
 Answers (by_ids s) step answer = AnswersLrat s (lrat_step step) answer
-Answers (by_copies rules live) step answer = AnswersDrat rules live (drat_step step) answer
+Answers (by_copies rules live) step answer = AnswersDrat rules live (drat_step rules step) answer
 
 -- what a step leaves that was accepted with this word
 abbrev pub after : State → Step → Accepted → State
 after (by_ids s) step word = by_ids (after_lrat s (lrat_step step))
-after (by_copies rules live) step word = by_copies rules (after_drat live (drat_step step) word)
+after (by_copies rules live) step word = by_copies rules (after_drat live (drat_step rules step) word)
 
 -- the sum of the sizes of the live clauses
 abbrev pub literals_of : State → ℕ

@@ -1,7 +1,7 @@
 -- What holds of the definitions. Each is the contract of a function of `laws`.
 use Rattle.std.specs.Prelude.{◌≡◌, ℕ, List, [], ◌∷◌, Ok, IsTrue, slice_get, sum_by}
 use Rattle.steps.specs.declared.theory.accepted.Accepted.{Accepted}
-use Rattle.steps.specs.declared.theory.accepted.Accepted.TheVariants.{Rup, Rat, Empty}
+use Rattle.steps.specs.declared.theory.accepted.Accepted.TheVariants.{Rup, Rat, Pr, Empty}
 use Rattle.cnf_base.specs.Literals.{Literal, Clause, has, same_clause}
 use Rattle.steps.specs.Theory.Propagation.{Live, Forced, Clash, HasRup, HasRat, HasPr}
 use Rattle.steps.specs.Theory.Models.{Assignment, holds, satisfies, Models, HasModel}
@@ -42,6 +42,7 @@ abbrev pub IsRedundant : Live → List Literal → Accepted → Type 0
 IsRedundant live c Rup = HasRup live c
 IsRedundant live [] Empty = HasRup live []
 IsRedundant live (pivot ∷ rest) Rat = HasRat live (pivot ∷ rest) pivot
+IsRedundant live c Pr = (set : List Literal) × HasPr live c set
 IsRedundant live c _ = ⊥
 
 -- An addition that the LRAT rule accepts has RUP, or RAT on the first literal written.

@@ -5,4 +5,6 @@
 pub struct DratRules {
     /// Whether a deletion of a clause that is not alive is refused, and not ignored.
     pub strict: bool,
+    /// Whether an addition may list a set after its clause, by which it may be propagation redundant (PR).
+    pub pr: bool,
 }

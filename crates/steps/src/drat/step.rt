@@ -1,16 +1,17 @@
 //! One step of a DRAT proof, over any store of clauses that propagates.
 
-ghost use Rattle.std.specs.Prelude.{◌≡◌, ◌++◌, ◌∷◌, [], Some, IsSome, IfOk, OnOk, OnErr};
+ghost use Rattle.std.specs.Prelude.{◌≡◌, ◌++◌, ◌∷◌, ◌⊎◌, ℕ, [], true, Some, IsSome, IsTrue, IsFalse, IfOk, OnOk, OnErr};
 ghost use Rattle.std.specs.FinMap as maps;
-ghost use Rattle.cnf_base.specs.Literals.{Clause, complements, without};
-ghost use Rattle.propagation.specs.Assumptions.{IsAnswer, HoldsLiveAlone, assumed_by, MayAssume};
-ghost use Rattle.propagation.specs.Trail.{SameSet};
-ghost use Rattle.steps.specs.Theory.Propagation.{HasRup};
-ghost use Rattle.steps.specs.Drat.{AnswersAdd, AnswersDelete, AnswersDrat, after_drat, drat_step, SameLive};
+ghost use Rattle.cnf_base.specs.Literals.{Clause, Literal, complement, complements, has, without};
+ghost use Rattle.propagation.specs.Assumptions.{IsAnswer, HasAt, HoldsLiveAlone, assumed_by, MayAssume};
+ghost use Rattle.propagation.specs.Trail.{SameSet, conflicts};
+ghost use Rattle.steps.specs.Theory.Propagation.{HasRup, not_falsified};
+ghost use Rattle.steps.specs.Drat.{AnswersAdd, AnswersDelete, AnswersDrat, AnswersListed, AnswersWithSet, addition_of, after_drat, drat_step, SameLive};
 ghost use Rattle.steps.specs.Drat as drat;
-ghost use Rattle.steps.specs.Drat.Candidates.{SearchedCandidates};
+ghost use Rattle.steps.specs.Drat.Candidates.{SearchedCandidates, SearchedReduced};
 ghost use Rattle.steps.specs.Theory.StepAnswer.{UnlessOutOfMemory};
 
+use crate::drat::pr::judge_with_set;
 use crate::drat::rules::DratRules;
 use crate::theory::accepted::{Accepted, word_of};
 use crate::theory::refusal::Refusal;
@@ -110,6 +111,28 @@ fn judge<P: Propagate>(clauses: &mut P, lits: &[Lit]) -> Result<Accepted, Refusa
     }
 }
 
+/// The answer to an addition, whether it lists a set or not.
+fn judge_listed<P: Propagate>(
+    clauses: &mut P,
+    lits: &[Lit],
+    set: &[Lit],
+) -> Result<Accepted, Refusal>
+    requires nothing_assumed { (P.state clauses.old).assumptions ≡ [] }
+    requires live_alone { HoldsLiveAlone (P.state clauses.old) }
+    requires meets { set.now ≡ [] ⊎ ((l : Literal) × IsTrue (has lits.now l) × IsTrue (has set.now l)) }
+    ensures answers { UnlessOutOfMemory result
+        (AnswersListed (maps.values (P.state clauses.old).live) lits.now set.now result) }
+    ensures live { (P.state clauses.new).live ≡ (P.state clauses.old).live }
+    ensures nothing_assumed { (P.state clauses.new).assumptions ≡ [] }
+    ensures live_alone { HoldsLiveAlone (P.state clauses.new) }
+{
+    if set.is_empty() {
+        judge(clauses, lits)
+    } else {
+        judge_with_set(clauses, lits, set)
+    }
+}
+
 /// Adds one copy of the clause.
 pub(crate) fn add_copy<P: Propagate>(clauses: &mut P, lits: &[Lit]) -> Result<(), OutOfMemory>
     requires { (P.state clauses.old).assumptions ≡ [] }
@@ -123,18 +146,20 @@ pub(crate) fn add_copy<P: Propagate>(clauses: &mut P, lits: &[Lit]) -> Result<()
     Ok(())
 }
 
-/// Judges an addition, and adds the clause where it is accepted.
-fn add<P: Propagate>(clauses: &mut P, lits: &[Lit]) -> Result<Accepted, Refusal>
-    requires { (P.state clauses.old).assumptions ≡ [] }
+/// Judges an addition, and adds the clause where it is accepted. The set is not added.
+fn add<P: Propagate>(clauses: &mut P, lits: &[Lit], set: &[Lit]) -> Result<Accepted, Refusal>
+    requires nothing_assumed { (P.state clauses.old).assumptions ≡ [] }
+    requires live_alone { HoldsLiveAlone (P.state clauses.old) }
+    requires meets { set.now ≡ [] ⊎ ((l : Literal) × IsTrue (has lits.now l) × IsTrue (has set.now l)) }
     ensures answers { UnlessOutOfMemory result
-        (AnswersAdd (maps.values (P.state clauses.old).live) lits.now result) }
+        (AnswersListed (maps.values (P.state clauses.old).live) lits.now set.now result) }
     ensures live { OnOk result (SameLive (maps.values (P.state clauses.new).live)
         (lits.now ∷ maps.values (P.state clauses.old).live)) }
     ensures nothing_assumed { (P.state clauses.new).assumptions ≡ [] }
     ensures live_alone { HoldsLiveAlone (P.state clauses.new) }
     ensures refused { OnErr result ((P.state clauses.new).live ≡ (P.state clauses.old).live) }
 {
-    let word = judge(clauses, lits)?;
+    let word = judge_listed(clauses, lits, set)?;
     add_copy(clauses, lits)?;
     Ok(word)
 }
@@ -161,6 +186,19 @@ fn delete<P: Propagate>(clauses: &mut P, strict: bool, lits: &[Lit]) -> Result<A
     }
 }
 
+/// The clause of an addition, and the set that it lists where the rules have PR.
+fn parts_of(rules: DratRules, step: &StepBuf) -> (&[Lit], &[Lit])
+    ensures parts { addition_of rules.pr step.now.lits ≡ drat.add result.0.now result.1.now }
+    ensures meets { result.1.now ≡ [] ⊎
+        ((l : Literal) × IsTrue (has result.0.now l) × IsTrue (has result.1.now l)) }
+{
+    if rules.pr {
+        step.parts()
+    } else {
+        (step.lits(), &[])
+    }
+}
+
 /// Takes a step on the live clauses.
 pub(crate) fn take_step<P: Propagate>(
     clauses: &mut P,
@@ -170,15 +208,18 @@ pub(crate) fn take_step<P: Propagate>(
     requires nothing_assumed { (P.state clauses.old).assumptions ≡ [] }
     requires live_alone { HoldsLiveAlone (P.state clauses.old) }
     ensures answers { UnlessOutOfMemory result
-        (AnswersDrat rules (maps.values (P.state clauses.old).live) (drat_step step.now) result) }
+        (AnswersDrat rules (maps.values (P.state clauses.old).live) (drat_step rules step.now) result) }
     ensures live { IfOk result (λ word. SameLive (maps.values (P.state clauses.new).live)
-        (after_drat (maps.values (P.state clauses.old).live) (drat_step step.now) word)) }
+        (after_drat (maps.values (P.state clauses.old).live) (drat_step rules step.now) word)) }
     ensures nothing_assumed { (P.state clauses.new).assumptions ≡ [] }
     ensures live_alone { HoldsLiveAlone (P.state clauses.new) }
     ensures refused { OnErr result ((P.state clauses.new).live ≡ (P.state clauses.old).live) }
 {
     match step.kind() {
-        StepKind::Add => add(clauses, step.lits()),
+        StepKind::Add => {
+            let (clause, set) = parts_of(rules, step);
+            add(clauses, clause, set)
+        }
         StepKind::Delete => delete(clauses, rules.strict, step.lits()),
     }
 }

@@ -12,6 +12,8 @@ pub enum Accepted {
     Rup,
     /// An added clause that is a resolution asymmetric tautology on its first literal.
     Rat,
+    /// An added clause that is propagation redundant by the set that it lists.
+    Pr,
     /// A deletion of clauses that were alive.
     Deleted,
     /// A deletion of a clause that was not alive.

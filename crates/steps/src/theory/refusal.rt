@@ -15,6 +15,10 @@ pub enum Refusal {
     NeitherRupNorRat(Lit),
     /// A deletion of a clause that is not alive.
     NotAlive,
+    /// A listed set that holds a literal and its complement.
+    InconsistentSet,
+    /// A clause that is neither RUP nor PR by the set that it lists.
+    NeitherRupNorPr,
     /// An identifier that is not above all earlier ones.
     IdOutOfOrder,
     /// An identifier under which no clause is alive.

@@ -4,16 +4,17 @@ use Rattle.clap.specs.Words.{app_of, new_app, with_rule}
 use Rattle.sat_check.specs.CommandLine.Commands.{command_of, flag_rule}
 use Rattle.sat_check.proofs.command_line.command.Goals as goal
 
-pub returns-in_ok-arg-in-Drat-4 : goal.returns-in_ok-arg-in-Drat-4
-returns-in_ok-arg-in-Drat-4 c =
+pub returns-in_ok-arg-in-Drat-5 : goal.returns-in_ok-arg-in-Drat-5
+returns-in_ok-arg-in-Drat-5 c =
     let one : app_of c.in_ok-arg-in-Drat.field-0 ≡ with_rule (new_app (codes "drat-forward")) (flag_rule (codes "binary")) =
     c.in_ok-arg-in-Drat.ensures.shape c.flag-binary.ensures.local ∙ ap₂ with_rule c.new.ensures.app c.flag-binary.ensures.rule in
     let two = c.in_ok-arg-in-Drat-2.ensures.shape c.trace.ensures.local ∙ ap₂ with_rule one c.trace.ensures.rule in
     let three = c.in_ok-arg-in-Drat-3.ensures.shape c.flag-strict.ensures.local ∙ ap₂ with_rule two c.flag-strict.ensures.rule in
-    let four = c.in_ok-arg-in-Drat-4.ensures.shape c.formula.ensures.local ∙ ap₂ with_rule three c.formula.ensures.rule in
-    IfOk-weaker c.arg-in-Drat-4.result _ _
-    (λ r h. h.shape c.second.ensures.local ∙ (ap₂ with_rule four c.second.ensures.rule ∙ sym (ap command_of c.in-Drat.is)))
-    c.arg-in-Drat-4.ensures
+    let four = c.in_ok-arg-in-Drat-4.ensures.shape c.flag-pr.ensures.local ∙ ap₂ with_rule three c.flag-pr.ensures.rule in
+    let five = c.in_ok-arg-in-Drat-5.ensures.shape c.formula.ensures.local ∙ ap₂ with_rule four c.formula.ensures.rule in
+    IfOk-weaker c.arg-in-Drat-5.result _ _
+    (λ r h. h.shape c.second.ensures.local ∙ (ap₂ with_rule five c.second.ensures.rule ∙ sym (ap command_of c.in-Drat.is)))
+    c.arg-in-Drat-5.ensures
 
 pub returns-in_ok-arg-in-Lrat-2 : goal.returns-in_ok-arg-in-Lrat-2
 returns-in_ok-arg-in-Lrat-2 c =

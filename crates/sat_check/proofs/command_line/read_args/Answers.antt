@@ -29,6 +29,9 @@ returns-clause-trace c free = flag_given c.args.tool (app_of c.in_ok-command.com
 pub returns-clause-strict : goal.returns-clause-strict
 returns-clause-strict c free = flag_given c.args.tool (app_of c.in_ok-command.command) c.in_ok-command.ensures c.args.words.now c.in-Ok.matches c.in-Ok.ensures.matches c.in-Ok.ensures.kinds free (codes "strict") (λ read. read.strict) c.get_flag-3.result c.get_flag-3.ensures.none c.get_flag-3.ensures.value c.get_flag-3.ensures.other
 
+pub returns-clause-pr : goal.returns-clause-pr
+returns-clause-pr c free = flag_given c.args.tool (app_of c.in_ok-command.command) c.in_ok-command.ensures c.args.words.now c.in-Ok.matches c.in-Ok.ensures.matches c.in-Ok.ensures.kinds free (codes "pr") (λ read. read.pr) c.get_flag-4.result c.get_flag-4.ensures.none c.get_flag-4.ensures.value c.get_flag-4.ensures.other
+
 pub returns-clause-formula : goal.returns-clause-formula
 returns-clause-formula c free =
     let read = reads c.args.tool (app_of c.in_ok-command.command) c.in_ok-command.ensures c.args.words.now c.in-Ok.matches c.in-Ok.ensures.matches c.in-Ok.ensures.kinds free in

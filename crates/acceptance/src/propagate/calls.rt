@@ -1,0 +1,329 @@
+//! Tests of both propagations: the same of each.
+
+ghost use Rattle.std.specs.Prelude.{◌≡◌, ℕ, List, [], ◌∷◌, true, IfOk, OnOk};
+ghost use Rattle.std.specs.FinMap as maps;
+ghost use Rattle.propagation.specs.Assumptions.{LastIsAnswered, MayAssume};
+ghost use Rattle.propagation.specs.declared.answer.Answer.TheVariants.{Quiet};
+
+use clause_db::Slot;
+use cnf_base::{Lit, OutOfMemory};
+use propagation::{Answer, Propagate, Scan, Value};
+use std::alloc::Global;
+use std::test::Fail;
+use watch::Watch;
+
+/// The literals that DIMACS writes so.
+pub(crate) fn lits(alloc: Global, numbers: &[i32]) -> Result<Vec<Lit>, Fail> {
+    let mut all = Vec::new(alloc);
+    for number in numbers {
+        let l = Lit::new(*number).ok_or("no literal")?;
+        all.push(l)?;
+    }
+    Ok(all)
+}
+
+/// Inserts the clauses of a formula, in which a unit clause is a row with its literal twice.
+pub(crate) fn fill<P: Propagate>(
+    alloc: Global,
+    clauses: &mut P,
+    rows: &[[i32; 2]],
+) -> Result<(), Fail>
+    requires { (P.state clauses.old).assumptions ≡ [] }
+    ensures { OnOk result ((P.state clauses.new).assumptions ≡ []) }
+{
+    for row in rows {
+        let clause = lits(alloc, row)?;
+        clauses.insert(clause.as_slice())?;
+    }
+    Ok(())
+}
+
+/// Which literals of the variables 1 to 3 are true.
+fn trues<P: Propagate>(alloc: Global, clauses: &P) -> Result<Vec<i32>, Fail>
+    requires { LastIsAnswered Quiet (P.state clauses.now).assumptions }
+{
+    let mut all = Vec::new(alloc);
+    for number in [1, -1, 2, -2, 3, -3] {
+        let l = Lit::new(number).ok_or("no literal")?;
+        if clauses.value(l) == Value::True {
+            all.push(number)?;
+        }
+    }
+    Ok(all)
+}
+
+/// Which literals are true after an assumption; none where it clashes.
+fn assumed<P: Propagate>(
+    alloc: Global,
+    clauses: &mut P,
+    rows: &[[i32; 2]],
+    numbers: &[i32],
+) -> Result<Option<Vec<i32>>, Fail>
+    requires { (P.state clauses.old).assumptions ≡ [] }
+{
+    fill(alloc, clauses, rows)?;
+    let clause = lits(alloc, numbers)?;
+    match clauses.assume(clause.as_slice())? {
+        Answer::Clash => Ok(None),
+        Answer::Quiet => Ok(Some(trues(alloc, clauses)?)),
+    }
+}
+
+const FOUR: [[i32; 2]; 4] = [[1, 2], [-1, 2], [1, -2], [-1, -2]];
+
+const UNIT_AND_BOTH: [[i32; 2]; 3] = [[1, 1], [-1, 2], [-1, -2]];
+
+/// A formula, whose complements are assumed, and what is true then.
+type Propagation<'a> = (&'a [[i32; 2]], &'a [i32], Option<&'a [i32]>);
+
+/// Whether both propagations find what is expected.
+fn both_find(alloc: Global, row: &Propagation<'_>) -> Result<bool, Fail> {
+    let (rows, numbers, expected) = *row;
+    let scanned = assumed(alloc, &mut Scan::new(alloc)?, rows, numbers)?;
+    let watched = assumed(alloc, &mut Watch::new(alloc)?, rows, numbers)?;
+    let scanned = scanned.as_ref().map(|all| all.as_slice());
+    let watched = watched.as_ref().map(|all| all.as_slice());
+    Ok(scanned == expected && watched == expected)
+}
+
+#[test]
+fn propagates(rt: HostRuntime) -> Result<(), Fail> {
+    let rows: [Propagation<'_>; 5] = [
+        (&FOUR, &[2], None),
+        (&FOUR, &[], Some(&[])),
+        (&UNIT_AND_BOTH, &[], None),
+        (&[[-1, 2], [-1, -2]], &[], Some(&[])),
+        (&[[1, 2]], &[-1, 3, 2], Some(&[1, -2, -3])),
+    ];
+    for row in &rows {
+        assert!(rt; both_find(rt.alloc(), row)?);
+    }
+    Ok(())
+}
+
+/// How the rest of the clause `row` is answered where nothing else is assumed; none where there is no such clause.
+fn rest_answer<P: Propagate>(
+    alloc: Global,
+    clauses: &mut P,
+    rows: &[[i32; 2]],
+    row: &[i32],
+    left_out: i32,
+) -> Result<Option<Answer>, Fail>
+    requires { (P.state clauses.old).assumptions ≡ [] }
+{
+    fill(alloc, clauses, rows)?;
+    let l = Lit::new(left_out).ok_or("no literal")?;
+    let clause = lits(alloc, row)?;
+    match clauses.find(clause.as_slice()) {
+        Some(slot) => Ok(Some(clauses.assume_rest(slot, l)?)),
+        None => Ok(None),
+    }
+}
+
+const QUIET_REST: [[i32; 2]; 2] = [[1, 2], [3, 3]];
+
+const CLASHING_REST: [[i32; 2]; 2] = [[1, 2], [1, -2]];
+
+#[test]
+fn assumes_the_rest(rt: HostRuntime) -> Result<(), Fail> {
+    let alloc = rt.alloc();
+    let scanned = rest_answer(alloc, &mut Scan::new(alloc)?, &QUIET_REST, &[2, 1], 2)?;
+    assert_eq!(rt; scanned, Some(Answer::Quiet));
+    let watched = rest_answer(alloc, &mut Watch::new(alloc)?, &QUIET_REST, &[2, 1], 2)?;
+    assert_eq!(rt; watched, Some(Answer::Quiet));
+    let scanned = rest_answer(alloc, &mut Scan::new(alloc)?, &CLASHING_REST, &[2, 1], 2)?;
+    assert_eq!(rt; scanned, Some(Answer::Clash));
+    let watched = rest_answer(alloc, &mut Watch::new(alloc)?, &CLASHING_REST, &[2, 1], 2)?;
+    assert_eq!(rt; watched, Some(Answer::Clash));
+    Ok(())
+}
+
+/// How a clause is answered but for what the set makes false, where nothing else is assumed; none where there is no such
+/// clause.
+fn unless_answer<P: Propagate>(
+    alloc: Global,
+    clauses: &mut P,
+    rows: &[[i32; 2]],
+    row: &[i32],
+    set: &[i32],
+) -> Result<Option<Answer>, Fail>
+    requires { (P.state clauses.old).assumptions ≡ [] }
+{
+    fill(alloc, clauses, rows)?;
+    let clause = lits(alloc, row)?;
+    let set = lits(alloc, set)?;
+    match clauses.find(clause.as_slice()) {
+        Some(slot) => Ok(Some(clauses.assume_unless(slot, set.as_slice())?)),
+        None => Ok(None),
+    }
+}
+
+#[test]
+fn assumes_unless_the_set_makes_it_false(rt: HostRuntime) -> Result<(), Fail> {
+    let alloc = rt.alloc();
+    let rows: [(&[i32], Answer); 5] = [
+        (&[], Answer::Clash),
+        (&[-1], Answer::Quiet),
+        (&[-2, 3], Answer::Quiet),
+        (&[1, 2, 3], Answer::Clash),
+        (&[-2, -1], Answer::Quiet),
+    ];
+    for (set, expected) in &rows {
+        let scanned = unless_answer(alloc, &mut Scan::new(alloc)?, &QUIET_REST, &[1, 2], set)?;
+        assert_eq!(rt; scanned, Some(*expected));
+        let watched = unless_answer(alloc, &mut Watch::new(alloc)?, &QUIET_REST, &[1, 2], set)?;
+        assert_eq!(rt; watched, Some(*expected));
+    }
+    Ok(())
+}
+
+#[test]
+fn finds_conflicts(rt: HostRuntime) -> Result<(), Fail> {
+    let alloc = rt.alloc();
+    let mut scanned = Scan::new(alloc)?;
+    let mut watched = Watch::new(alloc)?;
+    let rows: [(&[i32], bool); 5] = [
+        (&[], false),
+        (&[1, 2, 1], false),
+        (&[-2], false),
+        (&[-1, 2, 1], true),
+        (&[268435455, -268435455], true),
+    ];
+    for (set, expected) in &rows {
+        let set = lits(alloc, set)?;
+        assert_eq!(rt; scanned.conflicts(set.as_slice())?, *expected);
+        assert_eq!(rt; watched.conflicts(set.as_slice())?, *expected);
+    }
+    Ok(())
+}
+
+/// Whether the first clause that the set reduces is this row; where the row is empty, whether there is none.
+fn reduces_first<P: Propagate>(
+    alloc: Global,
+    clauses: &mut P,
+    set: &[i32],
+    row: &[i32],
+) -> Result<bool, Fail>
+    requires { (P.state clauses.old).assumptions ≡ [] }
+{
+    fill(alloc, clauses, &[[1, 2], [-1, -2], [-1, 3], [2, 3]])?;
+    let set = lits(alloc, set)?;
+    let clause = lits(alloc, row)?;
+    let expected = clauses.find(clause.as_slice());
+    Ok(clauses.next_reduced(set.as_slice(), Slot::first())? == expected)
+}
+
+#[test]
+fn finds_what_a_set_reduces(rt: HostRuntime) -> Result<(), Fail> {
+    let alloc = rt.alloc();
+    let rows: [(&[i32], &[i32]); 6] = [
+        (&[], &[]),
+        (&[1], &[-1, -2]),
+        (&[1, -2], &[3, -1]),
+        (&[-3, 4], &[-1, 3]),
+        (&[4, -5, 268435455], &[]),
+        (&[-1, 2], &[]),
+    ];
+    for (set, expected) in &rows {
+        assert!(rt; reduces_first(alloc, &mut Scan::new(alloc)?, set, expected)?);
+        assert!(rt; reduces_first(alloc, &mut Watch::new(alloc)?, set, expected)?);
+    }
+    Ok(())
+}
+
+/// What propagation says of the greatest variable where its clause is left with it alone.
+fn greatest<P: Propagate>(alloc: Global, clauses: &mut P) -> Result<Value, Fail>
+    requires { (P.state clauses.old).assumptions ≡ [] }
+{
+    fill(alloc, clauses, &[[1, 268435455]])?;
+    let clause = lits(alloc, &[1])?;
+    let l = Lit::new(268435455).ok_or("no literal")?;
+    match clauses.assume(clause.as_slice())? {
+        Answer::Clash => Ok(Value::Open),
+        Answer::Quiet => Ok(clauses.value(l)),
+    }
+}
+
+/// How many literals the formula has, and whether there is a clause with this one.
+fn looked_up<P: Propagate>(
+    alloc: Global,
+    clauses: &mut P,
+    rows: &[[i32; 2]],
+    number: i32,
+) -> Result<(u64, bool), Fail>
+    requires { (P.state clauses.old).assumptions ≡ [] }
+{
+    fill(alloc, clauses, rows)?;
+    let l = Lit::new(number).ok_or("no literal")?;
+    let slot = clauses.next_with(l, Slot::first());
+    Ok((clauses.literals(), slot.is_some()))
+}
+
+#[test]
+fn looks_up(rt: HostRuntime) -> Result<(), Fail> {
+    let alloc = rt.alloc();
+    assert_eq!(rt; greatest(alloc, &mut Scan::new(alloc)?)?, Value::True);
+    assert_eq!(rt; greatest(alloc, &mut Watch::new(alloc)?)?, Value::True);
+    for (number, there) in [(-2, true), (3, false)] {
+        let scanned = looked_up(alloc, &mut Scan::new(alloc)?, &UNIT_AND_BOTH, number)?;
+        assert_eq!(rt; scanned, (5, there));
+        let watched = looked_up(alloc, &mut Watch::new(alloc)?, &UNIT_AND_BOTH, number)?;
+        assert_eq!(rt; watched, (5, there));
+    }
+    Ok(())
+}
+
+/// How many clauses have the literal 2, and whether a slot with it is found, as the clauses `1 2` are taken out one by one.
+fn counts_down<P: Propagate>(
+    alloc: Global,
+    clauses: &mut P,
+    rows: &[[i32; 2]],
+) -> Result<Vec<(u64, bool)>, Fail>
+    requires { (P.state clauses.old).assumptions ≡ [] }
+{
+    fill(alloc, clauses, rows)?;
+    let l = Lit::new(2).ok_or("no literal")?;
+    let clause = lits(alloc, &[1, 2])?;
+    let mut counts = Vec::new(alloc);
+    for _ in 0..3 {
+        let slot = clauses.next_with(l, Slot::first());
+        counts.push((clauses.count_with(l), slot.is_some()))?;
+        if let Some(slot) = clauses.find(clause.as_slice()) {
+            clauses.remove(slot);
+        }
+    }
+    Ok(counts)
+}
+
+const TWO_COPIES: [[i32; 2]; 3] = [[1, 2], [2, 1], [1, -2]];
+
+#[test]
+fn counts_copies(rt: HostRuntime) -> Result<(), Fail> {
+    let alloc = rt.alloc();
+    let expected = [(2, true), (1, true), (0, false)];
+    let scanned = counts_down(alloc, &mut Scan::new(alloc)?, &TWO_COPIES)?;
+    assert!(rt; scanned.as_slice() == expected.as_slice());
+    let watched = counts_down(alloc, &mut Watch::new(alloc)?, &TWO_COPIES)?;
+    assert!(rt; watched.as_slice() == expected.as_slice());
+    Ok(())
+}
+
+/// Whether an assumption that was refused is refused ever after, and changes nothing.
+fn is_refused_again<P: Propagate>(alloc: Global, clauses: &mut P) -> Result<bool, Fail>
+    requires { (P.state clauses.old).assumptions ≡ [] }
+{
+    fill(alloc, clauses, &FOUR)?;
+    let clause = lits(alloc, &[7])?;
+    match clauses.assume(clause.as_slice()) {
+        Ok(answer) => Ok(answer == Answer::Quiet),
+        Err(OutOfMemory) => Ok(clauses.assume(&[]).is_err()),
+    }
+}
+
+#[test]
+fn stays_where_memory_runs_out(rt: HostRuntime) -> Result<(), Fail> {
+    let alloc = rt.alloc();
+    assert!(rt; is_refused_again(alloc, &mut Scan::new(alloc)?)?);
+    assert!(rt; is_refused_again(alloc, &mut Watch::new(alloc)?)?);
+    Ok(())
+}

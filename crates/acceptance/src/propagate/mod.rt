@@ -1,0 +1,6 @@
+//! Propagation, call by call: the same of both, and the trail below them.
+
+mod calls;
+mod roots;
+mod sequences;
+mod trail;

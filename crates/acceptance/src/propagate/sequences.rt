@@ -1,0 +1,184 @@
+//! Made-up sequences of insertions, removals, assumptions and undos: both propagations answer alike.
+
+ghost use Rattle.std.specs.Prelude.{◌≡◌, ℕ, List, [], ◌∷◌, IfOk, OnOk};
+ghost use Rattle.propagation.specs.Assumptions.{LastIsAnswered};
+ghost use Rattle.propagation.specs.declared.answer.Answer.TheVariants.{Quiet};
+
+use crate::propagate::calls::fill;
+use cnf_base::Lit;
+use propagation::{Answer, Propagate, Scan, Value};
+use std::alloc::Global;
+use std::test::Fail;
+use watch::Watch;
+
+/// Numbers that look as if thrown.
+#[derive(Clone, Copy)]
+struct Dice {
+    state: u64,
+}
+
+impl Dice {
+    /// The next number.
+    fn roll(&mut self) -> u32 {
+        self.state = self
+            .state
+            .wrapping_mul(6364136223846793005)
+            .wrapping_add(1442695040888963407);
+        (self.state / 4294967296) as u32
+    }
+
+    /// A literal of one of the variables 1 to 7.
+    fn literal(&mut self) -> Option<Lit> {
+        let var = (self.roll() % 7) as i32 + 1;
+        if self.roll() % 2 == 0 {
+            Lit::new(var)
+        } else {
+            Lit::new(0 - var)
+        }
+    }
+
+    /// As many literals.
+    fn literals(&mut self, alloc: Global, count: u32) -> Result<Vec<Lit>, Fail> {
+        let mut all = Vec::new(alloc);
+        for _ in 0..count {
+            all.push(self.literal().ok_or("no literal")?)?;
+        }
+        Ok(all)
+    }
+}
+
+/// Notes which literals are true: 2 and 3 for the signs of a variable, 4 where it is open.
+fn note_values<P: Propagate>(clauses: &P, log: &mut Vec<u8>) -> Result<(), Fail>
+    requires { LastIsAnswered Quiet (P.state clauses.now).assumptions }
+{
+    for var in 1..8 {
+        let l = Lit::new(var).ok_or("no literal")?;
+        let noted = match clauses.value(l) {
+            Value::True => 2,
+            Value::False => 3,
+            Value::Open => 4,
+        };
+        log.push(noted)?;
+    }
+    Ok(())
+}
+
+/// A second assumption on one that is quiet, and what is true after it is taken back.
+fn assume_on_top<P: Propagate>(clauses: &mut P, lits: &[Lit], log: &mut Vec<u8>) -> Result<(), Fail>
+    requires { (first : List ℕ) × ((P.state clauses.old).assumptions ≡
+        record { answer = Quiet; assumed = first } ∷ []) }
+    ensures { OnOk result ((P.state clauses.new).assumptions ≡ (P.state clauses.old).assumptions) }
+{
+    match clauses.assume(lits)? {
+        Answer::Clash => log.push(1)?,
+        Answer::Quiet => note_values(clauses, log)?,
+    }
+    clauses.undo();
+    note_values(clauses, log)
+}
+
+/// Two assumptions, one on the other, taken back in turn.
+fn assume_twice<P: Propagate>(
+    clauses: &mut P,
+    first: &[Lit],
+    second: &[Lit],
+    log: &mut Vec<u8>,
+) -> Result<(), Fail>
+    requires { (P.state clauses.old).assumptions ≡ [] }
+    ensures { OnOk result ((P.state clauses.new).assumptions ≡ []) }
+{
+    match clauses.assume(first)? {
+        Answer::Clash => {
+            clauses.undo();
+            log.push(1)?;
+        }
+        Answer::Quiet => {
+            note_values(clauses, log)?;
+            assume_on_top(clauses, second, log)?;
+            clauses.undo();
+        }
+    }
+    Ok(())
+}
+
+/// Notes how many clauses have each literal.
+fn note_counts<P: Propagate>(clauses: &P, log: &mut Vec<u8>) -> Result<(), Fail> {
+    for var in 1..8 {
+        let l = Lit::new(var).ok_or("no literal")?;
+        log.push(clauses.count_with(l).min(255) as u8)?;
+        log.push(clauses.count_with(l.neg()).min(255) as u8)?;
+    }
+    Ok(())
+}
+
+/// Inserts a clause, takes out another if it is there, and assumes two others.
+fn change<P: Propagate>(
+    alloc: Global,
+    clauses: &mut P,
+    dice: &mut Dice,
+    log: &mut Vec<u8>,
+) -> Result<(), Fail>
+    requires { (P.state clauses.old).assumptions ≡ [] }
+    ensures { OnOk result ((P.state clauses.new).assumptions ≡ []) }
+{
+    let size = 1 + dice.roll() % 4;
+    let added = dice.literals(alloc, size)?;
+    clauses.insert(added.as_slice())?;
+    let size = 1 + dice.roll() % 2;
+    let gone = dice.literals(alloc, size)?;
+    if let Some(slot) = clauses.find(gone.as_slice()) {
+        clauses.remove(slot);
+        log.push(5)?;
+    }
+    note_counts(clauses, log)?;
+    let first = dice.literals(alloc, 1)?;
+    let second = dice.literals(alloc, 2)?;
+    assume_twice(clauses, first.as_slice(), second.as_slice(), log)
+}
+
+/// What is answered in a sequence of changes.
+fn answers<P: Propagate>(
+    alloc: Global,
+    clauses: &mut P,
+    seed: u64,
+    changes: u32,
+) -> Result<Vec<u8>, Fail>
+    requires { (P.state clauses.old).assumptions ≡ [] }
+{
+    let mut dice = Dice { state: seed };
+    let mut log = Vec::new(alloc);
+    for _ in 0..changes {
+        change(alloc, clauses, &mut dice, &mut log)?;
+    }
+    Ok(log)
+}
+
+#[test]
+fn both_answer_alike(rt: HostRuntime) -> Result<(), Fail> {
+    let alloc = rt.alloc();
+    for seed in 0..300 {
+        let scanned = answers(alloc, &mut Scan::new(alloc)?, seed, 24)?;
+        let watched = answers(alloc, &mut Watch::new(alloc)?, seed, 24)?;
+        assert!(rt; scanned.len() > 24);
+        assert!(rt; scanned == watched);
+    }
+    Ok(())
+}
+
+/// How many entries the lists have, and how many literals are true, after an assumption.
+fn counts(alloc: Global) -> Result<(u64, usize, usize), Fail> {
+    let mut watch = Watch::new(alloc)?;
+    fill(alloc, &mut watch, &[[1, 2], [-1, 3], [1, 1]])?;
+    let _ = watch.assume(&[])?;
+    Ok((
+        watch.watch_entries(),
+        watch.short_entries(),
+        watch.trail_len(),
+    ))
+}
+
+#[test]
+fn counts_entries(rt: HostRuntime) -> Result<(), Fail> {
+    assert_eq!(rt; counts(rt.alloc())?, (4, 1, 2));
+    Ok(())
+}

@@ -1,0 +1,26 @@
+use Rattle.std.proofs.Common.{◌++◌, ap, subst}
+use Rattle.std.specs.FinMap as maps
+use Rattle.cnf_base.specs.Literals.{complements}
+use Rattle.propagation.specs.Assumptions.{IsAnswer, assumed_by}
+use Rattle.steps.specs.Theory.Propagation.{Clash}
+use Rattle.steps.proofs.DratLemmas.Steps.{no_clash, rup_listed}
+use Rattle.steps.proofs.drat.pr.judge_consistent.Goals as goal
+
+pub judge_pr-judged-requires-clause-no_rup : goal.judge_pr-judged-requires-clause-no_rup
+judge_pr-judged-requires-clause-no_rup g c =
+    let old = g.P.Propagate.state c.args.clauses.now in
+    let lits = c.args.lits.now in
+    let assumed = assumed_by old.assumptions ++ complements lits in
+    no_clash old.live (g.P.Propagate.state c.assume.new.self).live lits assumed c.in-Ok-Quiet.ensures.live
+    (subst (IsAnswer (maps.get old.live) assumed) c.in-Ok-Quiet.field-0-is c.in-Ok-Quiet.ensures.answer)
+    (ap (λ them. assumed_by them ++ complements lits) c.requires.nothing_assumed)
+
+pub returns-in-Ok-Clash-clause-answers : goal.returns-in-Ok-Clash-clause-answers
+returns-in-Ok-Clash-clause-answers g c =
+    let old = g.P.Propagate.state c.args.clauses.now in
+    let lits = c.args.lits.now in (
+      c.requires.consistent,
+      rup_listed old.live lits
+          (subst (Clash (maps.get old.live)) (ap (λ them. assumed_by them ++ complements lits) c.requires.nothing_assumed)
+          (subst (IsAnswer (maps.get old.live) (assumed_by old.assumptions ++ complements lits)) c.in-Ok-Clash.field-0-is c.in-Ok-Clash.ensures.answer)),
+    )
