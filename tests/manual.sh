@@ -1,6 +1,7 @@
 #!/usr/bin/env bash
 # Compares each manual page with its program: the page has every option that the program's help lists, and no other, and
-# every status of docs/REPORT.md, and no other; its synopsis is the help's. Where mandoc or groff is installed, it formats each
+# every status of docs/REPORT.md, and no other; its synopsis is the help's. Its version is that of the file VERSION, and the
+# program shows the same. Where mandoc or groff is installed, it formats each
 # page without a warning. The last line is "N passed, M failed".
 #
 # LRAT_CHECK, DRAT_FORWARD and MODEL_CHECK name the programs; they are those in bin/ otherwise.
@@ -60,6 +61,14 @@ of_program() {
     sed -n '/^## Statuses/,/^## [^S]/s/^| \([0-9]*\) |.*/\1/p' docs/REPORT.md > "$room/wanted"
     section "EXIT STATUS" "$page" | sed -n 's/^\.It //p' > "$room/found"
     same "the statuses in $page"
+
+    echo "Gazhumbe $(cat VERSION)" > "$room/wanted"
+    sed -n 's/^\.Os //p' "$page" > "$room/found"
+    same "the version in $page"
+
+    echo "$1 $(cat VERSION)" > "$room/wanted"
+    "$2" --version > "$room/out" 2> "$room/found"
+    same "the version that $1 shows"
 
     if command -v mandoc > /dev/null; then
         quiet "mandoc on $page" mandoc -T lint -W warning "$page"

@@ -64,6 +64,16 @@ write_failed() {
     judge "$1" 5 "$3"
 }
 
+# version NAME PROGRAM WORD..: as usage, and standard error has the program's name and what the file VERSION has
+version() {
+    local name=$1 program=$2
+    shift 2
+    usage "$name" "$@"
+    echo "$program $(cat VERSION)" > "$room/wanted"
+    cp "$room/err" "$room/out"
+    judge "$name: the text" 6 6
+}
+
 x=examples
 
 # writes NAME WORD..: runs the program $checker with these words on a socket that keeps each write apart, and compares the
@@ -103,7 +113,9 @@ of_every_tool() {
     usage "$1_no_words"
     usage "$1_help" --help
     usage "$1_short_help" -h
-    usage "$1_version" --version
+    version "$1_version" "$2" --version
+    version "$1_short_version" "$2" -V
+    version "$1_version_beside_the_names" "$2" "$3" --version "$4"
     usage "$1_empty_word" ""
     usage "$1_unknown_flag" --fast "$3" "$4"
     usage "$1_unknown_flag_after_the_names" "$3" "$4" --fast

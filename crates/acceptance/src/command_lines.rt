@@ -33,9 +33,11 @@ const REFUSED: [(Tool, &str); 15] = [
 ];
 
 /// Lines that ask for a text.
-const HELP: [(Tool, &str); 3] = [
+const TEXTS: [(Tool, &str); 5] = [
     (Tool::Drat, "drat-forward --help"),
     (Tool::Lrat, "lrat-check -h"),
+    (Tool::Drat, "drat-forward --strict -V"),
+    (Tool::Lrat, "lrat-check --version f.cnf p.lrat"),
     (Tool::Model, "model-check f.cnf --version"),
 ];
 
@@ -87,8 +89,8 @@ fn refuses(rt: HostRuntime) {
 }
 
 #[test]
-fn shows_help(rt: HostRuntime) {
-    expect_refused(&rt, rt.alloc(), &HELP);
+fn shows_texts(rt: HostRuntime) {
+    expect_refused(&rt, rt.alloc(), &TEXTS);
 }
 
 #[test]

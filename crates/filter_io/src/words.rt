@@ -7,8 +7,8 @@ use std::alloc::AllocError;
 use std::env;
 use std::io::ErrorKind;
 
-/// What the command line asks of the tool. Where it asks for nothing right, or for help, the text goes to standard error, and
-/// the status is the answer.
+/// What the command line asks of the tool. Where it asks for nothing right, or for help or the version, the text goes to
+/// standard error, and the status is the answer.
 pub fn ask(rt: &HostRuntime, tool: Tool, name: &str) -> Result<Args, Status>
     // No word alone gives a verdict.
     ensures { IfErr result (λ status. (status ≡ Status.Usage) ⊎ (status ≡ Status.OutOfMemory)) }

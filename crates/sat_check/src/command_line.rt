@@ -2,16 +2,18 @@
 
 pub(crate) mod args;
 pub(crate) mod tool;
+mod version;
 
 ghost use Rattle.std.specs.Prelude.{◌≡◌, ◌≤◌, ◌||◌, Some, codes, false, length, option_map, string_bytes, true};
 ghost use Rattle.std.specs.Prelude.{IfErr, IfOk};
 ghost use Rattle.std.specs.List.{list_all};
 ghost use Rattle.clap.specs.Words.{app_of, rule_of, kind_of};
-ghost use Rattle.sat_check.specs.CommandLine.Commands.{command_of, flag_rule, formula_rule, second_rule};
+ghost use Rattle.sat_check.specs.CommandLine.Commands.{command_of, flag_rule, formula_rule, new_command, second_rule};
 ghost use Rattle.sat_check.specs.CommandLine.Words.{Accepts, args, end_mark, is_among, is_empty_word, is_known, is_some_empty, names, said_by};
 
 use crate::command_line::args::{Args, ArgsFault};
 use crate::command_line::tool::Tool;
+use crate::command_line::version::VERSION;
 use clap::error::ErrorKind;
 use clap::{Arg, ArgAction, Command, Error};
 use std::alloc::{AllocError, Global};
@@ -57,6 +59,13 @@ fn second<'a>(alloc: Global, name: &'a str, help: &'a str) -> Arg<'a>
         .help(help)
 }
 
+/// A command without arguments, which shows its version where that is asked for.
+fn new_command<'a>(alloc: Global, name: &'a str) -> Command<'a>
+    ensures { app_of result ≡ new_command name.entry.now }
+{
+    Command::new(alloc, name).version(VERSION)
+}
+
 /// The command line of the tool, as `clap` reads it.
 fn command<'a>(alloc: Global, tool: Tool) -> Result<Command<'a>, AllocError>
     ensures { IfOk result (λ command. app_of command ≡ command_of tool) }
@@ -74,7 +83,7 @@ fn command<'a>(alloc: Global, tool: Tool) -> Result<Command<'a>, AllocError>
                 "pr",
                 "Take additions that list a set, by propagation redundancy",
             );
-            Command::new(alloc, "drat-forward")
+            new_command(alloc, "drat-forward")
                 .arg(binary)?
                 .arg(trace(alloc))?
                 .arg(strict)?
@@ -82,11 +91,11 @@ fn command<'a>(alloc: Global, tool: Tool) -> Result<Command<'a>, AllocError>
                 .arg(formula(alloc))?
                 .arg(second(alloc, "PROOF", "The proof (standard input if absent)"))
         }
-        Tool::Lrat => Command::new(alloc, "lrat-check")
+        Tool::Lrat => new_command(alloc, "lrat-check")
             .arg(trace(alloc))?
             .arg(formula(alloc))?
             .arg(second(alloc, "PROOF", "The proof (standard input if absent)")),
-        Tool::Model => Command::new(alloc, "model-check")
+        Tool::Model => new_command(alloc, "model-check")
             .arg(formula(alloc))?
             .arg(second(
                 alloc,
@@ -104,7 +113,7 @@ fn refusal(text: Result<String, AllocError>) -> ArgsFault {
     }
 }
 
-/// What to show of an error of `clap`: its text, which is the help where that was asked for.
+/// What to show of an error of `clap`: its text, which is the help or the version where that was asked for.
 fn fault_from(alloc: Global, error: &Error) -> ArgsFault
     ensures { kind_of error.now ≡ ErrorKind.OutOfMemory → result ≡ ArgsFault.OutOfMemory }
 {

@@ -18,7 +18,7 @@ pub enum Status {
     OutOfMemory,
     /// A write or the last flush failed.
     WriteFailed,
-    /// The words of the command line aren't right, or ask for help.
+    /// The words of the command line aren't right, or ask for help or the version.
     Usage,
 }
 

@@ -14,7 +14,7 @@ use Rattle.clap.specs.Walk.{Held, Row, Text, Walk, finished, has_row, nothing_he
 use Rattle.clap.specs.declared.error.kind.ErrorKind.TheVariants as kind
 use Rattle.sat_check.specs.CommandLine.Commands.{command_of}
 use Rattle.sat_check.specs.CommandLine.Words.{Accepts, begins_with_hyphen, is_among, is_empty_word, is_flag, is_some_empty, names, plain, times}
-use Rattle.sat_check.proofs.CommandLineLemmas.Rules.{fault_is, flag_full, formula_full, help_full, rules_of, second_full, top_of}
+use Rattle.sat_check.proofs.CommandLineLemmas.Rules.{fault_is, files_and_texts, flag_full, formula_full, help_full, rules_of, second_full, top_of}
 use Rattle.sat_check.proofs.CommandLineLemmas.Rows.{names_added, names_kept}
 use Rattle.sat_check.proofs.CommandLineLemmas.Turns.{at}
 use Rattle.sat_check.proofs.CommandLineLemmas.Steps.{After, Shows, end_mark, flag_passes, name_passes, start_after, step_after, tail_free, words_after}
@@ -38,12 +38,13 @@ flag_default_fault f rows = go (has_row f rows)
     go true = refl
     go false = refl
 
-files_fault : (rows : List Row) → defaults_fault rows (formula_full ∷ second_full ∷ help_full ∷ []) ≡ []
+files_fault : (rows : List Row) → defaults_fault rows files_and_texts ≡ []
 unfolding defaults_fault
 files_fault rows =
     nils _ _ (no_default (has_row (codes "formula") rows) _)
     (nils _ _ (no_default (has_row (codes "second") (with_default rows formula_full)) _)
-    (nils _ _ (no_default (has_row (codes "help") (with_default (with_default rows formula_full) second_full)) _) refl))
+    (nils _ _ (no_default (has_row (codes "help") (with_default (with_default rows formula_full) second_full)) _)
+    (nils _ _ (no_default (has_row (codes "version") (with_default (with_default (with_default rows formula_full) second_full) help_full)) _) refl)))
 
 all_defaults_fault : (tool : Tool) (rows : List Row) → defaults_fault rows (rules_of tool) ≡ []
 unfolding defaults_fault

@@ -12,7 +12,7 @@ use Rattle.clap.specs.Simple.{matches_of}
 use Rattle.clap.specs.declared.parser.matches.ValueSource.TheVariants.{DefaultValue}
 use Rattle.sat_check.specs.CommandLine.Commands.{command_of}
 use Rattle.sat_check.specs.CommandLine.Words.{is_among, is_flag, names}
-use Rattle.sat_check.proofs.CommandLineLemmas.Rules.{fault_is, flag_full, formula_full, help_full, matches_are, rules_of, second_full, top_of}
+use Rattle.sat_check.proofs.CommandLineLemmas.Rules.{fault_is, flag_full, files_and_texts, formula_full, help_full, matches_are, rules_of, second_full, top_of, version_full}
 use Rattle.sat_check.proofs.CommandLineLemmas.Rows.{at_end, has_row-row_for, new_row, option_or-None, row_for}
 use Rattle.sat_check.proofs.CommandLineLemmas.Turns.{at, or_nil}
 use Rattle.sat_check.proofs.CommandLineLemmas.Steps.{After, Shows, end_mark, file_row, flag_row, start_after, words_after}
@@ -58,10 +58,11 @@ stays : (b : Bool) (rows : List Row) → (if b then rows else rows) ≡ rows
 stays true rows = refl
 stays false rows = refl
 
-files_default : (rows : List Row) → fold with_default rows (formula_full ∷ second_full ∷ help_full ∷ []) ≡ rows
+files_default : (rows : List Row) → fold with_default rows files_and_texts ≡ rows
 files_default rows =
-    ap (λ (l : List Row). with_default (with_default l second_full) help_full) (stays (has_row (codes "formula") rows) rows)
-    ∙ (ap (λ (l : List Row). with_default l help_full) (stays (has_row (codes "second") rows) rows) ∙ stays (has_row (codes "help") rows) rows)
+    ap (λ (l : List Row). with_default (with_default (with_default l second_full) help_full) version_full) (stays (has_row (codes "formula") rows) rows)
+    ∙ (ap (λ (l : List Row). with_default (with_default l help_full) version_full) (stays (has_row (codes "second") rows) rows)
+    ∙ (ap (λ (l : List Row). with_default l version_full) (stays (has_row (codes "help") rows) rows) ∙ stays (has_row (codes "version") rows) rows))
 
 abbrev pub end_row : Tool → Text → Option Row → Option Row
 end_row Drat id o = option_or (option_or (option_or (option_or o (off_for (codes "binary") id)) (off_for (codes "trace") id)) (off_for (codes "strict") id)) (off_for (codes "pr") id)

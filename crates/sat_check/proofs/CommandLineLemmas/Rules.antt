@@ -3,7 +3,7 @@ use Rattle.std.proofs.Common.{◌≡◌, codes, refl, List, [], ◌∷◌, true,
 use Rattle.std.specs.Prelude.{drop, is_some}
 use Rattle.clap.specs.Faults.{built_fault, entered_fault, fault_of, is_simple_and_free, level_fault}
 use Rattle.clap.specs.Walk.{Held, Rule, Text, nothing_held, rows_after, walk}
-use Rattle.clap.specs.Simple.{Shape, entered, filled, help_rule, is_simple, matches_of, with_index}
+use Rattle.clap.specs.Simple.{Shape, entered, filled, help_rule, is_simple, matches_of, version_rule, with_index}
 use Rattle.sat_check.specs.CommandLine.Commands.{command_of, flag_rule, formula_rule, second_rule}
 use Rattle.sat_check.specs.declared.command_line.tool.Tool.{Tool}
 use Rattle.sat_check.specs.declared.command_line.tool.Tool.TheVariants.{Drat, Lrat, Model}
@@ -20,13 +20,17 @@ second_full = with_index 2 (filled second_rule)
 abbrev pub help_full : Rule
 help_full = filled help_rule
 
-abbrev pub files_and_help : List Rule
-files_and_help = formula_full ∷ second_full ∷ help_full ∷ []
+abbrev pub version_full : Rule
+version_full = filled version_rule
+
+-- the files, and the flags that ask for a text
+abbrev pub files_and_texts : List Rule
+files_and_texts = formula_full ∷ second_full ∷ help_full ∷ version_full ∷ []
 
 abbrev pub rules_of : Tool → List Rule
-rules_of Drat = flag_full (codes "binary") ∷ flag_full (codes "trace") ∷ flag_full (codes "strict") ∷ flag_full (codes "pr") ∷ files_and_help
-rules_of Lrat = flag_full (codes "trace") ∷ files_and_help
-rules_of Model = files_and_help
+rules_of Drat = flag_full (codes "binary") ∷ flag_full (codes "trace") ∷ flag_full (codes "strict") ∷ flag_full (codes "pr") ∷ files_and_texts
+rules_of Lrat = flag_full (codes "trace") ∷ files_and_texts
+rules_of Model = files_and_texts
 
 abbrev pub name_of : Tool → Text
 name_of Drat = codes "drat-forward"
@@ -45,7 +49,7 @@ shape name rules = record {
   disable_help_subcommand = true;
   disable_version_flag = false;
   propagate_version = false;
-  has_version = false;
+  has_version = true;
   has_long_version = false;
   args_override_self = false;
   arg_required_else_help = false;

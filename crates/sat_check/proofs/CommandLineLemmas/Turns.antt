@@ -11,7 +11,7 @@ use Rattle.clap.specs.Faults.{bundle_fault, bundle_step_fault, flag_word_fault, 
 use Rattle.clap.specs.Kinds.{Kinds, or_else}
 use Rattle.clap.specs.Walk.{Held, Outcome, Row, Rule, Step, Text, Walk, after_flag, after_step, arg_by_index, arg_by_long, arg_by_short, bundle_met, bundle_step, idle, long_or_other, plain, reacted, short_or_plain, to_positional, trailing, value, walked}
 use Rattle.clap.specs.declared.error.kind.ErrorKind.{ErrorKind}
-use Rattle.sat_check.proofs.CommandLineLemmas.Rules.{flag_full, help_full, name_of, rules_of, shape, top_of}
+use Rattle.sat_check.proofs.CommandLineLemmas.Rules.{flag_full, help_full, name_of, rules_of, shape, top_of, version_full}
 use Rattle.sat_check.specs.CommandLine.Words.{is_flag}
 use Rattle.sat_check.specs.declared.command_line.tool.Tool.{Tool}
 use Rattle.sat_check.specs.declared.command_line.tool.Tool.TheVariants.{Drat, Lrat, Model}
@@ -60,6 +60,10 @@ whole (x ∷ xs) e = go (x == 61) refl e (whole xs)
 no_mark : (b : Bool) (v : Text) → (if b then Some v else None) ≡ None → b ≡ false
 no_mark false v e = refl
 no_mark true v e = absurd (true≢false (ap is_some e))
+
+-- what a letter after one hyphen names: nothing, or a flag that asks for a text
+abbrev pub IsShort : Option Rule → Type 0
+IsShort o = (o ≡ None) ⊎ ((o ≡ Some help_full) ⊎ (o ≡ Some version_full))
 
 -- ---- a word that is taken as a name
 
@@ -146,22 +150,25 @@ module _ (c : List Rule) (name : Text) (r : List Row) (p : Option (Text × List 
               ∙ ap (λ (m : Held × Step). after_step c (45 ∷ y ∷ ys) (at r p n) m.0 m.1) step,
         )
 
-    -- a character names no flag, or asks for help
-    char_refused : (o : Option Rule) → (o ≡ None) ⊎ (o ≡ Some help_full) → (rest : Text) (next : Held → Kinds)
+    -- a character names no flag, or asks for a text
+    char_refused : (o : Option Rule) → IsShort o → (rest : Text) (next : Held → Kinds)
         → settle_fault c false (holding r p) ≡ [] → short_fault c false o rest (holding r p) next ≡ [] → ⊥
     char_refused o (inl none) rest next s f = cons_not_nil _ _ (rw none at f)
-    char_refused o (inr help) rest next s f =
+    char_refused o (inr (inl help)) rest next s f =
         let g : or_else (react_fault c false help_full [] (holding r p)) (next (reacted c help_full [] (holding r p))) ≡ [] = rw help at f in
         cons_not_nil _ _ (or_nil _ _ (or_nil _ _ g).0).1
+    char_refused o (inr (inr version)) rest next s f =
+        let g : or_else (react_fault c false version_full [] (holding r p)) (next (reacted c version_full [] (holding r p))) ≡ [] = rw version at f in
+        cons_not_nil _ _ (or_nil _ _ (or_nil _ _ g).0).1
 
-    pub short_refused : ((x : ℕ) → (arg_by_short c x ≡ None) ⊎ (arg_by_short c x ≡ Some help_full)) → settle_fault c false (holding r p) ≡ []
+    pub short_refused : ((x : ℕ) → IsShort (arg_by_short c x)) → settle_fault c false (holding r p) ≡ []
         → (x : ℕ) → slice_get (chars (y ∷ ys)) 0 ≡ Some x → turn_fault (shape name c) [] (at r p n) (45 ∷ y ∷ ys) ≡ [] → ⊥
     short_refused shorts s x first f =
         let g = sym (short_fault_is (45 ∷ y ∷ ys) no_end no_long (Some (y ∷ ys)) some_short) ∙ f in
         let k = sym (bundle_is (Some x) first) ∙ (or_nil _ _ g).0 in
         char_refused (arg_by_short c x) (shorts x) _ _ s k
 
-    pub short_met : ((x : ℕ) → (arg_by_short c x ≡ None) ⊎ (arg_by_short c x ≡ Some help_full)) → settle_fault c false (holding r p) ≡ []
+    pub short_met : ((x : ℕ) → IsShort (arg_by_short c x)) → settle_fault c false (holding r p) ≡ []
         → Taken (45 ∷ y ∷ ys) ⊎ (turn_fault (shape name c) [] (at r p n) (45 ∷ y ∷ ys) ≡ [] → ⊥)
     short_met shorts s = go (slice_get (chars (y ∷ ys)) 0) refl
       where
@@ -171,17 +178,21 @@ module _ (c : List Rule) (name : Text) (r : List Row) (p : Option (Text × List 
 
   -- ---- a word that begins with two
 
-  -- a long name is a flag of the tool, asks for help, or is unknown
+  -- a long name is a flag of the tool, asks for a text, or is unknown
   abbrev IsLong : (Text → Type 0) → Text → Option Rule → Type 0
-  IsLong P name o = (o ≡ None) ⊎ ((o ≡ Some help_full) ⊎ ((f : Text) × (o ≡ Some (flag_full f)) × (f ≡ name) × P f))
+  IsLong P name o = (o ≡ None) ⊎ (((o ≡ Some help_full) ⊎ (o ≡ Some version_full)) ⊎ ((f : Text) × (o ≡ Some (flag_full f)) × (f ≡ name) × P f))
 
   long_refused : (P : Text → Type 0) (name : Text) (o : Option Rule) → IsLong P name o → (v : Option Text) → settle_fault c false (holding r p) ≡ []
       → (v ≡ None → P name → ⊥) → long_fault c false o v (holding r p) ≡ [] → ⊥
   long_refused P name o (inl none) v s refuted f = cons_not_nil _ _ (rw none at f)
-  long_refused P name o (inr (inl help)) None s refuted f =
+  long_refused P name o (inr (inl (inl help))) None s refuted f =
       let g : react_fault c false help_full [] (holding r p) ≡ [] = rw help at f in
       cons_not_nil _ _ (or_nil _ _ g).1
-  long_refused P name o (inr (inl help)) (Some v) s refuted f = cons_not_nil _ _ (rw help at f)
+  long_refused P name o (inr (inl (inl help))) (Some v) s refuted f = cons_not_nil _ _ (rw help at f)
+  long_refused P name o (inr (inl (inr version))) None s refuted f =
+      let g : react_fault c false version_full [] (holding r p) ≡ [] = rw version at f in
+      cons_not_nil _ _ (or_nil _ _ g).1
+  long_refused P name o (inr (inl (inr version))) (Some v) s refuted f = cons_not_nil _ _ (rw version at f)
   long_refused P name o (inr (inr flag)) None s refuted f = refuted refl (subst P flag.2 flag.3)
   long_refused P name o (inr (inr flag)) (Some v) s refuted f = cons_not_nil _ _ (rw flag.1 at f)
 
@@ -194,16 +205,17 @@ module _ (c : List Rule) (name : Text) (r : List Row) (p : Option (Text × List 
 
 -- ---- the three tools
 
-pub shorts_of : (tool : Tool) (x : ℕ) → (arg_by_short (rules_of tool) x ≡ None) ⊎ (arg_by_short (rules_of tool) x ≡ Some help_full)
-shorts_of tool x = elim tool as (λ t. (arg_by_short (rules_of t) x ≡ None) ⊎ (arg_by_short (rules_of t) x ≡ Some help_full)) [
-  | Drat ↦ go (104 == x || false)
-  | Lrat ↦ go (104 == x || false)
-  | Model ↦ go (104 == x || false)
+pub shorts_of : (tool : Tool) (x : ℕ) → IsShort (arg_by_short (rules_of tool) x)
+shorts_of tool x = elim tool as (λ t. IsShort (arg_by_short (rules_of t) x)) [
+  | Drat ↦ go (104 == x || false) (86 == x || false)
+  | Lrat ↦ go (104 == x || false) (86 == x || false)
+  | Model ↦ go (104 == x || false) (86 == x || false)
 ]
   where
-    go : (b : Bool) → (cond b (Some help_full) None ≡ None) ⊎ (cond b (Some help_full) None ≡ Some help_full)
-    go true = inr refl
-    go false = inl refl
+    go : (help version : Bool) → IsShort (cond help (Some help_full) (cond version (Some version_full) None))
+    go true version = inr (inl refl)
+    go false true = inr (inr refl)
+    go false false = inl refl
 
 -- the name of a flag of the tool
 abbrev pub IsName : Tool → Text → Type 0
@@ -213,9 +225,10 @@ same_text : (a b : Text) → bytes_eq a b ≡ true → a ≡ b
 same_text a b e = (bytes_eq-Decides a b).0 e
 
 module _ (tool : Tool) (name : Text) where
-  help_or_none : (b : Bool) → IsLong [] [] [] None 0 (IsName tool) name (cond b (Some help_full) None)
-  help_or_none true = inr (inl refl)
-  help_or_none false = inl refl
+  text_or_none : (help version : Bool) → IsLong [] [] [] None 0 (IsName tool) name (cond help (Some help_full) (cond version (Some version_full) None))
+  text_or_none true version = inr (inl (inl refl))
+  text_or_none false true = inr (inl (inr refl))
+  text_or_none false false = inl refl
 
   flag_or : (f : Text) → IsName tool f → (b : Bool) → (bytes_eq f name || false) ≡ b → (o : Option Rule) → IsLong [] [] [] None 0 (IsName tool) name o
       → IsLong [] [] [] None 0 (IsName tool) name (cond b (Some (flag_full f)) o)
@@ -232,9 +245,9 @@ longs_of Drat name =
     (flag_or Drat name (codes "trace") refl _ refl _
     (flag_or Drat name (codes "strict") refl _ refl _
     (flag_or Drat name (codes "pr") refl _ refl _
-    (help_or_none Drat name (bytes_eq (codes "help") name || false)))))
-longs_of Lrat name = flag_or Lrat name (codes "trace") refl _ refl _ (help_or_none Lrat name (bytes_eq (codes "help") name || false))
-longs_of Model name = help_or_none Model name (bytes_eq (codes "help") name || false)
+    (text_or_none Drat name (bytes_eq (codes "help") name || false) (bytes_eq (codes "version") name || false)))))
+longs_of Lrat name = flag_or Lrat name (codes "trace") refl _ refl _ (text_or_none Lrat name (bytes_eq (codes "help") name || false) (bytes_eq (codes "version") name || false))
+longs_of Model name = text_or_none Model name (bytes_eq (codes "help") name || false) (bytes_eq (codes "version") name || false)
 
 -- the walk takes the word for a name
 abbrev pub IsTaken : Tool → List Row → Option (Text × List Text) → ℕ → Text → Type 0

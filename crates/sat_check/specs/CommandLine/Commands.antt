@@ -1,6 +1,7 @@
 -- The commands that `clap` is given, as its contracts speak of them.
 use Rattle.std.specs.Prelude.{true, codes, Some}
 use Rattle.clap.specs.Words.{App, Rule, Text, new_app, new_rule, with_rule}
+use Rattle.clap.specs.Simple.{on_top}
 use Rattle.clap.specs.declared.builder.ArgAction.TheVariants.{Set, SetTrue}
 use Rattle.sat_check.specs.declared.command_line.tool.Tool.{Tool}
 use Rattle.sat_check.specs.declared.command_line.tool.Tool.TheVariants.{Drat, Lrat, Model}
@@ -18,6 +19,10 @@ formula_rule = record (new_rule (codes "formula")) {
 abbrev pub second_rule : Rule
 second_rule = record (new_rule (codes "second")) { value_names = 1; action = Some Set }
 
+-- a command without arguments, which shows its version where that is asked for
+abbrev pub new_command : Text → App
+new_command name = on_top (λ s. record s { has_version = true }) (new_app name)
+
 abbrev pub with_files : App → App
 with_files a = with_rule (with_rule a formula_rule) second_rule
 
@@ -26,7 +31,7 @@ command_of Drat = with_files
     (with_rule
     (with_rule
     (with_rule
-    (with_rule (new_app (codes "drat-forward")) (flag_rule (codes "binary")))
+    (with_rule (new_command (codes "drat-forward")) (flag_rule (codes "binary")))
     (flag_rule (codes "trace"))) (flag_rule (codes "strict"))) (flag_rule (codes "pr")))
-command_of Lrat = with_files (with_rule (new_app (codes "lrat-check")) (flag_rule (codes "trace")))
-command_of Model = with_files (new_app (codes "model-check"))
+command_of Lrat = with_files (with_rule (new_command (codes "lrat-check")) (flag_rule (codes "trace")))
+command_of Model = with_files (new_command (codes "model-check"))

@@ -26,7 +26,7 @@ pub struct Args {
 /// Why there are no `Args`.
 #[derive(Debug, Drop, Error)]
 pub enum ArgsFault {
-    /// The words are no command line of the tool, or ask for help: the text to show.
+    /// The words are no command line of the tool, or ask for help or the version: the text to show.
     #[error("{0}")]
     Words(String),
     #[error("out of memory")]

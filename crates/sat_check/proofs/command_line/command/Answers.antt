@@ -1,13 +1,13 @@
 use Rattle.std.proofs.Common.{◌≡◌, ◌∙◌, ap, ap₂, sym, codes}
 use Rattle.std.proofs.lemmas.Result.{IfOk-weaker}
-use Rattle.clap.specs.Words.{app_of, new_app, with_rule}
-use Rattle.sat_check.specs.CommandLine.Commands.{command_of, flag_rule}
+use Rattle.clap.specs.Words.{app_of, with_rule}
+use Rattle.sat_check.specs.CommandLine.Commands.{command_of, flag_rule, new_command}
 use Rattle.sat_check.proofs.command_line.command.Goals as goal
 
 pub returns-in_ok-arg-in-Drat-5 : goal.returns-in_ok-arg-in-Drat-5
 returns-in_ok-arg-in-Drat-5 c =
-    let one : app_of c.in_ok-arg-in-Drat.field-0 ≡ with_rule (new_app (codes "drat-forward")) (flag_rule (codes "binary")) =
-    c.in_ok-arg-in-Drat.ensures.shape c.flag-binary.ensures.local ∙ ap₂ with_rule c.new.ensures.app c.flag-binary.ensures.rule in
+    let one : app_of c.in_ok-arg-in-Drat.field-0 ≡ with_rule (new_command (codes "drat-forward")) (flag_rule (codes "binary")) =
+    c.in_ok-arg-in-Drat.ensures.shape c.flag-binary.ensures.local ∙ ap₂ with_rule c.new_command.ensures c.flag-binary.ensures.rule in
     let two = c.in_ok-arg-in-Drat-2.ensures.shape c.trace.ensures.local ∙ ap₂ with_rule one c.trace.ensures.rule in
     let three = c.in_ok-arg-in-Drat-3.ensures.shape c.flag-strict.ensures.local ∙ ap₂ with_rule two c.flag-strict.ensures.rule in
     let four = c.in_ok-arg-in-Drat-4.ensures.shape c.flag-pr.ensures.local ∙ ap₂ with_rule three c.flag-pr.ensures.rule in
@@ -18,8 +18,8 @@ returns-in_ok-arg-in-Drat-5 c =
 
 pub returns-in_ok-arg-in-Lrat-2 : goal.returns-in_ok-arg-in-Lrat-2
 returns-in_ok-arg-in-Lrat-2 c =
-    let one : app_of c.in_ok-arg-in-Lrat.field-0 ≡ with_rule (new_app (codes "lrat-check")) (flag_rule (codes "trace")) =
-    c.in_ok-arg-in-Lrat.ensures.shape c.trace-in-Lrat.ensures.local ∙ ap₂ with_rule c.new-in-Lrat.ensures.app c.trace-in-Lrat.ensures.rule in
+    let one : app_of c.in_ok-arg-in-Lrat.field-0 ≡ with_rule (new_command (codes "lrat-check")) (flag_rule (codes "trace")) =
+    c.in_ok-arg-in-Lrat.ensures.shape c.trace-in-Lrat.ensures.local ∙ ap₂ with_rule c.new_command-in-Lrat.ensures c.trace-in-Lrat.ensures.rule in
     let two = c.in_ok-arg-in-Lrat-2.ensures.shape c.formula-in-Lrat.ensures.local ∙ ap₂ with_rule one c.formula-in-Lrat.ensures.rule in
     IfOk-weaker c.arg-in-Lrat-3.result _ _
     (λ r h. h.shape c.second-in-Lrat.ensures.local ∙ (ap₂ with_rule two c.second-in-Lrat.ensures.rule ∙ sym (ap command_of c.in-Lrat.is)))
