@@ -45,6 +45,13 @@ row() {
     judge "$name" "$status" "$ended"
 }
 
+# told NAME: standard error of the run before has the lines of standard input
+told() {
+    cat > "$room/wanted"
+    cp "$room/err" "$room/out"
+    judge "$1: standard error" 0 0
+}
+
 # usage NAME WORD..: status 6, nothing on standard output, something on standard error
 usage() {
     local name=$1
@@ -69,9 +76,7 @@ version() {
     local name=$1 program=$2
     shift 2
     usage "$name" "$@"
-    echo "$program $(cat VERSION)" > "$room/wanted"
-    cp "$room/err" "$room/out"
-    judge "$name: the text" 6 6
+    told "$name" <<< "$program $(cat VERSION)"
 }
 
 x=examples
@@ -131,30 +136,48 @@ of_a_proof_checker() {
 c cannot read formula
 s NOT VERIFIED
 LINES
+    told "$1_missing_formula" <<< "$2: $x/there_is_no_such_file: No such file or directory (os error 2)"
 
     row "$1_missing_proof" 3 $x/e.cnf $x/there_is_no_such_file <<'LINES'
 c formula 2 variables 4 clauses
 c cannot read proof
 s NOT VERIFIED
 LINES
+    told "$1_missing_proof" <<< "$2: $x/there_is_no_such_file: No such file or directory (os error 2)"
+
+    # only what was to be read is told of, and only once
+    row "$1_both_missing" 3 $x/no_such_formula $x/no_such_proof <<'LINES'
+c cannot read formula
+s NOT VERIFIED
+LINES
+    told "$1_both_missing" <<< "$2: $x/no_such_formula: No such file or directory (os error 2)"
+
+    row "$1_fault_before_a_missing_proof" 2 $x/literal_out_of_range.cnf $x/no_such_proof <<'LINES'
+c formula 2:3: literal out of range
+s NOT VERIFIED
+LINES
+    told "$1_fault_before_a_missing_proof" < /dev/null
 
     # a folder can be opened, and then its first read fails
     row "$1_folder_as_formula" 3 $x "$3" <<'LINES'
 c cannot read formula
 s NOT VERIFIED
 LINES
+    told "$1_folder_as_formula" <<< "$2: $x: Is a directory (os error 21)"
 
     row "$1_folder_as_proof" 3 $x/e.cnf $x <<'LINES'
 c formula 2 variables 4 clauses
 c cannot read proof
 s NOT VERIFIED
 LINES
+    told "$1_folder_as_proof" <<< "$2: $x: Is a directory (os error 21)"
 
     without_stdin "$1_closed_standard_input" 3 $x/e.cnf <<'LINES'
 c formula 2 variables 4 clauses
 c cannot read proof
 s NOT VERIFIED
 LINES
+    told "$1_closed_standard_input" <<< "$2: standard input: Bad file descriptor (os error 9)"
 
     without_stdin "$1_closed_standard_input_is_not_needed" 0 $x/e.cnf "$3" <<'LINES'
 c formula 2 variables 4 clauses
@@ -564,17 +587,20 @@ row model_missing_formula 3 $x/there_is_no_such_file $x/models.out <<'LINES'
 c cannot read formula
 s MODEL NOT VERIFIED
 LINES
+told model_missing_formula <<< "model-check: $x/there_is_no_such_file: No such file or directory (os error 2)"
 
-row both_missing 3 $x/there_is_no_such_file $x/there_is_no_such_file <<'LINES'
+row both_missing 3 $x/no_such_formula $x/no_such_output <<'LINES'
 c cannot read output
 s MODEL NOT VERIFIED
 LINES
+told both_missing <<< "model-check: $x/no_such_output: No such file or directory (os error 2)"
 
 # a folder can be opened, and then its first read fails
 row folder_as_output 3 $x/models.cnf $x <<'LINES'
 c cannot read output
 s MODEL NOT VERIFIED
 LINES
+told folder_as_output <<< "model-check: $x: Is a directory (os error 21)"
 
 without_stdin model_closed_standard_input 3 $x/models.cnf <<'LINES'
 c cannot read output

@@ -2,7 +2,7 @@
 #![tactic(auto)]
 
 use cnf_base::{FromRead, ToWrite};
-use filter_io::{ask, exit_code, open_both, standard_output};
+use filter_io::{ask, exit_code, open_both, standard_output, tell_failures};
 use sat_check::{DratOptions, Status, Tool, run_drat};
 use std::process::ExitCode;
 
@@ -16,7 +16,7 @@ fn main(rt: HostRuntime) -> ExitCode {
 // Both files are opened before the first byte is read.
 fn check(rt: &HostRuntime) -> Result<Status, Status> {
     let args = ask(rt, Tool::Drat, NAME)?;
-    let (formula, proof) = open_both(rt, &args)?;
+    let (mut formula, mut proof) = open_both(rt, &args)?;
     let out = standard_output(rt)?;
     let options = DratOptions {
         binary: args.binary,
@@ -24,11 +24,13 @@ fn check(rt: &HostRuntime) -> Result<Status, Status> {
         strict: args.strict,
         pr: args.pr,
     };
-    Ok(run_drat(
+    let status = run_drat(
         rt.alloc(),
         &options,
-        &mut FromRead::new(formula),
-        &mut FromRead::new(proof),
+        &mut FromRead::new(&mut formula),
+        &mut FromRead::new(&mut proof),
         &mut ToWrite::new(out),
-    ))
+    );
+    tell_failures(rt, NAME, &args, (&formula, &proof), status);
+    Ok(status)
 }

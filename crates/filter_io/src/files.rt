@@ -2,7 +2,7 @@
 
 ghost use Rattle.std.specs.Prelude.{◌≡◌, IfErr};
 
-use crate::Input;
+use crate::input::{Bytes, Input};
 use sat_check::{Args, Status};
 use std::fs;
 use std::io::{Error, ErrorKind, LineWriter, Stdout};
@@ -23,19 +23,19 @@ fn open(rt: &HostRuntime, name: &str) -> Result<Input, Status>
     ensures { IfErr result (λ status. status ≡ Status.OutOfMemory) }
 {
     match fs::open(rt, name) {
-        Ok(file) => Ok(Input::File(file)),
-        Err(error) => unopened(&error),
+        Ok(file) => Ok(Input::new(Bytes::File(file))),
+        Err(error) => unopened(error),
     }
 }
 
-// What can't be opened is an input whose first read fails; only want of memory is an error.
-fn unopened(error: &Error) -> Result<Input, Status>
+// What can't be opened is an input whose first read fails, for the same reason; only want of memory is an error.
+fn unopened(error: Error) -> Result<Input, Status>
     ensures { IfErr result (λ status. status ≡ Status.OutOfMemory) }
 {
     if error.kind() == ErrorKind::OutOfMemory {
         return Err(Status::OutOfMemory);
     }
-    Ok(Input::Missing)
+    Ok(Input::new(Bytes::Unopened(error)))
 }
 
 // The file of the second name, or standard input where there is none.
@@ -54,8 +54,8 @@ fn standard_input(rt: &HostRuntime) -> Result<Input, Status>
 {
     let stdin = rt.stdin();
     match stdin.as_fd().try_clone_to_owned() {
-        Ok(_) => Ok(Input::Standard(stdin)),
-        Err(error) => unopened(&error),
+        Ok(_) => Ok(Input::new(Bytes::Standard(stdin))),
+        Err(error) => unopened(error),
     }
 }
 

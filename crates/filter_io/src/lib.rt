@@ -2,11 +2,13 @@
 #![tactic(auto)]
 
 mod ending;
+mod failures;
 mod files;
 mod input;
 mod words;
 
 pub use ending::exit_code;
+pub use failures::tell_failures;
 pub use files::{open_both, standard_output};
 pub use input::Input;
 pub use words::ask;

@@ -2,7 +2,7 @@
 #![tactic(auto)]
 
 use cnf_base::{FromRead, ToWrite};
-use filter_io::{ask, exit_code, open_both, standard_output};
+use filter_io::{ask, exit_code, open_both, standard_output, tell_failures};
 use sat_check::{LratOptions, Status, Tool, run_lrat};
 use std::process::ExitCode;
 
@@ -16,14 +16,16 @@ fn main(rt: HostRuntime) -> ExitCode {
 // Both files are opened before the first byte is read.
 fn check(rt: &HostRuntime) -> Result<Status, Status> {
     let args = ask(rt, Tool::Lrat, NAME)?;
-    let (formula, proof) = open_both(rt, &args)?;
+    let (mut formula, mut proof) = open_both(rt, &args)?;
     let out = standard_output(rt)?;
     let options = LratOptions { trace: args.trace };
-    Ok(run_lrat(
+    let status = run_lrat(
         rt.alloc(),
         &options,
-        &mut FromRead::new(formula),
-        &mut FromRead::new(proof),
+        &mut FromRead::new(&mut formula),
+        &mut FromRead::new(&mut proof),
         &mut ToWrite::new(out),
-    ))
+    );
+    tell_failures(rt, NAME, &args, (&formula, &proof), status);
+    Ok(status)
 }

@@ -2,7 +2,7 @@
 #![tactic(auto)]
 
 use cnf_base::{FromRead, ToWrite};
-use filter_io::{ask, exit_code, open_both, standard_output};
+use filter_io::{ask, exit_code, open_both, standard_output, tell_failures};
 use sat_check::{Status, Tool, run_model};
 use std::process::ExitCode;
 
@@ -16,12 +16,14 @@ fn main(rt: HostRuntime) -> ExitCode {
 // Both files are opened before the first byte is read.
 fn check(rt: &HostRuntime) -> Result<Status, Status> {
     let args = ask(rt, Tool::Model, NAME)?;
-    let (formula, output) = open_both(rt, &args)?;
+    let (mut formula, mut output) = open_both(rt, &args)?;
     let out = standard_output(rt)?;
-    Ok(run_model(
+    let status = run_model(
         rt.alloc(),
-        &mut FromRead::new(formula),
-        &mut FromRead::new(output),
+        &mut FromRead::new(&mut formula),
+        &mut FromRead::new(&mut output),
         &mut ToWrite::new(out),
-    ))
+    );
+    tell_failures(rt, NAME, &args, (&formula, &output), status);
+    Ok(status)
 }
