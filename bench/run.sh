@@ -70,7 +70,7 @@ measure "formula read and kept, reference.cpp" 1 "$in/formula.cnf" -- "$out/refe
 measure "literals read, lrat-check" 2 "$in/literals.cnf" -- "$checker" "$in/literals.cnf" /dev/null
 measure "literals read, reference.cpp" 2 "$in/literals.cnf" -- "$out/reference" "$in/literals.cnf" /dev/null
 measure "literals split into words, words.c" 0 "$in/literals.cnf" -- "$out/words" "$in/literals.cnf"
-# drat-forward propagates by plain passes, so these proofs are short
+# each program propagates by two watched literals, and keeps what follows from the unit clauses
 for name in leaps pigeonhole units; do
     cnf=$in/drat-$name.cnf drat=$in/drat-$name.drat
     measure "$name in DRAT, drat-forward" 0 "$cnf" "$drat" -- "$drat_checker" "$cnf" "$drat"

@@ -23,9 +23,9 @@ IsPart part whole = (l : Literal) → IsTrue (has part l) → IsTrue (has whole 
 -- what is to be done with a clause that watches a literal which became false
 abbrev pub IsVisit : List Literal → Clause → Literal → Visit → Type 0
 IsVisit trues c l Stays = HasPartner c l trues
-IsVisit trues c l (Moves from to) =
+IsVisit trues c l (Moves from to m) =
     (from < 2) × (slice_index c from ≡ l) × (2 ≤ to) × (to < length c)
-    × IsFalse (has trues (complement (slice_index c to)))
+    × (slice_index c to ≡ m) × IsFalse (has trues (complement m))
 IsVisit trues c l (Unit m) =
     IsTrue (has c m) × IsFalse (has trues (complement m)) × HasPartner c l (m ∷ trues)
     × ((k : Literal) → IsTrue (has c k) → k ≢ m → IsTrue (has trues (complement k)))

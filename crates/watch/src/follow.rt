@@ -22,7 +22,8 @@ use cnf_base::{Lit, OutOfMemory};
 use propagation::Assumptions;
 use tables::Table;
 
-/// Lets the clause of a slot watch the literal at the place `to` instead of `l`, whose list is in hand and loses the slot.
+/// Lets the clause of a slot watch the literal `m` at the place `to` instead of `l`, whose list is in hand and loses the slot.
+#[inline(always)]
 fn move_watch(
     store: &mut Store,
     lists: &mut WatchLists,
@@ -31,13 +32,15 @@ fn move_watch(
     l: Lit,
     from: usize,
     to: usize,
+    m: Lit,
 ) -> Result<(), OutOfMemory>
     requires inside { place < length list.old.items }
     requires hand { IsInHand lists.old l }
     requires listed { IsListed (maps.get store.old.live) (with_list lists.old l list.old.items) }
     requires clause { (c : Clause) ×
         (maps.get store.old.live (slice_index list.old.items place) ≡ Some c)
-        × (size c ≡ length c) × (slice_index c from ≡ l) × (to < length c) }
+        × (size c ≡ length c) × (slice_index c from ≡ l) × (to < length c)
+        × (slice_index c to ≡ m) }
     requires from { from < 2 }
     requires to { 2 ≤ to }
     ensures moved { OnOk result ((c : Clause) →
@@ -54,11 +57,18 @@ fn move_watch(
 {
     let slot = list[place];
     let at = Slot::at(slot as usize);
-    let m = store.clause(at)[to];
-    lists.push(m, slot)?;
+    // Before anything else is written, what was read of the clause need not be read again.
     store.swap(at, from, to);
-    list.swap_remove(place);
-    Ok(())
+    match lists.push(m, slot) {
+        Ok(()) => {
+            list.swap_remove(place);
+            Ok(())
+        }
+        Err(refused) => {
+            store.swap(at, to, from);
+            Err(refused)
+        }
+    }
 }
 
 /// What comes after a visit.
@@ -111,8 +121,8 @@ fn visit(
     let at = Slot::at(slot as usize);
     match look(assumptions.trail(), store.clause(at), l) {
         Visit::Stays => Ok(Next::Further),
-        Visit::Moves(from, to) => {
-            move_watch(store, lists, list, place, l, from, to)?;
+        Visit::Moves(from, to, m) => {
+            move_watch(store, lists, list, place, l, from, to, m)?;
             Ok(Next::Here)
         }
         Visit::Unit(m) => {

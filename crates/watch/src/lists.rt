@@ -120,8 +120,10 @@ impl WatchLists {
         Ok(number)
     }
 
-    /// Puts a slot at the end of the list of a literal.
-    pub(crate) fn push(&mut self, l: Lit, slot: u32) -> Result<(), OutOfMemory>
+    /// The same as `push`, where the literal has no list yet, or a full one.
+    #[cold]
+    #[inline(never)]
+    fn push_anew(&mut self, l: Lit, slot: u32) -> Result<(), OutOfMemory>
         requires { AreApart self.old }
         ensures ok { OnOk result ((k : Literal) → list_at self.new k ≡
             (if k == l then list_at self.old k ++ slot ∷ [] else list_at self.old k)) }
@@ -135,6 +137,29 @@ impl WatchLists {
         let number = self.number_for(l)?;
         self.lists[number].push(slot)?;
         Ok(())
+    }
+
+    /// Puts a slot at the end of the list of a literal.
+    #[inline(always)]
+    pub(crate) fn push(&mut self, l: Lit, slot: u32) -> Result<(), OutOfMemory>
+        requires { AreApart self.old }
+        ensures ok { OnOk result ((k : Literal) → list_at self.new k ≡
+            (if k == l then list_at self.old k ++ slot ∷ [] else list_at self.old k)) }
+        ensures more { OnOk result (entries_in self.new ≡ entries_in self.old + 1) }
+        ensures err { OnErr result ((k : Literal) → list_at self.new k ≡ list_at self.old k) }
+        ensures as_many { OnErr result (entries_in self.new ≡ entries_in self.old) }
+        ensures known { (k : Literal) → IsSome (at self.old.numbers k) →
+            IsSome (at self.new.numbers k) }
+        ensures apart { AreApart self.new }
+    {
+        if let Some(number) = self.numbers.get(key(l)) {
+            let list = &mut self.lists[number as usize];
+            if list.len() < list.capacity() {
+                list.push_reserved(slot);
+                return Ok(());
+            }
+        }
+        self.push_anew(l, slot)
     }
 
     /// Whether the literal has a list.

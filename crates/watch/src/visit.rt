@@ -15,8 +15,8 @@ use propagation::{Trail, Value};
 pub(crate) enum Visit {
     /// Nothing: the other watched literal is true.
     Stays,
-    /// The watched literal at the first place gives it up to the literal at the second, which is not false.
-    Moves(usize, usize),
+    /// The watched literal at the first place gives it up to the literal at the second, which is this and not false.
+    Moves(usize, usize, Lit),
     /// All its other literals are false.
     Unit(Lit),
     /// All its literals are false.
@@ -63,7 +63,7 @@ pub(crate) fn look(trail: &Trail, clause: &[Lit], l: Lit) -> Visit
         return Visit::Stays;
     }
     match open_place(trail, clause, 2) {
-        Some(to) => Visit::Moves(from, to),
+        Some(to) => Visit::Moves(from, to, clause[to]),
         None => match value {
             Value::False => Visit::Clash,
             _ => Visit::Unit(other),

@@ -5,7 +5,8 @@ use Rattle.std.specs.FinMap as maps
 use Rattle.std.specs.FinMap.{FinMap}
 use Rattle.std.proofs.lemmas.Bool.{cases_eq, true≢false, false≢true}
 use Rattle.std.proofs.lemmas.Bool.Decides.{nat_tests}
-use Rattle.std.proofs.lemmas.Grind.{get_or_default_zero}
+use Rattle.std.proofs.lemmas.Grind.{get_or_default_zero, same_number_lists}
+use Rattle.std.proofs.lemmas.List.Edits.{length-swap, swapped_from_swap}
 use Rattle.std.proofs.lemmas.List.Sums.{sum_by-append, sum_by-cons, get_or-le-sum_by}
 use Rattle.std.proofs.lemmas.Option.{same_Some}
 use Rattle.cnf_base.specs.Literals.{Literal, complement, Clause, has}
@@ -17,7 +18,7 @@ use Rattle.watch.specs.Watched.{watches, is_short, entries_for, short_for, IsLis
 use Rattle.propagation.proofs.MemberLemmas.{has_place, has_front}
 use Rattle.watch.proofs.WatchLemmas.Lists.{eqb_turned}
 use Rattle.clause_db.proofs.StoreLemmas.Distinct.{distinct_parts, distinct_before}
-use Rattle.clause_db.proofs.StoreLemmas.Sums.{get_insert}
+use Rattle.clause_db.proofs.StoreLemmas.Sums.{get_insert, same_maps}
 
 -- three literals, two of which differ from the third
 one_moved : (a b m x : Literal) → a ≢ b → m ≢ b → cond (eqb m x || eqb b x) 1 0 + cond {A = ℕ} (eqb x a) 1 0 ≡ cond (eqb a x || eqb b x) 1 0 + cond {A = ℕ} (eqb x m) 1 0
@@ -167,10 +168,36 @@ module _ (lists after : Literal → List ℕ) (l m slot : ℕ) (other : l ≢ m)
 pub others_moved : (live : FinMap nat_cmp Clause) (slot : ℕ) (d : Clause) (s : ℕ) → s ≢ slot → maps.get (maps.insert live slot d) s ≡ maps.get live s
 others_moved live slot d s ne = get_insert live slot d s ∙ ap (λ b. cond b (Some d) (maps.get live s)) (ne_eqb s slot ne)
 
+-- two literals that were exchanged twice
+pub swap_back : (c : Clause) (a b : ℕ) → a < b → b < length c → swap (swap c a b) b a ≡ c
+swap_back c a b low inside =
+    let d = swap c a b in
+    let len = length-swap c a b in
+    let first = swapped_from_swap c d a b 0 (omega (arith, low, inside)) inside refl in
+    let second = swapped_from_swap d (swap d b a) b a 0 (omega (arith, len, inside)) (omega (arith, len, low, inside)) refl in
+    same_number_lists (swap d b a) c (length-swap d b a ∙ len) (λ k h. elim (cases_eq k a) [
+      | inl e ↦ ap (λ i. get_or (swap d b a) i 0) e ∙ second.1 ∙ first.1 ∙ sym (ap (λ i. get_or c i 0) e)
+      | inr not_a ↦ elim (cases_eq k b) [
+        | inl e ↦ ap (λ i. get_or (swap d b a) i 0) e ∙ second.0 ∙ first.0 ∙ sym (ap (λ i. get_or c i 0) e)
+        | inr not_b ↦ second.2 k not_b not_a ∙ first.2 k not_a not_b
+      ]
+    ])
+
+pub at_inserted : (live : FinMap nat_cmp Clause) (slot : ℕ) (d : Clause) → maps.get (maps.insert live slot d) slot ≡ Some d
+at_inserted live slot d = get_insert live slot d slot ∙ ap (λ b. cond b (Some d) (maps.get live slot)) (eq-eqb slot slot refl)
+
+-- a clause that is put back
+pub put_back : (live : FinMap nat_cmp Clause) (slot : ℕ) (c d : Clause) → maps.get live slot ≡ Some c → maps.insert (maps.insert live slot d) slot c ≡ live
+put_back live slot c d here = same_maps (maps.insert (maps.insert live slot d) slot c) live (λ q. elim (cases_eq q slot) [
+  | inl e ↦
+      get_insert (maps.insert live slot d) slot c q ∙ ap (λ b. cond b (Some c) (maps.get (maps.insert live slot d) q)) (eq-eqb q slot e) ∙ sym (ap (maps.get live) e ∙ here)
+  | inr ne ↦ others_moved (maps.insert live slot d) slot c q ne ∙ others_moved live slot d q ne
+])
+
 module _ (live : FinMap nat_cmp Clause) (slot : ℕ) (c d : Clause) (here : maps.get live slot ≡ Some c) (l m : Literal)
     (entries : (x : Literal) → cond (watches d x) 1 0 + cond {A = ℕ} (eqb x l) 1 0 ≡ cond (watches c x) 1 0 + cond {A = ℕ} (eqb x m) 1 0) where
   at_slot : maps.get (maps.insert live slot d) slot ≡ Some d
-  at_slot = get_insert live slot d slot ∙ ap (λ b. cond b (Some d) (maps.get live slot)) (eq-eqb slot slot refl)
+  at_slot = at_inserted live slot d
 
   at_others : (s : ℕ) → s ≢ slot → maps.get (maps.insert live slot d) s ≡ maps.get live s
   at_others = others_moved live slot d

@@ -1,4 +1,4 @@
-use Rattle.std.proofs.Common.{ℕ, ◌&&◌, cond, eqb, Some, is_some, refl, sym, ap, ◌∙◌, subst}
+use Rattle.std.proofs.Common.{ℕ, ◌&&◌, cond, eqb, Some, is_some, sym, ap, ◌∙◌, subst}
 use Rattle.std.specs.List.{swap}
 use Rattle.std.specs.FinMap as maps
 use Rattle.tables.specs.Table.{at}
@@ -64,11 +64,11 @@ returns-in_ok-move_watch-in-Moves-clause-carries c =
     let slot_is = c.at-at.ensures ∙ c.index-slot.ensures ∙ get_or_default_zero list c.args.place _ c.requires.inside in
     let d = c.clause.result.now in
     let here = sym c.clause.ensures.clause in
-    let move = subst (λ t. IsVisit t.lits d c.args.l (Moves c.in-Moves.from c.in-Moves.to)) c.trail.ensures c.in-Moves.ensures.visit in
+    let move = subst (λ t. IsVisit t.lits d c.args.l (Moves c.in-Moves.from c.in-Moves.to c.in-Moves.m)) c.trail.ensures c.in-Moves.ensures.visit in
     let moved = c.in_ok-move_watch-in-Moves.ensures.moved d (ap (maps.get live) (sym slot_is) ∙ here) ∙ ap (λ s. maps.insert live s (swap d c.in-Moves.from c.in-Moves.to)) (sym slot_is) in
     subst (λ m. Carries live m held held (at c.args.reasons.now) (at c.args.reasons.now)) (sym moved)
-    (carries_moved live held c.at-at.result d here c.in-Moves.from c.in-Moves.to c.args.l _ (sym c.clause.ensures.different) move.0 move.1 move.2 move.3 refl
-    (consistent_complement held.trail.lits c.trail.result.now.lits (ap (λ t. t.lits) c.trail.ensures) c.look.ensures.different c.args.l c.requires.is_false) move.4 (at c.args.reasons.now))
+    (carries_moved live held c.at-at.result d here c.in-Moves.from c.in-Moves.to c.args.l _ (sym c.clause.ensures.different) move.0 move.1 move.2 move.3 move.4
+    (consistent_complement held.trail.lits c.trail.result.now.lits (ap (λ t. t.lits) c.trail.ensures) c.look.ensures.different c.args.l c.requires.is_false) move.5 (at c.args.reasons.now))
 
 pub returns-in-Unit-clause-carries : goal.returns-in-Unit-clause-carries
 returns-in-Unit-clause-carries c =

@@ -1,4 +1,4 @@
-use Rattle.std.proofs.Common.{◌≤◌, ◌+◌, length, arith}
+use Rattle.std.proofs.Common.{arith}
 use Rattle.watch.proofs.WatchLemmas.Lists.{times_chunk}
 use Rattle.watch.proofs.lists.place_in.Goals as goal
 
