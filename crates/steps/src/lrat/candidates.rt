@@ -150,15 +150,17 @@ pub(crate) fn first_left_out(
     ensures met { SameSet trues.new.met trues.old.met }
 {
     let opposite = pivot.neg();
-    // Each named clause holds the complement, so where the numbers agree no other one does.
-    if live.holding(opposite) == named.len() as u64 {
-        return None;
-    }
+    // Each named clause holds the complement, so these are the others that do.
+    let mut left = live.holding(opposite).saturating_sub(named.len() as u64);
     let top = live.top();
     let mut from = 0;
-    while let Some((id, clause)) = live.next(from) {
-        if !named.contains(id) && needs_group(trues, opposite, clause) {
-            return Some(id);
+    while left > 0 {
+        let (id, clause) = live.next(from)?;
+        if clause.contains(&opposite) && !named.contains(id) {
+            if needs_group(trues, opposite, clause) {
+                return Some(id);
+            }
+            left -= 1;
         }
         if id >= top {
             return None;

@@ -2,14 +2,16 @@ use Rattle.std.proofs.Common.{◌≡◌, ℕ, ◌<◌, ◌-◌, false}
 use Rattle.std.specs.FinMap as maps
 use Rattle.steps.specs.Lrat.Groups.{is_unnamed}
 use Rattle.propagation.specs.Trail.{SameSet}
+use Rattle.steps.proofs.LratLemmas.Remaining.{Others}
 use Rattle.steps.proofs.lrat.candidates.first_left_out.Given as goal
 
-abbrev pub invariant-loop-id : goal.invariant-loop-id
-invariant-loop-id l = record {
+abbrev pub invariant-loop-left : goal.invariant-loop-left
+invariant-loop-left l = record {
   passed : (k : ℕ) → k < l.from → is_unnamed (maps.get l.live.live) l.fn.trues.lits l.fn.pivot l.named k ≡ false;
+  others : Others (maps.get l.live.live) l.fn.trues.lits l.fn.pivot l.named l.from l.left;
   lits : l.trues.lits ≡ l.fn.trues.lits;
   met : SameSet l.trues.met l.fn.trues.met;
 }
 
-abbrev pub decreases-loop-id : goal.decreases-loop-id
-decreases-loop-id l = 18446744073709551616 - l.from
+abbrev pub decreases-loop-left : goal.decreases-loop-left
+decreases-loop-left l = 18446744073709551616 - l.from
