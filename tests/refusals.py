@@ -5,10 +5,13 @@ Each program is run on the rows below, with its first allocation refused, with i
 refuse. Each run writes its whole report with its status, or it writes a number of whole lines from the report's beginning, says
 on standard error that it is out of memory, and has status 4. Wrong words have status 6 or 4, and nothing is written.
 
+Below the programs it does the same with calls that may be refused memory, which crates/allocations makes: what they leave is as
+it has to be. Calls that take no memory are made in a run that asks for as much as one without them.
+
 The programs run as they were compiled, with tests/allocations.c before the C library: it refuses the Nth allocation of a run.
 
-LRAT_CHECK, DRAT_FORWARD and MODEL_CHECK name the programs; they are those in bin/ otherwise. CC names a C compiler, which is cc
-otherwise. The last line is "N passed, M failed".
+LRAT_CHECK, DRAT_FORWARD and MODEL_CHECK name the programs; they are those in bin/ otherwise. ALLOCATIONS names that of
+crates/allocations. CC names a C compiler, which is cc otherwise. The last line is "N passed, M failed".
 """
 
 import os
@@ -16,7 +19,7 @@ import subprocess
 import sys
 import tempfile
 
-from allocations import compile_shim
+from allocations import ALLOCATIONS, compile_shim
 
 ROOT = os.path.dirname(os.path.dirname(os.path.abspath(__file__)))
 TOOLS = {
@@ -41,6 +44,7 @@ DEFINITION = [
     "c end: no empty clause",
     "s NOT VERIFIED",
 ]
+SET_LINES = ["c formula 2 variables 1 clauses", "c 1 add pr", "c end: no empty clause", "s NOT VERIFIED"]
 EIGHT_LINES = [
     "c formula 3 variables 8 clauses",
     "c 1 add rup",
@@ -60,6 +64,7 @@ ROWS = {
     "a definition is added by groups": ("lrat-check", ["--trace"], G, b"2 3 -1 0 0\n3 -3 1 0 -2 0\n", DEFINITION, 1),
     "two clauses are added in binary": ("drat-forward", ["--binary"], E, b"a\x04\x00a\x00", E_LINES, 0),
     "a model is met": ("model-check", [], MODELS, b"s SATISFIABLE\nv 1 2 0\n", ["c clauses 2", "s MODEL VERIFIED"], 0),
+    "a clause is added by a set": ("drat-forward", ["--trace", "--pr"], G, b"-1 -1 2 0\n", SET_LINES, 1),
     "a clause is deleted": ("drat-forward", ["--trace"], EIGHT, b"1 2 0\n1 0\nd 1 2 0\n2 0\n0\n", EIGHT_LINES, 0),
 }
 
@@ -70,6 +75,45 @@ WRONG_WORDS = {
     "an unknown flag": ["--fast", "examples/e.cnf"],
     "three names": ["a", "b", "c"],
 }
+
+# Calls of which one is refused: of a store, of identifiers, of a trail, an assumption, steps and clauses of a session, and the
+# readers.
+CALLS = [
+    "refused_insert",
+    "refused_bind",
+    "refused_reserve",
+    "refused_assume_of_scan",
+    "refused_assume_of_watch",
+    "refused_step_by_scan",
+    "refused_step_by_watch",
+    "refused_step_with_a_set",
+    "refused_step_by_hints",
+    "refused_input_of_scan",
+    "refused_input_by_hints",
+    "refused_drat",
+    "refused_binary",
+    "refused_lrat",
+    "refused_formula",
+]
+
+# Calls that take no memory, by what they are calls of.
+QUIET = [
+    "literals",
+    "buffers",
+    "lines",
+    "source",
+    "scanner",
+    "readers",
+    "trail",
+    "store",
+    "ids",
+    "scan",
+    "watch",
+    "assumption",
+    "sessions",
+    "walk",
+    "model",
+]
 
 
 class Ended:
@@ -151,6 +195,32 @@ def words_case(room, tool, name):
     return refuse_each(room, [TOOLS[tool], *WRONG_WORDS[name]], lambda ended: judge_words(ended, tool))
 
 
+def call_case(room, name):
+    """How many allocations there were, and at how many of them the call itself was refused."""
+    refusals = 0
+    for refused in range(1, MOST):
+        ended = run(room, [ALLOCATIONS, name, "1"], refused)
+        if ended.asked < refused:
+            if ended.written != "whole\n":
+                raise ValueError(f"no allocation is refused: {ended.written!r}")
+            return refused - 1, refusals
+        if ended.written not in ["kept\n", "out of memory\n", "whole\n"] and ended.status == 0:
+            raise ValueError(f"allocation {refused} is refused: {ended.written!r}")
+        refusals += ended.written == "kept\n"
+    raise ValueError(f"more than {MOST} allocations")
+
+
+def quiet_case(room, name):
+    """How many allocations a run asks for in which the calls are made: as many as one that leaves them out."""
+    without = run(room, [ALLOCATIONS, f"quiet_{name}", "0"], 0)
+    ended = run(room, [ALLOCATIONS, f"quiet_{name}", "1"], 0)
+    if (without.written, ended.written) != ("not done\n", "done\n"):
+        raise ValueError(f"written: {without.written!r}, and with the calls {ended.written!r}")
+    if ended.asked != without.asked:
+        raise ValueError(f"{ended.asked} allocations with the calls, and {without.asked} without")
+    return ended.asked, None
+
+
 def cases(room):
     """The name of each case, and what carries it out."""
     for name in ROWS:
@@ -158,6 +228,10 @@ def cases(room):
     for tool in TOOLS:
         for name in WRONG_WORDS:
             yield f"{tool}: {name}", lambda tool=tool, name=name: words_case(room, tool, name)
+    for name in CALLS:
+        yield name, lambda name=name: call_case(room, name)
+    for name in QUIET:
+        yield f"quiet {name}", lambda name=name: quiet_case(room, name)
 
 
 def main():
@@ -179,7 +253,8 @@ def main():
                 print(f"FAILED: {name}: {error}")
                 failed += 1
             else:
-                print(f"{name}: {asked} allocations, {refusals} told of")
+                told = "none in the calls" if refusals is None else f"{refusals} told of"
+                print(f"{name}: {asked} allocations, {told}")
                 passed += 1
     print(f"{passed} passed, {failed} failed")
     return 0 if failed == 0 else 1

@@ -4,7 +4,13 @@
 //!
 //! It reads COUNT steps of one form into one buffer, or as many clauses, or stores and removes as many, and prints how many it
 //! did, or that memory was refused there. What is read is handed out with no memory of its own.
+//!
+//! For `tests/refusals.py` it makes a call that memory may be refused to, and says whether the call was refused and left what it
+//! should; or calls that take no memory, where COUNT is not 0.
 #![tactic(auto)]
+
+mod quiet;
+mod refused;
 
 use clause_db::Store;
 use cnf_base::{Fault, FromRead, Lit, OutOfMemory, Source};
@@ -133,6 +139,42 @@ fn times_of(words: &[String]) -> u64 {
     }
 }
 
+/// The positive literals of the variables from `least` on, below `most`.
+fn literals_of(alloc: Global, least: i32, most: i32) -> Result<Vec<Lit>, OutOfMemory> {
+    let mut all = Vec::new(alloc);
+    for number in least..most {
+        if let Some(l) = Lit::new(number) {
+            if all.push(l).is_err() {
+                return Err(OutOfMemory);
+            }
+        }
+    }
+    Ok(all)
+}
+
+/// What is to be printed of a call that memory may be refused to, or of calls that take none, which are made where they are
+/// called for; none where no such call is named.
+fn try_call(
+    alloc: Global,
+    name: &str,
+    few: [Lit; 2],
+    is_called: bool,
+) -> Result<Option<&'static str>, Fault> {
+    let many = literals_of(alloc, 3, 43)?;
+    let Some(far) = Lit::new(268435455) else {
+        return Ok(None);
+    };
+    if let Some(is_done) = quiet::carry_out(alloc, name, few, many.as_slice(), is_called)? {
+        return Ok(Some(if is_done { "done" } else { "not done" }));
+    }
+    let told = refused::carry_out(alloc, name, &few, many.as_slice(), far)?;
+    Ok(told.map(|told| match told {
+        refused::Told::Whole => "whole",
+        refused::Told::Kept => "kept",
+        refused::Told::Changed => "changed",
+    }))
+}
+
 fn main(rt: HostRuntime) -> anyhow::Result<()> {
     let alloc = rt.alloc();
     let words = env::args(&rt)?.collect::<Vec<String>>(alloc)?;
@@ -146,6 +188,17 @@ fn main(rt: HostRuntime) -> anyhow::Result<()> {
     let [Some(first), Some(second)] = lits else {
         return Ok(());
     };
+    match try_call(alloc, name, [first, second], times > 0) {
+        Ok(Some(told)) => {
+            println!(rt; "{told}")?;
+            return Ok(());
+        }
+        Ok(None) => {}
+        Err(_) => {
+            println!(rt; "out of memory")?;
+            return Ok(());
+        }
+    }
     match make_calls(alloc, name, header.as_str(), &[first, second], times) {
         Ok(count) => println!(rt; "{count}")?,
         Err(Fault::OutOfMemory) => println!(rt; "out of memory")?,

@@ -1,0 +1,294 @@
+//! Calls that take no memory. What comes before them is made in any case, so that a run with them asks for as much as one without.
+
+ghost use Rattle.std.specs.Prelude.{◌≡◌, [], false};
+ghost use Rattle.std.specs.FinMap as maps;
+
+use crate::open;
+use crate::refused::bind_new;
+use clause_db::{Ids, Slot, Store};
+use cnf_base::{Fault, FromRead, LineOut, Lit, Scanner, ToWrite};
+use dimacs::{ClauseBuf, FormulaReader, read_claim};
+use proofs::{DratBinary, DratText, LratText, StepBuf, StepReader};
+use propagation::{Answer, Propagate, Scan, Trail, Whole};
+use std::alloc::Global;
+use std::io::{Read, Write};
+use steps::{DratRules, DratSession, LratSession, ProofSession};
+use watch::Watch;
+
+const PLAIN_RULES: DratRules = DratRules {
+    strict: false,
+    pr: false,
+};
+
+fn literals(number: i32) -> bool {
+    match Lit::new(number) {
+        Some(l) => {
+            let _ = (l.neg(), l.var(), l.to_i32(), l.index());
+            Slot::first().next().is_some()
+        }
+        None => false,
+    }
+}
+
+fn buffers(alloc: Global) -> bool {
+    let clause = ClauseBuf::new(alloc);
+    let step = StepBuf::new(alloc);
+    let _ = (step.kind(), step.id(), step.parts().0.len());
+    clause.lits().is_empty() && step.lits().is_empty() && step.hints().is_empty()
+}
+
+/// Takes the bytes that it has room for, and more.
+#[derive(Drop)]
+struct Sink;
+
+impl Write for Sink {
+    fn write(&mut self, buf: &[u8]) -> std::io::Result<usize> {
+        Ok(buf.len())
+    }
+
+    fn flush(&mut self) -> std::io::Result<()> {
+        Ok(())
+    }
+}
+
+fn lines(bytes: &[u8]) -> bool {
+    let mut lines = LineOut::new(ToWrite::new(Sink));
+    let is_written = lines.line(b"c steps 2 peak 9").is_ok() && lines.line(bytes).is_ok();
+    let is_finished = lines.finish().is_ok();
+    let _ = lines.release();
+    is_written && is_finished
+}
+
+fn source(alloc: Global, is_called: bool) -> Result<bool, Fault> {
+    let mut source = open(alloc, b"", b"1 -2 0\n", 9)?;
+    if !is_called {
+        return Ok(false);
+    }
+    for _ in 0..9u64 {
+        let _ = (source.place(), source.byte_no());
+        if let Ok(Some(_)) = source.peek() {
+            source.bump();
+        }
+    }
+    let _ = source.release();
+    Ok(true)
+}
+
+fn scanner(alloc: Global, is_called: bool) -> Result<bool, Fault> {
+    let source = open(
+        alloc,
+        b"p cnf d s v ",
+        b"SATISFIABLE word 12 -345\nc x\n",
+        9,
+    )?;
+    if !is_called {
+        return Ok(false);
+    }
+    let mut scanner = Scanner::new(source);
+    let mut is_read = true;
+    for _ in 0..40u64 {
+        is_read = scanner.next().is_ok() && is_read;
+    }
+    let _ = scanner.release();
+    Ok(is_read)
+}
+
+fn readers(alloc: Global, is_called: bool) -> Result<bool, Fault> {
+    let text = open(alloc, b"", b"", 0)?;
+    let binary = open(alloc, b"", b"", 0)?;
+    let hints = open(alloc, b"", b"", 0)?;
+    let mut formula = match FormulaReader::open(open(alloc, b"p cnf 2 0\n", b"", 0)?) {
+        Ok(formula) => formula,
+        Err((fault, _)) => return Err(fault),
+    };
+    if is_called {
+        let _ = DratText::new(text).release();
+        let _ = DratBinary::new(binary).release();
+        let _ = LratText::new(hints).release();
+        let mut clause = ClauseBuf::new(alloc);
+        let is_right = formula.vars() == 2 && formula.clauses() == 0;
+        let is_over = formula.next(&mut clause) == Ok(false);
+        let _ = formula.release();
+        return Ok(is_right && is_over);
+    }
+    Ok(false)
+}
+
+fn trail(alloc: Global, lits: &[Lit], is_called: bool) -> Result<bool, Fault> {
+    let mut trail = Trail::new(alloc)?;
+    trail.reserve_all(lits)?;
+    if !is_called {
+        return Ok(false);
+    }
+    // Each literal is set.
+    let _ = trail.make_false(lits, &Whole);
+    let length = trail.len();
+    for l in lits {
+        let _ = trail.value(*l);
+    }
+    trail.undo_to(0);
+    Ok(length == lits.len())
+}
+
+fn store(alloc: Global, few: &[Lit], many: &[Lit], is_called: bool) -> Result<bool, Fault> {
+    let mut store = Store::new(alloc)?;
+    store.insert(few)?;
+    store.insert(many)?;
+    if !is_called {
+        return Ok(false);
+    }
+    for lits in [many, few] {
+        if let Some(slot) = store.find(lits) {
+            let _ = store.clause(slot).len();
+            store.remove(slot);
+        }
+    }
+    Ok(store.literals() == 0)
+}
+
+fn ids(alloc: Global, is_called: bool) -> Result<bool, Fault> {
+    let mut ids = Ids::new(alloc)?;
+    let far = 9223372036854775807;
+    bind_new(&mut ids, 7, Slot::first())?;
+    bind_new(&mut ids, far, Slot::first())?;
+    if !is_called {
+        return Ok(false);
+    }
+    let is_found = ids.next_bound(8).is_some() && ids.slot_of(7).is_some();
+    let is_taken = ids.unbind(far).is_some() && ids.unbind(7).is_some();
+    Ok(is_found && is_taken && ids.next_bound(0).is_none())
+}
+
+/// Finds the clause and removes it, and tells whether it was there.
+fn take_out<P: Propagate>(clauses: &mut P, lits: &[Lit]) -> bool
+    requires { (P.state clauses.old).assumptions ≡ [] }
+    ensures { (P.state clauses.new).assumptions ≡ [] }
+{
+    match clauses.find(lits) {
+        Some(slot) => {
+            let _ = clauses.clause(slot).len();
+            clauses.remove(slot);
+            true
+        }
+        None => false,
+    }
+}
+
+fn clauses<P: Propagate + Drop>(
+    mut clauses: P,
+    few: &[Lit],
+    many: &[Lit],
+    l: Lit,
+    is_called: bool,
+) -> Result<bool, Fault>
+    requires { (P.state clauses).assumptions ≡ [] }
+{
+    clauses.insert(few)?;
+    clauses.insert(many)?;
+    let answer = clauses.assume(&[])?;
+    if !is_called {
+        return Ok(false);
+    }
+    if answer == Answer::Quiet {
+        let _ = clauses.value(l);
+    }
+    clauses.undo();
+    let is_counted = clauses.count_with(l) > 0;
+    let is_next = clauses.next_with(l, Slot::first()).is_some();
+    let is_taken = take_out(&mut clauses, many) && take_out(&mut clauses, few);
+    Ok(is_counted && is_next && is_taken && clauses.literals() == 0)
+}
+
+/// All variables were met by an insertion.
+fn assumption(alloc: Global, few: &[Lit], many: &[Lit], is_called: bool) -> Result<bool, Fault> {
+    let mut clauses = Scan::new(alloc)?;
+    clauses.insert(few)?;
+    clauses.insert(many)?;
+    if !is_called {
+        return Ok(false);
+    }
+    clauses.assume(few)?;
+    clauses.undo();
+    clauses.assume(many)?;
+    clauses.undo();
+    Ok(true)
+}
+
+fn sessions(alloc: Global, few: &[Lit], is_called: bool) -> Result<bool, Fault> {
+    let scan = Scan::new(alloc)?;
+    let watch = Watch::new(alloc)?;
+    let mut hints = LratSession::new(alloc)?;
+    let is_input = hints.input(few).is_ok();
+    if !is_called {
+        return Ok(false);
+    }
+    let first = DratSession::new(scan, PLAIN_RULES);
+    let second = DratSession::new(watch, PLAIN_RULES);
+    let is_empty = first.held() == 0 && second.peak() == 0 && !first.verified();
+    let is_held = hints.held() == hints.peak() && !hints.verified();
+    Ok(is_input && is_empty && is_held)
+}
+
+// 1 2; -1 2. Both steps have nine hints. In the first the second is a conflict; in the second the walk is long.
+const SHORT: &[u8] = b"9 2 0 1 2 9 9 9 9 9 9 9 0\n";
+
+const LONG: &[u8] = b"9 2 0 1 1 1 1 1 1 1 1 2 0\n";
+
+fn walk(alloc: Global, clauses: [[Lit; 2]; 2], is_called: bool) -> Result<bool, Fault> {
+    let mut session = LratSession::new(alloc)?;
+    let [first, second] = clauses;
+    if session.input(&first).is_err() || session.input(&second).is_err() {
+        return Err(Fault::OutOfMemory);
+    }
+    let text = if is_called { LONG } else { SHORT };
+    let mut reader = LratText::new(open(alloc, b"", text, 1)?);
+    let mut step = StepBuf::new(alloc);
+    if !reader.next(&mut step)? {
+        return Ok(false);
+    }
+    match session.step(&step) {
+        Ok(_) => Ok(is_called),
+        Err(_) => Err(Fault::OutOfMemory),
+    }
+}
+
+fn model(alloc: Global, l: Lit, is_called: bool) -> Result<bool, Fault> {
+    let (claim, _) = read_claim(alloc, open(alloc, b"s SATISFIABLE\nv 1 -2 0\n", b"", 0)?);
+    let model = claim?;
+    Ok(is_called && model.holds(l))
+}
+
+/// Carries out what is named, if anything is, and tells whether the calls came to what they should. Those that take no memory
+/// are made only where they are called for.
+pub fn carry_out(
+    alloc: Global,
+    name: &str,
+    few: [Lit; 2],
+    many: &[Lit],
+    is_called: bool,
+) -> Result<Option<bool>, Fault> {
+    let [l, other] = few;
+    let is_done = match name {
+        "quiet_literals" => is_called && literals(-268435455),
+        "quiet_buffers" => is_called && buffers(alloc),
+        "quiet_lines" => is_called && lines(&[b'x'; 200]),
+        "quiet_source" => source(alloc, is_called)?,
+        "quiet_scanner" => scanner(alloc, is_called)?,
+        "quiet_readers" => readers(alloc, is_called)?,
+        "quiet_trail" => trail(alloc, many, is_called)?,
+        "quiet_store" => store(alloc, &few, many, is_called)?,
+        "quiet_ids" => ids(alloc, is_called)?,
+        "quiet_scan" => clauses(Scan::new(alloc)?, &few, many, l, is_called)?,
+        "quiet_watch" => clauses(Watch::new(alloc)?, &few, many, l, is_called)?,
+        "quiet_assumption" => assumption(alloc, &few, many, is_called)?,
+        "quiet_sessions" => sessions(alloc, &few, is_called)?,
+        "quiet_walk" => walk(
+            alloc,
+            [[l, other.neg()], [l.neg(), other.neg()]],
+            is_called,
+        )?,
+        "quiet_model" => model(alloc, l, is_called)?,
+        _ => return Ok(None),
+    };
+    Ok(Some(is_done))
+}
