@@ -8,3 +8,4 @@ mod failing_writers;
 mod inputs;
 mod listed_sets;
 mod long_inputs;
+mod root_literals;
