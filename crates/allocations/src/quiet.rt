@@ -282,11 +282,7 @@ pub fn carry_out(
         "quiet_watch" => clauses(Watch::new(alloc)?, &few, many, l, is_called)?,
         "quiet_assumption" => assumption(alloc, &few, many, is_called)?,
         "quiet_sessions" => sessions(alloc, &few, is_called)?,
-        "quiet_walk" => walk(
-            alloc,
-            [[l, other.neg()], [l.neg(), other.neg()]],
-            is_called,
-        )?,
+        "quiet_walk" => walk(alloc, [[l, other.neg()], [l.neg(), other.neg()]], is_called)?,
         "quiet_model" => model(alloc, l, is_called)?,
         _ => return Ok(None),
     };

@@ -28,7 +28,7 @@ loop-left-preserved c =
           let apart : has named id ≡ false = sym w.contains-then-contains.ensures ∙ w.if-not-contains.true in
           let candidate = has_it ∙ w.if-contains.true in
           let calm : needs_group_at ls c.neg-opposite.result clause ≡ false =
-              ap (λ l. needs_group_at l c.neg-opposite.result clause) (sym inv.lits) ∙ sym w.needs_group.ensures.needs ∙ w.if-needs_group.false in
+          ap (λ l. needs_group_at l c.neg-opposite.result clause) (sym inv.lits) ∙ sym w.needs_group.ensures.needs ∙ w.if-needs_group.false in
           record {
             passed = passed_one live ls pivot named from inv.passed id c.in_ok-id.ensures.passed_over (settled live ls pivot named id clause at c.neg-opposite.result c.neg-opposite.ensures calm);
             others = others_met live ls pivot named from left inv.others id above apart (record { clause = clause; at = at; member = candidate }) c.if-contains.left (let is = w.left-is in let some = c.loop-left-test.true in omega (arith, is, some));
