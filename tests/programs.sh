@@ -415,6 +415,27 @@ c step 1: neither RUP nor RAT on -5
 s NOT VERIFIED
 LINES
 
+# cut_set N STATUS LINE..: the first N bytes of a proof with a listed set
+cut_set() {
+    local length=$1 status=$2
+    shift 2
+    printf '%s' '-1 -1 2 0' | head -c "$length" > "$room/cut"
+    row "listed_set_cut_after_$length" "$status" --pr --trace $x/g.cnf "$room/cut" < <(
+        printf '%s\n' 'c formula 2 variables 1 clauses' "$@" 's NOT VERIFIED'
+    )
+}
+
+cut_set 0 1 'c end: no empty clause'
+cut_set 1 2 'c proof 1:1: bad token'
+cut_set 2 2 'c proof 1:3: unterminated step'
+cut_set 3 2 'c proof 1:4: unterminated step'
+cut_set 4 2 'c proof 1:4: bad token'
+cut_set 5 2 'c proof 1:6: unterminated step'
+cut_set 6 2 'c proof 1:7: unterminated step'
+cut_set 7 2 'c proof 1:8: unterminated step'
+cut_set 8 2 'c proof 1:9: unterminated step'
+cut_set 9 1 'c 1 add pr' 'c end: no empty clause'
+
 # thirty holes, of which no proof by resolution is short
 python3 $x/pigeonhole_pr.py 30 "$room/pigeonhole.cnf" "$room/pigeonhole.drat"
 row pigeonhole_of_thirty_holes_by_pr 0 --pr "$room/pigeonhole.cnf" "$room/pigeonhole.drat" <<'LINES'
