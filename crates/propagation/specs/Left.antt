@@ -1,5 +1,5 @@
 -- What is left of a clause where some literals are true: the literals of it that are not false.
-use Rattle.std.specs.Prelude.{◌≡◌, ℕ, not, ◌==◌, List, [], ◌∷◌, filter, length, IsTrue, ⊤, if◌then◌else◌}
+use Rattle.std.specs.Prelude.{◌≡◌, ℕ, ◌<◌, ◌≤◌, not, ◌==◌, List, [], ◌∷◌, filter, length, slice_index, IsTrue, IsFalse, ⊤, if◌then◌else◌}
 use Rattle.std.specs.List.{list_all}
 use Rattle.cnf_base.specs.Literals.{Literal, complement, Clause, has}
 use Rattle.propagation.specs.declared.left.Left.{Left}
@@ -30,3 +30,12 @@ IsSettled trues More = ⊤
 pub record IsCount (ls : List Literal) (count : ℕ) (last : Literal) : Type 0 where
   pub count_is : count ≡ length ls
   pub alone : count ≡ 1 → ls ≡ last ∷ []
+
+-- the place is this one or after it, and its literal is not false
+abbrev pub IsOpenAt : List Literal → Clause → ℕ → ℕ → Type 0
+IsOpenAt ls c from place =
+    (from ≤ place) × (place < length c) × IsFalse (has ls (complement (slice_index c place)))
+
+-- the literals from this place on are false
+abbrev pub AreFalseFrom : List Literal → Clause → ℕ → Type 0
+AreFalseFrom ls c from = (k : ℕ) → from ≤ k → k < length c → IsTrue (has ls (complement (slice_index c k)))

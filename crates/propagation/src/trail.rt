@@ -2,9 +2,9 @@
 
 mod values;
 
-ghost use Rattle.std.specs.Prelude.{◌≡◌, ℕ, ◌*◌, ◌/◌, ◌-◌, ◌==◌, ◌<◌, ◌≤◌, ◌||◌, ◌&&◌, not, [], ◌∷◌, ◌++◌, filter, length, map, take, is_some, IsSome, IsTrue, IsFalse, ◌↔◌, IfSome, IfOk, OnOk, OnErr, if◌then◌else◌};
+ghost use Rattle.std.specs.Prelude.{◌≡◌, ℕ, ◌*◌, ◌/◌, ◌-◌, ◌==◌, ◌<◌, ◌≤◌, ◌||◌, ◌&&◌, not, [], ◌∷◌, ◌++◌, filter, length, map, take, is_some, IsSome, IsTrue, IsFalse, ◌↔◌, IfSome, IfNone, IfOk, OnOk, OnErr, if◌then◌else◌};
 ghost use Rattle.cnf_base.specs.Literals.{complement, has, variable};
-ghost use Rattle.propagation.specs.Left.{open_literals, how_many, IsCount};
+ghost use Rattle.propagation.specs.Left.{open_literals, how_many, AreFalseFrom, IsCount, IsOpenAt};
 ghost use Rattle.propagation.specs.Trail.{value_under, is_variable, HasNoVariableTwice, SameSet, HasRoom, MakesFalse, conflicts};
 ghost use Rattle.propagation.specs.Left.{with_one};
 ghost use Rattle.propagation.specs.Values.{value_at, known_value};
@@ -297,6 +297,48 @@ impl Trail {
             }
         }
         (count, last)
+    }
+
+    /// The same as `first_open`, where the values of all literals that it looks at lie near.
+    #[inline(always)]
+    fn first_open_near(&self, clause: &[Lit], from: usize) -> Option<Option<usize>>
+        ensures found { IfSome result (λ r. IfSome r (IsOpenAt self.now.lits clause.now from)) }
+        ensures none { IfSome result (λ r. IfNone r (AreFalseFrom self.now.lits clause.now from)) }
+    {
+        let near = self.values.near();
+        for place in from..clause.len() {
+            let value = near.get(clause[place].index())?;
+            if !matches!(value, Value::False) {
+                return Some(Some(place));
+            }
+        }
+        Some(None)
+    }
+
+    /// The same as `first_open`, wherever the values lie.
+    #[inline(never)]
+    fn first_open_far(&self, clause: &[Lit], from: usize) -> Option<usize>
+        ensures found { IfSome result (IsOpenAt self.now.lits clause.now from) }
+        ensures none { IfNone result (AreFalseFrom self.now.lits clause.now from) }
+    {
+        for place in from..clause.len() {
+            if !self.is_false(clause[place]) {
+                return Some(place);
+            }
+        }
+        None
+    }
+
+    /// The first place of a clause from this one on whose literal is not false. It takes no memory.
+    #[inline(always)]
+    pub fn first_open(&self, clause: &[Lit], from: usize) -> Option<usize>
+        ensures found { IfSome result (IsOpenAt self.now.lits clause.now from) }
+        ensures none { IfNone result (AreFalseFrom self.now.lits clause.now from) }
+    {
+        match self.first_open_near(clause, from) {
+            Some(found) => found,
+            None => self.first_open_far(clause, from),
+        }
     }
 
     /// What is left of a clause, as [`Trail::left`] says it. It takes no memory.

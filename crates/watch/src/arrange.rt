@@ -6,7 +6,6 @@ ghost use Rattle.cnf_base.specs.Literals.{Clause, Literal, has};
 ghost use Rattle.clause_db.specs.Store.Clauses.{literals_in};
 ghost use Rattle.watch.specs.Roots.{IsArranged, IsBrought};
 
-use crate::visit::open_place;
 use clause_db::{Slot, Store};
 use propagation::{Left, Trail};
 
@@ -18,7 +17,7 @@ fn bring(store: &mut Store, trail: &Trail, slot: Slot, place: usize) -> bool
     ensures brought { (c : Clause) → maps.get store.old.live slot ≡ Some c → (d : Clause) ×
         (maps.get store.new.live slot ≡ Some d) × IsBrought trail.now.lits c d place result }
 {
-    match open_place(trail, store.clause(slot), place) {
+    match trail.first_open(store.clause(slot), place) {
         Some(found) => {
             store.swap(slot, place, found);
             true

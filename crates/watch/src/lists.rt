@@ -1,6 +1,6 @@
 //! Watch lists: by literal the slots of the clauses that watch it.
 
-ghost use Rattle.std.specs.Prelude.{◌≡◌, ℕ, ◌+◌, ◌==◌, ◌&&◌, ◌++◌, ◌∷◌, [], length, min, if◌then◌else◌, IsSome, IsTrue, IfOk, OnOk, OnErr, Some, take, true, false, slice_index, ◌≢◌, ◌<◌};
+ghost use Rattle.std.specs.Prelude.{◌≡◌, ℕ, ◌+◌, ◌==◌, ◌&&◌, ◌++◌, ◌∷◌, [], length, min, if◌then◌else◌, IsSome, IsTrue, IfOk, OnOk, OnErr, Some, take, true, false, slice_index, ◌≢◌, ◌<◌, ◌≤◌};
 ghost use Rattle.cnf_base.specs.Literals.{Literal};
 ghost use Rattle.tables.specs.Table.{at};
 ghost use Rattle.watch.specs.Lists.{AreApart, entries_in, list_at, times_in};
@@ -19,8 +19,11 @@ pub(crate) struct WatchLists {
     lists: Vec<Vec<u32>>,
 }
 
-/// How many slots are looked at without a branch: by a processor's wide registers.
-const AT_ONCE: usize = 16;
+/// How many slots are looked at without a branch, by a processor's wide registers, where a list is long.
+const MANY_AT_ONCE: usize = 64;
+
+/// How many are, where fewer are left.
+const FEW_AT_ONCE: usize = 16;
 
 /// Whether a slot stands nowhere among these.
 fn lacks(slots: &[u32], slot: u32) -> bool
@@ -48,17 +51,31 @@ fn place_from(list: &[u32], slot: u32, from: usize) -> usize
     0
 }
 
+/// Goes over as many slots at once as long as this slot is not among them, from this place on.
+#[inline(always)]
+fn pass_over(list: &[u32], slot: u32, from: usize, at_once: usize) -> usize
+    requires some { 0 < at_once }
+    requires inside { from ≤ length list.now }
+    requires absent { times_in slot (take from list.now) ≡ 0 }
+    ensures inside { result ≤ length list.now }
+    ensures absent { times_in slot (take result list.now) ≡ 0 }
+{
+    let mut place = from;
+    while list.len() - place >= at_once && lacks(&list[place..place + at_once], slot) {
+        place += at_once;
+    }
+    place
+}
+
 /// The place of a slot in a list in which it stands.
 fn place_in(list: &[u32], slot: u32) -> usize
     requires { 0 < times_in slot list.now }
     ensures inside { result < length list.now }
     ensures there { slice_index list.now result ≡ slot }
 {
-    let mut from = 0;
-    while list.len() - from >= AT_ONCE && lacks(&list[from..from + AT_ONCE], slot) {
-        from += AT_ONCE;
-    }
-    place_from(list, slot, from)
+    let far = pass_over(list, slot, 0, MANY_AT_ONCE);
+    let near = pass_over(list, slot, far, FEW_AT_ONCE);
+    place_from(list, slot, near)
 }
 
 /// Takes a slot out of a list in which it stands.

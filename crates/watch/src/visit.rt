@@ -23,21 +23,6 @@ pub(crate) enum Visit {
     Clash,
 }
 
-/// The first place from this one on whose literal is not false.
-pub(crate) fn open_place(trail: &Trail, clause: &[Lit], from: usize) -> Option<usize>
-    ensures found { IfSome result (λ k. (from ≤ k) × (k < length clause.now)
-        × IsFalse (has trail.now.lits (complement (slice_index clause.now k)))) }
-    ensures none { IfNone result ((k : ℕ) → from ≤ k → k < length clause.now →
-        IsTrue (has trail.now.lits (complement (slice_index clause.now k)))) }
-{
-    for place in from..clause.len() {
-        if !trail.is_false(clause[place]) {
-            return Some(place);
-        }
-    }
-    None
-}
-
 /// The place of a literal that the clause watches.
 fn watched_place(clause: &[Lit], l: Lit) -> usize
     requires { IsTrue (watches clause.now l) }
@@ -62,7 +47,7 @@ pub(crate) fn look(trail: &Trail, clause: &[Lit], l: Lit) -> Visit
     if matches!(value, Value::True) {
         return Visit::Stays;
     }
-    match open_place(trail, clause, 2) {
+    match trail.first_open(clause, 2) {
         Some(to) => Visit::Moves(from, to, clause[to]),
         None => match value {
             Value::False => Visit::Clash,

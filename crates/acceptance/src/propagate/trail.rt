@@ -112,3 +112,21 @@ fn counts_what_is_left(rt: HostRuntime) -> Result<(), Fail> {
     assert_eq!(rt; trail.unit_left(&[two, one, two, far]), Left::More);
     Ok(())
 }
+
+#[test]
+fn finds_what_is_open(rt: HostRuntime) -> Result<(), Fail> {
+    let one = Lit::new(1).ok_or("no literal")?;
+    let two = Lit::new(2).ok_or("no literal")?;
+    let far = Lit::new(268435455).ok_or("no literal")?;
+    let mut trail = Trail::new(rt.alloc())?;
+    let clause = [one, two, far, one];
+    assert_eq!(rt; trail.first_open(&clause, 0), Some(0));
+    assert!(rt; !make_false(&mut trail, &[one, two.neg()], &Whole)?);
+    assert_eq!(rt; trail.first_open(&clause, 0), Some(1));
+    assert_eq!(rt; trail.first_open(&clause, 2), Some(2));
+    assert_eq!(rt; trail.first_open(&clause, 3), None);
+    assert_eq!(rt; trail.first_open(&clause, 4), None);
+    assert!(rt; !make_false(&mut trail, &[far], &Whole)?);
+    assert_eq!(rt; trail.first_open(&clause, 2), None);
+    Ok(())
+}

@@ -1,4 +1,4 @@
-use Rattle.std.proofs.Common.{ℕ, is_some, not, eqb, filter, unwrap_or, [], subst, refl, sym, ap, ◌∙◌}
+use Rattle.std.proofs.Common.{ℕ, is_some, not, filter, unwrap_or, [], subst, refl, sym, ap, ◌∙◌}
 use Rattle.std.specs.FinMap as maps
 use Rattle.cnf_base.specs.Literals.{complement, complements, has}
 use Rattle.propagation.specs.LiteralSet.{in_set}
