@@ -208,6 +208,7 @@ c formula 2 variables 4 clauses
 c steps 2 peak 9
 s VERIFIED
 LINES
+told e_lrat < /dev/null
 
 row e_lrat_with_trace 0 --trace $x/e.cnf $x/e.lrat <<'LINES'
 c formula 2 variables 4 clauses
@@ -265,6 +266,7 @@ c formula 2 variables 4 clauses
 c end: no empty clause
 s NOT VERIFIED
 LINES
+told no_empty_clause < /dev/null
 
 row definition_by_groups 1 --trace $x/g.cnf $x/definition_by_groups.lrat <<'LINES'
 c formula 2 variables 1 clauses
@@ -286,6 +288,23 @@ c formula 2 variables 4 clauses
 c step 1: clause 4 holds the complement and is not named
 s NOT VERIFIED
 LINES
+told unnamed_candidate <<< "lrat-check: $x/unnamed_candidate.lrat: the refused step ends at line 1, column 9"
+
+on_stdin=$x/deleted_twice.lrat row refused_step_of_standard_input 1 $x/e.cnf <<'LINES'
+c formula 2 variables 4 clauses
+c step 2: unknown id 1
+s NOT VERIFIED
+LINES
+told refused_step_of_standard_input <<< "lrat-check: standard input: the refused step ends at line 2, column 9"
+
+# the end of the second step, after comments, blank lines and ends of lines with a CR
+printf 'c 1 0\n5 2 0 1 2 0\r\n\r\n6\nc 0\n0 5\n\t 0 7 0 0\n' > "$room/lines.lrat"
+row refused_step_over_lines 1 $x/e.cnf "$room/lines.lrat" <<'LINES'
+c formula 2 variables 4 clauses
+c step 2: no conflict
+s NOT VERIFIED
+LINES
+told refused_step_over_lines <<< "lrat-check: $room/lines.lrat: the refused step ends at line 7, column 3"
 
 row hint_with_true_literal 1 $x/e.cnf $x/hint_with_true_literal.lrat <<'LINES'
 c formula 2 variables 4 clauses
@@ -336,6 +355,7 @@ c formula 2 variables 4 clauses
 c proof 3:1: unterminated step
 s NOT VERIFIED
 LINES
+told unterminated_step < /dev/null
 
 row literal_out_of_range 2 $x/literal_out_of_range.cnf $x/e.lrat <<'LINES'
 c formula 2:3: literal out of range
@@ -358,6 +378,7 @@ c formula 2 variables 4 clauses
 c steps 2 peak 9
 s VERIFIED
 LINES
+told e_drat < /dev/null
 
 row e_drat_with_trace 0 --trace $x/e.cnf $x/e.drat <<'LINES'
 c formula 2 variables 4 clauses
@@ -488,6 +509,7 @@ c formula 2 variables 4 clauses
 c end: no empty clause
 s NOT VERIFIED
 LINES
+told drat_no_empty_clause < /dev/null
 
 row definition_by_rat 1 --trace $x/g.cnf $x/definition_by_rat.drat <<'LINES'
 c formula 2 variables 1 clauses
@@ -502,6 +524,32 @@ c formula 2 variables 1 clauses
 c step 1: neither RUP nor RAT on -1
 s NOT VERIFIED
 LINES
+told neither_rup_nor_rat <<< "drat-forward: $x/neither_rup_nor_rat.drat: the refused step ends at line 1, column 6"
+
+on_stdin=$x/both_copies_deleted.drat row drat_refused_step_of_standard_input 1 $x/copies.cnf <<'LINES'
+c formula 1 variables 3 clauses
+c step 3: not RUP
+s NOT VERIFIED
+LINES
+told drat_refused_step_of_standard_input <<< "drat-forward: standard input: the refused step ends at line 3, column 1"
+
+# the end of the second step, which stands with the third one in a line
+printf 'c 0\n3 -1 0\r\n\r\n-3\nc 0\n 2\n\n0 0\n' > "$room/lines.drat"
+row drat_refused_step_over_lines 1 $x/g.cnf "$room/lines.drat" <<'LINES'
+c formula 2 variables 1 clauses
+c step 2: neither RUP nor RAT on -3
+s NOT VERIFIED
+LINES
+told drat_refused_step_over_lines <<< "drat-forward: $room/lines.drat: the refused step ends at line 8, column 1"
+
+# a step of four bytes, one of two, and a third one that nobody looks at
+printf 'a\x06\x03\x00a\x00a\x00' > "$room/refused.bin"
+row refused_step_in_binary 1 --binary $x/g.cnf "$room/refused.bin" <<'LINES'
+c formula 2 variables 1 clauses
+c step 2: not RUP
+s NOT VERIFIED
+LINES
+told refused_step_in_binary <<< "drat-forward: $room/refused.bin: the refused step ends at byte 6"
 
 row not_rup 1 --trace $x/g.cnf $x/e.drat <<'LINES'
 c formula 2 variables 1 clauses
@@ -543,6 +591,7 @@ c formula 2 variables 4 clauses
 c proof 2:3: unterminated step
 s NOT VERIFIED
 LINES
+told drat_unterminated_step < /dev/null
 
 row drat_literal_out_of_range 2 $x/literal_out_of_range.cnf $x/e.drat <<'LINES'
 c formula 2:3: literal out of range

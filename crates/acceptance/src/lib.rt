@@ -18,6 +18,8 @@ mod propagate;
 #[cfg(test)]
 mod readers;
 #[cfg(test)]
+mod refused_steps;
+#[cfg(test)]
 mod sessions;
 #[cfg(test)]
 mod support;

@@ -2,8 +2,8 @@
 #![tactic(auto)]
 
 use cnf_base::{FromRead, ToWrite};
-use filter_io::{ask, exit_code, open_both, standard_output, tell_failures};
-use sat_check::{DratOptions, Status, Tool, run_drat};
+use filter_io::{ask, exit_code, open_both, standard_output, tell_failures, tell_refusal};
+use sat_check::{DratOptions, Status, Tool, run_drat_placed};
 use std::process::ExitCode;
 
 const NAME: &str = "drat-forward";
@@ -24,13 +24,14 @@ fn check(rt: &HostRuntime) -> Result<Status, Status> {
         strict: args.strict,
         pr: args.pr,
     };
-    let status = run_drat(
+    let checked = run_drat_placed(
         rt.alloc(),
         &options,
         &mut FromRead::new(&mut formula),
         &mut FromRead::new(&mut proof),
         &mut ToWrite::new(out),
     );
-    tell_failures(rt, NAME, &args, (&formula, &proof), status);
-    Ok(status)
+    tell_failures(rt, NAME, &args, (&formula, &proof), checked.status);
+    tell_refusal(rt, NAME, &args, checked);
+    Ok(checked.status)
 }

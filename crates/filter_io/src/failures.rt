@@ -16,11 +16,15 @@ pub fn tell_failures(
     }
     let (formula, second) = inputs;
     tell_failure(rt, program, args.formula.as_str(), formula);
-    let name = match &args.second {
+    tell_failure(rt, program, second_name(args), second);
+}
+
+/// What the second input is called: its name on the command line, or standard input.
+pub(crate) fn second_name(args: &Args) -> &str {
+    match &args.second {
         Some(name) => name.as_str(),
         None => "standard input",
-    };
-    tell_failure(rt, program, name, second);
+    }
 }
 
 // Tells standard error why a read of the input of this name failed, if one did.

@@ -2,8 +2,8 @@
 #![tactic(auto)]
 
 use cnf_base::{FromRead, ToWrite};
-use filter_io::{ask, exit_code, open_both, standard_output, tell_failures};
-use sat_check::{LratOptions, Status, Tool, run_lrat};
+use filter_io::{ask, exit_code, open_both, standard_output, tell_failures, tell_refusal};
+use sat_check::{LratOptions, Status, Tool, run_lrat_placed};
 use std::process::ExitCode;
 
 const NAME: &str = "lrat-check";
@@ -19,13 +19,14 @@ fn check(rt: &HostRuntime) -> Result<Status, Status> {
     let (mut formula, mut proof) = open_both(rt, &args)?;
     let out = standard_output(rt)?;
     let options = LratOptions { trace: args.trace };
-    let status = run_lrat(
+    let checked = run_lrat_placed(
         rt.alloc(),
         &options,
         &mut FromRead::new(&mut formula),
         &mut FromRead::new(&mut proof),
         &mut ToWrite::new(out),
     );
-    tell_failures(rt, NAME, &args, (&formula, &proof), status);
-    Ok(status)
+    tell_failures(rt, NAME, &args, (&formula, &proof), checked.status);
+    tell_refusal(rt, NAME, &args, checked);
+    Ok(checked.status)
 }

@@ -1,5 +1,5 @@
 -- A binary proof's bytes, one at a time.
-use Rattle.std.proofs.Common.{◌≡◌, ℕ, ◌<◌, ◌≤◌, [], length, Some, refl, sym, ap, ◌∙◌, subst, arith}
+use Rattle.std.proofs.Common.{◌≡◌, ℕ, ◌<◌, ◌≤◌, [], length, Option, None, Some, refl, sym, ap, ◌∙◌, subst, arith}
 use Rattle.std.specs.Prelude.{Bool, true, false, Result, Ok, Err, slice_index}
 use Rattle.cnf_base.specs.Stream.{Input, Stream, Along, IsLook, bumped, next_count, most_to_come}
 use Rattle.cnf_base.specs.declared.input.Ending.TheVariants.{End, Failed}
@@ -7,6 +7,8 @@ use Rattle.cnf_base.specs.declared.fault.Fault.{Fault}
 use Rattle.cnf_base.specs.declared.fault.Fault.TheVariants.{Binary, ReadFailed, OutOfMemory}
 use Rattle.cnf_base.specs.declared.fault.BinaryFault.{BinaryFault}
 use Rattle.cnf_base.proofs.StreamLemmas.{Along-then, Along-map, Along-look, Along-bumped, Along-still, shown_end, most_to_come-bumped, most_to_come-look}
+use Rattle.proofs.specs.declared.step_end.StepEnd.{StepEnd}
+use Rattle.proofs.specs.declared.step_end.StepEnd.TheVariants.{Byte}
 use Rattle.proofs.specs.Steps.{Step, named}
 use Rattle.proofs.specs.Reading.{Proof, GivesStep}
 use Rattle.proofs.specs.TextMoves.{EndsProof}
@@ -26,11 +28,11 @@ pub record Between (old now : Stream) (spot : BinarySpot) (s : Step) : Type 0 wh
 pub Between-none : (s : Stream) → Between s s at_tag (named 0)
 Between-none s = record { text = Along-still s (binary_steps_at s.byte_no); fewer = omega arith; mark = refl }
 
-ends_so : (end : Proof) (result : Result Bool Fault) (s : Step) (before : Proof) (at : ℕ) (j : Input)
-    → EndsProof result end → before ≡ end → GivesStep result s before (binary_left result at j) j
-ends_so end (Ok true) s before at j ends e = absurd ends
-ends_so end (Ok false) s before at j ends e = (e ∙ ends, e ∙ ends)
-ends_so end (Err f) s before at j ends e = gives_fault f s before j (e ∙ ends)
+ends_so : (last : Proof) (result : Result Bool Fault) (end : Option StepEnd) (s : Step) (before : Proof) (at : ℕ) (j : Input)
+    → EndsProof result last → before ≡ last → GivesStep result end s before (binary_left result at j) j
+ends_so last (Ok true) end s before at j ends e = absurd ends
+ends_so last (Ok false) end s before at j ends e = (e ∙ ends, e ∙ ends)
+ends_so last (Err f) end s before at j ends e = gives_fault f end s before j (e ∙ ends)
 
 module _ (old now new : Stream) (spot : BinarySpot) (s : Step) (so_far : Between old now spot s) (look : IsLook now new) where
   looked : Along old new (λ i j. binary_steps_at old.byte_no i ≡ binary_steps_from spot s new.byte_no j)
@@ -40,7 +42,7 @@ module _ (old now new : Stream) (spot : BinarySpot) (s : Step) (so_far : Between
   -- a byte was taken
   module _ (b : ℕ) (some : 0 < length new.ahead) (first : b ≡ slice_index new.ahead 0) where
     abbrev follows : Input → BinaryMove → Proof
-    follows j move = on_binary_move (length j.bytes) move (λ spot s. binary_steps_from spot s (next_count new.byte_no) j)
+    follows j move = on_binary_move new.byte_no (length j.bytes) move (λ spot s. binary_steps_from spot s (next_count new.byte_no) j)
 
     byte_text : Along old (bumped new) (λ i j. binary_steps_at old.byte_no i ≡ follows j (binary_move_of spot s new.byte_no b))
     byte_text = Along-then old new (bumped new) _ _ _ looked (Along-bumped new b some first) (λ i j k m q r.
@@ -54,28 +56,28 @@ module _ (old now new : Stream) (spot : BinarySpot) (s : Step) (so_far : Between
       mark = mark ∙ so_far.mark;
     }
 
-    pub Between-step : (t : Step) → binary_move_of spot s new.byte_no b ≡ completes t
-        → Along old (bumped new) (λ i j. GivesStep (Ok true) t (binary_steps_at old.byte_no i) (binary_left (Ok true) (bumped new).byte_no j) j)
-    Between-step t is = Along-map old (bumped new) _ _ byte_text (λ i j m q. q ∙ ap (follows j) is)
+    pub Between-step : (end : Option StepEnd) → end ≡ Some (Byte new.byte_no) → (t : Step) → binary_move_of spot s new.byte_no b ≡ completes t
+        → Along old (bumped new) (λ i j. GivesStep (Ok true) end t (binary_steps_at old.byte_no i) (binary_left (Ok true) (bumped new).byte_no j) j)
+    Between-step end at t is = Along-map old (bumped new) _ _ byte_text (λ i j m q. (Byte new.byte_no, at, q ∙ ap (follows j) is))
 
     pub Between-fault : (f : BinaryFault) (at : ℕ) (t : Step) → binary_move_of spot s new.byte_no b ≡ faults f at
-        → Along old (bumped new) (λ i j. GivesStep (Err (Binary f at)) t (binary_steps_at old.byte_no i) (binary_left (Err (Binary f at)) (bumped new).byte_no j) j)
-    Between-fault f at t is = Along-map old (bumped new) _ _ byte_text (λ i j m q. gives_fault (Binary f at) t _ j (q ∙ ap (follows j) is))
+        → Along old (bumped new) (λ i j. GivesStep (Err (Binary f at)) None t (binary_steps_at old.byte_no i) (binary_left (Err (Binary f at)) (bumped new).byte_no j) j)
+    Between-fault f at t is = Along-map old (bumped new) _ _ byte_text (λ i j m q. gives_fault (Binary f at) None t _ j (q ∙ ap (follows j) is))
 
     pub Between-refused : (t : Step)
-        → Along old (bumped new) (λ i j. GivesStep (Err OutOfMemory) t (binary_steps_at old.byte_no i) (binary_left (Err OutOfMemory) (bumped new).byte_no j) j)
+        → Along old (bumped new) (λ i j. GivesStep (Err OutOfMemory) None t (binary_steps_at old.byte_no i) (binary_left (Err OutOfMemory) (bumped new).byte_no j) j)
     Between-refused t = Along-map old (bumped new) _ _ byte_text (λ i j m q. refl)
 
-  pub Between-end : (result : Result Bool Fault) → new.ahead ≡ [] → new.met ≡ Some End → EndsProof result (binary_at_end spot new.byte_no End)
-      → Along old new (λ i j. GivesStep result s (binary_steps_at old.byte_no i) (binary_left result new.byte_no j) j)
-  Between-end result nothing met ends = Along-map old new _ _ looked (λ i j m q.
+  pub Between-end : (result : Result Bool Fault) (end : Option StepEnd) → new.ahead ≡ [] → new.met ≡ Some End → EndsProof result (binary_at_end spot new.byte_no End)
+      → Along old new (λ i j. GivesStep result end s (binary_steps_at old.byte_no i) (binary_left result new.byte_no j) j)
+  Between-end result end nothing met ends = Along-map old new _ _ looked (λ i j m q.
       let e = shown_end new End j nothing met m in
-      ends_so (binary_at_end spot new.byte_no End) result s _ new.byte_no j ends (q ∙ ap (binary_steps_from spot s new.byte_no) e))
+      ends_so (binary_at_end spot new.byte_no End) result end s _ new.byte_no j ends (q ∙ ap (binary_steps_from spot s new.byte_no) e))
 
   pub Between-failed : new.ahead ≡ [] → new.met ≡ Some Failed
-      → Along old new (λ i j. GivesStep (Err ReadFailed) s (binary_steps_at old.byte_no i) (binary_left (Err ReadFailed) new.byte_no j) j)
+      → Along old new (λ i j. GivesStep (Err ReadFailed) None s (binary_steps_at old.byte_no i) (binary_left (Err ReadFailed) new.byte_no j) j)
   Between-failed nothing met = Along-map old new _ _ looked (λ i j m q.
-      gives_fault ReadFailed s _ j (q ∙ ap (binary_steps_from spot s new.byte_no) (shown_end new Failed j nothing met m)))
+      gives_fault ReadFailed None s _ j (q ∙ ap (binary_steps_from spot s new.byte_no) (shown_end new Failed j nothing met m)))
 
 -- what a byte was found to do, by the answer's pattern, and by the byte's number
 pub moves_told : (result answer : Result (Moved Part) Stopped) (spot : BinarySpot) (s t : Step) (at known b : ℕ)

@@ -14,11 +14,10 @@ use Rattle.proofs.specs.declared.drat_text.part.Part.TheVariants.{Start, Literal
 use Rattle.proofs.specs.declared.step_buf.StepKind.{StepKind}
 use Rattle.proofs.specs.declared.step_buf.StepKind.TheVariants.{Add, Delete}
 use Rattle.proofs.specs.Steps.{Step, named, with_literal}
-use Rattle.proofs.specs.Reading.{Proof, with_step}
 use Rattle.proofs.specs.TextSteps.{goes, completes, faults, literal_or_end, move_of, steps_from, steps_at}
 use Rattle.proofs.specs.Drat.{drat, drat_steps}
-use Rattle.proofs.specs.Printing.{proof_of, drat_words, drat_line, IsDratStep}
-use Rattle.proofs.proofs.PrintedText.{with_literals, drat_step, drat_step_is, word_goes, word_completes, list_read, zero_read, lines_read}
+use Rattle.proofs.specs.Printing.{ReadProof, read_of, proof_of, drat_words, drat_line, IsDratStep}
+use Rattle.proofs.proofs.PrintedText.{with_literals, with_read, drat_step, drat_step_is, word_goes, word_completes, list_read, zero_read, lines_read}
 
 -- a literal's word
 literal_move : (part : Part) (s : Step) (l : Literal) → is_literal 268435455 l ≡ true
@@ -27,12 +26,12 @@ literal_move part s l is =
     ap (move_of drat part s) (literal_word 268435455 l (omega arith) is)
     ∙ literal_taken 268435455 l (omega arith) is (literal_or_end Literals completes s) (faults LiteralTooLarge)
 
-module _ (rest : List ℕ) (result : Proof)
-    (later : (q : Place) → 0 < q.col → steps_at drat q (input_of rest) ≡ result) where
+module _ (rest : List ℕ) (result : ReadProof)
+    (later : (q : Place) → 0 < q.col → read_of (steps_at drat q (input_of rest)) ≡ result) where
   -- literals after a word of a step, and the step's end
   literals_read : (ls : List Literal) (s : Step) (p : Place) → 0 < p.col → list_all (is_literal 268435455) ls ≡ true
-      → steps_from drat Literals s (line_from p (literal_words ls) rest)
-      ≡ with_step (fold with_literal s ls) (length (10 ∷ rest)) result
+      → read_of (steps_from drat Literals s (line_from p (literal_words ls) rest))
+      ≡ with_read (fold with_literal s ls) (length (10 ∷ rest)) result
   literals_read ls s p from_one are =
       list_read drat literal_text (is_literal 268435455) with_literal Literals
       (λ l is. literal_plain 268435455 l (omega arith) is) (literal_move Literals)
@@ -42,35 +41,35 @@ module _ (rest : List ℕ) (result : Proof)
   -- a step's line
   step_read : (kind : StepKind) (ls : List Literal) (p : Place) → 0 < p.col
       → list_all (is_literal 268435455) ls ≡ true
-      → steps_at drat p (input_of (words_line (drat_words kind ls) ++ rest))
-      ≡ with_step (drat_step kind ls) (length (10 ∷ rest)) result
+      → read_of (steps_at drat p (input_of (words_line (drat_words kind ls) ++ rest)))
+      ≡ with_read (drat_step kind ls) (length (10 ∷ rest)) result
   step_read Delete ls p from_one are =
-      word_goes drat Start (named 0) (first_word p (codes "d") (literal_words ls) rest refl (fixed_plain 100 [] refl)) refl
+      ap read_of (word_goes drat Start (named 0) (first_word p (codes "d") (literal_words ls) rest refl (fixed_plain 100 [] refl)) refl)
       ∙ literals_read ls (drat_step Delete []) (col_along p (codes "d")) (along_from_one p (codes "d") from_one) are
-      ∙ ap (λ s. with_step s (length (10 ∷ rest)) result) (with_literals (drat_step Delete []) ls)
+      ∙ ap (λ s. with_read s (length (10 ∷ rest)) result) (with_literals (drat_step Delete []) ls)
   step_read Add [] p from_one are =
-      word_completes drat Start (named 0) (first_word p (codes "0") [] rest refl zero_plain)
-      (next_line (col_along p (codes "0")) rest) refl
-      ∙ ap (with_step (drat_step Add []) (length (10 ∷ rest)))
+      ap read_of (word_completes drat Start (named 0) (first_word p (codes "0") [] rest refl zero_plain)
+      (next_line (col_along p (codes "0")) rest) refl)
+      ∙ ap (with_read (drat_step Add []) (length (10 ∷ rest)))
       (later (line_after (col_along p (codes "0"))) (omega arith))
   step_read Add (l ∷ ls) p from_one are =
       let r = both (is_literal 268435455 l) (list_all (is_literal 268435455) ls) are in
-      word_goes drat Start (named 0) (first_word p (literal_text l) (literal_words ls) rest
+      ap read_of (word_goes drat Start (named 0) (first_word p (literal_text l) (literal_words ls) rest
       (literal_no_comment 268435455 l (omega arith) r.0) (literal_plain 268435455 l (omega arith) r.0))
-      (literal_move Start (named 0) l r.0)
+      (literal_move Start (named 0) l r.0))
       ∙ literals_read ls (drat_step Add (l ∷ [])) (col_along p (literal_text l))
       (along_from_one p (literal_text l) from_one) r.1
-      ∙ ap (λ s. with_step s (length (10 ∷ rest)) result) (with_literals (drat_step Add (l ∷ [])) ls)
+      ∙ ap (λ s. with_read s (length (10 ∷ rest)) result) (with_literals (drat_step Add (l ∷ [])) ls)
 
 -- a step
-line_read : (s : Step) → IsDratStep s → (rest : List ℕ) (result : Proof)
-    → ((q : Place) → 0 < q.col → steps_at drat q (input_of rest) ≡ result) → (p : Place) → 0 < p.col
-    → steps_at drat p (input_of (drat_line s ++ rest)) ≡ with_step s (length (10 ∷ rest)) result
+line_read : (s : Step) → IsDratStep s → (rest : List ℕ) (result : ReadProof)
+    → ((q : Place) → 0 < q.col → read_of (steps_at drat q (input_of rest)) ≡ result) → (p : Place) → 0 < p.col
+    → read_of (steps_at drat p (input_of (drat_line s ++ rest))) ≡ with_read s (length (10 ∷ rest)) result
 line_read s f rest result later p from_one =
     step_read rest result later s.kind s.lits p from_one f.literals
-    ∙ ap (λ x. with_step x (length (10 ∷ rest)) result) (drat_step_is s f)
+    ∙ ap (λ x. with_read x (length (10 ∷ rest)) result) (drat_step_is s f)
 
 -- a printed proof is read back
 pub drat_read : (steps : List Step) → All IsDratStep steps
-    → drat_steps (input_of (flat_map drat_line steps)) ≡ proof_of (codes "\n") drat_line steps
+    → read_of (drat_steps (input_of (flat_map drat_line steps))) ≡ proof_of (codes "\n") drat_line steps
 drat_read steps are = lines_read drat drat_line IsDratStep refl line_read steps (record { line = 1; col = 1 }) (omega arith) are

@@ -17,11 +17,10 @@ use Rattle.proofs.specs.declared.lrat_text.part.Part.TheVariants.{Identifier, Af
 use Rattle.proofs.specs.declared.step_buf.StepKind.{StepKind}
 use Rattle.proofs.specs.declared.step_buf.StepKind.TheVariants.{Add, Delete}
 use Rattle.proofs.specs.Steps.{Step, is_small, is_hint, named, with_literal, with_hint}
-use Rattle.proofs.specs.Reading.{Proof, with_step}
 use Rattle.proofs.specs.TextSteps.{goes, completes, faults, literal_or_end, move_of, steps_from, steps_at}
 use Rattle.proofs.specs.Lrat.{lrat, lrat_steps}
-use Rattle.proofs.specs.Printing.{proof_of, hint_words, lrat_words, lrat_line, IsLratStep}
-use Rattle.proofs.proofs.PrintedText.{with_literals, with_hints, word_goes, list_read, zero_read, lines_read}
+use Rattle.proofs.specs.Printing.{ReadProof, read_of, proof_of, hint_words, lrat_words, lrat_line, IsLratStep}
+use Rattle.proofs.proofs.PrintedText.{with_read, with_literals, with_hints, word_goes, list_read, zero_read, lines_read}
 
 -- ---- Words
 
@@ -91,42 +90,42 @@ hint_zero Delete s = refl
 abbrev step_of : StepKind → ℕ → List Literal → List ℤ → Step
 step_of kind id ls hs = record { kind = kind; id = id; lits = ls; hints = hs }
 
-module _ (rest : List ℕ) (result : Proof)
-    (later : (q : Place) → 0 < q.col → steps_at lrat q (input_of rest) ≡ result) where
+module _ (rest : List ℕ) (result : ReadProof)
+    (later : (q : Place) → 0 < q.col → read_of (steps_at lrat q (input_of rest)) ≡ result) where
   -- hints, or identifiers that are deleted, after a word of a step, and the step's end
   hints_read : (kind : StepKind) (id : ℕ) (ls : List Literal) (hs : List ℤ) (p : Place) → 0 < p.col
       → list_all (is_hint kind) hs ≡ true
-      → steps_from lrat (hint_part kind) (step_of kind id ls []) (line_from p (hint_words hs) rest)
-      ≡ with_step (step_of kind id ls hs) (length (10 ∷ rest)) result
+      → read_of (steps_from lrat (hint_part kind) (step_of kind id ls []) (line_from p (hint_words hs) rest))
+      ≡ with_read (step_of kind id ls hs) (length (10 ∷ rest)) result
   hints_read kind id ls hs p from_one are =
       list_read lrat signed_decimal (is_hint kind) with_hint (hint_part kind) (hint_plain kind) (hint_move kind)
       hs (codes "0" ∷ []) rest _ (step_of kind id ls []) p from_one are
       (λ q q_from_one.
       zero_read lrat (hint_part kind) _ (fold with_hint (step_of kind id ls []) hs) rest result q q_from_one
       (hint_zero kind _) later)
-      ∙ ap (λ s. with_step s (length (10 ∷ rest)) result) (with_hints (step_of kind id ls []) hs)
+      ∙ ap (λ s. with_read s (length (10 ∷ rest)) result) (with_hints (step_of kind id ls []) hs)
 
   -- what follows the identifier of an addition
   addition_read : (id : ℕ) (ls : List Literal) (hs : List ℤ) (p : Place) → 0 < p.col
       → list_all (is_literal 268435455) ls ≡ true → list_all (is_hint Add) hs ≡ true
-      → steps_from lrat AfterIdentifier (named id) (line_from p (literal_words ls ++ hint_words hs) rest)
-      ≡ with_step (step_of Add id ls hs) (length (10 ∷ rest)) result
+      → read_of (steps_from lrat AfterIdentifier (named id) (line_from p (literal_words ls ++ hint_words hs) rest))
+      ≡ with_read (step_of Add id ls hs) (length (10 ∷ rest)) result
   addition_read id [] hs p from_one are hints =
-      word_goes lrat AfterIdentifier (named id) (next_word p (codes "0") (hint_words hs) rest from_one zero_plain) refl
+      ap read_of (word_goes lrat AfterIdentifier (named id) (next_word p (codes "0") (hint_words hs) rest from_one zero_plain) refl)
       ∙ hints_read Add id [] hs (past p (codes "0")) (past_from_one p (codes "0")) hints
   addition_read id (l ∷ ls) hs p from_one are hints =
       let r = both (is_literal 268435455 l) (list_all (is_literal 268435455) ls) are in
       let q : Place = past p (literal_text l) in
       let first : Step = step_of Add id (l ∷ []) [] in
-      word_goes lrat AfterIdentifier (named id) (next_word p (literal_text l) (literal_words ls ++ hint_words hs) rest from_one
-      (literal_plain 268435455 l (omega arith) r.0)) (first_literal_move (named id) l r.0)
-      ∙ ap (λ ws. steps_from lrat Literals first (line_from q ws rest))
+      ap read_of (word_goes lrat AfterIdentifier (named id) (next_word p (literal_text l) (literal_words ls ++ hint_words hs) rest from_one
+      (literal_plain 268435455 l (omega arith) r.0)) (first_literal_move (named id) l r.0))
+      ∙ ap (λ ws. read_of (steps_from lrat Literals first (line_from q ws rest)))
       (append_assoc (map literal_text ls) (codes "0" ∷ []) (hint_words hs))
       ∙ list_read lrat literal_text (is_literal 268435455) with_literal Literals
       (λ l is. literal_plain 268435455 l (omega arith) is) literal_move
       ls (codes "0" ∷ hint_words hs) rest _ first q (past_from_one p (literal_text l)) r.1
-      (λ q q_from_one. word_goes lrat Literals _ (next_word q (codes "0") (hint_words hs) rest q_from_one zero_plain) refl
-      ∙ ap (λ s. steps_from lrat Hints s (line_from (past q (codes "0")) (hint_words hs) rest))
+      (λ q q_from_one. ap read_of (word_goes lrat Literals _ (next_word q (codes "0") (hint_words hs) rest q_from_one zero_plain) refl)
+      ∙ ap (λ s. read_of (steps_from lrat Hints s (line_from (past q (codes "0")) (hint_words hs) rest)))
       (with_literals first ls)
       ∙ hints_read Add id (l ∷ ls) hs (past q (codes "0")) (past_from_one q (codes "0")) hints)
 
@@ -134,28 +133,28 @@ module _ (rest : List ℕ) (result : Proof)
   step_read : (kind : StepKind) (id : ℕ) (ls : List Literal) (hs : List ℤ) (p : Place) → 0 < p.col
       → 1 ≤ id → is_small id ≡ true → list_all (is_literal 268435455) ls ≡ true → (kind ≡ Delete → ls ≡ [])
       → list_all (is_hint kind) hs ≡ true
-      → steps_at lrat p (input_of (words_line (lrat_words kind id ls hs) ++ rest))
-      ≡ with_step (step_of kind id ls hs) (length (10 ∷ rest)) result
+      → read_of (steps_at lrat p (input_of (words_line (lrat_words kind id ls hs) ++ rest)))
+      ≡ with_read (step_of kind id ls hs) (length (10 ∷ rest)) result
   step_read Add id ls hs p from_one some small are empty hints =
       let most : id ≤ 9223372036854775807 = grind (arith, nat_tests) in
-      word_goes lrat Identifier (named 0) (first_word p (decimal id) (literal_words ls ++ hint_words hs) rest
+      ap read_of (word_goes lrat Identifier (named 0) (first_word p (decimal id) (literal_words ls ++ hint_words hs) rest
       (decimal_no_comment id (omega arith)) (decimal_plain id (omega arith)))
-      (identifier_move (named 0) id some small)
+      (identifier_move (named 0) id some small))
       ∙ addition_read id ls hs (col_along p (decimal id)) (along_from_one p (decimal id) from_one) are hints
   step_read Delete id ls hs p from_one some small are empty hints =
       let most : id ≤ 9223372036854775807 = grind (arith, nat_tests) in
       let q : Place = col_along p (decimal id) in
-      word_goes lrat Identifier (named 0) (first_word p (decimal id) (codes "d" ∷ hint_words hs) rest
+      ap read_of (word_goes lrat Identifier (named 0) (first_word p (decimal id) (codes "d" ∷ hint_words hs) rest
       (decimal_no_comment id (omega arith)) (decimal_plain id (omega arith)))
-      (identifier_move (named 0) id some small)
-      ∙ word_goes lrat AfterIdentifier (named id) (next_word q (codes "d") (hint_words hs) rest (along_from_one p (decimal id) from_one)
-      (fixed_plain 100 [] refl)) refl
+      (identifier_move (named 0) id some small))
+      ∙ ap read_of (word_goes lrat AfterIdentifier (named id) (next_word q (codes "d") (hint_words hs) rest (along_from_one p (decimal id) from_one)
+      (fixed_plain 100 [] refl)) refl)
       ∙ hints_read Delete id [] hs (past q (codes "d")) (past_from_one q (codes "d")) hints
-      ∙ ap (λ t. with_step (step_of Delete id t hs) (length (10 ∷ rest)) result) (sym (empty refl))
+      ∙ ap (λ t. with_read (step_of Delete id t hs) (length (10 ∷ rest)) result) (sym (empty refl))
 
 -- a printed proof is read back
 pub lrat_read : (steps : List Step) → All IsLratStep steps
-    → lrat_steps (input_of (flat_map lrat_line steps)) ≡ proof_of (codes "\n") lrat_line steps
+    → read_of (lrat_steps (input_of (flat_map lrat_line steps))) ≡ proof_of (codes "\n") lrat_line steps
 lrat_read steps are = lines_read lrat lrat_line IsLratStep refl
     (λ s f rest result later p from_one.
     step_read rest result later s.kind s.id s.lits s.hints p from_one f.some f.small f.literals f.deletion f.hints)

@@ -15,10 +15,11 @@ use Rattle.cnf_base.specs.declared.token.Token.TheVariants as token
 use Rattle.cnf_base.proofs.TextLemmas.{listing_at-end}
 use Rattle.cnf_base.proofs.PrintLemmas.{line_from, IsPlain, past, past_from_one, Begins, next_word, next_line, both, zero_plain}
 use Rattle.proofs.specs.declared.step_buf.StepKind.{StepKind}
+use Rattle.proofs.specs.declared.step_end.StepEnd.TheVariants as ends
 use Rattle.proofs.specs.Steps.{Step, named, with_literal, with_hint}
-use Rattle.proofs.specs.Reading.{Proof, with_step}
+use Rattle.proofs.specs.Reading.{with_step}
 use Rattle.proofs.specs.TextSteps.{goes, completes, Format, move_of, steps_from, steps_listed, steps_at}
-use Rattle.proofs.specs.Printing.{proof_of, IsDratStep}
+use Rattle.proofs.specs.Printing.{ReadProof, read_of, proof_of, IsDratStep}
 
 -- many literals, and many hints
 pub with_literals : (s : Step) (ls : List Literal)
@@ -34,6 +35,10 @@ with_hints s [] = ap (λ t. record { kind = s.kind; id = s.id; lits = s.lits; hi
 with_hints s (h ∷ hs) =
     with_hints (with_hint s h) hs
     ∙ ap (λ t. record { kind = s.kind; id = s.id; lits = s.lits; hints = t }) (append_assoc s.hints (h ∷ []) hs)
+
+-- what is read of a proof, with one more step in front
+abbrev pub with_read : Step → ℕ → ReadProof → ReadProof
+with_read s rest p = record { steps = record { step = s; rest = rest } ∷ p.steps; fault = p.fault }
 
 -- an addition or a deletion of these literals in DRAT
 abbrev pub drat_step : StepKind → List Literal → Step
@@ -56,42 +61,42 @@ module _ {Part : Type 0} (format : Format Part) where
   pub word_completes : (part : Part) (s : Step) {l m o : Listing} {p q : Place} {w : Word} {n f : ℕ} {whole : Step}
       → Begins l (token.Word p w) n m → Begins m (token.LineEnd q) f o
       → move_of format part s w ≡ completes whole
-      → steps_from format part s l ≡ with_step whole n (steps_listed format o)
+      → steps_from format part s l ≡ with_step whole (ends.Text p) n (steps_listed format o)
   word_completes part s b c e = rw (b.is, c.is, e) refl
 
   -- many words that do the same, and then those that follow
   pub list_read : {A : Type 0} (printed : A → List ℕ) (fits : A → Bool) (with : Step → A → Step) (part : Part)
       → ((x : A) → fits x ≡ true → IsPlain (printed x))
       → ((s : Step) (x : A) → fits x ≡ true → move_of format part s (word_of (printed x)) ≡ goes part (with s x))
-      → (xs : List A) (ws : List (List ℕ)) (rest : List ℕ) (result : Proof) (s : Step) (p : Place)
+      → (xs : List A) (ws : List (List ℕ)) (rest : List ℕ) (result : ReadProof) (s : Step) (p : Place)
       → 0 < p.col → list_all fits xs ≡ true
-      → ((q : Place) → 0 < q.col → steps_from format part (fold with s xs) (line_from q ws rest) ≡ result)
-      → steps_from format part s (line_from p (map printed xs ++ ws) rest) ≡ result
+      → ((q : Place) → 0 < q.col → read_of (steps_from format part (fold with s xs) (line_from q ws rest)) ≡ result)
+      → read_of (steps_from format part s (line_from p (map printed xs ++ ws) rest)) ≡ result
   list_read printed fits with part plain moves [] ws rest result s p from_one are later = later p from_one
   list_read printed fits with part plain moves (x ∷ xs) ws rest result s p from_one are later =
       let r = both (fits x) (list_all fits xs) are in
-      word_goes part s (next_word p (printed x) (map printed xs ++ ws) rest from_one (plain x r.0)) (moves s x r.0)
+      ap read_of (word_goes part s (next_word p (printed x) (map printed xs ++ ws) rest from_one (plain x r.0)) (moves s x r.0))
       ∙ list_read printed fits with part plain moves xs ws rest result (with s x)
       (past p (printed x)) (past_from_one p (printed x)) r.1 later
 
   -- the `0` that ends a step and its line, and what follows
-  pub zero_read : (part : Part) (s whole : Step) (rest : List ℕ) (result : Proof) (p : Place) → 0 < p.col
+  pub zero_read : (part : Part) (s whole : Step) (rest : List ℕ) (result : ReadProof) (p : Place) → 0 < p.col
       → move_of format part s (words.Number (number false 0)) ≡ completes whole
-      → ((q : Place) → 0 < q.col → steps_at format q (input_of rest) ≡ result)
-      → steps_from format part s (line_from p (codes "0" ∷ []) rest) ≡ with_step whole (length (10 ∷ rest)) result
+      → ((q : Place) → 0 < q.col → read_of (steps_at format q (input_of rest)) ≡ result)
+      → read_of (steps_from format part s (line_from p (codes "0" ∷ []) rest)) ≡ with_read whole (length (10 ∷ rest)) result
   zero_read part s whole rest result p from_one move later =
-      word_completes part s (next_word p (codes "0") [] rest from_one zero_plain) (next_line (past p (codes "0")) rest) move
-      ∙ ap (with_step whole (length (10 ∷ rest))) (later (line_after (past p (codes "0"))) (omega arith))
+      ap read_of (word_completes part s (next_word p (codes "0") [] rest from_one zero_plain) (next_line (past p (codes "0")) rest) move)
+      ∙ ap (with_read whole (length (10 ∷ rest))) (later (line_after (past p (codes "0"))) (omega arith))
 
   -- steps in lines of their own, from a line on, where each such line is read as its step
   pub lines_read : (line : Step → List ℕ) (Fits : Step → Type 0) → format.is_start format.start ≡ true
-      → ((s : Step) → Fits s → (rest : List ℕ) (result : Proof)
-      → ((q : Place) → 0 < q.col → steps_at format q (input_of rest) ≡ result) → (p : Place) → 0 < p.col
-      → steps_at format p (input_of (line s ++ rest)) ≡ with_step s (length (10 ∷ rest)) result)
+      → ((s : Step) → Fits s → (rest : List ℕ) (result : ReadProof)
+      → ((q : Place) → 0 < q.col → read_of (steps_at format q (input_of rest)) ≡ result) → (p : Place) → 0 < p.col
+      → read_of (steps_at format p (input_of (line s ++ rest))) ≡ with_read s (length (10 ∷ rest)) result)
       → (steps : List Step) (p : Place) → 0 < p.col → All Fits steps
-      → steps_at format p (input_of (flat_map line steps)) ≡ proof_of (codes "\n") line steps
+      → read_of (steps_at format p (input_of (flat_map line steps))) ≡ proof_of (codes "\n") line steps
   lines_read line Fits starts read [] p from_one are =
-      ap (steps_from format format.start (named 0)) (listing_at-end p End) ∙ rw starts refl
+      ap (λ l. read_of (steps_from format format.start (named 0) l)) (listing_at-end p End) ∙ rw starts refl
   lines_read line Fits starts read (s ∷ ss) p from_one are =
       read s (are 0 s (omega arith)) (flat_map line ss) (proof_of (codes "\n") line ss)
       (λ q q_from_one. lines_read line Fits starts read ss q q_from_one (λ k d l. are (suc k) d (omega arith)))

@@ -1,5 +1,5 @@
 -- A proof's tokens, one at a time.
-use Rattle.std.proofs.Common.{◌≡◌, ◌<◌, ◌≤◌, [], length, Option, Some, refl, sym, ap, ◌∙◌, subst, arith}
+use Rattle.std.proofs.Common.{◌≡◌, ◌<◌, ◌≤◌, [], length, Option, None, Some, refl, sym, ap, ◌∙◌, subst, arith}
 use Rattle.std.specs.Prelude.{Bool, true, false, Result, Ok, Err}
 use Rattle.cnf_base.specs.Stream.{Input, Stream, Along, most_to_come}
 use Rattle.cnf_base.specs.Text.{Listing, listing_at, Gives}
@@ -12,6 +12,8 @@ use Rattle.cnf_base.specs.declared.fault.Fault.{Fault}
 use Rattle.cnf_base.specs.declared.fault.Fault.TheVariants.{Text, Binary, ReadFailed, OutOfMemory}
 use Rattle.cnf_base.specs.declared.fault.TextFault.{TextFault}
 use Rattle.cnf_base.proofs.StreamLemmas.{Along-then, Along-map, Along-none, Along-still}
+use Rattle.proofs.specs.declared.step_end.StepEnd.{StepEnd}
+use Rattle.proofs.specs.declared.step_end.StepEnd.TheVariants as ends
 use Rattle.proofs.specs.Steps.{Step, named}
 use Rattle.proofs.specs.Reading.{Proof, clean, faulty_proof, proof_unless_ended, GivesStep}
 use Rattle.proofs.specs.TextSteps.{Move, goes, completes, faults, Format, move_of, on_move, at_end, steps_from, steps_listed}
@@ -20,40 +22,40 @@ use Rattle.proofs.specs.declared.moved.Moved.{Moved}
 use Rattle.proofs.specs.declared.stopped.Stopped.{Stopped}
 
 -- a fault is what comes, and it stays
-pub gives_fault : (f : Fault) (s : Step) (p : Proof) (rest : Input) → p ≡ faulty_proof f → GivesStep (Err f) s p (faulty_proof f) rest
-gives_fault (Text k p) s b rest e = (e, e)
-gives_fault (Binary k n) s b rest e = (e, e)
-gives_fault ReadFailed s b rest e = (e, e)
-gives_fault OutOfMemory s b rest e = refl
+pub gives_fault : (f : Fault) (end : Option StepEnd) (s : Step) (p : Proof) (rest : Input) → p ≡ faulty_proof f → GivesStep (Err f) end s p (faulty_proof f) rest
+gives_fault (Text k p) end s b rest e = (e, e)
+gives_fault (Binary k n) end s b rest e = (e, e)
+gives_fault ReadFailed end s b rest e = (e, e)
+gives_fault OutOfMemory end s b rest e = refl
 
 -- an answer that is kept is what comes, and it stays
-kept_gives : (answer : Result Bool Fault) (s : Step) (before after : Proof) (rest : Input) → (answer ≡ Ok true → ⊥)
-    → before ≡ proof_unless_ended (Some answer) clean → after ≡ proof_unless_ended (Some answer) clean → GivesStep answer s before after rest
-kept_gives (Ok true) s before after rest none b a = absurd (none refl)
-kept_gives (Ok false) s before after rest none b a = (b ∙ sym a, b)
-kept_gives (Err (Text k p)) s before after rest none b a = (b ∙ sym a, b)
-kept_gives (Err (Binary k n)) s before after rest none b a = (b ∙ sym a, b)
-kept_gives (Err ReadFailed) s before after rest none b a = (b ∙ sym a, b)
-kept_gives (Err OutOfMemory) s before after rest none b a = a
+kept_gives : (answer : Result Bool Fault) (end : Option StepEnd) (s : Step) (before after : Proof) (rest : Input) → (answer ≡ Ok true → ⊥)
+    → before ≡ proof_unless_ended (Some answer) clean → after ≡ proof_unless_ended (Some answer) clean → GivesStep answer end s before after rest
+kept_gives (Ok true) end s before after rest none b a = absurd (none refl)
+kept_gives (Ok false) end s before after rest none b a = (b ∙ sym a, b)
+kept_gives (Err (Text k p)) end s before after rest none b a = (b ∙ sym a, b)
+kept_gives (Err (Binary k n)) end s before after rest none b a = (b ∙ sym a, b)
+kept_gives (Err ReadFailed) end s before after rest none b a = (b ∙ sym a, b)
+kept_gives (Err OutOfMemory) end s before after rest none b a = a
 
-pub Kept-step : (stream : Stream) (kept : Option (Result Bool Fault)) (coming : Input → Proof) (answer : Result Bool Fault) (s : Step)
+pub Kept-step : (stream : Stream) (kept : Option (Result Bool Fault)) (coming : Input → Proof) (answer : Result Bool Fault) (end : Option StepEnd) (s : Step)
     → kept ≡ Some answer → (kept ≡ Some (Ok true) → ⊥)
-    → Along stream stream (λ i j. GivesStep answer s (proof_unless_ended kept (coming i)) (proof_unless_ended kept (coming j)) j)
-Kept-step stream kept coming answer s is none =
+    → Along stream stream (λ i j. GivesStep answer end s (proof_unless_ended kept (coming i)) (proof_unless_ended kept (coming j)) j)
+Kept-step stream kept coming answer end s is none =
     let told : (i : Input) → proof_unless_ended kept (coming i) ≡ proof_unless_ended (Some answer) clean =
     λ i. ap (λ k. proof_unless_ended k (coming i)) is ∙ same answer (coming i) in
-    Along-map stream stream _ _ (Along-none stream) (λ i j m e. kept_gives answer s _ _ j (λ ok. none (is ∙ ap Some ok)) (told i) (told j))
+    Along-map stream stream _ _ (Along-none stream) (λ i j m e. kept_gives answer end s _ _ j (λ ok. none (is ∙ ap Some ok)) (told i) (told j))
   where
     same : (answer : Result Bool Fault) (p : Proof) → proof_unless_ended (Some answer) p ≡ proof_unless_ended (Some answer) clean
     same (Ok v) p = refl
     same (Err f) p = refl
 
-ends_so : {P : Type 0} (format : Format P) (end : Proof) (result : Result Bool Fault) (s : Step) (before : Proof) (l : Listing) (rest : Input)
-    → EndsProof result end → before ≡ end
-    → GivesStep result s before (text_left format result l) rest
-ends_so format end (Ok true) s before l rest ends e = absurd ends
-ends_so format end (Ok false) s before l rest ends e = (e ∙ ends, e ∙ ends)
-ends_so format end (Err f) s before l rest ends e = gives_fault f s before rest (e ∙ ends)
+ends_so : {P : Type 0} (format : Format P) (last : Proof) (result : Result Bool Fault) (end : Option StepEnd) (s : Step) (before : Proof) (l : Listing) (rest : Input)
+    → EndsProof result last → before ≡ last
+    → GivesStep result end s before (text_left format result l) rest
+ends_so format last (Ok true) end s before l rest ends e = absurd ends
+ends_so format last (Ok false) end s before l rest ends e = (e ∙ ends, e ∙ ends)
+ends_so format last (Err f) end s before l rest ends e = gives_fault f end s before rest (e ∙ ends)
 
 -- from one moment to another words of one step were read
 pub record Between {P : Type 0} (format : Format P) (old now : Stream) (part : P) (s : Step) : Type 0 where
@@ -92,27 +94,27 @@ module _ {P : Type 0} (format : Format P) (old now new : Stream) (part : P) (s :
       mark = mark ∙ so_far.mark;
     }
 
-    pub Between-step : (t : Step) → move_of format part s w ≡ completes t
-        → Along old new (λ i j. GivesStep (Ok true) t (steps_listed format (listing_at old.place i)) (text_left format (Ok true) (listing_at new.place j)) j)
-    Between-step t is = Along-map old new _ _ word_text (λ i j m q. q ∙ ap (follows j) is)
+    pub Between-step : (end : Option StepEnd) → end ≡ Some (ends.Text p) → (t : Step) → move_of format part s w ≡ completes t
+        → Along old new (λ i j. GivesStep (Ok true) end t (steps_listed format (listing_at old.place i)) (text_left format (Ok true) (listing_at new.place j)) j)
+    Between-step end at t is = Along-map old new _ _ word_text (λ i j m q. (ends.Text p, at, q ∙ ap (follows j) is))
 
     pub Between-fault : (f : TextFault) (t : Step) → move_of format part s w ≡ faults f
-        → Along old new (λ i j. GivesStep (Err (Text f p)) t (steps_listed format (listing_at old.place i)) (text_left format (Err (Text f p)) (listing_at new.place j)) j)
-    Between-fault f t is = Along-map old new _ _ word_text (λ i j m q. gives_fault (Text f p) t _ j (q ∙ ap (follows j) is))
+        → Along old new (λ i j. GivesStep (Err (Text f p)) None t (steps_listed format (listing_at old.place i)) (text_left format (Err (Text f p)) (listing_at new.place j)) j)
+    Between-fault f t is = Along-map old new _ _ word_text (λ i j m q. gives_fault (Text f p) None t _ j (q ∙ ap (follows j) is))
 
     pub Between-refused : (t : Step)
-        → Along old new (λ i j. GivesStep (Err OutOfMemory) t (steps_listed format (listing_at old.place i)) (text_left format (Err OutOfMemory) (listing_at new.place j)) j)
+        → Along old new (λ i j. GivesStep (Err OutOfMemory) None t (steps_listed format (listing_at old.place i)) (text_left format (Err OutOfMemory) (listing_at new.place j)) j)
     Between-refused t = Along-map old new _ _ word_text (λ i j m q. refl)
 
-  pub Between-end : (p : Place) (result : Result Bool Fault) → Along now new (λ i j. Gives (Ok (token.End p)) (listing_at now.place i) (listing_at new.place j) j) → EndsProof result (at_end format part p End)
-      → Along old new (λ i j. GivesStep result s (steps_listed format (listing_at old.place i)) (text_left format result (listing_at new.place j)) j)
-  Between-end p result gives ends = Along-then old now new _ _ _ so_far.text gives (λ i j k m q r.
-      ends_so format (at_end format part p End) result s _ _ k ends (q ∙ ap (steps_from format part s) r.1))
+  pub Between-end : (p : Place) (result : Result Bool Fault) (end : Option StepEnd) → Along now new (λ i j. Gives (Ok (token.End p)) (listing_at now.place i) (listing_at new.place j) j) → EndsProof result (at_end format part p End)
+      → Along old new (λ i j. GivesStep result end s (steps_listed format (listing_at old.place i)) (text_left format result (listing_at new.place j)) j)
+  Between-end p result end gives ends = Along-then old now new _ _ _ so_far.text gives (λ i j k m q r.
+      ends_so format (at_end format part p End) result end s _ _ k ends (q ∙ ap (steps_from format part s) r.1))
 
   pub Between-failed : (cut : Cut) → Along now new (λ i j. Gives (Err cut) (listing_at now.place i) (listing_at new.place j) j)
-      → Along old new (λ i j. GivesStep (Err ReadFailed) s (steps_listed format (listing_at old.place i)) (text_left format (Err ReadFailed) (listing_at new.place j)) j)
+      → Along old new (λ i j. GivesStep (Err ReadFailed) None s (steps_listed format (listing_at old.place i)) (text_left format (Err ReadFailed) (listing_at new.place j)) j)
   Between-failed cut gives = Along-then old now new _ _ _ so_far.text gives (λ i j k m q r.
-      gives_fault ReadFailed s _ k (q ∙ empty (listing_at now.place j) r.1 r.2))
+      gives_fault ReadFailed None s _ k (q ∙ empty (listing_at now.place j) r.1 r.2))
     where
       empty : (l : Listing) → l.tokens ≡ [] → l.ending ≡ Failed → steps_from format part s l ≡ faulty_proof ReadFailed
       empty l none failed = rw (none, failed) refl

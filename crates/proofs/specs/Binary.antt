@@ -9,6 +9,7 @@ use Rattle.cnf_base.specs.declared.input.Ending.TheVariants.{End, Failed}
 use Rattle.cnf_base.specs.declared.fault.Fault.TheVariants.{Binary, ReadFailed}
 use Rattle.cnf_base.specs.declared.fault.BinaryFault.{BinaryFault}
 use Rattle.cnf_base.specs.declared.fault.BinaryFault.TheVariants.{LiteralTooLarge, UnterminatedStep, BadTag, BadNumber}
+use Rattle.proofs.specs.declared.step_end.StepEnd.TheVariants.{Byte}
 use Rattle.proofs.specs.Steps.{Step, named, deleting, with_literal}
 use Rattle.proofs.specs.Reading.{Proof, clean, faulty_proof, with_step, ProofReading, proof_unless_ended}
 
@@ -66,16 +67,16 @@ binary_at_end spot at Failed = faulty_proof ReadFailed
 binary_at_end at_tag at End = clean
 binary_at_end _ at End = faulty_proof (Binary UnterminatedStep at)
 
--- what a byte's move means; `rest` is what follows, and `left` how many bytes do
-abbrev pub on_binary_move : ℕ → BinaryMove → (BinarySpot → Step → Proof) → Proof
-on_binary_move left (goes spot s) rest = rest spot s
-on_binary_move left (completes s) rest = with_step s left (rest at_tag (named 0))
-on_binary_move left (faults f at) rest = faulty_proof (Binary f at)
+-- what the move of the byte with this number means; `rest` is what follows, and `left` how many bytes do
+abbrev pub on_binary_move : ℕ → ℕ → BinaryMove → (BinarySpot → Step → Proof) → Proof
+on_binary_move at left (goes spot s) rest = rest spot s
+on_binary_move at left (completes s) rest = with_step s (Byte at) left (rest at_tag (named 0))
+on_binary_move at left (faults f first) rest = faulty_proof (Binary f first)
 
 abbrev pub binary_steps_among : BinarySpot → Step → ℕ → List ℕ → Ending → Proof
 binary_steps_among spot s at [] ending = binary_at_end spot at ending
 binary_steps_among spot s at (b ∷ bs) ending =
-    on_binary_move (length bs) (binary_move_of spot s at b) (λ spot s. binary_steps_among spot s (next_count at) bs ending)
+    on_binary_move at (length bs) (binary_move_of spot s at b) (λ spot s. binary_steps_among spot s (next_count at) bs ending)
 
 -- the steps from the byte with this number on, where so much of a step was read before
 abbrev pub binary_steps_from : BinarySpot → Step → ℕ → Input → Proof

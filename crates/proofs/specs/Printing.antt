@@ -1,28 +1,40 @@
 -- Proofs as they are printed plainly, and that they are read back as they were. Each law is the contract of a function
 -- of `laws`.
-use Rattle.std.specs.Prelude.{◌≡◌, ℕ, ◌+◌, ◌≤◌, ℤ, pos, negsuc, List, [], ◌∷◌, ◌++◌, length, map, reverse, codes, None, IsTrue, All}
+use Rattle.std.specs.Prelude.{◌≡◌, ℕ, ◌+◌, ◌≤◌, ℤ, pos, negsuc, List, [], ◌∷◌, ◌++◌, length, map, reverse, codes, Option, None, IsTrue, All}
 use Rattle.std.specs.Fmt.{decimal, signed_decimal}
 use Rattle.std.specs.Int.Digits.{digits_of}
 use Rattle.std.specs.List.{flat_map, list_all}
 use Rattle.cnf_base.specs.Literals.{Literal}
+use Rattle.cnf_base.specs.declared.fault.Fault.{Fault}
 use Rattle.cnf_base.specs.Printing.{input_of, words_line, is_literal, literal_words}
 use Rattle.proofs.specs.declared.step_buf.StepKind.{StepKind}
 use Rattle.proofs.specs.declared.step_buf.StepKind.TheVariants.{Add, Delete}
 use Rattle.proofs.specs.Steps.{Step, is_small, is_hint}
-use Rattle.proofs.specs.Reading.{PlacedStep, Proof}
+use Rattle.proofs.specs.Reading.{Proof}
 use Rattle.proofs.specs.Drat.{drat_steps}
 use Rattle.proofs.specs.Binary.{binary_steps}
 use Rattle.proofs.specs.Lrat.{lrat_steps}
 
--- steps that are printed one after another, each with how many bytes follow its last `0`: those that end its own text,
--- and the steps after it
-abbrev pub placed_steps : List ℕ → (Step → List ℕ) → List Step → List PlacedStep
-placed_steps end text [] = []
-placed_steps end text (s ∷ ss) = record { step = s; rest = length (end ++ flat_map text ss) } ∷ placed_steps end text ss
+-- what a law says of a proof that is read: its steps, each with how many bytes follow its last `0`, and its fault
+pub record ReadStep : Type 0 where
+  pub step : Step
+  pub rest : ℕ
+
+pub record ReadProof : Type 0 where
+  pub steps : List ReadStep
+  pub fault : Option Fault
+
+abbrev pub read_of : Proof → ReadProof
+read_of p = record { steps = map (λ placed. record { step = placed.step; rest = placed.rest }) p.steps; fault = p.fault }
+
+-- steps that are printed one after another: those bytes end the step's own text, and are the text of the steps after it
+abbrev pub printed_steps : List ℕ → (Step → List ℕ) → List Step → List ReadStep
+printed_steps end text [] = []
+printed_steps end text (s ∷ ss) = record { step = s; rest = length (end ++ flat_map text ss) } ∷ printed_steps end text ss
 
 -- a proof of exactly these steps, with a clean end
-abbrev pub proof_of : List ℕ → (Step → List ℕ) → List Step → Proof
-proof_of end text steps = record { steps = placed_steps end text steps; fault = None }
+abbrev pub proof_of : List ℕ → (Step → List ℕ) → List Step → ReadProof
+proof_of end text steps = record { steps = printed_steps end text steps; fault = None }
 
 -- ---- DRAT
 
@@ -44,7 +56,7 @@ pub record IsDratStep (s : Step) : Type 0 where
 -- A DRAT proof that is printed as text is read back: exactly its steps, and a clean end.
 abbrev pub DratIsReadBack : Type 0
 DratIsReadBack = (steps : List Step) → All IsDratStep steps →
-    drat_steps (input_of (flat_map drat_line steps)) ≡ proof_of (codes "\n") drat_line steps
+    read_of (drat_steps (input_of (flat_map drat_line steps))) ≡ proof_of (codes "\n") drat_line steps
 
 -- ---- Binary DRAT
 
@@ -74,7 +86,7 @@ binary_step s = tag_bytes s.kind ++ flat_map number_bytes s.lits ++ 0 ∷ []
 -- A DRAT proof that is printed in binary is read back: exactly its steps, and a clean end.
 abbrev pub BinaryIsReadBack : Type 0
 BinaryIsReadBack = (steps : List Step) → All IsDratStep steps →
-    binary_steps (input_of (flat_map binary_step steps)) ≡ proof_of [] binary_step steps
+    read_of (binary_steps (input_of (flat_map binary_step steps))) ≡ proof_of [] binary_step steps
 
 -- ---- LRAT
 
@@ -103,7 +115,7 @@ pub record IsLratStep (s : Step) : Type 0 where
 -- An LRAT proof that is printed as text is read back: exactly its steps, and a clean end.
 abbrev pub LratIsReadBack : Type 0
 LratIsReadBack = (steps : List Step) → All IsLratStep steps →
-    lrat_steps (input_of (flat_map lrat_line steps)) ≡ proof_of (codes "\n") lrat_line steps
+    read_of (lrat_steps (input_of (flat_map lrat_line steps))) ≡ proof_of (codes "\n") lrat_line steps
 
 -- ---- Examples
 

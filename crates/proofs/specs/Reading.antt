@@ -3,11 +3,13 @@ use Rattle.std.specs.Prelude.{◌≡◌, ℕ, Bool, true, false, List, [], ◌�
 use Rattle.cnf_base.specs.Stream.{Input, Stream}
 use Rattle.cnf_base.specs.declared.fault.Fault.{Fault}
 use Rattle.cnf_base.specs.declared.fault.Fault.TheVariants.{OutOfMemory, ReadFailed}
+use Rattle.proofs.specs.declared.step_end.StepEnd.{StepEnd}
 use Rattle.proofs.specs.Steps.{Step}
 
--- a step, and how many bytes of the input follow its last `0`
+-- a step, where its last `0` stands, and how many bytes of the input follow that
 pub record PlacedStep : Type 0 where
   pub step : Step
+  pub end : StepEnd
   pub rest : ℕ
 
 -- the steps before the first fault, and that fault; none where the proof ends cleanly
@@ -21,8 +23,8 @@ clean = record { steps = []; fault = None }
 abbrev pub faulty_proof : Fault → Proof
 faulty_proof f = record { steps = []; fault = Some f }
 
-abbrev pub with_step : Step → ℕ → Proof → Proof
-with_step s rest p = record { steps = record { step = s; rest = rest } ∷ p.steps; fault = p.fault }
+abbrev pub with_step : Step → StepEnd → ℕ → Proof → Proof
+with_step s end rest p = record { steps = record { step = s; end = end; rest = rest } ∷ p.steps; fault = p.fault }
 
 -- after an end nothing else is to come
 abbrev pub proof_unless_ended : Option (Result Bool Fault) → Proof → Proof
@@ -30,21 +32,22 @@ proof_unless_ended None p = p
 proof_unless_ended (Some (Ok _)) p = clean
 proof_unless_ended (Some (Err f)) p = faulty_proof f
 
--- where a reader stands in its input, the answer that it gives from now on where it has come to an end, and how many
--- literals and hints it keeps of what it has read
+-- where a reader stands in its input, the answer that it gives from now on where it has come to an end, where the step
+-- ends that it gave last, and how many literals and hints it keeps of what it has read
 pub record ProofReading : Type 0 where
   pub stream : Stream
   pub kept : Option (Result Bool Fault)
+  pub step_end : Option StepEnd
   pub stored : ℕ
 
 -- a step is no end, and of a failed read that ended it the reader below tells
 abbrev pub EndsRightly : ProofReading → Type 0
 EndsRightly r = (r.kept ≡ Some (Ok true) → ⊥) × (r.kept ≡ Some (Err ReadFailed) → r.stream.reader.has_failed ≡ true)
 
--- A step is the first of what is to come; or nothing is to come, and it stays so; or a fault is, and it stays.
+-- A step is the first of what is to come, and ends there; or nothing is to come, and it stays so; or a fault is, and it stays.
 -- After want of memory that is the fault that stays. `rest` is what follows of the input.
-abbrev pub GivesStep : Result Bool Fault → Step → Proof → Proof → Input → Type 0
-GivesStep (Ok true) s before after rest = before ≡ with_step s (length rest.bytes) after
-GivesStep (Ok false) s before after rest = (before ≡ after) × (before ≡ clean)
-GivesStep (Err OutOfMemory) s before after rest = after ≡ faulty_proof OutOfMemory
-GivesStep (Err f) s before after rest = (before ≡ after) × (before ≡ faulty_proof f)
+abbrev pub GivesStep : Result Bool Fault → Option StepEnd → Step → Proof → Proof → Input → Type 0
+GivesStep (Ok true) end s before after rest = (at : StepEnd) × (end ≡ Some at) × (before ≡ with_step s at (length rest.bytes) after)
+GivesStep (Ok false) end s before after rest = (before ≡ after) × (before ≡ clean)
+GivesStep (Err OutOfMemory) end s before after rest = after ≡ faulty_proof OutOfMemory
+GivesStep (Err f) end s before after rest = (before ≡ after) × (before ≡ faulty_proof f)

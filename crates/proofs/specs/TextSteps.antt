@@ -15,6 +15,7 @@ use Rattle.cnf_base.specs.declared.token.Token.TheVariants as token
 use Rattle.cnf_base.specs.declared.fault.Fault.TheVariants.{Text, ReadFailed}
 use Rattle.cnf_base.specs.declared.fault.TextFault.{TextFault}
 use Rattle.cnf_base.specs.declared.fault.TextFault.TheVariants.{BadToken, LiteralTooLarge, UnterminatedStep}
+use Rattle.proofs.specs.declared.step_end.StepEnd.TheVariants as ends
 use Rattle.proofs.specs.Steps.{Step, named, with_literal}
 use Rattle.proofs.specs.Reading.{Proof, clean, faulty_proof, with_step, ProofReading, proof_unless_ended}
 
@@ -56,7 +57,7 @@ at_end format part p End = if format.is_start part then clean else faulty_proof 
 -- what a word's move means; `rest` is what follows, and `left` how many bytes do
 abbrev pub on_move : {Part : Type 0} → Format Part → Place → ℕ → Move Part → (Part → Step → Proof) → Proof
 on_move format p left (goes part s) rest = rest part s
-on_move format p left (completes s) rest = with_step s left (rest format.start (named 0))
+on_move format p left (completes s) rest = with_step s (ends.Text p) left (rest format.start (named 0))
 on_move format p left (faults f) rest = faulty_proof (Text f p)
 
 abbrev pub on_token : {Part : Type 0} → Format Part → Part → Step → tokens.Token → ℕ → (Part → Step → Proof) → Proof

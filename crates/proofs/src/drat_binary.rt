@@ -15,7 +15,7 @@ mod part;
 mod stopped;
 
 use crate::moved::Moved;
-use crate::{StepBuf, StepReader};
+use crate::{StepBuf, StepEnd, StepReader};
 use cnf_base::{BinaryFault, Fault, In, ReadFailed, Source};
 use moves::move_on;
 use part::Part;
@@ -27,6 +27,7 @@ use stopped::Stopped;
 pub struct DratBinary<R: In> {
     source: Source<R>,
     kept: Option<Result<bool, Fault>>,
+    end: Option<StepEnd>,
 }
 
 impl<R: In> Model for DratBinary<R> {
@@ -38,9 +39,10 @@ impl<R: In> Model for DratBinary<R> {
 
     // Each field has to be named here. `stored` is the sum of the lengths of those that are lists
     // of literals or hints: no field is a list.
-    ghost view = { λ record { source = source; kept = kept }. record {
+    ghost view = { λ record { source = source; end = end; kept = kept }. record {
       stream = source;
       kept = kept;
+      step_end = end;
       stored = sum [];
     } };
 
@@ -50,9 +52,13 @@ impl<R: In> Model for DratBinary<R> {
 impl<R: In> DratBinary<R> {
     /// A reader that stands where the source does. It reads nothing and takes no memory.
     pub fn new(source: Source<R>) -> Self
-        ensures { result ≡ record { stream = source; kept = None; stored = 0 } }
+        ensures { result ≡ record { stream = source; kept = None; step_end = None; stored = 0 } }
     {
-        DratBinary { source, kept: None }
+        DratBinary {
+            source,
+            kept: None,
+            end: None,
+        }
     }
 
     /// Gives the reader back.
@@ -69,6 +75,8 @@ impl<R: In> StepReader for DratBinary<R> {
 
     ghost kept = { λ r. r.kept };
 
+    ghost end = { λ r. r.step_end };
+
     ghost stored = { λ r. r.stored };
 
     ghost to_come = { binary_to_come };
@@ -77,18 +85,26 @@ impl<R: In> StepReader for DratBinary<R> {
         if let Some(answer) = self.kept {
             return answer;
         }
-        let result = read_step(&mut self.source, step);
+        let result = read_step(&mut self.source, step, &mut self.end);
         match result {
             Ok(true) => {}
             Ok(false) | Err(_) => self.kept = Some(result),
         }
         result
     }
+
+    fn step_end(&self) -> Option<StepEnd> {
+        self.end
+    }
 }
 
-// The step that begins with the next byte.
-fn read_step<R: In>(source: &mut Source<R>, step: &mut StepBuf) -> Result<bool, Fault>
-    ensures step { Along source.old source.new (λ i j. GivesStep result step.new
+// The step that begins with the next byte, and where it ends.
+fn read_step<R: In>(
+    source: &mut Source<R>,
+    step: &mut StepBuf,
+    end: &mut Option<StepEnd>,
+) -> Result<bool, Fault>
+    ensures step { Along source.old source.new (λ i j. GivesStep result end.new step.new
         (binary_steps_at source.old.byte_no i) (binary_left result source.new.byte_no j) j) }
     ensures fewer { Advances result source.old source.new }
     ensures tells { TellsOf result source.old.reader.has_failed source.new.reader.has_failed }
@@ -102,7 +118,10 @@ fn read_step<R: In>(source: &mut Source<R>, step: &mut StepBuf) -> Result<bool, 
                 source.bump();
                 match move_on(part, step, byte_no, byte) {
                     Ok(Moved::To(next)) => part = next,
-                    Ok(Moved::Complete) => return Ok(true),
+                    Ok(Moved::Complete) => {
+                        *end = Some(StepEnd::Byte(byte_no));
+                        return Ok(true);
+                    }
                     Err(Stopped::Binary(kind, at)) => return Err(Fault::Binary(kind, at)),
                     Err(Stopped::OutOfMemory) => return Err(Fault::OutOfMemory),
                 }

@@ -5,8 +5,9 @@ ghost use Rattle.cnf_base.specs.Stream.{Input, Stream, Along};
 ghost use Rattle.cnf_base.specs.Readers.{Advances, Keeps, TellsOf};
 ghost use Rattle.cnf_base.specs.declared.fault.Fault.{Fault};
 ghost use Rattle.proofs.specs.Reading.{Proof, GivesStep};
+ghost use Rattle.proofs.specs.declared.step_end.StepEnd.{StepEnd};
 
-use crate::StepBuf;
+use crate::{StepBuf, StepEnd};
 use cnf_base::Fault;
 
 /// A reader of a proof, one step at a time.
@@ -17,6 +18,9 @@ pub trait StepReader {
     /// The answer that it gives from now on, where it has come to an end: false, or its fault.
     ghost kept: { Self → Option (Result Bool Fault) };
 
+    /// Where the step ends that it gave last. It is open after a fault or a clean end.
+    ghost end: { Self → Option StepEnd };
+
     /// How many literals and hints it keeps of what it has read: the sum of the lengths of all lists
     /// of literals or hints in its own fields.
     ghost stored: { Self → ℕ };
@@ -25,10 +29,11 @@ pub trait StepReader {
     ghost to_come: { Self → Input → Proof };
 
     /// Puts the next step into the buffer. At a clean end it answers false, at every call; after a fault, that fault.
-    /// After a fault or false the buffer's content is open.
+    /// After a fault or false the buffer's content is open, and so is where the last step ended.
     fn next(&mut self, step: &mut StepBuf) -> Result<bool, Fault>
         ensures step { Along (stream self.old) (stream self.new)
-            (λ i j. GivesStep result step.new (to_come self.old i) (to_come self.new j) j) }
+            (λ i j. GivesStep result (end self.new) step.new
+            (to_come self.old i) (to_come self.new j) j) }
         ensures stays { (answer : Result Bool Fault) → kept self.old ≡ Some answer →
             (result ≡ answer) × (self.new ≡ self.old) }
         ensures keeps { Keeps result (kept self.new) }
@@ -36,4 +41,8 @@ pub trait StepReader {
         ensures fewer { Advances result (stream self.old) (stream self.new) }
         ensures tells { TellsOf result (stream self.old).reader.has_failed
             (stream self.new).reader.has_failed };
+
+    /// Where the step ends that was given last.
+    fn step_end(&self) -> Option<StepEnd>
+        ensures { result ≡ end self.now };
 }

@@ -12,7 +12,7 @@ ghost use Rattle.proofs.specs.TextMoves.{text_left, EndsProof, FitsMoved, MovesT
 
 use crate::moved::Moved;
 use crate::stopped::Stopped;
-use crate::{StepBuf, StepReader};
+use crate::{StepBuf, StepEnd, StepReader};
 use cnf_base::{Fault, In, Number, Place, ReadFailed, Scanner, Source, TextFault, Token, Word};
 use std::marker::{Model, PhantomData};
 
@@ -52,6 +52,7 @@ pub trait Part: Copy {
 pub struct Text<R: In, P: Part> {
     scanner: Scanner<R>,
     kept: Option<Result<bool, Fault>>,
+    end: Option<StepEnd>,
     parts: PhantomData<P>,
 }
 
@@ -64,9 +65,10 @@ impl<R: In, P: Part> Model for Text<R, P> {
 
     // Each field has to be named here. `stored` is the sum of the lengths of those that are lists
     // of literals or hints: no field is a list.
-    ghost view = { λ record { scanner = scanner; kept = kept; parts = _ }. record {
+    ghost view = { λ record { scanner = scanner; end = end; kept = kept; parts = _ }. record {
       stream = scanner;
       kept = kept;
+      step_end = end;
       stored = sum [];
     } };
 
@@ -76,11 +78,12 @@ impl<R: In, P: Part> Model for Text<R, P> {
 impl<R: In, P: Part> Text<R, P> {
     /// A reader that stands where the source does. It reads nothing and takes no memory.
     pub fn new(source: Source<R>) -> Self
-        ensures { result ≡ record { stream = source; kept = None; stored = 0 } }
+        ensures { result ≡ record { stream = source; kept = None; step_end = None; stored = 0 } }
     {
         Text {
             scanner: Scanner::new(source),
             kept: None,
+            end: None,
             parts: PhantomData,
         }
     }
@@ -99,6 +102,8 @@ impl<R: In, P: Part> StepReader for Text<R, P> {
 
     ghost kept = { λ r. r.kept };
 
+    ghost end = { λ r. r.step_end };
+
     ghost stored = { λ r. r.stored };
 
     ghost to_come = { left_to P.format };
@@ -107,24 +112,29 @@ impl<R: In, P: Part> StepReader for Text<R, P> {
         if let Some(answer) = self.kept {
             return answer;
         }
-        let result = read_step(P::start(), &mut self.scanner, step);
+        let result = read_step(P::start(), &mut self.scanner, step, &mut self.end);
         match result {
             Ok(true) => {}
             Ok(false) | Err(_) => self.kept = Some(result),
         }
         result
     }
+
+    fn step_end(&self) -> Option<StepEnd> {
+        self.end
+    }
 }
 
-// The step that begins with the next word. `start` is where that stands.
+// The step that begins with the next word, and where it ends. `start` is where a first word stands.
 fn read_step<R: In, P: Part>(
     start: P,
     scanner: &mut Scanner<R>,
     step: &mut StepBuf,
+    end: &mut Option<StepEnd>,
 ) -> Result<bool, Fault>
     requires start { start ≡ P.format.start }
     requires fits { IsTrue (P.fits start (named 0)) }
-    ensures step { Along scanner.old scanner.new (λ i j. GivesStep result step.new
+    ensures step { Along scanner.old scanner.new (λ i j. GivesStep result end.new step.new
         (steps_listed P.format (listing_at scanner.old.place i))
         (text_left P.format result (listing_at scanner.new.place j)) j) }
     ensures fewer { Advances result scanner.old scanner.new }
@@ -136,7 +146,10 @@ fn read_step<R: In, P: Part>(
         match scanner.next() {
             Ok(Token::Word(place, word)) => match move_on(part, step, word) {
                 Ok(Moved::To(next)) => part = next,
-                Ok(Moved::Complete) => return Ok(true),
+                Ok(Moved::Complete) => {
+                    *end = Some(StepEnd::Text(place));
+                    return Ok(true);
+                }
                 Err(Stopped::Text(kind)) => return Err(Fault::Text(kind, place)),
                 Err(Stopped::OutOfMemory) => return Err(Fault::OutOfMemory),
             },

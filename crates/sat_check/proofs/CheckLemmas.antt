@@ -1,8 +1,8 @@
 -- A check, step by step.
-use Rattle.std.proofs.Common.{◌≡◌, ℕ, ◌+◌, ◌≤◌, Bool, true, false, None, Some, List, [], ◌++◌, length, refl, sym, ap, ◌∙◌, subst, arith, append_assoc}
+use Rattle.std.proofs.Common.{◌≡◌, ℕ, ◌+◌, ◌≤◌, Bool, true, false, Option, None, Some, List, [], ◌++◌, length, refl, sym, ap, ◌∙◌, subst, arith, append_assoc, inr}
 use Rattle.std.specs.Prelude.{Result, Ok, Err}
 use Rattle.cnf_base.specs.Stream.{Input, Reader, Stream, Along, unread_stream, bytes_read}
-use Rattle.cnf_base.specs.Seen.{Seen, IsSeen, OfBothSeen}
+use Rattle.cnf_base.specs.Seen.{Seen, IsSeen}
 use Rattle.cnf_base.specs.Lines.{Sink, Writes}
 use Rattle.cnf_base.specs.declared.fault.Fault.{Fault}
 use Rattle.cnf_base.specs.declared.fault.Fault.TheVariants.{Text, Binary, ReadFailed, OutOfMemory}
@@ -11,24 +11,28 @@ use Rattle.cnf_base.proofs.StreamLemmas.{Along-then, Along-map, Along-none, Alon
 use Rattle.cnf_base.proofs.SeenLemmas.{Seen-nothing, Seen-run, Seen-fact}
 use Rattle.dimacs.specs.Formula.{formula_of}
 use Rattle.proofs.specs.Steps.{Step}
+use Rattle.proofs.specs.declared.step_end.StepEnd.{StepEnd}
 use Rattle.proofs.specs.Reading.{ProofReading, Proof, faulty_proof, with_step, GivesStep}
 use Rattle.steps.specs.ProofSession.{View, is_over}
 use Rattle.steps.specs.Theory.Rules.{Rule, after, sum_of, IsFinite}
-use Rattle.sat_check.specs.Reach.{IsVerdict, ReadsNoFurther}
+use Rattle.sat_check.specs.Reach.{IsVerdict, ReadsNoFurther, TellsRefused}
 use Rattle.sat_check.specs.Report.{Report, Outcome, Reports, text_of, with_lines, end_report}
-use Rattle.sat_check.specs.Checking.{Standing, Rest, GoesOn, Stops, Decides, LeavesRest, LeavesProof, counted, traced}
+use Rattle.sat_check.specs.Checking.{Standing, Rest, GoesOn, Stops, Decides, IsRefused, LeavesRest, LeavesProof, AllReports, counted, traced}
 use Rattle.sat_check.proofs.ShownLemmas.{traced_same}
-use Rattle.sat_check.specs.declared.status.Status.{Status}
-use Rattle.sat_check.specs.declared.status.Status.TheVariants.{Malformed}
+use Rattle.sat_check.specs.declared.checked.Checked.{Checked}
+use Rattle.sat_check.specs.declared.status.Status.TheVariants.{NotVerified, Malformed}
 use Rattle.sat_check.proofs.OutcomeLemmas.{Outcome-after, Writes-all, Writes-still, text_of-append}
 use Rattle.sat_check.proofs.ReachLemmas.{no_verdict, LeavesRest-none, LeavesRest-broken, LeavesRest-decided, LeavesRest-step}
 use Rattle.sat_check.proofs.ReportLemmas.{some_report}
 use Rattle.sat_check.proofs.RestLemmas.{Rest-clean, Rest-fault, Rest-some, Rest-step}
 use Rattle.steps.proofs.TheoryLemmas.Existence.{after_finite, same_finite}
 
+abbrev pub fresh_reading : Stream → ProofReading
+fresh_reading s = record { stream = s; kept = None; step_end = None; stored = 0 }
+
 -- What follows the step that decides is left of a whole proof where it is of the steps that are to come.
 abbrev pub Leaves : View → Proof → View → Proof → Type 0
-Leaves first whole session p = (rest : Input) (status : Status) → LeavesRest session.state p rest status → LeavesRest first.state whole rest status
+Leaves first whole session p = (rest : Input) (checked : Checked) → LeavesRest session.state p rest checked → LeavesRest first.state whole rest checked
 
 -- From one moment to another these lines were written; the rest of the report is still to come, and the step that
 -- decides.
@@ -52,7 +56,7 @@ Checking-start trace start first was whole sound finite least = record {
   written = [];
   run = Along-map _ _ _ _ (Along-none start.stream) (λ i j m e. (
     (λ r rest. let P : Input → Type 0 = λ x. Rest trace first.state 0 first.peak (start.to_come x) r in subst P (sym e) rest),
-    (λ left status leaves. let P : Input → Type 0 = λ x. LeavesRest first.state (start.to_come x) left status in subst P (sym e) leaves),
+    (λ left checked leaves. let P : Input → Type 0 = λ x. LeavesRest first.state (start.to_come x) left checked in subst P (sym e) leaves),
   ));
   wrote = Writes-still was;
   whole = whole;
@@ -66,12 +70,12 @@ with_both front more r = ap (λ x. record { lines = x; status = r.status }) (sym
 
 module _ (trace : Bool) (start now new : Standing) (first session : View) (accepted : ℕ) (was lines : Sink) (so_far : Checking trace start now first session accepted was lines) where
   -- the report was written to its end, and what follows the step that decides is left
-  abbrev pub Ended : Status → Sink → Input → Input → Type 0
-  Ended status last i j =
-      (r : Report) × Rest trace first.state 0 first.peak (start.to_come i) r × Outcome status was.held last.held r × LeavesRest first.state (start.to_come i) j status
+  abbrev pub Ended : Checked → Sink → Input → Input → Type 0
+  Ended checked last i j =
+      (r : Report) × Rest trace first.state 0 first.peak (start.to_come i) r × Outcome checked.status was.held last.held r × LeavesRest first.state (start.to_come i) j checked
 
-  module _ (number : ℕ) (counts : number ≡ counted (so_far.count + 1)) (step : Step)
-      (gives : Along now.stream new.stream (λ i j. GivesStep (Ok true) step (now.to_come i) (new.to_come j) j)) where
+  module _ (number : ℕ) (counts : number ≡ counted (so_far.count + 1)) (step : Step) (end : Option StepEnd)
+      (gives : Along now.stream new.stream (λ i j. GivesStep (Ok true) end step (now.to_come i) (new.to_come j) j)) where
     pub Checking-step : (t : View) (last : Sink) → GoesOn trace number session t step lines last → Checking trace start new first t number was last
     Checking-step t last goes = record {
       count = so_far.count + 1;
@@ -81,10 +85,10 @@ module _ (trace : Bool) (start now new : Standing) (first session : View) (accep
         (λ r rest.
             let P : Report → Type 0 = Rest trace first.state 0 first.peak (start.to_come i) in
             let Q : Proof → Type 0 = λ x. Rest trace session.state so_far.count session.peak x (with_lines (traced trace number goes.word) r) in
-            subst P (with_both so_far.written (traced trace number goes.word) r) (p.0 (with_lines (traced trace number goes.word) r) (subst Q (sym q) (front k r rest)))),
-        (λ left status leaves.
-            let Q : Proof → Type 0 = λ x. LeavesRest session.state x left status in
-            p.1 left status (subst Q (sym q) (LeavesRest-step session.state step (length k.bytes) (new.to_come k) left status t.state goes.word goes.answers goes.not_last goes.state leaves))),
+            subst P (with_both so_far.written (traced trace number goes.word) r) (p.0 (with_lines (traced trace number goes.word) r) (subst Q (sym q.2) (front k q.0 r rest)))),
+        (λ left checked leaves.
+            let Q : Proof → Type 0 = λ x. LeavesRest session.state x left checked in
+            p.1 left checked (subst Q (sym q.2) (LeavesRest-step session.state step q.0 (length k.bytes) (new.to_come k) left checked t.state goes.word goes.answers goes.not_last goes.state leaves))),
       ));
       wrote = let P : List ℕ → Type 0 = Writes was last in
           subst P (sym (text_of-append so_far.written (traced trace number goes.word))) (Writes-then _ _ _ _ _ so_far.wrote goes.wrote);
@@ -94,25 +98,27 @@ module _ (trace : Bool) (start now new : Standing) (first session : View) (accep
       least = omega (arith, goes.peak);
     }
       where
-        front : (k : Input) (r : Report) → Rest trace t.state (so_far.count + 1) t.peak (new.to_come k) r
-            → Rest trace session.state so_far.count session.peak (with_step step (length k.bytes) (new.to_come k)) (with_lines (traced trace number goes.word) r)
-        front k r rest =
+        front : (k : Input) (at : StepEnd) (r : Report) → Rest trace t.state (so_far.count + 1) t.peak (new.to_come k) r
+            → Rest trace session.state so_far.count session.peak (with_step step at (length k.bytes) (new.to_come k)) (with_lines (traced trace number goes.word) r)
+        front k at r rest =
             let R : ℕ → Type 0 = λ m. Rest trace t.state (so_far.count + 1) m (new.to_come k) r in
-            let S : List (List ℕ) → Type 0 = λ x. Rest trace session.state so_far.count session.peak (with_step step (length k.bytes) (new.to_come k)) (with_lines x r) in
+            let S : List (List ℕ) → Type 0 = λ x. Rest trace session.state so_far.count session.peak (with_step step at (length k.bytes) (new.to_come k)) (with_lines x r) in
             subst S (sym (traced_same trace number (so_far.count + 1) goes.word counts))
-            (Rest-step trace session.state so_far.count session.peak step (length k.bytes) (new.to_come k) goes.word t.state r goes.answers goes.not_last
+            (Rest-step trace session.state so_far.count session.peak step at (length k.bytes) (new.to_come k) goes.word t.state r goes.answers goes.not_last
             goes.state so_far.least (subst R goes.peak rest))
 
-    pub Checking-stop : (status : Status) (last : Sink) → Stops trace number session step lines last status → (IsVerdict status → Decides session.state step)
-        → Along start.stream new.stream (λ i j. Ended status last i j)
-    Checking-stop status last stops decided = Along-then _ _ _ _ _ _ so_far.run gives (λ i j k m p q.
-        let s = stops so_far.count (length k.bytes) (new.to_come k) counts so_far.least so_far.finite in
+    pub Checking-stop : (checked : Checked) (last : Sink) → Stops trace number session step lines last checked.status
+        → (IsVerdict checked.status → Decides session.state step) → (checked.status ≡ NotVerified → IsRefused session.state step)
+        → (checked.status ≡ NotVerified → checked.refused ≡ end) → ((checked.status ≡ NotVerified → ⊥) → checked.refused ≡ None)
+        → Along start.stream new.stream (λ i j. Ended checked last i j)
+    Checking-stop checked last stops decided refuses told only = Along-then _ _ _ _ _ _ so_far.run gives (λ i j k m p q.
+        let s = stops so_far.count (length k.bytes) q.0 (new.to_come k) counts so_far.least so_far.finite in
         let Q : Proof → Type 0 = λ x. Rest trace session.state so_far.count session.peak x s.0 in
-        let R : Proof → Type 0 = λ x. LeavesRest session.state x k status in (
+        let R : Proof → Type 0 = λ x. LeavesRest session.state x k checked in (
           with_lines so_far.written s.0,
-          p.0 s.0 (subst Q (sym q) s.1),
-          Outcome-after status was.held lines.held last.held so_far.written s.0 (Writes-all was lines (text_of so_far.written) so_far.wrote so_far.whole) s.2,
-          p.1 k status (subst R (sym q) (LeavesRest-decided session.state step (length k.bytes) (new.to_come k) k status decided refl)),
+          p.0 s.0 (subst Q (sym q.2) s.1),
+          Outcome-after checked.status was.held lines.held last.held so_far.written s.0 (Writes-all was lines (text_of so_far.written) so_far.wrote so_far.whole) s.2,
+          p.1 k checked (subst R (sym q.2) (LeavesRest-decided session.state step q.0 (length k.bytes) (new.to_come k) k checked decided refuses (λ v. told v ∙ q.1) only refl)),
         ))
 
   -- what is known so far of the report, and of the step that decides
@@ -121,66 +127,61 @@ module _ (trace : Bool) (start now new : Standing) (first session : View) (accep
       → Rest trace first.state 0 first.peak (start.to_come i) (with_lines so_far.written r)) × Leaves first (start.to_come i) session (now.to_come j)
 
   -- the rest of the report that what is to come has
-  ended : (status : Status) (last : Sink) (i j k : Input) (r : Report) → SoFar i j → Rest trace session.state so_far.count session.peak (now.to_come j) r
-      → Outcome status lines.held last.held r → LeavesRest session.state (now.to_come j) k status → Ended status last i k
-  ended status last i j k r p rest o leaves = (
+  ended : (checked : Checked) (last : Sink) (i j k : Input) (r : Report) → SoFar i j → Rest trace session.state so_far.count session.peak (now.to_come j) r
+      → Outcome checked.status lines.held last.held r → LeavesRest session.state (now.to_come j) k checked → Ended checked last i k
+  ended checked last i j k r p rest o leaves = (
     with_lines so_far.written r,
     p.0 r rest,
-    Outcome-after status was.held lines.held last.held so_far.written r (Writes-all was lines (text_of so_far.written) so_far.wrote so_far.whole) o,
-    p.1 k status leaves,
+    Outcome-after checked.status was.held lines.held last.held so_far.written r (Writes-all was lines (text_of so_far.written) so_far.wrote so_far.whole) o,
+    p.1 k checked leaves,
   )
 
-  pub Checking-end : (step : Step) (status : Status) (last : Sink) → Along now.stream new.stream (λ i j. GivesStep (Ok false) step (now.to_come i) (new.to_come j) j)
-      → Outcome status lines.held last.held (end_report None) → Along start.stream new.stream (λ i j. Ended status last i j)
-  Checking-end step status last gives o = Along-then _ _ _ _ _ _ so_far.run gives (λ i j k m p q.
-      let Q : Proof → Type 0 = λ x. Rest trace session.state so_far.count session.peak x (end_report None) in
-      let R : Proof → Type 0 = λ x. LeavesRest session.state x k status in
-      ended status last i j k (end_report None) p (subst Q (sym q.1) (Rest-clean trace session.state so_far.count session.peak)) o
-      (subst R (sym q.1) (LeavesRest-none session.state None k status)))
+  module _ (step : Step) (checked : Checked) (none : checked.refused ≡ None) (last : Sink) where
+    pub Checking-end : Along now.stream new.stream (λ i j. GivesStep (Ok false) None step (now.to_come i) (new.to_come j) j)
+        → Outcome checked.status lines.held last.held (end_report None) → Along start.stream new.stream (λ i j. Ended checked last i j)
+    Checking-end gives o = Along-then _ _ _ _ _ _ so_far.run gives (λ i j k m p q.
+        let Q : Proof → Type 0 = λ x. Rest trace session.state so_far.count session.peak x (end_report None) in
+        let R : Proof → Type 0 = λ x. LeavesRest session.state x k checked in
+        ended checked last i j k (end_report None) p (subst Q (sym q.1) (Rest-clean trace session.state so_far.count session.peak)) o
+        (subst R (sym q.1) (LeavesRest-none session.state None k checked none)))
 
-  pub Checking-fault : (step : Step) (f : Fault) (status : Status) (last : Sink) → Along now.stream new.stream (λ i j. GivesStep (Err f) step (now.to_come i) (new.to_come j) j)
-      → (f ≡ OutOfMemory → (r : Report) → Outcome status lines.held last.held r) → ((f ≡ OutOfMemory → ⊥) → Outcome status lines.held last.held (end_report (Some f)))
-      → Along start.stream new.stream (λ i j. Ended status last i j)
-  Checking-fault step f status last gives refused other = by f gives refused other
-    where
-      met : (f : Fault) (i j k : Input) → SoFar i j → now.to_come j ≡ faulty_proof f → Outcome status lines.held last.held (end_report (Some f)) → Ended status last i k
-      met f i j k p e o =
-          let Q : Proof → Type 0 = λ x. Rest trace session.state so_far.count session.peak x (end_report (Some f)) in
-          let R : Proof → Type 0 = λ x. LeavesRest session.state x k status in
-          ended status last i j k (end_report (Some f)) p (subst Q (sym e) (Rest-fault trace session.state so_far.count session.peak f)) o
-          (subst R (sym e) (LeavesRest-none session.state (Some f) k status))
+    pub Checking-fault : (end : Option StepEnd) (f : Fault) → Along now.stream new.stream (λ i j. GivesStep (Err f) end step (now.to_come i) (new.to_come j) j)
+        → (f ≡ OutOfMemory → (r : Report) → Outcome checked.status lines.held last.held r) → ((f ≡ OutOfMemory → ⊥) → Outcome checked.status lines.held last.held (end_report (Some f)))
+        → Along start.stream new.stream (λ i j. Ended checked last i j)
+    Checking-fault end f gives refused other = by f gives refused other
+      where
+        met : (f : Fault) (i j k : Input) → SoFar i j → now.to_come j ≡ faulty_proof f → Outcome checked.status lines.held last.held (end_report (Some f)) → Ended checked last i k
+        met f i j k p e o =
+            let Q : Proof → Type 0 = λ x. Rest trace session.state so_far.count session.peak x (end_report (Some f)) in
+            let R : Proof → Type 0 = λ x. LeavesRest session.state x k checked in
+            ended checked last i j k (end_report (Some f)) p (subst Q (sym e) (Rest-fault trace session.state so_far.count session.peak f)) o
+            (subst R (sym e) (LeavesRest-none session.state (Some f) k checked none))
 
-      by : (f : Fault) → Along now.stream new.stream (λ i j. GivesStep (Err f) step (now.to_come i) (new.to_come j) j)
-          → (f ≡ OutOfMemory → (r : Report) → Outcome status lines.held last.held r) → ((f ≡ OutOfMemory → ⊥) → Outcome status lines.held last.held (end_report (Some f)))
-          → Along start.stream new.stream (λ i j. Ended status last i j)
-      by (Text k x) gives refused other = Along-then _ _ _ _ _ _ so_far.run gives (λ i j n m p q. met (Text k x) i j n p q.1 (other (λ e. cc)))
-      by (Binary k x) gives refused other = Along-then _ _ _ _ _ _ so_far.run gives (λ i j n m p q. met (Binary k x) i j n p q.1 (other (λ e. cc)))
-      by ReadFailed gives refused other = Along-then _ _ _ _ _ _ so_far.run gives (λ i j n m p q. met ReadFailed i j n p q.1 (other (λ e. cc)))
-      by OutOfMemory gives refused other = Along-then _ _ _ _ _ _ so_far.run gives (λ i j n m p q.
-          let some = Rest-some trace session.state so_far.count session.peak so_far.finite (now.to_come j) in
-          ended status last i j n some.0 p some.1 (refused refl some.0)
-          (LeavesRest-broken session.state (now.to_come j) n status (no_verdict status lines.held last.held [] (refused refl (record { lines = []; status = Malformed })))))
+        by : (f : Fault) → Along now.stream new.stream (λ i j. GivesStep (Err f) end step (now.to_come i) (new.to_come j) j)
+            → (f ≡ OutOfMemory → (r : Report) → Outcome checked.status lines.held last.held r) → ((f ≡ OutOfMemory → ⊥) → Outcome checked.status lines.held last.held (end_report (Some f)))
+            → Along start.stream new.stream (λ i j. Ended checked last i j)
+        by (Text k x) gives refused other = Along-then _ _ _ _ _ _ so_far.run gives (λ i j n m p q. met (Text k x) i j n p q.1 (other (λ e. cc)))
+        by (Binary k x) gives refused other = Along-then _ _ _ _ _ _ so_far.run gives (λ i j n m p q. met (Binary k x) i j n p q.1 (other (λ e. cc)))
+        by ReadFailed gives refused other = Along-then _ _ _ _ _ _ so_far.run gives (λ i j n m p q. met ReadFailed i j n p q.1 (other (λ e. cc)))
+        by OutOfMemory gives refused other = Along-then _ _ _ _ _ _ so_far.run gives (λ i j n m p q.
+            let some = Rest-some trace session.state so_far.count session.peak so_far.finite (now.to_come j) in
+            ended checked last i j n some.0 p some.1 (refused refl some.0)
+            (LeavesRest-broken session.state (now.to_come j) n checked none (no_verdict checked.status lines.held last.held [] (refused refl (record { lines = []; status = Malformed })))))
 
 -- what a call gave, by its answer's pattern
-pub step_told : (now new : Standing) (result answer : Result Bool Fault) (s : Step) → Along now.stream new.stream (λ i j. GivesStep result s (now.to_come i) (new.to_come j) j)
-    → result ≡ answer → Along now.stream new.stream (λ i j. GivesStep answer s (now.to_come i) (new.to_come j) j)
-step_told now new result answer s gives is =
-    let P : Result Bool Fault → Type 0 = λ r. Along now.stream new.stream (λ i j. GivesStep r s (now.to_come i) (new.to_come j) j) in
+pub step_told : (now new : Standing) (result answer : Result Bool Fault) (end : Option StepEnd) (s : Step) → Along now.stream new.stream (λ i j. GivesStep result end s (now.to_come i) (new.to_come j) j)
+    → result ≡ answer → Along now.stream new.stream (λ i j. GivesStep answer end s (now.to_come i) (new.to_come j) j)
+step_told now new result answer end s gives is =
+    let P : Result Bool Fault → Type 0 = λ r. Along now.stream new.stream (λ i j. GivesStep r end s (now.to_come i) (new.to_come j) j) in
     subst P is gives
 
 -- ---- A whole proof
 
--- what was written, by all that was seen of the formula and of the proof, and how far this was read
-abbrev pub AllReports : Rule → Bool → (Input → Proof) → Reader → Reader → Reader → Reader → Status → Sink → Sink → Type 0
-AllReports rule trace steps formula formula_new proof proof_new status was now =
-    OfBothSeen formula formula_new proof proof_new (λ i j. Reports rule trace i (steps j) was.held now.held status
-    × ReadsNoFurther rule (formula_of i) j (steps j) (bytes_read proof proof_new) status)
-
 -- neither was read
-pub reports_nothing : (rule : Rule) (trace : Bool) (steps : Input → Proof) (formula proof new : Reader) (status : Status) (was now : Sink) → proof ≡ new
-    → ((r : Report) → Outcome status was.held now.held r) → AllReports rule trace steps formula formula proof new status was now
-reports_nothing rule trace steps formula proof new status was now same o =
-    let P : Reader → Type 0 = λ r. AllReports rule trace steps formula formula proof r status was now in
+pub reports_nothing : (rule : Rule) (trace : Bool) (steps : Input → Proof) (formula proof new : Reader) (checked : Checked) (was now : Sink) → proof ≡ new → checked.refused ≡ None
+    → ((r : Report) → Outcome checked.status was.held now.held r) → AllReports rule trace steps formula formula proof new checked was.held now.held
+reports_nothing rule trace steps formula proof new checked was now same none o =
+    let P : Reader → Type 0 = λ r. AllReports rule trace steps formula formula proof r checked was.held now.held in
     subst P same (record {
       first = Seen-nothing formula;
       second = Seen-nothing proof;
@@ -188,62 +189,67 @@ reports_nothing rule trace steps formula proof new status was now same o =
           let some = some_report rule trace i (steps j) in (
             record { report = some.0; reports = some.1; outcome = o some.0 },
             record {
-              unread = λ n. none;
-              past = λ words ending last whole v e d. absurd (no_verdict status was.held now.held [] (o (record { lines = []; status = Malformed })) v);
+              unread = λ n. no_bytes;
+              past = λ words ending last whole v e d. absurd (broken v);
             },
+            record { unread = λ n. none; refused = λ words ending whole is e. absurd (broken (inr is)); only = λ _. none },
           );
     })
   where
-    none : bytes_read proof proof ≡ 0
-    none = omega arith
+    no_bytes : bytes_read proof proof ≡ 0
+    no_bytes = omega arith
+
+    broken : IsVerdict checked.status → ⊥
+    broken v = no_verdict checked.status was.held now.held [] (o (record { lines = []; status = Malformed })) v
 
 -- what was left of a proof, and that no more than 65536 bytes were read past what was taken, say how far it was read
-reads_no_further : (rule : Rule) (i j k : Input) (p : Proof) (old new : Reader) (status : Status) → LeavesProof rule (formula_of i).fault (formula_of i).clauses p old new k status
-    → bytes_read old new + length k.bytes ≤ length j.bytes + 65536 → ReadsNoFurther rule (formula_of i) j p (bytes_read old new) status
-reads_no_further rule i j k p old new status leaves within = record {
+reads_no_further : (rule : Rule) (i j k : Input) (p : Proof) (old new : Reader) (checked : Checked) → LeavesProof rule (formula_of i).fault (formula_of i).clauses p old new k checked
+    → bytes_read old new + length k.bytes ≤ length j.bytes + 65536 → ReadsNoFurther rule (formula_of i) j p (bytes_read old new) checked.status
+reads_no_further rule i j k p old new checked leaves within = record {
   unread = λ n. let same = ap (λ r. r.most_left) (leaves.unread n) in omega (arith, same);
   past = λ words ending last whole v e d. let is = leaves.past words ending last whole v e d in omega (arith, is, within);
 }
 
 -- a reader that was fresh was read
-module _ (rule : Rule) (trace : Bool) (to_come : ProofReading → Input → Proof) (steps : Input → Proof) (formula formula_new proof : Reader) (borrows : List ℕ) (source last : Stream) (new : Reader) (status : Status) (was now : Sink)
+module _ (rule : Rule) (trace : Bool) (to_come : ProofReading → Input → Proof) (steps : Input → Proof) (formula formula_new proof : Reader) (borrows : List ℕ) (source last : Stream) (new : Reader) (checked : Checked) (was now : Sink)
     (is : source ≡ unread_stream proof borrows) (kept : new ≡ last.reader)
-    (all : (j : Input) → to_come (record { stream = unread_stream proof borrows; kept = None; stored = 0 }) j ≡ steps j) where
+    (all : (j : Input) → to_come (fresh_reading (unread_stream proof borrows)) j ≡ steps j) where
   -- what a check did of a proof from where a reader stands
   abbrev Did : Seen formula formula_new → ProofReading → Input → Input → Type 0
   Did f x j k =
-      (i : Input) → IsSeen f i → Reports rule trace i (to_come x j) was.held now.held status
-      × LeavesProof rule (formula_of i).fault (formula_of i).clauses (to_come x j) x.stream.reader last.reader k status
+      (i : Input) → IsSeen f i → Reports rule trace i (to_come x j) was.held now.held checked.status
+      × LeavesProof rule (formula_of i).fault (formula_of i).clauses (to_come x j) x.stream.reader last.reader k checked
 
-  pub reports_run : (reader : ProofReading) → reader ≡ record { stream = source; kept = None; stored = 0 } → (f : Seen formula formula_new)
-      → Along reader.stream last (λ j k. (i : Input) → IsSeen f i → Reports rule trace i (to_come reader j) was.held now.held status
-      × LeavesProof rule (formula_of i).fault (formula_of i).clauses (to_come reader j) reader.stream.reader last.reader k status)
-      → AllReports rule trace steps formula formula_new proof new status was now
+  pub reports_run : (reader : ProofReading) → reader ≡ fresh_reading source → (f : Seen formula formula_new)
+      → Along reader.stream last (Did f reader)
+      → AllReports rule trace steps formula formula_new proof new checked was.held now.held
   reports_run reader made f run =
       let P : ProofReading → Type 0 = λ x. Along x.stream last (Did f x) in
-      let fresh : ProofReading = record { stream = unread_stream proof borrows; kept = None; stored = 0 } in
+      let fresh : ProofReading = fresh_reading (unread_stream proof borrows) in
       let Q : Input → Input → Type 0 = λ j k. Did f fresh j k × (bytes_read proof last.reader + length k.bytes ≤ length j.bytes + 65536) in
-      let R : Reader → Type 0 = λ r. AllReports rule trace steps formula formula_new proof r status was now in
-      let from_start = subst P (made ∙ ap (λ x. record { stream = x; kept = None; stored = 0 }) is) run in
+      let R : Reader → Type 0 = λ r. AllReports rule trace steps formula formula_new proof r checked was.held now.held in
+      let from_start = subst P (made ∙ ap fresh_reading is) run in
       let within = Along-within (unread_stream proof borrows) last (Did f fresh) (omega arith) from_start in
       subst R (sym kept) (record {
         first = f;
         second = Seen-run proof borrows last Q within;
         fact = λ i j s t.
-            let S : Proof → Type 0 = λ p. Reports rule trace i p was.held now.held status × ReadsNoFurther rule (formula_of i) j p (bytes_read proof last.reader) status in
+            let S : Proof → Type 0 = λ p. Reports rule trace i p was.held now.held checked.status
+            × ReadsNoFurther rule (formula_of i) j p (bytes_read proof last.reader) checked.status × TellsRefused rule (formula_of i).fault (formula_of i).clauses p checked in
             let seen = Seen-fact proof borrows last Q within j t in
             let did = seen.2.0 i s in
-            subst S (all j) (did.0, reads_no_further rule i j seen.0 (to_come fresh j) proof last.reader status did.1 seen.2.1);
+            subst S (all j) (did.0, reads_no_further rule i j seen.0 (to_come fresh j) proof last.reader checked did.1 seen.2.1, did.1.told);
       })
 
 -- the same report by the same rule of the same steps
-pub reports_as : (rule other : Rule) (trace : Bool) (steps others : Input → Proof) (formula formula_new proof new : Reader) (status : Status) (was now : Sink) → rule ≡ other → ((j : Input) → steps j ≡ others j)
-    → AllReports rule trace steps formula formula_new proof new status was now → AllReports other trace others formula formula_new proof new status was now
-reports_as rule other trace steps others formula formula_new proof new status was now is all reports = record {
+pub reports_as : (rule other : Rule) (trace : Bool) (steps others : Input → Proof) (formula formula_new proof new : Reader) (checked : Checked) (was now : Sink) → rule ≡ other → ((j : Input) → steps j ≡ others j)
+    → AllReports rule trace steps formula formula_new proof new checked was.held now.held → AllReports other trace others formula formula_new proof new checked was.held now.held
+reports_as rule other trace steps others formula formula_new proof new checked was now is all reports = record {
   first = reports.first;
   second = reports.second;
   fact = λ i j s t.
-      let P : Proof → Type 0 = λ p. Reports other trace i p was.held now.held status × ReadsNoFurther other (formula_of i) j p (bytes_read proof new) status in
-      let Q : Rule → Type 0 = λ q. Reports q trace i (steps j) was.held now.held status × ReadsNoFurther q (formula_of i) j (steps j) (bytes_read proof new) status in
-      subst P (all j) (subst Q is (reports.fact i j s t));
+      let P : Rule → Proof → Type 0 = λ q p. Reports q trace i p was.held now.held checked.status
+      × ReadsNoFurther q (formula_of i) j p (bytes_read proof new) checked.status × TellsRefused q (formula_of i).fault (formula_of i).clauses p checked in
+      let Q : Rule → Type 0 = λ q. P q (steps j) in
+      subst (P other) (all j) (subst Q is (reports.fact i j s t));
 }

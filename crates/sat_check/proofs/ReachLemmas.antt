@@ -10,17 +10,19 @@ use Rattle.cnf_base.specs.declared.fault.Fault.TheVariants.{Text, Binary, ReadFa
 use Rattle.dimacs.specs.Formula.{formula_of}
 use Rattle.proofs.specs.Steps.{Step}
 use Rattle.proofs.specs.Reading.{PlacedStep, Proof, with_step}
+use Rattle.proofs.specs.declared.step_end.StepEnd.{StepEnd}
 use Rattle.steps.specs.ProofSession.{View}
 use Rattle.steps.specs.Theory.Rules.{Rule, State, by_ids, by_copies, start, Answers, after, Same}
-use Rattle.steps.specs.Theory.Verdicts.{Ending, verified, refused, no_empty_clause, Ends, is_last, is_empty}
+use Rattle.steps.specs.Theory.Verdicts.{Ending, verified, refused, no_empty_clause, Ends, Verdict, is_last, is_empty}
 use Rattle.steps.specs.declared.theory.accepted.Accepted.{Accepted}
 use Rattle.steps.proofs.LratLemmas.LiveSets.{SameClauses-sym}
 use Rattle.steps.proofs.LratLemmas.Steps.{ok_is, ok_err}
 use Rattle.steps.proofs.TheoryLemmas.Rules.{answer_unique}
 use Rattle.steps.proofs.TheoryLemmas.Verdicts.{ends_same}
-use Rattle.sat_check.specs.Reach.{deciding_step, NeedsNoProof, IsVerdict}
+use Rattle.sat_check.specs.Reach.{deciding_step, refused_end, NeedsNoProof, IsVerdict}
 use Rattle.sat_check.specs.Report.{Outcome, bare_steps}
-use Rattle.sat_check.specs.Checking.{IsLoaded, Loads, Decides, LeavesRest, LeavesProof}
+use Rattle.sat_check.specs.Checking.{IsLoaded, Loads, Decides, IsRefused, LeavesRest, LeavesProof}
+use Rattle.sat_check.specs.declared.checked.Checked.{Checked}
 use Rattle.sat_check.specs.declared.status.Status.{Status}
 use Rattle.sat_check.specs.declared.status.Status.TheVariants.{Verified, NotVerified, Malformed}
 
@@ -49,48 +51,77 @@ no_verdict status old new lines o v = by status o v
 -- ---- The steps of a proof
 
 -- no step decides where none is to come
-pub LeavesRest-none : (s : State) (fault : Option Fault) (rest : Input) (status : Status) → LeavesRest s (record { steps = []; fault = fault }) rest status
-LeavesRest-none s fault rest status words ending last v e d = by words ending e d
+pub LeavesRest-none : (s : State) (fault : Option Fault) (rest : Input) (checked : Checked) → checked.refused ≡ None → LeavesRest s (record { steps = []; fault = fault }) rest checked
+LeavesRest-none s fault rest checked none = record {
+  past = λ words ending last v e d. by words ending last e d;
+  refused = λ words ending is e. none ∙ no_end words ending e;
+  only = λ _. none;
+}
   where
-    by : (words : List Accepted) (ending : Ending) → Ends s [] words ending → deciding_step [] words ending ≡ Some last → last.rest ≡ length rest.bytes
-    by [] verified e d = absurd (none-some last d)
-    by [] (refused r) e d = absurd (none-some last d)
-    by [] no_empty_clause e d = absurd (none-some last d)
-    by (w ∷ ws) ending e d = absurd e
+    by : (words : List Accepted) (ending : Ending) (last : PlacedStep) → Ends s [] words ending → deciding_step [] words ending ≡ Some last → last.rest ≡ length rest.bytes
+    by [] verified last e d = absurd (none-some last d)
+    by [] (refused r) last e d = absurd (none-some last d)
+    by [] no_empty_clause last e d = absurd (none-some last d)
+    by (w ∷ ws) ending last e d = absurd e
+
+    no_end : (words : List Accepted) (ending : Ending) → Ends s [] words ending → None ≡ refused_end [] words ending
+    no_end [] verified e = refl
+    no_end [] (refused r) e = refl
+    no_end [] no_empty_clause e = refl
+    no_end (w ∷ ws) ending e = absurd e
 
 -- no verdict was answered
-pub LeavesRest-broken : (s : State) (p : Proof) (rest : Input) (status : Status) → (IsVerdict status → ⊥) → LeavesRest s p rest status
-LeavesRest-broken s p rest status broken words ending last v e d = absurd (broken v)
+pub LeavesRest-broken : (s : State) (p : Proof) (rest : Input) (checked : Checked) → checked.refused ≡ None → (IsVerdict checked.status → ⊥) → LeavesRest s p rest checked
+LeavesRest-broken s p rest checked none broken = record {
+  past = λ words ending last v e d. absurd (broken v);
+  refused = λ words ending is e. absurd (broken (inr is));
+  only = λ _. none;
+}
 
-module _ (s : State) (step : Step) (left : ℕ) (p : Proof) (rest : Input) (status : Status) where
+module _ (s : State) (step : Step) (end : StepEnd) (left : ℕ) (p : Proof) (rest : Input) (checked : Checked) where
   abbrev here : PlacedStep
-  here = record { step = step; rest = left }
+  here = record { step = step; end = end; rest = left }
 
   first_is : (last : PlacedStep) → Some here ≡ Some last → last.rest ≡ left
   first_is last e = let same : here ≡ last = cc in sym (ap (λ x. x.rest) same)
 
   -- the step that was taken last decides
-  pub LeavesRest-decided : (IsVerdict status → Decides s step) → left ≡ length rest.bytes → LeavesRest s (with_step step left p) rest status
-  LeavesRest-decided decides is words ending last v e d = by (decides v) words ending e d ∙ is
+  pub LeavesRest-decided : (IsVerdict checked.status → Decides s step) → (checked.status ≡ NotVerified → IsRefused s step)
+      → (checked.status ≡ NotVerified → checked.refused ≡ Some end) → ((checked.status ≡ NotVerified → ⊥) → checked.refused ≡ None)
+      → left ≡ length rest.bytes → LeavesRest s (with_step step end left p) rest checked
+  LeavesRest-decided decides refuses told only is = record {
+    past = λ words ending last v e d. by (decides v) words ending last e d ∙ is;
+    refused = λ words ending v e. told v ∙ ended (refuses v) words ending e;
+    only = only;
+  }
     where
-      by : Decides s step → (words : List Accepted) (ending : Ending) → Ends s (step ∷ bare_steps p) words ending
+      by : Decides s step → (words : List Accepted) (ending : Ending) (last : PlacedStep) → Ends s (step ∷ bare_steps p) words ending
           → deciding_step (here ∷ p.steps) words ending ≡ Some last → last.rest ≡ left
-      by (inl a) [] ending e d =
+      by (inl a) [] ending last e d =
           let P : Ending → Type 0 = λ x. deciding_step (here ∷ p.steps) [] x ≡ Some last in
           first_is last (subst P e.1 d)
-      by (inl a) (w ∷ ws) ending e d = absurd (ok_err w a.0 (answer_unique s step _ _ e.0 a.1))
-      by (inr a) [] ending e d = absurd (ok_err a.0 e.0 (answer_unique s step _ _ a.1 e.2))
-      by (inr a) (w ∷ ws) ending e d =
+      by (inl a) (w ∷ ws) ending last e d = absurd (ok_err w a.0 (answer_unique s step _ _ e.0 a.1))
+      by (inr a) [] ending last e d = absurd (ok_err a.0 e.0 (answer_unique s step _ _ a.1 e.2))
+      by (inr a) (w ∷ ws) ending last e d =
           let same = ok_is w a.0 (answer_unique s step _ _ e.0 a.1) in
           let q = MatchBool-at_true _ _ (ap is_last same ∙ a.2) e.1 in
           let P : Ending → Type 0 = λ x. deciding_step (here ∷ p.steps) (w ∷ ws) x ≡ Some last in
           let Q : List Accepted → Type 0 = λ xs. deciding_step (here ∷ p.steps) (w ∷ xs) verified ≡ Some last in
           first_is last (subst Q q.0 (subst P q.1 d))
 
+      ended : IsRefused s step → (words : List Accepted) (ending : Ending) → Ends s (step ∷ bare_steps p) words ending
+          → Some end ≡ refused_end (here ∷ p.steps) words ending
+      ended a [] ending e = sym (ap (refused_end (here ∷ p.steps) []) e.1)
+      ended a (w ∷ ws) ending e = absurd (ok_err w a.0 (answer_unique s step _ _ e.0 a.1))
+
   -- it was accepted, and the check went on
   pub LeavesRest-step : (t : State) (word : Accepted) → Answers s step (Ok word) → is_last word ≡ false → Same t (after s step word)
-      → LeavesRest t p rest status → LeavesRest s (with_step step left p) rest status
-  LeavesRest-step t word a not_last same later words ending last v e d = by words ending e d
+      → LeavesRest t p rest checked → LeavesRest s (with_step step end left p) rest checked
+  LeavesRest-step t word a not_last same later = record {
+    past = λ words ending last v e d. by words ending last v e d;
+    refused = λ words ending v e. ended words ending v e;
+    only = later.only;
+  }
     where
       -- the same step decides among the later ones
       later_step : (ps : List PlacedStep) (w : Accepted) (ws : List Accepted) (ending : Ending) → Ends t (bare_steps (record { steps = ps; fault = p.fault })) ws ending
@@ -101,25 +132,44 @@ module _ (s : State) (step : Step) (left : ℕ) (p : Proof) (rest : Input) (stat
       later_step ps w ws (refused r) e = refl
       later_step ps w ws no_empty_clause e = refl
 
-      by : (words : List Accepted) (ending : Ending) → Ends s (step ∷ bare_steps p) words ending
-          → deciding_step (here ∷ p.steps) words ending ≡ Some last → last.rest ≡ length rest.bytes
-      by [] ending e d = absurd (ok_err word e.0 (answer_unique s step _ _ a e.2))
-      by (w ∷ ws) ending e d =
+      later_end : (w : Accepted) (ws : List Accepted) (ending : Ending) → refused_end p.steps ws ending ≡ refused_end (here ∷ p.steps) (w ∷ ws) ending
+      later_end w ws verified = refl
+      later_end w ws (refused r) = refl
+      later_end w ws no_empty_clause = refl
+
+      -- and so it does from the state that this step left
+      goes_on : (w : Accepted) (ws : List Accepted) (ending : Ending) → Ends s (step ∷ bare_steps p) (w ∷ ws) ending → Ends t (bare_steps p) ws ending
+      goes_on w ws ending e =
           let is = ok_is w word (answer_unique s step _ _ e.0 a) in
           let P : Accepted → Type 0 = λ x. Ends (after s step x) (bare_steps p) ws ending in
           let ends = subst P is (MatchBool-at_false _ _ (ap is_last is ∙ not_last) e.1) in
-          let now = ends_same (bare_steps p) ws ending (after s step word) t (same_sym t (after s step word) same) ends in
-          later ws ending last v now (sym (later_step p.steps w ws ending now) ∙ d)
+          ends_same (bare_steps p) ws ending (after s step word) t (same_sym t (after s step word) same) ends
+
+      by : (words : List Accepted) (ending : Ending) (last : PlacedStep) → IsVerdict checked.status → Ends s (step ∷ bare_steps p) words ending
+          → deciding_step (here ∷ p.steps) words ending ≡ Some last → last.rest ≡ length rest.bytes
+      by [] ending last v e d = absurd (ok_err word e.0 (answer_unique s step _ _ a e.2))
+      by (w ∷ ws) ending last v e d =
+          let now = goes_on w ws ending e in
+          later.past ws ending last v now (sym (later_step p.steps w ws ending now) ∙ d)
+
+      ended : (words : List Accepted) (ending : Ending) → checked.status ≡ NotVerified → Ends s (step ∷ bare_steps p) words ending
+          → checked.refused ≡ refused_end (here ∷ p.steps) words ending
+      ended [] ending v e = absurd (ok_err word e.0 (answer_unique s step _ _ a e.2))
+      ended (w ∷ ws) ending v e = later.refused ws ending v (goes_on w ws ending e) ∙ later_end w ws ending
 
 -- ---- A whole proof
 
-module _ (rule : Rule) (fault : Option Fault) (clauses : List Clause) (p : Proof) (reader : Reader) (rest : Input) (status : Status) where
+module _ (rule : Rule) (fault : Option Fault) (clauses : List Clause) (p : Proof) (reader : Reader) (rest : Input) (checked : Checked) (none : checked.refused ≡ None) where
   -- no verdict was answered, and nothing was read
-  pub LeavesProof-broken : (IsVerdict status → ⊥) → LeavesProof rule fault clauses p reader reader rest status
-  LeavesProof-broken broken = record { unread = λ n. refl; past = λ words ending last whole v e d. absurd (broken v) }
+  pub LeavesProof-broken : (IsVerdict checked.status → ⊥) → LeavesProof rule fault clauses p reader reader rest checked
+  LeavesProof-broken broken = record {
+    unread = λ n. refl;
+    past = λ words ending last whole v e d. absurd (broken v);
+    told = record { unread = λ n. none; refused = λ words ending whole is e. absurd (broken (inr is)); only = λ _. none };
+  }
 
   -- some clause is empty
-  pub LeavesProof-empty : list_any is_empty clauses ≡ true → LeavesProof rule fault clauses p reader reader rest status
+  pub LeavesProof-empty : list_any is_empty clauses ≡ true → LeavesProof rule fault clauses p reader reader rest checked
   LeavesProof-empty empty = record {
     unread = λ n. refl;
     past = λ words ending last whole v e d.
@@ -127,35 +177,54 @@ module _ (rule : Rule) (fault : Option Fault) (clauses : List Clause) (p : Proof
         let P : Ending → Type 0 = λ x. deciding_step p.steps words x ≡ Some last in
         let Q : List Accepted → Type 0 = λ xs. deciding_step p.steps xs verified ≡ Some last in
         absurd (none-some last (subst Q q.0 (subst P q.1 d)));
+    told = record {
+      unread = λ n. none;
+      refused = λ words ending whole v e.
+          let q = MatchBool-at_true _ _ empty e in
+          none ∙ sym (ap (refused_end p.steps words) q.1);
+      only = λ _. none;
+    };
   }
 
 -- the steps were checked
-pub LeavesProof-checked : (rule : Rule) (s : View) (clauses : List Clause) (l : IsLoaded rule s clauses) (p : Proof) (old new : Reader) (rest : Input) (status : Status)
-    → s.is_verified ≡ false → LeavesRest s.state p rest status → LeavesProof rule None clauses p old new rest status
-LeavesProof-checked rule s clauses l p old new rest status unverified leaves = record {
-  unread = λ n. needed n;
-  past = λ words ending last whole v e d.
-      leaves words ending last v (ends_same (bare_steps p) words ending (start rule clauses) s.state (same_sym s.state (start rule clauses) l.state) (MatchBool-at_false _ _ none e)) d;
+pub LeavesProof-checked : (rule : Rule) (s : View) (clauses : List Clause) (l : IsLoaded rule s clauses) (p : Proof) (old new : Reader) (rest : Input) (checked : Checked)
+    → s.is_verified ≡ false → LeavesRest s.state p rest checked → LeavesProof rule None clauses p old new rest checked
+LeavesProof-checked rule s clauses l p old new rest checked unverified leaves = record {
+  unread = λ n. absurd (needed n);
+  past = λ words ending last whole v e d. leaves.past words ending last v (ends words ending e) d;
+  told = record {
+    unread = λ n. absurd (needed n);
+    refused = λ words ending whole v e. leaves.refused words ending v (ends words ending e);
+    only = leaves.only;
+  };
 }
   where
     none : list_any is_empty clauses ≡ false
     none = sym l.verified ∙ unverified
 
-    needed : NeedsNoProof None clauses → new ≡ old
-    needed (inl fault) = absurd (fault refl)
-    needed (inr empty) = absurd (false≢true (sym none ∙ empty))
+    needed : NeedsNoProof None clauses → ⊥
+    needed (inl fault) = fault refl
+    needed (inr empty) = false≢true (sym none ∙ empty)
+
+    ends : (words : List Accepted) (ending : Ending) → Verdict rule clauses (bare_steps p) words ending → Ends s.state (bare_steps p) words ending
+    ends words ending e = ends_same (bare_steps p) words ending (start rule clauses) s.state (same_sym s.state (start rule clauses) l.state) (MatchBool-at_false _ _ none e)
 
 -- the formula has a fault, or memory ran out
-pub LeavesProof-fault : (rule : Rule) (s : View) (f : Fault) (i : Input) (p : Proof) (reader : Reader) (rest : Input) (status : Status) → Loads rule s (Err f) (formula_of i)
-    → (f ≡ OutOfMemory → IsVerdict status → ⊥) → LeavesProof rule (formula_of i).fault (formula_of i).clauses p reader reader rest status
-LeavesProof-fault rule s f i p reader rest status loads broken = by f loads broken
+pub LeavesProof-fault : (rule : Rule) (s : View) (f : Fault) (i : Input) (p : Proof) (reader : Reader) (rest : Input) (checked : Checked) → checked.refused ≡ None
+    → Loads rule s (Err f) (formula_of i) → (f ≡ OutOfMemory → IsVerdict checked.status → ⊥)
+    → LeavesProof rule (formula_of i).fault (formula_of i).clauses p reader reader rest checked
+LeavesProof-fault rule s f i p reader rest checked none loads broken = by f loads broken
   where
-    faulty : (f : Fault) → (formula_of i).fault ≡ Some f → LeavesProof rule (formula_of i).fault (formula_of i).clauses p reader reader rest status
-    faulty f is = record { unread = λ n. refl; past = λ words ending last whole v e d. absurd (none-some f (sym whole ∙ is)) }
+    faulty : (f : Fault) → (formula_of i).fault ≡ Some f → LeavesProof rule (formula_of i).fault (formula_of i).clauses p reader reader rest checked
+    faulty f is = record {
+      unread = λ n. refl;
+      past = λ words ending last whole v e d. absurd (none-some f (sym whole ∙ is));
+      told = record { unread = λ n. none; refused = λ words ending whole v e. absurd (none-some f (sym whole ∙ is)); only = λ _. none };
+    }
 
-    by : (f : Fault) → Loads rule s (Err f) (formula_of i) → (f ≡ OutOfMemory → IsVerdict status → ⊥)
-        → LeavesProof rule (formula_of i).fault (formula_of i).clauses p reader reader rest status
+    by : (f : Fault) → Loads rule s (Err f) (formula_of i) → (f ≡ OutOfMemory → IsVerdict checked.status → ⊥)
+        → LeavesProof rule (formula_of i).fault (formula_of i).clauses p reader reader rest checked
     by (Text k x) loads broken = faulty (Text k x) loads
     by (Binary k x) loads broken = faulty (Binary k x) loads
     by ReadFailed loads broken = faulty ReadFailed loads
-    by OutOfMemory loads broken = LeavesProof-broken rule (formula_of i).fault (formula_of i).clauses p reader rest status (broken refl)
+    by OutOfMemory loads broken = LeavesProof-broken rule (formula_of i).fault (formula_of i).clauses p reader rest checked none (broken refl)

@@ -4,6 +4,7 @@ use Rattle.std.specs.Bool.{MatchBool}
 use Rattle.cnf_base.specs.declared.fault.Fault.{Fault}
 use Rattle.proofs.specs.Steps.{Step}
 use Rattle.proofs.specs.Reading.{Proof, clean, faulty_proof, with_step}
+use Rattle.proofs.specs.declared.step_end.StepEnd.{StepEnd}
 use Rattle.steps.specs.declared.theory.accepted.Accepted.{Accepted}
 use Rattle.steps.specs.declared.theory.accepted.Accepted.TheVariants.{Empty}
 use Rattle.steps.specs.declared.theory.refusal.Refusal.{Refusal}
@@ -50,8 +51,8 @@ module _ (trace : Bool) (s : State) (n peak : ℕ) where
       let v = some_ending (bare_steps p) s b in
       (proof_report trace n (max peak (peak_of s (bare_steps p) v.0)) v.0 v.1 p.fault, record { words = v.0; ending = v.1; verdict = v.2; report = refl })
 
-  module _ (st : Step) (left : ℕ) (p : Proof) where
-    pub Rest-refused : (r : Refusal) → Answers s st (Err r) → Rest trace s n peak (with_step st left p) (concluded subjects.Proof (refusal_line (n + 1) r) NotVerified)
+  module _ (st : Step) (end : StepEnd) (left : ℕ) (p : Proof) where
+    pub Rest-refused : (r : Refusal) → Answers s st (Err r) → Rest trace s n peak (with_step st end left p) (concluded subjects.Proof (refusal_line (n + 1) r) NotVerified)
     Rest-refused r a = record {
       words = [];
       ending = refused r;
@@ -61,7 +62,7 @@ module _ (trace : Bool) (s : State) (n peak : ℕ) where
     }
 
     pub Rest-verified : (t : State) → Answers s st (Ok Empty) → Same t (after s st Empty) → sum_of s ≤ peak
-        → Rest trace s n peak (with_step st left p) (with_lines (traced trace (n + 1) Empty) (concluded subjects.Proof (steps_line (n + 1) (max peak (sum_of t))) Verified))
+        → Rest trace s n peak (with_step st end left p) (with_lines (traced trace (n + 1) Empty) (concluded subjects.Proof (steps_line (n + 1) (max peak (sum_of t))) Verified))
     Rest-verified t a same least = record {
       words = Empty ∷ [];
       ending = verified;
@@ -77,7 +78,7 @@ module _ (trace : Bool) (s : State) (n peak : ℕ) where
 
     pub Rest-step : (word : Accepted) (t : State) (r : Report) → Answers s st (Ok word) → is_last word ≡ false
         → Same t (after s st word) → sum_of s ≤ peak → Rest trace t (n + 1) (max peak (sum_of t)) p r
-        → Rest trace s n peak (with_step st left p) (with_lines (traced trace (n + 1) word) r)
+        → Rest trace s n peak (with_step st end left p) (with_lines (traced trace (n + 1) word) r)
     Rest-step word t r a not_last same least rest = record {
       words = word ∷ rest.words;
       ending = rest.ending;

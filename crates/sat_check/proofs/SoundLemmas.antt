@@ -13,9 +13,11 @@ use Rattle.steps.specs.Theory.Models.{HasModel}
 use Rattle.steps.specs.Theory.Rules.{Rule, start}
 use Rattle.steps.specs.Theory.Verdicts.{Ending, verified, refused, no_empty_clause, Verdict}
 use Rattle.steps.proofs.TheoryLemmas.Verdicts.{verdict_sound, verdict_unique}
+use Rattle.sat_check.specs.Checking.{AllReports}
 use Rattle.sat_check.specs.Lines.{fault_status, text_status}
-use Rattle.sat_check.specs.Reach.{ReadsNoFurther}
+use Rattle.sat_check.specs.Reach.{ReadsNoFurther, TellsRefused}
 use Rattle.sat_check.specs.Report.{Report, Outcome, ReportsFormula, ProofReport, Verifies, Reports, ChecksProof, IsUnlessBroken, bare_steps, peak_of, verdict_report}
+use Rattle.sat_check.specs.declared.checked.Checked.{Checked}
 use Rattle.sat_check.specs.declared.status.Status.{Status}
 use Rattle.sat_check.specs.declared.status.Status.TheVariants.{Verified, NotVerified, Malformed, ReadFailed, OutOfMemory, WriteFailed, Usage}
 use Rattle.sat_check.proofs.OutcomeLemmas.{both_told}
@@ -98,12 +100,25 @@ checks_proof rule trace i p old new status x = record {
     refuted is = verifies_sound rule (formula_of i) p (report_verified rule trace i p x.report x.reports is)
 
 -- and by all that was seen of the formula and of the proof
-pub both_check_proof : (rule : Rule) (trace : Bool) (steps : Input → Proof) (formula formula_new proof proof_new : Reader) (status : Status) (old new first last : Option (List ℕ)) → old ≡ first → new ≡ last
-    → OfBothSeen formula formula_new proof proof_new (λ i j. Reports rule trace i (steps j) old new status
-    × ReadsNoFurther rule (formula_of i) j (steps j) (bytes_read proof proof_new) status)
-    → OfBothSeen formula formula_new proof proof_new (λ i j. ChecksProof rule trace i (steps j) first last status
-    × ReadsNoFurther rule (formula_of i) j (steps j) (bytes_read proof proof_new) status)
-both_check_proof rule trace steps formula formula_new proof proof_new status old new first last before after =
-    both_told formula formula_new proof proof_new (λ x y i j. Reports rule trace i (steps j) x y status × ReadsNoFurther rule (formula_of i) j (steps j) (bytes_read proof proof_new) status)
-    (λ i j. ChecksProof rule trace i (steps j) first last status × ReadsNoFurther rule (formula_of i) j (steps j) (bytes_read proof proof_new) status) old new first last before after
-    (λ i j x. (checks_proof rule trace i (steps j) first last status x.0, x.1))
+abbrev pub AllChecks : Rule → Bool → (Input → Proof) → Reader → Reader → Reader → Reader → Checked → Option (List ℕ) → Option (List ℕ) → Type 0
+AllChecks rule trace steps formula formula_new proof proof_new checked old new =
+    OfBothSeen formula formula_new proof proof_new (λ i j. ChecksProof rule trace i (steps j) old new checked.status
+    × ReadsNoFurther rule (formula_of i) j (steps j) (bytes_read proof proof_new) checked.status × TellsRefused rule (formula_of i).fault (formula_of i).clauses (steps j) checked)
+
+pub both_check_proof : (rule : Rule) (trace : Bool) (steps : Input → Proof) (formula formula_new proof proof_new : Reader) (checked : Checked) (old new first last : Option (List ℕ)) → old ≡ first → new ≡ last
+    → AllReports rule trace steps formula formula_new proof proof_new checked old new → AllChecks rule trace steps formula formula_new proof proof_new checked first last
+both_check_proof rule trace steps formula formula_new proof proof_new checked old new first last before after =
+    both_told formula formula_new proof proof_new (λ x y i j. Reports rule trace i (steps j) x y checked.status
+    × ReadsNoFurther rule (formula_of i) j (steps j) (bytes_read proof proof_new) checked.status × TellsRefused rule (formula_of i).fault (formula_of i).clauses (steps j) checked)
+    _ old new first last before after (λ i j x. (checks_proof rule trace i (steps j) first last checked.status x.0, x.1, x.2))
+
+-- without where the refused step ends
+pub unplaced : (rule : Rule) (trace : Bool) (steps : Input → Proof) (formula formula_new proof proof_new : Reader) (checked : Checked) (old new : Option (List ℕ))
+    → AllChecks rule trace steps formula formula_new proof proof_new checked old new
+    → OfBothSeen formula formula_new proof proof_new (λ i j. ChecksProof rule trace i (steps j) old new checked.status
+    × ReadsNoFurther rule (formula_of i) j (steps j) (bytes_read proof proof_new) checked.status)
+unplaced rule trace steps formula formula_new proof proof_new checked old new all = record {
+  first = all.first;
+  second = all.second;
+  fact = λ i j s t. let x = all.fact i j s t in (x.0, x.1);
+}

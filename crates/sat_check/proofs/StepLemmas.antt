@@ -1,9 +1,10 @@
 -- What a step that ends a check leaves of the report.
-use Rattle.std.proofs.Common.{◌≡◌, ℕ, ◌+◌, ◌≤◌, max, Bool, true, false, List, [], refl, sym, subst, inl}
+use Rattle.std.proofs.Common.{◌≡◌, ℕ, ◌+◌, ◌≤◌, max, Bool, true, false, List, [], refl, sym, subst}
 use Rattle.std.specs.Prelude.{Ok, Err}
 use Rattle.cnf_base.specs.Lines.{Sink, Writes}
 use Rattle.proofs.specs.Steps.{Step}
 use Rattle.proofs.specs.Reading.{Proof, with_step}
+use Rattle.proofs.specs.declared.step_end.StepEnd.{StepEnd}
 use Rattle.steps.specs.declared.theory.accepted.Accepted.{Accepted}
 use Rattle.steps.specs.declared.theory.accepted.Accepted.TheVariants.{Empty, Rup, Rat, Pr, Deleted, Ignored}
 use Rattle.steps.specs.declared.theory.refusal.Refusal.{Refusal}
@@ -15,7 +16,7 @@ use Rattle.steps.specs.Theory.Verdicts.{is_last}
 use Rattle.sat_check.specs.Lines.{refusal_line, steps_line}
 use Rattle.sat_check.specs.Report.{Report, Outcome, concluded, with_lines, text_of}
 use Rattle.sat_check.specs.Reach.{IsVerdict}
-use Rattle.sat_check.specs.Checking.{Rest, Stops, Decides, traced, is_memory}
+use Rattle.sat_check.specs.Checking.{Rest, Stops, IsRefused, traced, is_memory}
 use Rattle.sat_check.specs.declared.subject.Subject.TheVariants as subjects
 use Rattle.sat_check.specs.declared.status.Status.{Status}
 use Rattle.sat_check.specs.declared.status.Status.TheVariants.{Verified, NotVerified, Malformed}
@@ -46,54 +47,54 @@ module _ (trace : Bool) (number : ℕ) (old : View) (step : Step) (was now : Sin
   pub Stops-refused : (status : Status) (r : Refusal) → (is_memory r ≡ true → (x : Report) → Outcome status was.held now.held x)
       → (is_memory r ≡ false → Outcome status was.held now.held (concluded subjects.Proof (refusal_line number r) NotVerified))
       → UnlessOutOfMemory (Err r) (Answers old.state step (Err r)) → Stops trace number old step was now status
-  Stops-refused status r memory refused answers n left p is least finite = by (is_memory r) refl
+  Stops-refused status r memory refused answers n left end p is least finite = by (is_memory r) refl
     where
-      by : (v : Bool) → is_memory r ≡ v → (x : Report) × Rest trace old.state n old.peak (with_step step left p) x × Outcome status was.held now.held x
+      by : (v : Bool) → is_memory r ≡ v → (x : Report) × Rest trace old.state n old.peak (with_step step end left p) x × Outcome status was.held now.held x
       by true e =
-          let some = Rest-some trace old.state n old.peak finite (with_step step left p) in
+          let some = Rest-some trace old.state n old.peak finite (with_step step end left p) in
           (some.0, some.1, memory e some.0)
       by false e =
           let P : List ℕ → Type 0 = λ t. Outcome status was.held now.held (concluded subjects.Proof t NotVerified) in (
             concluded subjects.Proof (refusal_line (n + 1) r) NotVerified,
-            Rest-refused trace old.state n old.peak step left p r (given r _ e answers),
+            Rest-refused trace old.state n old.peak step end left p r (given r _ e answers),
             subst P (refusal_same number (n + 1) r is) (refused e),
           )
 
-  -- a refused step decides, if there was memory
-  pub Decides-refused : (status : Status) (r : Refusal) → (is_memory r ≡ true → (x : Report) → Outcome status was.held now.held x)
-      → UnlessOutOfMemory (Err r) (Answers old.state step (Err r)) → IsVerdict status → Decides old.state step
-  Decides-refused status r memory answers v = by (is_memory r) refl
+  -- a step is refused, if there was memory
+  pub was_refused : (status : Status) (r : Refusal) → (is_memory r ≡ true → (x : Report) → Outcome status was.held now.held x)
+      → UnlessOutOfMemory (Err r) (Answers old.state step (Err r)) → IsVerdict status → IsRefused old.state step
+  was_refused status r memory answers v = by (is_memory r) refl
     where
-      by : (b : Bool) → is_memory r ≡ b → Decides old.state step
+      by : (b : Bool) → is_memory r ≡ b → IsRefused old.state step
       by true e = absurd (no_verdict status was.held now.held [] (memory e (record { lines = []; status = Malformed })) v)
-      by false e = inl (r, given r _ e answers)
+      by false e = (r, given r _ e answers)
 
   module _ (new : View) (word : Accepted) (answers : Answers old.state step (Ok word))
       (same : Same new.state (after old.state step word))
       (peak : new.peak ≡ max old.peak (sum_of new.state)) where
-    verified_rest : (n left : ℕ) (p : Proof) → word ≡ Empty → sum_of old.state ≤ old.peak
-        → Rest trace old.state n old.peak (with_step step left p) (with_lines (traced trace (n + 1) word) (concluded subjects.Proof (steps_line (n + 1) new.peak) Verified))
-    verified_rest n left p is least =
-        let P : ℕ → Type 0 = λ m. Rest trace old.state n old.peak (with_step step left p) (with_lines (traced trace (n + 1) word) (concluded subjects.Proof (steps_line (n + 1) m) Verified)) in
-        let Q : Accepted → Type 0 = λ w. Rest trace old.state n old.peak (with_step step left p) (with_lines (traced trace (n + 1) w) (concluded subjects.Proof (steps_line (n + 1) (max old.peak (sum_of new.state))) Verified)) in
+    verified_rest : (n left : ℕ) (end : StepEnd) (p : Proof) → word ≡ Empty → sum_of old.state ≤ old.peak
+        → Rest trace old.state n old.peak (with_step step end left p) (with_lines (traced trace (n + 1) word) (concluded subjects.Proof (steps_line (n + 1) new.peak) Verified))
+    verified_rest n left end p is least =
+        let P : ℕ → Type 0 = λ m. Rest trace old.state n old.peak (with_step step end left p) (with_lines (traced trace (n + 1) word) (concluded subjects.Proof (steps_line (n + 1) m) Verified)) in
+        let Q : Accepted → Type 0 = λ w. Rest trace old.state n old.peak (with_step step end left p) (with_lines (traced trace (n + 1) w) (concluded subjects.Proof (steps_line (n + 1) (max old.peak (sum_of new.state))) Verified)) in
         let A : Accepted → Type 0 = λ w. Answers old.state step (Ok w) × Same new.state (after old.state step w) in
         let at_empty = subst A is (answers, same) in
-        subst P (sym peak) (subst Q (sym is) (Rest-verified trace old.state n old.peak step left p new.state at_empty.0 at_empty.1 least))
+        subst P (sym peak) (subst Q (sym is) (Rest-verified trace old.state n old.peak step end left p new.state at_empty.0 at_empty.1 least))
 
     -- the trace's line broke off
     pub Stops-traced : (status : Status) → ((x : Report) → Outcome status was.held now.held (with_lines (traced trace number word) x)) → Stops trace number old step was now status
-    Stops-traced status o n left p is least finite = by (is_last word) refl
+    Stops-traced status o n left end p is least finite = by (is_last word) refl
       where
         shown : (x : Report) → Outcome status was.held now.held (with_lines (traced trace (n + 1) word) x)
         shown x = let P : List (List ℕ) → Type 0 = λ t. Outcome status was.held now.held (with_lines t x) in subst P (traced_same trace number (n + 1) word is) (o x)
 
-        by : (v : Bool) → is_last word ≡ v → (x : Report) × Rest trace old.state n old.peak (with_step step left p) x × Outcome status was.held now.held x
-        by true e = (_, verified_rest n left p (last_word word e) least, shown _)
+        by : (v : Bool) → is_last word ≡ v → (x : Report) × Rest trace old.state n old.peak (with_step step end left p) x × Outcome status was.held now.held x
+        by true e = (_, verified_rest n left end p (last_word word e) least, shown _)
         by false e =
             let kept = same_finite new.state (after old.state step word) same (after_finite old.state step word finite) in
             let some = Rest-some trace new.state (n + 1) (max old.peak (sum_of new.state)) kept p in (
               with_lines (traced trace (n + 1) word) some.0,
-              Rest-step trace old.state n old.peak step left p word new.state some.0 answers e same least some.1,
+              Rest-step trace old.state n old.peak step end left p word new.state some.0 answers e same least some.1,
               shown some.0,
             )
 
@@ -101,11 +102,11 @@ module _ (trace : Bool) (number : ℕ) (old : View) (step : Step) (was now : Sin
     pub Stops-verified : (status : Status) (mid : Sink) (m : ℕ) → is_last word ≡ true → m ≡ new.peak
         → Writes was mid (text_of (traced trace number word)) → mid.is_broken ≡ false
         → Outcome status mid.held now.held (concluded subjects.Proof (steps_line number m) Verified) → Stops trace number old step was now status
-    Stops-verified status mid m e shown wrote whole o n left p is least finite =
+    Stops-verified status mid m e shown wrote whole o n left end p is least finite =
         let P : List ℕ → Type 0 = λ t. Outcome status mid.held now.held (concluded subjects.Proof t Verified) in
         let Q : List (List ℕ) → Type 0 = λ t. Outcome status was.held now.held (with_lines t (concluded subjects.Proof (steps_line (n + 1) new.peak) Verified)) in (
           with_lines (traced trace (n + 1) word) (concluded subjects.Proof (steps_line (n + 1) new.peak) Verified),
-          verified_rest n left p (last_word word e) least,
+          verified_rest n left end p (last_word word e) least,
           subst Q (traced_same trace number (n + 1) word is)
               (Outcome-after status was.held mid.held now.held (traced trace number word) _ (Writes-all was mid (text_of (traced trace number word)) wrote whole)
               (subst P (steps_same number (n + 1) m new.peak is shown) o)),

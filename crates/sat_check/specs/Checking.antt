@@ -3,13 +3,15 @@ use Rattle.std.specs.Prelude.{◌≡◌, ◌⊎◌, ℕ, ◌+◌, ◌-◌, ◌^�
 use Rattle.std.specs.List.{list_any}
 use Rattle.cnf_base.specs.Literals.{Clause}
 use Rattle.cnf_base.specs.Lines.{Sink, Writes}
-use Rattle.cnf_base.specs.Stream.{Input, Reader, Stream}
+use Rattle.cnf_base.specs.Seen.{OfBothSeen}
+use Rattle.cnf_base.specs.Stream.{Input, Reader, Stream, bytes_read}
 use Rattle.cnf_base.specs.declared.fault.Fault.{Fault}
 use Rattle.cnf_base.specs.declared.fault.Fault.TheVariants.{OutOfMemory}
-use Rattle.dimacs.specs.Formula.{Body, Formula}
+use Rattle.dimacs.specs.Formula.{Body, Formula, formula_of}
 use Rattle.dimacs.specs.declared.header.Header.{Header}
 use Rattle.proofs.specs.Steps.{Step}
 use Rattle.proofs.specs.Reading.{PlacedStep, Proof, with_step}
+use Rattle.proofs.specs.declared.step_end.StepEnd.{StepEnd}
 use Rattle.steps.specs.Theory.Rules.{Rule, State, start, Answers, after, sum_of, Same, IsFinite}
 use Rattle.steps.specs.ProofSession.{View, is_over}
 use Rattle.steps.specs.Theory.Verdicts.{Ending, Ends, Verdict, is_empty, is_last}
@@ -17,10 +19,11 @@ use Rattle.steps.specs.declared.theory.accepted.Accepted.{Accepted}
 use Rattle.steps.specs.declared.theory.refusal.Refusal.{Refusal}
 use Rattle.steps.specs.declared.theory.refusal.Refusal.TheVariants.{OutOfMemory as RefusedMemory}
 use Rattle.sat_check.specs.Lines.{trace_line}
-use Rattle.sat_check.specs.Reach.{deciding_step, NeedsNoProof, IsVerdict}
-use Rattle.sat_check.specs.Report.{Report, Outcome, text_of, bare_steps, peak_of, proof_report}
+use Rattle.sat_check.specs.Reach.{deciding_step, refused_end, NeedsNoProof, IsVerdict, ReadsNoFurther, TellsRefused}
+use Rattle.sat_check.specs.Report.{Report, Reports, Outcome, text_of, bare_steps, peak_of, proof_report}
+use Rattle.sat_check.specs.declared.checked.Checked.{Checked}
 use Rattle.sat_check.specs.declared.status.Status.{Status}
-use Rattle.sat_check.specs.declared.status.Status.TheVariants.{ReadFailed, OutOfMemory as NoMemory, WriteFailed}
+use Rattle.sat_check.specs.declared.status.Status.TheVariants.{NotVerified, ReadFailed, OutOfMemory as NoMemory, WriteFailed}
 
 -- where a reader stands, and what is still to come of an input
 pub record Standing : Type 0 where
@@ -55,23 +58,37 @@ pub record Rest (trace : Bool) (state : State) (n : ℕ) (peak : ℕ) (proof : P
   pub report : r ≡ proof_report trace n (max peak (peak_of state (bare_steps proof) words)) words ending proof.fault
 
 -- What is left of the steps of a proof from a state on: where a verdict was answered, what follows the step that
--- decides.
-abbrev pub LeavesRest : State → Proof → Input → Status → Type 0
-LeavesRest state p rest status =
-    (words : List Accepted) (ending : Ending) (last : PlacedStep) → IsVerdict status → Ends state (bare_steps p) words ending
-    → deciding_step p.steps words ending ≡ Some last → last.rest ≡ length rest.bytes
+-- decides; and where that ends, if it was refused.
+pub record LeavesRest (state : State) (p : Proof) (rest : Input) (checked : Checked) : Type 0 where
+  pub past : (words : List Accepted) (ending : Ending) (last : PlacedStep) → IsVerdict checked.status → Ends state (bare_steps p) words ending
+      → deciding_step p.steps words ending ≡ Some last → last.rest ≡ length rest.bytes
+  pub refused : (words : List Accepted) (ending : Ending) → checked.status ≡ NotVerified → Ends state (bare_steps p) words ending
+      → checked.refused ≡ refused_end p.steps words ending
+  pub only : (checked.status ≡ NotVerified → ⊥) → checked.refused ≡ None
 
 -- What is left of a proof: all of it where the formula decides alone, and where a verdict was answered, what follows
--- the step that decides.
-pub record LeavesProof (rule : Rule) (fault : Option Fault) (clauses : List Clause) (p : Proof) (old new : Reader) (rest : Input) (status : Status) : Type 0 where
+-- the step that decides; and where the refused step ends.
+pub record LeavesProof (rule : Rule) (fault : Option Fault) (clauses : List Clause) (p : Proof) (old new : Reader) (rest : Input) (checked : Checked) : Type 0 where
   pub unread : NeedsNoProof fault clauses → new ≡ old
-  pub past : (words : List Accepted) (ending : Ending) (last : PlacedStep) → fault ≡ None → IsVerdict status
+  pub past : (words : List Accepted) (ending : Ending) (last : PlacedStep) → fault ≡ None → IsVerdict checked.status
       → Verdict rule clauses (bare_steps p) words ending → deciding_step p.steps words ending ≡ Some last → last.rest ≡ length rest.bytes
+  pub told : TellsRefused rule fault clauses p checked
+
+-- what was written, by all that was seen of the formula and of the proof, how far this was read, and where the refused
+-- step ends
+abbrev pub AllReports : Rule → Bool → (Input → Proof) → Reader → Reader → Reader → Reader → Checked → Option (List ℕ) → Option (List ℕ) → Type 0
+AllReports rule trace steps formula formula_new proof proof_new checked old new =
+    OfBothSeen formula formula_new proof proof_new (λ i j. Reports rule trace i (steps j) old new checked.status
+    × ReadsNoFurther rule (formula_of i) j (steps j) (bytes_read proof proof_new) checked.status × TellsRefused rule (formula_of i).fault (formula_of i).clauses (steps j) checked)
+
+-- a step that is refused
+abbrev pub IsRefused : State → Step → Type 0
+IsRefused state step = (r : Refusal) × Answers state step (Err r)
 
 -- a step that decides: it is refused, or it is the accepted empty clause
 abbrev pub Decides : State → Step → Type 0
 Decides state step =
-    ((r : Refusal) × Answers state step (Err r)) ⊎ ((word : Accepted) × Answers state step (Ok word) × (is_last word ≡ true))
+    IsRefused state step ⊎ ((word : Accepted) × Answers state step (Ok word) × (is_last word ≡ true))
 
 -- numbers are counted up to the greatest of 64 bits
 abbrev pub counted : ℕ → ℕ
@@ -95,8 +112,8 @@ pub record GoesOn (trace : Bool) (number : ℕ) (old new : View) (step : Step) (
 -- with this step the check ended: whatever follows it, what was written is the rest of the report
 abbrev pub Stops : Bool → ℕ → View → Step → Sink → Sink → Status → Type 0
 Stops trace number old step was now status =
-    (n left : ℕ) (p : Proof) → number ≡ counted (n + 1) → sum_of old.state ≤ old.peak → IsFinite old.state
-    → (r : Report) × Rest trace old.state n old.peak (with_step step left p) r × Outcome status was.held now.held r
+    (n left : ℕ) (end : StepEnd) (p : Proof) → number ≡ counted (n + 1) → sum_of old.state ≤ old.peak → IsFinite old.state
+    → (r : Report) × Rest trace old.state n old.peak (with_step step end left p) r × Outcome status was.held now.held r
 
 -- how a run may stop before its end
 abbrev pub IsBreak : Status → Sink → Type 0

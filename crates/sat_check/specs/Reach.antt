@@ -1,4 +1,4 @@
--- How far a proof is read.
+-- How far a proof is read, and where the step ends that is refused.
 use Rattle.std.specs.Prelude.{◌≡◌, ◌⊎◌, ℕ, ◌+◌, ◌≤◌, true, List, [], ◌∷◌, length, slice_get, Option, None, Some}
 use Rattle.std.specs.List.{list_any}
 use Rattle.cnf_base.specs.Literals.{Clause}
@@ -6,10 +6,12 @@ use Rattle.cnf_base.specs.Stream.{Input}
 use Rattle.cnf_base.specs.declared.fault.Fault.{Fault}
 use Rattle.dimacs.specs.Formula.{Formula}
 use Rattle.proofs.specs.Reading.{PlacedStep, Proof}
+use Rattle.proofs.specs.declared.step_end.StepEnd.{StepEnd}
 use Rattle.steps.specs.Theory.Rules.{Rule}
 use Rattle.steps.specs.Theory.Verdicts.{Ending, verified, refused, no_empty_clause, Verdict, is_empty}
 use Rattle.steps.specs.declared.theory.accepted.Accepted.{Accepted}
 use Rattle.sat_check.specs.Report.{bare_steps}
+use Rattle.sat_check.specs.declared.checked.Checked.{Checked}
 use Rattle.sat_check.specs.declared.status.Status.{Status}
 use Rattle.sat_check.specs.declared.status.Status.TheVariants.{Verified, NotVerified}
 
@@ -20,6 +22,16 @@ deciding_step steps [] verified = None
 deciding_step steps (word ∷ words) verified = slice_get steps (length words)
 deciding_step steps words (refused r) = slice_get steps (length words)
 deciding_step steps words no_empty_clause = None
+
+-- where the step ends that is refused; none where no step is
+abbrev pub end_of : Option PlacedStep → Option StepEnd
+end_of None = None
+end_of (Some placed) = Some placed.end
+
+abbrev pub refused_end : List PlacedStep → List Accepted → Ending → Option StepEnd
+refused_end steps words verified = None
+refused_end steps words (refused r) = end_of (slice_get steps (length words))
+refused_end steps words no_empty_clause = None
 
 -- the formula decides alone: it has a fault, or an empty clause
 abbrev pub NeedsNoProof : Option Fault → List Clause → Type 0
@@ -36,3 +48,10 @@ pub record ReadsNoFurther (rule : Rule) (f : Formula) (proof : Input) (p : Proof
   pub past : (words : List Accepted) (ending : Ending) (last : PlacedStep) → f.fault ≡ None → IsVerdict status
       → Verdict rule f.clauses (bare_steps p) words ending → deciding_step p.steps words ending ≡ Some last
       → read + last.rest ≤ length proof.bytes + 65536
+
+-- A check tells where the refused step ends: exactly where the status is `NotVerified` since a step of the proof was refused.
+pub record TellsRefused (rule : Rule) (fault : Option Fault) (clauses : List Clause) (p : Proof) (checked : Checked) : Type 0 where
+  pub unread : NeedsNoProof fault clauses → checked.refused ≡ None
+  pub refused : (words : List Accepted) (ending : Ending) → fault ≡ None → checked.status ≡ NotVerified
+      → Verdict rule clauses (bare_steps p) words ending → checked.refused ≡ refused_end p.steps words ending
+  pub only : (checked.status ≡ NotVerified → ⊥) → checked.refused ≡ None

@@ -9,12 +9,12 @@ ghost use Rattle.steps.specs.Theory.Rules.{Rule, rule_of};
 ghost use Rattle.sat_check.specs.Report.{Report, Outcome, Checks, Reports};
 ghost use Rattle.sat_check.specs.Checking.{IsLoaded, LeavesProof};
 
-use crate::Status;
 use crate::check_proof::check_proof;
 use crate::conclude::{break_off, conclude, write_line};
 use crate::load::load;
 use crate::report::{formula_line, steps_line};
 use crate::subject::Subject;
+use crate::{Checked, Status};
 use cnf_base::{In, LineOut, Out};
 use dimacs::Header;
 use proofs::StepReader;
@@ -29,24 +29,27 @@ pub fn check<F: In, S: ProofSession, R: StepReader, O: Out>(
     session: &mut S,
     reader: &mut R,
     lines: &mut LineOut<O>,
-) -> Status
+) -> Checked
     requires unused { IsLoaded (rule_of (S.shown session.old).state) (S.shown session.old) [] }
     requires whole { lines.old.is_broken ≡ false }
     ensures report { (f : Seen (F.shown formula.old) (F.shown formula.new))
         × Along (R.stream reader.old) (R.stream reader.new) (λ j k. (i : Input) → IsSeen f i →
         Reports (rule_of (S.shown session.old).state) trace i (R.to_come reader.old j)
-        lines.old.held lines.new.held result
+        lines.old.held lines.new.held result.status
         × LeavesProof (rule_of (S.shown session.old).state) (formula_of i).fault
         (formula_of i).clauses (R.to_come reader.old j) (R.stream reader.old).reader
         (R.stream reader.new).reader k result) }
-    ensures read_failed { result ≡ Status.ReadFailed →
+    ensures read_failed { result.status ≡ Status.ReadFailed →
         OneHasFailed (F.shown formula.new) (R.stream reader.new).reader }
-    ensures write_failed { result ≡ Status.WriteFailed → lines.new.has_failed ≡ true }
+    ensures write_failed { result.status ≡ Status.WriteFailed → lines.new.has_failed ≡ true }
     ensures same_writer { lines.new.borrows ≡ lines.old.borrows }
 {
     match load(alloc, formula, session) {
         Ok(header) => check_loaded(alloc, trace, header, session, reader, lines),
-        Err(fault) => break_off(alloc, lines, Subject::Proof, b"formula", fault),
+        Err(fault) => {
+            let status = break_off(alloc, lines, Subject::Proof, b"formula", fault);
+            Checked::without_step(status)
+        }
     }
 }
 
@@ -58,7 +61,7 @@ fn check_loaded<S: ProofSession, R: StepReader, O: Out>(
     session: &mut S,
     reader: &mut R,
     lines: &mut LineOut<O>,
-) -> Status
+) -> Checked
     requires loaded { (rule : Rule) × (clauses : List Clause)
         × IsLoaded rule (S.shown session.old) clauses }
     requires whole { lines.old.is_broken ≡ false }
@@ -66,24 +69,21 @@ fn check_loaded<S: ProofSession, R: StepReader, O: Out>(
         (λ j k. (rule : Rule) (clauses : List Clause) →
         IsLoaded rule (S.shown session.old) clauses →
         (r : Report) × Checks rule trace header clauses (R.to_come reader.old j) r
-        × Outcome result lines.old.held lines.new.held r
+        × Outcome result.status lines.old.held lines.new.held r
         × LeavesProof rule None clauses (R.to_come reader.old j) (R.stream reader.old).reader
         (R.stream reader.new).reader k result) }
-    ensures read_failed { result ≡ Status.ReadFailed →
+    ensures read_failed { result.status ≡ Status.ReadFailed →
         (R.stream reader.new).reader.has_failed ≡ true }
-    ensures write_failed { result ≡ Status.WriteFailed → lines.new.has_failed ≡ true }
+    ensures write_failed { result.status ≡ Status.WriteFailed → lines.new.has_failed ≡ true }
     ensures same_writer { lines.new.borrows ≡ lines.old.borrows }
 {
     if let Err(status) = write_line(lines, formula_line(alloc, header)) {
-        return status;
+        return Checked::without_step(status);
     }
     if session.verified() {
-        return conclude(
-            lines,
-            Subject::Proof,
-            steps_line(alloc, 0, session.peak()),
-            Status::Verified,
-        );
+        let line = steps_line(alloc, 0, session.peak());
+        let status = conclude(lines, Subject::Proof, line, Status::Verified);
+        return Checked::without_step(status);
     }
     check_proof(alloc, trace, session, reader, lines)
 }

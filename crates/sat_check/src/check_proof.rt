@@ -7,11 +7,11 @@ ghost use Rattle.steps.specs.Theory.Rules.{sum_of, IsFinite};
 ghost use Rattle.sat_check.specs.Report.{Report, Outcome};
 ghost use Rattle.sat_check.specs.Checking.{Rest, LeavesRest};
 
-use crate::Status;
 use crate::conclude::{break_off, conclude};
 use crate::report::end_line;
 use crate::subject::Subject;
 use crate::take_step::take_step;
+use crate::{Checked, Status};
 use cnf_base::{LineOut, Out};
 use proofs::{StepBuf, StepReader};
 use std::alloc::Global;
@@ -24,18 +24,18 @@ pub fn check_proof<S: ProofSession, R: StepReader, O: Out>(
     session: &mut S,
     reader: &mut R,
     lines: &mut LineOut<O>,
-) -> Status
+) -> Checked
     requires sound { is_over (S.shown session.old) ≡ false }
     requires finite { IsFinite (S.shown session.old).state }
     requires least { sum_of (S.shown session.old).state ≤ (S.shown session.old).peak }
     requires whole { lines.old.is_broken ≡ false }
     ensures report { Along (R.stream reader.old) (R.stream reader.new) (λ i j.
         (r : Report) × Rest trace (S.shown session.old).state 0 (S.shown session.old).peak
-        (R.to_come reader.old i) r × Outcome result lines.old.held lines.new.held r
+        (R.to_come reader.old i) r × Outcome result.status lines.old.held lines.new.held r
         × LeavesRest (S.shown session.old).state (R.to_come reader.old i) j result) }
-    ensures read_failed { result ≡ Status.ReadFailed →
+    ensures read_failed { result.status ≡ Status.ReadFailed →
         (R.stream reader.new).reader.has_failed ≡ true }
-    ensures write_failed { result ≡ Status.WriteFailed → lines.new.has_failed ≡ true }
+    ensures write_failed { result.status ≡ Status.WriteFailed → lines.new.has_failed ≡ true }
     ensures same_writer { lines.new.borrows ≡ lines.old.borrows }
 {
     let mut step = StepBuf::new(alloc);
@@ -45,15 +45,19 @@ pub fn check_proof<S: ProofSession, R: StepReader, O: Out>(
             Ok(true) => {
                 let number = accepted.saturating_add(1);
                 if let Some(status) = take_step(alloc, trace, session, &step, number, lines) {
-                    return status;
+                    return Checked::by_step(status, reader.step_end());
                 }
                 accepted = number;
             }
             Ok(false) => {
                 let line = end_line(alloc);
-                return conclude(lines, Subject::Proof, line, Status::NotVerified);
+                let status = conclude(lines, Subject::Proof, line, Status::NotVerified);
+                return Checked::without_step(status);
             }
-            Err(fault) => return break_off(alloc, lines, Subject::Proof, b"proof", fault),
+            Err(fault) => {
+                let status = break_off(alloc, lines, Subject::Proof, b"proof", fault);
+                return Checked::without_step(status);
+            }
         }
     }
 }

@@ -7,12 +7,13 @@ ghost use Rattle.cnf_base.specs.Stream.{bytes_read};
 ghost use Rattle.dimacs.specs.Formula.{formula_of};
 ghost use Rattle.steps.specs.Drat.Session.{fresh_drat};
 ghost use Rattle.steps.specs.Theory.Rules.{drat};
-ghost use Rattle.sat_check.specs.Reach.{ReadsNoFurther};
-ghost use Rattle.sat_check.specs.Report.{Reports, ChecksProof, drat_proof, rules_of};
+ghost use Rattle.sat_check.specs.Checking.{AllReports};
+ghost use Rattle.sat_check.specs.Reach.{ReadsNoFurther, TellsRefused};
+ghost use Rattle.sat_check.specs.Report.{ChecksProof, drat_proof, rules_of};
 
 use crate::check::check;
 use crate::conclude::give_up;
-use crate::{DratOptions, Status};
+use crate::{Checked, DratOptions, Status};
 use cnf_base::{In, LineOut, Out, Piece, Source};
 use proofs::{DratBinary, DratText};
 use propagation::Propagate;
@@ -46,11 +47,36 @@ pub fn run_drat<F: In, P: In, O: Out>(
         OneHasFailed (F.shown formula.new) (P.shown proof.new) }
     ensures write_failed { result ≡ Status.WriteFailed → O.has_failed out.new ≡ true }
 {
+    run_drat_placed(alloc, options, formula, proof, out).status
+}
+
+/// As [`run_drat`], and tells where the step ends that was refused.
+pub fn run_drat_placed<F: In, P: In, O: Out>(
+    alloc: Global,
+    options: &DratOptions,
+    formula: &mut F,
+    proof: &mut P,
+    out: &mut O,
+) -> Checked
+    // As of `run_drat`; and of the same inputs it tells where the refused step ends.
+    ensures checks { OfBothSeen (F.shown formula.old) (F.shown formula.new)
+        (P.shown proof.old) (P.shown proof.new) (λ i j.
+        ChecksProof (drat (rules_of options.now)) options.now.trace i
+        (drat_proof options.now.binary j) (O.held out.old) (O.held out.new) result.status
+        × ReadsNoFurther (drat (rules_of options.now)) (formula_of i) j
+        (drat_proof options.now.binary j)
+        (bytes_read (P.shown proof.old) (P.shown proof.new)) result.status
+        × TellsRefused (drat (rules_of options.now)) (formula_of i).fault (formula_of i).clauses
+        (drat_proof options.now.binary j) result) }
+    ensures read_failed { result.status ≡ Status.ReadFailed →
+        OneHasFailed (F.shown formula.new) (P.shown proof.new) }
+    ensures write_failed { result.status ≡ Status.WriteFailed → O.has_failed out.new ≡ true }
+{
     let mut lines = LineOut::new(&mut *out);
-    let status = check_drat(alloc, *options, formula, proof, &mut lines);
+    let checked = check_drat(alloc, *options, formula, proof, &mut lines);
     let writer = lines.release();
     let _ = &*writer;
-    status
+    checked
 }
 
 fn check_drat<F: In, P: In, O: Out>(
@@ -59,21 +85,18 @@ fn check_drat<F: In, P: In, O: Out>(
     formula: &mut F,
     proof: &mut P,
     lines: &mut LineOut<O>,
-) -> Status
+) -> Checked
     requires { lines.old.is_broken ≡ false }
-    ensures report { OfBothSeen (F.shown formula.old) (F.shown formula.new)
-        (P.shown proof.old) (P.shown proof.new) (λ i j.
-        Reports (drat (rules_of options)) options.trace i (drat_proof options.binary j)
-        lines.old.held lines.new.held result
-        × ReadsNoFurther (drat (rules_of options)) (formula_of i) j
-        (drat_proof options.binary j) (bytes_read (P.shown proof.old) (P.shown proof.new)) result) }
-    ensures read_failed { result ≡ Status.ReadFailed →
+    ensures report { AllReports (drat (rules_of options)) options.trace (drat_proof options.binary)
+        (F.shown formula.old) (F.shown formula.new) (P.shown proof.old) (P.shown proof.new)
+        result lines.old.held lines.new.held }
+    ensures read_failed { result.status ≡ Status.ReadFailed →
         OneHasFailed (F.shown formula.new) (P.shown proof.new) }
-    ensures write_failed { result ≡ Status.WriteFailed → lines.new.has_failed ≡ true }
+    ensures write_failed { result.status ≡ Status.WriteFailed → lines.new.has_failed ≡ true }
     ensures same_writer { lines.new.borrows ≡ lines.old.borrows }
 {
     let Ok(clauses) = Watch::new(alloc) else {
-        return give_up(lines);
+        return Checked::without_step(give_up(lines));
     };
     check_with(alloc, options, clauses, formula, proof, lines)
 }
@@ -86,20 +109,17 @@ pub(crate) fn check_with<C: Propagate + Drop, F: In, P: In, O: Out>(
     formula: &mut F,
     proof: &mut P,
     lines: &mut LineOut<O>,
-) -> Status
+) -> Checked
     requires empty { (C.state clauses).live ≡ maps.empty }
     requires nothing_assumed { (C.state clauses).assumptions ≡ [] }
     requires none_refused { (C.state clauses).has_refused ≡ false }
     requires whole { lines.old.is_broken ≡ false }
-    ensures report { OfBothSeen (F.shown formula.old) (F.shown formula.new)
-        (P.shown proof.old) (P.shown proof.new) (λ i j.
-        Reports (drat (rules_of options)) options.trace i (drat_proof options.binary j)
-        lines.old.held lines.new.held result
-        × ReadsNoFurther (drat (rules_of options)) (formula_of i) j
-        (drat_proof options.binary j) (bytes_read (P.shown proof.old) (P.shown proof.new)) result) }
-    ensures read_failed { result ≡ Status.ReadFailed →
+    ensures report { AllReports (drat (rules_of options)) options.trace (drat_proof options.binary)
+        (F.shown formula.old) (F.shown formula.new) (P.shown proof.old) (P.shown proof.new)
+        result lines.old.held lines.new.held }
+    ensures read_failed { result.status ≡ Status.ReadFailed →
         OneHasFailed (F.shown formula.new) (P.shown proof.new) }
-    ensures write_failed { result ≡ Status.WriteFailed → lines.new.has_failed ≡ true }
+    ensures write_failed { result.status ≡ Status.WriteFailed → lines.new.has_failed ≡ true }
     ensures same_writer { lines.new.borrows ≡ lines.old.borrows }
 {
     let mut session = DratSession::new(clauses, options.rules());
@@ -114,35 +134,32 @@ fn check_form<C: Propagate + Drop, F: In, P: In, O: Out>(
     session: &mut DratSession<C>,
     proof: &mut P,
     lines: &mut LineOut<O>,
-) -> Status
+) -> Checked
     requires fresh { session.old ≡ fresh_drat (rules_of options) }
     requires whole { lines.old.is_broken ≡ false }
-    ensures report { OfBothSeen (F.shown formula.old) (F.shown formula.new)
-        (P.shown proof.old) (P.shown proof.new) (λ i j.
-        Reports (drat (rules_of options)) options.trace i (drat_proof options.binary j)
-        lines.old.held lines.new.held result
-        × ReadsNoFurther (drat (rules_of options)) (formula_of i) j
-        (drat_proof options.binary j) (bytes_read (P.shown proof.old) (P.shown proof.new)) result) }
-    ensures read_failed { result ≡ Status.ReadFailed →
+    ensures report { AllReports (drat (rules_of options)) options.trace (drat_proof options.binary)
+        (F.shown formula.old) (F.shown formula.new) (P.shown proof.old) (P.shown proof.new)
+        result lines.old.held lines.new.held }
+    ensures read_failed { result.status ≡ Status.ReadFailed →
         OneHasFailed (F.shown formula.new) (P.shown proof.new) }
-    ensures write_failed { result ≡ Status.WriteFailed → lines.new.has_failed ≡ true }
+    ensures write_failed { result.status ≡ Status.WriteFailed → lines.new.has_failed ≡ true }
     ensures same_writer { lines.new.borrows ≡ lines.old.borrows }
 {
     let Ok(piece) = Piece::new(alloc) else {
-        return give_up(lines);
+        return Checked::without_step(give_up(lines));
     };
     let trace = options.trace;
     if options.binary {
         let mut reader = DratBinary::new(Source::over(piece, &mut *proof));
-        let status = check(alloc, trace, formula, session, &mut reader, lines);
+        let checked = check(alloc, trace, formula, session, &mut reader, lines);
         let rest = reader.release();
         let _ = &*rest;
-        status
+        checked
     } else {
         let mut reader = DratText::new(Source::over(piece, &mut *proof));
-        let status = check(alloc, trace, formula, session, &mut reader, lines);
+        let checked = check(alloc, trace, formula, session, &mut reader, lines);
         let rest = reader.release();
         let _ = &*rest;
-        status
+        checked
     }
 }

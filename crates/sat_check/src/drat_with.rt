@@ -40,8 +40,8 @@ pub fn run_drat_with<C: Propagate + Drop, F: In, P: In, O: Out>(
     ensures write_failed { result ≡ Status.WriteFailed → O.has_failed out.new ≡ true }
 {
     let mut lines = LineOut::new(&mut *out);
-    let status = check_with(alloc, *options, clauses, formula, proof, &mut lines);
+    let checked = check_with(alloc, *options, clauses, formula, proof, &mut lines);
     let writer = lines.release();
     let _ = &*writer;
-    status
+    checked.status
 }

@@ -3,6 +3,7 @@
 
 mod check;
 mod check_proof;
+mod checked;
 mod command_line;
 mod conclude;
 mod drat;
@@ -20,12 +21,13 @@ mod status;
 mod subject;
 mod take_step;
 
+pub use checked::Checked;
 pub use command_line::args::{Args, ArgsFault};
 pub use command_line::read_args;
 pub use command_line::tool::Tool;
-pub use drat::run_drat;
+pub use drat::{run_drat, run_drat_placed};
 pub use drat_with::run_drat_with;
-pub use lrat::run_lrat;
+pub use lrat::{run_lrat, run_lrat_placed};
 pub use model::run_model;
 pub use options::{DratOptions, LratOptions};
 pub use status::Status;

@@ -6,12 +6,13 @@ ghost use Rattle.cnf_base.specs.Stream.{bytes_read};
 ghost use Rattle.dimacs.specs.Formula.{formula_of};
 ghost use Rattle.proofs.specs.Lrat.{lrat_steps};
 ghost use Rattle.steps.specs.Theory.Rules.{lrat};
-ghost use Rattle.sat_check.specs.Reach.{ReadsNoFurther};
-ghost use Rattle.sat_check.specs.Report.{Reports, ChecksProof};
+ghost use Rattle.sat_check.specs.Checking.{AllReports};
+ghost use Rattle.sat_check.specs.Reach.{ReadsNoFurther, TellsRefused};
+ghost use Rattle.sat_check.specs.Report.{ChecksProof};
 
 use crate::check::check;
 use crate::conclude::give_up;
-use crate::{LratOptions, Status};
+use crate::{Checked, LratOptions, Status};
 use cnf_base::{In, LineOut, Out, Piece, Source};
 use proofs::LratText;
 use std::alloc::Global;
@@ -42,11 +43,34 @@ pub fn run_lrat<F: In, P: In, O: Out>(
         OneHasFailed (F.shown formula.new) (P.shown proof.new) }
     ensures write_failed { result ≡ Status.WriteFailed → O.has_failed out.new ≡ true }
 {
+    run_lrat_placed(alloc, options, formula, proof, out).status
+}
+
+/// As [`run_lrat`], and tells where the step ends that was refused.
+pub fn run_lrat_placed<F: In, P: In, O: Out>(
+    alloc: Global,
+    options: &LratOptions,
+    formula: &mut F,
+    proof: &mut P,
+    out: &mut O,
+) -> Checked
+    // As of `run_lrat`; and of the same inputs it tells where the refused step ends.
+    ensures checks { OfBothSeen (F.shown formula.old) (F.shown formula.new)
+        (P.shown proof.old) (P.shown proof.new) (λ i j.
+        ChecksProof lrat options.now.trace i (lrat_steps j)
+        (O.held out.old) (O.held out.new) result.status
+        × ReadsNoFurther lrat (formula_of i) j (lrat_steps j)
+        (bytes_read (P.shown proof.old) (P.shown proof.new)) result.status
+        × TellsRefused lrat (formula_of i).fault (formula_of i).clauses (lrat_steps j) result) }
+    ensures read_failed { result.status ≡ Status.ReadFailed →
+        OneHasFailed (F.shown formula.new) (P.shown proof.new) }
+    ensures write_failed { result.status ≡ Status.WriteFailed → O.has_failed out.new ≡ true }
+{
     let mut lines = LineOut::new(&mut *out);
-    let status = check_lrat(alloc, options.trace, formula, proof, &mut lines);
+    let checked = check_lrat(alloc, options.trace, formula, proof, &mut lines);
     let writer = lines.release();
     let _ = &*writer;
-    status
+    checked
 }
 
 fn check_lrat<F: In, P: In, O: Out>(
@@ -55,27 +79,24 @@ fn check_lrat<F: In, P: In, O: Out>(
     formula: &mut F,
     proof: &mut P,
     lines: &mut LineOut<O>,
-) -> Status
+) -> Checked
     requires { lines.old.is_broken ≡ false }
-    ensures report { OfBothSeen (F.shown formula.old) (F.shown formula.new)
-        (P.shown proof.old) (P.shown proof.new) (λ i j.
-        Reports lrat trace i (lrat_steps j) lines.old.held lines.new.held result
-        × ReadsNoFurther lrat (formula_of i) j (lrat_steps j)
-        (bytes_read (P.shown proof.old) (P.shown proof.new)) result) }
-    ensures read_failed { result ≡ Status.ReadFailed →
+    ensures report { AllReports lrat trace lrat_steps (F.shown formula.old) (F.shown formula.new)
+        (P.shown proof.old) (P.shown proof.new) result lines.old.held lines.new.held }
+    ensures read_failed { result.status ≡ Status.ReadFailed →
         OneHasFailed (F.shown formula.new) (P.shown proof.new) }
-    ensures write_failed { result ≡ Status.WriteFailed → lines.new.has_failed ≡ true }
+    ensures write_failed { result.status ≡ Status.WriteFailed → lines.new.has_failed ≡ true }
     ensures same_writer { lines.new.borrows ≡ lines.old.borrows }
 {
     let Ok(mut session) = LratSession::new(alloc) else {
-        return give_up(lines);
+        return Checked::without_step(give_up(lines));
     };
     let Ok(piece) = Piece::new(alloc) else {
-        return give_up(lines);
+        return Checked::without_step(give_up(lines));
     };
     let mut reader = LratText::new(Source::over(piece, &mut *proof));
-    let status = check(alloc, trace, formula, &mut session, &mut reader, lines);
+    let checked = check(alloc, trace, formula, &mut session, &mut reader, lines);
     let rest = reader.release();
     let _ = &*rest;
-    status
+    checked
 }

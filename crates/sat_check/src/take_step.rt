@@ -7,7 +7,7 @@ ghost use Rattle.steps.specs.Theory.Verdicts.{is_last};
 ghost use Rattle.sat_check.specs.Lines.{refusal_line, trace_line};
 ghost use Rattle.sat_check.specs.Report.{Report, Outcome, concluded, with_lines, text_of};
 ghost use Rattle.sat_check.specs.Reach.{IsVerdict};
-ghost use Rattle.sat_check.specs.Checking.{Decides, GoesOn, Stops, IsBreak, IsTold, is_memory, traced};
+ghost use Rattle.sat_check.specs.Checking.{Decides, GoesOn, IsRefused, Stops, IsBreak, IsTold, is_memory, traced};
 
 use crate::Status;
 use crate::conclude::{conclude, give_up, write_line};
@@ -36,6 +36,8 @@ pub fn take_step<S: ProofSession, O: Out>(
         (S.shown session.old) step.now lines.old lines.new status) }
     ensures decided { IfSome result (λ status. IsVerdict status →
         Decides (S.shown session.old).state step.now) }
+    ensures refused { IfSome result (λ status. status ≡ Status.NotVerified →
+        IsRefused (S.shown session.old).state step.now) }
     ensures told { IfSome result (λ status. IsTold status lines.new) }
     ensures same_writer { lines.new.borrows ≡ lines.old.borrows }
 {

@@ -8,3 +8,4 @@ mod forms;
 mod formula;
 mod literals;
 mod lrat_text;
+mod step_ends;

@@ -17,7 +17,7 @@ returns-in-Ok-None-clause-step g c =
     let so_far = c.loop-byte.invariant in
     let number : c.byte_no-byte_no.result ≡ c.peek.new.self.byte_no = search rules in
     let ends = let P : ℕ → Type 0 = λ n. EndsProof c.at_end.result (binary_at_end so_far.0 n End) in subst P number (c.at_end.ensures.value so_far.0 so_far.2) in
-    Between-end _ _ _ _ _ so_far.1 c.in-Ok-None.ensures.look c.at_end.result (search rules) (search rules) ends
+    Between-end _ _ _ _ _ so_far.1 c.in-Ok-None.ensures.look c.at_end.result _ (search rules) (search rules) ends
 
 pub loop-byte-preserved : goal.loop-byte-preserved
 loop-byte-preserved g c =
@@ -28,7 +28,7 @@ loop-byte-preserved g c =
 pub returns-in-Ok-Complete-clause-step : goal.returns-in-Ok-Complete-clause-step
 returns-in-Ok-Complete-clause-step g c =
     let so_far = c.loop-byte.invariant in
-    rw c.bump.ensures (Between-step _ _ _ _ _ so_far.1 c.in-Ok-Some.ensures.look c.in-Ok-Some.byte (search rules) (search rules) c.move_on.new.step
+    rw c.bump.ensures (Between-step _ _ _ _ _ so_far.1 c.in-Ok-Some.ensures.look c.in-Ok-Some.byte (search rules) (search rules) _ (search rules) c.move_on.new.step
     (moves_told _ (Ok Complete) so_far.0 _ _ c.byte_no-byte_no.result c.peek.new.self.byte_no _ (c.move_on.ensures so_far.0 so_far.2) (search rules) (search rules)))
 
 pub returns-in-Err-Binary-clause-step : goal.returns-in-Err-Binary-clause-step

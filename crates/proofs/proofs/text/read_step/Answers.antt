@@ -31,7 +31,7 @@ returns-in-Ok-Complete-clause-step g c =
     let complete : Result (Moved g.row.P.Denot) Stopped = Ok Complete in
     let is : c.move_on.result ≡ complete = search rules in
     Between-step g.P.Part.format _ _ _ _ _ c.loop-place.invariant.0 c.in-Ok-Word.place c.in-Ok-Word.word (told _ _ _ (Ok (token.Word c.in-Ok-Word.place c.in-Ok-Word.word)) c.next.ensures.tokens (search rules))
-    c.move_on.new.step (moves_told _ complete (move_of g.P.Part.format c.loop-place.part c.loop-place.step c.in-Ok-Word.word) _ c.move_on.ensures.moves is)
+    _ (search rules) c.move_on.new.step (moves_told _ complete (move_of g.P.Part.format c.loop-place.part c.loop-place.step c.in-Ok-Word.word) _ c.move_on.ensures.moves is)
 
 pub returns-in-Err-Text-clause-step : goal.returns-in-Err-Text-clause-step
 returns-in-Err-Text-clause-step g c =
@@ -52,7 +52,7 @@ loop-place-preserved g c = (
 
 pub returns-in-Ok-End-clause-step : goal.returns-in-Ok-End-clause-step
 returns-in-Ok-End-clause-step g c =
-    Between-end g.P.Part.format _ _ _ _ _ c.loop-place.invariant.0 c.in-Ok-End.place c.at_end.result (told _ _ _ (Ok (token.End c.in-Ok-End.place)) c.next.ensures.tokens (search rules)) c.at_end.ensures.value
+    Between-end g.P.Part.format _ _ _ _ _ c.loop-place.invariant.0 c.in-Ok-End.place c.at_end.result _ (told _ _ _ (Ok (token.End c.in-Ok-End.place)) c.next.ensures.tokens (search rules)) c.at_end.ensures.value
 
 pub returns-in-Err-clause-step : goal.returns-in-Err-clause-step
 returns-in-Err-clause-step g c =

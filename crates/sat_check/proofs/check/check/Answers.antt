@@ -1,5 +1,5 @@
 -- The formula was loaded, or it has a fault.
-use Rattle.std.proofs.Common.{Option, [], sym, subst}
+use Rattle.std.proofs.Common.{Option, [], sym, subst, rules}
 use Rattle.cnf_base.specs.declared.fault.Fault.{Fault}
 use Rattle.cnf_base.proofs.StreamLemmas.{Along-map, Along-none}
 use Rattle.cnf_base.proofs.SeenLemmas.{seen_is_some}
@@ -35,8 +35,8 @@ returns-in-Err-clause-report g c =
     let rule = rule_of (g.S.ProofSession.shown c.args.session.now).state in (
       c.in-Err.ensures.loads.seen,
       Along-map _ _ _ _ (Along-none _) (λ j k m e i s. (
-        err_report rule (g.S.ProofSession.shown c.load.new.session) c.args.trace c.in-Err.fault i _ c.break_off.result c.args.lines.now c.break_off.new.lines (c.in-Err.ensures.loads.fact i s) c.break_off.ensures.memory c.break_off.ensures.told,
-        LeavesProof-fault rule (g.S.ProofSession.shown c.load.new.session) c.in-Err.fault i _ _ k c.break_off.result (c.in-Err.ensures.loads.fact i s)
-            (λ is. no_verdict c.break_off.result c.args.lines.now.held c.break_off.new.lines.held [] (c.break_off.ensures.memory is (record { lines = []; status = Malformed }))),
+        rw c.without_step.ensures (err_report rule (g.S.ProofSession.shown c.load.new.session) c.args.trace c.in-Err.fault i _ c.break_off-status.result c.args.lines.now c.break_off-status.new.lines (c.in-Err.ensures.loads.fact i s) c.break_off-status.ensures.memory c.break_off-status.ensures.told),
+        LeavesProof-fault rule (g.S.ProofSession.shown c.load.new.session) c.in-Err.fault i _ _ k c.without_step.result (search rules) (c.in-Err.ensures.loads.fact i s)
+            (rw c.without_step.ensures (λ is. no_verdict c.break_off-status.result c.args.lines.now.held c.break_off-status.new.lines.held [] (c.break_off-status.ensures.memory is (record { lines = []; status = Malformed })))),
       )),
     )

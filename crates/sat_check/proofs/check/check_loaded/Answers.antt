@@ -15,17 +15,17 @@ returns-in-Err-clause-report g c =
     let stopped = c.in-Err.ensures.stopped (formula_line c.args.header) in (
       _,
       some.1,
-      stopped some.0 c.formula_line.ensures,
-      LeavesProof-broken rule None clauses _ _ k _ (no_verdict _ _ _ _ (stopped (record { lines = []; status = Malformed }) c.formula_line.ensures)),
+      rw c.without_step.ensures (stopped some.0 c.formula_line.ensures),
+      LeavesProof-broken rule None clauses _ _ k c.without_step.result (search rules) (rw c.without_step.ensures (no_verdict _ _ _ _ (stopped (record { lines = []; status = Malformed }) c.formula_line.ensures))),
     ))
 
 pub returns-then-verified-clause-report : goal.returns-then-verified-clause-report
 returns-then-verified-clause-report g c =
     Along-map _ _ _ _ (Along-none _) (λ j k m e rule clauses l.
-    let done = verified_report rule (g.S.ProofSession.shown c.args.session.now) clauses l c.args.trace c.args.header _ c.conclude.result c.args.lines.now c.write_line.new.lines c.conclude.new.lines _ (search rules) c.peak.ensures
+    let done = verified_report rule (g.S.ProofSession.shown c.args.session.now) clauses l c.args.trace c.args.header _ c.conclude-status.result c.args.lines.now c.write_line.new.lines c.conclude-status.new.lines _ (search rules) c.peak.ensures
     (c.in_default.ensures.written (formula_line c.args.header) c.formula_line.ensures) c.in_default.ensures.ok.0
-    (c.conclude.ensures.outcome (steps_line 0 c.peak.result) c.steps_line.ensures) in
-    (done.0, done.1, done.2, LeavesProof-empty rule None clauses _ _ k _ (sym l.verified ∙ search rules)))
+    (c.conclude-status.ensures.outcome (steps_line 0 c.peak.result) c.steps_line-line.ensures) in
+    (done.0, done.1, rw c.without_step-then-verified.ensures done.2, LeavesProof-empty rule None clauses _ _ k c.without_step-then-verified.result (search rules) (sym l.verified ∙ search rules)))
 
 pub check_proof-requires-clause-finite : goal.check_proof-requires-clause-finite
 check_proof-requires-clause-finite g c = loaded_finite c.requires.loaded.0 (g.S.ProofSession.shown c.args.session.now) c.requires.loaded.1 c.requires.loaded.2
@@ -38,7 +38,7 @@ returns-clause-report g c =
     Along-map _ _ _ _ c.check_proof.ensures.report (λ j k m rest rule clauses l. (
       _,
       checks_rest rule (g.S.ProofSession.shown c.args.session.now) clauses l c.args.trace c.args.header _ rest.0 (search rules) rest.1,
-      Outcome-line c.check_proof.result c.args.lines.now c.write_line.new.lines _ (formula_line c.args.header) rest.0
+      Outcome-line c.check_proof.result.status c.args.lines.now c.write_line.new.lines _ (formula_line c.args.header) rest.0
           (c.in_default.ensures.written (formula_line c.args.header) c.formula_line.ensures) c.in_default.ensures.ok.0 rest.2,
       LeavesProof-checked rule (g.S.ProofSession.shown c.args.session.now) clauses l _ _ _ k _ (search rules) rest.3,
     ))

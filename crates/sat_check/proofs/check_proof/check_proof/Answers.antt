@@ -1,5 +1,5 @@
 -- A step, the end, or a fault.
-use Rattle.std.proofs.Common.{◌≡◌, ◌+◌, true, false, rules, arith}
+use Rattle.std.proofs.Common.{◌≡◌, ◌+◌, ◌∙◌, true, false, rules, arith}
 use Rattle.std.specs.Prelude.{Ok}
 use Rattle.sat_check.specs.Lines.{end_line}
 use Rattle.sat_check.specs.Checking.{Standing, counted}
@@ -17,8 +17,9 @@ returns-in-Some-clause-report g c =
     let start : Standing = record { stream = g.R.StepReader.stream c.args.reader.now; to_come = g.R.StepReader.to_come c.args.reader.now } in
     let now : Standing = record { stream = g.R.StepReader.stream c.loop-number.reader; to_come = g.R.StepReader.to_come c.loop-number.reader } in
     let new : Standing = record { stream = g.R.StepReader.stream c.next.new.self; to_come = g.R.StepReader.to_come c.next.new.self } in
-    Checking-stop c.args.trace start now new _ _ _ _ _ c.loop-number.invariant c.saturating_add-number.result counts c.next.new.step (step_told now new _ (Ok true) _ c.next.ensures.step (search rules))
-    c.in-Some.status c.take_step.new.lines c.in-Some.ensures.stops c.in-Some.ensures.decided
+    Checking-stop c.args.trace start now new _ _ _ _ _ c.loop-number.invariant c.saturating_add-number.result counts c.next.new.step _ (step_told now new _ (Ok true) _ _ c.next.ensures.step (search rules))
+    c.by_step.result c.take_step.new.lines (rw c.by_step.ensures.status c.in-Some.ensures.stops) (rw c.by_step.ensures.status c.in-Some.ensures.decided) (rw c.by_step.ensures.status c.in-Some.ensures.refused)
+    (λ v. c.by_step.ensures.refused (search rules) ∙ search rules) (λ v. c.by_step.ensures.only (search rules))
 
 pub loop-number-preserved : goal.loop-number-preserved
 loop-number-preserved g c =
@@ -26,7 +27,7 @@ loop-number-preserved g c =
     let start : Standing = record { stream = g.R.StepReader.stream c.args.reader.now; to_come = g.R.StepReader.to_come c.args.reader.now } in
     let now : Standing = record { stream = g.R.StepReader.stream c.loop-number.reader; to_come = g.R.StepReader.to_come c.loop-number.reader } in
     let new : Standing = record { stream = g.R.StepReader.stream c.next.new.self; to_come = g.R.StepReader.to_come c.next.new.self } in
-    Checking-step c.args.trace start now new _ _ _ _ _ c.loop-number.invariant c.saturating_add-number.result counts c.next.new.step (step_told now new _ (Ok true) _ c.next.ensures.step (search rules))
+    Checking-step c.args.trace start now new _ _ _ _ _ c.loop-number.invariant c.saturating_add-number.result counts c.next.new.step _ (step_told now new _ (Ok true) _ _ c.next.ensures.step (search rules))
     _ _ c.in_default.ensures.goes_on
 
 pub returns-in-Ok-false-clause-report : goal.returns-in-Ok-false-clause-report
@@ -34,12 +35,12 @@ returns-in-Ok-false-clause-report g c =
     let start : Standing = record { stream = g.R.StepReader.stream c.args.reader.now; to_come = g.R.StepReader.to_come c.args.reader.now } in
     let now : Standing = record { stream = g.R.StepReader.stream c.loop-number.reader; to_come = g.R.StepReader.to_come c.loop-number.reader } in
     let new : Standing = record { stream = g.R.StepReader.stream c.next.new.self; to_come = g.R.StepReader.to_come c.next.new.self } in
-    Checking-end c.args.trace start now new _ _ _ _ _ c.loop-number.invariant c.next.new.step c.conclude.result c.conclude.new.lines (step_told now new _ (Ok false) _ c.next.ensures.step (search rules))
-    (c.conclude.ensures.outcome end_line c.end_line-line.ensures)
+    Checking-end c.args.trace start now new _ _ _ _ _ c.loop-number.invariant c.next.new.step c.without_step.result (search rules) c.conclude-status.new.lines (step_told now new _ (Ok false) _ _ c.next.ensures.step (search rules))
+    (rw c.without_step.ensures (c.conclude-status.ensures.outcome end_line c.end_line-line.ensures))
 
 pub returns-in-Err-clause-report : goal.returns-in-Err-clause-report
 returns-in-Err-clause-report g c =
     let start : Standing = record { stream = g.R.StepReader.stream c.args.reader.now; to_come = g.R.StepReader.to_come c.args.reader.now } in
     let now : Standing = record { stream = g.R.StepReader.stream c.loop-number.reader; to_come = g.R.StepReader.to_come c.loop-number.reader } in
     let new : Standing = record { stream = g.R.StepReader.stream c.next.new.self; to_come = g.R.StepReader.to_come c.next.new.self } in
-    Checking-fault c.args.trace start now new _ _ _ _ _ c.loop-number.invariant c.next.new.step c.in-Err.fault c.break_off.result c.break_off.new.lines c.in-Err.ensures.step c.break_off.ensures.memory c.break_off.ensures.told
+    Checking-fault c.args.trace start now new _ _ _ _ _ c.loop-number.invariant c.next.new.step c.without_step-in-Err.result (search rules) c.break_off-status.new.lines _ c.in-Err.fault c.in-Err.ensures.step (rw c.without_step-in-Err.ensures c.break_off-status.ensures.memory) (rw c.without_step-in-Err.ensures c.break_off-status.ensures.told)

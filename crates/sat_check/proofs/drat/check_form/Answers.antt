@@ -10,24 +10,24 @@ use Rattle.sat_check.proofs.drat.check_form.Goals as goal
 
 pub returns-in_default-clause-report : goal.returns-in_default-clause-report
 returns-in_default-clause-report g c =
-    reports_nothing (drat (rules_of c.args.options)) c.args.options.trace (drat_proof c.args.options.binary) _ _ _ c.give_up.result c.args.lines.now c.give_up.new.lines refl (λ r. rw c.give_up.ensures.status (c.give_up.ensures.outcome r))
+    reports_nothing (drat (rules_of c.args.options)) c.args.options.trace (drat_proof c.args.options.binary) _ _ _ c.without_step.result c.args.lines.now c.give_up.new.lines refl (search rules) (λ r. rw (c.without_step.ensures, c.give_up.ensures.status) (c.give_up.ensures.outcome r))
 
-pub check-status-requires-clause-unused : goal.check-status-requires-clause-unused
-check-status-requires-clause-unused g c = drat_unused (rules_of c.args.options) c.args.session.now c.requires.fresh
+pub check-checked-requires-clause-unused : goal.check-checked-requires-clause-unused
+check-checked-requires-clause-unused g c = drat_unused (rules_of c.args.options) c.args.session.now c.requires.fresh
 
-pub check-status-requires-else-options-clause-unused : goal.check-status-requires-else-options-clause-unused
-check-status-requires-else-options-clause-unused g c = drat_unused (rules_of c.args.options) c.args.session.now c.requires.fresh
+pub check-checked-requires-else-options-clause-unused : goal.check-checked-requires-else-options-clause-unused
+check-checked-requires-else-options-clause-unused g c = drat_unused (rules_of c.args.options) c.args.session.now c.requires.fresh
 
 pub returns-then-options-clause-report : goal.returns-then-options-clause-report
 returns-then-options-clause-report g c =
-    reports_as (drat c.args.session.now.rules) (drat (rules_of c.args.options)) c.args.options.trace binary_steps (drat_proof c.args.options.binary) _ _ _ _ c.check-status.result c.args.lines.now c.check-status.new.lines (ap (λ s. drat s.rules) c.requires.fresh)
+    reports_as (drat c.args.session.now.rules) (drat (rules_of c.args.options)) c.args.options.trace binary_steps (drat_proof c.args.options.binary) _ _ _ _ c.check-checked.result c.args.lines.now c.check-checked.new.lines (ap (λ s. drat s.rules) c.requires.fresh)
     (λ j. ap (λ b. drat_proof b j) (sym c.if-options.true))
-    (reports_run (drat c.args.session.now.rules) c.args.options.trace binary_to_come binary_steps _ _ _ _ c.over.result _ _ c.check-status.result c.args.lines.now c.check-status.new.lines c.over.ensures (search rules) (λ j. refl)
-    c.new-reader.result c.new-reader.ensures c.check-status.ensures.report.0 c.check-status.ensures.report.1)
+    (reports_run (drat c.args.session.now.rules) c.args.options.trace binary_to_come binary_steps _ _ _ _ c.over.result _ _ c.check-checked.result c.args.lines.now c.check-checked.new.lines c.over.ensures (search rules) (λ j. refl)
+    c.new-reader.result c.new-reader.ensures c.check-checked.ensures.report.0 c.check-checked.ensures.report.1)
 
 pub returns-else-options-clause-report : goal.returns-else-options-clause-report
 returns-else-options-clause-report g c =
-    reports_as (drat c.args.session.now.rules) (drat (rules_of c.args.options)) c.args.options.trace drat_steps (drat_proof c.args.options.binary) _ _ _ _ c.check-status-else-options.result c.args.lines.now c.check-status-else-options.new.lines (ap (λ s. drat s.rules) c.requires.fresh)
+    reports_as (drat c.args.session.now.rules) (drat (rules_of c.args.options)) c.args.options.trace drat_steps (drat_proof c.args.options.binary) _ _ _ _ c.check-checked-else-options.result c.args.lines.now c.check-checked-else-options.new.lines (ap (λ s. drat s.rules) c.requires.fresh)
     (λ j. ap (λ b. drat_proof b j) (sym c.if-options.false))
-    (reports_run (drat c.args.session.now.rules) c.args.options.trace drat_to_come drat_steps _ _ _ _ c.over-else-options.result _ _ c.check-status-else-options.result c.args.lines.now c.check-status-else-options.new.lines c.over-else-options.ensures (search rules) (λ j. refl)
-    c.new-reader-else-options.result c.new-reader-else-options.ensures c.check-status-else-options.ensures.report.0 c.check-status-else-options.ensures.report.1)
+    (reports_run (drat c.args.session.now.rules) c.args.options.trace drat_to_come drat_steps _ _ _ _ c.over-else-options.result _ _ c.check-checked-else-options.result c.args.lines.now c.check-checked-else-options.new.lines c.over-else-options.ensures (search rules) (λ j. refl)
+    c.new-reader-else-options.result c.new-reader-else-options.ensures c.check-checked-else-options.ensures.report.0 c.check-checked-else-options.ensures.report.1)

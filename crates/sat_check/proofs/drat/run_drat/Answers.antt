@@ -1,10 +1,9 @@
--- What the lines hold is what the writer holds.
-use Rattle.std.proofs.Common.{rules}
+-- The placed check, without the place.
 use Rattle.sat_check.specs.Report.{drat_proof, rules_of}
 use Rattle.steps.specs.Theory.Rules.{drat}
-use Rattle.sat_check.proofs.SoundLemmas.{both_check_proof}
+use Rattle.sat_check.proofs.SoundLemmas.{unplaced}
 use Rattle.sat_check.proofs.drat.run_drat.Goals as goal
 
 pub returns-clause-checks : goal.returns-clause-checks
 returns-clause-checks g c =
-    both_check_proof (drat (rules_of c.args.options.now)) c.args.options.now.trace (drat_proof c.args.options.now.binary) _ _ _ _ c.check_drat-status.result _ _ _ _ (search rules) (search rules) c.check_drat-status.ensures.report
+    unplaced (drat (rules_of c.args.options.now)) c.args.options.now.trace (drat_proof c.args.options.now.binary) _ _ _ _ c.run_drat_placed.result _ _ c.run_drat_placed.ensures.checks

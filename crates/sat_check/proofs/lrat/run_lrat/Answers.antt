@@ -1,10 +1,9 @@
--- What the lines hold is what the writer holds.
-use Rattle.std.proofs.Common.{rules}
+-- The placed check, without the place.
 use Rattle.proofs.specs.Lrat.{lrat_steps}
 use Rattle.steps.specs.Theory.Rules.{lrat}
-use Rattle.sat_check.proofs.SoundLemmas.{both_check_proof}
+use Rattle.sat_check.proofs.SoundLemmas.{unplaced}
 use Rattle.sat_check.proofs.lrat.run_lrat.Goals as goal
 
 pub returns-clause-checks : goal.returns-clause-checks
 returns-clause-checks g c =
-    both_check_proof lrat c.args.options.now.trace lrat_steps _ _ _ _ c.check_lrat-status.result _ _ _ _ (search rules) (search rules) c.check_lrat-status.ensures.report
+    unplaced lrat c.args.options.now.trace lrat_steps _ _ _ _ c.run_lrat_placed.result _ _ c.run_lrat_placed.ensures.checks

@@ -1,9 +1,9 @@
 -- The step was refused, its line broke off, it is the last one, or the check goes on.
-use Rattle.std.proofs.Common.{[], rules, inr}
+use Rattle.std.proofs.Common.{[], rules, inl, inr}
 use Rattle.sat_check.specs.Lines.{steps_line}
 use Rattle.sat_check.specs.declared.status.Status.TheVariants.{Malformed}
 use Rattle.sat_check.proofs.ReachLemmas.{no_verdict}
-use Rattle.sat_check.proofs.StepLemmas.{Stops-refused, Decides-refused, Stops-traced, Stops-verified}
+use Rattle.sat_check.proofs.StepLemmas.{Stops-refused, was_refused, Stops-traced, Stops-verified}
 use Rattle.sat_check.proofs.take_step.take_step.Goals as goal
 
 pub returns-in-Err-clause-stops : goal.returns-in-Err-clause-stops
@@ -35,11 +35,19 @@ returns-clause-goes_on g c = record {
 
 pub returns-in-Err-clause-decided : goal.returns-in-Err-clause-decided
 returns-in-Err-clause-decided g c =
-    Decides-refused c.args.trace c.args.number (g.S.ProofSession.shown c.args.session.now) c.args.step.now c.args.lines.now c.refuse.new.lines c.refuse.result c.in-Err.refusal c.refuse.ensures.memory (c.in-Err.ensures.answers c.requires.sound)
+    λ v. inl (was_refused c.args.trace c.args.number (g.S.ProofSession.shown c.args.session.now) c.args.step.now c.args.lines.now c.refuse.new.lines c.refuse.result c.in-Err.refusal c.refuse.ensures.memory (c.in-Err.ensures.answers c.requires.sound) v)
+
+pub returns-in-Err-clause-refused : goal.returns-in-Err-clause-refused
+returns-in-Err-clause-refused g c =
+    λ is. was_refused c.args.trace c.args.number (g.S.ProofSession.shown c.args.session.now) c.args.step.now c.args.lines.now c.refuse.new.lines c.refuse.result c.in-Err.refusal c.refuse.ensures.memory (c.in-Err.ensures.answers c.requires.sound) (inr is)
 
 pub returns-in-Err-write_trace-clause-decided : goal.returns-in-Err-write_trace-clause-decided
 returns-in-Err-write_trace-clause-decided g c =
     λ v. absurd (no_verdict c.in-Err-write_trace.status c.args.lines.now.held c.write_trace.new.lines.held _ (c.in-Err-write_trace.ensures.stopped (record { lines = []; status = Malformed })) v)
+
+pub returns-in-Err-write_trace-clause-refused : goal.returns-in-Err-write_trace-clause-refused
+returns-in-Err-write_trace-clause-refused g c =
+    λ is. absurd (no_verdict c.in-Err-write_trace.status c.args.lines.now.held c.write_trace.new.lines.held _ (c.in-Err-write_trace.ensures.stopped (record { lines = []; status = Malformed })) (inr is))
 
 pub returns-then-is_last-clause-decided : goal.returns-then-is_last-clause-decided
 returns-then-is_last-clause-decided g c = λ v. inr (c.in-Ok.word, c.in-Ok.ensures.answers c.requires.sound, (search rules))

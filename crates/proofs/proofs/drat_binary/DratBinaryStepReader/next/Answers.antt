@@ -6,4 +6,4 @@ use Rattle.proofs.proofs.drat_binary.DratBinaryStepReader.next.Goals as goal
 
 pub returns-in-Some-clause-step : goal.returns-in-Some-clause-step
 returns-in-Some-clause-step g c =
-    Kept-step _ _ (λ i. binary_steps_at c.args.self.now.stream.byte_no i) c.in-Some.answer c.args.step.now (search rules) (search rules)
+    Kept-step _ _ (λ i. binary_steps_at c.args.self.now.stream.byte_no i) c.in-Some.answer _ c.args.step.now (search rules) (search rules)

@@ -1,0 +1,10 @@
+-- What the lines hold is what the writer holds.
+use Rattle.std.proofs.Common.{rules}
+use Rattle.proofs.specs.Lrat.{lrat_steps}
+use Rattle.steps.specs.Theory.Rules.{lrat}
+use Rattle.sat_check.proofs.SoundLemmas.{both_check_proof}
+use Rattle.sat_check.proofs.lrat.run_lrat_placed.Goals as goal
+
+pub returns-clause-checks : goal.returns-clause-checks
+returns-clause-checks g c =
+    both_check_proof lrat c.args.options.now.trace lrat_steps _ _ _ _ c.check_lrat-checked.result _ _ _ _ (search rules) (search rules) c.check_lrat-checked.ensures.report
