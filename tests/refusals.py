@@ -105,6 +105,7 @@ QUIET = [
     "scanner",
     "readers",
     "trail",
+    "far",
     "store",
     "ids",
     "scan",

@@ -1,25 +1,18 @@
 //! Where a refused step ends.
 
 use crate::support::{
-    Cut, DRAT, DRAT_STRICT, E, E_BINARY, E_DRAT, E_PROOF, G, LRAT, Pieces, SIZES, Stop, Tool,
-    Writer,
+    BY_BINARY_DRAT, Cut, DRAT, DRAT_STRICT, E, E_BINARY, E_DRAT, E_PROOF, G, LRAT, Pieces, SIZES,
+    Stop, Tool, Writer,
 };
 use cnf_base::{FromRead, Place, ToWrite};
 use proofs::StepEnd;
-use sat_check::{Checked, DratOptions, Status, run_drat_placed, run_lrat_placed};
+use sat_check::{Checked, Status, run_drat_placed, run_lrat_placed};
 use std::alloc::Global;
 use std::process::Abort;
 use std::test::Fail;
 
 // A tool, a formula, a proof, and where the refused step ends.
 type Row<'a> = (Tool, &'a str, &'a [u8], Option<StepEnd>);
-
-const BINARY: Tool = Tool::Drat(DratOptions {
-    binary: true,
-    trace: false,
-    strict: false,
-    pr: false,
-});
 
 const fn text(line: u64, col: u64) -> Option<StepEnd> {
     Some(StepEnd::Text(Place { line, col }))
@@ -86,8 +79,13 @@ fn refused(rt: HostRuntime) -> Result<(), Fail> {
             text(7, 2),
         ),
         (DRAT_STRICT.tool, G, b"d 1 3 0".as_slice(), text(1, 7)),
-        (BINARY, G, b"a\x03\x06\x00".as_slice(), byte(4)),
-        (BINARY, G, b"a\x06\x03\x00a\x00a".as_slice(), byte(6)),
+        (BY_BINARY_DRAT, G, b"a\x03\x06\x00".as_slice(), byte(4)),
+        (
+            BY_BINARY_DRAT,
+            G,
+            b"a\x06\x03\x00a\x00a".as_slice(),
+            byte(6),
+        ),
         (LRAT.tool, E, b"5 2 0 1 0\n".as_slice(), text(1, 9)),
         (
             LRAT.tool,
@@ -103,7 +101,7 @@ fn refused(rt: HostRuntime) -> Result<(), Fail> {
 fn verified(rt: HostRuntime) -> Result<(), Fail> {
     let rows = [
         (DRAT.tool, E, E_DRAT, None),
-        (BINARY, E, E_BINARY, None),
+        (BY_BINARY_DRAT, E, E_BINARY, None),
         (LRAT.tool, E, E_PROOF, None),
         (LRAT.tool, "p cnf 0 1\n0\n", b"?".as_slice(), None),
     ];
@@ -115,7 +113,7 @@ fn verified(rt: HostRuntime) -> Result<(), Fail> {
 fn no_empty_clause(rt: HostRuntime) -> Result<(), Fail> {
     let rows = [
         (DRAT.tool, G, b"3 -1 0\n".as_slice(), None),
-        (BINARY, G, b"".as_slice(), None),
+        (BY_BINARY_DRAT, G, b"".as_slice(), None),
         (LRAT.tool, E, b"5 2 0 1 2 0\n".as_slice(), None),
     ];
     expect_ends(&rt, rt.alloc(), &rows, Cut::Ends, Status::NotVerified)
@@ -125,7 +123,7 @@ fn no_empty_clause(rt: HostRuntime) -> Result<(), Fail> {
 fn faults(rt: HostRuntime) -> Result<(), Fail> {
     let rows = [
         (DRAT.tool, G, b"3 -1 0\n-1\n".as_slice(), None),
-        (BINARY, G, b"a\x06\x03\x00A".as_slice(), None),
+        (BY_BINARY_DRAT, G, b"a\x06\x03\x00A".as_slice(), None),
         (LRAT.tool, E, b"5 2 0 1 2 0\n?\n".as_slice(), None),
         (DRAT.tool, "p cnf 1 1\n", b"1 0\n".as_slice(), None),
     ];

@@ -1,4 +1,3 @@
-pub mod Directory
 pub mod Distinct
 pub mod Entries
 pub mod Fields

@@ -154,13 +154,13 @@ fn give_back(marks: &mut Table<Mark>, entry: Entry)
 }
 
 impl<I: Indexing> Store<I> {
-    fn empty(alloc: Global) -> Self
+    fn empty(alloc: Global, seed: u64) -> Self
         ensures { result ≡ record { live = maps.empty; stored = 0 } }
     {
         Store {
             alloc,
             entries: Slab::new(alloc),
-            index: I::new(alloc),
+            index: I::new(alloc, seed),
             marks: Table::new(alloc),
             sum: 0,
         }
@@ -266,17 +266,24 @@ impl Store<NoIndex> {
     pub fn without_index(alloc: Global) -> Result<Self, OutOfMemory>
         ensures { IfOk result (λ s. s ≡ record { live = maps.empty; stored = 0 }) }
     {
-        let store = Store::empty(alloc);
+        let store = Store::empty(alloc, 0);
         Ok(store)
     }
 }
 
 impl Store {
-    /// No clauses.
+    /// No clauses. Whoever chooses them can choose some with one hash, which makes the searches long: see [`Store::seeded`].
     pub fn new(alloc: Global) -> Result<Self, OutOfMemory>
         ensures { IfOk result (λ s. s ≡ record { live = maps.empty; stored = 0 }) }
     {
-        Ok(Store::empty(alloc))
+        Store::seeded(alloc, 0)
+    }
+
+    /// No clauses. They will be hashed by the seed, a number that whoever chooses them shouldn't know. No answer depends on it.
+    pub fn seeded(alloc: Global, seed: u64) -> Result<Self, OutOfMemory>
+        ensures { IfOk result (λ s. s ≡ record { live = maps.empty; stored = 0 }) }
+    {
+        Ok(Store::empty(alloc, seed))
     }
 
     /// A slot with the same clause as a set, if there is one. It takes no memory.
@@ -290,7 +297,7 @@ impl Store {
         if !all_known(&self.marks, lits) {
             return None;
         }
-        let digest = mark_all(&mut self.marks, lits);
+        let digest = mark_all(&mut self.marks, lits, self.index.seed);
         let found = find_marked(&self.entries, &self.index, &self.marks, &digest);
         unmark_all(&mut self.marks, lits);
         match found {

@@ -34,7 +34,7 @@ impl marker::Model for Model {
 }
 
 impl Model {
-    /// Whether the literal is listed. It takes no memory, and constant expected time.
+    /// Whether the literal is listed, in constant time where the listed ones are dense, and else in a logarithm of their number.
     #[inline(always)]
     pub fn holds(&self, lit: Lit) -> bool
         ensures { result ≡ has self.now lit }

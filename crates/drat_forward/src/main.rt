@@ -2,7 +2,7 @@
 #![tactic(auto)]
 
 use cnf_base::{FromRead, ToWrite};
-use filter_io::{ask, exit_code, open_both, standard_output, tell_failures, tell_refusal};
+use filter_io::{ask, exit_code, open_both, seed, standard_output, tell_failures, tell_refusal};
 use sat_check::{DratOptions, Status, Tool, run_drat_placed};
 use std::process::ExitCode;
 
@@ -23,6 +23,7 @@ fn check(rt: &HostRuntime) -> Result<Status, Status> {
         trace: args.trace,
         strict: args.strict,
         pr: args.pr,
+        seed: seed(rt),
     };
     let checked = run_drat_placed(
         rt.alloc(),

@@ -95,7 +95,7 @@ fn check_drat<F: In, P: In, O: Out>(
     ensures write_failed { result.status ≡ Status.WriteFailed → lines.new.has_failed ≡ true }
     ensures same_writer { lines.new.borrows ≡ lines.old.borrows }
 {
-    let Ok(clauses) = Watch::new(alloc) else {
+    let Ok(clauses) = Watch::seeded(alloc, options.seed) else {
         return Checked::without_step(give_up(lines));
     };
     check_with(alloc, options, clauses, formula, proof, lines)

@@ -23,6 +23,8 @@ pub struct DratOptions {
     pub strict: bool,
     /// Whether an addition may list a set after its clause, by which it may be propagation redundant (PR).
     pub pr: bool,
+    /// Mixed into the hashes of clauses, one number a run. No answer depends on it.
+    pub seed: u64,
 }
 
 impl DratOptions {

@@ -1,22 +1,24 @@
 //! Values by small numbers, in memory of the order of the keys that were met.
 
-ghost use Rattle.std.specs.Prelude.{◌≡◌, ℕ, ◌==◌, ◌<◌, ◌≤◌, if◌then◌else◌, unwrap_or, IsSome, IsTrue, OnOk, OnErr, vec_len, slice_index_or, nat_eq};
+ghost use Rattle.std.specs.Prelude.{◌≡◌, ℕ, ◌==◌, ◌<◌, ◌≤◌, if◌then◌else◌, unwrap_or, IsSome, IsTrue, OnOk, OnErr, vec_len, slice_index_or};
 ghost use Rattle.std.specs.Option.{option_copied};
-ghost use Rattle.std.specs.HashMap.{get};
+ghost use Rattle.std.specs.Ordering.{nat_cmp};
+ghost use Rattle.std.specs.BTreeMap.{get};
 ghost use Rattle.tables.specs.Table.{at, looked_up};
 
 use cnf_base::{Lit, OutOfMemory};
 use std::alloc::Global;
-use std::collections::HashMap;
+use std::collections::BTreeMap;
 
 /// Values by keys, with room for the keys that were reserved.
 ///
-/// The keys below `dense.len()` have a place in `dense`, all others in `sparse`. A value in `dense` hides one in `sparse`.
+/// The keys below `dense.len()` have a place in `dense`, all others in `sparse`, where no choice of keys makes a look-up
+/// long. A value in `dense` hides one in `sparse`.
 #[derive(Drop)]
 pub struct Table<T> {
     alloc: Global,
     dense: Vec<Option<T>>,
-    sparse: HashMap<u32, T>,
+    sparse: BTreeMap<u32, T>,
     count: usize,
 }
 
@@ -31,7 +33,7 @@ pub fn key(l: Lit) -> u32
 }
 
 /// Copies into `dense` what `sparse` has below its length, where it has nothing yet.
-fn bring_in<T: Copy + Drop>(dense: &mut Vec<Option<T>>, sparse: &HashMap<u32, T>)
+fn bring_in<T: Copy + Drop>(dense: &mut Vec<Option<T>>, sparse: &BTreeMap<u32, T>)
     ensures { (k : ℕ) → looked_up dense.new.items sparse.now k ≡
         looked_up dense.old.items sparse.now k }
 {
@@ -44,8 +46,8 @@ fn bring_in<T: Copy + Drop>(dense: &mut Vec<Option<T>>, sparse: &HashMap<u32, T>
 }
 
 /// Whether each key of `sparse` has a value in `dense`.
-fn is_covered<T: Copy + Drop>(dense: &Vec<Option<T>>, sparse: &HashMap<u32, T>) -> bool
-    ensures { IsTrue result → (k : ℕ) → IsSome (get nat_eq sparse.now k) →
+fn is_covered<T: Copy + Drop>(dense: &Vec<Option<T>>, sparse: &BTreeMap<u32, T>) -> bool
+    ensures { IsTrue result → (k : ℕ) → IsSome (get nat_cmp sparse.now k) →
         IsSome (slice_index_or dense.now.items k None) }
 {
     for (key, _) in sparse {
@@ -66,7 +68,7 @@ impl<T: Copy + Drop> Table<T> {
         Table {
             alloc,
             dense: Vec::new(alloc),
-            sparse: HashMap::new(alloc),
+            sparse: BTreeMap::new(alloc),
             count: 0,
         }
     }
@@ -94,7 +96,7 @@ impl<T: Copy + Drop> Table<T> {
 
     #[inline(never)]
     fn look_up_far(&self, key: u32) -> Option<&T>
-        ensures { option_copied result ≡ get nat_eq self.now.sparse key }
+        ensures { option_copied result ≡ get nat_cmp self.now.sparse key }
     {
         self.sparse.get(&key)
     }
@@ -145,7 +147,7 @@ impl<T: Copy + Drop> Table<T> {
         self.dense.resize(len, None)?;
         bring_in(&mut self.dense, &self.sparse);
         if is_covered(&self.dense, &self.sparse) {
-            self.sparse = HashMap::new(self.alloc);
+            self.sparse = BTreeMap::new(self.alloc);
         }
         Ok(())
     }

@@ -134,8 +134,18 @@ impl Watch {
         ensures nothing_assumed { IfOk result (λ w. w.propagation.assumptions ≡ []) }
         ensures refused { IfOk result (λ w. w.propagation.has_refused ≡ false) }
     {
+        Watch::seeded(alloc, 0)
+    }
+
+    /// No clauses, and nothing is assumed. Clauses will be hashed by the seed, a number that whoever chooses them shouldn't
+    /// know, so that none are chosen that are slow to find. No answer depends on it.
+    pub fn seeded(alloc: Global, seed: u64) -> Result<Self, OutOfMemory>
+        ensures live { IfOk result (λ w. w.propagation.live ≡ maps.empty) }
+        ensures nothing_assumed { IfOk result (λ w. w.propagation.assumptions ≡ []) }
+        ensures refused { IfOk result (λ w. w.propagation.has_refused ≡ false) }
+    {
         Ok(Watch {
-            store: Store::new(alloc)?,
+            store: Store::seeded(alloc, seed)?,
             lists: WatchLists::new(alloc),
             short: SlotList::new(alloc),
             assumptions: Assumptions::new(alloc)?,

@@ -27,8 +27,8 @@ pub use reports::{
 };
 pub use room::{expect_enough_room, expect_ten_bytes, expect_too_little_room};
 pub use rows::{
-    BINARY_PR, BINARY_STRICT, BINARY_TRACED, BY_DRAT, DRAT, DRAT_PR, DRAT_STRICT, DRAT_TRACED,
-    LRAT, LRAT_TRACED, MODEL, Row, Tool,
+    BINARY_PR, BINARY_STRICT, BINARY_TRACED, BY_BINARY_DRAT, BY_DRAT, DRAT, DRAT_PR, DRAT_STRICT,
+    DRAT_TRACED, LRAT, LRAT_TRACED, MODEL, Row, Tool,
 };
 pub use search::has_model;
 pub use writers::{Stop, Writer};

@@ -67,6 +67,7 @@ const PLAIN: DratOptions = DratOptions {
     trace: false,
     strict: false,
     pr: false,
+    seed: 0,
 };
 
 const TRACED: DratOptions = DratOptions {
@@ -85,6 +86,8 @@ const BINARY: DratOptions = DratOptions {
 };
 
 pub const BY_DRAT: Tool = Tool::Drat(PLAIN);
+
+pub const BY_BINARY_DRAT: Tool = Tool::Drat(BINARY);
 
 pub const DRAT: Row<'static> = Row {
     tool: BY_DRAT,

@@ -187,12 +187,12 @@ module _ (directory : Directory) (pages : Pages) (paged : IsPaged directory page
 
 -- nothing is bound past a page, where no later page number has one
 module _ (page : ℕ → ℕ) (entries : List ℕ) (from start : ℕ) (passed : (k : ℕ) → from ≤ k → k < start → entry_in page entries k ≡ 0) (rest : (k : ℕ) → start ≤ k → k < 1024 * (start / 1024) + 1024 → entry_in page entries k ≡ 0)
-    (none : (k : ℕ) → start / 1024 + 1 ≤ k → page k ≡ 0) where
-  pub passed_all : (k : ℕ) → from ≤ k → entry_in page entries k ≡ 0
-  passed_all k above = elim (cases_lt k start) [
+    (none : (k : ℕ) → start / 1024 + 1 ≤ k → k < 2 ^ 64 → page k ≡ 0) where
+  pub passed_all : (k : ℕ) → from ≤ k → k < 2 ^ 64 → entry_in page entries k ≡ 0
+  passed_all k above fits = elim (cases_lt k start) [
     | inl before ↦ passed k above before
     | inr past ↦ elim (cases_lt (k / 1024) (start / 1024 + 1)) [
       | inl here ↦ rest k past (omega arith)
-      | inr later ↦ has_no_page page entries k (none (k / 1024) later)
+      | inr later ↦ has_no_page page entries k (none (k / 1024) later (omega arith))
     ]
   ]

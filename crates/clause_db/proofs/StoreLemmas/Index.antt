@@ -11,10 +11,10 @@ use Rattle.clause_db.specs.Store.Index.{spot_in, IsIndex}
 use Rattle.clause_db.proofs.StoreLemmas.Sums.{get_insert, get_remove}
 use Rattle.clause_db.proofs.StoreLemmas.Indexed.{placed_with, placed_without, spot_end, same_hash}
 
-pub index_empty : (buckets : ℕ → List ℕ) (place_of : ℕ → Option ℕ) → ((h : ℕ) → buckets h ≡ []) → IsIndex buckets place_of maps.empty
-index_empty buckets place_of none = record {
+pub index_empty : (seed : ℕ) (buckets : ℕ → List ℕ) (place_of : ℕ → Option ℕ) → ((h : ℕ) → buckets h ≡ []) → IsIndex seed buckets place_of maps.empty
+index_empty seed buckets place_of none = record {
   placed = record {
-    there = λ s h i is. absurd (none-some (h, i) (sym (ap (option_map (λ (c : Clause). (hash c, unwrap_or (place_of s) 0))) (maps.get-empty nat_cmp s)) ∙ is));
+    there = λ s h i is. absurd (none-some (h, i) (sym (ap (option_map (λ (c : Clause). (hash seed c, unwrap_or (place_of s) 0))) (maps.get-empty nat_cmp s)) ∙ is));
     back = λ s h i is. absurd (none-some s (sym (ap (λ xs. slice_get xs i) (none h)) ∙ is));
   };
   noted = λ s is. absurd (false≢true (sym (ap is_some (maps.get-empty nat_cmp s)) ∙ is));
@@ -38,10 +38,10 @@ module _ (place_of after : ℕ → Option ℕ) (key place : ℕ) (changes : (s :
     | inr apart ↦ ap (λ o. unwrap_or o 0) (other_place s apart)
   ]
 
-module _ (buckets : ℕ → List ℕ) (place_of : ℕ → Option ℕ) (live : FinMap nat_cmp Clause) (sound : IsIndex buckets place_of live) where
+module _ (seed : ℕ) (buckets : ℕ → List ℕ) (place_of : ℕ → Option ℕ) (live : FinMap nat_cmp Clause) (sound : IsIndex seed buckets place_of live) where
   -- the same buckets, and where a place was noted, the same place
   pub index_same : (left : ℕ → List ℕ) (after : ℕ → Option ℕ) → ((h : ℕ) → left h ≡ buckets h) →
-      ((s : ℕ) → unwrap_or (after s) 0 ≡ unwrap_or (place_of s) 0) → ((s : ℕ) → is_some (place_of s) ≡ true → is_some (after s) ≡ true) → IsIndex left after live
+      ((s : ℕ) → unwrap_or (after s) 0 ≡ unwrap_or (place_of s) 0) → ((s : ℕ) → is_some (place_of s) ≡ true → is_some (after s) ≡ true) → IsIndex seed left after live
   index_same left after same_buckets same_places still = record {
     placed = record {
       there = λ s h i is. ap (λ xs. slice_get xs i) (same_buckets h) ∙ sound.placed.there s h i (sym (spots s) ∙ is);
@@ -51,30 +51,30 @@ module _ (buckets : ℕ → List ℕ) (place_of : ℕ → Option ℕ) (live : Fi
     low = sound.low;
   }
     where
-      spots : (s : ℕ) → spot_in live after s ≡ spot_in live place_of s
-      spots s = ap (λ p. option_map (λ (c : Clause). (hash c, p)) (maps.get live s)) (same_places s)
+      spots : (s : ℕ) → spot_in seed live after s ≡ spot_in seed live place_of s
+      spots s = ap (λ p. option_map (λ (c : Clause). (hash seed c, p)) (maps.get live s)) (same_places s)
 
-  module _ (k : ℕ) (c : Clause) (h place : ℕ) (free : maps.get live k ≡ None) (low : k < 4294967296) (hash_is : h ≡ hash c)
+  module _ (k : ℕ) (c : Clause) (h place : ℕ) (free : maps.get live k ≡ None) (low : k < 4294967296) (hash_is : h ≡ hash seed c)
       (left : ℕ → List ℕ) (after : ℕ → Option ℕ)
       (pushed : (g : ℕ) → left g ≡ cond (eqb g h) (buckets g ++ k ∷ []) (buckets g))
       (here : after k ≡ Some (length (buckets h))) (others : (s : ℕ) → s ≢ k → unwrap_or (after s) 0 ≡ unwrap_or (place_of s) 0)
       (still : (s : ℕ) → is_some (place_of s) ≡ true → is_some (after s) ≡ true) where
-    spots_with : (s : ℕ) → spot_in (maps.insert live k c) after s ≡ cond (eqb s k) (Some (h, length (buckets h))) (spot_in live place_of s)
+    spots_with : (s : ℕ) → spot_in seed (maps.insert live k c) after s ≡ cond (eqb s k) (Some (h, length (buckets h))) (spot_in seed live place_of s)
     spots_with s = elim (cases_eq s k) [
       | inl is ↦
-          ap (option_map (λ (d : Clause). (hash d, unwrap_or (after s) 0))) (get_insert live k c s ∙ ap (λ b. cond b (Some c) (maps.get live s)) (eq-eqb s k is))
-          ∙ ap (λ p. Some (hash c, unwrap_or p 0)) (ap after is ∙ here) ∙ ap (λ g. Some (g, length (buckets h))) (sym hash_is)
-          ∙ ap (λ b. cond b (Some (h, length (buckets h))) (spot_in live place_of s)) (sym (eq-eqb s k is))
+          ap (option_map (λ (d : Clause). (hash seed d, unwrap_or (after s) 0))) (get_insert live k c s ∙ ap (λ b. cond b (Some c) (maps.get live s)) (eq-eqb s k is))
+          ∙ ap (λ p. Some (hash seed c, unwrap_or p 0)) (ap after is ∙ here) ∙ ap (λ g. Some (g, length (buckets h))) (sym hash_is)
+          ∙ ap (λ b. cond b (Some (h, length (buckets h))) (spot_in seed live place_of s)) (sym (eq-eqb s k is))
       | inr apart ↦
-          ap (option_map (λ (d : Clause). (hash d, unwrap_or (after s) 0))) (get_insert live k c s ∙ ap (λ b. cond b (Some c) (maps.get live s)) (ne_eqb s k apart))
-          ∙ ap (λ p. option_map (λ (d : Clause). (hash d, p)) (maps.get live s)) (others s apart)
-          ∙ ap (λ b. cond b (Some (h, length (buckets h))) (spot_in live place_of s)) (sym (ne_eqb s k apart))
+          ap (option_map (λ (d : Clause). (hash seed d, unwrap_or (after s) 0))) (get_insert live k c s ∙ ap (λ b. cond b (Some c) (maps.get live s)) (ne_eqb s k apart))
+          ∙ ap (λ p. option_map (λ (d : Clause). (hash seed d, p)) (maps.get live s)) (others s apart)
+          ∙ ap (λ b. cond b (Some (h, length (buckets h))) (spot_in seed live place_of s)) (sym (ne_eqb s k apart))
     ]
 
-    pub index_with : IsIndex left after (maps.insert live k c)
+    pub index_with : IsIndex seed left after (maps.insert live k c)
     index_with = record {
-      placed = placed_with (spot_in live place_of) (spot_in (maps.insert live k c) after) buckets left k h sound.placed
-          (ap (option_map (λ (d : Clause). (hash d, unwrap_or (place_of k) 0))) free) spots_with pushed;
+      placed = placed_with (spot_in seed live place_of) (spot_in seed (maps.insert live k c) after) buckets left k h sound.placed
+          (ap (option_map (λ (d : Clause). (hash seed d, unwrap_or (place_of k) 0))) free) spots_with pushed;
       noted = λ s is. elim (cases_eq s k) [
         | inl same ↦ ap is_some (ap after same ∙ here)
         | inr apart ↦ still s (sound.noted s (ap is_some (sym (get_insert live k c s ∙ ap (λ b. cond b (Some c) (maps.get live s)) (ne_eqb s k apart))) ∙ is))
@@ -85,16 +85,16 @@ module _ (buckets : ℕ → List ℕ) (place_of : ℕ → Option ℕ) (live : Fi
       ];
     }
 
-  module _ (k : ℕ) (c : Clause) (h place : ℕ) (there : maps.get live k ≡ Some c) (hash_is : h ≡ hash c) (place_is : place_of k ≡ Some place) where
-    pub spot_here : spot_in live place_of k ≡ Some (h, place)
+  module _ (k : ℕ) (c : Clause) (h place : ℕ) (there : maps.get live k ≡ Some c) (hash_is : h ≡ hash seed c) (place_is : place_of k ≡ Some place) where
+    pub spot_here : spot_in seed live place_of k ≡ Some (h, place)
     spot_here =
-        ap (option_map (λ (d : Clause). (hash d, unwrap_or (place_of k) 0))) there ∙ ap (λ p. Some (hash c, unwrap_or p 0)) place_is ∙ ap (λ g. Some (g, place)) (sym hash_is)
+        ap (option_map (λ (d : Clause). (hash seed d, unwrap_or (place_of k) 0))) there ∙ ap (λ p. Some (hash seed c, unwrap_or p 0)) place_is ∙ ap (λ g. Some (g, place)) (sym hash_is)
 
     -- the last slot of the bucket has a clause with the same hash
     last_live : (m : ℕ) → m ≡ get_or (buckets h) (length (buckets h) - 1) 0 → is_some (maps.get live m) ≡ true
-    last_live m m_is = by_clause (maps.get live m) (spot_end (spot_in live place_of) buckets k h sound.placed place m spot_here m_is)
+    last_live m m_is = by_clause (maps.get live m) (spot_end (spot_in seed live place_of) buckets k h sound.placed place m spot_here m_is)
       where
-        by_clause : (o : Option Clause) → option_map {U = ℕ × ℕ} (λ (d : Clause). (hash d, unwrap_or (place_of m) 0)) o ≡ Some (h, length (buckets h) - 1) → is_some o ≡ true
+        by_clause : (o : Option Clause) → option_map {U = ℕ × ℕ} (λ (d : Clause). (hash seed d, unwrap_or (place_of m) 0)) o ≡ Some (h, length (buckets h) - 1) → is_some o ≡ true
         by_clause None e = absurd (none-some (h, length (buckets h) - 1) e)
         by_clause (Some d) e = refl
 
@@ -110,27 +110,27 @@ module _ (buckets : ℕ → List ℕ) (place_of : ℕ → Option ℕ) (live : Fi
       at_apart : (s : ℕ) → s ≢ m → after s ≡ place_of s
       at_apart s apart = moved s ∙ ap (λ b. cond b (Some place) (place_of s)) (ne_eqb s m apart)
 
-      moved_spot : spot_in live after m ≡ Some (h, place)
-      moved_spot = ap (λ p. option_map (λ (d : Clause). (hash d, unwrap_or p 0)) (maps.get live m)) at_moved ∙ by_clause (maps.get live m) (spot_end (spot_in live place_of) buckets k h sound.placed place m spot_here m_is)
+      moved_spot : spot_in seed live after m ≡ Some (h, place)
+      moved_spot = ap (λ p. option_map (λ (d : Clause). (hash seed d, unwrap_or p 0)) (maps.get live m)) at_moved ∙ by_clause (maps.get live m) (spot_end (spot_in seed live place_of) buckets k h sound.placed place m spot_here m_is)
         where
-          by_clause : (o : Option Clause) → option_map {U = ℕ × ℕ} (λ (d : Clause). (hash d, unwrap_or (place_of m) 0)) o ≡ Some (h, length (buckets h) - 1) → option_map {U = ℕ × ℕ} (λ (d : Clause). (hash d, place)) o ≡ Some (h, place)
+          by_clause : (o : Option Clause) → option_map {U = ℕ × ℕ} (λ (d : Clause). (hash seed d, unwrap_or (place_of m) 0)) o ≡ Some (h, length (buckets h) - 1) → option_map {U = ℕ × ℕ} (λ (d : Clause). (hash seed d, place)) o ≡ Some (h, place)
           by_clause None e = absurd (none-some (h, length (buckets h) - 1) e)
-          by_clause (Some d) e = ap (λ n. Some (n, place)) (same_hash (hash d) (unwrap_or (place_of m) 0) h (length (buckets h) - 1) e)
+          by_clause (Some d) e = ap (λ n. Some (n, place)) (same_hash (hash seed d) (unwrap_or (place_of m) 0) h (length (buckets h) - 1) e)
 
-      spots_without : (s : ℕ) → spot_in (maps.remove live k) after s ≡ cond (eqb s k) None (cond (eqb s m) (Some (h, place)) (spot_in live place_of s))
+      spots_without : (s : ℕ) → spot_in seed (maps.remove live k) after s ≡ cond (eqb s k) None (cond (eqb s m) (Some (h, place)) (spot_in seed live place_of s))
       spots_without s = elim (cases_eq s k) [
         | inl is ↦
-            ap (option_map (λ (d : Clause). (hash d, unwrap_or (after s) 0))) (get_remove live k s ∙ ap (λ b. cond b None (maps.get live s)) (eq-eqb s k is))
-            ∙ ap (λ b. cond b None (cond (eqb s m) (Some (h, place)) (spot_in live place_of s))) (sym (eq-eqb s k is))
+            ap (option_map (λ (d : Clause). (hash seed d, unwrap_or (after s) 0))) (get_remove live k s ∙ ap (λ b. cond b None (maps.get live s)) (eq-eqb s k is))
+            ∙ ap (λ b. cond b None (cond (eqb s m) (Some (h, place)) (spot_in seed live place_of s))) (sym (eq-eqb s k is))
         | inr apart ↦
-            ap (option_map (λ (d : Clause). (hash d, unwrap_or (after s) 0))) (get_remove live k s ∙ ap (λ b. cond b None (maps.get live s)) (ne_eqb s k apart))
+            ap (option_map (λ (d : Clause). (hash seed d, unwrap_or (after s) 0))) (get_remove live k s ∙ ap (λ b. cond b None (maps.get live s)) (ne_eqb s k apart))
             ∙ elim (cases_eq s m) [
-              | inl is ↦ ap (spot_in live after) is ∙ moved_spot ∙ ap (λ b. cond b (Some (h, place)) (spot_in live place_of s)) (sym (eq-eqb s m is))
+              | inl is ↦ ap (spot_in seed live after) is ∙ moved_spot ∙ ap (λ b. cond b (Some (h, place)) (spot_in seed live place_of s)) (sym (eq-eqb s m is))
               | inr other ↦
-                  ap (λ p. option_map (λ (d : Clause). (hash d, unwrap_or p 0)) (maps.get live s)) (at_apart s other)
-                  ∙ ap (λ b. cond b (Some (h, place)) (spot_in live place_of s)) (sym (ne_eqb s m other))
+                  ap (λ p. option_map (λ (d : Clause). (hash seed d, unwrap_or p 0)) (maps.get live s)) (at_apart s other)
+                  ∙ ap (λ b. cond b (Some (h, place)) (spot_in seed live place_of s)) (sym (ne_eqb s m other))
             ]
-            ∙ ap (λ b. cond b None (cond (eqb s m) (Some (h, place)) (spot_in live place_of s))) (sym (ne_eqb s k apart))
+            ∙ ap (λ b. cond b None (cond (eqb s m) (Some (h, place)) (spot_in seed live place_of s))) (sym (ne_eqb s k apart))
       ]
 
       was_live : (s : ℕ) → is_some (maps.get (maps.remove live k) s) ≡ true → is_some (maps.get live s) ≡ true
@@ -139,9 +139,9 @@ module _ (buckets : ℕ → List ℕ) (place_of : ℕ → Option ℕ) (live : Fi
         | inr apart ↦ ap is_some (sym (get_remove live k s ∙ ap (λ b. cond b None (maps.get live s)) (ne_eqb s k apart))) ∙ is
       ]
 
-      pub index_without : IsIndex left after (maps.remove live k)
+      pub index_without : IsIndex seed left after (maps.remove live k)
       index_without = record {
-        placed = placed_without (spot_in live place_of) (spot_in (maps.remove live k) after) buckets left k h sound.placed place m spot_here m_is spots_without taken;
+        placed = placed_without (spot_in seed live place_of) (spot_in seed (maps.remove live k) after) buckets left k h sound.placed place m spot_here m_is spots_without taken;
         noted = λ s is. elim (cases_eq s m) [
           | inl same ↦ ap is_some (ap after same ∙ at_moved)
           | inr other ↦ ap is_some (at_apart s other) ∙ sound.noted s (was_live s is)
@@ -150,9 +150,9 @@ module _ (buckets : ℕ → List ℕ) (place_of : ℕ → Option ℕ) (live : Fi
       }
 
 -- a clause in the place of one with the same hash
-pub index_replaced : (buckets : ℕ → List ℕ) (place_of : ℕ → Option ℕ) (live : FinMap nat_cmp Clause) → IsIndex buckets place_of live → (k : ℕ) (c d : Clause) → maps.get live k ≡ Some c → hash d ≡ hash c →
-    IsIndex buckets place_of (maps.insert live k d)
-index_replaced buckets place_of live sound k c d here alike = record {
+pub index_replaced : (seed : ℕ) (buckets : ℕ → List ℕ) (place_of : ℕ → Option ℕ) (live : FinMap nat_cmp Clause) → IsIndex seed buckets place_of live → (k : ℕ) (c d : Clause) → maps.get live k ≡ Some c → hash seed d ≡ hash seed c →
+    IsIndex seed buckets place_of (maps.insert live k d)
+index_replaced seed buckets place_of live sound k c d here alike = record {
   placed = record {
     there = λ s h i is. sound.placed.there s h i (sym (spots s) ∙ is);
     back = λ s h i is. spots s ∙ sound.placed.back s h i is;
@@ -167,8 +167,8 @@ index_replaced buckets place_of live sound k c d here alike = record {
       | inr apart ↦ ap (option_map f) (get_insert live k d s ∙ ap (λ b. cond b (Some d) (maps.get live s)) (ne_eqb s k apart))
     ]
 
-    spots : (s : ℕ) → spot_in (maps.insert live k d) place_of s ≡ spot_in live place_of s
-    spots s = by_test (λ c. (hash c, unwrap_or (place_of s) 0)) (ap (λ h. (h, unwrap_or (place_of s) 0)) alike) s
+    spots : (s : ℕ) → spot_in seed (maps.insert live k d) place_of s ≡ spot_in seed live place_of s
+    spots s = by_test (λ c. (hash seed c, unwrap_or (place_of s) 0)) (ap (λ h. (h, unwrap_or (place_of s) 0)) alike) s
 
     noted_alike : (s : ℕ) (b : Bool) → eqb s k ≡ b → is_some (cond b (Some d) (maps.get live s)) ≡ is_some (maps.get live s)
     noted_alike s true e = ap is_some (sym here) ∙ ap (λ q. is_some (maps.get live q)) (sym (eqb-true s k e))

@@ -30,25 +30,28 @@ add_rest a b m =
     let same : (a % m + b) + a / m * m ≡ a + b = omega arith in
     sym (add-mul-mod_self_right (a % m + b) (a / m) m) ∙ ap (λ x. x % m) same
 
-pub hash_none : hash [] ≡ 0
+pub hash_none : (seed : ℕ) → hash seed [] ≡ 0
 unfolding hash
-hash_none = refl
+hash_none seed = refl
 
 -- clauses that are the same set have one hash
-pub hash_same : (c d : Clause) → IsWithin c d → IsWithin d c → hash c ≡ hash d
+pub hash_same : (seed : ℕ) (c d : Clause) → IsWithin c d → IsWithin d c → hash seed c ≡ hash seed d
 unfolding hash
-hash_same c d there back = ap (λ n. n % 2 ^ 64) (sum_same mix c d there back)
+hash_same seed c d there back = ap (λ n. n % 2 ^ 64) (sum_same (mix seed) c d there back)
 
-pub hash_push : (c : Clause) (x : Literal) → has c x ≡ false → hash (c ++ x ∷ []) ≡ (hash c + mix x) % 2 ^ 64
+pub hash_push : (seed : ℕ) (c : Clause) (x : Literal) → has c x ≡ false → hash seed (c ++ x ∷ []) ≡ (hash seed c + mix seed x) % 2 ^ 64
 unfolding hash
-hash_push c x new =
-    let more : sum_distinct mix (c ++ x ∷ []) ≡ mix x + sum_distinct mix c = sum_push mix c x ∙ ap (λ b. cond b (sum_distinct mix c) (mix x + sum_distinct mix c)) new in
-    let turn : mix x + sum_distinct mix c ≡ sum_distinct mix c + mix x = omega arith in
-    ap (λ n. n % 2 ^ 64) (more ∙ turn) ∙ sym (add_rest (sum_distinct mix c) (mix x) (2 ^ 64))
+hash_push seed c x new =
+    let f = mix seed in
+    let more : sum_distinct f (c ++ x ∷ []) ≡ f x + sum_distinct f c = sum_push f c x ∙ ap (λ b. cond b (sum_distinct f c) (f x + sum_distinct f c)) new in
+    let turn : f x + sum_distinct f c ≡ sum_distinct f c + f x = omega arith in
+    ap (λ n. n % 2 ^ 64) (more ∙ turn) ∙ sym (add_rest (sum_distinct f c) (f x) (2 ^ 64))
 
-pub hash_again : (c : Clause) (x : Literal) → has c x ≡ true → hash (c ++ x ∷ []) ≡ hash c
+pub hash_again : (seed : ℕ) (c : Clause) (x : Literal) → has c x ≡ true → hash seed (c ++ x ∷ []) ≡ hash seed c
 unfolding hash
-hash_again c x old = ap (λ n. n % 2 ^ 64) (sum_push mix c x ∙ ap (λ b. cond b (sum_distinct mix c) (mix x + sum_distinct mix c)) old)
+hash_again seed c x old =
+    let f = mix seed in
+    ap (λ n. n % 2 ^ 64) (sum_push f c x ∙ ap (λ b. cond b (sum_distinct f c) (f x + sum_distinct f c)) old)
 
 pub has_take : (c : Clause) (n : ℕ) (l : Literal) → has (take n c) l ≡ true → has c l ≡ true
 has_take c n l h = ap (λ ls. has ls l) (sym (take-append-drop n c)) ∙ has_append_left (take n c) (drop n c) l h
@@ -65,11 +68,11 @@ module _ (c : Clause) (i : ℕ) (inside : i < length c) (x : Literal) (is : x �
   pub is_in : has c x ≡ true
   is_in = has_at c i x inside is
 
-  pub hash_more : has (take i c) x ≡ false → hash (take (i + 1) c) ≡ (hash (take i c) + mix x) % 2 ^ 64
-  hash_more new = ap hash take_is ∙ hash_push (take i c) x new
+  pub hash_more : (seed : ℕ) → has (take i c) x ≡ false → hash seed (take (i + 1) c) ≡ (hash seed (take i c) + mix seed x) % 2 ^ 64
+  hash_more seed new = ap (hash seed) take_is ∙ hash_push seed (take i c) x new
 
-  pub hash_kept : has (take i c) x ≡ true → hash (take (i + 1) c) ≡ hash (take i c)
-  hash_kept old = ap hash take_is ∙ hash_again (take i c) x old
+  pub hash_kept : (seed : ℕ) → has (take i c) x ≡ true → hash seed (take (i + 1) c) ≡ hash seed (take i c)
+  hash_kept seed old = ap (hash seed) take_is ∙ hash_again seed (take i c) x old
 
   pub size_more : has (take i c) x ≡ false → size (take (i + 1) c) ≡ 1 + size (take i c)
   size_more new = ap size take_is ∙ size_push (take i c) x ∙ ap (λ b. cond b (size (take i c)) (1 + size (take i c))) new
@@ -83,26 +86,26 @@ module _ (c : Clause) (i : ℕ) (inside : i < length c) (x : Literal) (is : x �
 -- ---- Digests
 
 -- how many different literals there are among the first i, and their hash
-pub record IsDigest (c : Clause) (i len sum : ℕ) : Type 0 where
+pub record IsDigest (seed : ℕ) (c : Clause) (i len sum : ℕ) : Type 0 where
   pub len_is : len ≡ size (take i c)
-  pub hash_is : sum ≡ hash (take i c)
+  pub hash_is : sum ≡ hash seed (take i c)
   pub few : len ≤ i
 
-pub digest_none : (c : Clause) → IsDigest c 0 0 0
-digest_none c = record { len_is = refl; hash_is = sym hash_none; few = omega arith }
+pub digest_none : (seed : ℕ) (c : Clause) → IsDigest seed c 0 0 0
+digest_none seed c = record { len_is = refl; hash_is = sym (hash_none seed); few = omega arith }
 
-module _ (c : Clause) (i : ℕ) (inside : i < length c) (x : Literal) (is : x ≡ get_or c i x) (len sum : ℕ) (so_far : IsDigest c i len sum) where
-  pub digest_more : has (take i c) x ≡ false → IsDigest c (i + 1) (len + 1) ((sum + mix x) % 2 ^ 64)
+module _ (seed : ℕ) (c : Clause) (i : ℕ) (inside : i < length c) (x : Literal) (is : x ≡ get_or c i x) (len sum : ℕ) (so_far : IsDigest seed c i len sum) where
+  pub digest_more : has (take i c) x ≡ false → IsDigest seed c (i + 1) (len + 1) ((sum + mix seed x) % 2 ^ 64)
   digest_more new = record {
     len_is = let more = size_more c i inside x is new in omega (arith, so_far.len_is);
-    hash_is = ap (λ n. (n + mix x) % 2 ^ 64) so_far.hash_is ∙ sym (hash_more c i inside x is new);
+    hash_is = ap (λ n. (n + mix seed x) % 2 ^ 64) so_far.hash_is ∙ sym (hash_more c i inside x is seed new);
     few = omega (arith, so_far.few);
   }
 
-  pub digest_kept : has (take i c) x ≡ true → IsDigest c (i + 1) len sum
+  pub digest_kept : has (take i c) x ≡ true → IsDigest seed c (i + 1) len sum
   digest_kept old = record {
     len_is = so_far.len_is ∙ sym (size_kept c i inside x is old);
-    hash_is = so_far.hash_is ∙ sym (hash_kept c i inside x is old);
+    hash_is = so_far.hash_is ∙ sym (hash_kept c i inside x is seed old);
     few = omega (arith, so_far.few);
   }
 

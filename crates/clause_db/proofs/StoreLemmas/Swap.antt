@@ -38,8 +38,8 @@ module _ (entries : Slab Entry) (marks : Table Mark) (sum : ℕ) (sound : IsStor
   pub sound_swapped : IsStore (with_value entries k f) marks sum
   sound_swapped = sound_replaced entries (with_value entries k f) marks sum sound k e f here (wrote_entry entries k e f here) (other_entry entries k e f here) alike as_long
 
-  pub index_swapped : (buckets : ℕ → List ℕ) (place_of : ℕ → Option ℕ) → IsIndex buckets place_of (clauses_in entries) → IsIndex buckets place_of (clauses_in (with_value entries k f))
-  index_swapped buckets place_of index =
-      subst (IsIndex buckets place_of) (sym map_swapped)
-      (index_replaced buckets place_of (clauses_in entries) index k e.lits.items f.lits.items (get_stored entries k ∙ ap clause_of here)
-      (hash_same f.lits.items e.lits.items (λ l h. sym (alike l) ∙ h) (λ l h. alike l ∙ h)))
+  pub index_swapped : (seed : ℕ) (buckets : ℕ → List ℕ) (place_of : ℕ → Option ℕ) → IsIndex seed buckets place_of (clauses_in entries) → IsIndex seed buckets place_of (clauses_in (with_value entries k f))
+  index_swapped seed buckets place_of index =
+      subst (IsIndex seed buckets place_of) (sym map_swapped)
+      (index_replaced seed buckets place_of (clauses_in entries) index k e.lits.items f.lits.items (get_stored entries k ∙ ap clause_of here)
+      (hash_same seed f.lits.items e.lits.items (λ l h. sym (alike l) ∙ h) (λ l h. alike l ∙ h)))

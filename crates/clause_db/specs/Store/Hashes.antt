@@ -7,15 +7,15 @@ abbrev pub sum_distinct : (Literal → ℕ) → Clause → ℕ
 sum_distinct f [] = 0
 sum_distinct f (l ∷ c) = if has c l then sum_distinct f c else f l + sum_distinct f c
 
--- a literal spread over the words: three times a product with an odd word modulo 2^64 or an exclusive or with its own
--- high bits, in turn, so that sums of few literals differ
-unfoldable pub mix : Literal → ℕ
-mix l =
-    let x = (l * 11400714819323198485) % 2 ^ 64 in
+-- a literal spread over the words, by a seed that is added to its product with an odd word, modulo 2^64: then in turn an
+-- exclusive or with its own high bits and a product, so that sums of few literals differ
+unfoldable pub mix : ℕ → Literal → ℕ
+mix seed l =
+    let x = ((l * 11400714819323198485) % 2 ^ 64 + seed) % 2 ^ 64 in
     let y = (bit_xor x (x / 2 ^ 30) * 13787848793156543929) % 2 ^ 64 in
     let z = (bit_xor y (y / 2 ^ 27) * 10723151780598845931) % 2 ^ 64 in
     bit_xor z (z / 2 ^ 31)
 
 -- the sum of the mixed literals that are different, modulo 2^64
-unfoldable pub hash : Clause → ℕ
-hash c = sum_distinct mix c % 2 ^ 64
+unfoldable pub hash : ℕ → Clause → ℕ
+hash seed c = sum_distinct (mix seed) c % 2 ^ 64

@@ -1,7 +1,7 @@
 -- Identifiers of clauses, by pages of 1024.
-use Rattle.std.specs.Prelude.{◌≡◌, ◌≢◌, ℕ, zero, suc, ◌+◌, ◌-◌, ◌*◌, ◌/◌, ◌%◌, ◌^◌, ◌<◌, ◌≤◌, ◌==◌, if◌then◌else◌, unwrap_or, Option, Some, None, List, length, slice_index, nat_eq}
+use Rattle.std.specs.Prelude.{◌≡◌, ◌≢◌, ℕ, zero, suc, ◌+◌, ◌-◌, ◌*◌, ◌/◌, ◌%◌, ◌^◌, ◌<◌, ◌≤◌, ◌==◌, if◌then◌else◌, unwrap_or, Option, Some, None, List, length, slice_index}
 use Rattle.std.specs.Ordering.{nat_cmp}
-use Rattle.std.specs.HashMap.{HashMap, get}
+use Rattle.std.specs.BTreeMap.{BTreeMap, get}
 use Rattle.std.specs.FinMap as maps
 use Rattle.std.specs.FinMap.{FinMap}
 use Rattle.clause_db.specs.declared.store.ids.directory.Directory.{Directory}
@@ -9,8 +9,8 @@ use Rattle.clause_db.specs.declared.store.ids.pages.Pages.{Pages}
 
 -- ---- The directory: pages count from 1, and 0 is none
 
-abbrev pub far_page : {S : Type 0} → HashMap ℕ ℕ S → ℕ → ℕ
-far_page far number = unwrap_or (get nat_eq far number) 0
+abbrev pub far_page : BTreeMap ℕ ℕ → ℕ → ℕ
+far_page far number = unwrap_or (get nat_cmp far number) 0
 
 -- the near page of a page number, or else the far one
 unfoldable pub page_at : Directory → ℕ → ℕ

@@ -14,16 +14,16 @@ use Rattle.clause_db.specs.declared.store.index.Index.{Index}
 abbrev pub under : Index → ℕ → List ℕ
 under index h = unwrap_or (get nat_eq index.buckets h) []
 
--- the hash of the clause in a slot, and the place that is noted for the slot
-abbrev pub spot_in : FinMap nat_cmp Clause → (ℕ → Option ℕ) → ℕ → Option (ℕ × ℕ)
-spot_in live place_of s = option_map (λ c. (hash c, unwrap_or (place_of s) 0)) (maps.get live s)
+-- the hash by this seed of the clause in a slot, and the place that is noted for the slot
+abbrev pub spot_in : ℕ → FinMap nat_cmp Clause → (ℕ → Option ℕ) → ℕ → Option (ℕ × ℕ)
+spot_in seed live place_of s = option_map (λ c. (hash seed c, unwrap_or (place_of s) 0)) (maps.get live s)
 
 -- each slot stands in the bucket of its clause's hash, at the place that is noted for it
-pub record IsIndex (buckets : ℕ → List ℕ) (place_of : ℕ → Option ℕ) (live : FinMap nat_cmp Clause) : Type 0 where
-  pub placed : IsIndexed (spot_in live place_of) buckets
+pub record IsIndex (seed : ℕ) (buckets : ℕ → List ℕ) (place_of : ℕ → Option ℕ) (live : FinMap nat_cmp Clause) : Type 0 where
+  pub placed : IsIndexed (spot_in seed live place_of) buckets
   pub noted : (s : ℕ) → IsSome (maps.get live s) → IsSome (place_of s)
   pub low : (s : ℕ) → IsSome (maps.get live s) → s < 4294967296
 
 -- the index fits the clauses
 abbrev pub Indexes : Index → FinMap nat_cmp Clause → Type 0
-Indexes index live = IsIndex (under index) (at index.places) live
+Indexes index live = IsIndex index.seed (under index) (at index.places) live

@@ -159,7 +159,7 @@ impl Ids {
         Ok(())
     }
 
-    /// The slot of an identifier, in constant expected time.
+    /// The slot of an identifier, in constant time where identifiers are dense, and else in a logarithm of their number.
     #[inline]
     pub fn slot_of(&self, id: u64) -> Option<Slot>
         ensures { result ≡ maps.get self.now id }
@@ -204,9 +204,9 @@ impl Ids {
 
 #[cfg(test)]
 impl Ids {
-    /// How many near and far page numbers it can hold with no more memory.
-    pub(crate) fn directory_capacities(&self) -> (usize, usize) {
-        self.directory.capacities()
+    /// How many near page numbers it can hold with no more memory.
+    pub(crate) fn directory_capacity(&self) -> usize {
+        self.directory.capacity()
     }
 
     /// How many entries, counts, page numbers and free pages it can hold with no more memory.

@@ -80,7 +80,7 @@ fn keeps_far_identifiers(rt: HostRuntime) -> Result<(), Fail> {
     for id in 0..3000u64 {
         bind_new(&mut ids, far + id, slot)?;
     }
-    assert_eq!(rt; ids.directory_capacities().0, 0);
+    assert_eq!(rt; ids.directory_capacity(), 0);
     for id in 0..3000u64 {
         assert_eq!(rt; ids.slot_of(far + id), Some(slot), "at {id}");
     }

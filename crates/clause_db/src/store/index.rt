@@ -21,8 +21,8 @@ pub trait Indexing: Sized {
     /// It indexes these clauses, each in its slot.
     ghost indexes: { Self → FinMap nat_cmp Clause → Type 0 };
 
-    /// It indexes no clause. It takes no memory.
-    fn new(alloc: Global) -> Self
+    /// It indexes no clause, and hashes by the seed, where it hashes. It takes no memory.
+    fn new(alloc: Global, seed: u64) -> Self
         ensures { indexes result maps.empty };
 
     /// Adds the slot of a clause.
@@ -50,7 +50,7 @@ pub struct NoIndex {}
 impl Indexing for NoIndex {
     ghost indexes = { λ _ _. ⊤ };
 
-    fn new(_alloc: Global) -> Self {
+    fn new(_alloc: Global, _seed: u64) -> Self {
         NoIndex {}
     }
 
@@ -65,6 +65,8 @@ impl Indexing for NoIndex {
 #[derive(Drop)]
 pub struct Index {
     alloc: Global,
+    /// What clauses are hashed by. Who doesn't know it can't choose clauses with one hash.
+    pub(crate) seed: u64,
     buckets: HashMap<u64, Bucket>,
     /// By slot its place in its bucket.
     places: Table<u32>,
@@ -85,6 +87,7 @@ impl Index {
             (if h == hash then under self.old h ++ slot ∷ [] else under self.old h)) }
         ensures err { OnErr result ((h : ℕ) → under self.new h ≡ under self.old h) }
         ensures places { (s : ℕ) → at self.new.places s ≡ at self.old.places s }
+        ensures seed { self.new.seed ≡ self.old.seed }
     {
         let alloc = self.alloc;
         if let Some(bucket) = self.buckets.get_mut(&hash) {
@@ -106,6 +109,7 @@ impl Index {
         ensures slots { (h : ℕ) → under self.new h ≡
             (if h == hash then swap_remove (under self.old h) place 0 else under self.old h) }
         ensures places { (s : ℕ) → at self.new.places s ≡ at self.old.places s }
+        ensures seed { self.new.seed ≡ self.old.seed }
     {
         let mut last = 0;
         let mut is_alone = false;
@@ -133,9 +137,10 @@ impl Index {
 impl Indexing for Index {
     ghost indexes = { Indexes };
 
-    fn new(alloc: Global) -> Self {
+    fn new(alloc: Global, seed: u64) -> Self {
         Index {
             alloc,
+            seed,
             buckets: HashMap::new(alloc),
             places: Table::new(alloc),
         }
@@ -146,14 +151,14 @@ impl Indexing for Index {
             return Err(OutOfMemory);
         };
         self.places.reserve(key, 0)?;
-        let place = self.push(hash_of(lits), slot)?;
+        let place = self.push(hash_of(self.seed, lits), slot)?;
         self.places.set(key, place);
         Ok(())
     }
 
     fn remove(&mut self, slot: usize, lits: &[Lit]) {
         if let Some(place) = self.places.get(slot as u32) {
-            let last = self.take(hash_of(lits), place as usize);
+            let last = self.take(hash_of(self.seed, lits), place as usize);
             self.places.set(last as u32, place);
         }
     }

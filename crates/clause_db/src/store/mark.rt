@@ -15,12 +15,14 @@ pub(crate) struct Mark {
     pub(crate) marked: bool,
 }
 
-/// A literal spread over the words.
+/// A literal spread over the words, by the seed.
 #[tactic(auto, unfolding(crate::specs::Store::Hashes::mix))]
-pub(crate) fn mixed(l: Lit) -> u64
-    ensures { result ≡ mix l }
+pub(crate) fn mixed(seed: u64, l: Lit) -> u64
+    ensures { result ≡ mix seed l }
 {
-    let x = (l.index() as u64).wrapping_mul(11400714819323198485);
+    let x = (l.index() as u64)
+        .wrapping_mul(11400714819323198485)
+        .wrapping_add(seed);
     let y = (x ^ (x / 1073741824)).wrapping_mul(13787848793156543929);
     let z = (y ^ (y / 134217728)).wrapping_mul(10723151780598845931);
     z ^ (z / 2147483648)

@@ -13,7 +13,7 @@ use cnf_base::{Lit, OutOfMemory};
 use smallvec::SmallVec;
 use tables::{Table, key};
 
-/// How many different literals a clause has, and its hash as a set.
+/// How many different literals a clause has, and its hash as a set, by a seed.
 #[derive(Clone, Copy)]
 pub(crate) struct Digest {
     pub(crate) len: usize,
@@ -62,13 +62,13 @@ fn is_set(marks: &Table<Mark>, l: Lit) -> bool
     }
 }
 
-/// Marks the literals, where none is marked.
-pub(crate) fn mark_all(marks: &mut Table<Mark>, lits: &[Lit]) -> Digest
+/// Marks the literals, where none is marked, and hashes them by the seed.
+pub(crate) fn mark_all(marks: &mut Table<Mark>, lits: &[Lit], seed: u64) -> Digest
     requires known { (l : ℕ) → has lits.now l ≡ true → IsSome (at marks.old l) }
     requires clear { (l : ℕ) → is_marked (at marks.old l) ≡ false }
     ensures len { result.len ≡ size lits.now }
     ensures short { size lits.now < 18446744073709551616 }
-    ensures hash { result.hash ≡ hash lits.now }
+    ensures hash { result.hash ≡ hash seed lits.now }
     ensures marked { (l : ℕ) → is_marked (at marks.new l) ≡ has lits.now l }
     ensures counts { (l : ℕ) → mark_count (at marks.new l) ≡ mark_count (at marks.old l) }
     ensures known { (l : ℕ) → is_some (at marks.new l) ≡ is_some (at marks.old l) }
@@ -78,7 +78,7 @@ pub(crate) fn mark_all(marks: &mut Table<Mark>, lits: &[Lit]) -> Digest
     for l in lits {
         if set_mark(marks, *l) {
             len += 1;
-            hash = hash.wrapping_add(mixed(*l));
+            hash = hash.wrapping_add(mixed(seed, *l));
         }
     }
     Digest { len, hash }
@@ -142,14 +142,14 @@ pub(crate) fn release(marks: &mut Table<Mark>, lits: &[Lit])
     }
 }
 
-/// The hash of a clause that repeats no literal.
-pub(crate) fn hash_of(lits: &[Lit]) -> u64
+/// The hash by the seed of a clause that repeats no literal.
+pub(crate) fn hash_of(seed: u64, lits: &[Lit]) -> u64
     requires { size lits.now ≡ length lits.now }
-    ensures { result ≡ hash lits.now }
+    ensures { result ≡ hash seed lits.now }
 {
     let mut sum: u64 = 0;
     for l in lits {
-        sum = sum.wrapping_add(mixed(*l));
+        sum = sum.wrapping_add(mixed(seed, *l));
     }
     sum
 }

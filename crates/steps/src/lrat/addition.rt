@@ -18,11 +18,6 @@ use cnf_base::Lit;
 use propagation::{Trail, Whole};
 use std::alloc::Global;
 
-/// How many groups there are.
-fn count_groups(hints: &[i64]) -> usize {
-    hints.iter().filter(|hint| **hint < 0).count()
-}
-
 /// The answer where the unit hints gave no conflict: the groups in their order, and then the candidates without one.
 fn judge_candidates(
     live: &LiveClauses,
@@ -49,8 +44,7 @@ fn judge_candidates(
     }
 }
 
-/// The answer where the unit hints gave no conflict. Only the list of the candidates that groups name takes memory, and it does before
-/// the first group is looked at.
+/// The answer where the unit hints gave no conflict. Only the set of the candidates that groups name takes memory.
 fn judge_rat(
     alloc: Global,
     live: &LiveClauses,
@@ -66,7 +60,7 @@ fn judge_rat(
         result) }
     ensures met { SameSet trues.new.met trues.old.met }
 {
-    let mut named = Named::with_room(alloc, count_groups(hints))?;
+    let mut named = Named::new(alloc);
     judge_candidates(live, trues, pivot, &mut named, hints)
 }
 

@@ -6,13 +6,13 @@ ghost use Rattle.std.specs.List.{IsDistinct};
 ghost use Rattle.cnf_base.specs.Literals.{has};
 
 use std::alloc::{AllocError, Global};
-use std::collections::HashSet;
+use std::collections::BTreeSet;
 use std::marker::Model;
 
 /// Identifiers, none of them twice. Contracts see them as a list, in no stated order.
 #[derive(Drop)]
 pub(crate) struct Named {
-    ids: HashSet<u64>,
+    ids: BTreeSet<u64>,
 }
 
 impl Model for Named {
@@ -27,13 +27,13 @@ impl Model for Named {
 }
 
 impl Named {
-    /// None, with room for so many.
-    pub(crate) fn with_room(alloc: Global, count: usize) -> Result<Self, AllocError>
-        ensures { IfOk result (λ named. named ≡ []) }
+    /// None. It takes no memory.
+    pub(crate) fn new(alloc: Global) -> Self
+        ensures { result ≡ [] }
     {
-        let mut ids = HashSet::new(alloc);
-        ids.reserve(count)?;
-        Ok(Named { ids })
+        Named {
+            ids: BTreeSet::new(alloc),
+        }
     }
 
     /// Adds the identifier, and tells whether it is new.

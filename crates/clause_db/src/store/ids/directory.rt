@@ -6,15 +6,15 @@ ghost use Rattle.clause_db.specs.Store.Ids.{page_at, far_page, IsFirst};
 use crate::store::ids::row::{first_set, lengthen};
 use cnf_base::OutOfMemory;
 use std::alloc::Global;
-use std::collections::HashMap;
+use std::collections::BTreeMap;
 
 /// Which page each page number has. Pages count from 1, and 0 is none.
 ///
-/// A page in `near` hides one in `far`.
+/// A page in `near` hides one in `far`, where no choice of identifiers makes a look-up long.
 #[derive(Drop)]
 pub(crate) struct Directory {
     near: Vec<u32>,
-    far: HashMap<u64, u32>,
+    far: BTreeMap<u64, u32>,
     /// How many pages were put in.
     opened: usize,
 }
@@ -23,17 +23,19 @@ pub(crate) struct Directory {
 const LEAST: usize = 64;
 
 /// The least number from `from` on that has a far page.
-fn first_far(far: &HashMap<u64, u32>, from: u64) -> Option<u64>
+fn first_far(far: &BTreeMap<u64, u32>, from: u64) -> Option<u64>
     ensures some { IfSome result (λ q. IsFirst (far_page far.now) from (2 ^ 64) q) }
-    ensures none { IfNone result ((k : ℕ) → from ≤ k → far_page far.now k ≡ 0) }
+    ensures none { IfNone result ((k : ℕ) → from ≤ k → k < 2 ^ 64 → far_page far.now k ≡ 0) }
 {
-    let mut least = None;
-    for (number, page) in far {
-        if *page != 0 && *number >= from {
-            least = Some((*number).min(least.unwrap_or(*number)));
+    let mut start = from;
+    loop {
+        let (number, page) = far.range(start..).next()?;
+        // No page is put in as 0, so the first turn is the last.
+        if *page != 0 {
+            return Some(*number);
         }
+        start = number.checked_add(1)?;
     }
-    least
 }
 
 #[tactic(auto, unfolding(crate::specs::Store::Ids::page_at))]
@@ -44,7 +46,7 @@ impl Directory {
     {
         Directory {
             near: Vec::new(alloc),
-            far: HashMap::new(alloc),
+            far: BTreeMap::new(alloc),
             opened: 0,
         }
     }
@@ -107,7 +109,7 @@ impl Directory {
     /// The least number from `from` on that has a page.
     pub(crate) fn next(&self, from: u64) -> Option<u64>
         ensures some { IfSome result (λ q. IsFirst (page_at self.now) from (2 ^ 64) q) }
-        ensures none { IfNone result ((k : ℕ) → from ≤ k → page_at self.now k ≡ 0) }
+        ensures none { IfNone result ((k : ℕ) → from ≤ k → k < 2 ^ 64 → page_at self.now k ≡ 0) }
     {
         let near = first_set(&self.near, from as usize, self.near.len());
         let far = first_far(&self.far, from);
@@ -121,8 +123,8 @@ impl Directory {
 
 #[cfg(test)]
 impl Directory {
-    /// How many page numbers the near part and the far part can hold with no more memory.
-    pub(crate) fn capacities(&self) -> (usize, usize) {
-        (self.near.capacity(), self.far.capacity())
+    /// How many page numbers the near part can hold with no more memory.
+    pub(crate) fn capacity(&self) -> usize {
+        self.near.capacity()
     }
 }

@@ -33,7 +33,7 @@ invariant_of-self c =
     let second = subst (λ n. c.args.b < n) (ap length same) w.3 in
     let is = c.swap_literals.ensures in (
       sound_swapped i.entries i.marks i.sum c.self.invariant.0 k e f c.args.a c.args.b c.index_mut.ensures.value first second is.swapped is.len,
-      index_swapped i.entries i.marks i.sum c.self.invariant.0 k e f c.args.a c.args.b c.index_mut.ensures.value first second is.swapped is.len (under i.index) (at i.index.places) c.self.invariant.1,
+      index_swapped i.entries i.marks i.sum c.self.invariant.0 k e f c.args.a c.args.b c.index_mut.ensures.value first second is.swapped is.len i.index.seed (under i.index) (at i.index.places) c.self.invariant.1,
     )
 
 pub returns-clause-live : goal.returns-clause-live

@@ -4,12 +4,12 @@ use Rattle.clause_db.proofs.StoreLemmas.Marks.{hash_none, hash_more, new_here}
 use Rattle.clause_db.proofs.store.marks.hash_of.Goals as goal
 
 pub loop-l-init : goal.loop-l-init
-loop-l-init c = sym hash_none
+loop-l-init c = sym (hash_none c.args.seed)
 
 pub loop-l-preserved : goal.loop-l-preserved
 loop-l-preserved c =
     let lits = c.args.lits.now in
     let x = c.l-item.result in
     ap (λ n. (c.loop-l.sum + n) % 2 ^ 64) c.mixed-sum.ensures
-    ∙ ap (λ n. (n + mix x) % 2 ^ 64) c.loop-l.invariant
-    ∙ sym (hash_more lits c.loop-l.l-index (omega arith) x c.l-item.is (new_here lits c.loop-l.l-index (omega arith) x c.l-item.is c.requires))
+    ∙ ap (λ n. (n + mix c.args.seed x) % 2 ^ 64) c.loop-l.invariant
+    ∙ sym (hash_more lits c.loop-l.l-index (omega arith) x c.l-item.is c.args.seed (new_here lits c.loop-l.l-index (omega arith) x c.l-item.is c.requires))

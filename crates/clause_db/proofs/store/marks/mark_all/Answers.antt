@@ -6,7 +6,7 @@ use Rattle.clause_db.proofs.store.marks.mark_all.Goals as goal
 use Rattle.clause_db.proofs.store.marks.mark_all.Goals.{then-set_mark, else-set_mark}
 
 pub loop-l-init : goal.loop-l-init
-loop-l-init c = record { marked = c.requires.clear; counts = λ k. refl; known = λ k. refl; digest = digest_none c.args.lits.now }
+loop-l-init c = record { marked = c.requires.clear; counts = λ k. refl; known = λ k. refl; digest = digest_none c.args.seed c.args.lits.now }
 
 pub loop-l-preserved : goal.loop-l-preserved
 loop-l-preserved c =
@@ -21,10 +21,10 @@ loop-l-preserved c =
     elim c.if-set_mark.branch [
       | then-set_mark w ↦
           let new = not-true (has (take i lits) x) (sym was ∙ w.if-set_mark.true) in
-          let digest = digest_more lits i inside x c.l-item.is c.loop-l.len c.loop-l.hash c.loop-l.invariant.digest new in
+          let digest = digest_more c.args.seed lits i inside x c.l-item.is c.loop-l.len c.loop-l.hash c.loop-l.invariant.digest new in
           record { marked = marked; counts = counts; known = known; digest = rw (w.len-is, w.hash-is, w.mixed-hash.ensures) digest }
       | else-set_mark w ↦
           let old = not-false (has (take i lits) x) (sym was ∙ w.if-set_mark.false) in
-          let digest = digest_kept lits i inside x c.l-item.is c.loop-l.len c.loop-l.hash c.loop-l.invariant.digest old in
+          let digest = digest_kept c.args.seed lits i inside x c.l-item.is c.loop-l.len c.loop-l.hash c.loop-l.invariant.digest old in
           record { marked = marked; counts = counts; known = known; digest = rw (w.len-is, w.hash-is) digest }
     ]

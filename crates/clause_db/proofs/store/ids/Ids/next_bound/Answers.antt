@@ -1,8 +1,8 @@
-use Rattle.std.proofs.Common.{sym, ap, ◌∙◌, inl, inr, arith}
+use Rattle.std.proofs.Common.{◌^◌, sym, ap, ◌∙◌, inl, inr, arith}
 use Rattle.std.specs.FinMap as maps
 use Rattle.std.proofs.lemmas.Bool.{cases_lt}
 use Rattle.clause_db.specs.Store.Ids.{page_at}
-use Rattle.clause_db.proofs.StoreLemmas.Ids.{get-as_map, get-unbound, passed_all}
+use Rattle.clause_db.proofs.StoreLemmas.Ids.{get-as_map, get-past, get-unbound, passed_all}
 use Rattle.clause_db.proofs.StoreLemmas.Options.{if_none_always}
 use Rattle.clause_db.proofs.store.ids.Ids.next_bound.Goals as goal
 
@@ -27,4 +27,7 @@ returns-in_err-start-clause-none c =
     let i = c.self.inside in
     if_none_always c.from_residual.result (λ k above.
     ap (λ m. maps.get m k) (sym c.self.view_is)
-    ∙ get-unbound i.directory i.pages k (passed_all (page_at i.directory) i.pages.entries.items c.args.from c.loop-found.start c.loop-found.invariant.passed c.in_default.ensures.none c.in_err-start.ensures.none k above))
+    ∙ elim (cases_lt k (2 ^ 64)) [
+      | inl fits ↦ get-unbound i.directory i.pages k (passed_all (page_at i.directory) i.pages.entries.items c.args.from c.loop-found.start c.loop-found.invariant.passed c.in_default.ensures.none c.in_err-start.ensures.none k above fits)
+      | inr past ↦ get-past i.directory i.pages k past
+    ])

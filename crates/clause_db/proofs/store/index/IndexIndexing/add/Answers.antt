@@ -1,7 +1,8 @@
-use Rattle.std.proofs.Common.{rules, ◌≡◌, ◌≢◌, ℕ, ◌<◌, is_some, true, unwrap_or, Some, refl, sym, ap, ◌∙◌, arith}
+use Rattle.std.proofs.Common.{rules, ◌≡◌, ◌≢◌, ℕ, ◌<◌, is_some, true, unwrap_or, Some, refl, sym, ap, ◌∙◌, subst, arith}
 use Rattle.std.proofs.lemmas.Grind.{common_steps}
+use Rattle.std.specs.FinMap as maps
 use Rattle.tables.specs.Table.{at}
-use Rattle.clause_db.specs.Store.Index.{under}
+use Rattle.clause_db.specs.Store.Index.{under, IsIndex}
 use Rattle.clause_db.proofs.StoreLemmas.Options.{on_err_from}
 use Rattle.clause_db.proofs.StoreLemmas.Index.{wrote_place, other_place, still_noted, same_places, index_same, index_with}
 use Rattle.clause_db.proofs.store.index.IndexIndexing.add.Goals as goal
@@ -10,7 +11,7 @@ pub returns-in_err-reserve-clause-err : goal.returns-in_err-reserve-clause-err
 returns-in_err-reserve-clause-err c =
     let old = c.args.self.now in
     on_err_from c.from_residual.result _ (λ live sound.
-    index_same (under old) (at old.places) live sound _ (at c.reserve.new.self) (λ h. refl) (λ s. ap (λ o. unwrap_or o 0) (c.in_err-reserve.ensures.err s)) (λ s is. ap is_some (c.in_err-reserve.ensures.err s) ∙ is))
+    index_same old.seed (under old) (at old.places) live sound _ (at c.reserve.new.self) (λ h. refl) (λ s. ap (λ o. unwrap_or o 0) (c.in_err-reserve.ensures.err s)) (λ s is. ap is_some (c.in_err-reserve.ensures.err s) ∙ is))
 
 pub returns-in_err-place-clause-err : goal.returns-in_err-place-clause-err
 returns-in_err-place-clause-err c =
@@ -19,9 +20,9 @@ returns-in_err-place-clause-err c =
     let made = c.in_ok-reserve.ensures.ok in
     let kept = c.push.ensures.places in
     on_err_from c.from_residual-in_err-place.result _ (λ live sound.
-    index_same (under old) (at old.places) live sound _ (at c.push.new.self.places) c.in_err-place.ensures.err
+    subst (λ n. IsIndex n (under c.push.new.self) (at c.push.new.self.places) live) (sym c.push.ensures.seed) (index_same old.seed (under old) (at old.places) live sound _ (at c.push.new.self.places) c.in_err-place.ensures.err
     (λ s. ap (λ o. unwrap_or o 0) (kept s) ∙ same_places (at old.places) (at c.reserve.new.self) key (unwrap_or (at old.places key) 0) made refl s)
-    (λ s is. ap is_some (kept s) ∙ still_noted (at old.places) (at c.reserve.new.self) key (unwrap_or (at old.places key) 0) made s is))
+    (λ s is. ap is_some (kept s) ∙ still_noted (at old.places) (at c.reserve.new.self) key (unwrap_or (at old.places key) 0) made s is)))
 
 pub returns-clause-ok : goal.returns-clause-ok
 returns-clause-ok c live sound free =
@@ -41,4 +42,5 @@ returns-clause-ok c live sound free =
     let still = λ (s : ℕ) (is : is_some (at old.places s) ≡ true).
     still_noted (at c.push.new.self.places) (at c.set.new.self) key place wrote s
     (ap is_some (before s) ∙ still_noted (at old.places) (at c.reserve.new.self) key (unwrap_or (at old.places key) 0) made s is) in
-    index_with (under old) (at old.places) live sound c.args.slot c.args.lits.now c.hash_of.result place free low c.hash_of.ensures _ (at c.set.new.self) c.in_ok-place.ensures.ok here others still
+    subst (λ n. IsIndex n (under c.push.new.self) (at c.set.new.self) (maps.insert live c.args.slot c.args.lits.now)) (sym c.push.ensures.seed)
+    (index_with old.seed (under old) (at old.places) live sound c.args.slot c.args.lits.now c.hash_of.result place free low c.hash_of.ensures _ (at c.set.new.self) c.in_ok-place.ensures.ok here others still)

@@ -1,0 +1,7 @@
+use Rattle.std.proofs.Common.{nat_eq, subst}
+use Rattle.std.specs.List.{IsDistinct}
+use Rattle.steps.proofs.LratLemmas.Different.{distinct_from_sorted}
+use Rattle.steps.proofs.lrat.named.Named.len.Goals as goal
+
+pub returns-clause-different : goal.returns-clause-different
+returns-clause-different c = subst (IsDistinct nat_eq) c.self.view_is (distinct_from_sorted c.self.inside.ids.keys c.len.ensures.ordered)

@@ -1,0 +1,17 @@
+use Rattle.std.proofs.Common.{ap, sym, ◌∙◌}
+use Rattle.watch.specs.Order.{each_in_order}
+use Rattle.propagation.proofs.PropagationLemmas.Scan.{none_alone}
+use Rattle.watch.proofs.WatchLemmas.Order.{literals_ordered, ordered_empty}
+use Rattle.watch.proofs.WatchLemmas.State.{watch_empty}
+use Rattle.watch.proofs.watch.Watch.seeded.Goals as goal
+
+pub invariant_of-result : goal.invariant_of-result
+invariant_of-result c =
+    let store = c.in_ok-seeded.field-0 in
+    let held = c.in_ok-new.field-0 in (
+      watch_empty store.live c.new.result c.new-2.result c.new-4.result held (ap (λ s. s.live) c.in_ok-seeded.ensures) c.new.ensures.lists c.new.ensures.entries c.new.ensures.apart c.new-2.ensures c.new-4.ensures c.in_ok-new.ensures.lits c.in_ok-new.ensures.nothing_assumed,
+      none_alone store c.in_ok-seeded.ensures ∙ sym (literals_ordered store.live),
+    )
+
+pub returns-clause-live : goal.returns-clause-live
+returns-clause-live c = ap (λ s. each_in_order s.live) c.in_ok-seeded.ensures ∙ ordered_empty
