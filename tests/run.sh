@@ -25,6 +25,7 @@ count() {
     else
         failed=$((failed + 1))
     fi
+    echo "(so far $((SECONDS / 60)) minutes)"
 }
 
 RT="${RT:-rt}" nice python3 tests/controls.py --anew >"$controls" 2>&1 &
