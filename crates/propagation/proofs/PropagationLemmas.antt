@@ -6,6 +6,7 @@ pub mod Left
 pub mod Levels
 pub mod MakesFalse
 pub mod Met
+pub mod Near
 pub mod Passes
 pub mod Reduced
 pub mod Scan

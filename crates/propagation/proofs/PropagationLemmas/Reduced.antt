@@ -1,15 +1,10 @@
 -- Clauses that a set reduces.
-use Rattle.std.proofs.Common.{◌≡◌, ℕ, ◌&&◌, Bool, true, false, not, Option, Some, None, option_map, filter, OnOk, refl, sym, ap, ◌∙◌, subst}
-use Rattle.std.specs.List.{list_any}
-use Rattle.std.specs.Ordering.{nat_cmp}
-use Rattle.std.specs.FinMap as maps
-use Rattle.std.specs.FinMap.{FinMap}
+use Rattle.std.proofs.Common.{◌≡◌, ℕ, Bool, true, false, not, Option, Some, None, filter, OnOk, refl, sym, ap, ◌∙◌, subst}
 use Rattle.std.specs.Result.{is_err}
 use Rattle.std.specs.declared.result.Result.{Result}
 use Rattle.std.specs.declared.result.Result.TheVariants.{Ok, Err}
 use Rattle.std.proofs.lemmas.Bool.{false≢true, true≢false}
 use Rattle.cnf_base.specs.Literals.{Literal, Clause, complement, complements, has}
-use Rattle.cnf_base.proofs.SetLemmas.{any_from, any_some, both_pass}
 use Rattle.propagation.specs.Forced.{Live}
 use Rattle.propagation.specs.Assumptions.{Assuming, IsReducedAt, Propagation}
 use Rattle.propagation.specs.LiteralSet.{reduced_there}

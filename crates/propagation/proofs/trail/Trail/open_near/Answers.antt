@@ -1,11 +1,9 @@
-use Rattle.std.proofs.Common.{◌≡◌, sym, ap, ◌∙◌, arith, subst}
+use Rattle.std.proofs.Common.{◌≡◌, sym, ap, ◌∙◌, inl, inr, arith}
 use Rattle.std.proofs.lemmas.Bool.{ltb-true}
 use Rattle.cnf_base.specs.Literals.{complement, has}
 use Rattle.tables.specs.Table.{at}
-use Rattle.propagation.specs.Trail.{value_under, HasNoVariableTwice}
 use Rattle.propagation.proofs.PropagationLemmas.Left.{count_with, count_same}
-use Rattle.propagation.proofs.PropagationLemmas.MakesFalse.{value_not_false}
-use Rattle.propagation.proofs.PropagationLemmas.Values.{near_value, value_false}
+use Rattle.propagation.proofs.PropagationLemmas.Near.{near_false}
 use Rattle.propagation.proofs.trail.Trail.open_near.Goals as goal
 use Rattle.propagation.proofs.trail.Trail.open_near.Goals.{in-False, in_default, then-not-matches, else-not-matches}
 
@@ -18,16 +16,12 @@ loop-l-preserved c =
     let x = c.l-item.result in
     let so_far = c.loop-l.invariant in
     let values = c.self.inside.values in
-    let near = values.dense.items in
-    let shown = ap (λ s. s.lits) c.self.view_is in
-    let apart = subst HasNoVariableTwice shown c.self.invariant.different in
     let found = rw c.near-near.ensures at c.in_ok-value.ensures.lookup in
-    let v = c.in_ok-value.value.now in
-    let is : v ≡ value_under trues x = subst (λ ls. v ≡ value_under ls x) shown (near_value near (at values.far) c.self.inside.lits.items c.self.invariant.values x c.index.result v c.index.ensures.value (ltb-true _ _ (sym found.0)) found.1) in
-    let matches : has trues (complement x) ≡ c.match-matches.matches = elim c.match-matches.branch [
-      | in-False w ↦ value_false trues x v is w.in-False.is ∙ sym w.matches-is
-      | in_default w ↦ sym (value_not_false trues x apart v is w.in_default.not-False) ∙ sym w.matches-is
-    ] in
+    let matches : has trues (complement x) ≡ c.match-matches.matches =
+    near_false values.dense.items (at values.far) c.self.inside.lits.items c.self.invariant.values c.self.invariant.different trues (ap (λ s. s.lits) c.self.view_is) x c.index.result c.in_ok-value.value.now c.index.ensures.value (ltb-true _ _ (sym found.0)) found.1 c.match-matches.matches (elim c.match-matches.branch [
+      | in-False w ↦ inl (w.in-False.is, w.matches-is)
+      | in_default w ↦ inr (w.in_default.not-False, w.matches-is)
+    ]) in
     elim c.if-not-matches.branch [
       | then-not-matches w ↦ record {
         counted = rw (w.count-is, w.open-is) (count_with trues clause i inside x c.l-item.is (matches ∙ w.if-not-matches.true) c.loop-l.count c.loop-l.open so_far.counted);
