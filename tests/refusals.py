@@ -105,7 +105,6 @@ QUIET = [
     "scanner",
     "readers",
     "trail",
-    "far",
     "store",
     "ids",
     "scan",

@@ -164,7 +164,7 @@ fn try_call(
     let Some(far) = Lit::new(268435455) else {
         return Ok(None);
     };
-    if let Some(is_done) = quiet::carry_out(alloc, name, few, many.as_slice(), far, is_called)? {
+    if let Some(is_done) = quiet::carry_out(alloc, name, few, many.as_slice(), is_called)? {
         return Ok(Some(if is_done { "done" } else { "not done" }));
     }
     let told = refused::carry_out(alloc, name, &few, many.as_slice(), far)?;

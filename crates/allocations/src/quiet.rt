@@ -265,7 +265,6 @@ pub fn carry_out(
     name: &str,
     few: [Lit; 2],
     many: &[Lit],
-    far: Lit,
     is_called: bool,
 ) -> Result<Option<bool>, Fault> {
     let [l, other] = few;
@@ -277,7 +276,6 @@ pub fn carry_out(
         "quiet_scanner" => scanner(alloc, is_called)?,
         "quiet_readers" => readers(alloc, is_called)?,
         "quiet_trail" => trail(alloc, many, is_called)?,
-        "quiet_far" => trail(alloc, &[far], is_called)?,
         "quiet_store" => store(alloc, &few, many, is_called)?,
         "quiet_ids" => ids(alloc, is_called)?,
         "quiet_scan" => clauses(Scan::new(alloc)?, &few, many, l, is_called)?,
