@@ -1,4 +1,6 @@
+pub mod Closing
 pub mod Counts
+pub mod Covers
 pub mod Exact
 pub mod Forced
 pub mod HasAt

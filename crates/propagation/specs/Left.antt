@@ -1,5 +1,5 @@
 -- What is left of a clause where some literals are true: the literals of it that are not false.
-use Rattle.std.specs.Prelude.{◌≡◌, ℕ, ◌<◌, ◌≤◌, not, ◌==◌, List, [], ◌∷◌, filter, length, slice_index, IsTrue, IsFalse, ⊤, if◌then◌else◌}
+use Rattle.std.specs.Prelude.{◌≡◌, ℕ, ◌<◌, ◌≤◌, Bool, true, false, not, ◌==◌, List, [], ◌∷◌, filter, length, slice_index, IsTrue, IsFalse, ⊤, if◌then◌else◌}
 use Rattle.std.specs.List.{list_all}
 use Rattle.cnf_base.specs.Literals.{Literal, complement, Clause, has}
 use Rattle.propagation.specs.declared.left.Left.{Left}
@@ -19,6 +19,12 @@ abbrev pub with_one : Left → Literal → Left
 with_one Nothing l = One l
 with_one (One m) l = if l == m then One m else More
 with_one More l = More
+
+-- whether all literals of a clause are false but for one, where this is left of it
+abbrev pub is_one_at_most : Left → Clause → Bool
+is_one_at_most More c = false
+is_one_at_most left [] = false
+is_one_at_most left (l ∷ c) = true
 
 -- nothing new follows from a clause of which this is left
 abbrev pub IsSettled : List Literal → Left → Type 0

@@ -1,4 +1,5 @@
 pub mod Assumptions
+pub mod Closure
 pub mod Code
 pub mod Exact
 pub mod Forced

@@ -3,6 +3,7 @@
 
 mod answer;
 mod assumptions;
+mod closure;
 mod left;
 mod levels;
 mod literal_set;
@@ -10,10 +11,12 @@ mod part;
 mod propagate;
 mod scan;
 mod trail;
+mod truths;
 mod value;
 
 pub use answer::Answer;
 pub use assumptions::Assumptions;
+pub use closure::is_root_reason;
 pub use left::Left;
 pub use literal_set::LiteralSet;
 pub use part::{Except, Part, Unless, Whole};

@@ -1,10 +1,11 @@
 //! What every store of live clauses does that propagates.
 
-ghost use Rattle.std.specs.Prelude.{◌≡◌, ◌≢◌, [], ◌≤◌, ◌<◌, ◌∷◌, ℕ, min, not, ◌==◌, length, Some, None, List, IsTrue, IsSome, IfSome, IfNone, IfOk, OnOk, OnErr};
+ghost use Rattle.std.specs.Prelude.{◌≡◌, ◌≢◌, [], ◌≤◌, ◌<◌, ◌∷◌, ℕ, min, not, true, false, ◌==◌, length, Some, None, List, IsTrue, IsSome, IfSome, IfNone, IfOk, OnOk, OnErr};
 ghost use Rattle.std.specs.FinMap as maps;
 ghost use Rattle.cnf_base.specs.Literals.{Clause, has, same_clause, complement, complements};
 ghost use Rattle.clause_db.specs.Store.Clauses.{size, copies_with};
 ghost use Rattle.propagation.specs.Assumptions.{Propagation, Assumption, Assuming, AssumingPart, HoldsLiveAlone, HasAt, IsReducedAt, LastIsAnswered, IsValue, MayAssume, assumed_by};
+ghost use Rattle.propagation.specs.Forced.{IsRootReason};
 ghost use Rattle.propagation.specs.Trail.{conflicts};
 ghost use Rattle.propagation.specs.declared.answer.Answer.TheVariants.{Quiet};
 
@@ -135,6 +136,28 @@ pub trait Propagate {
         ensures slots { OnOk result ((s : ℕ) → IsSome (maps.get (state self.old).live s) →
             s ≤ 18446744073709551615) }
         ensures same { state self.new ≡ state self.old };
+
+    /// Whether the clause in the slot makes a literal of it hold for good, where nothing is assumed: that literal follows, and so do
+    /// the complements of all its others. It is asked of the whole least set, past a clash too.
+    ///
+    /// # Errors
+    ///
+    /// Where memory runs out, and ever after, as of an assumption.
+    fn is_root_reason(&mut self, slot: Slot) -> Result<bool, OutOfMemory>
+        requires alive { IsSome (maps.get (state self.old).live slot) }
+        requires nothing_assumed { (state self.old).assumptions ≡ [] }
+        ensures yes { IfOk result (λ is_reason. is_reason ≡ true → (c : Clause) →
+            maps.get (state self.old).live slot ≡ Some c →
+            IsRootReason (maps.get (state self.old).live) c) }
+        ensures no { IfOk result (λ is_reason. is_reason ≡ false → (c : Clause) →
+            maps.get (state self.old).live slot ≡ Some c →
+            ¬ IsRootReason (maps.get (state self.old).live) c) }
+        ensures live { (state self.new).live ≡ (state self.old).live }
+        ensures live_alone { HoldsLiveAlone (state self.new) }
+        ensures nothing_assumed { (state self.new).assumptions ≡ [] }
+        ensures never_refused { OnOk result ((state self.old).has_refused ≡ false) }
+        ensures not_refused { OnOk result ((state self.new).has_refused ≡ false) }
+        ensures refused { OnErr result ((state self.new).has_refused ≡ true) };
 
     /// Takes back the last assumption. It takes no memory.
     fn undo(&mut self)

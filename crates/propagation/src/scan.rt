@@ -11,6 +11,7 @@ ghost use Rattle.propagation.specs.Scan.{IsScan};
 ghost use Rattle.propagation.specs.Trail.{HasRoom};
 
 use crate::assumptions::Assumptions;
+use crate::closure::is_root_reason;
 use crate::scan::unit::propagate;
 use crate::{Answer, Except, LiteralSet, Part, Propagate, Unless, Value, Whole};
 use clause_db::{Slot, Store};
@@ -21,6 +22,7 @@ use std::marker::Model;
 /// Live clauses, and unit propagation by plain passes over all of them: slow, and in little memory.
 #[derive(Drop)]
 pub struct Scan {
+    alloc: Global,
     store: Store,
     assumptions: Assumptions,
     /// The set that the last call was given, if it was given one.
@@ -141,6 +143,7 @@ impl Scan {
         ensures refused { IfOk result (λ s. s.has_refused ≡ false) }
     {
         Ok(Scan {
+            alloc,
             store: Store::new(alloc)?,
             assumptions: Assumptions::new(alloc)?,
             set: LiteralSet::new(alloc),
@@ -221,6 +224,16 @@ impl Propagate for Scan {
     fn next_reduced(&mut self, set: &[Lit], from: Slot) -> Result<Option<Slot>, OutOfMemory> {
         self.set.fill(set)?;
         Ok(first_reduced(&self.store, &self.set, from))
+    }
+
+    fn is_root_reason(&mut self, slot: Slot) -> Result<bool, OutOfMemory> {
+        if self.has_refused {
+            return Err(OutOfMemory);
+        }
+        let trail = self.assumptions.trail();
+        let found = is_root_reason(self.alloc, &self.store, trail, slot);
+        self.has_refused = found.is_err();
+        found
     }
 
     fn undo(&mut self) {

@@ -6,13 +6,13 @@ ghost use Rattle.std.specs.Prelude.{◌≡◌, ℕ, ◌*◌, ◌/◌, ◌-◌, �
 ghost use Rattle.cnf_base.specs.Literals.{complement, has, variable};
 ghost use Rattle.propagation.specs.Left.{open_literals, how_many, AreFalseFrom, IsCount, IsOpenAt};
 ghost use Rattle.propagation.specs.Trail.{value_under, is_variable, HasNoVariableTwice, SameSet, HasRoom, MakesFalse, conflicts};
-ghost use Rattle.propagation.specs.Left.{with_one};
 ghost use Rattle.propagation.specs.Values.{value_at, known_value};
 ghost use Rattle.propagation.specs.declared.value.Value.TheVariants.{Open};
 
 use self::values::Values;
 use crate::left::Left;
 use crate::part::Part;
+use crate::truths::{Truths, left_of};
 use crate::value::Value;
 use cnf_base::{Lit, OutOfMemory};
 use std::alloc::Global;
@@ -77,14 +77,11 @@ fn open_all(values: &mut Values, lits: &[Lit])
     }
 }
 
-/// What is left with one more literal.
-fn with_literal(left: Left, l: Lit) -> Left
-    ensures { result ≡ with_one left l }
-{
-    match left {
-        Left::Nothing => Left::One(l),
-        Left::One(m) => if l == m { left } else { Left::More },
-        Left::More => Left::More,
+impl Truths for Trail {
+    ghost trues = { λ t. t.lits };
+
+    fn falsifies(&self, l: Lit) -> bool {
+        self.is_false(l)
     }
 }
 
@@ -359,15 +356,6 @@ impl Trail {
     pub fn left(&self, clause: &[Lit]) -> Left
         ensures { result ≡ how_many (open_literals self.now.lits clause.now) }
     {
-        let mut left = Left::Nothing;
-        for l in clause {
-            if !self.is_false(*l) {
-                match with_literal(left, *l) {
-                    Left::More => return Left::More,
-                    next => left = next,
-                }
-            }
-        }
-        left
+        left_of(self, clause)
     }
 }

@@ -5,6 +5,7 @@ mod arrange;
 mod entries;
 mod follow;
 mod lists;
+mod reason;
 mod refresh;
 mod roots;
 mod run;

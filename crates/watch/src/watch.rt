@@ -15,6 +15,7 @@ ghost use Rattle.watch.specs.Watched.{long_clauses, short_clauses};
 use crate::arrange::arrange;
 use crate::entries::{add_entries, remove_entries};
 use crate::lists::WatchLists;
+use crate::reason::is_reason_for_good;
 use crate::refresh::refresh;
 use crate::roots::Roots;
 use crate::run::run;
@@ -35,6 +36,7 @@ use std::marker::Model;
 /// Contracts see what they see of any propagation, and how many entries its lists have.
 #[derive(Drop)]
 pub struct Watch {
+    alloc: Global,
     /// Of a clause of two literals or more it watches the first two.
     store: Store,
     lists: WatchLists,
@@ -145,6 +147,7 @@ impl Watch {
         ensures refused { IfOk result (λ w. w.propagation.has_refused ≡ false) }
     {
         Ok(Watch {
+            alloc,
             store: Store::seeded(alloc, seed)?,
             lists: WatchLists::new(alloc),
             short: SlotList::new(alloc),
@@ -371,6 +374,33 @@ impl Propagate for Watch {
     fn next_reduced(&mut self, set: &[Lit], from: Slot) -> Result<Option<Slot>, OutOfMemory> {
         self.set.fill(set)?;
         Ok(first_reduced(&self.store, &self.set, from))
+    }
+
+    fn is_root_reason(&mut self, slot: Slot) -> Result<bool, OutOfMemory> {
+        if self.has_refused
+            || refresh(
+                &mut self.store,
+                &mut self.lists,
+                &self.short,
+                &mut self.assumptions,
+                &mut self.roots,
+            )
+            .is_err()
+        {
+            self.store.is_sound();
+            self.has_refused = true;
+            return Err(OutOfMemory);
+        }
+        let found = is_reason_for_good(
+            self.alloc,
+            &self.store,
+            &self.assumptions,
+            &self.roots,
+            slot,
+        );
+        self.store.is_sound();
+        self.has_refused = found.is_err();
+        found
     }
 
     fn undo(&mut self) {

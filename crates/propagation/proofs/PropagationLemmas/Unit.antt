@@ -3,6 +3,7 @@ use Rattle.std.proofs.Common.{◌≡◌, ◌≢◌, ℕ, true, false, not, Some,
 use Rattle.std.proofs.lemmas.Bool.{true≢false, cases_eq, not-true}
 use Rattle.cnf_base.specs.Literals.{Literal, complement, Clause, has}
 use Rattle.cnf_base.proofs.SetLemmas.{filter_has}
+use Rattle.propagation.specs.Closure.{OthersFail, IsClosedAt}
 use Rattle.propagation.specs.Left.{open_literals, how_many, IsSettled}
 use Rattle.propagation.specs.Forced.{Live, IsClosed, Forced, Clash, by_empty, by_both}
 use Rattle.propagation.specs.Trail.{conflicts}
@@ -29,22 +30,26 @@ module _ (live : Live) (assumed : List Literal) where
 
 -- ---- Where nothing more follows
 
-module _ (live : Live) (trues : List Literal) (settled : (k : ℕ) (c : Clause) → live k ≡ Some c → IsSettled trues (how_many (open_literals trues c))) where
-  open_is : (c : Clause) (m : Literal) → ((l : Literal) → has c l ≡ true → l ≢ m → has trues (complement l) ≡ true) → (l : Literal) → has (open_literals trues c) l ≡ true → l ≡ m
-  open_is c m others l h =
+module _ (trues : List Literal) (c : Clause) where
+  open_is : (m : Literal) → OthersFail (has trues) c m → (l : Literal) → has (open_literals trues c) l ≡ true → l ≡ m
+  open_is m others l h =
       let w = filter_has (λ l. not (has trues (complement l))) c l h in
       elim (cases_eq l m) [
         | inl e ↦ e
         | inr ne ↦ absurd (true≢false (sym (others l w.0 ne) ∙ not-true _ w.1))
       ]
 
-  settled_unit : (c : Clause) (m : Literal) → ((l : Literal) → has c l ≡ true → l ≢ m → has trues (complement l) ≡ true) → (left : Left) → how_many (open_literals trues c) ≡ left → IsSettled trues left → has trues m ≡ true
-  settled_unit c m others Nothing e h = absurd h
-  settled_unit c m others (One l) e h = sym (ap (has trues) (open_is c m others l (left-one (open_literals trues c) l e).0)) ∙ h
-  settled_unit c m others More e h = absurd (left-more (open_literals trues c) m e (open_is c m others))
+  settled_unit : (m : Literal) → OthersFail (has trues) c m → (left : Left) → how_many (open_literals trues c) ≡ left → IsSettled trues left → has trues m ≡ true
+  settled_unit m others Nothing e h = absurd h
+  settled_unit m others (One l) e h = sym (ap (has trues) (open_is m others l (left-one (open_literals trues c) l e).0)) ∙ h
+  settled_unit m others More e h = absurd (left-more (open_literals trues c) m e (open_is m others))
 
+  pub settled_at : IsSettled trues (how_many (open_literals trues c)) → IsClosedAt (has trues) c
+  settled_at settled m member others = settled_unit m others (how_many (open_literals trues c)) refl settled
+
+module _ (live : Live) (trues : List Literal) (settled : (k : ℕ) (c : Clause) → live k ≡ Some c → IsSettled trues (how_many (open_literals trues c))) where
   pub settled_closed : IsClosed live (λ l. has trues l)
-  settled_closed = record { unit = λ k c at m member others. settled_unit c m others (how_many (open_literals trues c)) refl (settled k c at) }
+  settled_closed = record { unit = λ k c at. settled_at trues c (settled k c at) }
 
   -- where no two of the literals clash either, nothing does
   pub settled_quiet : (assumed : List Literal) → ((a : Literal) → has assumed a ≡ true → has trues a ≡ true) → conflicts trues ≡ false → Clash live assumed → ⊥

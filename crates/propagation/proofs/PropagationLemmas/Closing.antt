@@ -1,0 +1,209 @@
+-- All that follows with nothing assumed, and the clauses that make a literal hold for good.
+use Rattle.std.proofs.Common.{◌≡◌, ◌≢◌, ℕ, Result, Ok, Err, IfOk, OnOk, ◌+◌, ◌*◌, ◌/◌, ◌<◌, ◌≤◌, Bool, true, false, not, cond, ◌||◌, Some, None, List, [], ◌∷◌, ◌++◌, map, count_by, refl, sym, ap, ◌∙◌, subst, arith, inl, inr, ◌⊎◌}
+use Rattle.std.proofs.lemmas.Bool.{false≢true, true≢false, not-true, not-false, cases_eq}
+use Rattle.std.proofs.lemmas.Option.{none-some, same_Some}
+use Rattle.std.proofs.lemmas.Result.{on_ok_weaker}
+use Rattle.std.proofs.lemmas.List.Sums.{sum_by-cons}
+use Rattle.cnf_base.specs.Literals.{Literal, complement, Clause, has}
+use Rattle.cnf_base.proofs.SetLemmas.{filter_has, has_append_left, has_append_right, has_append_cases, has_cases, has_head, has_tail}
+use Rattle.propagation.specs.Closure.{FollowsFrom, is_old, by_unit, IsClosedAt, OthersFail, both_of, lacking}
+use Rattle.propagation.specs.Forced.{Live, IsClosed, Forced, IsRootReason}
+use Rattle.propagation.specs.Left.{open_literals, how_many, is_one_at_most, IsSettled}
+use Rattle.propagation.specs.Trail.{HasRoomForAll}
+use Rattle.propagation.specs.declared.left.Left.{Left}
+use Rattle.propagation.specs.declared.left.Left.TheVariants.{Nothing, One, More}
+use Rattle.propagation.proofs.PropagationLemmas.Forced.{forced_unit}
+use Rattle.propagation.proofs.PropagationLemmas.Left.{left-none, left-one, left-more, open_cases}
+use Rattle.propagation.proofs.PropagationLemmas.Unit.{settled_at}
+
+-- ---- One clause
+
+module _ (ls : List Literal) (c : Clause) where
+  -- where none is left, each of its literals follows
+  pub none_left_follow : how_many (open_literals ls c) ≡ Nothing → (m : Literal) → OthersFail (has ls) c m
+  none_left_follow e m l member ne = elim (open_cases ls c l member) [ inl h ↦ absurd (left-none (open_literals ls c) e l h) | inr h ↦ h ]
+
+  -- where one is left, it follows
+  pub one_left_follows : (m : Literal) → how_many (open_literals ls c) ≡ One m → (has c m ≡ true) × OthersFail (has ls) c m
+  one_left_follows m e =
+      let only = left-one (open_literals ls c) m e in (
+        (filter_has (λ l. not (has ls (complement l))) c m only.0).0,
+        λ l member ne. elim (open_cases ls c l member) [ inl h ↦ absurd (ne (only.1 l h)) | inr h ↦ h ],
+      )
+
+pub follows_forced : (live : Live) (ls : List Literal) → ((l : Literal) → has ls l ≡ true → Forced live [] l) → (k : ℕ) (c : Clause) → live k ≡ Some c → (l : Literal) → FollowsFrom ls c l → Forced live [] l
+follows_forced live ls sound k c at l (is_old h) = sound l h
+follows_forced live ls sound k c at l (by_unit member others) = forced_unit live [] k c at l member (λ m h ne. sound (complement m) (others m h ne))
+
+-- ---- How many literals are not found yet
+
+module _ (first second : List Literal) (grows : (l : Literal) → has first l ≡ true → has second l ≡ true) where
+  weight_le : (a b : Bool) → (a ≡ true → b ≡ true) → cond {A = ℕ} (not b) 1 0 ≤ cond (not a) 1 0
+  weight_le true true keeps = omega arith
+  weight_le true false keeps = absurd (false≢true (keeps refl))
+  weight_le false true keeps = omega arith
+  weight_le false false keeps = omega arith
+
+  lacking-cons : (found : List Literal) (l : Literal) (ls : List Literal) → lacking found (l ∷ ls) ≡ cond (not (has found l)) 1 0 + lacking found ls
+  lacking-cons found l ls = sum_by-cons (λ k. cond (not (has found k)) 1 0) l ls
+
+  pub lacking_le : (ls : List Literal) → lacking second ls ≤ lacking first ls
+  lacking_le [] = omega arith
+  lacking_le (l ∷ ls) = omega (arith, lacking-cons first l ls, lacking-cons second l ls, weight_le (has first l) (has second l) (grows l), lacking_le ls)
+
+  pub lacking_falls : (m : Literal) → has first m ≡ false → has second m ≡ true → (ls : List Literal) → has ls m ≡ true → lacking second ls < lacking first ls
+  lacking_falls m absent new [] h = absurd (false≢true h)
+  lacking_falls m absent new (l ∷ ls) h =
+      elim (has_cases l ls m h) [
+        | inl e ↦
+            let old : cond {A = ℕ} (not (has first l)) 1 0 ≡ 1 = ap (λ b. cond {A = ℕ} (not b) 1 0) (ap (has first) e ∙ absent) in
+            let now : cond {A = ℕ} (not (has second l)) 1 0 ≡ 0 = ap (λ b. cond {A = ℕ} (not b) 1 0) (ap (has second) e ∙ new) in
+            omega (arith, lacking-cons first l ls, lacking-cons second l ls, old, now, lacking_le ls)
+        | inr g ↦ omega (arith, lacking-cons first l ls, lacking-cons second l ls, weight_le (has first l) (has second l) (grows l), lacking_falls m absent new ls g)
+      ]
+
+mapped : (f : ℕ → ℕ) (met : List ℕ) (v : ℕ) → has met v ≡ true → has (map f met) (f v) ≡ true
+mapped f [] v h = absurd (false≢true h)
+mapped f (w ∷ met) v h = elim (has_cases w met v h) [
+  | inl e ↦ subst (λ x. has (map f (w ∷ met)) (f x) ≡ true) e (has_head (f w) (map f met))
+  | inr g ↦ has_tail (f w) (map f met) (f v) (mapped f met v g)
+]
+
+pub has-both_of : (met : List ℕ) (m : Literal) → has met (m / 2) ≡ true → has (both_of met) m ≡ true
+has-both_of met m h = elim (cases_eq (2 * (m / 2)) m) [
+  | inl e ↦ has_append_left (map (λ v. 2 * v) met) (map (λ v. 2 * v + 1) met) m (subst (λ x. has (map (λ v. 2 * v) met) x ≡ true) e (mapped (λ v. 2 * v) met (m / 2) h))
+  | inr ne ↦
+      let odd : 2 * (m / 2) + 1 ≡ m = omega arith in
+      has_append_right (map (λ v. 2 * v) met) (map (λ v. 2 * v + 1) met) m (subst (λ x. has (map (λ v. 2 * v + 1) met) x ≡ true) odd (mapped (λ v. 2 * v + 1) met (m / 2) h))
+]
+
+-- ---- A pass over all clauses, up to a slot
+
+-- what a pass keeps: fewer literals are to be found, or the unit rule is kept by the clauses so far
+abbrev pub IsPassedOver : Live → List Literal → List Literal → ℕ → Bool → Type 0
+IsPassedOver live before now n true = (met : List ℕ) → HasRoomForAll met live → lacking now (both_of met) < lacking before (both_of met)
+IsPassedOver live before now n false = (now ≡ before) × ((k : ℕ) (c : Clause) → k < n → live k ≡ Some c → IsClosedAt (has before) c)
+
+-- ---- Clauses that make a literal hold for good
+
+module _ (live : Live) (trues : List Literal) (k : ℕ) (c : Clause) (at : live k ≡ Some c) where
+  module _ (sound : (l : Literal) → has trues l ≡ true → Forced live [] l) where
+    reason_from : (m : Literal) → has c m ≡ true → OthersFail (has trues) c m → IsRootReason live c
+    reason_from m member others =
+        let falses : (l : Literal) → has c l ≡ true → l ≢ m → Forced live [] (complement l) = λ l h ne. sound (complement l) (others l h ne) in
+        record { literal = m; member = member; forced = forced_unit live [] k c at m member falses; others = falses }
+
+    pub reason_left : is_one_at_most (how_many (open_literals trues c)) c ≡ true → IsRootReason live c
+    reason_left h = by_left (how_many (open_literals trues c)) refl c refl h
+      where
+        by_left : (left : Left) → how_many (open_literals trues c) ≡ left → (d : Clause) → c ≡ d → is_one_at_most left d ≡ true → IsRootReason live c
+        by_left More e d is h = absurd (false≢true h)
+        by_left Nothing e [] is h = absurd (false≢true h)
+        by_left (One m) e [] is h = absurd (false≢true h)
+        by_left Nothing e (l ∷ d) is h = reason_from l (ap (λ x. has x l) is ∙ has_head l d) (none_left_follow trues c e l)
+        by_left (One m) e (l ∷ d) is h = let w = one_left_follows trues c m e in reason_from m w.0 w.1
+
+  module _ (all : (l : Literal) → Forced live [] l → has trues l ≡ true) where
+    open_alone : (r : IsRootReason live c) (l : Literal) → has (open_literals trues c) l ≡ true → l ≡ r.literal
+    open_alone r l h =
+        let w = filter_has (λ l. not (has trues (complement l))) c l h in
+        elim (cases_eq l r.literal) [
+          | inl e ↦ e
+          | inr ne ↦ absurd (true≢false (sym (all (complement l) (r.others l w.0 ne)) ∙ not-true _ w.1))
+        ]
+
+    pub no_reason_left : is_one_at_most (how_many (open_literals trues c)) c ≡ false → ¬ IsRootReason live c
+    no_reason_left h r = by_left (how_many (open_literals trues c)) refl c refl h
+      where
+        by_left : (left : Left) → how_many (open_literals trues c) ≡ left → (d : Clause) → c ≡ d → is_one_at_most left d ≡ false → ⊥
+        by_left More e d is h = left-more (open_literals trues c) r.literal e (open_alone r)
+        by_left Nothing e [] is h = false≢true (sym (ap (λ x. has x r.literal) is) ∙ r.member)
+        by_left (One m) e [] is h = false≢true (sym (ap (λ x. has x r.literal) is) ∙ r.member)
+        by_left Nothing e (l ∷ d) is h = absurd (true≢false h)
+        by_left (One m) e (l ∷ d) is h = absurd (true≢false h)
+
+-- ---- What a clause adds
+
+module _ {E : Type 0} (ls now : List Literal) (c : Clause) (r : Result Bool E) where
+  -- where none of its literals is left, all are added
+  pub all_follow : how_many (open_literals ls c) ≡ Nothing → OnOk r ((l : Literal) → has now l ≡ has (ls ++ c) l) → OnOk r ((l : Literal) → has now l ≡ true → FollowsFrom ls c l)
+  all_follow e = on_ok_weaker r (λ lits l h. elim (has_append_cases ls c l (sym (lits l) ∙ h)) [
+    | inl old ↦ is_old old
+    | inr member ↦ by_unit member (none_left_follow ls c e l)
+  ])
+
+  module _ (m : Literal) (e : how_many (open_literals ls c) ≡ One m) where
+    -- where one is left, it is added
+    pub one_follows : OnOk r ((l : Literal) → has now l ≡ has (ls ++ m ∷ []) l) → OnOk r ((l : Literal) → has now l ≡ true → FollowsFrom ls c l)
+    one_follows = on_ok_weaker r (λ lits l h. elim (has_append_cases ls (m ∷ []) l (sym (lits l) ∙ h)) [
+      | inl old ↦ is_old old
+      | inr here ↦ elim (has_cases m [] l here) [
+        | inl same ↦ let w = one_left_follows ls c m e in subst (FollowsFrom ls c) same (by_unit w.0 w.1)
+        | inr none ↦ absurd (false≢true none)
+      ]
+    ])
+
+pub one_is_new : {E : Type 0} (ls now : List Literal) (c : Clause) (m : Literal) → how_many (open_literals ls c) ≡ One m → (r : Result Bool E) → IfOk r (λ is_new. is_new ≡ not (has ls m)) → OnOk r ((l : Literal) → has now l ≡ has (ls ++ m ∷ []) l) →
+    IfOk r (λ is_new. is_new ≡ true → (l : Literal) × (has c l ≡ true) × (has ls l ≡ false) × (has now l ≡ true))
+one_is_new ls now c m e (Ok is_new) was lits = λ new.
+    (m, (one_left_follows ls c m e).0, not-true (has ls m) (sym was ∙ new), lits m ∙ has_append_right ls (m ∷ []) m (has_head m []))
+one_is_new ls now c m e (Err refused) was lits = tt
+
+pub one_is_closed : {E : Type 0} (ls : List Literal) (c : Clause) (m : Literal) → how_many (open_literals ls c) ≡ One m → (r : Result Bool E) → IfOk r (λ is_new. is_new ≡ not (has ls m)) → IfOk r (λ is_new. is_new ≡ false → IsClosedAt (has ls) c)
+one_is_closed ls c m e (Ok is_new) was = λ old. settled_at ls c (subst (IsSettled ls) (sym e) (not-false (has ls m) (sym was ∙ old)))
+one_is_closed ls c m e (Err refused) was = tt
+
+pub more_is_closed : (ls : List Literal) (c : Clause) → how_many (open_literals ls c) ≡ More → IsClosedAt (has ls) c
+more_is_closed ls c e = settled_at ls c (subst (IsSettled ls) (sym e) tt)
+
+-- ---- One more slot of a pass
+
+module _ (live : Live) (before now : List Literal) (n : ℕ) where
+  pub over_none : None ≡ live n → (is_new : Bool) → IsPassedOver live before now n is_new → IsPassedOver live before now (n + 1) is_new
+  over_none none true h = h
+  over_none none false h = (
+    h.0,
+    λ k c low at. elim (cases_eq k n) [
+      | inl e ↦ absurd (none-some c (none ∙ ap live (sym e) ∙ at))
+      | inr ne ↦ h.1 k c (omega arith) at
+    ],
+  )
+
+  module _ (d : Clause) (here : Some d ≡ live n) where
+    -- nothing new follows from the clause
+    pub over_same : IsClosedAt (has now) d → (is_new : Bool) → IsPassedOver live before now n is_new → IsPassedOver live before now (n + 1) is_new
+    over_same closed true h = h
+    over_same closed false h = (
+      h.0,
+      λ k c low at. elim (cases_eq k n) [
+        | inl e ↦ subst (IsClosedAt (has before)) (same_Some d c (here ∙ ap live (sym e) ∙ at)) (subst (λ ls. IsClosedAt (has ls) d) h.0 closed)
+        | inr ne ↦ h.1 k c (omega arith) at
+      ],
+    )
+
+    -- a literal of it is new
+    pub over_new : (after : List Literal) → ((l : Literal) → has now l ≡ true → has after l ≡ true) → (m : Literal) → has d m ≡ true → has now m ≡ false → has after m ≡ true → (is_new : Bool) → IsPassedOver live before now n is_new →
+        (met : List ℕ) → HasRoomForAll met live → lacking after (both_of met) < lacking before (both_of met)
+    over_new after grows m member absent new true h met room =
+        omega (arith, h met room, lacking_le now after grows (both_of met))
+    over_new after grows m member absent new false h met room =
+        subst (λ ls. lacking after (both_of met) < lacking ls (both_of met)) h.0
+        (lacking_falls now after grows m absent new (both_of met) (has-both_of met m (room.each n d (sym here) m member)))
+
+    pub over_taken : (after : List Literal) → ((l : Literal) → has now l ≡ true → has after l ≡ true) → (b : Bool) →
+        (b ≡ true → (l : Literal) × (has d l ≡ true) × (has now l ≡ false) × (has after l ≡ true)) → (b ≡ false → after ≡ now) → (b ≡ false → IsClosedAt (has now) d) →
+        (is_new : Bool) → IsPassedOver live before now n is_new → IsPassedOver live before after (n + 1) (is_new || b)
+    over_taken after grows true some same closed is_new h =
+        let m = some refl in
+        subst (IsPassedOver live before after (n + 1)) (sym (or_true is_new)) (over_new after grows m.0 m.1 m.2 m.3 is_new h)
+      where
+        or_true : (b : Bool) → (b || true) ≡ true
+        or_true true = refl
+        or_true false = refl
+    over_taken after grows false some same closed is_new h =
+        subst (IsPassedOver live before after (n + 1)) (sym (or_false is_new))
+        (subst (λ ls. IsPassedOver live before ls (n + 1) is_new) (sym (same refl)) (over_same (closed refl) is_new h))
+      where
+        or_false : (b : Bool) → (b || false) ≡ b
+        or_false true = refl
+        or_false false = refl

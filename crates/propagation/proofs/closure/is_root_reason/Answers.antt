@@ -1,0 +1,23 @@
+use Rattle.std.proofs.Common.{sym, ap, ◌∙◌, subst}
+use Rattle.std.specs.FinMap as maps
+use Rattle.std.proofs.lemmas.Option.{same_Some}
+use Rattle.propagation.specs.Forced.{IsRootReason}
+use Rattle.propagation.specs.Left.{is_one_at_most}
+use Rattle.propagation.proofs.PropagationLemmas.Closing.{no_reason_left, reason_left}
+use Rattle.propagation.proofs.closure.is_root_reason.Goals as goal
+
+pub returns-clause-yes : goal.returns-clause-yes
+returns-clause-yes c is_reason clause at =
+    let live = maps.get c.args.store.now.live in
+    let kept = c.clause-clause.result.now in
+    let here = c.clause-clause.ensures.clause in
+    subst (IsRootReason live) (same_Some kept clause (here ∙ at))
+    (reason_left live c.in_ok-closure.closure c.args.slot kept (sym here) c.in_ok-closure.ensures.sound (sym (c.is_one_at_most.ensures ∙ ap (λ left. is_one_at_most left kept) c.left.ensures) ∙ is_reason))
+
+pub returns-clause-no : goal.returns-clause-no
+returns-clause-no c is_none clause at =
+    let live = maps.get c.args.store.now.live in
+    let kept = c.clause-clause.result.now in
+    let here = c.clause-clause.ensures.clause in
+    subst (λ d. ¬ IsRootReason live d) (same_Some kept clause (here ∙ at))
+    (no_reason_left live c.in_ok-closure.closure c.args.slot kept (sym here) c.in_ok-closure.ensures.all (sym (c.is_one_at_most.ensures ∙ ap (λ left. is_one_at_most left kept) c.left.ensures) ∙ is_none))

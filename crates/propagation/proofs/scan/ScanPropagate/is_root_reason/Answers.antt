@@ -1,0 +1,9 @@
+use Rattle.std.proofs.Common.{◌≡◌, false, Some, IfOk, subst}
+use Rattle.std.specs.FinMap as maps
+use Rattle.cnf_base.specs.Literals.{Clause}
+use Rattle.propagation.specs.Forced.{IsRootReason}
+use Rattle.propagation.proofs.scan.ScanPropagate.is_root_reason.Goals as goal
+
+pub returns-clause-no : goal.returns-clause-no
+returns-clause-no c =
+    subst (λ p. IfOk c.is_root_reason-found.result (λ is_reason. is_reason ≡ false → (d : Clause) → maps.get p.live c.args.slot ≡ Some d → ¬ IsRootReason (maps.get p.live) d)) c.self.view_is c.is_root_reason-found.ensures.no

@@ -1,0 +1,6 @@
+use Rattle.std.proofs.Common.{◌≡◌, take}
+use Rattle.propagation.specs.Left.{open_literals, how_many}
+use Rattle.propagation.proofs.truths.left_of.Given as goal
+
+abbrev pub invariant-loop-l : goal.invariant-loop-l
+invariant-loop-l g l = l.left ≡ how_many (open_literals (g.T.Truths.trues l.truths) (take l.l-index l.clause))

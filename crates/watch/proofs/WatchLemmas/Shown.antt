@@ -1,0 +1,39 @@
+-- What follows from the clauses as they are shown follows from them as they are held.
+use Rattle.std.proofs.Common.{◌≡◌, ℕ, ◌/◌, true, Some, List, [], sym, ap, ◌∙◌}
+use Rattle.std.specs.Ordering.{nat_cmp}
+use Rattle.std.specs.FinMap as maps
+use Rattle.std.specs.FinMap.{FinMap}
+use Rattle.cnf_base.specs.Literals.{Literal, Clause, has, same_clause}
+use Rattle.cnf_base.proofs.SetLemmas.{same_from}
+use Rattle.propagation.specs.Forced.{Forced, IsRootReason}
+use Rattle.propagation.specs.Trail.{HasRoomForAll}
+use Rattle.propagation.proofs.PropagationLemmas.Covers.{Covers, forced_covers, reason_covers}
+use Rattle.watch.specs.Order.{in_order, each_in_order}
+use Rattle.watch.proofs.WatchLemmas.Order.{has-in_order, seen_there, there_seen}
+
+module _ (live : FinMap nat_cmp Clause) where
+  covers_shown : Covers (maps.get live) (maps.get (each_in_order live))
+  covers_shown k c at = (k, in_order c, seen_there live k c at, same_from c (in_order c) (λ l h. has-in_order c l ∙ h) (λ l h. sym (has-in_order c l) ∙ h))
+
+  shown_covers : Covers (maps.get (each_in_order live)) (maps.get live)
+  shown_covers k d at = let w = there_seen live k d at in (k, w.0, w.1, same_from d w.0 (λ l h. sym (w.2 l) ∙ h) (λ l h. w.2 l ∙ h))
+
+  pub forced_held : (l : Literal) → Forced (maps.get (each_in_order live)) [] l → Forced (maps.get live) [] l
+  forced_held l = forced_covers (maps.get (each_in_order live)) (maps.get live) shown_covers [] l
+
+  pub forced_shown : (l : Literal) → Forced (maps.get live) [] l → Forced (maps.get (each_in_order live)) [] l
+  forced_shown l = forced_covers (maps.get live) (maps.get (each_in_order live)) covers_shown [] l
+
+  pub room_held : (met : List ℕ) → HasRoomForAll met (maps.get (each_in_order live)) → HasRoomForAll met (maps.get live)
+  room_held met room = record { each = λ k c at l member. room.each k (in_order c) (seen_there live k c at) l (has-in_order c l ∙ member) }
+
+  module _ (slot : ℕ) (d : Clause) (at : maps.get (each_in_order live) slot ≡ Some d) where
+    pub reason_shown : ((c : Clause) → maps.get live slot ≡ Some c → IsRootReason (maps.get live) c) → IsRootReason (maps.get (each_in_order live)) d
+    reason_shown held =
+        let w = there_seen live slot d at in
+        reason_covers (maps.get live) (maps.get (each_in_order live)) covers_shown w.0 d (same_from w.0 d (λ l h. w.2 l ∙ h) (λ l h. sym (w.2 l) ∙ h)) (held w.0 w.1)
+
+    pub none_shown : ((c : Clause) → maps.get live slot ≡ Some c → ¬ IsRootReason (maps.get live) c) → ¬ IsRootReason (maps.get (each_in_order live)) d
+    none_shown held r =
+        let w = there_seen live slot d at in
+        held w.0 w.1 (reason_covers (maps.get (each_in_order live)) (maps.get live) shown_covers d w.0 (same_from d w.0 (λ l h. sym (w.2 l) ∙ h) (λ l h. w.2 l ∙ h)) r)

@@ -1,0 +1,45 @@
+//! Whether a clause makes a literal of it hold for good.
+
+ghost use Rattle.std.specs.Prelude.{◌≡◌, [], true, false, Some, IsSome, IfOk};
+ghost use Rattle.std.specs.FinMap as maps;
+ghost use Rattle.cnf_base.specs.Literals.{Clause};
+ghost use Rattle.propagation.specs.Forced.{IsRootReason};
+ghost use Rattle.propagation.specs.Trail.{HasRoomForAll};
+ghost use Rattle.watch.specs.Order.{each_in_order};
+ghost use Rattle.watch.specs.Roots.{IsKept, is_up_to_date};
+
+use crate::roots::Roots;
+use clause_db::{Slot, Store};
+use cnf_base::OutOfMemory;
+use propagation::{Assumptions, is_root_reason};
+use std::alloc::Global;
+
+/// Whether the clause in the slot makes a literal of it hold for good: by the literals that are kept, which are all that
+/// follows with nothing assumed, or, where a clash is known, by a search of its own over all clauses.
+pub(crate) fn is_reason_for_good(
+    alloc: Global,
+    store: &Store,
+    assumptions: &Assumptions,
+    roots: &Roots,
+    slot: Slot,
+) -> Result<bool, OutOfMemory>
+    requires alive { IsSome (maps.get store.now.live slot) }
+    requires nothing_assumed { assumptions.now.assumptions ≡ [] }
+    requires room { HasRoomForAll assumptions.now.trail.met
+        (maps.get (each_in_order store.now.live)) }
+    requires kept { IsKept store.now.live roots.now assumptions.now.trail.lits }
+    requires up_to_date { is_up_to_date roots.now.kept ≡ true }
+    ensures yes { IfOk result (λ is_reason. is_reason ≡ true → (c : Clause) →
+        maps.get store.now.live slot ≡ Some c → IsRootReason (maps.get store.now.live) c) }
+    ensures no { IfOk result (λ is_reason. is_reason ≡ false → (c : Clause) →
+        maps.get store.now.live slot ≡ Some c → ¬ IsRootReason (maps.get store.now.live) c) }
+{
+    let trail = assumptions.trail();
+    if roots.has_clash() {
+        return is_root_reason(alloc, store, trail, slot);
+    }
+    store.is_sound();
+    let _different = trail.len();
+    let clause = store.clause(slot);
+    Ok(trail.left(clause).is_one_at_most(clause))
+}
