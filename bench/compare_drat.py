@@ -4,10 +4,10 @@
     python3 bench/compare_drat.py [RUNS]
 
 The inputs are the examples, small pigeonhole proofs, and random formulas with steps of which most are accepted, with many
-deletions; as text and in the binary form, with and without --strict and --trace, and with a few tokens, lines or bytes
-changed. Where a proof is verified, all assignments of the formula's variables are tried, and none may satisfy it.
-DRAT_FORWARD names another program than bin/drat-forward, REFERENCE_DRAT another than bench/out/reference_drat. The inputs
-depend on RUNS alone.
+deletions, also past a clash of what follows from the live clauses alone; as text and in the binary form, with and without
+--strict, --trace and --keep-units, and with a few tokens, lines or bytes changed. Where a proof is verified, all assignments
+of the formula's variables are tried, and none may satisfy it. DRAT_FORWARD names another program than bin/drat-forward,
+REFERENCE_DRAT another than bench/out/reference_drat. The inputs depend on RUNS alone.
 """
 
 import glob
@@ -65,8 +65,8 @@ def changed_bytes(rng, data):
 # ---- Random formulas, with steps of which most are accepted
 
 
-def clashes(clauses, assumed):
-    """Whether unit propagation from the assumed literals is a clash, by passes over the clauses."""
+def closure(clauses, assumed):
+    """What unit propagation makes true from the assumed literals, by passes over the clauses. It may have both signs."""
     true, size = set(assumed), -1
     while len(true) > size:
         size = len(true)
@@ -74,7 +74,18 @@ def clashes(clauses, assumed):
             left = [it for it in clause if -it not in true]
             if len(left) < 2:
                 true.update(left or clause)
+    return true
+
+
+def clashes(clauses, assumed):
+    true = closure(clauses, assumed)
     return any(-it in true for it in true)
+
+
+def is_kept(clauses, clause):
+    """Whether a deletion of a live clause is ignored with --keep-units."""
+    true = closure(clauses, [])
+    return any(it in true and all(-other in true for other in clause if other != it) for it in clause)
 
 
 def has_rup(clauses, literals):
@@ -122,12 +133,22 @@ def planted_clause(rng, variables):
     return rng.choice(([first], [-first, second], [-first, second], [-first, -second, third], [-first, *free], [-first, *free]))
 
 
-def walk(rng):
+def clashing_clauses(rng, variables):
+    """Clauses that clash where nothing is assumed, by a unit clause or two."""
+    first, second = some_literals(rng, variables, [2])
+    implied = [-first, second]
+    return rng.choice(([[first], [-first]], [[first], implied, [-second]], [[first], implied, [-first, -second]]))
+
+
+def walk(rng, keeps_units):
     """A formula, and the steps of a proof over it."""
     variables, most_steps = rng.choice(((rng.randint(1, 9), 40), (rng.randint(10, 15), 200)))
     sizes = rng.choice(([1, 2, 2], [1, 2, 2, 2, 2, 3, 3], [1, 2, 3, 3, 3], [2, 3, 3, 3]))
     is_planted, count = rng.randrange(4) > 0, rng.randint(1, 3 * variables)
     clauses = [planted_clause(rng, variables) if is_planted else some_literals(rng, variables, sizes) for _ in range(count)]
+    if rng.randrange(4) == 0:
+        clauses += clashing_clauses(rng, variables)
+        rng.shuffle(clauses)
     live, steps = [frozenset(it) for it in clauses], []
     for _ in range(rng.randint(0, most_steps)):
         is_deletion = rng.random() < 0.4
@@ -137,7 +158,7 @@ def walk(rng):
             break
         if not is_deletion:
             live.append(frozenset(literals))
-        elif frozenset(literals) in live:
+        elif frozenset(literals) in live and not (keeps_units and is_kept(live, literals)):
             live.remove(frozenset(literals))
     lines = (" ".join(map(str, [*clause, 0])) + "\n" for clause in clauses)
     return f"p cnf {variables} {len(clauses)}\n{''.join(lines)}".encode(), steps
@@ -162,13 +183,13 @@ def sources(room):
 def inputs(rng, room):
     pairs = sources(room)
     while True:
+        flags = [flag for flag in ("--trace", "--strict", "--keep-units") if rng.randrange(2)]
         if rng.randrange(3):
-            formula, steps = walk(rng)
+            formula, steps = walk(rng, "--keep-units" in flags)
             proof = in_text(steps)
         else:
             formula, proof = rng.choice(pairs)
             steps = steps_of(proof)
-        flags = [flag for flag in ("--trace", "--strict") if rng.randrange(2)]
         if rng.randrange(3) == 0:
             formula, proof = damaged(rng, formula, in_binary(steps), changed_bytes)
             flags.append("--binary")

@@ -5,8 +5,11 @@
 // Propagation is by two watched literals. What follows from the live clauses alone stays true from step to step; where a
 // clause is deleted that one of these literals came from, that literal and all after it are found anew.
 //
+// With --keep-units what follows from the live clauses is also found by passes over all of them, past a clash too, wherever a
+// deletion asks for it. That is slow, and takes nothing from the watched literals.
+//
 //     c++ -O2 -std=c++17 -o reference_drat reference_drat.cpp
-//     ./reference_drat [--binary] [--trace] [--strict] FORMULA [PROOF]
+//     ./reference_drat [--binary] [--trace] [--strict] [--keep-units] FORMULA [PROOF]
 
 #include "reference.hpp"
 
@@ -308,20 +311,43 @@ struct Propagation {
     }
 };
 
+// ---- What follows from the live clauses, by passes over all of them
+
+using Marks = std::vector<unsigned char>; // by literal
+
+// Whether a literal of a clause follows from the marked ones: the complements of all others are marked.
+bool follows(int l, const Clause &c, const Marks &marks) {
+    return std::all_of(c.begin(), c.end(), [&](int other) { return other == l || marks[index_of(-other)]; });
+}
+
+// The least set in which each literal is that follows from it by a clause. Past a clash it has both signs of a variable.
+Marks least_set(const Store &store, size_t literals) {
+    Marks marks(literals);
+    for (bool has_grown = true; has_grown;) {
+        has_grown = false;
+        for (const Clause &c : store.clauses)
+            for (int l : c)
+                if (!marks[index_of(l)] && follows(l, c, marks)) marks[index_of(l)] = has_grown = true;
+    }
+    return marks;
+}
+
 // ---- The rules
 
 struct Session {
-    bool strict;
+    bool strict, keeps_units;
     Propagation clauses;
-    std::vector<int> numbers;         // by variable: variables are numbered as they come
-    int variables = 0;                // how many have come
-    std::vector<unsigned char> marks; // by literal
-    std::vector<u64> copies;          // by literal: how many live clauses hold it
+    std::vector<int> numbers; // by variable: variables are numbered as they come
+    int variables = 0;        // how many have come
+    Marks marks;
+    std::vector<u64> copies; // by literal: how many live clauses hold it
+    Marks forced;            // what follows from the live clauses, as of when it was last asked for
+    bool is_current = false; // whether that is so still
     Sum sum;
     bool has_empty = false;
     std::string cause; // of the last refusal
 
-    explicit Session(bool strict) : strict(strict) {}
+    Session(bool strict, bool keeps_units) : strict(strict), keeps_units(keeps_units) {}
 
     int numbered(int l) {
         size_t v = size_t(l < 0 ? -l : l);
@@ -346,16 +372,25 @@ struct Session {
     void input(const std::vector<int> &written) { add(clause_of(written)); }
 
     void add(const std::vector<int> &literals) {
+        is_current = false;
         for (int l : literals) ++copies[index_of(l)];
         sum.add(u32(literals.size()));
         if (literals.empty()) has_empty = true;
         else clauses.add(Clause(literals));
     }
 
+    // Whether a live clause has a literal that follows, and the complements of all its others follow.
+    bool is_kept(const Clause &c) {
+        if (!is_current) forced = least_set(clauses.store, marks.size());
+        is_current = true;
+        return std::any_of(c.begin(), c.end(), [&](int l) { return forced[index_of(l)] && follows(l, c, forced); });
+    }
+
     const char *remove(const std::vector<int> &literals) {
         u32 k = clauses.store.find(literals);
         if (k == NONE && strict) return cause = "clause is not alive", nullptr;
-        if (k == NONE) return "ignored";
+        if (k == NONE || (keeps_units && is_kept(clauses.store.clauses[k]))) return "ignored";
+        is_current = false;
         for (int l : literals) --copies[index_of(l)];
         sum.take(u32(literals.size()));
         clauses.remove(k);
@@ -402,15 +437,16 @@ struct Session {
 template <class Proof> Status check_drat(const std::vector<Flag> &flags, int formula_file, int proof_file) {
     Formula formula(formula_file);
     Proof proof(proof_file);
-    Session session(flags[2].is_given);
+    Session session(flags[2].is_given, flags[3].is_given);
     return check(flags[1].is_given, formula, proof, session, Step());
 }
 
 } // namespace
 
 int main(int, char **argv) {
-    std::vector<Flag> flags{{"--binary"}, {"--trace"}, {"--strict"}};
-    return run("reference_drat", "[--binary] [--trace] [--strict] FORMULA [PROOF]", argv + 1, flags, [&](int formula, int proof) {
+    std::vector<Flag> flags{{"--binary"}, {"--trace"}, {"--strict"}, {"--keep-units"}};
+    const char *usage = "[--binary] [--trace] [--strict] [--keep-units] FORMULA [PROOF]";
+    return run("reference_drat", usage, argv + 1, flags, [&](int formula, int proof) {
         return flags[0].is_given ? check_drat<BinaryProof>(flags, formula, proof) : check_drat<TextProof>(flags, formula, proof);
     });
 }
