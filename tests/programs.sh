@@ -365,6 +365,7 @@ LINES
 of_a_proof_checker lrat lrat-check $x/e.lrat
 usage lrat_flag_of_another_tool --binary $x/e.cnf $x/e.lrat
 usage lrat_pr --pr $x/e.cnf $x/e.lrat
+usage lrat_keep_units --keep-units $x/e.cnf $x/e.lrat
 usage lrat_flag_alone --trace
 
 # ==== drat-forward
@@ -463,6 +464,55 @@ row pigeonhole_of_thirty_holes_by_pr 0 --pr "$room/pigeonhole.cnf" "$room/pigeon
 c formula 930 variables 13981 clauses
 c steps 9456 peak 47275
 s VERIFIED
+LINES
+
+# deletions of clauses that a literal follows by, as Glucose wrote them: by examples/make-glucose-proof.sh
+row units_kept 0 --keep-units $x/kept_units.cnf $x/kept_units.drat <<'LINES'
+c formula 20 variables 45 clauses
+c steps 52 peak 221
+s VERIFIED
+LINES
+
+row units_deleted 1 $x/kept_units.cnf $x/kept_units.drat <<'LINES'
+c formula 20 variables 45 clauses
+c step 51: neither RUP nor RAT on -15
+s NOT VERIFIED
+LINES
+
+row pigeonhole_by_glucose 0 --strict --keep-units $x/pigeonhole-5.cnf $x/pigeonhole-5-glucose.drat <<'LINES'
+c formula 30 variables 81 clauses
+c steps 250 peak 1026
+s VERIFIED
+LINES
+
+row pigeonhole_by_glucose_without_the_option 1 $x/pigeonhole-5.cnf $x/pigeonhole-5-glucose.drat <<'LINES'
+c formula 30 variables 81 clauses
+c step 247: neither RUP nor RAT on 21
+s NOT VERIFIED
+LINES
+
+# CaDiCaL's proof deletes no such clause
+row pigeonhole_by_cadical_units_kept 0 --strict --keep-units $x/pigeonhole-5.cnf $x/pigeonhole-5.drat <<'LINES'
+c formula 30 variables 81 clauses
+c steps 242 peak 402
+s VERIFIED
+LINES
+
+row rat_on_a_deleted_unit 0 --trace $x/rat_on_a_deleted_unit.cnf $x/rat_on_a_deleted_unit.drat <<'LINES'
+c formula 3 variables 5 clauses
+c 1 delete
+c 2 add rat
+c 3 add rup
+c 4 add rup
+c steps 4 peak 10
+s VERIFIED
+LINES
+
+row rat_on_a_kept_unit 1 --keep-units --trace $x/rat_on_a_deleted_unit.cnf $x/rat_on_a_deleted_unit.drat <<'LINES'
+c formula 3 variables 5 clauses
+c 1 ignored
+c step 2: neither RUP nor RAT on 1
+s NOT VERIFIED
 LINES
 
 # in the binary form, which CaDiCaL writes unless it is told otherwise
@@ -696,6 +746,7 @@ LINES
 of_every_tool model model-check $x/models.cnf $x/models.out
 usage model_flag_of_another_tool $x/models.cnf --trace
 usage model_pr --pr $x/models.cnf $x/models.out
+usage model_keep_units --keep-units $x/models.cnf $x/models.out
 
 echo "$passed passed, $failed failed"
 [ "$failed" -eq 0 ]

@@ -56,6 +56,15 @@ EIGHT_LINES = [
     "s VERIFIED",
 ]
 
+CLASH = "p cnf 2 3\n1 0\n-1 0\n1 2 0\n"
+KEPT_LINES = [
+    "c formula 2 variables 3 clauses",
+    "c 1 ignored",
+    "c 2 add rup",
+    "c steps 2 peak 4",
+    "s VERIFIED",
+]
+
 # The tool with its flags, the formula, the second input, the report and the status.
 ROWS = {
     "two clauses are added": ("drat-forward", [], E, b"2 0\n0\n", E_LINES, 0),
@@ -65,6 +74,7 @@ ROWS = {
     "two clauses are added in binary": ("drat-forward", ["--binary"], E, b"a\x04\x00a\x00", E_LINES, 0),
     "a model is met": ("model-check", [], MODELS, b"s SATISFIABLE\nv 1 2 0\n", ["c clauses 2", "s MODEL VERIFIED"], 0),
     "a clause is added by a set": ("drat-forward", ["--trace", "--pr"], G, b"-1 -1 2 0\n", SET_LINES, 1),
+    "a reason past a clash is kept": ("drat-forward", ["--trace", "--keep-units"], CLASH, b"d 1 2 0\n0\n", KEPT_LINES, 0),
     "a clause is deleted": ("drat-forward", ["--trace"], EIGHT, b"1 2 0\n1 0\nd 1 2 0\n2 0\n0\n", EIGHT_LINES, 0),
 }
 
@@ -84,6 +94,8 @@ CALLS = [
     "refused_reserve",
     "refused_assume_of_scan",
     "refused_assume_of_watch",
+    "refused_root_reason_of_scan",
+    "refused_root_reason_of_watch",
     "refused_step_by_scan",
     "refused_step_by_watch",
     "refused_step_with_a_set",

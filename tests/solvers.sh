@@ -2,10 +2,10 @@
 # Runs real SAT solvers as README shows, and the checkers on what these wrote. By hand, with make test-solvers: the gate needs
 # no solver. A solver that isn't installed is skipped, and said. The last line is "N passed, M failed".
 #
-# Debian: apt-get install cadical cryptominisat picosat minisat clasp sat4j, and from Debian 13 on drat-trim
+# Debian: apt-get install cadical cryptominisat picosat minisat clasp sat4j berkeley-abc gdb, and from Debian 13 on drat-trim
 #
-# Each command is taken only if README has it, so that README shows nothing that was not run. DRAT_FORWARD, LRAT_CHECK and
-# MODEL_CHECK name the programs; they are those in bin/ otherwise.
+# Each command is taken only if README has it, so that README shows nothing that was not run; but Glucose's proofs are made by
+# examples/make-glucose-proof.sh. DRAT_FORWARD, LRAT_CHECK and MODEL_CHECK name the programs; they are those in bin/ otherwise.
 set -uo pipefail
 cd "$(dirname "$0")/.."
 root=$PWD
@@ -103,9 +103,18 @@ refuses() {
     if [ "$ended" -eq 1 ] && [ "$(tail -n 1 out)" = "$verdict" ]; then pass; else fail "$name: status $ended: $*"; fi
 }
 
+# verifies NAME WORD..: what is in the room is verified: status 0
+verifies() {
+    local name=$1 ended
+    shift
+    "$@" > out 2> err
+    ended=$?
+    if [ "$ended" -eq 0 ]; then pass; else fail "$name: status $ended: $*"; fi
+}
+
 # of_proof NAME STATUS LINE..: for each formula without a model, the solver's line, with the solver's status, and the lines
 # after it, with status 0, make proof.drat. It verifies the formula, also where each deletion has to name a live clause, and
-# not the weakened one.
+# where clauses are kept that a literal follows by, and not the weakened one.
 of_proof() {
     local solver=$1 ended=$2 which line
     shift 2
@@ -116,8 +125,11 @@ of_proof() {
             runs "$solver's proof of $which" 0 "$line"
         done
         checks "$solver's proof of $which" 0 "s VERIFIED" "drat-forward formula.cnf proof.drat"
-        if drat-forward --strict formula.cnf proof.drat > out 2> err; then pass; else fail "$solver on $which, strictly"; fi
+        verifies "$solver's proof of $which, strictly" drat-forward --strict formula.cnf proof.drat
+        verifies "$solver's proof of $which, with units kept" drat-forward --strict --keep-units formula.cnf proof.drat
         refuses "$solver's proof of $which, weakened" "s NOT VERIFIED" drat-forward "$which-weak.cnf" proof.drat
+        refuses "$solver's proof of $which, weakened, with units kept" "s NOT VERIFIED" \
+            drat-forward --keep-units "$which-weak.cnf" proof.drat
     done
 }
 
@@ -155,7 +167,8 @@ has() {
 }
 
 # the versions, where the system can tell
-dpkg-query -W -f '${Package} ${Version}\n' cadical cryptominisat picosat minisat clasp sat4j drat-trim 2> /dev/null
+dpkg-query -W -f '${Package} ${Version}\n' cadical cryptominisat picosat minisat clasp sat4j berkeley-abc gdb drat-trim \
+    2> /dev/null
 
 # ---- CaDiCaL
 
@@ -242,6 +255,23 @@ fi
 
 if has sat4j; then
     of_competition_output Sat4j java -jar "$(command -v sat4j)"
+    of_proof Sat4j 20 'java -DUNSATPROOF=yes -jar "$(command -v sat4j)" formula.cnf' "mv formula.cnf.rupproof proof.drat"
+fi
+
+# ---- Glucose, as it stands in berkeley-abc. It deletes clauses that a literal follows by, and does not write the literal:
+# of pigeonhole-5 a later step misses one.
+
+if has berkeley-abc && has gdb; then
+    python3 "$root/examples/pigeonhole.py" 5 pigeonhole-5.cnf /dev/null
+    without_clause pigeonhole-5.cnf 1 > pigeonhole-5-weak.cnf
+    for which in $unsatisfiable pigeonhole-5; do
+        cp "$which.cnf" formula.cnf
+        verifies "Glucose on $which" "$root/examples/make-glucose-proof.sh" formula.cnf proof.drat
+        checks "Glucose's proof of $which" 0 "s VERIFIED" "drat-forward --keep-units formula.cnf proof.drat"
+        verifies "Glucose's proof of $which, strictly" drat-forward --strict --keep-units formula.cnf proof.drat
+        refuses "Glucose's proof of $which, weakened" "s NOT VERIFIED" drat-forward --keep-units "$which-weak.cnf" proof.drat
+    done
+    refuses "Glucose's proof of pigeonhole-5, as written" "s NOT VERIFIED" drat-forward formula.cnf proof.drat
 fi
 
 # ---- DRAT-trim

@@ -14,7 +14,7 @@ fn read(alloc: Global, tool: Tool, line: &str) -> Result<Args, ArgsFault> {
 }
 
 /// Lines that are refused.
-const REFUSED: [(Tool, &str); 15] = [
+const REFUSED: [(Tool, &str); 18] = [
     (Tool::Drat, "drat-forward --core f.cnf"),
     (Tool::Drat, "drat-forward --trace --trace f.cnf"),
     (Tool::Lrat, "lrat-check f.cnf "),
@@ -27,6 +27,9 @@ const REFUSED: [(Tool, &str); 15] = [
     (Tool::Drat, "drat-forward f.cnf -1"),
     (Tool::Lrat, "lrat-check f.cnf --strict"),
     (Tool::Lrat, "lrat-check f.cnf --binary"),
+    (Tool::Lrat, "lrat-check --keep-units f.cnf"),
+    (Tool::Model, "model-check f.cnf --keep-units"),
+    (Tool::Drat, "drat-forward --keep f.cnf"),
     (Tool::Model, "model-check --trace f.cnf"),
     (Tool::Model, "model-check a b c"),
     (Tool::Model, "model-check"),
@@ -58,10 +61,21 @@ fn drat_reads(rt: HostRuntime) -> Result<(), Fail> {
         Tool::Drat,
         "drat-forward --strict f.cnf --binary p.drat --trace",
     )?;
-    assert!(rt; args.binary && args.trace && args.strict);
+    assert!(rt; args.binary && args.trace && args.strict && !args.keep_units);
     assert!(rt; args.formula.as_str() == "f.cnf");
     let second = args.second.ok_or("a proof")?;
     assert!(rt; second.as_str() == "p.drat");
+    Ok(())
+}
+
+#[test]
+fn drat_reads_rules(rt: HostRuntime) -> Result<(), Fail> {
+    let args = read(
+        rt.alloc(),
+        Tool::Drat,
+        "drat-forward f.cnf --keep-units --pr",
+    )?;
+    assert!(rt; args.keep_units && args.pr && !args.strict && !args.trace && !args.binary);
     Ok(())
 }
 

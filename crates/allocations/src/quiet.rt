@@ -18,6 +18,7 @@ use watch::Watch;
 const PLAIN_RULES: DratRules = DratRules {
     strict: false,
     pr: false,
+    keep_units: false,
 };
 
 fn literals(number: i32) -> bool {

@@ -16,6 +16,7 @@ use watch::Watch;
 const PLAIN_RULES: DratRules = DratRules {
     strict: false,
     pr: false,
+    keep_units: false,
 };
 
 /// How such a call ended.
@@ -98,6 +99,29 @@ fn assume<P: Propagate + Drop>(mut clauses: P, few: &[Lit], many: &[Lit]) -> Res
     let is_same = clauses.find(few) == Some(slot) && clauses.literals() == literals;
     let is_refused = clauses.assume(&[]).is_err() && clauses.assume(few).is_err();
     Ok(judged(is_same && is_refused))
+}
+
+/// Every later such question and every later assumption is refused, and the clauses stay. It is asked past a clash.
+fn ask_root_reason<P: Propagate + Drop>(mut clauses: P, few: &[Lit]) -> Result<Told, Fault>
+    requires { (P.state clauses).assumptions ≡ [] }
+{
+    for l in few {
+        clauses.insert(&[*l])?;
+        clauses.insert(&[l.neg()])?;
+    }
+    clauses.insert(few)?;
+    let literals = clauses.literals();
+    let Some(asked) = clauses.find(few) else {
+        return Ok(Told::Changed);
+    };
+    if clauses.is_root_reason(asked).is_ok() {
+        return Ok(Told::Whole);
+    }
+    let Some(again) = clauses.find(few) else {
+        return Ok(Told::Changed);
+    };
+    let is_refused = clauses.is_root_reason(again).is_err() && clauses.assume(&[]).is_err();
+    Ok(judged(again == asked && is_refused && clauses.literals() == literals))
 }
 
 /// Every later step is answered that the session is ended.
@@ -250,6 +274,8 @@ fn by_propagation(
     let told = match name {
         "refused_assume_of_scan" => assume(Scan::new(alloc)?, few, many),
         "refused_assume_of_watch" => assume(Watch::new(alloc)?, few, many),
+        "refused_root_reason_of_scan" => ask_root_reason(Scan::new(alloc)?, few),
+        "refused_root_reason_of_watch" => ask_root_reason(Watch::new(alloc)?, few),
         _ => return Ok(None),
     };
     Ok(Some(told?))

@@ -1,4 +1,4 @@
-//! `drat-forward [--binary] [--trace] [--strict] [--pr] FORMULA [PROOF]`: checks a proof in DRAT of a formula in DIMACS CNF.
+//! `drat-forward [--binary] [--trace] [--strict] [--pr] [--keep-units] FORMULA [PROOF]`: checks a proof in DRAT of a formula in DIMACS CNF.
 #![tactic(auto)]
 
 use cnf_base::{FromRead, ToWrite};
@@ -23,6 +23,7 @@ fn check(rt: &HostRuntime) -> Result<Status, Status> {
         trace: args.trace,
         strict: args.strict,
         pr: args.pr,
+        keep_units: args.keep_units,
         seed: seed(rt),
     };
     let checked = run_drat_placed(

@@ -100,7 +100,7 @@ ProofReport rule trace formula proof r =
 
 -- the rules that options ask for
 abbrev pub rules_of : DratOptions → DratRules
-rules_of options = record { strict = options.strict; pr = options.pr }
+rules_of options = record { strict = options.strict; pr = options.pr; keep_units = options.keep_units }
 
 -- the steps of a proof in DRAT, in the binary form or as text
 abbrev pub drat_proof : (binary : Bool) → Input → Proof

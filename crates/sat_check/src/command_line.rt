@@ -83,11 +83,17 @@ fn command<'a>(alloc: Global, tool: Tool) -> Result<Command<'a>, AllocError>
                 "pr",
                 "Take additions that list a set, by propagation redundancy",
             );
+            let keep_units = flag(
+                alloc,
+                "keep-units",
+                "Ignore deletions of clauses that make a literal hold for good",
+            );
             new_command(alloc, "drat-forward")
                 .arg(binary)?
                 .arg(trace(alloc))?
                 .arg(strict)?
                 .arg(pr)?
+                .arg(keep_units)?
                 .arg(formula(alloc))?
                 .arg(second(alloc, "PROOF", "The proof (standard input if absent)"))
         }
@@ -143,6 +149,8 @@ pub fn read_args(alloc: Global, tool: Tool, words: &[String]) -> Result<Args, Ar
         → a.strict ≡ (args tool (said_by words.now)).strict) }
     ensures pr { IfOk result (λ a. is_among (said_by words.now) end_mark ≡ false
         → a.pr ≡ (args tool (said_by words.now)).pr) }
+    ensures keep_units { IfOk result (λ a. is_among (said_by words.now) end_mark ≡ false
+        → a.keep_units ≡ (args tool (said_by words.now)).keep_units) }
     ensures formula { IfOk result (λ a. is_among (said_by words.now) end_mark ≡ false
         → Some (string_bytes a.formula) ≡ (args tool (said_by words.now)).formula) }
     ensures second { IfOk result (λ a. is_among (said_by words.now) end_mark ≡ false
@@ -177,6 +185,7 @@ pub fn read_args(alloc: Global, tool: Tool, words: &[String]) -> Result<Args, Ar
         trace: matches.get_flag("trace"),
         strict: matches.get_flag("strict"),
         pr: matches.get_flag("pr"),
+        keep_units: matches.get_flag("keep-units"),
         formula,
         second,
     })

@@ -23,6 +23,8 @@ pub struct DratOptions {
     pub strict: bool,
     /// Whether an addition may list a set after its clause, by which it may be propagation redundant (PR).
     pub pr: bool,
+    /// Whether a deletion of a live clause that makes a literal of it hold for good is ignored.
+    pub keep_units: bool,
     /// Mixed into the hashes of clauses, one number a run. No answer depends on it.
     pub seed: u64,
 }
@@ -35,6 +37,7 @@ impl DratOptions {
         DratRules {
             strict: self.strict,
             pr: self.pr,
+            keep_units: self.keep_units,
         }
     }
 }

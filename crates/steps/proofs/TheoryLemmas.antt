@@ -1,6 +1,8 @@
 pub mod Deciding
 pub mod Existence
+pub mod Growth
 pub mod Keeping
+pub mod Reasons
 pub mod Rules
 pub mod Scans
 pub mod Sizes

@@ -1,16 +1,17 @@
 -- One step of a DRAT proof, over the list of the live clauses. Additions by RUP, or by RAT on the first literal written,
 -- and deletions are those of DRAT, as DRAT-trim's page has it. Our own profile: RUP is asked first, a deletion of a unit
--- clause is done as written, and one of a clause that is not alive is ignored, or refused where the rules are strict.
+-- clause is done as written, and one of a clause that is not alive is ignored, or refused where the rules are strict. Where
+-- they keep units, the deletion of a clause that makes a literal hold for good is ignored, as DRAT-trim ignores most of these.
 -- Additions that list a set after their clause are those of DPR proofs; that they are tried by RUP and PR alone is our own.
 pub mod Candidates
 pub mod Session
-use Rattle.std.specs.Prelude.{◌≡◌, ℕ, Bool, true, false, List, [], ◌∷◌, Ok, Err, count_by, slice_get, IsTrue, IsFalse, if◌then◌else◌}
+use Rattle.std.specs.Prelude.{◌≡◌, ℕ, Bool, true, false, ◌⊎◌, List, [], ◌∷◌, Ok, Err, count_by, slice_get, IsTrue, IsFalse, if◌then◌else◌}
 use Rattle.std.specs.List.{list_any}
 use Rattle.steps.specs.declared.theory.accepted.Accepted.{Accepted}
 use Rattle.steps.specs.declared.theory.accepted.Accepted.TheVariants.{Rup, Rat, Pr, Empty, Deleted, Ignored}
 use Rattle.steps.specs.declared.theory.refusal.Refusal.TheVariants.{NotRup, NeitherRupNorRat, NotAlive, InconsistentSet, NeitherRupNorPr}
 use Rattle.cnf_base.specs.Literals.{Literal, Clause, same_clause}
-use Rattle.steps.specs.Theory.Propagation.{HasRup, HasRat, HasPr}
+use Rattle.steps.specs.Theory.Propagation.{HasRup, HasRat, HasPr, IsRootReason}
 use Rattle.steps.specs.Theory.StepAnswer.{StepAnswer}
 use Rattle.steps.specs.declared.drat.rules.DratRules.{DratRules}
 use Rattle.propagation.specs.Trail.{conflicts}
@@ -61,16 +62,22 @@ abbrev pub AnswersListed : List Clause → List Literal → List Literal → Ste
 AnswersListed live c [] answer = AnswersAdd live c answer
 AnswersListed live c (l ∷ set) answer = AnswersWithSet live c (l ∷ set) answer
 
--- What a deletion may be answered. One of a clause that is not alive is ignored, or refused where the rules are strict.
-abbrev pub AnswersDelete : Bool → List Clause → List Literal → StepAnswer → Type 0
-AnswersDelete strict live c (Ok Deleted) = IsTrue (list_any (same_clause c) live)
-AnswersDelete false live c (Ok Ignored) = IsFalse (list_any (same_clause c) live)
-AnswersDelete true live c (Err NotAlive) = IsFalse (list_any (same_clause c) live)
-AnswersDelete strict live c _ = ⊥
+-- the rules keep units, and the clause makes a literal of it hold for good
+abbrev pub IsKeptUnit : DratRules → List Clause → Clause → Type 0
+IsKeptUnit rules live c = IsTrue rules.keep_units × IsRootReason (slice_get live) c
+
+-- What a deletion may be answered. One of a live clause is ignored where that is a kept unit; one of a clause that is not alive
+-- is ignored too, or refused where the rules are strict.
+abbrev pub AnswersDelete : DratRules → List Clause → List Literal → StepAnswer → Type 0
+AnswersDelete rules live c (Ok Deleted) = IsTrue (list_any (same_clause c) live) × ¬ IsKeptUnit rules live c
+AnswersDelete rules live c (Ok Ignored) =
+    (IsTrue (list_any (same_clause c) live) × IsKeptUnit rules live c) ⊎ (IsFalse (list_any (same_clause c) live) × IsFalse rules.strict)
+AnswersDelete rules live c (Err NotAlive) = IsFalse (list_any (same_clause c) live) × IsTrue rules.strict
+AnswersDelete rules live c _ = ⊥
 
 abbrev pub AnswersDrat : DratRules → List Clause → DratStep → StepAnswer → Type 0
 AnswersDrat rules live (add c set) answer = AnswersListed live c set answer
-AnswersDrat rules live (delete c) answer = AnswersDelete rules.strict live c answer
+AnswersDrat rules live (delete c) answer = AnswersDelete rules live c answer
 
 -- without one copy of the clause, if there is one
 abbrev pub take_off : Clause → List Clause → List Clause

@@ -6,6 +6,7 @@ mod cuts;
 mod deletions;
 mod failing_writers;
 mod inputs;
+mod kept_units;
 mod listed_sets;
 mod long_inputs;
 mod root_literals;

@@ -327,3 +327,40 @@ fn stays_where_memory_runs_out(rt: HostRuntime) -> Result<(), Fail> {
     assert!(rt; is_refused_again(alloc, &mut Watch::new(alloc)?)?);
     Ok(())
 }
+
+/// Whether a clause makes a literal of it hold for good; none where there is no such clause.
+fn root_reason<P: Propagate>(
+    alloc: Global,
+    clauses: &mut P,
+    rows: &[[i32; 2]],
+    row: &[i32],
+) -> Result<Option<bool>, Fail>
+    requires { (P.state clauses.old).assumptions ≡ [] }
+{
+    fill(alloc, clauses, rows)?;
+    let clause = lits(alloc, row)?;
+    match clauses.find(clause.as_slice()) {
+        Some(slot) => Ok(Some(clauses.is_root_reason(slot)?)),
+        None => Ok(None),
+    }
+}
+
+#[test]
+fn tells_root_reasons(rt: HostRuntime) -> Result<(), Fail> {
+    let alloc = rt.alloc();
+    let rows: [(&[[i32; 2]], &[i32], Option<bool>); 7] = [
+        (&[[1, 1], [-1, 2], [3, 1]], &[-1, 2], Some(true)),
+        (&[[1, 1], [-1, 2], [3, 1]], &[1], Some(true)),
+        (&[[1, 1], [-1, 2], [3, 1]], &[3, 1], Some(false)),
+        (&FOUR, &[1, 2], Some(false)),
+        (&[[1, 1], [-1, -1], [1, 2]], &[1, 2], Some(true)),
+        (&[[1, 1], [-1, -1], [2, 3]], &[2, 3], Some(false)),
+        (&UNIT_AND_BOTH, &[-1, -2], Some(true)),
+    ];
+    for (rows, row, expected) in &rows {
+        let scanned = root_reason(alloc, &mut Scan::new(alloc)?, rows, row)?;
+        let watched = root_reason(alloc, &mut Watch::new(alloc)?, rows, row)?;
+        assert!(rt; scanned == *expected && watched == *expected);
+    }
+    Ok(())
+}

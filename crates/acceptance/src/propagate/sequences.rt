@@ -127,8 +127,8 @@ fn change<P: Propagate>(
     let size = 1 + dice.roll() % 2;
     let gone = dice.literals(alloc, size)?;
     if let Some(slot) = clauses.find(gone.as_slice()) {
+        log.push(if clauses.is_root_reason(slot)? { 6 } else { 5 })?;
         clauses.remove(slot);
-        log.push(5)?;
     }
     note_counts(clauses, log)?;
     let first = dice.literals(alloc, 1)?;

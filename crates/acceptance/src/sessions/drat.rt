@@ -13,6 +13,22 @@ use std::test::Fail;
 use steps::{Accepted, DratRules, DratSession, Refusal};
 use watch::Watch;
 
+const PLAIN: DratRules = DratRules {
+    strict: false,
+    pr: false,
+    keep_units: false,
+};
+
+const STRICT: DratRules = DratRules {
+    strict: true,
+    ..PLAIN
+};
+
+const KEEP_UNITS: DratRules = DratRules {
+    keep_units: true,
+    ..PLAIN
+};
+
 // What a session is tried on.
 #[derive(Clone, Copy)]
 enum Trial<'a> {
@@ -26,14 +42,14 @@ fn expect_by<P: Propagate + Drop>(
     rt: &impl Abort,
     alloc: Global,
     clauses: P,
-    strict: bool,
+    rules: DratRules,
     trial: Trial<'_>,
 ) -> Result<(), Fail>
     requires empty { (P.state clauses).live ≡ maps.empty }
     requires nothing_assumed { (P.state clauses).assumptions ≡ [] }
     requires none_refused { (P.state clauses).has_refused ≡ false }
 {
-    let mut session = DratSession::new(clauses, DratRules { strict, pr: false });
+    let mut session = DratSession::new(clauses, rules);
     match trial {
         Trial::EmptyClause(proof) => {
             let mut reader = DratText::new(open(alloc, proof, 7, Cut::Ends)?);
@@ -52,8 +68,8 @@ fn expect_by<P: Propagate + Drop>(
 fn empty_clause(rt: HostRuntime) -> Result<(), Fail> {
     let alloc = rt.alloc();
     let trial = Trial::EmptyClause(b"0\nd 1 0\n");
-    expect_by(&rt, alloc, Scan::new(alloc)?, false, trial)?;
-    expect_by(&rt, alloc, Watch::new(alloc)?, false, trial)
+    expect_by(&rt, alloc, Scan::new(alloc)?, PLAIN, trial)?;
+    expect_by(&rt, alloc, Watch::new(alloc)?, PLAIN, trial)
 }
 
 #[test]
@@ -69,8 +85,8 @@ fn every_answer(rt: HostRuntime) -> Result<(), Fail> {
         (Err(Refusal::Ended), 5, 5, false),
     ];
     let trial = Trial::OneClause(proof, &answers);
-    expect_by(&rt, alloc, Scan::new(alloc)?, false, trial)?;
-    expect_by(&rt, alloc, Watch::new(alloc)?, false, trial)
+    expect_by(&rt, alloc, Scan::new(alloc)?, PLAIN, trial)?;
+    expect_by(&rt, alloc, Watch::new(alloc)?, PLAIN, trial)
 }
 
 #[test]
@@ -82,13 +98,27 @@ fn strict(rt: HostRuntime) -> Result<(), Fail> {
         (Err(Refusal::Ended), 2, 0, false),
     ];
     let trial = Trial::OneClause(b"d 1 2 0\nd 1 2 0\n1 0\n", &answers);
-    expect_by(&rt, alloc, Scan::new(alloc)?, true, trial)?;
-    expect_by(&rt, alloc, Watch::new(alloc)?, true, trial)
+    expect_by(&rt, alloc, Scan::new(alloc)?, STRICT, trial)?;
+    expect_by(&rt, alloc, Watch::new(alloc)?, STRICT, trial)
+}
+
+#[test]
+fn keep_units(rt: HostRuntime) -> Result<(), Fail> {
+    let alloc = rt.alloc();
+    let answers = [
+        (Ok(Accepted::Rat), 3, 3, false),
+        (Ok(Accepted::Ignored), 3, 3, false),
+        (Ok(Accepted::Deleted), 3, 1, false),
+        (Ok(Accepted::Ignored), 3, 1, false),
+    ];
+    let trial = Trial::OneClause(b"1 0\nd 1 0\nd 1 2 0\nd 1 2 0\n", &answers);
+    expect_by(&rt, alloc, Scan::new(alloc)?, KEEP_UNITS, trial)?;
+    expect_by(&rt, alloc, Watch::new(alloc)?, KEEP_UNITS, trial)
 }
 
 #[test]
 fn ended(rt: HostRuntime) -> Result<(), Fail> {
     let alloc = rt.alloc();
-    expect_by(&rt, alloc, Scan::new(alloc)?, false, Trial::Ended)?;
-    expect_by(&rt, alloc, Watch::new(alloc)?, false, Trial::Ended)
+    expect_by(&rt, alloc, Scan::new(alloc)?, PLAIN, Trial::Ended)?;
+    expect_by(&rt, alloc, Watch::new(alloc)?, PLAIN, Trial::Ended)
 }

@@ -67,6 +67,7 @@ const PLAIN: DratOptions = DratOptions {
     trace: false,
     strict: false,
     pr: false,
+    keep_units: false,
     seed: 0,
 };
 
@@ -83,6 +84,11 @@ const STRICT: DratOptions = DratOptions {
 const BINARY: DratOptions = DratOptions {
     binary: true,
     ..PLAIN
+};
+
+const KEEP_UNITS: DratOptions = DratOptions {
+    keep_units: true,
+    ..TRACED
 };
 
 pub const BY_DRAT: Tool = Tool::Drat(PLAIN);
@@ -128,6 +134,35 @@ pub const BINARY_PR: Row<'static> = Row {
         trace: true,
         pr: true,
         ..PLAIN
+    }),
+    ..LRAT
+};
+
+pub const DRAT_KEEP_UNITS: Row<'static> = Row {
+    tool: Tool::Drat(KEEP_UNITS),
+    ..LRAT
+};
+
+pub const DRAT_KEEP_UNITS_STRICT: Row<'static> = Row {
+    tool: Tool::Drat(DratOptions {
+        strict: true,
+        ..KEEP_UNITS
+    }),
+    ..LRAT
+};
+
+pub const DRAT_KEEP_UNITS_PR: Row<'static> = Row {
+    tool: Tool::Drat(DratOptions {
+        pr: true,
+        ..KEEP_UNITS
+    }),
+    ..LRAT
+};
+
+pub const BINARY_KEEP_UNITS: Row<'static> = Row {
+    tool: Tool::Drat(DratOptions {
+        binary: true,
+        ..KEEP_UNITS
     }),
     ..LRAT
 };

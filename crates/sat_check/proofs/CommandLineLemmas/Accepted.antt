@@ -53,7 +53,9 @@ all_defaults_fault Drat rows =
     (nils _ _ (flag_default_fault (codes "trace") (with_default rows (flag_full (codes "binary"))))
     (nils _ _ (flag_default_fault (codes "strict") (with_default (with_default rows (flag_full (codes "binary"))) (flag_full (codes "trace"))))
     (nils _ _ (flag_default_fault (codes "pr") (with_default (with_default (with_default rows (flag_full (codes "binary"))) (flag_full (codes "trace"))) (flag_full (codes "strict"))))
-    (files_fault (with_default (with_default (with_default (with_default rows (flag_full (codes "binary"))) (flag_full (codes "trace"))) (flag_full (codes "strict"))) (flag_full (codes "pr")))))))
+    (nils _ _ (flag_default_fault (codes "keep-units") (with_default (with_default (with_default (with_default rows (flag_full (codes "binary"))) (flag_full (codes "trace"))) (flag_full (codes "strict"))) (flag_full (codes "pr"))))
+    (files_fault
+    (with_default (with_default (with_default (with_default (with_default rows (flag_full (codes "binary"))) (flag_full (codes "trace"))) (flag_full (codes "strict"))) (flag_full (codes "pr"))) (flag_full (codes "keep-units"))))))))
 all_defaults_fault Lrat rows = nils _ _ (flag_default_fault (codes "trace") rows) (files_fault (with_default rows (flag_full (codes "trace"))))
 all_defaults_fault Model rows = files_fault rows
 

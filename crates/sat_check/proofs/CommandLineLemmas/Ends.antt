@@ -65,7 +65,8 @@ files_default rows =
     ∙ (ap (λ (l : List Row). with_default l version_full) (stays (has_row (codes "help") rows) rows) ∙ stays (has_row (codes "version") rows) rows))
 
 abbrev pub end_row : Tool → Text → Option Row → Option Row
-end_row Drat id o = option_or (option_or (option_or (option_or o (off_for (codes "binary") id)) (off_for (codes "trace") id)) (off_for (codes "strict") id)) (off_for (codes "pr") id)
+end_row Drat id o =
+    option_or (option_or (option_or (option_or (option_or o (off_for (codes "binary") id)) (off_for (codes "trace") id)) (off_for (codes "strict") id)) (off_for (codes "pr") id)) (off_for (codes "keep-units") id)
 end_row Lrat id o = option_or o (off_for (codes "trace") id)
 end_row Model id o = o
 
@@ -75,11 +76,13 @@ row_at_end Drat id rows =
     let two = with_default one (flag_full (codes "trace")) in
     let three = with_default two (flag_full (codes "strict")) in
     let four = with_default three (flag_full (codes "pr")) in
-    ap (row_for id) (files_default four)
-    ∙ (flag_default (codes "pr") id three
-    ∙ (ap (λ o. option_or o (off_for (codes "pr") id)) (flag_default (codes "strict") id two)
-    ∙ (ap (λ o. option_or (option_or o (off_for (codes "strict") id)) (off_for (codes "pr") id)) (flag_default (codes "trace") id one)
-    ∙ ap (λ o. option_or (option_or (option_or o (off_for (codes "trace") id)) (off_for (codes "strict") id)) (off_for (codes "pr") id)) (flag_default (codes "binary") id rows))))
+    let five = with_default four (flag_full (codes "keep-units")) in
+    ap (row_for id) (files_default five)
+    ∙ (flag_default (codes "keep-units") id four
+    ∙ (ap (λ o. option_or o (off_for (codes "keep-units") id)) (flag_default (codes "pr") id three)
+    ∙ (ap (λ o. option_or (option_or o (off_for (codes "pr") id)) (off_for (codes "keep-units") id)) (flag_default (codes "strict") id two)
+    ∙ (ap (λ o. option_or (option_or (option_or o (off_for (codes "strict") id)) (off_for (codes "pr") id)) (off_for (codes "keep-units") id)) (flag_default (codes "trace") id one)
+    ∙ ap (λ o. option_or (option_or (option_or (option_or o (off_for (codes "trace") id)) (off_for (codes "strict") id)) (off_for (codes "pr") id)) (off_for (codes "keep-units") id)) (flag_default (codes "binary") id rows)))))
 row_at_end Lrat id rows =
     ap (row_for id) (files_default (with_default rows (flag_full (codes "trace")))) ∙ flag_default (codes "trace") id rows
 row_at_end Model id rows = ap (row_for id) (files_default rows)
@@ -124,7 +127,13 @@ pr_text Drat set = by_cases Drat (codes "pr") refl refl set
 pr_text Lrat set = refl
 pr_text Model set = refl
 
-kept_through : (o : Option Row) → option_or (option_or (option_or (option_or o None) None) None) None ≡ o
+keep_units_text : (tool : Tool) (set : Bool) → IsFlagText tool (codes "keep-units") set
+unfolding text_at_end
+keep_units_text Drat set = by_cases Drat (codes "keep-units") refl refl set
+keep_units_text Lrat set = refl
+keep_units_text Model set = refl
+
+kept_through : (o : Option Row) → option_or (option_or (option_or (option_or (option_or o None) None) None) None) None ≡ o
 kept_through None = refl
 kept_through (Some r) = refl
 
@@ -144,6 +153,7 @@ pub record Reads (tool : Tool) (words : List Text) (rows : List Row) : Type 0 wh
   pub trace : one_of (codes "trace") rows ≡ flag_text (is_flag tool (codes "--trace")) (is_among words (codes "--trace"))
   pub strict : one_of (codes "strict") rows ≡ flag_text (is_flag tool (codes "--strict")) (is_among words (codes "--strict"))
   pub pr : one_of (codes "pr") rows ≡ flag_text (is_flag tool (codes "--pr")) (is_among words (codes "--pr"))
+  pub keep_units : one_of (codes "keep-units") rows ≡ flag_text (is_flag tool (codes "--keep-units")) (is_among words (codes "--keep-units"))
   pub formula : first_of (codes "formula") rows ≡ slice_get (names tool words) 0
   pub second : first_of (codes "second") rows ≡ slice_get (names tool words) 1
   pub few : length (names tool words) ≤ 2
@@ -162,6 +172,7 @@ reads_shown tool words ns rows few s = record {
   trace = ap (option_and_then row_text) (row_at_end tool (codes "trace") rows ∙ ap (end_row tool (codes "trace")) s.trace) ∙ trace_text tool (is_among words (codes "--trace"));
   strict = ap (option_and_then row_text) (row_at_end tool (codes "strict") rows ∙ ap (end_row tool (codes "strict")) s.strict) ∙ strict_text tool (is_among words (codes "--strict"));
   pr = ap (option_and_then row_text) (row_at_end tool (codes "pr") rows ∙ ap (end_row tool (codes "pr")) s.pr) ∙ pr_text tool (is_among words (codes "--pr"));
+  keep_units = ap (option_and_then row_text) (row_at_end tool (codes "keep-units") rows ∙ ap (end_row tool (codes "keep-units")) s.keep_units) ∙ keep_units_text tool (is_among words (codes "--keep-units"));
   formula = ap (option_and_then (λ (r : Row). slice_get r.values 0)) (row_at_end tool (codes "formula") rows ∙ (formula_row_end tool _ ∙ s.formula))
       ∙ (first_text formula_full ns 0 ∙ ap (λ (l : List Text). slice_get l 0) (sym s.said));
   second = ap (option_and_then (λ (r : Row). slice_get r.values 0)) (row_at_end tool (codes "second") rows ∙ (second_row_end tool _ ∙ s.second))

@@ -28,7 +28,7 @@ abbrev pub files_and_texts : List Rule
 files_and_texts = formula_full ∷ second_full ∷ help_full ∷ version_full ∷ []
 
 abbrev pub rules_of : Tool → List Rule
-rules_of Drat = flag_full (codes "binary") ∷ flag_full (codes "trace") ∷ flag_full (codes "strict") ∷ flag_full (codes "pr") ∷ files_and_texts
+rules_of Drat = flag_full (codes "binary") ∷ flag_full (codes "trace") ∷ flag_full (codes "strict") ∷ flag_full (codes "pr") ∷ flag_full (codes "keep-units") ∷ files_and_texts
 rules_of Lrat = flag_full (codes "trace") ∷ files_and_texts
 rules_of Model = files_and_texts
 

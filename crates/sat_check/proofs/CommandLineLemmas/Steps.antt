@@ -34,6 +34,7 @@ pub record Shows (tool : Tool) (done ns : List Text) (rows : List Row) : Type 0 
   pub trace : row_for (codes "trace") rows ≡ set_row tool (codes "trace") done
   pub strict : row_for (codes "strict") rows ≡ set_row tool (codes "strict") done
   pub pr : row_for (codes "pr") rows ≡ set_row tool (codes "pr") done
+  pub keep_units : row_for (codes "keep-units") rows ≡ set_row tool (codes "keep-units") done
   pub formula : row_for (codes "formula") rows ≡ file_row formula_full ns 0
   pub second : row_for (codes "second") rows ≡ file_row second_full ns 1
 
@@ -101,6 +102,7 @@ module _ (tool : Tool) (done ns : List Text) (rows : List Row) (s : Shows tool d
     trace = set_after flag (codes "trace") is new s.trace;
     strict = set_after flag (codes "strict") is new s.strict;
     pr = set_after flag (codes "pr") is new s.pr;
+    keep_units = set_after flag (codes "keep-units") is new s.keep_units;
     formula = file_kept _ formula_full ns 0 rows _ no_formula s.formula;
     second = file_kept _ second_full ns 1 rows _ no_second s.second;
   }
@@ -126,6 +128,10 @@ drat_strict r p n = (refl, refl)
 drat_pr : (r : List Row) (p : Option (Text × List Text)) (n : ℕ) → FlagTurn Drat (codes "pr") r p n
 unfolding clap_on_literals
 drat_pr r p n = (refl, refl)
+
+drat_keep_units : (r : List Row) (p : Option (Text × List Text)) (n : ℕ) → FlagTurn Drat (codes "keep-units") r p n
+unfolding clap_on_literals
+drat_keep_units r p n = (refl, refl)
 
 lrat_trace : (r : List Row) (p : Option (Text × List Text)) (n : ℕ) → FlagTurn Lrat (codes "trace") r p n
 unfolding clap_on_literals
@@ -203,11 +209,12 @@ flag_met : (tool : Tool) (done : List Text) (r : List Row) (p : Option (Text × 
     → Shows tool done ns (settled_rows (rules_of tool) p r) → (word : Text) → is_flag tool word ≡ true → FlagMet tool done r p ns word
 flag_met Drat done r p ns few settles shows word flag =
     let P : Text → Type 0 = FlagMet Drat done r p ns in
-    pick P word (codes "--binary") (is_among (codes "--trace" ∷ codes "--strict" ∷ codes "--pr" ∷ []) word) flag (one_met Drat done r p ns few settles shows (codes "binary") refl refl shows.binary refl (drat_binary r p (suc (length ns))))
-    (λ e. pick P word (codes "--trace") (is_among (codes "--strict" ∷ codes "--pr" ∷ []) word) e (one_met Drat done r p ns few settles shows (codes "trace") refl refl shows.trace refl (drat_trace r p (suc (length ns))))
-    (λ e. pick P word (codes "--strict") (is_among (codes "--pr" ∷ []) word) e (one_met Drat done r p ns few settles shows (codes "strict") refl refl shows.strict refl (drat_strict r p (suc (length ns))))
-    (λ e. pick P word (codes "--pr") false e (one_met Drat done r p ns few settles shows (codes "pr") refl refl shows.pr refl (drat_pr r p (suc (length ns))))
-    (λ e. absurd (true≢false (sym e))))))
+    pick P word (codes "--binary") (is_among (codes "--trace" ∷ codes "--strict" ∷ codes "--pr" ∷ codes "--keep-units" ∷ []) word) flag (one_met Drat done r p ns few settles shows (codes "binary") refl refl shows.binary refl (drat_binary r p (suc (length ns))))
+    (λ e. pick P word (codes "--trace") (is_among (codes "--strict" ∷ codes "--pr" ∷ codes "--keep-units" ∷ []) word) e (one_met Drat done r p ns few settles shows (codes "trace") refl refl shows.trace refl (drat_trace r p (suc (length ns))))
+    (λ e. pick P word (codes "--strict") (is_among (codes "--pr" ∷ codes "--keep-units" ∷ []) word) e (one_met Drat done r p ns few settles shows (codes "strict") refl refl shows.strict refl (drat_strict r p (suc (length ns))))
+    (λ e. pick P word (codes "--pr") (is_among (codes "--keep-units" ∷ []) word) e (one_met Drat done r p ns few settles shows (codes "pr") refl refl shows.pr refl (drat_pr r p (suc (length ns))))
+    (λ e. pick P word (codes "--keep-units") false e (one_met Drat done r p ns few settles shows (codes "keep-units") refl refl shows.keep_units refl (drat_keep_units r p (suc (length ns))))
+    (λ e. absurd (true≢false (sym e)))))))
 flag_met Lrat done r p ns few settles shows word flag =
     let P : Text → Type 0 = FlagMet Lrat done r p ns in
     pick P word (codes "--trace") false flag (one_met Lrat done r p ns few settles shows (codes "trace") refl refl shows.trace refl (lrat_trace r p (suc (length ns))))
@@ -304,16 +311,17 @@ module _ (tool : Tool) (done : List Text) (r : List Row) (p : Option (Text × Li
       }
 
   -- what the rows show with its row
-  name_shown : (a : Rule) (ns : List Text) (rows : List Row) → bytes_eq a.id (codes "binary") ≡ false → bytes_eq a.id (codes "trace") ≡ false → bytes_eq a.id (codes "strict") ≡ false → bytes_eq a.id (codes "pr") ≡ false → Shows tool done ns rows
+  name_shown : (a : Rule) (ns : List Text) (rows : List Row) → bytes_eq a.id (codes "binary") ≡ false → bytes_eq a.id (codes "trace") ≡ false → bytes_eq a.id (codes "strict") ≡ false → bytes_eq a.id (codes "pr") ≡ false → bytes_eq a.id (codes "keep-units") ≡ false → Shows tool done ns rows
       → row_for (codes "formula") (rows ++ new_row a (word ∷ []) ∷ []) ≡ file_row formula_full (ns ++ word ∷ []) 0
       → row_for (codes "second") (rows ++ new_row a (word ∷ []) ∷ []) ≡ file_row second_full (ns ++ word ∷ []) 1
       → Shows tool (done ++ word ∷ []) (ns ++ word ∷ []) (rows ++ new_row a (word ∷ []) ∷ [])
-  name_shown a ns rows no_binary no_trace no_strict no_pr s formula second = record {
+  name_shown a ns rows no_binary no_trace no_strict no_pr no_keep_units s formula second = record {
     said = names_added tool done word flag ∙ ap (λ l. l ++ word ∷ []) s.said;
     binary = set_by_name tool (codes "binary") done rows _ word no_binary flag s.binary;
     trace = set_by_name tool (codes "trace") done rows _ word no_trace flag s.trace;
     strict = set_by_name tool (codes "strict") done rows _ word no_strict flag s.strict;
     pr = set_by_name tool (codes "pr") done rows _ word no_pr flag s.pr;
+    keep_units = set_by_name tool (codes "keep-units") done rows _ word no_keep_units flag s.keep_units;
     formula = formula;
     second = second;
   }
@@ -323,14 +331,14 @@ module _ (tool : Tool) (done : List Text) (r : List Row) (p : Option (Text × Li
       let rows = settled_rows (rules_of tool) p r in
       let new : has_row (codes "formula") rows ≡ false = rowless (codes "formula") rows s.formula in
       name_taken formula_full [] (word ∷ []) refl (omega arith) (first_turn tool r p word) new (used_first formula_full (word ∷ []) rows new)
-      (name_shown formula_full [] rows refl refl refl refl s (row_added (codes "formula") rows _ refl s.formula) (row_kept (codes "second") rows _ refl ∙ s.second))
+      (name_shown formula_full [] rows refl refl refl refl refl s (row_added (codes "formula") rows _ refl s.formula) (row_kept (codes "second") rows _ refl ∙ s.second))
 
   second_met : (a : Text) → Shows tool done (a ∷ []) (settled_rows (rules_of tool) p r) → FileMet tool done r p (a ∷ []) word
   second_met a s =
       let rows = settled_rows (rules_of tool) p r in
       let new : has_row (codes "second") rows ≡ false = rowless (codes "second") rows s.second in
       name_taken second_full (a ∷ []) (a ∷ word ∷ []) refl (omega arith) (second_turn tool r p word) new (used_first second_full (word ∷ []) rows new)
-      (name_shown second_full (a ∷ []) rows refl refl refl refl s (row_kept (codes "formula") rows _ refl ∙ s.formula) (row_added (codes "second") rows _ refl s.second))
+      (name_shown second_full (a ∷ []) rows refl refl refl refl refl s (row_kept (codes "formula") rows _ refl ∙ s.formula) (row_added (codes "second") rows _ refl s.second))
 
   file_met : (ns : List Text) → Shows tool done ns (settled_rows (rules_of tool) p r) → FileMet tool done r p ns word
   file_met [] s = first_met s
@@ -413,6 +421,7 @@ start_after tool = record {
     trace = sym (unset tool (codes "trace"));
     strict = sym (unset tool (codes "strict"));
     pr = sym (unset tool (codes "pr"));
+    keep_units = sym (unset tool (codes "keep-units"));
     formula = refl;
     second = refl;
   };

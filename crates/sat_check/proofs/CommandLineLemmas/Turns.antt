@@ -245,7 +245,8 @@ longs_of Drat name =
     (flag_or Drat name (codes "trace") refl _ refl _
     (flag_or Drat name (codes "strict") refl _ refl _
     (flag_or Drat name (codes "pr") refl _ refl _
-    (text_or_none Drat name (bytes_eq (codes "help") name || false) (bytes_eq (codes "version") name || false)))))
+    (flag_or Drat name (codes "keep-units") refl _ refl _
+    (text_or_none Drat name (bytes_eq (codes "help") name || false) (bytes_eq (codes "version") name || false))))))
 longs_of Lrat name = flag_or Lrat name (codes "trace") refl _ refl _ (text_or_none Lrat name (bytes_eq (codes "help") name || false) (bytes_eq (codes "version") name || false))
 longs_of Model name = text_or_none Model name (bytes_eq (codes "help") name || false) (bytes_eq (codes "version") name || false)
 

@@ -8,7 +8,7 @@ use Rattle.sat_check.specs.declared.command_line.tool.Tool.TheVariants.{Drat, Lr
 
 -- the flags that the tool has
 abbrev pub flags : Tool → List (List ℕ)
-flags Drat = codes "--binary" ∷ codes "--trace" ∷ codes "--strict" ∷ codes "--pr" ∷ []
+flags Drat = codes "--binary" ∷ codes "--trace" ∷ codes "--strict" ∷ codes "--pr" ∷ codes "--keep-units" ∷ []
 flags Lrat = codes "--trace" ∷ []
 flags Model = []
 
@@ -29,6 +29,7 @@ pub record Asked : Type 0 where
   pub trace : Bool
   pub strict : Bool
   pub pr : Bool
+  pub keep_units : Bool
   pub formula : Option (List ℕ)
   pub second : Option (List ℕ)
 
@@ -44,6 +45,7 @@ args tool words = record {
   trace = is_set tool (codes "--trace") words;
   strict = is_set tool (codes "--strict") words;
   pr = is_set tool (codes "--pr") words;
+  keep_units = is_set tool (codes "--keep-units") words;
   formula = slice_get (names tool words) 0;
   second = slice_get (names tool words) 1;
 }

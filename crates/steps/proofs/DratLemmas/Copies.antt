@@ -8,11 +8,12 @@ use Rattle.steps.specs.declared.theory.accepted.Accepted.{Accepted}
 use Rattle.steps.specs.declared.theory.accepted.Accepted.TheVariants.{Rup, Rat, Pr, Empty, Deleted, Ignored}
 use Rattle.steps.specs.declared.theory.refusal.Refusal.TheVariants.{NotRup, NeitherRupNorRat, NotAlive, InconsistentSet, NeitherRupNorPr}
 use Rattle.cnf_base.specs.Literals.{Literal, complement, Clause, has, complements, without, same_clause}
-use Rattle.steps.specs.Theory.Propagation.{Live, IsClosed, Forced, Clash, HasRup, HasRat, HasPr, not_falsified, by_empty, by_both}
+use Rattle.steps.specs.Theory.Propagation.{Live, Clash, HasRup, HasRat, HasPr, IsRootReason, not_falsified}
 use Rattle.steps.specs.Theory.StepAnswer.{StepAnswer}
-use Rattle.steps.specs.Drat.{DratStep, add, delete, AnswersAdd, AnswersDelete, AnswersDrat, AnswersWithSet, take_off, after_drat, copies_of, SameLive}
+use Rattle.steps.specs.Drat.{DratStep, add, delete, AnswersAdd, AnswersDelete, AnswersDrat, AnswersWithSet, IsKeptUnit, take_off, after_drat, copies_of, SameLive}
 use Rattle.cnf_base.proofs.SetLemmas.{same_there, same_back, same_itself, same_symm, same_trans, same_empty, both_pass, has_append_left, has_append_right, has_append_cases, has-complements, complements_has, has-without, without_has, has-filter, filter_has}
 use Rattle.cnf_base.proofs.LiteralLemmas.{complement-complement}
+use Rattle.propagation.proofs.PropagationLemmas.Covers.{Covers, clash_covers, reason_covers}
 use Rattle.propagation.proofs.PropagationLemmas.Forced.{forced_assumed, clash_through}
 use Rattle.steps.specs.declared.drat.rules.DratRules.{DratRules}
 
@@ -101,30 +102,9 @@ same_live_symm first second same = record { copies = λ e. sym (same.copies e) }
 
 -- ---- What follows from the same clauses
 
--- each clause of the one is, as a set, a clause of the other
-abbrev pub Covers : Live → Live → Type 0
-Covers first second = (k : ℕ) (c : Clause) → first k ≡ Some c → (j : ℕ) × (d : Clause) × (second j ≡ Some d) × (same_clause c d ≡ true)
-
 pub covers_of : (first second : List Clause) → SameLive first second → Covers (slice_get first) (slice_get second)
 covers_of first second same k c at =
     alive_at c second (copies_alive c second (omega (arith, alive_copies c first (at_alive first k c at), same.copies c)))
-
-closed_covers : (first second : Live) → Covers first second → (passes : Literal → Bool) → IsClosed second passes → IsClosed first passes
-closed_covers first second covers passes closed = record { unit = go }
-  where
-    go : (k : ℕ) (c : Clause) → first k ≡ Some c → (m : Literal) → has c m ≡ true → ((l : Literal) → has c l ≡ true → l ≢ m → passes (complement l) ≡ true) → passes m ≡ true
-    go k c at m member others =
-        let w = covers k c at in
-        closed.unit w.0 w.1 w.2 m (same_there c w.1 w.3 m member) (λ l inside ne. others l (same_back c w.1 w.3 l inside) ne)
-
-forced_covers : (first second : Live) → Covers first second → (assumed : List Literal) (l : Literal) → Forced first assumed l → Forced second assumed l
-forced_covers first second covers assumed l forced = record { in_each = λ passes closed start. forced.in_each passes (closed_covers first second covers passes closed) start }
-
-pub clash_covers : (first second : Live) → Covers first second → (assumed : List Literal) → Clash first assumed → Clash second assumed
-clash_covers first second covers assumed (by_empty k at) =
-    let w = covers k [] at in by_empty w.0 (w.2 ∙ ap Some (same_empty w.1 w.3))
-clash_covers first second covers assumed (by_both l f g) =
-    by_both l (forced_covers first second covers assumed l f) (forced_covers first second covers assumed (complement l) g)
 
 -- the complements of clauses that include one another
 complements_more : (live : Live) (c d : Clause) → ((l : Literal) → has c l ≡ true → has d l ≡ true) → HasRup live c → HasRup live d
@@ -200,17 +180,21 @@ set_same first second c set (Err NeitherRupNorPr) same a =
 set_same first second c set (Ok _) same a = absurd a
 set_same first second c set (Err _) same a = absurd a
 
-delete_same : (strict : Bool) (first second : List Clause) (c : List Literal) (answer : StepAnswer) → SameLive first second → AnswersDelete strict first c answer → AnswersDelete strict second c answer
-delete_same true first second c (Ok Deleted) same a = sym (alive_same first second c same) ∙ a
-delete_same false first second c (Ok Deleted) same a = sym (alive_same first second c same) ∙ a
-delete_same false first second c (Ok Ignored) same a = sym (alive_same first second c same) ∙ a
-delete_same true first second c (Err NotAlive) same a = sym (alive_same first second c same) ∙ a
-delete_same true first second c (Ok _) same a = absurd a
-delete_same false first second c (Ok _) same a = absurd a
-delete_same true first second c (Err _) same a = absurd a
-delete_same false first second c (Err _) same a = absurd a
+kept_same : (rules : DratRules) (first second : List Clause) (c : Clause) → SameLive first second → IsKeptUnit rules first c → IsKeptUnit rules second c
+kept_same rules first second c same kept = (kept.0, reason_covers _ _ (covers_of first second same) c c (same_itself c) kept.1)
+
+delete_same : (rules : DratRules) (first second : List Clause) (c : List Literal) (answer : StepAnswer) → SameLive first second → AnswersDelete rules first c answer → AnswersDelete rules second c answer
+delete_same rules first second c (Ok Deleted) same a =
+    (sym (alive_same first second c same) ∙ a.0, λ kept. a.1 (kept_same rules second first c (same_live_symm first second same) kept))
+delete_same rules first second c (Ok Ignored) same a = elim a [
+  | inl kept ↦ inl (sym (alive_same first second c same) ∙ kept.0, kept_same rules first second c same kept.1)
+  | inr absent ↦ inr (sym (alive_same first second c same) ∙ absent.0, absent.1)
+]
+delete_same rules first second c (Err NotAlive) same a = (sym (alive_same first second c same) ∙ a.0, a.1)
+delete_same rules first second c (Ok _) same a = absurd a
+delete_same rules first second c (Err _) same a = absurd a
 
 pub drat_same : (rules : DratRules) (first second : List Clause) (step : DratStep) (answer : StepAnswer) → SameLive first second → AnswersDrat rules first step answer → AnswersDrat rules second step answer
 drat_same rules first second (add c []) answer same a = add_same first second c answer same a
 drat_same rules first second (add c (l ∷ set)) answer same a = set_same first second c (l ∷ set) answer same a
-drat_same rules first second (delete c) answer same a = delete_same rules.strict first second c answer same a
+drat_same rules first second (delete c) answer same a = delete_same rules first second c answer same a

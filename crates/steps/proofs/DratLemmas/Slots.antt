@@ -8,10 +8,11 @@ use Rattle.std.specs.FinMap.Entries.{by_order, below_all}
 use Rattle.std.specs.Cmp.{nat_cmp_total, unsigned_tied}
 use Rattle.std.proofs.lemmas.Bool.{cases_Bool, cases_lt, false_from_ne_true}
 use Rattle.cnf_base.specs.Literals.{Literal, Clause, same_clause}
-use Rattle.steps.specs.Theory.Propagation.{Clash, HasRat, HasPr}
+use Rattle.steps.specs.Theory.Propagation.{Clash, HasRat, HasPr, IsRootReason}
 use Rattle.steps.specs.Drat.{take_off, copies_of, SameLive}
 use Rattle.cnf_base.proofs.SetLemmas.{both_pass, same_itself, same_symm, same_trans}
-use Rattle.steps.proofs.DratLemmas.Copies.{Covers, clash_covers, rat_covers, pr_covers, copies-cons, copies-take_off}
+use Rattle.propagation.proofs.PropagationLemmas.Covers.{Covers, clash_covers, reason_covers}
+use Rattle.steps.proofs.DratLemmas.Copies.{rat_covers, pr_covers, copies-cons, copies-take_off}
 
 abbrev clauses_in : List (ℕ × Clause) → List Clause
 clauses_in es = map (λ e. e.1) es
@@ -129,3 +130,10 @@ slots-rat m c pivot = (rat_covers _ _ (slots_covered m) (covered_by_slots m) c p
 
 pub slots-pr : (m : FinMap nat_cmp Clause) (c set : List Literal) → HasPr (slots.get m) c set ↔ HasPr (slice_get (slots.values m)) c set
 slots-pr m c set = (pr_covers _ _ (slots_covered m) (covered_by_slots m) c set, pr_covers _ _ (covered_by_slots m) (slots_covered m) c set)
+
+-- a clause that makes a literal hold for good, however it is written
+pub slots-reason : (m : FinMap nat_cmp Clause) (c d : Clause) → same_clause c d ≡ true → IsRootReason (slots.get m) c → IsRootReason (slice_get (slots.values m)) d
+slots-reason m c d same r = reason_covers _ _ (slots_covered m) c d same r
+
+pub reason-slots : (m : FinMap nat_cmp Clause) (c d : Clause) → same_clause c d ≡ true → IsRootReason (slice_get (slots.values m)) c → IsRootReason (slots.get m) d
+reason-slots m c d same r = reason_covers _ _ (covered_by_slots m) c d same r

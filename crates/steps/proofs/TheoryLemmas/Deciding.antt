@@ -9,7 +9,7 @@ use Rattle.propagation.specs.declared.left.Left.TheVariants.{One}
 use Rattle.cnf_base.specs.Literals.{Literal, complement, Clause, has, complements, without, same_clause}
 use Rattle.steps.specs.Theory.Propagation.{Clash, HasRup, HasRat, HasPr, not_falsified}
 use Rattle.steps.specs.Theory.StepAnswer.{StepAnswer}
-use Rattle.steps.specs.Drat.{DratStep, add, delete, AnswersAdd, AnswersDelete, AnswersDrat, AnswersWithSet}
+use Rattle.steps.specs.Drat.{DratStep, add, delete, AnswersAdd, AnswersDelete, AnswersDrat, AnswersWithSet, IsKeptUnit}
 use Rattle.propagation.specs.Trail.{conflicts}
 use Rattle.propagation.specs.Left.{open_literals, how_many}
 use Rattle.cnf_base.proofs.SetLemmas.{any_from, any_some, has_head, has_tail, has_cases, has_append_left, has_append_right, filter_has}
@@ -18,69 +18,21 @@ use Rattle.propagation.proofs.PropagationLemmas.MakesFalse.{not_both}
 use Rattle.propagation.proofs.PropagationLemmas.Left.{left-one}
 use Rattle.propagation.proofs.PropagationLemmas.Unit.{clash_of_conflict, none_left_clashes, settled_quiet}
 use Rattle.steps.proofs.TheoryLemmas.Scans.{Found, all_false, one_left, none_new, scan, IsPart, part_more}
+use Rattle.propagation.specs.Closure.{lacking}
+use Rattle.steps.proofs.TheoryLemmas.Growth.{IsDecided, lacking_more, all_literals, has-all_literals}
+use Rattle.steps.proofs.TheoryLemmas.Reasons.{reason_decided}
 use Rattle.steps.specs.declared.drat.rules.DratRules.{DratRules}
-
--- ---- How far a list of true literals can grow
-
--- how many literals of the list are not among the true ones
-abbrev missing : List Literal → List Literal → ℕ
-missing trues [] = 0
-missing trues (l ∷ ls) = cond (has trues l) 0 1 + missing trues ls
-
-missing_step : (a b : Bool) (x y : ℕ) → (a ≡ true → b ≡ true) → x ≤ y → cond b 0 1 + x ≤ cond a 0 1 + y
-missing_step true true x y keeps le = omega arith
-missing_step true false x y keeps le = absurd (false≢true (keeps refl))
-missing_step false true x y keeps le = omega arith
-missing_step false false x y keeps le = omega arith
-
-missing_le : (trues : List Literal) (m : Literal) (ls : List Literal) → missing (m ∷ trues) ls ≤ missing trues ls
-missing_le trues m [] = omega arith
-missing_le trues m (l ∷ ls) = missing_step (has trues l) (has (m ∷ trues) l) _ _ (has_tail m trues l) (missing_le trues m ls)
-
-missing_here : (a b : Bool) (x y : ℕ) → a ≡ false → b ≡ true → x ≤ y → cond b 0 1 + x < cond a 0 1 + y
-missing_here true b x y e f le = absurd (true≢false e)
-missing_here false true x y e f le = omega arith
-missing_here false false x y e f le = absurd (false≢true f)
-
-missing_there : (a b : Bool) (x y : ℕ) → (a ≡ true → b ≡ true) → x < y → cond b 0 1 + x < cond a 0 1 + y
-missing_there true true x y keeps lt = omega arith
-missing_there true false x y keeps lt = absurd (false≢true (keeps refl))
-missing_there false true x y keeps lt = omega arith
-missing_there false false x y keeps lt = omega arith
-
-missing_falls : (trues : List Literal) (m : Literal) → has trues m ≡ false → (ls : List Literal) → has ls m ≡ true → missing (m ∷ trues) ls < missing trues ls
-missing_falls trues m absent [] h = absurd (false≢true h)
-missing_falls trues m absent (l ∷ ls) h =
-    elim (has_cases l ls m h) [
-      | inl e ↦ missing_here (has trues l) (has (m ∷ trues) l) _ _ (ap (has trues) e ∙ absent) (ap (has (m ∷ trues)) e ∙ has_head m trues) (missing_le trues m ls)
-      | inr g ↦ missing_there (has trues l) (has (m ∷ trues) l) _ _ (has_tail m trues l) (missing_falls trues m absent ls g)
-    ]
-
-abbrev all_literals : List Clause → List Literal
-all_literals [] = []
-all_literals (c ∷ live) = c ++ all_literals live
-
-has-all_literals : (live : List Clause) (k : ℕ) (c : Clause) (l : Literal) → slice_get live k ≡ Some c → has c l ≡ true → has (all_literals live) l ≡ true
-has-all_literals [] k c l at h = absurd (none-some c at)
-has-all_literals (d ∷ live) zero c l at h = has_append_left d (all_literals live) l (ap (λ x. has x l) (same at) ∙ h)
-  where
-    same : ◌≡◌ {A = Option Clause} (Some d) (Some c) → d ≡ c
-    same e = cc
-has-all_literals (d ∷ live) (suc k) c l at h = has_append_right d (all_literals live) l (has-all_literals live k c l at h)
 
 -- ---- Clashes
 
-abbrev pub IsDecided : Type 0 → Type 0
-IsDecided A = A ⊎ ¬ A
-
 module _ (live : List Clause) (assumed : List Literal) where
-  falls : (trues : List Literal) (k : ℕ) (c : Clause) → slice_get live k ≡ Some c → (m : Literal) → how_many (open_literals trues c) ≡ One m → has trues m ≡ false → missing (m ∷ trues) (all_literals live) < missing trues (all_literals live)
+  falls : (trues : List Literal) (k : ℕ) (c : Clause) → slice_get live k ≡ Some c → (m : Literal) → how_many (open_literals trues c) ≡ One m → has trues m ≡ false → lacking (m ∷ trues) (all_literals live) < lacking trues (all_literals live)
   falls trues k c at m e new =
       let only = left-one (open_literals trues c) m e in
-      missing_falls trues m new (all_literals live) (has-all_literals live k c m at (filter_has (λ l. not (has trues (complement l))) c m only.0).0)
+      lacking_more trues m new (all_literals live) (has-all_literals live k c m at (filter_has (λ l. not (has trues (complement l))) c m only.0).0)
 
   -- at most `fuel` literals are not listed yet
-  propagate : (fuel : ℕ) (trues : List Literal) → IsPart (slice_get live) assumed trues → missing trues (all_literals live) ≤ fuel → conflicts trues ≡ false → Found (slice_get live) trues → IsDecided (Clash (slice_get live) assumed)
+  propagate : (fuel : ℕ) (trues : List Literal) → IsPart (slice_get live) assumed trues → lacking trues (all_literals live) ≤ fuel → conflicts trues ≡ false → Found (slice_get live) trues → IsDecided (Clash (slice_get live) assumed)
   propagate fuel trues part bound quiet (all_false k c at e) = inl (none_left_clashes (slice_get live) assumed trues part.sound k c at e)
   propagate fuel trues part bound quiet (none_new settled) = inr (settled_quiet (slice_get live) trues settled assumed part.start quiet)
   propagate zero trues part bound quiet (one_left k c at m e new) = absurd (let less = falls trues k c at m e new in let wrong : ⊥ = omega arith in wrong)
@@ -97,7 +49,7 @@ module _ (live : List Clause) (assumed : List Literal) where
       let part : IsPart (slice_get live) assumed assumed = record { sound = forced_assumed (slice_get live) assumed; start = λ a h. h } in
       elim (cases_Bool (conflicts assumed)) [
         | inl clash ↦ inl (clash_of_conflict (slice_get live) assumed assumed part.sound clash)
-        | inr quiet ↦ propagate (missing assumed (all_literals live)) assumed part (omega arith) quiet (scan assumed live)
+        | inr quiet ↦ propagate (lacking assumed (all_literals live)) assumed part (omega arith) quiet (scan assumed live)
       ]
 
 -- ---- Candidates
@@ -199,17 +151,28 @@ add_answer live (pivot ∷ rest) = elim (clash_decided live (complements (pivot 
   ]
 ]
 
-delete_answer : (strict : Bool) (live : List Clause) (c : List Literal) → (answer : StepAnswer) × AnswersDelete strict live c answer
-delete_answer true live c = elim (cases_Bool (list_any (same_clause c) live)) [
-  | inl alive ↦ (Ok Deleted, alive)
-  | inr absent ↦ (Err NotAlive, absent)
+kept_decided : (rules : DratRules) (live : List Clause) (c : Clause) → IsDecided (IsKeptUnit rules live c)
+kept_decided rules live c = elim (cases_Bool rules.keep_units) [
+  | inr off ↦ inr (λ kept. true≢false (sym kept.0 ∙ off))
+  | inl on ↦ elim (reason_decided live c) [
+    | inl reason ↦ inl (on, reason)
+    | inr none ↦ inr (λ kept. none kept.1)
+  ]
 ]
-delete_answer false live c = elim (cases_Bool (list_any (same_clause c) live)) [
-  | inl alive ↦ (Ok Deleted, alive)
-  | inr absent ↦ (Ok Ignored, absent)
+
+delete_answer : (rules : DratRules) (live : List Clause) (c : List Literal) → (answer : StepAnswer) × AnswersDelete rules live c answer
+delete_answer rules live c = elim (cases_Bool (list_any (same_clause c) live)) [
+  | inl alive ↦ elim (kept_decided rules live c) [
+    | inl kept ↦ (Ok Ignored, inl (alive, kept))
+    | inr none ↦ (Ok Deleted, (alive, none))
+  ]
+  | inr absent ↦ elim (cases_Bool rules.strict) [
+    | inl strict ↦ (Err NotAlive, (absent, strict))
+    | inr lax ↦ (Ok Ignored, inr (absent, lax))
+  ]
 ]
 
 pub drat_answer : (rules : DratRules) (live : List Clause) (step : DratStep) → (answer : StepAnswer) × AnswersDrat rules live step answer
 drat_answer rules live (add c []) = add_answer live c
 drat_answer rules live (add c (l ∷ set)) = set_answer live c (l ∷ set)
-drat_answer rules live (delete c) = delete_answer rules.strict live c
+drat_answer rules live (delete c) = delete_answer rules live c

@@ -7,7 +7,7 @@ use Rattle.steps.specs.declared.theory.accepted.Accepted.TheVariants.{Rup, Rat, 
 use Rattle.cnf_base.specs.Literals.{Literal, Clause, same_clause}
 use Rattle.steps.specs.Theory.Propagation.{Live}
 use Rattle.steps.specs.Theory.Models.{Assignment, satisfies, Models, HasModel}
-use Rattle.steps.specs.Drat.{AnswersDelete, DratStep, add, delete, AnswersAdd, AnswersDrat, AnswersListed, take_off, after_drat}
+use Rattle.steps.specs.Drat.{DratStep, add, delete, AnswersAdd, AnswersDrat, AnswersListed, take_off, after_drat}
 use Rattle.steps.specs.Lrat.{LratState, LratStep, add as add_lrat, delete as delete_lrat, AnswersLrat, after_lrat, with_clause, without_id, without_ids, deletion_refusal}
 use Rattle.steps.specs.Theory.Theorems.{IsRedundant}
 use Rattle.steps.proofs.TheoryLemmas.Truth.{rup_true, rat_keeps, pr_keeps, HasModelWith}
@@ -86,14 +86,9 @@ drat_keeps rules live (delete c) Rat answer m = taken_off_keeps live c m
 drat_keeps rules live (delete c) Pr answer m = taken_off_keeps live c m
 drat_keeps rules live (delete c) Empty answer m = taken_off_keeps live c m
 
--- no deletion is answered so
-no_deletion : (strict : Bool) (live : List Clause) (c : List Literal) → AnswersDelete strict live c (Ok Empty) → ⊥
-no_deletion true live c answer = answer
-no_deletion false live c answer = answer
-
 pub drat_refutes : (rules : DratRules) (live : List Clause) (step : DratStep) → AnswersDrat rules live step (Ok Empty) → HasModel (slice_get live) → ⊥
 drat_refutes rules live (add c set) answer m = empty_refutes (slice_get live) c (listed_redundant live c set Empty answer) m
-drat_refutes rules live (delete c) answer m = no_deletion rules.strict live c answer
+drat_refutes rules live (delete c) answer m = answer
 
 -- ---- LRAT
 

@@ -8,7 +8,7 @@ use Rattle.steps.specs.declared.theory.refusal.Refusal.TheVariants.{NotRup, Neit
 use Rattle.cnf_base.specs.Literals.{Literal, Clause, complements, same_clause}
 use Rattle.steps.specs.Theory.Propagation.{Live, HasRup, HasRat, HasPr}
 use Rattle.steps.specs.Theory.StepAnswer.{StepAnswer}
-use Rattle.steps.specs.Drat.{DratStep, add, delete, AnswersAdd, AnswersDelete, AnswersDrat, AnswersWithSet}
+use Rattle.steps.specs.Drat.{DratStep, add, delete, AnswersAdd, AnswersDelete, AnswersDrat, AnswersWithSet, IsKeptUnit}
 use Rattle.propagation.specs.Trail.{conflicts}
 use Rattle.steps.specs.Lrat.{LratState, LratStep, add as add_lrat, delete as delete_lrat, Group, ChainEnd, conflict, open_with, unknown, not_unit, chain, groups_refusal, is_left_out, AnswersGroups, AnswersChain, AnswersLrat}
 use Rattle.steps.specs.declared.drat.rules.DratRules.{DratRules}
@@ -63,21 +63,37 @@ empty_unique live first second (rup e p) (not_rup f q) = absurd (q p)
 empty_unique live first second (not_rup e p) (rup f q) = absurd (p q)
 empty_unique live first second (not_rup e p) (not_rup f q) = e ∙ sym f
 
--- the answer to a deletion, by whether the clause is alive
-abbrev delete_answer : Bool → Bool → StepAnswer
-delete_answer strict true = Ok Deleted
-delete_answer true false = Err NotAlive
-delete_answer false false = Ok Ignored
+-- the four answers to a deletion
+data DeleteCases (rules : DratRules) (live : List Clause) (c : List Literal) (answer : StepAnswer) : Type 0 where
+  deleted : answer ≡ Ok Deleted → list_any (same_clause c) live ≡ true → ¬ IsKeptUnit rules live c → DeleteCases rules live c answer
+  kept : answer ≡ Ok Ignored → list_any (same_clause c) live ≡ true → IsKeptUnit rules live c → DeleteCases rules live c answer
+  ignored : answer ≡ Ok Ignored → list_any (same_clause c) live ≡ false → rules.strict ≡ false → DeleteCases rules live c answer
+  not_alive : answer ≡ Err NotAlive → list_any (same_clause c) live ≡ false → rules.strict ≡ true → DeleteCases rules live c answer
 
-delete_is : (strict : Bool) (live : List Clause) (c : List Literal) (answer : StepAnswer) → AnswersDelete strict live c answer → answer ≡ delete_answer strict (list_any (same_clause c) live)
-delete_is true live c (Ok Deleted) a = sym (ap (delete_answer true) a)
-delete_is false live c (Ok Deleted) a = sym (ap (delete_answer false) a)
-delete_is false live c (Ok Ignored) a = sym (ap (delete_answer false) a)
-delete_is true live c (Err NotAlive) a = sym (ap (delete_answer true) a)
-delete_is true live c (Ok _) a = absurd a
-delete_is false live c (Ok _) a = absurd a
-delete_is true live c (Err _) a = absurd a
-delete_is false live c (Err _) a = absurd a
+delete_cases : (rules : DratRules) (live : List Clause) (c : List Literal) (answer : StepAnswer) → AnswersDelete rules live c answer → DeleteCases rules live c answer
+delete_cases rules live c (Ok Deleted) a = deleted refl a.0 a.1
+delete_cases rules live c (Ok Ignored) a = elim a [ inl k ↦ kept refl k.0 k.1 | inr i ↦ ignored refl i.0 i.1 ]
+delete_cases rules live c (Err NotAlive) a = not_alive refl a.0 a.1
+delete_cases rules live c (Ok _) a = absurd a
+delete_cases rules live c (Err _) a = absurd a
+
+delete_unique : (rules : DratRules) (live : List Clause) (c : List Literal) (first second : StepAnswer) → DeleteCases rules live c first → DeleteCases rules live c second → first ≡ second
+delete_unique rules live c first second (deleted e p q) (deleted f r s) = e ∙ sym f
+delete_unique rules live c first second (deleted e p q) (kept f r s) = absurd (q s)
+delete_unique rules live c first second (deleted e p q) (ignored f r s) = absurd (true≢false (sym p ∙ r))
+delete_unique rules live c first second (deleted e p q) (not_alive f r s) = absurd (true≢false (sym p ∙ r))
+delete_unique rules live c first second (kept e p q) (deleted f r s) = absurd (s q)
+delete_unique rules live c first second (kept e p q) (kept f r s) = e ∙ sym f
+delete_unique rules live c first second (kept e p q) (ignored f r s) = e ∙ sym f
+delete_unique rules live c first second (kept e p q) (not_alive f r s) = absurd (true≢false (sym p ∙ r))
+delete_unique rules live c first second (ignored e p q) (deleted f r s) = absurd (true≢false (sym r ∙ p))
+delete_unique rules live c first second (ignored e p q) (kept f r s) = e ∙ sym f
+delete_unique rules live c first second (ignored e p q) (ignored f r s) = e ∙ sym f
+delete_unique rules live c first second (ignored e p q) (not_alive f r s) = absurd (true≢false (sym s ∙ q))
+delete_unique rules live c first second (not_alive e p q) (deleted f r s) = absurd (true≢false (sym r ∙ p))
+delete_unique rules live c first second (not_alive e p q) (kept f r s) = absurd (true≢false (sym r ∙ p))
+delete_unique rules live c first second (not_alive e p q) (ignored f r s) = absurd (true≢false (sym q ∙ s))
+delete_unique rules live c first second (not_alive e p q) (not_alive f r s) = e ∙ sym f
 
 -- the four answers to an addition that lists a set
 data SetCases (live : Live) (c set : List Literal) (answer : StepAnswer) : Type 0 where
@@ -116,7 +132,7 @@ pub drat_unique : (rules : DratRules) (live : List Clause) (step : DratStep) (fi
 drat_unique rules live (add [] []) first second a b = empty_unique (slice_get live) first second (empty_cases live first a) (empty_cases live second b)
 drat_unique rules live (add (pivot ∷ rest) []) first second a b = add_unique (slice_get live) pivot rest first second (add_cases live pivot rest first a) (add_cases live pivot rest second b)
 drat_unique rules live (add c (l ∷ set)) first second a b = set_unique (slice_get live) c (l ∷ set) first second (set_cases live c (l ∷ set) first a) (set_cases live c (l ∷ set) second b)
-drat_unique rules live (delete c) first second a b = delete_is rules.strict live c first a ∙ sym (delete_is rules.strict live c second b)
+drat_unique rules live (delete c) first second a b = delete_unique rules live c first second (delete_cases rules live c first a) (delete_cases rules live c second b)
 
 -- ---- LRAT
 

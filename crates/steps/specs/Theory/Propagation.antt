@@ -2,7 +2,7 @@
 -- DPR proofs.
 use Rattle.std.specs.Prelude.{◌≡◌, ℕ, not, ◌⊎◌, Some, List, ◌++◌, filter, IsTrue, IsFalse}
 use Rattle.cnf_base.specs.Literals.{Literal, complement, Clause, has, complements, without}
-pub use Rattle.propagation.specs.Forced.{Live, IsClosed, Forced, Clash, by_empty, by_both}
+pub use Rattle.propagation.specs.Forced.{Live, IsClosed, Forced, Clash, by_empty, by_both, IsRootReason}
 
 -- reverse unit propagation: the complements of the clause's literals clash
 abbrev pub HasRup : Live → Clause → Type 0

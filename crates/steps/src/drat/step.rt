@@ -1,11 +1,11 @@
 //! One step of a DRAT proof, over any store of clauses that propagates.
 
-ghost use Rattle.std.specs.Prelude.{◌≡◌, ◌++◌, ◌∷◌, ◌⊎◌, ℕ, [], true, Some, IsSome, IsTrue, IsFalse, IfOk, OnOk, OnErr};
+ghost use Rattle.std.specs.Prelude.{◌≡◌, ◌++◌, ◌∷◌, ◌⊎◌, ℕ, [], true, false, Some, IsSome, IsTrue, IsFalse, IfOk, OnOk, OnErr};
 ghost use Rattle.std.specs.FinMap as maps;
 ghost use Rattle.cnf_base.specs.Literals.{Clause, Literal, complement, complements, has, without};
 ghost use Rattle.propagation.specs.Assumptions.{IsAnswer, HasAt, HoldsLiveAlone, assumed_by, MayAssume};
 ghost use Rattle.propagation.specs.Trail.{SameSet, conflicts};
-ghost use Rattle.steps.specs.Theory.Propagation.{HasRup, not_falsified};
+ghost use Rattle.steps.specs.Theory.Propagation.{HasRup, IsRootReason, not_falsified};
 ghost use Rattle.steps.specs.Drat.{AnswersAdd, AnswersDelete, AnswersDrat, AnswersListed, AnswersWithSet, addition_of, after_drat, drat_step, SameLive};
 ghost use Rattle.steps.specs.Drat as drat;
 ghost use Rattle.steps.specs.Drat.Candidates.{SearchedCandidates, SearchedReduced};
@@ -164,25 +164,58 @@ fn add<P: Propagate>(clauses: &mut P, lits: &[Lit], set: &[Lit]) -> Result<Accep
     Ok(word)
 }
 
-/// Takes one copy of the clause off.
-fn delete<P: Propagate>(clauses: &mut P, strict: bool, lits: &[Lit]) -> Result<Accepted, Refusal>
+/// Whether the rules keep the clause in the slot, since it makes a literal of it hold for good.
+fn is_kept<P: Propagate>(clauses: &mut P, rules: DratRules, slot: Slot) -> Result<bool, OutOfMemory>
+    requires alive { IsSome (maps.get (P.state clauses.old).live slot) }
     requires nothing_assumed { (P.state clauses.old).assumptions ≡ [] }
     requires live_alone { HoldsLiveAlone (P.state clauses.old) }
-    ensures answers { AnswersDelete strict (maps.values (P.state clauses.old).live) lits.now
-        result }
+    ensures yes { IfOk result (λ is_kept. is_kept ≡ true → (c : Clause) →
+        maps.get (P.state clauses.old).live slot ≡ Some c →
+        IsTrue rules.keep_units × IsRootReason (maps.get (P.state clauses.old).live) c) }
+    ensures no { IfOk result (λ is_kept. is_kept ≡ false → (c : Clause) →
+        maps.get (P.state clauses.old).live slot ≡ Some c →
+        ¬ (IsTrue rules.keep_units × IsRootReason (maps.get (P.state clauses.old).live) c)) }
+    ensures live { (P.state clauses.new).live ≡ (P.state clauses.old).live }
+    ensures nothing_assumed { (P.state clauses.new).assumptions ≡ [] }
+    ensures live_alone { HoldsLiveAlone (P.state clauses.new) }
+{
+    if rules.keep_units {
+        clauses.is_root_reason(slot)
+    } else {
+        Ok(false)
+    }
+}
+
+/// Takes one copy of the clause off, unless the rules keep it.
+fn delete<P: Propagate>(
+    clauses: &mut P,
+    rules: DratRules,
+    lits: &[Lit],
+) -> Result<Accepted, Refusal>
+    requires nothing_assumed { (P.state clauses.old).assumptions ≡ [] }
+    requires live_alone { HoldsLiveAlone (P.state clauses.old) }
+    ensures answers { UnlessOutOfMemory result
+        (AnswersDelete rules (maps.values (P.state clauses.old).live) lits.now result) }
     ensures live { IfOk result (λ word. SameLive (maps.values (P.state clauses.new).live)
         (after_drat (maps.values (P.state clauses.old).live) (drat.delete lits.now) word)) }
     ensures nothing_assumed { (P.state clauses.new).assumptions ≡ [] }
     ensures live_alone { HoldsLiveAlone (P.state clauses.new) }
     ensures refused { OnErr result ((P.state clauses.new).live ≡ (P.state clauses.old).live) }
 {
-    match clauses.find(lits) {
-        Some(slot) => {
+    let Some(slot) = clauses.find(lits) else {
+        return if rules.strict {
+            Err(Refusal::NotAlive)
+        } else {
+            Ok(Accepted::Ignored)
+        };
+    };
+    match is_kept(clauses, rules, slot) {
+        Ok(true) => Ok(Accepted::Ignored),
+        Ok(false) => {
             clauses.remove(slot);
             Ok(Accepted::Deleted)
         }
-        None if strict => Err(Refusal::NotAlive),
-        None => Ok(Accepted::Ignored),
+        Err(_) => Err(Refusal::OutOfMemory),
     }
 }
 
@@ -220,6 +253,6 @@ pub(crate) fn take_step<P: Propagate>(
             let (clause, set) = parts_of(rules, step);
             add(clauses, clause, set)
         }
-        StepKind::Delete => delete(clauses, rules.strict, step.lits()),
+        StepKind::Delete => delete(clauses, rules, step.lits()),
     }
 }

@@ -32,6 +32,9 @@ returns-clause-strict c free = flag_given c.args.tool (app_of c.in_ok-command.co
 pub returns-clause-pr : goal.returns-clause-pr
 returns-clause-pr c free = flag_given c.args.tool (app_of c.in_ok-command.command) c.in_ok-command.ensures c.args.words.now c.in-Ok.matches c.in-Ok.ensures.matches c.in-Ok.ensures.kinds free (codes "pr") (λ read. read.pr) c.get_flag-4.result c.get_flag-4.ensures.none c.get_flag-4.ensures.value c.get_flag-4.ensures.other
 
+pub returns-clause-keep_units : goal.returns-clause-keep_units
+returns-clause-keep_units c free = flag_given c.args.tool (app_of c.in_ok-command.command) c.in_ok-command.ensures c.args.words.now c.in-Ok.matches c.in-Ok.ensures.matches c.in-Ok.ensures.kinds free (codes "keep-units") (λ read. read.keep_units) c.get_flag-5.result c.get_flag-5.ensures.none c.get_flag-5.ensures.value c.get_flag-5.ensures.other
+
 pub returns-clause-formula : goal.returns-clause-formula
 returns-clause-formula c free =
     let read = reads c.args.tool (app_of c.in_ok-command.command) c.in_ok-command.ensures c.args.words.now c.in-Ok.matches c.in-Ok.ensures.matches c.in-Ok.ensures.kinds free in
