@@ -61,8 +61,10 @@ fn reserve_variables(
     ensures numbers { (v : ℕ) → number_at numbers.new v ≡ number_at numbers.old v }
 {
     for l in lits {
-        numbers.reserve(l.var(), 0)?;
-        trail.reserve(l.var())?;
+        if !trail.has_room(l.var()) {
+            numbers.reserve(l.var(), 0)?;
+            trail.reserve(l.var())?;
+        }
     }
     Ok(())
 }

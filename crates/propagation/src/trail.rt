@@ -104,15 +104,37 @@ impl Trail {
     /// # Errors
     ///
     /// Where memory runs out. The trail is then as it was.
+    #[inline(always)]
     pub fn reserve(&mut self, var: u32) -> Result<(), OutOfMemory>
         ensures met { OnOk result ((v : ℕ) → has self.new.met v ≡
             (has self.old.met v || (v == var && is_variable v))) }
         ensures lits { OnOk result (self.new.lits ≡ self.old.lits) }
         ensures err { OnErr result (self.new ≡ self.old) }
     {
-        if self.seen.get(var).is_some() {
+        if self.has_room(var) {
             return Ok(());
         }
+        self.reserve_anew(var)
+    }
+
+    /// Whether there is room for a variable.
+    #[inline(always)]
+    pub(crate) fn has_room(&self, var: u32) -> bool
+        ensures { result ≡ has self.now.met var }
+    {
+        self.seen.get(var).is_some()
+    }
+
+    /// Makes room for a variable for which there is none.
+    #[cold]
+    #[inline(never)]
+    fn reserve_anew(&mut self, var: u32) -> Result<(), OutOfMemory>
+        requires { IsFalse (has self.old.met var) }
+        ensures met { OnOk result ((v : ℕ) → has self.new.met v ≡
+            (has self.old.met v || (v == var && is_variable v))) }
+        ensures lits { OnOk result (self.new.lits ≡ self.old.lits) }
+        ensures err { OnErr result (self.new ≡ self.old) }
+    {
         let Some(lit) = positive(var) else {
             return Ok(());
         };
@@ -280,6 +302,7 @@ impl Trail {
     }
 
     /// The same as `open_in`, wherever the values lie.
+    #[cold]
     #[inline(never)]
     fn open_far(&self, clause: &[Lit]) -> (usize, Lit)
         ensures { IsCount (open_literals self.now.lits clause.now) result.0 result.1 }
@@ -313,6 +336,7 @@ impl Trail {
     }
 
     /// The same as `first_open`, wherever the values lie.
+    #[cold]
     #[inline(never)]
     fn first_open_far(&self, clause: &[Lit], from: usize) -> Option<usize>
         ensures found { IfSome result (IsOpenAt self.now.lits clause.now from) }

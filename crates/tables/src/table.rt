@@ -94,6 +94,7 @@ impl<T: Copy + Drop> Table<T> {
         self.look_up_far(key)
     }
 
+    #[cold]
     #[inline(never)]
     fn look_up_far(&self, key: u32) -> Option<&T>
         ensures { option_copied result ≡ get nat_cmp self.now.sparse key }
@@ -115,6 +116,7 @@ impl<T: Copy + Drop> Table<T> {
         }
     }
 
+    #[cold]
     #[inline(never)]
     fn set_far(&mut self, key: u32, value: T)
         requires far { vec_len self.old.dense ≤ key }
@@ -153,6 +155,7 @@ impl<T: Copy + Drop> Table<T> {
     }
 
     /// Makes room for the key, with this value where it has none.
+    #[inline(always)]
     pub fn reserve(&mut self, key: u32, value: T) -> Result<(), OutOfMemory>
         ensures ok { OnOk result ((k : ℕ) → at self.new k ≡
             (if k == key then Some (unwrap_or (at self.old key) value) else at self.old k)) }
@@ -161,6 +164,17 @@ impl<T: Copy + Drop> Table<T> {
         if self.get(key).is_some() {
             return Ok(());
         }
+        self.reserve_anew(key, value)
+    }
+
+    /// Makes room for the key, which has none, with this value.
+    #[cold]
+    #[inline(never)]
+    fn reserve_anew(&mut self, key: u32, value: T) -> Result<(), OutOfMemory>
+        ensures ok { OnOk result ((k : ℕ) → at self.new k ≡
+            (if k == key then Some value else at self.old k)) }
+        ensures err { OnErr result ((k : ℕ) → at self.new k ≡ at self.old k) }
+    {
         let len = self.dense.len();
         let limit = self.count.saturating_mul(2).saturating_add(LEAST);
         let is_near = len <= key as usize && (key as usize) < limit;

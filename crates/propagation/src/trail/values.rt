@@ -55,6 +55,7 @@ impl Values {
         self.dense.as_slice()
     }
 
+    #[cold]
     #[inline(never)]
     fn far_value(&self, key: u32) -> Value
         ensures { result ≡ known_value (at self.now.far key) }
@@ -92,6 +93,7 @@ impl Values {
         }
     }
 
+    #[cold]
     #[inline(never)]
     fn set_both_far(&mut self, l: Lit, value: Value, other: Value)
         requires literal { IsSome (value_at self.old l) }
@@ -116,6 +118,7 @@ impl Values {
         }
     }
 
+    #[cold]
     #[inline(never)]
     fn set_far(&mut self, key: u32, value: Value)
         requires far { vec_len self.old.dense ≤ key }

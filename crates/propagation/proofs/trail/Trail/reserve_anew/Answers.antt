@@ -3,7 +3,7 @@ use Rattle.std.specs.Vec.{vec_capacity}
 use Rattle.tables.specs.Table.{at}
 use Rattle.propagation.specs.Values.{IsTrail, value_at}
 use Rattle.propagation.proofs.PropagationLemmas.Values.{negative_key, trail_wider, trail_met}
-use Rattle.propagation.proofs.trail.Trail.reserve.Goals as goal
+use Rattle.propagation.proofs.trail.Trail.reserve_anew.Goals as goal
 
 pub invariant_of-self-2 : goal.invariant_of-self-2
 invariant_of-self-2 c =
