@@ -214,6 +214,36 @@ impl Watch {
         &self.assumptions.trail().lits()[..self.assumptions.root_count()]
     }
 
+    /// Brings what follows with nothing assumed up to date, before an assumption or a question of it.
+    ///
+    /// # Errors
+    ///
+    /// Where memory runs out, and ever after. What is assumed is then as it was.
+    fn prepare(&mut self) -> Result<(), OutOfMemory>
+        ensures live { self.new.propagation.live ≡ self.old.propagation.live }
+        ensures live_alone { HoldsLiveAlone self.new.propagation }
+        ensures assumptions { self.new.propagation.assumptions ≡ self.old.propagation.assumptions }
+        ensures up_to_date { OnOk result (self.new.is_up_to_date ≡ true) }
+        ensures never_refused { OnOk result (self.old.propagation.has_refused ≡ false) }
+        ensures not_refused { OnOk result (self.new.propagation.has_refused ≡ false) }
+        ensures refused { OnErr result (self.new.propagation.has_refused ≡ true) }
+    {
+        if self.has_refused {
+            self.store.is_sound();
+            return Err(OutOfMemory);
+        }
+        let refreshed = refresh(
+            &mut self.store,
+            &mut self.lists,
+            &self.short,
+            &mut self.assumptions,
+            &mut self.roots,
+        );
+        self.store.is_sound();
+        self.has_refused = refreshed.is_err();
+        refreshed
+    }
+
     /// Takes back the last assumption. What is known with nothing assumed stays. It takes no memory.
     pub fn take_back(&mut self)
         requires { self.old.propagation.assumptions ≢ [] }
@@ -278,18 +308,8 @@ impl Propagate for Watch {
     }
 
     fn assume(&mut self, lits: &[Lit]) -> Result<Answer, OutOfMemory> {
-        if self.has_refused
-            || refresh(
-                &mut self.store,
-                &mut self.lists,
-                &self.short,
-                &mut self.assumptions,
-                &mut self.roots,
-            )
-            .is_err()
-            || self.assumptions.reserve(lits).is_err()
-        {
-            self.store.is_sound();
+        self.prepare()?;
+        if self.assumptions.reserve(lits).is_err() {
             self.has_refused = true;
             return Err(OutOfMemory);
         }
@@ -308,20 +328,7 @@ impl Propagate for Watch {
     }
 
     fn assume_rest(&mut self, slot: Slot, l: Lit) -> Result<Answer, OutOfMemory> {
-        if self.has_refused
-            || refresh(
-                &mut self.store,
-                &mut self.lists,
-                &self.short,
-                &mut self.assumptions,
-                &mut self.roots,
-            )
-            .is_err()
-        {
-            self.store.is_sound();
-            self.has_refused = true;
-            return Err(OutOfMemory);
-        }
+        self.prepare()?;
         let assumed = assume_part(
             &mut self.store,
             &mut self.lists,
@@ -337,18 +344,8 @@ impl Propagate for Watch {
     }
 
     fn assume_unless(&mut self, slot: Slot, set: &[Lit]) -> Result<Answer, OutOfMemory> {
-        if self.has_refused
-            || self.set.fill(set).is_err()
-            || refresh(
-                &mut self.store,
-                &mut self.lists,
-                &self.short,
-                &mut self.assumptions,
-                &mut self.roots,
-            )
-            .is_err()
-        {
-            self.store.is_sound();
+        self.prepare()?;
+        if self.set.fill(set).is_err() {
             self.has_refused = true;
             return Err(OutOfMemory);
         }
@@ -377,20 +374,7 @@ impl Propagate for Watch {
     }
 
     fn is_root_reason(&mut self, slot: Slot) -> Result<bool, OutOfMemory> {
-        if self.has_refused
-            || refresh(
-                &mut self.store,
-                &mut self.lists,
-                &self.short,
-                &mut self.assumptions,
-                &mut self.roots,
-            )
-            .is_err()
-        {
-            self.store.is_sound();
-            self.has_refused = true;
-            return Err(OutOfMemory);
-        }
+        self.prepare()?;
         let found = is_reason_for_good(
             self.alloc,
             &self.store,

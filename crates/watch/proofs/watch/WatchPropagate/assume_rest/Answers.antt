@@ -1,64 +1,36 @@
-use Rattle.std.proofs.Common.{ℕ, is_some, not, eqb, filter, unwrap_or, [], subst, refl, sym, ap, ◌∙◌}
+use Rattle.std.proofs.Common.{ℕ, is_some, not, eqb, filter, unwrap_or, [], refl, sym, ap, ◌∙◌}
 use Rattle.std.specs.FinMap as maps
 use Rattle.cnf_base.specs.Literals.{complements, has}
 use Rattle.watch.specs.Order.{each_in_order, in_order}
-use Rattle.watch.specs.State.{IsWatch}
 use Rattle.propagation.proofs.PropagationLemmas.Scan.{assuming_alike, assuming_from}
 use Rattle.watch.proofs.WatchLemmas.Order.{alive_alike, alive_clause, has-in_order, literals_ordered, part_alike, seen_there, there_seen}
 use Rattle.watch.proofs.watch.WatchPropagate.assume_rest.Goals as goal
-use Rattle.watch.proofs.watch.WatchPropagate.assume_rest.Goals.{then-self-via-then-self, then-self-via-else-self+then-is_err}
 
 pub assume_part-assumed-requires-clause-alive : goal.assume_part-assumed-requires-clause-alive
 assume_part-assumed-requires-clause-alive c =
     let slot = c.args.slot in
-    sym (alive_alike c.refresh.new.store.live slot) ∙ ap (λ m. is_some (maps.get m slot)) c.refresh.ensures.same ∙ ap (λ w. is_some (maps.get w.propagation.live slot)) c.self.view_is ∙ c.requires.alive
+    sym (alive_alike c.self.inside.store.live slot) ∙ ap (λ w. is_some (maps.get w.propagation.live slot)) c.self.view_is ∙ ap (λ m. is_some (maps.get m slot)) c.in_ok-prepare.ensures.live ∙ c.requires.alive
 
 pub assume_part-assumed-requires-clause-room : goal.assume_part-assumed-requires-clause-room
 assume_part-assumed-requires-clause-room c l member =
-    let live = c.refresh.new.store.live in
+    let live = c.self.inside.store.live in
     let slot = c.args.slot in
-    let d = alive_clause live slot (sym (alive_alike live slot) ∙ ap (λ m. is_some (maps.get m slot)) c.refresh.ensures.same ∙ ap (λ w. is_some (maps.get w.propagation.live slot)) c.self.view_is ∙ c.requires.alive) in
-    c.refresh.ensures.watch.scan.room.each slot (in_order d.0) (seen_there live slot d.0 d.1) l (has-in_order d.0 l ∙ ap (λ o. has (unwrap_or o []) l) (sym d.1) ∙ member)
+    let d = alive_clause live slot (sym (alive_alike live slot) ∙ ap (λ w. is_some (maps.get w.propagation.live slot)) c.self.view_is ∙ ap (λ m. is_some (maps.get m slot)) c.in_ok-prepare.ensures.live ∙ c.requires.alive) in
+    c.self.invariant.0.scan.room.each slot (in_order d.0) (seen_there live slot d.0 d.1) l (has-in_order d.0 l ∙ ap (λ o. has (unwrap_or o []) l) (sym d.1) ∙ member)
 
-pub invariant_of-self-2 : goal.invariant_of-self-2
-invariant_of-self-2 c = (c.assume_part-assumed.ensures.watch, c.is_sound-2.ensures.live_alone ∙ sym (literals_ordered c.assume_part-assumed.new.store.live))
+pub invariant_of-self : goal.invariant_of-self
+invariant_of-self c = (c.assume_part-assumed.ensures.watch, c.is_sound.ensures.live_alone ∙ sym (literals_ordered c.assume_part-assumed.new.store.live))
 
 pub returns : goal.returns
 returns c clause here =
     let view = c.self.view_is in
-    let live = c.refresh.new.store.live in
-    let same = c.refresh.ensures.same in
+    let ready = c.in_ok-prepare.ensures in
+    let live = c.self.inside.store.live in
+    let same = ap (λ w. w.propagation.live) view ∙ ready.live in
     let e = c.assume_part-assumed.ensures in
     let keeps = λ (k : ℕ). not (eqb k c.args.l) in
-    let w = there_seen live c.args.slot clause (ap (λ m. maps.get m c.args.slot) same ∙ ap (λ w. maps.get w.propagation.live c.args.slot) view ∙ here) in
+    let w = there_seen live c.args.slot clause (ap (λ m. maps.get m c.args.slot) same ∙ here) in
     assuming_alike c.args.self.now.propagation _ (complements (filter keeps w.0)) (complements (filter keeps clause)) c.assume_part-assumed.result (part_alike keeps w.0 clause (λ l. sym (w.2 l)))
-    (assuming_from c.args.self.now.propagation _ (each_in_order live) c.refresh.new.assumptions c.assume_part-assumed.new.assumptions _ (complements (filter keeps w.0)) c.assume_part-assumed.result
-    (same ∙ ap (λ w. w.propagation.live) view) (c.refresh.ensures.assumptions ∙ ap (λ w. w.propagation.assumptions) view) (ap (λ o. complements (filter keeps (unwrap_or o []))) w.1) (ap (λ w. w.propagation.has_refused) (sym view) ∙ c.if-self.false)
-    e.same (c.is_sound-2.ensures.live_alone ∙ sym (literals_ordered c.assume_part-assumed.new.store.live)) refl c.is_err-self-inside.ensures.value e.answer e.assumed e.err)
-
-pub invariant_of-self : goal.invariant_of-self
-invariant_of-self c = (
-  elim c.then-self.branch [
-    | then-self-via-then-self w ↦ subst (λ i. IsWatch i.store.live i.lists i.short i.roots i.assumptions) (sym w.self-inside-is) c.self.invariant.0
-    | then-self-via-else-self+then-is_err w ↦ subst (λ i. IsWatch i.store.live i.lists i.short i.roots i.assumptions) (sym w.self-inside-is) w.refresh.ensures.watch
-  ],
-  c.is_sound.ensures.live_alone ∙ sym (literals_ordered c.then-self.self-inside.store.live),
-)
-
-pub returns-then-self : goal.returns-then-self
-returns-then-self c clause here = record {
-  answer = tt;
-  stands = tt;
-  live = elim c.then-self.branch [
-    | then-self-via-then-self w ↦ ap (λ i. each_in_order i.store.live) w.self-inside-is ∙ ap (λ w. w.propagation.live) c.self.view_is
-    | then-self-via-else-self+then-is_err w ↦ ap (λ i. each_in_order i.store.live) w.self-inside-is ∙ w.refresh.ensures.same ∙ ap (λ w. w.propagation.live) c.self.view_is
-  ];
-  live_alone = c.is_sound.ensures.live_alone ∙ sym (literals_ordered c.then-self.self-inside.store.live);
-  never_refused = tt;
-  not_refused = tt;
-  refused = refl;
-  stays = elim c.then-self.branch [
-    | then-self-via-then-self w ↦ ap (λ i. i.assumptions.assumptions) w.self-inside-is ∙ ap (λ w. w.propagation.assumptions) c.self.view_is
-    | then-self-via-else-self+then-is_err w ↦ ap (λ i. i.assumptions.assumptions) w.self-inside-is ∙ w.refresh.ensures.assumptions ∙ ap (λ w. w.propagation.assumptions) c.self.view_is
-  ];
-}
+    (assuming_from c.args.self.now.propagation _ (each_in_order live) c.self.inside.assumptions c.assume_part-assumed.new.assumptions _ (complements (filter keeps w.0)) c.assume_part-assumed.result
+    same (ap (λ w. w.propagation.assumptions) view ∙ ready.assumptions) (ap (λ o. complements (filter keeps (unwrap_or o []))) w.1) ready.never_refused
+    e.same (c.is_sound.ensures.live_alone ∙ sym (literals_ordered c.assume_part-assumed.new.store.live)) refl c.is_err-self-inside.ensures.value e.answer e.assumed e.err)
