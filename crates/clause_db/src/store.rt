@@ -1,6 +1,6 @@
 //! The live clauses of a proof checker, each in its slot.
 
-mod bucket;
+mod buckets;
 mod entry;
 pub(crate) mod ids;
 #[cfg(test)]

@@ -4,6 +4,7 @@ use Rattle.std.proofs.lemmas.Option.{none-some, same_Some}
 use Rattle.std.proofs.lemmas.Bool.{cases_eq}
 use Rattle.std.proofs.lemmas.Option.{slice_get_within, slice_get_read}
 use Rattle.std.proofs.lemmas.Grind.{common_steps}
+use Rattle.std.proofs.lemmas.List.{length_push}
 use Rattle.clause_db.specs.Store.Indexed.{IsIndexed}
 
 abbrev pub spot : ℕ → ℕ → Option (ℕ × ℕ)
@@ -12,7 +13,7 @@ spot h i = Some (h, i)
 pub same_hash : (a b c d : ℕ) → spot a b ≡ spot c d → a ≡ c
 same_hash a b c d e = ap (λ o. (unwrap_or {T = ℕ × ℕ} o (a, b)).0) e
 
-same_place : (a b c d : ℕ) → spot a b ≡ spot c d → b ≡ d
+pub same_place : (a b c d : ℕ) → spot a b ≡ spot c d → b ≡ d
 same_place a b c d e = ap (λ o. (unwrap_or {T = ℕ × ℕ} o (a, b)).1) e
 
 -- ---- What stands in a changed bucket
@@ -76,6 +77,29 @@ module _ (xs : List ℕ) (k : ℕ) where
 
   swap_other : (i y : ℕ) → i ≢ k → i < length xs - 1 → slice_get xs i ≡ Some y → slice_get (swap_remove xs k 0) i ≡ Some y
   swap_other i y apart low h = get_take (set xs k (get_or xs (length xs - 1) 0)) (length xs - 1) i y low (set_other xs k _ i apart ∙ h)
+
+-- what was put at the end and is taken out from there
+back_to : (xs : List ℕ) (x y : ℕ) → take (length xs) (set (xs ++ x ∷ []) (length xs) y) ≡ xs
+back_to [] x y = refl
+back_to (z ∷ xs) x y = ap (λ ys. z ∷ ys) (back_to xs x y)
+
+pub push_taken : (xs : List ℕ) (x : ℕ) → swap_remove (xs ++ x ∷ []) (length xs) 0 ≡ xs
+push_taken xs x =
+    let longer = length_push xs x in
+    let last : length (xs ++ x ∷ []) - 1 ≡ length xs = omega arith in
+    ap (λ n. take n (set (xs ++ x ∷ []) (length xs) (get_or (xs ++ x ∷ []) n 0))) last ∙ back_to xs x _
+
+pub undone : (before pushed left : ℕ → List ℕ) (hash x place : ℕ) → ((h : ℕ) → pushed h ≡ cond (eqb h hash) (before h ++ x ∷ []) (before h)) →
+    ((h : ℕ) → left h ≡ cond (eqb h hash) (swap_remove (pushed h) place 0) (pushed h)) → place ≡ length (before hash) → (h : ℕ) → left h ≡ before h
+undone before pushed left hash x place pushes takes at_end h = elim (cases_eq h hash) [
+  | inl is ↦
+      takes h ∙ ap (λ b. cond b (swap_remove (pushed h) place 0) (pushed h)) (eq-eqb h hash is)
+      ∙ ap (λ xs. swap_remove xs place 0) (pushes h ∙ ap (λ b. cond b (before h ++ x ∷ []) (before h)) (eq-eqb h hash is))
+      ∙ ap (λ n. swap_remove (before h ++ x ∷ []) n 0) (at_end ∙ ap (λ g. length (before g)) (sym is)) ∙ push_taken (before h) x
+  | inr apart ↦
+      takes h ∙ ap (λ b. cond b (swap_remove (pushed h) place 0) (pushed h)) (ne_eqb h hash apart)
+      ∙ pushes h ∙ ap (λ b. cond b (before h ++ x ∷ []) (before h)) (ne_eqb h hash apart)
+]
 
 -- ---- Changes
 

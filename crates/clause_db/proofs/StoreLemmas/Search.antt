@@ -1,5 +1,5 @@
 -- What a search in a bucket says of the clauses.
-use Rattle.std.proofs.Common.{◌≡◌, ℕ, ◌<◌, Bool, true, false, cond, eqb, eqb-true, eq-eqb, Option, Some, None, option_map, unwrap_or, is_some, List, length, slice_get, refl, sym, ap, ◌∙◌, arith}
+use Rattle.std.proofs.Common.{◌≡◌, ℕ, ◌<◌, Bool, true, false, cond, eqb, eqb-true, eq-eqb, Option, Some, None, option_map, is_some, List, length, slice_get, refl, sym, ap, ◌∙◌, arith}
 use Rattle.std.specs.List.{list_all}
 use Rattle.std.specs.FinMap as maps
 use Rattle.std.specs.FinMap.{FinMap}
@@ -57,14 +57,14 @@ module _ (lits : Clause) (passes : Literal → Bool) (marked : (l : Literal) →
       (each_all passes items (λ l g. marked l ∙ there l (ap (λ ls. has ls l) (sym items_are) ∙ g)))
 
 -- where no slot in the bucket matches, no clause is the same
-pub none_same : (seed : ℕ) (entries : Slab Entry) (buckets : ℕ → List ℕ) (place_of : ℕ → Option ℕ) → IsIndex seed buckets place_of (clauses_in entries) →
+pub none_same : (seed : ℕ) (entries : Slab Entry) (buckets : ℕ → List ℕ) (place_of : ℕ → ℕ) → IsIndex seed buckets place_of (clauses_in entries) →
     (lits : Clause) (passes : Literal → Bool) → ((l : Literal) → passes l ≡ has lits l) → (len : ℕ) → len ≡ size lits → (h : ℕ) → h ≡ hash seed lits →
     ((s : ℕ) (c : Clause) → maps.get (clauses_in entries) s ≡ Some c → size c ≡ length c) →
     ((i s : ℕ) → slice_get (buckets h) i ≡ Some s → is_match passes len (get entries s) ≡ false) →
     (s : ℕ) (c : Clause) → maps.get (clauses_in entries) s ≡ Some c → same_clause c lits ≡ true → ⊥
 none_same seed entries buckets place_of sound lits passes marked len len_is h h_is different none s c is same =
     let at_slot : clause_of (get entries s) ≡ Some c = sym (get_stored entries s) ∙ is in
-    let i = unwrap_or (place_of s) 0 in
+    let i = place_of s in
     let spot : spot_in seed (clauses_in entries) place_of s ≡ Some (hash seed c, i) = ap (option_map (λ (d : Clause). (hash seed d, i))) is in
     let hash_is : hash seed c ≡ h = hash_same seed c lits (same_there c lits same) (same_back c lits same) ∙ sym h_is in
     let stands : slice_get (buckets h) i ≡ Some s = ap (λ x. slice_get (buckets x) i) (sym hash_is) ∙ sound.placed.there s (hash seed c) i spot in

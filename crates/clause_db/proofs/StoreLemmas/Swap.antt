@@ -1,5 +1,5 @@
 -- Two literals of a clause in each other's place.
-use Rattle.std.proofs.Common.{◌≡◌, ℕ, ◌<◌, Option, Some, eqb, List, length, sym, ap, ◌∙◌, subst}
+use Rattle.std.proofs.Common.{◌≡◌, ℕ, ◌<◌, Some, eqb, List, length, sym, ap, ◌∙◌, subst}
 use Rattle.std.specs.List.{swap}
 use Rattle.std.specs.Ordering.{nat_cmp}
 use Rattle.std.specs.FinMap as maps
@@ -38,7 +38,7 @@ module _ (entries : Slab Entry) (marks : Table Mark) (sum : ℕ) (sound : IsStor
   pub sound_swapped : IsStore (with_value entries k f) marks sum
   sound_swapped = sound_replaced entries (with_value entries k f) marks sum sound k e f here (wrote_entry entries k e f here) (other_entry entries k e f here) alike as_long
 
-  pub index_swapped : (seed : ℕ) (buckets : ℕ → List ℕ) (place_of : ℕ → Option ℕ) → IsIndex seed buckets place_of (clauses_in entries) → IsIndex seed buckets place_of (clauses_in (with_value entries k f))
+  pub index_swapped : (seed : ℕ) (buckets : ℕ → List ℕ) (place_of : ℕ → ℕ) → IsIndex seed buckets place_of (clauses_in entries) → IsIndex seed buckets place_of (clauses_in (with_value entries k f))
   index_swapped seed buckets place_of index =
       subst (IsIndex seed buckets place_of) (sym map_swapped)
       (index_replaced seed buckets place_of (clauses_in entries) index k e.lits.items f.lits.items (get_stored entries k ∙ ap clause_of here)

@@ -1,29 +1,31 @@
 -- The slots by hash.
-use Rattle.std.specs.Prelude.{ℕ, ◌<◌, List, [], Option, IsSome, unwrap_or, option_map, nat_eq}
+use Rattle.std.specs.Prelude.{ℕ, ◌<◌, List, Option, IsSome, option_map, slice_index}
 use Rattle.std.specs.Ordering.{nat_cmp}
-use Rattle.std.specs.HashMap.{get}
 use Rattle.std.specs.FinMap as maps
 use Rattle.std.specs.FinMap.{FinMap}
 use Rattle.cnf_base.specs.Literals.{Clause}
+use Rattle.clause_db.specs.Store.Buckets.{bucket_at}
 use Rattle.clause_db.specs.Store.Hashes.{hash}
 use Rattle.clause_db.specs.Store.Indexed.{IsIndexed}
-use Rattle.tables.specs.Table.{at}
 use Rattle.clause_db.specs.declared.store.index.Index.{Index}
 
 -- the slots with this hash, in the order of their places
 abbrev pub under : Index → ℕ → List ℕ
-under index h = unwrap_or (get nat_eq index.buckets h) []
+under index h = bucket_at index.buckets h
+
+-- the place that is noted for a slot
+abbrev pub noted_place : Index → ℕ → ℕ
+noted_place index s = slice_index index.places.items s
 
 -- the hash by this seed of the clause in a slot, and the place that is noted for the slot
-abbrev pub spot_in : ℕ → FinMap nat_cmp Clause → (ℕ → Option ℕ) → ℕ → Option (ℕ × ℕ)
-spot_in seed live place_of s = option_map (λ c. (hash seed c, unwrap_or (place_of s) 0)) (maps.get live s)
+abbrev pub spot_in : ℕ → FinMap nat_cmp Clause → (ℕ → ℕ) → ℕ → Option (ℕ × ℕ)
+spot_in seed live place_of s = option_map (λ c. (hash seed c, place_of s)) (maps.get live s)
 
 -- each slot stands in the bucket of its clause's hash, at the place that is noted for it
-pub record IsIndex (seed : ℕ) (buckets : ℕ → List ℕ) (place_of : ℕ → Option ℕ) (live : FinMap nat_cmp Clause) : Type 0 where
+pub record IsIndex (seed : ℕ) (buckets : ℕ → List ℕ) (place_of : ℕ → ℕ) (live : FinMap nat_cmp Clause) : Type 0 where
   pub placed : IsIndexed (spot_in seed live place_of) buckets
-  pub noted : (s : ℕ) → IsSome (maps.get live s) → IsSome (place_of s)
   pub low : (s : ℕ) → IsSome (maps.get live s) → s < 4294967296
 
 -- the index fits the clauses
 abbrev pub Indexes : Index → FinMap nat_cmp Clause → Type 0
-Indexes index live = IsIndex index.seed (under index) (at index.places) live
+Indexes index live = IsIndex index.seed (under index) (noted_place index) live

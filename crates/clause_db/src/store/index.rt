@@ -1,20 +1,17 @@
 //! What finds a clause again.
 
-ghost use Rattle.std.specs.Prelude.{◌≡◌, ℕ, ◌+◌, ◌-◌, ◌==◌, ◌<◌, [], ◌∷◌, ◌++◌, length, swap_remove, slice_index, if◌then◌else◌, Some, None, ⊤, MatchOption, IfOk, OnOk, OnErr};
+ghost use Rattle.std.specs.Prelude.{◌≡◌, ℕ, ◌==◌, ◌<◌, ◌≤◌, length, slice_index, if◌then◌else◌, Some, None, ⊤, OnOk, OnErr};
 ghost use Rattle.std.specs.Ordering.{nat_cmp};
 ghost use Rattle.std.specs.FinMap as maps;
 ghost use Rattle.std.specs.FinMap.{FinMap};
 ghost use Rattle.cnf_base.specs.Literals.{Clause};
 ghost use Rattle.clause_db.specs.Store.Clauses.{size};
 ghost use Rattle.clause_db.specs.Store.Index.{under, Indexes};
-ghost use Rattle.tables.specs.Table.{at};
 
-use crate::store::bucket::Bucket;
+use crate::store::buckets::Buckets;
 use crate::store::marks::hash_of;
 use cnf_base::{Lit, OutOfMemory};
 use std::alloc::Global;
-use std::collections::HashMap;
-use tables::Table;
 
 /// What a store keeps to find the slots of a clause again.
 pub trait Indexing: Sized {
@@ -61,76 +58,74 @@ impl Indexing for NoIndex {
     fn remove(&mut self, _slot: usize, _lits: &[Lit]) {}
 }
 
-/// The slots of the clauses, in a bucket for each hash. No bucket is empty.
+/// The slots of the clauses, in a bucket for each hash.
 #[derive(Drop)]
 pub struct Index {
-    alloc: Global,
     /// What clauses are hashed by. Who doesn't know it can't choose clauses with one hash.
     pub(crate) seed: u64,
-    buckets: HashMap<u64, Bucket>,
-    /// By slot its place in its bucket.
-    places: Table<u32>,
+    buckets: Buckets,
+    /// By slot its place in its bucket, 0 past the end: it reaches no further than the last slot that was not first in one.
+    places: Vec<u32>,
+}
+
+/// Makes room for the place of a slot.
+fn reserve(places: &mut Vec<u32>, slot: u32) -> Result<(), OutOfMemory>
+    ensures same { (s : ℕ) → slice_index places.new.items s ≡ slice_index places.old.items s }
+    ensures room { OnOk result (slot < length places.new.items) }
+{
+    if places.len() <= slot as usize {
+        places.resize(slot as usize + 1, 0)?;
+    }
+    Ok(())
+}
+
+/// Notes the place of a slot, for which there is room unless it is 0.
+fn note(places: &mut Vec<u32>, slot: u32, place: u32)
+    requires { length places.old.items ≤ slot → place ≡ 0 }
+    ensures { (s : ℕ) → slice_index places.new.items s ≡
+        (if s == slot then place else slice_index places.old.items s) }
+{
+    if (slot as usize) < places.len() {
+        places[slot as usize] = place;
+    }
+}
+
+/// Notes the place of a slot that was added, and makes room for it unless it is 0.
+fn note_new(places: &mut Vec<u32>, slot: u32, place: u32) -> Result<(), OutOfMemory>
+    ensures ok { OnOk result ((s : ℕ) → slice_index places.new.items s ≡
+        (if s == slot then place else slice_index places.old.items s)) }
+    ensures err { OnErr result ((s : ℕ) →
+        slice_index places.new.items s ≡ slice_index places.old.items s) }
+{
+    if place > 0 {
+        reserve(places, slot)?;
+    }
+    note(places, slot, place);
+    Ok(())
+}
+
+/// The place that is noted for a slot.
+fn place_of(places: &[u32], slot: usize) -> u32
+    ensures { result ≡ slice_index places.now slot }
+{
+    match places.get(slot) {
+        Some(place) => *place,
+        None => 0,
+    }
 }
 
 impl Index {
     /// The slots with this hash.
-    pub(crate) fn bucket(&self, hash: u64) -> Option<&Bucket>
-        ensures { MatchOption result (under self.now hash ≡ []) (λ b. b.now ≡ under self.now hash) }
+    pub(crate) fn slots(&self, hash: u64) -> &[u32]
+        ensures { result.now ≡ under self.now hash }
     {
-        self.buckets.get(&hash)
-    }
-
-    /// Adds a slot under a hash, and tells its place in the bucket.
-    fn push(&mut self, hash: u64, slot: usize) -> Result<u32, OutOfMemory>
-        ensures place { IfOk result (λ place. place ≡ length (under self.old hash)) }
-        ensures ok { OnOk result ((h : ℕ) → under self.new h ≡
-            (if h == hash then under self.old h ++ slot ∷ [] else under self.old h)) }
-        ensures err { OnErr result ((h : ℕ) → under self.new h ≡ under self.old h) }
-        ensures places { (s : ℕ) → at self.new.places s ≡ at self.old.places s }
-        ensures seed { self.new.seed ≡ self.old.seed }
-    {
-        let alloc = self.alloc;
-        if let Some(bucket) = self.buckets.get_mut(&hash) {
-            let Ok(place) = u32::try_from(bucket.len()) else {
-                return Err(OutOfMemory);
-            };
-            bucket.push(alloc, slot)?;
-            return Ok(place);
-        }
-        self.buckets.insert(hash, Bucket::one(slot))?;
-        Ok(0)
-    }
-
-    /// Takes the slot at a place out from under a hash. The last slot takes that place, and is the result.
-    fn take(&mut self, hash: u64, place: usize) -> usize
-        requires { place < length (under self.old hash) }
-        ensures last { result ≡ slice_index (under self.old hash)
-            (length (under self.old hash) - 1) }
-        ensures slots { (h : ℕ) → under self.new h ≡
-            (if h == hash then swap_remove (under self.old h) place 0 else under self.old h) }
-        ensures places { (s : ℕ) → at self.new.places s ≡ at self.old.places s }
-        ensures seed { self.new.seed ≡ self.old.seed }
-    {
-        let mut last = 0;
-        let mut is_alone = false;
-        if let Some(bucket) = self.buckets.get_mut(&hash) {
-            let len = bucket.len();
-            last = bucket.get(len - 1);
-            is_alone = len == 1;
-            if !is_alone {
-                bucket.swap_remove(place);
-            }
-        }
-        if is_alone {
-            self.buckets.remove(&hash);
-        }
-        last
+        self.buckets.slots(hash)
     }
 
     /// For how many hashes there is room.
     #[cfg(test)]
     pub(crate) fn room(&self) -> usize {
-        self.buckets.capacity()
+        self.buckets.room()
     }
 }
 
@@ -139,27 +134,30 @@ impl Indexing for Index {
 
     fn new(alloc: Global, seed: u64) -> Self {
         Index {
-            alloc,
             seed,
-            buckets: HashMap::new(alloc),
-            places: Table::new(alloc),
+            buckets: Buckets::new(alloc),
+            places: Vec::new(alloc),
         }
     }
 
     fn add(&mut self, slot: usize, lits: &[Lit]) -> Result<(), OutOfMemory> {
-        let Ok(key) = u32::try_from(slot) else {
+        let Ok(number) = u32::try_from(slot) else {
             return Err(OutOfMemory);
         };
-        self.places.reserve(key, 0)?;
-        let place = self.push(hash_of(self.seed, lits), slot)?;
-        self.places.set(key, place);
-        Ok(())
+        let hash = hash_of(self.seed, lits);
+        let place = self.buckets.push(hash, number)?;
+        match note_new(&mut self.places, number, place) {
+            Ok(()) => Ok(()),
+            Err(refused) => {
+                self.buckets.take(hash, place as usize);
+                Err(refused)
+            }
+        }
     }
 
     fn remove(&mut self, slot: usize, lits: &[Lit]) {
-        if let Some(place) = self.places.get(slot as u32) {
-            let last = self.take(hash_of(self.seed, lits), place as usize);
-            self.places.set(last as u32, place);
-        }
+        let place = place_of(self.places.as_slice(), slot);
+        let last = self.buckets.take(hash_of(self.seed, lits), place as usize);
+        note(&mut self.places, last, place);
     }
 }

@@ -7,7 +7,6 @@ ghost use Rattle.clause_db.specs.Store.LiteralMarks.{is_marked};
 ghost use Rattle.tables.specs.Table.{at};
 ghost use Rattle.slab.specs.Slab.{get};
 
-use crate::store::bucket::Bucket;
 use crate::store::entry::{Entry, is_match_at};
 use crate::store::index::Index;
 use crate::store::mark::Mark;
@@ -18,7 +17,7 @@ use tables::Table;
 /// The first slot of the bucket that has a clause of this many literals, each of them marked.
 fn first_match(
     entries: &Slab<Entry>,
-    bucket: &Bucket,
+    bucket: &[u32],
     marks: &Table<Mark>,
     len: usize,
 ) -> Option<usize>
@@ -28,7 +27,7 @@ fn first_match(
         is_match (λ l. is_marked (at marks.now l)) len (get entries.now s) ≡ false) }
 {
     for i in 0..bucket.len() {
-        let slot = bucket.get(i);
+        let slot = bucket[i] as usize;
         if is_match_at(entries, slot, marks, len) {
             return Some(slot);
         }
@@ -49,8 +48,5 @@ pub(crate) fn find_marked(
         slice_get (under index.now digest.now.hash) i ≡ Some s →
         is_match (λ l. is_marked (at marks.now l)) digest.now.len (get entries.now s) ≡ false) }
 {
-    match index.bucket(digest.hash) {
-        Some(bucket) => first_match(entries, bucket, marks, digest.len),
-        None => None,
-    }
+    first_match(entries, index.slots(digest.hash), marks, digest.len)
 }

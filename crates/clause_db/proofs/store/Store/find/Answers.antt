@@ -4,7 +4,7 @@ use Rattle.std.proofs.lemmas.Bool.{true≢false}
 use Rattle.slab.specs.Slab.{get}
 use Rattle.cnf_base.specs.Literals.{Clause, has}
 use Rattle.cnf_base.proofs.SetLemmas.{all_each, each_all, same_back}
-use Rattle.clause_db.specs.Store.Index.{under}
+use Rattle.clause_db.specs.Store.Index.{noted_place, under}
 use Rattle.clause_db.specs.Store.LiteralMarks.{is_marked, mark_count}
 use Rattle.tables.specs.Table.{at}
 use Rattle.clause_db.proofs.StoreLemmas.Entries.{clause_of, get_stored}
@@ -53,7 +53,7 @@ returns-clause-none c =
     elim c.match-found.branch [
       | in-Some w ↦ if_none_from_some c.match-found.result w.at.result _ w.result-is
       | in-None w ↦ if_none_from c.match-found.result _ w.result-is (λ s d is same.
-          none_same i.index.seed i.entries (under i.index) (at i.index.places) c.self.invariant.1 c.args.lits.now (λ l. is_marked (at digest.new.marks l)) digest.ensures.marked
+          none_same i.index.seed i.entries (under i.index) (noted_place i.index) c.self.invariant.1 c.args.lits.now (λ l. is_marked (at digest.new.marks l)) digest.ensures.marked
           digest.result.len digest.ensures.len digest.result.hash digest.ensures.hash c.self.invariant.0.different w.in-None.ensures.none
           s d (ap (λ v. maps.get v.live s) c.self.view_is ∙ is) same)
     ]

@@ -2,8 +2,7 @@ use Rattle.std.proofs.Common.{◌≡◌, ◌<◌, is_some, length, sym, ap, ◌�
 use Rattle.std.specs.List.{swap}
 use Rattle.std.specs.FinMap as maps
 use Rattle.clause_db.specs.Store.Entries.{clauses_in}
-use Rattle.clause_db.specs.Store.Index.{under}
-use Rattle.tables.specs.Table.{at}
+use Rattle.clause_db.specs.Store.Index.{noted_place, under}
 use Rattle.std.proofs.lemmas.Option.{same_Some}
 use Rattle.clause_db.proofs.StoreLemmas.Entries.{live_entry}
 use Rattle.clause_db.proofs.StoreLemmas.Fields.{live_kept}
@@ -33,7 +32,7 @@ invariant_of-self c =
     let second = subst (λ n. c.args.b < n) (ap length same) w.3 in
     let is = c.swap_literals.ensures in (
       sound_swapped i.entries i.marks i.sum c.self.invariant.0 k e f c.args.a c.args.b c.index_mut.ensures.value first second is.swapped is.len,
-      index_swapped i.entries i.marks i.sum c.self.invariant.0 k e f c.args.a c.args.b c.index_mut.ensures.value first second is.swapped is.len i.index.seed (under i.index) (at i.index.places) c.self.invariant.1,
+      index_swapped i.entries i.marks i.sum c.self.invariant.0 k e f c.args.a c.args.b c.index_mut.ensures.value first second is.swapped is.len i.index.seed (under i.index) (noted_place i.index) c.self.invariant.1,
     )
 
 pub returns-clause-live : goal.returns-clause-live

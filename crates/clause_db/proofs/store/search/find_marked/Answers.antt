@@ -2,6 +2,6 @@ use Rattle.std.proofs.Common.{slice_get, ap, ◌∙◌}
 use Rattle.clause_db.proofs.StoreLemmas.Options.{if_none_then}
 use Rattle.clause_db.proofs.store.search.find_marked.Goals as goal
 
-pub returns-in-Some-clause-none : goal.returns-in-Some-clause-none
-returns-in-Some-clause-none c =
-    if_none_then c.first_match.result c.first_match.ensures.none (λ none i s at_i. none i s (ap (λ xs. slice_get xs i) c.in-Some.ensures ∙ at_i))
+pub returns-clause-none : goal.returns-clause-none
+returns-clause-none c =
+    if_none_then c.first_match.result c.first_match.ensures.none (λ none i s at_i. none i s (ap (λ xs. slice_get xs i) c.slots.ensures ∙ at_i))

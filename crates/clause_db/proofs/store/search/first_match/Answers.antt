@@ -12,7 +12,7 @@ loop-i-preserved c k s low at_k = elim (cases_lt k c.loop-i.i) [
   | inl before ↦ c.loop-i.invariant k s before at_k
   | inr here ↦
       let e : k ≡ c.loop-i.i = omega arith in
-      let slot_is : c.get-slot.result ≡ s = c.get-slot.ensures ∙ ap (λ i. get_or c.args.bucket.now i 0) (sym e) ∙ get_or_from_slice_get c.args.bucket.now k s 0 at_k in
+      let slot_is : get_or c.args.bucket.now c.loop-i.i 0 ≡ s = ap (λ i. get_or c.args.bucket.now i 0) (sym e) ∙ get_or_from_slice_get c.args.bucket.now k s 0 at_k in
       ap (λ (x : ℕ). is_match (λ (m : ℕ). is_marked (at c.args.marks.now m)) c.args.len (get c.args.entries.now x)) (sym slot_is)
       ∙ sym c.is_match_at.ensures ∙ c.if-is_match_at.false
 ]

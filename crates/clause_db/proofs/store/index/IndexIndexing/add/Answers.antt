@@ -1,46 +1,34 @@
-use Rattle.std.proofs.Common.{rules, ◌≡◌, ◌≢◌, ℕ, ◌<◌, is_some, true, unwrap_or, Some, refl, sym, ap, ◌∙◌, subst, arith}
+use Rattle.std.proofs.Common.{rules, ◌≡◌, ◌≢◌, ℕ, ◌<◌, ◌++◌, ◌∷◌, [], cond, eqb, slice_index, refl, sym, ap, ◌∙◌, arith}
 use Rattle.std.proofs.lemmas.Grind.{common_steps}
-use Rattle.std.specs.FinMap as maps
-use Rattle.tables.specs.Table.{at}
-use Rattle.clause_db.specs.Store.Index.{under, IsIndex}
+use Rattle.clause_db.specs.Store.Buckets.{bucket_at}
+use Rattle.clause_db.specs.Store.Index.{noted_place, under}
 use Rattle.clause_db.proofs.StoreLemmas.Options.{on_err_from}
-use Rattle.clause_db.proofs.StoreLemmas.Index.{wrote_place, other_place, still_noted, same_places, index_same, index_with}
+use Rattle.clause_db.proofs.StoreLemmas.Indexed.{undone}
+use Rattle.clause_db.proofs.StoreLemmas.Index.{index_same, index_with, other_place, wrote_place}
 use Rattle.clause_db.proofs.store.index.IndexIndexing.add.Goals as goal
-
-pub returns-in_err-reserve-clause-err : goal.returns-in_err-reserve-clause-err
-returns-in_err-reserve-clause-err c =
-    let old = c.args.self.now in
-    on_err_from c.from_residual.result _ (λ live sound.
-    index_same old.seed (under old) (at old.places) live sound _ (at c.reserve.new.self) (λ h. refl) (λ s. ap (λ o. unwrap_or o 0) (c.in_err-reserve.ensures.err s)) (λ s is. ap is_some (c.in_err-reserve.ensures.err s) ∙ is))
 
 pub returns-in_err-place-clause-err : goal.returns-in_err-place-clause-err
 returns-in_err-place-clause-err c =
     let old = c.args.self.now in
-    let key = c.in-Ok.key in
-    let made = c.in_ok-reserve.ensures.ok in
-    let kept = c.push.ensures.places in
-    on_err_from c.from_residual-in_err-place.result _ (λ live sound.
-    subst (λ n. IsIndex n (under c.push.new.self) (at c.push.new.self.places) live) (sym c.push.ensures.seed) (index_same old.seed (under old) (at old.places) live sound _ (at c.push.new.self.places) c.in_err-place.ensures.err
-    (λ s. ap (λ o. unwrap_or o 0) (kept s) ∙ same_places (at old.places) (at c.reserve.new.self) key (unwrap_or (at old.places key) 0) made refl s)
-    (λ s is. ap is_some (kept s) ∙ still_noted (at old.places) (at c.reserve.new.self) key (unwrap_or (at old.places key) 0) made s is)))
+    on_err_from c.from_residual.result _ (λ live sound. index_same old.seed (under old) (noted_place old) live sound _ (noted_place old) c.in_err-place.ensures.err (λ s. refl))
 
-pub returns-clause-ok : goal.returns-clause-ok
-returns-clause-ok c live sound free =
+pub returns-in-Err-clause-err : goal.returns-in-Err-clause-err
+returns-in-Err-clause-err c live sound =
     let old = c.args.self.now in
-    let key = c.in-Ok.key in
+    let back = undone (under old) (bucket_at c.push.new.self) (bucket_at c.take.new.self) c.hash_of-hash.result c.in-Ok.number c.in_ok-place.place c.in_ok-place.ensures.ok c.take.ensures.slots c.in_ok-place.ensures.place in
+    index_same old.seed (under old) (noted_place old) live sound _ (slice_index c.note_new.new.places.items) back c.in-Err.ensures.err
+
+pub returns-in-Ok-note_new-clause-ok : goal.returns-in-Ok-note_new-clause-ok
+returns-in-Ok-note_new-clause-ok c live sound free =
+    let old = c.args.self.now in
+    let number = c.in-Ok.number in
     let place = c.in_ok-place.place in
-    let made = c.in_ok-reserve.ensures.ok in
-    let kept = c.push.ensures.places in
-    let wrote = c.set.ensures in
-    let key_is : key ≡ c.args.slot = search (rules, common_steps) in
-    let low : c.args.slot < 4294967296 = omega (arith, key_is, c.ranges.slot.fits) in
-    let here = ap (at c.set.new.self) (sym key_is) ∙ wrote_place (at c.push.new.self.places) (at c.set.new.self) key place wrote ∙ ap Some c.in_ok-place.ensures.place in
-    let before = λ (s : ℕ). kept s in
-    let others = λ (s : ℕ) (apart : s ≢ c.args.slot).
-    ap (λ o. unwrap_or o 0) (other_place (at c.push.new.self.places) (at c.set.new.self) key place wrote s (λ e. apart (e ∙ key_is)) ∙ before s)
-    ∙ same_places (at old.places) (at c.reserve.new.self) key (unwrap_or (at old.places key) 0) made refl s in
-    let still = λ (s : ℕ) (is : is_some (at old.places s) ≡ true).
-    still_noted (at c.push.new.self.places) (at c.set.new.self) key place wrote s
-    (ap is_some (before s) ∙ still_noted (at old.places) (at c.reserve.new.self) key (unwrap_or (at old.places key) 0) made s is) in
-    subst (λ n. IsIndex n (under c.push.new.self) (at c.set.new.self) (maps.insert live c.args.slot c.args.lits.now)) (sym c.push.ensures.seed)
-    (index_with old.seed (under old) (at old.places) live sound c.args.slot c.args.lits.now c.hash_of.result place free low c.hash_of.ensures _ (at c.set.new.self) c.in_ok-place.ensures.ok here others still)
+    let h = c.hash_of-hash.result in
+    let after = slice_index c.note_new.new.places.items in
+    let wrote = c.in-Ok-note_new.ensures.ok in
+    let number_is : number ≡ c.args.slot = search (rules, common_steps) in
+    let low : c.args.slot < 4294967296 = omega (arith, number_is, c.ranges.slot.fits) in
+    let pushed = λ (g : ℕ). c.in_ok-place.ensures.ok g ∙ ap (λ n. cond (eqb g h) (under old g ++ n ∷ []) (under old g)) number_is in
+    let here = ap after (sym number_is) ∙ wrote_place (noted_place old) after number place wrote ∙ c.in_ok-place.ensures.place in
+    let others = λ (s : ℕ) (apart : s ≢ c.args.slot). other_place (noted_place old) after number place wrote s (λ e. apart (e ∙ number_is)) in
+    index_with old.seed (under old) (noted_place old) live sound c.args.slot c.args.lits.now h free low c.hash_of-hash.ensures _ after pushed here others

@@ -1,0 +1,126 @@
+//! Slots by the hashes of their clauses.
+
+ghost use Rattle.std.specs.Prelude.{◌≡◌, ◌≢◌, ℕ, None, nat_eq, ◌==◌, ◌-◌, ◌<◌, [], ◌∷◌, ◌++◌, length, swap_remove, slice_index, if◌then◌else◌, IfOk, OnOk, OnErr};
+ghost use Rattle.std.specs.HashMap.{get};
+ghost use Rattle.clause_db.specs.Store.Buckets.{bucket_at};
+
+use cnf_base::OutOfMemory;
+use std::alloc::Global;
+use std::collections::HashMap;
+use std::slice;
+
+/// A bucket of slots for each hash, in an order that `take` changes.
+///
+/// Most buckets have one slot at most, and such a slot takes no memory of its own.
+#[derive(Drop)]
+pub(crate) struct Buckets {
+    alloc: Global,
+    /// By hash the one slot of a bucket that `many` has not. Where `many` has it, this says nothing.
+    single: HashMap<u64, u32>,
+    /// The buckets that had two slots or more since they were empty.
+    many: HashMap<u64, Vec<u32>>,
+}
+
+fn both(alloc: Global, first: u32, second: u32) -> Result<Vec<u32>, OutOfMemory>
+    ensures { IfOk result (λ b. b.items ≡ first ∷ second ∷ []) }
+{
+    let mut slots = Vec::new(alloc);
+    slots.push(first)?;
+    slots.push(second)?;
+    Ok(slots)
+}
+
+impl Buckets {
+    /// No bucket has a slot. It takes no memory.
+    pub(crate) fn new(alloc: Global) -> Self
+        ensures { (h : ℕ) → bucket_at result h ≡ [] }
+    {
+        Buckets {
+            alloc,
+            single: HashMap::new(alloc),
+            many: HashMap::new(alloc),
+        }
+    }
+
+    /// The slots in the bucket of a hash.
+    pub(crate) fn slots(&self, hash: u64) -> &[u32]
+        ensures { result.now ≡ bucket_at self.now hash }
+    {
+        if let Some(slots) = self.many.get(&hash) {
+            return slots.as_slice();
+        }
+        match self.single.get(&hash) {
+            Some(slot) => slice::from_ref(slot),
+            None => &[],
+        }
+    }
+
+    /// Puts a slot at the end of the bucket of a hash, and tells its place there.
+    pub(crate) fn push(&mut self, hash: u64, slot: u32) -> Result<u32, OutOfMemory>
+        ensures place { IfOk result (λ place. place ≡ length (bucket_at self.old hash)) }
+        ensures ok { OnOk result ((h : ℕ) → bucket_at self.new h ≡
+            (if h == hash then bucket_at self.old h ++ slot ∷ [] else bucket_at self.old h)) }
+        ensures err { OnErr result ((h : ℕ) → bucket_at self.new h ≡ bucket_at self.old h) }
+    {
+        let alloc = self.alloc;
+        if let Some(slots) = self.many.get_mut(&hash) {
+            let Ok(place) = u32::try_from(slots.len()) else {
+                return Err(OutOfMemory);
+            };
+            slots.push(slot)?;
+            return Ok(place);
+        }
+        match self.single.get(&hash) {
+            Some(first) => {
+                let slots = both(alloc, *first, slot)?;
+                self.many.insert(hash, slots)?;
+                Ok(1)
+            }
+            None => {
+                self.single.insert(hash, slot)?;
+                Ok(0)
+            }
+        }
+    }
+
+    /// Takes the slot at a place out of the bucket of a hash. The last slot takes that place, and is the result.
+    pub(crate) fn take(&mut self, hash: u64, place: usize) -> u32
+        requires { place < length (bucket_at self.old hash) }
+        ensures last { result ≡ slice_index (bucket_at self.old hash)
+            (length (bucket_at self.old hash) - 1) }
+        ensures slots { (h : ℕ) → bucket_at self.new h ≡
+            (if h == hash then swap_remove (bucket_at self.old h) place 0
+            else bucket_at self.old h) }
+    {
+        let Some(slots) = self.many.get_mut(&hash) else {
+            return self.take_single(hash);
+        };
+        let last = slots[slots.len() - 1];
+        slots.swap_remove(place);
+        if slots.is_empty() {
+            self.many.remove(&hash);
+            self.single.remove(&hash);
+        }
+        last
+    }
+
+    /// Takes the one slot out of the bucket of a hash.
+    fn take_single(&mut self, hash: u64) -> u32
+        requires one { get nat_eq self.old.many hash ≡ None }
+        requires there { bucket_at self.old hash ≢ [] }
+        ensures last { bucket_at self.old hash ≡ result ∷ [] }
+        ensures slots { (h : ℕ) → bucket_at self.new h ≡
+            (if h == hash then [] else bucket_at self.old h) }
+    {
+        match self.single.remove(&hash) {
+            Some(slot) => slot,
+            None => 0,
+        }
+    }
+
+    /// For how many hashes there is room.
+    #[cfg(test)]
+    pub(crate) fn room(&self) -> usize {
+        self.single.capacity()
+    }
+}
