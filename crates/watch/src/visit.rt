@@ -1,6 +1,6 @@
 //! Visits of clauses that watch a literal which became false.
 
-ghost use Rattle.std.specs.Prelude.{◌≡◌, ◌≢◌, ℕ, ◌+◌, ◌<◌, ◌≤◌, true, length, slice_index, Some, IsTrue, IsFalse, IsSome, IfSome, IfNone};
+ghost use Rattle.std.specs.Prelude.{◌≡◌, ◌≢◌, ℕ, ◌+◌, ◌-◌, ◌<◌, ◌≤◌, true, length, slice_index, Some, IsTrue, IsFalse, IsSome, IfSome, IfNone};
 ghost use Rattle.cnf_base.specs.Literals.{complement, has};
 ghost use Rattle.clause_db.specs.Store.Clauses.{size};
 ghost use Rattle.propagation.specs.Trail.{HasNoVariableTwice};
@@ -33,6 +33,20 @@ fn watched_place(clause: &[Lit], l: Lit) -> usize
     if clause[0] == l { 0 } else { 1 }
 }
 
+/// The other literal that the clause watches.
+#[inline(always)]
+fn other_watched(clause: &[Lit], l: Lit) -> Lit
+    requires { IsTrue (watches clause.now l) }
+    ensures long { 2 ≤ length clause.now }
+    ensures other { (from : ℕ) × (from < 2) × (slice_index clause.now from ≡ l)
+        × (result ≡ slice_index clause.now (1 - from)) }
+{
+    // Both are read, since which one it is can't be foretold.
+    let first = clause[0];
+    let second = clause[1];
+    if first == l { second } else { first }
+}
+
 /// What is to be done with a clause that watches this literal, which is false.
 pub(crate) fn look(trail: &Trail, clause: &[Lit], l: Lit) -> Visit
     requires watched { IsTrue (watches clause.now l) }
@@ -41,14 +55,14 @@ pub(crate) fn look(trail: &Trail, clause: &[Lit], l: Lit) -> Visit
     ensures visit { IsVisit trail.now.lits clause.now l result }
     ensures different { HasNoVariableTwice trail.now.lits }
 {
-    let from = watched_place(clause, l);
-    let other = clause[1 - from];
+    // Mostly the place of the literal isn't asked.
+    let other = other_watched(clause, l);
     let value = trail.value(other);
     if matches!(value, Value::True) {
         return Visit::Stays;
     }
     match trail.first_open(clause, 2) {
-        Some(to) => Visit::Moves(from, to, clause[to]),
+        Some(to) => Visit::Moves(watched_place(clause, l), to, clause[to]),
         None => match value {
             Value::False => Visit::Clash,
             _ => Visit::Unit(other),

@@ -42,5 +42,9 @@ pub(crate) fn swap_literals(entry: &mut Entry, a: usize, b: usize)
     ensures swapped { entry.new.lits.items ≡ swap entry.old.lits.items a b }
     ensures len { length entry.new.lits.items ≡ length entry.old.lits.items }
 {
-    entry.lits.as_mut_slice().swap(a, b);
+    // The slice's own `swap` asks which place is the first.
+    let lits = entry.lits.as_mut_slice();
+    let first = lits[a];
+    lits[a] = lits[b];
+    lits[b] = first;
 }

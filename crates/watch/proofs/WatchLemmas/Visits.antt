@@ -1,6 +1,5 @@
 -- What a look at a clause says of it.
 use Rattle.std.proofs.Common.{◌≡◌, ◌≢◌, ℕ, zero, suc, ◌-◌, ◌<◌, ◌≤◌, true, false, cond, List, [], ◌∷◌, length, get_or, sym, ap, ◌∙◌, arith, inl, inr}
-use Rattle.std.proofs.lemmas.Grind.{get_or_default_zero}
 use Rattle.std.proofs.lemmas.Bool.{false_from_ne_true, cases_eq, cases_lt, true≢false}
 use Rattle.cnf_base.specs.Literals.{Literal, complement, Clause, has}
 use Rattle.cnf_base.proofs.LiteralLemmas.{complement-complement}
@@ -20,11 +19,8 @@ not_false trues apart m v is ne = false_from_ne_true (has trues (complement m)) 
     let open_m : has trues m ≡ false = ap (has trues) (sym (complement-complement m)) ∙ consistent trues apart (complement m) h in
     ne (is ∙ ap (λ b. cond b True (cond (has trues (complement m)) False Open)) open_m ∙ ap (λ b. cond b False Open) h))
 
-module _ (trues : List Literal) (c : Clause) (l : Literal) (from : ℕ) (inside : from < 2) (long : 2 ≤ length c) (there : get_or c from 0 ≡ l) (m : Literal) (read : m ≡ get_or c (1 - from) m)
+module _ (trues : List Literal) (c : Clause) (l : Literal) (from : ℕ) (inside : from < 2) (long : 2 ≤ length c) (there : get_or c from 0 ≡ l) (m : Literal) (m_is : m ≡ get_or c (1 - from) 0)
     (l_false : has trues (complement l) ≡ true) (rest : (k : ℕ) → 2 ≤ k → k < length c → has trues (complement (get_or c k 0)) ≡ true) where
-  m_is : m ≡ get_or c (1 - from) 0
-  m_is = read ∙ get_or_default_zero c (1 - from) m (omega (arith, inside, long))
-
   pub others_false : (k : Literal) → has c k ≡ true → k ≢ m → has trues (complement k) ≡ true
   others_false k member other =
       let w = place_of c k member in
@@ -43,7 +39,7 @@ module _ (trues : List Literal) (c : Clause) (l : Literal) (from : ℕ) (inside 
   other_member = ap (has c) m_is ∙ has_place c (1 - from) (omega (arith, inside, long))
 
 -- the other watched literal, where it becomes true
-pub partner_made : (trues : List Literal) (c : Clause) (l : Literal) (from : ℕ) → from < 2 → 2 ≤ length c → size c ≡ length c → get_or c from 0 ≡ l → (m : Literal) → m ≡ get_or c (1 - from) m → HasPartner c l (m ∷ trues)
+pub partner_made : (trues : List Literal) (c : Clause) (l : Literal) (from : ℕ) → from < 2 → 2 ≤ length c → size c ≡ length c → get_or c from 0 ≡ l → (m : Literal) → m ≡ get_or c (1 - from) 0 → HasPartner c l (m ∷ trues)
 partner_made trues [] l from inside long different there m m_is = tt
 partner_made trues (a ∷ []) l from inside long different there m m_is = tt
 partner_made trues (a ∷ b ∷ c) l zero inside long different there m m_is =
