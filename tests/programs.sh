@@ -498,6 +498,27 @@ c steps 242 peak 402
 s VERIFIED
 LINES
 
+# cut_deletion N STATUS LINE..: the first N bytes of a proof that deletes a unit clause, by every rule that is left open
+cut_deletion() {
+    local length=$1 status=$2
+    shift 2
+    printf '%s\n' 'd 1 0' '0' | head -c "$length" > "$room/cut"
+    row "kept_unit_cut_after_$length" "$status" --pr --keep-units --strict --trace "$room/unit.cnf" "$room/cut" < <(
+        printf '%s\n' 'c formula 2 variables 3 clauses' "$@"
+    )
+}
+
+printf '%s\n' 'p cnf 2 3' '1 0' '-1 2 0' '-1 -2 0' > "$room/unit.cnf"
+cut_deletion 0 1 'c end: no empty clause' 's NOT VERIFIED'
+cut_deletion 1 2 'c proof 1:2: unterminated step' 's NOT VERIFIED'
+cut_deletion 2 2 'c proof 1:3: unterminated step' 's NOT VERIFIED'
+cut_deletion 3 2 'c proof 1:4: unterminated step' 's NOT VERIFIED'
+cut_deletion 4 2 'c proof 1:5: unterminated step' 's NOT VERIFIED'
+cut_deletion 5 1 'c 1 ignored' 'c end: no empty clause' 's NOT VERIFIED'
+cut_deletion 6 1 'c 1 ignored' 'c end: no empty clause' 's NOT VERIFIED'
+cut_deletion 7 0 'c 1 ignored' 'c 2 add rup' 'c steps 2 peak 5' 's VERIFIED'
+cut_deletion 8 0 'c 1 ignored' 'c 2 add rup' 'c steps 2 peak 5' 's VERIFIED'
+
 row rat_on_a_deleted_unit 0 --trace $x/rat_on_a_deleted_unit.cnf $x/rat_on_a_deleted_unit.drat <<'LINES'
 c formula 3 variables 5 clauses
 c 1 delete

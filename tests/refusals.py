@@ -78,6 +78,14 @@ ROWS = {
     "a clause is deleted": ("drat-forward", ["--trace"], EIGHT, b"1 2 0\n1 0\nd 1 2 0\n2 0\n0\n", EIGHT_LINES, 0),
 }
 
+# The proofs in DRAT list no set and delete no clause that a literal follows by: with the options for both they are answered
+# alike.
+ROWS |= {
+    f"{name}, by other rules": (tool, [*flags, "--pr", "--keep-units"], *inputs)
+    for name, (tool, flags, *inputs) in ROWS.items()
+    if tool == "drat-forward" and not {"--pr", "--keep-units"} & set(flags)
+}
+
 # Words that are refused.
 WRONG_WORDS = {
     "no words": [],

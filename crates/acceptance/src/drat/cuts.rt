@@ -1,8 +1,8 @@
 //! Inputs of a check of DRAT that are cut after each of their bytes, by their end or by a failed read.
 
 use crate::support::{
-    Cutting, E_BY_BINARY, E_BY_DRAT, E_BY_DRAT_TRACED, E_CLAUSES, E_DRAT, HEADER, Said,
-    UNREAD_AFTER_ONE, UNREAD_FORMULA, UNREAD_PROOF,
+    BY_OTHER_RULES, Cutting, E_BY_BINARY, E_BY_DRAT, E_BY_DRAT_TRACED, E_CLAUSES, E_DRAT, HEADER,
+    Row, Said, UNREAD_AFTER_ONE, UNREAD_FORMULA, UNREAD_PROOF,
 };
 use std::test::Fail;
 
@@ -13,6 +13,14 @@ const FORMULA: Cutting<'static> = Cutting::Formula(E_BY_DRAT);
 const PROOF: Cutting<'static> = Cutting::Second(E_BY_DRAT, SHOWN);
 
 const TRACED_PROOF: Cutting<'static> = Cutting::Second(E_BY_DRAT_TRACED, SHOWN);
+
+const PROOF_BY_OTHER_RULES: Cutting<'static> = Cutting::Second(
+    Row {
+        tool: BY_OTHER_RULES,
+        ..E_BY_DRAT
+    },
+    SHOWN,
+);
 
 const BINARY_PROOF: Cutting<'static> = Cutting::Second(E_BY_BINARY, SHOWN);
 
@@ -65,6 +73,19 @@ fn ends(rt: HostRuntime) -> Result<(), Fail> {
 fn fails(rt: HostRuntime) -> Result<(), Fail> {
     PROOF.expect_failing(&rt, rt.alloc(), 0..6, UNREAD_PROOF)?;
     PROOF.failing().expect_whole(&rt, rt.alloc(), 6)
+}
+
+#[test]
+fn ends_by_other_rules(rt: HostRuntime) -> Result<(), Fail> {
+    PROOF_BY_OTHER_RULES.expect_ends(&rt, rt.alloc(), &[&STEPS])
+}
+
+#[test]
+fn fails_by_other_rules(rt: HostRuntime) -> Result<(), Fail> {
+    PROOF_BY_OTHER_RULES.expect_failing(&rt, rt.alloc(), 0..6, UNREAD_PROOF)?;
+    PROOF_BY_OTHER_RULES
+        .failing()
+        .expect_whole(&rt, rt.alloc(), 6)
 }
 
 // The first step counts from the byte after its last word on.

@@ -1,11 +1,20 @@
 //! Writers with room for a beginning of the report of a check of DRAT.
 
 use crate::support::{
-    E_BY_BINARY, E_BY_DRAT, E_BY_DRAT_TRACED, Row, Stop, expect_enough_room, expect_too_little_room,
+    BY_OTHER_RULES, E_BY_BINARY, E_BY_DRAT, E_BY_DRAT_TRACED, Row, Stop, expect_enough_room,
+    expect_too_little_room,
 };
 use std::test::Fail;
 
-const ROWS: [Row<'static>; 3] = [E_BY_DRAT, E_BY_DRAT_TRACED, E_BY_BINARY];
+const ROWS: [Row<'static>; 4] = [
+    E_BY_DRAT,
+    E_BY_DRAT_TRACED,
+    E_BY_BINARY,
+    Row {
+        tool: BY_OTHER_RULES,
+        ..E_BY_DRAT
+    },
+];
 
 #[test]
 fn takes_none(rt: HostRuntime) -> Result<(), Fail> {

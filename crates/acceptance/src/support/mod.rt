@@ -27,9 +27,9 @@ pub use reports::{
 };
 pub use room::{expect_enough_room, expect_ten_bytes, expect_too_little_room};
 pub use rows::{
-    BINARY_KEEP_UNITS, BINARY_PR, BINARY_STRICT, BINARY_TRACED, BY_BINARY_DRAT, BY_DRAT, DRAT,
-    DRAT_KEEP_UNITS, DRAT_KEEP_UNITS_PR, DRAT_KEEP_UNITS_STRICT, DRAT_PR, DRAT_STRICT, DRAT_TRACED,
-    LRAT, LRAT_TRACED, MODEL, Row, Tool,
+    BINARY_KEEP_UNITS, BINARY_PR, BINARY_STRICT, BINARY_TRACED, BY_BINARY_DRAT, BY_DRAT,
+    BY_OTHER_RULES, DRAT, DRAT_KEEP_UNITS, DRAT_KEEP_UNITS_PR, DRAT_KEEP_UNITS_STRICT, DRAT_PR,
+    DRAT_STRICT, DRAT_TRACED, LRAT, LRAT_TRACED, MODEL, Row, Tool,
 };
 pub use search::has_model;
 pub use writers::{Stop, Writer};

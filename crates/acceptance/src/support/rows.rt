@@ -93,6 +93,13 @@ const KEEP_UNITS: DratOptions = DratOptions {
 
 pub const BY_DRAT: Tool = Tool::Drat(PLAIN);
 
+// What a proof is answered that lists no set and deletes no clause which a literal follows by, as without these rules.
+pub const BY_OTHER_RULES: Tool = Tool::Drat(DratOptions {
+    pr: true,
+    keep_units: true,
+    ..PLAIN
+});
+
 pub const BY_BINARY_DRAT: Tool = Tool::Drat(BINARY);
 
 pub const DRAT: Row<'static> = Row {
