@@ -111,7 +111,10 @@ def compare(words, programs, inputs):
             formula, proof, flags = next(source)
             for name, data in zip(files, (formula, proof)):
                 write(name, data)
-            ran = [subprocess.run([it, *flags, *files], stdin=subprocess.DEVNULL, stdout=subprocess.PIPE) for it in programs]
+            ran = [
+                subprocess.run([it, *flags, *files], stdin=subprocess.DEVNULL, stdout=subprocess.PIPE, stderr=subprocess.DEVNULL)
+                for it in programs
+            ]
             answers = [(it.returncode, it.stdout) for it in ran]
             statuses[answers[0][0]] = statuses.get(answers[0][0], 0) + 1
             if answers[0] != answers[1]:
