@@ -105,10 +105,11 @@ fn assume<P: Propagate + Drop>(mut clauses: P, few: &[Lit], many: &[Lit]) -> Res
 fn ask_root_reason<P: Propagate + Drop>(mut clauses: P, few: &[Lit]) -> Result<Told, Fault>
     requires { (P.state clauses).assumptions ≡ [] }
 {
-    for l in few {
-        clauses.insert(&[*l])?;
-        clauses.insert(&[l.neg()])?;
-    }
+    let Some(first) = few.first() else {
+        return Ok(Told::Changed);
+    };
+    clauses.insert(&[*first])?;
+    clauses.insert(&[first.neg()])?;
     clauses.insert(few)?;
     let literals = clauses.literals();
     let Some(asked) = clauses.find(few) else {
