@@ -23,7 +23,7 @@ pub struct Table<T> {
 }
 
 /// The length from which `dense` grows.
-const LEAST: usize = 64;
+const LEAST: usize = 1024;
 
 /// The key of a literal.
 pub fn key(l: Lit) -> u32
@@ -176,7 +176,7 @@ impl<T: Copy + Drop> Table<T> {
         ensures err { OnErr result ((k : ℕ) → at self.new k ≡ at self.old k) }
     {
         let len = self.dense.len();
-        let limit = self.count.saturating_mul(2).saturating_add(LEAST);
+        let limit = self.count.saturating_mul(8).saturating_add(LEAST);
         let is_near = len <= key as usize && (key as usize) < limit;
         // Keys that fell from high to low would else stay in the sparse part.
         let is_short = len > 0 && len < self.count;

@@ -1,5 +1,5 @@
 -- What visits of clauses do.
-use Rattle.std.specs.Prelude.{◌≡◌, ◌≢◌, ℕ, ◌<◌, ◌≤◌, ◌==◌, ◌∷◌, List, [], Option, length, slice_index, if◌then◌else◌, IsTrue, IsFalse, IsSome}
+use Rattle.std.specs.Prelude.{◌≡◌, ◌≢◌, ℕ, ◌<◌, ◌≤◌, ◌==◌, List, [], Option, length, slice_index, if◌then◌else◌, IsTrue, IsFalse, IsSome}
 use Rattle.std.specs.Ordering.{nat_cmp}
 use Rattle.std.specs.FinMap as maps
 use Rattle.std.specs.FinMap.{FinMap}
@@ -11,7 +11,8 @@ use Rattle.propagation.specs.Exact.{Extends}
 use Rattle.watch.specs.Lists.{AreApart, list_at}
 use Rattle.watch.specs.Order.{each_in_order}
 use Rattle.watch.specs.Roots.{AreReasoned}
-use Rattle.watch.specs.Watched.{HasPartner, IsWatched, short_for}
+use Rattle.watch.specs.Watched.{IsWatched, short_for}
+use Rattle.watch.specs.declared.lists.Watcher.{Watcher}
 use Rattle.watch.specs.declared.lists.WatchLists.{WatchLists}
 use Rattle.watch.specs.declared.visit.Visit.{Visit}
 use Rattle.watch.specs.declared.visit.Visit.TheVariants.{Stays, Moves, Unit, Clash}
@@ -22,12 +23,13 @@ IsPart part whole = (l : Literal) → IsTrue (has part l) → IsTrue (has whole 
 
 -- what is to be done with a clause that watches a literal which became false
 abbrev pub IsVisit : List Literal → Clause → Literal → Visit → Type 0
-IsVisit trues c l Stays = HasPartner c l trues
-IsVisit trues c l (Moves from to m) =
-    (from < 2) × (slice_index c from ≡ l) × (2 ≤ to) × (to < length c)
-    × (slice_index c to ≡ m) × IsFalse (has trues (complement m))
+IsVisit trues c l (Stays other) = IsTrue (has c other) × IsTrue (has trues other)
+IsVisit trues c l (Moves x) =
+    (x.from < 2) × (slice_index c x.from ≡ l) × (2 ≤ x.to) × (x.to < length c)
+    × (slice_index c x.to ≡ x.next) × IsFalse (has trues (complement x.next))
+    × IsTrue (has c x.other)
 IsVisit trues c l (Unit m) =
-    IsTrue (has c m) × IsFalse (has trues (complement m)) × HasPartner c l (m ∷ trues)
+    IsTrue (has c m) × IsFalse (has trues (complement m))
     × ((k : Literal) → IsTrue (has c k) → k ≢ m → IsTrue (has trues (complement k)))
 IsVisit trues c l Clash = (k : Literal) → IsTrue (has c k) → IsTrue (has trues (complement k))
 
@@ -53,5 +55,5 @@ pub record IsInHand (lists : WatchLists) (l : Literal) : Type 0 where
   pub apart : AreApart lists
 
 -- the lists with the one that is in hand
-abbrev pub with_list : WatchLists → Literal → List ℕ → Literal → List ℕ
+abbrev pub with_list : WatchLists → Literal → List Watcher → Literal → List Watcher
 with_list lists l list k = if k == l then list else list_at lists k

@@ -5,9 +5,10 @@ use Rattle.std.specs.FinMap.{FinMap}
 use Rattle.cnf_base.specs.Literals.{Literal, complement, Clause, has}
 use Rattle.propagation.specs.Forced.{Live}
 use Rattle.propagation.specs.Assumptions.{Assumption}
-use Rattle.watch.specs.Lists.{times_in}
+use Rattle.watch.specs.Lists.{entries_of, strangers, times_in}
 use Rattle.clause_db.specs.Store.Clauses.{size, sum_over}
 use Rattle.propagation.specs.declared.answer.Answer.TheVariants.{Quiet}
+use Rattle.watch.specs.declared.lists.Watcher.{Watcher}
 
 -- whether a clause watches a literal
 abbrev pub watches : Clause → Literal → Bool
@@ -40,10 +41,11 @@ abbrev pub short_for : Option Clause → ℕ
 short_for None = 0
 short_for (Some c) = if is_short c then 1 else 0
 
--- a slot stands once in the lists of the two literals that its clause watches, and nowhere else
-pub record IsListed (live : Live) (list_of : Literal → List ℕ) : Type 0 where
-  pub watched : (l s : ℕ) → times_in s (list_of l) ≡ entries_for (live s) l
+-- a slot stands once in the lists of the two literals that its clause watches, and nowhere else, each time with a literal of it
+pub record IsListed (live : Live) (list_of : Literal → List Watcher) : Type 0 where
+  pub watched : (l s : ℕ) → entries_of s (list_of l) ≡ entries_for (live s) l
   pub low : (s : ℕ) → IsSome (live s) → s < 4294967296
+  pub own : (l s : ℕ) (c : Clause) → live s ≡ Some c → strangers s c (list_of l) ≡ 0
 
 -- a slot of a short clause stands once in this list, and nothing else does
 pub record IsShortList (live : Live) (short : List ℕ) : Type 0 where
@@ -51,11 +53,9 @@ pub record IsShortList (live : Live) (short : List ℕ) : Type 0 where
 
 -- ---- Where literals are false
 
--- if the clause watches the literal, then its other watched literal is true
-abbrev pub HasPartner : Clause → Literal → List Literal → Type 0
-HasPartner [] l trues = ⊤
-HasPartner (a ∷ []) l trues = ⊤
-HasPartner (a ∷ b ∷ c) l trues = (a ≡ l → IsTrue (has trues b)) × (b ≡ l → IsTrue (has trues a))
+-- if the clause watches the literal, then a literal of it is true
+abbrev pub IsMet : Clause → Literal → List Literal → Type 0
+IsMet c l trues = IsTrue (watches c l) → (m : Literal) × IsTrue (has c m) × IsTrue (has trues m)
 
 -- a short clause has its literal, and it is true
 abbrev pub HasUnit : Clause → List Literal → Type 0
@@ -63,10 +63,10 @@ HasUnit [] trues = ⊥
 HasUnit (a ∷ []) trues = IsTrue (has trues a)
 HasUnit (a ∷ b ∷ c) trues = ⊤
 
--- where a watched literal is false by the first list, the other watched literal is true by the second
+-- where a watched literal is false by the first list, a literal of the clause is true by the second
 pub record IsWatched (live : Live) (done trues : List Literal) : Type 0 where
   pub each : (s : ℕ) (c : Clause) → live s ≡ Some c →
-      (l : Literal) → IsTrue (has done (complement l)) → HasPartner c l trues
+      (l : Literal) → IsTrue (has done (complement l)) → IsMet c l trues
 
 -- so it is after each assumption that was quiet, where `starts` says how many literals were true before it
 abbrev pub AreWatched : Live → List Literal → List Assumption → List ℕ → Type 0

@@ -1,10 +1,10 @@
 //! The entries of one clause in the lists.
 
-ghost use Rattle.std.specs.Prelude.{◌≡◌, ◌≢◌, ℕ, ◌+◌, ◌<◌, ◌==◌, ◌&&◌, Some, length, if◌then◌else◌, IsTrue, IsFalse, IsSome, OnOk, OnErr};
+ghost use Rattle.std.specs.Prelude.{◌≡◌, ◌≢◌, ℕ, ◌+◌, ◌<◌, ◌≤◌, ◌==◌, ◌&&◌, Some, length, if◌then◌else◌, IsTrue, IsFalse, IsSome, OnOk, OnErr};
 ghost use Rattle.std.specs.FinMap as maps;
 ghost use Rattle.cnf_base.specs.Literals.{Clause, has};
 ghost use Rattle.clause_db.specs.Store.Clauses.{size};
-ghost use Rattle.watch.specs.Lists.{AreApart, entries_in, list_at, times_in};
+ghost use Rattle.watch.specs.Lists.{AreApart, entries_in, entries_of, list_at, strangers, times_in};
 ghost use Rattle.watch.specs.Watched.{IsListed, IsShortList, is_short, watches};
 
 use crate::lists::WatchLists;
@@ -23,8 +23,11 @@ pub(crate) fn add_entries(
     requires apart { AreApart lists.old }
     requires absent { IsFalse (has short.old slot) }
     ensures watched { OnOk result ((c : Clause) → maps.get store.now.live slot ≡ Some c →
-        (l s : ℕ) → times_in s (list_at lists.new l) ≡ times_in s (list_at lists.old l)
+        (l s : ℕ) → entries_of s (list_at lists.new l) ≡ entries_of s (list_at lists.old l)
         + (if watches c l && s == slot then 1 else 0)) }
+    ensures strangers { (c : Clause) → maps.get store.now.live slot ≡ Some c →
+        (l s : ℕ) (d : Clause) → (s ≡ slot → d ≡ c) →
+        strangers s d (list_at lists.new l) ≤ strangers s d (list_at lists.old l) }
     ensures rest { OnOk result ((c : Clause) → maps.get store.now.live slot ≡ Some c →
         (s : ℕ) → times_in s short.new ≡ times_in s short.old
         + (if is_short c && s == slot then 1 else 0)) }
@@ -33,8 +36,8 @@ pub(crate) fn add_entries(
     ensures longer { OnOk result ((c : Clause) → maps.get store.now.live slot ≡ Some c →
         length short.new ≡ length short.old + (if is_short c then 1 else 0)) }
     ensures low { OnOk result (slot < 4294967296) }
-    ensures err_watched { OnErr result ((l s : ℕ) → times_in s (list_at lists.new l) ≡
-        times_in s (list_at lists.old l)) }
+    ensures err_watched { OnErr result ((l s : ℕ) → entries_of s (list_at lists.new l) ≡
+        entries_of s (list_at lists.old l)) }
     ensures err_entries { OnErr result (entries_in lists.new ≡ entries_in lists.old) }
     ensures err_rest { OnErr result (short.new ≡ short.old) }
     ensures different { OnOk result ((c : Clause) → maps.get store.now.live slot ≡ Some c →
@@ -64,8 +67,10 @@ pub(crate) fn remove_entries(
     requires listed { IsListed (maps.get store.now.live) (list_at lists.old) }
     requires rest { IsShortList (maps.get store.now.live) short.old }
     ensures watched { (c : Clause) → maps.get store.now.live slot ≡ Some c →
-        (l s : ℕ) → times_in s (list_at lists.new l)
-        + (if watches c l && s == slot then 1 else 0) ≡ times_in s (list_at lists.old l) }
+        (l s : ℕ) → entries_of s (list_at lists.new l)
+        + (if watches c l && s == slot then 1 else 0) ≡ entries_of s (list_at lists.old l) }
+    ensures strangers { (l s : ℕ) (d : Clause) →
+        strangers s d (list_at lists.new l) ≤ strangers s d (list_at lists.old l) }
     ensures rest { (c : Clause) → maps.get store.now.live slot ≡ Some c →
         (s : ℕ) → times_in s short.new + (if is_short c && s == slot then 1 else 0) ≡
         times_in s short.old }

@@ -1,53 +1,52 @@
 //! The watch list of a literal that became false.
 
 ghost use Rattle.std.specs.Prelude.{◌≡◌, ◌≢◌, ℕ, ◌+◌, ◌<◌, ◌≤◌, length, slice_index, take, Some, IsTrue, IsFalse, IsSome, IfOk, OnOk, OnErr, IfSome, IfNone};
-ghost use Rattle.std.specs.List.{swap, swap_remove};
+ghost use Rattle.std.specs.List.{swap};
 ghost use Rattle.std.specs.FinMap as maps;
 ghost use Rattle.cnf_base.specs.Literals.{Clause, complement, has};
 ghost use Rattle.clause_db.specs.Store.Clauses.{size};
 ghost use Rattle.propagation.specs.Trail.{HasRoomForAll, conflicts};
-ghost use Rattle.watch.specs.Lists.{AreApart, entries_in, list_at};
+ghost use Rattle.watch.specs.Lists.{AreApart, entries_in, entries_of, list_at, slot_at, strangers};
 ghost use Rattle.watch.specs.Order.{each_in_order};
-ghost use Rattle.watch.specs.Watched.{HasPartner, IsListed, IsWatched, watches};
+ghost use Rattle.watch.specs.Watched.{IsListed, IsMet, IsWatched, watches};
 ghost use Rattle.watch.specs.Roots.{AreNoted, IsFalseAt};
 ghost use Rattle.watch.specs.Visits.{Carries, IsInHand, with_list};
 ghost use Rattle.tables.specs.Table.{at};
 ghost use Rattle.watch.specs.declared.follow.Next.TheVariants.{Further, Here, Nothing};
 
-use crate::lists::WatchLists;
+use crate::lists::{WatchLists, Watcher};
 use crate::roots::set_by;
-use crate::visit::{Visit, look};
+use crate::visit::{Exchange, Visit, look};
 use clause_db::{Slot, Store};
 use cnf_base::{Lit, OutOfMemory};
 use propagation::Assumptions;
 use tables::Table;
 
-/// Lets the clause of a slot watch the literal `m` at the place `to` instead of `l`, whose list is in hand and loses the slot.
+/// Lets the clause of an entry watch another literal instead of `l`, whose list is in hand and loses the entry.
 #[inline(always)]
 fn move_watch(
     store: &mut Store,
     lists: &mut WatchLists,
-    list: &mut Vec<u32>,
+    list: &mut Vec<Watcher>,
     place: usize,
     l: Lit,
-    from: usize,
-    to: usize,
-    m: Lit,
+    exchange: Exchange,
 ) -> Result<(), OutOfMemory>
     requires inside { place < length list.old.items }
     requires hand { IsInHand lists.old l }
     requires listed { IsListed (maps.get store.old.live) (with_list lists.old l list.old.items) }
     requires clause { (c : Clause) ×
-        (maps.get store.old.live (slice_index list.old.items place) ≡ Some c)
-        × (size c ≡ length c) × (slice_index c from ≡ l) × (to < length c)
-        × (slice_index c to ≡ m) }
-    requires from { from < 2 }
-    requires to { 2 ≤ to }
+        (maps.get store.old.live (slot_at list.old.items place) ≡ Some c)
+        × (size c ≡ length c) × (slice_index c exchange.from ≡ l) × (exchange.to < length c)
+        × (slice_index c exchange.to ≡ exchange.next) × IsTrue (has c exchange.other) }
+    requires from { exchange.from < 2 }
+    requires to { 2 ≤ exchange.to }
     ensures moved { OnOk result ((c : Clause) →
-        maps.get store.old.live (slice_index list.old.items place) ≡ Some c →
-        store.new.live ≡ maps.insert store.old.live (slice_index list.old.items place)
-        (swap c from to)) }
-    ensures taken { OnOk result (list.new.items ≡ swap_remove list.old.items place 0) }
+        maps.get store.old.live (slot_at list.old.items place) ≡ Some c →
+        store.new.live ≡ maps.insert store.old.live (slot_at list.old.items place)
+        (swap c exchange.from exchange.to)) }
+    ensures shorter { OnOk result (length list.new.items + 1 ≡ length list.old.items) }
+    ensures front { take place list.new.items ≡ take place list.old.items }
     ensures err_live { OnErr result (store.new.live ≡ store.old.live) }
     ensures err_list { OnErr result (list.new.items ≡ list.old.items) }
     ensures hand { IsInHand lists.new l }
@@ -55,17 +54,21 @@ fn move_watch(
     ensures entries { entries_in lists.new + length list.new.items ≡
         entries_in lists.old + length list.old.items }
 {
-    let slot = list[place];
+    let slot = list[place].slot;
     let at = Slot::at(slot as usize);
     // Before anything else is written, what was read of the clause need not be read again.
-    store.swap(at, from, to);
-    match lists.push(m, slot) {
+    store.swap(at, exchange.from, exchange.to);
+    let watcher = Watcher {
+        slot,
+        blocking: exchange.other,
+    };
+    match lists.push(exchange.next, watcher) {
         Ok(()) => {
             list.swap_remove(place);
             Ok(())
         }
         Err(refused) => {
-            store.swap(at, to, from);
+            store.swap(at, exchange.to, exchange.from);
             Err(refused)
         }
     }
@@ -76,19 +79,19 @@ fn move_watch(
 enum Next {
     /// The place after it.
     Further,
-    /// The same place, at which another slot stands.
+    /// The same place, at which another entry stands.
     Here,
     /// Nothing: all literals of the clause in this slot are false.
     Nothing(u32),
 }
 
-/// Visits the clause of a slot in the list of a literal that became false.
+/// Visits the clause of an entry in the list of a literal that became false, if it is not known to have a true literal.
 fn visit(
     store: &mut Store,
     lists: &mut WatchLists,
     assumptions: &mut Assumptions,
     reasons: &mut Table<u32>,
-    list: &mut Vec<u32>,
+    list: &mut Vec<Watcher>,
     place: usize,
     l: Lit,
 ) -> Result<Next, OutOfMemory>
@@ -99,16 +102,19 @@ fn visit(
     requires room { HasRoomForAll assumptions.old.trail.met
         (maps.get (each_in_order store.old.live)) }
     requires noted { AreNoted (maps.get (each_in_order store.old.live)) (at reasons.old) }
-    ensures further { IfOk result (λ n. n ≡ Further → list.new.items ≡ list.old.items) }
+    ensures further { IfOk result (λ n. n ≡ Further →
+        length list.new.items ≡ length list.old.items) }
+    ensures same_slot { IfOk result (λ n. n ≡ Further →
+        slot_at list.new.items place ≡ slot_at list.old.items place) }
     ensures partner { IfOk result (λ n. n ≡ Further → (c : Clause) →
-        maps.get store.new.live (slice_index list.old.items place) ≡ Some c →
-        HasPartner c l assumptions.new.trail.lits) }
+        maps.get store.new.live (slot_at list.old.items place) ≡ Some c →
+        IsMet c l assumptions.new.trail.lits) }
     ensures shorter { IfOk result (λ n. n ≡ Here →
         length list.new.items + 1 ≡ length list.old.items) }
     ensures clash { IfOk result (λ n. (s : ℕ) → n ≡ Nothing s →
         IsFalseAt (maps.get (each_in_order store.new.live)) s assumptions.new.trail.lits) }
     ensures front { take place list.new.items ≡ take place list.old.items }
-    ensures others { (s : ℕ) → s ≢ slice_index list.old.items place →
+    ensures others { (s : ℕ) → s ≢ slot_at list.old.items place →
         maps.get store.new.live s ≡ maps.get store.old.live s }
     ensures hand { IsInHand lists.new l }
     ensures listed { IsListed (maps.get store.new.live) (with_list lists.new l list.new.items) }
@@ -117,12 +123,18 @@ fn visit(
     ensures carries { Carries store.old.live store.new.live assumptions.old assumptions.new
         (at reasons.old) (at reasons.new) }
 {
-    let slot = list[place];
+    if assumptions.trail().is_true(list[place].blocking) {
+        return Ok(Next::Further);
+    }
+    let slot = list[place].slot;
     let at = Slot::at(slot as usize);
     match look(assumptions.trail(), store.clause(at), l) {
-        Visit::Stays => Ok(Next::Further),
-        Visit::Moves(from, to, m) => {
-            move_watch(store, lists, list, place, l, from, to, m)?;
+        Visit::Stays(blocking) => {
+            list[place] = Watcher { slot, blocking };
+            Ok(Next::Further)
+        }
+        Visit::Moves(exchange) => {
+            move_watch(store, lists, list, place, l, exchange)?;
             Ok(Next::Here)
         }
         Visit::Unit(m) => {
@@ -139,7 +151,7 @@ fn visit_all(
     lists: &mut WatchLists,
     assumptions: &mut Assumptions,
     reasons: &mut Table<u32>,
-    list: &mut Vec<u32>,
+    list: &mut Vec<Watcher>,
     l: Lit,
 ) -> Result<Option<u32>, OutOfMemory>
     requires hand { IsInHand lists.old l }
@@ -151,7 +163,7 @@ fn visit_all(
     ensures clash { IfOk result (λ found. IfSome found (λ s.
         IsFalseAt (maps.get (each_in_order store.new.live)) s assumptions.new.trail.lits)) }
     ensures partners { IfOk result (λ found. IfNone found ((s : ℕ) (c : Clause) →
-        maps.get store.new.live s ≡ Some c → HasPartner c l assumptions.new.trail.lits)) }
+        maps.get store.new.live s ≡ Some c → IsMet c l assumptions.new.trail.lits)) }
     ensures hand { IsInHand lists.new l }
     ensures listed { IsListed (maps.get store.new.live) (with_list lists.new l list.new.items) }
     ensures entries { entries_in lists.new + length list.new.items ≡
@@ -187,7 +199,7 @@ fn follow(
     ensures clash { IfOk result (λ found. IfSome found (λ s.
         IsFalseAt (maps.get (each_in_order store.new.live)) s assumptions.new.trail.lits)) }
     ensures partners { IfOk result (λ found. IfNone found ((s : ℕ) (c : Clause) →
-        maps.get store.new.live s ≡ Some c → HasPartner c l assumptions.new.trail.lits)) }
+        maps.get store.new.live s ≡ Some c → IsMet c l assumptions.new.trail.lits)) }
     ensures apart { AreApart lists.new }
     ensures listed { IsListed (maps.get store.new.live) (list_at lists.new) }
     ensures entries { entries_in lists.new ≡ entries_in lists.old }

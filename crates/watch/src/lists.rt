@@ -1,64 +1,71 @@
 //! Watch lists: by literal the slots of the clauses that watch it.
 
-ghost use Rattle.std.specs.Prelude.{◌≡◌, ℕ, ◌+◌, ◌==◌, ◌&&◌, ◌++◌, ◌∷◌, [], length, min, if◌then◌else◌, IsSome, IsTrue, IfOk, OnOk, OnErr, Some, take, true, false, slice_index, ◌≢◌, ◌<◌, ◌≤◌};
-ghost use Rattle.cnf_base.specs.Literals.{Literal};
+ghost use Rattle.std.specs.Prelude.{◌≡◌, ℕ, ◌+◌, ◌==◌, ◌&&◌, ◌++◌, ◌∷◌, [], length, min, if◌then◌else◌, IsSome, IsTrue, IfOk, OnOk, OnErr, Some, take, true, false, ◌≢◌, ◌<◌, ◌≤◌};
+ghost use Rattle.cnf_base.specs.Literals.{Literal, Clause, has};
 ghost use Rattle.tables.specs.Table.{at};
-ghost use Rattle.watch.specs.Lists.{AreApart, entries_in, list_at, times_in};
+ghost use Rattle.watch.specs.Lists.{AreApart, entries_in, entries_of, list_at, slot_at, strangers};
 
 use cnf_base::{Lit, OutOfMemory};
 use std::alloc::Global;
 use std::mem;
 use tables::{Table, key};
 
-/// By literal a list of slots. Slots have four bytes: a list of them is what a propagation reads most.
+/// An entry of a watch list: the slot of a clause, and a literal of it. Where that is true, the clause need not be looked at.
+#[derive(Clone, Copy)]
+pub(crate) struct Watcher {
+    pub(crate) slot: u32,
+    pub(crate) blocking: Lit,
+}
+
+/// By literal a list of entries, each of eight bytes: the lists are what a propagation reads most.
 #[derive(Drop)]
 pub(crate) struct WatchLists {
     alloc: Global,
     /// By literal the number of its list.
     numbers: Table<u32>,
-    lists: Vec<Vec<u32>>,
+    lists: Vec<Vec<Watcher>>,
 }
 
-/// How many slots are looked at without a branch, by a processor's wide registers, where a list is long.
+/// How many entries are looked at without a branch, by a processor's wide registers, where a list is long.
 const MANY_AT_ONCE: usize = 64;
 
 /// How many are, where fewer are left.
 const FEW_AT_ONCE: usize = 16;
 
-/// Whether a slot stands nowhere among these.
-fn lacks(slots: &[u32], slot: u32) -> bool
-    ensures { IsTrue result → times_in slot slots.now ≡ 0 }
+/// Whether none of these entries is of the slot.
+fn lacks(list: &[Watcher], slot: u32) -> bool
+    ensures { IsTrue result → entries_of slot list.now ≡ 0 }
 {
     let mut is_absent = true;
-    for place in 0..slots.len() {
-        is_absent &= slots[place] != slot;
+    for place in 0..list.len() {
+        is_absent &= list[place].slot != slot;
     }
     is_absent
 }
 
-/// The place of a slot in a list in which it stands, from this place on.
-fn place_from(list: &[u32], slot: u32, from: usize) -> usize
-    requires there { 0 < times_in slot list.now }
-    requires absent { times_in slot (take from list.now) ≡ 0 }
+/// The place of the entry of a slot in a list that has one, from this place on.
+fn place_from(list: &[Watcher], slot: u32, from: usize) -> usize
+    requires there { 0 < entries_of slot list.now }
+    requires absent { entries_of slot (take from list.now) ≡ 0 }
     ensures inside { result < length list.now }
-    ensures there { slice_index list.now result ≡ slot }
+    ensures there { slot_at list.now result ≡ slot }
 {
     for place in from..list.len() {
-        if list[place] == slot {
+        if list[place].slot == slot {
             return place;
         }
     }
     0
 }
 
-/// Goes over as many slots at once as long as this slot is not among them, from this place on.
+/// Goes over as many entries at once as long as none is of the slot, from this place on.
 #[inline(always)]
-fn pass_over(list: &[u32], slot: u32, from: usize, at_once: usize) -> usize
+fn pass_over(list: &[Watcher], slot: u32, from: usize, at_once: usize) -> usize
     requires some { 0 < at_once }
     requires inside { from ≤ length list.now }
-    requires absent { times_in slot (take from list.now) ≡ 0 }
+    requires absent { entries_of slot (take from list.now) ≡ 0 }
     ensures inside { result ≤ length list.now }
-    ensures absent { times_in slot (take result list.now) ≡ 0 }
+    ensures absent { entries_of slot (take result list.now) ≡ 0 }
 {
     let mut place = from;
     while list.len() - place >= at_once && lacks(&list[place..place + at_once], slot) {
@@ -67,22 +74,24 @@ fn pass_over(list: &[u32], slot: u32, from: usize, at_once: usize) -> usize
     place
 }
 
-/// The place of a slot in a list in which it stands.
-fn place_in(list: &[u32], slot: u32) -> usize
-    requires { 0 < times_in slot list.now }
+/// The place of the entry of a slot in a list that has one.
+fn place_in(list: &[Watcher], slot: u32) -> usize
+    requires { 0 < entries_of slot list.now }
     ensures inside { result < length list.now }
-    ensures there { slice_index list.now result ≡ slot }
+    ensures there { slot_at list.now result ≡ slot }
 {
     let far = pass_over(list, slot, 0, MANY_AT_ONCE);
     let near = pass_over(list, slot, far, FEW_AT_ONCE);
     place_from(list, slot, near)
 }
 
-/// Takes a slot out of a list in which it stands.
-fn take_off(list: &mut Vec<u32>, slot: u32)
-    requires { 0 < times_in slot list.old.items }
-    ensures times { (s : ℕ) → times_in s list.new.items + (if s == slot then 1 else 0) ≡
-        times_in s list.old.items }
+/// Takes the entry of a slot out of a list that has one.
+fn take_off(list: &mut Vec<Watcher>, slot: u32)
+    requires { 0 < entries_of slot list.old.items }
+    ensures times { (s : ℕ) → entries_of s list.new.items + (if s == slot then 1 else 0) ≡
+        entries_of s list.old.items }
+    ensures strangers { (s : ℕ) (c : Clause) →
+        strangers s c list.new.items ≤ strangers s c list.old.items }
     ensures len { length list.new.items + 1 ≡ length list.old.items }
 {
     let place = place_in(list, slot);
@@ -140,10 +149,10 @@ impl WatchLists {
     /// The same as `push`, where the literal has no list yet, or a full one.
     #[cold]
     #[inline(never)]
-    fn push_anew(&mut self, l: Lit, slot: u32) -> Result<(), OutOfMemory>
+    fn push_anew(&mut self, l: Lit, watcher: Watcher) -> Result<(), OutOfMemory>
         requires { AreApart self.old }
         ensures ok { OnOk result ((k : Literal) → list_at self.new k ≡
-            (if k == l then list_at self.old k ++ slot ∷ [] else list_at self.old k)) }
+            (if k == l then list_at self.old k ++ watcher ∷ [] else list_at self.old k)) }
         ensures more { OnOk result (entries_in self.new ≡ entries_in self.old + 1) }
         ensures err { OnErr result ((k : Literal) → list_at self.new k ≡ list_at self.old k) }
         ensures as_many { OnErr result (entries_in self.new ≡ entries_in self.old) }
@@ -152,16 +161,16 @@ impl WatchLists {
         ensures apart { AreApart self.new }
     {
         let number = self.number_for(l)?;
-        self.lists[number].push(slot)?;
+        self.lists[number].push(watcher)?;
         Ok(())
     }
 
-    /// Puts a slot at the end of the list of a literal.
+    /// Puts an entry at the end of the list of a literal.
     #[inline(always)]
-    pub(crate) fn push(&mut self, l: Lit, slot: u32) -> Result<(), OutOfMemory>
+    pub(crate) fn push(&mut self, l: Lit, watcher: Watcher) -> Result<(), OutOfMemory>
         requires { AreApart self.old }
         ensures ok { OnOk result ((k : Literal) → list_at self.new k ≡
-            (if k == l then list_at self.old k ++ slot ∷ [] else list_at self.old k)) }
+            (if k == l then list_at self.old k ++ watcher ∷ [] else list_at self.old k)) }
         ensures more { OnOk result (entries_in self.new ≡ entries_in self.old + 1) }
         ensures err { OnErr result ((k : Literal) → list_at self.new k ≡ list_at self.old k) }
         ensures as_many { OnErr result (entries_in self.new ≡ entries_in self.old) }
@@ -172,11 +181,11 @@ impl WatchLists {
         if let Some(number) = self.numbers.get(key(l)) {
             let list = &mut self.lists[number as usize];
             if list.len() < list.capacity() {
-                list.push_reserved(slot);
+                list.push_reserved(watcher);
                 return Ok(());
             }
         }
-        self.push_anew(l, slot)
+        self.push_anew(l, watcher)
     }
 
     /// Whether the literal has a list.
@@ -188,7 +197,7 @@ impl WatchLists {
     }
 
     /// Takes the list of a literal out, and leaves an empty one in its place.
-    pub(crate) fn take_out(&mut self, l: Lit) -> Vec<u32>
+    pub(crate) fn take_out(&mut self, l: Lit) -> Vec<Watcher>
         requires apart { AreApart self.old }
         requires known { IsSome (at self.old.numbers l) }
         ensures list { result.items ≡ list_at self.old l }
@@ -206,7 +215,7 @@ impl WatchLists {
     }
 
     /// Puts a list in the place of the empty one of a literal.
-    pub(crate) fn put_back(&mut self, l: Lit, list: Vec<u32>)
+    pub(crate) fn put_back(&mut self, l: Lit, list: Vec<Watcher>)
         requires apart { AreApart self.old }
         requires known { IsSome (at self.old.numbers l) }
         requires taken { list_at self.old l ≡ [] }
@@ -221,13 +230,15 @@ impl WatchLists {
         }
     }
 
-    /// Takes a slot out of the list of a literal in which it stands. It takes no memory.
+    /// Takes the entry of a slot out of the list of a literal, which has one. It takes no memory.
     pub(crate) fn take_off(&mut self, l: Lit, slot: u32)
         requires apart { AreApart self.old }
-        requires there { 0 < times_in slot (list_at self.old l) }
+        requires there { 0 < entries_of slot (list_at self.old l) }
         ensures others { (k : Literal) → k ≢ l → list_at self.new k ≡ list_at self.old k }
-        ensures times { (s : ℕ) → times_in s (list_at self.new l) + (if s == slot then 1 else 0) ≡
-            times_in s (list_at self.old l) }
+        ensures times { (s : ℕ) → entries_of s (list_at self.new l) +
+            (if s == slot then 1 else 0) ≡ entries_of s (list_at self.old l) }
+        ensures strangers { (k s : ℕ) (c : Clause) →
+            strangers s c (list_at self.new k) ≤ strangers s c (list_at self.old k) }
         ensures entries { entries_in self.new + 1 ≡ entries_in self.old }
         ensures apart { AreApart self.new }
     {
@@ -236,20 +247,31 @@ impl WatchLists {
         }
     }
 
-    /// Puts a slot into the lists of two literals, or into none where memory is refused.
+    /// Puts the slot of a clause into the lists of two literals of it, or into none where memory is refused.
     pub(crate) fn watch(&mut self, first: Lit, second: Lit, slot: u32) -> Result<(), OutOfMemory>
         requires { AreApart self.old }
-        ensures ok { OnOk result ((k s : ℕ) → times_in s (list_at self.new k) ≡
-            times_in s (list_at self.old k) + (if k == first && s == slot then 1 else 0)
+        ensures ok { OnOk result ((k s : ℕ) → entries_of s (list_at self.new k) ≡
+            entries_of s (list_at self.old k) + (if k == first && s == slot then 1 else 0)
             + (if k == second && s == slot then 1 else 0)) }
+        ensures strangers { (k s : ℕ) (c : Clause) →
+            (s ≡ slot → IsTrue (has c first) × IsTrue (has c second)) →
+            strangers s c (list_at self.new k) ≤ strangers s c (list_at self.old k) }
         ensures more { OnOk result (entries_in self.new ≡ entries_in self.old + 2) }
-        ensures err { OnErr result ((k s : ℕ) → times_in s (list_at self.new k) ≡
-            times_in s (list_at self.old k)) }
+        ensures err { OnErr result ((k s : ℕ) → entries_of s (list_at self.new k) ≡
+            entries_of s (list_at self.old k)) }
         ensures as_many { OnErr result (entries_in self.new ≡ entries_in self.old) }
         ensures apart { AreApart self.new }
     {
-        self.push(first, slot)?;
-        if self.push(second, slot).is_err() {
+        let watcher = Watcher {
+            slot,
+            blocking: second,
+        };
+        self.push(first, watcher)?;
+        let watcher = Watcher {
+            slot,
+            blocking: first,
+        };
+        if self.push(second, watcher).is_err() {
             self.take_off(first, slot);
             return Err(OutOfMemory);
         }

@@ -1,6 +1,6 @@
 //! Visits of clauses that watch a literal which became false.
 
-ghost use Rattle.std.specs.Prelude.{◌≡◌, ◌≢◌, ℕ, ◌+◌, ◌-◌, ◌<◌, ◌≤◌, true, length, slice_index, Some, IsTrue, IsFalse, IsSome, IfSome, IfNone};
+ghost use Rattle.std.specs.Prelude.{◌≡◌, ℕ, ◌-◌, ◌<◌, ◌≤◌, length, slice_index, IsTrue};
 ghost use Rattle.cnf_base.specs.Literals.{complement, has};
 ghost use Rattle.clause_db.specs.Store.Clauses.{size};
 ghost use Rattle.propagation.specs.Trail.{HasNoVariableTwice};
@@ -10,13 +10,25 @@ ghost use Rattle.watch.specs.Visits.{IsVisit};
 use cnf_base::Lit;
 use propagation::{Trail, Value};
 
+/// Two literals of a clause that take each other's place, so that another one is watched.
+#[derive(Clone, Copy)]
+pub(crate) struct Exchange {
+    /// The place of the watched literal that became false.
+    pub(crate) from: usize,
+    pub(crate) to: usize,
+    /// The literal at `to`, which isn't false.
+    pub(crate) next: Lit,
+    /// The other watched literal.
+    pub(crate) other: Lit,
+}
+
 /// What is to be done with a clause that watches a literal which became false.
 #[derive(Clone, Copy)]
 pub(crate) enum Visit {
-    /// Nothing: the other watched literal is true.
-    Stays,
-    /// The watched literal at the first place gives it up to the literal at the second, which is this and not false.
-    Moves(usize, usize, Lit),
+    /// Nothing: the other watched literal, which is this, is true.
+    Stays(Lit),
+    /// It watches another literal.
+    Moves(Exchange),
     /// All its other literals are false.
     Unit(Lit),
     /// All its literals are false.
@@ -59,10 +71,15 @@ pub(crate) fn look(trail: &Trail, clause: &[Lit], l: Lit) -> Visit
     let other = other_watched(clause, l);
     let value = trail.value(other);
     if matches!(value, Value::True) {
-        return Visit::Stays;
+        return Visit::Stays(other);
     }
     match trail.first_open(clause, 2) {
-        Some(to) => Visit::Moves(watched_place(clause, l), to, clause[to]),
+        Some(to) => Visit::Moves(Exchange {
+            from: watched_place(clause, l),
+            to,
+            next: clause[to],
+            other,
+        }),
         None => match value {
             Value::False => Visit::Clash,
             _ => Visit::Unit(other),

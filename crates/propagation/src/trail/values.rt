@@ -20,7 +20,7 @@ pub(crate) struct Values {
 }
 
 /// The length from which `dense` grows.
-const LEAST: usize = 128;
+const LEAST: usize = 2048;
 
 /// The key past the greatest one.
 const MOST: usize = 536870912;
@@ -164,7 +164,7 @@ impl Values {
         ensures room { OnOk result (IsSome (value_at self.new l)) }
         ensures other { OnOk result (IsSome (value_at self.new (complement l))) }
     {
-        let limit = count.saturating_mul(4).saturating_add(LEAST);
+        let limit = count.saturating_mul(16).saturating_add(LEAST);
         let len = self.dense.len();
         if len <= l.index() && l.index() < limit {
             self.widen(limit.max(len.saturating_mul(2)).min(MOST))?;

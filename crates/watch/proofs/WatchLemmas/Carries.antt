@@ -1,9 +1,9 @@
 -- What visits leave as it was.
-use Rattle.std.proofs.Common.{◌≡◌, ◌≢◌, ℕ, ◌<◌, ◌≤◌, Bool, true, false, ◌&&◌, cond, not, eqb, eq-eqb, eqb-true, Option, Some, is_some, List, [], ◌∷◌, ◌++◌, length, get_or, swap, refl, sym, ap, ◌∙◌, subst, arith}
+use Rattle.std.proofs.Common.{◌≡◌, ◌≢◌, ℕ, ◌+◌, ◌<◌, ◌≤◌, Bool, true, false, ◌&&◌, cond, not, eqb, eq-eqb, eqb-true, Option, Some, is_some, [], ◌∷◌, ◌++◌, length, get_or, swap, refl, sym, ap, ◌∙◌, subst, arith}
 use Rattle.std.specs.Ordering.{nat_cmp}
 use Rattle.std.specs.FinMap as maps
 use Rattle.std.specs.FinMap.{FinMap}
-use Rattle.std.proofs.lemmas.Bool.{false_from_ne_true, true≢false, false≢true}
+use Rattle.std.proofs.lemmas.Bool.{true≢false, false≢true}
 use Rattle.std.proofs.lemmas.List.{take_all}
 use Rattle.cnf_base.specs.Literals.{Literal, complement, Clause, has}
 use Rattle.clause_db.specs.Store.Clauses.{size}
@@ -17,7 +17,8 @@ use Rattle.watch.specs.Visits.{Carries, IsPart}
 use Rattle.propagation.proofs.PropagationLemmas.Exact.{extends_on, extends_made}
 use Rattle.propagation.proofs.PropagationLemmas.Forced.{forced_assumed, forced_unit, forced_through, clash_by_false}
 use Rattle.propagation.proofs.PropagationLemmas.Passes.{has_begun, pushed_each}
-use Rattle.watch.proofs.WatchLemmas.Moves.{entries_moved, partner_moved, short_moved, watched_moved, shorts_moved}
+use Rattle.watch.proofs.WatchLemmas.Moves.{entries_moved, still_watched, short_moved, watched_moved, shorts_moved}
+use Rattle.watch.specs.Watched.{watches}
 use Rattle.watch.proofs.WatchLemmas.Order.{has-in_order, ordered_same, seen_there}
 use Rattle.watch.proofs.WatchLemmas.Reasons.{reasoned_more, reasoned_same}
 use Rattle.clause_db.proofs.StoreLemmas.Swap.{has_swapped}
@@ -58,14 +59,16 @@ clash_from a b x y r s carried slot false_at =
 
 -- the literal m, which isn't false, is exchanged with l, which is
 module _ (live : FinMap nat_cmp Clause) (held : AssumptionsState) (slot : ℕ) (c : Clause) (here : maps.get live slot ≡ Some c) where
-  pub carries_moved : (from to : ℕ) (l m : Literal) → size c ≡ length c → from < 2 → get_or c from 0 ≡ l → 2 ≤ to → to < length c → get_or c to 0 ≡ m → has held.trail.lits l ≡ false → has held.trail.lits (complement m) ≡ false →
+  pub carries_moved : (from to : ℕ) (l m : Literal) → size c ≡ length c → from < 2 → get_or c from 0 ≡ l → 2 ≤ to → to < length c → get_or c to 0 ≡ m → has held.trail.lits (complement m) ≡ false →
       (reason_of : Literal → Option ℕ) → Carries live (maps.insert live slot (swap c from to)) held held reason_of reason_of
-  carries_moved from to l m different low there past inside to_is l_open m_open reason_of = record {
-    same = ordered_same live slot c (swap c from to) here (has_swapped c (swap c from to) from to (omega (arith, low, past, inside)) inside refl);
-    short = shorts_moved live slot c (swap c from to) here l m (entries_moved l m c from to different low there past inside to_is) (short_moved c from to low past inside);
+  carries_moved from to l m different low there past inside to_is m_open reason_of = record {
+    same = ordered_same live slot c (swap c from to) here swapped;
+    short = shorts_moved live slot c (swap c from to) here l m moved (short_moved c from to low past inside);
     kept = λ done trues p q w.
-        watched_moved live slot c (swap c from to) here l m (entries_moved l m c from to different low there past inside to_is) done trues
-        (λ x h old. partner_moved l m c from to different low there past inside to_is x trues (λ e. false≢true (sym m_open ∙ ap (λ k. has held.trail.lits (complement k)) (sym e) ∙ p (complement x) h)) (still_open trues q) old) w;
+        watched_moved live slot c (swap c from to) here l m moved done trues
+        (λ x h old there.
+        let met = old (still_watched l m c (swap c from to) moved x (λ e. false≢true (sym m_open ∙ ap (λ k. has held.trail.lits (complement k)) (sym e) ∙ p (complement x) h)) there) in
+        (met.0, swapped met.0 ∙ met.1, met.2)) w;
     sound = λ l h. forced_assumed (maps.get (each_in_order live)) held.trail.lits l h;
     extends = extends_none held;
     noted = λ l h. h;
@@ -73,8 +76,11 @@ module _ (live : FinMap nat_cmp Clause) (held : AssumptionsState) (slot : ℕ) (
     reasoned = λ are. are;
   }
     where
-      still_open : (trues : List Literal) → IsPart trues held.trail.lits → has trues l ≡ false
-      still_open trues q = false_from_ne_true (has trues l) (λ h. true≢false (sym (q l h) ∙ l_open))
+      moved : (x : Literal) → cond (watches (swap c from to) x) 1 0 + cond {A = ℕ} (eqb x l) 1 0 ≡ cond (watches c x) 1 0 + cond {A = ℕ} (eqb x m) 1 0
+      moved = entries_moved l m c from to different low there past inside to_is
+
+      swapped : (k : Literal) → has (swap c from to) k ≡ has c k
+      swapped = has_swapped c (swap c from to) from to (omega (arith, low, past, inside)) inside refl
 
   -- the literal m alone isn't false, and becomes true
   module _ (m : Literal) (member : has c m ≡ true) (others : (k : Literal) → has c k ≡ true → k ≢ m → has held.trail.lits (complement k) ≡ true) where

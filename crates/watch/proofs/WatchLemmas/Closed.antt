@@ -1,5 +1,5 @@
 -- Where all is propagated, nothing more follows.
-use Rattle.std.proofs.Common.{◌≡◌, ◌≢◌, ℕ, Bool, true, false, cond, Some, List, [], ◌∷◌, length, refl, sym, ap, ◌∙◌, subst, arith, inl, inr}
+use Rattle.std.proofs.Common.{◌≡◌, ◌≢◌, ℕ, Bool, true, false, cond, eqb, eq-eqb, ◌||◌, Some, List, [], ◌∷◌, length, refl, sym, ap, ◌∙◌, subst, arith, inl, inr}
 use Rattle.std.specs.Ordering.{nat_cmp}
 use Rattle.std.specs.FinMap as maps
 use Rattle.std.specs.FinMap.{FinMap}
@@ -10,34 +10,36 @@ use Rattle.propagation.specs.Forced.{IsClosed, Clash, by_empty, by_both}
 use Rattle.propagation.specs.Trail.{conflicts}
 use Rattle.clause_db.specs.Store.Clauses.{size}
 use Rattle.watch.specs.Order.{in_order, each_in_order}
-use Rattle.watch.specs.Watched.{is_short, short_for, HasPartner, HasUnit, IsWatched}
+use Rattle.watch.specs.Watched.{is_short, short_for, watches, IsMet, HasUnit, IsWatched}
 use Rattle.propagation.proofs.PropagationLemmas.MakesFalse.{conflict_from}
 use Rattle.watch.proofs.WatchLemmas.Order.{has-in_order, seen_there, there_seen}
 use Rattle.clause_db.proofs.StoreLemmas.Distinct.{distinct_parts}
 
 -- the unit rule of one clause
-pub clause_closed : (c : Clause) (trues : List Literal) → size c ≡ length c → HasUnit c trues → ((l : Literal) → has trues (complement l) ≡ true → HasPartner c l trues) →
+pub clause_closed : (c : Clause) (trues : List Literal) → size c ≡ length c → HasUnit c trues → ((l : Literal) → has trues (complement l) ≡ true → IsMet c l trues) →
     ((l : Literal) → has trues l ≡ true → has trues (complement l) ≡ true → ⊥) →
     (m : Literal) → has c m ≡ true → ((l : Literal) → has c l ≡ true → l ≢ m → has trues (complement l) ≡ true) → has trues m ≡ true
-clause_closed [] trues different unit partner apart m member others = absurd unit
-clause_closed (a ∷ []) trues different unit partner apart m member others =
+clause_closed [] trues different unit met apart m member others = absurd unit
+clause_closed (a ∷ []) trues different unit met apart m member others =
     elim (has_cases a [] m member) [ inl e ↦ subst (λ x. has trues x ≡ true) e unit | inr none ↦ absurd (false≢true none) ]
-clause_closed (a ∷ b ∷ c) trues different unit partner apart m member others =
+clause_closed (a ∷ b ∷ c) trues different unit met apart m member others =
     elim (cases_eq a m) [
-      | inl first ↦
-          let b_false = others b (has_tail a (b ∷ c) b (has_head b c)) (λ e. a_b (first ∙ sym e)) in
-          subst (λ x. has trues x ≡ true) first ((partner b b_false).1 refl)
-      | inr not_first ↦
-          let a_false = others a (has_head a (b ∷ c)) not_first in
-          let b_true = (partner a a_false).0 refl in
-          elim (cases_eq b m) [
-            | inl second ↦ subst (λ x. has trues x ≡ true) second b_true
-            | inr not_second ↦ absurd (apart b b_true (others b (has_tail a (b ∷ c) b (has_head b c)) not_second))
-          ]
+      | inl first ↦ by_false b (has_tail a (b ∷ c) b (has_head b c)) (eq-or (eqb a b) (eqb b b) (eq-eqb b b refl)) (λ e. a_b (first ∙ sym e))
+      | inr not_first ↦ by_false a (has_head a (b ∷ c)) (ap (λ t. t || eqb b a) (eq-eqb a a refl)) not_first
     ]
   where
     a_b : a ≢ b
     a_b same = true≢false (sym (has_head b c) ∙ ap (has (b ∷ c)) (sym same) ∙ (distinct_parts a (b ∷ c) different).0)
+
+    eq-or : (x y : Bool) → y ≡ true → (x || y) ≡ true
+    eq-or true y h = refl
+    eq-or false y h = h
+
+    -- a watched literal is false, and so all but m are
+    by_false : (l : Literal) → has (a ∷ b ∷ c) l ≡ true → watches (a ∷ b ∷ c) l ≡ true → l ≢ m → has trues m ≡ true
+    by_false l there watched ne =
+        let w = met l (others l there ne) watched in
+        elim (cases_eq w.0 m) [ inl same ↦ subst (λ x. has trues x ≡ true) same w.2 | inr other ↦ absurd (apart w.0 w.2 (others w.0 w.1 other)) ]
 
 -- a unit in another order
 pub unit_alike : (c d : Clause) (trues : List Literal) → is_short d ≡ is_short c → ((l : Literal) → has d l ≡ has c l) → HasUnit c trues → HasUnit d trues

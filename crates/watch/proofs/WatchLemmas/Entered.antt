@@ -11,13 +11,13 @@ use Rattle.tables.specs.Table.{at}
 use Rattle.watch.specs.Order.{in_order, each_in_order}
 use Rattle.watch.specs.Roots.{AreNoted, AreReasoned, HasReasons, HaveUnits, IsArranged, IsKept, IsKnown}
 use Rattle.watch.specs.Visits.{IsPart}
-use Rattle.watch.specs.Watched.{HasPartner, HasUnit, IsWatched}
+use Rattle.watch.specs.Watched.{IsMet, HasUnit, IsWatched}
 use Rattle.propagation.specs.declared.left.Left.TheVariants.{Nothing, One, More}
 use Rattle.watch.specs.declared.roots.Kept.{Kept}
 use Rattle.watch.specs.declared.roots.Kept.TheVariants.{Lost, Behind, All, Clash}
 use Rattle.watch.specs.declared.roots.Roots.{Roots}
 use Rattle.watch.proofs.WatchLemmas.Follow.{front_part, watched_grown}
-use Rattle.watch.proofs.WatchLemmas.Kept.{elsewhere, false_added, gone, noted_added, partner_alone, partner_open, reasoned_added, unit_alone, unit_open, units_added, watched_added}
+use Rattle.watch.proofs.WatchLemmas.Kept.{elsewhere, false_added, gone, noted_added, met_alone, met_open, reasoned_added, unit_alone, unit_open, units_added, watched_added}
 use Rattle.watch.proofs.WatchLemmas.Order.{has-in_order, seen_there}
 use Rattle.watch.proofs.WatchLemmas.Reasons.{reasoned_more, reasoned_same, reasoned_taken}
 use Rattle.watch.proofs.WatchLemmas.Units.{unit_more}
@@ -45,7 +45,7 @@ module _ (after : FinMap nat_cmp Clause) (slot : ℕ) (c : Clause) (here : maps.
   reasoned : AreReasoned (maps.get (each_in_order after)) (at roots.reasons) lits
   reasoned = reasoned_added (maps.remove after slot) after slot c (gone after slot slot refl) here (λ s ne. sym (elsewhere after slot s ne)) (at roots.reasons) lits kept.reasoned
 
-  watched : (done trues : List Literal) → IsWatched (maps.get (maps.remove after slot)) done trues → ((l : Literal) → has done (complement l) ≡ true → HasPartner c l trues) → IsWatched (maps.get after) done trues
+  watched : (done trues : List Literal) → IsWatched (maps.get (maps.remove after slot)) done trues → ((l : Literal) → has done (complement l) ≡ true → IsMet c l trues) → IsWatched (maps.get after) done trues
   watched = watched_added (maps.remove after slot) after slot c (gone after slot slot refl) here (λ s ne. sym (elsewhere after slot s ne))
 
   units : (trues : List Literal) → HaveUnits (maps.get (maps.remove after slot)) trues → HasUnit c trues → HaveUnits (maps.get after) trues
@@ -58,17 +58,17 @@ module _ (after : FinMap nat_cmp Clause) (slot : ℕ) (c : Clause) (here : maps.
   idle (Clash s) is known = false_added (maps.remove after slot) after slot c (gone after slot slot refl) here (λ s ne. sym (elsewhere after slot s ne)) s lits known
 
   -- nothing new follows from it
-  settled : ((done : List Literal) → IsPart done lits → (l : Literal) → has done (complement l) ≡ true → HasPartner c l lits) → HasUnit c lits → (k : Kept) → IsKnown (maps.remove after slot) k lits → IsKnown after k lits
-  settled partner unit Lost known = known
-  settled partner unit (Behind from) known = (known.0, watched (take from lits) lits known.1 (partner (take from lits) (front_part from lits)), units lits known.2 unit)
-  settled partner unit All known = (watched lits lits known.0 (partner lits (λ l h. h)), units lits known.1 unit)
-  settled partner unit (Clash s) known = idle (Clash s) refl known
+  settled : ((done : List Literal) → IsPart done lits → (l : Literal) → has done (complement l) ≡ true → IsMet c l lits) → HasUnit c lits → (k : Kept) → IsKnown (maps.remove after slot) k lits → IsKnown after k lits
+  settled met unit Lost known = known
+  settled met unit (Behind from) known = (known.0, watched (take from lits) lits known.1 (met (take from lits) (front_part from lits)), units lits known.2 unit)
+  settled met unit All known = (watched lits lits known.0 (met lits (λ l h. h)), units lits known.1 unit)
+  settled met unit (Clash s) known = idle (Clash s) refl known
 
   pub entered_idle : is_idle roots.kept ≡ true → IsKept after roots lits
   entered_idle is = record { noted = noted; reasoned = reasoned; known = idle roots.kept is kept.known }
 
   pub entered_more : IsArranged lits c More → IsKept after roots lits
-  entered_more first = record { noted = noted; reasoned = reasoned; known = settled (λ done part. partner_open c lits done lits part first) (unit_open c lits lits first) roots.kept kept.known }
+  entered_more first = record { noted = noted; reasoned = reasoned; known = settled (λ done part. met_open c lits done lits part first) (unit_open c lits lits first) roots.kept kept.known }
 
   pub entered_false : IsArranged lits c Nothing → (now : Roots) (number : ℕ) → number ≡ slot → now.kept ≡ Clash number → now.reasons ≡ roots.reasons → IsKept after now lits
   entered_false falses now number is kept_is reasons_are = record {
@@ -96,7 +96,7 @@ module _ (after : FinMap nat_cmp Clause) (slot : ℕ) (c : Clause) (here : maps.
     entered_true is_true now kept_is same = record {
       noted = record { each = λ s d is l member. ap is_some (same l) ∙ noted.each s d is l member };
       reasoned = reasoned_same (maps.get (each_in_order after)) (at roots.reasons) lits reasoned (at now.reasons) (λ l h. same l);
-      known = subst (λ k. IsKnown after k lits) (sym kept_is) (settled (λ done part. partner_alone lits lits m is_true c done part first) (unit_alone lits lits m is_true c first) roots.kept kept.known);
+      known = subst (λ k. IsKnown after k lits) (sym kept_is) (settled (λ done part l h. met_alone lits lits m is_true c first l) (unit_alone lits lits m is_true c first) roots.kept kept.known);
     }
 
     -- and the clause has no other
@@ -105,7 +105,7 @@ module _ (after : FinMap nat_cmp Clause) (slot : ℕ) (c : Clause) (here : maps.
       noted = set_noted now set;
       reasoned = reasoned_taken (maps.get (each_in_order after)) (at roots.reasons) lits reasoned (at now.reasons) m slot (in_order c) (seen_there after slot c here) (has-in_order c m ∙ first.0) (set_here now set)
           (λ k h. only_one c m one first.0 k (sym (has-in_order c k) ∙ h)) (set_other now set) is_true;
-      known = subst (λ k. IsKnown after k lits) (sym kept_is) (settled (λ done part. partner_alone lits lits m is_true c done part first) (unit_alone lits lits m is_true c first) roots.kept kept.known);
+      known = subst (λ k. IsKnown after k lits) (sym kept_is) (settled (λ done part l h. met_alone lits lits m is_true c first l) (unit_alone lits lits m is_true c first) roots.kept kept.known);
     }
 
     -- the literal becomes true
@@ -143,7 +143,7 @@ module _ (after : FinMap nat_cmp Clause) (slot : ℕ) (c : Clause) (here : maps.
             subst (λ ls. IsWatched (maps.get after) ls (lits ++ m ∷ [])) (sym front)
             (watched (take from lits) (lits ++ m ∷ [])
             (watched_grown (maps.get (maps.remove after slot)) (take from lits) lits (lits ++ m ∷ []) (λ l h. has_append_left lits (m ∷ []) l h) so_far.1)
-            (partner_alone lits (lits ++ m ∷ []) m m_true c (take from lits) (front_part from lits) first))
+            (λ l h. met_alone lits (lits ++ m ∷ []) m m_true c first l))
 
         grown_units : HaveUnits (maps.get after) (lits ++ m ∷ [])
         grown_units =

@@ -1,5 +1,5 @@
 -- What is kept of the literals that are true with nothing assumed.
-use Rattle.std.proofs.Common.{◌≡◌, ◌≢◌, ℕ, true, false, cond, eq-eqb, ne_eqb, Option, Some, None, is_some, option_map, List, [], ◌∷◌, length, take, refl, sym, ap, ◌∙◌, subst, arith, inl, inr}
+use Rattle.std.proofs.Common.{◌≡◌, ◌≢◌, ℕ, Bool, true, false, ◌||◌, cond, eqb, eqb-true, eq-eqb, ne_eqb, Option, Some, None, is_some, option_map, List, [], ◌∷◌, length, take, refl, sym, ap, ◌∙◌, subst, arith, inl, inr, ◌⊎◌}
 use Rattle.std.specs.Ordering.{nat_cmp}
 use Rattle.std.specs.FinMap as maps
 use Rattle.std.specs.FinMap.{FinMap}
@@ -12,7 +12,7 @@ use Rattle.propagation.specs.Assumptions.{Assumption, AssumptionsState, roots_in
 use Rattle.watch.specs.Order.{in_order, each_in_order}
 use Rattle.watch.specs.Roots.{AreForced, AreNoted, AreReasoned, HasReasons, HaveUnits, IsArranged, IsFalseAt, IsKept, IsKnown, IsStanding, is_up_to_date, has_clash}
 use Rattle.watch.specs.Visits.{Carries, IsPart}
-use Rattle.watch.specs.Watched.{HasPartner, HasUnit, IsWatched}
+use Rattle.watch.specs.Watched.{IsMet, HasUnit, IsWatched}
 use Rattle.propagation.specs.declared.left.Left.TheVariants.{One, More}
 use Rattle.watch.specs.declared.roots.Kept.{Kept}
 use Rattle.watch.specs.declared.roots.Kept.TheVariants.{Lost, Behind, All, Clash as KeptClash}
@@ -25,6 +25,7 @@ use Rattle.watch.proofs.WatchLemmas.Closed.{all_closed, all_quiet, units_carried
 use Rattle.watch.proofs.WatchLemmas.Follow.{front_part}
 use Rattle.watch.proofs.WatchLemmas.Order.{get_ordered, has-in_order, seen_there}
 use Rattle.clause_db.proofs.StoreLemmas.Sums.{get_remove}
+use Rattle.cnf_base.proofs.SetLemmas.{has_head}
 use Rattle.watch.proofs.WatchLemmas.Reasons.{reasoned_among, reasoned_forced, reasoned_none, reasoned_same}
 
 pub kept_forced : (live : FinMap nat_cmp Clause) (roots : Roots) (lits : List Literal) → IsKept live roots lits → AreForced (maps.get (each_in_order live)) lits
@@ -111,10 +112,10 @@ module _ (a b : FinMap nat_cmp Clause) (x y : AssumptionsState) (r s : Literal �
 -- ---- One clause more
 
 module _ (live after : FinMap nat_cmp Clause) (slot : ℕ) (c : Clause) (free : maps.get live slot ≡ None) (here : maps.get after slot ≡ Some c) (others : (s : ℕ) → s ≢ slot → maps.get after s ≡ maps.get live s) where
-  pub watched_added : (done trues : List Literal) → IsWatched (maps.get live) done trues → ((l : Literal) → has done (complement l) ≡ true → HasPartner c l trues) → IsWatched (maps.get after) done trues
+  pub watched_added : (done trues : List Literal) → IsWatched (maps.get live) done trues → ((l : Literal) → has done (complement l) ≡ true → IsMet c l trues) → IsWatched (maps.get after) done trues
   watched_added done trues watched partner = record {
     each = λ s d is. elim (cases_eq s slot) [
-      | inl e ↦ λ l h. subst (λ x. HasPartner x l trues) (same_Some c d (sym here ∙ ap (maps.get after) (sym e) ∙ is)) (partner l h)
+      | inl e ↦ λ l h. subst (λ x. IsMet x l trues) (same_Some c d (sym here ∙ ap (maps.get after) (sym e) ∙ is)) (partner l h)
       | inr ne ↦ watched.each s d (sym (others s ne) ∙ is)
     ];
   }
@@ -145,12 +146,22 @@ module _ (live after : FinMap nat_cmp Clause) (slot : ℕ) (c : Clause) (free : 
   pub false_added : (s : ℕ) (trues : List Literal) → IsFalseAt (maps.get (each_in_order live)) s trues → IsFalseAt (maps.get (each_in_order after)) s trues
   false_added s trues false_at = record { clause = false_at.clause; at = still_there s false_at.clause false_at.at; falses = false_at.falses }
 
+one_of_two : (a b l : Literal) → (eqb a l || eqb b l) ≡ true → (a ≡ l) ⊎ (b ≡ l)
+one_of_two a b l h = by_test (eqb a l) refl h
+  where
+    by_test : (t : Bool) → eqb a l ≡ t → (t || eqb b l) ≡ true → (a ≡ l) ⊎ (b ≡ l)
+    by_test true e g = inl (eqb-true a l e)
+    by_test false e g = inr (eqb-true b l g)
+
 -- two literals are not false, and stand first
-pub partner_open : (c : Clause) (trues done more : List Literal) → IsPart done trues → IsArranged trues c More → (l : Literal) → has done (complement l) ≡ true → HasPartner c l more
-partner_open [] trues done more part first l h = tt
-partner_open (a ∷ []) trues done more part first l h = tt
-partner_open (a ∷ b ∷ c) trues done more part first l h =
-    (λ e. absurd (true≢false (sym (part (complement l) h) ∙ ap (λ x. has trues (complement x)) (sym e) ∙ first.1)), λ e. absurd (true≢false (sym (part (complement l) h) ∙ ap (λ x. has trues (complement x)) (sym e) ∙ first.2)))
+pub met_open : (c : Clause) (trues done more : List Literal) → IsPart done trues → IsArranged trues c More → (l : Literal) → has done (complement l) ≡ true → IsMet c l more
+met_open [] trues done more part first l h there = absurd (false≢true there)
+met_open (a ∷ []) trues done more part first l h there = absurd (false≢true there)
+met_open (a ∷ b ∷ c) trues done more part first l h there =
+    absurd (elim (one_of_two a b l there) [
+      | inl e ↦ true≢false (sym (part (complement l) h) ∙ ap (λ x. has trues (complement x)) (sym e) ∙ first.1)
+      | inr e ↦ true≢false (sym (part (complement l) h) ∙ ap (λ x. has trues (complement x)) (sym e) ∙ first.2)
+    ])
 
 pub unit_open : (c : Clause) (trues more : List Literal) → IsArranged trues c More → HasUnit c more
 unit_open [] trues more first = absurd (let n = first.0 in let wrong : ⊥ = omega (arith, n) in wrong)
@@ -159,11 +170,10 @@ unit_open (a ∷ b ∷ c) trues more first = tt
 
 -- one literal is not false, stands first, and becomes true
 module _ (trues more : List Literal) (m : Literal) (set : has more m ≡ true) where
-  pub partner_alone : (c : Clause) (done : List Literal) → IsPart done trues → IsArranged trues c (One m) → (l : Literal) → has done (complement l) ≡ true → HasPartner c l more
-  partner_alone [] done part first l h = tt
-  partner_alone (a ∷ []) done part first l h = tt
-  partner_alone (a ∷ b ∷ c) done part first l h =
-      (λ e. absurd (true≢false (sym (part (complement l) h) ∙ ap (λ x. has trues (complement x)) (sym e ∙ first.1) ∙ first.2)), λ e. ap (has more) first.1 ∙ set)
+  pub met_alone : (c : Clause) → IsArranged trues c (One m) → (l : Literal) → IsMet c l more
+  met_alone [] first l there = absurd (false≢true there)
+  met_alone (a ∷ []) first l there = absurd (false≢true there)
+  met_alone (a ∷ b ∷ c) first l there = (m, ap (has (a ∷ b ∷ c)) (sym first.1) ∙ has_head a (b ∷ c), set)
 
   pub unit_alone : (c : Clause) → IsArranged trues c (One m) → HasUnit c more
   unit_alone [] first = absurd (false≢true first.0)

@@ -1,22 +1,23 @@
 -- A clause that watches another literal.
-use Rattle.std.proofs.Common.{◌≡◌, ◌≢◌, ℕ, zero, suc, ◌+◌, ◌<◌, ◌≤◌, Bool, true, false, cond, eqb, eq-eqb, ne_eqb, ◌||◌, ◌&&◌, Option, Some, None, is_some, List, [], ◌∷◌, ◌++◌, length, get_or, swap, take, refl, sym, ap, ◌∙◌, subst, arith, inl, inr}
+use Rattle.std.proofs.Common.{◌≡◌, ◌≢◌, ℕ, zero, suc, ◌+◌, ◌<◌, ◌≤◌, Bool, true, false, cond, eqb, eq-eqb, ne_eqb, ◌||◌, ◌&&◌, Option, Some, None, is_some, List, [], ◌∷◌, ◌++◌, length, get_or, set, swap, take, not, refl, sym, ap, ◌∙◌, subst, arith, inl, inr}
 use Rattle.std.specs.Ordering.{nat_cmp}
 use Rattle.std.specs.FinMap as maps
 use Rattle.std.specs.FinMap.{FinMap}
-use Rattle.std.proofs.lemmas.Bool.{cases_eq, true≢false, false≢true}
+use Rattle.std.proofs.lemmas.Bool.{cases_eq, true≢false}
 use Rattle.std.proofs.lemmas.Bool.Decides.{nat_tests}
 use Rattle.std.proofs.lemmas.Grind.{get_or_default_zero, same_number_lists}
 use Rattle.std.proofs.lemmas.List.Edits.{length-swap, swapped_from_swap}
-use Rattle.std.proofs.lemmas.List.Sums.{sum_by-append, sum_by-cons, get_or-le-sum_by}
+use Rattle.std.proofs.lemmas.List.Sums.{sum_by_push, sum_by-set, get_or-le-sum_by}
 use Rattle.std.proofs.lemmas.Option.{same_Some}
 use Rattle.cnf_base.specs.Literals.{Literal, complement, Clause, has}
 use Rattle.cnf_base.proofs.SetLemmas.{has_head, has_tail}
 use Rattle.propagation.specs.Forced.{Live}
 use Rattle.clause_db.specs.Store.Clauses.{size}
-use Rattle.watch.specs.Lists.{times_in}
-use Rattle.watch.specs.Watched.{watches, is_short, entries_for, short_for, IsListed, HasPartner, IsWatched}
+use Rattle.watch.specs.Lists.{entries_of, strangers}
+use Rattle.watch.specs.Watched.{watches, is_short, entries_for, short_for, IsListed, IsMet, IsWatched}
 use Rattle.propagation.proofs.MemberLemmas.{has_place, has_front}
-use Rattle.watch.proofs.WatchLemmas.Lists.{eqb_turned}
+use Rattle.watch.proofs.WatchLemmas.Lists.{blocking_own, eqb_turned, strangers_alike, strangers_pushed}
+use Rattle.watch.specs.declared.lists.Watcher.{Watcher}
 use Rattle.clause_db.proofs.StoreLemmas.Distinct.{distinct_parts, distinct_before}
 use Rattle.clause_db.proofs.StoreLemmas.Sums.{get_insert, same_maps}
 
@@ -56,13 +57,6 @@ module _ (a b : Literal) (c : Clause) (k : ℕ) (m : Literal) (different : size 
   entries_second : (x : Literal) → cond (watches (swap (a ∷ b ∷ c) 1 (suc (suc k))) x) 1 0 + cond {A = ℕ} (eqb x b) 1 0 ≡ cond (watches (a ∷ b ∷ c) x) 1 0 + cond {A = ℕ} (eqb x m) 1 0
   entries_second x = ap (λ y. cond (eqb a x || eqb y x) 1 0 + cond {A = ℕ} (eqb x b) 1 0) (read a) ∙ one_moved_second a b m x a_b m_a
 
-  module _ (x : Literal) (trues : List Literal) (m_open : x ≢ m) where
-    partner_first : has trues a ≡ false → HasPartner (a ∷ b ∷ c) x trues → HasPartner (swap (a ∷ b ∷ c) 0 (suc (suc k))) x trues
-    partner_first a_open old = (λ same. absurd (m_open (sym same ∙ read a)), λ same. absurd (false≢true (sym a_open ∙ old.1 same)))
-
-    partner_second : has trues b ≡ false → HasPartner (a ∷ b ∷ c) x trues → HasPartner (swap (a ∷ b ∷ c) 1 (suc (suc k))) x trues
-    partner_second b_open old = (λ same. absurd (false≢true (sym b_open ∙ old.0 same)), λ same. absurd (m_open (sym same ∙ read a)))
-
 -- the literal l, one of the first two, is exchanged with m, which is none of them
 module _ (l m : Literal) where
   pub entries_moved : (c : Clause) (from to : ℕ) → size c ≡ length c → from < 2 → get_or c from 0 ≡ l → 2 ≤ to → to < length c → get_or c to 0 ≡ m → (x : Literal) →
@@ -77,18 +71,17 @@ module _ (l m : Literal) where
       ap (λ y. cond (watches (swap (a ∷ b ∷ c) 1 (suc (suc k))) x) 1 0 + cond {A = ℕ} (eqb x y) 1 0) (sym there) ∙ entries_second a b c k m different (omega (arith, inside)) to_is x
   entries_moved (a ∷ b ∷ c) (suc (suc from)) (suc (suc k)) different low there past inside to_is x = absurd (omega (arith, low))
 
-  -- where l is not true, and a literal that isn't m became false
-  pub partner_moved : (c : Clause) (from to : ℕ) → size c ≡ length c → from < 2 → get_or c from 0 ≡ l → 2 ≤ to → to < length c → get_or c to 0 ≡ m →
-      (x : Literal) (trues : List Literal) → x ≢ m → has trues l ≡ false → HasPartner c x trues → HasPartner (swap c from to) x trues
-  partner_moved [] from to different low there past inside to_is x trues other l_open old = absurd (omega (arith, inside))
-  partner_moved (a ∷ []) from to different low there past inside to_is x trues other l_open old = absurd (omega (arith, inside, past))
-  partner_moved (a ∷ b ∷ c) from zero different low there past inside to_is x trues other l_open old = absurd (omega (arith, past))
-  partner_moved (a ∷ b ∷ c) from (suc zero) different low there past inside to_is x trues other l_open old = absurd (omega (arith, past))
-  partner_moved (a ∷ b ∷ c) zero (suc (suc k)) different low there past inside to_is x trues other l_open old =
-      partner_first a b c k m different (omega (arith, inside)) to_is x trues other (ap (has trues) there ∙ l_open) old
-  partner_moved (a ∷ b ∷ c) (suc zero) (suc (suc k)) different low there past inside to_is x trues other l_open old =
-      partner_second a b c k m different (omega (arith, inside)) to_is x trues other (ap (has trues) there ∙ l_open) old
-  partner_moved (a ∷ b ∷ c) (suc (suc from)) (suc (suc k)) different low there past inside to_is x trues other l_open old = absurd (omega (arith, low))
+  -- of a literal that isn't m
+  pub still_watched : (c d : Clause) → ((x : Literal) → cond (watches d x) 1 0 + cond {A = ℕ} (eqb x l) 1 0 ≡ cond (watches c x) 1 0 + cond {A = ℕ} (eqb x m) 1 0) → (x : Literal) → x ≢ m → watches d x ≡ true → watches c x ≡ true
+  still_watched c d entries x other there =
+      let count = entries x in
+      let now : cond {A = ℕ} (watches d x) 1 0 ≡ 1 = ap (λ b. cond {A = ℕ} b 1 0) there in
+      let none : cond {A = ℕ} (eqb x m) 1 0 ≡ 0 = ap (λ b. cond {A = ℕ} b 1 0) (ne_eqb x m other) in
+      by_test (watches c x) (cond (eqb x l) 1 0) (omega (arith, count, now, none))
+    where
+      by_test : (b : Bool) (n : ℕ) → n + 1 ≡ cond {A = ℕ} b 1 0 → b ≡ true
+      by_test true n e = refl
+      by_test false n e = absurd (let wrong : ⊥ = omega (arith, e) in wrong)
 
 -- it is as long as it was
 pub short_moved : (c : Clause) (from to : ℕ) → from < 2 → 2 ≤ to → to < length c → is_short (swap c from to) ≡ is_short c
@@ -117,52 +110,60 @@ and_false false = refl
 -- ---- The lists
 
 -- an entry goes from the list that is in hand to that of m
-module _ (lists after : Literal → List ℕ) (l m slot : ℕ) (other : l ≢ m) (pushed : (k : Literal) → after k ≡ cond (eqb k m) (lists k ++ slot ∷ []) (lists k))
-    (list left : List ℕ) (taken : (s : ℕ) → times_in s left + cond (eqb s slot) 1 0 ≡ times_in s list) where
-  abbrev was : Literal → List ℕ
+module _ (lists after : Literal → List Watcher) (l m : ℕ) (w : Watcher) (other : l ≢ m) (pushed : (k : Literal) → after k ≡ cond (eqb k m) (lists k ++ w ∷ []) (lists k))
+    (list left : List Watcher) (taken : (s : ℕ) → entries_of s left + cond (eqb s w.slot) 1 0 ≡ entries_of s list) where
+  abbrev was : Literal → List Watcher
   was k = cond (eqb k l) list (lists k)
 
-  abbrev is : Literal → List ℕ
+  abbrev is : Literal → List Watcher
   is k = cond (eqb k l) left (after k)
 
-  one_pushed : (s : ℕ) (xs : List ℕ) → times_in s (xs ++ slot ∷ []) ≡ times_in s xs + cond (eqb slot s) 1 0
-  one_pushed s xs = sum_by-append (λ x. cond (eqb x s) 1 0) xs (slot ∷ []) ∙ ap (λ n. times_in s xs + n) (sum_by-cons (λ x. cond (eqb x s) 1 0) slot [] ∙ no_more _)
-    where
-      no_more : (n : ℕ) → n + 0 ≡ n
-      no_more n = omega arith
-
-  at_m : (s : ℕ) → times_in s (after m) ≡ times_in s (lists m) + cond (eqb slot s) 1 0
-  at_m s = ap (times_in s) (pushed m ∙ ap (λ b. cond b (lists m ++ slot ∷ []) (lists m)) (eq-eqb m m refl)) ∙ one_pushed s (lists m)
+  at_m : (s : ℕ) → entries_of s (after m) ≡ entries_of s (lists m) + cond (eqb w.slot s) 1 0
+  at_m s = ap (entries_of s) (pushed m ∙ ap (λ b. cond b (lists m ++ w ∷ []) (lists m)) (eq-eqb m m refl)) ∙ sum_by_push (λ x. cond (eqb x.slot s) 1 0) (lists m) w
 
   at_other : (k : Literal) → k ≢ m → after k ≡ lists k
-  at_other k ne = pushed k ∙ ap (λ b. cond b (lists k ++ slot ∷ []) (lists k)) (ne_eqb k m ne)
+  at_other k ne = pushed k ∙ ap (λ b. cond b (lists k ++ w ∷ []) (lists k)) (ne_eqb k m ne)
 
-  pub times_moved : (x s : ℕ) → times_in s (is x) + cond (eqb x l && eqb s slot) 1 0 ≡ times_in s (was x) + cond (eqb x m && eqb s slot) 1 0
+  pub times_moved : (x s : ℕ) → entries_of s (is x) + cond (eqb x l && eqb s w.slot) 1 0 ≡ entries_of s (was x) + cond (eqb x m && eqb s w.slot) 1 0
   times_moved x s = elim (cases_eq x l) [
     | inl e ↦
-        let here : times_in s (is x) ≡ times_in s left = ap (λ b. times_in s (cond b left (after x))) (eq-eqb x l e) in
-        let there : times_in s (was x) ≡ times_in s list = ap (λ b. times_in s (cond b list (lists x))) (eq-eqb x l e) in
-        let one : cond {A = ℕ} (eqb x l && eqb s slot) 1 0 ≡ cond (eqb s slot) 1 0 = ap (λ b. cond {A = ℕ} (b && eqb s slot) 1 0) (eq-eqb x l e) in
-        let none : cond {A = ℕ} (eqb x m && eqb s slot) 1 0 ≡ 0 = ap (λ b. cond {A = ℕ} (b && eqb s slot) 1 0) (ne_eqb x m (λ f. other (sym e ∙ f))) in
+        let here : entries_of s (is x) ≡ entries_of s left = ap (λ b. entries_of s (cond b left (after x))) (eq-eqb x l e) in
+        let there : entries_of s (was x) ≡ entries_of s list = ap (λ b. entries_of s (cond b list (lists x))) (eq-eqb x l e) in
+        let one : cond {A = ℕ} (eqb x l && eqb s w.slot) 1 0 ≡ cond (eqb s w.slot) 1 0 = ap (λ b. cond {A = ℕ} (b && eqb s w.slot) 1 0) (eq-eqb x l e) in
+        let none : cond {A = ℕ} (eqb x m && eqb s w.slot) 1 0 ≡ 0 = ap (λ b. cond {A = ℕ} (b && eqb s w.slot) 1 0) (ne_eqb x m (λ f. other (sym e ∙ f))) in
         let step = taken s in
         omega arith
     | inr ne ↦
-        let here : times_in s (is x) ≡ times_in s (after x) = ap (λ b. times_in s (cond b left (after x))) (ne_eqb x l ne) in
-        let there : times_in s (was x) ≡ times_in s (lists x) = ap (λ b. times_in s (cond b list (lists x))) (ne_eqb x l ne) in
-        let none : cond {A = ℕ} (eqb x l && eqb s slot) 1 0 ≡ 0 = ap (λ b. cond {A = ℕ} (b && eqb s slot) 1 0) (ne_eqb x l ne) in
+        let here : entries_of s (is x) ≡ entries_of s (after x) = ap (λ b. entries_of s (cond b left (after x))) (ne_eqb x l ne) in
+        let there : entries_of s (was x) ≡ entries_of s (lists x) = ap (λ b. entries_of s (cond b list (lists x))) (ne_eqb x l ne) in
+        let none : cond {A = ℕ} (eqb x l && eqb s w.slot) 1 0 ≡ 0 = ap (λ b. cond {A = ℕ} (b && eqb s w.slot) 1 0) (ne_eqb x l ne) in
         elim (cases_eq x m) [
           | inl e ↦
-              let one : cond {A = ℕ} (eqb x m && eqb s slot) 1 0 ≡ cond (eqb s slot) 1 0 = ap (λ b. cond {A = ℕ} (b && eqb s slot) 1 0) (eq-eqb x m e) in
-              let as_m = ap (λ k. times_in s (after k)) e in
-              let as_m2 = ap (λ k. times_in s (lists k)) (sym e) in
-              let turned : cond {A = ℕ} (eqb slot s) 1 0 ≡ cond (eqb s slot) 1 0 = ap (λ b. cond {A = ℕ} b 1 0) (eqb_turned slot s) in
+              let one : cond {A = ℕ} (eqb x m && eqb s w.slot) 1 0 ≡ cond (eqb s w.slot) 1 0 = ap (λ b. cond {A = ℕ} (b && eqb s w.slot) 1 0) (eq-eqb x m e) in
+              let as_m = ap (λ k. entries_of s (after k)) e in
+              let as_m2 = ap (λ k. entries_of s (lists k)) (sym e) in
+              let turned : cond {A = ℕ} (eqb w.slot s) 1 0 ≡ cond (eqb s w.slot) 1 0 = ap (λ b. cond {A = ℕ} b 1 0) (eqb_turned w.slot s) in
               let step = at_m s in
               omega arith
           | inr apart ↦
-              let zero_m : cond {A = ℕ} (eqb x m && eqb s slot) 1 0 ≡ 0 = ap (λ b. cond {A = ℕ} (b && eqb s slot) 1 0) (ne_eqb x m apart) in
-              let same = ap (times_in s) (at_other x apart) in
+              let zero_m : cond {A = ℕ} (eqb x m && eqb s w.slot) 1 0 ≡ 0 = ap (λ b. cond {A = ℕ} (b && eqb s w.slot) 1 0) (ne_eqb x m apart) in
+              let same = ap (entries_of s) (at_other x apart) in
               omega arith
         ]
+  ]
+
+  -- where the literals of both entries are of the clause
+  pub strangers_moved : (c : Clause) → has c w.blocking ≡ true → ((s : ℕ) (e : Clause) → strangers s e left ≤ strangers s e list) → (x s : ℕ) (e : Clause) → (s ≡ w.slot → e ≡ c) → strangers s e (is x) ≤ strangers s e (was x)
+  strangers_moved c own fewer x s e same = elim (cases_eq x l) [
+    | inl y ↦
+        subst (λ b. strangers s e (cond b left (after x)) ≤ strangers s e (cond b list (lists x))) (sym (eq-eqb x l y)) (fewer s e)
+    | inr ne ↦
+        subst (λ b. strangers s e (cond b left (after x)) ≤ strangers s e (cond b list (lists x))) (sym (ne_eqb x l ne)) (elim (cases_eq x m) [
+          | inl y ↦
+              subst (λ xs. strangers s e xs ≤ strangers s e (lists x)) (sym (pushed x ∙ ap (λ b. cond b (lists x ++ w ∷ []) (lists x)) (eq-eqb x m y)))
+              (strangers_pushed (lists x) w s e (λ z. ap (λ d. has d w.blocking) (same z) ∙ own))
+          | inr apart ↦ let alike = ap (strangers s e) (at_other x apart) in omega (arith, alike)
+        ])
   ]
 
 pub others_moved : (live : FinMap nat_cmp Clause) (slot : ℕ) (d : Clause) (s : ℕ) → s ≢ slot → maps.get (maps.insert live slot d) s ≡ maps.get live s
@@ -202,9 +203,10 @@ module _ (live : FinMap nat_cmp Clause) (slot : ℕ) (c d : Clause) (here : maps
   at_others : (s : ℕ) → s ≢ slot → maps.get (maps.insert live slot d) s ≡ maps.get live s
   at_others = others_moved live slot d
 
-  pub listed_moved : (lists after : Literal → List ℕ) → IsListed (maps.get live) lists →
-      ((x s : ℕ) → times_in s (after x) + cond (eqb x l && eqb s slot) 1 0 ≡ times_in s (lists x) + cond (eqb x m && eqb s slot) 1 0) → IsListed (maps.get (maps.insert live slot d)) after
-  listed_moved lists after listed times = record {
+  pub listed_moved : (lists after : Literal → List Watcher) → IsListed (maps.get live) lists →
+      ((x s : ℕ) → entries_of s (after x) + cond (eqb x l && eqb s slot) 1 0 ≡ entries_of s (lists x) + cond (eqb x m && eqb s slot) 1 0) → ((k : Literal) → has d k ≡ has c k) →
+      ((x s : ℕ) (e : Clause) → (s ≡ slot → e ≡ c) → strangers s e (after x) ≤ strangers s e (lists x)) → IsListed (maps.get (maps.insert live slot d)) after
+  listed_moved lists after listed times alike fewer = record {
     watched = λ x s. elim (cases_eq s slot) [
       | inl e ↦
           let step = times x s in
@@ -212,27 +214,38 @@ module _ (live : FinMap nat_cmp Clause) (slot : ℕ) (c d : Clause) (here : maps
           let more = entries x in
           let one = ap (λ b. cond {A = ℕ} (eqb x l && b) 1 0) (eq-eqb s slot e) ∙ and_true (eqb x l) in
           let two = ap (λ b. cond {A = ℕ} (eqb x m && b) 1 0) (eq-eqb s slot e) ∙ and_true (eqb x m) in
-          let count : times_in s (after x) ≡ cond (watches d x) 1 0 = omega arith in
+          let count : entries_of s (after x) ≡ cond (watches d x) 1 0 = omega arith in
           count ∙ sym (ap (λ k. entries_for (maps.get (maps.insert live slot d) k) x) e ∙ ap (λ o. entries_for o x) at_slot)
       | inr ne ↦
           let step = times x s in
           let one = ap (λ b. cond {A = ℕ} (eqb x l && b) 1 0) (ne_eqb s slot ne) ∙ and_false (eqb x l) in
           let two = ap (λ b. cond {A = ℕ} (eqb x m && b) 1 0) (ne_eqb s slot ne) ∙ and_false (eqb x m) in
-          let same : times_in s (after x) ≡ times_in s (lists x) = omega arith in
+          let same : entries_of s (after x) ≡ entries_of s (lists x) = omega arith in
           same ∙ listed.watched x s ∙ sym (ap (λ o. entries_for o x) (at_others s ne))
     ];
     low = λ s is. elim (cases_eq s slot) [
       | inl e ↦ listed.low s (ap (λ k. is_some (maps.get live k)) e ∙ ap is_some here)
       | inr ne ↦ listed.low s (ap is_some (sym (at_others s ne)) ∙ is)
     ];
+    own = λ x s e is. elim (cases_eq s slot) [
+      | inl same ↦
+          let is_d = same_Some d e (sym at_slot ∙ ap (maps.get (maps.insert live slot d)) (sym same) ∙ is) in
+          let none = listed.own x s c (ap (maps.get live) same ∙ here) in
+          let left = fewer x s c (λ _. refl) in
+          ap (λ y. strangers s y (after x)) (sym is_d) ∙ strangers_alike (after x) s c d alike ∙ omega (arith, none, left)
+      | inr ne ↦
+          let none = listed.own x s e (sym (at_others s ne) ∙ is) in
+          let left = fewer x s e (λ same. absurd (ne same)) in
+          omega (arith, none, left)
+    ];
   }
 
-  pub watched_moved : (done trues : List Literal) → ((x : Literal) → has done (complement x) ≡ true → HasPartner c x trues → HasPartner d x trues) →
+  pub watched_moved : (done trues : List Literal) → ((x : Literal) → has done (complement x) ≡ true → IsMet c x trues → IsMet d x trues) →
       IsWatched (maps.get live) done trues → IsWatched (maps.get (maps.insert live slot d)) done trues
   watched_moved done trues moved watched = record {
     each = λ s e is x h. elim (cases_eq s slot) [
       | inl same ↦
-          subst (λ y. HasPartner y x trues) (same_Some d e (sym at_slot ∙ ap (maps.get (maps.insert live slot d)) (sym same) ∙ is)) (moved x h (watched.each slot c here x h))
+          subst (λ y. IsMet y x trues) (same_Some d e (sym at_slot ∙ ap (maps.get (maps.insert live slot d)) (sym same) ∙ is)) (moved x h (watched.each slot c here x h))
       | inr ne ↦ watched.each s e (sym (at_others s ne) ∙ is) x h
     ];
   }
@@ -247,19 +260,63 @@ module _ (live : FinMap nat_cmp Clause) (slot : ℕ) (c d : Clause) (here : maps
 
 -- ---- A slot in the list that is in hand
 
-pub slot_alive : (live : Live) (lists : Literal → List ℕ) (l : Literal) (list : List ℕ) → IsListed live (λ k. cond (eqb k l) list (lists k)) → (place : ℕ) → place < length list →
-    (c : Clause) × (live (get_or list place 0) ≡ Some c) × (watches c l ≡ true)
-slot_alive live lists l list listed place inside =
-    let s = get_or list place 0 in
-    let one = get_or-le-sum_by (λ x. cond (eqb x s) 1 0) list place 0 inside in
+slot_alive : (live : Live) (lists : Literal → List Watcher) (l : Literal) (list : List Watcher) → IsListed live (λ k. cond (eqb k l) list (lists k)) → (place : ℕ) (d : Watcher) → place < length list →
+    (c : Clause) × (live (get_or list place d).slot ≡ Some c) × (watches c l ≡ true) × (strangers (get_or list place d).slot c list ≡ 0)
+slot_alive live lists l list listed place d inside =
+    let s = (get_or list place d).slot in
+    let one = get_or-le-sum_by (λ w. cond (eqb w.slot s) 1 0) list place d inside in
     let here : cond {A = ℕ} (eqb s s) 1 0 ≡ 1 = ap (λ b. cond {A = ℕ} b 1 0) (eq-eqb s s refl) in
-    let count : times_in s list ≡ entries_for (live s) l = ap (λ b. times_in s (cond b list (lists l))) (sym (eq-eqb l l refl)) ∙ listed.watched l s in
+    let count : entries_of s list ≡ entries_for (live s) l = ap (λ b. entries_of s (cond b list (lists l))) (sym (eq-eqb l l refl)) ∙ listed.watched l s in
     by_clause (live s) refl (omega (arith, one, here, count))
   where
     by_watch : (c : Clause) (b : Bool) → watches c l ≡ b → 0 < cond {A = ℕ} b 1 0 → watches c l ≡ true
     by_watch c true e h = e
     by_watch c false e h = absurd (omega (arith, h))
 
-    by_clause : (o : Option Clause) → live (get_or list place 0) ≡ o → 0 < entries_for o l → (c : Clause) × (live (get_or list place 0) ≡ Some c) × (watches c l ≡ true)
+    by_clause : (o : Option Clause) → live (get_or list place d).slot ≡ o → 0 < entries_for o l →
+        (c : Clause) × (live (get_or list place d).slot ≡ Some c) × (watches c l ≡ true) × (strangers (get_or list place d).slot c list ≡ 0)
     by_clause None is h = absurd (omega (arith, h))
-    by_clause (Some c) is h = (c, is, by_watch c (watches c l) refl h)
+    by_clause (Some c) is h =
+        (c, is, by_watch c (watches c l) refl h, ap (λ b. strangers (get_or list place d).slot c (cond b list (lists l))) (sym (eq-eqb l l refl)) ∙ listed.own l (get_or list place d).slot c is)
+
+-- its clause, which has its literal
+pub entry_alive : (live : Live) (lists : Literal → List Watcher) (l : Literal) (list : List Watcher) → IsListed live (λ k. cond (eqb k l) list (lists k)) → (place : ℕ) (e : Watcher) → place < length list → e ≡ get_or list place e →
+    (c : Clause) × (live e.slot ≡ Some c) × (watches c l ≡ true) × (has c e.blocking ≡ true)
+entry_alive live lists l list listed place e inside is =
+    let w = slot_alive live lists l list listed place e inside in
+    (w.0, ap (λ x. live x.slot) is ∙ w.1, w.2, blocking_own list place e w.0 inside is (ap (λ x. strangers x.slot w.0 list) is ∙ w.3))
+
+-- an entry with another literal of its clause
+pub listed_written : (live : Live) (lists : Literal → List Watcher) (l : Literal) (list : List Watcher) → IsListed live (λ k. cond (eqb k l) list (lists k)) → (place : ℕ) (e entry : Watcher) → place < length list → e ≡ get_or list place e → entry.slot ≡ e.slot →
+    ((c : Clause) → live e.slot ≡ Some c → has c entry.blocking ≡ true) → IsListed live (λ k. cond (eqb k l) (set list place entry) (lists k))
+listed_written live lists l list listed place e entry inside is same own = record {
+  watched = λ k s. elim (cases_eq k l) [
+    | inl y ↦
+        ap (λ b. entries_of s (cond b (set list place entry) (lists k))) (eq-eqb k l y) ∙ as_many s ∙ ap (λ b. entries_of s (cond b list (lists k))) (sym (eq-eqb k l y)) ∙ listed.watched k s
+    | inr ne ↦ ap (λ b. entries_of s (cond b (set list place entry) (lists k))) (ne_eqb k l ne) ∙ ap (λ b. entries_of s (cond b list (lists k))) (sym (ne_eqb k l ne)) ∙ listed.watched k s
+  ];
+  low = listed.low;
+  own = λ k s c there. elim (cases_eq k l) [
+    | inl y ↦
+        let none = ap (λ b. strangers s c (cond b list (lists k))) (sym (eq-eqb k l y)) ∙ listed.own k s c there in
+        let left = fewer s c there in
+        ap (λ b. strangers s c (cond b (set list place entry) (lists k))) (eq-eqb k l y) ∙ omega (arith, none, left)
+    | inr ne ↦ ap (λ b. strangers s c (cond b (set list place entry) (lists k))) (ne_eqb k l ne) ∙ ap (λ b. strangers s c (cond b list (lists k))) (sym (ne_eqb k l ne)) ∙ listed.own k s c there
+  ];
+}
+  where
+    as_many : (s : ℕ) → entries_of s (set list place entry) ≡ entries_of s list
+    as_many s =
+        let put = sum_by-set (λ w. cond (eqb w.slot s) 1 0) list place entry e inside in
+        let alike : cond {A = ℕ} (eqb entry.slot s) 1 0 ≡ cond (eqb (get_or list place e).slot s) 1 0 = ap (λ n. cond {A = ℕ} (eqb n s) 1 0) (same ∙ ap (λ x. x.slot) is) in
+        omega (arith, put, alike)
+
+    fewer : (s : ℕ) (c : Clause) → live s ≡ Some c → strangers s c (set list place entry) ≤ strangers s c list
+    fewer s c there =
+        let put = sum_by-set (λ w. cond (eqb w.slot s && not (has c w.blocking)) 1 0) list place entry e inside in
+        let none : cond {A = ℕ} (eqb entry.slot s && not (has c entry.blocking)) 1 0 ≡ 0 = elim (cases_eq entry.slot s) [
+          | inl y ↦
+              ap (λ b. cond {A = ℕ} (b && not (has c entry.blocking)) 1 0) (eq-eqb entry.slot s y) ∙ ap (λ b. cond {A = ℕ} (not b) 1 0) (own c (ap live (sym same ∙ y) ∙ there))
+          | inr ne ↦ ap (λ b. cond {A = ℕ} (b && not (has c entry.blocking)) 1 0) (ne_eqb entry.slot s ne)
+        ] in
+        omega (arith, put, none)

@@ -1,9 +1,9 @@
 -- What follows from the clauses as they are shown follows from them as they are held.
-use Rattle.std.proofs.Common.{◌≡◌, ℕ, ◌/◌, true, Some, List, [], sym, ap, ◌∙◌}
+use Rattle.std.proofs.Common.{◌≡◌, ℕ, Some, List, [], sym, ◌∙◌}
 use Rattle.std.specs.Ordering.{nat_cmp}
 use Rattle.std.specs.FinMap as maps
 use Rattle.std.specs.FinMap.{FinMap}
-use Rattle.cnf_base.specs.Literals.{Literal, Clause, has, same_clause}
+use Rattle.cnf_base.specs.Literals.{Literal, Clause}
 use Rattle.cnf_base.proofs.SetLemmas.{same_from}
 use Rattle.propagation.specs.Forced.{Forced, IsRootReason}
 use Rattle.propagation.specs.Trail.{HasRoomForAll}

@@ -1,18 +1,18 @@
 -- What holds of watched literals, as assumptions come and go.
-use Rattle.std.proofs.Common.{◌≡◌, ◌≢◌, ℕ, suc, ◌+◌, ◌*◌, ◌/◌, ◌<◌, Bool, true, false, not, ◌&&◌, cond, eqb, eq-eqb, ne_eqb, Option, Some, None, is_some, nat_le, drop, slice_index, List, [], ◌∷◌, length, take, refl, sym, ap, ◌∙◌, subst, arith, inl, inr}
+use Rattle.std.proofs.Common.{◌≡◌, ◌≢◌, ℕ, suc, ◌+◌, ◌*◌, ◌/◌, ◌<◌, ◌≤◌, Bool, true, false, not, ◌&&◌, cond, eqb, eq-eqb, ne_eqb, Option, Some, None, is_some, nat_le, drop, slice_index, List, [], ◌∷◌, length, take, refl, sym, ap, ◌∙◌, subst, arith, inl, inr}
 use Rattle.std.specs.Ordering.{nat_cmp}
 use Rattle.std.specs.FinMap as maps
 use Rattle.std.specs.FinMap.{FinMap}
 use Rattle.std.proofs.lemmas.Bool.Decides.{nat_tests}
 use Rattle.std.proofs.lemmas.Bool.{cases_eq, false≢true}
-use Rattle.std.proofs.lemmas.Option.{none-some}
+use Rattle.std.proofs.lemmas.Option.{none-some, same_Some}
 use Rattle.cnf_base.specs.Literals.{Literal, Clause, has}
 use Rattle.propagation.specs.Assumptions.{Assumption, AssumptionsState, Propagation, roots_in}
 use Rattle.propagation.specs.Exact.{AreExact}
 use Rattle.propagation.specs.Scan.{IsHeld}
 use Rattle.propagation.specs.Trail.{SameSet, HasRoomForAll}
 use Rattle.clause_db.specs.Store.Clauses.{size}
-use Rattle.watch.specs.Lists.{AreApart, entries_in, list_at, times_in}
+use Rattle.watch.specs.Lists.{AreApart, entries_in, entries_of, list_at, strangers, times_in}
 use Rattle.watch.specs.Order.{each_in_order}
 use Rattle.watch.specs.Roots.{AreForced, IsKept, IsKnown, IsStanding, is_up_to_date}
 use Rattle.watch.specs.State.{IsWatch}
@@ -28,6 +28,7 @@ use Rattle.propagation.proofs.PropagationLemmas.Exact.{begins_on, longer_from}
 use Rattle.propagation.proofs.PropagationLemmas.Passes.{has_begun}
 use Rattle.propagation.proofs.PropagationLemmas.Scan.{held_reserved}
 use Rattle.watch.proofs.WatchLemmas.Follow.{front_part}
+use Rattle.watch.proofs.WatchLemmas.Lists.{strangers_none}
 use Rattle.watch.proofs.WatchLemmas.Kept.{kept_carried, kept_forced, roots_alone, roots_part}
 use Rattle.watch.proofs.WatchLemmas.Moves.{and_false, and_true}
 use Rattle.watch.proofs.WatchLemmas.Order.{ordered_empty, size-in_order, sum_ordered}
@@ -166,12 +167,12 @@ watch_noted live lists short roots after held as_known old watch = record {
   standing = subst (λ k. IsStanding k held.assumptions) (sym as_known) watch.standing;
 }
 
-pub watch_same : (live : FinMap nat_cmp Clause) (lists after : WatchLists) (short : List ℕ) (roots : Roots) (held : AssumptionsState) → AreApart after → ((l s : ℕ) → times_in s (list_at after l) ≡ times_in s (list_at lists l)) →
-    entries_in after ≡ entries_in lists → IsWatch live lists short roots held → IsWatch live after short roots held
-watch_same live lists after short roots held apart times entries watch = record {
+pub watch_same : (live : FinMap nat_cmp Clause) (lists after : WatchLists) (short : List ℕ) (roots : Roots) (held : AssumptionsState) → AreApart after → ((l s : ℕ) → entries_of s (list_at after l) ≡ entries_of s (list_at lists l)) →
+    ((l s : ℕ) (c : Clause) → maps.get live s ≡ Some c → strangers s c (list_at after l) ≤ strangers s c (list_at lists l)) → entries_in after ≡ entries_in lists → IsWatch live lists short roots held → IsWatch live after short roots held
+watch_same live lists after short roots held apart times fewer entries watch = record {
   scan = watch.scan;
   apart = apart;
-  listed = record { watched = λ l s. times l s ∙ watch.listed.watched l s; low = watch.listed.low };
+  listed = record { watched = λ l s. times l s ∙ watch.listed.watched l s; low = watch.listed.low; own = λ l s c is. let none = watch.listed.own l s c is in let left = fewer l s c is in omega (arith, none, left) };
   rest = watch.rest;
   watched = watch.watched;
   two_each = entries ∙ watch.two_each;
@@ -220,8 +221,9 @@ watch_empty live lists short roots held none empty no_entries apart no_short los
     let gone_shown = λ (s : ℕ). ap (λ m. maps.get m s) (ap each_in_order none ∙ ordered_empty) ∙ maps.get-empty nat_cmp s in
     watch_alone live lists short roots held nothing (record { each = λ k c here. absurd (none-some c (sym (gone_shown k) ∙ here)) }) apart
     (record {
-      watched = λ l s. ap (times_in s) (empty l) ∙ sym (ap (λ o. entries_for o l) (gone s));
+      watched = λ l s. ap (entries_of s) (empty l) ∙ sym (ap (λ o. entries_for o l) (gone s));
       low = λ s is. absurd (false≢true (sym (ap is_some (gone s)) ∙ is));
+      own = λ l s c here. absurd (none-some c (sym (gone s) ∙ here));
     })
     (record { listed = λ s. ap (times_in s) no_short ∙ sym (ap short_for (gone s)) }) (no_entries ∙ sym (ap (λ n. 2 * n) (ap long_clauses none ∙ sum_empty (λ c. cond (nat_le 2 (size c)) 1 0))))
     (ap length no_short ∙ sym (ap short_clauses none ∙ sum_empty (λ c. cond (nat_le 2 (size c)) 0 1)))
@@ -261,9 +263,10 @@ module _ (live after : FinMap nat_cmp Clause) (lists lists2 : WatchLists) (short
   two two_each one_each listed rest = watch_alone after lists2 short2 roots2 held2 nothing room apart listed rest two_each one_each kept
 
   pub watch_added : maps.get live slot ≡ None → after ≡ maps.insert live slot c → slot < 4294967296 →
-      ((l s : ℕ) → times_in s (list_at lists2 l) ≡ times_in s (list_at lists l) + cond (watches c l && eqb s slot) 1 0) → ((s : ℕ) → times_in s short2 ≡ times_in s short + cond (is_short c && eqb s slot) 1 0) →
+      ((l s : ℕ) → entries_of s (list_at lists2 l) ≡ entries_of s (list_at lists l) + cond (watches c l && eqb s slot) 1 0) →
+      ((l s : ℕ) (d : Clause) → (s ≡ slot → d ≡ c) → strangers s d (list_at lists2 l) ≤ strangers s d (list_at lists l)) → ((s : ℕ) → times_in s short2 ≡ times_in s short + cond (is_short c && eqb s slot) 1 0) →
       entries_in lists2 ≡ entries_in lists + cond (is_short c) 0 2 → length short2 ≡ length short + cond (is_short c) 1 0 → IsWatch after lists2 short2 roots2 held2
-  watch_added free is low times short_times entries longer =
+  watch_added free is low times fewer short_times entries longer =
       let more = ap long_clauses is ∙ sum_insert (λ c. cond (nat_le 2 (size c)) 1 0) live slot c free in
       let more_short = ap short_clauses is ∙ sum_insert (λ c. cond (nat_le 2 (size c)) 0 1) live slot c free in
       let weight = long_weight c different in
@@ -272,10 +275,20 @@ module _ (live after : FinMap nat_cmp Clause) (lists lists2 : WatchLists) (short
       let was_short = watch.one_each in
       two (omega (arith, more, weight, was, entries)) (omega (arith, more_short, weight_short, was_short, longer))
       (record {
-        watched = λ l s. times l s ∙ added (λ o. entries_for o l) refl (watches c l) refl s (times_in s (list_at lists l)) (watch.listed.watched l s);
+        watched = λ l s. times l s ∙ added (λ o. entries_for o l) refl (watches c l) refl s (entries_of s (list_at lists l)) (watch.listed.watched l s);
         low = λ s there. elim (cases_eq s slot) [
           | inl e ↦ subst (λ n. n < 4294967296) (sym e) low
           | inr ne ↦ watch.listed.low s (ap is_some (sym (others s ne)) ∙ there)
+        ];
+        own = λ l s d is_d. elim (cases_eq s slot) [
+          | inl e ↦
+              let none = strangers_none (list_at lists l) s d (watch.listed.watched l s ∙ ap (λ k. entries_for (maps.get live k) l) e ∙ ap (λ o. entries_for o l) free) in
+              let left = fewer l s d (λ _. same_Some d c (sym is_d ∙ here s e)) in
+              omega (arith, none, left)
+          | inr ne ↦
+              let none = watch.listed.own l s d (sym (others s ne) ∙ is_d) in
+              let left = fewer l s d (λ e. absurd (ne e)) in
+              omega (arith, none, left)
         ];
       }) (record { listed = λ s. short_times s ∙ added short_for refl (is_short c) refl s (times_in s short) (watch.rest.listed s) })
     where
@@ -299,9 +312,10 @@ module _ (live after : FinMap nat_cmp Clause) (lists lists2 : WatchLists) (short
       ]
 
   pub watch_removed : maps.get live slot ≡ Some c → after ≡ maps.remove live slot →
-      ((l s : ℕ) → times_in s (list_at lists2 l) + cond (watches c l && eqb s slot) 1 0 ≡ times_in s (list_at lists l)) → ((s : ℕ) → times_in s short2 + cond (is_short c && eqb s slot) 1 0 ≡ times_in s short) →
+      ((l s : ℕ) → entries_of s (list_at lists2 l) + cond (watches c l && eqb s slot) 1 0 ≡ entries_of s (list_at lists l)) →
+      ((l s : ℕ) (d : Clause) → strangers s d (list_at lists2 l) ≤ strangers s d (list_at lists l)) → ((s : ℕ) → times_in s short2 + cond (is_short c && eqb s slot) 1 0 ≡ times_in s short) →
       entries_in lists2 + cond (is_short c) 0 2 ≡ entries_in lists → length short2 + cond (is_short c) 1 0 ≡ length short → IsWatch after lists2 short2 roots2 held2
-  watch_removed there is times short_times entries shorter =
+  watch_removed there is times fewer short_times entries shorter =
       let less = sum_remove (λ c. cond (nat_le 2 (size c)) 1 0) live slot c there in
       let less_short = sum_remove (λ c. cond (nat_le 2 (size c)) 0 1) live slot c there in
       let as_map = ap long_clauses is in
@@ -312,10 +326,17 @@ module _ (live after : FinMap nat_cmp Clause) (lists lists2 : WatchLists) (short
       let was_short = watch.one_each in
       two (omega (arith, less, as_map, weight, was, entries)) (omega (arith, less_short, as_map_short, weight_short, was_short, shorter))
       (record {
-        watched = λ l s. removed (λ o. entries_for o l) refl (watches c l) refl s (times_in s (list_at lists2 l)) (times l s ∙ watch.listed.watched l s);
+        watched = λ l s. removed (λ o. entries_for o l) refl (watches c l) refl s (entries_of s (list_at lists2 l)) (times l s ∙ watch.listed.watched l s);
         low = λ s alive. elim (cases_eq s slot) [
           | inl e ↦ absurd (false≢true (sym (ap is_some (gone s e)) ∙ alive))
           | inr ne ↦ watch.listed.low s (ap is_some (sym (others s ne)) ∙ alive)
+        ];
+        own = λ l s d is_d. elim (cases_eq s slot) [
+          | inl e ↦ absurd (none-some d (sym (gone s e) ∙ is_d))
+          | inr ne ↦
+              let none = watch.listed.own l s d (sym (others s ne) ∙ is_d) in
+              let left = fewer l s d in
+              omega (arith, none, left)
         ];
       }) (record { listed = λ s. removed short_for refl (is_short c) refl s (times_in s short2) (short_times s ∙ watch.rest.listed s) })
     where

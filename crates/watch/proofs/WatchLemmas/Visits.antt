@@ -1,17 +1,14 @@
 -- What a look at a clause says of it.
-use Rattle.std.proofs.Common.{◌≡◌, ◌≢◌, ℕ, zero, suc, ◌-◌, ◌<◌, ◌≤◌, true, false, cond, List, [], ◌∷◌, length, get_or, sym, ap, ◌∙◌, arith, inl, inr}
+use Rattle.std.proofs.Common.{◌≡◌, ◌≢◌, ℕ, ◌-◌, ◌<◌, ◌≤◌, Bool, true, false, not, cond, List, [], ◌∷◌, ◌++◌, length, get_or, refl, sym, ap, ◌∙◌, arith, inl, inr}
 use Rattle.std.proofs.lemmas.Bool.{false_from_ne_true, cases_eq, cases_lt, true≢false}
 use Rattle.cnf_base.specs.Literals.{Literal, complement, Clause, has}
 use Rattle.cnf_base.proofs.LiteralLemmas.{complement-complement}
-use Rattle.cnf_base.proofs.SetLemmas.{has_head}
-use Rattle.clause_db.specs.Store.Clauses.{size}
+use Rattle.cnf_base.proofs.SetLemmas.{has_append_right, has_head}
 use Rattle.propagation.specs.Trail.{value_under, HasNoVariableTwice}
-use Rattle.watch.specs.Watched.{HasPartner}
 use Rattle.propagation.specs.declared.value.Value.{Value}
 use Rattle.propagation.specs.declared.value.Value.TheVariants.{True, False, Open}
 use Rattle.propagation.proofs.MemberLemmas.{place_of, has_place}
 use Rattle.propagation.proofs.PropagationLemmas.Truth.{consistent}
-use Rattle.clause_db.proofs.StoreLemmas.Distinct.{distinct_parts}
 
 -- a literal whose value isn't false isn't false
 pub not_false : (trues : List Literal) → HasNoVariableTwice trues → (m : Literal) (v : Value) → v ≡ value_under trues m → (v ≡ False → ⊥) → has trues (complement m) ≡ false
@@ -38,12 +35,11 @@ module _ (trues : List Literal) (c : Clause) (l : Literal) (from : ℕ) (inside 
   pub other_member : has c m ≡ true
   other_member = ap (has c) m_is ∙ has_place c (1 - from) (omega (arith, inside, long))
 
--- the other watched literal, where it becomes true
-pub partner_made : (trues : List Literal) (c : Clause) (l : Literal) (from : ℕ) → from < 2 → 2 ≤ length c → size c ≡ length c → get_or c from 0 ≡ l → (m : Literal) → m ≡ get_or c (1 - from) 0 → HasPartner c l (m ∷ trues)
-partner_made trues [] l from inside long different there m m_is = tt
-partner_made trues (a ∷ []) l from inside long different there m m_is = tt
-partner_made trues (a ∷ b ∷ c) l zero inside long different there m m_is =
-    (λ _. ap (λ x. has (x ∷ trues) b) m_is ∙ has_head b trues, λ same. absurd (true≢false (sym (has_head b c) ∙ ap (has (b ∷ c)) (same ∙ sym there) ∙ (distinct_parts a (b ∷ c) different).0)))
-partner_made trues (a ∷ b ∷ c) l (suc zero) inside long different there m m_is =
-    (λ same. absurd (true≢false (sym (has_head b c) ∙ ap (has (b ∷ c)) (there ∙ sym same) ∙ (distinct_parts a (b ∷ c) different).0)), λ _. ap (λ x. has (x ∷ trues) a) m_is ∙ has_head a trues)
-partner_made trues (a ∷ b ∷ c) l (suc (suc from)) inside long different there m m_is = absurd (omega (arith, inside))
+-- a literal that was made true
+pub made_true : (b : Bool) (lits after : List Literal) (m : Literal) → b ≡ not (has lits m) → after ≡ cond b (lits ++ m ∷ []) lits → has after m ≡ true
+made_true true lits after m was is = ap (λ ls. has ls m) is ∙ has_append_right lits (m ∷ []) m (has_head m [])
+made_true false lits after m was is = ap (λ ls. has ls m) is ∙ by_test (has lits m) was
+  where
+    by_test : (t : Bool) → false ≡ not t → t ≡ true
+    by_test true e = refl
+    by_test false e = absurd (true≢false (sym e))

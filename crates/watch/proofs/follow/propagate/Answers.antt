@@ -6,7 +6,7 @@ use Rattle.std.proofs.lemmas.List.{take-take, take_more}
 use Rattle.cnf_base.specs.Literals.{Clause, complement, has, variable}
 use Rattle.cnf_base.proofs.LiteralLemmas.{complement-complement}
 use Rattle.propagation.specs.Trail.{HasNoVariableTwice, conflicts}
-use Rattle.watch.specs.Watched.{HasPartner}
+use Rattle.watch.specs.Watched.{IsMet}
 use Rattle.propagation.proofs.MemberLemmas.{has_place}
 use Rattle.propagation.proofs.PropagationLemmas.MakesFalse.{no_conflict}
 use Rattle.propagation.proofs.PropagationLemmas.Passes.{has_begun}
@@ -57,14 +57,14 @@ loop-done-preserved c =
     sym (take-take (before.done + 1) (length trues) after (omega (arith, inside))) ∙ ap (take (before.done + 1)) e.carries.extends.begins ∙ take_more trues before.done 0 inside
     ∙ ap (λ x. take before.done trues ++ x ∷ []) (sym read) in
     let kept = e.carries.kept (take before.done trues) trues (front_part before.done trues) (λ l h. h) so_far.watched in
-    let partners = subst (λ o. IfNone o ((s : ℕ) (d : Clause) → maps.get c.follow.new.store.live s ≡ Some d → HasPartner d c.neg-l.result after)) c.in-None.is e.partners in
+    let partners = subst (λ o. IfNone o ((s : ℕ) (d : Clause) → maps.get c.follow.new.store.live s ≡ Some d → IsMet d c.neg-l.result after)) c.in-None.is e.partners in
     let grown = watched_grown live (take before.done trues) trues after (λ l h. has_begun trues after l e.carries.extends.begins h) kept in record {
       inside = let longer = e.carries.extends.longer in omega (arith, inside, longer);
       apart = e.apart;
       listed = e.listed;
       entries = e.entries ∙ so_far.entries;
       watched = watched_done live _ (take (before.done + 1) after) after front
-          (watched_more live (take before.done trues) after p grown (λ s d is. subst (λ l. HasPartner d l after) c.neg-l.ensures (partners s d is)));
+          (watched_more live (take before.done trues) after p grown (λ s d is. subst (λ l. IsMet d l after) c.neg-l.ensures (partners s d is)));
       carries = carries_on c.args.store.now.live before.store.live c.follow.new.store.live c.args.assumptions.now before.assumptions c.follow.new.assumptions (at c.args.reasons.now) (at before.reasons) (at c.follow.new.reasons) so_far.carries e.carries;
     }
 

@@ -1,11 +1,13 @@
-use Rattle.std.proofs.Common.{◌+◌, ◌<◌, ◌≤◌, length, take, sym, ap, ◌∙◌, arith}
+use Rattle.std.proofs.Common.{◌<◌, ◌≤◌, length, sym, ◌∙◌, arith}
 use Rattle.std.specs.FinMap as maps
 use Rattle.tables.specs.Table.{at}
-use Rattle.cnf_base.specs.Literals.{complement, has}
-use Rattle.watch.specs.Lists.{list_at}
+use Rattle.cnf_base.specs.Literals.{complement}
+use Rattle.watch.specs.Lists.{list_at, slot_at}
+use Rattle.watch.specs.declared.lists.Watcher.{Watcher}
+use Rattle.watch.proofs.WatchLemmas.Lists.{slot_is}
 use Rattle.propagation.proofs.PropagationLemmas.Passes.{has_begun}
 use Rattle.watch.proofs.WatchLemmas.Carries.{carries_on}
-use Rattle.watch.proofs.WatchLemmas.Follow.{all_partners, front_apart, visited_further, visited_here}
+use Rattle.watch.proofs.WatchLemmas.Follow.{all_met, front_apart, visited_further, visited_here}
 use Rattle.watch.proofs.follow.visit_all.Goals as goal
 
 pub visit-requires-clause-is_false : goal.visit-requires-clause-is_false
@@ -21,14 +23,19 @@ loop-place-preserved-in-Further c =
     let before = c.loop-place in
     let so_far = before.invariant in
     let e = c.in_ok-visit.ensures in
+    let after = c.visit.new.list.items in
     let inside : before.place < length before.list.items = let low = c.loop-place-test.true in let n = c.len.ensures in let fits = before.list.ok in omega arith in
-    let visited = visited_further (maps.get before.store.live) (maps.get c.visit.new.store.live) c.args.l before.assumptions.trail.lits c.visit.new.assumptions.trail.lits
-    (λ l h. has_begun before.assumptions.trail.lits c.visit.new.assumptions.trail.lits l e.carries.extends.begins h) before.list.items before.place inside so_far.visited e.others (e.partner c.in-Further.is) in record {
+    let as_long = e.further c.in-Further.is in
+    let still : before.place < length after = omega (arith, inside, as_long) in
+    let d : Watcher = record { slot = 0; blocking = 0 } in record {
       hand = e.hand;
       listed = e.listed;
       entries = let step = e.entries in let was = so_far.entries in omega arith;
       carries = carries_on c.args.store.now.live before.store.live c.visit.new.store.live c.args.assumptions.now before.assumptions c.visit.new.assumptions (at c.args.reasons.now) (at before.reasons) (at c.visit.new.reasons) so_far.carries e.carries;
-      visited = λ s there. visited s (ap (λ xs. has (take (before.place + 1) xs) s) (sym (e.further c.in-Further.is)) ∙ there);
+      visited =
+          visited_further (maps.get before.store.live) (maps.get c.visit.new.store.live) c.args.l before.assumptions.trail.lits c.visit.new.assumptions.trail.lits
+          (λ l h. has_begun before.assumptions.trail.lits c.visit.new.assumptions.trail.lits l e.carries.extends.begins h) before.list.items before.place (slot_at before.list.items before.place) so_far.visited e.others after e.front
+          d still (sym (slot_is after before.place d still) ∙ e.same_slot c.in-Further.is) (e.partner c.in-Further.is);
     }
 
 pub loop-place-preserved : goal.loop-place-preserved
@@ -36,15 +43,17 @@ loop-place-preserved c =
     let before = c.loop-place in
     let so_far = before.invariant in
     let e = c.in_ok-visit.ensures in
-    let inside : before.place < length before.list.items = let low = c.loop-place-test.true in let n = c.len.ensures in let fits = before.list.ok in omega arith in record {
+    let inside : before.place < length before.list.items = let low = c.loop-place-test.true in let n = c.len.ensures in let fits = before.list.ok in omega arith in
+    let d : Watcher = record { slot = 0; blocking = 0 } in record {
       hand = e.hand;
       listed = e.listed;
       entries = let step = e.entries in let was = so_far.entries in omega arith;
       carries = carries_on c.args.store.now.live before.store.live c.visit.new.store.live c.args.assumptions.now before.assumptions c.visit.new.assumptions (at c.args.reasons.now) (at before.reasons) (at c.visit.new.reasons) so_far.carries e.carries;
       visited =
           visited_here (maps.get before.store.live) (maps.get c.visit.new.store.live) c.args.l before.assumptions.trail.lits c.visit.new.assumptions.trail.lits
-          (λ l h. has_begun before.assumptions.trail.lits c.visit.new.assumptions.trail.lits l e.carries.extends.begins h) before.list.items before.place inside so_far.visited e.others
-          c.visit.new.list.items e.front (λ s there. front_apart (maps.get before.store.live) (list_at before.lists) c.args.l before.list.items so_far.listed before.place s inside there);
+          (λ l h. has_begun before.assumptions.trail.lits c.visit.new.assumptions.trail.lits l e.carries.extends.begins h) before.list.items before.place (slot_at before.list.items before.place) so_far.visited e.others
+          c.visit.new.list.items e.front
+          (λ s there same. front_apart (maps.get before.store.live) (list_at before.lists) c.args.l before.list.items so_far.listed before.place s d inside there (same ∙ slot_is before.list.items before.place d inside));
     }
 
 pub returns-in-Nothing-clause-carries : goal.returns-in-Nothing-clause-carries
@@ -55,4 +64,4 @@ pub returns-clause-partners : goal.returns-clause-partners
 returns-clause-partners c =
     let now = c.loop-place in
     let past : length now.list.items ≤ now.place = let high = c.loop-place-test.false in let n = c.len.ensures in let fits = now.list.ok in omega arith in
-    all_partners (maps.get now.store.live) (list_at now.lists) c.args.l now.list.items now.invariant.listed now.assumptions.trail.lits now.place past now.invariant.visited
+    all_met (maps.get now.store.live) (list_at now.lists) c.args.l now.list.items now.invariant.listed now.assumptions.trail.lits now.place past now.invariant.visited

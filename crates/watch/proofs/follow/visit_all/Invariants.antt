@@ -1,9 +1,9 @@
-use Rattle.std.proofs.Common.{◌≡◌, ℕ, ◌+◌, ◌-◌, true, Some, length, take}
+use Rattle.std.proofs.Common.{◌≡◌, ℕ, ◌+◌, ◌-◌, ◌<◌, Some, length, take}
 use Rattle.std.specs.FinMap as maps
 use Rattle.tables.specs.Table.{at}
-use Rattle.cnf_base.specs.Literals.{Clause, has}
-use Rattle.watch.specs.Lists.{entries_in}
-use Rattle.watch.specs.Watched.{HasPartner, IsListed}
+use Rattle.cnf_base.specs.Literals.{Clause}
+use Rattle.watch.specs.Lists.{entries_in, entries_of}
+use Rattle.watch.specs.Watched.{IsMet, IsListed}
 use Rattle.watch.specs.Visits.{Carries, IsInHand, with_list}
 use Rattle.watch.proofs.follow.visit_all.Given as goal
 
@@ -13,7 +13,7 @@ invariant-loop-place l = record {
   listed : IsListed (maps.get l.store.live) (with_list l.lists l.l l.list.items);
   entries : entries_in l.lists + length l.list.items ≡ entries_in l.fn.lists + length l.fn.list.items;
   carries : Carries l.fn.store.live l.store.live l.fn.assumptions l.assumptions (at l.fn.reasons) (at l.reasons);
-  visited : (s : ℕ) → has (take l.place l.list.items) s ≡ true → (c : Clause) → maps.get l.store.live s ≡ Some c → HasPartner c l.l l.assumptions.trail.lits;
+  visited : (s : ℕ) → 0 < entries_of s (take l.place l.list.items) → (c : Clause) → maps.get l.store.live s ≡ Some c → IsMet c l.l l.assumptions.trail.lits;
 }
 
 abbrev pub decreases-loop-place : goal.decreases-loop-place

@@ -1,11 +1,11 @@
 use Rattle.std.proofs.Common.{◌≡◌, ◌≤◌, ◌-◌, length, take}
-use Rattle.watch.specs.Lists.{times_in}
+use Rattle.watch.specs.Lists.{entries_of}
 use Rattle.watch.proofs.lists.pass_over.Given as goal
 
 abbrev pub invariant-loop-place : goal.invariant-loop-place
 invariant-loop-place l = record {
   inside : l.place ≤ length l.list;
-  none : times_in l.slot (take l.place l.list) ≡ 0;
+  none : entries_of l.slot (take l.place l.list) ≡ 0;
 }
 
 abbrev pub decreases-loop-place : goal.decreases-loop-place

@@ -1,8 +1,7 @@
-use Rattle.std.proofs.Common.{[], sym, ap, ◌∙◌, subst}
+use Rattle.std.proofs.Common.{sym, ap, ◌∙◌, subst}
 use Rattle.std.specs.FinMap as maps
 use Rattle.std.proofs.lemmas.Option.{same_Some}
 use Rattle.cnf_base.specs.Literals.{has}
-use Rattle.propagation.specs.Assumptions.{roots_in}
 use Rattle.propagation.specs.Forced.{IsRootReason}
 use Rattle.propagation.specs.Left.{is_one_at_most}
 use Rattle.propagation.specs.Trail.{HasNoVariableTwice, HasRoomForAll}

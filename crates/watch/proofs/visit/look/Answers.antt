@@ -1,5 +1,5 @@
 use Rattle.propagation.proofs.PropagationLemmas.Truth.{false_from_value}
-use Rattle.watch.proofs.WatchLemmas.Visits.{not_false, others_false, each_false, other_member, partner_made}
+use Rattle.watch.proofs.WatchLemmas.Visits.{not_false, others_false, each_false, other_member}
 use Rattle.watch.proofs.visit.look.Goals as goal
 
 pub returns-in-False-clause-visit : goal.returns-in-False-clause-visit
@@ -18,6 +18,5 @@ returns-in_default-value-clause-visit c =
     let clause = c.args.clause.now in (
       other_member trues clause c.args.l w.0 w.1 long w.2 m w.3 c.requires.is_false c.in-None.ensures.none,
       not_false trues c.value-value.ensures.different m c.value-value.result c.value-value.ensures.value c.in_default-value.not-False,
-      partner_made trues clause c.args.l w.0 w.1 long c.requires.different w.2 m w.3,
       others_false trues clause c.args.l w.0 w.1 long w.2 m w.3 c.requires.is_false c.in-None.ensures.none,
     )

@@ -1,12 +1,12 @@
-use Rattle.std.proofs.Common.{◌≡◌, ◌≢◌, ℕ, ◌/◌, option_map, is_some, sym, ap, subst, ◌∙◌, arith}
+use Rattle.std.proofs.Common.{◌≡◌, ◌≢◌, ℕ, ◌/◌, Some, option_map, is_some, sym, ap, subst, ◌∙◌, arith}
 use Rattle.std.specs.FinMap as maps
 use Rattle.std.proofs.lemmas.Bool.{false_from_ne_true}
-use Rattle.cnf_base.specs.Literals.{has}
+use Rattle.cnf_base.specs.Literals.{Clause, has}
 use Rattle.cnf_base.proofs.SetLemmas.{same_from, same_there, same_trans}
 use Rattle.watch.specs.Order.{each_in_order, in_order}
 use Rattle.watch.specs.Roots.{IsArranged, IsKept}
 use Rattle.watch.specs.State.{IsWatch}
-use Rattle.std.proofs.lemmas.Option.{same_Some}
+use Rattle.std.proofs.lemmas.Option.{none-some, same_Some}
 use Rattle.watch.specs.Watched.{short_for}
 use Rattle.clause_db.specs.Store.Clauses.{literals_in}
 use Rattle.propagation.proofs.PropagationLemmas.Scan.{room_added}
@@ -79,7 +79,7 @@ invariant_of-self-in-Ok c =
     (in_order w.0, seen_there after slot w.0 w.1, is_same) (λ s ne. get_ordered after s ∙ ap (option_map in_order) (others s ne) ∙ sym (get_ordered live s)) in (
       watch_added live after i.lists c.add_entries.new.lists i.short c.add_entries.new.short c.reserve-2.new.self c.enter.new.self held now watch (n.assumptions ∙ r.assumptions ∙ ap (λ w. w.propagation.assumptions) c.self.view_is ∙ c.requires)
           slot w.0 (e.different w.0 w.1) e.apart (record { each = λ k x here l member. n.met (l / 2) ∙ room.each k x here l member }) n.kept
-          c.in_ok-slot.ensures.free (inserted_is live after slot w.0 w.1 others) e.low (e.watched w.0 w.1) (e.rest w.0 w.1) (e.more w.0 w.1) (e.longer w.0 w.1),
+          c.in_ok-slot.ensures.free (inserted_is live after slot w.0 w.1 others) e.low (e.watched w.0 w.1) (e.strangers w.0 w.1) (e.rest w.0 w.1) (e.more w.0 w.1) (e.longer w.0 w.1),
       c.arrange-left.ensures.live_alone ∙ sym (literals_ordered after),
     )
 
@@ -91,10 +91,13 @@ invariant_of-self-in-Err c =
     let roots = c.reserve-2.new.self in
     let r = c.reserve.ensures in
     let watch = watch_noted live i.lists i.short i.roots roots held c.reserve-2.ensures.kept c.reserve-2.ensures.old (watch_reserved live i.lists i.short i.roots i.assumptions held r.lits r.assumptions r.starts r.met c.self.invariant.0) in
+    let d = c.in_ok-slot.ensures.stored in
+    let w = c.arrange-left.ensures.arranged d.0 d.1 in
     let e = c.in-Err.ensures in
+    let fewer = λ (l s : ℕ) (x : Clause) (is : maps.get live s ≡ Some x). e.strangers w.0 w.1 l s x (λ same. absurd (none-some x (sym (ap (maps.get live) same ∙ c.in_ok-slot.ensures.free) ∙ is))) in
     let back = c.remove.ensures.live ∙ removed_back live c.arrange-left.new.store.live c.in_ok-slot.slot c.in_ok-slot.ensures.free (λ s ne. c.arrange-left.ensures.others s ne ∙ c.in_ok-slot.ensures.others s ne) in (
       subst (λ m. IsWatch m c.add_entries.new.lists c.add_entries.new.short roots held) (sym back)
-          (subst (λ xs. IsWatch live c.add_entries.new.lists xs roots held) (sym e.err_rest) (watch_same live i.lists c.add_entries.new.lists i.short roots held e.apart e.err_watched e.err_entries watch)),
+          (subst (λ xs. IsWatch live c.add_entries.new.lists xs roots held) (sym e.err_rest) (watch_same live i.lists c.add_entries.new.lists i.short roots held e.apart e.err_watched fewer e.err_entries watch)),
       c.remove.ensures.live_alone ∙ sym (literals_ordered c.remove.new.self.live),
     )
 

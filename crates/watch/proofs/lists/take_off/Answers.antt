@@ -1,0 +1,16 @@
+use Rattle.std.proofs.Common.{◌≡◌, ◌+◌, ◌<◌, ◌≤◌, length, cond, eqb, sym, ap, ◌∙◌, subst}
+use Rattle.watch.specs.Lists.{entries_of, slot_at, strangers}
+use Rattle.watch.proofs.WatchLemmas.Lists.{entries_taken, strangers_left}
+use Rattle.watch.proofs.lists.take_off.Goals as goal
+
+pub returns-clause-times : goal.returns-clause-times
+returns-clause-times c s =
+    let p = c.place_in-place in
+    let place = subst (λ xs. (p.result < length xs) × (slot_at xs p.result ≡ c.args.slot)) c.deref.ensures.value (p.ensures.inside, p.ensures.there) in
+    ap (λ xs. entries_of s xs + cond (eqb s c.args.slot) 1 0) c.swap_remove.ensures.items ∙ entries_taken c.args.list.now.items p.result c.args.slot _ place.0 place.1 s
+
+pub returns-clause-strangers : goal.returns-clause-strangers
+returns-clause-strangers c s d =
+    let p = c.place_in-place in
+    let inside = subst (λ xs. p.result < length xs) c.deref.ensures.value p.ensures.inside in
+    subst (λ xs. strangers s d xs ≤ strangers s d c.args.list.now.items) (sym c.swap_remove.ensures.items) (strangers_left c.args.list.now.items p.result _ inside s d)
