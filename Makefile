@@ -7,8 +7,9 @@
 # make uninstall     removes them there
 # make test-solvers  runs real SAT solvers, and the programs on what they wrote
 # make test-package  builds the Debian package, and runs the programs that are in it
+# make test-edits    tries the wrong bodies of tests/edits, which the gate doesn't
 #
-# The first two need the Rattle kit's command rt on the PATH, or named by RT=..
+# The first two and the last need the Rattle kit's command rt on the PATH, or named by RT=..
 
 RT ?= rt
 PREFIX ?= /usr/local
@@ -21,7 +22,7 @@ PROGRAMS := drat-forward lrat-check model-check
 SOURCES := crates.txt HANDLES $(shell find crates -name out -prune -o -type f -print)
 
 .DELETE_ON_ERROR:
-.PHONY: all test test-solvers test-package bench clean install uninstall
+.PHONY: all test test-solvers test-package test-edits bench clean install uninstall
 
 all: bin/lrat-check bin/drat-forward bin/model-check
 
@@ -50,6 +51,9 @@ test-solvers:
 
 test-package:
 	packaging/test-deb.sh
+
+test-edits:
+	@RT="$(RT)" tests/edits.sh
 
 bench: bin/lrat-check bin/drat-forward bin/model-check
 	bench/run.sh

@@ -17,25 +17,13 @@ import subprocess
 import sys
 import tempfile
 
+from edit import edited, pairs_of
+
 ROOT = os.path.dirname(os.path.dirname(os.path.abspath(__file__)))
 RT = os.environ.get("RT") or "rt"
 PARTS = ["src", "specs", "proofs"]
 # The clauses on models: of a session's step, and of an engine.
 GOAL = re.compile(r"`returns[^`]*-clause-(keeps_models|checks)`")
-
-
-def pairs_of(edit):
-    """The pairs of an edit: file, old text, new text."""
-    pairs, file, old = [], None, None
-    with open(edit, encoding="utf-8") as lines:
-        for line in lines.read().split("\n"):
-            if line.startswith("file: "):
-                file = line[len("file: ") :]
-            elif line.startswith("old: "):
-                old = line[len("old: ") :]
-            elif line.startswith("new:"):
-                pairs.append((file, old, line[len("new: ") :]))
-    return pairs
 
 
 def check(room, crate, pairs, jobs=("--jobs", "1")):
@@ -45,13 +33,12 @@ def check(room, crate, pairs, jobs=("--jobs", "1")):
         shutil.rmtree(f"{folder}/{part}", ignore_errors=True)
         if os.path.isdir(f"{ROOT}/crates/{crate}/{part}"):
             shutil.copytree(f"{ROOT}/crates/{crate}/{part}", f"{folder}/{part}")
-    for file, old, new in pairs:
-        with open(f"{folder}/{file}", encoding="utf-8") as text:
-            before = text.read()
-        if before.count(old) != 1:
-            return None, f"an old text is in {file} {before.count(old)} times: {old}"
-        with open(f"{folder}/{file}", "w", encoding="utf-8") as text:
-            text.write(before.replace(old, new))
+    texts, why = edited(folder, pairs)
+    if texts is None:
+        return None, why
+    for file, text in texts.items():
+        with open(f"{folder}/{file}", "w", encoding="utf-8") as to:
+            to.write(text)
     ran = subprocess.run([RT, "check", *jobs], cwd=folder, stdin=subprocess.DEVNULL, stdout=subprocess.PIPE,
                          stderr=subprocess.STDOUT, text=True, errors="replace", check=False)
     return ran.returncode == 0, ran.stdout

@@ -1,8 +1,8 @@
 #!/usr/bin/env bash
 # All tests: the gate (every proof from nothing, the must-fail edits, the crates' tests and the programs' stored runs) and
-# beside it, where processors are idle, the control of the edits that try the clauses on models alone; then the programs as
-# users run them, their manual pages, counts of allocations, and runs in which each allocation is refused. The last line is
-# "N passed, M failed" over all.
+# beside it, where processors are idle, the control of the edits that try the clauses on models alone; before it, whether the
+# edits of tests/edits can still be made; then the programs as users run them, their manual pages, counts of allocations, and
+# runs in which each allocation is refused. The last line is "N passed, M failed" over all.
 #
 # RT names the command rt, where it isn't on the PATH.
 set -uo pipefail
@@ -27,6 +27,10 @@ count() {
     fi
     echo "(so far $((SECONDS / 60)) minutes)"
 }
+
+echo "== tests/edits_apply.py"
+python3 tests/edits_apply.py 2>&1 | tee "$log"
+count "${PIPESTATUS[0]}"
 
 RT="${RT:-rt}" nice python3 tests/controls.py --anew >"$controls" 2>&1 &
 controls_run=$!
