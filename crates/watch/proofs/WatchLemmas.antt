@@ -1,5 +1,6 @@
 -- Watched literals.
 pub mod Lists
+pub mod Near
 pub mod Shown
 pub mod SlotList
 pub mod Order

@@ -1,9 +1,10 @@
 -- Watch lists, and the slots of the clauses that need none.
-use Rattle.std.specs.Prelude.{◌≡◌, ℕ, ◌<◌, ◌==◌, ◌&&◌, not, List, [], Option, Some, None, length, sum_by, slice_get, Vec, if◌then◌else◌}
+use Rattle.std.specs.Prelude.{◌≡◌, ℕ, ◌+◌, ◌<◌, ◌==◌, ◌&&◌, ◌||◌, Bool, nat_lt, is_some, not, List, [], Option, Some, None, length, sum_by, slice_get, Vec, if◌then◌else◌}
 use Rattle.std.specs.Global.{Global}
 use Rattle.cnf_base.specs.Literals.{Literal, Clause, has}
 use Rattle.tables.specs.Table.{at}
-use Rattle.watch.specs.declared.lists.Watcher.{Watcher}
+use Rattle.watch.specs.declared.watcher.Watcher.{Watcher}
+use Rattle.watch.specs.declared.far_lists.FarLists.{FarLists}
 use Rattle.watch.specs.declared.lists.WatchLists.{WatchLists}
 
 -- how often a slot stands in a list
@@ -37,15 +38,40 @@ abbrev pub items_at : List (Vec Watcher Global) → Option ℕ → List Watcher
 items_at lists None = []
 items_at lists (Some number) = items_of (slice_get lists number)
 
+-- ---- Lists by number
+
+-- the entries of the list of a key
+abbrev pub far_at : FarLists → ℕ → List Watcher
+far_at far k = items_at far.lists.items (at far.numbers k)
+
+-- the entries of all lists
+abbrev pub far_entries : FarLists → ℕ
+far_entries far = sum_by (λ list. length list.items) far.lists.items
+
+-- each number is that of a list, and of one key
+pub record AreFarApart (far : FarLists) : Type 0 where
+  pub inside : (k n : ℕ) → at far.numbers k ≡ Some n → n < length far.lists.items
+  pub apart : (j k n : ℕ) → at far.numbers j ≡ Some n → at far.numbers k ≡ Some n → j ≡ k
+
+-- ---- All lists
+
+-- the entries of a list, or else these
+abbrev pub near_or : Option (Vec Watcher Global) → List Watcher → List Watcher
+near_or None rest = rest
+near_or (Some list) rest = list.items
+
 -- the entries of the list of a literal
 abbrev pub list_at : WatchLists → Literal → List Watcher
-list_at watches l = items_at watches.lists.items (at watches.numbers l)
+list_at watches l = near_or (slice_get watches.near.items l) (far_at watches.far l)
+
+-- whether a literal has a list
+abbrev pub has_list_at : WatchLists → Literal → Bool
+has_list_at watches l = nat_lt l (length watches.near.items) || is_some (at watches.far.numbers l)
 
 -- the entries of all lists
 abbrev pub entries_in : WatchLists → ℕ
-entries_in watches = sum_by (λ list. length list.items) watches.lists.items
+entries_in watches = sum_by (λ list. length list.items) watches.near.items + far_entries watches.far
 
--- each number is that of a list, and of one literal
-pub record AreApart (watches : WatchLists) : Type 0 where
-  pub inside : (l n : ℕ) → at watches.numbers l ≡ Some n → n < length watches.lists.items
-  pub apart : (k l n : ℕ) → at watches.numbers k ≡ Some n → at watches.numbers l ≡ Some n → k ≡ l
+-- no two lists are one
+abbrev pub AreApart : WatchLists → Type 0
+AreApart watches = AreFarApart watches.far

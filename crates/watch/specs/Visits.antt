@@ -4,15 +4,14 @@ use Rattle.std.specs.Ordering.{nat_cmp}
 use Rattle.std.specs.FinMap as maps
 use Rattle.std.specs.FinMap.{FinMap}
 use Rattle.cnf_base.specs.Literals.{Literal, complement, Clause, has}
-use Rattle.tables.specs.Table.{at}
 use Rattle.propagation.specs.Forced.{Forced}
 use Rattle.propagation.specs.Assumptions.{AssumptionsState}
 use Rattle.propagation.specs.Exact.{Extends}
-use Rattle.watch.specs.Lists.{AreApart, list_at}
+use Rattle.watch.specs.Lists.{AreApart, has_list_at, list_at}
 use Rattle.watch.specs.Order.{each_in_order}
 use Rattle.watch.specs.Roots.{AreReasoned}
 use Rattle.watch.specs.Watched.{IsWatched, short_for}
-use Rattle.watch.specs.declared.lists.Watcher.{Watcher}
+use Rattle.watch.specs.declared.watcher.Watcher.{Watcher}
 use Rattle.watch.specs.declared.lists.WatchLists.{WatchLists}
 use Rattle.watch.specs.declared.visit.Visit.{Visit}
 use Rattle.watch.specs.declared.visit.Visit.TheVariants.{Stays, Moves, Unit, Clash}
@@ -50,7 +49,7 @@ pub record Carries (before after : FinMap nat_cmp Clause) (held now : Assumption
 
 -- the list of the literal is in hand, and an empty one in its place
 pub record IsInHand (lists : WatchLists) (l : Literal) : Type 0 where
-  pub known : IsSome (at lists.numbers l)
+  pub known : IsTrue (has_list_at lists l)
   pub taken : list_at lists l ≡ []
   pub apart : AreApart lists
 

@@ -8,7 +8,7 @@ use Rattle.propagation.specs.Assumptions.{Assumption}
 use Rattle.watch.specs.Lists.{entries_of, strangers, times_in}
 use Rattle.clause_db.specs.Store.Clauses.{size, sum_over}
 use Rattle.propagation.specs.declared.answer.Answer.TheVariants.{Quiet}
-use Rattle.watch.specs.declared.lists.Watcher.{Watcher}
+use Rattle.watch.specs.declared.watcher.Watcher.{Watcher}
 
 -- whether a clause watches a literal
 abbrev pub watches : Clause → Literal → Bool

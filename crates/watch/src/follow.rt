@@ -14,9 +14,10 @@ ghost use Rattle.watch.specs.Visits.{Carries, IsInHand, with_list};
 ghost use Rattle.tables.specs.Table.{at};
 ghost use Rattle.watch.specs.declared.follow.Next.TheVariants.{Further, Here, Nothing};
 
-use crate::lists::{WatchLists, Watcher};
+use crate::lists::WatchLists;
 use crate::roots::set_by;
 use crate::visit::{Exchange, Visit, look};
+use crate::watcher::Watcher;
 use clause_db::{Slot, Store};
 use cnf_base::{Lit, OutOfMemory};
 use propagation::Assumptions;

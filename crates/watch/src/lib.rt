@@ -3,6 +3,7 @@
 
 mod arrange;
 mod entries;
+mod far_lists;
 mod follow;
 mod lists;
 mod reason;
@@ -14,5 +15,6 @@ mod source;
 mod units;
 mod visit;
 mod watch;
+mod watcher;
 
 pub use watch::Watch;

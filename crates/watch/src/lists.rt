@@ -1,102 +1,40 @@
-//! Watch lists: by literal the slots of the clauses that watch it.
+//! Watch lists: by literal the entries of the clauses that watch it.
 
 ghost use Rattle.std.specs.Prelude.{◌≡◌, ℕ, ◌+◌, ◌==◌, ◌&&◌, ◌++◌, ◌∷◌, [], length, min, if◌then◌else◌, IsSome, IsTrue, IfOk, OnOk, OnErr, Some, take, true, false, ◌≢◌, ◌<◌, ◌≤◌};
 ghost use Rattle.cnf_base.specs.Literals.{Literal, Clause, has};
-ghost use Rattle.tables.specs.Table.{at};
-ghost use Rattle.watch.specs.Lists.{AreApart, entries_in, entries_of, list_at, slot_at, strangers};
+ghost use Rattle.watch.specs.Lists.{AreApart, entries_in, entries_of, has_list_at, list_at, strangers};
 
+use crate::far_lists::FarLists;
+use crate::watcher::{Watcher, take_off};
 use cnf_base::{Lit, OutOfMemory};
 use std::alloc::Global;
 use std::mem;
-use tables::{Table, key};
+use tables::key;
 
-/// An entry of a watch list: the slot of a clause, and a literal of it. Where that is true, the clause need not be looked at.
-#[derive(Clone, Copy)]
-pub(crate) struct Watcher {
-    pub(crate) slot: u32,
-    pub(crate) blocking: Lit,
-}
-
-/// By literal a list of entries, each of eight bytes: the lists are what a propagation reads most.
+/// By literal a list of entries.
+///
+/// The literals whose keys are below `near.len()` have their lists in `near`, all others in `far`: an entry comes to a list
+/// among dense literals by one look-up.
 #[derive(Drop)]
 pub(crate) struct WatchLists {
     alloc: Global,
-    /// By literal the number of its list.
-    numbers: Table<u32>,
-    lists: Vec<Vec<Watcher>>,
+    near: Vec<Vec<Watcher>>,
+    far: FarLists,
+    /// How often room was made for a literal that had no list.
+    count: usize,
+    /// Where in its list the entry stood that was taken out last, by the last bits of the literal's key. Clauses that are deleted
+    /// one after the other often stand side by side.
+    places: [usize; PLACES],
 }
 
-/// How many entries are looked at without a branch, by a processor's wide registers, where a list is long.
-const MANY_AT_ONCE: usize = 64;
+/// The length from which `near` grows.
+const LEAST: usize = 1024;
 
-/// How many are, where fewer are left.
-const FEW_AT_ONCE: usize = 16;
+/// How many places are noted.
+const PLACES: usize = 64;
 
-/// Whether none of these entries is of the slot.
-fn lacks(list: &[Watcher], slot: u32) -> bool
-    ensures { IsTrue result → entries_of slot list.now ≡ 0 }
-{
-    let mut is_absent = true;
-    for place in 0..list.len() {
-        is_absent &= list[place].slot != slot;
-    }
-    is_absent
-}
-
-/// The place of the entry of a slot in a list that has one, from this place on.
-fn place_from(list: &[Watcher], slot: u32, from: usize) -> usize
-    requires there { 0 < entries_of slot list.now }
-    requires absent { entries_of slot (take from list.now) ≡ 0 }
-    ensures inside { result < length list.now }
-    ensures there { slot_at list.now result ≡ slot }
-{
-    for place in from..list.len() {
-        if list[place].slot == slot {
-            return place;
-        }
-    }
-    0
-}
-
-/// Goes over as many entries at once as long as none is of the slot, from this place on.
-#[inline(always)]
-fn pass_over(list: &[Watcher], slot: u32, from: usize, at_once: usize) -> usize
-    requires some { 0 < at_once }
-    requires inside { from ≤ length list.now }
-    requires absent { entries_of slot (take from list.now) ≡ 0 }
-    ensures inside { result ≤ length list.now }
-    ensures absent { entries_of slot (take result list.now) ≡ 0 }
-{
-    let mut place = from;
-    while list.len() - place >= at_once && lacks(&list[place..place + at_once], slot) {
-        place += at_once;
-    }
-    place
-}
-
-/// The place of the entry of a slot in a list that has one.
-fn place_in(list: &[Watcher], slot: u32) -> usize
-    requires { 0 < entries_of slot list.now }
-    ensures inside { result < length list.now }
-    ensures there { slot_at list.now result ≡ slot }
-{
-    let far = pass_over(list, slot, 0, MANY_AT_ONCE);
-    let near = pass_over(list, slot, far, FEW_AT_ONCE);
-    place_from(list, slot, near)
-}
-
-/// Takes the entry of a slot out of a list that has one.
-fn take_off(list: &mut Vec<Watcher>, slot: u32)
-    requires { 0 < entries_of slot list.old.items }
-    ensures times { (s : ℕ) → entries_of s list.new.items + (if s == slot then 1 else 0) ≡
-        entries_of s list.old.items }
-    ensures strangers { (s : ℕ) (c : Clause) →
-        strangers s c list.new.items ≤ strangers s c list.old.items }
-    ensures len { length list.new.items + 1 ≡ length list.old.items }
-{
-    let place = place_in(list, slot);
-    list.swap_remove(place);
-}
+/// The key past the greatest one.
+const MOST: usize = 536870912;
 
 impl WatchLists {
     /// No lists.
@@ -107,8 +45,10 @@ impl WatchLists {
     {
         WatchLists {
             alloc,
-            numbers: Table::new(alloc),
-            lists: Vec::new(alloc),
+            near: Vec::new(alloc),
+            far: FarLists::new(alloc),
+            count: 0,
+            places: [0; PLACES],
         }
     }
 
@@ -117,33 +57,48 @@ impl WatchLists {
         ensures { result ≡ min (entries_in self.now) 18446744073709551615 }
     {
         let mut entries: u64 = 0;
-        for number in 0..self.lists.len() {
-            entries = entries.saturating_add(self.lists[number].len() as u64);
+        for key in 0..self.near.len() {
+            entries = entries.saturating_add(self.near[key].len() as u64);
         }
-        entries
+        entries.saturating_add(self.far.entries())
     }
 
-    /// The number of the list of a literal. It makes an empty one where there is none.
-    fn number_for(&mut self, l: Lit) -> Result<usize, OutOfMemory>
-        requires { AreApart self.old }
-        ensures number { IfOk result (λ n. at self.new.numbers l ≡ Some n) }
+    /// Lengthens `near`, with the lists that `far` has there.
+    fn widen(&mut self, len: usize) -> Result<(), OutOfMemory>
+        requires len { len ≤ 536870912 }
+        requires apart { AreApart self.old }
         ensures lists { (k : Literal) → list_at self.new k ≡ list_at self.old k }
         ensures entries { entries_in self.new ≡ entries_in self.old }
-        ensures known { (k : Literal) → IsSome (at self.old.numbers k) →
-            IsSome (at self.new.numbers k) }
+        ensures known { (k : Literal) → IsTrue (has_list_at self.old k) →
+            IsTrue (has_list_at self.new k) }
         ensures apart { AreApart self.new }
     {
-        if let Some(number) = self.numbers.get(key(l)) {
-            return Ok(number as usize);
+        for key in self.near.len()..len {
+            self.near.reserve(1)?;
+            let list = self.far.take_out(key as u32);
+            self.near.push_reserved(list);
         }
-        let number = self.lists.len();
-        let Ok(short) = u32::try_from(number) else {
-            return Err(OutOfMemory);
-        };
-        self.lists.reserve(1)?;
-        self.numbers.reserve(key(l), short)?;
-        self.lists.push_reserved(Vec::new(self.alloc));
-        Ok(number)
+        Ok(())
+    }
+
+    /// Makes room in `near` for a literal that has no list, unless it is far from those that have one.
+    fn make_room(&mut self, l: Lit) -> Result<(), OutOfMemory>
+        requires { AreApart self.old }
+        ensures lists { (k : Literal) → list_at self.new k ≡ list_at self.old k }
+        ensures entries { entries_in self.new ≡ entries_in self.old }
+        ensures known { (k : Literal) → IsTrue (has_list_at self.old k) →
+            IsTrue (has_list_at self.new k) }
+        ensures apart { AreApart self.new }
+    {
+        if self.has_list(l) {
+            return Ok(());
+        }
+        self.count = self.count.saturating_add(1);
+        let limit = self.count.saturating_mul(4).saturating_add(LEAST);
+        if l.index() < limit {
+            self.widen(limit.min(MOST))?;
+        }
+        Ok(())
     }
 
     /// The same as `push`, where the literal has no list yet, or a full one.
@@ -156,13 +111,17 @@ impl WatchLists {
         ensures more { OnOk result (entries_in self.new ≡ entries_in self.old + 1) }
         ensures err { OnErr result ((k : Literal) → list_at self.new k ≡ list_at self.old k) }
         ensures as_many { OnErr result (entries_in self.new ≡ entries_in self.old) }
-        ensures known { (k : Literal) → IsSome (at self.old.numbers k) →
-            IsSome (at self.new.numbers k) }
+        ensures known { (k : Literal) → IsTrue (has_list_at self.old k) →
+            IsTrue (has_list_at self.new k) }
         ensures apart { AreApart self.new }
     {
-        let number = self.number_for(l)?;
-        self.lists[number].push(watcher)?;
-        Ok(())
+        self.make_room(l)?;
+        if l.index() < self.near.len() {
+            self.near[l.index()].push(watcher)?;
+            Ok(())
+        } else {
+            self.far.push(key(l), watcher)
+        }
     }
 
     /// Puts an entry at the end of the list of a literal.
@@ -174,12 +133,12 @@ impl WatchLists {
         ensures more { OnOk result (entries_in self.new ≡ entries_in self.old + 1) }
         ensures err { OnErr result ((k : Literal) → list_at self.new k ≡ list_at self.old k) }
         ensures as_many { OnErr result (entries_in self.new ≡ entries_in self.old) }
-        ensures known { (k : Literal) → IsSome (at self.old.numbers k) →
-            IsSome (at self.new.numbers k) }
+        ensures known { (k : Literal) → IsTrue (has_list_at self.old k) →
+            IsTrue (has_list_at self.new k) }
         ensures apart { AreApart self.new }
     {
-        if let Some(number) = self.numbers.get(key(l)) {
-            let list = &mut self.lists[number as usize];
+        if l.index() < self.near.len() {
+            let list = &mut self.near[l.index()];
             if list.len() < list.capacity() {
                 list.push_reserved(watcher);
                 return Ok(());
@@ -190,43 +149,45 @@ impl WatchLists {
 
     /// Whether the literal has a list.
     pub(crate) fn has_list(&self, l: Lit) -> bool
-        ensures yes { result ≡ true → IsSome (at self.now.numbers l) }
+        ensures yes { result ≡ true → IsTrue (has_list_at self.now l) }
         ensures no { result ≡ false → list_at self.now l ≡ [] }
     {
-        self.numbers.get(key(l)).is_some()
+        l.index() < self.near.len() || self.far.has_list(key(l))
     }
 
     /// Takes the list of a literal out, and leaves an empty one in its place.
     pub(crate) fn take_out(&mut self, l: Lit) -> Vec<Watcher>
         requires apart { AreApart self.old }
-        requires known { IsSome (at self.old.numbers l) }
+        requires known { IsTrue (has_list_at self.old l) }
         ensures list { result.items ≡ list_at self.old l }
         ensures others { (k : Literal) → list_at self.new k ≡
             (if k == l then [] else list_at self.old k) }
         ensures entries { entries_in self.new + length result.items ≡ entries_in self.old }
-        ensures known { (k : Literal) → at self.new.numbers k ≡ at self.old.numbers k }
+        ensures known { (k : Literal) → has_list_at self.new k ≡ has_list_at self.old k }
         ensures apart { AreApart self.new }
     {
-        let empty = Vec::new(self.alloc);
-        match self.numbers.get(key(l)) {
-            Some(number) => mem::replace(&mut self.lists[number as usize], empty),
-            None => empty,
+        if l.index() < self.near.len() {
+            mem::replace(&mut self.near[l.index()], Vec::new(self.alloc))
+        } else {
+            self.far.take_out(key(l))
         }
     }
 
     /// Puts a list in the place of the empty one of a literal.
     pub(crate) fn put_back(&mut self, l: Lit, list: Vec<Watcher>)
         requires apart { AreApart self.old }
-        requires known { IsSome (at self.old.numbers l) }
+        requires known { IsTrue (has_list_at self.old l) }
         requires taken { list_at self.old l ≡ [] }
         ensures lists { (k : Literal) → list_at self.new k ≡
             (if k == l then list.items else list_at self.old k) }
         ensures entries { entries_in self.new ≡ entries_in self.old + length list.items }
-        ensures known { (k : Literal) → at self.new.numbers k ≡ at self.old.numbers k }
+        ensures known { (k : Literal) → has_list_at self.new k ≡ has_list_at self.old k }
         ensures apart { AreApart self.new }
     {
-        if let Some(number) = self.numbers.get(key(l)) {
-            self.lists[number as usize] = list;
+        if l.index() < self.near.len() {
+            self.near[l.index()] = list;
+        } else {
+            self.far.put_back(key(l), list);
         }
     }
 
@@ -242,8 +203,11 @@ impl WatchLists {
         ensures entries { entries_in self.new + 1 ≡ entries_in self.old }
         ensures apart { AreApart self.new }
     {
-        if let Some(number) = self.numbers.get(key(l)) {
-            take_off(&mut self.lists[number as usize], slot);
+        if l.index() < self.near.len() {
+            let middle = self.places[l.index() % PLACES];
+            self.places[l.index() % PLACES] = take_off(&mut self.near[l.index()], slot, middle);
+        } else {
+            self.far.take_off(key(l), slot);
         }
     }
 

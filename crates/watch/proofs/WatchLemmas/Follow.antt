@@ -10,7 +10,7 @@ use Rattle.propagation.specs.Forced.{Live}
 use Rattle.watch.specs.Lists.{entries_of, strangers, times_in}
 use Rattle.watch.specs.Visits.{IsPart}
 use Rattle.watch.specs.Watched.{watches, entries_for, IsListed, IsMet, IsWatched}
-use Rattle.watch.specs.declared.lists.Watcher.{Watcher}
+use Rattle.watch.specs.declared.watcher.Watcher.{Watcher}
 use Rattle.propagation.proofs.PropagationLemmas.Passes.{pushed_each}
 
 -- ---- Clauses with a true literal

@@ -9,7 +9,7 @@ use Rattle.std.proofs.lemmas.Option.{slice_get-get_or}
 use Rattle.std.proofs.lemmas.List.Sums.{get_or-le-sum_by, sum_by-append, sum_by-le-sum_by, sum_by-set, sum_by-swap_remove, sum_by_more, sum_by_push}
 use Rattle.cnf_base.specs.Literals.{Clause, has}
 use Rattle.watch.specs.Lists.{entries_of, items_of, slot_at, slot_of, strangers, times_in}
-use Rattle.watch.specs.declared.lists.Watcher.{Watcher}
+use Rattle.watch.specs.declared.watcher.Watcher.{Watcher}
 
 pub eqb_turned : (a b : ℕ) → eqb a b ≡ eqb b a
 eqb_turned a b = grind (arith, nat_tests)

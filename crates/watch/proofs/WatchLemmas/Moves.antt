@@ -17,7 +17,7 @@ use Rattle.watch.specs.Lists.{entries_of, strangers}
 use Rattle.watch.specs.Watched.{watches, is_short, entries_for, short_for, IsListed, IsMet, IsWatched}
 use Rattle.propagation.proofs.MemberLemmas.{has_place, has_front}
 use Rattle.watch.proofs.WatchLemmas.Lists.{blocking_own, eqb_turned, strangers_alike, strangers_pushed}
-use Rattle.watch.specs.declared.lists.Watcher.{Watcher}
+use Rattle.watch.specs.declared.watcher.Watcher.{Watcher}
 use Rattle.clause_db.proofs.StoreLemmas.Distinct.{distinct_parts, distinct_before}
 use Rattle.clause_db.proofs.StoreLemmas.Sums.{get_insert, same_maps}
 

@@ -7,7 +7,7 @@ use Rattle.cnf_base.specs.Literals.{Clause}
 use Rattle.watch.specs.Lists.{entries_of, list_at, strangers}
 use Rattle.watch.specs.Visits.{with_list}
 use Rattle.watch.specs.Watched.{IsListed}
-use Rattle.watch.specs.declared.lists.Watcher.{Watcher}
+use Rattle.watch.specs.declared.watcher.Watcher.{Watcher}
 use Rattle.watch.proofs.WatchLemmas.Follow.{listed_alike}
 use Rattle.watch.proofs.WatchLemmas.Lists.{entries_taken, slot_is, strangers_left}
 use Rattle.watch.proofs.WatchLemmas.Moves.{at_inserted, entries_moved, places_apart, put_back, strangers_moved, swap_back, times_moved, listed_moved}

@@ -10,7 +10,7 @@ use Rattle.watch.specs.Order.{each_in_order, in_order}
 use Rattle.watch.specs.Roots.{IsFalseAt}
 use Rattle.watch.specs.Visits.{Carries, IsVisit}
 use Rattle.watch.specs.Watched.{watches}
-use Rattle.watch.specs.declared.lists.Watcher.{Watcher}
+use Rattle.watch.specs.declared.watcher.Watcher.{Watcher}
 use Rattle.watch.specs.declared.visit.Visit.TheVariants.{Stays, Moves, Unit, Clash}
 use Rattle.watch.specs.declared.follow.Next.{Next}
 use Rattle.watch.specs.declared.follow.Next.TheVariants.{Further, Here, Nothing}

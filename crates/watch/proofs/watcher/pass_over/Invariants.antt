@@ -1,6 +1,6 @@
 use Rattle.std.proofs.Common.{◌≡◌, ◌≤◌, ◌-◌, length, take}
 use Rattle.watch.specs.Lists.{entries_of}
-use Rattle.watch.proofs.lists.pass_over.Given as goal
+use Rattle.watch.proofs.watcher.pass_over.Given as goal
 
 abbrev pub invariant-loop-place : goal.invariant-loop-place
 invariant-loop-place l = record {

@@ -1,5 +1,5 @@
 use Rattle.watch.proofs.WatchLemmas.Lists.{entries_next, entries_none}
-use Rattle.watch.proofs.lists.place_from.Goals as goal
+use Rattle.watch.proofs.watcher.place_from.Goals as goal
 
 pub loop-place-preserved : goal.loop-place-preserved
 loop-place-preserved c = record { none = entries_next c.args.list.now c.loop-place.place c.args.slot c.index-list-place.result c.loop-place-test.true c.if-list-place.false c.loop-place.invariant.none }

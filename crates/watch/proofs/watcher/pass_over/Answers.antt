@@ -1,6 +1,6 @@
 use Rattle.std.proofs.Common.{arith}
 use Rattle.watch.proofs.WatchLemmas.Lists.{entries_chunk}
-use Rattle.watch.proofs.lists.pass_over.Goals as goal
+use Rattle.watch.proofs.watcher.pass_over.Goals as goal
 
 pub loop-place-preserved : goal.loop-place-preserved
 loop-place-preserved c = record {

@@ -1,6 +1,6 @@
 use Rattle.std.proofs.Common.{◌≤◌, length, arith}
 use Rattle.watch.proofs.WatchLemmas.Lists.{counted_all}
-use Rattle.watch.proofs.lists.WatchLists.entries.Goals as goal
+use Rattle.watch.proofs.far_lists.FarLists.entries.Goals as goal
 
 pub returns : goal.returns
 returns c =

@@ -1,7 +1,7 @@
 use Rattle.std.proofs.Common.{◌≡◌, ◌+◌, ◌<◌, ◌≤◌, length, cond, eqb, sym, ap, ◌∙◌, subst}
 use Rattle.watch.specs.Lists.{entries_of, slot_at, strangers}
 use Rattle.watch.proofs.WatchLemmas.Lists.{entries_taken, strangers_left}
-use Rattle.watch.proofs.lists.take_off.Goals as goal
+use Rattle.watch.proofs.watcher.take_off.Goals as goal
 
 pub returns-clause-times : goal.returns-clause-times
 returns-clause-times c s =
