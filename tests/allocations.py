@@ -1,8 +1,8 @@
 #!/usr/bin/env python3
 """Shows that memory that was taken is used again.
 
-The number of allocations inside a whole check, and inside the calls of the readers and of the store, is the same for 1000 as
-for 100000 pairs of steps, steps, clauses or insertions of one form.
+The number of allocations inside a whole check, and inside the calls of the readers, of the store and of the identifiers, is
+the same for 1000 as for 100000 pairs of steps, steps, clauses, insertions or identifiers of one form.
 
 The programs run as they were compiled, with tests/allocations.c before the C library: it refuses the Nth allocation of a
 run. What is counted goes from the least N whose refusal is met inside these calls to the greatest.
@@ -32,6 +32,8 @@ CASES = [
     "lrat_deletions",
     "formula",
     "store",
+    "store_of_many",
+    "identifiers",
 ]
 
 
@@ -97,7 +99,7 @@ def check_of_pairs(room, times):
 
 
 def calls(name, times):
-    """Calls of the readers or of the store."""
+    """Calls of the readers, of the store or of the identifiers."""
     return Run([ALLOCATIONS, name, str(times)], f"{times}\n", 0, "out of memory\n")
 
 

@@ -1,3 +1,4 @@
+use crate::support::{expect_equal, expect_true, expect_true_at};
 use sat_check::{Args, ArgsFault, Tool, read_args};
 use std::alloc::Global;
 use std::process::Abort;
@@ -44,57 +45,80 @@ const TEXTS: [(Tool, &str); 5] = [
     (Tool::Model, "model-check f.cnf --version"),
 ];
 
-/// Each of the lines is refused, with a text to show.
+/// Whether the line is refused with a text to show.
+fn is_refused(alloc: Global, tool: Tool, line: &str) -> bool {
+    match read(alloc, tool, line) {
+        Err(ArgsFault::Words(text)) => !text.is_empty(),
+        Err(ArgsFault::OutOfMemory) => false,
+        Ok(_args) => false,
+    }
+}
+
 fn expect_refused(rt: &impl Abort, alloc: Global, rows: &[(Tool, &str)]) {
     for (tool, line) in rows {
-        match read(alloc, *tool, line) {
-            Err(ArgsFault::Words(text)) => assert!(rt; !text.is_empty(), "{line}"),
-            _ => panic!(rt; "{line}"),
-        }
+        expect_true_at(rt, *line, is_refused(alloc, *tool, line));
     }
+}
+
+/// What a line says: of the flags binary, trace, strict, pr and keep-units whether they stand in it, the formula, and the second
+/// input where one is named.
+type Said<'a> = ([bool; 5], &'a str, Option<&'a str>);
+
+fn expect_said(rt: &impl Abort, args: &Args, said: Said<'_>) {
+    let (flags, formula, second) = said;
+    let found = [
+        args.binary,
+        args.trace,
+        args.strict,
+        args.pr,
+        args.keep_units,
+    ];
+    expect_equal(rt, found, flags);
+    expect_equal(rt, args.formula.as_str(), formula);
+    match &args.second {
+        Some(found) => expect_equal(rt, Some(found.as_str()), second),
+        None => expect_equal(rt, None, second),
+    }
+}
+
+fn expect_read(
+    rt: &impl Abort,
+    alloc: Global,
+    tool: Tool,
+    line: &str,
+    said: Said<'_>,
+) -> Result<(), Fail> {
+    let args = read(alloc, tool, line)?;
+    expect_said(rt, &args, said);
+    Ok(())
 }
 
 #[test]
 fn drat_reads(rt: HostRuntime) -> Result<(), Fail> {
-    let args = read(
-        rt.alloc(),
-        Tool::Drat,
-        "drat-forward --strict f.cnf --binary p.drat --trace",
-    )?;
-    assert!(rt; args.binary && args.trace && args.strict && !args.keep_units);
-    assert!(rt; args.formula.as_str() == "f.cnf");
-    let second = args.second.ok_or("a proof")?;
-    assert!(rt; second.as_str() == "p.drat");
-    Ok(())
+    let line = "drat-forward --strict f.cnf --binary p.drat --trace";
+    let said = ([true, true, true, false, false], "f.cnf", Some("p.drat"));
+    expect_read(&rt, rt.alloc(), Tool::Drat, line, said)
 }
 
 #[test]
 fn drat_reads_rules(rt: HostRuntime) -> Result<(), Fail> {
-    let args = read(
-        rt.alloc(),
-        Tool::Drat,
-        "drat-forward f.cnf --keep-units --pr",
-    )?;
-    assert!(rt; args.keep_units && args.pr && !args.strict && !args.trace && !args.binary);
-    Ok(())
+    let line = "drat-forward f.cnf --keep-units --pr";
+    let said = ([false, false, false, true, true], "f.cnf", None);
+    expect_read(&rt, rt.alloc(), Tool::Drat, line, said)
 }
 
 #[test]
 fn lrat_reads(rt: HostRuntime) -> Result<(), Fail> {
-    let args = read(rt.alloc(), Tool::Lrat, "lrat-check --trace f.cnf")?;
-    assert!(rt; !args.binary && args.trace && !args.strict);
-    assert!(rt; args.formula.as_str() == "f.cnf" && args.second.is_none());
-    Ok(())
+    let line = "lrat-check --trace f.cnf";
+    let said = ([false, true, false, false, false], "f.cnf", None);
+    expect_read(&rt, rt.alloc(), Tool::Lrat, line, said)
 }
 
 #[test]
 fn model_reads(rt: HostRuntime) -> Result<(), Fail> {
-    let args = read(rt.alloc(), Tool::Model, "model-check f.cnf model.txt")?;
-    assert!(rt; !args.binary && !args.trace && !args.strict);
-    assert!(rt; args.formula.as_str() == "f.cnf");
-    let second = args.second.ok_or("an output")?;
-    assert!(rt; second.as_str() == "model.txt");
-    Ok(())
+    let line = "model-check f.cnf model.txt";
+    let said = ([false; 5], "f.cnf", Some("model.txt"));
+    expect_read(&rt, rt.alloc(), Tool::Model, line, said)
 }
 
 #[test]
@@ -111,5 +135,5 @@ fn shows_texts(rt: HostRuntime) {
 fn empty_list_has_no_name(rt: HostRuntime) {
     let words: [String; 0] = [];
     let read = read_args(rt.alloc(), Tool::Model, words.as_slice());
-    assert!(rt; matches!(&read, Err(ArgsFault::Words(_))));
+    expect_true(&rt, matches!(&read, Err(ArgsFault::Words(_))));
 }

@@ -22,4 +22,6 @@ mod refused_steps;
 #[cfg(test)]
 mod sessions;
 #[cfg(test)]
+mod stores;
+#[cfg(test)]
 mod support;

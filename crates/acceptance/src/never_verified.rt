@@ -1,6 +1,9 @@
 //! Proofs of a formula that has models: none is verified.
 
-use crate::support::{Cut, DRAT, Engine, G, LRAT, Pieces, Stop, Tool, Writer, has_model};
+use crate::support::{
+    Cut, DRAT, Engine, G, LRAT, Pieces, Stop, Tool, Writer, expect_equal, expect_equal_at,
+    expect_true, has_model,
+};
 use std::alloc::{AllocError, Global};
 use std::process::Abort;
 use std::test::Fail;
@@ -54,7 +57,7 @@ fn expect_one(rt: &impl Abort, alloc: Global, engine: Engine, proof: &str) {
     let mut second = Pieces::new(proof, 4096, Cut::Ends);
     let writer = Writer::new(alloc, usize::MAX, Stop::TakesNone);
     let (code, _) = engine.run(alloc, &mut formula, &mut second, writer);
-    assert_eq!(rt; code, 1, "{engine:?}: {proof}");
+    expect_equal_at(rt, (engine, proof), code, 1);
 }
 
 fn expect_unverified(
@@ -96,7 +99,7 @@ fn expect_none_verified(
     form: Form,
     texts: &[&str],
 ) -> Result<(), Fail> {
-    assert!(rt; has_model(rt, alloc, G)?);
+    expect_true(rt, has_model(rt, alloc, G)?);
     let mut count = 0u32;
     for first in LITERALS {
         for second in LITERALS {
@@ -110,7 +113,7 @@ fn expect_none_verified(
             }
         }
     }
-    assert_eq!(rt; count, 245);
+    expect_equal(rt, count, 245);
     Ok(())
 }
 

@@ -2,9 +2,9 @@
 
 use crate::support::{
     BY_BINARY_DRAT, Cut, DRAT, DRAT_STRICT, E, E_BINARY, E_DRAT, E_PROOF, G, LRAT, Pieces, SIZES,
-    Stop, Tool, Writer,
+    Stop, Tool, Writer, expect_equal,
 };
-use cnf_base::{FromRead, Place, ToWrite};
+use cnf_base::{FromRead, In, Out, Place, ToWrite};
 use proofs::StepEnd;
 use sat_check::{Checked, Status, run_drat_placed, run_lrat_placed};
 use std::alloc::Global;
@@ -22,28 +22,28 @@ const fn byte(byte_no: u64) -> Option<StepEnd> {
     Some(StepEnd::Byte(byte_no))
 }
 
-fn check(
+fn check<F: In, P: In, O: Out>(
     alloc: Global,
     tool: Tool,
-    formula: &mut Pieces<'_>,
-    proof: &mut Pieces<'_>,
-    writer: &mut Writer,
+    formula: &mut F,
+    proof: &mut P,
+    out: &mut O,
 ) -> Checked {
-    let mut formula = FromRead::new(formula);
-    let mut proof = FromRead::new(proof);
-    let mut out = ToWrite::new(writer);
     match tool {
-        Tool::Lrat(options) => {
-            run_lrat_placed(alloc, &options, &mut formula, &mut proof, &mut out)
-        }
-        Tool::Drat(options) => {
-            run_drat_placed(alloc, &options, &mut formula, &mut proof, &mut out)
-        }
+        Tool::Lrat(options) => run_lrat_placed(alloc, &options, formula, proof, out),
+        Tool::Drat(options) => run_drat_placed(alloc, &options, formula, proof, out),
         Tool::Model => Checked {
             status: Status::Usage,
             refused: None,
         },
     }
+}
+
+fn checked(alloc: Global, tool: Tool, formula: Pieces<'_>, proof: Pieces<'_>) -> Checked {
+    let mut formula = FromRead::new(formula);
+    let mut proof = FromRead::new(proof);
+    let mut out = ToWrite::new(Writer::new(alloc, usize::MAX, Stop::TakesNone));
+    check(alloc, tool, &mut formula, &mut proof, &mut out)
 }
 
 fn expect_ends(
@@ -55,12 +55,11 @@ fn expect_ends(
 ) -> Result<(), Fail> {
     for (tool, formula, proof, end) in rows {
         for size in SIZES {
-            let mut formula = Pieces::new(formula, size, Cut::Ends);
-            let mut proof = Pieces::of_bytes(proof, size, cut);
-            let mut writer = Writer::new(alloc, usize::MAX, Stop::TakesNone);
-            let checked = check(alloc, *tool, &mut formula, &mut proof, &mut writer);
-            assert_eq!(rt; checked.status, status);
-            assert_eq!(rt; checked.refused, *end);
+            let formula = Pieces::new(formula, size, Cut::Ends);
+            let proof = Pieces::of_bytes(proof, size, cut);
+            let checked = checked(alloc, *tool, formula, proof);
+            expect_equal(rt, checked.status, status);
+            expect_equal(rt, checked.refused, *end);
         }
     }
     Ok(())

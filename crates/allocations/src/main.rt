@@ -2,8 +2,9 @@
 //!
 //!     allocations CASE COUNT
 //!
-//! It reads COUNT steps of one form into one buffer, or as many clauses, or stores and removes as many, and prints how many it
-//! did, or that memory was refused there. What is read is handed out with no memory of its own.
+//! It reads COUNT steps of one form into one buffer, or as many clauses, or stores and removes as many, or binds as many
+//! identifiers, and prints how many it did, or that memory was refused there. What is read is handed out with no memory of its
+//! own.
 //!
 //! For `tests/refusals.py` it makes a call that memory may be refused to, and says whether the call was refused and left what it
 //! should; or calls that take no memory, where COUNT is not 0.
@@ -12,7 +13,8 @@
 mod quiet;
 mod refused;
 
-use clause_db::Store;
+use crate::refused::bind_new;
+use clause_db::{Ids, Slot, Store};
 use cnf_base::{Fault, FromRead, Lit, OutOfMemory, Source};
 use dimacs::{ClauseBuf, FormulaReader};
 use proofs::{DratBinary, DratText, LratText, StepBuf, StepReader};
@@ -112,6 +114,44 @@ fn store_and_remove(alloc: Global, lits: &[Lit], times: u64) -> Result<u64, Faul
     Ok(count)
 }
 
+/// Stores a clause of two literals and takes it out again.
+fn store_pair_and_remove(store: &mut Store, lits: &[Lit], number: u64) -> Result<bool, Fault> {
+    let positive = lits.get((number % 400) as usize);
+    let negative = lits.get((number / 400 % 400) as usize);
+    let (Some(positive), Some(negative)) = (positive, negative) else {
+        return Ok(false);
+    };
+    let slot = store.insert(&[*positive, negative.neg()])?;
+    store.remove(slot);
+    Ok(true)
+}
+
+/// Does so with many clauses of 400 variables, of which the first 160000 are all different.
+fn store_many_and_remove(alloc: Global, times: u64) -> Result<u64, Fault> {
+    let lits = literals_of(alloc, 1, 401)?;
+    let mut store = Store::new(alloc)?;
+    let mut count = 0u64;
+    for number in 0..times {
+        if store_pair_and_remove(&mut store, lits.as_slice(), number)? {
+            count = count.wrapping_add(1);
+        }
+    }
+    Ok(count)
+}
+
+/// Binds so many identifiers, and takes each back 64 calls later. They go round through 64 pages.
+fn bind_and_unbind(alloc: Global, times: u64) -> Result<u64, Fault> {
+    let mut ids = Ids::new(alloc)?;
+    let mut count = 0u64;
+    for number in 0..times {
+        bind_new(&mut ids, number % 128 * 512, Slot::first())?;
+        let earlier = number.wrapping_add(64);
+        let _ = ids.unbind(earlier % 128 * 512);
+        count = count.wrapping_add(1);
+    }
+    Ok(count)
+}
+
 fn make_calls(
     alloc: Global,
     name: &str,
@@ -128,6 +168,8 @@ fn make_calls(
         "lrat_deletions" => read_lrat(alloc, b"5 d 3 4 0\n", times),
         "formula" => read_formula(alloc, header, times),
         "store" => store_and_remove(alloc, lits, times),
+        "store_of_many" => store_many_and_remove(alloc, times),
+        "identifiers" => bind_and_unbind(alloc, times),
         _ => Ok(0),
     }
 }

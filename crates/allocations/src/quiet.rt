@@ -1,6 +1,6 @@
 //! Calls that take no memory. What comes before them is made in any case, so that a run with them asks for as much as one without.
 
-ghost use Rattle.std.specs.Prelude.{◌≡◌, [], false};
+ghost use Rattle.std.specs.Prelude.{◌≡◌, ◌≤◌, [], false};
 ghost use Rattle.std.specs.FinMap as maps;
 
 use crate::open;
@@ -94,25 +94,31 @@ fn scanner(alloc: Global, is_called: bool) -> Result<bool, Fault> {
     Ok(is_read)
 }
 
-fn readers(alloc: Global, is_called: bool) -> Result<bool, Fault> {
-    let text = open(alloc, b"", b"", 0)?;
-    let binary = open(alloc, b"", b"", 0)?;
-    let hints = open(alloc, b"", b"", 0)?;
+fn formula(alloc: Global, is_called: bool) -> Result<bool, Fault> {
     let mut formula = match FormulaReader::open(open(alloc, b"p cnf 2 0\n", b"", 0)?) {
         Ok(formula) => formula,
         Err((fault, _)) => return Err(fault),
     };
+    if !is_called {
+        return Ok(false);
+    }
+    let mut clause = ClauseBuf::new(alloc);
+    let is_right = formula.vars() == 2 && formula.clauses() == 0;
+    let is_over = formula.next(&mut clause) == Ok(false);
+    let _ = formula.release();
+    Ok(is_right && is_over)
+}
+
+fn readers(alloc: Global, is_called: bool) -> Result<bool, Fault> {
+    let text = open(alloc, b"", b"", 0)?;
+    let binary = open(alloc, b"", b"", 0)?;
+    let hints = open(alloc, b"", b"", 0)?;
     if is_called {
         let _ = DratText::new(text).release();
         let _ = DratBinary::new(binary).release();
         let _ = LratText::new(hints).release();
-        let mut clause = ClauseBuf::new(alloc);
-        let is_right = formula.vars() == 2 && formula.clauses() == 0;
-        let is_over = formula.next(&mut clause) == Ok(false);
-        let _ = formula.release();
-        return Ok(is_right && is_over);
     }
-    Ok(false)
+    formula(alloc, is_called)
 }
 
 fn trail(alloc: Global, lits: &[Lit], is_called: bool) -> Result<bool, Fault> {
@@ -131,6 +137,14 @@ fn trail(alloc: Global, lits: &[Lit], is_called: bool) -> Result<bool, Fault> {
     Ok(length == lits.len())
 }
 
+/// Finds the clause in the store and removes it.
+fn remove(store: &mut Store, lits: &[Lit]) {
+    if let Some(slot) = store.find(lits) {
+        let _ = store.clause(slot).len();
+        store.remove(slot);
+    }
+}
+
 fn store(alloc: Global, few: &[Lit], many: &[Lit], is_called: bool) -> Result<bool, Fault> {
     let mut store = Store::new(alloc)?;
     store.insert(few)?;
@@ -139,10 +153,7 @@ fn store(alloc: Global, few: &[Lit], many: &[Lit], is_called: bool) -> Result<bo
         return Ok(false);
     }
     for lits in [many, few] {
-        if let Some(slot) = store.find(lits) {
-            let _ = store.clause(slot).len();
-            store.remove(slot);
-        }
+        remove(&mut store, lits);
     }
     Ok(store.literals() == 0)
 }
@@ -201,8 +212,14 @@ fn clauses<P: Propagate + Drop>(
 }
 
 /// All variables were met by an insertion.
-fn assumption(alloc: Global, few: &[Lit], many: &[Lit], is_called: bool) -> Result<bool, Fault> {
-    let mut clauses = Scan::new(alloc)?;
+fn assumption<P: Propagate + Drop>(
+    mut clauses: P,
+    few: &[Lit],
+    many: &[Lit],
+    is_called: bool,
+) -> Result<bool, Fault>
+    requires { (P.state clauses).assumptions ≡ [] }
+{
     clauses.insert(few)?;
     clauses.insert(many)?;
     if !is_called {
@@ -215,19 +232,33 @@ fn assumption(alloc: Global, few: &[Lit], many: &[Lit], is_called: bool) -> Resu
     Ok(true)
 }
 
-fn sessions(alloc: Global, few: &[Lit], is_called: bool) -> Result<bool, Fault> {
-    let scan = Scan::new(alloc)?;
-    let watch = Watch::new(alloc)?;
-    let mut hints = LratSession::new(alloc)?;
-    let is_input = hints.input(few).is_ok();
+fn drat_session<P: Propagate + Drop>(clauses: P, is_called: bool) -> bool
+    requires empty { (P.state clauses).live ≡ maps.empty }
+    requires nothing_assumed { (P.state clauses).assumptions ≡ [] }
+    requires none_refused { (P.state clauses).has_refused ≡ false }
+{
+    if !is_called {
+        return false;
+    }
+    let session = DratSession::new(clauses, PLAIN_RULES);
+    session.held() == 0 && session.peak() == 0 && !session.verified()
+}
+
+fn lrat_session(alloc: Global, few: &[Lit], is_called: bool) -> Result<bool, Fault> {
+    let mut session = LratSession::new(alloc)?;
+    let is_input = session.input(few).is_ok();
     if !is_called {
         return Ok(false);
     }
-    let first = DratSession::new(scan, PLAIN_RULES);
-    let second = DratSession::new(watch, PLAIN_RULES);
-    let is_empty = first.held() == 0 && second.peak() == 0 && !first.verified();
-    let is_held = hints.held() == hints.peak() && !hints.verified();
-    Ok(is_input && is_empty && is_held)
+    let is_held = session.held() == session.peak() && !session.verified();
+    Ok(is_input && is_held)
+}
+
+fn sessions(alloc: Global, few: &[Lit], is_called: bool) -> Result<bool, Fault> {
+    let is_right_by_scan = drat_session(Scan::new(alloc)?, is_called);
+    let is_right_by_watch = drat_session(Watch::new(alloc)?, is_called);
+    let is_right_by_hints = lrat_session(alloc, few, is_called)?;
+    Ok(is_right_by_scan && is_right_by_watch && is_right_by_hints)
 }
 
 // 1 2; -1 2. Both steps have nine hints. In the first the second is a conflict; in the second the walk is long.
@@ -235,22 +266,49 @@ const SHORT: &[u8] = b"9 2 0 1 2 9 9 9 9 9 9 9 0\n";
 
 const LONG: &[u8] = b"9 2 0 1 1 1 1 1 1 1 1 2 0\n";
 
-fn walk(alloc: Global, clauses: [[Lit; 2]; 2], is_called: bool) -> Result<bool, Fault> {
-    let mut session = LratSession::new(alloc)?;
+/// Takes the first step that the reader gives, after these clauses of the formula.
+fn take_step<S: ProofSession, R: StepReader>(
+    alloc: Global,
+    session: &mut S,
+    reader: &mut R,
+    clauses: [[Lit; 2]; 2],
+) -> Result<bool, Fault>
+    requires unused { (S.shown session.old).has_stepped ≡ false }
+    requires room { 2 ≤ (S.shown session.old).room }
+{
     let [first, second] = clauses;
     if session.input(&first).is_err() || session.input(&second).is_err() {
         return Err(Fault::OutOfMemory);
     }
-    let text = if is_called { LONG } else { SHORT };
-    let mut reader = LratText::new(open(alloc, b"", text, 1)?);
     let mut step = StepBuf::new(alloc);
     if !reader.next(&mut step)? {
         return Ok(false);
     }
     match session.step(&step) {
-        Ok(_) => Ok(is_called),
+        Ok(_) => Ok(true),
         Err(_) => Err(Fault::OutOfMemory),
     }
+}
+
+/// Takes the first step of this text.
+fn take_step_of<S: ProofSession>(
+    alloc: Global,
+    session: &mut S,
+    text: &[u8],
+    clauses: [[Lit; 2]; 2],
+) -> Result<bool, Fault>
+    requires unused { (S.shown session.old).has_stepped ≡ false }
+    requires room { 2 ≤ (S.shown session.old).room }
+{
+    let mut reader = LratText::new(open(alloc, b"", text, 1)?);
+    take_step(alloc, session, &mut reader, clauses)
+}
+
+fn walk(alloc: Global, clauses: [[Lit; 2]; 2], is_called: bool) -> Result<bool, Fault> {
+    let mut session = LratSession::new(alloc)?;
+    let text = if is_called { LONG } else { SHORT };
+    let is_taken = take_step_of(alloc, &mut session, text, clauses)?;
+    Ok(is_taken && is_called)
 }
 
 fn model(alloc: Global, l: Lit, is_called: bool) -> Result<bool, Fault> {
@@ -281,7 +339,7 @@ pub fn carry_out(
         "quiet_ids" => ids(alloc, is_called)?,
         "quiet_scan" => clauses(Scan::new(alloc)?, &few, many, l, is_called)?,
         "quiet_watch" => clauses(Watch::new(alloc)?, &few, many, l, is_called)?,
-        "quiet_assumption" => assumption(alloc, &few, many, is_called)?,
+        "quiet_assumption" => assumption(Scan::new(alloc)?, &few, many, is_called)?,
         "quiet_sessions" => sessions(alloc, &few, is_called)?,
         "quiet_walk" => walk(alloc, [[l, other.neg()], [l.neg(), other.neg()]], is_called)?,
         "quiet_model" => model(alloc, l, is_called)?,

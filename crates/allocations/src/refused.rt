@@ -239,10 +239,21 @@ fn drat_input<P: Propagate + Drop>(alloc: Global, clauses: P, many: &[Lit]) -> T
     input(alloc, &mut session, many)
 }
 
+fn step_by_hints<S: ProofSession>(
+    alloc: Global,
+    session: &mut S,
+    few: &[Lit],
+) -> Result<Told, Fault>
+    requires unused { (S.shown session.old).has_stepped ≡ false }
+    requires room { 2 ≤ (S.shown session.old).room }
+{
+    let mut reader = LratText::new(open(alloc, b"", ADDITION_BY_HINTS, 1)?);
+    step(alloc, session, &mut reader, few)
+}
+
 fn lrat_step(alloc: Global, few: &[Lit]) -> Result<Told, Fault> {
     let mut session = LratSession::new(alloc)?;
-    let mut reader = LratText::new(open(alloc, b"", ADDITION_BY_HINTS, 1)?);
-    step(alloc, &mut session, &mut reader, few)
+    step_by_hints(alloc, &mut session, few)
 }
 
 fn lrat_input(alloc: Global, many: &[Lit]) -> Result<Told, Fault> {

@@ -3,15 +3,11 @@
 mod buckets;
 mod entry;
 pub(crate) mod ids;
-#[cfg(test)]
-mod ids_tests;
 pub(crate) mod index;
 mod mark;
 mod marks;
 mod search;
 pub(crate) mod slot;
-#[cfg(test)]
-mod tests;
 
 ghost use Rattle.std.specs.Prelude.{◌≡◌, ◌≢◌, ℕ, ◌+◌, ◌-◌, ◌<◌, ◌≤◌, ◌==◌, ◌++◌, [], ◌∷◌, ◌^◌, min, true, false, Some, None, option_map, length, if◌then◌else◌, IsTrue, IsSome, IfSome, IfNone, IfOk, OnOk, OnErr};
 ghost use Rattle.std.specs.List.{swap};
@@ -315,11 +311,5 @@ impl Store {
         ensures live_alone { self.new.stored ≡ literals_in self.new.live }
     {
         swap_literals(&mut self.entries[slot.number()], a, b);
-    }
-
-    /// For how many clauses and for how many hashes there is room.
-    #[cfg(test)]
-    pub(crate) fn room(&self) -> (usize, usize) {
-        (self.entries.capacity(), self.index.room())
     }
 }

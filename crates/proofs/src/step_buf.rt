@@ -1,8 +1,5 @@
 //! One step of a proof.
 
-#[cfg(test)]
-mod tests;
-
 ghost use Rattle.std.specs.Prelude.{◌≡◌, [], length, IsTrue, OnOk};
 ghost use Rattle.std.specs.List.{list_all};
 ghost use Rattle.proofs.specs.Steps.{clause_part, set_part, is_hint, is_small, named, deleting, with_literal, with_hint};

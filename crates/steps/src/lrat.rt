@@ -4,8 +4,6 @@ mod addition;
 mod candidates;
 mod live_clauses;
 mod named;
-#[cfg(test)]
-mod tests;
 mod walk;
 
 ghost use Rattle.std.specs.Prelude.{◌≡◌, ◌≢◌, ◌⊎◌, ◌+◌, ◌-◌, ◌<◌, ◌≤◌, ◌^◌, ◌||◌, ◌↔◌, min, max, true, false, IsTrue, IsFalse, IfOk, IfErr, OnOk, OnErr, ℕ};

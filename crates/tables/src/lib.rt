@@ -2,7 +2,5 @@
 #![tactic(auto)]
 
 mod table;
-#[cfg(test)]
-mod tests;
 
 pub use table::{Table, key};

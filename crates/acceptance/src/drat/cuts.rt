@@ -2,7 +2,7 @@
 
 use crate::support::{
     BY_OTHER_RULES, Cutting, E_BY_BINARY, E_BY_DRAT, E_BY_DRAT_TRACED, E_CLAUSES, E_DRAT, HEADER,
-    Row, Said, UNREAD_AFTER_ONE, UNREAD_FORMULA, UNREAD_PROOF,
+    Row, Said, UNREAD_AFTER_ONE, UNREAD_FORMULA, UNREAD_PROOF, expect_equal,
 };
 use std::test::Fail;
 
@@ -65,7 +65,7 @@ fn binary_fails(rt: HostRuntime) -> Result<(), Fail> {
 
 #[test]
 fn ends(rt: HostRuntime) -> Result<(), Fail> {
-    assert_eq!(rt; E_DRAT.len(), 6);
+    expect_equal(&rt, E_DRAT.len(), 6);
     PROOF.expect_ends(&rt, rt.alloc(), &[&STEPS])
 }
 

@@ -2,7 +2,7 @@
 
 use crate::support::{
     BY_OTHER_RULES, E_BY_BINARY, E_BY_DRAT, E_BY_DRAT_TRACED, Row, Stop, expect_enough_room,
-    expect_too_little_room,
+    expect_equal, expect_too_little_room,
 };
 use std::test::Fail;
 
@@ -18,7 +18,7 @@ const ROWS: [Row<'static>; 4] = [
 
 #[test]
 fn takes_none(rt: HostRuntime) -> Result<(), Fail> {
-    assert_eq!(rt; E_BY_DRAT.report(rt.alloc())?.len(), 60);
+    expect_equal(&rt, E_BY_DRAT.report(rt.alloc())?.len(), 60);
     expect_too_little_room(&rt, rt.alloc(), &ROWS, Stop::TakesNone)
 }
 

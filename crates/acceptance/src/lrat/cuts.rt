@@ -2,7 +2,7 @@
 
 use crate::support::{
     Cutting, E, E_BY_LRAT, E_BY_LRAT_TRACED, E_CLAUSES, E_PROOF, HEADER, Said, UNREAD_AFTER_ONE,
-    UNREAD_FORMULA, UNREAD_PROOF,
+    UNREAD_FORMULA, UNREAD_PROOF, expect_equal,
 };
 use std::test::Fail;
 
@@ -45,7 +45,7 @@ const STEPS: [Said<'static>; 23] = [
 
 #[test]
 fn formula_ends(rt: HostRuntime) -> Result<(), Fail> {
-    assert_eq!(rt; E.len(), 38);
+    expect_equal(&rt, E.len(), 38);
     FORMULA.expect_ends(&rt, rt.alloc(), &[&HEADER, &E_CLAUSES])
 }
 
@@ -56,7 +56,7 @@ fn formula_fails(rt: HostRuntime) -> Result<(), Fail> {
 
 #[test]
 fn proof_ends(rt: HostRuntime) -> Result<(), Fail> {
-    assert_eq!(rt; E_PROOF.len(), 24);
+    expect_equal(&rt, E_PROOF.len(), 24);
     PROOF.expect_ends(&rt, rt.alloc(), &[&STEPS])
 }
 

@@ -2,7 +2,7 @@
 
 use crate::support::{
     E, E_BY_LRAT, E_BY_LRAT_TRACED, EMPTY_CLAUSE, G, LRAT, LRAT_TRACED, OUT_OF_RANGE, Row, Stop,
-    expect_enough_room, expect_ten_bytes, expect_too_little_room,
+    expect_enough_room, expect_equal, expect_ten_bytes, expect_too_little_room,
 };
 use std::test::Fail;
 
@@ -32,7 +32,7 @@ const ROWS: [Row<'static>; 6] = [
 
 #[test]
 fn ten_bytes(rt: HostRuntime) -> Result<(), Fail> {
-    assert_eq!(rt; E_BY_LRAT.report(rt.alloc())?.len(), 60);
+    expect_equal(&rt, E_BY_LRAT.report(rt.alloc())?.len(), 60);
     expect_ten_bytes(&rt, rt.alloc(), &E_BY_LRAT, b"c formula ")?;
     Ok(())
 }

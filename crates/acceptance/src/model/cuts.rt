@@ -1,6 +1,8 @@
 //! A solver's output and its formula, cut after each of their bytes, by their end or by a failed read.
 
-use crate::support::{Cutting, HEADER, MODELS, MODELS_MET, MODELS_OUTPUT, Said, UNREAD_FORMULA};
+use crate::support::{
+    Cutting, HEADER, MODELS, MODELS_MET, MODELS_OUTPUT, Said, UNREAD_FORMULA, expect_equal,
+};
 use std::test::Fail;
 
 const FORMULA: Cutting<'static> = Cutting::Formula(MODELS_MET);
@@ -51,8 +53,8 @@ const CLAUSES: [Said<'static>; 9] = [
 
 #[test]
 fn lengths(rt: HostRuntime) -> Result<(), Fail> {
-    assert_eq!(rt; MODELS.len(), 21);
-    assert_eq!(rt; MODELS_OUTPUT.len(), 22);
+    expect_equal(&rt, MODELS.len(), 21);
+    expect_equal(&rt, MODELS_OUTPUT.len(), 22);
     Ok(())
 }
 

@@ -2,6 +2,7 @@
 
 use crate::support::{
     Cut, Engine, G, MODEL, MODELS, MODELS_OUTPUT, Pieces, Row, Stop, Writer, expect_all,
+    expect_equal,
 };
 use std::test::Fail;
 
@@ -13,14 +14,14 @@ fn reads_no_further(rt: HostRuntime) -> Result<(), Fail> {
     let mut output = Pieces::new("v 1 -1 0\n", 1, Cut::Ends);
     let writer = Writer::new(alloc, usize::MAX, Stop::TakesNone);
     let (code, _) = Engine::Model.run(alloc, &mut formula, &mut output, writer);
-    assert_eq!(rt; code, 1);
-    assert_eq!(rt; formula.reads, 0);
+    expect_equal(&rt, code, 1);
+    expect_equal(&rt, formula.reads, 0);
     let mut formula = Pieces::new("p cnf 2 2\n-1 0\n2 0\n", 1, Cut::Ends);
     let mut output = Pieces::of_bytes(MODELS_OUTPUT, 1, Cut::Ends);
     let writer = Writer::new(alloc, usize::MAX, Stop::TakesNone);
     let (code, _) = Engine::Model.run(alloc, &mut formula, &mut output, writer);
-    assert_eq!(rt; code, 1);
-    assert_eq!(rt; formula.left(), 4);
+    expect_equal(&rt, code, 1);
+    expect_equal(&rt, formula.left(), 4);
     Ok(())
 }
 

@@ -5,10 +5,12 @@ ghost use Rattle.std.specs.FinMap as maps;
 ghost use Rattle.propagation.specs.Assumptions.{LastIsAnswered, MayAssume};
 ghost use Rattle.propagation.specs.declared.answer.Answer.TheVariants.{Quiet};
 
+use crate::support::{expect_equal, expect_true};
 use clause_db::Slot;
 use cnf_base::{Lit, OutOfMemory};
 use propagation::{Answer, Propagate, Scan, Value};
 use std::alloc::Global;
+use std::process::Abort;
 use std::test::Fail;
 use watch::Watch;
 
@@ -96,7 +98,7 @@ fn propagates(rt: HostRuntime) -> Result<(), Fail> {
         (&[[1, 2]], &[-1, 3, 2], Some(&[1, -2, -3])),
     ];
     for row in &rows {
-        assert!(rt; both_find(rt.alloc(), row)?);
+        expect_true(&rt, both_find(rt.alloc(), row)?);
     }
     Ok(())
 }
@@ -128,13 +130,13 @@ const CLASHING_REST: [[i32; 2]; 2] = [[1, 2], [1, -2]];
 fn assumes_the_rest(rt: HostRuntime) -> Result<(), Fail> {
     let alloc = rt.alloc();
     let scanned = rest_answer(alloc, &mut Scan::new(alloc)?, &QUIET_REST, &[2, 1], 2)?;
-    assert_eq!(rt; scanned, Some(Answer::Quiet));
+    expect_equal(&rt, scanned, Some(Answer::Quiet));
     let watched = rest_answer(alloc, &mut Watch::new(alloc)?, &QUIET_REST, &[2, 1], 2)?;
-    assert_eq!(rt; watched, Some(Answer::Quiet));
+    expect_equal(&rt, watched, Some(Answer::Quiet));
     let scanned = rest_answer(alloc, &mut Scan::new(alloc)?, &CLASHING_REST, &[2, 1], 2)?;
-    assert_eq!(rt; scanned, Some(Answer::Clash));
+    expect_equal(&rt, scanned, Some(Answer::Clash));
     let watched = rest_answer(alloc, &mut Watch::new(alloc)?, &CLASHING_REST, &[2, 1], 2)?;
-    assert_eq!(rt; watched, Some(Answer::Clash));
+    expect_equal(&rt, watched, Some(Answer::Clash));
     Ok(())
 }
 
@@ -158,6 +160,14 @@ fn unless_answer<P: Propagate>(
     }
 }
 
+fn expect_unless(rt: &impl Abort, alloc: Global, set: &[i32], answer: Answer) -> Result<(), Fail> {
+    let scanned = unless_answer(alloc, &mut Scan::new(alloc)?, &QUIET_REST, &[1, 2], set)?;
+    expect_equal(rt, scanned, Some(answer));
+    let watched = unless_answer(alloc, &mut Watch::new(alloc)?, &QUIET_REST, &[1, 2], set)?;
+    expect_equal(rt, watched, Some(answer));
+    Ok(())
+}
+
 #[test]
 fn assumes_unless_the_set_makes_it_false(rt: HostRuntime) -> Result<(), Fail> {
     let alloc = rt.alloc();
@@ -169,10 +179,7 @@ fn assumes_unless_the_set_makes_it_false(rt: HostRuntime) -> Result<(), Fail> {
         (&[-2, -1], Answer::Quiet),
     ];
     for (set, expected) in &rows {
-        let scanned = unless_answer(alloc, &mut Scan::new(alloc)?, &QUIET_REST, &[1, 2], set)?;
-        assert_eq!(rt; scanned, Some(*expected));
-        let watched = unless_answer(alloc, &mut Watch::new(alloc)?, &QUIET_REST, &[1, 2], set)?;
-        assert_eq!(rt; watched, Some(*expected));
+        expect_unless(&rt, alloc, set, *expected)?;
     }
     Ok(())
 }
@@ -191,8 +198,8 @@ fn finds_conflicts(rt: HostRuntime) -> Result<(), Fail> {
     ];
     for (set, expected) in &rows {
         let set = lits(alloc, set)?;
-        assert_eq!(rt; scanned.conflicts(set.as_slice())?, *expected);
-        assert_eq!(rt; watched.conflicts(set.as_slice())?, *expected);
+        expect_equal(&rt, scanned.conflicts(set.as_slice())?, *expected);
+        expect_equal(&rt, watched.conflicts(set.as_slice())?, *expected);
     }
     Ok(())
 }
@@ -213,6 +220,14 @@ fn reduces_first<P: Propagate>(
     Ok(clauses.next_reduced(set.as_slice(), Slot::first())? == expected)
 }
 
+fn expect_reduced(rt: &impl Abort, alloc: Global, set: &[i32], row: &[i32]) -> Result<(), Fail> {
+    let scanned = reduces_first(alloc, &mut Scan::new(alloc)?, set, row)?;
+    expect_true(rt, scanned);
+    let watched = reduces_first(alloc, &mut Watch::new(alloc)?, set, row)?;
+    expect_true(rt, watched);
+    Ok(())
+}
+
 #[test]
 fn finds_what_a_set_reduces(rt: HostRuntime) -> Result<(), Fail> {
     let alloc = rt.alloc();
@@ -225,8 +240,7 @@ fn finds_what_a_set_reduces(rt: HostRuntime) -> Result<(), Fail> {
         (&[-1, 2], &[]),
     ];
     for (set, expected) in &rows {
-        assert!(rt; reduces_first(alloc, &mut Scan::new(alloc)?, set, expected)?);
-        assert!(rt; reduces_first(alloc, &mut Watch::new(alloc)?, set, expected)?);
+        expect_reduced(&rt, alloc, set, expected)?;
     }
     Ok(())
 }
@@ -259,16 +273,21 @@ fn looked_up<P: Propagate>(
     Ok((clauses.literals(), slot.is_some()))
 }
 
+fn expect_looked_up(rt: &impl Abort, alloc: Global, number: i32, there: bool) -> Result<(), Fail> {
+    let scanned = looked_up(alloc, &mut Scan::new(alloc)?, &UNIT_AND_BOTH, number)?;
+    expect_equal(rt, scanned, (5, there));
+    let watched = looked_up(alloc, &mut Watch::new(alloc)?, &UNIT_AND_BOTH, number)?;
+    expect_equal(rt, watched, (5, there));
+    Ok(())
+}
+
 #[test]
 fn looks_up(rt: HostRuntime) -> Result<(), Fail> {
     let alloc = rt.alloc();
-    assert_eq!(rt; greatest(alloc, &mut Scan::new(alloc)?)?, Value::True);
-    assert_eq!(rt; greatest(alloc, &mut Watch::new(alloc)?)?, Value::True);
+    expect_equal(&rt, greatest(alloc, &mut Scan::new(alloc)?)?, Value::True);
+    expect_equal(&rt, greatest(alloc, &mut Watch::new(alloc)?)?, Value::True);
     for (number, there) in [(-2, true), (3, false)] {
-        let scanned = looked_up(alloc, &mut Scan::new(alloc)?, &UNIT_AND_BOTH, number)?;
-        assert_eq!(rt; scanned, (5, there));
-        let watched = looked_up(alloc, &mut Watch::new(alloc)?, &UNIT_AND_BOTH, number)?;
-        assert_eq!(rt; watched, (5, there));
+        expect_looked_up(&rt, alloc, number, there)?;
     }
     Ok(())
 }
@@ -302,9 +321,9 @@ fn counts_copies(rt: HostRuntime) -> Result<(), Fail> {
     let alloc = rt.alloc();
     let expected = [(2, true), (1, true), (0, false)];
     let scanned = counts_down(alloc, &mut Scan::new(alloc)?, &TWO_COPIES)?;
-    assert!(rt; scanned.as_slice() == expected.as_slice());
+    expect_true(&rt, scanned.as_slice() == expected.as_slice());
     let watched = counts_down(alloc, &mut Watch::new(alloc)?, &TWO_COPIES)?;
-    assert!(rt; watched.as_slice() == expected.as_slice());
+    expect_true(&rt, watched.as_slice() == expected.as_slice());
     Ok(())
 }
 
@@ -323,8 +342,8 @@ fn is_refused_again<P: Propagate>(alloc: Global, clauses: &mut P) -> Result<bool
 #[test]
 fn stays_where_memory_runs_out(rt: HostRuntime) -> Result<(), Fail> {
     let alloc = rt.alloc();
-    assert!(rt; is_refused_again(alloc, &mut Scan::new(alloc)?)?);
-    assert!(rt; is_refused_again(alloc, &mut Watch::new(alloc)?)?);
+    expect_true(&rt, is_refused_again(alloc, &mut Scan::new(alloc)?)?);
+    expect_true(&rt, is_refused_again(alloc, &mut Watch::new(alloc)?)?);
     Ok(())
 }
 
@@ -360,7 +379,7 @@ fn tells_root_reasons(rt: HostRuntime) -> Result<(), Fail> {
     for (rows, row, expected) in &rows {
         let scanned = root_reason(alloc, &mut Scan::new(alloc)?, rows, row)?;
         let watched = root_reason(alloc, &mut Watch::new(alloc)?, rows, row)?;
-        assert!(rt; scanned == *expected && watched == *expected);
+        expect_true(&rt, scanned == *expected && watched == *expected);
     }
     Ok(())
 }

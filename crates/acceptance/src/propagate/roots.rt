@@ -3,6 +3,7 @@
 ghost use Rattle.std.specs.Prelude.{◌≡◌, [], OnOk};
 
 use crate::propagate::calls::{fill, lits};
+use crate::support::{expect_equal, expect_true};
 use propagation::Propagate;
 use std::alloc::Global;
 use std::test::Fail;
@@ -48,7 +49,7 @@ fn kept(alloc: Global) -> Result<Vec<Known>, Fail> {
 fn keeps_what_follows(rt: HostRuntime) -> Result<(), Fail> {
     let all = kept(rt.alloc())?;
     let expected = [(true, false, 2), (true, false, 2)];
-    assert!(rt; all.as_slice() == expected.as_slice());
+    expect_true(&rt, all.as_slice() == expected.as_slice());
     Ok(())
 }
 
@@ -63,8 +64,8 @@ fn removed(alloc: Global, numbers: &[i32]) -> Result<Known, Fail> {
 
 #[test]
 fn loses_what_rests_on_a_removed_clause(rt: HostRuntime) -> Result<(), Fail> {
-    assert_eq!(rt; removed(rt.alloc(), &[3, 4])?, (true, false, 2));
-    assert_eq!(rt; removed(rt.alloc(), &[-1, 2])?, (false, false, 0));
+    expect_equal(&rt, removed(rt.alloc(), &[3, 4])?, (true, false, 2));
+    expect_equal(&rt, removed(rt.alloc(), &[-1, 2])?, (false, false, 0));
     Ok(())
 }
 
@@ -78,6 +79,6 @@ fn contradicted(alloc: Global) -> Result<(bool, bool), Fail> {
 
 #[test]
 fn keeps_a_clash(rt: HostRuntime) -> Result<(), Fail> {
-    assert_eq!(rt; contradicted(rt.alloc())?, (true, true));
+    expect_equal(&rt, contradicted(rt.alloc())?, (true, true));
     Ok(())
 }

@@ -5,6 +5,7 @@ ghost use Rattle.propagation.specs.Assumptions.{LastIsAnswered};
 ghost use Rattle.propagation.specs.declared.answer.Answer.TheVariants.{Quiet};
 
 use crate::propagate::calls::fill;
+use crate::support::{expect_equal, expect_true};
 use cnf_base::Lit;
 use propagation::{Answer, Propagate, Scan, Value};
 use std::alloc::Global;
@@ -111,6 +112,59 @@ fn note_counts<P: Propagate>(clauses: &P, log: &mut Vec<u8>) -> Result<(), Fail>
     Ok(())
 }
 
+/// Inserts a clause of one to four literals.
+fn insert<P: Propagate>(alloc: Global, clauses: &mut P, dice: &mut Dice) -> Result<(), Fail>
+    requires { (P.state clauses.old).assumptions ≡ [] }
+    ensures { OnOk result ((P.state clauses.new).assumptions ≡ []) }
+{
+    let size = 1 + dice.roll() % 4;
+    let added = dice.literals(alloc, size)?;
+    clauses.insert(added.as_slice())?;
+    Ok(())
+}
+
+/// Takes out a clause if it is there, and notes whether it makes a literal of it hold for good.
+fn take_out<P: Propagate>(clauses: &mut P, lits: &[Lit], log: &mut Vec<u8>) -> Result<(), Fail>
+    requires { (P.state clauses.old).assumptions ≡ [] }
+    ensures { OnOk result ((P.state clauses.new).assumptions ≡ []) }
+{
+    if let Some(slot) = clauses.find(lits) {
+        log.push(if clauses.is_root_reason(slot)? { 6 } else { 5 })?;
+        clauses.remove(slot);
+    }
+    Ok(())
+}
+
+/// Takes out a clause of one or two literals, if it is there.
+fn remove<P: Propagate>(
+    alloc: Global,
+    clauses: &mut P,
+    dice: &mut Dice,
+    log: &mut Vec<u8>,
+) -> Result<(), Fail>
+    requires { (P.state clauses.old).assumptions ≡ [] }
+    ensures { OnOk result ((P.state clauses.new).assumptions ≡ []) }
+{
+    let size = 1 + dice.roll() % 2;
+    let gone = dice.literals(alloc, size)?;
+    take_out(clauses, gone.as_slice(), log)
+}
+
+/// Assumes one clause, and on it another.
+fn assume<P: Propagate>(
+    alloc: Global,
+    clauses: &mut P,
+    dice: &mut Dice,
+    log: &mut Vec<u8>,
+) -> Result<(), Fail>
+    requires { (P.state clauses.old).assumptions ≡ [] }
+    ensures { OnOk result ((P.state clauses.new).assumptions ≡ []) }
+{
+    let first = dice.literals(alloc, 1)?;
+    let second = dice.literals(alloc, 2)?;
+    assume_twice(clauses, first.as_slice(), second.as_slice(), log)
+}
+
 /// Inserts a clause, takes out another if it is there, and assumes two others.
 fn change<P: Propagate>(
     alloc: Global,
@@ -121,19 +175,10 @@ fn change<P: Propagate>(
     requires { (P.state clauses.old).assumptions ≡ [] }
     ensures { OnOk result ((P.state clauses.new).assumptions ≡ []) }
 {
-    let size = 1 + dice.roll() % 4;
-    let added = dice.literals(alloc, size)?;
-    clauses.insert(added.as_slice())?;
-    let size = 1 + dice.roll() % 2;
-    let gone = dice.literals(alloc, size)?;
-    if let Some(slot) = clauses.find(gone.as_slice()) {
-        log.push(if clauses.is_root_reason(slot)? { 6 } else { 5 })?;
-        clauses.remove(slot);
-    }
+    insert(alloc, clauses, dice)?;
+    remove(alloc, clauses, dice, log)?;
     note_counts(clauses, log)?;
-    let first = dice.literals(alloc, 1)?;
-    let second = dice.literals(alloc, 2)?;
-    assume_twice(clauses, first.as_slice(), second.as_slice(), log)
+    assume(alloc, clauses, dice, log)
 }
 
 /// What is answered in a sequence of changes.
@@ -159,8 +204,8 @@ fn both_answer_alike(rt: HostRuntime) -> Result<(), Fail> {
     for seed in 0..300 {
         let scanned = answers(alloc, &mut Scan::new(alloc)?, seed, 24)?;
         let watched = answers(alloc, &mut Watch::new(alloc)?, seed, 24)?;
-        assert!(rt; scanned.len() > 24);
-        assert!(rt; scanned == watched);
+        expect_true(&rt, scanned.len() > 24);
+        expect_true(&rt, scanned == watched);
     }
     Ok(())
 }
@@ -179,6 +224,6 @@ fn counts(alloc: Global) -> Result<(u64, usize, usize), Fail> {
 
 #[test]
 fn counts_entries(rt: HostRuntime) -> Result<(), Fail> {
-    assert_eq!(rt; counts(rt.alloc())?, (4, 1, 2));
+    expect_equal(&rt, counts(rt.alloc())?, (4, 1, 2));
     Ok(())
 }

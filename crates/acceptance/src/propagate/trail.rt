@@ -1,5 +1,6 @@
 //! Tests of the trail.
 
+use crate::support::{expect_equal, expect_equal_at, expect_true};
 use cnf_base::{Lit, OutOfMemory};
 use propagation::{Except, Left, Part, Trail, Value, Whole};
 use std::test::Fail;
@@ -19,23 +20,24 @@ fn sets_and_takes_back(rt: HostRuntime) -> Result<(), Fail> {
     let greatest = Lit::new(-268435455).ok_or("no literal")?;
     let other = Lit::new(7).ok_or("no literal")?;
     let mut trail = Trail::new(rt.alloc())?;
-    assert!(rt; trail.is_empty());
-    assert_eq!(rt; trail.value(least), Value::Open);
+    expect_true(&rt, trail.is_empty());
+    expect_equal(&rt, trail.value(least), Value::Open);
     for l in [least, greatest, other, other.neg()] {
         set_open(&mut trail, l)?;
     }
+    // A macro, since `undo_to` requires what it says.
     assert_eq!(rt; trail.len(), 3);
-    assert_eq!(rt; trail.lits(), [least, greatest, other].as_slice());
-    assert_eq!(rt; trail.value(least), Value::True);
-    assert_eq!(rt; trail.value(least.neg()), Value::False);
-    assert_eq!(rt; trail.value(greatest), Value::True);
-    assert_eq!(rt; trail.value(other.neg()), Value::False);
+    expect_equal(&rt, trail.lits(), [least, greatest, other].as_slice());
+    expect_equal(&rt, trail.value(least), Value::True);
+    expect_equal(&rt, trail.value(least.neg()), Value::False);
+    expect_equal(&rt, trail.value(greatest), Value::True);
+    expect_equal(&rt, trail.value(other.neg()), Value::False);
     trail.undo_to(1);
-    assert_eq!(rt; trail.lits(), [least].as_slice());
-    assert_eq!(rt; trail.value(greatest), Value::Open);
+    expect_equal(&rt, trail.lits(), [least].as_slice());
+    expect_equal(&rt, trail.value(greatest), Value::Open);
     set_open(&mut trail, greatest.neg())?;
-    assert_eq!(rt; trail.value(greatest), Value::False);
-    assert_eq!(rt; trail.lits(), [least, greatest.neg()].as_slice());
+    expect_equal(&rt, trail.value(greatest), Value::False);
+    expect_equal(&rt, trail.lits(), [least, greatest.neg()].as_slice());
     Ok(())
 }
 
@@ -52,15 +54,15 @@ fn makes_false(rt: HostRuntime) -> Result<(), Fail> {
     let three = Lit::new(3).ok_or("no literal")?;
     let clause = [one, two.neg(), three];
     let mut trail = Trail::new(rt.alloc())?;
-    assert_eq!(rt; trail.left(&clause), Left::More);
-    assert!(rt; !make_false(&mut trail, &clause, &Except(three))?);
-    assert_eq!(rt; trail.lits(), [one.neg(), two].as_slice());
-    assert_eq!(rt; trail.left(&clause), Left::One(three));
-    assert_eq!(rt; trail.left(&clause[..2]), Left::Nothing);
-    assert_eq!(rt; trail.left(&[two, one]), Left::One(two));
-    assert!(rt; make_false(&mut trail, &[three, two], &Whole)?);
-    assert_eq!(rt; trail.value(three), Value::False);
-    assert_eq!(rt; trail.left(&clause), Left::Nothing);
+    expect_equal(&rt, trail.left(&clause), Left::More);
+    expect_true(&rt, !make_false(&mut trail, &clause, &Except(three))?);
+    expect_equal(&rt, trail.lits(), [one.neg(), two].as_slice());
+    expect_equal(&rt, trail.left(&clause), Left::One(three));
+    expect_equal(&rt, trail.left(&clause[..2]), Left::Nothing);
+    expect_equal(&rt, trail.left(&[two, one]), Left::One(two));
+    expect_true(&rt, make_false(&mut trail, &[three, two], &Whole)?);
+    expect_equal(&rt, trail.value(three), Value::False);
+    expect_equal(&rt, trail.left(&clause), Left::Nothing);
     Ok(())
 }
 
@@ -70,7 +72,7 @@ fn has_room_for_any_number(rt: HostRuntime) -> Result<(), Fail> {
     for var in [0, 1, 1, 268435455, 268435456, u32::MAX, 0] {
         trail.reserve(var)?;
     }
-    assert!(rt; trail.is_empty());
+    expect_true(&rt, trail.is_empty());
     Ok(())
 }
 
@@ -84,13 +86,13 @@ fn stays_where_memory_runs_out(rt: HostRuntime) -> Result<(), Fail> {
         };
         let before = trail.len();
         if set_open(&mut trail, l).is_err() {
-            assert_eq!(rt; trail.len(), before);
-            assert_eq!(rt; trail.value(l), Value::Open);
+            expect_equal(&rt, trail.len(), before);
+            expect_equal(&rt, trail.value(l), Value::Open);
             set_open(&mut trail, l)?;
         }
-        assert_eq!(rt; trail.len(), var as usize);
+        expect_equal(&rt, trail.len(), var as usize);
         if before >= 3 {
-            assert_eq!(rt; trail.value(first), Value::False, "at {var}");
+            expect_equal_at(&rt, var, trail.value(first), Value::False);
         }
     }
     Ok(())
@@ -102,14 +104,14 @@ fn counts_what_is_left(rt: HostRuntime) -> Result<(), Fail> {
     let two = Lit::new(2).ok_or("no literal")?;
     let far = Lit::new(268435455).ok_or("no literal")?;
     let mut trail = Trail::new(rt.alloc())?;
-    assert_eq!(rt; trail.unit_left(&[]), Left::Nothing);
-    assert_eq!(rt; trail.unit_left(&[one, far]), Left::More);
-    assert_eq!(rt; trail.unit_left(&[far, far]), Left::One(far));
-    assert!(rt; !make_false(&mut trail, &[one, two.neg()], &Whole)?);
-    assert_eq!(rt; trail.unit_left(&[one, far, two.neg()]), Left::One(far));
-    assert_eq!(rt; trail.unit_left(&[one, two]), Left::One(two));
-    assert_eq!(rt; trail.unit_left(&[two.neg(), one]), Left::Nothing);
-    assert_eq!(rt; trail.unit_left(&[two, one, two, far]), Left::More);
+    expect_equal(&rt, trail.unit_left(&[]), Left::Nothing);
+    expect_equal(&rt, trail.unit_left(&[one, far]), Left::More);
+    expect_equal(&rt, trail.unit_left(&[far, far]), Left::One(far));
+    expect_true(&rt, !make_false(&mut trail, &[one, two.neg()], &Whole)?);
+    expect_equal(&rt, trail.unit_left(&[one, far, two.neg()]), Left::One(far));
+    expect_equal(&rt, trail.unit_left(&[one, two]), Left::One(two));
+    expect_equal(&rt, trail.unit_left(&[two.neg(), one]), Left::Nothing);
+    expect_equal(&rt, trail.unit_left(&[two, one, two, far]), Left::More);
     Ok(())
 }
 
@@ -120,13 +122,13 @@ fn finds_what_is_open(rt: HostRuntime) -> Result<(), Fail> {
     let far = Lit::new(268435455).ok_or("no literal")?;
     let mut trail = Trail::new(rt.alloc())?;
     let clause = [one, two, far, one];
-    assert_eq!(rt; trail.first_open(&clause, 0), Some(0));
-    assert!(rt; !make_false(&mut trail, &[one, two.neg()], &Whole)?);
-    assert_eq!(rt; trail.first_open(&clause, 0), Some(1));
-    assert_eq!(rt; trail.first_open(&clause, 2), Some(2));
-    assert_eq!(rt; trail.first_open(&clause, 3), None);
-    assert_eq!(rt; trail.first_open(&clause, 4), None);
-    assert!(rt; !make_false(&mut trail, &[far], &Whole)?);
-    assert_eq!(rt; trail.first_open(&clause, 2), None);
+    expect_equal(&rt, trail.first_open(&clause, 0), Some(0));
+    expect_true(&rt, !make_false(&mut trail, &[one, two.neg()], &Whole)?);
+    expect_equal(&rt, trail.first_open(&clause, 0), Some(1));
+    expect_equal(&rt, trail.first_open(&clause, 2), Some(2));
+    expect_equal(&rt, trail.first_open(&clause, 3), None);
+    expect_equal(&rt, trail.first_open(&clause, 4), None);
+    expect_true(&rt, !make_false(&mut trail, &[far], &Whole)?);
+    expect_equal(&rt, trail.first_open(&clause, 2), None);
     Ok(())
 }

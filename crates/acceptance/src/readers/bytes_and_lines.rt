@@ -1,6 +1,8 @@
 //! Bytes and tokens with their places, and lines out.
 
-use crate::support::{Bytes, Cut, Pieces, SIZES, Stop, Writer, open, text};
+use crate::support::{
+    Bytes, Cut, Pieces, SIZES, Stop, Writer, expect_equal, expect_equal_at, fail_at, open, text,
+};
 use cnf_base::{
     FromRead, LineOut, Number, Place, ReadFailed, Scanner, ToWrite, Token, Word, WriteFailed,
 };
@@ -16,17 +18,17 @@ fn expect_byte(
     number: u64,
 ) {
     let (line, col) = place;
-    assert_eq!(rt; source.place(), Place { line, col });
-    assert_eq!(rt; source.byte_no(), number);
+    expect_equal(rt, source.place(), Place { line, col });
+    expect_equal(rt, source.byte_no(), number);
     for _ in 0..2 {
-        assert_eq!(rt; source.peek(), Ok(byte));
+        expect_equal(rt, source.peek(), Ok(byte));
     }
 }
 
 fn take(rt: &impl Abort, source: &mut Bytes<'_>) {
     match source.peek() {
         Ok(Some(_)) => source.bump(),
-        Ok(None) | Err(ReadFailed) => panic!(rt; "no byte"),
+        Ok(None) | Err(ReadFailed) => fail_at(rt, "no byte"),
     }
 }
 
@@ -61,9 +63,9 @@ fn failed_read(rt: HostRuntime) -> Result<(), Fail> {
     expect_byte(&rt, &mut source, Some(b'a'), (1, 1), 1);
     take(&rt, &mut source);
     for _ in 0..2 {
-        assert_eq!(rt; source.peek(), Err(ReadFailed));
+        expect_equal(&rt, source.peek(), Err(ReadFailed));
     }
-    assert_eq!(rt; source.byte_no(), 2);
+    expect_equal(&rt, source.byte_no(), 2);
     let _ = source.release();
     Ok(())
 }
@@ -78,7 +80,7 @@ const fn number(is_negative: bool, size: u64) -> Word {
 
 fn expect_tokens(rt: &impl Abort, scanner: &mut Scanner<FromRead<Pieces<'_>>>, tokens: &[Token]) {
     for token in tokens {
-        assert_eq!(rt; scanner.next(), Ok(*token));
+        expect_equal(rt, scanner.next(), Ok(*token));
     }
 }
 
@@ -120,7 +122,7 @@ fn tokens_before_a_failed_read(rt: HostRuntime) -> Result<(), Fail> {
     let mut scanner = Scanner::new(open(rt.alloc(), b"1 2", 7, Cut::Fails)?);
     expect_tokens(&rt, &mut scanner, &[word(1, 1, number(false, 1))]);
     for _ in 0..2 {
-        assert_eq!(rt; scanner.next(), Err(ReadFailed));
+        expect_equal(&rt, scanner.next(), Err(ReadFailed));
     }
     let _ = scanner.release();
     Ok(())
@@ -130,13 +132,13 @@ fn tokens_before_a_failed_read(rt: HostRuntime) -> Result<(), Fail> {
 fn lines(rt: HostRuntime) -> Result<(), Fail> {
     let mut writer = Writer::byte_a_call(rt.alloc());
     let mut lines = LineOut::new(ToWrite::new(&mut writer));
-    assert_eq!(rt; lines.line(b"one"), Ok(()));
-    assert_eq!(rt; lines.line(b""), Ok(()));
-    assert_eq!(rt; lines.line(b"three"), Ok(()));
-    assert_eq!(rt; lines.finish(), Ok(()));
+    expect_equal(&rt, lines.line(b"one"), Ok(()));
+    expect_equal(&rt, lines.line(b""), Ok(()));
+    expect_equal(&rt, lines.line(b"three"), Ok(()));
+    expect_equal(&rt, lines.finish(), Ok(()));
     let _ = lines.release();
     let written = text(rt.alloc(), writer.taken.as_slice())?;
-    assert_eq!(rt; written.as_str(), "one\n\nthree\n");
+    expect_equal(&rt, written.as_str(), "one\n\nthree\n");
     Ok(())
 }
 
@@ -150,11 +152,15 @@ fn writes(rt: HostRuntime) -> Result<(), Fail> {
     for (length, writes) in WRITES {
         let mut writer = Writer::new(rt.alloc(), usize::MAX, Stop::TakesNone);
         let mut lines = LineOut::new(ToWrite::new(&mut writer));
-        assert_eq!(rt; lines.line(bytes.get(..length).unwrap_or(&bytes)), Ok(()));
+        expect_equal(
+            &rt,
+            lines.line(bytes.get(..length).unwrap_or(&bytes)),
+            Ok(()),
+        );
         let _ = lines.release();
-        assert_eq!(rt; writer.writes, writes, "{length} bytes");
-        assert_eq!(rt; writer.taken.len(), length.saturating_add(1));
-        assert_eq!(rt; writer.taken.last(), Some(&b'\n'));
+        expect_equal_at(&rt, length, writer.writes, writes);
+        expect_equal(&rt, writer.taken.len(), length.saturating_add(1));
+        expect_equal(&rt, writer.taken.last(), Some(&b'\n'));
     }
     Ok(())
 }
@@ -164,12 +170,12 @@ fn writes(rt: HostRuntime) -> Result<(), Fail> {
 fn failed_write(rt: HostRuntime) -> Result<(), Fail> {
     let mut writer = Writer::new(rt.alloc(), 6, Stop::FailsOnce);
     let mut lines = LineOut::new(ToWrite::new(&mut writer));
-    assert_eq!(rt; lines.line(b"one"), Ok(()));
-    assert_eq!(rt; lines.line(b"two"), Err(WriteFailed));
-    assert_eq!(rt; lines.line(b"three"), Err(WriteFailed));
-    assert_eq!(rt; lines.finish(), Err(WriteFailed));
+    expect_equal(&rt, lines.line(b"one"), Ok(()));
+    expect_equal(&rt, lines.line(b"two"), Err(WriteFailed));
+    expect_equal(&rt, lines.line(b"three"), Err(WriteFailed));
+    expect_equal(&rt, lines.finish(), Err(WriteFailed));
     let _ = lines.release();
     let written = text(rt.alloc(), writer.taken.as_slice())?;
-    assert_eq!(rt; written.as_str(), "one\ntw");
+    expect_equal(&rt, written.as_str(), "one\ntw");
     Ok(())
 }

@@ -1,6 +1,6 @@
 //! The reader of a solver's output.
 
-use crate::support::{Cut, Pieces};
+use crate::support::{Cut, Pieces, expect_equal, expect_equal_at, fail_at};
 use cnf_base::{Fault, FromRead, Lit, OutOfMemory, Place, Source, TextFault};
 use dimacs::{Model, read_claim};
 use std::alloc::Global;
@@ -20,8 +20,8 @@ fn claim_of(alloc: Global, pieces: &mut Pieces<'_>) -> Result<Model, Fault> {
 
 fn expect_held(rt: &impl Abort, model: &Model, number: i32, held: bool) {
     match Lit::new(number) {
-        Some(lit) => assert_eq!(rt; model.holds(lit), held, "{number}"),
-        None => assert!(rt; false, "{number} is no literal"),
+        Some(lit) => expect_equal_at(rt, number, model.holds(lit), held),
+        None => fail_at(rt, number),
     }
 }
 
@@ -39,7 +39,7 @@ fn listed_literals_hold(rt: HostRuntime) -> Result<(), Fail> {
                 expect_held(&rt, &model, 3, false);
                 expect_held(&rt, &model, -3, false);
             }
-            Err(_) => assert!(rt; false, "no claim"),
+            Err(_) => fail_at(&rt, "no claim"),
         }
     }
     Ok(())
@@ -50,7 +50,7 @@ fn listed_literals_hold(rt: HostRuntime) -> Result<(), Fail> {
 fn reader_is_handed_back(rt: HostRuntime) -> Result<(), Fail> {
     let mut pieces = Pieces::new("s SATISFIABLE\nv 1 x 2 0\n", 1, Cut::Ends);
     let bad = Fault::Text(TextFault::BadToken, Place { line: 2, col: 5 });
-    assert_eq!(rt; claim_of(rt.alloc(), &mut pieces).err(), Some(bad));
-    assert_eq!(rt; pieces.left(), 4);
+    expect_equal(&rt, claim_of(rt.alloc(), &mut pieces).err(), Some(bad));
+    expect_equal(&rt, pieces.left(), 4);
     Ok(())
 }

@@ -1,6 +1,6 @@
 //! Readers of steps, into one buffer.
 
-use crate::support::{Bytes, Cut, SIZES, open};
+use crate::support::{Bytes, Cut, SIZES, expect_equal, open};
 use cnf_base::{Fault, Lit};
 use proofs::{DratBinary, DratText, LratText, StepBuf, StepKind, StepReader};
 use std::alloc::{AllocError, Global};
@@ -42,11 +42,11 @@ fn expect_step(
     expected: &Step<'_>,
 ) -> Result<(), Fail> {
     let (kind, id, lits, hints) = *expected;
-    assert_eq!(rt; step.kind(), kind);
-    assert_eq!(rt; step.id(), id);
+    expect_equal(rt, step.kind(), kind);
+    expect_equal(rt, step.id(), id);
     let found = numbers(alloc, step.lits())?;
-    assert_eq!(rt; found.as_slice(), lits);
-    assert_eq!(rt; step.hints(), hints);
+    expect_equal(rt, found.as_slice(), lits);
+    expect_equal(rt, step.hints(), hints);
     Ok(())
 }
 
@@ -61,11 +61,11 @@ fn expect_steps<R: StepReader>(
     let mut step = StepBuf::new(alloc);
     expect_step(rt, alloc, &step, &(StepKind::Add, 0, &[], &[]))?;
     for expected in steps {
-        assert_eq!(rt; reader.next(&mut step), Ok(true));
+        expect_equal(rt, reader.next(&mut step), Ok(true));
         expect_step(rt, alloc, &step, expected)?;
     }
     for _ in 0..3 {
-        assert_eq!(rt; reader.next(&mut step), last);
+        expect_equal(rt, reader.next(&mut step), last);
     }
     Ok(())
 }

@@ -1,7 +1,7 @@
 //! The reader of formulas, clause by clause.
 
 use crate::readers::forms::numbers;
-use crate::support::{Cut, Pieces, SIZES, open};
+use crate::support::{Cut, Pieces, SIZES, expect_equal, expect_true, fail_at, open};
 use cnf_base::{Fault, FromRead, OutOfMemory, Place, TextFault};
 use dimacs::{ClauseBuf, FormulaReader, Header};
 use std::alloc::Global;
@@ -36,7 +36,7 @@ fn expect_next(
     clause: &mut ClauseBuf,
     next: Result<bool, Fault>,
 ) {
-    assert_eq!(rt; reader.next(clause), next);
+    expect_equal(rt, reader.next(clause), next);
 }
 
 // The clauses, and what comes after them at each further call.
@@ -48,11 +48,11 @@ fn expect_clauses(
     last: Result<bool, Fault>,
 ) -> Result<(), Fail> {
     let mut clause = ClauseBuf::new(alloc);
-    assert!(rt; clause.lits().is_empty());
+    expect_true(rt, clause.lits().is_empty());
     for expected in clauses {
         expect_next(rt, reader, &mut clause, Ok(true));
         let found = numbers(alloc, clause.lits())?;
-        assert_eq!(rt; found.as_slice(), *expected);
+        expect_equal(rt, found.as_slice(), *expected);
     }
     for _ in 0..3 {
         expect_next(rt, reader, &mut clause, last);
@@ -61,9 +61,9 @@ fn expect_clauses(
 }
 
 fn expect_header(rt: &impl Abort, reader: &Reader<'_>, header: Header) {
-    assert_eq!(rt; reader.header(), header);
-    assert_eq!(rt; reader.vars(), header.vars);
-    assert_eq!(rt; reader.clauses(), header.clauses);
+    expect_equal(rt, reader.header(), header);
+    expect_equal(rt, reader.vars(), header.vars);
+    expect_equal(rt, reader.clauses(), header.clauses);
 }
 
 fn expect_formula(
@@ -83,7 +83,7 @@ fn expect_formula(
                 expect_clauses(rt, alloc, &mut reader, clauses, last)?;
                 let _ = reader.release();
             }
-            Err(fault) => panic!(rt; "{fault:?}"),
+            Err(fault) => fail_at(rt, fault),
         }
     }
     Ok(())
@@ -140,8 +140,8 @@ fn faults(rt: HostRuntime) -> Result<(), Fail> {
 fn expect_unopened(rt: &impl Abort, alloc: Global, text: &str, cut: Cut, fault: Fault) {
     for size in SIZES {
         match open_formula(alloc, text, size, cut) {
-            Ok(_) => panic!(rt; "{text:?} has a header"),
-            Err(found) => assert_eq!(rt; found, fault),
+            Ok(_) => fail_at(rt, text),
+            Err(found) => expect_equal(rt, found, fault),
         }
     }
 }

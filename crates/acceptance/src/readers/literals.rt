@@ -1,5 +1,6 @@
 //! Literals, by hand.
 
+use crate::support::{expect_equal, expect_equal_at, expect_true_at};
 use cnf_base::{Lit, Number};
 use std::process::Abort;
 use std::test::Fail;
@@ -21,19 +22,20 @@ const NONE: [i32; 5] = [0, 268435456, -268435456, i32::MAX, i32::MIN];
 fn expect_literal(rt: &impl Abort, row: (i32, u32, usize)) {
     let (number, variable, index) = row;
     let made = Lit::new(number);
-    assert!(rt; made.is_some(), "{number}");
+    expect_true_at(rt, number, made.is_some());
     if let Some(lit) = made {
-        assert_eq!(rt; lit.to_i32(), number);
-        assert_eq!(rt; lit.var(), variable);
-        assert_eq!(rt; lit.index(), index);
+        expect_equal(rt, lit.to_i32(), number);
+        expect_equal(rt, lit.var(), variable);
+        expect_equal(rt, lit.index(), index);
     }
 }
 
 fn expect_complement(rt: &impl Abort, number: i32, complement: i32) {
-    assert_eq!(rt;
+    expect_equal_at(
+        rt,
+        number,
         Lit::new(number).map(|l| l.neg()),
         Lit::new(complement),
-        "{number}"
     );
 }
 
@@ -42,7 +44,7 @@ fn expect_from_number(rt: &impl Abort, number: i32) {
         is_negative: number < 0,
         size: u64::from(number.unsigned_abs()),
     });
-    assert_eq!(rt; named, Lit::new(number), "{number}");
+    expect_equal_at(rt, number, named, Lit::new(number));
 }
 
 #[test]
@@ -60,14 +62,14 @@ fn literals(rt: HostRuntime) -> Result<(), Fail> {
 #[test]
 fn none(rt: HostRuntime) -> Result<(), Fail> {
     for number in NONE {
-        assert_eq!(rt; Lit::new(number), None, "{number}");
+        expect_equal_at(&rt, number, Lit::new(number), None);
         expect_from_number(&rt, number);
     }
     let past = Number {
         is_negative: false,
         size: 4294967297,
     };
-    assert_eq!(rt; Lit::from_number(past), None);
-    assert_eq!(rt; Lit::MAX_VAR, 268435455);
+    expect_equal(&rt, Lit::from_number(past), None);
+    expect_equal(&rt, Lit::MAX_VAR, 268435455);
     Ok(())
 }

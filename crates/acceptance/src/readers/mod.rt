@@ -9,3 +9,4 @@ mod formula;
 mod literals;
 mod lrat_text;
 mod step_ends;
+mod step_parts;

@@ -1,6 +1,6 @@
 //! Where each step ends that a reader gives.
 
-use crate::support::{Cut, SIZES, open};
+use crate::support::{Cut, SIZES, expect_equal, open};
 use cnf_base::Place;
 use proofs::{DratBinary, DratText, LratText, StepBuf, StepEnd, StepReader};
 use std::alloc::Global;
@@ -13,12 +13,12 @@ const fn text(line: u64, col: u64) -> StepEnd {
 
 fn expect_ends<R: StepReader>(rt: &impl Abort, alloc: Global, reader: &mut R, ends: &[StepEnd]) {
     let mut step = StepBuf::new(alloc);
-    assert_eq!(rt; reader.step_end(), None);
+    expect_equal(rt, reader.step_end(), None);
     for end in ends {
-        assert_eq!(rt; reader.next(&mut step), Ok(true));
-        assert_eq!(rt; reader.step_end(), Some(*end));
+        expect_equal(rt, reader.next(&mut step), Ok(true));
+        expect_equal(rt, reader.step_end(), Some(*end));
     }
-    assert_eq!(rt; reader.next(&mut step), Ok(false));
+    expect_equal(rt, reader.next(&mut step), Ok(false));
 }
 
 #[test]

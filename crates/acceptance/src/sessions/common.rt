@@ -2,6 +2,7 @@
 
 ghost use Rattle.std.specs.Prelude.{◌≡◌, ◌≤◌, false};
 
+use crate::support::{expect_equal, expect_true};
 use cnf_base::Lit;
 use proofs::{StepBuf, StepReader};
 use std::alloc::{AllocError, Global};
@@ -29,10 +30,10 @@ fn expect_answer<S: ProofSession>(
     answer: Answer,
 ) {
     let (expected, peak, held, verified) = answer;
-    assert_eq!(rt; session.step(step), expected);
-    assert_eq!(rt; session.peak(), peak);
-    assert_eq!(rt; session.held(), held);
-    assert_eq!(rt; session.verified(), verified);
+    expect_equal(rt, session.step(step), expected);
+    expect_equal(rt, session.peak(), peak);
+    expect_equal(rt, session.held(), held);
+    expect_equal(rt, session.verified(), verified);
 }
 
 fn expect_answers<S: ProofSession, R: StepReader>(
@@ -44,10 +45,10 @@ fn expect_answers<S: ProofSession, R: StepReader>(
 ) -> Result<(), Fail> {
     let mut step = StepBuf::new(alloc);
     for answer in answers {
-        assert_eq!(rt; reader.next(&mut step), Ok(true));
+        expect_equal(rt, reader.next(&mut step), Ok(true));
         expect_answer(rt, session, &step, *answer);
     }
-    assert_eq!(rt; reader.next(&mut step), Ok(false));
+    expect_equal(rt, reader.next(&mut step), Ok(false));
     Ok(())
 }
 
@@ -63,8 +64,50 @@ pub fn expect_on_one_clause<S: ProofSession, R: StepReader>(
     requires room { 2 ≤ (S.shown session.old).room }
 {
     let both = literals(alloc, &[1, 2])?;
-    assert_eq!(rt; session.input(both.as_slice()), Ok(()));
+    expect_equal(rt, session.input(both.as_slice()), Ok(()));
     expect_answers(rt, alloc, session, reader, answers)
+}
+
+// After three clauses, which have five literals where each counts once: 1 and 2, 1 twice, and -1 and 2.
+pub fn expect_on_three_clauses<S: ProofSession, R: StepReader>(
+    rt: &impl Abort,
+    alloc: Global,
+    session: &mut S,
+    reader: &mut R,
+    answers: &[Answer],
+) -> Result<(), Fail>
+    requires unused { (S.shown session.old).has_stepped ≡ false }
+    requires room { 3 ≤ (S.shown session.old).room }
+{
+    let both = literals(alloc, &[1, 2])?;
+    let twice = literals(alloc, &[1, 1])?;
+    let other = literals(alloc, &[-1, 2])?;
+    expect_equal(rt, session.input(both.as_slice()), Ok(()));
+    expect_equal(rt, session.input(twice.as_slice()), Ok(()));
+    expect_equal(rt, session.input(other.as_slice()), Ok(()));
+    expect_equal(rt, session.held(), 5);
+    expect_answers(rt, alloc, session, reader, answers)
+}
+
+// The answers to a step that nothing was read into, each time that it is taken after the one clause of 1 and 2.
+pub fn expect_to_new_step<S: ProofSession>(
+    rt: &impl Abort,
+    alloc: Global,
+    session: &mut S,
+    answers: &[Answer],
+) -> Result<(), Fail>
+    requires unused { (S.shown session.old).has_stepped ≡ false }
+    requires room { 2 ≤ (S.shown session.old).room }
+{
+    let both = literals(alloc, &[1, 2])?;
+    expect_equal(rt, session.input(both.as_slice()), Ok(()));
+    expect_equal(rt, session.peak(), 2);
+    expect_true(rt, !session.verified());
+    let step = StepBuf::new(alloc);
+    for answer in answers {
+        expect_answer(rt, session, &step, *answer);
+    }
+    Ok(())
 }
 
 // A proof of the empty clause from 1 and -1, and a step after it.
@@ -79,11 +122,11 @@ pub fn expect_empty_clause<S: ProofSession, R: StepReader>(
 {
     let positive = literals(alloc, &[1, 1])?;
     let negative = literals(alloc, &[-1])?;
-    assert_eq!(rt; session.input(positive.as_slice()), Ok(()));
-    assert_eq!(rt; session.input(negative.as_slice()), Ok(()));
-    assert_eq!(rt; session.peak(), 2);
-    assert_eq!(rt; session.held(), 2);
-    assert!(rt; !session.verified());
+    expect_equal(rt, session.input(positive.as_slice()), Ok(()));
+    expect_equal(rt, session.input(negative.as_slice()), Ok(()));
+    expect_equal(rt, session.peak(), 2);
+    expect_equal(rt, session.held(), 2);
+    expect_true(rt, !session.verified());
     let answers = [
         (Ok(Accepted::Empty), 2, 2, true),
         (Err(Refusal::Ended), 2, 2, true),
@@ -96,12 +139,12 @@ pub fn expect_ended<S: ProofSession>(rt: &impl Abort, alloc: Global, session: &m
     requires unused { (S.shown session.old).has_stepped ≡ false }
     requires room { 2 ≤ (S.shown session.old).room }
 {
-    assert_eq!(rt; session.input(&[]), Ok(()));
-    assert!(rt; session.verified());
+    expect_equal(rt, session.input(&[]), Ok(()));
+    expect_true(rt, session.verified());
     let step = StepBuf::new(alloc);
-    assert_eq!(rt; session.step(&step), Err(Refusal::Ended));
-    assert_eq!(rt; session.input(&[]), Err(Refusal::Ended));
-    assert!(rt; session.verified());
-    assert_eq!(rt; session.peak(), 0);
-    assert_eq!(rt; session.held(), 0);
+    expect_equal(rt, session.step(&step), Err(Refusal::Ended));
+    expect_equal(rt, session.input(&[]), Err(Refusal::Ended));
+    expect_true(rt, session.verified());
+    expect_equal(rt, session.peak(), 0);
+    expect_equal(rt, session.held(), 0);
 }

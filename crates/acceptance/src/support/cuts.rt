@@ -1,5 +1,6 @@
 //! Inputs that are cut after some of their bytes, by their end or by a failed read.
 
+use crate::support::asserts::expect_true_at;
 use crate::support::readers::Cut;
 use crate::support::reports::expect;
 use crate::support::rows::Row;
@@ -111,10 +112,7 @@ impl<'a> Cutting<'a> {
             Cutting::Formula(_) => (whole.formula.get(..n), Some(whole.second)),
             Cutting::Second(..) => (Some(whole.formula), whole.second.get(..n)),
         };
-        assert!(rt;
-            formula.is_some() && second.is_some(),
-            "{n} is past the input"
-        );
+        expect_true_at(rt, n, formula.is_some() && second.is_some());
         let formula = formula.unwrap_or(whole.formula);
         let second = second.unwrap_or(whole.second);
         let (formula_length, second_length) = (formula.len(), second.len());

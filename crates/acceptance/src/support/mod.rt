@@ -1,5 +1,6 @@
 //! What the tables of rows share.
 
+mod asserts;
 mod cuts;
 mod engines;
 mod examples;
@@ -12,6 +13,7 @@ mod rows;
 mod search;
 mod writers;
 
+pub use asserts::{expect_equal, expect_equal_at, expect_true, expect_true_at, fail_at};
 pub use cuts::{Cutting, E_CLAUSES, HEADER, Said, UNREAD_AFTER_ONE, UNREAD_FORMULA, UNREAD_PROOF};
 pub use engines::Engine;
 pub use examples::{

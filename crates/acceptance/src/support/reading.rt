@@ -1,5 +1,6 @@
 //! How much is read of a second input.
 
+use crate::support::asserts::{expect_equal, expect_true_at};
 use crate::support::long::{MANY, repeated};
 use crate::support::readers::Pieces;
 use crate::support::rows::Row;
@@ -18,7 +19,7 @@ pub fn expect_one_piece_further(
     least: usize,
 ) -> Result<(), Fail> {
     let bytes = repeated(alloc, row.second, b"1 0\n", MANY, b"")?;
-    assert_eq!(rt; bytes.len(), length);
+    expect_equal(rt, bytes.len(), length);
     let report = row.report(alloc)?;
     let engines = row.tool.engines(alloc)?;
     for engine in engines.as_slice() {
@@ -26,10 +27,10 @@ pub fn expect_one_piece_further(
         let mut second = Pieces::of_bytes(bytes.as_slice(), usize::MAX, row.second_cut);
         let writer = Writer::new(alloc, usize::MAX, Stop::TakesNone);
         let (code, written) = engine.run(alloc, &mut formula, &mut second, writer);
-        assert_eq!(rt; written.as_slice(), report.as_bytes());
-        assert_eq!(rt; code, row.status);
+        expect_equal(rt, written.as_slice(), report.as_bytes());
+        expect_equal(rt, code, row.status);
         let left = second.left();
-        assert!(rt; left >= least, "{left} bytes are left by {engine:?}");
+        expect_true_at(rt, (left, engine), left >= least);
     }
     Ok(())
 }

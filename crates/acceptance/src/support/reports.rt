@@ -1,5 +1,6 @@
 //! Rows are run, and what comes out is compared.
 
+use crate::support::asserts::expect_equal_at;
 use crate::support::engines::Engine;
 use crate::support::readers::{Pieces, SIZES};
 use crate::support::rows::{Row, Tool};
@@ -35,18 +36,15 @@ fn expect_run(
     let written = text(alloc, written.as_slice())?;
     let expected = row.report(alloc)?;
     let name = row.name;
-    assert_eq!(rt;
+    expect_equal_at(
+        rt,
+        (name, engine, size),
         written.as_str(),
         expected.as_str(),
-        "{name:?} by {engine:?} in pieces of {size}"
     );
-    assert_eq!(rt;
-        code,
-        row.status,
-        "{name:?} by {engine:?} in pieces of {size}"
-    );
+    expect_equal_at(rt, (name, engine, size), code, row.status);
     if let Some(expected) = is_read {
-        assert_eq!(rt; second.reads > 0, expected, "{name:?} by {engine:?}");
+        expect_equal_at(rt, (name, engine), second.reads > 0, expected);
     }
     Ok(())
 }
@@ -90,11 +88,7 @@ fn expect_no_contradiction(rt: &impl Abort, alloc: Global, row: &Row<'_>) -> Res
     if row.status == 0 {
         let name = row.name;
         let claimed = row.tool == Tool::Model;
-        assert_eq!(rt;
-            has_model(rt, alloc, row.formula)?,
-            claimed,
-            "{name:?}: whether there is a model"
-        );
+        expect_equal_at(rt, name, has_model(rt, alloc, row.formula)?, claimed);
     }
     Ok(())
 }

@@ -1,5 +1,6 @@
 //! Rows are run with writers that have room for a beginning of the report.
 
+use crate::support::asserts::{expect_equal, expect_equal_at};
 use crate::support::engines::Engine;
 use crate::support::readers::Pieces;
 use crate::support::reports::text;
@@ -29,16 +30,13 @@ fn expect_beginning(
     let written = text(alloc, written.as_slice())?;
     let report = row.report(alloc)?;
     let name = row.name;
-    assert_eq!(rt;
+    expect_equal_at(
+        rt,
+        (name, engine, n),
         Some(written.as_str()),
         report.as_str().get(..n),
-        "{name:?} by {engine:?} with room for {n} bytes"
     );
-    assert_eq!(rt;
-        code,
-        status,
-        "{name:?} by {engine:?} with room for {n} bytes"
-    );
+    expect_equal_at(rt, (name, engine, n), code, status);
     Ok(())
 }
 
@@ -117,8 +115,8 @@ pub fn expect_ten_bytes(
     let engines = row.tool.engines(alloc)?;
     for engine in engines.as_slice() {
         let (code, written) = run(alloc, *engine, row, Writer::new(alloc, 10, Stop::Fails));
-        assert_eq!(rt; written.as_slice(), bytes);
-        assert_eq!(rt; code, 5);
+        expect_equal(rt, written.as_slice(), bytes);
+        expect_equal(rt, code, 5);
     }
     Ok(())
 }

@@ -1,5 +1,6 @@
 //! A search over all assignments of a small formula.
 
+use crate::support::asserts::{expect_true, expect_true_at};
 use std::alloc::{AllocError, Global};
 use std::process::Abort;
 use std::test::Fail;
@@ -61,7 +62,7 @@ fn meets(assignment: u32, variables: &[u32], numbers: &[i32]) -> bool {
 pub fn has_model(rt: &impl Abort, alloc: Global, formula: &str) -> Result<bool, Fail> {
     let numbers = numbers(alloc, formula)?;
     let variables = variables(alloc, numbers.as_slice())?;
-    assert!(rt; variables.len() <= 10, "too many variables");
+    expect_true_at(rt, "too many variables", variables.len() <= 10);
     for assignment in 0..1024 {
         if meets(assignment, variables.as_slice(), numbers.as_slice()) {
             return Ok(true);
@@ -74,10 +75,10 @@ pub fn has_model(rt: &impl Abort, alloc: Global, formula: &str) -> Result<bool, 
 #[test]
 fn finds(rt: HostRuntime) -> Result<(), Fail> {
     let found = "c x\np cnf 3 3\n1 2 0\n-1\n3 0 -2 -3 0\n";
-    assert!(rt; has_model(&rt, rt.alloc(), found)?);
+    expect_true(&rt, has_model(&rt, rt.alloc(), found)?);
     let not_found = "p cnf 3 4\n1 2 0 -1\n3 0 -2 -3 0 -1 -3 0 1 -2 0\n";
-    assert!(rt; !has_model(&rt, rt.alloc(), not_found)?);
-    assert!(rt; has_model(&rt, rt.alloc(), "p cnf 0 0\n")?);
-    assert!(rt; !has_model(&rt, rt.alloc(), "p cnf 0 1\n0\n")?);
+    expect_true(&rt, !has_model(&rt, rt.alloc(), not_found)?);
+    expect_true(&rt, has_model(&rt, rt.alloc(), "p cnf 0 0\n")?);
+    expect_true(&rt, !has_model(&rt, rt.alloc(), "p cnf 0 1\n0\n")?);
     Ok(())
 }

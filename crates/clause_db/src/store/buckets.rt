@@ -117,10 +117,4 @@ impl Buckets {
             None => 0,
         }
     }
-
-    /// For how many hashes there is room.
-    #[cfg(test)]
-    pub(crate) fn room(&self) -> usize {
-        self.single.capacity()
-    }
 }

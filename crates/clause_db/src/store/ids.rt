@@ -201,16 +201,3 @@ impl Ids {
         }
     }
 }
-
-#[cfg(test)]
-impl Ids {
-    /// How many near page numbers it can hold with no more memory.
-    pub(crate) fn directory_capacity(&self) -> usize {
-        self.directory.capacity()
-    }
-
-    /// How many entries, counts, page numbers and free pages it can hold with no more memory.
-    pub(crate) fn capacities(&self) -> [usize; 4] {
-        self.pages.capacities()
-    }
-}

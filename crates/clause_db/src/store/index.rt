@@ -121,12 +121,6 @@ impl Index {
     {
         self.buckets.slots(hash)
     }
-
-    /// For how many hashes there is room.
-    #[cfg(test)]
-    pub(crate) fn room(&self) -> usize {
-        self.buckets.room()
-    }
 }
 
 impl Indexing for Index {

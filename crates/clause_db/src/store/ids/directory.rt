@@ -120,11 +120,3 @@ impl Directory {
         }
     }
 }
-
-#[cfg(test)]
-impl Directory {
-    /// How many page numbers the near part can hold with no more memory.
-    pub(crate) fn capacity(&self) -> usize {
-        self.near.capacity()
-    }
-}

@@ -146,16 +146,3 @@ impl Pages {
         self.live[page as usize - 1] -= 1;
     }
 }
-
-#[cfg(test)]
-impl Pages {
-    /// How many entries, counts, page numbers and free pages it can hold with no more memory.
-    pub(crate) fn capacities(&self) -> [usize; 4] {
-        [
-            self.entries.capacity(),
-            self.live.capacity(),
-            self.numbers.capacity(),
-            self.free.capacity(),
-        ]
-    }
-}

@@ -1,9 +1,11 @@
-//! Tests of the table.
+//! The table by number.
 
-use crate::Table;
+use crate::support::expect_equal;
+use std::process::Abort;
 use std::test::Fail;
+use tables::Table;
 
-/// Reserves the keys, each with its own number, and counts those that read back otherwise.
+/// Keys that were reserved, each with its own number.
 #[test]
 fn reads_back(rt: HostRuntime) -> Result<(), Fail> {
     let mut rising: Table<u32> = Table::new(rt.alloc());
@@ -14,14 +16,14 @@ fn reads_back(rt: HostRuntime) -> Result<(), Fail> {
         falling.reserve(2000 - k, k + 10)?;
     }
     for k in 0..2000u32 {
-        assert_eq!(rt; rising.get(k), Some(k));
-        assert_eq!(rt; falling.get(536870911 - 7 * k), Some(k));
-        assert_eq!(rt; falling.get(2000 - k), Some(k + 10));
+        expect_equal(&rt, rising.get(k), Some(k));
+        expect_equal(&rt, falling.get(536870911 - 7 * k), Some(k));
+        expect_equal(&rt, falling.get(2000 - k), Some(k + 10));
     }
-    assert_eq!(rt; rising.get(2000), None);
-    assert_eq!(rt; falling.get(0), None);
+    expect_equal(&rt, rising.get(2000), None);
+    expect_equal(&rt, falling.get(0), None);
     rising.reserve(5, 1)?;
-    assert_eq!(rt; rising.get(5), Some(5));
+    expect_equal(&rt, rising.get(5), Some(5));
     Ok(())
 }
 
@@ -31,7 +33,7 @@ fn writes_far_and_near(rt: HostRuntime) -> Result<(), Fail> {
     for key in [1, 536870911, u32::MAX] {
         table.reserve(key, 0)?;
         table.set(key, key - 1);
-        assert_eq!(rt; table.get(key), Some(key - 1));
+        expect_equal(&rt, table.get(key), Some(key - 1));
     }
     Ok(())
 }

@@ -1,0 +1,5 @@
+//! What clauses and their identifiers are kept in, call by call.
+
+mod clauses;
+mod identifiers;
+mod table;
