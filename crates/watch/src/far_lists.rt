@@ -1,6 +1,6 @@
 //! Watch lists of literals that are far from each other.
 
-ghost use Rattle.std.specs.Prelude.{◌≡◌, ℕ, ◌+◌, ◌==◌, ◌&&◌, ◌++◌, ◌∷◌, [], length, min, if◌then◌else◌, IsSome, IsTrue, IfOk, OnOk, OnErr, Some, take, true, false, ◌≢◌, ◌<◌, ◌≤◌};
+ghost use Rattle.std.specs.Prelude.{◌≡◌, ℕ, ◌+◌, ◌==◌, ◌++◌, ◌∷◌, [], length, min, if◌then◌else◌, IsSome, IfOk, OnOk, OnErr, Some, true, false, ◌≢◌, ◌<◌, ◌≤◌};
 ghost use Rattle.cnf_base.specs.Literals.{Clause};
 ghost use Rattle.tables.specs.Table.{at};
 ghost use Rattle.watch.specs.Lists.{AreFarApart, entries_of, far_at, far_entries, strangers};

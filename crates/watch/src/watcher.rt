@@ -1,6 +1,6 @@
 //! The entries of watch lists.
 
-ghost use Rattle.std.specs.Prelude.{◌≡◌, ℕ, ◌+◌, ◌==◌, ◌&&◌, ◌++◌, ◌∷◌, [], length, min, if◌then◌else◌, IsSome, IsTrue, IfSome, IfOk, OnOk, OnErr, Some, take, true, false, ◌≢◌, ◌<◌, ◌≤◌};
+ghost use Rattle.std.specs.Prelude.{◌≡◌, ℕ, ◌+◌, ◌==◌, length, if◌then◌else◌, IsTrue, IfSome, take, ◌<◌, ◌≤◌};
 ghost use Rattle.cnf_base.specs.Literals.{Clause};
 ghost use Rattle.watch.specs.Lists.{entries_of, slot_at, strangers};
 
