@@ -107,7 +107,7 @@ fn visit(
         length list.new.items ≡ length list.old.items) }
     ensures same_slot { IfOk result (λ n. n ≡ Further →
         slot_at list.new.items place ≡ slot_at list.old.items place) }
-    ensures partner { IfOk result (λ n. n ≡ Further → (c : Clause) →
+    ensures met { IfOk result (λ n. n ≡ Further → (c : Clause) →
         maps.get store.new.live (slot_at list.old.items place) ≡ Some c →
         IsMet c l assumptions.new.trail.lits) }
     ensures shorter { IfOk result (λ n. n ≡ Here →
@@ -163,7 +163,7 @@ fn visit_all(
     requires noted { AreNoted (maps.get (each_in_order store.old.live)) (at reasons.old) }
     ensures clash { IfOk result (λ found. IfSome found (λ s.
         IsFalseAt (maps.get (each_in_order store.new.live)) s assumptions.new.trail.lits)) }
-    ensures partners { IfOk result (λ found. IfNone found ((s : ℕ) (c : Clause) →
+    ensures met { IfOk result (λ found. IfNone found ((s : ℕ) (c : Clause) →
         maps.get store.new.live s ≡ Some c → IsMet c l assumptions.new.trail.lits)) }
     ensures hand { IsInHand lists.new l }
     ensures listed { IsListed (maps.get store.new.live) (with_list lists.new l list.new.items) }
@@ -199,7 +199,7 @@ fn follow(
     requires noted { AreNoted (maps.get (each_in_order store.old.live)) (at reasons.old) }
     ensures clash { IfOk result (λ found. IfSome found (λ s.
         IsFalseAt (maps.get (each_in_order store.new.live)) s assumptions.new.trail.lits)) }
-    ensures partners { IfOk result (λ found. IfNone found ((s : ℕ) (c : Clause) →
+    ensures met { IfOk result (λ found. IfNone found ((s : ℕ) (c : Clause) →
         maps.get store.new.live s ≡ Some c → IsMet c l assumptions.new.trail.lits)) }
     ensures apart { AreApart lists.new }
     ensures listed { IsListed (maps.get store.new.live) (list_at lists.new) }

@@ -57,7 +57,7 @@ loop-done-preserved c =
     sym (take-take (before.done + 1) (length trues) after (omega (arith, inside))) ∙ ap (take (before.done + 1)) e.carries.extends.begins ∙ take_more trues before.done 0 inside
     ∙ ap (λ x. take before.done trues ++ x ∷ []) (sym read) in
     let kept = e.carries.kept (take before.done trues) trues (front_part before.done trues) (λ l h. h) so_far.watched in
-    let partners = subst (λ o. IfNone o ((s : ℕ) (d : Clause) → maps.get c.follow.new.store.live s ≡ Some d → IsMet d c.neg-l.result after)) c.in-None.is e.partners in
+    let partners = subst (λ o. IfNone o ((s : ℕ) (d : Clause) → maps.get c.follow.new.store.live s ≡ Some d → IsMet d c.neg-l.result after)) c.in-None.is e.met in
     let grown = watched_grown live (take before.done trues) trues after (λ l h. has_begun trues after l e.carries.extends.begins h) kept in record {
       inside = let longer = e.carries.extends.longer in omega (arith, inside, longer);
       apart = e.apart;

@@ -27,8 +27,8 @@ false_slot (Nothing slot) = slot
 false_slot Further = 0
 false_slot Here = 0
 
-pub returns-then-is_true-clause-partner : goal.returns-then-is_true-clause-partner
-returns-then-is_true-clause-partner c = λ _ d here _.
+pub returns-then-is_true-clause-met : goal.returns-then-is_true-clause-met
+returns-then-is_true-clause-met c = λ _ d here _.
     let list = c.args.list.now.items in
     let live = maps.get c.args.store.now.live in
     let e = c.index.result.now in
@@ -82,8 +82,8 @@ returns-in-Stays-clause-same_slot c = λ _.
     slot_is (set list c.args.place entry) c.args.place e (subst (λ n. c.args.place < n) (sym (length-set list c.args.place entry)) c.requires.inside)
     ∙ ap (λ x. x.slot) (get_or-set_same list c.args.place entry e c.requires.inside) ∙ ap (λ x. x.slot) c.index-2.ensures ∙ sym (slot_is list c.args.place e c.requires.inside)
 
-pub returns-in-Stays-clause-partner : goal.returns-in-Stays-clause-partner
-returns-in-Stays-clause-partner c = λ _ d here _.
+pub returns-in-Stays-clause-met : goal.returns-in-Stays-clause-met
+returns-in-Stays-clause-met c = λ _ d here _.
     let live = maps.get c.args.store.now.live in
     let at_is = c.at-at.ensures ∙ ap (λ x. x.slot) c.index-2.ensures ∙ sym (slot_is c.args.list.now.items c.args.place _ c.requires.inside) in
     let stays = subst (λ t. IsVisit t.lits c.clause.result.now c.args.l (Stays c.in-Stays.blocking)) c.trail-2.ensures c.in-Stays.ensures.visit in
@@ -123,8 +123,8 @@ returns-in_ok-move_watch-in-Moves-clause-carries c =
     subst (λ m. Carries live m held held (at c.args.reasons.now) (at c.args.reasons.now)) (sym moved)
     (carries_moved live held c.at-at.result d here x.from x.to c.args.l _ (sym c.clause.ensures.different) move.0 move.1 move.2 move.3 move.4 move.5 (at c.args.reasons.now))
 
-pub returns-in-Unit-clause-partner : goal.returns-in-Unit-clause-partner
-returns-in-Unit-clause-partner c = λ _ d here _.
+pub returns-in-Unit-clause-met : goal.returns-in-Unit-clause-met
+returns-in-Unit-clause-met c = λ _ d here _.
     let live = maps.get c.args.store.now.live in
     let m = c.in-Unit.m in
     let at_is = c.at-at.ensures ∙ ap (λ x. x.slot) c.index-2.ensures ∙ sym (slot_is c.args.list.now.items c.args.place _ c.requires.inside) in

@@ -35,7 +35,7 @@ loop-place-preserved-in-Further c =
       visited =
           visited_further (maps.get before.store.live) (maps.get c.visit.new.store.live) c.args.l before.assumptions.trail.lits c.visit.new.assumptions.trail.lits
           (λ l h. has_begun before.assumptions.trail.lits c.visit.new.assumptions.trail.lits l e.carries.extends.begins h) before.list.items before.place (slot_at before.list.items before.place) so_far.visited e.others after e.front
-          d still (sym (slot_is after before.place d still) ∙ e.same_slot c.in-Further.is) (e.partner c.in-Further.is);
+          d still (sym (slot_is after before.place d still) ∙ e.same_slot c.in-Further.is) (e.met c.in-Further.is);
     }
 
 pub loop-place-preserved : goal.loop-place-preserved
@@ -60,8 +60,8 @@ pub returns-in-Nothing-clause-carries : goal.returns-in-Nothing-clause-carries
 returns-in-Nothing-clause-carries c =
     carries_on c.args.store.now.live c.loop-place.store.live c.visit.new.store.live c.args.assumptions.now c.loop-place.assumptions c.visit.new.assumptions (at c.args.reasons.now) (at c.loop-place.reasons) (at c.visit.new.reasons) c.loop-place.invariant.carries c.visit.ensures.carries
 
-pub returns-clause-partners : goal.returns-clause-partners
-returns-clause-partners c =
+pub returns-clause-met : goal.returns-clause-met
+returns-clause-met c =
     let now = c.loop-place in
     let past : length now.list.items ≤ now.place = let high = c.loop-place-test.false in let n = c.len.ensures in let fits = now.list.ok in omega arith in
     all_met (maps.get now.store.live) (list_at now.lists) c.args.l now.list.items now.invariant.listed now.assumptions.trail.lits now.place past now.invariant.visited
