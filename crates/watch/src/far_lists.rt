@@ -5,7 +5,7 @@ ghost use Rattle.cnf_base.specs.Literals.{Clause};
 ghost use Rattle.tables.specs.Table.{at};
 ghost use Rattle.watch.specs.Lists.{AreFarApart, entries_of, far_at, far_entries, strangers};
 
-use crate::watcher::{Watcher, take_off};
+use crate::watcher::{Watcher, add, take_off};
 use cnf_base::OutOfMemory;
 use std::alloc::Global;
 use std::mem;
@@ -81,7 +81,7 @@ impl FarLists {
         ensures apart { AreFarApart self.new }
     {
         let number = self.number_for(key)?;
-        self.lists[number].push(watcher)?;
+        add(&mut self.lists[number], watcher)?;
         Ok(())
     }
 

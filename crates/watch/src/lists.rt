@@ -5,7 +5,7 @@ ghost use Rattle.cnf_base.specs.Literals.{Literal, Clause, has};
 ghost use Rattle.watch.specs.Lists.{AreApart, entries_in, entries_of, has_list_at, list_at, strangers};
 
 use crate::far_lists::FarLists;
-use crate::watcher::{Watcher, take_off};
+use crate::watcher::{Watcher, add, take_off};
 use cnf_base::{Lit, OutOfMemory};
 use std::alloc::Global;
 use std::mem;
@@ -117,7 +117,7 @@ impl WatchLists {
     {
         self.make_room(l)?;
         if l.index() < self.near.len() {
-            self.near[l.index()].push(watcher)?;
+            add(&mut self.near[l.index()], watcher)?;
             Ok(())
         } else {
             self.far.push(key(l), watcher)

@@ -2,13 +2,13 @@
 use Rattle.std.proofs.Common.{◌≡◌, ℕ, ◌+◌, ◌*◌, ◌/◌, ◌%◌, ◌^◌, ◌<◌, ◌≤◌, ◌&&◌, ◌||◌, Bool, true, false, not, cond, eqb, eqb-true, eq-eqb, [], ◌∷◌, ◌++◌, length, take, drop, get_or, length-append, refl, sym, ap, ◌∙◌, subst, arith, inl, inr}
 use Rattle.std.proofs.lemmas.Bool.{false≢true, true≢false, not-true, not-false, or_cases, or_left, or_right}
 use Rattle.std.proofs.lemmas.Bool.Decides.{nat_tests}
-use Rattle.std.proofs.lemmas.List.{take_more, take-append-drop}
+use Rattle.std.proofs.lemmas.List.{take_all, take_more, take-append-drop}
 use Rattle.std.proofs.lemmas.Nat.{div-add-mod'}
 use Rattle.std.proofs.Math.Nat.{add-mul-mod_self_right}
 use Rattle.cnf_base.specs.Literals.{Literal, Clause, has}
 use Rattle.cnf_base.proofs.SetLemmas.{both_pass, has_head, has_cases, has_append_left, has_append_right, has_append_cases}
 use Rattle.clause_db.specs.Store.Clauses.{size}
-use Rattle.clause_db.specs.Store.Hashes.{sum_distinct, mix, hash}
+use Rattle.clause_db.specs.Store.Hashes.{sum_distinct, mix, mixed_sum, hash}
 use Rattle.clause_db.proofs.StoreLemmas.Distinct.{IsWithin, sum_same, sum_push, size_push, size_covered, distinct_before, has_at}
 
 -- ---- One more literal at the end
@@ -30,26 +30,35 @@ add_rest a b m =
     let same : (a % m + b) + a / m * m ≡ a + b = omega arith in
     sym (add-mul-mod_self_right (a % m + b) (a / m) m) ∙ ap (λ x. x % m) same
 
-pub hash_none : (seed : ℕ) → hash seed [] ≡ 0
-unfolding hash
-hash_none seed = refl
+pub mixed_none : (seed : ℕ) → mixed_sum seed [] ≡ 0
+unfolding mixed_sum
+mixed_none seed = refl
+
+mixed_same : (seed : ℕ) (c d : Clause) → IsWithin c d → IsWithin d c → mixed_sum seed c ≡ mixed_sum seed d
+unfolding mixed_sum
+mixed_same seed c d there back = ap (λ n. n % 2 ^ 64) (sum_same (mix seed) c d there back)
 
 -- clauses that are the same set have one hash
 pub hash_same : (seed : ℕ) (c d : Clause) → IsWithin c d → IsWithin d c → hash seed c ≡ hash seed d
 unfolding hash
-hash_same seed c d there back = ap (λ n. n % 2 ^ 64) (sum_same (mix seed) c d there back)
+hash_same seed c d there back = ap (λ n. n / 2 ^ 32) (mixed_same seed c d there back)
 
-pub hash_push : (seed : ℕ) (c : Clause) (x : Literal) → has c x ≡ false → hash seed (c ++ x ∷ []) ≡ (hash seed c + mix seed x) % 2 ^ 64
+-- a walk over a whole clause that summed its different mixed literals
+pub hash_whole : (seed : ℕ) (c : Clause) (i sum h : ℕ) → sum ≡ mixed_sum seed (take i c) → length c ≤ i → h ≡ sum / 2 ^ 32 → h ≡ hash seed c
 unfolding hash
-hash_push seed c x new =
+hash_whole seed c i sum h sum_is whole is = is ∙ ap (λ n. n / 2 ^ 32) (sum_is ∙ ap (mixed_sum seed) (take_all i c whole))
+
+pub mixed_push : (seed : ℕ) (c : Clause) (x : Literal) → has c x ≡ false → mixed_sum seed (c ++ x ∷ []) ≡ (mixed_sum seed c + mix seed x) % 2 ^ 64
+unfolding mixed_sum
+mixed_push seed c x new =
     let f = mix seed in
     let more : sum_distinct f (c ++ x ∷ []) ≡ f x + sum_distinct f c = sum_push f c x ∙ ap (λ b. cond b (sum_distinct f c) (f x + sum_distinct f c)) new in
     let turn : f x + sum_distinct f c ≡ sum_distinct f c + f x = omega arith in
     ap (λ n. n % 2 ^ 64) (more ∙ turn) ∙ sym (add_rest (sum_distinct f c) (f x) (2 ^ 64))
 
-pub hash_again : (seed : ℕ) (c : Clause) (x : Literal) → has c x ≡ true → hash seed (c ++ x ∷ []) ≡ hash seed c
-unfolding hash
-hash_again seed c x old =
+pub mixed_again : (seed : ℕ) (c : Clause) (x : Literal) → has c x ≡ true → mixed_sum seed (c ++ x ∷ []) ≡ mixed_sum seed c
+unfolding mixed_sum
+mixed_again seed c x old =
     let f = mix seed in
     ap (λ n. n % 2 ^ 64) (sum_push f c x ∙ ap (λ b. cond b (sum_distinct f c) (f x + sum_distinct f c)) old)
 
@@ -68,11 +77,11 @@ module _ (c : Clause) (i : ℕ) (inside : i < length c) (x : Literal) (is : x �
   pub is_in : has c x ≡ true
   is_in = has_at c i x inside is
 
-  pub hash_more : (seed : ℕ) → has (take i c) x ≡ false → hash seed (take (i + 1) c) ≡ (hash seed (take i c) + mix seed x) % 2 ^ 64
-  hash_more seed new = ap (hash seed) take_is ∙ hash_push seed (take i c) x new
+  pub mixed_more : (seed : ℕ) → has (take i c) x ≡ false → mixed_sum seed (take (i + 1) c) ≡ (mixed_sum seed (take i c) + mix seed x) % 2 ^ 64
+  mixed_more seed new = ap (mixed_sum seed) take_is ∙ mixed_push seed (take i c) x new
 
-  pub hash_kept : (seed : ℕ) → has (take i c) x ≡ true → hash seed (take (i + 1) c) ≡ hash seed (take i c)
-  hash_kept seed old = ap (hash seed) take_is ∙ hash_again seed (take i c) x old
+  pub mixed_kept : (seed : ℕ) → has (take i c) x ≡ true → mixed_sum seed (take (i + 1) c) ≡ mixed_sum seed (take i c)
+  mixed_kept seed old = ap (mixed_sum seed) take_is ∙ mixed_again seed (take i c) x old
 
   pub size_more : has (take i c) x ≡ false → size (take (i + 1) c) ≡ 1 + size (take i c)
   size_more new = ap size take_is ∙ size_push (take i c) x ∙ ap (λ b. cond b (size (take i c)) (1 + size (take i c))) new
@@ -85,27 +94,27 @@ module _ (c : Clause) (i : ℕ) (inside : i < length c) (x : Literal) (is : x �
 
 -- ---- Digests
 
--- how many different literals there are among the first i, and their hash
+-- how many different literals there are among the first i, and the sum of the mixed ones
 pub record IsDigest (seed : ℕ) (c : Clause) (i len sum : ℕ) : Type 0 where
   pub len_is : len ≡ size (take i c)
-  pub hash_is : sum ≡ hash seed (take i c)
+  pub sum_is : sum ≡ mixed_sum seed (take i c)
   pub few : len ≤ i
 
 pub digest_none : (seed : ℕ) (c : Clause) → IsDigest seed c 0 0 0
-digest_none seed c = record { len_is = refl; hash_is = sym (hash_none seed); few = omega arith }
+digest_none seed c = record { len_is = refl; sum_is = sym (mixed_none seed); few = omega arith }
 
 module _ (seed : ℕ) (c : Clause) (i : ℕ) (inside : i < length c) (x : Literal) (is : x ≡ get_or c i x) (len sum : ℕ) (so_far : IsDigest seed c i len sum) where
   pub digest_more : has (take i c) x ≡ false → IsDigest seed c (i + 1) (len + 1) ((sum + mix seed x) % 2 ^ 64)
   digest_more new = record {
     len_is = let more = size_more c i inside x is new in omega (arith, so_far.len_is);
-    hash_is = ap (λ n. (n + mix seed x) % 2 ^ 64) so_far.hash_is ∙ sym (hash_more c i inside x is seed new);
+    sum_is = ap (λ n. (n + mix seed x) % 2 ^ 64) so_far.sum_is ∙ sym (mixed_more c i inside x is seed new);
     few = omega (arith, so_far.few);
   }
 
   pub digest_kept : has (take i c) x ≡ true → IsDigest seed c (i + 1) len sum
   digest_kept old = record {
     len_is = so_far.len_is ∙ sym (size_kept c i inside x is old);
-    hash_is = so_far.hash_is ∙ sym (hash_kept c i inside x is seed old);
+    sum_is = so_far.sum_is ∙ sym (mixed_kept c i inside x is seed old);
     few = omega (arith, so_far.few);
   }
 

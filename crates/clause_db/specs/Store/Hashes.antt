@@ -17,5 +17,9 @@ mix seed l =
     bit_xor z (z / 2 ^ 31)
 
 -- the sum of the mixed literals that are different, modulo 2^64
+unfoldable pub mixed_sum : ℕ → Clause → ℕ
+mixed_sum seed c = sum_distinct (mix seed) c % 2 ^ 64
+
+-- the upper half of that sum
 unfoldable pub hash : ℕ → Clause → ℕ
-hash seed c = sum_distinct (mix seed) c % 2 ^ 64
+hash seed c = mixed_sum seed c / 2 ^ 32

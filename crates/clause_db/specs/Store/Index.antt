@@ -1,5 +1,5 @@
 -- The slots by hash.
-use Rattle.std.specs.Prelude.{ℕ, ◌<◌, List, Option, IsSome, option_map, slice_index}
+use Rattle.std.specs.Prelude.{ℕ, ◌<◌, List, Option, IsSome, option_map, unwrap_or}
 use Rattle.std.specs.Ordering.{nat_cmp}
 use Rattle.std.specs.FinMap as maps
 use Rattle.std.specs.FinMap.{FinMap}
@@ -8,14 +8,20 @@ use Rattle.clause_db.specs.Store.Buckets.{bucket_at}
 use Rattle.clause_db.specs.Store.Hashes.{hash}
 use Rattle.clause_db.specs.Store.Indexed.{IsIndexed}
 use Rattle.clause_db.specs.declared.store.index.Index.{Index}
+use Rattle.tables.specs.Table.{at}
+use Rattle.tables.specs.declared.table.Table.{Table}
 
 -- the slots with this hash, in the order of their places
 abbrev pub under : Index → ℕ → List ℕ
 under index h = bucket_at index.buckets h
 
--- the place that is noted for a slot
+-- the place that is noted for a slot, and 0 where none is
+abbrev pub place_in : Table ℕ → ℕ → ℕ
+place_in places s = unwrap_or (at places s) 0
+
+-- the place of a slot by the notes of the index
 abbrev pub noted_place : Index → ℕ → ℕ
-noted_place index s = slice_index index.places.items s
+noted_place index = place_in index.places
 
 -- the hash by this seed of the clause in a slot, and the place that is noted for the slot
 abbrev pub spot_in : ℕ → FinMap nat_cmp Clause → (ℕ → ℕ) → ℕ → Option (ℕ × ℕ)

@@ -16,9 +16,9 @@ use std::slice;
 pub(crate) struct Buckets {
     alloc: Global,
     /// By hash the one slot of a bucket that `many` has not. Where `many` has it, this says nothing.
-    single: HashMap<u64, u32>,
+    single: HashMap<u32, u32>,
     /// The buckets that had two slots or more since they were empty.
-    many: HashMap<u64, Vec<u32>>,
+    many: HashMap<u32, Vec<u32>>,
 }
 
 fn both(alloc: Global, first: u32, second: u32) -> Result<Vec<u32>, OutOfMemory>
@@ -43,7 +43,7 @@ impl Buckets {
     }
 
     /// The slots in the bucket of a hash.
-    pub(crate) fn slots(&self, hash: u64) -> &[u32]
+    pub(crate) fn slots(&self, hash: u32) -> &[u32]
         ensures { result.now ≡ bucket_at self.now hash }
     {
         if let Some(slots) = self.many.get(&hash) {
@@ -56,7 +56,7 @@ impl Buckets {
     }
 
     /// Puts a slot at the end of the bucket of a hash, and tells its place there.
-    pub(crate) fn push(&mut self, hash: u64, slot: u32) -> Result<u32, OutOfMemory>
+    pub(crate) fn push(&mut self, hash: u32, slot: u32) -> Result<u32, OutOfMemory>
         ensures place { IfOk result (λ place. place ≡ length (bucket_at self.old hash)) }
         ensures ok { OnOk result ((h : ℕ) → bucket_at self.new h ≡
             (if h == hash then bucket_at self.old h ++ slot ∷ [] else bucket_at self.old h)) }
@@ -84,7 +84,7 @@ impl Buckets {
     }
 
     /// Takes the slot at a place out of the bucket of a hash. The last slot takes that place, and is the result.
-    pub(crate) fn take(&mut self, hash: u64, place: usize) -> u32
+    pub(crate) fn take(&mut self, hash: u32, place: usize) -> u32
         requires { place < length (bucket_at self.old hash) }
         ensures last { result ≡ slice_index (bucket_at self.old hash)
             (length (bucket_at self.old hash) - 1) }
@@ -105,7 +105,7 @@ impl Buckets {
     }
 
     /// Takes the one slot out of the bucket of a hash.
-    fn take_single(&mut self, hash: u64) -> u32
+    fn take_single(&mut self, hash: u32) -> u32
         requires one { get nat_eq self.old.many hash ≡ None }
         requires there { bucket_at self.old hash ≢ [] }
         ensures last { bucket_at self.old hash ≡ result ∷ [] }

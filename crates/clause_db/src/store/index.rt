@@ -1,17 +1,19 @@
 //! What finds a clause again.
 
-ghost use Rattle.std.specs.Prelude.{◌≡◌, ℕ, ◌==◌, ◌<◌, ◌≤◌, length, slice_index, if◌then◌else◌, Some, None, ⊤, OnOk, OnErr};
+ghost use Rattle.std.specs.Prelude.{◌≡◌, ℕ, ◌==◌, ◌<◌, length, if◌then◌else◌, Some, None, ⊤, OnOk, OnErr};
 ghost use Rattle.std.specs.Ordering.{nat_cmp};
 ghost use Rattle.std.specs.FinMap as maps;
 ghost use Rattle.std.specs.FinMap.{FinMap};
 ghost use Rattle.cnf_base.specs.Literals.{Clause};
 ghost use Rattle.clause_db.specs.Store.Clauses.{size};
-ghost use Rattle.clause_db.specs.Store.Index.{under, Indexes};
+ghost use Rattle.clause_db.specs.Store.Index.{under, place_in, Indexes};
+ghost use Rattle.tables.specs.Table.{at};
 
 use crate::store::buckets::Buckets;
 use crate::store::marks::hash_of;
 use cnf_base::{Lit, OutOfMemory};
 use std::alloc::Global;
+use tables::Table;
 
 /// What a store keeps to find the slots of a clause again.
 pub trait Indexing: Sized {
@@ -64,59 +66,44 @@ pub struct Index {
     /// What clauses are hashed by. Who doesn't know it can't choose clauses with one hash.
     pub(crate) seed: u64,
     buckets: Buckets,
-    /// By slot its place in its bucket, 0 past the end: it reaches no further than the last slot that was not first in one.
-    places: Vec<u32>,
-}
-
-/// Makes room for the place of a slot.
-fn reserve(places: &mut Vec<u32>, slot: u32) -> Result<(), OutOfMemory>
-    ensures same { (s : ℕ) → slice_index places.new.items s ≡ slice_index places.old.items s }
-    ensures room { OnOk result (slot < length places.new.items) }
-{
-    if places.len() <= slot as usize {
-        places.resize(slot as usize + 1, 0)?;
-    }
-    Ok(())
+    /// By slot its place in its bucket, where it was not always the first in one.
+    places: Table<u32>,
 }
 
 /// Notes the place of a slot, for which there is room unless it is 0.
-fn note(places: &mut Vec<u32>, slot: u32, place: u32)
-    requires { length places.old.items ≤ slot → place ≡ 0 }
-    ensures { (s : ℕ) → slice_index places.new.items s ≡
-        (if s == slot then place else slice_index places.old.items s) }
+fn note(places: &mut Table<u32>, slot: u32, place: u32)
+    requires { at places.old slot ≡ None → place ≡ 0 }
+    ensures { (s : ℕ) → place_in places.new s ≡
+        (if s == slot then place else place_in places.old s) }
 {
-    if (slot as usize) < places.len() {
-        places[slot as usize] = place;
+    if places.get(slot).is_some() {
+        places.set(slot, place);
     }
 }
 
 /// Notes the place of a slot that was added, and makes room for it unless it is 0.
-fn note_new(places: &mut Vec<u32>, slot: u32, place: u32) -> Result<(), OutOfMemory>
-    ensures ok { OnOk result ((s : ℕ) → slice_index places.new.items s ≡
-        (if s == slot then place else slice_index places.old.items s)) }
-    ensures err { OnErr result ((s : ℕ) →
-        slice_index places.new.items s ≡ slice_index places.old.items s) }
+fn note_new(places: &mut Table<u32>, slot: u32, place: u32) -> Result<(), OutOfMemory>
+    ensures ok { OnOk result ((s : ℕ) → place_in places.new s ≡
+        (if s == slot then place else place_in places.old s)) }
+    ensures err { OnErr result ((s : ℕ) → place_in places.new s ≡ place_in places.old s) }
 {
     if place > 0 {
-        reserve(places, slot)?;
+        places.reserve(slot, 0)?;
     }
     note(places, slot, place);
     Ok(())
 }
 
 /// The place that is noted for a slot.
-fn place_of(places: &[u32], slot: usize) -> u32
-    ensures { result ≡ slice_index places.now slot }
+fn place_of(places: &Table<u32>, slot: u32) -> u32
+    ensures { result ≡ place_in places.now slot }
 {
-    match places.get(slot) {
-        Some(place) => *place,
-        None => 0,
-    }
+    places.get(slot).unwrap_or(0)
 }
 
 impl Index {
     /// The slots with this hash.
-    pub(crate) fn slots(&self, hash: u64) -> &[u32]
+    pub(crate) fn slots(&self, hash: u32) -> &[u32]
         ensures { result.now ≡ under self.now hash }
     {
         self.buckets.slots(hash)
@@ -130,7 +117,7 @@ impl Indexing for Index {
         Index {
             seed,
             buckets: Buckets::new(alloc),
-            places: Vec::new(alloc),
+            places: Table::new(alloc),
         }
     }
 
@@ -150,7 +137,7 @@ impl Indexing for Index {
     }
 
     fn remove(&mut self, slot: usize, lits: &[Lit]) {
-        let place = place_of(self.places.as_slice(), slot);
+        let place = place_of(&self.places, slot as u32);
         let last = self.buckets.take(hash_of(self.seed, lits), place as usize);
         note(&mut self.places, last, place);
     }

@@ -1,6 +1,6 @@
 //! What a table has of a literal, and the writes of one literal.
 
-ghost use Rattle.std.specs.Prelude.{◌≡◌, ℕ, ◌+◌, ◌<◌, ◌==◌, ◌&&◌, ◌||◌, true, not, is_some, if◌then◌else◌, IsSome, IfOk, OnOk, OnErr};
+ghost use Rattle.std.specs.Prelude.{◌≡◌, ℕ, ◌+◌, ◌/◌, ◌^◌, ◌<◌, ◌==◌, ◌&&◌, ◌||◌, true, not, is_some, if◌then◌else◌, IsSome, IfOk, OnOk, OnErr};
 ghost use Rattle.clause_db.specs.Store.Hashes.{mix};
 ghost use Rattle.clause_db.specs.Store.LiteralMarks.{mark_count, is_marked};
 ghost use Rattle.tables.specs.Table.{at};
@@ -26,6 +26,13 @@ pub(crate) fn mixed(seed: u64, l: Lit) -> u64
     let y = (x ^ (x / 1073741824)).wrapping_mul(13787848793156543929);
     let z = (y ^ (y / 134217728)).wrapping_mul(10723151780598845931);
     z ^ (z / 2147483648)
+}
+
+/// The upper half of a sum of mixed literals.
+pub(crate) fn upper_half(sum: u64) -> u32
+    ensures { result ≡ sum / 2 ^ 32 }
+{
+    (sum / 4294967296) as u32
 }
 
 /// Marks a literal, and tells whether it was not marked before.

@@ -8,7 +8,9 @@ ghost use Rattle.clause_db.specs.Store.Hashes.{hash};
 ghost use Rattle.clause_db.specs.Store.LiteralMarks.{mark_count, is_marked};
 ghost use Rattle.tables.specs.Table.{at};
 
-use crate::store::mark::{Mark, add_mark, clear_mark, count_down, count_up, mixed, set_mark};
+use crate::store::mark::{
+    Mark, add_mark, clear_mark, count_down, count_up, mixed, set_mark, upper_half,
+};
 use cnf_base::{Lit, OutOfMemory};
 use smallvec::SmallVec;
 use tables::{Table, key};
@@ -17,7 +19,7 @@ use tables::{Table, key};
 #[derive(Clone, Copy)]
 pub(crate) struct Digest {
     pub(crate) len: usize,
-    pub(crate) hash: u64,
+    pub(crate) hash: u32,
 }
 
 /// Makes room in the table for the literals and marks them, where none is marked, and counts the different ones.
@@ -74,14 +76,17 @@ pub(crate) fn mark_all(marks: &mut Table<Mark>, lits: &[Lit], seed: u64) -> Dige
     ensures known { (l : ℕ) → is_some (at marks.new l) ≡ is_some (at marks.old l) }
 {
     let mut len = 0;
-    let mut hash: u64 = 0;
+    let mut sum: u64 = 0;
     for l in lits {
         if set_mark(marks, *l) {
             len += 1;
-            hash = hash.wrapping_add(mixed(seed, *l));
+            sum = sum.wrapping_add(mixed(seed, *l));
         }
     }
-    Digest { len, hash }
+    Digest {
+        len,
+        hash: upper_half(sum),
+    }
 }
 
 /// Takes the marks off the literals, where no others are marked.
@@ -143,7 +148,7 @@ pub(crate) fn release(marks: &mut Table<Mark>, lits: &[Lit])
 }
 
 /// The hash by the seed of a clause that repeats no literal.
-pub(crate) fn hash_of(seed: u64, lits: &[Lit]) -> u64
+pub(crate) fn hash_of(seed: u64, lits: &[Lit]) -> u32
     requires { size lits.now ≡ length lits.now }
     ensures { result ≡ hash seed lits.now }
 {
@@ -151,5 +156,5 @@ pub(crate) fn hash_of(seed: u64, lits: &[Lit]) -> u64
     for l in lits {
         sum = sum.wrapping_add(mixed(seed, *l));
     }
-    sum
+    upper_half(sum)
 }

@@ -1,10 +1,10 @@
 use Rattle.std.proofs.Common.{◌+◌, ◌%◌, ◌^◌, sym, ap, ◌∙◌, arith}
 use Rattle.clause_db.specs.Store.Hashes.{mix}
-use Rattle.clause_db.proofs.StoreLemmas.Marks.{hash_none, hash_more, new_here}
+use Rattle.clause_db.proofs.StoreLemmas.Marks.{hash_whole, mixed_none, mixed_more, new_here}
 use Rattle.clause_db.proofs.store.marks.hash_of.Goals as goal
 
 pub loop-l-init : goal.loop-l-init
-loop-l-init c = sym (hash_none c.args.seed)
+loop-l-init c = sym (mixed_none c.args.seed)
 
 pub loop-l-preserved : goal.loop-l-preserved
 loop-l-preserved c =
@@ -12,4 +12,7 @@ loop-l-preserved c =
     let x = c.l-item.result in
     ap (λ n. (c.loop-l.sum + n) % 2 ^ 64) c.mixed-sum.ensures
     ∙ ap (λ n. (n + mix c.args.seed x) % 2 ^ 64) c.loop-l.invariant
-    ∙ sym (hash_more lits c.loop-l.l-index (omega arith) x c.l-item.is c.args.seed (new_here lits c.loop-l.l-index (omega arith) x c.l-item.is c.requires))
+    ∙ sym (mixed_more lits c.loop-l.l-index (omega arith) x c.l-item.is c.args.seed (new_here lits c.loop-l.l-index (omega arith) x c.l-item.is c.requires))
+
+pub returns : goal.returns
+returns c = hash_whole c.args.seed c.args.lits.now c.loop-l.l-index c.loop-l.sum c.upper_half.result c.loop-l.invariant (omega arith) c.upper_half.ensures

@@ -1,6 +1,6 @@
 use Rattle.std.proofs.Common.{◌≡◌, take}
-use Rattle.clause_db.specs.Store.Hashes.{hash}
+use Rattle.clause_db.specs.Store.Hashes.{mixed_sum}
 use Rattle.clause_db.proofs.store.marks.hash_of.Given as goal
 
 abbrev pub invariant-loop-l : goal.invariant-loop-l
-invariant-loop-l l = l.sum ≡ hash l.seed (take l.l-index l.lits)
+invariant-loop-l l = l.sum ≡ mixed_sum l.seed (take l.l-index l.lits)

@@ -1,7 +1,7 @@
-use Rattle.std.proofs.Common.{◌≡◌, ℕ, not, take, refl, sym, ap, ◌∙◌}
+use Rattle.std.proofs.Common.{◌≡◌, ℕ, not, take, refl, sym, ap, ◌∙◌, arith}
 use Rattle.std.proofs.lemmas.Bool.{not-true, not-false}
 use Rattle.cnf_base.specs.Literals.{has}
-use Rattle.clause_db.proofs.StoreLemmas.Marks.{digest_none, digest_more, digest_kept, mark_more}
+use Rattle.clause_db.proofs.StoreLemmas.Marks.{hash_whole, digest_none, digest_more, digest_kept, mark_more}
 use Rattle.clause_db.proofs.store.marks.mark_all.Goals as goal
 use Rattle.clause_db.proofs.store.marks.mark_all.Goals.{then-set_mark, else-set_mark}
 
@@ -21,10 +21,13 @@ loop-l-preserved c =
     elim c.if-set_mark.branch [
       | then-set_mark w ↦
           let new = not-true (has (take i lits) x) (sym was ∙ w.if-set_mark.true) in
-          let digest = digest_more c.args.seed lits i inside x c.l-item.is c.loop-l.len c.loop-l.hash c.loop-l.invariant.digest new in
-          record { marked = marked; counts = counts; known = known; digest = rw (w.len-is, w.hash-is, w.mixed-hash.ensures) digest }
+          let digest = digest_more c.args.seed lits i inside x c.l-item.is c.loop-l.len c.loop-l.sum c.loop-l.invariant.digest new in
+          record { marked = marked; counts = counts; known = known; digest = rw (w.len-is, w.sum-is, w.mixed-sum.ensures) digest }
       | else-set_mark w ↦
           let old = not-false (has (take i lits) x) (sym was ∙ w.if-set_mark.false) in
-          let digest = digest_kept c.args.seed lits i inside x c.l-item.is c.loop-l.len c.loop-l.hash c.loop-l.invariant.digest old in
-          record { marked = marked; counts = counts; known = known; digest = rw (w.len-is, w.hash-is) digest }
+          let digest = digest_kept c.args.seed lits i inside x c.l-item.is c.loop-l.len c.loop-l.sum c.loop-l.invariant.digest old in
+          record { marked = marked; counts = counts; known = known; digest = rw (w.len-is, w.sum-is) digest }
     ]
+
+pub returns-clause-hash : goal.returns-clause-hash
+returns-clause-hash c = hash_whole c.args.seed c.args.lits.now c.loop-l.l-index c.loop-l.sum c.upper_half.result c.loop-l.invariant.digest.sum_is (omega arith) c.upper_half.ensures

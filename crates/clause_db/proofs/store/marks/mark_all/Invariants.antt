@@ -10,5 +10,5 @@ invariant-loop-l l = record {
   marked : (k : ℕ) → is_marked (at l.marks k) ≡ has (take l.l-index l.lits) k;
   counts : (k : ℕ) → mark_count (at l.marks k) ≡ mark_count (at l.fn.marks k);
   known : (k : ℕ) → is_some (at l.marks k) ≡ is_some (at l.fn.marks k);
-  digest : IsDigest l.seed l.lits l.l-index l.len l.hash;
+  digest : IsDigest l.seed l.lits l.l-index l.len l.sum;
 }

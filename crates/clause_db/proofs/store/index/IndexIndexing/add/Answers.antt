@@ -1,7 +1,7 @@
-use Rattle.std.proofs.Common.{rules, ◌≡◌, ◌≢◌, ℕ, ◌<◌, ◌++◌, ◌∷◌, [], cond, eqb, slice_index, refl, sym, ap, ◌∙◌, arith}
+use Rattle.std.proofs.Common.{rules, ◌≡◌, ◌≢◌, ℕ, ◌<◌, ◌++◌, ◌∷◌, [], cond, eqb, refl, sym, ap, ◌∙◌, arith}
 use Rattle.std.proofs.lemmas.Grind.{common_steps}
 use Rattle.clause_db.specs.Store.Buckets.{bucket_at}
-use Rattle.clause_db.specs.Store.Index.{noted_place, under}
+use Rattle.clause_db.specs.Store.Index.{noted_place, place_in, under}
 use Rattle.clause_db.proofs.StoreLemmas.Options.{on_err_from}
 use Rattle.clause_db.proofs.StoreLemmas.Indexed.{undone}
 use Rattle.clause_db.proofs.StoreLemmas.Index.{index_same, index_with, other_place, wrote_place}
@@ -16,7 +16,7 @@ pub returns-in-Err-clause-err : goal.returns-in-Err-clause-err
 returns-in-Err-clause-err c live sound =
     let old = c.args.self.now in
     let back = undone (under old) (bucket_at c.push.new.self) (bucket_at c.take.new.self) c.hash_of-hash.result c.in-Ok.number c.in_ok-place.place c.in_ok-place.ensures.ok c.take.ensures.slots c.in_ok-place.ensures.place in
-    index_same old.seed (under old) (noted_place old) live sound _ (slice_index c.note_new.new.places.items) back c.in-Err.ensures.err
+    index_same old.seed (under old) (noted_place old) live sound _ (place_in c.note_new.new.places) back c.in-Err.ensures.err
 
 pub returns-in-Ok-note_new-clause-ok : goal.returns-in-Ok-note_new-clause-ok
 returns-in-Ok-note_new-clause-ok c live sound free =
@@ -24,7 +24,7 @@ returns-in-Ok-note_new-clause-ok c live sound free =
     let number = c.in-Ok.number in
     let place = c.in_ok-place.place in
     let h = c.hash_of-hash.result in
-    let after = slice_index c.note_new.new.places.items in
+    let after = place_in c.note_new.new.places in
     let wrote = c.in-Ok-note_new.ensures.ok in
     let number_is : number ≡ c.args.slot = search (rules, common_steps) in
     let low : c.args.slot < 4294967296 = omega (arith, number_is, c.ranges.slot.fits) in

@@ -1,7 +1,7 @@
-use Rattle.std.proofs.Common.{slice_index}
 use Rattle.clause_db.specs.Store.Buckets.{bucket_at}
+use Rattle.clause_db.specs.Store.Index.{place_in}
 use Rattle.clause_db.proofs.StoreLemmas.Index.{index_empty}
 use Rattle.clause_db.proofs.store.index.IndexIndexing.new.Goals as goal
 
 pub returns : goal.returns
-returns c = index_empty c.args.seed (bucket_at c.new.result) (slice_index c.new-2.result.items) c.new.ensures
+returns c = index_empty c.args.seed (bucket_at c.new.result) (place_in c.new-2.result) c.new.ensures
