@@ -7,7 +7,7 @@
 # make uninstall     removes them there
 # make test-solvers  runs real SAT solvers, and the programs on what they wrote
 # make test-package  builds the Debian package, and runs the programs that are in it
-# make test-edits    tries the wrong bodies of tests/edits, which the gate doesn't
+# make test-edits    tries the wrong bodies of tests/edits, which the gate doesn't, and their controls
 #
 # The first two and the last need the Rattle kit's command rt on the PATH, or named by RT=..
 
@@ -54,6 +54,7 @@ test-package:
 
 test-edits:
 	@RT="$(RT)" tests/edits.sh
+	@RT="$(RT)" python3 tests/controls.py
 
 bench: bin/lrat-check bin/drat-forward bin/model-check
 	bench/run.sh

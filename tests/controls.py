@@ -1,11 +1,12 @@
 #!/usr/bin/env python3
-"""Shows for what the edits must-fail/*_by_models_alone.edit are refused.
+"""Shows for what the edits tests/edits/*/*_by_models_alone.edit are refused.
 
 Such an edit takes away the clauses on exact answers, with the lines that prove them; its last pair turns the body. Here
 each is tried in two parts. With the clauses gone and the body as it is, the crate has to be proved: so nothing but the
 turned body is refused. With the turned body too, the goal of the clause on models has to stay open.
 
-With --anew nothing is taken from what earlier checks left, so that it may run beside the gate. RT names the command rt, where it isn't on the PATH. The last line is "N passed, M failed".
+By hand, with make test-edits: it works on copies, over what earlier checks kept in crates/*/out. RT names the command rt,
+where it isn't on the PATH. The last line is "N passed, M failed".
 """
 
 import concurrent.futures
@@ -61,12 +62,11 @@ def tried(base, crate, edits):
 
 def main():
     edits = {}
-    for edit in sorted(glob.glob(f"{ROOT}/crates/*/must-fail/*_by_models_alone.edit")):
-        edits.setdefault(edit.split("/")[-3], []).append(edit)
+    for edit in sorted(glob.glob(f"{ROOT}/tests/edits/*/*_by_models_alone.edit")):
+        edits.setdefault(edit.split("/")[-2], []).append(edit)
     with tempfile.TemporaryDirectory() as base, concurrent.futures.ThreadPoolExecutor() as pool:
         # What stands below these crates is proved once, and both have what that leaves.
-        ignored = shutil.ignore_patterns("out") if "--anew" in sys.argv[1:] else None
-        shutil.copytree(f"{ROOT}/crates", f"{base}/crates", symlinks=True, ignore=ignored)
+        shutil.copytree(f"{ROOT}/crates", f"{base}/crates", symlinks=True)
         for name in ["crates.txt", "HANDLES"]:
             shutil.copy(f"{ROOT}/{name}", base)
         for crate in edits:

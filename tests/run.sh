@@ -1,16 +1,15 @@
 #!/usr/bin/env bash
-# All tests: the gate (every proof from nothing, the must-fail edits, the crates' tests and the programs' stored runs) and
-# beside it, where processors are idle, the control of the edits that try the clauses on models alone; before it, whether the
-# edits of tests/edits can still be made; then the programs as users run them, their manual pages, counts of allocations, and
-# runs in which each allocation is refused. The last line is "N passed, M failed" over all.
+# All tests: whether the edits of tests/edits can still be made; the gate (every proof from nothing, the must-fail edits, the
+# crates' tests and the programs' stored runs); then the programs as users run them, their manual pages, counts of
+# allocations, and runs in which each allocation is refused. The last line is "N passed, M failed" over all.
 #
 # RT names the command rt, where it isn't on the PATH.
 set -uo pipefail
 cd "$(dirname "$0")/.."
 
 passed=0 failed=0
-log=$(mktemp) controls=$(mktemp)
-trap 'rm -f "$log" "$controls"' EXIT
+log=$(mktemp)
+trap 'rm -f "$log"' EXIT
 
 # count STATUS: adds the last line of $log. A part that gave no such line, or ended wrong without a failure, is one failure.
 count() {
@@ -32,19 +31,10 @@ echo "== tests/edits_apply.py"
 python3 tests/edits_apply.py 2>&1 | tee "$log"
 count "${PIPESTATUS[0]}"
 
-RT="${RT:-rt}" nice python3 tests/controls.py --anew >"$controls" 2>&1 &
-controls_run=$!
-
 echo "== rt ci"
 "${RT:-rt}" ci 2>&1 | tee "$log"
 ended=${PIPESTATUS[0]}
 count "$ended"
-
-echo "== tests/controls.py"
-wait "$controls_run"
-ended_controls=$?
-tee "$log" <"$controls"
-count "$ended_controls"
 
 # The gate leaves the programs that it proved and built. Where it did not come so far, nothing else is tested in their place.
 lrat_check=crates/lrat_check/out/lrat_check
