@@ -1,6 +1,7 @@
 //! Propagation, call by call: the same of both, and the trail below them.
 
 mod calls;
+mod fresh;
 mod roots;
 mod sequences;
 mod trail;

@@ -1,6 +1,6 @@
 //! Tests of the trail.
 
-use crate::support::{expect_equal, expect_equal_at, expect_true};
+use crate::asserts::{expect_equal, expect_equal_at, expect_true};
 use cnf_base::{Lit, OutOfMemory};
 use propagation::{Except, Left, Part, Trail, Value, Whole};
 use std::test::Fail;

@@ -4,8 +4,9 @@ ghost use Rattle.std.specs.Prelude.{◌≡◌, ℕ, List, [], ◌∷◌, IfOk, O
 ghost use Rattle.propagation.specs.Assumptions.{LastIsAnswered};
 ghost use Rattle.propagation.specs.declared.answer.Answer.TheVariants.{Quiet};
 
+use crate::asserts::{expect_equal, expect_true};
 use crate::propagate::calls::fill;
-use crate::support::{expect_equal, expect_true};
+use crate::propagate::fresh::Fresh;
 use cnf_base::Lit;
 use propagation::{Answer, Propagate, Scan, Value};
 use std::alloc::Global;
@@ -182,18 +183,12 @@ fn change<P: Propagate>(
 }
 
 /// What is answered in a sequence of changes.
-fn answers<P: Propagate>(
-    alloc: Global,
-    clauses: &mut P,
-    seed: u64,
-    changes: u32,
-) -> Result<Vec<u8>, Fail>
-    requires { (P.state clauses.old).assumptions ≡ [] }
-{
+fn answers<P: Fresh>(alloc: Global, seed: u64, changes: u32) -> Result<Vec<u8>, Fail> {
+    let mut clauses = P::fresh(alloc)?;
     let mut dice = Dice { state: seed };
     let mut log = Vec::new(alloc);
     for _ in 0..changes {
-        change(alloc, clauses, &mut dice, &mut log)?;
+        change(alloc, &mut clauses, &mut dice, &mut log)?;
     }
     Ok(log)
 }
@@ -202,8 +197,8 @@ fn answers<P: Propagate>(
 fn both_answer_alike(rt: HostRuntime) -> Result<(), Fail> {
     let alloc = rt.alloc();
     for seed in 0..300 {
-        let scanned = answers(alloc, &mut Scan::new(alloc)?, seed, 24)?;
-        let watched = answers(alloc, &mut Watch::new(alloc)?, seed, 24)?;
+        let scanned = answers::<Scan>(alloc, seed, 24)?;
+        let watched = answers::<Watch>(alloc, seed, 24)?;
         expect_true(&rt, scanned.len() > 24);
         expect_true(&rt, scanned == watched);
     }
@@ -211,9 +206,10 @@ fn both_answer_alike(rt: HostRuntime) -> Result<(), Fail> {
 }
 
 /// How many entries the lists have, and how many literals are true, after an assumption.
-fn counts(alloc: Global) -> Result<(u64, usize, usize), Fail> {
-    let mut watch = Watch::new(alloc)?;
-    fill(alloc, &mut watch, &[[1, 2], [-1, 3], [1, 1]])?;
+fn counts_of(alloc: Global, watch: &mut Watch) -> Result<(u64, usize, usize), Fail>
+    requires { watch.old.propagation.assumptions ≡ [] }
+{
+    fill(alloc, watch, &[[1, 2], [-1, 3], [1, 1]])?;
     let _ = watch.assume(&[])?;
     Ok((
         watch.watch_entries(),
@@ -224,6 +220,7 @@ fn counts(alloc: Global) -> Result<(u64, usize, usize), Fail> {
 
 #[test]
 fn counts_entries(rt: HostRuntime) -> Result<(), Fail> {
-    expect_equal(&rt, counts(rt.alloc())?, (4, 1, 2));
+    let mut watch = Watch::new(rt.alloc())?;
+    expect_equal(&rt, counts_of(rt.alloc(), &mut watch)?, (4, 1, 2));
     Ok(())
 }

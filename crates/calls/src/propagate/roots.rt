@@ -2,8 +2,8 @@
 
 ghost use Rattle.std.specs.Prelude.{◌≡◌, [], OnOk};
 
+use crate::asserts::{expect_equal, expect_true};
 use crate::propagate::calls::{fill, lits};
-use crate::support::{expect_equal, expect_true};
 use propagation::Propagate;
 use std::alloc::Global;
 use std::test::Fail;
@@ -34,32 +34,40 @@ fn take_out(alloc: Global, watch: &mut Watch, numbers: &[i32]) -> Result<Known, 
 
 /// What is known after an assumption, after it was taken back, and after two removals: of a clause that is no reason, and of one
 /// that is.
-fn kept(alloc: Global) -> Result<Vec<Known>, Fail> {
+fn kept(alloc: Global, watch: &mut Watch) -> Result<Vec<Known>, Fail>
+    requires { watch.old.propagation.assumptions ≡ [] }
+{
     let mut all = Vec::new(alloc);
-    let mut watch = Watch::new(alloc)?;
-    fill(alloc, &mut watch, &[[1, 1], [-1, 2], [3, 4]])?;
+    fill(alloc, watch, &[[1, 1], [-1, 2], [3, 4]])?;
     let _ = watch.assume(&[])?;
-    all.push(known(&watch))?;
+    all.push(known(watch))?;
     watch.take_back();
-    all.push(known(&watch))?;
+    all.push(known(watch))?;
     Ok(all)
 }
 
 #[test]
 fn keeps_what_follows(rt: HostRuntime) -> Result<(), Fail> {
-    let all = kept(rt.alloc())?;
+    let mut watch = Watch::new(rt.alloc())?;
+    let all = kept(rt.alloc(), &mut watch)?;
     let expected = [(true, false, 2), (true, false, 2)];
     expect_true(&rt, all.as_slice() == expected.as_slice());
     Ok(())
 }
 
 /// What is known after the removal of a clause, by which the literal 2 follows from the unit clause 1, or doesn't.
-fn removed(alloc: Global, numbers: &[i32]) -> Result<Known, Fail> {
-    let mut watch = Watch::new(alloc)?;
-    fill(alloc, &mut watch, &[[1, 1], [-1, 2], [3, 4]])?;
+fn removed_from(alloc: Global, watch: &mut Watch, numbers: &[i32]) -> Result<Known, Fail>
+    requires { watch.old.propagation.assumptions ≡ [] }
+{
+    fill(alloc, watch, &[[1, 1], [-1, 2], [3, 4]])?;
     let _ = watch.assume(&[])?;
     watch.take_back();
-    take_out(alloc, &mut watch, numbers)
+    take_out(alloc, watch, numbers)
+}
+
+fn removed(alloc: Global, numbers: &[i32]) -> Result<Known, Fail> {
+    let mut watch = Watch::new(alloc)?;
+    removed_from(alloc, &mut watch, numbers)
 }
 
 #[test]
@@ -70,15 +78,17 @@ fn loses_what_rests_on_a_removed_clause(rt: HostRuntime) -> Result<(), Fail> {
 }
 
 /// What is known where two unit clauses contradict.
-fn contradicted(alloc: Global) -> Result<(bool, bool), Fail> {
-    let mut watch = Watch::new(alloc)?;
-    fill(alloc, &mut watch, &[[1, 1], [-1, -1]])?;
+fn contradicted(alloc: Global, watch: &mut Watch) -> Result<(bool, bool), Fail>
+    requires { watch.old.propagation.assumptions ≡ [] }
+{
+    fill(alloc, watch, &[[1, 1], [-1, -1]])?;
     let _ = watch.assume(&[])?;
     Ok((watch.is_up_to_date(), watch.has_root_clash()))
 }
 
 #[test]
 fn keeps_a_clash(rt: HostRuntime) -> Result<(), Fail> {
-    expect_equal(&rt, contradicted(rt.alloc())?, (true, true));
+    let mut watch = Watch::new(rt.alloc())?;
+    expect_equal(&rt, contradicted(rt.alloc(), &mut watch)?, (true, true));
     Ok(())
 }

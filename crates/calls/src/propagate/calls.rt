@@ -5,7 +5,8 @@ ghost use Rattle.std.specs.FinMap as maps;
 ghost use Rattle.propagation.specs.Assumptions.{LastIsAnswered, MayAssume};
 ghost use Rattle.propagation.specs.declared.answer.Answer.TheVariants.{Quiet};
 
-use crate::support::{expect_equal, expect_true};
+use crate::asserts::{expect_equal, expect_true};
+use crate::propagate::fresh::Fresh;
 use clause_db::Slot;
 use cnf_base::{Lit, OutOfMemory};
 use propagation::{Answer, Propagate, Scan, Value};
@@ -55,19 +56,17 @@ fn trues<P: Propagate>(alloc: Global, clauses: &P) -> Result<Vec<i32>, Fail>
 }
 
 /// Which literals are true after an assumption; none where it clashes.
-fn assumed<P: Propagate>(
+fn assumed<P: Fresh>(
     alloc: Global,
-    clauses: &mut P,
     rows: &[[i32; 2]],
     numbers: &[i32],
-) -> Result<Option<Vec<i32>>, Fail>
-    requires { (P.state clauses.old).assumptions ≡ [] }
-{
-    fill(alloc, clauses, rows)?;
+) -> Result<Option<Vec<i32>>, Fail> {
+    let mut clauses = P::fresh(alloc)?;
+    fill(alloc, &mut clauses, rows)?;
     let clause = lits(alloc, numbers)?;
     match clauses.assume(clause.as_slice())? {
         Answer::Clash => Ok(None),
-        Answer::Quiet => Ok(Some(trues(alloc, clauses)?)),
+        Answer::Quiet => Ok(Some(trues(alloc, &clauses)?)),
     }
 }
 
@@ -81,8 +80,8 @@ type Propagation<'a> = (&'a [[i32; 2]], &'a [i32], Option<&'a [i32]>);
 /// Whether both propagations find what is expected.
 fn both_find(alloc: Global, row: &Propagation<'_>) -> Result<bool, Fail> {
     let (rows, numbers, expected) = *row;
-    let scanned = assumed(alloc, &mut Scan::new(alloc)?, rows, numbers)?;
-    let watched = assumed(alloc, &mut Watch::new(alloc)?, rows, numbers)?;
+    let scanned = assumed::<Scan>(alloc, rows, numbers)?;
+    let watched = assumed::<Watch>(alloc, rows, numbers)?;
     let scanned = scanned.as_ref().map(|all| all.as_slice());
     let watched = watched.as_ref().map(|all| all.as_slice());
     Ok(scanned == expected && watched == expected)
@@ -104,16 +103,14 @@ fn propagates(rt: HostRuntime) -> Result<(), Fail> {
 }
 
 /// How the rest of the clause `row` is answered where nothing else is assumed; none where there is no such clause.
-fn rest_answer<P: Propagate>(
+fn rest_answer<P: Fresh>(
     alloc: Global,
-    clauses: &mut P,
     rows: &[[i32; 2]],
     row: &[i32],
     left_out: i32,
-) -> Result<Option<Answer>, Fail>
-    requires { (P.state clauses.old).assumptions ≡ [] }
-{
-    fill(alloc, clauses, rows)?;
+) -> Result<Option<Answer>, Fail> {
+    let mut clauses = P::fresh(alloc)?;
+    fill(alloc, &mut clauses, rows)?;
     let l = Lit::new(left_out).ok_or("no literal")?;
     let clause = lits(alloc, row)?;
     match clauses.find(clause.as_slice()) {
@@ -129,29 +126,27 @@ const CLASHING_REST: [[i32; 2]; 2] = [[1, 2], [1, -2]];
 #[test]
 fn assumes_the_rest(rt: HostRuntime) -> Result<(), Fail> {
     let alloc = rt.alloc();
-    let scanned = rest_answer(alloc, &mut Scan::new(alloc)?, &QUIET_REST, &[2, 1], 2)?;
+    let scanned = rest_answer::<Scan>(alloc, &QUIET_REST, &[2, 1], 2)?;
     expect_equal(&rt, scanned, Some(Answer::Quiet));
-    let watched = rest_answer(alloc, &mut Watch::new(alloc)?, &QUIET_REST, &[2, 1], 2)?;
+    let watched = rest_answer::<Watch>(alloc, &QUIET_REST, &[2, 1], 2)?;
     expect_equal(&rt, watched, Some(Answer::Quiet));
-    let scanned = rest_answer(alloc, &mut Scan::new(alloc)?, &CLASHING_REST, &[2, 1], 2)?;
+    let scanned = rest_answer::<Scan>(alloc, &CLASHING_REST, &[2, 1], 2)?;
     expect_equal(&rt, scanned, Some(Answer::Clash));
-    let watched = rest_answer(alloc, &mut Watch::new(alloc)?, &CLASHING_REST, &[2, 1], 2)?;
+    let watched = rest_answer::<Watch>(alloc, &CLASHING_REST, &[2, 1], 2)?;
     expect_equal(&rt, watched, Some(Answer::Clash));
     Ok(())
 }
 
 /// How a clause is answered but for what the set makes false, where nothing else is assumed; none where there is no such
 /// clause.
-fn unless_answer<P: Propagate>(
+fn unless_answer<P: Fresh>(
     alloc: Global,
-    clauses: &mut P,
     rows: &[[i32; 2]],
     row: &[i32],
     set: &[i32],
-) -> Result<Option<Answer>, Fail>
-    requires { (P.state clauses.old).assumptions ≡ [] }
-{
-    fill(alloc, clauses, rows)?;
+) -> Result<Option<Answer>, Fail> {
+    let mut clauses = P::fresh(alloc)?;
+    fill(alloc, &mut clauses, rows)?;
     let clause = lits(alloc, row)?;
     let set = lits(alloc, set)?;
     match clauses.find(clause.as_slice()) {
@@ -161,9 +156,9 @@ fn unless_answer<P: Propagate>(
 }
 
 fn expect_unless(rt: &impl Abort, alloc: Global, set: &[i32], answer: Answer) -> Result<(), Fail> {
-    let scanned = unless_answer(alloc, &mut Scan::new(alloc)?, &QUIET_REST, &[1, 2], set)?;
+    let scanned = unless_answer::<Scan>(alloc, &QUIET_REST, &[1, 2], set)?;
     expect_equal(rt, scanned, Some(answer));
-    let watched = unless_answer(alloc, &mut Watch::new(alloc)?, &QUIET_REST, &[1, 2], set)?;
+    let watched = unless_answer::<Watch>(alloc, &QUIET_REST, &[1, 2], set)?;
     expect_equal(rt, watched, Some(answer));
     Ok(())
 }
@@ -184,11 +179,16 @@ fn assumes_unless_the_set_makes_it_false(rt: HostRuntime) -> Result<(), Fail> {
     Ok(())
 }
 
+/// Whether a set has a literal with its complement, where there are no clauses.
+fn has_conflict<P: Fresh>(alloc: Global, set: &[i32]) -> Result<bool, Fail> {
+    let mut clauses = P::fresh(alloc)?;
+    let set = lits(alloc, set)?;
+    Ok(clauses.conflicts(set.as_slice())?)
+}
+
 #[test]
 fn finds_conflicts(rt: HostRuntime) -> Result<(), Fail> {
     let alloc = rt.alloc();
-    let mut scanned = Scan::new(alloc)?;
-    let mut watched = Watch::new(alloc)?;
     let rows: [(&[i32], bool); 5] = [
         (&[], false),
         (&[1, 2, 1], false),
@@ -197,23 +197,16 @@ fn finds_conflicts(rt: HostRuntime) -> Result<(), Fail> {
         (&[268435455, -268435455], true),
     ];
     for (set, expected) in &rows {
-        let set = lits(alloc, set)?;
-        expect_equal(&rt, scanned.conflicts(set.as_slice())?, *expected);
-        expect_equal(&rt, watched.conflicts(set.as_slice())?, *expected);
+        expect_equal(&rt, has_conflict::<Scan>(alloc, set)?, *expected);
+        expect_equal(&rt, has_conflict::<Watch>(alloc, set)?, *expected);
     }
     Ok(())
 }
 
 /// Whether the first clause that the set reduces is this row; where the row is empty, whether there is none.
-fn reduces_first<P: Propagate>(
-    alloc: Global,
-    clauses: &mut P,
-    set: &[i32],
-    row: &[i32],
-) -> Result<bool, Fail>
-    requires { (P.state clauses.old).assumptions ≡ [] }
-{
-    fill(alloc, clauses, &[[1, 2], [-1, -2], [-1, 3], [2, 3]])?;
+fn reduces_first<P: Fresh>(alloc: Global, set: &[i32], row: &[i32]) -> Result<bool, Fail> {
+    let mut clauses = P::fresh(alloc)?;
+    fill(alloc, &mut clauses, &[[1, 2], [-1, -2], [-1, 3], [2, 3]])?;
     let set = lits(alloc, set)?;
     let clause = lits(alloc, row)?;
     let expected = clauses.find(clause.as_slice());
@@ -221,9 +214,9 @@ fn reduces_first<P: Propagate>(
 }
 
 fn expect_reduced(rt: &impl Abort, alloc: Global, set: &[i32], row: &[i32]) -> Result<(), Fail> {
-    let scanned = reduces_first(alloc, &mut Scan::new(alloc)?, set, row)?;
+    let scanned = reduces_first::<Scan>(alloc, set, row)?;
     expect_true(rt, scanned);
-    let watched = reduces_first(alloc, &mut Watch::new(alloc)?, set, row)?;
+    let watched = reduces_first::<Watch>(alloc, set, row)?;
     expect_true(rt, watched);
     Ok(())
 }
@@ -246,10 +239,9 @@ fn finds_what_a_set_reduces(rt: HostRuntime) -> Result<(), Fail> {
 }
 
 /// What propagation says of the greatest variable where its clause is left with it alone.
-fn greatest<P: Propagate>(alloc: Global, clauses: &mut P) -> Result<Value, Fail>
-    requires { (P.state clauses.old).assumptions ≡ [] }
-{
-    fill(alloc, clauses, &[[1, 268435455]])?;
+fn greatest<P: Fresh>(alloc: Global) -> Result<Value, Fail> {
+    let mut clauses = P::fresh(alloc)?;
+    fill(alloc, &mut clauses, &[[1, 268435455]])?;
     let clause = lits(alloc, &[1])?;
     let l = Lit::new(268435455).ok_or("no literal")?;
     match clauses.assume(clause.as_slice())? {
@@ -259,24 +251,18 @@ fn greatest<P: Propagate>(alloc: Global, clauses: &mut P) -> Result<Value, Fail>
 }
 
 /// How many literals the formula has, and whether there is a clause with this one.
-fn looked_up<P: Propagate>(
-    alloc: Global,
-    clauses: &mut P,
-    rows: &[[i32; 2]],
-    number: i32,
-) -> Result<(u64, bool), Fail>
-    requires { (P.state clauses.old).assumptions ≡ [] }
-{
-    fill(alloc, clauses, rows)?;
+fn looked_up<P: Fresh>(alloc: Global, rows: &[[i32; 2]], number: i32) -> Result<(u64, bool), Fail> {
+    let mut clauses = P::fresh(alloc)?;
+    fill(alloc, &mut clauses, rows)?;
     let l = Lit::new(number).ok_or("no literal")?;
     let slot = clauses.next_with(l, Slot::first());
     Ok((clauses.literals(), slot.is_some()))
 }
 
 fn expect_looked_up(rt: &impl Abort, alloc: Global, number: i32, there: bool) -> Result<(), Fail> {
-    let scanned = looked_up(alloc, &mut Scan::new(alloc)?, &UNIT_AND_BOTH, number)?;
+    let scanned = looked_up::<Scan>(alloc, &UNIT_AND_BOTH, number)?;
     expect_equal(rt, scanned, (5, there));
-    let watched = looked_up(alloc, &mut Watch::new(alloc)?, &UNIT_AND_BOTH, number)?;
+    let watched = looked_up::<Watch>(alloc, &UNIT_AND_BOTH, number)?;
     expect_equal(rt, watched, (5, there));
     Ok(())
 }
@@ -284,8 +270,8 @@ fn expect_looked_up(rt: &impl Abort, alloc: Global, number: i32, there: bool) ->
 #[test]
 fn looks_up(rt: HostRuntime) -> Result<(), Fail> {
     let alloc = rt.alloc();
-    expect_equal(&rt, greatest(alloc, &mut Scan::new(alloc)?)?, Value::True);
-    expect_equal(&rt, greatest(alloc, &mut Watch::new(alloc)?)?, Value::True);
+    expect_equal(&rt, greatest::<Scan>(alloc)?, Value::True);
+    expect_equal(&rt, greatest::<Watch>(alloc)?, Value::True);
     for (number, there) in [(-2, true), (3, false)] {
         expect_looked_up(&rt, alloc, number, there)?;
     }
@@ -293,14 +279,9 @@ fn looks_up(rt: HostRuntime) -> Result<(), Fail> {
 }
 
 /// How many clauses have the literal 2, and whether a slot with it is found, as the clauses `1 2` are taken out one by one.
-fn counts_down<P: Propagate>(
-    alloc: Global,
-    clauses: &mut P,
-    rows: &[[i32; 2]],
-) -> Result<Vec<(u64, bool)>, Fail>
-    requires { (P.state clauses.old).assumptions ≡ [] }
-{
-    fill(alloc, clauses, rows)?;
+fn counts_down<P: Fresh>(alloc: Global, rows: &[[i32; 2]]) -> Result<Vec<(u64, bool)>, Fail> {
+    let mut clauses = P::fresh(alloc)?;
+    fill(alloc, &mut clauses, rows)?;
     let l = Lit::new(2).ok_or("no literal")?;
     let clause = lits(alloc, &[1, 2])?;
     let mut counts = Vec::new(alloc);
@@ -320,18 +301,17 @@ const TWO_COPIES: [[i32; 2]; 3] = [[1, 2], [2, 1], [1, -2]];
 fn counts_copies(rt: HostRuntime) -> Result<(), Fail> {
     let alloc = rt.alloc();
     let expected = [(2, true), (1, true), (0, false)];
-    let scanned = counts_down(alloc, &mut Scan::new(alloc)?, &TWO_COPIES)?;
+    let scanned = counts_down::<Scan>(alloc, &TWO_COPIES)?;
     expect_true(&rt, scanned.as_slice() == expected.as_slice());
-    let watched = counts_down(alloc, &mut Watch::new(alloc)?, &TWO_COPIES)?;
+    let watched = counts_down::<Watch>(alloc, &TWO_COPIES)?;
     expect_true(&rt, watched.as_slice() == expected.as_slice());
     Ok(())
 }
 
 /// Whether an assumption that was refused is refused ever after, and changes nothing.
-fn is_refused_again<P: Propagate>(alloc: Global, clauses: &mut P) -> Result<bool, Fail>
-    requires { (P.state clauses.old).assumptions ≡ [] }
-{
-    fill(alloc, clauses, &FOUR)?;
+fn is_refused_again<P: Fresh>(alloc: Global) -> Result<bool, Fail> {
+    let mut clauses = P::fresh(alloc)?;
+    fill(alloc, &mut clauses, &FOUR)?;
     let clause = lits(alloc, &[7])?;
     match clauses.assume(clause.as_slice()) {
         Ok(answer) => Ok(answer == Answer::Quiet),
@@ -342,21 +322,19 @@ fn is_refused_again<P: Propagate>(alloc: Global, clauses: &mut P) -> Result<bool
 #[test]
 fn stays_where_memory_runs_out(rt: HostRuntime) -> Result<(), Fail> {
     let alloc = rt.alloc();
-    expect_true(&rt, is_refused_again(alloc, &mut Scan::new(alloc)?)?);
-    expect_true(&rt, is_refused_again(alloc, &mut Watch::new(alloc)?)?);
+    expect_true(&rt, is_refused_again::<Scan>(alloc)?);
+    expect_true(&rt, is_refused_again::<Watch>(alloc)?);
     Ok(())
 }
 
 /// Whether a clause makes a literal of it hold for good; none where there is no such clause.
-fn root_reason<P: Propagate>(
+fn root_reason<P: Fresh>(
     alloc: Global,
-    clauses: &mut P,
     rows: &[[i32; 2]],
     row: &[i32],
-) -> Result<Option<bool>, Fail>
-    requires { (P.state clauses.old).assumptions ≡ [] }
-{
-    fill(alloc, clauses, rows)?;
+) -> Result<Option<bool>, Fail> {
+    let mut clauses = P::fresh(alloc)?;
+    fill(alloc, &mut clauses, rows)?;
     let clause = lits(alloc, row)?;
     match clauses.find(clause.as_slice()) {
         Some(slot) => Ok(Some(clauses.is_root_reason(slot)?)),
@@ -377,8 +355,8 @@ fn tells_root_reasons(rt: HostRuntime) -> Result<(), Fail> {
         (&UNIT_AND_BOTH, &[-1, -2], Some(true)),
     ];
     for (rows, row, expected) in &rows {
-        let scanned = root_reason(alloc, &mut Scan::new(alloc)?, rows, row)?;
-        let watched = root_reason(alloc, &mut Watch::new(alloc)?, rows, row)?;
+        let scanned = root_reason::<Scan>(alloc, rows, row)?;
+        let watched = root_reason::<Watch>(alloc, rows, row)?;
         expect_true(&rt, scanned == *expected && watched == *expected);
     }
     Ok(())

@@ -1,6 +1,6 @@
 //! The store of clauses, and its slots.
 
-use crate::support::{expect_equal, expect_true, expect_true_at};
+use crate::asserts::{expect_equal, expect_true, expect_true_at};
 use clause_db::{Slot, Store};
 use cnf_base::{Lit, OutOfMemory};
 use std::alloc::Global;

@@ -1,6 +1,6 @@
 //! The table by number.
 
-use crate::support::expect_equal;
+use crate::asserts::expect_equal;
 use std::process::Abort;
 use std::test::Fail;
 use tables::Table;

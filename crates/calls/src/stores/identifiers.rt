@@ -1,6 +1,6 @@
 //! Identifiers, each with the number of its slot.
 
-use crate::support::{expect_equal, expect_equal_at, expect_true_at};
+use crate::asserts::{expect_equal, expect_equal_at, expect_true_at};
 use clause_db::{Ids, Slot};
 use cnf_base::OutOfMemory;
 use std::alloc::Global;
