@@ -24,24 +24,16 @@ SOURCES := crates.txt HANDLES $(shell find crates -name out -prune -o -type f -p
 .DELETE_ON_ERROR:
 .PHONY: all test test-solvers test-package test-edits bench clean install uninstall
 
-all: bin/lrat-check bin/drat-forward bin/model-check
+all: $(PROGRAMS:%=bin/%)
 
-# rt run proves the crate and those below it, builds its program in out/ and runs it: here on the first example, from the
-# crate's folder, so that these rules fail unless that proof or model is verified.
-bin/lrat-check: $(SOURCES)
-	cd crates/lrat_check && $(RT) run -- ../../examples/e.cnf ../../examples/e.lrat
+# One run proves and builds all three, side by side where they don't stand on each other. Each is run on what lies in its crate,
+# so that this fails unless that proof or model is verified.
+$(PROGRAMS:%=bin/%) &: $(SOURCES) tests/prove.py
+	RT="$(RT)" tests/prove.py drat_forward lrat_check model_check
 	mkdir -p bin
-	cp crates/lrat_check/out/lrat_check $@
-
-bin/drat-forward: $(SOURCES)
-	cd crates/drat_forward && $(RT) run -- ../../examples/e.cnf ../../examples/e.drat
-	mkdir -p bin
-	cp crates/drat_forward/out/drat_forward $@
-
-bin/model-check: $(SOURCES)
-	cd crates/model_check && $(RT) run -- ../../examples/models.cnf ../../examples/models.out
-	mkdir -p bin
-	cp crates/model_check/out/model_check $@
+	cp crates/drat_forward/out/drat_forward bin/drat-forward
+	cp crates/lrat_check/out/lrat_check bin/lrat-check
+	cp crates/model_check/out/model_check bin/model-check
 
 test:
 	@RT="$(RT)" tests/run.sh

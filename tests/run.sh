@@ -1,15 +1,29 @@
 #!/usr/bin/env bash
-# All tests: whether the edits of tests/edits can still be made; the gate (every proof from nothing, the must-fail edits, the
-# crates' tests and the programs' stored runs); then the programs as users run them, their manual pages, counts of
-# allocations, and runs in which each allocation is refused. The last line is "N passed, M failed" over all.
+# All tests: whether the edits of tests/edits can still be made; the proofs of all crates and of their tests; the gate (what of
+# these isn't kept, the must-fail edits, the crates' tests and the programs' stored runs); then the programs as users run them,
+# their manual pages, counts of allocations, and runs in which each allocation is refused. At the end stands what each part
+# took. The last line is "N passed, M failed" over all.
 #
 # RT names the command rt, where it isn't on the PATH.
 set -uo pipefail
 cd "$(dirname "$0")/.."
 
-passed=0 failed=0
-log=$(mktemp)
-trap 'rm -f "$log"' EXIT
+passed=0 failed=0 taken=""
+log=$(mktemp) times=$(mktemp)
+trap 'rm -f "$log" "$times"' EXIT
+TIMEFORMAT="%0R %0U %0S"
+
+# part NAME COMMAND..: runs it, and notes the seconds that it took, by the clock and of processors.
+part() {
+    local name=$1 ended wall user system
+    shift
+    echo "== $name"
+    { time "$@" 2>&1; } 2> "$times" | tee "$log"
+    ended=${PIPESTATUS[0]}
+    read -r wall user system < <(tail -n 1 "$times")
+    taken+=$(printf '%-22s %7d s %7d s' "$name" "$wall" "$((user + system))")$'\n'
+    return "$ended"
+}
 
 # count STATUS: adds the last line of $log. A part that gave no such line, or ended wrong without a failure, is one failure.
 count() {
@@ -24,44 +38,34 @@ count() {
     else
         failed=$((failed + 1))
     fi
-    echo "(so far $((SECONDS / 60)) minutes)"
 }
 
-echo "== tests/edits_apply.py"
-python3 tests/edits_apply.py 2>&1 | tee "$log"
-count "${PIPESTATUS[0]}"
+part tests/edits_apply.py python3 tests/edits_apply.py
+count $?
 
-echo "== rt ci"
-"${RT:-rt}" ci 2>&1 | tee "$log"
-ended=${PIPESTATUS[0]}
+# The gate counts these proofs again, so here nothing counts but a failure.
+part tests/prove.py tests/prove.py || failed=$((failed + 1))
+
+part "rt ci" "${RT:-rt}" ci
+ended=$?
 count "$ended"
 
 # The gate leaves the programs that it proved and built. Where it did not come so far, nothing else is tested in their place.
-lrat_check=crates/lrat_check/out/lrat_check
-drat_forward=crates/drat_forward/out/drat_forward
-model_check=crates/model_check/out/model_check
-if [ "$ended" -eq 0 ] && [ -x "$lrat_check" ] && [ -x "$drat_forward" ] && [ -x "$model_check" ]; then
+export LRAT_CHECK=crates/lrat_check/out/lrat_check
+export DRAT_FORWARD=crates/drat_forward/out/drat_forward
+export MODEL_CHECK=crates/model_check/out/model_check
+if [ "$ended" -eq 0 ] && [ -x "$LRAT_CHECK" ] && [ -x "$DRAT_FORWARD" ] && [ -x "$MODEL_CHECK" ]; then
     mkdir -p bin
-    cp "$lrat_check" bin/lrat-check
-    cp "$drat_forward" bin/drat-forward
-    cp "$model_check" bin/model-check
+    cp "$LRAT_CHECK" bin/lrat-check
+    cp "$DRAT_FORWARD" bin/drat-forward
+    cp "$MODEL_CHECK" bin/model-check
 fi
 
-echo "== tests/programs.sh"
-LRAT_CHECK=$lrat_check DRAT_FORWARD=$drat_forward MODEL_CHECK=$model_check tests/programs.sh 2>&1 | tee "$log"
-count "${PIPESTATUS[0]}"
+for script in tests/programs.sh tests/manual.sh tests/allocations.py tests/refusals.py; do
+    part "$script" "$script"
+    count $?
+done
 
-echo "== tests/manual.sh"
-LRAT_CHECK=$lrat_check DRAT_FORWARD=$drat_forward MODEL_CHECK=$model_check tests/manual.sh 2>&1 | tee "$log"
-count "${PIPESTATUS[0]}"
-
-echo "== tests/allocations.py"
-DRAT_FORWARD=$drat_forward python3 tests/allocations.py 2>&1 | tee "$log"
-count "${PIPESTATUS[0]}"
-
-echo "== tests/refusals.py"
-LRAT_CHECK=$lrat_check DRAT_FORWARD=$drat_forward MODEL_CHECK=$model_check python3 tests/refusals.py 2>&1 | tee "$log"
-count "${PIPESTATUS[0]}"
-
+printf '\n%-22s %9s %9s\n%s\n' part clock processor "$taken"
 echo "$passed passed, $failed failed"
 [ "$failed" -eq 0 ]
