@@ -1,14 +1,14 @@
 #!/usr/bin/env python3
 """Shows that memory that was taken is used again.
 
-The number of allocations inside a whole check, and inside the calls of the readers, of the store and of the identifiers, is
-the same for 1000 as for 100000 pairs of steps, steps, clauses, insertions or identifiers of one form.
+The number of allocations inside a whole check of DRAT and of LRAT, and inside the calls of the readers, of the store and of
+the identifiers, is the same for 1000 as for 100000 pairs of steps, steps, clauses, insertions or identifiers of one form.
 
 The programs run as they were compiled, with tests/allocations.c before the C library: it refuses the Nth allocation of a
 run. What is counted goes from the least N whose refusal is met inside these calls to the greatest.
 
-DRAT_FORWARD and ALLOCATIONS name the programs; they are bin/drat-forward and that of crates/allocations otherwise. CC names
-a C compiler, which is cc otherwise. The last line is "N passed, M failed".
+DRAT_FORWARD, LRAT_CHECK and ALLOCATIONS name the programs; they are those in bin/ and that of crates/allocations otherwise. CC
+names a C compiler, which is cc otherwise. The last line is "N passed, M failed".
 """
 
 import os
@@ -18,11 +18,12 @@ import tempfile
 
 ROOT = os.path.dirname(os.path.dirname(os.path.abspath(__file__)))
 DRAT_FORWARD = os.environ.get("DRAT_FORWARD") or "bin/drat-forward"
+LRAT_CHECK = os.environ.get("LRAT_CHECK") or "bin/lrat-check"
 ALLOCATIONS = os.environ.get("ALLOCATIONS") or "crates/allocations/out/allocations"
 CC = os.environ.get("CC") or "cc"
 FEW, MANY = 1000, 100000
-# The whole check, and what crates/allocations does again and again.
-CHECK = "run_drat"
+# The whole checks, and what crates/allocations does again and again.
+CHECKS = ["run_drat", "run_lrat"]
 CASES = [
     "drat_additions",
     "drat_deletions",
@@ -89,13 +90,27 @@ class Run:
         return greatest - least + 1
 
 
-def check_of_pairs(room, times):
+def drat_pairs(times):
+    """A proof in DRAT that adds a clause and deletes it, so many times."""
+    return "-1 -2 0\nd -1 -2 0\n" * times + "2 0\n0\n"
+
+
+def lrat_pairs(times):
+    """The same in LRAT. Identifiers rise to the same one, however many there are: the directory of their pages doubles as they
+    rise, and keeps no literals."""
+    ids = range(MANY // times, MANY + 1, MANY // times)
+    pairs = "".join(f"{4 + i} -1 -2 0 4 0\n{4 + i} d {4 + i} 0\n" for i in ids)
+    return pairs + f"{MANY + 5} 2 0 1 2 0\n{MANY + 6} 0 {MANY + 5} 3 4 0\n"
+
+
+def check_of_pairs(name, room, times):
     """A check of a proof that adds a clause and deletes it, so many times."""
-    proof = f"{room}/{times}.drat"
-    with open(proof, "wb") as out:
-        out.write(b"-1 -2 0\nd -1 -2 0\n" * times + b"2 0\n0\n")
+    program, pairs = {"run_drat": (DRAT_FORWARD, drat_pairs), "run_lrat": (LRAT_CHECK, lrat_pairs)}[name]
+    proof = f"{room}/{name}-{times}"
+    with open(proof, "w", encoding="ascii") as out:
+        out.write(pairs(times))
     lines = f"c formula 2 variables 4 clauses\nc steps {2 * times + 2} peak 10\ns VERIFIED\n"
-    return Run([DRAT_FORWARD, "examples/e.cnf", proof], lines, 4, "")
+    return Run([program, "examples/e.cnf", proof], lines, 4, "")
 
 
 def calls(name, times):
@@ -104,7 +119,7 @@ def calls(name, times):
 
 
 def run_of(name, room, times):
-    return check_of_pairs(room, times) if name == CHECK else calls(name, times)
+    return check_of_pairs(name, room, times) if name in CHECKS else calls(name, times)
 
 
 def compile_shim(room):
@@ -123,7 +138,7 @@ def main():
             print(f"FAILED: tests/allocations.c is not compiled: {error}")
             print("0 passed, 1 failed")
             return 1
-        for name in [CHECK, *CASES]:
+        for name in [*CHECKS, *CASES]:
             try:
                 few = run_of(name, room, FEW).allocations(room)
                 many = run_of(name, room, MANY).allocations(room)

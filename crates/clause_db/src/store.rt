@@ -54,10 +54,16 @@ impl<I: Indexing> Model for Store<I> {
 
     ghost coded = { store_code };
 
-    // Of its fields the entries alone have lists of literals.
-    ghost view = { λ s. record {
-      live = clauses_in s.entries;
-      stored = literals_kept s.entries;
+    // Each field has to be named here. Of them the entries alone have lists of literals.
+    ghost view = { λ record {
+      alloc = _;
+      entries = entries;
+      index = _;
+      marks = _;
+      sum = _;
+    }. record {
+      live = clauses_in entries;
+      stored = literals_kept entries;
     } };
 
     ghost invariant = { λ s.

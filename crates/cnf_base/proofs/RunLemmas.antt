@@ -3,7 +3,7 @@ use Rattle.std.proofs.Common.{◌≡◌, ℕ, ◌<◌, ◌≤◌, ◌==◌, cond
 use Rattle.std.specs.Prelude.{slice_index, slice_range, ◌-◌, ◌&&◌, Result, Ok, Err, IsErr}
 use Rattle.cnf_base.specs.declared.input.ReadFailed.{ReadFailed}
 use Rattle.std.proofs.lemmas.Bool.Decides.{nat_tests}
-use Rattle.cnf_base.specs.Stream.{Input, Stream, Along, IsLook, bumped, skipped, more_count, next_count, most_to_come, place_after}
+use Rattle.cnf_base.specs.Stream.{Input, Stream, Along, IsLook, bumped, skipped, more_count, next_count, most_to_come, place_after, tells_failure}
 use Rattle.cnf_base.specs.Text.{is_separator, is_comment, col_after, line_after, col_along, listed, with_front, skips_at, comment_at, listing_at, FailsAt}
 use Rattle.cnf_base.specs.Words.{word_of}
 use Rattle.cnf_base.specs.Whole.{IsWholeNumber}
@@ -30,7 +30,7 @@ place_after-feed b p h = ap (λ v. cond v (line_after p) (col_after p)) h
 pub record Stands (old now : Stream) : Type 0 where
   pub text : Along old now (λ i j. listing_at old.place i ≡ listing_at now.place j)
   pub fewer : most_to_come now ≤ most_to_come old
-  pub mark : now.reader.has_failed ≡ old.reader.has_failed
+  pub mark : tells_failure now.reader ≡ tells_failure old.reader
 
 pub Stands-start : (s : Stream) → Stands s s
 Stands-start s = record {
@@ -45,9 +45,9 @@ pub record InRun (old now : Stream) (run : List ℕ) : Type 0 where
   pub place : now.place ≡ col_along old.place run
   pub text : Along old now (λ i j. i ≡ record { bytes = run ++ j.bytes; ending = j.ending })
   pub fewer : most_to_come now < most_to_come old
-  pub mark : now.reader.has_failed ≡ old.reader.has_failed
+  pub mark : tells_failure now.reader ≡ tells_failure old.reader
 
-pub InRun-looked : (old now new : Stream) (run : List ℕ) → InRun old now run → IsLook now new → new.reader.has_failed ≡ now.reader.has_failed → InRun old new run
+pub InRun-looked : (old now new : Stream) (run : List ℕ) → InRun old now run → IsLook now new → tells_failure new.reader ≡ tells_failure now.reader → InRun old new run
 InRun-looked old now new run r l mark = record {
   is_run = r.is_run;
   place = l.place ∙ r.place;
@@ -179,7 +179,7 @@ comment-done old now b text some first feed =
       tt,
     ))
 
-pub Stands-looked : (old now new : Stream) → Stands old now → IsLook now new → new.reader.has_failed ≡ now.reader.has_failed → Stands old new
+pub Stands-looked : (old now new : Stream) → Stands old now → IsLook now new → tells_failure new.reader ≡ tells_failure now.reader → Stands old new
 Stands-looked old now new s l mark = record {
   text = Along-then old now new _ _ _ s.text (Along-look now new l)
       (λ i j k m p q. p ∙ ap (listing_at now.place) q ∙ ap (λ x. listing_at x k) (sym l.place));

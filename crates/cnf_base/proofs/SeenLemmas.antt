@@ -2,11 +2,11 @@
 use Rattle.std.proofs.Common.{◌≡◌, ℕ, ◌||◌, List, [], ◌++◌, Option, None, Some, refl, sym, ap, ◌∙◌, subst, append_assoc, append-nil, arith}
 use Rattle.std.proofs.KnownBytes.{Consumes-nil}
 use Rattle.std.specs.Io.KnownBytes.{IsAtEnd}
-use Rattle.cnf_base.specs.Stream.{Input, Reader, Stream, MayGive, MayFollow, MayCome, Meets, Along, unread_stream, preceded}
-use Rattle.cnf_base.specs.Seen.{Seen, IsSeen, is_failure, SeenMayBeGiven, SeenIsSome}
+use Rattle.cnf_base.specs.Stream.{Input, Reader, Stream, MayGive, MayFollow, MayCome, Meets, Along, is_failure, tells_failure, unread_stream, preceded}
+use Rattle.cnf_base.specs.Seen.{Seen, IsSeen, SeenMayBeGiven, SeenIsSome}
 use Rattle.cnf_base.specs.declared.input.Ending.{Ending}
 use Rattle.cnf_base.specs.declared.input.Ending.TheVariants.{End, Failed}
-use Rattle.cnf_base.proofs.StreamLemmas.{MayGive-read, MayGive-failed, some_input}
+use Rattle.cnf_base.proofs.StreamLemmas.{IsSilent-nothing, MayGive-read, MayGive-failed, some_input}
 
 -- nothing was read
 pub Seen-nothing : (reader : Reader) → Seen reader reader
@@ -17,6 +17,8 @@ Seen-nothing reader = record {
   count = omega arith;
   ended = λ e. absurd (cc);
   told = refl;
+  last = λ e h. absurd (cc);
+  silent = IsSilent-nothing reader;
 }
 
 module _ (reader : Reader) (borrows : List ℕ) (last : Stream) (P : Input → Input → Type 0) (run : Along (unread_stream reader borrows) last P) where
@@ -29,6 +31,8 @@ module _ (reader : Reader) (borrows : List ℕ) (last : Stream) (P : Input → I
     count = run.moves.count;
     ended = ended last.met run.moves.met;
     told = told last.met run.moves.met;
+    last = last_given last.met run.moves.met;
+    silent = run.moves.silent;
   }
     where
       ended : (met : Option Ending) → Meets None met run.bytes reader last.reader → met ≡ Some End → IsAtEnd last.reader.left
@@ -36,10 +40,15 @@ module _ (reader : Reader) (borrows : List ℕ) (last : Stream) (P : Input → I
       ended (Some End) m e = m.0
       ended (Some Failed) m e = absurd (cc)
 
-      told : (met : Option Ending) → Meets None met run.bytes reader last.reader → last.reader.has_failed ≡ (is_failure met || reader.has_failed)
-      told None m = m
-      told (Some End) m = m.1
-      told (Some Failed) m = m
+      told : (met : Option Ending) → Meets None met run.bytes reader last.reader → tells_failure last.reader ≡ (is_failure met || tells_failure reader)
+      told None m = ap is_failure m
+      told (Some End) m = m.2
+      told (Some Failed) m = ap is_failure m
+
+      last_given : (met : Option Ending) → Meets None met run.bytes reader last.reader → (e : Ending) → met ≡ Some e → last.reader.over ≡ Some e
+      last_given None m e is = absurd (cc)
+      last_given (Some End) m e is = m.1 ∙ is
+      last_given (Some Failed) m e is = m ∙ is
 
   -- what follows what was taken, of an input that begins with what was handed out
   rest_of : (i : Input) → MayFollow last.met last.reader.left run.bytes i.bytes i.ending → (j : Input) × MayCome last j × (i ≡ preceded run.taken j)

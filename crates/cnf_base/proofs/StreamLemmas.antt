@@ -5,7 +5,7 @@ use Rattle.std.specs.Io.KnownBytes.{Consumes, Keeps, IsAtEnd}
 use Rattle.std.proofs.KnownBytes.{Consumes-nil, Consumes-trans, Consumes-kept}
 use Rattle.std.proofs.lemmas.Grind.{common_steps}
 use Rattle.std.proofs.lemmas.List.{drop-drop, drop-take, take-append-drop}
-use Rattle.cnf_base.specs.Stream.{Input, Reader, Stream, MayGive, MayFollow, MayCome, Meets, Moves, Along, IsLook, bumped, skipped, bytes_read, most_to_come, preceded}
+use Rattle.cnf_base.specs.Stream.{Input, Reader, Stream, MayGive, MayFollow, MayCome, Meets, Moves, Along, IsLook, IsSilent, is_failure, tells_failure, bumped, skipped, bytes_read, most_to_come, preceded}
 use Rattle.cnf_base.specs.declared.input.Ending.{Ending}
 use Rattle.cnf_base.specs.declared.input.Ending.TheVariants.{End, Failed}
 
@@ -55,12 +55,16 @@ pub Meets-nothing : (met : Option Ending) (reader : Reader) → Meets met met []
 Meets-nothing None reader = refl
 Meets-nothing (Some e) reader = (refl, refl, refl)
 
+pub IsSilent-nothing : (reader : Reader) → IsSilent reader reader []
+IsSilent-nothing reader e over = (refl, refl)
+
 pub Moves-nothing : (s : Stream) → Moves s s [] []
 Moves-nothing s = record {
   whole = append-nil s.ahead;
   lost = Consumes-nil s.reader.left;
   count = omega arith;
   met = Meets-nothing s.met s.reader;
+  silent = IsSilent-nothing s.reader;
   ahead = λ h. h;
   same_reader = refl;
 }
@@ -76,14 +80,22 @@ Meets-then (Some e) b c first second old mid new p q = by b p.0 q
     by (Some d) is q = (q.0 ∙ is, ap (λ x. x ++ second) p.1 ∙ q.1, q.2 ∙ p.2)
     by None is q = absurd (cc)
 Meets-then None None None first second old mid new p q = q ∙ p
-Meets-then None None (Some End) first second old mid new p q = (q.0, q.1 ∙ p)
+Meets-then None None (Some End) first second old mid new p q = (q.0, q.1, q.2 ∙ ap is_failure p)
 Meets-then None None (Some Failed) first second old mid new p q = q
 Meets-then None (Some End) c first second old mid new p q =
     let P : Option Ending → Type 0 = λ m. Meets None m (first ++ second) old new in
-    subst P (sym q.0) (let R : Reader → Type 0 = λ r. IsAtEnd r.left × (r.has_failed ≡ old.has_failed) in subst R (sym q.2) p)
+    subst P (sym q.0) (
+    let R : Reader → Type 0 = λ r. IsAtEnd r.left × (r.over ≡ Some End) × (tells_failure r ≡ tells_failure old) in
+    subst R (sym q.2) p)
 Meets-then None (Some Failed) c first second old mid new p q =
     let P : Option Ending → Type 0 = λ m. Meets None m (first ++ second) old new in
-    subst P (sym q.0) (ap (λ r. r.has_failed) q.2 ∙ p)
+    subst P (sym q.0) (ap (λ r. r.over) q.2 ∙ p)
+
+IsSilent-then : (first second : List ℕ) (old mid new : Reader) → IsSilent old mid first → IsSilent mid new second → IsSilent old new (first ++ second)
+IsSilent-then first second old mid new p q e over =
+    let begins = p e over in
+    let goes_on = q e (ap (λ r. r.over) begins.1 ∙ over) in
+    (ap (λ x. x ++ second) begins.0 ∙ goes_on.0, goes_on.1 ∙ begins.1)
 
 pub Moves-then : (a b c : Stream) (first second taken others : List ℕ) → Moves a b first taken → Moves b c second others → Moves a c (first ++ second) (taken ++ others)
 Moves-then a b c first second taken others p q = record {
@@ -92,6 +104,7 @@ Moves-then a b c first second taken others p q = record {
   lost = Consumes-trans _ _ _ first second p.lost q.lost;
   count = omega (arith, length-append first second, p.count, q.count);
   met = Meets-then a.met b.met c.met first second a.reader b.reader c.reader p.met q.met;
+  silent = IsSilent-then first second a.reader b.reader c.reader p.silent q.silent;
   ahead = λ h. q.ahead (p.ahead h);
   same_reader = q.same_reader ∙ p.same_reader;
 }
@@ -203,14 +216,15 @@ Along-still s f = Along-map s s _ _ (Along-none s) (λ i j m e. ap f e)
 -- nothing was ahead, and a read gave these bytes, or it was the end's
 pub look_filled : (old new : Stream) (bytes : List ℕ) → old.ahead ≡ [] → new.ahead ≡ bytes → Consumes old.reader.left new.reader.left bytes
     → new.reader.most_left + length bytes ≡ old.reader.most_left → length bytes ≤ 65536 → Meets old.met new.met bytes old.reader new.reader
-    → new.borrows ≡ old.borrows → new.place ≡ old.place → new.byte_no ≡ old.byte_no → IsLook old new
-look_filled old new bytes none ahead lost count most met same place byte_no = record {
+    → IsSilent old.reader new.reader bytes → new.borrows ≡ old.borrows → new.place ≡ old.place → new.byte_no ≡ old.byte_no → IsLook old new
+look_filled old new bytes none ahead lost count most met silent same place byte_no = record {
   bytes = bytes;
   moves = record {
     whole = ap (λ x. x ++ bytes) none ∙ sym ahead;
     lost = lost;
     count = count;
     met = met;
+    silent = silent;
     ahead = λ h. omega (arith, ap length ahead, most);
     same_reader = same;
   };
@@ -257,6 +271,7 @@ Along-bumped s b some first = record {
     lost = Consumes-nil s.reader.left;
     count = omega arith;
     met = Meets-nothing s.met s.reader;
+    silent = IsSilent-nothing s.reader;
     ahead = λ h. fewer_ahead s.ahead h;
     same_reader = refl;
   };
@@ -277,6 +292,7 @@ Along-skipped s n = record {
     lost = Consumes-nil s.reader.left;
     count = omega arith;
     met = Meets-nothing s.met s.reader;
+    silent = IsSilent-nothing s.reader;
     ahead = λ h. omega (arith, length-drop n s.ahead, h);
     same_reader = refl;
   };

@@ -1,6 +1,6 @@
 -- What all readers over a source have in common.
 use Rattle.std.specs.Prelude.{◌≡◌, ℕ, ◌<◌, ◌≤◌, Bool, true, List, Option, None, Some, Result, Ok, Err}
-use Rattle.cnf_base.specs.Stream.{Reader, Stream, most_to_come}
+use Rattle.cnf_base.specs.Stream.{Reader, Stream, most_to_come, tells_failure}
 use Rattle.cnf_base.specs.declared.fault.Fault.{Fault}
 use Rattle.cnf_base.specs.declared.fault.Fault.TheVariants.{ReadFailed}
 
@@ -9,13 +9,13 @@ abbrev pub Advances : Result Bool Fault → Stream → Stream → Type 0
 Advances (Ok true) old new = most_to_come new < most_to_come old
 Advances _ old new = most_to_come new ≤ most_to_come old
 
--- Of a failed read the reader below tells then; every other answer leaves its mark as it was.
-abbrev pub Tells : Fault → Bool → Bool → Type 0
-Tells ReadFailed old new = new ≡ true
-Tells f old new = new ≡ old
+-- Of a failed read the reader below tells then, and after every other answer as before.
+abbrev pub Tells : Fault → Reader → Reader → Type 0
+Tells ReadFailed old new = tells_failure new ≡ true
+Tells f old new = tells_failure new ≡ tells_failure old
 
-abbrev pub TellsOf : {A : Type 0} → Result A Fault → Bool → Bool → Type 0
-TellsOf (Ok _) old new = new ≡ old
+abbrev pub TellsOf : {A : Type 0} → Result A Fault → Reader → Reader → Type 0
+TellsOf (Ok _) old new = tells_failure new ≡ tells_failure old
 TellsOf (Err f) old new = Tells f old new
 
 -- The answer that ends a reader is the one that it gives from then on.

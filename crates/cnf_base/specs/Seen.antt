@@ -1,26 +1,23 @@
 -- What a run saw of a reader.
-use Rattle.std.specs.Prelude.{◌≡◌, ◌⊎◌, ℕ, ◌+◌, Bool, true, false, ◌||◌, List, length, Option, None, Some}
+use Rattle.std.specs.Prelude.{◌≡◌, ◌⊎◌, ℕ, ◌+◌, true, ◌||◌, List, length, Option, Some}
 use Rattle.std.specs.Io.KnownBytes.{Consumes, IsAtEnd}
-use Rattle.cnf_base.specs.Stream.{Input, Reader, MayGive, MayFollow}
+use Rattle.cnf_base.specs.Stream.{Input, Reader, IsSilent, is_failure, tells_failure, MayGive, MayFollow}
 use Rattle.cnf_base.specs.declared.input.Ending.{Ending}
-use Rattle.cnf_base.specs.declared.input.Ending.TheVariants.{End, Failed}
-
--- a failed read was met
-abbrev pub is_failure : Option Ending → Bool
-is_failure None = false
-is_failure (Some End) = false
-is_failure (Some Failed) = true
+use Rattle.cnf_base.specs.declared.input.Ending.TheVariants.{End}
 
 -- All bytes that the reader handed out in a run, and the input's end where it was met. The bytes are those that the
 -- reader lost, and so many less may still be read of it, also where they aren't known. The end was met only where the
--- reader is at its end; a failed read was met exactly where the reader's mark tells of one that is new.
+-- reader is at its end; a failed read was met exactly where the reader tells of one that is new. What was met is what the
+-- reader gave last, and of a reader that was over nothing was handed out.
 pub record Seen (old new : Reader) : Type 0 where
   pub handed : List ℕ
   pub met : Option Ending
   pub lost : Consumes old.left new.left handed
   pub count : new.most_left + length handed ≡ old.most_left
   pub ended : met ≡ Some End → IsAtEnd new.left
-  pub told : new.has_failed ≡ (is_failure met || old.has_failed)
+  pub told : tells_failure new ≡ (is_failure met || tells_failure old)
+  pub last : (e : Ending) → met ≡ Some e → new.over ≡ Some e
+  pub silent : IsSilent old new handed
 
 -- An input that the reader may have given, by what the run saw: it begins with the bytes that were handed out, and goes
 -- on in any way that the reader still may; where the end was met it is those bytes and that end.
@@ -40,7 +37,7 @@ pub record OfBothSeen (old new also_old also_new : Reader) (Fact : Input → Inp
 
 -- a read of one of them has failed
 abbrev pub OneHasFailed : Reader → Reader → Type 0
-OneHasFailed first second = (first.has_failed ≡ true) ⊎ (second.has_failed ≡ true)
+OneHasFailed first second = (tells_failure first ≡ true) ⊎ (tells_failure second ≡ true)
 
 -- ---- Laws
 

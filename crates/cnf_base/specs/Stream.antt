@@ -1,5 +1,5 @@
 -- Whole inputs, and what is known of an input while it is read.
-use Rattle.std.specs.Prelude.{◌≡◌, ℕ, ◌+◌, ◌^◌, ◌-◌, ◌<◌, ◌≤◌, ◌==◌, min, if◌then◌else◌, Bool, true, List, [], ◌++◌, length, drop, slice_index, Option, None, Some, Result, Ok, Err}
+use Rattle.std.specs.Prelude.{◌≡◌, ℕ, ◌+◌, ◌^◌, ◌-◌, ◌<◌, ◌≤◌, ◌==◌, min, if◌then◌else◌, Bool, true, false, List, [], ◌++◌, length, drop, slice_index, Option, None, Some, Result, Ok, Err}
 use Rattle.std.specs.Io.KnownBytes.{Consumes, IsAtEnd}
 use Rattle.cnf_base.specs.declared.input.Ending.{Ending}
 use Rattle.cnf_base.specs.declared.input.Ending.TheVariants.{End, Failed}
@@ -11,12 +11,26 @@ pub record Input : Type 0 where
   pub bytes : List ℕ
   pub ending : Ending
 
--- a reader: the bytes that it has left, where they are known, whether a read of it has failed, and how many bytes may
--- still be read of it at most
+-- a reader: the bytes that it has left, where they are known, its end or its failure, where it has given that, and how
+-- many bytes may still be read of it at most
 pub record Reader : Type 0 where
   pub left : Option (List ℕ)
-  pub has_failed : Bool
+  pub over : Option Ending
   pub most_left : ℕ
+
+-- it is a failed read that was given
+abbrev pub is_failure : Option Ending → Bool
+is_failure None = false
+is_failure (Some End) = false
+is_failure (Some Failed) = true
+
+-- a read of the reader has failed
+abbrev pub tells_failure : Reader → Bool
+tells_failure reader = is_failure reader.over
+
+-- A reader that is over stays as it is, and hands out nothing.
+abbrev pub IsSilent : Reader → Reader → List ℕ → Type 0
+IsSilent old new bytes = (e : Ending) → old.over ≡ Some e → (bytes ≡ []) × (new ≡ old)
 
 -- how many bytes were read of a reader
 abbrev pub bytes_read : Reader → Reader → ℕ
@@ -82,11 +96,11 @@ abbrev pub unread_stream : Reader → List ℕ → Stream
 unread_stream reader borrows =
     record { ahead = []; met = None; reader = reader; borrows = borrows; place = record { line = 1; col = 1 }; byte_no = 1 }
 
--- an end was met where the reader is at its end, a failed read where its mark tells of one
+-- what was met is what the reader gave
 abbrev pub IsMet : Option Ending → Reader → Type 0
 IsMet None reader = Unit {0}
-IsMet (Some End) reader = IsAtEnd reader.left
-IsMet (Some Failed) reader = reader.has_failed ≡ true
+IsMet (Some End) reader = IsAtEnd reader.left × (reader.over ≡ Some End)
+IsMet (Some Failed) reader = reader.over ≡ Some Failed
 
 -- nothing is held past the end
 abbrev pub IsUsedUp : Option Ending → ℕ → ℕ → Type 0
@@ -111,13 +125,13 @@ most_to_come s = length s.ahead + s.reader.most_left
 abbrev pub preceded : List ℕ → Input → Input
 preceded bytes i = record { bytes = bytes ++ i.bytes; ending = i.ending }
 
--- Once an end was met it stays, and nothing more is read. One that is met now is the reader's end, or a failed read, of
--- which the reader's mark tells; nothing else changes that mark.
+-- Once an end was met it stays, and nothing more is read. One that is met now is what the reader gave; where none is, the
+-- reader has given none either.
 abbrev pub Meets : Option Ending → Option Ending → List ℕ → Reader → Reader → Type 0
 Meets (Some e) met bytes old new = (met ≡ Some e) × (bytes ≡ []) × (new ≡ old)
-Meets None None bytes old new = new.has_failed ≡ old.has_failed
-Meets None (Some End) bytes old new = IsAtEnd new.left × (new.has_failed ≡ old.has_failed)
-Meets None (Some Failed) bytes old new = new.has_failed ≡ true
+Meets None None bytes old new = new.over ≡ old.over
+Meets None (Some End) bytes old new = IsAtEnd new.left × (new.over ≡ Some End) × (tells_failure new ≡ tells_failure old)
+Meets None (Some Failed) bytes old new = new.over ≡ Some Failed
 
 -- From the first state to the second a source read the one bytes and gave the others: what was ahead, and then what was
 -- read, is what was taken and what is ahead now. The reader lost what was read, and so many bytes less may still be
@@ -127,6 +141,7 @@ pub record Moves (old new : Stream) (bytes taken : List ℕ) : Type 0 where
   pub lost : Consumes old.reader.left new.reader.left bytes
   pub count : new.reader.most_left + length bytes ≡ old.reader.most_left
   pub met : Meets old.met new.met bytes old.reader new.reader
+  pub silent : IsSilent old.reader new.reader bytes
   pub ahead : length old.ahead ≤ 65536 → length new.ahead ≤ 65536
   pub same_reader : new.borrows ≡ old.borrows
 

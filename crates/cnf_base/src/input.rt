@@ -1,12 +1,13 @@
 //! What bytes are read from.
-ghost use Rattle.std.specs.Prelude.{◌≡◌, ◌+◌, ◌-◌, ◌^◌, ℕ, false, List, [], ◌∷◌};
+ghost use Rattle.std.specs.Prelude.{◌≡◌, ◌+◌, ◌-◌, ◌^◌, ℕ, List, [], ◌∷◌, None, Some};
 ghost use Rattle.std.specs.Io.{ReadsAtMost};
 ghost use Rattle.std.specs.Io.KnownBytes.{ReadConsumes};
-ghost use Rattle.cnf_base.specs.Marks.{given_by, marked_by_read};
+ghost use Rattle.cnf_base.specs.Marks.{given_by, over_after, AnswersAgain};
 ghost use Rattle.cnf_base.specs.Stream.{Reader};
 
 use std::io;
 use std::io::Read;
+use std::marker::Model;
 
 /// How an input ends: by its end, or by a failed read.
 #[derive(Clone, Copy, Debug, PartialEq, Eq)]
@@ -21,19 +22,22 @@ pub struct ReadFailed;
 
 /// A reader of bytes.
 pub trait In {
-    /// The bytes that it has left, where they are known, whether a read of it has failed so far, and how many bytes
-    /// may still be read of it at most, so that a loop to the end ends.
+    /// The bytes that it has left, where they are known, its end or its failure, where it has given that, and how many
+    /// bytes may still be read of it at most, so that a loop to the end ends.
     ghost shown: { Self → Reader };
 
     /// The borrows that it goes through, so that a reader is known again.
     ghost borrows: { Self → List ℕ } = { λ _. [] };
 
-    /// Puts bytes to the front of the buffer, and answers how many; none is the end, where the buffer isn't empty.
+    /// Puts bytes to the front of the buffer, and answers how many; none is the end, where the buffer isn't empty. Once it
+    /// gave its end or an error, it answers that again, and stays as it is.
     fn read(&mut self, buf: &mut [u8]) -> io::Result<usize>
         ensures bound { ReadsAtMost result buf.new }
         ensures bytes { ReadConsumes (shown self.old).left (shown self.new).left result buf.new }
-        ensures mark { (shown self.new).has_failed
-            ≡ marked_by_read (shown self.old).has_failed result }
+        ensures over { (shown self.new).over ≡ over_after (shown self.old).over buf.new result }
+        ensures again { AnswersAgain (shown self.old).over result }
+        ensures still { (e : Ending) → (shown self.old).over ≡ Some e →
+            shown self.new ≡ shown self.old }
         ensures count { (shown self.new).most_left + given_by result ≡ (shown self.old).most_left }
         ensures same_reader { borrows self.new ≡ borrows self.old };
 }
@@ -48,45 +52,62 @@ impl<R: In> In for &mut R {
     }
 }
 
-/// A reader of the standard library, which remembers whether a read has failed. A read that might
-/// go past the first `u64::MAX` bytes fails.
+/// A reader of the standard library, which keeps its end or its first error. A read that might go past the first `u64::MAX`
+/// bytes fails.
 #[derive(Drop)]
-pub struct FromRead<R> {
+pub struct FromRead<R: Read> {
     inner: R,
-    has_failed: bool,
+    // The answer that it gives from now on.
+    last: Option<io::Result<usize>>,
     most_left: u64,
 }
 
+impl<R: Read> Model for FromRead<R> {
+    ghost use Rattle.cnf_base.specs.Marks.{ending_of, IsKept};
+    ghost use Rattle.cnf_base.specs.Stream.{Reader};
+
+    ghost Value = { Reader };
+
+    ghost view = { λ r. record {
+      left = R.remaining r.inner;
+      over = ending_of r.last;
+      most_left = r.most_left;
+    } };
+
+    ghost invariant = { λ r. IsKept r.last (R.remaining r.inner) };
+}
+
 impl<R: Read> FromRead<R> {
-    /// A reader of which no read has failed. It takes no memory.
+    /// A reader that gave neither its end nor an error. It takes no memory.
     pub fn new(inner: R) -> Self
-        ensures { ⟦<FromRead<R> as In>⟧.shown result ≡
-            record { left = R.remaining inner; has_failed = false; most_left = 2 ^ 64 - 1 } }
+        ensures { result ≡
+            record { left = R.remaining inner; over = None; most_left = 2 ^ 64 - 1 } }
     {
         FromRead {
             inner,
-            has_failed: false,
+            last: None,
             most_left: u64::MAX,
         }
     }
 }
 
 impl<R: Read> In for FromRead<R> {
-    ghost shown = { λ r. record {
-      left = R.remaining r.inner;
-      has_failed = r.has_failed;
-      most_left = r.most_left;
-    } };
+    ghost shown = { λ r. r };
 
     fn read(&mut self, buf: &mut [u8]) -> io::Result<usize> {
+        if let Some(last) = self.last {
+            return last;
+        }
         if self.most_left < buf.len() as u64 {
-            self.has_failed = true;
-            return Err(io::Error::from(io::ErrorKind::FileTooLarge));
+            let refused = Err(io::Error::from(io::ErrorKind::FileTooLarge));
+            self.last = Some(refused);
+            return refused;
         }
         let result = self.inner.read(buf);
-        match &result {
-            Ok(n) => self.most_left -= *n as u64,
-            Err(_) => self.has_failed = true,
+        match result {
+            Ok(0) if buf.is_empty() => {}
+            Ok(0) | Err(_) => self.last = Some(result),
+            Ok(n) => self.most_left -= n as u64,
         }
         result
     }

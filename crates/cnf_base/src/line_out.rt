@@ -24,6 +24,7 @@ impl<W: Out> Model for LineOut<W> {
     ghost view = { λ s. record {
       held = W.held s.writer;
       has_failed = W.has_failed s.writer;
+      is_flushed = W.is_flushed s.writer;
       borrows = W.borrows s.writer;
       is_broken = s.is_broken;
     } };
@@ -33,7 +34,8 @@ impl<W: Out> Model for LineOut<W> {
 
 impl<W: Out> LineOut<W> {
     pub fn new(writer: W) -> Self
-        ensures { result ≡ unbroken_sink (W.held writer) (W.has_failed writer) (W.borrows writer) }
+        ensures { result ≡ unbroken_sink (W.held writer) (W.has_failed writer)
+            (W.is_flushed writer) (W.borrows writer) }
     {
         LineOut {
             writer,
@@ -64,6 +66,7 @@ impl<W: Out> LineOut<W> {
         ensures writes { Writes self.old self.new [] }
         ensures ok { OnOk result
             ((self.new.is_broken ≡ false) × (self.new.has_failed ≡ self.old.has_failed)) }
+        ensures flushed { OnOk result (self.new.is_flushed ≡ true) }
         ensures err { OnErr result ((self.new.is_broken ≡ true) × (self.new.has_failed ≡ true)) }
     {
         if self.is_broken {
@@ -80,6 +83,7 @@ impl<W: Out> LineOut<W> {
     pub fn release(self) -> W
         ensures held { W.held result ≡ self.held }
         ensures mark { W.has_failed result ≡ self.has_failed }
+        ensures flushed { W.is_flushed result ≡ self.is_flushed }
         ensures same_writer { W.borrows result ≡ self.borrows }
     {
         self.writer

@@ -1,5 +1,5 @@
 //! What bytes are written to.
-ghost use Rattle.std.specs.Prelude.{◌≡◌, ℕ, Bool, false, List, [], ◌∷◌, Option};
+ghost use Rattle.std.specs.Prelude.{◌≡◌, ℕ, Bool, true, false, List, [], ◌∷◌, Option, OnOk, OnErr};
 ghost use Rattle.std.specs.Io.{WritesAtMost};
 ghost use Rattle.std.specs.Io.KnownBytes.{Keeps, WriteAppends};
 ghost use Rattle.cnf_base.specs.Marks.{marked_by_flush, marked_by_write};
@@ -20,6 +20,9 @@ pub trait Out {
     /// isn't empty is a failure.
     ghost has_failed: { Self → Bool };
 
+    /// Whether all that it took was flushed.
+    ghost is_flushed: { Self → Bool };
+
     /// The borrows that it goes through, so that a writer is known again.
     ghost borrows: { Self → List ℕ } = { λ _. [] };
 
@@ -28,12 +31,15 @@ pub trait Out {
         ensures bound { WritesAtMost result buf.now }
         ensures bytes { WriteAppends (held self.old) (held self.new) result buf.now }
         ensures mark { has_failed self.new ≡ marked_by_write (has_failed self.old) buf.now result }
+        ensures unflushed { is_flushed self.new ≡ false }
         ensures same_writer { borrows self.new ≡ borrows self.old };
 
     /// Hands on what the writer still holds back.
     fn flush(&mut self) -> io::Result<()>
         ensures bytes { Keeps (held self.old) (held self.new) }
         ensures mark { has_failed self.new ≡ marked_by_flush (has_failed self.old) result }
+        ensures flushed { OnOk result (is_flushed self.new ≡ true) }
+        ensures unflushed { OnErr result (is_flushed self.new ≡ is_flushed self.old) }
         ensures same_writer { borrows self.new ≡ borrows self.old };
 }
 
@@ -41,6 +47,8 @@ impl<W: Out> Out for &mut W {
     ghost held = { λ w. W.held w.now };
 
     ghost has_failed = { λ w. W.has_failed w.now };
+
+    ghost is_flushed = { λ w. W.is_flushed w.now };
 
     ghost borrows = { λ w. w.ghost_name ∷ W.borrows w.now };
 
@@ -53,11 +61,12 @@ impl<W: Out> Out for &mut W {
     }
 }
 
-/// A writer of the standard library, which remembers whether a write or a flush has failed.
+/// A writer of the standard library, which remembers whether a write or a flush has failed, and whether all was flushed.
 #[derive(Drop)]
 pub struct ToWrite<W> {
     inner: W,
     has_failed: bool,
+    is_flushed: bool,
 }
 
 impl<W: Write> ToWrite<W> {
@@ -65,10 +74,12 @@ impl<W: Write> ToWrite<W> {
     pub fn new(inner: W) -> Self
         ensures held { ⟦<ToWrite<W> as Out>⟧.held result ≡ W.contents inner }
         ensures mark { ⟦<ToWrite<W> as Out>⟧.has_failed result ≡ false }
+        ensures unflushed { ⟦<ToWrite<W> as Out>⟧.is_flushed result ≡ false }
     {
         ToWrite {
             inner,
             has_failed: false,
+            is_flushed: false,
         }
     }
 }
@@ -78,7 +89,10 @@ impl<W: Write> Out for ToWrite<W> {
 
     ghost has_failed = { λ w. w.has_failed };
 
+    ghost is_flushed = { λ w. w.is_flushed };
+
     fn write(&mut self, buf: &[u8]) -> io::Result<usize> {
+        self.is_flushed = false;
         let result = self.inner.write(buf);
         match &result {
             Ok(0) if !buf.is_empty() => self.has_failed = true,
@@ -90,8 +104,9 @@ impl<W: Write> Out for ToWrite<W> {
 
     fn flush(&mut self) -> io::Result<()> {
         let result = self.inner.flush();
-        if result.is_err() {
-            self.has_failed = true;
+        match &result {
+            Ok(()) => self.is_flushed = true,
+            Err(_) => self.has_failed = true,
         }
         result
     }

@@ -1,6 +1,6 @@
 //! A text's tokens, with their places.
 ghost use Rattle.std.specs.Prelude.{◌≡◌, ◌<◌, ◌≤◌, ◌==◌, ◌&&◌, true, false, [], ◌∷◌, Ok, IfSome, IfNone, OnOk, OnErr, length, slice_index};
-ghost use Rattle.cnf_base.specs.Stream.{Along, most_to_come};
+ghost use Rattle.cnf_base.specs.Stream.{Along, most_to_come, tells_failure};
 ghost use Rattle.cnf_base.specs.Digits.{begins_number, first_digits};
 ghost use Rattle.cnf_base.specs.Text.{Gives, GivesWord, FailsAt, is_separator, skips_at, listing_at, comment_at, MovesOn};
 
@@ -42,8 +42,8 @@ impl<R: In> Scanner<R> {
         ensures tokens { Along self.old self.new
             (λ i j. Gives result (listing_at self.old.place i) (listing_at self.new.place j) j) }
         ensures fewer { MovesOn result self.old self.new }
-        ensures failed { OnErr result (self.new.reader.has_failed ≡ true) }
-        ensures mark { OnOk result (self.new.reader.has_failed ≡ self.old.reader.has_failed) }
+        ensures failed { OnErr result (tells_failure self.new.reader ≡ true) }
+        ensures mark { OnOk result (tells_failure self.new.reader ≡ tells_failure self.old.reader) }
     {
         next_token(&mut self.source)
     }
@@ -65,7 +65,7 @@ fn spaced_number<R: In>(source: &mut Source<R>) -> Option<Token>
         Gives (Ok token) (listing_at source.old.place i) (listing_at source.new.place j) j)) }
     ensures fewer { IfSome result (λ token. MovesOn (Ok token) source.old source.new) }
     ensures none { IfNone result (source.new ≡ source.old) }
-    ensures mark { source.new.reader.has_failed ≡ source.old.reader.has_failed }
+    ensures mark { tells_failure source.new.reader ≡ tells_failure source.old.reader }
 {
     let ahead = source.ahead();
     if ahead.len() < 2 || ahead[0] != b' ' {
@@ -85,8 +85,8 @@ fn next_token<R: In>(source: &mut Source<R>) -> Result<Token, ReadFailed>
     ensures tokens { Along source.old source.new
         (λ i j. Gives result (listing_at source.old.place i) (listing_at source.new.place j) j) }
     ensures fewer { MovesOn result source.old source.new }
-    ensures failed { OnErr result (source.new.reader.has_failed ≡ true) }
-    ensures mark { OnOk result (source.new.reader.has_failed ≡ source.old.reader.has_failed) }
+    ensures failed { OnErr result (tells_failure source.new.reader ≡ true) }
+    ensures mark { OnOk result (tells_failure source.new.reader ≡ tells_failure source.old.reader) }
 {
     if let Some(token) = spaced_number(source) {
         return Ok(token);
@@ -126,8 +126,8 @@ fn skip_comment<R: In>(source: &mut Source<R>) -> Result<(), ReadFailed>
     ensures text { Along source.old source.new (λ i j.
         (comment_at source.old.place i ≡ listing_at source.new.place j) × FailsAt result j) }
     ensures fewer { most_to_come source.new ≤ most_to_come source.old }
-    ensures failed { OnErr result (source.new.reader.has_failed ≡ true) }
-    ensures mark { OnOk result (source.new.reader.has_failed ≡ source.old.reader.has_failed) }
+    ensures failed { OnErr result (tells_failure source.new.reader ≡ true) }
+    ensures mark { OnOk result (tells_failure source.new.reader ≡ tells_failure source.old.reader) }
 {
     while let Some(byte) = source.peek()? {
         source.bump();
@@ -149,8 +149,8 @@ fn read_word<R: In>(source: &mut Source<R>, first: u8) -> Result<Word, ReadFaile
         GivesWord result source.old.place (listing_at source.old.place i)
         (listing_at source.new.place j) j) }
     ensures fewer { most_to_come source.new < most_to_come source.old }
-    ensures failed { OnErr result (source.new.reader.has_failed ≡ true) }
-    ensures mark { OnOk result (source.new.reader.has_failed ≡ source.old.reader.has_failed) }
+    ensures failed { OnErr result (tells_failure source.new.reader ≡ true) }
+    ensures mark { OnOk result (tells_failure source.new.reader ≡ tells_failure source.old.reader) }
 {
     if may_begin_number(first) {
         read_number(source, first)
@@ -170,8 +170,8 @@ fn read_number<R: In>(source: &mut Source<R>, first: u8) -> Result<Word, ReadFai
         GivesWord result source.old.place (listing_at source.old.place i)
         (listing_at source.new.place j) j) }
     ensures fewer { most_to_come source.new < most_to_come source.old }
-    ensures failed { OnErr result (source.new.reader.has_failed ≡ true) }
-    ensures mark { OnOk result (source.new.reader.has_failed ≡ source.old.reader.has_failed) }
+    ensures failed { OnErr result (tells_failure source.new.reader ≡ true) }
+    ensures mark { OnOk result (tells_failure source.new.reader ≡ tells_failure source.old.reader) }
 {
     source.bump();
     let is_negative = first == b'-';
@@ -202,8 +202,8 @@ fn read_name<R: In>(source: &mut Source<R>, first: u8) -> Result<Word, ReadFaile
         GivesWord result source.old.place (listing_at source.old.place i)
         (listing_at source.new.place j) j) }
     ensures fewer { most_to_come source.new < most_to_come source.old }
-    ensures failed { OnErr result (source.new.reader.has_failed ≡ true) }
-    ensures mark { OnOk result (source.new.reader.has_failed ≡ source.old.reader.has_failed) }
+    ensures failed { OnErr result (tells_failure source.new.reader ≡ true) }
+    ensures mark { OnOk result (tells_failure source.new.reader ≡ tells_failure source.old.reader) }
 {
     source.bump();
     let mut name = Name::new();

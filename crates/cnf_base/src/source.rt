@@ -1,7 +1,7 @@
 //! An input's bytes, one at a time.
 ghost use Rattle.std.specs.Prelude.{◌≡◌, ◌≢◌, ◌+◌, ◌<◌, ◌≤◌, ◌==◌, true, false, [], length, slice_index, take, Some, IsSome, IfSome, IfNone, IfOk, IfErr, OnOk, OnErr};
 ghost use Rattle.std.specs.Io.KnownBytes.{Keeps, Consumes, IsAtEnd};
-ghost use Rattle.cnf_base.specs.Stream.{IsLook, bumped, skipped, unread_stream, most_to_come, Shows};
+ghost use Rattle.cnf_base.specs.Stream.{IsLook, IsSilent, bumped, skipped, unread_stream, most_to_come, tells_failure, Shows};
 
 use crate::{Ending, In, OutOfMemory, Piece, Place, ReadFailed};
 use std::alloc::Global;
@@ -78,8 +78,8 @@ impl<R: In> Source<R> {
         ensures count { most_to_come self.new ≡ most_to_come self.old }
         ensures shown { Shows result self.new }
         ensures most { length self.new.ahead ≤ 65536 }
-        ensures failed { OnErr result (self.new.reader.has_failed ≡ true) }
-        ensures mark { OnOk result (self.new.reader.has_failed ≡ self.old.reader.has_failed) }
+        ensures failed { OnErr result (tells_failure self.new.reader ≡ true) }
+        ensures mark { OnOk result (tells_failure self.new.reader ≡ tells_failure self.old.reader) }
     {
         if self.at == self.end {
             self.fill();
@@ -100,9 +100,9 @@ impl<R: In> Source<R> {
         ensures look { IsLook self.old self.new }
         ensures count { most_to_come self.new ≡ most_to_come self.old }
         ensures met { self.new.ahead ≡ [] → IsSome self.new.met }
-        ensures failed { self.new.met ≡ Some Ending.Failed → self.new.reader.has_failed ≡ true }
+        ensures failed { self.new.met ≡ Some Ending.Failed → tells_failure self.new.reader ≡ true }
         ensures mark { self.new.met ≢ Some Ending.Failed →
-            self.new.reader.has_failed ≡ self.old.reader.has_failed }
+            tells_failure self.new.reader ≡ tells_failure self.old.reader }
     {
         if self.met.is_none() {
             match read_piece(&mut self.reader, &mut self.piece) {
@@ -198,9 +198,16 @@ fn read_piece<R: In>(reader: &mut R, piece: &mut Vec<u8>) -> Option<usize>
     ensures end { IfSome result (λ n.
         n ≡ 0 → 0 < length piece.old.items → IsAtEnd (R.shown reader.new).left) }
     ensures kept { IfNone result (Keeps (R.shown reader.old).left (R.shown reader.new).left) }
-    ensures failed { IfNone result ((R.shown reader.new).has_failed ≡ true) }
+    ensures failed { IfNone result ((R.shown reader.new).over ≡ Some Ending.Failed) }
+    ensures over { IfSome result (λ n.
+        n ≡ 0 → 0 < length piece.old.items → (R.shown reader.new).over ≡ Some Ending.End) }
+    ensures going { IfSome result (λ n.
+        0 < n → (R.shown reader.new).over ≡ (R.shown reader.old).over) }
     ensures mark { IfSome result (λ _.
-        (R.shown reader.new).has_failed ≡ (R.shown reader.old).has_failed) }
+        tells_failure (R.shown reader.new) ≡ tells_failure (R.shown reader.old)) }
+    ensures silent { IfSome result (λ n.
+        IsSilent (R.shown reader.old) (R.shown reader.new) (take n piece.new.items)) }
+    ensures no_sound { IfNone result (IsSilent (R.shown reader.old) (R.shown reader.new) []) }
     ensures count { IfSome result (λ n.
         (R.shown reader.new).most_left + n ≡ (R.shown reader.old).most_left) }
     ensures no_count { IfNone result

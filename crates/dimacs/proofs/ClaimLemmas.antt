@@ -3,7 +3,7 @@ use Rattle.std.proofs.Common.{◌≡◌, eqb, refl, sym, ap, subst, ◌∙◌}
 use Rattle.std.specs.Prelude.{nat_le, ◌||◌, cond, Bool, true, false, List, [], ◌∷◌, Option, None, Some, Result, Ok, Err}
 use Rattle.std.proofs.lemmas.Bool.{true≢false, false≢true}
 use Rattle.cnf_base.specs.Literals.{Literal, complement, has}
-use Rattle.cnf_base.specs.Stream.{Stream, Along}
+use Rattle.cnf_base.specs.Stream.{Stream, Along, tells_failure}
 use Rattle.cnf_base.specs.Text.{Listed, Listing, listing_at, Gives}
 use Rattle.cnf_base.specs.Words.{number_literal}
 use Rattle.cnf_base.specs.declared.input.Ending.{Ending}
@@ -140,14 +140,14 @@ fault_claimed (Binary f n) now after next takes = ap (λ a. and_then a next) tak
 -- from one moment to another tokens were taken
 pub record Hears (old now : Stream) (before so_far : Said) : Type 0 where
   pub text : Along old now (λ i j. Carries (claim_after before (listing_at old.place i)) (claim_after so_far (listing_at now.place j)))
-  pub mark : now.reader.has_failed ≡ old.reader.has_failed
+  pub mark : tells_failure now.reader ≡ tells_failure old.reader
 
 module _ (old now new : Stream) (before so_far : Said) (hears : Hears old now before so_far) where
   module _ (r : Result Said Fault) (text : Along now new (λ i j. claim_after so_far (listing_at now.place i) ≡ and_then r (λ s. claim_after s (listing_at new.place j)))) where
     went_on : Along old new (λ i j. Carries (claim_after before (listing_at old.place i)) (and_then r (λ s. claim_after s (listing_at new.place j))))
     went_on = Along-then old now new _ _ _ hears.text text (λ i j k m q e r x. q r (subst (IsClaim r) (sym e) x))
 
-    took : (after : Said) → ComesTo after r → new.reader.has_failed ≡ now.reader.has_failed → Hears old new before after
+    took : (after : Said) → ComesTo after r → tells_failure new.reader ≡ tells_failure now.reader → Hears old new before after
     took after comes mark = record {
       text = Along-map old new _ _ went_on (λ i j m q r x. q r (comes_to after _ comes (listing_at new.place j) r x));
       mark = mark ∙ hears.mark;
@@ -160,7 +160,7 @@ module _ (old now new : Stream) (before so_far : Said) (hears : Hears old now be
     word_text : Along now new (λ i j. claim_after so_far (listing_at now.place i) ≡ and_then (placed p (claim_on_word so_far w)) (λ s. claim_after s (listing_at new.place j)))
     word_text = Along-map now new _ _ gives (λ i j m e. ap (claim_after so_far) e)
 
-    pub Hears-word : (after : Said) → Takes (Ok tt) after (placed p (claim_on_word so_far w)) → new.reader.has_failed ≡ now.reader.has_failed → Hears old new before after
+    pub Hears-word : (after : Said) → Takes (Ok tt) after (placed p (claim_on_word so_far w)) → tells_failure new.reader ≡ tells_failure now.reader → Hears old new before after
     Hears-word after comes mark = took _ word_text after comes mark
 
     pub Hears-bad_word : (f : Fault) (after : Said) → Takes (Err f) after (placed p (claim_on_word so_far w))
@@ -171,7 +171,7 @@ module _ (old now new : Stream) (before so_far : Said) (hears : Hears old now be
     line_text : Along now new (λ i j. claim_after so_far (listing_at now.place i) ≡ and_then (placed p (on_line_end so_far)) (λ s. claim_after s (listing_at new.place j)))
     line_text = Along-map now new _ _ gives (λ i j m e. ap (claim_after so_far) e)
 
-    pub Hears-line : (after : Said) → Takes (Ok tt) after (placed p (on_line_end so_far)) → new.reader.has_failed ≡ now.reader.has_failed → Hears old new before after
+    pub Hears-line : (after : Said) → Takes (Ok tt) after (placed p (on_line_end so_far)) → tells_failure new.reader ≡ tells_failure now.reader → Hears old new before after
     Hears-line after comes mark = took _ line_text after comes mark
 
     pub Hears-bad_line : (f : Fault) (after : Said) → Takes (Err f) after (placed p (on_line_end so_far))

@@ -2,7 +2,7 @@
 use Rattle.std.proofs.Common.{◌≡◌, ℕ, ◌<◌, ◌≤◌, List, [], ◌∷◌, ◌++◌, None, Some, refl, sym, ap, ◌∙◌, arith}
 use Rattle.std.specs.Prelude.{Bool, true, false, Result, Ok, Err}
 use Rattle.cnf_base.specs.Literals.{Literal}
-use Rattle.cnf_base.specs.Stream.{Input, Stream, Along, most_to_come}
+use Rattle.cnf_base.specs.Stream.{Input, Stream, Along, most_to_come, tells_failure}
 use Rattle.cnf_base.specs.Text.{Listing, listing_at, Gives}
 use Rattle.cnf_base.specs.declared.input.Ending.TheVariants.{End, Failed}
 use Rattle.cnf_base.specs.declared.input.ReadFailed.{ReadFailed as Cut}
@@ -57,7 +57,7 @@ ends_so h complete p (Err f) ls before l ends e = gives_fault f ls before (e ∙
 pub record Between (h : Header) (complete : ℕ) (old now : Stream) (before at_hand : List Literal) : Type 0 where
   pub text : Along old now (λ i j. body_of h complete before (listing_at old.place i) ≡ body_of h complete at_hand (listing_at now.place j))
   pub fewer : most_to_come now ≤ most_to_come old
-  pub mark : now.reader.has_failed ≡ old.reader.has_failed
+  pub mark : tells_failure now.reader ≡ tells_failure old.reader
 
 pub Between-start : (h : Header) (complete : ℕ) (s : Stream) (at_hand : List Literal) → Between h complete s s at_hand at_hand
 Between-start h complete s at_hand = record {
@@ -68,7 +68,7 @@ Between-start h complete s at_hand = record {
 
 module _ (h : Header) (complete : ℕ) (old now new : Stream) (before at_hand : List Literal) (so_far : Between h complete old now before at_hand) where
   pub Between-line : (p : Place) → Along now new (λ i j. Gives (Ok (token.LineEnd p)) (listing_at now.place i) (listing_at new.place j) j)
-      → most_to_come new < most_to_come now → new.reader.has_failed ≡ now.reader.has_failed → Between h complete old new before at_hand
+      → most_to_come new < most_to_come now → tells_failure new.reader ≡ tells_failure now.reader → Between h complete old new before at_hand
   Between-line p gives fewer mark = record {
     text = Along-then old now new _ _ _ so_far.text gives (λ i j k m q r. q ∙ ap (body_of h complete at_hand) r);
     fewer = omega (arith, so_far.fewer, fewer);
@@ -80,7 +80,7 @@ module _ (h : Header) (complete : ℕ) (old now new : Stream) (before at_hand : 
         ≡ body_on_word complete at_hand p (judged h complete w) (λ c ls. body_of h c ls (listing_at new.place j)))
     word_text = Along-then old now new _ _ _ so_far.text gives (λ i j k m q r. q ∙ ap (body_of h complete at_hand) r)
 
-    pub Between-literal : (l : Literal) → Ok (Some l) ≡ judged h complete w → most_to_come new < most_to_come now → new.reader.has_failed ≡ now.reader.has_failed
+    pub Between-literal : (l : Literal) → Ok (Some l) ≡ judged h complete w → most_to_come new < most_to_come now → tells_failure new.reader ≡ tells_failure now.reader
         → Between h complete old new before (at_hand ++ l ∷ [])
     Between-literal l is fewer mark = record {
       text = Along-map old new _ _ word_text (λ i j m q. q ∙ ap (λ r. body_on_word complete at_hand p r (λ c ls. body_of h c ls (listing_at new.place j))) (sym is));

@@ -16,7 +16,7 @@ pub fn read_claim<R: In>(alloc: Global, source: Source<R>) -> (Result<Model, Fau
     // The claim of the output is this, whatever may follow a fault.
     ensures claim { (last : Stream) × IsLeft last (R.shown result.1) (R.borrows result.1)
         × Along source last (λ i j. IsClaim result.0 (claim_at source.place i))
-        × TellsOf result.0 source.reader.has_failed last.reader.has_failed }
+        × TellsOf result.0 source.reader last.reader }
     ensures consistent { IfOk result.0 IsConsistent }
 {
     let mut scanner = Scanner::new(source);
@@ -29,7 +29,7 @@ fn read_tokens<R: In>(alloc: Global, scanner: &mut Scanner<R>) -> Result<Model, 
     ensures claim { Along scanner.old scanner.new
         (λ i j. IsClaim result (claim_at scanner.old.place i)) }
     ensures consistent { IfOk result IsConsistent }
-    ensures tells { TellsOf result scanner.old.reader.has_failed scanner.new.reader.has_failed }
+    ensures tells { TellsOf result scanner.old.reader scanner.new.reader }
 {
     let mut said = Said::new(alloc);
     loop {

@@ -1,7 +1,7 @@
 //! A formula, clause by clause.
 
 ghost use Rattle.std.specs.Prelude.{◌≡◌, ◌+◌, ◌<◌, ◌≤◌, Bool, true, Option, Result, IfOk, IfErr, OnOk};
-ghost use Rattle.cnf_base.specs.Stream.{Stream, Along, most_to_come};
+ghost use Rattle.cnf_base.specs.Stream.{Stream, Along, most_to_come, tells_failure};
 ghost use Rattle.cnf_base.specs.Text.{listing_at};
 ghost use Rattle.cnf_base.specs.declared.input.Ending.TheVariants.{End};
 ghost use Rattle.cnf_base.specs.Readers.{Advances, IsLeft, Keeps, Tells, TellsOf};
@@ -25,6 +25,7 @@ pub struct FormulaReader<R: In> {
 impl<R: In> Model for FormulaReader<R> {
     ghost use Rattle.std.specs.Prelude.{◌≡◌, ◌≤◌, [], Some, Ok, Err, true};
     ghost use Rattle.std.specs.List.{sum};
+    ghost use Rattle.cnf_base.specs.Stream.{tells_failure};
     ghost use Rattle.cnf_base.specs.declared.fault.Fault.TheVariants.{ReadFailed};
     ghost use Rattle.dimacs.specs.Reading.{FormulaReading};
 
@@ -47,7 +48,7 @@ impl<R: In> Model for FormulaReader<R> {
 
     ghost invariant = { λ r. (r.header.vars ≤ 268435455) × (r.complete ≤ r.header.clauses)
         × (r.kept ≡ Some (Ok true) → ⊥)
-        × (r.kept ≡ Some (Err ReadFailed) → r.scanner.reader.has_failed ≡ true)
+        × (r.kept ≡ Some (Err ReadFailed) → tells_failure r.scanner.reader ≡ true)
         × ((view r).stored ≡ 0) };
 }
 
@@ -60,13 +61,13 @@ impl<R: In> FormulaReader<R> {
         ensures started { IfOk result (λ r. (r.complete ≡ 0) × (r.kept ≡ None)) }
         ensures stored { IfOk result (λ r. r.stored ≡ 0) }
         ensures fewer { IfOk result (λ r. most_to_come r.stream ≤ most_to_come source) }
-        ensures mark { IfOk result (λ r. r.stream.reader.has_failed ≡ source.reader.has_failed) }
+        ensures mark { IfOk result (λ r. tells_failure r.stream.reader ≡ tells_failure source.reader) }
 
         // The formula is this fault, whatever may follow.
         ensures refused { IfErr result (λ e. (last : Stream)
             × IsLeft last (R.shown e.1) (R.borrows e.1)
             × Along source last (λ i j. formula_at source.place i ≡ unopened e.0)
-            × Tells e.0 source.reader.has_failed last.reader.has_failed) }
+            × Tells e.0 source.reader last.reader) }
     {
         let mut scanner = Scanner::new(source);
         match read_header(&mut scanner) {
@@ -116,8 +117,8 @@ impl<R: In> FormulaReader<R> {
         ensures keeps { Keeps result self.new.kept }
         ensures stored { self.new.stored ≡ 0 }
         ensures fewer { Advances result self.old.stream self.new.stream }
-        ensures tells { TellsOf result self.old.stream.reader.has_failed
-            self.new.stream.reader.has_failed }
+        ensures tells { TellsOf result self.old.stream.reader
+            self.new.stream.reader }
     {
         if let Some(answer) = self.kept {
             return answer;
@@ -152,7 +153,7 @@ fn read_clause<R: In>(
         (body_left result header complete (listing_at scanner.new.place j))) }
     ensures counts { result ≡ Ok true → complete < header.clauses }
     ensures fewer { Advances result scanner.old scanner.new }
-    ensures tells { TellsOf result scanner.old.reader.has_failed scanner.new.reader.has_failed }
+    ensures tells { TellsOf result scanner.old.reader scanner.new.reader }
 {
     loop {
         match scanner.next() {

@@ -25,7 +25,7 @@ pub(crate) fn read_header<R: In>(scanner: &mut Scanner<R>) -> Result<Header, Fau
         header_of (listing_at scanner.old.place i)
         ≡ and_then result (λ h. Ok (h, listing_at scanner.new.place j))) }
     ensures fewer { most_to_come scanner.new ≤ most_to_come scanner.old }
-    ensures tells { TellsOf result scanner.old.reader.has_failed scanner.new.reader.has_failed }
+    ensures tells { TellsOf result scanner.old.reader scanner.new.reader }
     ensures limit { IfOk result (λ h. h.vars ≤ 268435455) }
 {
     if let Err(fault) = read_p(scanner) {
@@ -57,7 +57,7 @@ fn read_p<R: In>(scanner: &mut Scanner<R>) -> Result<(), Fault>
         fixed is_p (skip_blank (listing_at scanner.old.place i))
         ≡ and_then result (λ _. Ok (listing_at scanner.new.place j))) }
     ensures fewer { most_to_come scanner.new ≤ most_to_come scanner.old }
-    ensures tells { TellsOf result scanner.old.reader.has_failed scanner.new.reader.has_failed }
+    ensures tells { TellsOf result scanner.old.reader scanner.new.reader }
 {
     let (place, word) = first_word(scanner)?;
     wanted(is_p(word), place)
@@ -69,7 +69,7 @@ fn read_cnf<R: In>(scanner: &mut Scanner<R>) -> Result<(), Fault>
         fixed is_cnf (listing_at scanner.old.place i)
         ≡ and_then result (λ _. Ok (listing_at scanner.new.place j))) }
     ensures fewer { most_to_come scanner.new ≤ most_to_come scanner.old }
-    ensures tells { TellsOf result scanner.old.reader.has_failed scanner.new.reader.has_failed }
+    ensures tells { TellsOf result scanner.old.reader scanner.new.reader }
 {
     let (place, word) = next_word(scanner)?;
     wanted(is_cnf(word), place)
@@ -81,7 +81,7 @@ fn read_count<R: In>(scanner: &mut Scanner<R>, limit: u64) -> Result<u64, Fault>
         count limit (listing_at scanner.old.place i)
         ≡ and_then result (λ n. Ok (n, listing_at scanner.new.place j))) }
     ensures fewer { most_to_come scanner.new ≤ most_to_come scanner.old }
-    ensures tells { TellsOf result scanner.old.reader.has_failed scanner.new.reader.has_failed }
+    ensures tells { TellsOf result scanner.old.reader scanner.new.reader }
     ensures limit { IfOk result (λ n. n ≤ limit) }
 {
     let (place, word) = next_word(scanner)?;
@@ -94,7 +94,7 @@ fn read_line_end<R: In>(scanner: &mut Scanner<R>) -> Result<(), Fault>
         line_end (listing_at scanner.old.place i)
         ≡ and_then result (λ _. Ok (listing_at scanner.new.place j))) }
     ensures fewer { most_to_come scanner.new ≤ most_to_come scanner.old }
-    ensures tells { TellsOf result scanner.old.reader.has_failed scanner.new.reader.has_failed }
+    ensures tells { TellsOf result scanner.old.reader scanner.new.reader }
 {
     match scanner.next() {
         Ok(Token::LineEnd(_)) | Ok(Token::End(_)) => Ok(()),
@@ -109,7 +109,7 @@ fn first_word<R: In>(scanner: &mut Scanner<R>) -> Result<(Place, Word), Fault>
         next_word (skip_blank (listing_at scanner.old.place i))
         ≡ and_then result (λ w. Ok (w.0, w.1, listing_at scanner.new.place j))) }
     ensures fewer { most_to_come scanner.new ≤ most_to_come scanner.old }
-    ensures tells { TellsOf result scanner.old.reader.has_failed scanner.new.reader.has_failed }
+    ensures tells { TellsOf result scanner.old.reader scanner.new.reader }
 {
     loop {
         match scanner.next() {
@@ -127,7 +127,7 @@ fn next_word<R: In>(scanner: &mut Scanner<R>) -> Result<(Place, Word), Fault>
         next_word (listing_at scanner.old.place i)
         ≡ and_then result (λ w. Ok (w.0, w.1, listing_at scanner.new.place j))) }
     ensures fewer { most_to_come scanner.new ≤ most_to_come scanner.old }
-    ensures tells { TellsOf result scanner.old.reader.has_failed scanner.new.reader.has_failed }
+    ensures tells { TellsOf result scanner.old.reader scanner.new.reader }
 {
     match scanner.next() {
         Ok(Token::Word(place, word)) => Ok((place, word)),

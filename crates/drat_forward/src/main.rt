@@ -1,9 +1,11 @@
 //! `drat-forward [--binary] [--trace] [--strict] [--pr] [--keep-units] FORMULA [PROOF]`: checks a proof in DRAT of a formula in DIMACS CNF.
 #![tactic(auto)]
 
+ghost use Rattle.std.specs.Prelude.{◌≡◌, ◌⊎◌, IfErr};
+
 use cnf_base::{FromRead, ToWrite};
 use filter_io::{ask, exit_code, open_both, seed, standard_output, tell_failures, tell_refusal};
-use sat_check::{DratOptions, Status, Tool, run_drat_placed};
+use sat_check::{Status, Tool, drat_forward};
 use std::process::ExitCode;
 
 const NAME: &str = "drat-forward";
@@ -14,21 +16,17 @@ fn main(rt: HostRuntime) -> ExitCode {
 }
 
 // Both files are opened before the first byte is read.
-fn check(rt: &HostRuntime) -> Result<Status, Status> {
+fn check(rt: &HostRuntime) -> Result<Status, Status>
+    // Without a check there is no verdict.
+    ensures { IfErr result (λ status. (status ≡ Status.Usage) ⊎ (status ≡ Status.OutOfMemory)) }
+{
     let args = ask(rt, Tool::Drat, NAME)?;
     let (mut formula, mut proof) = open_both(rt, &args)?;
     let out = standard_output(rt)?;
-    let options = DratOptions {
-        binary: args.binary,
-        trace: args.trace,
-        strict: args.strict,
-        pr: args.pr,
-        keep_units: args.keep_units,
-        seed: seed(rt),
-    };
-    let checked = run_drat_placed(
+    let checked = drat_forward(
         rt.alloc(),
-        &options,
+        &args,
+        seed(rt),
         &mut FromRead::new(&mut formula),
         &mut FromRead::new(&mut proof),
         &mut ToWrite::new(out),

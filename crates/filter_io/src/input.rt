@@ -56,7 +56,7 @@ impl Input {
     }
 }
 
-impl Read for &mut Input {
+impl Read for Input {
     fn read(&mut self, buf: &mut [u8]) -> io::Result<usize> {
         self.read_on(buf)
     }

@@ -1,9 +1,11 @@
 //! `lrat-check [--trace] FORMULA [PROOF]`: checks a proof in LRAT of a formula in DIMACS CNF.
 #![tactic(auto)]
 
+ghost use Rattle.std.specs.Prelude.{◌≡◌, ◌⊎◌, IfErr};
+
 use cnf_base::{FromRead, ToWrite};
 use filter_io::{ask, exit_code, open_both, standard_output, tell_failures, tell_refusal};
-use sat_check::{LratOptions, Status, Tool, run_lrat_placed};
+use sat_check::{Status, Tool, lrat_check};
 use std::process::ExitCode;
 
 const NAME: &str = "lrat-check";
@@ -14,14 +16,16 @@ fn main(rt: HostRuntime) -> ExitCode {
 }
 
 // Both files are opened before the first byte is read.
-fn check(rt: &HostRuntime) -> Result<Status, Status> {
+fn check(rt: &HostRuntime) -> Result<Status, Status>
+    // Without a check there is no verdict.
+    ensures { IfErr result (λ status. (status ≡ Status.Usage) ⊎ (status ≡ Status.OutOfMemory)) }
+{
     let args = ask(rt, Tool::Lrat, NAME)?;
     let (mut formula, mut proof) = open_both(rt, &args)?;
     let out = standard_output(rt)?;
-    let options = LratOptions { trace: args.trace };
-    let checked = run_lrat_placed(
+    let checked = lrat_check(
         rt.alloc(),
-        &options,
+        &args,
         &mut FromRead::new(&mut formula),
         &mut FromRead::new(&mut proof),
         &mut ToWrite::new(out),

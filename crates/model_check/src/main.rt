@@ -1,6 +1,8 @@
 //! `model-check FORMULA [OUTPUT]`: checks the model in a solver's output against a formula in DIMACS CNF.
 #![tactic(auto)]
 
+ghost use Rattle.std.specs.Prelude.{◌≡◌, ◌⊎◌, IfErr};
+
 use cnf_base::{FromRead, ToWrite};
 use filter_io::{ask, exit_code, open_both, standard_output, tell_failures};
 use sat_check::{Status, Tool, run_model};
@@ -14,7 +16,10 @@ fn main(rt: HostRuntime) -> ExitCode {
 }
 
 // Both files are opened before the first byte is read.
-fn check(rt: &HostRuntime) -> Result<Status, Status> {
+fn check(rt: &HostRuntime) -> Result<Status, Status>
+    // Without a check there is no verdict.
+    ensures { IfErr result (λ status. (status ≡ Status.Usage) ⊎ (status ≡ Status.OutOfMemory)) }
+{
     let args = ask(rt, Tool::Model, NAME)?;
     let (mut formula, mut output) = open_both(rt, &args)?;
     let out = standard_output(rt)?;

@@ -1,7 +1,7 @@
 -- A binary proof's bytes, one at a time.
 use Rattle.std.proofs.Common.{◌≡◌, ℕ, ◌<◌, ◌≤◌, [], length, Option, None, Some, refl, sym, ap, ◌∙◌, subst, arith}
 use Rattle.std.specs.Prelude.{Bool, true, false, Result, Ok, Err, slice_index}
-use Rattle.cnf_base.specs.Stream.{Input, Stream, Along, IsLook, bumped, next_count, most_to_come}
+use Rattle.cnf_base.specs.Stream.{Input, Stream, Along, IsLook, bumped, next_count, most_to_come, tells_failure}
 use Rattle.cnf_base.specs.declared.input.Ending.TheVariants.{End, Failed}
 use Rattle.cnf_base.specs.declared.fault.Fault.{Fault}
 use Rattle.cnf_base.specs.declared.fault.Fault.TheVariants.{Binary, ReadFailed, OutOfMemory}
@@ -23,7 +23,7 @@ use Rattle.proofs.proofs.TextLemmas.{gives_fault}
 pub record Between (old now : Stream) (spot : BinarySpot) (s : Step) : Type 0 where
   pub text : Along old now (λ i j. binary_steps_at old.byte_no i ≡ binary_steps_from spot s now.byte_no j)
   pub fewer : most_to_come now ≤ most_to_come old
-  pub mark : now.reader.has_failed ≡ old.reader.has_failed
+  pub mark : tells_failure now.reader ≡ tells_failure old.reader
 
 pub Between-none : (s : Stream) → Between s s at_tag (named 0)
 Between-none s = record { text = Along-still s (binary_steps_at s.byte_no); fewer = omega arith; mark = refl }
@@ -48,7 +48,7 @@ module _ (old now new : Stream) (spot : BinarySpot) (s : Step) (so_far : Between
     byte_text = Along-then old new (bumped new) _ _ _ looked (Along-bumped new b some first) (λ i j k m q r.
         q ∙ ap (binary_steps_from spot s new.byte_no) r)
 
-    pub Between-byte : (next : BinarySpot) (t : Step) → binary_move_of spot s new.byte_no b ≡ goes next t → new.reader.has_failed ≡ now.reader.has_failed
+    pub Between-byte : (next : BinarySpot) (t : Step) → binary_move_of spot s new.byte_no b ≡ goes next t → tells_failure new.reader ≡ tells_failure now.reader
         → Between old (bumped new) next t
     Between-byte next t is mark = record {
       text = Along-map old (bumped new) _ _ byte_text (λ i j m q. q ∙ ap (follows j) is);

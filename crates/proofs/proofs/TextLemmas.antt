@@ -1,7 +1,7 @@
 -- A proof's tokens, one at a time.
 use Rattle.std.proofs.Common.{◌≡◌, ◌<◌, ◌≤◌, [], length, Option, None, Some, refl, sym, ap, ◌∙◌, subst, arith}
 use Rattle.std.specs.Prelude.{Bool, true, false, Result, Ok, Err}
-use Rattle.cnf_base.specs.Stream.{Input, Stream, Along, most_to_come}
+use Rattle.cnf_base.specs.Stream.{Input, Stream, Along, most_to_come, tells_failure}
 use Rattle.cnf_base.specs.Text.{Listing, listing_at, Gives}
 use Rattle.cnf_base.specs.declared.input.Ending.TheVariants.{End, Failed}
 use Rattle.cnf_base.specs.declared.input.ReadFailed.{ReadFailed as Cut}
@@ -61,7 +61,7 @@ ends_so format last (Err f) end s before l rest ends e = gives_fault f end s bef
 pub record Between {P : Type 0} (format : Format P) (old now : Stream) (part : P) (s : Step) : Type 0 where
   pub text : Along old now (λ i j. steps_listed format (listing_at old.place i) ≡ steps_from format part s (listing_at now.place j))
   pub fewer : most_to_come now ≤ most_to_come old
-  pub mark : now.reader.has_failed ≡ old.reader.has_failed
+  pub mark : tells_failure now.reader ≡ tells_failure old.reader
 
 pub Between-start : {P : Type 0} (format : Format P) (s : Stream) → Between format s s format.start (named 0)
 Between-start format s = record {
@@ -72,7 +72,7 @@ Between-start format s = record {
 
 module _ {P : Type 0} (format : Format P) (old now new : Stream) (part : P) (s : Step) (so_far : Between format old now part s) where
   pub Between-line : (p : Place) → Along now new (λ i j. Gives (Ok (token.LineEnd p)) (listing_at now.place i) (listing_at new.place j) j)
-      → most_to_come new < most_to_come now → new.reader.has_failed ≡ now.reader.has_failed → Between format old new part s
+      → most_to_come new < most_to_come now → tells_failure new.reader ≡ tells_failure now.reader → Between format old new part s
   Between-line p gives fewer mark = record {
     text = Along-then old now new _ _ _ so_far.text gives (λ i j k m q r. q ∙ ap (steps_from format part s) r);
     fewer = omega (arith, so_far.fewer, fewer);
@@ -86,7 +86,7 @@ module _ {P : Type 0} (format : Format P) (old now new : Stream) (part : P) (s :
     word_text : Along old new (λ i j. steps_listed format (listing_at old.place i) ≡ follows j (move_of format part s w))
     word_text = Along-then old now new _ _ _ so_far.text gives (λ i j k m q r. q ∙ ap (steps_from format part s) r)
 
-    pub Between-word : (next : P) (t : Step) → move_of format part s w ≡ goes next t → most_to_come new < most_to_come now → new.reader.has_failed ≡ now.reader.has_failed
+    pub Between-word : (next : P) (t : Step) → move_of format part s w ≡ goes next t → most_to_come new < most_to_come now → tells_failure new.reader ≡ tells_failure now.reader
         → Between format old new next t
     Between-word next t is fewer mark = record {
       text = Along-map old new _ _ word_text (λ i j m q. q ∙ ap (follows j) is);

@@ -1,6 +1,6 @@
 -- A proof that is read step by step, in whatever format.
 use Rattle.std.specs.Prelude.{◌≡◌, ℕ, Bool, true, false, List, [], ◌∷◌, length, Option, None, Some, Result, Ok, Err}
-use Rattle.cnf_base.specs.Stream.{Input, Stream}
+use Rattle.cnf_base.specs.Stream.{Input, Stream, tells_failure}
 use Rattle.cnf_base.specs.declared.fault.Fault.{Fault}
 use Rattle.cnf_base.specs.declared.fault.Fault.TheVariants.{OutOfMemory, ReadFailed}
 use Rattle.proofs.specs.declared.step_end.StepEnd.{StepEnd}
@@ -42,7 +42,7 @@ pub record ProofReading : Type 0 where
 
 -- a step is no end, and of a failed read that ended it the reader below tells
 abbrev pub EndsRightly : ProofReading → Type 0
-EndsRightly r = (r.kept ≡ Some (Ok true) → ⊥) × (r.kept ≡ Some (Err ReadFailed) → r.stream.reader.has_failed ≡ true)
+EndsRightly r = (r.kept ≡ Some (Ok true) → ⊥) × (r.kept ≡ Some (Err ReadFailed) → tells_failure r.stream.reader ≡ true)
 
 -- A step is the first of what is to come, and ends there; or nothing is to come, and it stays so; or a fault is, and it stays.
 -- After want of memory that is the fault that stays. `rest` is what follows of the input.

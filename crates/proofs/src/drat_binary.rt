@@ -107,7 +107,7 @@ fn read_step<R: In>(
     ensures step { Along source.old source.new (λ i j. GivesStep result end.new step.new
         (binary_steps_at source.old.byte_no i) (binary_left result source.new.byte_no j) j) }
     ensures fewer { Advances result source.old source.new }
-    ensures tells { TellsOf result source.old.reader.has_failed source.new.reader.has_failed }
+    ensures tells { TellsOf result source.old.reader source.new.reader }
 {
     step.name(0);
     let mut part = Part::Tag;

@@ -39,8 +39,8 @@ pub trait StepReader {
         ensures keeps { Keeps result (kept self.new) }
         ensures stored { stored self.new ≡ 0 }
         ensures fewer { Advances result (stream self.old) (stream self.new) }
-        ensures tells { TellsOf result (stream self.old).reader.has_failed
-            (stream self.new).reader.has_failed };
+        ensures tells { TellsOf result (stream self.old).reader
+            (stream self.new).reader };
 
     /// Where the step ends that was given last.
     fn step_end(&self) -> Option<StepEnd>

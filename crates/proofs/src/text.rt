@@ -138,7 +138,7 @@ fn read_step<R: In, P: Part>(
         (steps_listed P.format (listing_at scanner.old.place i))
         (text_left P.format result (listing_at scanner.new.place j)) j) }
     ensures fewer { Advances result scanner.old scanner.new }
-    ensures tells { TellsOf result scanner.old.reader.has_failed scanner.new.reader.has_failed }
+    ensures tells { TellsOf result scanner.old.reader scanner.new.reader }
 {
     step.name(0);
     let mut part = start;

@@ -42,11 +42,18 @@ impl Model for Scan {
     ghost use Rattle.clause_db.specs.Store.Clauses.{literals_in};
     ghost use Rattle.propagation.specs.Scan.{IsScan};
 
-    ghost view = { λ s. record {
-      live = s.store.live;
-      assumptions = s.assumptions.assumptions;
-      stored = s.store.stored;
-      has_refused = s.has_refused;
+    // Each field has to be named here. Of them the store alone has lists of literals of clauses.
+    ghost view = { λ record {
+      alloc = _;
+      store = store;
+      assumptions = assumptions;
+      set = _;
+      has_refused = has_refused;
+    }. record {
+      live = store.live;
+      assumptions = assumptions.assumptions;
+      stored = store.stored;
+      has_refused = has_refused;
     } };
 
     ghost invariant = { λ s.

@@ -47,6 +47,7 @@ pub record Checking (trace : Bool) (start now : Standing) (first session : View)
   pub sound : is_over session ≡ false
   pub finite : IsFinite session.state
   pub least : sum_of session.state ≤ session.peak
+  pub no_failure : lines.has_failed ≡ was.has_failed
 
 pub Checking-start : (trace : Bool) (start : Standing) (first : View) (was : Sink) → was.is_broken ≡ false → is_over first ≡ false
     → IsFinite first.state → sum_of first.state ≤ first.peak → Checking trace start start first first 0 was was
@@ -63,6 +64,7 @@ Checking-start trace start first was whole sound finite least = record {
   sound = sound;
   finite = finite;
   least = least;
+  no_failure = refl;
 }
 
 with_both : (front more : List (List ℕ)) (r : Report) → with_lines front (with_lines more r) ≡ with_lines (front ++ more) r
@@ -96,6 +98,7 @@ module _ (trace : Bool) (start now new : Standing) (first session : View) (accep
       sound = goes.sound;
       finite = same_finite t.state (after session.state step goes.word) goes.state (after_finite session.state step goes.word so_far.finite);
       least = omega (arith, goes.peak);
+      no_failure = goes.no_failure ∙ so_far.no_failure;
     }
       where
         front : (k : Input) (at : StepEnd) (r : Report) → Rest trace t.state (so_far.count + 1) t.peak (new.to_come k) r
@@ -189,24 +192,21 @@ reports_nothing rule trace steps formula proof new checked was now same none o =
           let some = some_report rule trace i (steps j) in (
             record { report = some.0; reports = some.1; outcome = o some.0 },
             record {
-              unread = λ n. no_bytes;
+              unread = λ n. refl;
               past = λ words ending last whole v e d. absurd (broken v);
             },
             record { unread = λ n. none; refused = λ words ending whole is e. absurd (broken (inr is)); only = λ _. none },
           );
     })
   where
-    no_bytes : bytes_read proof proof ≡ 0
-    no_bytes = omega arith
-
     broken : IsVerdict checked.status → ⊥
     broken v = no_verdict checked.status was.held now.held [] (o (record { lines = []; status = Malformed })) v
 
 -- what was left of a proof, and that no more than 65536 bytes were read past what was taken, say how far it was read
 reads_no_further : (rule : Rule) (i j k : Input) (p : Proof) (old new : Reader) (checked : Checked) → LeavesProof rule (formula_of i).fault (formula_of i).clauses p old new k checked
-    → bytes_read old new + length k.bytes ≤ length j.bytes + 65536 → ReadsNoFurther rule (formula_of i) j p (bytes_read old new) checked.status
+    → bytes_read old new + length k.bytes ≤ length j.bytes + 65536 → ReadsNoFurther rule (formula_of i) j p old new checked.status
 reads_no_further rule i j k p old new checked leaves within = record {
-  unread = λ n. let same = ap (λ r. r.most_left) (leaves.unread n) in omega (arith, same);
+  unread = leaves.unread;
   past = λ words ending last whole v e d. let is = leaves.past words ending last whole v e d in omega (arith, is, within);
 }
 
@@ -235,7 +235,7 @@ module _ (rule : Rule) (trace : Bool) (to_come : ProofReading → Input → Proo
         second = Seen-run proof borrows last Q within;
         fact = λ i j s t.
             let S : Proof → Type 0 = λ p. Reports rule trace i p was.held now.held checked.status
-            × ReadsNoFurther rule (formula_of i) j p (bytes_read proof last.reader) checked.status × TellsRefused rule (formula_of i).fault (formula_of i).clauses p checked in
+            × ReadsNoFurther rule (formula_of i) j p proof last.reader checked.status × TellsRefused rule (formula_of i).fault (formula_of i).clauses p checked in
             let seen = Seen-fact proof borrows last Q within j t in
             let did = seen.2.0 i s in
             subst S (all j) (did.0, reads_no_further rule i j seen.0 (to_come fresh j) proof last.reader checked did.1 seen.2.1, did.1.told);
@@ -249,7 +249,7 @@ reports_as rule other trace steps others formula formula_new proof new checked w
   second = reports.second;
   fact = λ i j s t.
       let P : Rule → Proof → Type 0 = λ q p. Reports q trace i p was.held now.held checked.status
-      × ReadsNoFurther q (formula_of i) j p (bytes_read proof new) checked.status × TellsRefused q (formula_of i).fault (formula_of i).clauses p checked in
+      × ReadsNoFurther q (formula_of i) j p proof new checked.status × TellsRefused q (formula_of i).fault (formula_of i).clauses p checked in
       let Q : Rule → Type 0 = λ q. P q (steps j) in
       subst (P other) (all j) (subst Q is (reports.fact i j s t));
 }

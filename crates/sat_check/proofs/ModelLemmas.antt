@@ -14,7 +14,7 @@ use Rattle.dimacs.specs.Formula.{Formula, formula_of}
 use Rattle.steps.specs.Theory.Models.{Assignment, holds, satisfies, HasModel}
 use Rattle.sat_check.specs.Lines.{fault_line, fault_status}
 use Rattle.sat_check.specs.Report.{Outcome, Report, concluded}
-use Rattle.sat_check.specs.ModelReport.{meets, first_unmet, met_report, clauses_report, claim_report, model_report, Satisfies, ChecksModel}
+use Rattle.sat_check.specs.ModelReport.{meets, first_unmet, met_report, clauses_report, claim_report, model_report, Satisfies, ChecksModel, LeavesFormula}
 use Rattle.sat_check.specs.Judging.{Judges, judged_report}
 use Rattle.sat_check.specs.declared.judgement.Judgement.{Judgement}
 use Rattle.sat_check.specs.declared.judgement.Judgement.TheVariants.{Met, Unmet}
@@ -188,10 +188,26 @@ checks_model i j old new status o consistent = record {
     said : status ≡ Verified → Satisfies (claim_of j) (formula_of i).clauses × ((formula_of i).fault ≡ None)
     said is = verified_satisfied (claim_of j) (formula_of i) (outcome_verified status old new (model_report i j) is o) (consistent is)
 
+-- what a run made of the inputs that it saw
+abbrev pub Made : Reader → Reader → Status → Option (List ℕ) → Option (List ℕ) → Input → Input → Type 0
+Made formula formula_new status old new i j = Outcome status old new (model_report i j) × (status ≡ Verified → IfOk (claim_of j) IsConsistent)
+    × LeavesFormula (claim_of j) formula formula_new
+
 -- and by all that was seen of the formula and of the output
 pub both_check_model : (formula formula_new output output_new : Reader) (status : Status) (old new first last : Option (List ℕ)) → old ≡ first → new ≡ last
-    → OfBothSeen formula formula_new output output_new (λ i j. Outcome status old new (model_report i j) × (status ≡ Verified → IfOk (claim_of j) IsConsistent))
-    → OfBothSeen formula formula_new output output_new (λ i j. ChecksModel i j first last status)
+    → OfBothSeen formula formula_new output output_new (Made formula formula_new status old new)
+    → OfBothSeen formula formula_new output output_new (λ i j. ChecksModel i j first last status × LeavesFormula (claim_of j) formula formula_new)
 both_check_model formula formula_new output output_new status old new first last before after =
-    both_told formula formula_new output output_new (λ x y i j. Outcome status x y (model_report i j) × (status ≡ Verified → IfOk (claim_of j) IsConsistent)) (λ i j. ChecksModel i j first last status)
-    old new first last before after (λ i j x. checks_model i j first last status x.0 x.1)
+    both_told formula formula_new output output_new (Made formula formula_new status)
+    (λ i j. ChecksModel i j first last status × LeavesFormula (claim_of j) formula formula_new)
+    old new first last before after (λ i j x. (checks_model i j first last status x.0 x.1, x.2))
+
+-- the formula is left where it isn't looked at
+pub formula_left : (claim : Result (List ℕ) Fault) (reader : Reader) → LeavesFormula claim reader reader
+formula_left (Ok listed) reader = tt
+formula_left (Err f) reader = refl
+
+-- a model that was claimed is no fault
+pub formula_needed : (listed : List ℕ) (claim : Result (List ℕ) Fault) (old new : Reader) → IsClaim (Ok listed) claim → LeavesFormula claim old new
+formula_needed listed (Ok others) old new is = tt
+formula_needed listed (Err f) old new is = absurd is

@@ -4,7 +4,7 @@ use Rattle.std.specs.List.{list_any}
 use Rattle.cnf_base.specs.Literals.{Clause}
 use Rattle.cnf_base.specs.Lines.{Sink, Writes}
 use Rattle.cnf_base.specs.Seen.{OfBothSeen}
-use Rattle.cnf_base.specs.Stream.{Input, Reader, Stream, bytes_read}
+use Rattle.cnf_base.specs.Stream.{Input, Reader, Stream}
 use Rattle.cnf_base.specs.declared.fault.Fault.{Fault}
 use Rattle.cnf_base.specs.declared.fault.Fault.TheVariants.{OutOfMemory}
 use Rattle.dimacs.specs.Formula.{Body, Formula, formula_of}
@@ -79,7 +79,7 @@ pub record LeavesProof (rule : Rule) (fault : Option Fault) (clauses : List Clau
 abbrev pub AllReports : Rule → Bool → (Input → Proof) → Reader → Reader → Reader → Reader → Checked → Option (List ℕ) → Option (List ℕ) → Type 0
 AllReports rule trace steps formula formula_new proof proof_new checked old new =
     OfBothSeen formula formula_new proof proof_new (λ i j. Reports rule trace i (steps j) old new checked.status
-    × ReadsNoFurther rule (formula_of i) j (steps j) (bytes_read proof proof_new) checked.status × TellsRefused rule (formula_of i).fault (formula_of i).clauses (steps j) checked)
+    × ReadsNoFurther rule (formula_of i) j (steps j) proof proof_new checked.status × TellsRefused rule (formula_of i).fault (formula_of i).clauses (steps j) checked)
 
 -- a step that is refused
 abbrev pub IsRefused : State → Step → Type 0
@@ -108,6 +108,7 @@ pub record GoesOn (trace : Bool) (number : ℕ) (old new : View) (step : Step) (
   pub sound : is_over new ≡ false
   pub wrote : Writes was now (text_of (traced trace number word))
   pub whole : now.is_broken ≡ false
+  pub no_failure : now.has_failed ≡ was.has_failed
 
 -- with this step the check ended: whatever follows it, what was written is the rest of the report
 abbrev pub Stops : Bool → ℕ → View → Step → Sink → Sink → Status → Type 0

@@ -3,7 +3,7 @@
 use Rattle.std.specs.Prelude.{◌≡◌, ℕ, ◌+◌, if◌then◌else◌, slice_get, IsTrue, Bool, List, [], ◌∷◌, length, Option, None, Some, Result, Ok, Err, codes}
 use Rattle.std.specs.List.{list_any}
 use Rattle.cnf_base.specs.Literals.{Literal, Clause, has}
-use Rattle.cnf_base.specs.Stream.{Input}
+use Rattle.cnf_base.specs.Stream.{Input, Reader}
 use Rattle.cnf_base.specs.declared.fault.Fault.{Fault}
 use Rattle.dimacs.specs.Claim.{claim_of, IsConsistent}
 use Rattle.dimacs.specs.Formula.{Formula, formula_of}
@@ -47,6 +47,11 @@ pub record Satisfies (claim : Result (List Literal) Fault) (clauses : List Claus
   pub claimed : claim ≡ Ok listed
   pub consistent : IsConsistent listed
   pub met : (k : ℕ) (c : Clause) → slice_get clauses k ≡ Some c → IsTrue (meets listed c)
+
+-- where the output has a fault the formula's reader is as it was
+abbrev pub LeavesFormula : Result (List Literal) Fault → Reader → Reader → Type 0
+LeavesFormula (Ok listed) old new = Unit {0}
+LeavesFormula (Err f) old new = new ≡ old
 
 -- A run checked the model that this output claims of this formula: what it wrote and its status are those of the report.
 -- Status 0 is answered exactly where the formula has no fault and the claim satisfies its clauses, unless memory or the

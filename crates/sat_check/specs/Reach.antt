@@ -1,8 +1,8 @@
 -- How far a proof is read, and where the step ends that is refused.
-use Rattle.std.specs.Prelude.{◌≡◌, ◌⊎◌, ℕ, ◌+◌, ◌≤◌, true, List, [], ◌∷◌, length, slice_get, Option, None, Some}
+use Rattle.std.specs.Prelude.{◌≡◌, ◌⊎◌, ◌+◌, ◌≤◌, true, List, [], ◌∷◌, length, slice_get, Option, None, Some}
 use Rattle.std.specs.List.{list_any}
 use Rattle.cnf_base.specs.Literals.{Clause}
-use Rattle.cnf_base.specs.Stream.{Input}
+use Rattle.cnf_base.specs.Stream.{Input, Reader, bytes_read}
 use Rattle.cnf_base.specs.declared.fault.Fault.{Fault}
 use Rattle.dimacs.specs.Formula.{Formula}
 use Rattle.proofs.specs.Reading.{PlacedStep, Proof}
@@ -41,13 +41,13 @@ NeedsNoProof fault clauses = (¬ (fault ≡ None)) ⊎ (list_any is_empty clause
 abbrev pub IsVerdict : Status → Type 0
 IsVerdict status = (status ≡ Verified) ⊎ (status ≡ NotVerified)
 
--- So many bytes of a proof were read, and no more than it takes: none where the formula decides alone, and where a
--- verdict was answered, at most 65536 past the end of the step that decides.
-pub record ReadsNoFurther (rule : Rule) (f : Formula) (proof : Input) (p : Proof) (read : ℕ) (status : Status) : Type 0 where
-  pub unread : NeedsNoProof f.fault f.clauses → read ≡ 0
+-- No more of a proof was read than it takes: where the formula decides alone the reader is as it was, and where a verdict
+-- was answered, at most 65536 bytes past the end of the step that decides were read.
+pub record ReadsNoFurther (rule : Rule) (f : Formula) (proof : Input) (p : Proof) (old new : Reader) (status : Status) : Type 0 where
+  pub unread : NeedsNoProof f.fault f.clauses → new ≡ old
   pub past : (words : List Accepted) (ending : Ending) (last : PlacedStep) → f.fault ≡ None → IsVerdict status
       → Verdict rule f.clauses (bare_steps p) words ending → deciding_step p.steps words ending ≡ Some last
-      → read + last.rest ≤ length proof.bytes + 65536
+      → bytes_read old new + last.rest ≤ length proof.bytes + 65536
 
 -- A check tells where the refused step ends: exactly where the status is `NotVerified` since a step of the proof was refused.
 pub record TellsRefused (rule : Rule) (fault : Option Fault) (clauses : List Clause) (p : Proof) (checked : Checked) : Type 0 where

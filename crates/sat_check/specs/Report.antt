@@ -1,5 +1,5 @@
 -- What a check writes, and how it ends.
-use Rattle.std.specs.Prelude.{◌≡◌, ◌⊎◌, ℕ, ◌+◌, max, slice_get, Bool, true, List, [], ◌∷◌, ◌++◌, length, map, Option, None, Some, codes, if◌then◌else◌}
+use Rattle.std.specs.Prelude.{◌≡◌, ◌⊎◌, ℕ, ◌+◌, max, slice_get, Bool, true, false, List, [], ◌∷◌, ◌++◌, length, map, Option, None, Some, codes, if◌then◌else◌}
 use Rattle.std.specs.List.{flat_map, list_any}
 use Rattle.std.specs.Str.{bytes_eq}
 use Rattle.std.specs.Io.KnownBytes.{Appends}
@@ -34,6 +34,12 @@ pub record Report : Type 0 where
 -- lines, each with its line feed
 abbrev pub text_of : List (List ℕ) → List ℕ
 text_of lines = flat_map line_of lines
+
+-- memory or the writer failed, so that what was written may be cut short
+abbrev pub is_cut_short : Status → Bool
+is_cut_short OutOfMemory = true
+is_cut_short WriteFailed = true
+is_cut_short status = false
 
 -- A run wrote the report and ended so; or memory ran out, and it wrote a number of its lines; or the writer failed, and it
 -- wrote a beginning of the text.

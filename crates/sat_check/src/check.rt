@@ -2,11 +2,11 @@
 
 ghost use Rattle.std.specs.Prelude.{◌≡◌, [], true, false, List, None};
 ghost use Rattle.cnf_base.specs.Literals.{Clause};
-ghost use Rattle.cnf_base.specs.Stream.{Input, Along};
+ghost use Rattle.cnf_base.specs.Stream.{Input, Along, tells_failure};
 ghost use Rattle.cnf_base.specs.Seen.{Seen, IsSeen, OneHasFailed};
 ghost use Rattle.dimacs.specs.Formula.{formula_of};
 ghost use Rattle.steps.specs.Theory.Rules.{Rule, rule_of};
-ghost use Rattle.sat_check.specs.Report.{Report, Outcome, Checks, Reports};
+ghost use Rattle.sat_check.specs.Report.{Report, Outcome, Checks, Reports, is_cut_short};
 ghost use Rattle.sat_check.specs.Checking.{IsLoaded, LeavesProof};
 
 use crate::check_proof::check_proof;
@@ -42,6 +42,9 @@ pub fn check<F: In, S: ProofSession, R: StepReader, O: Out>(
     ensures read_failed { result.status ≡ Status.ReadFailed →
         OneHasFailed (F.shown formula.new) (R.stream reader.new).reader }
     ensures write_failed { result.status ≡ Status.WriteFailed → lines.new.has_failed ≡ true }
+    ensures no_failure { is_cut_short result.status ≡ false →
+        lines.new.has_failed ≡ lines.old.has_failed }
+    ensures flushed { is_cut_short result.status ≡ false → lines.new.is_flushed ≡ true }
     ensures same_writer { lines.new.borrows ≡ lines.old.borrows }
 {
     match load(alloc, formula, session) {
@@ -73,8 +76,11 @@ fn check_loaded<S: ProofSession, R: StepReader, O: Out>(
         × LeavesProof rule None clauses (R.to_come reader.old j) (R.stream reader.old).reader
         (R.stream reader.new).reader k result) }
     ensures read_failed { result.status ≡ Status.ReadFailed →
-        (R.stream reader.new).reader.has_failed ≡ true }
+        tells_failure (R.stream reader.new).reader ≡ true }
     ensures write_failed { result.status ≡ Status.WriteFailed → lines.new.has_failed ≡ true }
+    ensures no_failure { is_cut_short result.status ≡ false →
+        lines.new.has_failed ≡ lines.old.has_failed }
+    ensures flushed { is_cut_short result.status ≡ false → lines.new.is_flushed ≡ true }
     ensures same_writer { lines.new.borrows ≡ lines.old.borrows }
 {
     if let Err(status) = write_line(lines, formula_line(alloc, header)) {

@@ -1,10 +1,10 @@
 //! A proof, step by step.
 
 ghost use Rattle.std.specs.Prelude.{◌≡◌, ◌≤◌, true, false};
-ghost use Rattle.cnf_base.specs.Stream.{Along};
+ghost use Rattle.cnf_base.specs.Stream.{Along, tells_failure};
 ghost use Rattle.steps.specs.ProofSession.{is_over};
 ghost use Rattle.steps.specs.Theory.Rules.{sum_of, IsFinite};
-ghost use Rattle.sat_check.specs.Report.{Report, Outcome};
+ghost use Rattle.sat_check.specs.Report.{Report, Outcome, is_cut_short};
 ghost use Rattle.sat_check.specs.Checking.{Rest, LeavesRest};
 
 use crate::conclude::{break_off, conclude};
@@ -34,8 +34,11 @@ pub fn check_proof<S: ProofSession, R: StepReader, O: Out>(
         (R.to_come reader.old i) r × Outcome result.status lines.old.held lines.new.held r
         × LeavesRest (S.shown session.old).state (R.to_come reader.old i) j result) }
     ensures read_failed { result.status ≡ Status.ReadFailed →
-        (R.stream reader.new).reader.has_failed ≡ true }
+        tells_failure (R.stream reader.new).reader ≡ true }
     ensures write_failed { result.status ≡ Status.WriteFailed → lines.new.has_failed ≡ true }
+    ensures no_failure { is_cut_short result.status ≡ false →
+        lines.new.has_failed ≡ lines.old.has_failed }
+    ensures flushed { is_cut_short result.status ≡ false → lines.new.is_flushed ≡ true }
     ensures same_writer { lines.new.borrows ≡ lines.old.borrows }
 {
     let mut step = StepBuf::new(alloc);

@@ -3,7 +3,7 @@
 ghost use Rattle.std.specs.Prelude.{◌≡◌, ◌⊎◌, false, true, [], ◌∷◌, ℕ, List, IfOk, IfErr, OnOk};
 ghost use Rattle.cnf_base.specs.Lines.{Writes, line_of};
 ghost use Rattle.sat_check.specs.Lines.{fault_line, fault_status};
-ghost use Rattle.sat_check.specs.Report.{Report, Outcome, concluded, with_lines};
+ghost use Rattle.sat_check.specs.Report.{Report, Outcome, concluded, is_cut_short, with_lines};
 
 use crate::Status;
 use crate::line::Line;
@@ -23,6 +23,9 @@ pub fn conclude<O: Out>(
         Outcome result lines.old.held lines.new.held (concluded subject text status) }
     ensures status { (result ≡ status) ⊎ (result ≡ Status.OutOfMemory)
         ⊎ ((result ≡ Status.WriteFailed) × (lines.new.has_failed ≡ true)) }
+    ensures no_failure { is_cut_short result ≡ false →
+        lines.new.has_failed ≡ lines.old.has_failed }
+    ensures flushed { is_cut_short result ≡ false → lines.new.is_flushed ≡ true }
     ensures same_writer { lines.new.borrows ≡ lines.old.borrows }
 {
     let Ok(line) = line else {
@@ -55,6 +58,9 @@ pub fn break_off<O: Out>(
         (concluded subject (fault_line name.now fault) (fault_status fault)) }
     ensures read_failed { result ≡ Status.ReadFailed → fault ≡ Fault.ReadFailed }
     ensures write_failed { result ≡ Status.WriteFailed → lines.new.has_failed ≡ true }
+    ensures no_failure { is_cut_short result ≡ false →
+        lines.new.has_failed ≡ lines.old.has_failed }
+    ensures flushed { is_cut_short result ≡ false → lines.new.is_flushed ≡ true }
     ensures same_writer { lines.new.borrows ≡ lines.old.borrows }
 {
     match fault {
@@ -84,6 +90,7 @@ pub fn write_line<O: Out>(
         Outcome status lines.old.held lines.new.held (with_lines (text ∷ []) r)) }
     ensures status { IfErr result (λ status. (status ≡ Status.OutOfMemory)
         ⊎ ((status ≡ Status.WriteFailed) × (lines.new.has_failed ≡ true))) }
+    ensures cut_short { IfErr result (λ status. is_cut_short status ≡ true) }
     ensures same_writer { lines.new.borrows ≡ lines.old.borrows }
 {
     let Ok(line) = line else {

@@ -3,13 +3,12 @@
 ghost use Rattle.std.specs.Prelude.{◌≡◌, [], true, false};
 ghost use Rattle.std.specs.FinMap as maps;
 ghost use Rattle.cnf_base.specs.Seen.{OfBothSeen, OneHasFailed};
-ghost use Rattle.cnf_base.specs.Stream.{bytes_read};
 ghost use Rattle.dimacs.specs.Formula.{formula_of};
 ghost use Rattle.steps.specs.Drat.Session.{fresh_drat};
 ghost use Rattle.steps.specs.Theory.Rules.{drat};
 ghost use Rattle.sat_check.specs.Checking.{AllReports};
 ghost use Rattle.sat_check.specs.Reach.{ReadsNoFurther, TellsRefused};
-ghost use Rattle.sat_check.specs.Report.{ChecksProof, drat_proof, rules_of};
+ghost use Rattle.sat_check.specs.Report.{ChecksProof, drat_proof, rules_of, is_cut_short};
 
 use crate::check::check;
 use crate::conclude::give_up;
@@ -40,12 +39,17 @@ pub fn run_drat<F: In, P: In, O: Out>(
         (drat_proof options.now.binary j) (O.held out.old) (O.held out.new) result
         × ReadsNoFurther (drat (rules_of options.now)) (formula_of i) j
         (drat_proof options.now.binary j)
-        (bytes_read (P.shown proof.old) (P.shown proof.new)) result) }
+        (P.shown proof.old) (P.shown proof.new) result) }
 
     // A reader or the writer tells of each failure.
     ensures read_failed { result ≡ Status.ReadFailed →
         OneHasFailed (F.shown formula.new) (P.shown proof.new) }
     ensures write_failed { result ≡ Status.WriteFailed → O.has_failed out.new ≡ true }
+
+    // Unless memory or the writer failed, this tells of no new failure, and all was flushed.
+    ensures no_failure { is_cut_short result ≡ false →
+        O.has_failed out.new ≡ O.has_failed out.old }
+    ensures flushed { is_cut_short result ≡ false → O.is_flushed out.new ≡ true }
 {
     run_drat_placed(alloc, options, formula, proof, out).status
 }
@@ -65,12 +69,17 @@ pub fn run_drat_placed<F: In, P: In, O: Out>(
         (drat_proof options.now.binary j) (O.held out.old) (O.held out.new) result.status
         × ReadsNoFurther (drat (rules_of options.now)) (formula_of i) j
         (drat_proof options.now.binary j)
-        (bytes_read (P.shown proof.old) (P.shown proof.new)) result.status
+        (P.shown proof.old) (P.shown proof.new) result.status
         × TellsRefused (drat (rules_of options.now)) (formula_of i).fault (formula_of i).clauses
         (drat_proof options.now.binary j) result) }
     ensures read_failed { result.status ≡ Status.ReadFailed →
         OneHasFailed (F.shown formula.new) (P.shown proof.new) }
     ensures write_failed { result.status ≡ Status.WriteFailed → O.has_failed out.new ≡ true }
+
+    // Unless memory or the writer failed, this tells of no new failure, and all was flushed.
+    ensures no_failure { is_cut_short result.status ≡ false →
+        O.has_failed out.new ≡ O.has_failed out.old }
+    ensures flushed { is_cut_short result.status ≡ false → O.is_flushed out.new ≡ true }
 {
     let mut lines = LineOut::new(&mut *out);
     let checked = check_drat(alloc, *options, formula, proof, &mut lines);
@@ -93,6 +102,9 @@ fn check_drat<F: In, P: In, O: Out>(
     ensures read_failed { result.status ≡ Status.ReadFailed →
         OneHasFailed (F.shown formula.new) (P.shown proof.new) }
     ensures write_failed { result.status ≡ Status.WriteFailed → lines.new.has_failed ≡ true }
+    ensures no_failure { is_cut_short result.status ≡ false →
+        lines.new.has_failed ≡ lines.old.has_failed }
+    ensures flushed { is_cut_short result.status ≡ false → lines.new.is_flushed ≡ true }
     ensures same_writer { lines.new.borrows ≡ lines.old.borrows }
 {
     let Ok(clauses) = Watch::seeded(alloc, options.seed) else {
@@ -120,6 +132,9 @@ pub(crate) fn check_with<C: Propagate + Drop, F: In, P: In, O: Out>(
     ensures read_failed { result.status ≡ Status.ReadFailed →
         OneHasFailed (F.shown formula.new) (P.shown proof.new) }
     ensures write_failed { result.status ≡ Status.WriteFailed → lines.new.has_failed ≡ true }
+    ensures no_failure { is_cut_short result.status ≡ false →
+        lines.new.has_failed ≡ lines.old.has_failed }
+    ensures flushed { is_cut_short result.status ≡ false → lines.new.is_flushed ≡ true }
     ensures same_writer { lines.new.borrows ≡ lines.old.borrows }
 {
     let mut session = DratSession::new(clauses, options.rules());
@@ -143,6 +158,9 @@ fn check_form<C: Propagate + Drop, F: In, P: In, O: Out>(
     ensures read_failed { result.status ≡ Status.ReadFailed →
         OneHasFailed (F.shown formula.new) (P.shown proof.new) }
     ensures write_failed { result.status ≡ Status.WriteFailed → lines.new.has_failed ≡ true }
+    ensures no_failure { is_cut_short result.status ≡ false →
+        lines.new.has_failed ≡ lines.old.has_failed }
+    ensures flushed { is_cut_short result.status ≡ false → lines.new.is_flushed ≡ true }
     ensures same_writer { lines.new.borrows ≡ lines.old.borrows }
 {
     let Ok(piece) = Piece::new(alloc) else {

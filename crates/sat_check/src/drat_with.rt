@@ -3,11 +3,10 @@
 ghost use Rattle.std.specs.Prelude.{◌≡◌, [], true, false};
 ghost use Rattle.std.specs.FinMap as maps;
 ghost use Rattle.cnf_base.specs.Seen.{OfBothSeen, OneHasFailed};
-ghost use Rattle.cnf_base.specs.Stream.{bytes_read};
 ghost use Rattle.dimacs.specs.Formula.{formula_of};
 ghost use Rattle.steps.specs.Theory.Rules.{drat};
 ghost use Rattle.sat_check.specs.Reach.{ReadsNoFurther};
-ghost use Rattle.sat_check.specs.Report.{ChecksProof, drat_proof, rules_of};
+ghost use Rattle.sat_check.specs.Report.{ChecksProof, drat_proof, rules_of, is_cut_short};
 
 use crate::drat::check_with;
 use crate::{DratOptions, Status};
@@ -34,10 +33,15 @@ pub fn run_drat_with<C: Propagate + Drop, F: In, P: In, O: Out>(
         (drat_proof options.now.binary j) (O.held out.old) (O.held out.new) result
         × ReadsNoFurther (drat (rules_of options.now)) (formula_of i) j
         (drat_proof options.now.binary j)
-        (bytes_read (P.shown proof.old) (P.shown proof.new)) result) }
+        (P.shown proof.old) (P.shown proof.new) result) }
     ensures read_failed { result ≡ Status.ReadFailed →
         OneHasFailed (F.shown formula.new) (P.shown proof.new) }
     ensures write_failed { result ≡ Status.WriteFailed → O.has_failed out.new ≡ true }
+
+    // Unless memory or the writer failed, this tells of no new failure, and all was flushed.
+    ensures no_failure { is_cut_short result ≡ false →
+        O.has_failed out.new ≡ O.has_failed out.old }
+    ensures flushed { is_cut_short result ≡ false → O.is_flushed out.new ≡ true }
 {
     let mut lines = LineOut::new(&mut *out);
     let checked = check_with(alloc, *options, clauses, formula, proof, &mut lines);

@@ -1,7 +1,7 @@
 //! A formula is judged by a model, clause by clause.
 
 ghost use Rattle.std.specs.Prelude.{◌≡◌, true, IfErr};
-ghost use Rattle.cnf_base.specs.Stream.{Along};
+ghost use Rattle.cnf_base.specs.Stream.{Along, tells_failure};
 ghost use Rattle.cnf_base.specs.Seen.{OfSeen};
 ghost use Rattle.dimacs.specs.Formula.{formula_of};
 ghost use Rattle.dimacs.specs.Reading.{clauses_to_come};
@@ -18,7 +18,7 @@ pub fn judge<F: In>(alloc: Global, formula: &mut F, model: &Model) -> Result<Jud
     ensures judges { OfSeen (F.shown formula.old) (F.shown formula.new) (λ i.
         Judges model.now result (formula_of i).clauses (formula_of i).fault) }
     ensures tells { IfErr result (λ f. f ≡ Fault.ReadFailed →
-        (F.shown formula.new).has_failed ≡ true) }
+        tells_failure (F.shown formula.new) ≡ true) }
 {
     let piece = Piece::new(alloc)?;
     match FormulaReader::open(Source::over(piece, &mut *formula)) {
@@ -47,7 +47,7 @@ fn judge_clauses<F: In>(
         Judges model.now result (clauses_to_come reader.old i).clauses
         (clauses_to_come reader.old i).fault) }
     ensures tells { IfErr result (λ f. f ≡ Fault.ReadFailed →
-        reader.new.stream.reader.has_failed ≡ true) }
+        tells_failure reader.new.stream.reader ≡ true) }
 {
     let mut clause = ClauseBuf::new(alloc);
     let mut met = 0u64;

@@ -20,6 +20,7 @@ mod report;
 mod status;
 mod subject;
 mod take_step;
+mod tools;
 
 pub use checked::Checked;
 pub use command_line::args::{Args, ArgsFault};
@@ -31,3 +32,4 @@ pub use lrat::{run_lrat, run_lrat_placed};
 pub use model::run_model;
 pub use options::{DratOptions, LratOptions};
 pub use status::Status;
+pub use tools::{drat_forward, lrat_check};

@@ -1,7 +1,7 @@
 //! A formula goes into a session, clause by clause.
 
 ghost use Rattle.std.specs.Prelude.{◌≡◌, true, [], IfErr};
-ghost use Rattle.cnf_base.specs.Stream.{Along};
+ghost use Rattle.cnf_base.specs.Stream.{Along, tells_failure};
 ghost use Rattle.cnf_base.specs.Seen.{OfSeen};
 ghost use Rattle.dimacs.specs.Formula.{formula_of};
 ghost use Rattle.dimacs.specs.Reading.{clauses_to_come};
@@ -23,7 +23,7 @@ pub fn load<F: In, S: ProofSession>(
     ensures loads { OfSeen (F.shown formula.old) (F.shown formula.new) (λ i.
         Loads (rule_of (S.shown session.old).state) (S.shown session.new) result (formula_of i)) }
     ensures tells { IfErr result (λ f. f ≡ Fault.ReadFailed →
-        (F.shown formula.new).has_failed ≡ true) }
+        tells_failure (F.shown formula.new) ≡ true) }
 {
     let piece = Piece::new(alloc)?;
     match FormulaReader::open(Source::over(piece, &mut *formula)) {
@@ -55,7 +55,7 @@ fn load_clauses<F: In, S: ProofSession>(
         (λ i j. LoadsBody (rule_of (S.shown session.old).state) (S.shown session.new) result
         (clauses_to_come reader.old i)) }
     ensures tells { IfErr result (λ f. f ≡ Fault.ReadFailed →
-        reader.new.stream.reader.has_failed ≡ true) }
+        tells_failure reader.new.stream.reader ≡ true) }
 {
     let mut clause = ClauseBuf::new(alloc);
     while reader.next(&mut clause)? {

@@ -2,13 +2,12 @@
 
 ghost use Rattle.std.specs.Prelude.{◌≡◌, true, false};
 ghost use Rattle.cnf_base.specs.Seen.{OfBothSeen, OneHasFailed};
-ghost use Rattle.cnf_base.specs.Stream.{bytes_read};
 ghost use Rattle.dimacs.specs.Formula.{formula_of};
 ghost use Rattle.proofs.specs.Lrat.{lrat_steps};
 ghost use Rattle.steps.specs.Theory.Rules.{lrat};
 ghost use Rattle.sat_check.specs.Checking.{AllReports};
 ghost use Rattle.sat_check.specs.Reach.{ReadsNoFurther, TellsRefused};
-ghost use Rattle.sat_check.specs.Report.{ChecksProof};
+ghost use Rattle.sat_check.specs.Report.{ChecksProof, is_cut_short};
 
 use crate::check::check;
 use crate::conclude::give_up;
@@ -36,12 +35,17 @@ pub fn run_lrat<F: In, P: In, O: Out>(
         ChecksProof lrat options.now.trace i (lrat_steps j)
         (O.held out.old) (O.held out.new) result
         × ReadsNoFurther lrat (formula_of i) j (lrat_steps j)
-        (bytes_read (P.shown proof.old) (P.shown proof.new)) result) }
+        (P.shown proof.old) (P.shown proof.new) result) }
 
     // A reader or the writer tells of each failure.
     ensures read_failed { result ≡ Status.ReadFailed →
         OneHasFailed (F.shown formula.new) (P.shown proof.new) }
     ensures write_failed { result ≡ Status.WriteFailed → O.has_failed out.new ≡ true }
+
+    // Unless memory or the writer failed, this tells of no new failure, and all was flushed.
+    ensures no_failure { is_cut_short result ≡ false →
+        O.has_failed out.new ≡ O.has_failed out.old }
+    ensures flushed { is_cut_short result ≡ false → O.is_flushed out.new ≡ true }
 {
     run_lrat_placed(alloc, options, formula, proof, out).status
 }
@@ -60,11 +64,16 @@ pub fn run_lrat_placed<F: In, P: In, O: Out>(
         ChecksProof lrat options.now.trace i (lrat_steps j)
         (O.held out.old) (O.held out.new) result.status
         × ReadsNoFurther lrat (formula_of i) j (lrat_steps j)
-        (bytes_read (P.shown proof.old) (P.shown proof.new)) result.status
+        (P.shown proof.old) (P.shown proof.new) result.status
         × TellsRefused lrat (formula_of i).fault (formula_of i).clauses (lrat_steps j) result) }
     ensures read_failed { result.status ≡ Status.ReadFailed →
         OneHasFailed (F.shown formula.new) (P.shown proof.new) }
     ensures write_failed { result.status ≡ Status.WriteFailed → O.has_failed out.new ≡ true }
+
+    // Unless memory or the writer failed, this tells of no new failure, and all was flushed.
+    ensures no_failure { is_cut_short result.status ≡ false →
+        O.has_failed out.new ≡ O.has_failed out.old }
+    ensures flushed { is_cut_short result.status ≡ false → O.is_flushed out.new ≡ true }
 {
     let mut lines = LineOut::new(&mut *out);
     let checked = check_lrat(alloc, options.trace, formula, proof, &mut lines);
@@ -86,6 +95,9 @@ fn check_lrat<F: In, P: In, O: Out>(
     ensures read_failed { result.status ≡ Status.ReadFailed →
         OneHasFailed (F.shown formula.new) (P.shown proof.new) }
     ensures write_failed { result.status ≡ Status.WriteFailed → lines.new.has_failed ≡ true }
+    ensures no_failure { is_cut_short result.status ≡ false →
+        lines.new.has_failed ≡ lines.old.has_failed }
+    ensures flushed { is_cut_short result.status ≡ false → lines.new.is_flushed ≡ true }
     ensures same_writer { lines.new.borrows ≡ lines.old.borrows }
 {
     let Ok(mut session) = LratSession::new(alloc) else {

@@ -1,11 +1,12 @@
 //! A check of a model, from bytes to bytes.
 
-ghost use Rattle.std.specs.Prelude.{◌≡◌, true, Ok, IfOk, IfErr};
+ghost use Rattle.std.specs.Prelude.{◌≡◌, true, false, Ok, IfOk, IfErr};
+ghost use Rattle.cnf_base.specs.Stream.{tells_failure};
 ghost use Rattle.cnf_base.specs.Seen.{OfSeen, OfBothSeen, OneHasFailed};
 ghost use Rattle.dimacs.specs.Claim.{claim_of, IsClaim, IsConsistent};
 ghost use Rattle.dimacs.specs.Formula.{formula_of};
-ghost use Rattle.sat_check.specs.Report.{Outcome};
-ghost use Rattle.sat_check.specs.ModelReport.{claim_report, model_report, ChecksModel};
+ghost use Rattle.sat_check.specs.Report.{Outcome, is_cut_short};
+ghost use Rattle.sat_check.specs.ModelReport.{claim_report, model_report, ChecksModel, LeavesFormula};
 ghost use Rattle.sat_check.specs.Judging.{judged_report};
 
 use crate::Status;
@@ -32,12 +33,18 @@ pub fn run_model<F: In, M: In, O: Out>(
     // What was seen of the two readers is one pair of inputs, and of this the check is true.
     ensures checks { OfBothSeen (F.shown formula.old) (F.shown formula.new)
         (M.shown output.old) (M.shown output.new) (λ i j.
-        ChecksModel i j (O.held out.old) (O.held out.new) result) }
+        ChecksModel i j (O.held out.old) (O.held out.new) result
+        × LeavesFormula (claim_of j) (F.shown formula.old) (F.shown formula.new)) }
 
     // A reader or the writer tells of each failure.
     ensures read_failed { result ≡ Status.ReadFailed →
         OneHasFailed (F.shown formula.new) (M.shown output.new) }
     ensures write_failed { result ≡ Status.WriteFailed → O.has_failed out.new ≡ true }
+
+    // Unless memory or the writer failed, this tells of no new failure, and all was flushed.
+    ensures no_failure { is_cut_short result ≡ false →
+        O.has_failed out.new ≡ O.has_failed out.old }
+    ensures flushed { is_cut_short result ≡ false → O.is_flushed out.new ≡ true }
 {
     let mut lines = LineOut::new(&mut *out);
     let status = check_model(alloc, formula, output, &mut lines);
@@ -56,10 +63,14 @@ fn check_model<F: In, M: In, O: Out>(
     ensures report { OfBothSeen (F.shown formula.old) (F.shown formula.new)
         (M.shown output.old) (M.shown output.new) (λ i j.
         Outcome result lines.old.held lines.new.held (model_report i j)
-        × (result ≡ Status.Verified → IfOk (claim_of j) IsConsistent)) }
+        × (result ≡ Status.Verified → IfOk (claim_of j) IsConsistent)
+        × LeavesFormula (claim_of j) (F.shown formula.old) (F.shown formula.new)) }
     ensures read_failed { result ≡ Status.ReadFailed →
         OneHasFailed (F.shown formula.new) (M.shown output.new) }
     ensures write_failed { result ≡ Status.WriteFailed → lines.new.has_failed ≡ true }
+    ensures no_failure { is_cut_short result ≡ false →
+        lines.new.has_failed ≡ lines.old.has_failed }
+    ensures flushed { is_cut_short result ≡ false → lines.new.is_flushed ≡ true }
     ensures same_writer { lines.new.borrows ≡ lines.old.borrows }
 {
     match claimed(alloc, output) {
@@ -74,7 +85,7 @@ fn claimed<M: In>(alloc: Global, output: &mut M) -> Result<Model, Fault>
         (λ j. IsClaim result (claim_of j)) }
     ensures consistent { IfOk result IsConsistent }
     ensures tells { IfErr result (λ f. f ≡ Fault.ReadFailed →
-        (M.shown output.new).has_failed ≡ true) }
+        tells_failure (M.shown output.new) ≡ true) }
 {
     let piece = Piece::new(alloc)?;
     let (claim, rest) = read_claim(alloc, Source::over(piece, &mut *output));
@@ -91,8 +102,11 @@ fn check_formula<F: In, O: Out>(
 ) -> Status
     ensures report { OfSeen (F.shown formula.old) (F.shown formula.new) (λ i.
         Outcome result lines.old.held lines.new.held (claim_report (Ok model.now) (formula_of i))) }
-    ensures read_failed { result ≡ Status.ReadFailed → (F.shown formula.new).has_failed ≡ true }
+    ensures read_failed { result ≡ Status.ReadFailed → tells_failure (F.shown formula.new) ≡ true }
     ensures write_failed { result ≡ Status.WriteFailed → lines.new.has_failed ≡ true }
+    ensures no_failure { is_cut_short result ≡ false →
+        lines.new.has_failed ≡ lines.old.has_failed }
+    ensures flushed { is_cut_short result ≡ false → lines.new.is_flushed ≡ true }
     ensures same_writer { lines.new.borrows ≡ lines.old.borrows }
 {
     match judge(alloc, formula, model) {
@@ -105,6 +119,9 @@ fn conclude_judgement<O: Out>(alloc: Global, judgement: Judgement, lines: &mut L
     ensures outcome { Outcome result lines.old.held lines.new.held (judged_report judgement) }
     ensures read { result ≡ Status.ReadFailed → ⊥ }
     ensures write_failed { result ≡ Status.WriteFailed → lines.new.has_failed ≡ true }
+    ensures no_failure { is_cut_short result ≡ false →
+        lines.new.has_failed ≡ lines.old.has_failed }
+    ensures flushed { is_cut_short result ≡ false → lines.new.is_flushed ≡ true }
     ensures same_writer { lines.new.borrows ≡ lines.old.borrows }
 {
     match judgement {

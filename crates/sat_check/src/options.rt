@@ -1,8 +1,10 @@
 //! What a run is asked to do.
 
 ghost use Rattle.std.specs.Prelude.{◌≡◌};
+ghost use Rattle.sat_check.specs.CommandLine.Asked.{drat_options, lrat_options};
 ghost use Rattle.sat_check.specs.Report.{rules_of};
 
+use crate::Args;
 use steps::DratRules;
 
 /// What a check of an LRAT proof is asked to do.
@@ -10,6 +12,15 @@ use steps::DratRules;
 pub struct LratOptions {
     /// Whether each accepted step has a line.
     pub trace: bool,
+}
+
+impl LratOptions {
+    /// What the words of the command line ask for.
+    pub fn of(args: &Args) -> Self
+        ensures { result ≡ lrat_options args.now }
+    {
+        LratOptions { trace: args.trace }
+    }
 }
 
 /// What a check of a DRAT proof is asked to do.
@@ -30,6 +41,20 @@ pub struct DratOptions {
 }
 
 impl DratOptions {
+    /// What the words of the command line ask for, with the number that clauses are hashed by.
+    pub fn of(args: &Args, seed: u64) -> Self
+        ensures { result ≡ drat_options args.now seed }
+    {
+        DratOptions {
+            binary: args.binary,
+            trace: args.trace,
+            strict: args.strict,
+            pr: args.pr,
+            keep_units: args.keep_units,
+            seed,
+        }
+    }
+
     /// The rules that these options ask for.
     pub fn rules(&self) -> DratRules
         ensures { result ≡ rules_of self.now }

@@ -5,7 +5,7 @@ ghost use Rattle.cnf_base.specs.Lines.{Writes};
 ghost use Rattle.steps.specs.ProofSession.{is_over};
 ghost use Rattle.steps.specs.Theory.Verdicts.{is_last};
 ghost use Rattle.sat_check.specs.Lines.{refusal_line, trace_line};
-ghost use Rattle.sat_check.specs.Report.{Report, Outcome, concluded, with_lines, text_of};
+ghost use Rattle.sat_check.specs.Report.{Report, Outcome, concluded, with_lines, text_of, is_cut_short};
 ghost use Rattle.sat_check.specs.Reach.{IsVerdict};
 ghost use Rattle.sat_check.specs.Checking.{Decides, GoesOn, IsRefused, Stops, IsBreak, IsTold, is_memory, traced};
 
@@ -39,6 +39,10 @@ pub fn take_step<S: ProofSession, O: Out>(
     ensures refused { IfSome result (λ status. status ≡ Status.NotVerified →
         IsRefused (S.shown session.old).state step.now) }
     ensures told { IfSome result (λ status. IsTold status lines.new) }
+    ensures no_failure { IfSome result (λ status. is_cut_short status ≡ false →
+        lines.new.has_failed ≡ lines.old.has_failed) }
+    ensures flushed { IfSome result (λ status. is_cut_short status ≡ false →
+        lines.new.is_flushed ≡ true) }
     ensures same_writer { lines.new.borrows ≡ lines.old.borrows }
 {
     let word = match session.step(step) {
@@ -67,7 +71,9 @@ fn write_trace<O: Out>(
     ensures whole { OnOk result (lines.old.is_broken ≡ false → lines.new.is_broken ≡ false) }
     ensures stopped { IfErr result (λ status. (r : Report) →
         Outcome status lines.old.held lines.new.held (with_lines (traced trace number word) r)) }
+    ensures no_failure { OnOk result (lines.new.has_failed ≡ lines.old.has_failed) }
     ensures broke { IfErr result (λ status. IsBreak status lines.new) }
+    ensures cut_short { IfErr result (λ status. is_cut_short status ≡ true) }
     ensures same_writer { lines.new.borrows ≡ lines.old.borrows }
 {
     if !trace {
@@ -84,6 +90,9 @@ fn refuse<O: Out>(alloc: Global, number: u64, refusal: Refusal, lines: &mut Line
         Outcome result lines.old.held lines.new.held
         (concluded Subject.Proof (refusal_line number refusal) Status.NotVerified) }
     ensures told { IsTold result lines.new }
+    ensures no_failure { is_cut_short result ≡ false →
+        lines.new.has_failed ≡ lines.old.has_failed }
+    ensures flushed { is_cut_short result ≡ false → lines.new.is_flushed ≡ true }
     ensures same_writer { lines.new.borrows ≡ lines.old.borrows }
 {
     match refusal {

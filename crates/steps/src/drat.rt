@@ -36,14 +36,15 @@ impl<P: Propagate> Model for DratSession<P> {
 
     ghost coded = { drat_code };
 
-    ghost view = { λ s. record {
-      live = (P.state s.clauses).live;
-      rules = s.rules;
-      has_stepped = s.progress.has_stepped;
-      is_verified = s.progress.is_verified;
-      is_ended = s.progress.is_ended;
-      peak = s.progress.peak;
-      stored = (P.state s.clauses).stored;
+    // Each field has to be named here. Of them the clauses alone have lists of literals.
+    ghost view = { λ record { clauses = clauses; rules = rules; progress = progress }. record {
+      live = (P.state clauses).live;
+      rules = rules;
+      has_stepped = progress.has_stepped;
+      is_verified = progress.is_verified;
+      is_ended = progress.is_ended;
+      peak = progress.peak;
+      stored = (P.state clauses).stored;
     } };
 
     ghost invariant = { λ s. HoldsLiveAlone (P.state s.clauses)

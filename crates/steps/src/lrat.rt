@@ -46,14 +46,15 @@ impl Model for LratSession {
 
     ghost coded = { session_code };
 
-    ghost view = { λ s. record {
-      live = s.held.live;
-      top = s.held.top;
-      has_stepped = s.progress.has_stepped;
-      is_verified = s.progress.is_verified;
-      is_ended = s.progress.is_ended;
-      peak = s.progress.peak;
-      stored = s.held.stored;
+    // Each field has to be named here. Of them the live clauses alone have lists of literals.
+    ghost view = { λ record { alloc = _; held = held; trues = _; progress = progress }. record {
+      live = held.live;
+      top = held.top;
+      has_stepped = progress.has_stepped;
+      is_verified = progress.is_verified;
+      is_ended = progress.is_ended;
+      peak = progress.peak;
+      stored = held.stored;
     } };
 
     ghost invariant = { λ s. s.progress.is_ended ≡ false → IsReady (maps.get s.held.live) s.trues };

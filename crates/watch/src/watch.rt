@@ -63,21 +63,31 @@ impl Model for Watch {
 
     ghost coded = { watch_code };
 
-    // The order of a clause's literals changes with each move, so it is not shown.
-    ghost view = { λ w. record {
+    // The order of a clause's literals changes with each move, so it is not shown. Each field has to be named here. Of
+    // them the store alone has lists of literals of clauses.
+    ghost view = { λ record {
+      alloc = _;
+      store = store;
+      lists = lists;
+      short = short;
+      assumptions = assumptions;
+      roots = roots;
+      set = _;
+      has_refused = has_refused;
+    }. record {
       propagation = record {
-        live = each_in_order w.store.live;
-        assumptions = w.assumptions.assumptions;
-        stored = w.store.stored;
-        has_refused = w.has_refused;
+        live = each_in_order store.live;
+        assumptions = assumptions.assumptions;
+        stored = store.stored;
+        has_refused = has_refused;
       };
-      entries = entries_in w.lists;
-      loose = length w.short;
-      trues = length w.assumptions.trail.lits;
-      variables = variables_in w.assumptions.trail.met;
-      roots = roots_in w.assumptions.trail.lits w.assumptions.assumptions w.assumptions.starts;
-      is_up_to_date = is_up_to_date w.roots.kept;
-      has_clash = has_clash w.roots.kept;
+      entries = entries_in lists;
+      loose = length short;
+      trues = length assumptions.trail.lits;
+      variables = variables_in assumptions.trail.met;
+      roots = roots_in assumptions.trail.lits assumptions.assumptions assumptions.starts;
+      is_up_to_date = is_up_to_date roots.kept;
+      has_clash = has_clash roots.kept;
     } };
 
     ghost invariant = { λ w.

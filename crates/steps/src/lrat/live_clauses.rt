@@ -31,11 +31,11 @@ impl Model for LiveClauses {
 
     ghost coded = { shelf_code };
 
-    // Of its fields the store alone has lists of literals.
-    ghost view = { λ s. record {
-      live = joined s.ids s.store.live;
-      top = s.top;
-      stored = s.store.stored;
+    // Each field has to be named here. Of them the store alone has lists of literals.
+    ghost view = { λ record { store = store; ids = ids; top = top }. record {
+      live = joined ids store.live;
+      top = top;
+      stored = store.stored;
     } };
 
     ghost invariant = { λ s. (IsPaired s.ids s.store.live ×

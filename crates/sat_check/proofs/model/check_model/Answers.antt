@@ -4,7 +4,7 @@ use Rattle.cnf_base.proofs.SeenLemmas.{Seen-nothing}
 use Rattle.dimacs.specs.Claim.{claim_of}
 use Rattle.dimacs.specs.Formula.{formula_of}
 use Rattle.sat_check.specs.Report.{Report, Outcome}
-use Rattle.sat_check.proofs.ModelLemmas.{claimed_report, claimed_consistent, output_fault, fault_unverified}
+use Rattle.sat_check.proofs.ModelLemmas.{claimed_report, claimed_consistent, formula_left, formula_needed, output_fault, fault_unverified}
 use Rattle.sat_check.proofs.model.check_model.Goals as goal
 
 pub returns-in-Ok-clause-report : goal.returns-in-Ok-clause-report
@@ -18,6 +18,7 @@ returns-in-Ok-clause-report g c =
       fact = λ i j s t. (
         subst P (claimed_report c.in-Ok.model (claim_of j) (formula_of i) (claims.fact j t)) (checked.fact i s),
         λ is. claimed_consistent c.in-Ok.model (claim_of j) (claims.fact j t) c.in-Ok.ensures.consistent,
+        formula_needed c.in-Ok.model (claim_of j) _ _ (claims.fact j t),
       );
     }
 
@@ -30,5 +31,6 @@ returns-in-Err-clause-report g c =
       fact = λ i j s t. (
         output_fault c.break_off.result c.args.lines.now c.break_off.new.lines c.in-Err.fault (claim_of j) (formula_of i) (claims.fact j t) (c.break_off.ensures.memory, c.break_off.ensures.told),
         λ is. absurd (fault_unverified c.break_off.result c.args.lines.now c.break_off.new.lines (codes "output") c.in-Err.fault (c.break_off.ensures.memory, c.break_off.ensures.told) is),
+        formula_left (claim_of j) _,
       );
     }

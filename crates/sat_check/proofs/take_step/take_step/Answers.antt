@@ -31,6 +31,7 @@ returns-clause-goes_on g c = record {
   sound = search rules;
   wrote = c.in_default.ensures.wrote;
   whole = c.in_default.ensures.whole c.requires.whole;
+  no_failure = c.in_default.ensures.no_failure;
 }
 
 pub returns-in-Err-clause-decided : goal.returns-in-Err-clause-decided

@@ -7,14 +7,14 @@ use Rattle.cnf_base.proofs.source.Source.fill.Goals as goal
 pub returns-in-Some-eq0-clause-look : goal.returns-in-Some-eq0-clause-look
 returns-in-Some-eq0-clause-look g c =
     let nothing = ap (λ s. s.ahead) c.self.view_is ∙ c.requires in
-    rw (← c.self.view_is) (look_filled _ _ [] nothing (still_nothing _ _ _ _ c.self.invariant.ordered c.self.invariant.within nothing) (search rules) (grind (arith, common_steps)) (omega arith) (search rules) (search rules) (search rules) (search rules))
+    rw (← c.self.view_is) (look_filled _ _ [] nothing (still_nothing _ _ _ _ c.self.invariant.ordered c.self.invariant.within nothing) (search rules) (grind (arith, common_steps)) (omega arith) (search rules) (search rules) (search rules) (search rules) (search rules))
 
 pub returns-in-Some-clause-look : goal.returns-in-Some-clause-look
 returns-in-Some-clause-look g c =
     let nothing = ap (λ s. s.ahead) c.self.view_is ∙ c.requires in
-    rw (← c.self.view_is) (look_filled _ _ (take c.in-Some.n c.read_piece.new.piece.items) nothing (slice_range-front _ _) (search rules) (grind (arith, common_steps)) (grind (arith, common_steps)) (search rules) (search rules) (search rules) (search rules))
+    rw (← c.self.view_is) (look_filled _ _ (take c.in-Some.n c.read_piece.new.piece.items) nothing (slice_range-front _ _) (search rules) (grind (arith, common_steps)) (grind (arith, common_steps)) (search rules) (search rules) (search rules) (search rules) (search rules))
 
 pub returns-in-None-clause-look : goal.returns-in-None-clause-look
 returns-in-None-clause-look g c =
     let nothing = ap (λ s. s.ahead) c.self.view_is ∙ c.requires in
-    rw (← c.self.view_is) (look_filled _ _ [] nothing (still_nothing _ _ _ _ c.self.invariant.ordered c.self.invariant.within nothing) (Consumes-failed _ _ (search rules)) (grind (arith, common_steps)) (omega arith) (search rules) (search rules) (search rules) (search rules))
+    rw (← c.self.view_is) (look_filled _ _ [] nothing (still_nothing _ _ _ _ c.self.invariant.ordered c.self.invariant.within nothing) (Consumes-failed _ _ (search rules)) (grind (arith, common_steps)) (omega arith) (search rules) (search rules) (search rules) (search rules) (search rules))
