@@ -6,9 +6,9 @@ use Rattle.cnf_base.specs.declared.input.Ending.{Ending}
 use Rattle.cnf_base.specs.declared.input.Ending.TheVariants.{End}
 
 -- All bytes that the reader handed out in a run, and the input's end where it was met. The bytes are those that the
--- reader lost, and so many less may still be read of it, also where they aren't known. The end was met only where the
--- reader is at its end; a failed read was met exactly where the reader tells of one that is new. What was met is what the
--- reader gave last, and of a reader that was over nothing was handed out.
+-- reader lost, and so many less may still be read of it, also where they aren't known. The end was met only
+-- where the reader is at its end; a failed read was met exactly where the reader tells of one that is new.
+-- What was met is what the reader gave last, and of a reader that was over nothing was handed out.
 pub record Seen (old new : Reader) : Type 0 where
   pub handed : List ℕ
   pub met : Option Ending

@@ -11,8 +11,8 @@ pub record Input : Type 0 where
   pub bytes : List ℕ
   pub ending : Ending
 
--- a reader: the bytes that it has left, where they are known, its end or its failure, where it has given that, and how
--- many bytes may still be read of it at most
+-- a reader: the bytes that it has left, where they are known, its end or its failure, where it has given
+-- that, and how many bytes may still be read of it at most
 pub record Reader : Type 0 where
   pub left : Option (List ℕ)
   pub over : Option Ending
@@ -125,8 +125,8 @@ most_to_come s = length s.ahead + s.reader.most_left
 abbrev pub preceded : List ℕ → Input → Input
 preceded bytes i = record { bytes = bytes ++ i.bytes; ending = i.ending }
 
--- Once an end was met it stays, and nothing more is read. One that is met now is what the reader gave; where none is, the
--- reader has given none either.
+-- Once an end was met it stays, and nothing more is read. One that is met now is what the reader gave; where
+-- none is, the reader has given none either.
 abbrev pub Meets : Option Ending → Option Ending → List ℕ → Reader → Reader → Type 0
 Meets (Some e) met bytes old new = (met ≡ Some e) × (bytes ≡ []) × (new ≡ old)
 Meets None None bytes old new = new.over ≡ old.over

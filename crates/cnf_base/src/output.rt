@@ -20,7 +20,7 @@ pub trait Out {
     /// isn't empty is a failure.
     ghost has_failed: { Self → Bool };
 
-    /// Whether all that it took was flushed.
+    /// Whether a flush has succeeded since the last write.
     ghost is_flushed: { Self → Bool };
 
     /// The borrows that it goes through, so that a writer is known again.
@@ -61,7 +61,8 @@ impl<W: Out> Out for &mut W {
     }
 }
 
-/// A writer of the standard library, which remembers whether a write or a flush has failed, and whether all was flushed.
+/// A writer of the standard library, which remembers whether a write or a flush has failed, and whether a flush has
+/// succeeded since the last write.
 #[derive(Drop)]
 pub struct ToWrite<W> {
     inner: W,

@@ -1,7 +1,8 @@
 //! An input's bytes, one at a time.
 ghost use Rattle.std.specs.Prelude.{◌≡◌, ◌≢◌, ◌+◌, ◌<◌, ◌≤◌, ◌==◌, true, false, [], length, slice_index, take, Some, IsSome, IfSome, IfNone, IfOk, IfErr, OnOk, OnErr};
 ghost use Rattle.std.specs.Io.KnownBytes.{Keeps, Consumes, IsAtEnd};
-ghost use Rattle.cnf_base.specs.Stream.{IsLook, IsSilent, bumped, skipped, unread_stream, most_to_come, tells_failure, Shows};
+ghost use Rattle.cnf_base.specs.Stream.{IsLook, IsSilent, Shows, most_to_come, tells_failure};
+ghost use Rattle.cnf_base.specs.Stream.{bumped, skipped, unread_stream};
 
 use crate::{Ending, In, OutOfMemory, Piece, Place, ReadFailed};
 use std::alloc::Global;

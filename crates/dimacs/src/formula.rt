@@ -61,7 +61,8 @@ impl<R: In> FormulaReader<R> {
         ensures started { IfOk result (λ r. (r.complete ≡ 0) × (r.kept ≡ None)) }
         ensures stored { IfOk result (λ r. r.stored ≡ 0) }
         ensures fewer { IfOk result (λ r. most_to_come r.stream ≤ most_to_come source) }
-        ensures mark { IfOk result (λ r. tells_failure r.stream.reader ≡ tells_failure source.reader) }
+        ensures mark { IfOk result (λ r.
+            tells_failure r.stream.reader ≡ tells_failure source.reader) }
 
         // The formula is this fault, whatever may follow.
         ensures refused { IfErr result (λ e. (last : Stream)

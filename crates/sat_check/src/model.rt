@@ -6,7 +6,8 @@ ghost use Rattle.cnf_base.specs.Seen.{OfSeen, OfBothSeen, OneHasFailed};
 ghost use Rattle.dimacs.specs.Claim.{claim_of, IsClaim, IsConsistent};
 ghost use Rattle.dimacs.specs.Formula.{formula_of};
 ghost use Rattle.sat_check.specs.Report.{Outcome, is_cut_short};
-ghost use Rattle.sat_check.specs.ModelReport.{claim_report, model_report, ChecksModel, LeavesFormula};
+ghost use Rattle.sat_check.specs.ModelReport.{claim_report, model_report};
+ghost use Rattle.sat_check.specs.ModelReport.{ChecksModel, LeavesFormula};
 ghost use Rattle.sat_check.specs.Judging.{judged_report};
 
 use crate::Status;

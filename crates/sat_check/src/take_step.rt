@@ -5,7 +5,8 @@ ghost use Rattle.cnf_base.specs.Lines.{Writes};
 ghost use Rattle.steps.specs.ProofSession.{is_over};
 ghost use Rattle.steps.specs.Theory.Verdicts.{is_last};
 ghost use Rattle.sat_check.specs.Lines.{refusal_line, trace_line};
-ghost use Rattle.sat_check.specs.Report.{Report, Outcome, concluded, with_lines, text_of, is_cut_short};
+ghost use Rattle.sat_check.specs.Report.{Report, Outcome, is_cut_short};
+ghost use Rattle.sat_check.specs.Report.{concluded, with_lines, text_of};
 ghost use Rattle.sat_check.specs.Reach.{IsVerdict};
 ghost use Rattle.sat_check.specs.Checking.{Decides, GoesOn, IsRefused, Stops, IsBreak, IsTold, is_memory, traced};
 
