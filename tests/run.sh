@@ -1,8 +1,8 @@
 #!/usr/bin/env bash
-# All tests: whether the edits of tests/edits can still be made; the proofs of all crates and of their tests; the gate (what of
-# these isn't kept, the must-fail edits, the crates' tests and the programs' stored runs); then the programs as users run them,
-# their manual pages, counts of allocations, and runs in which each allocation is refused. At the end stands what each part
-# took. The last line is "N passed, M failed" over all.
+# All tests: whether the edits of tests/edits can still be made; the proofs of the programs; the gate (the proofs of the tests
+# and what else isn't kept, the must-fail edits, the crates' tests and the programs' stored runs); then the programs as users
+# run them, their manual pages, counts of allocations, and runs in which each allocation is refused. At the end stands what
+# each part took. The last line is "N passed, M failed" over all.
 #
 # RT names the command rt, where it isn't on the PATH.
 set -uo pipefail
@@ -43,8 +43,9 @@ count() {
 part tests/edits_apply.py python3 tests/edits_apply.py
 count $?
 
-# The gate counts these proofs again, so here nothing counts but a failure.
-part tests/prove.py tests/prove.py || failed=$((failed + 1))
+# The programs first: then the proofs of the tests have the edits beside them. The gate counts all again, so here nothing counts
+# but a failure.
+part tests/prove.py tests/prove.py drat_forward lrat_check model_check lookups allocations || failed=$((failed + 1))
 
 part "rt ci" "${RT:-rt}" ci
 ended=$?

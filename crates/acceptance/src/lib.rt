@@ -1,4 +1,4 @@
-//! Whole runs on worked rows, and the readers and sessions that they are made of. What has to come out was worked out by hand.
+//! Whole runs on worked rows. What has to come out was worked out by hand.
 #![tactic(auto)]
 
 #[cfg(test)]
@@ -14,10 +14,6 @@ mod model;
 #[cfg(test)]
 mod never_verified;
 #[cfg(test)]
-mod readers;
-#[cfg(test)]
 mod refused_steps;
-#[cfg(test)]
-mod sessions;
 #[cfg(test)]
 mod support;

@@ -24,3 +24,7 @@ pub fn expect_true(rt: &impl Abort, holds: bool) {
 pub fn expect_true_at<N: Copy + Debug>(rt: &impl Abort, at: N, holds: bool) {
     assert!(rt; holds, "{at:?}");
 }
+
+pub fn fail_at<N: Copy + Debug>(rt: &impl Abort, at: N) {
+    panic!(rt; "{at:?}");
+}

@@ -1,9 +1,13 @@
-//! Tests of the calls below the engines: propagation, and what clauses and their identifiers are kept in.
+//! Tests of the calls below the engines: readers, propagation, sessions, and what clauses and their identifiers are kept in.
 #![tactic(auto)]
 
 #[cfg(test)]
 mod asserts;
 #[cfg(test)]
 mod propagate;
+#[cfg(test)]
+mod readers;
+#[cfg(test)]
+mod sessions;
 #[cfg(test)]
 mod stores;

@@ -1,5 +1,5 @@
 -- How the least set of what follows with nothing assumed is found, past a clash too.
-use Rattle.std.specs.Prelude.{◌≡◌, ◌≢◌, ℕ, ◌+◌, ◌*◌, ◌++◌, Bool, not, List, map, count_by, IsTrue}
+use Rattle.std.specs.Prelude.{◌≢◌, ℕ, ◌+◌, ◌*◌, ◌++◌, Bool, not, List, map, count_by, IsTrue}
 use Rattle.cnf_base.specs.Literals.{Literal, Clause, complement, has}
 
 -- the complements of all other literals of the clause pass

@@ -2,6 +2,7 @@ pub mod Deciding
 pub mod Existence
 pub mod Growth
 pub mod Keeping
+pub mod KeptUnits
 pub mod Reasons
 pub mod Rules
 pub mod Scans

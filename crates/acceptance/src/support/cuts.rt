@@ -1,13 +1,13 @@
 //! Inputs that are cut after some of their bytes, by their end or by a failed read.
 
 use crate::support::asserts::expect_true_at;
-use crate::support::readers::Cut;
 use crate::support::reports::expect;
 use crate::support::rows::Row;
 use std::alloc::Global;
 use std::ops::Range;
 use std::process::Abort;
 use std::test::Fail;
+use test_inputs::Cut;
 
 // A run, of which one input is cut.
 #[derive(Clone, Copy)]

@@ -1,12 +1,11 @@
 //! What carries out a row.
 
-use crate::support::readers::Pieces;
 use crate::support::rows::Tool;
-use crate::support::writers::Writer;
 use cnf_base::{FromRead, In, Out, ToWrite};
 use propagation::Scan;
 use sat_check::{DratOptions, LratOptions, Status, run_drat, run_drat_with, run_lrat, run_model};
 use std::alloc::{AllocError, Global};
+use test_inputs::{Pieces, Writer};
 use watch::Watch;
 
 // How a check of DRAT propagates.

@@ -4,16 +4,13 @@ mod asserts;
 mod cuts;
 mod engines;
 mod examples;
-mod long;
-mod readers;
 mod reading;
 mod reports;
 mod room;
 mod rows;
 mod search;
-mod writers;
 
-pub use asserts::{expect_equal, expect_equal_at, expect_true, expect_true_at, fail_at};
+pub use asserts::{expect_equal, expect_equal_at, expect_true, expect_true_at};
 pub use cuts::{Cutting, E_CLAUSES, HEADER, Said, UNREAD_AFTER_ONE, UNREAD_FORMULA, UNREAD_PROOF};
 pub use engines::Engine;
 pub use examples::{
@@ -21,12 +18,8 @@ pub use examples::{
     E_BY_LRAT_TRACED, E_DRAT, E_LINE, E_PROOF, E_WITH_DELETION, EIGHT, EMPTY_CLAUSE, EMPTY_FORMULA,
     G, G_LINE, MODELS, MODELS_MET, MODELS_OUTPUT, OUT_OF_RANGE,
 };
-pub use long::{MANY, repeated};
-pub use readers::{Bytes, Cut, Pieces, SIZES, open};
 pub use reading::expect_one_piece_further;
-pub use reports::{
-    expect, expect_after, expect_all, expect_in_pieces, expect_read, expect_unread, text,
-};
+pub use reports::{expect, expect_after, expect_all, expect_in_pieces, expect_read, expect_unread};
 pub use room::{expect_enough_room, expect_ten_bytes, expect_too_little_room};
 pub use rows::{
     BINARY_KEEP_UNITS, BINARY_PR, BINARY_STRICT, BINARY_TRACED, BY_BINARY_DRAT, BY_DRAT,
@@ -34,4 +27,4 @@ pub use rows::{
     DRAT_STRICT, DRAT_TRACED, LRAT, LRAT_TRACED, MODEL, Row, Tool,
 };
 pub use search::has_model;
-pub use writers::{Stop, Writer};
+pub use test_inputs::{Cut, MANY, Pieces, SIZES, Stop, Writer, repeated};

@@ -2,22 +2,12 @@
 
 use crate::support::asserts::expect_equal_at;
 use crate::support::engines::Engine;
-use crate::support::readers::{Pieces, SIZES};
 use crate::support::rows::{Row, Tool};
 use crate::support::search::has_model;
-use crate::support::writers::{Stop, Writer};
 use std::alloc::{AllocError, Global};
 use std::process::Abort;
 use std::test::Fail;
-
-// The text of the bytes, each of them as one character.
-pub fn text(alloc: Global, bytes: &[u8]) -> Result<String, AllocError> {
-    let mut all = String::new(alloc);
-    for byte in bytes {
-        all.push(char::from(*byte))?;
-    }
-    Ok(all)
-}
+use test_inputs::{Pieces, SIZES, Stop, Writer, text};
 
 // Runs over inputs in pieces of this size, and compares what is written and the status.
 // Where it is given whether the second input is asked for, that is compared too.

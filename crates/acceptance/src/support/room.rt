@@ -2,13 +2,11 @@
 
 use crate::support::asserts::{expect_equal, expect_equal_at};
 use crate::support::engines::Engine;
-use crate::support::readers::Pieces;
-use crate::support::reports::text;
 use crate::support::rows::Row;
-use crate::support::writers::{Stop, Writer};
 use std::alloc::{AllocError, Global};
 use std::process::Abort;
 use std::test::Fail;
+use test_inputs::{Pieces, Stop, Writer, text};
 
 fn run(alloc: Global, engine: Engine, row: &Row<'_>, writer: Writer) -> (u8, Vec<u8>) {
     let mut formula = Pieces::new(row.formula, 4096, row.formula_cut);

@@ -1,8 +1,8 @@
 //! Rows: what a tool is given, and what it has to write and to answer.
 
-use crate::support::readers::Cut;
 use sat_check::{DratOptions, LratOptions};
 use std::alloc::{AllocError, Global};
+use test_inputs::Cut;
 
 // A tool, and what it is asked to do.
 #[derive(Clone, Copy, Debug, PartialEq, Eq)]

@@ -1,5 +1,5 @@
 -- All that follows with nothing assumed, and the clauses that make a literal hold for good.
-use Rattle.std.proofs.Common.{◌≡◌, ◌≢◌, ℕ, Result, Ok, Err, IfOk, OnOk, ◌+◌, ◌*◌, ◌/◌, ◌<◌, ◌≤◌, Bool, true, false, not, cond, ◌||◌, Some, None, List, [], ◌∷◌, ◌++◌, map, count_by, refl, sym, ap, ◌∙◌, subst, arith, inl, inr, ◌⊎◌}
+use Rattle.std.proofs.Common.{◌≡◌, ◌≢◌, ℕ, Result, Ok, Err, IfOk, OnOk, ◌+◌, ◌*◌, ◌/◌, ◌<◌, ◌≤◌, Bool, true, false, not, cond, ◌||◌, Some, None, List, [], ◌∷◌, ◌++◌, map, refl, sym, ap, ◌∙◌, subst, arith, inl, inr}
 use Rattle.std.proofs.lemmas.Bool.{false≢true, true≢false, not-true, not-false, cases_eq}
 use Rattle.std.proofs.lemmas.Option.{none-some, same_Some}
 use Rattle.std.proofs.lemmas.Result.{on_ok_weaker}
@@ -7,7 +7,7 @@ use Rattle.std.proofs.lemmas.List.Sums.{sum_by-cons}
 use Rattle.cnf_base.specs.Literals.{Literal, complement, Clause, has}
 use Rattle.cnf_base.proofs.SetLemmas.{filter_has, has_append_left, has_append_right, has_append_cases, has_cases, has_head, has_tail}
 use Rattle.propagation.specs.Closure.{FollowsFrom, is_old, by_unit, IsClosedAt, OthersFail, both_of, lacking}
-use Rattle.propagation.specs.Forced.{Live, IsClosed, Forced, IsRootReason}
+use Rattle.propagation.specs.Forced.{Live, Forced, IsRootReason}
 use Rattle.propagation.specs.Left.{open_literals, how_many, is_one_at_most, IsSettled}
 use Rattle.propagation.specs.Trail.{HasRoomForAll}
 use Rattle.propagation.specs.declared.left.Left.{Left}

@@ -1,5 +1,5 @@
 -- The rule of DRAT depends only on how many copies of each clause are alive.
-use Rattle.std.proofs.Common.{◌≡◌, ◌≢◌, ℕ, zero, suc, ◌+◌, ◌-◌, ◌<◌, Bool, true, false, cond, Option, Some, Ok, Err, List, [], ◌∷◌, ◌++◌, slice_get, refl, sym, ap, ◌∙◌, subst, inl, inr, ◌⊎◌, not, arith}
+use Rattle.std.proofs.Common.{◌≡◌, ℕ, zero, suc, ◌+◌, ◌-◌, ◌<◌, Bool, true, false, cond, Option, Some, Ok, Err, List, [], ◌∷◌, ◌++◌, slice_get, refl, sym, ap, ◌∙◌, subst, inl, inr, ◌⊎◌, not, arith}
 use Rattle.std.specs.List.{list_any}
 use Rattle.std.proofs.lemmas.Bool.{false≢true, true≢false, cases_Bool, or_cases, or_left, or_right, false_from_ne_true}
 use Rattle.std.proofs.lemmas.List.Sums.{sum_by-cons}
@@ -8,10 +8,10 @@ use Rattle.steps.specs.declared.theory.accepted.Accepted.{Accepted}
 use Rattle.steps.specs.declared.theory.accepted.Accepted.TheVariants.{Rup, Rat, Pr, Empty, Deleted, Ignored}
 use Rattle.steps.specs.declared.theory.refusal.Refusal.TheVariants.{NotRup, NeitherRupNorRat, NotAlive, InconsistentSet, NeitherRupNorPr}
 use Rattle.cnf_base.specs.Literals.{Literal, complement, Clause, has, complements, without, same_clause}
-use Rattle.steps.specs.Theory.Propagation.{Live, Clash, HasRup, HasRat, HasPr, IsRootReason, not_falsified}
+use Rattle.steps.specs.Theory.Propagation.{Live, HasRup, HasRat, HasPr, not_falsified}
 use Rattle.steps.specs.Theory.StepAnswer.{StepAnswer}
 use Rattle.steps.specs.Drat.{DratStep, add, delete, AnswersAdd, AnswersDelete, AnswersDrat, AnswersWithSet, IsKeptUnit, take_off, after_drat, copies_of, SameLive}
-use Rattle.cnf_base.proofs.SetLemmas.{same_there, same_back, same_itself, same_symm, same_trans, same_empty, both_pass, has_append_left, has_append_right, has_append_cases, has-complements, complements_has, has-without, without_has, has-filter, filter_has}
+use Rattle.cnf_base.proofs.SetLemmas.{same_there, same_back, same_itself, same_symm, same_trans, both_pass, has_append_left, has_append_right, has_append_cases, has-complements, complements_has, has-without, without_has, has-filter, filter_has}
 use Rattle.cnf_base.proofs.LiteralLemmas.{complement-complement}
 use Rattle.propagation.proofs.PropagationLemmas.Covers.{Covers, clash_covers, reason_covers}
 use Rattle.propagation.proofs.PropagationLemmas.Forced.{forced_assumed, clash_through}

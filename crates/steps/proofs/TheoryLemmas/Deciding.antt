@@ -1,7 +1,7 @@
 -- Each step of a DRAT proof has an answer: whether propagation clashes can be decided.
-use Rattle.std.proofs.Common.{◌≡◌, ℕ, zero, suc, ◌+◌, ◌<◌, ◌≤◌, Bool, true, false, not, cond, Option, Some, Ok, Err, List, [], ◌∷◌, ◌++◌, slice_get, refl, sym, ap, ◌∙◌, subst, inl, inr, ◌⊎◌, arith}
+use Rattle.std.proofs.Common.{◌≡◌, ℕ, zero, suc, ◌<◌, ◌≤◌, true, false, not, Option, Some, Ok, Err, List, [], ◌∷◌, ◌++◌, slice_get, refl, sym, ◌∙◌, subst, inl, inr, ◌⊎◌, arith}
 use Rattle.std.specs.List.{list_any}
-use Rattle.std.proofs.lemmas.Bool.{false≢true, true≢false, cases_Bool}
+use Rattle.std.proofs.lemmas.Bool.{true≢false, cases_Bool}
 use Rattle.std.proofs.lemmas.Option.{none-some}
 use Rattle.steps.specs.declared.theory.accepted.Accepted.TheVariants.{Rup, Rat, Pr, Empty, Deleted, Ignored}
 use Rattle.steps.specs.declared.theory.refusal.Refusal.TheVariants.{NotRup, NeitherRupNorRat, NotAlive, InconsistentSet, NeitherRupNorPr}
@@ -12,7 +12,7 @@ use Rattle.steps.specs.Theory.StepAnswer.{StepAnswer}
 use Rattle.steps.specs.Drat.{DratStep, add, delete, AnswersAdd, AnswersDelete, AnswersDrat, AnswersWithSet, IsKeptUnit}
 use Rattle.propagation.specs.Trail.{conflicts}
 use Rattle.propagation.specs.Left.{open_literals, how_many}
-use Rattle.cnf_base.proofs.SetLemmas.{any_from, any_some, has_head, has_tail, has_cases, has_append_left, has_append_right, filter_has}
+use Rattle.cnf_base.proofs.SetLemmas.{any_from, any_some, filter_has}
 use Rattle.propagation.proofs.PropagationLemmas.Forced.{forced_assumed}
 use Rattle.propagation.proofs.PropagationLemmas.MakesFalse.{not_both}
 use Rattle.propagation.proofs.PropagationLemmas.Left.{left-one}

@@ -1,5 +1,5 @@
 -- Accepted steps keep satisfiability, and a verified formula has no model.
-use Rattle.std.proofs.Common.{◌≡◌, ℕ, zero, suc, Bool, true, false, cond, eqb, Some, None, Ok, List, [], ◌∷◌, slice_get, sym, ap, ◌∙◌}
+use Rattle.std.proofs.Common.{◌≡◌, ℕ, zero, suc, true, false, cond, eqb, Some, None, Ok, List, [], ◌∷◌, slice_get, sym, ap, ◌∙◌}
 use Rattle.std.proofs.lemmas.Option.{none-some, same_Some}
 use Rattle.std.proofs.lemmas.Bool.{false≢true}
 use Rattle.steps.specs.declared.theory.accepted.Accepted.{Accepted}

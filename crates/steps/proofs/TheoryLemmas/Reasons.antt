@@ -1,10 +1,10 @@
 -- Whether a clause makes a literal hold for good can be decided: what follows with nothing assumed is a list, past a clash too.
-use Rattle.std.proofs.Common.{◌≡◌, ◌≢◌, ℕ, zero, suc, ◌<◌, ◌≤◌, Bool, true, false, not, ◌||◌, ◌&&◌, eqb, eqb-true, eq-eqb, Option, Some, List, [], ◌∷◌, slice_get, refl, sym, ap, ◌∙◌, subst, inl, inr, arith}
+use Rattle.std.proofs.Common.{◌≡◌, ℕ, zero, suc, ◌≤◌, Bool, true, false, not, ◌||◌, ◌&&◌, eqb, eqb-true, eq-eqb, Some, List, [], ◌∷◌, slice_get, refl, sym, ◌∙◌, subst, inl, inr, arith}
 use Rattle.std.specs.List.{list_any, list_all}
-use Rattle.std.proofs.lemmas.Bool.{false≢true, true≢false, cases_Bool, cases_eq, or_cases, or_left, or_right, and_parts, and_from, not-true, not_from_false, false_from_ne_true}
+use Rattle.std.proofs.lemmas.Bool.{false≢true, true≢false, cases_Bool, cases_eq, or_cases, or_left, or_right, and_parts, and_from, not-true, not_from_false}
 use Rattle.std.proofs.lemmas.Option.{none-some, same_Some}
 use Rattle.cnf_base.specs.Literals.{Literal, complement, Clause, has}
-use Rattle.cnf_base.proofs.SetLemmas.{any_from, any_some, all_each, each_all, has_cases, has_tail}
+use Rattle.cnf_base.proofs.SetLemmas.{any_from, any_some, all_each, each_all, has_cases}
 use Rattle.propagation.specs.Closure.{OthersFail, IsClosedAt, lacking}
 use Rattle.propagation.proofs.PropagationLemmas.Forced.{forced_unit}
 use Rattle.steps.specs.Theory.Propagation.{Live, IsClosed, Forced, IsRootReason}
@@ -61,9 +61,9 @@ look found (d ∷ live) = elim (cases_Bool (list_any (gives found d) d)) [
 ]
 
 -- a list of all that follows
-record IsAll (live : Live) (found : List Literal) : Type 0 where
-  sound : (l : Literal) → has found l ≡ true → Forced live [] l
-  closed : IsClosed live (λ l. has found l)
+pub record IsAll (live : Live) (found : List Literal) : Type 0 where
+  pub sound : (l : Literal) → has found l ≡ true → Forced live [] l
+  pub closed : IsClosed live (λ l. has found l)
 
 module _ (live : List Clause) where
   sound_more : (found : List Literal) → ((l : Literal) → has found l ≡ true → Forced (slice_get live) [] l) → (k : ℕ) (c : Clause) → slice_get live k ≡ Some c → (m : Literal) → has c m ≡ true → OthersFail (has found) c m →
@@ -82,7 +82,7 @@ module _ (live : List Clause) where
       let less = lacking_more found m new (all_literals live) (has-all_literals live k c m at member) in
       grow fuel (m ∷ found) (sound_more found sound k c at m member others) (omega arith) (look (m ∷ found) live)
 
-  all_that_follows : (all : List Literal) × IsAll (slice_get live) all
+  pub all_that_follows : (all : List Literal) × IsAll (slice_get live) all
   all_that_follows = grow (lacking [] (all_literals live)) [] (λ l h. absurd (false≢true h)) (omega arith) (look [] live)
 
   -- ---- Reasons

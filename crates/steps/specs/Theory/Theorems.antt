@@ -60,6 +60,20 @@ abbrev pub IsSoundVerdict : Type 0
 IsSoundVerdict = (rule : Rule) (formula : List Clause) (steps : List Step) (words : List Accepted) →
     Verdict rule formula steps words verified → ¬ HasModel (slice_get formula)
 
+-- Steps of a DRAT proof are accepted with these words, one after the other, and leave these clauses.
+abbrev pub Leads : DratRules → List Clause → List DratStep → List Accepted → List Clause → Type 0
+Leads rules live [] [] last = last ≡ live
+Leads rules live (step ∷ steps) (word ∷ words) last =
+    AnswersDrat rules live step (Ok word) × Leads rules (after_drat live step word) steps words last
+Leads rules live steps words last = ⊥
+
+-- Where the rules keep units, a literal that follows with nothing assumed follows after every later accepted step
+-- (our own profile; a solver that deletes reason clauses counts on it).
+abbrev pub UnitsAreKept : Type 0
+UnitsAreKept = (rules : DratRules) (live last : List Clause) (steps : List DratStep) (words : List Accepted) (l : Literal) →
+    IsTrue rules.keep_units → Leads rules live steps words last →
+    Forced (slice_get live) [] l → Forced (slice_get last) [] l
+
 -- A step has at most one answer.
 abbrev pub AnswersAreUnique : Type 0
 AnswersAreUnique = (state : State) (step : Step) (first second : StepAnswer) →

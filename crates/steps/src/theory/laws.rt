@@ -1,6 +1,6 @@
 //! Laws of the definitions. The functions do nothing: their contracts are the theorems.
 
-ghost use Rattle.steps.specs.Theory.Theorems.{ForcedIsTrue, RupIsImplied, RatKeepsModels, PrKeepsModels, ChainShowsClash, LratShowsRedundant, KeepsModels, IsSoundVerdict, AnswersAreUnique, AnswersExist, VerdictsAreUnique, VerdictsExist, OnlyCopiesCount, OnlySetsCount, EqualSetsEqualTotals, EqualCopiesEqualSums};
+ghost use Rattle.steps.specs.Theory.Theorems.{ForcedIsTrue, RupIsImplied, RatKeepsModels, PrKeepsModels, ChainShowsClash, LratShowsRedundant, KeepsModels, IsSoundVerdict, AnswersAreUnique, AnswersExist, VerdictsAreUnique, VerdictsExist, UnitsAreKept, OnlyCopiesCount, OnlySetsCount, EqualSetsEqualTotals, EqualCopiesEqualSums};
 
 /// Every literal that is forced is true in each model that makes the assumed literals true.
 pub fn forced_is_true()
@@ -40,6 +40,11 @@ pub fn keeps_models()
 /// A formula that a proof verifies has no model.
 pub fn is_sound()
     ensures { IsSoundVerdict }
+{}
+
+/// Where the rules keep units, what follows with nothing assumed follows after every later accepted step.
+pub fn units_are_kept()
+    ensures { UnitsAreKept }
 {}
 
 /// A step has at most one answer.

@@ -1,4 +1,4 @@
-use Rattle.std.proofs.Common.{sym, subst}
+use Rattle.std.proofs.Common.{sym}
 use Rattle.std.specs.FinMap as maps
 use Rattle.propagation.proofs.PropagationLemmas.Closing.{follows_forced, over_none, over_taken}
 use Rattle.propagation.proofs.closure.pass.Goals as goal

@@ -1,11 +1,10 @@
-use Rattle.std.proofs.Common.{◌≡◌, ◌≤◌, ◌+◌, ℕ, List, false, length, refl, ap, sym, ◌∙◌, subst, arith, inl, inr}
+use Rattle.std.proofs.Common.{◌≡◌, ◌+◌, false, refl, ap, sym, ◌∙◌, subst, arith, inl, inr}
 use Rattle.std.specs.FinMap as maps
 use Rattle.std.proofs.lemmas.Bool.{cases_lt}
 use Rattle.cnf_base.specs.Literals.{complement, has}
-use Rattle.steps.specs.Lrat.Shelf.{AllHold}
 use Rattle.steps.specs.Lrat.Groups.{is_unnamed, needs_group_at}
 use Rattle.steps.proofs.LratLemmas.Groups.{tested}
-use Rattle.steps.proofs.LratLemmas.Remaining.{Others, others_first, others_passed, others_met, others_none, known_named, no_candidate, settled, passed_one}
+use Rattle.steps.proofs.LratLemmas.Remaining.{Others, others_passed, others_met, others_none, known_named, no_candidate, settled, passed_one}
 use Rattle.steps.proofs.lrat.candidates.first_left_out.Goals as goal
 use Rattle.steps.proofs.lrat.candidates.first_left_out.Goals.{then-contains+then-not-contains+else-needs_group, else-contains, else-contains-via-then-contains+else-not-contains, else-contains-via-else-contains}
 

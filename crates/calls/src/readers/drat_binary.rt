@@ -1,11 +1,11 @@
 //! The reader of binary DRAT.
 
 use crate::readers::forms::{Form, Step, add, delete, expect_proof};
-use crate::support::{Cut, MANY, repeated};
 use cnf_base::{BinaryFault, Fault};
 use std::alloc::{AllocError, Global};
 use std::process::Abort;
 use std::test::Fail;
+use test_inputs::{Cut, MANY, repeated};
 
 fn expect_bytes(
     rt: &impl Abort,

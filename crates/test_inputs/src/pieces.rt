@@ -1,40 +1,36 @@
 //! A reader in memory, and the bytes that are read from it.
 ghost use Rattle.std.specs.Prelude.{◌≤◌};
 
+use crate::Cut;
 use cnf_base::{FromRead, OutOfMemory, Source};
 use std::alloc::Global;
 use std::io;
 use std::io::Read;
 
-// The pieces in which each input is handed out.
+/// The pieces in which each input is handed out.
 pub const SIZES: [usize; 4] = [1, 2, 7, 4096];
-
-// How a reader goes on after its last byte.
-#[derive(Clone, Copy, Debug, PartialEq, Eq)]
-pub enum Cut {
-    Ends,
-    Fails,
-}
 
 // What a reader would give after its end or its failure. Nobody may ask.
 const MORE: &[u8] = b" 7 ? 0\n";
 
-// Gives pieces of at most `size` bytes, and then once the end or a failure. It counts.
+/// Gives pieces of at most `size` bytes, and then once the end or a failure. It counts.
 #[derive(Drop)]
 pub struct Pieces<'a> {
     rest: &'a [u8],
     size: usize,
     cut: Cut,
     is_over: bool,
-    // How often it was asked.
+    /// How often it was asked.
     pub reads: usize,
 }
 
 impl<'a> Pieces<'a> {
+    /// Over the bytes of a text.
     pub fn new(text: &'a str, size: usize, cut: Cut) -> Pieces<'a> {
         Pieces::of_bytes(text.as_bytes(), size, cut)
     }
 
+    /// Over these bytes.
     pub fn of_bytes(bytes: &'a [u8], size: usize, cut: Cut) -> Pieces<'a> {
         Pieces {
             rest: bytes,
@@ -45,7 +41,7 @@ impl<'a> Pieces<'a> {
         }
     }
 
-    // How many bytes were not handed out.
+    /// How many bytes were not handed out.
     pub fn left(&self) -> usize {
         self.rest.len()
     }
@@ -67,8 +63,10 @@ impl Read for Pieces<'_> {
     }
 }
 
+/// A source over such a reader.
 pub type Bytes<'a> = Source<FromRead<Pieces<'a>>>;
 
+/// A source over these bytes, in pieces of this size.
 pub fn open<'a>(
     alloc: Global,
     bytes: &'a [u8],

@@ -1,13 +1,12 @@
 //! Bytes and tokens with their places, and lines out.
 
-use crate::support::{
-    Bytes, Cut, Pieces, SIZES, Stop, Writer, expect_equal, expect_equal_at, fail_at, open, text,
-};
+use crate::asserts::{expect_equal, expect_equal_at, fail_at};
 use cnf_base::{
     FromRead, LineOut, Number, Place, ReadFailed, Scanner, ToWrite, Token, Word, WriteFailed,
 };
 use std::process::Abort;
 use std::test::Fail;
+use test_inputs::{Bytes, Cut, Pieces, SIZES, Stop, Writer, open, text};
 
 // The byte, if there is one, its place and its number.
 fn expect_byte(

@@ -1,12 +1,13 @@
 //! The reader of formulas, clause by clause.
 
+use crate::asserts::{expect_equal, expect_true, fail_at};
 use crate::readers::forms::numbers;
-use crate::support::{Cut, Pieces, SIZES, expect_equal, expect_true, fail_at, open};
 use cnf_base::{Fault, FromRead, OutOfMemory, Place, TextFault};
 use dimacs::{ClauseBuf, FormulaReader, Header};
 use std::alloc::Global;
 use std::process::Abort;
 use std::test::Fail;
+use test_inputs::{Cut, Pieces, SIZES, open};
 
 type Reader<'a> = FormulaReader<FromRead<Pieces<'a>>>;
 

@@ -1,11 +1,11 @@
 //! The reader of DRAT as text.
 
 use crate::readers::forms::{Form, Step, add, delete, expect_proof};
-use crate::support::Cut;
 use cnf_base::{Fault, Place, TextFault};
 use std::alloc::Global;
 use std::process::Abort;
 use std::test::Fail;
+use test_inputs::Cut;
 
 fn expect_text(
     rt: &impl Abort,

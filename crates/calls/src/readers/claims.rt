@@ -1,11 +1,12 @@
 //! The reader of a solver's output.
 
-use crate::support::{Cut, Pieces, expect_equal, expect_equal_at, fail_at};
+use crate::asserts::{expect_equal, expect_equal_at, fail_at};
 use cnf_base::{Fault, FromRead, Lit, OutOfMemory, Place, Source, TextFault};
 use dimacs::{Model, read_claim};
 use std::alloc::Global;
 use std::process::Abort;
 use std::test::Fail;
+use test_inputs::{Cut, Pieces};
 
 // The claim of an output. The reader is handed back.
 fn claim_of(alloc: Global, pieces: &mut Pieces<'_>) -> Result<Model, Fault> {

@@ -1,10 +1,11 @@
 //! What a step lists.
 
-use crate::support::{Cut, expect_equal, open};
+use crate::asserts::expect_equal;
 use proofs::{DratText, StepBuf, StepReader};
 use std::alloc::Global;
 use std::process::Abort;
 use std::test::Fail;
+use test_inputs::{Cut, open};
 
 // An addition, and how many of its literals are its clause, and how many its set.
 const ROWS: [(&[u8], (usize, usize)); 6] = [

@@ -2,7 +2,7 @@
 
 ghost use Rattle.std.specs.Prelude.{◌≡◌, ◌≤◌, false};
 
-use crate::support::{expect_equal, expect_true};
+use crate::asserts::{expect_equal, expect_true};
 use cnf_base::Lit;
 use proofs::{StepBuf, StepReader};
 use std::alloc::{AllocError, Global};

@@ -1,6 +1,6 @@
 //! Literals, by hand.
 
-use crate::support::{expect_equal, expect_equal_at, expect_true_at};
+use crate::asserts::{expect_equal, expect_equal_at, expect_true_at};
 use cnf_base::{Lit, Number};
 use std::process::Abort;
 use std::test::Fail;

@@ -1,11 +1,12 @@
 //! Where each step ends that a reader gives.
 
-use crate::support::{Cut, SIZES, expect_equal, open};
+use crate::asserts::expect_equal;
 use cnf_base::Place;
 use proofs::{DratBinary, DratText, LratText, StepBuf, StepEnd, StepReader};
 use std::alloc::Global;
 use std::process::Abort;
 use std::test::Fail;
+use test_inputs::{Cut, SIZES, open};
 
 const fn text(line: u64, col: u64) -> StepEnd {
     StepEnd::Text(Place { line, col })

@@ -4,10 +4,10 @@ use crate::sessions::common::{
     expect_empty_clause, expect_ended, expect_on_one_clause, expect_on_three_clauses,
     expect_to_new_step,
 };
-use crate::support::{Cut, open};
 use proofs::LratText;
 use std::test::Fail;
 use steps::{Accepted, LratSession, Refusal};
+use test_inputs::{Cut, open};
 
 #[test]
 fn empty_clause(rt: HostRuntime) -> Result<(), Fail> {

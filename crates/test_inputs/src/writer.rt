@@ -1,24 +1,17 @@
 //! A writer with limited room.
 ghost use Rattle.std.specs.Prelude.{◌≤◌};
 
+use crate::Stop;
 use std::alloc::Global;
 use std::io;
 use std::io::Write;
 
-// What a writer does once its room is used up.
-#[derive(Clone, Copy, Debug, PartialEq, Eq)]
-pub enum Stop {
-    TakesNone,
-    Fails,
-    // One write fails, and further ones would be taken.
-    FailsOnce,
-}
-
-// Takes `room` bytes, at most `most` a call. It counts.
+/// Takes `room` bytes, at most `most` a call. It counts.
 #[derive(Drop)]
 pub struct Writer {
+    /// What it took.
     pub taken: Vec<u8>,
-    // How often it was given bytes.
+    /// How often it was given bytes.
     pub writes: usize,
     room: usize,
     most: usize,
@@ -27,6 +20,7 @@ pub struct Writer {
 }
 
 impl Writer {
+    /// With room for so many bytes, and then this.
     pub fn new(alloc: Global, room: usize, stop: Stop) -> Writer {
         Writer {
             taken: Vec::new(alloc),
@@ -38,7 +32,7 @@ impl Writer {
         }
     }
 
-    // Takes one byte a call.
+    /// Takes one byte a call.
     pub fn byte_a_call(alloc: Global) -> Writer {
         Writer {
             most: 1,
@@ -46,7 +40,7 @@ impl Writer {
         }
     }
 
-    // Takes everything, and fails to flush.
+    /// Takes everything, and fails to flush.
     pub fn without_flush(alloc: Global) -> Writer {
         Writer {
             flushes: false,

@@ -1,11 +1,12 @@
 //! Readers of steps, into one buffer.
 
-use crate::support::{Bytes, Cut, SIZES, expect_equal, open};
+use crate::asserts::expect_equal;
 use cnf_base::{Fault, Lit};
 use proofs::{DratBinary, DratText, LratText, StepBuf, StepKind, StepReader};
 use std::alloc::{AllocError, Global};
 use std::process::Abort;
 use std::test::Fail;
+use test_inputs::{Bytes, Cut, SIZES, open};
 
 // The forms of a proof.
 #[derive(Clone, Copy, Debug, PartialEq, Eq)]

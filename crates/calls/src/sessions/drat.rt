@@ -4,13 +4,13 @@ ghost use Rattle.std.specs.Prelude.{◌≡◌, [], false};
 ghost use Rattle.std.specs.FinMap as maps;
 
 use crate::sessions::common::{Answer, expect_empty_clause, expect_ended, expect_on_one_clause};
-use crate::support::{Cut, open};
 use proofs::DratText;
 use propagation::{Propagate, Scan};
 use std::alloc::Global;
 use std::process::Abort;
 use std::test::Fail;
 use steps::{Accepted, DratRules, DratSession, Refusal};
+use test_inputs::{Cut, open};
 use watch::Watch;
 
 const PLAIN: DratRules = DratRules {

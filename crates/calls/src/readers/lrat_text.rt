@@ -1,10 +1,10 @@
 //! The reader of LRAT as text.
 
 use crate::readers::forms::{Form, Step, expect_proof};
-use crate::support::Cut;
 use cnf_base::{Fault, Place, TextFault};
 use proofs::StepKind;
 use std::test::Fail;
+use test_inputs::Cut;
 
 #[test]
 fn two_steps(rt: HostRuntime) -> Result<(), Fail> {
