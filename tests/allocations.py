@@ -1,8 +1,9 @@
 #!/usr/bin/env python3
 """Shows that memory that was taken is used again.
 
-The number of allocations inside a whole check of DRAT and of LRAT, and inside the calls of the readers, of the store and of
-the identifiers, is the same for 1000 as for 100000 pairs of steps, steps, clauses, insertions or identifiers of one form.
+The number of allocations inside a whole check of DRAT and of LRAT, and inside the calls of the readers, of the store, of the
+identifiers and of a session of LRAT, is the same for 1000 as for 100000 pairs of steps, steps, clauses, insertions or
+identifiers of one form.
 
 The programs run as they were compiled, with tests/allocations.c before the C library: it refuses the Nth allocation of a
 run. What is counted goes from the least N whose refusal is met inside these calls to the greatest.
@@ -35,6 +36,7 @@ CASES = [
     "store",
     "store_of_many",
     "identifiers",
+    "lrat_session",
 ]
 
 
@@ -114,7 +116,7 @@ def check_of_pairs(name, room, times):
 
 
 def calls(name, times):
-    """Calls of the readers, of the store or of the identifiers."""
+    """Calls of the readers, of the store, of the identifiers or of a session."""
     return Run([ALLOCATIONS, name, str(times)], f"{times}\n", 0, "out of memory\n")
 
 

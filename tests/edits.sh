@@ -1,7 +1,7 @@
 #!/usr/bin/env bash
-# Tries the edits of tests/edits, wrong bodies beside those that the gate tries: the prover has to refuse each. By hand, with
-# make test-edits, when a contract or a definition of a crate changes. It takes long, for some edits a minute each. The last
-# line is "N passed, M failed".
+# Tries the edits of tests/edits, wrong bodies beside those that the gate tries: the prover has to refuse each, and by the clause
+# that the edit names. By hand, with make test-edits, when a contract or a definition of a crate changes. It takes long, for some
+# edits a minute each. The last line is "N passed, M failed".
 #
 #   tests/edits.sh [CRATE..]        the edits of these crates, all where none is named
 #
@@ -53,5 +53,7 @@ done
 if [ "$ended" -ne 0 ] && [ "$failed" -eq 0 ]; then
     failed=1
 fi
+said=$("$root/tests/refused_by.py" "$log" "$root/tests/edits" | tee /dev/stderr | tail -n 1) || failed=$((failed + 1))
+echo "by the clause that they name: $said"
 echo "$passed passed, $failed failed"
 [ "$failed" -eq 0 ]

@@ -1,16 +1,17 @@
 #!/usr/bin/env bash
-# All tests: whether the edits of tests/edits can still be made; the proofs of the programs; the gate (the proofs of the tests
-# and what else isn't kept, the must-fail edits, the crates' tests and the programs' stored runs); then the programs as users
-# run them, their manual pages, counts of allocations, and runs in which each allocation is refused. At the end stands what
-# each part took. The last line is "N passed, M failed" over all.
+# All tests: whether the edits of tests/edits can still be made, and docs/THEOREM.md quotes what is there; the proofs of the
+# programs; the gate (the proofs of the tests and what else isn't kept, the must-fail edits, the crates' tests and the programs'
+# stored runs); whether each edit was refused by the clause that it names; then the programs as users run them, their manual
+# pages, counts of allocations, and runs in which each allocation is refused. At the end stands what each part took. The last
+# line is "N passed, M failed" over all.
 #
 # RT names the command rt, where it isn't on the PATH.
 set -uo pipefail
 cd "$(dirname "$0")/.."
 
 passed=0 failed=0 taken=""
-log=$(mktemp) times=$(mktemp)
-trap 'rm -f "$log" "$times"' EXIT
+log=$(mktemp) gate=$(mktemp) times=$(mktemp)
+trap 'rm -f "$log" "$gate" "$times"' EXIT
 TIMEFORMAT="%0R %0U %0S"
 
 # part NAME COMMAND..: runs it, and notes the seconds that it took, by the clock and of processors.
@@ -40,8 +41,10 @@ count() {
     fi
 }
 
-part tests/edits_apply.py python3 tests/edits_apply.py
-count $?
+for script in tests/edits_apply.py tests/quotes.py; do
+    part "$script" "$script"
+    count $?
+done
 
 # The programs first: then the proofs of the tests have the edits beside them. The gate counts all again, so here nothing counts
 # but a failure.
@@ -50,6 +53,10 @@ part tests/prove.py tests/prove.py drat_forward lrat_check model_check lookups a
 part "rt ci" "${RT:-rt}" ci
 ended=$?
 count "$ended"
+cp "$log" "$gate"
+
+part tests/refused_by.py tests/refused_by.py "$gate"
+count $?
 
 # The gate leaves the programs that it proved and built. Where it did not come so far, nothing else is tested in their place.
 export LRAT_CHECK=crates/lrat_check/out/lrat_check

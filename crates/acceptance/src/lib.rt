@@ -14,6 +14,8 @@ mod model;
 #[cfg(test)]
 mod never_verified;
 #[cfg(test)]
+mod programs;
+#[cfg(test)]
 mod refused_steps;
 #[cfg(test)]
 mod support;

@@ -3,13 +3,14 @@
 //!     allocations CASE COUNT
 //!
 //! It reads COUNT steps of one form into one buffer, or as many clauses, or stores and removes as many, or binds as many
-//! identifiers, and prints how many it did, or that memory was refused there. What is read is handed out with no memory of its
-//! own.
+//! identifiers, or checks as many pairs of an addition and its deletion, and prints how many it did, or that memory was refused
+//! there. What is read is handed out with no memory of its own.
 //!
 //! For `tests/refusals.py` it makes a call that memory may be refused to, and says whether the call was refused and left what it
 //! should; or calls that take no memory, where COUNT is not 0.
 #![tactic(auto)]
 
+mod pairs;
 mod quiet;
 mod refused;
 
@@ -170,6 +171,7 @@ fn make_calls(
         "store" => store_and_remove(alloc, lits, times),
         "store_of_many" => store_many_and_remove(alloc, times),
         "identifiers" => bind_and_unbind(alloc, times),
+        "lrat_session" => pairs::check_pairs(alloc, lits, times),
         _ => Ok(0),
     }
 }

@@ -292,7 +292,8 @@ impl Store {
     pub fn find(&mut self, lits: &[Lit]) -> Option<Slot>
         ensures found { IfSome result (λ slot. (c : Clause) ×
             (maps.get self.old.live slot ≡ Some c) × IsTrue (same_clause c lits.now)) }
-        ensures none { IfNone result ((s : ℕ) (c : Clause) → maps.get self.old.live s ≡ Some c →
+        ensures none { IfNone result
+            ((s : ℕ) (c : Clause) → maps.get self.old.live s ≡ Some c →
             IsTrue (same_clause c lits.now) → ⊥) }
         ensures same { self.new ≡ self.old }
     {

@@ -9,3 +9,5 @@ pub mod RunLemmas
 pub mod TokenLemmas
 pub mod SeenLemmas
 pub mod PrintLemmas
+pub mod GrammarLemmas
+pub mod ListingLemmas

@@ -125,7 +125,7 @@ both true b h = (refl, h)
 both false b h = absurd (let bad : false ≡ true = h in cc)
 
 -- digits
-abbrev AreAllDigits : List ℕ → Type 0
+abbrev pub AreAllDigits : List ℕ → Type 0
 AreAllDigits ds = list_all is_digit ds ≡ true
 
 first_digit : (d : ℕ) (ds : List ℕ) → AreAllDigits (d ∷ ds) → (is_digit d ≡ true) × AreAllDigits ds
@@ -145,7 +145,7 @@ digits_test = record {
     in_range : (d : ℕ) → IsInRange 48 57 d → is_digit d ≡ true
     in_range d k = grind (arith, nat_tests)
 
-numerals : IsNumeralModel AreAllDigits decimal_value
+pub numerals : IsNumeralModel AreAllDigits decimal_value
 numerals = numerals_by_fold AreAllDigits digits_test (fold (λ n d. n * 10 + (d - 48)))
     (record { empty = λ n. refl; more = λ n d ds k. refl })
 

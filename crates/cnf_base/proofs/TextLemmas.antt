@@ -99,7 +99,7 @@ lines_of-cons : (b : ℕ) (bs first : List ℕ) (rest : List (List ℕ)) → (b 
 lines_of-cons b bs first rest h e = ap (λ v. cond v ([] ∷ lines_of bs) (onto_first b (lines_of bs))) h ∙ ap (onto_first b) e
 
 -- the first line begins as the text does
-is_comment-lines_of : (bs : List ℕ) (first : List ℕ) (rest : List (List ℕ)) → lines_of bs ≡ first ∷ rest → is_comment bs ≡ is_comment first
+pub is_comment-lines_of : (bs : List ℕ) (first : List ℕ) (rest : List (List ℕ)) → lines_of bs ≡ first ∷ rest → is_comment bs ≡ is_comment first
 is_comment-lines_of [] first rest e = by first rest e
   where
     by : (first : List ℕ) (rest : List (List ℕ)) → [] ∷ [] ≡ first ∷ rest → false ≡ is_comment first

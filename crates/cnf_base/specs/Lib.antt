@@ -4,6 +4,7 @@ pub mod Stream
 pub mod Words
 pub mod Digits
 pub mod Text
+pub mod Grammar
 pub mod Whole
 pub mod Lines
 pub mod Readers

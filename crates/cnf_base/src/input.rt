@@ -1,9 +1,9 @@
 //! What bytes are read from.
-ghost use Rattle.std.specs.Prelude.{◌≡◌, ◌+◌, ◌-◌, ◌^◌, ℕ, List, [], ◌∷◌, None, Some};
+ghost use Rattle.std.specs.Prelude.{◌≡◌, ◌+◌, ◌-◌, ◌^◌, ℕ, List, [], ◌∷◌, None, Some, is_some};
 ghost use Rattle.std.specs.Io.{ReadsAtMost};
 ghost use Rattle.std.specs.Io.KnownBytes.{ReadConsumes};
 ghost use Rattle.cnf_base.specs.Marks.{given_by, over_after, AnswersAgain};
-ghost use Rattle.cnf_base.specs.Stream.{Reader};
+ghost use Rattle.cnf_base.specs.Stream.{Reader, tells_failure};
 
 use std::io;
 use std::io::Read;
@@ -38,7 +38,8 @@ pub trait In {
         ensures again { AnswersAgain (shown self.old).over result }
         ensures still { (e : Ending) → (shown self.old).over ≡ Some e →
             shown self.new ≡ shown self.old }
-        ensures count { (shown self.new).most_left + given_by result ≡ (shown self.old).most_left }
+        ensures count { (shown self.new).most_left + given_by result ≡
+            (shown self.old).most_left }
         ensures same_reader { borrows self.new ≡ borrows self.old };
 }
 
@@ -87,6 +88,16 @@ impl<R: Read> FromRead<R> {
             inner,
             last: None,
             most_left: u64::MAX,
+        }
+    }
+
+    /// The error that it keeps, where a read has failed.
+    pub fn failure(&self) -> Option<io::Error>
+        ensures { is_some result ≡ tells_failure self.now }
+    {
+        match self.last {
+            Some(Err(error)) => Some(error),
+            _ => None,
         }
     }
 }

@@ -48,7 +48,8 @@ impl<W: Out> LineOut<W> {
         ensures writes { Writes self.old self.new (line_of bytes.now) }
         ensures ok { OnOk result
             ((self.new.is_broken ≡ false) × (self.new.has_failed ≡ self.old.has_failed)) }
-        ensures err { OnErr result ((self.new.is_broken ≡ true) × (self.new.has_failed ≡ true)) }
+        ensures err { OnErr result
+            ((self.new.is_broken ≡ true) × (self.new.has_failed ≡ true)) }
     {
         let end = bytes.len();
         if end < ROOM {
@@ -67,7 +68,8 @@ impl<W: Out> LineOut<W> {
         ensures ok { OnOk result
             ((self.new.is_broken ≡ false) × (self.new.has_failed ≡ self.old.has_failed)) }
         ensures flushed { OnOk result (self.new.is_flushed ≡ true) }
-        ensures err { OnErr result ((self.new.is_broken ≡ true) × (self.new.has_failed ≡ true)) }
+        ensures err { OnErr result
+            ((self.new.is_broken ≡ true) × (self.new.has_failed ≡ true)) }
     {
         if self.is_broken {
             return Err(WriteFailed);
@@ -93,7 +95,8 @@ impl<W: Out> LineOut<W> {
         ensures writes { Writes self.old self.new bytes.now }
         ensures ok { OnOk result
             ((self.new.is_broken ≡ false) × (self.new.has_failed ≡ self.old.has_failed)) }
-        ensures err { OnErr result ((self.new.is_broken ≡ true) × (self.new.has_failed ≡ true)) }
+        ensures err { OnErr result
+            ((self.new.is_broken ≡ true) × (self.new.has_failed ≡ true)) }
     {
         if self.is_broken || !write_whole(&mut self.writer, bytes) {
             self.is_broken = true;

@@ -42,7 +42,8 @@ impl Lit {
 
     /// The literal that DIMACS writes as this number; none for 0 and past the greatest variable.
     pub fn new(number: i32) -> Option<Lit>
-        ensures some { IsSome result ↔ ((1 ≤ nat_abs number) × (nat_abs number ≤ 268435455)) }
+        ensures some { IsSome result ↔
+            ((1 ≤ nat_abs number) × (nat_abs number ≤ 268435455)) }
         ensures value { IfSome result (λ l. l ≡ literal_of number) }
     {
         let variable = number.unsigned_abs();

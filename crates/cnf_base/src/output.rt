@@ -30,7 +30,8 @@ pub trait Out {
     fn write(&mut self, buf: &[u8]) -> io::Result<usize>
         ensures bound { WritesAtMost result buf.now }
         ensures bytes { WriteAppends (held self.old) (held self.new) result buf.now }
-        ensures mark { has_failed self.new ≡ marked_by_write (has_failed self.old) buf.now result }
+        ensures mark { has_failed self.new ≡
+            marked_by_write (has_failed self.old) buf.now result }
         ensures unflushed { is_flushed self.new ≡ false }
         ensures same_writer { borrows self.new ≡ borrows self.old };
 

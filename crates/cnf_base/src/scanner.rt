@@ -43,7 +43,8 @@ impl<R: In> Scanner<R> {
             (λ i j. Gives result (listing_at self.old.place i) (listing_at self.new.place j) j) }
         ensures fewer { MovesOn result self.old self.new }
         ensures failed { OnErr result (tells_failure self.new.reader ≡ true) }
-        ensures mark { OnOk result (tells_failure self.new.reader ≡ tells_failure self.old.reader) }
+        ensures mark { OnOk result
+            (tells_failure self.new.reader ≡ tells_failure self.old.reader) }
     {
         next_token(&mut self.source)
     }
@@ -86,7 +87,8 @@ fn next_token<R: In>(source: &mut Source<R>) -> Result<Token, ReadFailed>
         (λ i j. Gives result (listing_at source.old.place i) (listing_at source.new.place j) j) }
     ensures fewer { MovesOn result source.old source.new }
     ensures failed { OnErr result (tells_failure source.new.reader ≡ true) }
-    ensures mark { OnOk result (tells_failure source.new.reader ≡ tells_failure source.old.reader) }
+    ensures mark { OnOk result
+        (tells_failure source.new.reader ≡ tells_failure source.old.reader) }
 {
     if let Some(token) = spaced_number(source) {
         return Ok(token);
@@ -127,7 +129,8 @@ fn skip_comment<R: In>(source: &mut Source<R>) -> Result<(), ReadFailed>
         (comment_at source.old.place i ≡ listing_at source.new.place j) × FailsAt result j) }
     ensures fewer { most_to_come source.new ≤ most_to_come source.old }
     ensures failed { OnErr result (tells_failure source.new.reader ≡ true) }
-    ensures mark { OnOk result (tells_failure source.new.reader ≡ tells_failure source.old.reader) }
+    ensures mark { OnOk result
+        (tells_failure source.new.reader ≡ tells_failure source.old.reader) }
 {
     while let Some(byte) = source.peek()? {
         source.bump();
@@ -150,7 +153,8 @@ fn read_word<R: In>(source: &mut Source<R>, first: u8) -> Result<Word, ReadFaile
         (listing_at source.new.place j) j) }
     ensures fewer { most_to_come source.new < most_to_come source.old }
     ensures failed { OnErr result (tells_failure source.new.reader ≡ true) }
-    ensures mark { OnOk result (tells_failure source.new.reader ≡ tells_failure source.old.reader) }
+    ensures mark { OnOk result
+        (tells_failure source.new.reader ≡ tells_failure source.old.reader) }
 {
     if may_begin_number(first) {
         read_number(source, first)
@@ -171,7 +175,8 @@ fn read_number<R: In>(source: &mut Source<R>, first: u8) -> Result<Word, ReadFai
         (listing_at source.new.place j) j) }
     ensures fewer { most_to_come source.new < most_to_come source.old }
     ensures failed { OnErr result (tells_failure source.new.reader ≡ true) }
-    ensures mark { OnOk result (tells_failure source.new.reader ≡ tells_failure source.old.reader) }
+    ensures mark { OnOk result
+        (tells_failure source.new.reader ≡ tells_failure source.old.reader) }
 {
     source.bump();
     let is_negative = first == b'-';
@@ -203,7 +208,8 @@ fn read_name<R: In>(source: &mut Source<R>, first: u8) -> Result<Word, ReadFaile
         (listing_at source.new.place j) j) }
     ensures fewer { most_to_come source.new < most_to_come source.old }
     ensures failed { OnErr result (tells_failure source.new.reader ≡ true) }
-    ensures mark { OnOk result (tells_failure source.new.reader ≡ tells_failure source.old.reader) }
+    ensures mark { OnOk result
+        (tells_failure source.new.reader ≡ tells_failure source.old.reader) }
 {
     source.bump();
     let mut name = Name::new();

@@ -63,7 +63,8 @@ impl<R: In> Source<R> {
 
     /// A source of which nothing was read. The reader is handed back where its room is refused.
     pub fn new(alloc: Global, reader: R) -> Result<Self, (OutOfMemory, R)>
-        ensures fresh { IfOk result (λ s. s ≡ unread_stream (R.shown reader) (R.borrows reader)) }
+        ensures fresh { IfOk result
+            (λ s. s ≡ unread_stream (R.shown reader) (R.borrows reader)) }
         ensures refused { IfErr result (λ e. e.1 ≡ reader) }
     {
         match Piece::new(alloc) {
@@ -80,7 +81,8 @@ impl<R: In> Source<R> {
         ensures shown { Shows result self.new }
         ensures most { length self.new.ahead ≤ 65536 }
         ensures failed { OnErr result (tells_failure self.new.reader ≡ true) }
-        ensures mark { OnOk result (tells_failure self.new.reader ≡ tells_failure self.old.reader) }
+        ensures mark { OnOk result
+            (tells_failure self.new.reader ≡ tells_failure self.old.reader) }
     {
         if self.at == self.end {
             self.fill();
@@ -101,7 +103,8 @@ impl<R: In> Source<R> {
         ensures look { IsLook self.old self.new }
         ensures count { most_to_come self.new ≡ most_to_come self.old }
         ensures met { self.new.ahead ≡ [] → IsSome self.new.met }
-        ensures failed { self.new.met ≡ Some Ending.Failed → tells_failure self.new.reader ≡ true }
+        ensures failed { self.new.met ≡ Some Ending.Failed →
+            tells_failure self.new.reader ≡ true }
         ensures mark { self.new.met ≢ Some Ending.Failed →
             tells_failure self.new.reader ≡ tells_failure self.old.reader }
     {

@@ -1,5 +1,5 @@
 -- A formula's tokens, one at a time.
-use Rattle.std.proofs.Common.{◌≡◌, ℕ, ◌<◌, ◌≤◌, List, [], ◌∷◌, ◌++◌, None, Some, refl, sym, ap, ◌∙◌, arith}
+use Rattle.std.proofs.Common.{◌≡◌, ℕ, ◌<◌, ◌≤◌, List, [], ◌∷◌, ◌++◌, length, Option, None, Some, refl, sym, ap, ◌∙◌, subst, arith}
 use Rattle.std.specs.Prelude.{Bool, true, false, Result, Ok, Err}
 use Rattle.cnf_base.specs.Literals.{Literal}
 use Rattle.cnf_base.specs.Stream.{Input, Stream, Along, most_to_come, tells_failure}
@@ -8,14 +8,17 @@ use Rattle.cnf_base.specs.declared.input.Ending.TheVariants.{End, Failed}
 use Rattle.cnf_base.specs.declared.input.ReadFailed.{ReadFailed as Cut}
 use Rattle.cnf_base.specs.declared.place.Place.{Place}
 use Rattle.cnf_base.specs.declared.word.Word.{Word}
+use Rattle.cnf_base.specs.declared.token.Token.{Token}
 use Rattle.cnf_base.specs.declared.token.Token.TheVariants as token
 use Rattle.cnf_base.specs.declared.fault.Fault.{Fault}
 use Rattle.cnf_base.specs.declared.fault.Fault.TheVariants.{Text, Binary, ReadFailed, OutOfMemory}
 use Rattle.cnf_base.specs.declared.fault.TextFault.{TextFault}
-use Rattle.cnf_base.proofs.StreamLemmas.{Along-then, Along-map, Along-none, Along-still}
-use Rattle.dimacs.specs.Reading.{FormulaReading, clauses_to_come, body_unless_ended, GivesClause, body_left, EndsBody}
-use Rattle.dimacs.specs.Formula.{Body, body_of, judged, body_on_word, body_at_end, faulty_body, whole}
+use Rattle.cnf_base.proofs.ListingLemmas.{Gives-within, listing_at-within}
+use Rattle.cnf_base.proofs.StreamLemmas.{Along-then, Along-map, Along-none}
+use Rattle.dimacs.specs.Reading.{FormulaReading, clauses_to_come, body_unless_ended, GivesClause, body_left, EndsBody, rests_unless_ended, rests_to_come, PassesNoZero, GivesRest, rests_left}
+use Rattle.dimacs.specs.Formula.{Body, body_of, judged, body_on_word, body_at_end, faulty_body, whole, rests_on_word, rests_of}
 use Rattle.dimacs.specs.declared.header.Header.{Header}
+use Rattle.dimacs.proofs.RestsLemmas.{within-none, on_word-within, rests_among-within, gives_no_rest}
 
 -- a fault is what comes, and it stays
 pub gives_fault : (f : Fault) (c : List Literal) (b : Body) → b ≡ faulty_body f → GivesClause (Err f) c b (faulty_body f)
@@ -35,13 +38,20 @@ kept_gives (Err ReadFailed) c before after none b a = (b ∙ sym a, b)
 kept_gives (Err OutOfMemory) c before after none b a = a
 
 pub Kept-clause : (r : FormulaReading) (answer : Result Bool Fault) (c : List Literal) → r.kept ≡ Some answer → (r.kept ≡ Some (Ok true) → ⊥)
-    → Along r.stream r.stream (λ i j. GivesClause answer c (clauses_to_come r i) (clauses_to_come r j))
+    → Along r.stream r.stream (λ i j. GivesClause answer c (clauses_to_come r i) (clauses_to_come r j) × GivesRest answer (rests_to_come r i) (rests_to_come r j) j)
 Kept-clause r answer c is none =
     let told : (i : Input) → clauses_to_come r i ≡ body_unless_ended (Some answer) whole =
     λ i. ap (λ k. body_unless_ended k (body_of r.header r.complete [] (listing_at r.stream.place i))) is ∙ same answer _ in
-    Along-map r.stream r.stream _ _ (Along-none r.stream) (λ i j m e.
-    kept_gives answer c _ _ (λ ok. none (is ∙ ap Some ok)) (told i) (told j))
+    Along-map r.stream r.stream _ _ (Along-none r.stream) (λ i j m e. (
+      kept_gives answer c _ _ (λ ok. none (is ∙ ap Some ok)) (told i) (told j),
+      gives_no_rest answer (rests_to_come r i) (rests_to_come r j) j (λ ok. none (is ∙ ap Some ok)) (no_rests i j),
+    ))
   where
+    no_rests : (i j : Input) → PassesNoZero (rests_to_come r i) j
+    no_rests i j =
+        let P : Option (Result Bool Fault) → Type 0 = λ k. PassesNoZero (rests_unless_ended k (rests_of r.header r.complete (listing_at r.stream.place i))) j in
+        subst P (sym is) (within-none (length j.bytes))
+
     same : (answer : Result Bool Fault) (b : Body) → body_unless_ended (Some answer) b ≡ body_unless_ended (Some answer) whole
     same (Ok v) b = refl
     same (Err f) b = refl
@@ -53,15 +63,22 @@ ends_so h complete p (Ok true) ls before l ends e = absurd ends
 ends_so h complete p (Ok false) ls before l ends e = (e ∙ ends, e ∙ ends)
 ends_so h complete p (Err f) ls before l ends e = gives_fault f ls before (e ∙ ends)
 
+-- no clause is given at the end
+ends_no_clause : (result : Result Bool Fault) (b : Body) → EndsBody result b → result ≡ Ok true → ⊥
+ends_no_clause (Ok true) b ends is = ends
+ends_no_clause (Ok false) b ends is = cc
+ends_no_clause (Err f) b ends is = cc
+
 -- from one moment to another literals of one clause were read
 pub record Between (h : Header) (complete : ℕ) (old now : Stream) (before at_hand : List Literal) : Type 0 where
-  pub text : Along old now (λ i j. body_of h complete before (listing_at old.place i) ≡ body_of h complete at_hand (listing_at now.place j))
+  pub text : Along old now (λ i j. (body_of h complete before (listing_at old.place i) ≡ body_of h complete at_hand (listing_at now.place j))
+      × (rests_of h complete (listing_at old.place i) ≡ rests_of h complete (listing_at now.place j)))
   pub fewer : most_to_come now ≤ most_to_come old
   pub mark : tells_failure now.reader ≡ tells_failure old.reader
 
 pub Between-start : (h : Header) (complete : ℕ) (s : Stream) (at_hand : List Literal) → Between h complete s s at_hand at_hand
 Between-start h complete s at_hand = record {
-  text = Along-still s (λ i. body_of h complete at_hand (listing_at s.place i));
+  text = Along-map s s _ _ (Along-none s) (λ i j m e. (ap (λ x. body_of h complete at_hand (listing_at s.place x)) e, ap (λ x. rests_of h complete (listing_at s.place x)) e));
   fewer = omega arith;
   mark = refl;
 }
@@ -70,48 +87,73 @@ module _ (h : Header) (complete : ℕ) (old now new : Stream) (before at_hand : 
   pub Between-line : (p : Place) → Along now new (λ i j. Gives (Ok (token.LineEnd p)) (listing_at now.place i) (listing_at new.place j) j)
       → most_to_come new < most_to_come now → tells_failure new.reader ≡ tells_failure now.reader → Between h complete old new before at_hand
   Between-line p gives fewer mark = record {
-    text = Along-then old now new _ _ _ so_far.text gives (λ i j k m q r. q ∙ ap (body_of h complete at_hand) r);
+    text = Along-then old now new _ _ _ so_far.text gives (λ i j k m q r. (q.0 ∙ ap (body_of h complete at_hand) r, q.1 ∙ ap (rests_of h complete) r));
     fewer = omega (arith, so_far.fewer, fewer);
     mark = mark ∙ so_far.mark;
   }
 
+  -- an answer, what is to come, and how far the input was read
+  abbrev Gave : Result Bool Fault → List Literal → Type 0
+  Gave result c = Along old new (λ i j. GivesClause result c (body_of h complete before (listing_at old.place i)) (body_left result h complete (listing_at new.place j))
+      × GivesRest result (rests_of h complete (listing_at old.place i)) (rests_left result h complete (listing_at new.place j)) j)
+
+  -- so it is of numbers that are so
+  passes : (xs ys : List ℕ) (j : Input) → xs ≡ ys → PassesNoZero ys j → PassesNoZero xs j
+  passes xs ys j is h = let P : List ℕ → Type 0 = λ x. PassesNoZero x j in subst P (sym is) h
+
   module _ (p : Place) (w : Word) (gives : Along now new (λ i j. Gives (Ok (token.Word p w)) (listing_at now.place i) (listing_at new.place j) j)) where
-    word_text : Along old new (λ i j. body_of h complete before (listing_at old.place i)
-        ≡ body_on_word complete at_hand p (judged h complete w) (λ c ls. body_of h c ls (listing_at new.place j)))
-    word_text = Along-then old now new _ _ _ so_far.text gives (λ i j k m q r. q ∙ ap (body_of h complete at_hand) r)
+    abbrev follows : Input → Result (Option Literal) TextFault → Body
+    follows j r = body_on_word complete at_hand p r (λ c ls. body_of h c ls (listing_at new.place j))
+
+    abbrev rests : Input → Result (Option Literal) TextFault → List ℕ
+    rests j r = rests_on_word complete (length j.bytes) r (λ c. rests_of h c (listing_at new.place j))
+
+    word_text : Along old new (λ i j. (body_of h complete before (listing_at old.place i) ≡ follows j (judged h complete w))
+        × (rests_of h complete (listing_at old.place i) ≡ rests j (judged h complete w)))
+    word_text = Along-then old now new _ _ _ so_far.text gives (λ i j k m q r. (q.0 ∙ ap (body_of h complete at_hand) r, q.1 ∙ ap (rests_of h complete) r))
+
+    -- whatever the word is, what follows it has no more bytes than are left
+    rests-within : (i j : Input) → rests_of h complete (listing_at old.place i) ≡ rests j (judged h complete w) → PassesNoZero (rests_of h complete (listing_at old.place i)) j
+    rests-within i j is = passes _ (rests j (judged h complete w)) j is
+        (on_word-within h (length j.bytes) complete (length j.bytes) (judged h complete w) (λ c. rests_of h c (listing_at new.place j)) (omega arith)
+        (λ c. rests_among-within h (length j.bytes) c _ (listing_at-within new.place j)))
 
     pub Between-literal : (l : Literal) → Ok (Some l) ≡ judged h complete w → most_to_come new < most_to_come now → tells_failure new.reader ≡ tells_failure now.reader
         → Between h complete old new before (at_hand ++ l ∷ [])
     Between-literal l is fewer mark = record {
-      text = Along-map old new _ _ word_text (λ i j m q. q ∙ ap (λ r. body_on_word complete at_hand p r (λ c ls. body_of h c ls (listing_at new.place j))) (sym is));
+      text = Along-map old new _ _ word_text (λ i j m q. (q.0 ∙ ap (follows j) (sym is), q.1 ∙ ap (rests j) (sym is)));
       fewer = omega (arith, so_far.fewer, fewer);
       mark = mark ∙ so_far.mark;
     }
 
-    pub Between-clause : Ok None ≡ judged h complete w
-        → Along old new (λ i j. GivesClause (Ok true) at_hand (body_of h complete before (listing_at old.place i)) (body_left (Ok true) h complete (listing_at new.place j)))
-    Between-clause is =
-        Along-map old new _ _ word_text (λ i j m q. q ∙ ap (λ r. body_on_word complete at_hand p r (λ c ls. body_of h c ls (listing_at new.place j))) (sym is))
+    pub Between-clause : Ok None ≡ judged h complete w → Gave (Ok true) at_hand
+    Between-clause is = Along-map old new _ _ word_text (λ i j m q. (q.0 ∙ ap (follows j) (sym is), (q.1 ∙ ap (rests j) (sym is), rests-within i j q.1)))
 
-    pub Between-fault : (f : TextFault) → Err f ≡ judged h complete w
-        → Along old new (λ i j. GivesClause (Err (Text f p)) at_hand (body_of h complete before (listing_at old.place i)) (body_left (Err (Text f p)) h complete (listing_at new.place j)))
-    Between-fault f is =
-        Along-map old new _ _ word_text (λ i j m q. gives_fault (Text f p) at_hand _ (q ∙ ap (λ r. body_on_word complete at_hand p r (λ c ls. body_of h c ls (listing_at new.place j))) (sym is)))
+    pub Between-fault : (f : TextFault) → Err f ≡ judged h complete w → Gave (Err (Text f p)) at_hand
+    Between-fault f is = Along-map old new _ _ word_text (λ i j m q. (gives_fault (Text f p) at_hand _ (q.0 ∙ ap (follows j) (sym is)), rests-within i j q.1))
 
-    pub Between-refused : (c : List Literal)
-        → Along old new (λ i j. GivesClause (Err OutOfMemory) c (body_of h complete before (listing_at old.place i)) (body_left (Err OutOfMemory) h complete (listing_at new.place j)))
-    Between-refused c = Along-map old new _ _ word_text (λ i j m q. refl)
+    pub Between-refused : (c : List Literal) → Gave (Err OutOfMemory) c
+    Between-refused c = Along-map old new _ _ word_text (λ i j m q. (refl, rests-within i j q.1))
+
+  -- the rest has no more bytes than are left
+  rest-within : (result : Result Token Cut) (i j k : Input) → Gives result (listing_at now.place j) (listing_at new.place k) k
+      → rests_of h complete (listing_at old.place i) ≡ rests_of h complete (listing_at now.place j) → PassesNoZero (rests_of h complete (listing_at old.place i)) k
+  rest-within result i j k gives is =
+      passes _ (rests_of h complete (listing_at now.place j)) k is
+      (rests_among-within h (length k.bytes) complete _ (Gives-within result (listing_at now.place j) new.place k gives))
 
   pub Between-end : (p : Place) (result : Result Bool Fault) → Along now new (λ i j. Gives (Ok (token.End p)) (listing_at now.place i) (listing_at new.place j) j)
-      → EndsBody result (body_at_end h complete at_hand p End)
-      → Along old new (λ i j. GivesClause result at_hand (body_of h complete before (listing_at old.place i)) (body_left result h complete (listing_at new.place j)))
-  Between-end p result gives ends = Along-then old now new _ _ _ so_far.text gives (λ i j k m q r.
-      ends_so h complete p result at_hand _ _ ends (q ∙ ap (body_of h complete at_hand) r.1))
+      → EndsBody result (body_at_end h complete at_hand p End) → Gave result at_hand
+  Between-end p result gives ends = Along-then old now new _ _ _ so_far.text gives (λ i j k m q r. (
+    ends_so h complete p result at_hand _ _ ends (q.0 ∙ ap (body_of h complete at_hand) r.1),
+    gives_no_rest result _ (rests_left result h complete (listing_at new.place k)) k (ends_no_clause result (body_at_end h complete at_hand p End) ends) (rest-within (Ok (token.End p)) i j k r q.1),
+  ))
 
-  pub Between-failed : (cut : Cut) → Along now new (λ i j. Gives (Err cut) (listing_at now.place i) (listing_at new.place j) j)
-      → Along old new (λ i j. GivesClause (Err ReadFailed) at_hand (body_of h complete before (listing_at old.place i)) (body_left (Err ReadFailed) h complete (listing_at new.place j)))
-  Between-failed cut gives = Along-then old now new _ _ _ so_far.text gives (λ i j k m q r.
-      gives_fault ReadFailed at_hand _ (q ∙ empty (listing_at now.place j) r.1 r.2))
+  pub Between-failed : (cut : Cut) → Along now new (λ i j. Gives (Err cut) (listing_at now.place i) (listing_at new.place j) j) → Gave (Err ReadFailed) at_hand
+  Between-failed cut gives = Along-then old now new _ _ _ so_far.text gives (λ i j k m q r. (
+    gives_fault ReadFailed at_hand _ (q.0 ∙ empty (listing_at now.place j) r.1 r.2),
+    rest-within (Err cut) i j k r q.1,
+  ))
     where
       empty : (l : Listing) → l.tokens ≡ [] → l.ending ≡ Failed → body_of h complete at_hand l ≡ faulty_body ReadFailed
       empty l none failed = rw (none, failed) refl

@@ -65,7 +65,7 @@ header_read h rest p from_one vars clauses =
 
 module _ (h : Header) (small : h.vars ≤ 268435455) where
   -- a literal of a clause, where clauses are still missing
-  judged_literal : (k : ℕ) (l : Literal) → nat_le h.clauses k ≡ false → is_literal h.vars l ≡ true
+  pub judged_literal : (k : ℕ) (l : Literal) → nat_le h.clauses k ≡ false → is_literal h.vars l ≡ true
       → judged h k (word_of (literal_text l)) ≡ Ok (Some l)
   judged_literal k l missing is =
       let r = literal_range h.vars l is in
@@ -81,7 +81,7 @@ module _ (h : Header) (small : h.vars ≤ 268435455) where
       numbered v x low missing = rw (missing, low) refl
 
   -- the `0` that ends a clause
-  judged_zero : (k : ℕ) → nat_le h.clauses k ≡ false → judged h k (words.Number (number false 0)) ≡ Ok None
+  pub judged_zero : (k : ℕ) → nat_le h.clauses k ≡ false → judged h k (words.Number (number false 0)) ≡ Ok None
   judged_zero k missing = let w : nat_le 0 h.vars ≡ true = grind (arith, nat_tests) in rw (missing, w) refl
 
   -- a literal, and a `0` at a line's end

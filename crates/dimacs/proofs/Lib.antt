@@ -1,7 +1,11 @@
 pub mod HeaderLemmas
+pub mod RestsLemmas
 pub mod FormulaLemmas
 pub mod ModelLemmas
 pub mod ClaimLemmas
 pub mod FormulaPrinting
 pub mod ModelPrinting
 pub mod PrintExamples
+pub mod GrammarWords
+pub mod FormulaGrammar
+pub mod ModelGrammar

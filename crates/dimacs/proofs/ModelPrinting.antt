@@ -31,7 +31,7 @@ abbrev said_before_line : List Literal → Said
 said_before_line ls = record { position = LineStart; has_status = true; is_ended = false; listed = ls }
 
 -- these literals are among those
-abbrev AreAmong : List Literal → List Literal → Type 0
+abbrev pub AreAmong : List Literal → List Literal → Type 0
 AreAmong ls whole = (l : Literal) → has ls l ≡ true → has whole l ≡ true
 
 -- ---- Tokens
@@ -77,7 +77,7 @@ takes_end acc b c e = rw (b.is, c.is, e) refl
 
 module _ (whole : List Literal) (consistent : IsConsistent whole) where
   -- the first of these literals doesn't contradict others of the list
-  no_complement : (acc ls : List Literal) (l : Literal) → AreAmong acc whole → AreAmong (l ∷ ls) whole
+  pub no_complement : (acc ls : List Literal) (l : Literal) → AreAmong acc whole → AreAmong (l ∷ ls) whole
       → has acc (complement l) ≡ false
   no_complement acc ls l before after =
       by (has acc (complement l)) refl (before (complement l)) (consistent l (after l (has_head l ls)))
@@ -88,7 +88,7 @@ module _ (whole : List Literal) (consistent : IsConsistent whole) where
       by false e bad none = e
 
   -- one more literal
-  among_more : (acc ls : List Literal) (l : Literal) → AreAmong acc whole → AreAmong (l ∷ ls) whole
+  pub among_more : (acc ls : List Literal) (l : Literal) → AreAmong acc whole → AreAmong (l ∷ ls) whole
       → AreAmong (l ∷ acc) whole
   among_more acc ls l before after k h = by (l == k) refl (before k) (after k)
     where

@@ -174,3 +174,34 @@ formula_at p i = formula_with (header_of (listing_at p i))
 
 abbrev pub formula_of : Input → Formula
 formula_of i = formula_with (header_of (listing_of i))
+
+-- ---- How many bytes of the input follow the `0` of each clause before the first fault
+
+-- what a judged word adds, which so many bytes follow; `rest` is what the others add
+abbrev pub rests_on_word : ℕ → ℕ → Result (Option Literal) TextFault → (ℕ → List ℕ) → List ℕ
+rests_on_word complete left (Ok (Some l)) rest = rest complete
+rests_on_word complete left (Ok None) rest = left ∷ rest (complete + 1)
+rests_on_word complete left (Err f) rest = []
+
+abbrev pub rests_on_token : Header → ℕ → tokens.Token → ℕ → (ℕ → List ℕ) → List ℕ
+rests_on_token h complete (token.Word p w) left rest = rests_on_word complete left (judged h complete w) rest
+rests_on_token h complete (token.LineEnd p) left rest = rest complete
+rests_on_token h complete (token.End p) left rest = rest complete
+
+abbrev pub rests_among : Header → ℕ → List Listed → List ℕ
+rests_among h complete [] = []
+rests_among h complete (t ∷ ts) = rests_on_token h complete t.token t.rest (λ complete. rests_among h complete ts)
+
+-- those of the clauses after so many complete ones
+abbrev pub rests_of : Header → ℕ → Listing → List ℕ
+rests_of h complete l = rests_among h complete l.tokens
+
+abbrev pub rests_with : Result (Header × Listing) Fault → List ℕ
+rests_with (Ok h) = rests_of h.0 0 h.1
+rests_with (Err f) = []
+
+abbrev pub clause_rests_at : Place → Input → List ℕ
+clause_rests_at p i = rests_with (header_of (listing_at p i))
+
+abbrev pub clause_rests : Input → List ℕ
+clause_rests i = rests_with (header_of (listing_of i))

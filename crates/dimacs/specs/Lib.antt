@@ -3,4 +3,5 @@ pub mod Reading
 pub mod Claim
 pub mod Claiming
 pub mod Printing
+pub mod Grammar
 pub mod Models

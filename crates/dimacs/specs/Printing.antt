@@ -11,9 +11,12 @@ use Rattle.dimacs.specs.declared.header.Header.{Header}
 
 -- ---- A formula
 
--- `p cnf VARIABLES CLAUSES` (DIMACS CNF)
+-- `p cnf VARIABLES CLAUSES` (DIMACS CNF), and as a line
+abbrev pub header_words : Header → List (List ℕ)
+header_words h = codes "p" ∷ codes "cnf" ∷ decimal h.vars ∷ decimal h.clauses ∷ []
+
 abbrev pub header_line : Header → List ℕ
-header_line h = words_line (codes "p" ∷ codes "cnf" ∷ decimal h.vars ∷ decimal h.clauses ∷ [])
+header_line h = words_line (header_words h)
 
 -- a clause in a line of its own (DIMACS CNF)
 abbrev pub clause_line : Clause → List ℕ
@@ -37,9 +40,16 @@ FormulaIsReadBack = (h : Header) (clauses : List Clause) → IsFormula h clauses
 
 -- ---- A model
 
+-- the line that says that there is a model (SAT Competition)
+abbrev pub status_words : List (List ℕ)
+status_words = codes "s" ∷ codes "SATISFIABLE" ∷ []
+
 -- a line of values (SAT Competition)
+abbrev pub value_words : List (List ℕ) → List (List ℕ)
+value_words words = codes "v" ∷ words
+
 abbrev pub value_line : List (List ℕ) → List ℕ
-value_line words = words_line (codes "v" ∷ words)
+value_line words = words_line (value_words words)
 
 abbrev pub literals_line : List Literal → List ℕ
 literals_line ls = value_line (map literal_text ls)
@@ -48,8 +58,7 @@ literals_line ls = value_line (map literal_text ls)
 -- of which the last ends them with a `0`
 abbrev pub model_text : List (List Literal) → List Literal → List ℕ
 model_text lines last =
-    words_line (codes "s" ∷ codes "SATISFIABLE" ∷ [])
-    ++ flat_map literals_line lines ++ value_line (literal_words last)
+    words_line status_words ++ flat_map literals_line lines ++ value_line (literal_words last)
 
 -- literals within the limit, none with its complement
 pub record IsModel (ls : List Literal) : Type 0 where

@@ -5,8 +5,9 @@ ghost use Rattle.cnf_base.specs.Stream.{Stream, Along, most_to_come, tells_failu
 ghost use Rattle.cnf_base.specs.Text.{listing_at};
 ghost use Rattle.cnf_base.specs.declared.input.Ending.TheVariants.{End};
 ghost use Rattle.cnf_base.specs.Readers.{Advances, IsLeft, Keeps, Tells, TellsOf};
-ghost use Rattle.dimacs.specs.Formula.{body_at_end, body_of, formula_at, judged};
+ghost use Rattle.dimacs.specs.Formula.{body_at_end, body_of, clause_rests_at, formula_at, judged, rests_of};
 ghost use Rattle.dimacs.specs.Reading.{clauses_to_come, body_left, EndsBody, GivesClause, opened, unopened};
+ghost use Rattle.dimacs.specs.Reading.{GivesRest, rests_left, rests_to_come};
 
 use crate::ClauseBuf;
 use crate::header::{Header, read_header};
@@ -55,9 +56,11 @@ impl<R: In> Model for FormulaReader<R> {
 impl<R: In> FormulaReader<R> {
     /// Reads the header. A fault there hands the reader back.
     pub fn open(source: Source<R>) -> Result<Self, (Fault, R)>
-        // The formula is this header and what is still to come of it.
+        // The formula is this header and what is still to come of it, and so are the ends of its
+        // clauses.
         ensures opened { IfOk result (λ r. Along source r.stream
-            (λ i j. formula_at source.place i ≡ opened r.header (clauses_to_come r j))) }
+            (λ i j. (formula_at source.place i ≡ opened r.header (clauses_to_come r j))
+            × (clause_rests_at source.place i ≡ rests_to_come r j))) }
         ensures started { IfOk result (λ r. (r.complete ≡ 0) × (r.kept ≡ None)) }
         ensures stored { IfOk result (λ r. r.stored ≡ 0) }
         ensures fewer { IfOk result (λ r. most_to_come r.stream ≤ most_to_come source) }
@@ -105,14 +108,17 @@ impl<R: In> FormulaReader<R> {
     }
 
     /// Puts the next clause into the buffer. After the last one it answers false, at every call; after a fault, that
-    /// fault. After a fault or false the buffer's content is open.
+    /// fault. After a fault or false the buffer's content is open. No more than the clause is taken of the input, also
+    /// where memory is refused.
     pub fn next(&mut self, clause: &mut ClauseBuf) -> Result<bool, Fault>
         ensures clause { Along self.old.stream self.new.stream
             (λ i j. GivesClause result clause.new (clauses_to_come self.old i)
-            (clauses_to_come self.new j)) }
+            (clauses_to_come self.new j)
+            × GivesRest result (rests_to_come self.old i) (rests_to_come self.new j) j) }
         ensures header { self.new.header ≡ self.old.header }
         ensures counts { result ≡ Ok true → (self.new.complete ≡ self.old.complete + 1)
-            × (self.new.complete ≤ self.old.header.clauses) × (self.new.complete ≤ 4294967295) }
+            × (self.new.complete ≤ self.old.header.clauses)
+            × (self.new.complete ≤ 4294967295) }
         ensures stays { (answer : Result Bool Fault) → self.old.kept ≡ Some answer →
             (result ≡ answer) × (self.new ≡ self.old) }
         ensures keeps { Keeps result self.new.kept }
@@ -151,7 +157,9 @@ fn read_clause<R: In>(
 ) -> Result<bool, Fault>
     ensures clause { Along scanner.old scanner.new (λ i j. GivesClause result clause.new
         (body_of header complete clause.old (listing_at scanner.old.place i))
-        (body_left result header complete (listing_at scanner.new.place j))) }
+        (body_left result header complete (listing_at scanner.new.place j))
+        × GivesRest result (rests_of header complete (listing_at scanner.old.place i))
+        (rests_left result header complete (listing_at scanner.new.place j)) j) }
     ensures counts { result ≡ Ok true → complete < header.clauses }
     ensures fewer { Advances result scanner.old scanner.new }
     ensures tells { TellsOf result scanner.old.reader scanner.new.reader }

@@ -1,5 +1,6 @@
 //! Laws of the definitions. The functions do nothing: their contracts are the theorems.
 
+ghost use Rattle.dimacs.specs.Grammar.{FormulaIsGrammar, ModelIsGrammar};
 ghost use Rattle.dimacs.specs.Printing.{FormulaIsReadBack, ModelIsReadBack, FormulasLookSo};
 
 /// A formula that is printed is read back: its header, exactly its clauses, and no fault.
@@ -10,6 +11,22 @@ pub fn formula_is_read_back()
 /// A model that is printed is read back: exactly its literals, the last one first.
 pub fn model_is_read_back()
     ensures { ModelIsReadBack }
+{}
+
+/// A formula is read without a fault exactly where its text is one by the grammar: comments and
+/// blank lines aside, first a line `p cnf VARIABLES CLAUSES`, and then, over any number of lines,
+/// as many clauses as that says, each its literals and a `0`. What is read is that header and those
+/// clauses.
+pub fn formula_is_its_grammar()
+    ensures { FormulaIsGrammar }
+{}
+
+/// A model is read exactly where a solver's output is one by the grammar: comments and blank lines
+/// aside, one line `s SATISFIABLE`, and before it or after it lines that begin with `v`; and what
+/// follows the `v`s, one line after another, is the literals and a last `0`. What is read is those
+/// literals, the last one first.
+pub fn model_is_its_grammar()
+    ensures { ModelIsGrammar }
 {}
 
 /// What printed texts look like: the laws speak of these examples.

@@ -55,7 +55,8 @@ impl Model {
     /// Lists a literal.
     pub(crate) fn insert(&mut self, lit: Lit) -> Result<(), OutOfMemory>
         requires { has self.old (complement lit) ≡ false }
-        ensures listed { OnOk result ((l : Literal) → has self.new l ≡ has (lit ∷ self.old) l) }
+        ensures listed { OnOk result
+            ((l : Literal) → has self.new l ≡ has (lit ∷ self.old) l) }
         ensures consistent { IsConsistent self.new }
     {
         if !self.holds(lit) {

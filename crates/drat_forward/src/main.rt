@@ -3,35 +3,28 @@
 
 ghost use Rattle.std.specs.Prelude.{◌≡◌, ◌⊎◌, IfErr};
 
-use cnf_base::{FromRead, ToWrite};
-use filter_io::{ask, exit_code, open_both, seed, standard_output, tell_failures, tell_refusal};
-use sat_check::{Status, Tool, drat_forward};
+use cnf_base::ToWrite;
+use filter_io::{Host, exit_code, run_drat_forward, standard_output, words_of};
+use sat_check::Status;
 use std::process::ExitCode;
 
 const NAME: &str = "drat-forward";
 
 fn main(rt: HostRuntime) -> ExitCode {
-    let ended = check(&rt);
+    let ended = run(&rt);
     exit_code(&rt, NAME, ended)
 }
 
-// Both files are opened before the first byte is read.
-fn check(rt: &HostRuntime) -> Result<Status, Status>
+fn run(rt: &HostRuntime) -> Result<Status, Status>
     // Without a check there is no verdict.
-    ensures { IfErr result (λ status. (status ≡ Status.Usage) ⊎ (status ≡ Status.OutOfMemory)) }
+    ensures { IfErr result
+        (λ status. (status ≡ Status.Usage) ⊎ (status ≡ Status.OutOfMemory)) }
 {
-    let args = ask(rt, Tool::Drat, NAME)?;
-    let (mut formula, mut proof) = open_both(rt, &args)?;
+    let words = words_of(rt, NAME)?;
     let out = standard_output(rt)?;
-    let checked = drat_forward(
-        rt.alloc(),
-        &args,
-        seed(rt),
-        &mut FromRead::new(&mut formula),
-        &mut FromRead::new(&mut proof),
+    run_drat_forward(
+        &Host::new(rt, NAME),
+        words.as_slice(),
         &mut ToWrite::new(out),
-    );
-    tell_failures(rt, NAME, &args, (&formula, &proof), checked.status);
-    tell_refusal(rt, NAME, &args, checked);
-    Ok(checked.status)
+    )
 }

@@ -2,17 +2,19 @@
 #![tactic(auto)]
 
 mod ending;
-mod failures;
-mod files;
+mod host;
 mod input;
+mod inputs;
+mod output;
+mod programs;
 mod randomness;
-mod refusal;
+mod system;
 mod words;
 
 pub use ending::exit_code;
-pub use failures::tell_failures;
-pub use files::{open_both, standard_output};
+pub use host::Host;
 pub use input::Input;
-pub use randomness::seed;
-pub use refusal::tell_refusal;
-pub use words::ask;
+pub use output::standard_output;
+pub use programs::{run_drat_forward, run_lrat_check, run_model_check};
+pub use system::System;
+pub use words::words_of;

@@ -2,31 +2,17 @@
 
 ghost use Rattle.std.specs.Prelude.{◌≡◌, ◌⊎◌, IfErr};
 
-use sat_check::{Args, ArgsFault, Status, Tool, read_args};
+use sat_check::Status;
 use std::alloc::AllocError;
 use std::env;
 use std::io::ErrorKind;
 
-/// What the command line asks of the tool. Where it asks for nothing right, or for help or the version, the text goes to
-/// standard error, and the status is the answer.
-pub fn ask(rt: &HostRuntime, tool: Tool, name: &str) -> Result<Args, Status>
+/// The words of the command line, which begin with the program's name. Words that aren't text are no usage, and this is told
+/// by the name.
+pub fn words_of(rt: &HostRuntime, name: &str) -> Result<Vec<String>, Status>
     // No word alone gives a verdict.
-    ensures { IfErr result (λ status. (status ≡ Status.Usage) ⊎ (status ≡ Status.OutOfMemory)) }
-{
-    let words = words(rt, name)?;
-    match read_args(rt.alloc(), tool, words.as_slice()) {
-        Ok(args) => Ok(args),
-        Err(ArgsFault::Words(text)) => {
-            let _ = eprint!(rt; "{text}");
-            Err(Status::Usage)
-        }
-        Err(ArgsFault::OutOfMemory) => Err(Status::OutOfMemory),
-    }
-}
-
-// Words that aren't text are no usage.
-fn words(rt: &HostRuntime, name: &str) -> Result<Vec<String>, Status>
-    ensures { IfErr result (λ status. (status ≡ Status.Usage) ⊎ (status ≡ Status.OutOfMemory)) }
+    ensures { IfErr result
+        (λ status. (status ≡ Status.Usage) ⊎ (status ≡ Status.OutOfMemory)) }
 {
     match env::args(rt) {
         Ok(words) => match words.collect(rt.alloc()) {

@@ -3,34 +3,28 @@
 
 ghost use Rattle.std.specs.Prelude.{◌≡◌, ◌⊎◌, IfErr};
 
-use cnf_base::{FromRead, ToWrite};
-use filter_io::{ask, exit_code, open_both, standard_output, tell_failures, tell_refusal};
-use sat_check::{Status, Tool, lrat_check};
+use cnf_base::ToWrite;
+use filter_io::{Host, exit_code, run_lrat_check, standard_output, words_of};
+use sat_check::Status;
 use std::process::ExitCode;
 
 const NAME: &str = "lrat-check";
 
 fn main(rt: HostRuntime) -> ExitCode {
-    let ended = check(&rt);
+    let ended = run(&rt);
     exit_code(&rt, NAME, ended)
 }
 
-// Both files are opened before the first byte is read.
-fn check(rt: &HostRuntime) -> Result<Status, Status>
+fn run(rt: &HostRuntime) -> Result<Status, Status>
     // Without a check there is no verdict.
-    ensures { IfErr result (λ status. (status ≡ Status.Usage) ⊎ (status ≡ Status.OutOfMemory)) }
+    ensures { IfErr result
+        (λ status. (status ≡ Status.Usage) ⊎ (status ≡ Status.OutOfMemory)) }
 {
-    let args = ask(rt, Tool::Lrat, NAME)?;
-    let (mut formula, mut proof) = open_both(rt, &args)?;
+    let words = words_of(rt, NAME)?;
     let out = standard_output(rt)?;
-    let checked = lrat_check(
-        rt.alloc(),
-        &args,
-        &mut FromRead::new(&mut formula),
-        &mut FromRead::new(&mut proof),
+    run_lrat_check(
+        &Host::new(rt, NAME),
+        words.as_slice(),
         &mut ToWrite::new(out),
-    );
-    tell_failures(rt, NAME, &args, (&formula, &proof), checked.status);
-    tell_refusal(rt, NAME, &args, checked);
-    Ok(checked.status)
+    )
 }

@@ -3,32 +3,28 @@
 
 ghost use Rattle.std.specs.Prelude.{◌≡◌, ◌⊎◌, IfErr};
 
-use cnf_base::{FromRead, ToWrite};
-use filter_io::{ask, exit_code, open_both, standard_output, tell_failures};
-use sat_check::{Status, Tool, run_model};
+use cnf_base::ToWrite;
+use filter_io::{Host, exit_code, run_model_check, standard_output, words_of};
+use sat_check::Status;
 use std::process::ExitCode;
 
 const NAME: &str = "model-check";
 
 fn main(rt: HostRuntime) -> ExitCode {
-    let ended = check(&rt);
+    let ended = run(&rt);
     exit_code(&rt, NAME, ended)
 }
 
-// Both files are opened before the first byte is read.
-fn check(rt: &HostRuntime) -> Result<Status, Status>
+fn run(rt: &HostRuntime) -> Result<Status, Status>
     // Without a check there is no verdict.
-    ensures { IfErr result (λ status. (status ≡ Status.Usage) ⊎ (status ≡ Status.OutOfMemory)) }
+    ensures { IfErr result
+        (λ status. (status ≡ Status.Usage) ⊎ (status ≡ Status.OutOfMemory)) }
 {
-    let args = ask(rt, Tool::Model, NAME)?;
-    let (mut formula, mut output) = open_both(rt, &args)?;
+    let words = words_of(rt, NAME)?;
     let out = standard_output(rt)?;
-    let status = run_model(
-        rt.alloc(),
-        &mut FromRead::new(&mut formula),
-        &mut FromRead::new(&mut output),
+    run_model_check(
+        &Host::new(rt, NAME),
+        words.as_slice(),
         &mut ToWrite::new(out),
-    );
-    tell_failures(rt, NAME, &args, (&formula, &output), status);
-    Ok(status)
+    )
 }

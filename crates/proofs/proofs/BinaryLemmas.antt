@@ -2,6 +2,7 @@
 use Rattle.std.proofs.Common.{◌≡◌, ℕ, ◌<◌, ◌≤◌, [], length, Option, None, Some, refl, sym, ap, ◌∙◌, subst, arith}
 use Rattle.std.specs.Prelude.{Bool, true, false, Result, Ok, Err, slice_index}
 use Rattle.cnf_base.specs.Stream.{Input, Stream, Along, IsLook, bumped, next_count, most_to_come, tells_failure}
+use Rattle.cnf_base.specs.Readers.{Keeps}
 use Rattle.cnf_base.specs.declared.input.Ending.TheVariants.{End, Failed}
 use Rattle.cnf_base.specs.declared.fault.Fault.{Fault}
 use Rattle.cnf_base.specs.declared.fault.Fault.TheVariants.{Binary, ReadFailed, OutOfMemory}
@@ -10,13 +11,14 @@ use Rattle.cnf_base.proofs.StreamLemmas.{Along-then, Along-map, Along-look, Alon
 use Rattle.proofs.specs.declared.step_end.StepEnd.{StepEnd}
 use Rattle.proofs.specs.declared.step_end.StepEnd.TheVariants.{Byte}
 use Rattle.proofs.specs.Steps.{Step, named}
-use Rattle.proofs.specs.Reading.{Proof, GivesStep}
+use Rattle.proofs.specs.Reading.{Proof, proof_unless_ended, GivesStep, PassesNoEnd}
 use Rattle.proofs.specs.TextMoves.{EndsProof}
 use Rattle.proofs.specs.Binary.{BinarySpot, at_tag, BinaryMove, goes, completes, faults, binary_move_of, on_binary_move, binary_at_end, binary_steps_from, binary_steps_at}
 use Rattle.proofs.specs.BinaryMoves.{MovesBinary, binary_left}
 use Rattle.proofs.specs.declared.moved.Moved.{Moved}
 use Rattle.proofs.specs.declared.drat_binary.part.Part.{Part}
 use Rattle.proofs.specs.declared.drat_binary.stopped.Stopped.{Stopped}
+use Rattle.proofs.proofs.ReachLemmas.{binary_steps_among-within, binary_more-within}
 use Rattle.proofs.proofs.TextLemmas.{gives_fault}
 
 -- from one moment to another bytes of one step were read
@@ -28,6 +30,13 @@ pub record Between (old now : Stream) (spot : BinarySpot) (s : Step) : Type 0 wh
 pub Between-none : (s : Stream) → Between s s at_tag (named 0)
 Between-none s = record { text = Along-still s (binary_steps_at s.byte_no); fewer = omega arith; mark = refl }
 
+-- what is left after an answer, where it is kept if it is an end
+pub binary_kept : (result : Result Bool Fault) (kept : Option (Result Bool Fault)) (at : ℕ) (i : Input) → Keeps result kept
+    → binary_left result at i ≡ proof_unless_ended kept (binary_steps_at at i)
+binary_kept (Ok true) kept at i keeps = ap (λ k. proof_unless_ended k (binary_steps_at at i)) (sym keeps)
+binary_kept (Ok false) kept at i keeps = ap (λ k. proof_unless_ended k (binary_steps_at at i)) (sym keeps)
+binary_kept (Err f) kept at i keeps = ap (λ k. proof_unless_ended k (binary_steps_at at i)) (sym keeps)
+
 ends_so : (last : Proof) (result : Result Bool Fault) (end : Option StepEnd) (s : Step) (before : Proof) (at : ℕ) (j : Input)
     → EndsProof result last → before ≡ last → GivesStep result end s before (binary_left result at j) j
 ends_so last (Ok true) end s before at j ends e = absurd ends
@@ -38,6 +47,15 @@ module _ (old now new : Stream) (spot : BinarySpot) (s : Step) (so_far : Between
   looked : Along old new (λ i j. binary_steps_at old.byte_no i ≡ binary_steps_from spot s new.byte_no j)
   looked = Along-then old now new _ _ _ so_far.text (Along-look now new look) (λ i j k m q r.
       q ∙ ap (binary_steps_from spot s now.byte_no) r ∙ ap (λ n. binary_steps_from spot s n k) (sym look.byte_no))
+
+  -- an answer at a moment, what is to come, and that the end of no step was passed
+  abbrev Gave : Stream → Result Bool Fault → Option StepEnd → Step → Type 0
+  Gave last result end t = Along old last (λ i j. GivesStep result end t (binary_steps_at old.byte_no i) (binary_left result last.byte_no j) j
+      × PassesNoEnd (binary_steps_at old.byte_no i) j)
+
+  -- so it is of steps that are so
+  passes : (p q : Proof) (j : Input) → p ≡ q → PassesNoEnd q j → PassesNoEnd p j
+  passes p q j is h = let P : Proof → Type 0 = λ x. PassesNoEnd x j in subst P (sym is) h
 
   -- a byte was taken
   module _ (b : ℕ) (some : 0 < length new.ahead) (first : b ≡ slice_index new.ahead 0) where
@@ -56,28 +74,43 @@ module _ (old now new : Stream) (spot : BinarySpot) (s : Step) (so_far : Between
       mark = mark ∙ so_far.mark;
     }
 
+    -- what is made of the move is given
+    gave : (result : Result Bool Fault) (end : Option StepEnd) (t : Step)
+        → ((i j : Input) → binary_steps_at old.byte_no i ≡ follows j (binary_move_of spot s new.byte_no b)
+        → GivesStep result end t (binary_steps_at old.byte_no i) (binary_left result (bumped new).byte_no j) j) → Gave (bumped new) result end t
+    gave result end t gives = Along-map old (bumped new) _ _ byte_text (λ i j m q. (
+      gives i j q,
+      passes _ (follows j (binary_move_of spot s new.byte_no b)) j q (binary_more-within spot s new.byte_no b j.bytes j.ending),
+    ))
+
     pub Between-step : (end : Option StepEnd) → end ≡ Some (Byte new.byte_no) → (t : Step) → binary_move_of spot s new.byte_no b ≡ completes t
-        → Along old (bumped new) (λ i j. GivesStep (Ok true) end t (binary_steps_at old.byte_no i) (binary_left (Ok true) (bumped new).byte_no j) j)
-    Between-step end at t is = Along-map old (bumped new) _ _ byte_text (λ i j m q. (Byte new.byte_no, at, q ∙ ap (follows j) is))
+        → Gave (bumped new) (Ok true) end t
+    Between-step end at t is = gave (Ok true) end t (λ i j q. (Byte new.byte_no, at, q ∙ ap (follows j) is))
 
-    pub Between-fault : (f : BinaryFault) (at : ℕ) (t : Step) → binary_move_of spot s new.byte_no b ≡ faults f at
-        → Along old (bumped new) (λ i j. GivesStep (Err (Binary f at)) None t (binary_steps_at old.byte_no i) (binary_left (Err (Binary f at)) (bumped new).byte_no j) j)
-    Between-fault f at t is = Along-map old (bumped new) _ _ byte_text (λ i j m q. gives_fault (Binary f at) None t _ j (q ∙ ap (follows j) is))
+    pub Between-fault : (f : BinaryFault) (at : ℕ) (t : Step) → binary_move_of spot s new.byte_no b ≡ faults f at → Gave (bumped new) (Err (Binary f at)) None t
+    Between-fault f at t is = gave (Err (Binary f at)) None t (λ i j q. gives_fault (Binary f at) None t _ j (q ∙ ap (follows j) is))
 
-    pub Between-refused : (t : Step)
-        → Along old (bumped new) (λ i j. GivesStep (Err OutOfMemory) None t (binary_steps_at old.byte_no i) (binary_left (Err OutOfMemory) (bumped new).byte_no j) j)
-    Between-refused t = Along-map old (bumped new) _ _ byte_text (λ i j m q. refl)
+    pub Between-refused : (t : Step) → Gave (bumped new) (Err OutOfMemory) None t
+    Between-refused t = gave (Err OutOfMemory) None t (λ i j q. refl)
+
+  -- the rest has no more bytes than are left
+  rest-within : (i j : Input) → binary_steps_at old.byte_no i ≡ binary_steps_from spot s new.byte_no j → PassesNoEnd (binary_steps_at old.byte_no i) j
+  rest-within i j is =
+      passes _ (binary_steps_from spot s new.byte_no j) j is (binary_steps_among-within (length j.bytes) spot s new.byte_no j.bytes j.ending (omega arith))
 
   pub Between-end : (result : Result Bool Fault) (end : Option StepEnd) → new.ahead ≡ [] → new.met ≡ Some End → EndsProof result (binary_at_end spot new.byte_no End)
-      → Along old new (λ i j. GivesStep result end s (binary_steps_at old.byte_no i) (binary_left result new.byte_no j) j)
+      → Gave new result end s
   Between-end result end nothing met ends = Along-map old new _ _ looked (λ i j m q.
-      let e = shown_end new End j nothing met m in
-      ends_so (binary_at_end spot new.byte_no End) result end s _ new.byte_no j ends (q ∙ ap (binary_steps_from spot s new.byte_no) e))
+      let e = shown_end new End j nothing met m in (
+        ends_so (binary_at_end spot new.byte_no End) result end s _ new.byte_no j ends (q ∙ ap (binary_steps_from spot s new.byte_no) e),
+        rest-within i j q,
+      ))
 
-  pub Between-failed : new.ahead ≡ [] → new.met ≡ Some Failed
-      → Along old new (λ i j. GivesStep (Err ReadFailed) None s (binary_steps_at old.byte_no i) (binary_left (Err ReadFailed) new.byte_no j) j)
-  Between-failed nothing met = Along-map old new _ _ looked (λ i j m q.
-      gives_fault ReadFailed None s _ j (q ∙ ap (binary_steps_from spot s new.byte_no) (shown_end new Failed j nothing met m)))
+  pub Between-failed : new.ahead ≡ [] → new.met ≡ Some Failed → Gave new (Err ReadFailed) None s
+  Between-failed nothing met = Along-map old new _ _ looked (λ i j m q. (
+    gives_fault ReadFailed None s _ j (q ∙ ap (binary_steps_from spot s new.byte_no) (shown_end new Failed j nothing met m)),
+    rest-within i j q,
+  ))
 
 -- what a byte was found to do, by the answer's pattern, and by the byte's number
 pub moves_told : (result answer : Result (Moved Part) Stopped) (spot : BinarySpot) (s t : Step) (at known b : ℕ)

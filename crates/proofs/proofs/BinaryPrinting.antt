@@ -20,23 +20,24 @@ use Rattle.proofs.proofs.PrintedText.{with_read, with_literals, drat_step, drat_
 -- ---- A number
 
 -- a number in groups of 7 bits, lowest first
-data IsGroups : ℕ → List ℕ → Type 0 where
+pub data IsGroups : ℕ → List ℕ → Type 0 where
   last : (n : ℕ) → 0 < n → n < 128 → IsGroups n (n ∷ [])
   more : (n g : ℕ) (gs : List ℕ) → g < 128 → IsGroups n gs → IsGroups (g + 128 * n) (g ∷ gs)
 
-group_bytes-cons : (n g : ℕ) (gs : List ℕ) → IsGroups n gs → group_bytes (g ∷ gs) ≡ (128 + g) ∷ group_bytes gs
+pub group_bytes-cons : (n g : ℕ) (gs : List ℕ) → IsGroups n gs → group_bytes (g ∷ gs) ≡ (128 + g) ∷ group_bytes gs
 group_bytes-cons n g _ (last _ some small) = refl
 group_bytes-cons n g _ (more m h gs small groups) = refl
 
+-- the lowest group of a number, and those above it
+pub groups_step : (n : ℕ) → 0 < n → seven_bit_groups n ≡ n % 128 ∷ seven_bit_groups (n / 128)
+groups_step n some =
+    ap reverse (digits_of_step 128 n (omega arith) some) ∙ reverse-append (digits_of 128 (n / 128)) (n % 128 ∷ [])
+
 -- the groups of a number
-groups_are : (most n : ℕ) → n ≤ most → 0 < n → IsGroups n (seven_bit_groups n)
+pub groups_are : (most n : ℕ) → n ≤ most → 0 < n → IsGroups n (seven_bit_groups n)
 groups_are zero n le some = absurd (omega arith)
 groups_are (suc most) n le some = by (nat_le 128 n) refl (groups_are most (n / 128))
   where
-    step : seven_bit_groups n ≡ n % 128 ∷ seven_bit_groups (n / 128)
-    step = ap reverse (digits_of_step 128 n (omega arith) some)
-        ∙ reverse-append (digits_of 128 (n / 128)) (n % 128 ∷ [])
-
     by : (v : Bool) → nat_le 128 n ≡ v → (n / 128 ≤ most → 0 < n / 128 → IsGroups (n / 128) (seven_bit_groups (n / 128)))
         → IsGroups n (seven_bit_groups n)
     by true e later =
@@ -44,12 +45,12 @@ groups_are (suc most) n le some = by (nat_le 128 n) refl (groups_are most (n / 1
         let groups : IsGroups (n % 128 + 128 * (n / 128)) (n % 128 ∷ seven_bit_groups (n / 128)) =
         more (n / 128) (n % 128) (seven_bit_groups (n / 128)) (omega arith) (later (omega arith) (omega arith)) in
         let is : n % 128 + 128 * (n / 128) ≡ n = omega arith in
-        subst (IsGroups n) (sym step) (subst (λ m. IsGroups m (n % 128 ∷ seven_bit_groups (n / 128))) is groups)
+        subst (IsGroups n) (sym (groups_step n some)) (subst (λ m. IsGroups m (n % 128 ∷ seven_bit_groups (n / 128))) is groups)
     by false e later =
         let small : n < 128 = grind (arith, nat_tests) in
         let none : n / 128 ≡ 0 = omega arith in
         let is : n % 128 ≡ n = omega arith in
-        subst (IsGroups n) (sym (step ∙ ap (λ m. n % 128 ∷ seven_bit_groups m) none ∙ ap (λ m. m ∷ []) is))
+        subst (IsGroups n) (sym (groups_step n some ∙ ap (λ m. n % 128 ∷ seven_bit_groups m) none ∙ ap (λ m. m ∷ []) is))
         (last n some small)
 
 -- what the bytes of a number spell

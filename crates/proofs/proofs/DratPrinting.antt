@@ -20,7 +20,7 @@ use Rattle.proofs.specs.Printing.{ReadProof, read_of, proof_of, drat_words, drat
 use Rattle.proofs.proofs.PrintedText.{with_literals, with_read, drat_step, drat_step_is, word_goes, word_completes, list_read, zero_read, lines_read}
 
 -- a literal's word
-literal_move : (part : Part) (s : Step) (l : Literal) → is_literal 268435455 l ≡ true
+pub literal_move : (part : Part) (s : Step) (l : Literal) → is_literal 268435455 l ≡ true
     → move_of drat part s (word_of (literal_text l)) ≡ goes Literals (with_literal s l)
 literal_move part s l is =
     ap (move_of drat part s) (literal_word 268435455 l (omega arith) is)

@@ -25,7 +25,7 @@ use Rattle.proofs.proofs.PrintedText.{with_read, with_literals, with_hints, word
 -- ---- Words
 
 -- a step's identifier
-identifier_move : (s : Step) (id : ℕ) → 1 ≤ id → is_small id ≡ true
+pub identifier_move : (s : Step) (id : ℕ) → 1 ≤ id → is_small id ≡ true
     → move_of lrat Identifier s (word_of (decimal id)) ≡ goes AfterIdentifier (named id)
 identifier_move s id some small =
     let most : id ≤ 9223372036854775807 = grind (arith, nat_tests) in
@@ -33,13 +33,13 @@ identifier_move s id some small =
     ap (move_of lrat Identifier s) (decimal_word id (omega arith) (omega arith)) ∙ rw (nonzero, small) refl
 
 -- a literal's word
-first_literal_move : (s : Step) (l : Literal) → is_literal 268435455 l ≡ true
+pub first_literal_move : (s : Step) (l : Literal) → is_literal 268435455 l ≡ true
     → move_of lrat AfterIdentifier s (word_of (literal_text l)) ≡ goes Literals (with_literal s l)
 first_literal_move s l is =
     ap (move_of lrat AfterIdentifier s) (literal_word 268435455 l (omega arith) is)
     ∙ literal_taken 268435455 l (omega arith) is (literal_or_end Literals (goes Hints) s) (faults LiteralTooLarge)
 
-literal_move : (s : Step) (l : Literal) → is_literal 268435455 l ≡ true
+pub literal_move : (s : Step) (l : Literal) → is_literal 268435455 l ≡ true
     → move_of lrat Literals s (word_of (literal_text l)) ≡ goes Literals (with_literal s l)
 literal_move s l is =
     ap (move_of lrat Literals s) (literal_word 268435455 l (omega arith) is)
@@ -53,7 +53,7 @@ id_tests : (k : ℕ) → (nat_le 1 k && is_small k) ≡ true → (nat_le k 0 ≡
 id_tests k h = let r = id_range k h in (grind (arith, nat_tests), grind (arith, nat_tests))
 
 -- where hints stand, or identifiers that are deleted
-abbrev hint_part : StepKind → Part
+abbrev pub hint_part : StepKind → Part
 hint_part Add = Hints
 hint_part Delete = Deletion
 
@@ -63,7 +63,7 @@ hint_plain Add (negsuc k) is = let r = id_range (suc k) is in minus_plain (suc k
 hint_plain Delete (pos k) is = let r = id_range k is in decimal_plain k (omega arith)
 hint_plain Delete (negsuc k) is = absurd (let bad : false ≡ true = is in cc)
 
-hint_move : (kind : StepKind) (s : Step) (h : ℤ) → is_hint kind h ≡ true
+pub hint_move : (kind : StepKind) (s : Step) (h : ℤ) → is_hint kind h ≡ true
     → move_of lrat (hint_part kind) s (word_of (signed_decimal h)) ≡ goes (hint_part kind) (with_hint s h)
 hint_move Add s (pos k) is =
     let r = id_range k is in
@@ -80,14 +80,14 @@ hint_move Delete s (pos k) is =
 hint_move Delete s (negsuc k) is = absurd (let bad : false ≡ true = is in cc)
 
 -- the `0` after them
-hint_zero : (kind : StepKind) (s : Step) → move_of lrat (hint_part kind) s (words.Number (number false 0)) ≡ completes s
+pub hint_zero : (kind : StepKind) (s : Step) → move_of lrat (hint_part kind) s (words.Number (number false 0)) ≡ completes s
 hint_zero Add s = refl
 hint_zero Delete s = refl
 
 -- ---- Lines
 
 -- a step
-abbrev step_of : StepKind → ℕ → List Literal → List ℤ → Step
+abbrev pub step_of : StepKind → ℕ → List Literal → List ℤ → Step
 step_of kind id ls hs = record { kind = kind; id = id; lits = ls; hints = hs }
 
 module _ (rest : List ℕ) (result : ReadProof)

@@ -2,24 +2,28 @@
 use Rattle.std.proofs.Common.{◌≡◌, ◌<◌, ◌≤◌, [], length, Option, None, Some, refl, sym, ap, ◌∙◌, subst, arith}
 use Rattle.std.specs.Prelude.{Bool, true, false, Result, Ok, Err}
 use Rattle.cnf_base.specs.Stream.{Input, Stream, Along, most_to_come, tells_failure}
+use Rattle.cnf_base.specs.Readers.{Keeps}
 use Rattle.cnf_base.specs.Text.{Listing, listing_at, Gives}
 use Rattle.cnf_base.specs.declared.input.Ending.TheVariants.{End, Failed}
 use Rattle.cnf_base.specs.declared.input.ReadFailed.{ReadFailed as Cut}
 use Rattle.cnf_base.specs.declared.place.Place.{Place}
 use Rattle.cnf_base.specs.declared.word.Word.{Word}
+use Rattle.cnf_base.specs.declared.token.Token.{Token}
 use Rattle.cnf_base.specs.declared.token.Token.TheVariants as token
 use Rattle.cnf_base.specs.declared.fault.Fault.{Fault}
 use Rattle.cnf_base.specs.declared.fault.Fault.TheVariants.{Text, Binary, ReadFailed, OutOfMemory}
 use Rattle.cnf_base.specs.declared.fault.TextFault.{TextFault}
+use Rattle.cnf_base.proofs.ListingLemmas.{Gives-within, listing_at-within}
 use Rattle.cnf_base.proofs.StreamLemmas.{Along-then, Along-map, Along-none, Along-still}
 use Rattle.proofs.specs.declared.step_end.StepEnd.{StepEnd}
 use Rattle.proofs.specs.declared.step_end.StepEnd.TheVariants as ends
 use Rattle.proofs.specs.Steps.{Step, named}
-use Rattle.proofs.specs.Reading.{Proof, clean, faulty_proof, proof_unless_ended, GivesStep}
+use Rattle.proofs.specs.Reading.{Proof, clean, faulty_proof, proof_unless_ended, GivesStep, PassesNoEnd}
 use Rattle.proofs.specs.TextSteps.{Move, goes, completes, faults, Format, move_of, on_move, at_end, steps_from, steps_listed}
 use Rattle.proofs.specs.TextMoves.{text_left, EndsProof, MovesText}
 use Rattle.proofs.specs.declared.moved.Moved.{Moved}
 use Rattle.proofs.specs.declared.stopped.Stopped.{Stopped}
+use Rattle.proofs.proofs.ReachLemmas.{steps_among-within, on_move-within, ended-within}
 
 -- a fault is what comes, and it stays
 pub gives_fault : (f : Fault) (end : Option StepEnd) (s : Step) (p : Proof) (rest : Input) → p ≡ faulty_proof f → GivesStep (Err f) end s p (faulty_proof f) rest
@@ -40,15 +44,27 @@ kept_gives (Err OutOfMemory) end s before after rest none b a = a
 
 pub Kept-step : (stream : Stream) (kept : Option (Result Bool Fault)) (coming : Input → Proof) (answer : Result Bool Fault) (end : Option StepEnd) (s : Step)
     → kept ≡ Some answer → (kept ≡ Some (Ok true) → ⊥)
-    → Along stream stream (λ i j. GivesStep answer end s (proof_unless_ended kept (coming i)) (proof_unless_ended kept (coming j)) j)
+    → Along stream stream (λ i j. GivesStep answer end s (proof_unless_ended kept (coming i)) (proof_unless_ended kept (coming j)) j
+    × PassesNoEnd (proof_unless_ended kept (coming i)) j)
 Kept-step stream kept coming answer end s is none =
     let told : (i : Input) → proof_unless_ended kept (coming i) ≡ proof_unless_ended (Some answer) clean =
     λ i. ap (λ k. proof_unless_ended k (coming i)) is ∙ same answer (coming i) in
-    Along-map stream stream _ _ (Along-none stream) (λ i j m e. kept_gives answer end s _ _ j (λ ok. none (is ∙ ap Some ok)) (told i) (told j))
+    Along-map stream stream _ _ (Along-none stream) (λ i j m e.
+    let P : Proof → Type 0 = λ p. PassesNoEnd p j in (
+      kept_gives answer end s _ _ j (λ ok. none (is ∙ ap Some ok)) (told i) (told j),
+      subst P (sym (told i)) (ended-within (length j.bytes) answer),
+    ))
   where
     same : (answer : Result Bool Fault) (p : Proof) → proof_unless_ended (Some answer) p ≡ proof_unless_ended (Some answer) clean
     same (Ok v) p = refl
     same (Err f) p = refl
+
+-- what is left after an answer, where it is kept if it is an end
+pub text_kept : {P : Type 0} (format : Format P) (result : Result Bool Fault) (kept : Option (Result Bool Fault)) (l : Listing) → Keeps result kept
+    → text_left format result l ≡ proof_unless_ended kept (steps_listed format l)
+text_kept format (Ok true) kept l keeps = ap (λ k. proof_unless_ended k (steps_listed format l)) (sym keeps)
+text_kept format (Ok false) kept l keeps = ap (λ k. proof_unless_ended k (steps_listed format l)) (sym keeps)
+text_kept format (Err f) kept l keeps = ap (λ k. proof_unless_ended k (steps_listed format l)) (sym keeps)
 
 ends_so : {P : Type 0} (format : Format P) (last : Proof) (result : Result Bool Fault) (end : Option StepEnd) (s : Step) (before : Proof) (l : Listing) (rest : Input)
     → EndsProof result last → before ≡ last
@@ -79,12 +95,26 @@ module _ {P : Type 0} (format : Format P) (old now new : Stream) (part : P) (s :
     mark = mark ∙ so_far.mark;
   }
 
+  -- an answer, what is to come, and that the end of no step was passed
+  abbrev Gave : Result Bool Fault → Option StepEnd → Step → Type 0
+  Gave result end t = Along old new (λ i j. GivesStep result end t (steps_listed format (listing_at old.place i)) (text_left format result (listing_at new.place j)) j
+      × PassesNoEnd (steps_listed format (listing_at old.place i)) j)
+
+  -- so it is of steps that are so
+  passes : (p q : Proof) (j : Input) → p ≡ q → PassesNoEnd q j → PassesNoEnd p j
+  passes p q j is h = let P : Proof → Type 0 = λ x. PassesNoEnd x j in subst P (sym is) h
+
   module _ (p : Place) (w : Word) (gives : Along now new (λ i j. Gives (Ok (token.Word p w)) (listing_at now.place i) (listing_at new.place j) j)) where
     abbrev follows : Input → Move P → Proof
     follows j move = on_move format p (length j.bytes) move (λ part s. steps_from format part s (listing_at new.place j))
 
     word_text : Along old new (λ i j. steps_listed format (listing_at old.place i) ≡ follows j (move_of format part s w))
     word_text = Along-then old now new _ _ _ so_far.text gives (λ i j k m q r. q ∙ ap (steps_from format part s) r)
+
+    -- whatever the word did, what follows it has no more bytes than are left
+    follows-within : (j : Input) (move : Move P) → PassesNoEnd (follows j move) j
+    follows-within j move = on_move-within format (length j.bytes) p (length j.bytes) move (λ part s. steps_from format part s (listing_at new.place j)) (omega arith)
+        (λ part s. steps_among-within format (length j.bytes) part s _ _ _ (listing_at-within new.place j))
 
     pub Between-word : (next : P) (t : Step) → move_of format part s w ≡ goes next t → most_to_come new < most_to_come now → tells_failure new.reader ≡ tells_failure now.reader
         → Between format old new next t
@@ -94,27 +124,40 @@ module _ {P : Type 0} (format : Format P) (old now new : Stream) (part : P) (s :
       mark = mark ∙ so_far.mark;
     }
 
-    pub Between-step : (end : Option StepEnd) → end ≡ Some (ends.Text p) → (t : Step) → move_of format part s w ≡ completes t
-        → Along old new (λ i j. GivesStep (Ok true) end t (steps_listed format (listing_at old.place i)) (text_left format (Ok true) (listing_at new.place j)) j)
-    Between-step end at t is = Along-map old new _ _ word_text (λ i j m q. (ends.Text p, at, q ∙ ap (follows j) is))
+    -- what is made of the move is given
+    gave : (result : Result Bool Fault) (end : Option StepEnd) (t : Step)
+        → ((i j : Input) → steps_listed format (listing_at old.place i) ≡ follows j (move_of format part s w)
+        → GivesStep result end t (steps_listed format (listing_at old.place i)) (text_left format result (listing_at new.place j)) j) → Gave result end t
+    gave result end t gives = Along-map old new _ _ word_text (λ i j m q. (gives i j q, passes _ (follows j (move_of format part s w)) j q (follows-within j (move_of format part s w))))
 
-    pub Between-fault : (f : TextFault) (t : Step) → move_of format part s w ≡ faults f
-        → Along old new (λ i j. GivesStep (Err (Text f p)) None t (steps_listed format (listing_at old.place i)) (text_left format (Err (Text f p)) (listing_at new.place j)) j)
-    Between-fault f t is = Along-map old new _ _ word_text (λ i j m q. gives_fault (Text f p) None t _ j (q ∙ ap (follows j) is))
+    pub Between-step : (end : Option StepEnd) → end ≡ Some (ends.Text p) → (t : Step) → move_of format part s w ≡ completes t → Gave (Ok true) end t
+    Between-step end at t is = gave (Ok true) end t (λ i j q. (ends.Text p, at, q ∙ ap (follows j) is))
 
-    pub Between-refused : (t : Step)
-        → Along old new (λ i j. GivesStep (Err OutOfMemory) None t (steps_listed format (listing_at old.place i)) (text_left format (Err OutOfMemory) (listing_at new.place j)) j)
-    Between-refused t = Along-map old new _ _ word_text (λ i j m q. refl)
+    pub Between-fault : (f : TextFault) (t : Step) → move_of format part s w ≡ faults f → Gave (Err (Text f p)) None t
+    Between-fault f t is = gave (Err (Text f p)) None t (λ i j q. gives_fault (Text f p) None t _ j (q ∙ ap (follows j) is))
+
+    pub Between-refused : (t : Step) → Gave (Err OutOfMemory) None t
+    Between-refused t = gave (Err OutOfMemory) None t (λ i j q. refl)
+
+  -- the rest has no more bytes than are left
+  rest-within : (result : Result Token Cut) (i j k : Input) → Gives result (listing_at now.place j) (listing_at new.place k) k
+      → steps_listed format (listing_at old.place i) ≡ steps_from format part s (listing_at now.place j) → PassesNoEnd (steps_listed format (listing_at old.place i)) k
+  rest-within result i j k gives is =
+      passes _ (steps_from format part s (listing_at now.place j)) k is
+      (steps_among-within format (length k.bytes) part s _ _ _ (Gives-within result (listing_at now.place j) new.place k gives))
 
   pub Between-end : (p : Place) (result : Result Bool Fault) (end : Option StepEnd) → Along now new (λ i j. Gives (Ok (token.End p)) (listing_at now.place i) (listing_at new.place j) j) → EndsProof result (at_end format part p End)
-      → Along old new (λ i j. GivesStep result end s (steps_listed format (listing_at old.place i)) (text_left format result (listing_at new.place j)) j)
-  Between-end p result end gives ends = Along-then old now new _ _ _ so_far.text gives (λ i j k m q r.
-      ends_so format (at_end format part p End) result end s _ _ k ends (q ∙ ap (steps_from format part s) r.1))
+      → Gave result end s
+  Between-end p result end gives ends = Along-then old now new _ _ _ so_far.text gives (λ i j k m q r. (
+    ends_so format (at_end format part p End) result end s _ _ k ends (q ∙ ap (steps_from format part s) r.1),
+    rest-within (Ok (token.End p)) i j k r q,
+  ))
 
-  pub Between-failed : (cut : Cut) → Along now new (λ i j. Gives (Err cut) (listing_at now.place i) (listing_at new.place j) j)
-      → Along old new (λ i j. GivesStep (Err ReadFailed) None s (steps_listed format (listing_at old.place i)) (text_left format (Err ReadFailed) (listing_at new.place j)) j)
-  Between-failed cut gives = Along-then old now new _ _ _ so_far.text gives (λ i j k m q r.
-      gives_fault ReadFailed None s _ k (q ∙ empty (listing_at now.place j) r.1 r.2))
+  pub Between-failed : (cut : Cut) → Along now new (λ i j. Gives (Err cut) (listing_at now.place i) (listing_at new.place j) j) → Gave (Err ReadFailed) None s
+  Between-failed cut gives = Along-then old now new _ _ _ so_far.text gives (λ i j k m q r. (
+    gives_fault ReadFailed None s _ k (q ∙ empty (listing_at now.place j) r.1 r.2),
+    rest-within (Err cut) i j k r q,
+  ))
     where
       empty : (l : Listing) → l.tokens ≡ [] → l.ending ≡ Failed → steps_from format part s l ≡ faulty_proof ReadFailed
       empty l none failed = rw (none, failed) refl

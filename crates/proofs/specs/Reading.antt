@@ -1,5 +1,5 @@
 -- A proof that is read step by step, in whatever format.
-use Rattle.std.specs.Prelude.{◌≡◌, ℕ, Bool, true, false, List, [], ◌∷◌, length, Option, None, Some, Result, Ok, Err}
+use Rattle.std.specs.Prelude.{◌≡◌, ℕ, ◌≤◌, slice_get, Bool, true, false, List, [], ◌∷◌, length, Option, None, Some, Result, Ok, Err}
 use Rattle.cnf_base.specs.Stream.{Input, Stream, tells_failure}
 use Rattle.cnf_base.specs.declared.fault.Fault.{Fault}
 use Rattle.cnf_base.specs.declared.fault.Fault.TheVariants.{OutOfMemory, ReadFailed}
@@ -51,3 +51,7 @@ GivesStep (Ok true) end s before after rest = (at : StepEnd) × (end ≡ Some at
 GivesStep (Ok false) end s before after rest = (before ≡ after) × (before ≡ clean)
 GivesStep (Err OutOfMemory) end s before after rest = after ≡ faulty_proof OutOfMemory
 GivesStep (Err f) end s before after rest = (before ≡ after) × (before ≡ faulty_proof f)
+
+-- The end of no step that was to come was passed: at most so many bytes follow each as are still to come.
+abbrev pub PassesNoEnd : Proof → Input → Type 0
+PassesNoEnd p rest = (k : ℕ) (placed : PlacedStep) → slice_get p.steps k ≡ Some placed → placed.rest ≤ length rest.bytes

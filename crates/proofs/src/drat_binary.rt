@@ -4,7 +4,7 @@ ghost use Rattle.std.specs.Prelude.{◌≡◌, ◌≢◌, None};
 ghost use Rattle.cnf_base.specs.Stream.{Along};
 ghost use Rattle.cnf_base.specs.Readers.{Advances, TellsOf};
 ghost use Rattle.cnf_base.specs.declared.input.Ending.TheVariants.{End};
-ghost use Rattle.proofs.specs.Reading.{GivesStep};
+ghost use Rattle.proofs.specs.Reading.{GivesStep, PassesNoEnd};
 ghost use Rattle.proofs.specs.TextMoves.{EndsProof};
 ghost use Rattle.proofs.specs.Binary.{BinarySpot, binary_steps_at, binary_at_end, binary_to_come};
 ghost use Rattle.proofs.specs.BinaryMoves.{IsAt, binary_left};
@@ -105,7 +105,8 @@ fn read_step<R: In>(
     end: &mut Option<StepEnd>,
 ) -> Result<bool, Fault>
     ensures step { Along source.old source.new (λ i j. GivesStep result end.new step.new
-        (binary_steps_at source.old.byte_no i) (binary_left result source.new.byte_no j) j) }
+        (binary_steps_at source.old.byte_no i) (binary_left result source.new.byte_no j) j
+        × PassesNoEnd (binary_steps_at source.old.byte_no i) j) }
     ensures fewer { Advances result source.old source.new }
     ensures tells { TellsOf result source.old.reader source.new.reader }
 {

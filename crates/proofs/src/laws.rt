@@ -1,5 +1,6 @@
 //! Laws of the definitions. The functions do nothing: their contracts are the theorems.
 
+ghost use Rattle.proofs.specs.Grammar.{DratIsGrammar, LratIsGrammar, BinaryIsGrammar};
 ghost use Rattle.proofs.specs.Printing.{DratIsReadBack, BinaryIsReadBack, LratIsReadBack, ProofsLookSo};
 
 /// A DRAT proof that is printed as text is read back: exactly its steps, and a clean end.
@@ -20,4 +21,19 @@ pub fn lrat_is_read_back()
 /// What printed texts look like: the laws speak of these examples.
 pub fn examples_are_printed()
     ensures { ProofsLookSo }
+{}
+
+/// A text is read as DRAT steps, without a fault, exactly where its words are theirs.
+pub fn drat_is_its_grammar()
+    ensures { DratIsGrammar }
+{}
+
+/// A text is read as LRAT steps, without a fault, exactly where its words are theirs.
+pub fn lrat_is_its_grammar()
+    ensures { LratIsGrammar }
+{}
+
+/// Bytes are read as binary DRAT steps, without a fault, exactly where they are theirs.
+pub fn binary_is_its_grammar()
+    ensures { BinaryIsGrammar }
 {}

@@ -4,7 +4,7 @@ ghost use Rattle.std.specs.Prelude.{◌≡◌, ℕ, Bool, Option, Result};
 ghost use Rattle.cnf_base.specs.Stream.{Input, Stream, Along};
 ghost use Rattle.cnf_base.specs.Readers.{Advances, Keeps, TellsOf};
 ghost use Rattle.cnf_base.specs.declared.fault.Fault.{Fault};
-ghost use Rattle.proofs.specs.Reading.{Proof, GivesStep};
+ghost use Rattle.proofs.specs.Reading.{Proof, GivesStep, PassesNoEnd};
 ghost use Rattle.proofs.specs.declared.step_end.StepEnd.{StepEnd};
 
 use crate::{StepBuf, StepEnd};
@@ -29,11 +29,13 @@ pub trait StepReader {
     ghost to_come: { Self → Input → Proof };
 
     /// Puts the next step into the buffer. At a clean end it answers false, at every call; after a fault, that fault.
-    /// After a fault or false the buffer's content is open, and so is where the last step ended.
+    /// After a fault or false the buffer's content is open, and so is where the last step ended. No more than the step is
+    /// taken of the input, also where memory is refused.
     fn next(&mut self, step: &mut StepBuf) -> Result<bool, Fault>
         ensures step { Along (stream self.old) (stream self.new)
             (λ i j. GivesStep result (end self.new) step.new
-            (to_come self.old i) (to_come self.new j) j) }
+            (to_come self.old i) (to_come self.new j) j
+            × PassesNoEnd (to_come self.old i) j) }
         ensures stays { (answer : Result Bool Fault) → kept self.old ≡ Some answer →
             (result ≡ answer) × (self.new ≡ self.old) }
         ensures keeps { Keeps result (kept self.new) }

@@ -5,7 +5,7 @@ ghost use Rattle.cnf_base.specs.Stream.{Along};
 ghost use Rattle.cnf_base.specs.Text.{listing_at};
 ghost use Rattle.cnf_base.specs.Readers.{Advances, TellsOf};
 ghost use Rattle.cnf_base.specs.declared.input.Ending.TheVariants.{End};
-ghost use Rattle.proofs.specs.Reading.{GivesStep};
+ghost use Rattle.proofs.specs.Reading.{GivesStep, PassesNoEnd};
 ghost use Rattle.proofs.specs.Steps.{Step, named};
 ghost use Rattle.proofs.specs.TextSteps.{Format, move_of, left_to, steps_listed, at_end};
 ghost use Rattle.proofs.specs.TextMoves.{text_left, EndsProof, FitsMoved, MovesText};
@@ -136,7 +136,8 @@ fn read_step<R: In, P: Part>(
     requires fits { IsTrue (P.fits start (named 0)) }
     ensures step { Along scanner.old scanner.new (λ i j. GivesStep result end.new step.new
         (steps_listed P.format (listing_at scanner.old.place i))
-        (text_left P.format result (listing_at scanner.new.place j)) j) }
+        (text_left P.format result (listing_at scanner.new.place j)) j
+        × PassesNoEnd (steps_listed P.format (listing_at scanner.old.place i)) j) }
     ensures fewer { Advances result scanner.old scanner.new }
     ensures tells { TellsOf result scanner.old.reader scanner.new.reader }
 {

@@ -72,7 +72,8 @@ fn reserve_variables(
 /// Notes the variable with the number, unless the first assumption noted it.
 fn note(numbers: &mut Table<u64>, var: u32, first: u64, number: u64)
     requires { IsSome (at numbers.old var) }
-    ensures other { (v : ℕ) → v ≢ var → number_at numbers.new v ≡ number_at numbers.old v }
+    ensures other { (v : ℕ) → v ≢ var →
+        number_at numbers.new v ≡ number_at numbers.old v }
     ensures old { number_at numbers.old var ≡ first → number_at numbers.new var ≡ first }
     ensures new { number_at numbers.old var ≢ first → number_at numbers.new var ≡ number }
     ensures known { (v : ℕ) → is_some (at numbers.new v) ≡ is_some (at numbers.old v) }
@@ -84,7 +85,8 @@ fn note(numbers: &mut Table<u64>, var: u32, first: u64, number: u64)
 
 /// Notes the variables of a part of a clause with the number, but for those that the first assumption noted.
 fn note_all<P: Part>(numbers: &mut Table<u64>, clause: &[Lit], part: &P, first: u64, number: u64)
-    requires known { (l : Literal) → IsTrue (has clause.now l) → IsSome (at numbers.old (l / 2)) }
+    requires known { (l : Literal) → IsTrue (has clause.now l) →
+        IsSome (at numbers.old (l / 2)) }
     ensures notes { Notes first number (filter (P.keeps part.now) clause.now)
         (number_at numbers.old) (number_at numbers.new) }
     ensures known { (v : ℕ) → is_some (at numbers.new v) ≡ is_some (at numbers.old v) }
@@ -161,7 +163,8 @@ impl Assumptions {
             OnFalse is_clash (SameSet self.new.trail.lits
             (self.old.trail.lits ++ complements (filter (P.keeps part.now) clause.now)))) }
         ensures assumed { IfOk result (λ is_clash. (all : List Literal) ×
-            (self.new.assumptions ≡ record { answer = Clash; assumed = all } ∷ self.old.assumptions)
+            (self.new.assumptions ≡
+            record { answer = Clash; assumed = all } ∷ self.old.assumptions)
             × OnFalse is_clash (SameSet all
             (assumed_by self.old.assumptions
             ++ complements (filter (P.keeps part.now) clause.now)))) }

@@ -76,7 +76,8 @@ pub fn is_root_reason(
 
 /// One pass over all clauses, which adds what follows from each. Tells whether anything is new.
 fn pass(closure: &mut Closure, store: &Store) -> Result<bool, OutOfMemory>
-    requires { (l : Literal) → IsTrue (has closure.old l) → Forced (maps.get store.now.live) [] l }
+    requires { (l : Literal) → IsTrue (has closure.old l) →
+        Forced (maps.get store.now.live) [] l }
     ensures sound { OnOk result ((l : Literal) → IsTrue (has closure.new l) →
         Forced (maps.get store.now.live) [] l) }
     ensures fewer { IfOk result (λ is_new. is_new ≡ true → (met : List ℕ) →

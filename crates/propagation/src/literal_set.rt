@@ -24,7 +24,8 @@ pub struct LiteralSet {
 
 /// Makes room for the literals.
 fn reserve_literals(numbers: &mut Table<u64>, lits: &[Lit]) -> Result<(), OutOfMemory>
-    ensures known { OnOk result ((l : ℕ) → IsTrue (has lits.now l) → IsSome (at numbers.new l)) }
+    ensures known { OnOk result
+        ((l : ℕ) → IsTrue (has lits.now l) → IsSome (at numbers.new l)) }
     ensures numbers { (l : ℕ) → number_at numbers.new l ≡ number_at numbers.old l }
 {
     for l in lits {

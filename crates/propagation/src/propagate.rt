@@ -47,7 +47,8 @@ pub trait Propagate {
         ensures found { IfSome result (λ slot. (c : Clause) ×
             (maps.get (state self.old).live slot ≡ Some c) × IsTrue (same_clause c lits.now)) }
         ensures none { IfNone result ((s : ℕ) (c : Clause) →
-            maps.get (state self.old).live s ≡ Some c → IsTrue (same_clause c lits.now) → ⊥) }
+            maps.get (state self.old).live s ≡ Some c → IsTrue (same_clause c lits.now) →
+            ⊥) }
         ensures same { state self.new ≡ state self.old };
 
     /// The different literals of the clause in the slot, in any order. It takes no memory.
@@ -77,7 +78,8 @@ pub trait Propagate {
     /// How many of the live clauses have the literal, each copy counted. It takes no memory.
     fn count_with(&self, l: Lit) -> u64
         ensures value { result ≡ copies_with (state self.now).live l }
-        ensures none { result ≡ 0 → (s : ℕ) → ¬ HasAt (maps.get (state self.now).live) l s }
+        ensures none { result ≡ 0 → (s : ℕ) →
+            ¬ HasAt (maps.get (state self.now).live) l s }
         ensures some { result ≢ 0 → (s : ℕ) × HasAt (maps.get (state self.now).live) l s };
 
     /// Assumes the complements of the literals, beside what is assumed, and propagates.
@@ -129,7 +131,8 @@ pub trait Propagate {
     fn next_reduced(&mut self, set: &[Lit], from: Slot) -> Result<Option<Slot>, OutOfMemory>
         ensures found { IfOk result (λ next. IfSome next (λ slot. (from ≤ slot) ×
             IsReducedAt (maps.get (state self.old).live) set.now slot)) }
-        ensures passed_over { IfOk result (λ next. IfSome next (λ slot. (s : ℕ) → from ≤ s → s < slot →
+        ensures passed_over { IfOk result
+            (λ next. IfSome next (λ slot. (s : ℕ) → from ≤ s → s < slot →
             ¬ IsReducedAt (maps.get (state self.old).live) set.now s)) }
         ensures none { IfOk result (λ next. IfNone next ((s : ℕ) → from ≤ s →
             ¬ IsReducedAt (maps.get (state self.old).live) set.now s)) }
@@ -164,7 +167,8 @@ pub trait Propagate {
         requires { (last : Assumption) × (rest : List Assumption) ×
             ((state self.old).assumptions ≡ last ∷ rest) }
         ensures assumptions { (last : Assumption) (rest : List Assumption) →
-            (state self.old).assumptions ≡ last ∷ rest → (state self.new).assumptions ≡ rest }
+            (state self.old).assumptions ≡ last ∷ rest →
+            (state self.new).assumptions ≡ rest }
         ensures live { (state self.new).live ≡ (state self.old).live }
         ensures live_alone { HoldsLiveAlone (state self.new) }
         ensures refused { (state self.new).has_refused ≡ (state self.old).has_refused };

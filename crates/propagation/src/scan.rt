@@ -73,11 +73,14 @@ fn has_at(store: &Store, number: usize, l: Lit) -> bool
 
 /// The first slot from this one on whose clause has the literal.
 pub fn first_with(store: &Store, l: Lit, from: Slot) -> Option<Slot>
-    ensures found { IfSome result (λ slot. (from ≤ slot) × HasAt (maps.get store.now.live) l slot) }
+    ensures found { IfSome result
+        (λ slot. (from ≤ slot) × HasAt (maps.get store.now.live) l slot) }
     ensures passed_over { IfSome result (λ slot. (s : ℕ) → from ≤ s → s < slot →
         ¬ HasAt (maps.get store.now.live) l s) }
-    ensures none { IfNone result ((s : ℕ) → from ≤ s → ¬ HasAt (maps.get store.now.live) l s) }
-    ensures slots { (s : ℕ) → IsSome (maps.get store.now.live s) → s ≤ 18446744073709551615 }
+    ensures none { IfNone result
+        ((s : ℕ) → from ≤ s → ¬ HasAt (maps.get store.now.live) l s) }
+    ensures slots { (s : ℕ) → IsSome (maps.get store.now.live s) →
+        s ≤ 18446744073709551615 }
 {
     for number in from.number()..store.end() {
         if has_at(store, number, l) {
@@ -105,7 +108,8 @@ pub fn first_reduced(store: &Store, set: &LiteralSet, from: Slot) -> Option<Slot
         IsFalse (reduced_there (in_set set.now) (maps.get store.now.live s))) }
     ensures none { IfNone result ((s : ℕ) → from ≤ s →
         IsFalse (reduced_there (in_set set.now) (maps.get store.now.live s))) }
-    ensures slots { (s : ℕ) → IsSome (maps.get store.now.live s) → s ≤ 18446744073709551615 }
+    ensures slots { (s : ℕ) → IsSome (maps.get store.now.live s) →
+        s ≤ 18446744073709551615 }
 {
     for number in from.number()..store.end() {
         if is_reduced_at(store, number, set) {

@@ -67,7 +67,8 @@ fn positive(var: u32) -> Option<Lit>
 fn open_all(values: &mut Values, lits: &[Lit])
     requires { (l : ℕ) → IsTrue (has lits.now l) → IsSome (value_at values.old l)
         × IsSome (value_at values.old (complement l)) }
-    ensures known { (k : ℕ) → is_some (value_at values.new k) ≡ is_some (value_at values.old k) }
+    ensures known { (k : ℕ) →
+        is_some (value_at values.new k) ≡ is_some (value_at values.old k) }
     ensures opened { (k : ℕ) → known_value (value_at values.new k) ≡
         (if has lits.now k || has lits.now (complement k) then Open
         else known_value (value_at values.old k)) }
@@ -222,7 +223,8 @@ impl Trail {
         requires reserved { IsTrue (has self.old.met (l / 2)) }
         requires not_false { IsFalse (has self.old.lits (complement l)) }
         ensures was_open { result ≡ not (has self.old.lits l) }
-        ensures lits { self.new.lits ≡ (if result then self.old.lits ++ l ∷ [] else self.old.lits) }
+        ensures lits { self.new.lits ≡
+            (if result then self.old.lits ++ l ∷ [] else self.old.lits) }
         ensures quiet { IsFalse (conflicts self.new.lits) }
         ensures met { SameSet self.new.met self.old.met }
     {

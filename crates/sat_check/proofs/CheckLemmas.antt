@@ -1,5 +1,5 @@
 -- A check, step by step.
-use Rattle.std.proofs.Common.{◌≡◌, ℕ, ◌+◌, ◌≤◌, Bool, true, false, Option, None, Some, List, [], ◌++◌, length, refl, sym, ap, ◌∙◌, subst, arith, append_assoc, inr}
+use Rattle.std.proofs.Common.{◌≡◌, ℕ, ◌+◌, ◌≤◌, Bool, true, false, Option, None, Some, List, [], ◌++◌, length, refl, sym, ap, ◌∙◌, subst, arith, append_assoc, ◌⊎◌, inl, inr}
 use Rattle.std.specs.Prelude.{Result, Ok, Err}
 use Rattle.cnf_base.specs.Stream.{Input, Reader, Stream, Along, unread_stream, bytes_read}
 use Rattle.cnf_base.specs.Seen.{Seen, IsSeen}
@@ -10,19 +10,21 @@ use Rattle.cnf_base.proofs.LineLemmas.{Writes-then}
 use Rattle.cnf_base.proofs.StreamLemmas.{Along-then, Along-map, Along-none, Along-within}
 use Rattle.cnf_base.proofs.SeenLemmas.{Seen-nothing, Seen-run, Seen-fact}
 use Rattle.dimacs.specs.Formula.{formula_of}
+use Rattle.proofs.specs.Drat.{drat}
 use Rattle.proofs.specs.Steps.{Step}
 use Rattle.proofs.specs.declared.step_end.StepEnd.{StepEnd}
-use Rattle.proofs.specs.Reading.{ProofReading, Proof, faulty_proof, with_step, GivesStep}
+use Rattle.proofs.specs.Reading.{ProofReading, PlacedStep, Proof, faulty_proof, with_step, GivesStep, PassesNoEnd}
+use Rattle.proofs.proofs.ReachLemmas.{steps_of-within, binary_steps-within}
 use Rattle.steps.specs.ProofSession.{View, is_over}
 use Rattle.steps.specs.Theory.Rules.{Rule, after, sum_of, IsFinite}
 use Rattle.sat_check.specs.Reach.{IsVerdict, ReadsNoFurther, TellsRefused}
-use Rattle.sat_check.specs.Report.{Report, Outcome, Reports, text_of, with_lines, end_report}
-use Rattle.sat_check.specs.Checking.{Standing, Rest, GoesOn, Stops, Decides, IsRefused, LeavesRest, LeavesProof, AllReports, counted, traced}
+use Rattle.sat_check.specs.Report.{Report, Outcome, Reports, text_of, with_lines, end_report, drat_proof}
+use Rattle.sat_check.specs.Checking.{Standing, Rest, GoesOn, Stops, IsRefused, LeavesRest, LeavesProof, AllReports, counted, traced}
 use Rattle.sat_check.proofs.ShownLemmas.{traced_same}
 use Rattle.sat_check.specs.declared.checked.Checked.{Checked}
 use Rattle.sat_check.specs.declared.status.Status.TheVariants.{NotVerified, Malformed}
 use Rattle.sat_check.proofs.OutcomeLemmas.{Outcome-after, Writes-all, Writes-still, text_of-append}
-use Rattle.sat_check.proofs.ReachLemmas.{no_verdict, LeavesRest-none, LeavesRest-broken, LeavesRest-decided, LeavesRest-step}
+use Rattle.sat_check.proofs.ReachLemmas.{no_verdict, not_passed, LeavesRest-none, LeavesRest-broken, LeavesRest-decided, LeavesRest-step}
 use Rattle.sat_check.proofs.ReportLemmas.{some_report}
 use Rattle.sat_check.proofs.RestLemmas.{Rest-clean, Rest-fault, Rest-some, Rest-step}
 use Rattle.steps.proofs.TheoryLemmas.Existence.{after_finite, same_finite}
@@ -76,8 +78,12 @@ module _ (trace : Bool) (start now new : Standing) (first session : View) (accep
   Ended checked last i j =
       (r : Report) × Rest trace first.state 0 first.peak (start.to_come i) r × Outcome checked.status was.held last.held r × LeavesRest first.state (start.to_come i) j checked
 
+  -- what a call gave, and that it passed the end of no step
+  abbrev Gave : Result Bool Fault → Option StepEnd → Step → Input → Input → Type 0
+  Gave result end step i j = GivesStep result end step (now.to_come i) (new.to_come j) j × PassesNoEnd (now.to_come i) j
+
   module _ (number : ℕ) (counts : number ≡ counted (so_far.count + 1)) (step : Step) (end : Option StepEnd)
-      (gives : Along now.stream new.stream (λ i j. GivesStep (Ok true) end step (now.to_come i) (new.to_come j) j)) where
+      (gives : Along now.stream new.stream (Gave (Ok true) end step)) where
     pub Checking-step : (t : View) (last : Sink) → GoesOn trace number session t step lines last → Checking trace start new first t number was last
     Checking-step t last goes = record {
       count = so_far.count + 1;
@@ -87,10 +93,10 @@ module _ (trace : Bool) (start now new : Standing) (first session : View) (accep
         (λ r rest.
             let P : Report → Type 0 = Rest trace first.state 0 first.peak (start.to_come i) in
             let Q : Proof → Type 0 = λ x. Rest trace session.state so_far.count session.peak x (with_lines (traced trace number goes.word) r) in
-            subst P (with_both so_far.written (traced trace number goes.word) r) (p.0 (with_lines (traced trace number goes.word) r) (subst Q (sym q.2) (front k q.0 r rest)))),
+            subst P (with_both so_far.written (traced trace number goes.word) r) (p.0 (with_lines (traced trace number goes.word) r) (subst Q (sym q.0.2) (front k q.0.0 r rest)))),
         (λ left checked leaves.
             let Q : Proof → Type 0 = λ x. LeavesRest session.state x left checked in
-            p.1 left checked (subst Q (sym q.2) (LeavesRest-step session.state step q.0 (length k.bytes) (new.to_come k) left checked t.state goes.word goes.answers goes.not_last goes.state leaves))),
+            p.1 left checked (subst Q (sym q.0.2) (LeavesRest-step session.state step q.0.0 (length k.bytes) (new.to_come k) left checked t.state goes.word goes.answers goes.not_last goes.state leaves))),
       ));
       wrote = let P : List ℕ → Type 0 = Writes was last in
           subst P (sym (text_of-append so_far.written (traced trace number goes.word))) (Writes-then _ _ _ _ _ so_far.wrote goes.wrote);
@@ -111,17 +117,18 @@ module _ (trace : Bool) (start now new : Standing) (first session : View) (accep
             goes.state so_far.least (subst R goes.peak rest))
 
     pub Checking-stop : (checked : Checked) (last : Sink) → Stops trace number session step lines last checked.status
-        → (IsVerdict checked.status → Decides session.state step) → (checked.status ≡ NotVerified → IsRefused session.state step)
+        → (checked.status ≡ NotVerified → IsRefused session.state step)
         → (checked.status ≡ NotVerified → checked.refused ≡ end) → ((checked.status ≡ NotVerified → ⊥) → checked.refused ≡ None)
         → Along start.stream new.stream (λ i j. Ended checked last i j)
-    Checking-stop checked last stops decided refuses told only = Along-then _ _ _ _ _ _ so_far.run gives (λ i j k m p q.
-        let s = stops so_far.count (length k.bytes) q.0 (new.to_come k) counts so_far.least so_far.finite in
+    Checking-stop checked last stops refuses told only = Along-then _ _ _ _ _ _ so_far.run gives (λ i j k m p q.
+        let s = stops so_far.count (length k.bytes) q.0.0 (new.to_come k) counts so_far.least so_far.finite in
         let Q : Proof → Type 0 = λ x. Rest trace session.state so_far.count session.peak x s.0 in
-        let R : Proof → Type 0 = λ x. LeavesRest session.state x k checked in (
+        let R : Proof → Type 0 = λ x. LeavesRest session.state x k checked in
+        let S : Proof → Type 0 = λ x. PassesNoEnd x k in (
           with_lines so_far.written s.0,
-          p.0 s.0 (subst Q (sym q.2) s.1),
+          p.0 s.0 (subst Q (sym q.0.2) s.1),
           Outcome-after checked.status was.held lines.held last.held so_far.written s.0 (Writes-all was lines (text_of so_far.written) so_far.wrote so_far.whole) s.2,
-          p.1 k checked (subst R (sym q.2) (LeavesRest-decided session.state step q.0 (length k.bytes) (new.to_come k) k checked decided refuses (λ v. told v ∙ q.1) only refl)),
+          p.1 k checked (subst R (sym q.0.2) (LeavesRest-decided session.state step q.0.0 (length k.bytes) (new.to_come k) k checked refuses (λ v. told v ∙ q.0.1) only (subst S q.0.2 q.1))),
         ))
 
   -- what is known so far of the report, and of the step that decides
@@ -140,15 +147,15 @@ module _ (trace : Bool) (start now new : Standing) (first session : View) (accep
   )
 
   module _ (step : Step) (checked : Checked) (none : checked.refused ≡ None) (last : Sink) where
-    pub Checking-end : Along now.stream new.stream (λ i j. GivesStep (Ok false) None step (now.to_come i) (new.to_come j) j)
+    pub Checking-end : Along now.stream new.stream (Gave (Ok false) None step)
         → Outcome checked.status lines.held last.held (end_report None) → Along start.stream new.stream (λ i j. Ended checked last i j)
     Checking-end gives o = Along-then _ _ _ _ _ _ so_far.run gives (λ i j k m p q.
         let Q : Proof → Type 0 = λ x. Rest trace session.state so_far.count session.peak x (end_report None) in
         let R : Proof → Type 0 = λ x. LeavesRest session.state x k checked in
-        ended checked last i j k (end_report None) p (subst Q (sym q.1) (Rest-clean trace session.state so_far.count session.peak)) o
-        (subst R (sym q.1) (LeavesRest-none session.state None k checked none)))
+        ended checked last i j k (end_report None) p (subst Q (sym q.0.1) (Rest-clean trace session.state so_far.count session.peak)) o
+        (subst R (sym q.0.1) (LeavesRest-none session.state None k checked none)))
 
-    pub Checking-fault : (end : Option StepEnd) (f : Fault) → Along now.stream new.stream (λ i j. GivesStep (Err f) end step (now.to_come i) (new.to_come j) j)
+    pub Checking-fault : (end : Option StepEnd) (f : Fault) → Along now.stream new.stream (Gave (Err f) end step)
         → (f ≡ OutOfMemory → (r : Report) → Outcome checked.status lines.held last.held r) → ((f ≡ OutOfMemory → ⊥) → Outcome checked.status lines.held last.held (end_report (Some f)))
         → Along start.stream new.stream (λ i j. Ended checked last i j)
     Checking-fault end f gives refused other = by f gives refused other
@@ -160,30 +167,40 @@ module _ (trace : Bool) (start now new : Standing) (first session : View) (accep
             ended checked last i j k (end_report (Some f)) p (subst Q (sym e) (Rest-fault trace session.state so_far.count session.peak f)) o
             (subst R (sym e) (LeavesRest-none session.state (Some f) k checked none))
 
-        by : (f : Fault) → Along now.stream new.stream (λ i j. GivesStep (Err f) end step (now.to_come i) (new.to_come j) j)
+        by : (f : Fault) → Along now.stream new.stream (Gave (Err f) end step)
             → (f ≡ OutOfMemory → (r : Report) → Outcome checked.status lines.held last.held r) → ((f ≡ OutOfMemory → ⊥) → Outcome checked.status lines.held last.held (end_report (Some f)))
             → Along start.stream new.stream (λ i j. Ended checked last i j)
-        by (Text k x) gives refused other = Along-then _ _ _ _ _ _ so_far.run gives (λ i j n m p q. met (Text k x) i j n p q.1 (other (λ e. cc)))
-        by (Binary k x) gives refused other = Along-then _ _ _ _ _ _ so_far.run gives (λ i j n m p q. met (Binary k x) i j n p q.1 (other (λ e. cc)))
-        by ReadFailed gives refused other = Along-then _ _ _ _ _ _ so_far.run gives (λ i j n m p q. met ReadFailed i j n p q.1 (other (λ e. cc)))
+        by (Text k x) gives refused other = Along-then _ _ _ _ _ _ so_far.run gives (λ i j n m p q. met (Text k x) i j n p q.0.1 (other (λ e. cc)))
+        by (Binary k x) gives refused other = Along-then _ _ _ _ _ _ so_far.run gives (λ i j n m p q. met (Binary k x) i j n p q.0.1 (other (λ e. cc)))
+        by ReadFailed gives refused other = Along-then _ _ _ _ _ _ so_far.run gives (λ i j n m p q. met ReadFailed i j n p q.0.1 (other (λ e. cc)))
         by OutOfMemory gives refused other = Along-then _ _ _ _ _ _ so_far.run gives (λ i j n m p q.
             let some = Rest-some trace session.state so_far.count session.peak so_far.finite (now.to_come j) in
             ended checked last i j n some.0 p some.1 (refused refl some.0)
-            (LeavesRest-broken session.state (now.to_come j) n checked none (no_verdict checked.status lines.held last.held [] (refused refl (record { lines = []; status = Malformed })))))
+            (LeavesRest-broken session.state (now.to_come j) n checked none (no_verdict checked.status lines.held last.held [] (refused refl (record { lines = []; status = Malformed }))) q.1))
 
 -- what a call gave, by its answer's pattern
-pub step_told : (now new : Standing) (result answer : Result Bool Fault) (end : Option StepEnd) (s : Step) → Along now.stream new.stream (λ i j. GivesStep result end s (now.to_come i) (new.to_come j) j)
-    → result ≡ answer → Along now.stream new.stream (λ i j. GivesStep answer end s (now.to_come i) (new.to_come j) j)
+pub step_told : (now new : Standing) (result answer : Result Bool Fault) (end : Option StepEnd) (s : Step)
+    → Along now.stream new.stream (λ i j. GivesStep result end s (now.to_come i) (new.to_come j) j × PassesNoEnd (now.to_come i) j)
+    → result ≡ answer → Along now.stream new.stream (λ i j. GivesStep answer end s (now.to_come i) (new.to_come j) j × PassesNoEnd (now.to_come i) j)
 step_told now new result answer end s gives is =
-    let P : Result Bool Fault → Type 0 = λ r. Along now.stream new.stream (λ i j. GivesStep r end s (now.to_come i) (new.to_come j) j) in
+    let P : Result Bool Fault → Type 0 = λ r. Along now.stream new.stream (λ i j. GivesStep r end s (now.to_come i) (new.to_come j) j × PassesNoEnd (now.to_come i) j) in
     subst P is gives
 
 -- ---- A whole proof
 
+-- no step of a proof is followed by more than the proof
+pub drat_proof-within : (binary : Bool) (j : Input) → PassesNoEnd (drat_proof binary j) j
+drat_proof-within true j = binary_steps-within j
+drat_proof-within false j = steps_of-within drat j
+
+-- where nothing was read no end was passed
+unread_within : (j : Input) (reader : Reader) (last : PlacedStep) → last.rest ≤ length j.bytes → bytes_read reader reader + last.rest ≤ length j.bytes + 65536
+unread_within j reader last h = omega (arith, h)
+
 -- neither was read
-pub reports_nothing : (rule : Rule) (trace : Bool) (steps : Input → Proof) (formula proof new : Reader) (checked : Checked) (was now : Sink) → proof ≡ new → checked.refused ≡ None
-    → ((r : Report) → Outcome checked.status was.held now.held r) → AllReports rule trace steps formula formula proof new checked was.held now.held
-reports_nothing rule trace steps formula proof new checked was now same none o =
+pub reports_nothing : (rule : Rule) (trace : Bool) (steps : Input → Proof) (formula proof new : Reader) (checked : Checked) (was now : Sink) → ((j : Input) → PassesNoEnd (steps j) j) → proof ≡ new
+    → checked.refused ≡ None → ((r : Report) → Outcome checked.status was.held now.held r) → AllReports rule trace steps formula formula proof new checked was.held now.held
+reports_nothing rule trace steps formula proof new checked was now within same none o =
     let P : Reader → Type 0 = λ r. AllReports rule trace steps formula formula proof r checked was.held now.held in
     subst P same (record {
       first = Seen-nothing formula;
@@ -193,7 +210,7 @@ reports_nothing rule trace steps formula proof new checked was now same none o =
             record { report = some.0; reports = some.1; outcome = o some.0 },
             record {
               unread = λ n. refl;
-              past = λ words ending last whole v e d. absurd (broken v);
+              past = λ words ending last whole e d. unread_within j proof last (not_passed (steps j) j (within j) words ending last d);
             },
             record { unread = λ n. none; refused = λ words ending whole is e. absurd (broken (inr is)); only = λ _. none },
           );
@@ -203,17 +220,23 @@ reports_nothing rule trace steps formula proof new checked was now same none o =
     broken v = no_verdict checked.status was.held now.held [] (o (record { lines = []; status = Malformed })) v
 
 -- what was left of a proof, and that no more than 65536 bytes were read past what was taken, say how far it was read
-reads_no_further : (rule : Rule) (i j k : Input) (p : Proof) (old new : Reader) (checked : Checked) → LeavesProof rule (formula_of i).fault (formula_of i).clauses p old new k checked
-    → bytes_read old new + length k.bytes ≤ length j.bytes + 65536 → ReadsNoFurther rule (formula_of i) j p old new checked.status
-reads_no_further rule i j k p old new checked leaves within = record {
+reads_no_further : (rule : Rule) (i j k : Input) (p : Proof) (old new : Reader) (checked : Checked) → PassesNoEnd p j → LeavesProof rule (formula_of i).fault (formula_of i).clauses p old new k checked
+    → bytes_read old new + length k.bytes ≤ length j.bytes + 65536 → ReadsNoFurther rule (formula_of i) j p old new
+reads_no_further rule i j k p old new checked reach leaves within = record {
   unread = leaves.unread;
-  past = λ words ending last whole v e d. let is = leaves.past words ending last whole v e d in omega (arith, is, within);
+  past = λ words ending last whole e d. by last (leaves.past words ending last whole e d) (not_passed p j reach words ending last d);
 }
+  where
+    by : (last : PlacedStep) → (new ≡ old) ⊎ (last.rest ≤ length k.bytes) → last.rest ≤ length j.bytes → bytes_read old new + last.rest ≤ length j.bytes + 65536
+    by last (inl same) h =
+        let P : Reader → Type 0 = λ r. bytes_read old r + last.rest ≤ length j.bytes + 65536 in
+        subst P (sym same) (unread_within j old last h)
+    by last (inr left) h = omega (arith, left, within)
 
 -- a reader that was fresh was read
 module _ (rule : Rule) (trace : Bool) (to_come : ProofReading → Input → Proof) (steps : Input → Proof) (formula formula_new proof : Reader) (borrows : List ℕ) (source last : Stream) (new : Reader) (checked : Checked) (was now : Sink)
     (is : source ≡ unread_stream proof borrows) (kept : new ≡ last.reader)
-    (all : (j : Input) → to_come (fresh_reading (unread_stream proof borrows)) j ≡ steps j) where
+    (all : (j : Input) → to_come (fresh_reading (unread_stream proof borrows)) j ≡ steps j) (all_within : (j : Input) → PassesNoEnd (steps j) j) where
   -- what a check did of a proof from where a reader stands
   abbrev Did : Seen formula formula_new → ProofReading → Input → Input → Type 0
   Did f x j k =
@@ -235,10 +258,11 @@ module _ (rule : Rule) (trace : Bool) (to_come : ProofReading → Input → Proo
         second = Seen-run proof borrows last Q within;
         fact = λ i j s t.
             let S : Proof → Type 0 = λ p. Reports rule trace i p was.held now.held checked.status
-            × ReadsNoFurther rule (formula_of i) j p proof last.reader checked.status × TellsRefused rule (formula_of i).fault (formula_of i).clauses p checked in
+            × ReadsNoFurther rule (formula_of i) j p proof last.reader × TellsRefused rule (formula_of i).fault (formula_of i).clauses p checked in
             let seen = Seen-fact proof borrows last Q within j t in
             let did = seen.2.0 i s in
-            subst S (all j) (did.0, reads_no_further rule i j seen.0 (to_come fresh j) proof last.reader checked did.1 seen.2.1, did.1.told);
+            let T : Proof → Type 0 = λ p. PassesNoEnd p j in
+            subst S (all j) (did.0, reads_no_further rule i j seen.0 (to_come fresh j) proof last.reader checked (subst T (sym (all j)) (all_within j)) did.1 seen.2.1, did.1.told);
       })
 
 -- the same report by the same rule of the same steps
@@ -249,7 +273,7 @@ reports_as rule other trace steps others formula formula_new proof new checked w
   second = reports.second;
   fact = λ i j s t.
       let P : Rule → Proof → Type 0 = λ q p. Reports q trace i p was.held now.held checked.status
-      × ReadsNoFurther q (formula_of i) j p proof new checked.status × TellsRefused q (formula_of i).fault (formula_of i).clauses p checked in
+      × ReadsNoFurther q (formula_of i) j p proof new × TellsRefused q (formula_of i).fault (formula_of i).clauses p checked in
       let Q : Rule → Type 0 = λ q. P q (steps j) in
       subst (P other) (all j) (subst Q is (reports.fact i j s t));
 }

@@ -1,19 +1,21 @@
 -- A formula is judged by listed literals, clause by clause.
-use Rattle.std.proofs.Common.{◌≡◌, ℕ, ◌+◌, cond, Bool, true, false, List, [], ◌∷◌, ◌++◌, length, Option, None, Some, refl, sym, ap, ◌∙◌, subst, arith}
-use Rattle.std.specs.Prelude.{Result, Ok, Err}
+use Rattle.std.proofs.Common.{◌≡◌, ℕ, zero, suc, ◌+◌, ◌-◌, ◌≤◌, cond, Bool, true, false, List, [], ◌∷◌, ◌++◌, length, Option, None, Some, refl, sym, ap, ◌∙◌, subst, arith}
+use Rattle.std.specs.Prelude.{Result, Ok, Err, slice_get}
+use Rattle.std.proofs.lemmas.Option.{none-some}
 use Rattle.cnf_base.specs.Literals.{Literal, Clause}
 use Rattle.cnf_base.specs.Seen.{OfSeen}
-use Rattle.cnf_base.specs.Stream.{Reader, Stream, Along, unread_stream}
+use Rattle.cnf_base.specs.Stream.{Input, Reader, Stream, Along, unread_stream, bytes_read}
 use Rattle.cnf_base.specs.declared.fault.Fault.{Fault}
 use Rattle.cnf_base.specs.declared.fault.Fault.TheVariants.{Text, Binary, ReadFailed, OutOfMemory}
 use Rattle.cnf_base.proofs.StreamLemmas.{Along-then, Along-map}
-use Rattle.dimacs.specs.Formula.{Body, Formula, formula_at, formula_of}
-use Rattle.dimacs.specs.Reading.{FormulaReading, clauses_to_come, GivesClause, opened, unopened}
+use Rattle.dimacs.specs.Formula.{Body, Formula, formula_at, formula_of, clause_rests_at}
+use Rattle.dimacs.specs.Reading.{FormulaReading, clauses_to_come, rests_to_come, opened, unopened}
+use Rattle.dimacs.proofs.RestsLemmas.{clause_rests-within}
 use Rattle.sat_check.specs.ModelReport.{meets, first_unmet}
-use Rattle.sat_check.specs.Judging.{Judges}
+use Rattle.sat_check.specs.Judging.{Judges, LeavesUnmet, ReadsToUnmet}
 use Rattle.sat_check.specs.declared.judgement.Judgement.{Judgement}
 use Rattle.sat_check.specs.declared.judgement.Judgement.TheVariants.{Met, Unmet}
-use Rattle.sat_check.proofs.ReadLemmas.{length_push, with_clauses, seen_nothing, seen_run, Reads, FaultAfter, Reads-start, Reads-clause, Reads-done, Reads-fault}
+use Rattle.sat_check.proofs.ReadLemmas.{length_push, with_clauses, seen_nothing, seen_run, seen_within, seen_map, Reads, Gave, NonePassed, FaultAfter, Reads-start, Reads-clause, Reads-done, Reads-fault}
 
 -- after clauses that are met, the first that isn't is one of those that follow
 first_unmet-append : (k : ℕ) (listed : List Literal) (cs ds : List Clause) → first_unmet k listed cs ≡ None
@@ -26,6 +28,36 @@ first_unmet-append k listed (c ∷ cs) ds h = by (meets listed c) h (λ g. first
         → cond b (first_unmet (k + 1) listed (cs ++ ds)) (Some k) ≡ first_unmet (k + length (c ∷ cs)) listed ds
     by true h next = next h ∙ ap (λ n. first_unmet n listed ds) (let e : k + 1 + length cs ≡ k + length (c ∷ cs) = omega arith in e)
     by false h next = absurd (let e : ◌≡◌ {A = Option ℕ} (Some k) None = h in cc)
+
+-- it has no lesser number than the first of them
+unmet_least : (k : ℕ) (listed : List Literal) (cs : List Clause) (m : ℕ) → first_unmet k listed cs ≡ Some m → k ≤ m
+unmet_least k listed [] m h = absurd (none-some m h)
+unmet_least k listed (c ∷ cs) m h = by (meets listed c) h (λ g. unmet_least (k + 1) listed cs m g)
+  where
+    by : (b : Bool) → cond b (first_unmet (k + 1) listed cs) (Some k) ≡ Some m → (first_unmet (k + 1) listed cs ≡ Some m → k + 1 ≤ m) → k ≤ m
+    by true h next = let later = next h in omega (arith, later)
+    by false h next = let e : Some k ≡ Some m = h in let same : k ≡ m = cc in omega (arith, same)
+
+-- past the first numbers stand the others
+past_first : (xs ys : List ℕ) (n m : ℕ) → n ≡ length xs + m → slice_get (xs ++ ys) n ≡ slice_get ys m
+past_first [] ys n m e = ap (slice_get ys) (let same : n ≡ m = omega (arith, e) in same)
+past_first (x ∷ xs) ys zero m e = absurd (omega (arith, e))
+past_first (x ∷ xs) ys (suc n) m e = past_first xs ys n m (omega (arith, e))
+
+-- after clauses that are met, where no end of the others was passed, that of the first one that isn't met wasn't
+not_passed : (listed : List Literal) (read : List Clause) (old : FormulaReading) (i k : Input) → first_unmet 1 listed read ≡ None → NonePassed old read i k
+    → LeavesUnmet listed (clauses_to_come old i).clauses (rests_to_come old i) k
+not_passed listed read old i k met passed m left unmet at =
+    let later = passed.0 in
+    let rests = passed.1 in
+    let on = passed.2 in
+    let first = on.1.0 in
+    let among : first_unmet (1 + length read) listed later.clauses ≡ Some m =
+    sym (first_unmet-append 1 listed read later.clauses met) ∙ sym (ap (λ b. first_unmet 1 listed b.clauses) on.0) ∙ unmet in
+    let least : 1 + length read ≤ m = unmet_least (1 + length read) listed later.clauses m among in
+    let same : length first ≡ length read = on.1.1 in
+    let index : m - 1 ≡ length first + (m - 1 - length first) = omega (arith, least, same) in
+    passed.3 (m - 1 - length first) left (sym (past_first first rests (m - 1) (m - 1 - length first) index) ∙ sym (ap (λ r. slice_get r (m - 1)) on.1.2) ∙ at)
 
 -- from one moment to another so many clauses were read, and are met
 pub record Judging (listed : List Literal) (old now : FormulaReading) (met : ℕ) : Type 0 where
@@ -42,7 +74,7 @@ module _ (listed : List Literal) (old now new : FormulaReading) (met : ℕ) (so_
   pub Judging-count : met ≡ now.complete
   Judging-count = so_far.count ∙ so_far.reads.count
 
-  pub Judging-clause : Along now.stream new.stream (λ i j. GivesClause (Ok true) c (clauses_to_come now i) (clauses_to_come new j)) → meets listed c ≡ true
+  pub Judging-clause : Gave now new (Ok true) c → meets listed c ≡ true
       → new.complete ≡ now.complete + 1 → new.header ≡ now.header → Judging listed old new (met + 1)
   Judging-clause gives is count header = record {
     clauses = so_far.clauses ++ c ∷ [];
@@ -51,28 +83,36 @@ module _ (listed : List Literal) (old now new : FormulaReading) (met : ℕ) (so_
     count = ap (λ n. n + 1) so_far.count ∙ sym (length_push so_far.clauses c);
   }
 
-  pub Judging-unmet : Along now.stream new.stream (λ i j. GivesClause (Ok true) c (clauses_to_come now i) (clauses_to_come new j)) → meets listed c ≡ false
-      → Along old.stream new.stream (λ i j. Judges listed (Ok (Unmet (met + 1))) (clauses_to_come old i).clauses (clauses_to_come old i).fault)
-  Judging-unmet gives is = Along-then _ _ _ _ _ _ so_far.reads.run gives (λ i j k m p q.
-      ap (λ b. first_unmet 1 listed b.clauses) (p ∙ ap (with_clauses so_far.clauses) q)
-      ∙ first_unmet-append 1 listed so_far.clauses (c ∷ (clauses_to_come new k).clauses) so_far.all
-      ∙ ap (λ b. cond b (first_unmet (1 + length so_far.clauses + 1) listed (clauses_to_come new k).clauses) (Some (1 + length so_far.clauses))) is
-      ∙ ap Some number)
+  -- what is found of the clauses, and that no more was read than the first that isn't met
+  abbrev Judged : Result Judgement Fault → Type 0
+  Judged result = Along old.stream new.stream (λ i j. Judges listed result (clauses_to_come old i).clauses (clauses_to_come old i).fault
+      × LeavesUnmet listed (clauses_to_come old i).clauses (rests_to_come old i) j)
+
+  pub Judging-unmet : Gave now new (Ok true) c → meets listed c ≡ false → Judged (Ok (Unmet (met + 1)))
+  Judging-unmet gives is = Along-then _ _ _ _ _ _ so_far.reads.run gives (λ i j k m p q. (
+    ap (λ b. first_unmet 1 listed b.clauses) (p.0 ∙ ap (with_clauses so_far.clauses) q.0)
+        ∙ first_unmet-append 1 listed so_far.clauses (c ∷ (clauses_to_come new k).clauses) so_far.all
+        ∙ ap (λ b. cond b (first_unmet (1 + length so_far.clauses + 1) listed (clauses_to_come new k).clauses) (Some (1 + length so_far.clauses))) is
+        ∙ ap Some number,
+    not_passed listed so_far.clauses old i k so_far.all (clauses_to_come now j, rests_to_come now j, p, q.1.1),
+  ))
     where
       number : 1 + length so_far.clauses ≡ met + 1
       number = omega (arith, so_far.count)
 
-  pub Judging-done : Along now.stream new.stream (λ i j. GivesClause (Ok false) c (clauses_to_come now i) (clauses_to_come new j))
-      → Along old.stream new.stream (λ i j. Judges listed (Ok (Met met)) (clauses_to_come old i).clauses (clauses_to_come old i).fault)
-  Judging-done gives = Along-map _ _ _ _ (Reads-done old now new so_far.clauses so_far.reads c gives) (λ i j m e.
-      (ap (λ b. first_unmet 1 listed b.clauses) e ∙ so_far.all, so_far.count ∙ sym (ap (λ b. length b.clauses) e), ap (λ b. b.fault) e))
+  pub Judging-done : Gave now new (Ok false) c → Judged (Ok (Met met))
+  Judging-done gives = Along-map _ _ _ _ (Reads-done old now new so_far.clauses so_far.reads c gives) (λ i j m e. (
+    (ap (λ b. first_unmet 1 listed b.clauses) e.0 ∙ so_far.all, so_far.count ∙ sym (ap (λ b. length b.clauses) e.0), ap (λ b. b.fault) e.0),
+    not_passed listed so_far.clauses old i j so_far.all e.1,
+  ))
 
   pub Judging-fault : (f : Fault) (result : Result Judgement Fault) → result ≡ Err f
-      → Along now.stream new.stream (λ i j. GivesClause (Err f) c (clauses_to_come now i) (clauses_to_come new j))
-      → Along old.stream new.stream (λ i j. Judges listed result (clauses_to_come old i).clauses (clauses_to_come old i).fault)
+      → Gave now new (Err f) c → Judged result
   Judging-fault f result is gives =
-      let P : Result Judgement Fault → Type 0 = λ r. Along old.stream new.stream (λ i j. Judges listed r (clauses_to_come old i).clauses (clauses_to_come old i).fault) in
-      subst P (sym is) (Along-map _ _ _ _ (Reads-fault old now new so_far.clauses so_far.reads c f gives) (λ i j m e. by f (clauses_to_come old i) e))
+      subst Judged (sym is) (Along-map _ _ _ _ (Reads-fault old now new so_far.clauses so_far.reads c f gives) (λ i j m e. (
+        by f (clauses_to_come old i) e.0,
+        not_passed listed so_far.clauses old i j so_far.all e.1,
+      )))
     where
       by : (f : Fault) (b : Body) → FaultAfter so_far.clauses f b → Judges listed (Err f) b.clauses b.fault
       by (Text k p) b e = (ap (λ b. first_unmet 1 listed b.clauses) e ∙ so_far.all, ap (λ b. b.fault) e)
@@ -86,21 +126,31 @@ abbrev pub JudgesFormula : List Literal → Result Judgement Fault → Formula �
 JudgesFormula listed result f = Judges listed result f.clauses f.fault
 
 abbrev pub AllJudges : List Literal → Reader → Reader → Result Judgement Fault → Type 0
-AllJudges listed left new result = OfSeen left new (λ i. JudgesFormula listed result (formula_of i))
+AllJudges listed left new result = OfSeen left new (λ i. JudgesFormula listed result (formula_of i) × ReadsToUnmet listed i left new)
+
+-- where nothing was read no end was passed
+pub unread_unmet : (listed : List Literal) (i : Input) (left new : Reader) → left ≡ new → ReadsToUnmet listed i left new
+unread_unmet listed i left new same k rest unmet at =
+    let P : Reader → Type 0 = λ r. bytes_read left r + rest ≤ length i.bytes + 65536 in
+    let small = clause_rests-within i (k - 1) rest at in
+    subst P same (omega (arith, small))
 
 -- nothing was read
 pub judges_refused : (listed : List Literal) (left new : Reader) (result : Result Judgement Fault) → left ≡ new → result ≡ Err OutOfMemory → AllJudges listed left new result
 judges_refused listed left new result same is =
     let P : Result Judgement Fault → Type 0 = AllJudges listed left new in
-    subst P (sym is) (seen_nothing (λ i. JudgesFormula listed (Err OutOfMemory) (formula_of i)) left new same (λ i. tt))
+    subst P (sym is) (seen_nothing (λ i. JudgesFormula listed (Err OutOfMemory) (formula_of i) × ReadsToUnmet listed i left new) left new same
+    (λ i. (tt, unread_unmet listed i left new same)))
 
 module _ (listed : List Literal) (left : Reader) (borrows : List ℕ) (source : Stream) (is : source ≡ unread_stream left borrows)
     (last : Stream) (new : Reader) (kept : new ≡ last.reader) where
   -- the header has a fault
   pub judges_fault : (f : Fault) → Along source last (λ i j. formula_at source.place i ≡ unopened f) → AllJudges listed left new (Err f)
   judges_fault f run =
-      seen_run (λ p i. JudgesFormula listed (Err f) (formula_at p i)) left borrows source last new is kept
-      (Along-map _ _ _ _ run (λ i j m e. let P : Formula → Type 0 = JudgesFormula listed (Err f) in subst P (sym e) (by f)))
+      let P : Formula → Type 0 = λ x. JudgesFormula listed (Err f) x × (first_unmet 1 listed x.clauses ≡ None) in
+      seen_map left new (λ i. P (formula_of i)) (λ i. JudgesFormula listed (Err f) (formula_of i) × ReadsToUnmet listed i left new)
+      (seen_run (λ p i. P (formula_at p i)) left borrows source last new is kept (Along-map _ _ _ _ run (λ i j m e. subst P (sym e) (by f, refl))))
+      (λ i x. (x.0, λ k rest unmet at. absurd (none-some k (sym x.1 ∙ unmet))))
     where
       by : (f : Fault) → JudgesFormula listed (Err f) (unopened f)
       by (Text k p) = (refl, refl)
@@ -109,8 +159,15 @@ module _ (listed : List Literal) (left : Reader) (borrows : List ℕ) (source : 
       by OutOfMemory = tt
 
   -- the clauses were judged
-  pub judges_body : (r : FormulaReading) (result : Result Judgement Fault) → Along source r.stream (λ i j. formula_at source.place i ≡ opened r.header (clauses_to_come r j))
-      → Along r.stream last (λ i j. Judges listed result (clauses_to_come r i).clauses (clauses_to_come r i).fault) → AllJudges listed left new result
+  pub judges_body : (r : FormulaReading) (result : Result Judgement Fault) → Along source r.stream (λ i j. (formula_at source.place i ≡ opened r.header (clauses_to_come r j)) × (clause_rests_at source.place i ≡ rests_to_come r j))
+      → Along r.stream last (λ i j. Judges listed result (clauses_to_come r i).clauses (clauses_to_come r i).fault × LeavesUnmet listed (clauses_to_come r i).clauses (rests_to_come r i) j)
+      → AllJudges listed left new result
   judges_body r result opens body =
-      seen_run (λ p i. JudgesFormula listed result (formula_at p i)) left borrows source last new is kept
-      (Along-then _ _ _ _ _ _ opens body (λ i j k m e q. let P : Formula → Type 0 = JudgesFormula listed result in subst P (sym e) q))
+      let P : Formula → List ℕ → Input → Type 0 = λ x rests j. JudgesFormula listed result x × LeavesUnmet listed x.clauses rests j in
+      seen_map left new _ (λ i. JudgesFormula listed result (formula_of i) × ReadsToUnmet listed i left new)
+      (seen_within (λ p i j. P (formula_at p i) (clause_rests_at p i) j) left borrows source last new is kept
+      (Along-then _ _ _ _ _ _ opens body (λ i j k m e q.
+      let Q : Formula → Type 0 = λ x. P x (rests_to_come r j) k in
+      let R : List ℕ → Type 0 = λ rests. P (formula_at source.place i) rests k in
+      subst R (sym e.1) (subst Q (sym e.0) q))))
+      (λ i x. (x.1.0, λ k rest unmet at. let small = x.1.1 k rest unmet at in omega (arith, small, x.2)))

@@ -14,9 +14,9 @@ use Rattle.cnf_base.specs.Stream.{Reader, Stream, Along, unread_stream}
 use Rattle.cnf_base.specs.declared.fault.Fault.{Fault}
 use Rattle.cnf_base.specs.declared.fault.Fault.TheVariants.{Text, Binary, ReadFailed, OutOfMemory}
 use Rattle.cnf_base.proofs.StreamLemmas.{Along-then, Along-map}
-use Rattle.dimacs.specs.Formula.{Body, Formula, formula_at, formula_of}
+use Rattle.dimacs.specs.Formula.{Body, Formula, formula_at, formula_of, clause_rests_at}
 use Rattle.dimacs.specs.declared.header.Header.{Header}
-use Rattle.dimacs.specs.Reading.{FormulaReading, clauses_to_come, GivesClause, opened, unopened}
+use Rattle.dimacs.specs.Reading.{FormulaReading, clauses_to_come, rests_to_come, opened, unopened}
 use Rattle.steps.specs.Drat.Session.{DratState, fresh_drat, clauses_of}
 use Rattle.steps.specs.Lrat.Session.{Session, fresh_lrat, state_of}
 use Rattle.steps.specs.Theory.Rules.{Rule, lrat, drat, State, by_ids, by_copies, start, with_input, sum_of, Same}
@@ -34,7 +34,7 @@ use Rattle.steps.proofs.LratLemmas.SameSets.{with_same}
 use Rattle.steps.proofs.LratLemmas.Sessions.{numbered_push, fresh_is_numbered}
 use Rattle.steps.proofs.LratLemmas.Sums.{sum_with}
 use Rattle.sat_check.specs.Checking.{IsLoaded, LoadsBody, Loads}
-use Rattle.sat_check.proofs.ReadLemmas.{length_push, seen_nothing, seen_run, Reads, FaultAfter, Reads-start, Reads-clause, Reads-done, Reads-fault}
+use Rattle.sat_check.proofs.ReadLemmas.{length_push, seen_nothing, seen_run, Reads, Gave, FaultAfter, Reads-start, Reads-clause, Reads-done, Reads-fault}
 use Rattle.steps.specs.declared.drat.rules.DratRules.{DratRules}
 
 -- no clause has a number past the last
@@ -141,22 +141,22 @@ pub Loading-start : (rule : Rule) (r : FormulaReading) (s : View) → IsLoaded r
 Loading-start rule r s loaded none = record { clauses = []; reads = Reads-start r none; loaded = loaded }
 
 module _ (rule : Rule) (old now new : FormulaReading) (s : View) (so_far : Loading rule old now s) where
-  pub Loading-clause : (t : View) (c : Clause) → Along now.stream new.stream (λ i j. GivesClause (Ok true) c (clauses_to_come now i) (clauses_to_come new j))
+  pub Loading-clause : (t : View) (c : Clause) → Gave now new (Ok true) c
       → IsLoaded rule t (so_far.clauses ++ c ∷ []) → new.complete ≡ now.complete + 1 → new.header ≡ now.header → Loading rule old new t
   Loading-clause t c gives loaded count header = record { clauses = so_far.clauses ++ c ∷ []; reads = Reads-clause old now new so_far.clauses so_far.reads c gives count header; loaded = loaded }
 
-  pub Loading-done : (c : Clause) → Along now.stream new.stream (λ i j. GivesClause (Ok false) c (clauses_to_come now i) (clauses_to_come new j))
+  pub Loading-done : (c : Clause) → Gave now new (Ok false) c
       → Along old.stream new.stream (λ i j. LoadsBody rule s (Ok tt) (clauses_to_come old i))
   Loading-done c gives = Along-map _ _ _ _ (Reads-done old now new so_far.clauses so_far.reads c gives) (λ i j m e.
       let P : List Clause → Type 0 = IsLoaded rule s in
-      (ap (λ b. b.fault) e, subst P (sym (ap (λ b. b.clauses) e)) so_far.loaded))
+      (ap (λ b. b.fault) e.0, subst P (sym (ap (λ b. b.clauses) e.0)) so_far.loaded))
 
   pub Loading-fault : (t : View) (c : Clause) (f : Fault) (result : Result (Unit {0}) Fault) → result ≡ Err f
-      → Along now.stream new.stream (λ i j. GivesClause (Err f) c (clauses_to_come now i) (clauses_to_come new j))
+      → Gave now new (Err f) c
       → Along old.stream new.stream (λ i j. LoadsBody rule t result (clauses_to_come old i))
   Loading-fault t c f result is gives =
       let P : Result (Unit {0}) Fault → Type 0 = λ r. Along old.stream new.stream (λ i j. LoadsBody rule t r (clauses_to_come old i)) in
-      subst P (sym is) (Along-map _ _ _ _ (Reads-fault old now new so_far.clauses so_far.reads c f gives) (λ i j m e. by f (clauses_to_come old i) e))
+      subst P (sym is) (Along-map _ _ _ _ (Reads-fault old now new so_far.clauses so_far.reads c f gives) (λ i j m e. by f (clauses_to_come old i) e.0))
     where
       by : (f : Fault) (b : Body) → FaultAfter so_far.clauses f b → LoadsBody rule t (Err f) b
       by (Text k p) b e = ap (λ b. b.fault) e
@@ -164,7 +164,7 @@ module _ (rule : Rule) (old now new : FormulaReading) (s : View) (so_far : Loadi
       by ReadFailed b e = ap (λ b. b.fault) e
       by OutOfMemory b e = tt
 
-  pub Loading-refused : (t : View) (c : Clause) → Along now.stream new.stream (λ i j. GivesClause (Ok true) c (clauses_to_come now i) (clauses_to_come new j))
+  pub Loading-refused : (t : View) (c : Clause) → Gave now new (Ok true) c
       → Along old.stream new.stream (λ i j. LoadsBody rule t (Err OutOfMemory) (clauses_to_come old i))
   Loading-refused t c gives = Along-then _ _ _ _ _ _ so_far.reads.run gives (λ i j k m p q. tt)
 
@@ -200,14 +200,14 @@ module _ (rule : Rule) (s : View) (left : Reader) (borrows : List ℕ) (source :
   loads_fault f last new kept run = all_loads last new (Err f) kept (Along-map _ _ _ _ run (λ i j m p. fault_loads f _ (ap (λ y. y.fault) p)))
 
   module _ (r : FormulaReading) (last : Stream) (new : Reader) (kept : new ≡ last.reader)
-      (opens : Along source r.stream (λ i j. formula_at source.place i ≡ opened r.header (clauses_to_come r j))) where
+      (opens : Along source r.stream (λ i j. (formula_at source.place i ≡ opened r.header (clauses_to_come r j)) × (clause_rests_at source.place i ≡ rests_to_come r j))) where
     pub loads_body : (h : Header) → h ≡ r.header → Along r.stream last (λ i j. LoadsBody rule s (Ok tt) (clauses_to_come r i)) → AllLoads rule s left new (Ok h)
     loads_body h same body = all_loads last new (Ok h) kept (Along-then _ _ _ _ _ _ opens body (λ i j k m p q.
         let P : List Clause → Type 0 = IsLoaded rule s in
-        (ap (λ y. y.header) p ∙ ap Some (sym same), ap (λ y. y.fault) p ∙ q.0, subst P (sym (ap (λ y. y.clauses) p)) q.1)))
+        (ap (λ y. y.header) p.0 ∙ ap Some (sym same), ap (λ y. y.fault) p.0 ∙ q.0, subst P (sym (ap (λ y. y.clauses) p.0)) q.1)))
 
     pub loads_body_fault : (f : Fault) (result : Result Header Fault) → result ≡ Err f → Along r.stream last (λ i j. LoadsBody rule s (Err f) (clauses_to_come r i))
         → AllLoads rule s left new result
     loads_body_fault f result is body =
         let P : Result Header Fault → Type 0 = AllLoads rule s left new in
-        subst P (sym is) (all_loads last new (Err f) kept (Along-then _ _ _ _ _ _ opens body (λ i j k m p q. body_fault f _ r.header _ p q)))
+        subst P (sym is) (all_loads last new (Err f) kept (Along-then _ _ _ _ _ _ opens body (λ i j k m p q. body_fault f _ r.header _ p.0 q)))

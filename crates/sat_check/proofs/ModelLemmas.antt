@@ -1,6 +1,7 @@
 -- The report of a model, and what a verified one says.
-use Rattle.std.proofs.Common.{◌≡◌, ℕ, suc, ◌+◌, ◌*◌, ◌/◌, ◌%◌, cond, Bool, true, false, not, ◌||◌, List, [], ◌∷◌, length, Option, None, Some, refl, sym, ap, ◌∙◌, subst, arith, slice_get, codes}
+use Rattle.std.proofs.Common.{◌≡◌, ℕ, zero, suc, ◌+◌, ◌-◌, ◌<◌, ◌≤◌, ◌*◌, ◌/◌, ◌%◌, cond, Bool, true, false, not, ◌||◌, List, [], ◌∷◌, length, Option, None, Some, refl, sym, ap, ◌∙◌, subst, arith, slice_get, codes}
 use Rattle.std.specs.Prelude.{Result, Ok, Err, IfOk, IsTrue, ◌==◌}
+use Rattle.std.proofs.lemmas.Option.{none-some}
 use Rattle.std.proofs.lemmas.Bool.Decides.{nat_tests}
 use Rattle.cnf_base.specs.Lines.{Sink}
 use Rattle.cnf_base.specs.Literals.{Literal, Clause, complement, has}
@@ -8,19 +9,21 @@ use Rattle.cnf_base.specs.declared.fault.Fault.{Fault}
 use Rattle.cnf_base.specs.declared.fault.Fault.TheVariants.{Text, Binary, ReadFailed, OutOfMemory}
 use Rattle.cnf_base.proofs.SetLemmas.{any_from, any_some}
 use Rattle.cnf_base.specs.Seen.{OfBothSeen}
-use Rattle.cnf_base.specs.Stream.{Input, Reader}
+use Rattle.cnf_base.specs.Stream.{Input, Reader, bytes_read}
 use Rattle.dimacs.specs.Claim.{claim_of, IsClaim, IsConsistent}
-use Rattle.dimacs.specs.Formula.{Formula, formula_of}
+use Rattle.dimacs.specs.Formula.{Formula, formula_of, clause_rests}
+use Rattle.dimacs.proofs.RestsLemmas.{clause_rests-length}
 use Rattle.steps.specs.Theory.Models.{Assignment, holds, satisfies, HasModel}
 use Rattle.sat_check.specs.Lines.{fault_line, fault_status}
 use Rattle.sat_check.specs.Report.{Outcome, Report, concluded}
-use Rattle.sat_check.specs.ModelReport.{meets, first_unmet, met_report, clauses_report, claim_report, model_report, Satisfies, ChecksModel, LeavesFormula}
-use Rattle.sat_check.specs.Judging.{Judges, judged_report}
+use Rattle.sat_check.specs.ModelReport.{meets, first_unmet, met_report, clauses_report, claim_report, model_report, Satisfies, ChecksModel, ReadsFormulaNoFurther}
+use Rattle.sat_check.specs.Judging.{Judges, ReadsToUnmet, judged_report}
 use Rattle.sat_check.specs.declared.judgement.Judgement.{Judgement}
 use Rattle.sat_check.specs.declared.judgement.Judgement.TheVariants.{Met, Unmet}
 use Rattle.sat_check.specs.declared.subject.Subject.TheVariants.{Model}
 use Rattle.sat_check.specs.declared.status.Status.{Status}
 use Rattle.sat_check.specs.declared.status.Status.TheVariants.{Verified, NotVerified}
+use Rattle.sat_check.proofs.JudgeLemmas.{unread_unmet}
 use Rattle.sat_check.proofs.OutcomeLemmas.{both_told}
 use Rattle.sat_check.proofs.SoundLemmas.{fault_is_no_verdict, outcome_verified, outcome_complete}
 
@@ -191,23 +194,62 @@ checks_model i j old new status o consistent = record {
 -- what a run made of the inputs that it saw
 abbrev pub Made : Reader → Reader → Status → Option (List ℕ) → Option (List ℕ) → Input → Input → Type 0
 Made formula formula_new status old new i j = Outcome status old new (model_report i j) × (status ≡ Verified → IfOk (claim_of j) IsConsistent)
-    × LeavesFormula (claim_of j) formula formula_new
+    × ReadsFormulaNoFurther (claim_of j) i formula formula_new
 
 -- and by all that was seen of the formula and of the output
 pub both_check_model : (formula formula_new output output_new : Reader) (status : Status) (old new first last : Option (List ℕ)) → old ≡ first → new ≡ last
     → OfBothSeen formula formula_new output output_new (Made formula formula_new status old new)
-    → OfBothSeen formula formula_new output output_new (λ i j. ChecksModel i j first last status × LeavesFormula (claim_of j) formula formula_new)
+    → OfBothSeen formula formula_new output output_new (λ i j. ChecksModel i j first last status × ReadsFormulaNoFurther (claim_of j) i formula formula_new)
 both_check_model formula formula_new output output_new status old new first last before after =
     both_told formula formula_new output output_new (Made formula formula_new status)
-    (λ i j. ChecksModel i j first last status × LeavesFormula (claim_of j) formula formula_new)
+    (λ i j. ChecksModel i j first last status × ReadsFormulaNoFurther (claim_of j) i formula formula_new)
     old new first last before after (λ i j x. (checks_model i j first last status x.0 x.1, x.2))
 
--- the formula is left where it isn't looked at
-pub formula_left : (claim : Result (List ℕ) Fault) (reader : Reader) → LeavesFormula claim reader reader
-formula_left (Ok listed) reader = tt
-formula_left (Err f) reader = refl
+-- ---- How far the formula was read
 
--- a model that was claimed is no fault
-pub formula_needed : (listed : List ℕ) (claim : Result (List ℕ) Fault) (old new : Reader) → IsClaim (Ok listed) claim → LeavesFormula claim old new
-formula_needed listed (Ok others) old new is = tt
-formula_needed listed (Err f) old new is = absurd is
+-- a number of a list
+some_at : (xs : List ℕ) (n : ℕ) → n < length xs → (x : ℕ) × (slice_get xs n ≡ Some x)
+some_at [] n h = absurd (omega (arith, h))
+some_at (x ∷ xs) zero h = (x, refl)
+some_at (x ∷ xs) (suc n) h = some_at xs n (omega (arith, h))
+
+-- the first clause that isn't met is one of them
+unmet_bound : (k : ℕ) (listed : List Literal) (cs : List Clause) (m : ℕ) → first_unmet k listed cs ≡ Some m → (k ≤ m) × (m < k + length cs)
+unmet_bound k listed [] m h = absurd (none-some m h)
+unmet_bound k listed (c ∷ cs) m h = by (meets listed c) h (λ g. unmet_bound (k + 1) listed cs m g)
+  where
+    by : (b : Bool) → cond b (first_unmet (k + 1) listed cs) (Some k) ≡ Some m → (first_unmet (k + 1) listed cs ≡ Some m → (k + 1 ≤ m) × (m < k + 1 + length cs))
+        → (k ≤ m) × (m < k + length (c ∷ cs))
+    by true h next = let later = next h in (omega (arith, later.0), omega (arith, later.1))
+    by false h next = let e : Some k ≡ Some m = h in let same : k ≡ m = cc in (omega (arith, same), omega (arith, same))
+
+-- and it ends with a `0`
+unmet_rest : (listed : List Literal) (i : Input) (k : ℕ) → first_unmet 1 listed (formula_of i).clauses ≡ Some k
+    → (rest : ℕ) × (slice_get (clause_rests i) (k - 1) ≡ Some rest)
+unmet_rest listed i k unmet =
+    let bound = unmet_bound 1 listed (formula_of i).clauses k unmet in
+    let many = clause_rests-length i in
+    some_at (clause_rests i) (k - 1) (omega (arith, bound.0, bound.1, many))
+
+-- how far a formula was read of which the claim's literals are judged
+reads_no_further : (listed : List Literal) (i : Input) (old new : Reader) → ReadsToUnmet listed i old new → (k : ℕ) → first_unmet 1 listed (formula_of i).clauses ≡ Some k
+    → (rest : ℕ) × (slice_get (clause_rests i) (k - 1) ≡ Some rest) × (bytes_read old new + rest ≤ length i.bytes + 65536)
+reads_no_further listed i old new reads k unmet = let at = unmet_rest listed i k unmet in (at.0, at.1, reads k at.0 unmet at.1)
+
+-- the formula is left where it isn't looked at
+pub formula_left : (claim : Result (List ℕ) Fault) (i : Input) (reader : Reader) → ReadsFormulaNoFurther claim i reader reader
+formula_left claim i reader = record {
+  unread = λ f is. refl;
+  past = λ listed k is unmet. reads_no_further listed i reader reader (unread_unmet listed i reader reader refl) k unmet;
+}
+
+-- a model that was claimed is no fault, and its literals are the claim's
+pub formula_needed : (model : List ℕ) (claim : Result (List ℕ) Fault) (i : Input) (old new : Reader) → IsClaim (Ok model) claim → ReadsToUnmet model i old new
+    → ReadsFormulaNoFurther claim i old new
+formula_needed model claim i old new same reads = record {
+  unread = λ f is. absurd (let P : Result (List ℕ) Fault → Type 0 = IsClaim (Ok model) in subst P is same);
+  past = λ listed k is unmet.
+      let P : Result (List ℕ) Fault → Type 0 = IsClaim (Ok model) in
+      let alike = first_unmet_same 1 model listed (subst P is same) (formula_of i).clauses in
+      reads_no_further listed i old new (λ m left e at. reads m left (alike ∙ e) at) k unmet;
+}

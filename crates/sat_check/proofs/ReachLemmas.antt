@@ -1,5 +1,6 @@
 -- How far a proof is read, step by step.
-use Rattle.std.proofs.Common.{◌≡◌, ℕ, true, false, Option, None, Some, List, [], ◌∷◌, length, refl, sym, ap, ◌∙◌, subst, inl, inr, Ok, Err}
+use Rattle.std.proofs.Common.{◌≡◌, ℕ, ◌≤◌, true, false, Option, None, Some, List, [], ◌∷◌, length, refl, sym, ap, ◌∙◌, subst, inl, inr, Ok, Err}
+use Rattle.std.specs.Prelude.{slice_get}
 use Rattle.std.specs.List.{list_any}
 use Rattle.std.proofs.lemmas.Bool.{false≢true, MatchBool-at_true, MatchBool-at_false}
 use Rattle.std.proofs.lemmas.Option.{none-some}
@@ -9,7 +10,7 @@ use Rattle.cnf_base.specs.declared.fault.Fault.{Fault}
 use Rattle.cnf_base.specs.declared.fault.Fault.TheVariants.{Text, Binary, ReadFailed, OutOfMemory}
 use Rattle.dimacs.specs.Formula.{formula_of}
 use Rattle.proofs.specs.Steps.{Step}
-use Rattle.proofs.specs.Reading.{PlacedStep, Proof, with_step}
+use Rattle.proofs.specs.Reading.{PlacedStep, Proof, with_step, PassesNoEnd}
 use Rattle.proofs.specs.declared.step_end.StepEnd.{StepEnd}
 use Rattle.steps.specs.ProofSession.{View}
 use Rattle.steps.specs.Theory.Rules.{Rule, State, by_ids, by_copies, start, Answers, after, Same}
@@ -21,7 +22,7 @@ use Rattle.steps.proofs.TheoryLemmas.Rules.{answer_unique}
 use Rattle.steps.proofs.TheoryLemmas.Verdicts.{ends_same}
 use Rattle.sat_check.specs.Reach.{deciding_step, refused_end, NeedsNoProof, IsVerdict}
 use Rattle.sat_check.specs.Report.{Outcome, bare_steps}
-use Rattle.sat_check.specs.Checking.{IsLoaded, Loads, Decides, IsRefused, LeavesRest, LeavesProof}
+use Rattle.sat_check.specs.Checking.{IsLoaded, Loads, IsRefused, LeavesRest, LeavesProof}
 use Rattle.sat_check.specs.declared.checked.Checked.{Checked}
 use Rattle.sat_check.specs.declared.status.Status.{Status}
 use Rattle.sat_check.specs.declared.status.Status.TheVariants.{Verified, NotVerified, Malformed}
@@ -50,15 +51,32 @@ no_verdict status old new lines o v = by status o v
 
 -- ---- The steps of a proof
 
+-- the step that decides is one of the steps
+deciding_among : (steps : List PlacedStep) (words : List Accepted) (ending : Ending) (last : PlacedStep) → deciding_step steps words ending ≡ Some last
+    → (k : ℕ) × (slice_get steps k ≡ Some last)
+deciding_among steps [] verified last d = absurd (none-some last d)
+deciding_among steps [] (refused r) last d = (0, d)
+deciding_among steps [] no_empty_clause last d = absurd (none-some last d)
+deciding_among steps (w ∷ ws) verified last d = (length ws, d)
+deciding_among steps (w ∷ ws) (refused r) last d = (length (w ∷ ws), d)
+deciding_among steps (w ∷ ws) no_empty_clause last d = absurd (none-some last d)
+
+-- so its end wasn't passed where no step's was
+pub not_passed : (p : Proof) (rest : Input) → PassesNoEnd p rest → (words : List Accepted) (ending : Ending) (last : PlacedStep)
+    → deciding_step p.steps words ending ≡ Some last → last.rest ≤ length rest.bytes
+not_passed p rest reach words ending last d =
+    let at = deciding_among p.steps words ending last d in
+    reach at.0 last at.1
+
 -- no step decides where none is to come
 pub LeavesRest-none : (s : State) (fault : Option Fault) (rest : Input) (checked : Checked) → checked.refused ≡ None → LeavesRest s (record { steps = []; fault = fault }) rest checked
 LeavesRest-none s fault rest checked none = record {
-  past = λ words ending last v e d. by words ending last e d;
+  past = λ words ending last e d. by words ending last e d;
   refused = λ words ending is e. none ∙ no_end words ending e;
   only = λ _. none;
 }
   where
-    by : (words : List Accepted) (ending : Ending) (last : PlacedStep) → Ends s [] words ending → deciding_step [] words ending ≡ Some last → last.rest ≡ length rest.bytes
+    by : (words : List Accepted) (ending : Ending) (last : PlacedStep) → Ends s [] words ending → deciding_step [] words ending ≡ Some last → last.rest ≤ length rest.bytes
     by [] verified last e d = absurd (none-some last d)
     by [] (refused r) last e d = absurd (none-some last d)
     by [] no_empty_clause last e d = absurd (none-some last d)
@@ -71,9 +89,10 @@ LeavesRest-none s fault rest checked none = record {
     no_end (w ∷ ws) ending e = absurd e
 
 -- no verdict was answered
-pub LeavesRest-broken : (s : State) (p : Proof) (rest : Input) (checked : Checked) → checked.refused ≡ None → (IsVerdict checked.status → ⊥) → LeavesRest s p rest checked
-LeavesRest-broken s p rest checked none broken = record {
-  past = λ words ending last v e d. absurd (broken v);
+pub LeavesRest-broken : (s : State) (p : Proof) (rest : Input) (checked : Checked) → checked.refused ≡ None → (IsVerdict checked.status → ⊥) → PassesNoEnd p rest
+    → LeavesRest s p rest checked
+LeavesRest-broken s p rest checked none broken reach = record {
+  past = λ words ending last e d. not_passed p rest reach words ending last d;
   refused = λ words ending is e. absurd (broken (inr is));
   only = λ _. none;
 }
@@ -82,33 +101,16 @@ module _ (s : State) (step : Step) (end : StepEnd) (left : ℕ) (p : Proof) (res
   abbrev here : PlacedStep
   here = record { step = step; end = end; rest = left }
 
-  first_is : (last : PlacedStep) → Some here ≡ Some last → last.rest ≡ left
-  first_is last e = let same : here ≡ last = cc in sym (ap (λ x. x.rest) same)
-
-  -- the step that was taken last decides
-  pub LeavesRest-decided : (IsVerdict checked.status → Decides s step) → (checked.status ≡ NotVerified → IsRefused s step)
+  -- the check ended with this step, which was refused or not
+  pub LeavesRest-decided : (checked.status ≡ NotVerified → IsRefused s step)
       → (checked.status ≡ NotVerified → checked.refused ≡ Some end) → ((checked.status ≡ NotVerified → ⊥) → checked.refused ≡ None)
-      → left ≡ length rest.bytes → LeavesRest s (with_step step end left p) rest checked
-  LeavesRest-decided decides refuses told only is = record {
-    past = λ words ending last v e d. by (decides v) words ending last e d ∙ is;
+      → PassesNoEnd (with_step step end left p) rest → LeavesRest s (with_step step end left p) rest checked
+  LeavesRest-decided refuses told only reach = record {
+    past = λ words ending last e d. not_passed (with_step step end left p) rest reach words ending last d;
     refused = λ words ending v e. told v ∙ ended (refuses v) words ending e;
     only = only;
   }
     where
-      by : Decides s step → (words : List Accepted) (ending : Ending) (last : PlacedStep) → Ends s (step ∷ bare_steps p) words ending
-          → deciding_step (here ∷ p.steps) words ending ≡ Some last → last.rest ≡ left
-      by (inl a) [] ending last e d =
-          let P : Ending → Type 0 = λ x. deciding_step (here ∷ p.steps) [] x ≡ Some last in
-          first_is last (subst P e.1 d)
-      by (inl a) (w ∷ ws) ending last e d = absurd (ok_err w a.0 (answer_unique s step _ _ e.0 a.1))
-      by (inr a) [] ending last e d = absurd (ok_err a.0 e.0 (answer_unique s step _ _ a.1 e.2))
-      by (inr a) (w ∷ ws) ending last e d =
-          let same = ok_is w a.0 (answer_unique s step _ _ e.0 a.1) in
-          let q = MatchBool-at_true _ _ (ap is_last same ∙ a.2) e.1 in
-          let P : Ending → Type 0 = λ x. deciding_step (here ∷ p.steps) (w ∷ ws) x ≡ Some last in
-          let Q : List Accepted → Type 0 = λ xs. deciding_step (here ∷ p.steps) (w ∷ xs) verified ≡ Some last in
-          first_is last (subst Q q.0 (subst P q.1 d))
-
       ended : IsRefused s step → (words : List Accepted) (ending : Ending) → Ends s (step ∷ bare_steps p) words ending
           → Some end ≡ refused_end (here ∷ p.steps) words ending
       ended a [] ending e = sym (ap (refused_end (here ∷ p.steps) []) e.1)
@@ -118,7 +120,7 @@ module _ (s : State) (step : Step) (end : StepEnd) (left : ℕ) (p : Proof) (res
   pub LeavesRest-step : (t : State) (word : Accepted) → Answers s step (Ok word) → is_last word ≡ false → Same t (after s step word)
       → LeavesRest t p rest checked → LeavesRest s (with_step step end left p) rest checked
   LeavesRest-step t word a not_last same later = record {
-    past = λ words ending last v e d. by words ending last v e d;
+    past = λ words ending last e d. by words ending last e d;
     refused = λ words ending v e. ended words ending v e;
     only = later.only;
   }
@@ -145,12 +147,12 @@ module _ (s : State) (step : Step) (end : StepEnd) (left : ℕ) (p : Proof) (res
           let ends = subst P is (MatchBool-at_false _ _ (ap is_last is ∙ not_last) e.1) in
           ends_same (bare_steps p) ws ending (after s step word) t (same_sym t (after s step word) same) ends
 
-      by : (words : List Accepted) (ending : Ending) (last : PlacedStep) → IsVerdict checked.status → Ends s (step ∷ bare_steps p) words ending
-          → deciding_step (here ∷ p.steps) words ending ≡ Some last → last.rest ≡ length rest.bytes
-      by [] ending last v e d = absurd (ok_err word e.0 (answer_unique s step _ _ a e.2))
-      by (w ∷ ws) ending last v e d =
+      by : (words : List Accepted) (ending : Ending) (last : PlacedStep) → Ends s (step ∷ bare_steps p) words ending
+          → deciding_step (here ∷ p.steps) words ending ≡ Some last → last.rest ≤ length rest.bytes
+      by [] ending last e d = absurd (ok_err word e.0 (answer_unique s step _ _ a e.2))
+      by (w ∷ ws) ending last e d =
           let now = goes_on w ws ending e in
-          later.past ws ending last v now (sym (later_step p.steps w ws ending now) ∙ d)
+          later.past ws ending last now (sym (later_step p.steps w ws ending now) ∙ d)
 
       ended : (words : List Accepted) (ending : Ending) → checked.status ≡ NotVerified → Ends s (step ∷ bare_steps p) words ending
           → checked.refused ≡ refused_end (here ∷ p.steps) words ending
@@ -164,7 +166,7 @@ module _ (rule : Rule) (fault : Option Fault) (clauses : List Clause) (p : Proof
   pub LeavesProof-broken : (IsVerdict checked.status → ⊥) → LeavesProof rule fault clauses p reader reader rest checked
   LeavesProof-broken broken = record {
     unread = λ n. refl;
-    past = λ words ending last whole v e d. absurd (broken v);
+    past = λ words ending last whole e d. inl refl;
     told = record { unread = λ n. none; refused = λ words ending whole is e. absurd (broken (inr is)); only = λ _. none };
   }
 
@@ -172,11 +174,7 @@ module _ (rule : Rule) (fault : Option Fault) (clauses : List Clause) (p : Proof
   pub LeavesProof-empty : list_any is_empty clauses ≡ true → LeavesProof rule fault clauses p reader reader rest checked
   LeavesProof-empty empty = record {
     unread = λ n. refl;
-    past = λ words ending last whole v e d.
-        let q = MatchBool-at_true _ _ empty e in
-        let P : Ending → Type 0 = λ x. deciding_step p.steps words x ≡ Some last in
-        let Q : List Accepted → Type 0 = λ xs. deciding_step p.steps xs verified ≡ Some last in
-        absurd (none-some last (subst Q q.0 (subst P q.1 d)));
+    past = λ words ending last whole e d. inl refl;
     told = record {
       unread = λ n. none;
       refused = λ words ending whole v e.
@@ -191,7 +189,7 @@ pub LeavesProof-checked : (rule : Rule) (s : View) (clauses : List Clause) (l : 
     → s.is_verified ≡ false → LeavesRest s.state p rest checked → LeavesProof rule None clauses p old new rest checked
 LeavesProof-checked rule s clauses l p old new rest checked unverified leaves = record {
   unread = λ n. absurd (needed n);
-  past = λ words ending last whole v e d. leaves.past words ending last v (ends words ending e) d;
+  past = λ words ending last whole e d. inr (leaves.past words ending last (ends words ending e) d);
   told = record {
     unread = λ n. absurd (needed n);
     refused = λ words ending whole v e. leaves.refused words ending v (ends words ending e);
@@ -218,7 +216,7 @@ LeavesProof-fault rule s f i p reader rest checked none loads broken = by f load
     faulty : (f : Fault) → (formula_of i).fault ≡ Some f → LeavesProof rule (formula_of i).fault (formula_of i).clauses p reader reader rest checked
     faulty f is = record {
       unread = λ n. refl;
-      past = λ words ending last whole v e d. absurd (none-some f (sym whole ∙ is));
+      past = λ words ending last whole e d. inl refl;
       told = record { unread = λ n. none; refused = λ words ending whole v e. absurd (none-some f (sym whole ∙ is)); only = λ _. none };
     }
 

@@ -1,16 +1,16 @@
 -- What was read of an input, and of a formula clause by clause.
-use Rattle.std.proofs.Common.{◌≡◌, ℕ, ◌+◌, Bool, true, false, List, [], ◌∷◌, ◌++◌, length, Option, None, Some, refl, sym, ap, ◌∙◌, subst, length-append}
+use Rattle.std.proofs.Common.{◌≡◌, ℕ, ◌+◌, ◌≤◌, Bool, true, false, List, [], ◌∷◌, ◌++◌, length, Option, None, Some, refl, sym, ap, ◌∙◌, subst, append_assoc, length-append, arith}
 use Rattle.std.specs.Prelude.{Result, Ok, Err}
 use Rattle.cnf_base.specs.Literals.{Clause}
-use Rattle.cnf_base.specs.Stream.{Input, Reader, Stream, Along, unread_stream}
+use Rattle.cnf_base.specs.Stream.{Input, Reader, Stream, Along, unread_stream, bytes_read}
 use Rattle.cnf_base.specs.Seen.{OfSeen}
 use Rattle.cnf_base.specs.declared.fault.Fault.{Fault}
 use Rattle.cnf_base.specs.declared.fault.Fault.TheVariants.{Text, Binary, ReadFailed, OutOfMemory}
 use Rattle.cnf_base.specs.declared.place.Place.{Place}
 use Rattle.cnf_base.proofs.SeenLemmas.{Seen-nothing, Seen-run, Seen-fact}
-use Rattle.cnf_base.proofs.StreamLemmas.{Along-then, Along-map, Along-none}
+use Rattle.cnf_base.proofs.StreamLemmas.{Along-then, Along-map, Along-none, Along-within}
 use Rattle.dimacs.specs.Formula.{Body}
-use Rattle.dimacs.specs.Reading.{FormulaReading, clauses_to_come, GivesClause}
+use Rattle.dimacs.specs.Reading.{FormulaReading, clauses_to_come, GivesClause, rests_to_come, PassesNoZero, GivesRest}
 
 -- ---- A whole input
 
@@ -33,6 +33,24 @@ seen_run P old borrows source last new is kept run =
       fact = λ i seen. (Seen-fact old borrows last R from_start i seen).2;
     })
 
+-- and of what follows of the input, with how many bytes were read
+pub seen_within : (P : Place → Input → Input → Type 0) (old : Reader) (borrows : List ℕ) (source last : Stream) (new : Reader)
+    → source ≡ unread_stream old borrows → new ≡ last.reader → Along source last (λ i j. P source.place i j)
+    → OfSeen old new (λ i. (j : Input) × P (record { line = 1; col = 1 }) i j × (bytes_read old new + length j.bytes ≤ length i.bytes + 65536))
+seen_within P old borrows source last new is kept run =
+    let Q : Stream → Type 0 = λ x. Along x last (λ i j. P x.place i j) in
+    let R : Input → Input → Type 0 = λ i j. P (record { line = 1; col = 1 }) i j × (bytes_read old last.reader + length j.bytes ≤ length i.bytes + 65536) in
+    let S : Reader → Type 0 = λ r. OfSeen old r (λ i. (j : Input) × P (record { line = 1; col = 1 }) i j × (bytes_read old r + length j.bytes ≤ length i.bytes + 65536)) in
+    let within : Along (unread_stream old borrows) last R = Along-within (unread_stream old borrows) last _ (omega arith) (subst Q is run) in
+    subst S (sym kept) (record {
+      seen = Seen-run old borrows last R within;
+      fact = λ i seen. let x = Seen-fact old borrows last R within i seen in (x.0, x.2.0, x.2.1);
+    })
+
+-- another fact of what was seen
+pub seen_map : (old new : Reader) (P Q : Input → Type 0) → OfSeen old new P → ((i : Input) → P i → Q i) → OfSeen old new Q
+seen_map old new P Q seen next = record { seen = seen.seen; fact = λ i s. next i (seen.fact i s) }
+
 -- ---- A formula's clauses
 
 pub length_push : (cs : List Clause) (c : Clause) → length (cs ++ c ∷ []) ≡ length cs + 1
@@ -41,11 +59,31 @@ length_push cs c = length-append cs (c ∷ [])
 abbrev pub with_clauses : List Clause → Body → Body
 with_clauses cs b = record { clauses = cs ++ b.clauses; fault = b.fault }
 
+-- these clauses came first, with what follows each, and then the others
+abbrev pub ReadsOn : List Clause → Body → Body → List ℕ → List ℕ → Type 0
+ReadsOn clauses before after rests rests_after =
+    (before ≡ with_clauses clauses after) × ((passed : List ℕ) × (length passed ≡ length clauses) × (rests ≡ passed ++ rests_after))
+
 -- from one moment to another these clauses were read
 pub record Reads (old now : FormulaReading) (clauses : List Clause) : Type 0 where
   pub count : length clauses ≡ now.complete
-  pub run : Along old.stream now.stream (λ i j. clauses_to_come old i ≡ with_clauses clauses (clauses_to_come now j))
+  pub run : Along old.stream now.stream (λ i j. ReadsOn clauses (clauses_to_come old i) (clauses_to_come now j) (rests_to_come old i) (rests_to_come now j))
   pub header : now.header ≡ old.header
+
+-- what a call of the reader gave
+abbrev pub Gave : FormulaReading → FormulaReading → Result Bool Fault → Clause → Type 0
+Gave now new result c = Along now.stream new.stream (λ i j. GivesClause result c (clauses_to_come now i) (clauses_to_come new j)
+    × GivesRest result (rests_to_come now i) (rests_to_come new j) j)
+
+-- the `0` of no clause after these was passed
+abbrev pub NonePassed : FormulaReading → List Clause → Input → Input → Type 0
+NonePassed old clauses i k = (later : Body) × (rests : List ℕ) × ReadsOn clauses (clauses_to_come old i) later (rests_to_come old i) rests × PassesNoZero rests k
+
+-- whatever was given, the `0` of no clause that was to come was passed
+pub none_passed : (result : Result Bool Fault) (before after : List ℕ) (rest : Input) → GivesRest result before after rest → PassesNoZero before rest
+none_passed (Ok true) before after rest gives = gives.1
+none_passed (Ok false) before after rest gives = gives
+none_passed (Err f) before after rest gives = gives
 
 -- after these clauses comes the fault; want of memory says nothing
 abbrev pub FaultAfter : List Clause → Fault → Body → Type 0
@@ -55,18 +93,24 @@ FaultAfter cs f b = b ≡ record { clauses = cs; fault = Some f }
 pub Reads-start : (r : FormulaReading) → r.complete ≡ 0 → Reads r r []
 Reads-start r none = record {
   count = sym none;
-  run = Along-map _ _ _ _ (Along-none r.stream) (λ i j m e. ap (clauses_to_come r) e);
+  run = Along-map _ _ _ _ (Along-none r.stream) (λ i j m e. (ap (clauses_to_come r) e, ([], refl, ap (rests_to_come r) e)));
   header = refl;
 }
 
 module _ (old now new : FormulaReading) (clauses : List Clause) (so_far : Reads old now clauses) (c : Clause) where
-  pub Reads-clause : Along now.stream new.stream (λ i j. GivesClause (Ok true) c (clauses_to_come now i) (clauses_to_come new j))
+  pub Reads-clause : Gave now new (Ok true) c
       → new.complete ≡ now.complete + 1 → new.header ≡ now.header → Reads old new (clauses ++ c ∷ [])
   Reads-clause gives count header = record {
     count = length_push clauses c ∙ ap (λ n. n + 1) so_far.count ∙ sym count;
-    run = Along-then _ _ _ _ _ _ so_far.run gives (λ i j k m p q.
-        p ∙ ap (with_clauses clauses) q
-        ∙ ap (λ cs. record { clauses = cs; fault = (clauses_to_come new k).fault }) (clauses_assoc clauses (clauses_to_come new k).clauses));
+    run = Along-then _ _ _ _ _ _ so_far.run gives (λ i j k m p q. (
+      p.0 ∙ ap (with_clauses clauses) q.0
+          ∙ ap (λ cs. record { clauses = cs; fault = (clauses_to_come new k).fault }) (clauses_assoc clauses (clauses_to_come new k).clauses),
+      (
+        p.1.0 ++ length k.bytes ∷ [],
+        length-append p.1.0 (length k.bytes ∷ []) ∙ ap (λ n. n + 1) p.1.1 ∙ sym (length_push clauses c),
+        p.1.2 ∙ ap (λ r. p.1.0 ++ r) q.1.0 ∙ sym (append_assoc p.1.0 (length k.bytes ∷ []) (rests_to_come new k)),
+      ),
+    ));
     header = header ∙ so_far.header;
   }
     where
@@ -83,20 +127,27 @@ module _ (old now new : FormulaReading) (clauses : List Clause) (so_far : Reads 
       no_more [] = refl
       no_more (b ∷ cs) = ap (λ t. b ∷ t) (no_more cs)
 
-  pub Reads-done : Along now.stream new.stream (λ i j. GivesClause (Ok false) c (clauses_to_come now i) (clauses_to_come new j))
-      → Along old.stream new.stream (λ i j. clauses_to_come old i ≡ record { clauses = clauses; fault = None })
-  Reads-done gives = Along-then _ _ _ _ _ _ so_far.run gives (λ i j k m p q. after None i (p ∙ ap (with_clauses clauses) q.1))
+  -- so it is where a call gave anything
+  passed : (result : Result Bool Fault) (i j k : Input) → ReadsOn clauses (clauses_to_come old i) (clauses_to_come now j) (rests_to_come old i) (rests_to_come now j)
+      → GivesRest result (rests_to_come now j) (rests_to_come new k) k → NonePassed old clauses i k
+  passed result i j k p gives = (clauses_to_come now j, rests_to_come now j, p, none_passed result _ (rests_to_come new k) k gives)
 
-  pub Reads-fault : (f : Fault) → Along now.stream new.stream (λ i j. GivesClause (Err f) c (clauses_to_come now i) (clauses_to_come new j))
-      → Along old.stream new.stream (λ i j. FaultAfter clauses f (clauses_to_come old i))
-  Reads-fault (Text k x) gives = Along-then _ _ _ _ _ _ so_far.run gives (λ i j n m p q. after (Some (Text k x)) i (p ∙ ap (with_clauses clauses) q.1))
-  Reads-fault (Binary k x) gives = Along-then _ _ _ _ _ _ so_far.run gives (λ i j n m p q. after (Some (Binary k x)) i (p ∙ ap (with_clauses clauses) q.1))
-  Reads-fault ReadFailed gives = Along-then _ _ _ _ _ _ so_far.run gives (λ i j n m p q. after (Some ReadFailed) i (p ∙ ap (with_clauses clauses) q.1))
-  Reads-fault OutOfMemory gives = Along-then _ _ _ _ _ _ so_far.run gives (λ i j n m p q. tt)
+  pub Reads-done : Gave now new (Ok false) c
+      → Along old.stream new.stream (λ i j. (clauses_to_come old i ≡ record { clauses = clauses; fault = None }) × NonePassed old clauses i j)
+  Reads-done gives = Along-then _ _ _ _ _ _ so_far.run gives (λ i j k m p q. (after None i (p.0 ∙ ap (with_clauses clauses) q.0.1), passed (Ok false) i j k p q.1))
+
+  pub Reads-fault : (f : Fault) → Gave now new (Err f) c
+      → Along old.stream new.stream (λ i j. FaultAfter clauses f (clauses_to_come old i) × NonePassed old clauses i j)
+  Reads-fault (Text k x) gives = Along-then _ _ _ _ _ _ so_far.run gives (λ i j n m p q.
+      (after (Some (Text k x)) i (p.0 ∙ ap (with_clauses clauses) q.0.1), passed (Err (Text k x)) i j n p q.1))
+  Reads-fault (Binary k x) gives = Along-then _ _ _ _ _ _ so_far.run gives (λ i j n m p q.
+      (after (Some (Binary k x)) i (p.0 ∙ ap (with_clauses clauses) q.0.1), passed (Err (Binary k x)) i j n p q.1))
+  Reads-fault ReadFailed gives = Along-then _ _ _ _ _ _ so_far.run gives (λ i j n m p q.
+      (after (Some ReadFailed) i (p.0 ∙ ap (with_clauses clauses) q.0.1), passed (Err ReadFailed) i j n p q.1))
+  Reads-fault OutOfMemory gives = Along-then _ _ _ _ _ _ so_far.run gives (λ i j n m p q. (tt, passed (Err OutOfMemory) i j n p q.1))
 
 -- what a call gave, by its answer's pattern
-pub clause_told : (now new : FormulaReading) (result answer : Result Bool Fault) (c : Clause) → Along now.stream new.stream (λ i j. GivesClause result c (clauses_to_come now i) (clauses_to_come new j))
-    → result ≡ answer → Along now.stream new.stream (λ i j. GivesClause answer c (clauses_to_come now i) (clauses_to_come new j))
+pub clause_told : (now new : FormulaReading) (result answer : Result Bool Fault) (c : Clause) → Gave now new result c → result ≡ answer → Gave now new answer c
 clause_told now new result answer c gives is =
-    let P : Result Bool Fault → Type 0 = λ r. Along now.stream new.stream (λ i j. GivesClause r c (clauses_to_come now i) (clauses_to_come new j)) in
+    let P : Result Bool Fault → Type 0 = λ r. Gave now new r c in
     subst P is gives

@@ -103,20 +103,20 @@ checks_proof rule trace i p old new status x = record {
 abbrev pub AllChecks : Rule → Bool → (Input → Proof) → Reader → Reader → Reader → Reader → Checked → Option (List ℕ) → Option (List ℕ) → Type 0
 AllChecks rule trace steps formula formula_new proof proof_new checked old new =
     OfBothSeen formula formula_new proof proof_new (λ i j. ChecksProof rule trace i (steps j) old new checked.status
-    × ReadsNoFurther rule (formula_of i) j (steps j) proof proof_new checked.status × TellsRefused rule (formula_of i).fault (formula_of i).clauses (steps j) checked)
+    × ReadsNoFurther rule (formula_of i) j (steps j) proof proof_new × TellsRefused rule (formula_of i).fault (formula_of i).clauses (steps j) checked)
 
 pub both_check_proof : (rule : Rule) (trace : Bool) (steps : Input → Proof) (formula formula_new proof proof_new : Reader) (checked : Checked) (old new first last : Option (List ℕ)) → old ≡ first → new ≡ last
     → AllReports rule trace steps formula formula_new proof proof_new checked old new → AllChecks rule trace steps formula formula_new proof proof_new checked first last
 both_check_proof rule trace steps formula formula_new proof proof_new checked old new first last before after =
     both_told formula formula_new proof proof_new (λ x y i j. Reports rule trace i (steps j) x y checked.status
-    × ReadsNoFurther rule (formula_of i) j (steps j) proof proof_new checked.status × TellsRefused rule (formula_of i).fault (formula_of i).clauses (steps j) checked)
+    × ReadsNoFurther rule (formula_of i) j (steps j) proof proof_new × TellsRefused rule (formula_of i).fault (formula_of i).clauses (steps j) checked)
     _ old new first last before after (λ i j x. (checks_proof rule trace i (steps j) first last checked.status x.0, x.1, x.2))
 
 -- without where the refused step ends
 pub unplaced : (rule : Rule) (trace : Bool) (steps : Input → Proof) (formula formula_new proof proof_new : Reader) (checked : Checked) (old new : Option (List ℕ))
     → AllChecks rule trace steps formula formula_new proof proof_new checked old new
     → OfBothSeen formula formula_new proof proof_new (λ i j. ChecksProof rule trace i (steps j) old new checked.status
-    × ReadsNoFurther rule (formula_of i) j (steps j) proof proof_new checked.status)
+    × ReadsNoFurther rule (formula_of i) j (steps j) proof proof_new)
 unplaced rule trace steps formula formula_new proof proof_new checked old new all = record {
   first = all.first;
   second = all.second;

@@ -19,7 +19,7 @@ use Rattle.steps.specs.declared.theory.accepted.Accepted.{Accepted}
 use Rattle.steps.specs.declared.theory.refusal.Refusal.{Refusal}
 use Rattle.steps.specs.declared.theory.refusal.Refusal.TheVariants.{OutOfMemory as RefusedMemory}
 use Rattle.sat_check.specs.Lines.{trace_line}
-use Rattle.sat_check.specs.Reach.{deciding_step, refused_end, NeedsNoProof, IsVerdict, ReadsNoFurther, TellsRefused}
+use Rattle.sat_check.specs.Reach.{deciding_step, refused_end, NeedsNoProof, ReadsNoFurther, TellsRefused}
 use Rattle.sat_check.specs.Report.{Report, Reports, Outcome, text_of, bare_steps, peak_of, proof_report}
 use Rattle.sat_check.specs.declared.checked.Checked.{Checked}
 use Rattle.sat_check.specs.declared.status.Status.{Status}
@@ -57,21 +57,21 @@ pub record Rest (trace : Bool) (state : State) (n : ℕ) (peak : ℕ) (proof : P
   pub verdict : Ends state (bare_steps proof) words ending
   pub report : r ≡ proof_report trace n (max peak (peak_of state (bare_steps proof) words)) words ending proof.fault
 
--- What is left of the steps of a proof from a state on: where a verdict was answered, what follows the step that
--- decides; and where that ends, if it was refused.
+-- What is left of the steps of a proof from a state on: all that follows the step that decides, whatever the status; and
+-- where that ends, if it was refused.
 pub record LeavesRest (state : State) (p : Proof) (rest : Input) (checked : Checked) : Type 0 where
-  pub past : (words : List Accepted) (ending : Ending) (last : PlacedStep) → IsVerdict checked.status → Ends state (bare_steps p) words ending
-      → deciding_step p.steps words ending ≡ Some last → last.rest ≡ length rest.bytes
+  pub past : (words : List Accepted) (ending : Ending) (last : PlacedStep) → Ends state (bare_steps p) words ending
+      → deciding_step p.steps words ending ≡ Some last → last.rest ≤ length rest.bytes
   pub refused : (words : List Accepted) (ending : Ending) → checked.status ≡ NotVerified → Ends state (bare_steps p) words ending
       → checked.refused ≡ refused_end p.steps words ending
   pub only : (checked.status ≡ NotVerified → ⊥) → checked.refused ≡ None
 
--- What is left of a proof: all of it where the formula decides alone, and where a verdict was answered, what follows
--- the step that decides; and where the refused step ends.
+-- What is left of a proof: all of it where the formula decides alone, and else all of it, or all that follows the step
+-- that decides; and where the refused step ends.
 pub record LeavesProof (rule : Rule) (fault : Option Fault) (clauses : List Clause) (p : Proof) (old new : Reader) (rest : Input) (checked : Checked) : Type 0 where
   pub unread : NeedsNoProof fault clauses → new ≡ old
-  pub past : (words : List Accepted) (ending : Ending) (last : PlacedStep) → fault ≡ None → IsVerdict checked.status
-      → Verdict rule clauses (bare_steps p) words ending → deciding_step p.steps words ending ≡ Some last → last.rest ≡ length rest.bytes
+  pub past : (words : List Accepted) (ending : Ending) (last : PlacedStep) → fault ≡ None
+      → Verdict rule clauses (bare_steps p) words ending → deciding_step p.steps words ending ≡ Some last → (new ≡ old) ⊎ (last.rest ≤ length rest.bytes)
   pub told : TellsRefused rule fault clauses p checked
 
 -- what was written, by all that was seen of the formula and of the proof, how far this was read, and where the refused
@@ -79,7 +79,7 @@ pub record LeavesProof (rule : Rule) (fault : Option Fault) (clauses : List Clau
 abbrev pub AllReports : Rule → Bool → (Input → Proof) → Reader → Reader → Reader → Reader → Checked → Option (List ℕ) → Option (List ℕ) → Type 0
 AllReports rule trace steps formula formula_new proof proof_new checked old new =
     OfBothSeen formula formula_new proof proof_new (λ i j. Reports rule trace i (steps j) old new checked.status
-    × ReadsNoFurther rule (formula_of i) j (steps j) proof proof_new checked.status × TellsRefused rule (formula_of i).fault (formula_of i).clauses (steps j) checked)
+    × ReadsNoFurther rule (formula_of i) j (steps j) proof proof_new × TellsRefused rule (formula_of i).fault (formula_of i).clauses (steps j) checked)
 
 -- a step that is refused
 abbrev pub IsRefused : State → Step → Type 0

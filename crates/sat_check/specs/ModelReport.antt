@@ -1,12 +1,12 @@
 -- What a check of a model writes, and how it ends (our own profile: only listed literals are true, and the first clause that has
 -- none is told).
-use Rattle.std.specs.Prelude.{◌≡◌, ℕ, ◌+◌, if◌then◌else◌, slice_get, IsTrue, Bool, List, [], ◌∷◌, length, Option, None, Some, Result, Ok, Err, codes}
+use Rattle.std.specs.Prelude.{◌≡◌, ℕ, ◌+◌, ◌-◌, ◌≤◌, if◌then◌else◌, slice_get, IsTrue, Bool, List, [], ◌∷◌, length, Option, None, Some, Result, Ok, Err, codes}
 use Rattle.std.specs.List.{list_any}
 use Rattle.cnf_base.specs.Literals.{Literal, Clause, has}
-use Rattle.cnf_base.specs.Stream.{Input, Reader}
+use Rattle.cnf_base.specs.Stream.{Input, Reader, bytes_read}
 use Rattle.cnf_base.specs.declared.fault.Fault.{Fault}
 use Rattle.dimacs.specs.Claim.{claim_of, IsConsistent}
-use Rattle.dimacs.specs.Formula.{Formula, formula_of}
+use Rattle.dimacs.specs.Formula.{Formula, formula_of, clause_rests}
 use Rattle.sat_check.specs.Lines.{unmet_line, clauses_line, fault_line, fault_status}
 use Rattle.sat_check.specs.Report.{Report, Outcome, IsUnlessBroken, concluded}
 use Rattle.sat_check.specs.declared.subject.Subject.TheVariants.{Model}
@@ -48,10 +48,13 @@ pub record Satisfies (claim : Result (List Literal) Fault) (clauses : List Claus
   pub consistent : IsConsistent listed
   pub met : (k : ℕ) (c : Clause) → slice_get clauses k ≡ Some c → IsTrue (meets listed c)
 
--- where the output has a fault the formula's reader is as it was
-abbrev pub LeavesFormula : Result (List Literal) Fault → Reader → Reader → Type 0
-LeavesFormula (Ok listed) old new = Unit {0}
-LeavesFormula (Err f) old new = new ≡ old
+-- No more of a formula was read than a claim takes, also where memory or the writer failed: where the output has a fault
+-- the formula's reader is as it was, and where some clause isn't met, the first such clause ends with a `0`, and at most
+-- 65536 bytes past that were read.
+pub record ReadsFormulaNoFurther (claim : Result (List Literal) Fault) (formula : Input) (old new : Reader) : Type 0 where
+  pub unread : (f : Fault) → claim ≡ Err f → new ≡ old
+  pub past : (listed : List Literal) (k : ℕ) → claim ≡ Ok listed → first_unmet 1 listed (formula_of formula).clauses ≡ Some k
+      → (rest : ℕ) × (slice_get (clause_rests formula) (k - 1) ≡ Some rest) × (bytes_read old new + rest ≤ length formula.bytes + 65536)
 
 -- A run checked the model that this output claims of this formula: what it wrote and its status are those of the report.
 -- Status 0 is answered exactly where the formula has no fault and the claim satisfies its clauses, unless memory or the

@@ -41,11 +41,11 @@ NeedsNoProof fault clauses = (¬ (fault ≡ None)) ⊎ (list_any is_empty clause
 abbrev pub IsVerdict : Status → Type 0
 IsVerdict status = (status ≡ Verified) ⊎ (status ≡ NotVerified)
 
--- No more of a proof was read than it takes: where the formula decides alone the reader is as it was, and
--- where a verdict was answered, at most 65536 bytes past the end of the step that decides were read.
-pub record ReadsNoFurther (rule : Rule) (f : Formula) (proof : Input) (p : Proof) (old new : Reader) (status : Status) : Type 0 where
+-- No more of a proof was read than it takes, also where memory or the writer failed: where the formula decides alone the
+-- reader is as it was, and where a step decides, at most 65536 bytes past its end were read.
+pub record ReadsNoFurther (rule : Rule) (f : Formula) (proof : Input) (p : Proof) (old new : Reader) : Type 0 where
   pub unread : NeedsNoProof f.fault f.clauses → new ≡ old
-  pub past : (words : List Accepted) (ending : Ending) (last : PlacedStep) → f.fault ≡ None → IsVerdict status
+  pub past : (words : List Accepted) (ending : Ending) (last : PlacedStep) → f.fault ≡ None
       → Verdict rule f.clauses (bare_steps p) words ending → deciding_step p.steps words ending ≡ Some last
       → bytes_read old new + last.rest ≤ length proof.bytes + 65536
 

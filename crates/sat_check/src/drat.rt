@@ -39,7 +39,7 @@ pub fn run_drat<F: In, P: In, O: Out>(
         (drat_proof options.now.binary j) (O.held out.old) (O.held out.new) result
         × ReadsNoFurther (drat (rules_of options.now)) (formula_of i) j
         (drat_proof options.now.binary j)
-        (P.shown proof.old) (P.shown proof.new) result) }
+        (P.shown proof.old) (P.shown proof.new)) }
 
     // A reader or the writer tells of each failure.
     ensures read_failed { result ≡ Status.ReadFailed →
@@ -69,7 +69,7 @@ pub fn run_drat_placed<F: In, P: In, O: Out>(
         (drat_proof options.now.binary j) (O.held out.old) (O.held out.new) result.status
         × ReadsNoFurther (drat (rules_of options.now)) (formula_of i) j
         (drat_proof options.now.binary j)
-        (P.shown proof.old) (P.shown proof.new) result.status
+        (P.shown proof.old) (P.shown proof.new)
         × TellsRefused (drat (rules_of options.now)) (formula_of i).fault (formula_of i).clauses
         (drat_proof options.now.binary j) result) }
     ensures read_failed { result.status ≡ Status.ReadFailed →

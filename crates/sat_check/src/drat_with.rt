@@ -33,7 +33,7 @@ pub fn run_drat_with<C: Propagate + Drop, F: In, P: In, O: Out>(
         (drat_proof options.now.binary j) (O.held out.old) (O.held out.new) result
         × ReadsNoFurther (drat (rules_of options.now)) (formula_of i) j
         (drat_proof options.now.binary j)
-        (P.shown proof.old) (P.shown proof.new) result) }
+        (P.shown proof.old) (P.shown proof.new)) }
     ensures read_failed { result ≡ Status.ReadFailed →
         OneHasFailed (F.shown formula.new) (P.shown proof.new) }
     ensures write_failed { result ≡ Status.WriteFailed → O.has_failed out.new ≡ true }

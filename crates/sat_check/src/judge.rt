@@ -4,9 +4,9 @@ ghost use Rattle.std.specs.Prelude.{◌≡◌, true, IfErr};
 ghost use Rattle.cnf_base.specs.Stream.{Along, tells_failure};
 ghost use Rattle.cnf_base.specs.Seen.{OfSeen};
 ghost use Rattle.dimacs.specs.Formula.{formula_of};
-ghost use Rattle.dimacs.specs.Reading.{clauses_to_come};
+ghost use Rattle.dimacs.specs.Reading.{clauses_to_come, rests_to_come};
 ghost use Rattle.sat_check.specs.ModelReport.{meets};
-ghost use Rattle.sat_check.specs.Judging.{Judges};
+ghost use Rattle.sat_check.specs.Judging.{Judges, LeavesUnmet, ReadsToUnmet};
 
 use crate::judgement::Judgement;
 use cnf_base::{Fault, In, Piece, Source};
@@ -16,7 +16,8 @@ use std::alloc::Global;
 /// Reads a formula up to the first clause that the model doesn't meet. It stores no clause but that at hand.
 pub fn judge<F: In>(alloc: Global, formula: &mut F, model: &Model) -> Result<Judgement, Fault>
     ensures judges { OfSeen (F.shown formula.old) (F.shown formula.new) (λ i.
-        Judges model.now result (formula_of i).clauses (formula_of i).fault) }
+        Judges model.now result (formula_of i).clauses (formula_of i).fault
+        × ReadsToUnmet model.now i (F.shown formula.old) (F.shown formula.new)) }
     ensures tells { IfErr result (λ f. f ≡ Fault.ReadFailed →
         tells_failure (F.shown formula.new) ≡ true) }
 {
@@ -45,7 +46,9 @@ fn judge_clauses<F: In>(
     requires { reader.old.complete ≡ 0 }
     ensures judges { Along reader.old.stream reader.new.stream (λ i j.
         Judges model.now result (clauses_to_come reader.old i).clauses
-        (clauses_to_come reader.old i).fault) }
+        (clauses_to_come reader.old i).fault
+        × LeavesUnmet model.now (clauses_to_come reader.old i).clauses
+        (rests_to_come reader.old i) j) }
     ensures tells { IfErr result (λ f. f ≡ Fault.ReadFailed →
         tells_failure reader.new.stream.reader ≡ true) }
 {

@@ -35,7 +35,7 @@ pub fn run_lrat<F: In, P: In, O: Out>(
         ChecksProof lrat options.now.trace i (lrat_steps j)
         (O.held out.old) (O.held out.new) result
         × ReadsNoFurther lrat (formula_of i) j (lrat_steps j)
-        (P.shown proof.old) (P.shown proof.new) result) }
+        (P.shown proof.old) (P.shown proof.new)) }
 
     // A reader or the writer tells of each failure.
     ensures read_failed { result ≡ Status.ReadFailed →
@@ -64,7 +64,7 @@ pub fn run_lrat_placed<F: In, P: In, O: Out>(
         ChecksProof lrat options.now.trace i (lrat_steps j)
         (O.held out.old) (O.held out.new) result.status
         × ReadsNoFurther lrat (formula_of i) j (lrat_steps j)
-        (P.shown proof.old) (P.shown proof.new) result.status
+        (P.shown proof.old) (P.shown proof.new)
         × TellsRefused lrat (formula_of i).fault (formula_of i).clauses (lrat_steps j) result) }
     ensures read_failed { result.status ≡ Status.ReadFailed →
         OneHasFailed (F.shown formula.new) (P.shown proof.new) }

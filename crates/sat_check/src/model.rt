@@ -7,8 +7,8 @@ ghost use Rattle.dimacs.specs.Claim.{claim_of, IsClaim, IsConsistent};
 ghost use Rattle.dimacs.specs.Formula.{formula_of};
 ghost use Rattle.sat_check.specs.Report.{Outcome, is_cut_short};
 ghost use Rattle.sat_check.specs.ModelReport.{claim_report, model_report};
-ghost use Rattle.sat_check.specs.ModelReport.{ChecksModel, LeavesFormula};
-ghost use Rattle.sat_check.specs.Judging.{judged_report};
+ghost use Rattle.sat_check.specs.ModelReport.{ChecksModel, ReadsFormulaNoFurther};
+ghost use Rattle.sat_check.specs.Judging.{judged_report, ReadsToUnmet};
 
 use crate::Status;
 use crate::conclude::{break_off, conclude};
@@ -31,11 +31,12 @@ pub fn run_model<F: In, M: In, O: Out>(
     output: &mut M,
     out: &mut O,
 ) -> Status
-    // What was seen of the two readers is one pair of inputs, and of this the check is true.
+    // What was seen of the two readers is one pair of inputs, and of this the check is true. No
+    // more of the formula was read than it takes.
     ensures checks { OfBothSeen (F.shown formula.old) (F.shown formula.new)
         (M.shown output.old) (M.shown output.new) (λ i j.
         ChecksModel i j (O.held out.old) (O.held out.new) result
-        × LeavesFormula (claim_of j) (F.shown formula.old) (F.shown formula.new)) }
+        × ReadsFormulaNoFurther (claim_of j) i (F.shown formula.old) (F.shown formula.new)) }
 
     // A reader or the writer tells of each failure.
     ensures read_failed { result ≡ Status.ReadFailed →
@@ -65,7 +66,7 @@ fn check_model<F: In, M: In, O: Out>(
         (M.shown output.old) (M.shown output.new) (λ i j.
         Outcome result lines.old.held lines.new.held (model_report i j)
         × (result ≡ Status.Verified → IfOk (claim_of j) IsConsistent)
-        × LeavesFormula (claim_of j) (F.shown formula.old) (F.shown formula.new)) }
+        × ReadsFormulaNoFurther (claim_of j) i (F.shown formula.old) (F.shown formula.new)) }
     ensures read_failed { result ≡ Status.ReadFailed →
         OneHasFailed (F.shown formula.new) (M.shown output.new) }
     ensures write_failed { result ≡ Status.WriteFailed → lines.new.has_failed ≡ true }
@@ -102,8 +103,10 @@ fn check_formula<F: In, O: Out>(
     lines: &mut LineOut<O>,
 ) -> Status
     ensures report { OfSeen (F.shown formula.old) (F.shown formula.new) (λ i.
-        Outcome result lines.old.held lines.new.held (claim_report (Ok model.now) (formula_of i))) }
-    ensures read_failed { result ≡ Status.ReadFailed → tells_failure (F.shown formula.new) ≡ true }
+        Outcome result lines.old.held lines.new.held (claim_report (Ok model.now) (formula_of i))
+        × ReadsToUnmet model.now i (F.shown formula.old) (F.shown formula.new)) }
+    ensures read_failed { result ≡ Status.ReadFailed →
+        tells_failure (F.shown formula.new) ≡ true }
     ensures write_failed { result ≡ Status.WriteFailed → lines.new.has_failed ≡ true }
     ensures no_failure { is_cut_short result ≡ false →
         lines.new.has_failed ≡ lines.old.has_failed }

@@ -28,7 +28,7 @@ pub fn drat_forward<F: In, P: In, O: Out>(
         (drat_proof args.now.binary j) (O.held out.old) (O.held out.new) result.status
         × ReadsNoFurther (drat (drat_rules args.now)) (formula_of i) j
         (drat_proof args.now.binary j)
-        (P.shown proof.old) (P.shown proof.new) result.status
+        (P.shown proof.old) (P.shown proof.new)
         × TellsRefused (drat (drat_rules args.now)) (formula_of i).fault (formula_of i).clauses
         (drat_proof args.now.binary j) result) }
     ensures read_failed { result.status ≡ Status.ReadFailed →
@@ -54,7 +54,7 @@ pub fn lrat_check<F: In, P: In, O: Out>(
         ChecksProof lrat args.now.trace i (lrat_steps j)
         (O.held out.old) (O.held out.new) result.status
         × ReadsNoFurther lrat (formula_of i) j (lrat_steps j)
-        (P.shown proof.old) (P.shown proof.new) result.status
+        (P.shown proof.old) (P.shown proof.new)
         × TellsRefused lrat (formula_of i).fault (formula_of i).clauses (lrat_steps j) result) }
     ensures read_failed { result.status ≡ Status.ReadFailed →
         OneHasFailed (F.shown formula.new) (P.shown proof.new) }

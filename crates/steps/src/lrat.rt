@@ -57,7 +57,8 @@ impl Model for LratSession {
       stored = held.stored;
     } };
 
-    ghost invariant = { λ s. s.progress.is_ended ≡ false → IsReady (maps.get s.held.live) s.trues };
+    ghost invariant = { λ s. s.progress.is_ended ≡ false →
+        IsReady (maps.get s.held.live) s.trues };
 }
 
 /// Judges an addition whose identifier is right. The walk over its hints takes no memory.

@@ -217,7 +217,8 @@ impl Watch {
         ensures value { result.now ≡ self.now.roots }
         ensures sound { (l : Literal) → IsTrue (has result.now l) →
             Forced (maps.get self.now.propagation.live) [] l }
-        ensures all { self.now.is_up_to_date ≡ true → self.now.has_clash ≡ false → (l : Literal) →
+        ensures all { self.now.is_up_to_date ≡ true → self.now.has_clash ≡ false →
+            (l : Literal) →
             Forced (maps.get self.now.propagation.live) [] l → IsTrue (has result.now l) }
     {
         self.store.is_sound();
@@ -232,7 +233,8 @@ impl Watch {
     fn prepare(&mut self) -> Result<(), OutOfMemory>
         ensures live { self.new.propagation.live ≡ self.old.propagation.live }
         ensures live_alone { HoldsLiveAlone self.new.propagation }
-        ensures assumptions { self.new.propagation.assumptions ≡ self.old.propagation.assumptions }
+        ensures assumptions { self.new.propagation.assumptions ≡
+            self.old.propagation.assumptions }
         ensures up_to_date { OnOk result (self.new.is_up_to_date ≡ true) }
         ensures never_refused { OnOk result (self.old.propagation.has_refused ≡ false) }
         ensures not_refused { OnOk result (self.new.propagation.has_refused ≡ false) }

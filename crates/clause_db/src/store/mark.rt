@@ -39,7 +39,8 @@ pub(crate) fn upper_half(sum: u64) -> u32
 pub(crate) fn set_mark(marks: &mut Table<Mark>, l: Lit) -> bool
     requires { IsSome (at marks.old l) }
     ensures was { result ≡ not (is_marked (at marks.old l)) }
-    ensures marked { (k : ℕ) → is_marked (at marks.new k) ≡ (k == l || is_marked (at marks.old k)) }
+    ensures marked { (k : ℕ) →
+        is_marked (at marks.new k) ≡ (k == l || is_marked (at marks.old k)) }
     ensures counts { (k : ℕ) → mark_count (at marks.new k) ≡ mark_count (at marks.old k) }
     ensures known { (k : ℕ) → is_some (at marks.new k) ≡ is_some (at marks.old k) }
 {

@@ -27,7 +27,8 @@ pub(crate) fn mark_new(marks: &mut Table<Mark>, lits: &[Lit]) -> Result<usize, O
     requires { (l : ℕ) → is_marked (at marks.old l) ≡ false }
     ensures len { IfOk result (λ len. len ≡ size lits.now) }
     ensures short { OnOk result (size lits.now < 18446744073709551616) }
-    ensures known { OnOk result ((l : ℕ) → has lits.now l ≡ true → IsSome (at marks.new l)) }
+    ensures known { OnOk result
+        ((l : ℕ) → has lits.now l ≡ true → IsSome (at marks.new l)) }
     ensures all { OnOk result ((l : ℕ) → is_marked (at marks.new l) ≡ has lits.now l) }
     ensures some { (l : ℕ) → is_marked (at marks.new l) ≡ true → has lits.now l ≡ true }
     ensures counts { (l : ℕ) → mark_count (at marks.new l) ≡ mark_count (at marks.old l) }

@@ -31,7 +31,8 @@ impl Name {
 
     /// Takes one more byte of the run.
     pub fn push(&mut self, byte: u8)
-        ensures more { (run : List ℕ) → AreKept self.old.bytes self.old.len self.old.is_longer run →
+        ensures more { (run : List ℕ) →
+            AreKept self.old.bytes self.old.len self.old.is_longer run →
             AreKept self.new.bytes self.new.len self.new.is_longer (run ++ byte ∷ []) }
         ensures most { length self.new.bytes ≤ 16 }
     {
@@ -45,7 +46,8 @@ impl Name {
 
     /// The word that the run makes.
     pub fn word(&self) -> Word
-        ensures { (run : List ℕ) → AreKept self.now.bytes self.now.len self.now.is_longer run →
+        ensures { (run : List ℕ) →
+            AreKept self.now.bytes self.now.len self.now.is_longer run →
             result ≡ fixed_word run }
     {
         if self.is_longer || self.len > ROOM {

@@ -119,7 +119,8 @@ fn judge_listed<P: Propagate>(
 ) -> Result<Accepted, Refusal>
     requires nothing_assumed { (P.state clauses.old).assumptions ≡ [] }
     requires live_alone { HoldsLiveAlone (P.state clauses.old) }
-    requires meets { set.now ≡ [] ⊎ ((l : Literal) × IsTrue (has lits.now l) × IsTrue (has set.now l)) }
+    requires meets { set.now ≡ []
+        ⊎ ((l : Literal) × IsTrue (has lits.now l) × IsTrue (has set.now l)) }
     ensures answers { UnlessOutOfMemory result
         (AnswersListed (maps.values (P.state clauses.old).live) lits.now set.now result) }
     ensures live { (P.state clauses.new).live ≡ (P.state clauses.old).live }
@@ -150,7 +151,8 @@ pub(crate) fn add_copy<P: Propagate>(clauses: &mut P, lits: &[Lit]) -> Result<()
 fn add<P: Propagate>(clauses: &mut P, lits: &[Lit], set: &[Lit]) -> Result<Accepted, Refusal>
     requires nothing_assumed { (P.state clauses.old).assumptions ≡ [] }
     requires live_alone { HoldsLiveAlone (P.state clauses.old) }
-    requires meets { set.now ≡ [] ⊎ ((l : Literal) × IsTrue (has lits.now l) × IsTrue (has set.now l)) }
+    requires meets { set.now ≡ []
+        ⊎ ((l : Literal) × IsTrue (has lits.now l) × IsTrue (has set.now l)) }
     ensures answers { UnlessOutOfMemory result
         (AnswersListed (maps.values (P.state clauses.old).live) lits.now set.now result) }
     ensures live { OnOk result (SameLive (maps.values (P.state clauses.new).live)

@@ -68,7 +68,8 @@ impl LiveClauses {
             (maps.get self.now.live e.0 ≡ Some e.1.now)) }
         ensures passed_over { IfSome result (λ e. (k : ℕ) → from ≤ k → k < e.0 →
             maps.get self.now.live k ≡ None) }
-        ensures none { IfNone result ((k : ℕ) → from ≤ k → maps.get self.now.live k ≡ None) }
+        ensures none { IfNone result
+            ((k : ℕ) → from ≤ k → maps.get self.now.live k ≡ None) }
     {
         match self.ids.next_bound(from) {
             Some(bound) => Some((bound.0, self.store.clause(bound.1))),
@@ -78,7 +79,8 @@ impl LiveClauses {
 
     /// A number that no list of different identifiers, of clauses that hold the literal, exceeds.
     pub(crate) fn holding(&self, l: Lit) -> u64
-        ensures { (ids : List ℕ) → AllHold (maps.get self.now.live) l ids → length ids ≤ result }
+        ensures { (ids : List ℕ) → AllHold (maps.get self.now.live) l ids →
+            length ids ≤ result }
     {
         self.store.count_with(l)
     }

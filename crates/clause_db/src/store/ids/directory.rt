@@ -25,7 +25,8 @@ const LEAST: usize = 64;
 /// The least number from `from` on that has a far page.
 fn first_far(far: &BTreeMap<u64, u32>, from: u64) -> Option<u64>
     ensures some { IfSome result (λ q. IsFirst (far_page far.now) from (2 ^ 64) q) }
-    ensures none { IfNone result ((k : ℕ) → from ≤ k → k < 2 ^ 64 → far_page far.now k ≡ 0) }
+    ensures none { IfNone result
+        ((k : ℕ) → from ≤ k → k < 2 ^ 64 → far_page far.now k ≡ 0) }
 {
     let mut start = from;
     loop {
@@ -109,7 +110,8 @@ impl Directory {
     /// The least number from `from` on that has a page.
     pub(crate) fn next(&self, from: u64) -> Option<u64>
         ensures some { IfSome result (λ q. IsFirst (page_at self.now) from (2 ^ 64) q) }
-        ensures none { IfNone result ((k : ℕ) → from ≤ k → k < 2 ^ 64 → page_at self.now k ≡ 0) }
+        ensures none { IfNone result
+            ((k : ℕ) → from ≤ k → k < 2 ^ 64 → page_at self.now k ≡ 0) }
     {
         let near = first_set(&self.near, from as usize, self.near.len());
         let far = first_far(&self.far, from);

@@ -21,7 +21,8 @@ pub(crate) fn lengthen(row: &mut Vec<u32>, len: usize) -> Result<(), OutOfMemory
 pub(crate) fn first_set(row: &[u32], from: usize, to: usize) -> Option<usize>
     requires { to ≤ length row.now }
     ensures some { IfSome result (λ i. IsFirst (slice_index row.now) from to i) }
-    ensures none { IfNone result ((k : ℕ) → from ≤ k → k < to → slice_index row.now k ≡ 0) }
+    ensures none { IfNone result
+        ((k : ℕ) → from ≤ k → k < to → slice_index row.now k ≡ 0) }
 {
     for i in from..to {
         if row[i] != 0 {

@@ -18,7 +18,7 @@ returns-in-Some-clause-report g c =
     let now : Standing = record { stream = g.R.StepReader.stream c.loop-number.reader; to_come = g.R.StepReader.to_come c.loop-number.reader } in
     let new : Standing = record { stream = g.R.StepReader.stream c.next.new.self; to_come = g.R.StepReader.to_come c.next.new.self } in
     Checking-stop c.args.trace start now new _ _ _ _ _ c.loop-number.invariant c.saturating_add-number.result counts c.next.new.step _ (step_told now new _ (Ok true) _ _ c.next.ensures.step (search rules))
-    c.by_step.result c.take_step.new.lines (rw c.by_step.ensures.status c.in-Some.ensures.stops) (rw c.by_step.ensures.status c.in-Some.ensures.decided) (rw c.by_step.ensures.status c.in-Some.ensures.refused)
+    c.by_step.result c.take_step.new.lines (rw c.by_step.ensures.status c.in-Some.ensures.stops) (rw c.by_step.ensures.status c.in-Some.ensures.refused)
     (λ v. c.by_step.ensures.refused (search rules) ∙ search rules) (λ v. c.by_step.ensures.only (search rules))
 
 pub loop-number-preserved : goal.loop-number-preserved

@@ -16,9 +16,9 @@ returns-in-Ok-clause-report g c =
       first = checked.seen;
       second = claims.seen;
       fact = λ i j s t. (
-        subst P (claimed_report c.in-Ok.model (claim_of j) (formula_of i) (claims.fact j t)) (checked.fact i s),
+        subst P (claimed_report c.in-Ok.model (claim_of j) (formula_of i) (claims.fact j t)) (checked.fact i s).0,
         λ is. claimed_consistent c.in-Ok.model (claim_of j) (claims.fact j t) c.in-Ok.ensures.consistent,
-        formula_needed c.in-Ok.model (claim_of j) _ _ (claims.fact j t),
+        formula_needed c.in-Ok.model (claim_of j) i _ _ (claims.fact j t) (checked.fact i s).1,
       );
     }
 
@@ -31,6 +31,6 @@ returns-in-Err-clause-report g c =
       fact = λ i j s t. (
         output_fault c.break_off.result c.args.lines.now c.break_off.new.lines c.in-Err.fault (claim_of j) (formula_of i) (claims.fact j t) (c.break_off.ensures.memory, c.break_off.ensures.told),
         λ is. absurd (fault_unverified c.break_off.result c.args.lines.now c.break_off.new.lines (codes "output") c.in-Err.fault (c.break_off.ensures.memory, c.break_off.ensures.told) is),
-        formula_left (claim_of j) _,
+        formula_left (claim_of j) i _,
       );
     }

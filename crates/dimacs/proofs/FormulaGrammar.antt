@@ -1,0 +1,732 @@
+-- A formula's text, as its grammar has it.
+use Rattle.std.proofs.Common.{◌≡◌, ℕ, ◌+◌, ◌≤◌, nat_le, cond, Bool, true, false, List, [], ◌∷◌, ◌++◌, length, map, Option, None, Some, Result, Ok, Err, refl, sym, ap, ap₂, subst, ◌∙◌, append_assoc, arith}
+use Rattle.std.specs.Prelude.{◌&&◌, if◌then◌else◌, codes}
+use Rattle.std.specs.Fmt.{decimal}
+use Rattle.std.specs.List.{flat_map, list_all}
+use Rattle.std.proofs.lemmas.Bool.Decides.{nat_tests}
+use Rattle.std.proofs.lemmas.List.{map-append}
+use Rattle.std.proofs.lemmas.List.Folds.{list_all-append}
+use Rattle.cnf_base.specs.Literals.{Literal, Clause, variable}
+use Rattle.cnf_base.specs.Printing.{input_of, is_literal, literal_text, literal_words}
+use Rattle.cnf_base.specs.Grammar.{word_lines}
+use Rattle.cnf_base.specs.Text.{Listed, Listing, listing_of}
+use Rattle.cnf_base.specs.Words.{number, number_literal, word_of}
+use Rattle.cnf_base.specs.declared.input.Ending.{Ending}
+use Rattle.cnf_base.specs.declared.input.Ending.TheVariants.{End, Failed}
+use Rattle.cnf_base.specs.declared.place.Place.{Place}
+use Rattle.cnf_base.specs.declared.word.Word.{Word}
+use Rattle.cnf_base.specs.declared.word.Word.TheVariants as words
+use Rattle.cnf_base.specs.declared.token.Token as tokens
+use Rattle.cnf_base.specs.declared.token.Token.TheVariants as token
+use Rattle.cnf_base.specs.declared.fault.Fault.{Fault}
+use Rattle.cnf_base.specs.declared.fault.Fault.TheVariants.{Text}
+use Rattle.cnf_base.specs.declared.fault.TextFault.{TextFault}
+use Rattle.cnf_base.specs.declared.fault.TextFault.TheVariants.{BadHeader, NumberTooLarge, BadToken, LiteralOutOfRange, TooManyClauses, TooFewClauses}
+use Rattle.cnf_base.proofs.GrammarLemmas.{listing_says, number_spelled, p_spelled, cnf_spelled}
+use Rattle.cnf_base.proofs.LineLemmas.{append_nil}
+use Rattle.cnf_base.proofs.PrintLemmas.{both, count_word}
+use Rattle.dimacs.specs.Formula.{and_then, word_of_token, next_word, is_p, is_cnf, fixed, count_of, count, line_end_of_token, line_end_at_end, line_end, header_of, judged, Body, faulty_body, whole, with_first_clause, body_at_end, body_on_word, body_on_token, body_among, body_of, Formula, formula_with, formula_of}
+use Rattle.dimacs.specs.Grammar.{filled_lines, all_words, FormulaText, FormulaIsGrammar}
+use Rattle.dimacs.specs.Printing.{header_words, IsFormula}
+use Rattle.dimacs.specs.declared.header.Header.{Header}
+use Rattle.dimacs.proofs.FormulaPrinting.{judged_literal, judged_zero}
+use Rattle.dimacs.proofs.HeaderLemmas.{after_p}
+use Rattle.dimacs.proofs.GrammarWords.{Lines, and_so, went_on, some_parts, line_then, said_by, IsSaid, AreSaid, text_lines, filled_words, literal_spelled, zero_spelled}
+
+-- ---- The clauses, where places and faults don't matter
+
+-- the clauses where there is no fault
+abbrev faultless : Option Fault → List Clause → Option (List Clause)
+faultless None clauses = Some clauses
+faultless (Some f) clauses = None
+
+abbrev clean : Body → Option (List Clause)
+clean b = faultless b.fault b.clauses
+
+abbrev words_at_end : Header → ℕ → List Literal → Option (List Clause)
+words_at_end h complete [] = if nat_le h.clauses complete then Some [] else None
+words_at_end h complete (l ∷ ls) = None
+
+abbrev first_clause : Clause → Option (List Clause) → Option (List Clause)
+first_clause c None = None
+first_clause c (Some cs) = Some (c ∷ cs)
+
+abbrev on_judged : ℕ → List Literal → Result (Option Literal) TextFault
+    → (ℕ → List Literal → Option (List Clause)) → Option (List Clause)
+on_judged complete literals (Ok (Some l)) rest = rest complete (literals ++ l ∷ [])
+on_judged complete literals (Ok None) rest = first_clause literals (rest (complete + 1) [])
+on_judged complete literals (Err f) rest = None
+
+-- the clauses that words are, after so many complete ones, with these literals of a clause at hand
+abbrev clauses_in : Header → ℕ → List Literal → List (List ℕ) → Option (List Clause)
+clauses_in h complete literals [] = words_at_end h complete literals
+clauses_in h complete literals (w ∷ ws) =
+    on_judged complete literals (judged h complete (word_of w))
+    (λ complete literals. clauses_in h complete literals ws)
+
+-- ---- What the tokens say
+
+at_end : (h : Header) (k : ℕ) (acc : List Literal) (p : Place) → clean (body_at_end h k acc p End)
+    ≡ words_at_end h k acc
+at_end h k (l ∷ ls) p = refl
+at_end h k [] p = by (nat_le h.clauses k)
+  where
+    by : (v : Bool) → clean (cond v whole (faulty_body (Text TooFewClauses p)))
+        ≡ cond v (Some []) None
+    by true = refl
+    by false = refl
+
+with_first : (c : Clause) (b : Body) → clean (with_first_clause c b) ≡ first_clause c (clean b)
+with_first c b = by b.fault
+  where
+    by : (f : Option Fault) → faultless f (c ∷ b.clauses) ≡ first_clause c (faultless f b.clauses)
+    by None = refl
+    by (Some f) = refl
+
+module _ (h : Header) (k : ℕ) (acc : List Literal) (f : ℕ → List Literal → Body)
+    (g : ℕ → List Literal → Option (List Clause))
+    (same : (k : ℕ) (acc : List Literal) → clean (f k acc) ≡ g k acc) where
+  on_word : (t : tokens.Token) (v : Word) → IsSaid t (Some v)
+      → clean (body_on_token h k acc t f) ≡ on_judged k acc (judged h k v) g
+  on_word (token.Word p w) v is = ap (λ x. clean (body_on_word k acc p (judged h k x) f)) is
+      ∙ by p (judged h k v)
+    where
+      by : (p : Place) (r : Result (Option Literal) TextFault)
+          → clean (body_on_word k acc p r f) ≡ on_judged k acc r g
+      by p (Ok (Some l)) = same k (acc ++ l ∷ [])
+      by p (Ok None) = with_first acc (f (k + 1) []) ∙ ap (first_clause acc) (same (k + 1) [])
+      by p (Err e) = refl
+  on_word (token.LineEnd p) v is = absurd is
+  on_word (token.End p) v is = absurd is
+
+  on_line_end : (t : tokens.Token) → IsSaid t None → clean (body_on_token h k acc t f) ≡ g k acc
+  on_line_end (token.Word p w) is = absurd is
+  on_line_end (token.LineEnd p) is = same k acc
+  on_line_end (token.End p) is = absurd is
+
+module _ (h : Header) (p : Place) where
+  nothing_said : (k : ℕ) (acc : List Literal) (ts : List Listed) → AreSaid ts []
+      → clean (body_among h k acc ts p End) ≡ words_at_end h k acc
+  nothing_said k acc [] s = at_end h k acc p
+  nothing_said k acc (t ∷ ts) s = absurd s
+
+  -- the clauses of a line's words and of the lines after it
+  line_clauses : (ts : List Listed) (line : List (List ℕ)) (lines : Lines) (k : ℕ)
+      (acc : List Literal)
+      → AreSaid ts (line_then line (said_by lines))
+      → clean (body_among h k acc ts p End) ≡ clauses_in h k acc (line ++ all_words lines)
+  line_clauses [] [] [] k acc s = at_end h k acc p
+  line_clauses [] [] ([] ∷ lines) k acc s = absurd s
+  line_clauses [] [] ((w ∷ ws) ∷ lines) k acc s = absurd s
+  line_clauses [] (w ∷ ws) lines k acc s = absurd s
+  line_clauses (t ∷ ts) [] [] k acc s =
+      on_line_end h k acc (λ k acc. body_among h k acc ts p End) (λ k acc. words_at_end h k acc)
+      (λ k acc. nothing_said k acc ts s.1) t.token s.0
+  line_clauses (t ∷ ts) [] (line ∷ lines) k acc s =
+      on_line_end h k acc (λ k acc. body_among h k acc ts p End)
+      (λ k acc. clauses_in h k acc (line ++ all_words lines))
+      (λ k acc. line_clauses ts line lines k acc s.1) t.token s.0
+  line_clauses (t ∷ ts) (w ∷ ws) lines k acc s =
+      on_word h k acc (λ k acc. body_among h k acc ts p End)
+      (λ k acc. clauses_in h k acc (ws ++ all_words lines))
+      (λ k acc. line_clauses ts ws lines k acc s.1) t.token (word_of w) s.0
+
+  lines_clauses : (ts : List Listed) (lines : Lines) → AreSaid ts (said_by lines)
+      → clean (body_among h 0 [] ts p End) ≡ clauses_in h 0 [] (all_words lines)
+  lines_clauses ts [] s = nothing_said 0 [] ts s
+  lines_clauses ts (line ∷ lines) s = line_clauses ts line lines 0 [] s
+
+-- ---- The header, where places and faults don't matter
+
+-- a line's next word, and what follows it in the line
+abbrev word_in : List (List ℕ) → Option (Word × List (List ℕ))
+word_in [] = None
+word_in (w ∷ ws) = Some (word_of w, ws)
+
+abbrev fixed_in : (Word → Bool) → List (List ℕ) → Option (List (List ℕ))
+fixed_in test line = and_so (word_in line) (λ w. if test w.0 then Some w.1 else None)
+
+abbrev number_in : ℕ → Word → Option ℕ
+number_in limit (words.Number n) =
+    if n.is_negative then None else (if nat_le n.size limit then Some n.size else None)
+number_in limit _ = None
+
+abbrev count_in : ℕ → List (List ℕ) → Option (ℕ × List (List ℕ))
+count_in limit line = and_so (word_in line) (λ w. and_so (number_in limit w.0) (λ n. Some (n, w.1)))
+
+abbrev end_in : List (List ℕ) → Option (Unit {0})
+end_in [] = Some tt
+end_in (w ∷ ws) = None
+
+-- the header that a line is, and the lines after it
+abbrev line_header : Lines → List (List ℕ) → Option (Header × Lines)
+line_header lines line =
+    and_so (fixed_in is_p line) (λ line. and_so (fixed_in is_cnf line)
+    (λ line. and_so (count_in 268435455 line) (λ vars. and_so (count_in 4294967295 vars.1)
+    (λ clauses. and_so (end_in clauses.1)
+    (λ u. Some (record { vars = vars.0; clauses = clauses.0 }, lines))))))
+
+abbrev lines_header : Lines → Option (Header × Lines)
+lines_header [] = None
+lines_header ([] ∷ lines) = lines_header lines
+lines_header ((w ∷ ws) ∷ lines) = line_header lines (w ∷ ws)
+
+-- ---- What the tokens say of it
+
+-- both went wrong, or both went on, and so
+abbrev Agree : {A B : Type 0} → (A → B → Type 0) → Result A Fault → Option B → Type 0
+Agree R (Ok a) (Some b) = R a b
+Agree R (Err f) None = Unit {0}
+Agree R (Ok a) None = ⊥
+Agree R (Err f) (Some b) = ⊥
+
+agree_then : {A B C D : Type 0} (R : A → B → Type 0) (S : C → D → Type 0) (x : Result A Fault)
+    (y : Option B)
+    (f : A → Result C Fault) (g : B → Option D)
+    → Agree R x y → ((a : A) (b : B) → R a b → Agree S (f a) (g b))
+    → Agree S (and_then x f) (and_so y g)
+agree_then R S (Ok a) (Some b) f g r next = next a b r
+agree_then R S (Err e) None f g r next = tt
+agree_then R S (Ok a) None f g r next = absurd r
+agree_then R S (Err e) (Some b) f g r next = absurd r
+
+-- a text in the midst of a line, and after one
+record IsIn (lines : Lines) (l : Listing) (line : List (List ℕ)) : Type 0 where
+  pub said : AreSaid l.tokens (line_then line (said_by lines))
+  pub ending : l.ending ≡ End
+
+record IsAfter (lines : Lines) (l : Listing) : Type 0 where
+  pub said : AreSaid l.tokens (said_by lines)
+  pub ending : l.ending ≡ End
+
+abbrev listing : List Listed → Place → Ending → Listing
+listing ts p e = record { tokens = ts; end = p; ending = e }
+
+abbrev IsWord : Lines → Place × Word × Listing → Word × List (List ℕ) → Type 0
+IsWord lines x y = (x.1 ≡ y.0) × IsIn lines x.2 y.1
+
+next_agrees : (lines : Lines) (ts : List Listed) (p : Place) (e : Ending) (line : List (List ℕ))
+    → e ≡ End
+    → AreSaid ts (line_then line (said_by lines))
+    → Agree (IsWord lines) (next_word (listing ts p e)) (word_in line)
+next_agrees lines [] p e [] is s = tt
+next_agrees lines [] p e (w ∷ ws) is s = absurd s
+next_agrees lines (t ∷ ts) p e [] is s = by t.token s.0
+  where
+    by : (t : tokens.Token) → IsSaid t None
+        → Agree (IsWord lines) (word_of_token t (listing ts p e)) None
+    by (token.Word q v) s = absurd s
+    by (token.LineEnd q) s = tt
+    by (token.End q) s = tt
+next_agrees lines (t ∷ ts) p e (w ∷ ws) is s = by t.token s.0 (record { said = s.1; ending = is })
+  where
+    by : (t : tokens.Token) → IsSaid t (Some (word_of w)) → IsIn lines (listing ts p e) ws
+        → Agree (IsWord lines) (word_of_token t (listing ts p e)) (Some (word_of w, ws))
+    by (token.Word q v) s i = (s, i)
+    by (token.LineEnd q) s i = absurd s
+    by (token.End q) s i = absurd s
+
+module _ (lines : Lines) (l : Listing) (line : List (List ℕ)) (is : IsIn lines l line) where
+  word_agrees : Agree (IsWord lines) (next_word l) (word_in line)
+  word_agrees = next_agrees lines l.tokens l.end l.ending line is.ending is.said
+
+  fixed_agrees : (test : Word → Bool) → Agree (IsIn lines) (fixed test l) (fixed_in test line)
+  fixed_agrees test =
+      agree_then (IsWord lines) (IsIn lines) (next_word l) (word_in line) _ _ word_agrees
+      (λ x y r. by x.0 x.2 y.1 (test x.1) (test y.0) (ap test r.0) r.1)
+    where
+      by : (p : Place) (m : Listing) (ws : List (List ℕ)) (a b : Bool) → a ≡ b → IsIn lines m ws
+          → Agree (IsIn lines) (cond a (Ok m) (Err (Text BadHeader p))) (cond b (Some ws) None)
+      by p m ws true true e i = i
+      by p m ws false false e i = tt
+      by p m ws true false e i = absurd (let bad : true ≡ false = e in cc)
+      by p m ws false true e i = absurd (let bad : false ≡ true = e in cc)
+
+  count_agrees : (limit : ℕ)
+      → Agree (λ x y. (x.0 ≡ y.0) × IsIn lines x.1 y.1) (count limit l) (count_in limit line)
+  count_agrees limit =
+      agree_then (IsWord lines) _ (next_word l) (word_in line) _ _ word_agrees
+      (λ x y r. agree_then (λ n m. n ≡ m) _ (count_of limit x.0 x.1) (number_in limit y.0) _ _
+      (subst (λ v. Agree (λ n m. n ≡ m) (count_of limit x.0 x.1) (number_in limit v)) r.0
+      (number x.0 x.1))
+      (λ n m same. (same, r.1)))
+    where
+      by : (p : Place) (n : ℕ) (a b : Bool) → Agree (λ n m. n ≡ m)
+          (cond a (Err (Text BadHeader p)) (cond b (Ok n) (Err (Text NumberTooLarge p))))
+          (cond a None (cond b (Some n) None))
+      by p n true b = tt
+      by p n false true = refl
+      by p n false false = tt
+
+      number : (p : Place) (v : Word)
+          → Agree (λ n m. n ≡ m) (count_of limit p v) (number_in limit v)
+      number p (words.Number n) = by p n.size n.is_negative (nat_le n.size limit)
+      number p _ = tt
+
+end_agrees : (lines : Lines) (ts : List Listed) (p : Place) (e : Ending) (line : List (List ℕ))
+    → e ≡ End
+    → AreSaid ts (line_then line (said_by lines))
+    → Agree (λ m u. IsAfter lines m) (line_end (listing ts p e)) (end_in line)
+end_agrees [] [] p e [] is s = by e is
+  where
+    by : (e : Ending) → e ≡ End
+        → Agree (λ m (u : Unit {0}). IsAfter [] m) (line_end_at_end e (listing [] p e)) (Some tt)
+    by End is = record { said = tt; ending = is }
+    by Failed is = absurd (let bad : Failed ≡ End = is in cc)
+end_agrees ([] ∷ lines) [] p e [] is s = absurd s
+end_agrees ((w ∷ ws) ∷ lines) [] p e [] is s = absurd s
+end_agrees lines [] p e (w ∷ ws) is s = absurd s
+end_agrees lines (t ∷ ts) p e [] is s = by t.token s.0 (record { said = s.1; ending = is })
+  where
+    by : (t : tokens.Token) → IsSaid t None → IsAfter lines (listing ts p e)
+        → Agree (λ m (u : Unit {0}). IsAfter lines m) (line_end_of_token t (listing ts p e))
+        (Some tt)
+    by (token.Word q v) s i = absurd s
+    by (token.LineEnd q) s i = i
+    by (token.End q) s i = absurd s
+end_agrees lines (t ∷ ts) p e (w ∷ ws) is s = by t.token s.0
+  where
+    by : (t : tokens.Token) → IsSaid t (Some (word_of w))
+        → Agree (λ m (u : Unit {0}). IsAfter lines m) (line_end_of_token t (listing ts p e)) None
+    by (token.Word q v) s = tt
+    by (token.LineEnd q) s = absurd s
+    by (token.End q) s = absurd s
+
+-- the header, and the text after it
+abbrev IsHead : Header × Listing → Header × Lines → Type 0
+IsHead x y = (x.0 ≡ y.0) × IsAfter y.1 x.1
+
+line_agrees : (lines : Lines) (l : Listing) (line : List (List ℕ)) → IsIn lines l line
+    → Agree IsHead (and_then (fixed is_p l) after_p) (line_header lines line)
+line_agrees lines l line is =
+    agree_then _ _ (fixed is_p l) (fixed_in is_p line) _ _ (fixed_agrees lines l line is is_p)
+    (λ l line is.
+    agree_then _ _ (fixed is_cnf l) (fixed_in is_cnf line) _ _ (fixed_agrees lines l line is is_cnf)
+    (λ l line is.
+    agree_then _ _ (count 268435455 l) (count_in 268435455 line) _ _
+    (count_agrees lines l line is 268435455) (λ v w r.
+    agree_then _ _ (count 4294967295 v.1) (count_in 4294967295 w.1) _ _
+    (count_agrees lines v.1 w.1 r.1 4294967295) (λ c d s.
+    agree_then _ _ (line_end c.1) (end_in d.1) _ _
+    (end_agrees lines c.1.tokens c.1.end c.1.ending d.1 s.1.ending s.1.said) (λ m u after.
+    (ap₂ (λ vars clauses. record { vars = vars; clauses = clauses }) r.0 s.0, after))))))
+
+header_agrees : (lines : Lines) (ts : List Listed) (p : Place) → AreSaid ts (said_by lines)
+    → Agree IsHead (header_of (listing ts p End)) (lines_header lines)
+header_agrees [] [] p s = tt
+header_agrees [] (t ∷ ts) p s = absurd s
+header_agrees ([] ∷ lines) [] p s = no_more lines s
+  where
+    no_more : (lines : Lines) → AreSaid [] (None ∷ said_by lines)
+        → Agree IsHead (header_of (listing [] p End)) (lines_header lines)
+    no_more [] s = tt
+    no_more ([] ∷ lines) s = absurd s
+    no_more ((w ∷ ws) ∷ lines) s = absurd s
+header_agrees ([] ∷ lines) (t ∷ ts) p s = by t t.token refl s.0 (header_agrees lines ts p s.1)
+  where
+    by : (t : Listed) (k : tokens.Token) → t.token ≡ k → IsSaid k None
+        → Agree IsHead (header_of (listing ts p End)) (lines_header lines)
+        → Agree IsHead (header_of (listing (t ∷ ts) p End)) (lines_header lines)
+    by t (token.Word q v) e s a = absurd s
+    by t (token.LineEnd q) e s a = rw e a
+    by t (token.End q) e s a = absurd s
+header_agrees ((w ∷ ws) ∷ lines) [] p s = absurd s
+header_agrees ((w ∷ ws) ∷ lines) (t ∷ ts) p s =
+    by t t.token refl s.0
+    (line_agrees lines (listing (t ∷ ts) p End) (w ∷ ws) (record { said = s; ending = refl }))
+  where
+    by : (t : Listed) (k : tokens.Token) → t.token ≡ k → IsSaid k (Some (word_of w))
+        → Agree IsHead (and_then (fixed is_p (listing (t ∷ ts) p End)) after_p)
+        (line_header lines (w ∷ ws))
+        → Agree IsHead (header_of (listing (t ∷ ts) p End)) (line_header lines (w ∷ ws))
+    by t (token.Word q v) e s a = rw e (rw e at a)
+    by t (token.LineEnd q) e s a = absurd s
+    by t (token.End q) e s a = absurd s
+
+-- ---- The header's spelling
+
+fixed_spelled : (test : Word → Bool) (line rest : List (List ℕ)) → fixed_in test line ≡ Some rest
+    → (w : List ℕ) × (line ≡ w ∷ rest) × (test (word_of w) ≡ true)
+fixed_spelled test [] rest e = absurd (let bad : None ≡ Some rest = e in cc)
+fixed_spelled test (w ∷ ws) rest e = by (test (word_of w)) refl e
+  where
+    by : (v : Bool) → test (word_of w) ≡ v → cond v (Some ws) None ≡ Some rest
+        → (u : List ℕ) × (w ∷ ws ≡ u ∷ rest) × (test (word_of u) ≡ true)
+    by true t e = (w, (cc), t)
+    by false t e = absurd (let bad : None ≡ Some rest = e in cc)
+
+p_tested : (v : Word) → is_p v ≡ true → v ≡ words.P
+p_tested words.P e = refl
+p_tested _ e = absurd (let bad : false ≡ true = e in cc)
+
+cnf_tested : (v : Word) → is_cnf v ≡ true → v ≡ words.Cnf
+cnf_tested words.Cnf e = refl
+cnf_tested _ e = absurd (let bad : false ≡ true = e in cc)
+
+number_tested : (limit : ℕ) (v : Word) (n : ℕ) → number_in limit v ≡ Some n
+    → (v ≡ words.Number (number false n)) × (n ≤ limit)
+number_tested limit (words.Number m) n e = by m.is_negative m.size (nat_le m.size limit) refl e
+  where
+    by : (s : Bool) (k : ℕ) (b : Bool) → nat_le k limit ≡ b → cond s None (cond b (Some k) None)
+        ≡ Some n
+        → (words.Number (number s k) ≡ words.Number (number false n)) × (n ≤ limit)
+    by true k b t e = absurd (let bad : None ≡ Some n = e in cc)
+    by false k true t e =
+        let same : k ≡ n = cc in
+        (ap (λ j. words.Number (number false j)) same, grind (arith, nat_tests))
+    by false k false t e = absurd (let bad : None ≡ Some n = e in cc)
+number_tested limit _ n e = absurd (let bad : None ≡ Some n = e in cc)
+
+count_spelled : (limit : ℕ) (line : List (List ℕ)) (n : ℕ) (rest : List (List ℕ))
+    → limit ≤ 9223372036854775807
+    → count_in limit line ≡ Some (n, rest) → (line ≡ decimal n ∷ rest) × (n ≤ limit)
+count_spelled limit [] n rest small e = absurd (let bad : None ≡ Some (n, rest) = e in cc)
+count_spelled limit (w ∷ ws) n rest small e =
+    let r = went_on (number_in limit (word_of w)) (λ n. Some (n, ws)) (n, rest) e in
+    let same = some_parts (r.0, ws) (n, rest) r.2 in
+    let t = number_tested limit (word_of w) r.0 r.1 in
+    let within : n ≤ limit = let s = same.0 in let u = t.1 in omega arith in (
+      ap₂ (λ u us. u ∷ us)
+          ((number_spelled w false r.0 (let u = t.1 in omega arith) t.0).0 ∙ ap decimal same.0)
+          same.1,
+      within,
+    )
+
+end_spelled : (line : List (List ℕ)) (u : Unit {0}) → end_in line ≡ Some u → line ≡ []
+end_spelled [] u e = refl
+end_spelled (w ∷ ws) u e = absurd (let bad : None ≡ Some u = e in cc)
+
+-- within the limits
+record IsHeader (h : Header) : Type 0 where
+  pub vars : h.vars ≤ 268435455
+  pub clauses : h.clauses ≤ 4294967295
+
+line_spelled : (lines : Lines) (line : List (List ℕ)) (h : Header) (rest : Lines)
+    → line_header lines line ≡ Some (h, rest) → (line ≡ header_words h) × IsHeader h
+    × (rest ≡ lines)
+line_spelled lines line h rest e0 =
+    let a = went_on (fixed_in is_p line) _ (h, rest) e0 in
+    let b = went_on (fixed_in is_cnf a.0) _ (h, rest) a.2 in
+    let c = went_on (count_in 268435455 b.0) _ (h, rest) b.2 in
+    let d = went_on (count_in 4294967295 c.0.1) _ (h, rest) c.2 in
+    let z = went_on (end_in d.0.1) _ (h, rest) d.2 in
+    let p = fixed_spelled is_p line a.0 a.1 in
+    let q = fixed_spelled is_cnf a.0 b.0 b.1 in
+    let v = count_spelled 268435455 b.0 c.0.0 c.0.1 (omega arith) c.1 in
+    let n = count_spelled 4294967295 c.0.1 d.0.0 d.0.1 (omega arith) d.1 in
+    let none = end_spelled d.0.1 z.0 z.1 in
+    finish p.0 q.0 a.0 b.0 c.0.0 c.0.1 d.0.0 d.0.1 p.1 (p_spelled p.0 (p_tested (word_of p.0) p.2))
+    q.1 (cnf_spelled q.0 (cnf_tested (word_of q.0) q.2)) v.0 v.1 n.0 n.1 none
+    (some_parts (record { vars = c.0.0; clauses = d.0.0 }, lines) (h, rest) z.2)
+  where
+    finish : (p q : List ℕ) (a b : List (List ℕ)) (vars : ℕ) (c : List (List ℕ)) (clauses : ℕ)
+        (d : List (List ℕ))
+        → line ≡ p ∷ a → p ≡ codes "p" → a ≡ q ∷ b → q ≡ codes "cnf"
+        → b ≡ decimal vars ∷ c → vars ≤ 268435455 → c ≡ decimal clauses ∷ d → clauses ≤ 4294967295
+        → d ≡ []
+        → (record { vars = vars; clauses = clauses } ≡ h) × (lines ≡ rest)
+        → (line ≡ header_words h) × IsHeader h × (rest ≡ lines)
+    finish p q a b vars c clauses d e f g i j low k high m same =
+        let vars_same : vars ≡ h.vars = ap (λ x. x.vars) same.0 in
+        let clauses_same : clauses ≡ h.clauses = ap (λ x. x.clauses) same.0 in (
+          cc,
+          record { vars = omega arith; clauses = omega arith },
+          sym same.1,
+        )
+
+-- the lines begin with the header's words
+header_spelled : (lines : Lines) (h : Header) (rest : Lines) → lines_header lines ≡ Some (h, rest)
+    → (filled_lines lines ≡ header_words h ∷ filled_lines rest) × IsHeader h
+header_spelled [] h rest e = absurd (let bad : None ≡ Some (h, rest) = e in cc)
+header_spelled ([] ∷ lines) h rest e = header_spelled lines h rest e
+header_spelled ((w ∷ ws) ∷ lines) h rest e =
+    let r = line_spelled lines (w ∷ ws) h rest e in
+    (ap₂ (λ line lines. line ∷ filled_lines lines) r.0 (sym r.2), r.1)
+
+-- and the other way round
+count_taken : (limit n : ℕ) (rest : List (List ℕ)) → n ≤ limit → limit ≤ 9223372036854775807
+    → count_in limit (decimal n ∷ rest) ≡ Some (n, rest)
+count_taken limit n rest low small =
+    let is = count_word n (omega arith) in
+    let within : nat_le n limit ≡ true = grind (arith, nat_tests) in
+    ap (λ v. and_so (number_in limit v) (λ n. Some (n, rest))) is
+    ∙ ap (λ b. and_so (cond b (Some n) None) (λ n. Some (n, rest))) within
+
+line_taken : (lines : Lines) (h : Header) → IsHeader h → line_header lines (header_words h)
+    ≡ Some (h, lines)
+line_taken lines h is =
+    ap (λ o. and_so o (λ vars. and_so (count_in 4294967295 vars.1)
+    (λ clauses. and_so (end_in clauses.1)
+    (λ u. Some (record { vars = vars.0; clauses = clauses.0 }, lines)))))
+    (count_taken 268435455 h.vars (decimal h.clauses ∷ []) is.vars (omega arith))
+    ∙ ap (λ o. and_so o (λ clauses. and_so (end_in clauses.1)
+    (λ u. Some (record { vars = h.vars; clauses = clauses.0 }, lines))))
+    (count_taken 4294967295 h.clauses [] is.clauses (omega arith))
+
+header_taken : (lines : Lines) (h : Header) (body : Lines)
+    → filled_lines lines ≡ header_words h ∷ body → IsHeader h
+    → (rest : Lines) × (lines_header lines ≡ Some (h, rest)) × (filled_lines rest ≡ body)
+header_taken [] h body e is = absurd (let bad : [] ≡ header_words h ∷ body = e in cc)
+header_taken ([] ∷ lines) h body e is = header_taken lines h body e is
+header_taken ((w ∷ ws) ∷ lines) h body e is =
+    let line : w ∷ ws ≡ header_words h = cc in
+    let later : filled_lines lines ≡ body = cc in
+    (lines, ap (line_header lines) line ∙ line_taken lines h is, later)
+
+-- ---- The clauses' spelling
+
+module _ (h : Header) (small : h.vars ≤ 268435455) where
+  -- a word that was judged well, where a clause is missing
+  record IsJudged (k : ℕ) (w text : List ℕ) (Fact : Type 0) : Type 0 where
+    pub missing : nat_le h.clauses k ≡ false
+    pub is : w ≡ text
+    pub fact : Fact
+
+  conditions : {A : Type 0} (a b c : Bool) (x y : A) (f0 f1 f2 : TextFault)
+      → cond a (cond b (Err f0) (cond c (Ok x) (Err f1))) (Err f2) ≡ Ok y
+      → (a ≡ true) × (b ≡ false) × (c ≡ true) × (x ≡ y)
+  conditions true false true x y f0 f1 f2 e = (refl, refl, refl, (cc))
+  conditions true false false x y f0 f1 f2 e = absurd (let bad : Err f1 ≡ Ok y = e in cc)
+  conditions true true c x y f0 f1 f2 e = absurd (let bad : Err f0 ≡ Ok y = e in cc)
+  conditions false b c x y f0 f1 f2 e = absurd (let bad : Err f2 ≡ Ok y = e in cc)
+
+  literal_judged : (k : ℕ) (w : List ℕ) (l : Literal) → judged h k (word_of w) ≡ Ok (Some l)
+      → IsJudged k w (literal_text l) (is_literal h.vars l ≡ true)
+  literal_judged k w l e = by (word_of w) refl e
+    where
+      by : (v : Word) → word_of w ≡ v → judged h k v ≡ Ok (Some l)
+          → IsJudged k w (literal_text l) (is_literal h.vars l ≡ true)
+      by (words.Number n) is e =
+          let r = conditions (nat_le n.size 268435455) (nat_le h.clauses k) (nat_le n.size h.vars)
+          (number_literal n) (Some l) TooManyClauses LiteralOutOfRange NumberTooLarge e in
+          let s = literal_spelled w n l is r.3 in
+          let same = s.is in
+          let some = s.some in
+          let within = r.2 in
+          let low : nat_le 1 (variable l) ≡ true = grind (arith, nat_tests) in
+          let high : nat_le (variable l) h.vars ≡ true = ap (λ x. nat_le x h.vars) same ∙ within in
+          record {
+            missing = r.1;
+            is = s.text;
+            fact = ap (λ v. v && nat_le (variable l) h.vars) low ∙ high;
+          }
+      by _ is e = absurd (let bad : Err BadToken ≡ Ok (Some l) = e in cc)
+
+  zero_judged : (k : ℕ) (w : List ℕ) → judged h k (word_of w) ≡ Ok None
+      → IsJudged k w (codes "0") (Unit {0})
+  zero_judged k w e = by (word_of w) refl e
+    where
+      other : Result (Option Literal) TextFault
+      other = Err BadToken
+
+      by : (v : Word) → word_of w ≡ v → judged h k v ≡ Ok None → IsJudged k w (codes "0") (Unit {0})
+      by (words.Number n) is e =
+          let r = conditions (nat_le n.size 268435455) (nat_le h.clauses k) (nat_le n.size h.vars)
+          (number_literal n) None TooManyClauses LiteralOutOfRange NumberTooLarge e in
+          let test = r.0 in
+          let high : n.size ≤ 268435455 = grind (arith, nat_tests) in
+          record { missing = r.1; is = zero_spelled w n is high r.3; fact = tt }
+      by _ is e = absurd (let bad : other ≡ Ok None = e in cc)
+
+  -- the clauses that words are, with these literals of the first one before them
+  record AreClauses (k : ℕ) (acc : List Literal) (ws : List (List ℕ))
+      (cs : List Clause) : Type 0 where
+    pub words : map literal_text acc ++ ws ≡ flat_map literal_words cs
+    pub count : h.clauses ≡ k + length cs
+    pub literals : list_all (list_all (is_literal h.vars)) cs ≡ true
+
+  clauses_spelled : (ws : List (List ℕ)) (k : ℕ) (acc : List Literal) (cs : List Clause)
+      → clauses_in h k acc ws ≡ Some cs → k ≤ h.clauses → list_all (is_literal h.vars) acc ≡ true
+      → AreClauses k acc ws cs
+  clauses_spelled [] k (l ∷ ls) cs e low are = absurd (let bad : None ≡ Some cs = e in cc)
+  clauses_spelled [] k [] cs e low are = by (nat_le h.clauses k) refl e
+    where
+      by : (v : Bool) → nat_le h.clauses k ≡ v → cond v (Some []) None ≡ Some cs
+          → AreClauses k [] [] cs
+      by true t e =
+          let same : [] ≡ cs = cc in
+          let all : h.clauses ≡ k + 0 = grind (arith, nat_tests) in
+          subst (AreClauses k [] []) same (record { words = refl; count = all; literals = refl })
+      by false t e = absurd (let bad : None ≡ Some cs = e in cc)
+  clauses_spelled (w ∷ ws) k acc cs e low are =
+      by (judged h k (word_of w)) refl e (λ l. clauses_spelled ws k (acc ++ l ∷ []) cs)
+      (clauses_spelled ws (k + 1) [])
+    where
+      by : (r : Result (Option Literal) TextFault) → judged h k (word_of w) ≡ r
+          → on_judged k acc r (λ k acc. clauses_in h k acc ws) ≡ Some cs
+          → ((l : Literal) → clauses_in h k (acc ++ l ∷ []) ws ≡ Some cs → k ≤ h.clauses
+          → list_all (is_literal h.vars) (acc ++ l ∷ []) ≡ true
+          → AreClauses k (acc ++ l ∷ []) ws cs)
+          → ((more : List Clause) → clauses_in h (k + 1) [] ws ≡ Some more → k + 1 ≤ h.clauses
+          → true ≡ true → AreClauses (k + 1) [] ws more)
+          → AreClauses k acc (w ∷ ws) cs
+      by (Ok (Some l)) is e go_on next =
+          let j = literal_judged k w l is in
+          let all : list_all (is_literal h.vars) (acc ++ l ∷ []) ≡ true =
+          list_all-append (is_literal h.vars) acc (l ∷ [])
+          ∙ ap (λ v. v && list_all (is_literal h.vars) (l ∷ [])) are ∙ ap (λ v. v && true) j.fact in
+          let a = go_on l e low all in
+          record {
+            words = ap (λ t. map literal_text acc ++ t ∷ ws) j.is
+                ∙ sym (append_assoc (map literal_text acc) (literal_text l ∷ []) ws)
+                ∙ ap (λ t. t ++ ws) (sym (map-append literal_text acc (l ∷ [])))
+                ∙ a.words;
+            count = a.count;
+            literals = a.literals;
+          }
+      by (Ok None) is e go_on next =
+          let j = zero_judged k w is in
+          let missing = j.missing in
+          rest (clauses_in h (k + 1) [] ws) refl e
+        where
+          rest : (o : Option (List Clause)) → clauses_in h (k + 1) [] ws ≡ o
+              → first_clause acc o ≡ Some cs
+              → AreClauses k acc (w ∷ ws) cs
+          rest None o e = absurd (let bad : None ≡ Some cs = e in cc)
+          rest (Some more) o e =
+              let j = zero_judged k w is in
+              let missing = j.missing in
+              let less : k + 1 ≤ h.clauses = grind (arith, nat_tests) in
+              let a = next more o less refl in
+              let same : acc ∷ more ≡ cs = cc in
+              let count = a.count in
+              subst (AreClauses k acc (w ∷ ws)) same (record {
+                words = ap (λ t. map literal_text acc ++ t ∷ ws) j.is
+                    ∙ sym (append_assoc (map literal_text acc) (codes "0" ∷ []) ws)
+                    ∙ ap (λ t. literal_words acc ++ t) a.words;
+                count = omega arith;
+                literals = ap (λ v. v && list_all (list_all (is_literal h.vars)) more) are
+                    ∙ a.literals;
+              })
+      by (Err f) is e go_on next = absurd (let bad : None ≡ Some cs = e in cc)
+
+  -- and the other way round: a clause, and the others
+  clause_taken : (ls acc : List Literal) (k : ℕ) (ws : List (List ℕ)) (cs : List Clause)
+      → nat_le h.clauses k ≡ false → list_all (is_literal h.vars) ls ≡ true
+      → clauses_in h (k + 1) [] ws ≡ Some cs
+      → clauses_in h k acc (literal_words ls ++ ws) ≡ Some ((acc ++ ls) ∷ cs)
+  clause_taken [] acc k ws cs missing are later =
+      ap (λ r. on_judged k acc r (λ k acc. clauses_in h k acc ws)) (judged_zero h small k missing)
+      ∙ ap (first_clause acc) later
+      ∙ ap (λ c. Some (c ∷ cs)) (sym (append_nil acc))
+  clause_taken (l ∷ ls) acc k ws cs missing are later =
+      let r = both (is_literal h.vars l) (list_all (is_literal h.vars) ls) are in
+      ap (λ r. on_judged k acc r (λ k acc. clauses_in h k acc (literal_words ls ++ ws)))
+      (judged_literal h small k l missing r.0)
+      ∙ clause_taken ls (acc ++ l ∷ []) k ws cs missing r.1 later
+      ∙ ap (λ c. Some (c ∷ cs)) (append_assoc acc (l ∷ []) ls)
+
+  clauses_taken : (cs : List Clause) (k : ℕ) → h.clauses ≡ k + length cs
+      → list_all (list_all (is_literal h.vars)) cs ≡ true
+      → clauses_in h k [] (flat_map literal_words cs) ≡ Some cs
+  clauses_taken [] k count are =
+      let all : nat_le h.clauses k ≡ true = grind (arith, nat_tests) in
+      ap (λ v. cond v (Some []) None) all
+  clauses_taken (c ∷ cs) k count are =
+      let r = both (list_all (is_literal h.vars) c) (list_all (list_all (is_literal h.vars)) cs)
+      are in
+      let missing : nat_le h.clauses k ≡ false = grind (arith, nat_tests) in
+      clause_taken c [] k (flat_map literal_words cs) cs missing r.0
+      (clauses_taken cs (k + 1) (omega arith) r.1)
+
+-- ---- A whole formula
+
+abbrev faultless_formula : Header → List Clause → Formula
+faultless_formula h clauses = record { header = Some h; clauses = clauses; fault = None }
+
+text_clauses : (h : Header) (l : Listing) (lines : Lines) → IsAfter lines l
+    → clean (body_of h 0 [] l) ≡ clauses_in h 0 [] (all_words lines)
+text_clauses h l lines is =
+    ap (λ e. clean (body_among h 0 [] l.tokens l.end e)) is.ending
+    ∙ lines_clauses h l.end l.tokens lines is.said
+
+formula_words : (h : Header) (clauses : List Clause) (r : Result (Header × Listing) Fault)
+    (o : Option (Header × Lines))
+    → Agree IsHead r o → formula_with r ≡ faultless_formula h clauses
+    → (rest : Lines) × (o ≡ Some (h, rest)) × (clauses_in h 0 [] (all_words rest) ≡ Some clauses)
+formula_words h clauses (Err f) None a e =
+    absurd (let bad : None ≡ Some h = ap (λ f. f.header) e in cc)
+formula_words h clauses (Err f) (Some y) a e = absurd a
+formula_words h clauses (Ok x) None a e = absurd a
+formula_words h clauses (Ok x) (Some y) a e =
+    let head : Some x.0 ≡ Some h = ap (λ f. f.header) e in
+    let same : x.0 ≡ h = cc in
+    let given : y.0 ≡ h = sym a.0 ∙ same in (
+      y.1,
+      ap (λ g. Some (g, y.1)) given,
+      sym (text_clauses h x.1 y.1 a.1)
+          ∙ ap (λ g. clean (body_of g 0 [] x.1)) (sym same)
+          ∙ ap (λ f. faultless f.fault f.clauses) e,
+    )
+
+formula_taken : (h : Header) (clauses : List Clause) (r : Result (Header × Listing) Fault)
+    (o : Option (Header × Lines))
+    (rest : Lines) → Agree IsHead r o → o ≡ Some (h, rest) → clauses_in h 0 [] (all_words rest)
+    ≡ Some clauses
+    → formula_with r ≡ faultless_formula h clauses
+formula_taken h clauses (Err f) None rest a o e = absurd (let bad : None ≡ Some (h, rest) = o in cc)
+formula_taken h clauses (Err f) (Some y) rest a o e = absurd a
+formula_taken h clauses (Ok x) None rest a o e = absurd a
+formula_taken h clauses (Ok x) (Some y) rest a o e =
+    let given = some_parts y (h, rest) o in
+    let same : x.0 ≡ h = a.0 ∙ given.0 in
+    let body = text_clauses h x.1 y.1 a.1
+    ∙ ap (λ lines. clauses_in h 0 [] (all_words lines)) given.1 ∙ e in
+    ap (λ g. formula_with (Ok (g, x.1))) same ∙ by (body_of h 0 [] x.1) body
+  where
+    by : (b : Body) → clean b ≡ Some clauses
+        → record { header = Some h; clauses = b.clauses; fault = b.fault }
+        ≡ faultless_formula h clauses
+    by b e = parts b.fault b.clauses e
+      where
+        parts : (f : Option Fault) (cs : List Clause) → faultless f cs ≡ Some clauses
+            → record { header = Some h; clauses = cs; fault = f } ≡ faultless_formula h clauses
+        parts None cs e = let same : cs ≡ clauses =
+            cc in ap (λ cs. record { header = Some h; clauses = cs; fault = None }) same
+        parts (Some f) cs e = absurd (let bad : None ≡ Some clauses = e in cc)
+
+text_header : (bytes : List ℕ)
+    → Agree IsHead (header_of (listing_of (input_of bytes))) (lines_header (word_lines bytes))
+text_header bytes =
+    let l : Listing = listing_of (input_of bytes) in
+    subst (λ e. Agree IsHead (header_of (listing l.tokens l.end e))
+    (lines_header (word_lines bytes)))
+    (sym (listing_says bytes).ending)
+    (header_agrees (word_lines bytes) l.tokens l.end (text_lines bytes))
+
+read_is_written : (bytes : List ℕ) (h : Header) (clauses : List Clause)
+    → formula_of (input_of bytes) ≡ faultless_formula h clauses
+    → IsFormula h clauses × FormulaText (word_lines bytes) h clauses
+read_is_written bytes h clauses e =
+    let r = formula_words h clauses (header_of (listing_of (input_of bytes)))
+    (lines_header (word_lines bytes))
+    (text_header bytes) e in
+    let s = header_spelled (word_lines bytes) h r.0 r.1 in
+    let c = clauses_spelled h s.1.vars (all_words r.0) 0 [] clauses r.2 (omega arith) refl in
+    let count = c.count in (
+      record { vars = s.1.vars; count = omega arith; most = s.1.clauses; literals = c.literals },
+      record {
+        body = filled_lines r.0;
+        header_first = s.0;
+        clauses_after = filled_words r.0
+            ∙ c.words;
+      },
+    )
+
+written_is_read : (bytes : List ℕ) (h : Header) (clauses : List Clause)
+    → IsFormula h clauses → FormulaText (word_lines bytes) h clauses
+    → formula_of (input_of bytes) ≡ faultless_formula h clauses
+written_is_read bytes h clauses f text =
+    let s = header_taken (word_lines bytes) h text.body text.header_first
+    (record { vars = f.vars; clauses = f.most }) in
+    let ws : all_words s.0 ≡ flat_map literal_words clauses =
+    sym (filled_words s.0) ∙ ap all_words s.2 ∙ text.clauses_after in
+    let count = f.count in
+    formula_taken h clauses (header_of (listing_of (input_of bytes)))
+    (lines_header (word_lines bytes)) s.0
+    (text_header bytes) s.1
+    (ap (clauses_in h 0 []) ws ∙ clauses_taken h f.vars clauses 0 (omega arith) f.literals)
+
+-- a formula is read exactly where its text is the grammar's
+pub formula_grammar : FormulaIsGrammar
+formula_grammar = record { read_is_written = read_is_written; written_is_read = written_is_read }

@@ -1,0 +1,189 @@
+-- Tokens as the words of lines, where places don't matter, and how words are spelled.
+use Rattle.std.proofs.Common.{◌≡◌, ◌⊎◌, inl, inr, ℕ, ◌+◌, ◌*◌, ◌/◌, ◌%◌, ◌==◌, ◌≤◌, nat_le, cond, Bool, true, false, List, [], ◌∷◌, ◌++◌, Option, None, Some, refl, sym, ap, subst, ◌∙◌, arith}
+use Rattle.std.specs.Prelude.{◌&&◌, codes}
+use Rattle.std.specs.Bool.{then_some}
+use Rattle.std.specs.Fmt.{decimal}
+use Rattle.std.specs.List.{flat_map, list_all}
+use Rattle.std.proofs.lemmas.Bool.Decides.{nat_tests}
+use Rattle.std.proofs.lemmas.Fmt.{decimal_digit}
+use Rattle.cnf_base.specs.Literals.{Literal, variable}
+use Rattle.cnf_base.specs.Grammar.{word_lines}
+use Rattle.cnf_base.specs.Printing.{input_of, literal_text}
+use Rattle.cnf_base.specs.Text.{Listed, listing_of}
+use Rattle.cnf_base.specs.Words.{number, number_literal, word_of}
+use Rattle.cnf_base.specs.declared.word.Number.{Number}
+use Rattle.cnf_base.specs.declared.word.Word.{Word}
+use Rattle.cnf_base.specs.declared.word.Word.TheVariants as words
+use Rattle.cnf_base.specs.declared.token.Token as tokens
+use Rattle.cnf_base.specs.declared.token.Token.TheVariants as token
+use Rattle.cnf_base.proofs.GrammarLemmas.{said, is_inside, all_said, line_said, text_said, listing_says, number_text, number_spelled}
+use Rattle.cnf_base.proofs.PrintLemmas.{both}
+use Rattle.dimacs.specs.Grammar.{filled_lines, all_words}
+
+abbrev pub Lines : Type 0
+Lines = List (List (List ℕ))
+
+-- ---- What may be missing
+
+abbrev pub and_so : {A B : Type 0} → Option A → (A → Option B) → Option B
+and_so None next = None
+and_so (Some x) next = next x
+
+pub went_on : {A B : Type 0} (o : Option A) (next : A → Option B) (y : B) → and_so o next ≡ Some y
+    → (x : A) × (o ≡ Some x) × (next x ≡ Some y)
+went_on None next y e = absurd (let bad : None ≡ Some y = e in cc)
+went_on (Some x) next y e = (x, refl, e)
+
+pub some_parts : {A B : Type 0} (x y : A × B) → Some x ≡ Some y → (x.0 ≡ y.0) × (x.1 ≡ y.1)
+some_parts x y e = let same : x ≡ y = cc in (ap (λ p. p.0) same, ap (λ p. p.1) same)
+
+-- ---- Tokens and lines
+
+-- what a line says, and then others: its words, and its end
+abbrev pub line_then : List (List ℕ) → List (Option Word) → List (Option Word)
+line_then [] later = None ∷ later
+line_then (w ∷ ws) later = Some (word_of w) ∷ line_then ws later
+
+abbrev pub said_by : Lines → List (Option Word)
+said_by [] = []
+said_by (line ∷ lines) = line_then line (said_by lines)
+
+abbrev pub IsSaid : tokens.Token → Option Word → Type 0
+IsSaid (token.Word p w) (Some v) = w ≡ v
+IsSaid (token.LineEnd p) None = Unit {0}
+IsSaid _ _ = ⊥
+
+-- the tokens say this; the end of the last line may be missing
+abbrev pub AreSaid : List Listed → List (Option Word) → Type 0
+AreSaid [] [] = Unit {0}
+AreSaid [] (None ∷ []) = Unit {0}
+AreSaid [] _ = ⊥
+AreSaid (t ∷ ts) [] = ⊥
+AreSaid (t ∷ ts) (s ∷ ss) = IsSaid t.token s × AreSaid ts ss
+
+token_said : (t : tokens.Token) → is_inside t ≡ true → IsSaid t (said t)
+token_said (token.Word p w) h = refl
+token_said (token.LineEnd p) h = tt
+token_said (token.End p) h = absurd (let bad : false ≡ true = h in cc)
+
+module _ (later : List (Option Word)) (ended : AreSaid [] later) where
+  tokens_said : (ts : List Listed) → list_all (λ t. is_inside t.token) ts ≡ true
+      → AreSaid ts (all_said ts ++ later)
+  tokens_said [] h = ended
+  tokens_said (t ∷ ts) h =
+      let r = both (is_inside t.token) (list_all (λ t. is_inside t.token) ts) h in
+      (token_said t.token r.0, tokens_said ts r.1)
+
+line_then_is : (line : List (List ℕ)) (later : List (Option Word))
+    → line_said line ++ later ≡ line_then line later
+line_then_is [] later = refl
+line_then_is (w ∷ ws) later = ap (λ t. Some (word_of w) ∷ t) (line_then_is ws later)
+
+said_by_is : (lines : Lines) → flat_map line_said lines ≡ said_by lines
+said_by_is [] = refl
+said_by_is (line ∷ lines) = ap (λ t. line_said line ++ t) (said_by_is lines)
+    ∙ line_then_is line (said_by lines)
+
+-- the tokens of a text are the words of its lines
+pub text_lines : (bytes : List ℕ)
+    → AreSaid (listing_of (input_of bytes)).tokens (said_by (word_lines bytes))
+text_lines bytes =
+    let s = listing_says bytes in
+    subst (AreSaid (listing_of (input_of bytes)).tokens) (said_by_is (word_lines bytes))
+    (by _ s.inside s.words)
+  where
+    by : (ts : List Listed) → list_all (λ t. is_inside t.token) ts ≡ true
+        → (all_said ts ≡ text_said bytes) ⊎ (all_said ts ++ None ∷ [] ≡ text_said bytes)
+        → AreSaid ts (text_said bytes)
+    by ts h (inl e) = subst (AreSaid ts) (append_none (all_said ts) ∙ e) (tokens_said [] tt ts h)
+      where
+        append_none : (xs : List (Option Word)) → xs ++ [] ≡ xs
+        append_none [] = refl
+        append_none (x ∷ xs) = ap (λ t. x ∷ t) (append_none xs)
+    by ts h (inr e) = subst (AreSaid ts) e (tokens_said (None ∷ []) tt ts h)
+
+-- lines without words have none
+pub filled_words : (lines : Lines) → all_words (filled_lines lines) ≡ all_words lines
+filled_words [] = refl
+filled_words ([] ∷ lines) = filled_words lines
+filled_words ((w ∷ ws) ∷ lines) = ap (λ rest. (w ∷ ws) ++ rest) (filled_words lines)
+
+-- ---- Spelling
+
+-- what a literal's number is
+pub record IsLiteralNumber (w : List ℕ) (n : Number) (l : Literal) : Type 0 where
+  pub text : w ≡ literal_text l
+  pub is : variable l ≡ n.size
+  pub some : 1 ≤ n.size
+  pub within : n.size ≤ 268435455
+
+some_within : (n : ℕ) (a b : Bool) (x y l : ℕ) → then_some (a && b) x ≡ Some l
+    → (a ≡ true) × (b ≡ true) × (x ≡ l)
+some_within n true true x y l e = (refl, refl, cc)
+some_within n true false x y l e = absurd (let bad : None ≡ Some l = e in cc)
+some_within n false b x y l e = absurd (let bad : None ≡ Some l = e in cc)
+
+pub literal_spelled : (w : List ℕ) (n : Number) (l : Literal) → word_of w ≡ words.Number n
+    → number_literal n ≡ Some l
+    → IsLiteralNumber w n l
+literal_spelled w n l is e = by n.is_negative n.size is e
+  where
+    by : (s : Bool) (m : ℕ) → word_of w ≡ words.Number (number s m)
+        → then_some (nat_le 1 m && nat_le m 268435455) (cond s (2 * m + 1) (2 * m)) ≡ Some l
+        → IsLiteralNumber w (number s m) l
+    by true m is e =
+        let r = some_within m (nat_le 1 m) (nat_le m 268435455) (2 * m + 1) m l e in
+        let low : 1 ≤ m = let a = r.0 in grind (arith, nat_tests) in
+        let high : m ≤ 268435455 = let a = r.1 in grind (arith, nat_tests) in
+        let half : l / 2 ≡ m = let a = r.2 in omega arith in
+        let odd : (l % 2 == 0) ≡ false = let a = r.2 in let c : l % 2 ≡ 1 =
+        omega arith in grind (arith, nat_tests) in
+        record {
+          text = (number_spelled w true m (omega arith) is).0
+              ∙ ap (λ d. 45 ∷ decimal d) (sym half)
+              ∙ ap (λ v. cond v (decimal (l / 2)) (45 ∷ decimal (l / 2))) (sym odd);
+          is = half;
+          some = low;
+          within = high;
+        }
+    by false m is e =
+        let r = some_within m (nat_le 1 m) (nat_le m 268435455) (2 * m) m l e in
+        let low : 1 ≤ m = let a = r.0 in grind (arith, nat_tests) in
+        let high : m ≤ 268435455 = let a = r.1 in grind (arith, nat_tests) in
+        let half : l / 2 ≡ m = let a = r.2 in omega arith in
+        let even : (l % 2 == 0) ≡ true = let a = r.2 in let c : l % 2 ≡ 0 =
+        omega arith in grind (arith, nat_tests) in
+        record {
+          text = (number_spelled w false m (omega arith) is).0
+              ∙ ap (λ d. decimal d) (sym half)
+              ∙ ap (λ v. cond v (decimal (l / 2)) (45 ∷ decimal (l / 2))) (sym even);
+          is = half;
+          some = low;
+          within = high;
+        }
+
+-- the only number within the limit that names no literal
+pub zero_spelled : (w : List ℕ) (n : Number) → word_of w ≡ words.Number n → n.size ≤ 268435455
+    → number_literal n ≡ None
+    → w ≡ codes "0"
+zero_spelled w n is high e = by n.is_negative n.size is high e
+  where
+    none_within : (a b : Bool) (x : ℕ) → b ≡ true → then_some (a && b) x ≡ None → a ≡ false
+    none_within true true x h e = absurd (let bad : Some x ≡ None = e in cc)
+    none_within true false x h e = absurd (let bad : false ≡ true = h in cc)
+    none_within false b x h e = refl
+
+    by : (s : Bool) (m : ℕ) → word_of w ≡ words.Number (number s m) → m ≤ 268435455
+        → then_some (nat_le 1 m && nat_le m 268435455) (cond s (2 * m + 1) (2 * m)) ≡ None
+        → w ≡ codes "0"
+    by s m is high e =
+        let within : nat_le m 268435455 ≡ true = grind (arith, nat_tests) in
+        let test = none_within (nat_le 1 m) (nat_le m 268435455) (cond s (2 * m + 1) (2 * m)) within
+        e in
+        let zero : m ≡ 0 = grind (arith, nat_tests) in
+        signed s m zero (number_spelled w s m (omega arith) is)
+      where
+        signed : (s : Bool) (m : ℕ) → m ≡ 0 → (w ≡ number_text s m) × (s ≡ true → 1 ≤ m)
+            → w ≡ codes "0"
+        signed true m z t = absurd (let low = t.1 refl in omega arith)
+        signed false m z t = t.0 ∙ ap decimal z ∙ decimal_digit 0 (omega arith)

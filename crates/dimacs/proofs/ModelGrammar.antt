@@ -1,0 +1,534 @@
+-- A solver's output, as the grammar of a claimed model has it.
+use Rattle.std.proofs.Common.{◌≡◌, ℕ, ◌≤◌, ◌==◌, nat_le, cond, Bool, true, false, List, [], ◌∷◌, ◌++◌, map, reverse, Option, None, Some, Result, Ok, Err, refl, sym, ap, ap₂, subst, ◌∙◌, append_assoc, arith}
+use Rattle.std.specs.Prelude.{◌&&◌, if◌then◌else◌, codes}
+use Rattle.std.specs.List.{list_all}
+use Rattle.std.proofs.lemmas.Bool.Decides.{nat_tests}
+use Rattle.std.proofs.lemmas.List.{reverse-append, reverse-reverse}
+use Rattle.std.proofs.lemmas.List.Sorted.{IsPermutation-reverse, list_any-IsPermutation}
+use Rattle.cnf_base.specs.Grammar.{word_lines}
+use Rattle.cnf_base.specs.Literals.{Literal, complement, has, variable}
+use Rattle.cnf_base.specs.Printing.{input_of, is_literal, literal_words}
+use Rattle.cnf_base.specs.Text.{Listed, Listing, listing_of}
+use Rattle.cnf_base.specs.Words.{number_literal, word_of}
+use Rattle.cnf_base.specs.declared.fault.Fault.{Fault}
+use Rattle.cnf_base.specs.declared.fault.TextFault.{TextFault}
+use Rattle.cnf_base.specs.declared.fault.TextFault.TheVariants.{AfterEnd, Complement, LiteralTooLarge}
+use Rattle.cnf_base.specs.declared.input.Ending.TheVariants.{End}
+use Rattle.cnf_base.specs.declared.place.Place.{Place}
+use Rattle.cnf_base.specs.declared.word.Word.{Word}
+use Rattle.cnf_base.specs.declared.word.Word.TheVariants as words
+use Rattle.cnf_base.specs.declared.token.Token as tokens
+use Rattle.cnf_base.specs.declared.token.Token.TheVariants as token
+use Rattle.cnf_base.proofs.GrammarLemmas.{listing_says, s_spelled, v_spelled, satisfiable_spelled}
+use Rattle.cnf_base.proofs.LineLemmas.{append_nil}
+use Rattle.cnf_base.proofs.PrintLemmas.{both, literal_word, literal_taken}
+use Rattle.cnf_base.proofs.SetLemmas.{has_tail}
+use Rattle.dimacs.specs.declared.position.Position.{Position}
+use Rattle.dimacs.specs.declared.position.Position.TheVariants.{LineStart, AfterS, AfterStatus, Values}
+use Rattle.dimacs.specs.Formula.{and_then}
+use Rattle.dimacs.specs.Claim.{Said, on_first, on_status, on_literal, on_value, claim_on_word, on_line_end, claim_at_end, placed, claim_on_token, on_end, claim_among, claim_of, IsConsistent}
+use Rattle.dimacs.specs.Grammar.{filled_lines, all_words, ModelText, ModelIsGrammar}
+use Rattle.dimacs.specs.Printing.{status_words, value_words, IsModel}
+use Rattle.dimacs.proofs.ModelLemmas.{IsConsistent-put}
+use Rattle.dimacs.proofs.ModelPrinting.{AreAmong, no_complement, among_more}
+use Rattle.dimacs.proofs.GrammarWords.{Lines, and_so, went_on, some_parts, line_then, said_by, IsSaid, AreSaid, text_lines, literal_spelled, zero_spelled}
+
+-- ---- What is claimed, where places and faults don't matter
+
+abbrev known : {A E : Type 0} → Result A E → Option A
+known (Ok x) = Some x
+known (Err f) = None
+
+abbrev claim_says : Said → List (Option Word) → Option (List Literal)
+claim_says s [] = and_so (known (on_line_end s)) (λ s. known (claim_at_end s))
+claim_says s (Some w ∷ ss) = and_so (known (claim_on_word s w)) (λ s. claim_says s ss)
+claim_says s (None ∷ ss) = and_so (known (on_line_end s)) (λ s. claim_says s ss)
+
+abbrev at : Position → Bool → Bool → List Literal → Said
+at position has_status is_ended ls =
+    record { position = position; has_status = has_status; is_ended = is_ended; listed = ls }
+
+-- ---- What the tokens say
+
+placed_then : {A : Type 0} (q : Place) (r : Result Said TextFault) (f : Said → Result A Fault)
+    (g : Said → Option A)
+    → ((s : Said) → known (f s) ≡ g s) → known (and_then (placed q r) f) ≡ and_so (known r) g
+placed_then q (Ok s) f g same = same s
+placed_then q (Err e) f g same = refl
+
+placed_known : {A : Type 0} (q : Place) (r : Result A TextFault) → known (placed q r) ≡ known r
+placed_known q (Ok x) = refl
+placed_known q (Err e) = refl
+
+module _ (p : Place) where
+  end_said : (s : Said) → known (on_end s p End) ≡ and_so (known (on_line_end s))
+      (λ s. known (claim_at_end s))
+  end_said s =
+      placed_then p (on_line_end s) (λ s. placed p (claim_at_end s)) (λ s. known (claim_at_end s))
+      (λ s. placed_known p (claim_at_end s))
+
+  -- a line that is ended may be ended again
+  ends_again : (q : Position) (h e : Bool) (ls : List Literal)
+      → and_so (known (on_line_end (at q h e ls))) (λ s. known (claim_at_end s))
+      ≡ claim_says (at q h e ls) (None ∷ [])
+  ends_again LineStart h e ls = refl
+  ends_again AfterS h e ls = refl
+  ends_again AfterStatus h e ls = refl
+  ends_again Values h e ls = refl
+
+  among_said : (ts : List Listed) (ss : List (Option Word)) (s : Said) → AreSaid ts ss
+      → known (claim_among s ts p End) ≡ claim_says s ss
+  among_said [] [] s is = end_said s
+  among_said [] (None ∷ []) s is = end_said s
+      ∙ ends_again s.position s.has_status s.is_ended s.listed
+  among_said [] (None ∷ x ∷ ss) s is = absurd is
+  among_said [] (Some w ∷ ss) s is = absurd is
+  among_said (t ∷ ts) [] s is = absurd is
+  among_said (t ∷ ts) (Some v ∷ ss) s is = by t.token is.0 (λ s. among_said ts ss s is.1)
+    where
+      by : (k : tokens.Token) → IsSaid k (Some v)
+          → ((s : Said) → known (claim_among s ts p End) ≡ claim_says s ss)
+          → known (and_then (claim_on_token s k) (λ s. claim_among s ts p End)) ≡ claim_says s
+          (Some v ∷ ss)
+      by (token.Word q w) e later =
+          placed_then q (claim_on_word s w) (λ s. claim_among s ts p End)
+          (λ s. claim_says s ss) later
+          ∙ ap (λ w. claim_says s (Some w ∷ ss)) e
+      by (token.LineEnd q) e later = absurd e
+      by (token.End q) e later = absurd e
+  among_said (t ∷ ts) (None ∷ ss) s is = by t.token is.0 (λ s. among_said ts ss s is.1)
+    where
+      by : (k : tokens.Token) → IsSaid k None
+          → ((s : Said) → known (claim_among s ts p End) ≡ claim_says s ss)
+          → known (and_then (claim_on_token s k) (λ s. claim_among s ts p End)) ≡ claim_says s
+          (None ∷ ss)
+      by (token.Word q w) e later = absurd e
+      by (token.LineEnd q) e later =
+          placed_then q (on_line_end s) (λ s. claim_among s ts p End) (λ s. claim_says s ss) later
+      by (token.End q) e later = absurd e
+
+text_claim : (bytes : List ℕ)
+    → known (claim_of (input_of bytes)) ≡ claim_says (at LineStart false false [])
+    (said_by (word_lines bytes))
+text_claim bytes =
+    let l : Listing = listing_of (input_of bytes) in
+    ap (λ e. known (claim_among (at LineStart false false []) l.tokens l.end e))
+    (listing_says bytes).ending
+    ∙ among_said l.end l.tokens (said_by (word_lines bytes)) (at LineStart false false [])
+    (text_lines bytes)
+
+-- ---- Lines
+
+-- what words after `v`s are: whether the `0` was among them, and the literals, last ones first
+abbrev HeardSo : Type 0
+HeardSo = Bool × List Literal
+
+abbrev more_listed : Bool → List Literal → Literal → Option HeardSo
+more_listed v ls l = if v then None else Some (false, l ∷ ls)
+
+abbrev literal_in : List Literal → Option Literal → Option HeardSo
+literal_in ls None = Some (true, ls)
+literal_in ls (Some l) = more_listed (has ls (complement l)) ls l
+
+abbrev value_in : Bool → List Literal → Word → Option (HeardSo)
+value_in e ls (words.Number n) =
+    if nat_le n.size 268435455 then (if e then None else literal_in ls (number_literal n)) else None
+value_in e ls _ = None
+
+abbrev values_in : Bool → List Literal → List (List ℕ) → Option (HeardSo)
+values_in e ls [] = Some (e, ls)
+values_in e ls (w ∷ ws) = and_so (value_in e ls (word_of w)) (λ x. values_in x.0 x.1 ws)
+
+values_append : (ws us : List (List ℕ)) (e : Bool) (ls : List Literal)
+    → values_in e ls (ws ++ us) ≡ and_so (values_in e ls ws) (λ x. values_in x.0 x.1 us)
+values_append [] us e ls = refl
+values_append (w ∷ ws) us e ls = by (value_in e ls (word_of w)) (λ x. values_append ws us x.0 x.1)
+  where
+    by : (o : Option (HeardSo))
+        → ((x : HeardSo) → values_in x.0 x.1 (ws ++ us) ≡ and_so (values_in x.0 x.1 ws)
+        (λ x. values_in x.0 x.1 us))
+        → and_so o (λ x. values_in x.0 x.1 (ws ++ us))
+        ≡ and_so (and_so o (λ x. values_in x.0 x.1 ws)) (λ x. values_in x.0 x.1 us)
+    by None later = refl
+    by (Some x) later = later x
+
+module _ (h : Bool) where
+  value_said : {A : Type 0} (e : Bool) (ls : List Literal) (w : Word) (f : Said → Option A)
+      → and_so (known (on_value (at Values h e ls) w)) f
+      ≡ and_so (value_in e ls w) (λ x. f (at Values h x.0 x.1))
+  value_said {A} e ls (words.Number n) f = by (nat_le n.size 268435455) e (number_literal n)
+    where
+      listed : (l : Literal) (v : Bool)
+          → and_so (known (cond v (Err Complement) (Ok (at Values h false (l ∷ ls))))) f
+          ≡ and_so (more_listed v ls l) (λ x. f (at Values h x.0 x.1))
+      listed l true = refl
+      listed l false = refl
+
+      by : (v e : Bool) (o : Option Literal)
+          → and_so (known (cond v (cond e (Err AfterEnd) (on_literal (at Values h e ls) o))
+          (Err LiteralTooLarge))) f
+          ≡ and_so (cond v (cond e None (literal_in ls o)) None) (λ x. f (at Values h x.0 x.1))
+      by false e o = refl
+      by true true o = refl
+      by true false None = refl
+      by true false (Some l) = listed l (has ls (complement l))
+  value_said e ls _ f = refl
+
+  values_said : (ws : List (List ℕ)) (e : Bool) (ls : List Literal) (later : List (Option Word))
+      → claim_says (at Values h e ls) (line_then ws later)
+      ≡ and_so (values_in e ls ws) (λ x. claim_says (at LineStart h x.0 x.1) later)
+  values_said [] e ls later = refl
+  values_said (w ∷ ws) e ls later =
+      value_said e ls (word_of w) (λ s. claim_says s (line_then ws later))
+      ∙ by (value_in e ls (word_of w)) (λ x. values_said ws x.0 x.1 later)
+    where
+      by : (o : Option (HeardSo))
+          → ((x : HeardSo) → claim_says (at Values h x.0 x.1) (line_then ws later)
+          ≡ and_so (values_in x.0 x.1 ws) (λ x. claim_says (at LineStart h x.0 x.1) later))
+          → and_so o (λ x. claim_says (at Values h x.0 x.1) (line_then ws later))
+          ≡ and_so (and_so o (λ x. values_in x.0 x.1 ws))
+          (λ x. claim_says (at LineStart h x.0 x.1) later)
+      by None next = refl
+      by (Some x) next = next x
+
+-- values of a line and of others
+record AreValues (h e : Bool) (ls : List Literal) (ws : List (List ℕ)) (lines : Lines)
+    (r : List Literal) : Type 0 where
+  pub ended : Bool
+  pub listed : List Literal
+  pub line : values_in e ls ws ≡ Some (ended, listed)
+  pub later : claim_says (at LineStart h ended listed) (said_by lines) ≡ Some r
+
+line_values : (h e : Bool) (ls : List Literal) (ws : List (List ℕ)) (lines : Lines)
+    (r : List Literal)
+    → claim_says (at Values h e ls) (line_then ws (said_by lines)) ≡ Some r
+    → AreValues h e ls ws lines r
+line_values h e ls ws lines r is =
+    let x = went_on (values_in e ls ws) (λ x. claim_says (at LineStart h x.0 x.1) (said_by lines)) r
+    (sym (values_said h ws e ls (said_by lines)) ∙ is) in
+    record { ended = x.0.0; listed = x.0.1; line = x.1; later = x.2 }
+
+values_before : (e : Bool) (ls : List Literal) (ws us : List (List ℕ)) (x : HeardSo) (r : HeardSo)
+    → values_in e ls ws ≡ Some x → values_in x.0 x.1 us ≡ Some r
+    → values_in e ls (ws ++ us) ≡ Some r
+values_before e ls ws us x r first second =
+    values_append ws us e ls ∙ ap (λ o. and_so o (λ x. values_in x.0 x.1 us)) first ∙ second
+
+-- ---- Lines after the status line
+
+record IsRest (lines : Lines) (e : Bool) (ls r : List Literal) : Type 0 where
+  pub after : Lines
+  pub lines_are : filled_lines lines ≡ map value_words after
+  pub values : values_in e ls (all_words after) ≡ Some (true, r)
+
+rest_read : (lines : Lines) (e : Bool) (ls r : List Literal)
+    → claim_says (at LineStart true e ls) (said_by lines) ≡ Some r → IsRest lines e ls r
+rest_read [] true ls r is =
+    let same : ls ≡ r = cc in
+    record { after = []; lines_are = refl; values = ap (λ r. Some (true, r)) same }
+rest_read [] false ls r is = absurd (let bad : None ≡ Some r = is in cc)
+rest_read ([] ∷ lines) e ls r is =
+    let x = rest_read lines e ls r is in
+    record { after = x.after; lines_are = x.lines_are; values = x.values }
+rest_read ((w ∷ ws) ∷ lines) e ls r is = by (word_of w) refl is (λ e ls. rest_read lines e ls r)
+  where
+    by : (v : Word) → word_of w ≡ v
+        → and_so (known (on_first (at LineStart true e ls) v))
+        (λ s. claim_says s (line_then ws (said_by lines))) ≡ Some r
+        → ((e : Bool) (ls : List Literal) → claim_says (at LineStart true e ls) (said_by lines)
+        ≡ Some r → IsRest lines e ls r)
+        → IsRest ((w ∷ ws) ∷ lines) e ls r
+    by words.V v is next =
+        let x = line_values true e ls ws lines r is in
+        let y = next x.ended x.listed x.later in
+        record {
+          after = ws ∷ y.after;
+          lines_are = ap₂ (λ w more. (w ∷ ws) ∷ more) (v_spelled w v) y.lines_are;
+          values = values_before e ls ws (all_words y.after) (x.ended, x.listed)
+              (true, r) x.line y.values;
+        }
+    by words.S v is next = absurd (let bad : None ≡ Some r = is in cc)
+    by _ v is next = absurd (let bad : None ≡ Some r = is in cc)
+
+rest_taken : (lines after : Lines) (e : Bool) (ls r : List Literal)
+    → filled_lines lines ≡ map value_words after → values_in e ls (all_words after) ≡ Some (true, r)
+    → claim_says (at LineStart true e ls) (said_by lines) ≡ Some r
+rest_taken [] [] e ls r is values =
+    let given = some_parts (e, ls) (true, r) values in
+    ap₂ (λ e ls. claim_says (at LineStart true e ls) []) given.0 given.1
+rest_taken [] (a ∷ after) e ls r is values =
+    absurd (let bad : [] ≡ value_words a ∷ map value_words after = is in cc)
+rest_taken ([] ∷ lines) after e ls r is values = rest_taken lines after e ls r is values
+rest_taken ((w ∷ ws) ∷ lines) [] e ls r is values =
+    absurd (let bad : (w ∷ ws) ∷ filled_lines lines ≡ [] = is in cc)
+rest_taken ((w ∷ ws) ∷ lines) (a ∷ after) e ls r is values =
+    let first : w ∷ ws ≡ value_words a = cc in
+    let later : filled_lines lines ≡ map value_words after = cc in
+    let x = went_on (values_in e ls a) (λ x. values_in x.0 x.1 (all_words after)) (true, r)
+    (sym (values_append a (all_words after) e ls) ∙ values) in
+    ap (λ line. claim_says (at LineStart true e ls) (line_then line (said_by lines))) first
+    ∙ values_said true a e ls (said_by lines)
+    ∙ ap (λ o. and_so o (λ x. claim_says (at LineStart true x.0 x.1) (said_by lines))) x.1
+    ∙ rest_taken lines after x.0.0 x.0.1 r later x.2
+
+-- ---- All lines
+
+record IsStatus (e : Bool) (ls : List Literal) (ws : List (List ℕ)) (later : List (Option Word))
+    (r : List Literal) : Type 0 where
+  pub words : ws ≡ codes "SATISFIABLE" ∷ []
+  pub later_says : claim_says (at LineStart true e ls) later ≡ Some r
+
+status_read : (e : Bool) (ls : List Literal) (ws : List (List ℕ)) (later : List (Option Word))
+    (r : List Literal)
+    → claim_says (at AfterS false e ls) (line_then ws later) ≡ Some r → IsStatus e ls ws later r
+status_read e ls [] later r is = absurd (let bad : None ≡ Some r = is in cc)
+status_read e ls (w ∷ ws) later r is = by (word_of w) refl is
+  where
+    alone : (us : List (List ℕ)) → claim_says (at AfterStatus true e ls) (line_then us later)
+        ≡ Some r
+        → (us ≡ []) × (claim_says (at LineStart true e ls) later ≡ Some r)
+    alone [] is = (refl, is)
+    alone (u ∷ us) is = absurd (let bad : None ≡ Some r = is in cc)
+
+    by : (v : Word) → word_of w ≡ v
+        → and_so (known (on_status (at AfterS false e ls) v))
+        (λ s. claim_says s (line_then ws later)) ≡ Some r
+        → IsStatus e ls (w ∷ ws) later r
+    by words.Satisfiable v is =
+        let x = alone ws is in
+        record { words = ap₂ (λ w ws. w ∷ ws) (satisfiable_spelled w v) x.0; later_says = x.1 }
+    by words.Unsatisfiable v is = absurd (let bad : None ≡ Some r = is in cc)
+    by words.Unknown v is = absurd (let bad : None ≡ Some r = is in cc)
+    by _ v is = absurd (let bad : None ≡ Some r = is in cc)
+
+record IsOutput (lines : Lines) (e : Bool) (ls r : List Literal) : Type 0 where
+  pub before : Lines
+  pub after : Lines
+  pub lines_are : filled_lines lines ≡ map value_words before ++ status_words ∷ map value_words
+      after
+  pub values : values_in e ls (all_words (before ++ after)) ≡ Some (true, r)
+
+lines_read : (lines : Lines) (e : Bool) (ls r : List Literal)
+    → claim_says (at LineStart false e ls) (said_by lines) ≡ Some r → IsOutput lines e ls r
+lines_read [] e ls r is = absurd (let bad : None ≡ Some r = is in cc)
+lines_read ([] ∷ lines) e ls r is =
+    let x = lines_read lines e ls r is in
+    record { before = x.before; after = x.after; lines_are = x.lines_are; values = x.values }
+lines_read ((w ∷ ws) ∷ lines) e ls r is = by (word_of w) refl is (λ e ls. lines_read lines e ls r)
+  where
+    by : (v : Word) → word_of w ≡ v
+        → and_so (known (on_first (at LineStart false e ls) v))
+        (λ s. claim_says s (line_then ws (said_by lines))) ≡ Some r
+        → ((e : Bool) (ls : List Literal) → claim_says (at LineStart false e ls) (said_by lines)
+        ≡ Some r → IsOutput lines e ls r)
+        → IsOutput ((w ∷ ws) ∷ lines) e ls r
+    by words.V v is next =
+        let x = line_values false e ls ws lines r is in
+        let y = next x.ended x.listed x.later in
+        record {
+          before = ws ∷ y.before;
+          after = y.after;
+          lines_are = ap₂ (λ w more. (w ∷ ws) ∷ more) (v_spelled w v) y.lines_are;
+          values = values_before e ls ws (all_words (y.before ++ y.after)) (x.ended, x.listed)
+              (true, r) x.line y.values;
+        }
+    by words.S v is next =
+        let x = status_read e ls ws (said_by lines) r is in
+        let y = rest_read lines e ls r x.later_says in
+        record {
+          before = [];
+          after = y.after;
+          lines_are = ap (λ more. (w ∷ ws) ∷ more) y.lines_are
+              ∙ ap₂ (λ w ws. (w ∷ ws) ∷ map value_words y.after) (s_spelled w v) x.words;
+          values = y.values;
+        }
+    by _ v is next = absurd (let bad : None ≡ Some r = is in cc)
+
+lines_taken : (lines before after : Lines) (e : Bool) (ls r : List Literal)
+    → filled_lines lines ≡ map value_words before ++ status_words ∷ map value_words after
+    → values_in e ls (all_words (before ++ after)) ≡ Some (true, r)
+    → claim_says (at LineStart false e ls) (said_by lines) ≡ Some r
+lines_taken [] [] after e ls r is values =
+    absurd (let bad : [] ≡ status_words ∷ map value_words after = is in cc)
+lines_taken [] (b ∷ before) after e ls r is values =
+    absurd (let bad : []
+    ≡ value_words b ∷ (map value_words before ++ status_words ∷ map value_words after) =
+    is in cc)
+lines_taken ([] ∷ lines) before after e ls r is values =
+    lines_taken lines before after e ls r is values
+lines_taken ((w ∷ ws) ∷ lines) [] after e ls r is values =
+    let first : w ∷ ws ≡ status_words = cc in
+    let later : filled_lines lines ≡ map value_words after = cc in
+    ap (λ line. claim_says (at LineStart false e ls) (line_then line (said_by lines))) first
+    ∙ rest_taken lines after e ls r later values
+lines_taken ((w ∷ ws) ∷ lines) (b ∷ before) after e ls r is values =
+    let first : w ∷ ws ≡ value_words b = cc in
+    let later : filled_lines lines ≡ map value_words before ++ status_words ∷ map value_words
+    after = cc in
+    let x = went_on (values_in e ls b) (λ x. values_in x.0 x.1 (all_words (before ++ after)))
+    (true, r)
+    (sym (values_append b (all_words (before ++ after)) e ls) ∙ values) in
+    ap (λ line. claim_says (at LineStart false e ls) (line_then line (said_by lines))) first
+    ∙ values_said false b e ls (said_by lines)
+    ∙ ap (λ o. and_so o (λ x. claim_says (at LineStart false x.0 x.1) (said_by lines))) x.1
+    ∙ lines_taken lines before after x.0.0 x.0.1 r later x.2
+
+-- ---- Values
+
+none_given : (x : HeardSo) → None ≡ Some x → ⊥
+none_given x e = cc
+
+-- nothing may follow the `0`
+ended_values : (ws : List (List ℕ)) (ls r : List Literal) → values_in true ls ws ≡ Some (true, r)
+    → (ws ≡ []) × (ls ≡ r)
+ended_values [] ls r is = (refl, (some_parts (true, ls) (true, r) is).1)
+ended_values (w ∷ ws) ls r is = absurd (by (word_of w) is)
+  where
+    by : (v : Word) → and_so (value_in true ls v) (λ x. values_in x.0 x.1 ws) ≡ Some (true, r) → ⊥
+    by (words.Number n) is = number (nat_le n.size 268435455) is
+      where
+        number : (b : Bool) → and_so {A = HeardSo} (cond b None None) (λ x. values_in x.0 x.1 ws)
+            ≡ Some (true, r) → ⊥
+        number true is = none_given (true, r) is
+        number false is = none_given (true, r) is
+    by _ is = none_given (true, r) is
+
+record AreLiterals (acc : List Literal) (ws : List (List ℕ)) (r : List Literal) : Type 0 where
+  pub literals : List Literal
+  pub words : ws ≡ literal_words literals
+  pub listed : r ≡ reverse literals ++ acc
+  pub within : list_all (is_literal 268435455) literals ≡ true
+  pub consistent : IsConsistent r
+
+reverse_cons : (l : Literal) (ls acc : List Literal)
+    → reverse ls ++ l ∷ acc ≡ reverse (l ∷ ls) ++ acc
+reverse_cons l ls acc =
+    sym (ap (λ t. t ++ acc) (reverse-append (l ∷ []) ls) ∙ append_assoc (reverse ls) (l ∷ []) acc)
+
+values_spelled : (ws : List (List ℕ)) (acc r : List Literal) → IsConsistent acc
+    → values_in false acc ws ≡ Some (true, r) → AreLiterals acc ws r
+values_spelled [] acc r ok is =
+    absurd (let bad : false ≡ true = (some_parts (false, acc) (true, r) is).0 in cc)
+values_spelled (w ∷ ws) acc r ok is = by (word_of w) refl is (λ l. values_spelled ws (l ∷ acc) r)
+  where
+    by : (v : Word) → word_of w ≡ v → and_so (value_in false acc v) (λ x. values_in x.0 x.1 ws)
+        ≡ Some (true, r)
+        → ((l : Literal) → IsConsistent (l ∷ acc) → values_in false (l ∷ acc) ws ≡ Some (true, r)
+        → AreLiterals (l ∷ acc) ws r)
+        → AreLiterals acc (w ∷ ws) r
+    by (words.Number n) v is next = number (nat_le n.size 268435455) (number_literal n) refl refl is
+      where
+        literal : (l : Literal) (b : Bool) → has acc (complement l) ≡ b → number_literal n ≡ Some l
+            → and_so (more_listed b acc l) (λ x. values_in x.0 x.1 ws) ≡ Some (true, r)
+            → AreLiterals acc (w ∷ ws) r
+        literal l true apart e is = absurd (none_given (true, r) is)
+        literal l false apart e is =
+            let x = next l (IsConsistent-put acc (l ∷ acc) l ok apart (λ k. refl)) is in
+            let s = literal_spelled w n l v e in
+            let same = s.is in
+            let some = s.some in
+            let high = s.within in
+            let one : nat_le 1 (variable l) ≡ true = grind (arith, nat_tests) in
+            let two : nat_le (variable l) 268435455 ≡ true = grind (arith, nat_tests) in
+            record {
+              literals = l ∷ x.literals;
+              words = ap₂ (λ w ws. w ∷ ws) s.text x.words;
+              listed = x.listed ∙ reverse_cons l x.literals acc;
+              within = ap (λ v. (v && nat_le (variable l) 268435455) && list_all
+                  (is_literal 268435455) x.literals) one
+                  ∙ ap (λ v. v && list_all (is_literal 268435455) x.literals) two ∙ x.within;
+              consistent = x.consistent;
+            }
+
+        number : (b : Bool) (o : Option Literal) → nat_le n.size 268435455 ≡ b
+            → number_literal n ≡ o
+            → and_so (cond b (literal_in acc o) None) (λ x. values_in x.0 x.1 ws) ≡ Some (true, r)
+            → AreLiterals acc (w ∷ ws) r
+        number false o t e is = absurd (none_given (true, r) is)
+        number true None t e is =
+            let x = ended_values ws acc r is in
+            let high : n.size ≤ 268435455 = grind (arith, nat_tests) in
+            record {
+              literals = [];
+              words = ap₂ (λ w ws. w ∷ ws) (zero_spelled w n v high e) x.0;
+              listed = sym x.1;
+              within = refl;
+              consistent = subst IsConsistent x.1 ok;
+            }
+        number true (Some l) t e is = literal l (has acc (complement l)) refl e is
+    by _ v is next = absurd (none_given (true, r) is)
+
+module _ (whole : List Literal) (consistent : IsConsistent whole) where
+  values_taken : (ls acc : List Literal) → list_all (is_literal 268435455) ls ≡ true
+      → AreAmong acc whole → AreAmong ls whole
+      → values_in false acc (literal_words ls) ≡ Some (true, reverse ls ++ acc)
+  values_taken [] acc are before after = refl
+  values_taken (l ∷ ls) acc are before after =
+      let r = both (is_literal 268435455 l) (list_all (is_literal 268435455) ls) are in
+      ap (λ o. and_so o (λ x. values_in x.0 x.1 (literal_words ls)))
+      (ap (value_in false acc) (literal_word 268435455 l (omega arith) r.0)
+      ∙ literal_taken 268435455 l (omega arith) r.0 (literal_in acc) None
+      ∙ ap (λ v. more_listed v acc l) (no_complement whole consistent acc ls l before after))
+      ∙ values_taken ls (l ∷ acc) r.1 (among_more whole consistent acc ls l before after)
+      (λ k h. after k (has_tail l ls k h))
+      ∙ ap (λ t. Some (true, t)) (reverse_cons l ls acc)
+
+-- ---- A whole output
+
+has_reverse : (ls : List Literal) (l : Literal) → has (reverse ls) l ≡ has ls l
+has_reverse ls l =
+    sym (list_any-IsPermutation (λ k. k == l) ls (reverse ls) (IsPermutation-reverse ls))
+
+consistent_reverse : (ls : List Literal) → IsConsistent (reverse ls) → IsConsistent ls
+consistent_reverse ls ok l h =
+    sym (has_reverse ls (complement l)) ∙ ok l (has_reverse ls l ∙ h)
+
+known_is : {A E : Type 0} (r : Result A E) (x : A) → known r ≡ Some x → r ≡ Ok x
+known_is (Ok y) x e = let same : y ≡ x = cc in ap Ok same
+known_is (Err f) x e = absurd (let bad : None ≡ Some x = e in cc)
+
+model_is_written : (bytes : List ℕ) (literals : List Literal)
+    → claim_of (input_of bytes) ≡ Ok (reverse literals)
+    → IsModel literals × ModelText (word_lines bytes) literals
+model_is_written bytes literals e =
+    let x = lines_read (word_lines bytes) false [] (reverse literals)
+    (sym (text_claim bytes) ∙ ap (λ r. known r) e) in
+    let y = values_spelled (all_words (x.before ++ x.after)) [] (reverse literals)
+    (λ l h. absurd (no_literal h)) x.values in
+    let back : reverse literals ≡ reverse y.literals = y.listed ∙ append_nil (reverse y.literals) in
+    let same : y.literals ≡ literals =
+    sym (reverse-reverse y.literals) ∙ ap reverse (sym back) ∙ reverse-reverse literals in (
+      record {
+        literals = ap (list_all (is_literal 268435455)) (sym same) ∙ y.within;
+        consistent = consistent_reverse literals y.consistent;
+      },
+      record {
+        before = x.before;
+        after = x.after;
+        one_status = x.lines_are;
+        values = y.words ∙ ap literal_words same;
+      },
+    )
+  where
+    no_literal : false ≡ true → ⊥
+    no_literal h = cc
+
+model_is_read : (bytes : List ℕ) (literals : List Literal)
+    → IsModel literals → ModelText (word_lines bytes) literals
+    → claim_of (input_of bytes) ≡ Ok (reverse literals)
+model_is_read bytes literals m text =
+    known_is (claim_of (input_of bytes)) (reverse literals)
+    (text_claim bytes
+    ∙ lines_taken (word_lines bytes) text.before text.after false []
+    (reverse literals) text.one_status
+    (ap (values_in false []) text.values
+    ∙ values_taken literals m.consistent literals [] m.literals (λ k h. absurd (no_literal h))
+    (λ k h. h)
+    ∙ ap (λ t. Some (true, t)) (append_nil (reverse literals))))
+  where
+    no_literal : false ≡ true → ⊥
+    no_literal h = cc
+
+-- a model is read exactly where the output's text is the grammar's
+pub model_grammar : ModelIsGrammar
+model_grammar = record { read_is_written = model_is_written; written_is_read = model_is_read }

@@ -1,0 +1,99 @@
+//! The machine that a program runs on.
+
+ghost use Rattle.std.specs.Prelude.{◌≡◌, ◌-◌, ◌^◌, None, IfErr};
+ghost use Rattle.cnf_base.specs.Stream.{Reader};
+
+use crate::input::Input;
+use crate::randomness::seed;
+use crate::system::System;
+use cnf_base::FromRead;
+use proofs::StepEnd;
+use sat_check::Status;
+use std::alloc::Global;
+use std::fs;
+use std::io::{Error, ErrorKind};
+use std::os::fd::AsFd;
+
+/// The machine that a program of this name runs on. What its files hold no contract can say.
+#[derive(Drop)]
+pub struct Host<'a> {
+    rt: &'a HostRuntime,
+    program: &'a str,
+}
+
+impl<'a> Host<'a> {
+    /// The machine for a program of this name.
+    pub fn new(rt: &'a HostRuntime, program: &'a str) -> Self {
+        Host { rt, program }
+    }
+}
+
+// What can't be opened is an input whose first read fails, for the same reason; only want of memory is an error.
+fn unopened(error: Error) -> Result<Input, Status>
+    ensures { IfErr result (λ status. status ≡ Status.OutOfMemory) }
+{
+    if error.kind() == ErrorKind::OutOfMemory {
+        return Err(Status::OutOfMemory);
+    }
+    Ok(Input::Unopened(error))
+}
+
+impl System for Host<'_> {
+    type Input = FromRead<Input>;
+
+    ghost holds = { λ _ _. record { left = None; over = None; most_left = 2 ^ 64 - 1 } };
+
+    fn open(&self, name: &str) -> Result<FromRead<Input>, Status> {
+        let input = match fs::open(self.rt, name) {
+            Ok(file) => Input::File(file),
+            Err(error) => unopened(error)?,
+        };
+        Ok(FromRead::new(input))
+    }
+
+    // A descriptor that is closed has no second one.
+    fn standard_input(&self) -> Result<FromRead<Input>, Status> {
+        let stdin = self.rt.stdin();
+        let input = match stdin.as_fd().try_clone_to_owned() {
+            Ok(_) => Input::Standard(stdin),
+            Err(error) => unopened(error)?,
+        };
+        Ok(FromRead::new(input))
+    }
+
+    fn alloc(&self) -> Global {
+        self.rt.alloc()
+    }
+
+    fn seed(&self) -> u64 {
+        seed(self.rt)
+    }
+
+    fn tell_usage(&self, text: &str) {
+        let _ = eprint!(self.rt; "{text}");
+    }
+
+    fn tell_failure(&self, name: &str, input: &FromRead<Input>) {
+        if let Some(error) = input.failure() {
+            let _ = eprintln!(self.rt; "{}: {name}: {error}", self.program);
+        }
+    }
+
+    fn tell_refusal(&self, name: &str, end: StepEnd) {
+        match end {
+            StepEnd::Text(place) => {
+                let (line, col) = (place.line, place.col);
+                let _ = eprintln!(self.rt;
+                    "{}: {name}: the refused step ends at line {line}, column {col}",
+                    self.program
+                );
+            }
+            StepEnd::Byte(byte_no) => {
+                let _ = eprintln!(self.rt;
+                    "{}: {name}: the refused step ends at byte {byte_no}",
+                    self.program
+                );
+            }
+        }
+    }
+}

@@ -1,0 +1,265 @@
+-- The steps of a binary DRAT proof, both ways.
+use Rattle.std.proofs.Common.{◌≡◌, ℕ, suc, ◌+◌, ◌*◌, ◌/◌, ◌%◌, ◌<◌, ◌≤◌, ◌==◌, ◌&&◌, nat_le, cond, Bool, true, false, List, [], ◌∷◌, ◌++◌, length, map, Option, None, Some, refl, sym, ap, ◌∙◌, append_assoc, subst, arith}
+use Rattle.std.specs.Prelude.{All}
+use Rattle.std.specs.List.{flat_map, list_all}
+use Rattle.std.specs.Option.{option_map}
+use Rattle.std.proofs.lemmas.Bool.Decides.{nat_tests}
+use Rattle.std.proofs.lemmas.Grind.{flat_map-append}
+use Rattle.std.proofs.lemmas.List.{append-nil}
+use Rattle.std.proofs.lemmas.List.Elements.{All-nil, All-cons}
+use Rattle.cnf_base.specs.Printing.{input_of, is_literal}
+use Rattle.cnf_base.specs.Stream.{next_count}
+use Rattle.cnf_base.specs.declared.fault.BinaryFault.TheVariants.{LiteralTooLarge, BadNumber, BadTag}
+use Rattle.cnf_base.specs.declared.input.Ending.TheVariants.{End}
+use Rattle.proofs.specs.declared.step_end.StepEnd.TheVariants.{Byte}
+use Rattle.proofs.specs.Steps.{Step, named, deleting, with_literal}
+use Rattle.proofs.specs.Reading.{PlacedStep}
+use Rattle.proofs.specs.Binary.{groups_value, BinarySpot, at_tag, in_step, in_number, BinaryMove, goes, completes, faults, tag_move, group_move, binary_number_move, binary_move_of, on_binary_move, binary_steps_among, binary_steps}
+use Rattle.proofs.specs.Printing.{ReadStep, read_of, printed_steps, seven_bit_groups, group_bytes, number_bytes, tag_bytes, binary_step, IsDratStep}
+use Rattle.proofs.specs.Grammar.{BinaryIsGrammar}
+use Rattle.proofs.proofs.BinaryPrinting.{groups_step, groups_are, group_bytes-cons, binary_read}
+use Rattle.proofs.proofs.GrammarText.{none_some, bare, bare-ReadsAs, bare-with_step, all_more}
+use Rattle.cnf_base.proofs.PrintLemmas.{both}
+
+-- ---- A number
+
+-- a byte of a number that isn't its last
+abbrev is_marked : ℕ → Bool
+is_marked b = nat_le 128 b && nat_le b 255
+
+value_some : (bytes : List ℕ) (b : ℕ) → 0 < b → b < 128 → 0 < groups_value (bytes ++ b ∷ [])
+value_some [] b some small = omega arith
+value_some (c ∷ bytes) b some small = let later = value_some bytes b some small in omega arith
+
+-- bytes whose last group isn't empty are those of their number
+number_spelled : (bytes : List ℕ) (b : ℕ) → list_all is_marked bytes ≡ true → 0 < b → b < 128
+    → number_bytes (groups_value (bytes ++ b ∷ [])) ≡ bytes ++ b ∷ []
+number_spelled [] b marked some small =
+    let value : groups_value (b ∷ []) ≡ b = omega arith in
+    let lowest : b % 128 ≡ b = omega arith in
+    let none : b / 128 ≡ 0 = omega arith in
+    ap number_bytes value
+    ∙ ap group_bytes
+    (groups_step b some ∙ ap (λ m. b % 128 ∷ seven_bit_groups m) none ∙ ap (λ m. m ∷ []) lowest)
+number_spelled (c ∷ bytes) b marked some small =
+    let r = both (is_marked c) (list_all is_marked bytes) marked in
+    let byte = marked_range c r.0 in
+    step (groups_value (bytes ++ b ∷ [])) (value_some bytes b some small) byte.0 byte.1
+    (number_spelled bytes b r.1 some small)
+  where
+    marked_range : (c : ℕ) → is_marked c ≡ true → (128 ≤ c) × (c ≤ 255)
+    marked_range c h = grind (arith, nat_tests)
+
+    step : (m : ℕ) → 0 < m → 128 ≤ c → c ≤ 255 → number_bytes m ≡ bytes ++ b ∷ []
+        → number_bytes (c % 128 + 128 * m) ≡ c ∷ bytes ++ b ∷ []
+    step m some low high later =
+        let lowest : (c % 128 + 128 * m) % 128 ≡ c % 128 = omega arith in
+        let above : (c % 128 + 128 * m) / 128 ≡ m = omega arith in
+        let whole : 128 + c % 128 ≡ c = omega arith in
+        ap group_bytes (groups_step (c % 128 + 128 * m) (omega arith))
+        ∙ ap (λ g. group_bytes (g ∷ seven_bit_groups ((c % 128 + 128 * m) / 128))) lowest
+        ∙ ap (λ g. group_bytes (c % 128 ∷ seven_bit_groups g)) above
+        ∙ group_bytes-cons m (c % 128) (seven_bit_groups m) (groups_are m m (omega arith) some)
+        ∙ ap (λ g. g ∷ number_bytes m) whole ∙ ap (λ bs. c ∷ bs) later
+
+-- ---- The bytes of a step so far
+
+record HasLiterals (s : Step) : Type 0 where
+  id : s.id ≡ 0
+  hints : s.hints ≡ []
+  literals : list_all (is_literal 268435455) s.lits ≡ true
+
+abbrev Fits : BinarySpot → Step → Type 0
+Fits at_tag s = s ≡ named 0
+Fits in_step s = HasLiterals s
+Fits (in_number first bytes) s = HasLiterals s × (list_all is_marked bytes ≡ true)
+
+abbrev step_bytes : Step → List ℕ
+step_bytes s = tag_bytes s.kind ++ flat_map number_bytes s.lits
+
+abbrev so_far : BinarySpot → Step → List ℕ
+so_far at_tag s = []
+so_far in_step s = step_bytes s
+so_far (in_number first bytes) s = step_bytes s ++ bytes
+
+-- a byte is the next one of those that are spelled
+abbrev Spells : List ℕ → ℕ → BinaryMove → Type 0
+Spells before b (goes spot t) = Fits spot t × (so_far spot t ≡ before ++ b ∷ [])
+Spells before b (completes t) = IsDratStep t × (binary_step t ≡ before ++ b ∷ [])
+Spells before b (faults f at) = Unit {0}
+
+-- a step's tag
+tag_spelled : (s : Step) (at b : ℕ) → s ≡ named 0 → Spells [] b (tag_move s at b)
+tag_spelled s at b start = by (b == 97) refl (b == 100) refl
+  where
+    by : (a : Bool) → (b == 97) ≡ a → (d : Bool) → (b == 100) ≡ d
+        → Spells [] b
+        (cond a (goes in_step s) (cond d (goes in_step (deleting s)) (faults BadTag at)))
+    by true e d f =
+        let is : b ≡ 97 = grind (arith, nat_tests) in (
+          record {
+            id = ap (λ t. t.id) start;
+            hints = ap (λ t. t.hints) start;
+            literals = ap (λ t. list_all (is_literal 268435455) t.lits) start;
+          },
+          ap step_bytes start ∙ ap (λ x. x ∷ []) (sym is),
+        )
+    by false e true f =
+        let is : b ≡ 100 = grind (arith, nat_tests) in (
+          record { id = ap (λ t. t.id) start; hints = refl; literals = refl },
+          ap (λ x. x ∷ []) (sym is),
+        )
+    by false e false f = tt
+
+-- a whole number
+last_spelled : (s : Step) (first : ℕ) (bytes : List ℕ) (b : ℕ) → HasLiterals s
+    → list_all is_marked bytes ≡ true → b < 128
+    → Spells (step_bytes s ++ bytes) b
+    (binary_number_move s first b (groups_value (bytes ++ b ∷ [])))
+last_spelled s first bytes b has marked small =
+    by (b == 0) refl (nat_le n 1) refl (nat_le n 536870911) refl
+  where
+    n : ℕ
+    n = groups_value (bytes ++ b ∷ [])
+
+    literal : (n : ℕ) → nat_le n 1 ≡ false → nat_le n 536870911 ≡ true
+        → is_literal 268435455 n ≡ true
+    literal n low high = grind (arith, nat_tests)
+
+    by : (empty : Bool) → (b == 0) ≡ empty → (low : Bool) → nat_le n 1 ≡ low → (high : Bool)
+        → nat_le n 536870911 ≡ high
+        → Spells (step_bytes s ++ bytes) b (cond empty (faults BadNumber first)
+        (cond low (faults BadNumber first)
+        (cond high (goes in_step (with_literal s n)) (faults LiteralTooLarge first))))
+    by true e low l high h = tt
+    by false e true l high h = tt
+    by false e false l false h = tt
+    by false e false l true h =
+        let some : 0 < b = grind (arith, nat_tests) in (
+          record {
+            id = has.id;
+            hints = has.hints;
+            literals = all_more (is_literal 268435455) s.lits n has.literals (literal n l h);
+          },
+          ap (λ bs. tag_bytes s.kind ++ bs)
+              (flat_map-append number_bytes s.lits (n ∷ [])
+              ∙ ap (λ bs. flat_map number_bytes s.lits ++ bs)
+              (append-nil (number_bytes n) ∙ number_spelled bytes b marked some small))
+              ∙ sym (append_assoc (tag_bytes s.kind) (flat_map number_bytes s.lits)
+              (bytes ++ b ∷ []))
+              ∙ sym (append_assoc (step_bytes s) bytes (b ∷ [])),
+        )
+
+-- one more byte of a number
+group_spelled : (s : Step) (first : ℕ) (bytes : List ℕ) (b : ℕ) → HasLiterals s
+    → list_all is_marked bytes ≡ true → b < 256
+    → Spells (step_bytes s ++ bytes) b (group_move s first bytes b)
+group_spelled s first bytes b has marked byte = by (nat_le 128 b) refl
+  where
+    by : (v : Bool) → nat_le 128 b ≡ v → Spells (step_bytes s ++ bytes) b
+        (cond v (goes (in_number first (bytes ++ b ∷ [])) s)
+        (binary_number_move s first b (groups_value (bytes ++ b ∷ []))))
+    by true e =
+        let is : is_marked b ≡ true = grind (arith, nat_tests) in (
+          (has, all_more is_marked bytes b marked is),
+          sym (append_assoc (step_bytes s) bytes (b ∷ [])),
+        )
+    by false e =
+        let small : b < 128 = grind (arith, nat_tests) in
+        last_spelled s first bytes b has marked small
+
+byte_moves : (spot : BinarySpot) (s : Step) (at b : ℕ) → b < 256 → Fits spot s
+    → Spells (so_far spot s) b (binary_move_of spot s at b)
+byte_moves at_tag s at b byte fits = tag_spelled s at b fits
+byte_moves in_step s at b byte fits = by (b == 0) refl
+  where
+    by : (v : Bool) → (b == 0) ≡ v
+        → Spells (step_bytes s) b (cond v (completes s) (group_move s at [] b))
+    by true e =
+        let is : b ≡ 0 = grind (arith, nat_tests) in (
+          record { id = fits.id; hints = fits.hints; literals = fits.literals },
+          ap (λ x. step_bytes s ++ x ∷ []) (sym is),
+        )
+    by false e = subst (λ bs. Spells bs b (group_move s at [] b)) (append-nil (step_bytes s))
+        (group_spelled s at [] b fits refl byte)
+byte_moves (in_number first bytes) s at b byte fits =
+    group_spelled s first bytes b fits.0 fits.1 byte
+
+-- ---- Steps
+
+abbrev AreSpelled : BinarySpot → Step → List ℕ → List Step → Type 0
+AreSpelled spot s bs steps =
+    All IsDratStep steps × (so_far spot s ++ bs ≡ flat_map binary_step steps)
+
+bytes_spelled : (bs : List ℕ) (spot : BinarySpot) (s : Step) (at : ℕ) (steps : List Step)
+    → All (λ b. b < 256) bs → Fits spot s
+    → bare (binary_steps_among spot s at bs End) ≡ Some steps → AreSpelled spot s bs steps
+bytes_spelled [] at_tag s at steps are fits e =
+    let nothing : [] ≡ steps = cc in
+    subst (AreSpelled at_tag s []) nothing (All-nil IsDratStep, refl)
+bytes_spelled [] in_step s at steps are fits e = absurd (none_some steps e)
+bytes_spelled [] (in_number first bytes) s at steps are fits e = absurd (none_some steps e)
+bytes_spelled (b ∷ bs) spot s at steps are fits e =
+    by (binary_move_of spot s at b) (byte_moves spot s at b (are 0 b (omega arith)) fits)
+    (λ spot s at steps. bytes_spelled bs spot s at steps (λ k d l. are (suc k) d (omega arith))) e
+  where
+    IsSo : Type 0
+    IsSo = (spot : BinarySpot) (s : Step) (at : ℕ) (steps : List Step) → Fits spot s
+        → bare (binary_steps_among spot s at bs End) ≡ Some steps → AreSpelled spot s bs steps
+
+    onto : (before : List ℕ) → before ≡ so_far spot s ++ b ∷ []
+        → so_far spot s ++ b ∷ bs ≡ before ++ bs
+    onto before e = sym (append_assoc (so_far spot s) (b ∷ []) bs) ∙ ap (λ t. t ++ bs) (sym e)
+
+    completed : (t : Step) → IsDratStep t → binary_step t ≡ so_far spot s ++ b ∷ [] → IsSo
+        → (later : Option (List Step))
+        → bare (binary_steps_among at_tag (named 0) (next_count at) bs End) ≡ later
+        → option_map (λ ss. t ∷ ss) later ≡ Some steps → AreSpelled spot s (b ∷ bs) steps
+    completed t step bytes later None is_none e = absurd (none_some steps e)
+    completed t step bytes later (Some ss) is_some e =
+        let same : t ∷ ss ≡ steps = cc in
+        let r = later at_tag (named 0) (next_count at) ss refl is_some in
+        subst (AreSpelled spot s (b ∷ bs)) same (
+          All-cons IsDratStep t ss step r.0,
+          onto (binary_step t) bytes ∙ ap (λ bs. binary_step t ++ bs) r.1,
+        )
+
+    by : (m : BinaryMove) → Spells (so_far spot s) b m → IsSo
+        → bare (on_binary_move at (length bs) m
+        (λ spot s. binary_steps_among spot s (next_count at) bs End)) ≡ Some steps
+        → AreSpelled spot s (b ∷ bs) steps
+    by (goes next t) m later e =
+        let r = later next t (next_count at) steps m.0 e in (r.0, onto (so_far next t) m.1 ∙ r.1)
+    by (completes t) m later e =
+        let rest = binary_steps_among at_tag (named 0) (next_count at) bs End in
+        completed t m.0 m.1 later (bare rest) refl
+        (sym (bare-with_step t (Byte at) (length bs) rest) ∙ e)
+    by (faults f first) m later e = absurd (none_some steps e)
+
+-- steps that are read back are read
+read_steps : (steps : List Step) → map (λ r. r.step) (printed_steps [] binary_step steps) ≡ steps
+read_steps [] = refl
+read_steps (s ∷ ss) = ap (λ t. s ∷ t) (read_steps ss)
+
+placed_steps : (ps : List PlacedStep)
+    → map (λ (r : ReadStep). r.step)
+    (map (λ placed. record { step = placed.step; rest = placed.rest }) ps)
+    ≡ map (λ placed. placed.step) ps
+placed_steps [] = refl
+placed_steps (p ∷ ps) = ap (λ t. p.step ∷ t) (placed_steps ps)
+
+pub binary_both_ways : BinaryIsGrammar
+binary_both_ways = record {
+  read_is_written = λ bytes steps are reads.
+      let r = bytes_spelled bytes at_tag (named 0) 1 steps are refl
+      (bare-ReadsAs (binary_steps (input_of bytes)) steps reads) in
+      record { within = r.0; spelled = r.1 };
+  written_is_read = λ bytes steps is.
+      let back = ap (λ bs. read_of (binary_steps (input_of bs))) is.spelled
+      ∙ binary_read steps is.within in
+      record {
+        all = sym (placed_steps (binary_steps (input_of bytes)).steps)
+            ∙ ap (λ p. map (λ (r : ReadStep). r.step) p.steps) back ∙ read_steps steps;
+        no_fault = ap (λ p. p.fault) back;
+      };
+}

@@ -1,0 +1,151 @@
+-- The steps of a DRAT text, both ways.
+use Rattle.std.proofs.Common.{◌≡◌, ℕ, true, List, [], ◌∷◌, ◌++◌, map, fold, refl, sym, ap, ◌∙◌, append_assoc}
+use Rattle.std.specs.Prelude.{codes}
+use Rattle.std.specs.List.{list_all}
+use Rattle.std.specs.Option.{option_map}
+use Rattle.std.proofs.lemmas.List.{map-append}
+use Rattle.cnf_base.specs.Literals.{Literal}
+use Rattle.cnf_base.specs.Printing.{is_literal, literal_text, literal_words}
+use Rattle.cnf_base.specs.Words.{word_of}
+use Rattle.cnf_base.specs.declared.word.Word.{Word}
+use Rattle.cnf_base.specs.declared.word.Word.TheVariants as words
+use Rattle.cnf_base.proofs.PrintLemmas.{both}
+use Rattle.cnf_base.proofs.GrammarLemmas.{IsSpelled, word_spelled}
+use Rattle.proofs.specs.declared.drat_text.part.Part.{Part}
+use Rattle.proofs.specs.declared.drat_text.part.Part.TheVariants.{Start, Literals}
+use Rattle.proofs.specs.declared.step_buf.StepKind.{StepKind}
+use Rattle.proofs.specs.declared.step_buf.StepKind.TheVariants.{Add, Delete}
+use Rattle.proofs.specs.Steps.{Step, named, with_literal}
+use Rattle.proofs.specs.TextSteps.{goes, completes, move_of}
+use Rattle.proofs.specs.Drat.{drat, is_start}
+use Rattle.proofs.specs.Printing.{drat_words, IsDratStep}
+use Rattle.proofs.specs.Grammar.{DratIsGrammar}
+use Rattle.proofs.proofs.PrintedText.{with_literals, drat_step, drat_step_is}
+use Rattle.proofs.proofs.DratPrinting.{literal_move}
+use Rattle.proofs.proofs.GrammarText.{on_word, word_steps, Spelling, Spells, IsSpelling, text_spelled, text_read, all_more, list_words, literal_cases}
+
+-- ---- The words of a step so far
+
+abbrev front : StepKind → List (List ℕ)
+front Add = []
+front Delete = codes "d" ∷ []
+
+drat_words-front : (kind : StepKind) (ls : List Literal)
+    → drat_words kind ls ≡ front kind ++ literal_words ls
+drat_words-front Add ls = refl
+drat_words-front Delete ls = refl
+
+record Fits (part : Part) (s : Step) : Type 0 where
+  begins : part ≡ Start → s ≡ named 0
+  id : s.id ≡ 0
+  hints : s.hints ≡ []
+  literals : list_all (is_literal 268435455) s.lits ≡ true
+
+abbrev so_far : Part → Step → List (List ℕ)
+so_far part s = front s.kind ++ map literal_text s.lits
+
+abbrev spelling : Spelling Part
+spelling = record {
+  IsStep = IsDratStep;
+  whole = λ s. drat_words s.kind s.lits;
+  Fits = Fits;
+  so_far = so_far;
+}
+
+module _ (part : Part) (s : Step) (run : List ℕ) (fits : Fits part s) where
+  -- one more literal
+  taken : (l : Literal) → is_literal 268435455 l ≡ true → run ≡ literal_text l
+      → Spells spelling part s run (goes Literals (with_literal s l))
+  taken l is text = (
+    record {
+      begins = λ (e : Literals ≡ Start). cc;
+      id = fits.id;
+      hints = fits.hints;
+      literals = all_more (is_literal 268435455) s.lits l fits.literals is;
+    },
+    ap (λ ws. front s.kind ++ ws) (map-append literal_text s.lits (l ∷ []))
+        ∙ sym (append_assoc (front s.kind) (map literal_text s.lits) (literal_text l ∷ []))
+        ∙ ap (λ w. so_far part s ++ w ∷ []) (sym text),
+  )
+
+  -- the `0`
+  ended : run ≡ codes "0" → Spells spelling part s run (completes s)
+  ended text = (
+    record { id = fits.id; hints = fits.hints; literals = fits.literals },
+    drat_words-front s.kind s.lits
+        ∙ sym (append_assoc (front s.kind) (map literal_text s.lits) (codes "0" ∷ []))
+        ∙ ap (λ w. so_far part s ++ w ∷ []) (sym text),
+  )
+
+-- the `d`
+d_spelled : (part : Part) (s : Step) (run : List ℕ) → Fits part s → run ≡ codes "d"
+    → Spells spelling part s run (move_of drat part s words.D)
+d_spelled Start s run fits text = (
+  record { begins = λ (e : Literals ≡ Start). cc; id = fits.id; hints = refl; literals = refl },
+  ap (λ w. w ∷ []) (sym text) ∙ ap (λ t. so_far Start t ++ run ∷ []) (sym (fits.begins refl)),
+)
+d_spelled Literals s run fits text = tt
+
+word_moves : (part : Part) (s : Step) (run : List ℕ) → Fits part s → (w : Word) → IsSpelled w run
+    → Spells spelling part s run (move_of drat part s w)
+word_moves part s run fits (words.Number n) spelled =
+    literal_cases (Spells spelling part s run) Literals completes s n run spelled tt
+    (taken part s run fits) (ended part s run fits)
+word_moves part s run fits words.D spelled = d_spelled part s run fits spelled
+word_moves part s run fits _ spelled = tt
+
+-- ---- The words of a whole step
+
+literals_read : (ls : List Literal) (rest : List (List ℕ)) (s : Step)
+    → list_all (is_literal 268435455) ls ≡ true
+    → word_steps drat Literals s (map word_of (literal_words ls ++ rest))
+    ≡ option_map (λ ss. fold with_literal s ls ∷ ss)
+    (word_steps drat Start (named 0) (map word_of rest))
+literals_read ls rest s are =
+    ap (λ ws. word_steps drat Literals s (map word_of ws))
+    (append_assoc (map literal_text ls) (codes "0" ∷ []) rest)
+    ∙ list_words drat literal_text (is_literal 268435455) with_literal Literals
+    (literal_move Literals) ls (codes "0" ∷ rest) s are
+
+words_read : (kind : StepKind) (ls : List Literal) (rest : List (List ℕ))
+    → list_all (is_literal 268435455) ls ≡ true
+    → word_steps drat Start (named 0) (map word_of (drat_words kind ls ++ rest))
+    ≡ option_map (λ ss. drat_step kind ls ∷ ss) (word_steps drat Start (named 0) (map word_of rest))
+words_read Delete ls rest are =
+    literals_read ls rest (drat_step Delete []) are
+    ∙ ap (λ s. option_map (λ ss. s ∷ ss) (word_steps drat Start (named 0) (map word_of rest)))
+    (with_literals (drat_step Delete []) ls)
+words_read Add [] rest are = refl
+words_read Add (l ∷ ls) rest are =
+    let r = both (is_literal 268435455 l) (list_all (is_literal 268435455) ls) are in
+    ap (λ m. on_word drat m
+    (λ part s. word_steps drat part s (map word_of (literal_words ls ++ rest))))
+    (literal_move Start (named 0) l r.0)
+    ∙ literals_read ls rest (drat_step Add (l ∷ [])) r.1
+    ∙ ap (λ s. option_map (λ ss. s ∷ ss) (word_steps drat Start (named 0) (map word_of rest)))
+    (with_literals (drat_step Add (l ∷ [])) ls)
+
+is_spelling : IsSpelling drat spelling
+is_spelling = record {
+  begins = record { begins = λ e. refl; id = refl; hints = refl; literals = refl };
+  none = refl;
+  starts = refl;
+  ends = ends;
+  moves = λ part s run fits. word_moves part s run fits (word_of run) (word_spelled run);
+  reads = λ s is rest. words_read s.kind s.lits rest is.literals
+      ∙ ap (λ t. option_map (λ ss. t ∷ ss) (word_steps drat Start (named 0) (map word_of rest)))
+      (drat_step_is s is);
+}
+  where
+    ends : (part : Part) (s : Step) → Fits part s → is_start part ≡ true → so_far part s ≡ []
+    ends Start s fits start = ap (so_far Start) (fits.begins refl)
+    ends Literals s fits start = cc
+
+pub drat_both_ways : DratIsGrammar
+drat_both_ways = record {
+  read_is_written = λ bytes steps reads.
+      let r = text_spelled drat spelling is_spelling bytes steps reads in
+      record { within = r.0; words = r.1 };
+  written_is_read =
+      λ bytes steps is. text_read drat spelling is_spelling bytes steps is.within is.words;
+}

@@ -1,0 +1,323 @@
+-- The steps of a text by its words alone, in whatever format.
+use Rattle.std.proofs.Common.{◌≡◌, ℕ, suc, ◌+◌, ◌*◌, ◌/◌, ◌%◌, ◌≤◌, ◌==◌, ◌&&◌, nat_le, cond, Bool, true, false, List, [], ◌∷◌, ◌++◌, map, fold, Option, None, Some, refl, sym, ap, ◌∙◌, append_assoc, subst, arith}
+use Rattle.std.specs.Prelude.{All, codes}
+use Rattle.std.specs.Fmt.{decimal}
+use Rattle.std.specs.Bool.{then_some}
+use Rattle.std.proofs.lemmas.Bool.Decides.{nat_tests}
+use Rattle.std.proofs.lemmas.Fmt.{decimal_digit}
+use Rattle.std.specs.List.{flat_map, filter_map, cons_option, list_all}
+use Rattle.std.specs.Option.{option_map}
+use Rattle.std.proofs.lemmas.List.{append-nil}
+use Rattle.std.proofs.lemmas.List.Elements.{All-nil, All-cons}
+use Rattle.std.proofs.lemmas.List.Folds.{list_all-append}
+use Rattle.cnf_base.specs.Grammar.{text_words}
+use Rattle.cnf_base.specs.Printing.{input_of, is_literal, literal_text}
+use Rattle.cnf_base.specs.Text.{Listed, listing_of}
+use Rattle.cnf_base.specs.Words.{word_of}
+use Rattle.cnf_base.specs.declared.input.Ending.TheVariants.{End}
+use Rattle.cnf_base.specs.declared.place.Place.{Place}
+use Rattle.cnf_base.specs.Literals.{Literal}
+use Rattle.cnf_base.specs.declared.word.Number.{Number}
+use Rattle.cnf_base.specs.declared.word.Word.{Word}
+use Rattle.cnf_base.specs.declared.word.Word.TheVariants as words
+use Rattle.cnf_base.specs.declared.token.Token as tokens
+use Rattle.cnf_base.specs.declared.token.Token.TheVariants as token
+use Rattle.cnf_base.proofs.GrammarLemmas.{said, number_text, IsSpelled, listing_says, listing_words}
+use Rattle.cnf_base.proofs.PrintLemmas.{both}
+use Rattle.proofs.specs.Steps.{Step, named, with_literal}
+use Rattle.proofs.specs.Reading.{Proof, PlacedStep, clean, faulty_proof, with_step}
+use Rattle.proofs.specs.TextSteps.{Move, goes, completes, faults, Format, move_of, on_move, on_token, literal_or_end, literal_or_fault, steps_among, steps_of}
+use Rattle.proofs.specs.Grammar.{ReadsAs}
+use Rattle.cnf_base.specs.declared.fault.Fault.{Fault}
+use Rattle.cnf_base.specs.declared.fault.Fault.TheVariants.{Text}
+use Rattle.cnf_base.specs.declared.fault.TextFault.TheVariants.{UnterminatedStep, LiteralTooLarge}
+use Rattle.proofs.specs.declared.step_end.StepEnd.{StepEnd}
+use Rattle.proofs.specs.declared.step_end.StepEnd.TheVariants as ends
+
+-- ---- The steps of a proof without a fault
+
+-- without their places
+abbrev pub bare_steps : List PlacedStep → List Step
+bare_steps steps = map (λ placed. placed.step) steps
+
+abbrev unless_faulty : Option Fault → List Step → Option (List Step)
+unless_faulty None steps = Some steps
+unless_faulty (Some f) steps = None
+
+abbrev pub bare : Proof → Option (List Step)
+bare p = unless_faulty p.fault (bare_steps p.steps)
+
+pub none_some : (steps : List Step) → None ≡ Some steps → ⊥
+none_some steps e = cc
+
+pub ReadsAs-bare : (p : Proof) (steps : List Step) → bare p ≡ Some steps → ReadsAs p steps
+ReadsAs-bare p steps e = by p.fault refl e
+  where
+    by : (fault : Option Fault) → p.fault ≡ fault
+        → unless_faulty fault (bare_steps p.steps) ≡ Some steps → ReadsAs p steps
+    by None none e = record { all = cc; no_fault = none }
+    by (Some f) some e = absurd (none_some steps e)
+
+pub bare-ReadsAs : (p : Proof) (steps : List Step) → ReadsAs p steps → bare p ≡ Some steps
+bare-ReadsAs p steps reads =
+    ap (λ f. unless_faulty f (bare_steps p.steps)) reads.no_fault ∙ ap Some reads.all
+
+pub bare-with_step : (s : Step) (end : StepEnd) (left : ℕ) (p : Proof)
+    → bare (with_step s end left p) ≡ option_map (λ ss. s ∷ ss) (bare p)
+bare-with_step s end left p = by p.fault
+  where
+    by : (f : Option Fault) → unless_faulty f (s ∷ bare_steps p.steps)
+        ≡ option_map (λ ss. s ∷ ss) (unless_faulty f (bare_steps p.steps))
+    by None = refl
+    by (Some f) = refl
+
+-- ---- By words
+
+module _ {Part : Type 0} (format : Format Part) where
+  abbrev pub on_word : Move Part → (Part → Step → Option (List Step)) → Option (List Step)
+  on_word (goes part s) rest = rest part s
+  on_word (completes s) rest = option_map (λ ss. s ∷ ss) (rest format.start (named 0))
+  on_word (faults f) rest = None
+
+  -- the steps that these words are, where so much of a step was read before; none where they are no
+  -- whole steps
+  abbrev pub word_steps : Part → Step → List Word → Option (List Step)
+  word_steps part s [] = cond (format.is_start part) (Some []) None
+  word_steps part s (w ∷ ws) = on_word (move_of format part s w) (λ part s. word_steps part s ws)
+
+  -- tokens are read as their words are
+  tokens_bare : (part : Part) (s : Step) (ts : List Listed) (p : Place)
+      → bare (steps_among format part s ts p End)
+      ≡ word_steps part s (filter_map (λ t. said t.token) ts)
+  tokens_bare part s [] p = by (format.is_start part)
+    where
+      by : (v : Bool) → bare (cond v clean (faulty_proof (Text UnterminatedStep p)))
+          ≡ cond v (Some []) None
+      by true = refl
+      by false = refl
+  tokens_bare part s (t ∷ ts) p = by (λ part s. tokens_bare part s ts p) t.token
+    where
+      words : List Word
+      words = filter_map (λ t. said t.token) ts
+
+      IsSo : Type 0
+      IsSo = (part : Part) (s : Step)
+          → bare (steps_among format part s ts p End) ≡ word_steps part s words
+
+      moved : IsSo → (at : Place) (m : Move Part)
+          → bare (on_move format at t.rest m (λ part s. steps_among format part s ts p End))
+          ≡ on_word m (λ part s. word_steps part s words)
+      moved later at (goes part s) = later part s
+      moved later at (completes s) =
+          bare-with_step s (ends.Text at) t.rest
+          (steps_among format format.start (named 0) ts p End)
+          ∙ ap (option_map (λ ss. s ∷ ss)) (later format.start (named 0))
+      moved later at (faults f) = refl
+
+      by : IsSo → (token : tokens.Token)
+          → bare (on_token format part s token t.rest
+          (λ part s. steps_among format part s ts p End))
+          ≡ word_steps part s (cons_option (said token) words)
+      by later (token.Word at w) = moved later at (move_of format part s w)
+      by later (token.LineEnd at) = later part s
+      by later (token.End at) = later part s
+
+  -- a text is read as its words are
+  pub text_bare : (bytes : List ℕ) → bare (steps_of format (input_of bytes))
+      ≡ word_steps format.start (named 0) (map word_of (text_words bytes))
+  text_bare bytes =
+      ap (λ ending. bare
+      (steps_among format format.start (named 0) tokens (listing_of (input_of bytes)).end ending))
+      (listing_says bytes).ending
+      ∙ tokens_bare format.start (named 0) tokens (listing_of (input_of bytes)).end
+      ∙ ap (word_steps format.start (named 0)) (listing_words bytes)
+    where
+      tokens : List Listed
+      tokens = (listing_of (input_of bytes)).tokens
+
+-- ---- Both ways
+
+-- how the steps of a format are spelled: what is known of a whole step, and its words; and by the
+-- part, what is known of the step so far, and its words
+pub record Spelling (Part : Type 0) : Type 1 where
+  pub IsStep : Step → Type 0
+  pub whole : Step → List (List ℕ)
+  pub Fits : Part → Step → Type 0
+  pub so_far : Part → Step → List (List ℕ)
+
+-- a word is the next one of those that are spelled
+abbrev pub Spells : {Part : Type 0} → Spelling Part → Part → Step → List ℕ → Move Part → Type 0
+Spells g part s run (goes next t) = g.Fits next t × (g.so_far next t ≡ g.so_far part s ++ run ∷ [])
+Spells g part s run (completes t) = g.IsStep t × (g.whole t ≡ g.so_far part s ++ run ∷ [])
+Spells g part s run (faults f) = Unit {0}
+
+pub record IsSpelling {Part : Type 0} (format : Format Part) (g : Spelling Part) : Type 0 where
+  pub begins : g.Fits format.start (named 0)
+  pub none : g.so_far format.start (named 0) ≡ []
+  pub starts : format.is_start format.start ≡ true
+  pub ends : (part : Part) (s : Step) → g.Fits part s → format.is_start part ≡ true
+      → g.so_far part s ≡ []
+  pub moves : (part : Part) (s : Step) (run : List ℕ) → g.Fits part s
+      → Spells g part s run (move_of format part s (word_of run))
+  pub reads : (s : Step) → g.IsStep s → (rest : List (List ℕ))
+      → word_steps format format.start (named 0) (map word_of (g.whole s ++ rest))
+      ≡ option_map (λ ss. s ∷ ss) (word_steps format format.start (named 0) (map word_of rest))
+
+module _ {Part : Type 0} (format : Format Part) (g : Spelling Part) (is : IsSpelling format g) where
+  -- words that are read after those of the step so far
+  abbrev AreSpelled : Part → Step → List (List ℕ) → List Step → Type 0
+  AreSpelled part s runs steps =
+      All g.IsStep steps × (g.so_far part s ++ runs ≡ flat_map g.whole steps)
+
+  words_spelled : (runs : List (List ℕ)) (part : Part) (s : Step) (steps : List Step)
+      → g.Fits part s
+      → word_steps format part s (map word_of runs) ≡ Some steps → AreSpelled part s runs steps
+  words_spelled [] part s steps fits e = by (format.is_start part) refl e
+    where
+      by : (v : Bool) → format.is_start part ≡ v → cond v (Some []) None ≡ Some steps
+          → AreSpelled part s [] steps
+      by true starts e =
+          let nothing : [] ≡ steps = cc in
+          subst (AreSpelled part s []) nothing
+          (All-nil g.IsStep, append-nil (g.so_far part s) ∙ is.ends part s fits starts)
+      by false inside e = absurd (none_some steps e)
+  words_spelled (run ∷ runs) part s steps fits e =
+      by (move_of format part s (word_of run)) (is.moves part s run fits) (words_spelled runs) e
+    where
+      IsSo : Type 0
+      IsSo = (part : Part) (s : Step) (steps : List Step) → g.Fits part s
+          → word_steps format part s (map word_of runs) ≡ Some steps → AreSpelled part s runs steps
+
+      onto : (before : List (List ℕ)) → before ≡ g.so_far part s ++ run ∷ []
+          → g.so_far part s ++ run ∷ runs ≡ before ++ runs
+      onto before e = sym (append_assoc (g.so_far part s) (run ∷ []) runs)
+          ∙ ap (λ ws. ws ++ runs) (sym e)
+
+      completed : (t : Step) → g.IsStep t → g.whole t ≡ g.so_far part s ++ run ∷ [] → IsSo
+          → (later : Option (List Step))
+          → word_steps format format.start (named 0) (map word_of runs) ≡ later
+          → option_map (λ ss. t ∷ ss) later ≡ Some steps → AreSpelled part s (run ∷ runs) steps
+      completed t step words later None is_none e = absurd (none_some steps e)
+      completed t step words later (Some ss) is_some e =
+          let same : t ∷ ss ≡ steps = cc in
+          let r = later format.start (named 0) ss is.begins is_some in
+          subst (AreSpelled part s (run ∷ runs)) same (
+            All-cons g.IsStep t ss step r.0,
+            onto (g.whole t) words
+                ∙ ap (λ ws. g.whole t ++ ws) (ap (λ ws. ws ++ runs) (sym is.none) ∙ r.1),
+          )
+
+      by : (m : Move Part) → Spells g part s run m → IsSo
+          → on_word format m (λ part s. word_steps format part s (map word_of runs)) ≡ Some steps
+          → AreSpelled part s (run ∷ runs) steps
+      by (goes next t) m later e =
+          let r = later next t steps m.0 e in (r.0, onto (g.so_far next t) m.1 ∙ r.1)
+      by (completes t) m later e =
+          completed t m.0 m.1 later
+          (word_steps format format.start (named 0) (map word_of runs)) refl e
+      by (faults f) m later e = absurd (none_some steps e)
+
+  -- and the words of steps are read
+  words_read : (steps : List Step) → All g.IsStep steps
+      → word_steps format format.start (named 0) (map word_of (flat_map g.whole steps)) ≡ Some steps
+  words_read [] are = ap (λ v. cond v (Some []) None) is.starts
+  words_read (s ∷ ss) are =
+      is.reads s (are 0 s (omega arith)) (flat_map g.whole ss)
+      ∙ ap (option_map (λ ss. s ∷ ss)) (words_read ss (λ k d l. are (suc k) d (omega arith)))
+
+  -- a text that is read as steps has their words
+  pub text_spelled : (bytes : List ℕ) (steps : List Step)
+      → ReadsAs (steps_of format (input_of bytes)) steps
+      → All g.IsStep steps × (text_words bytes ≡ flat_map g.whole steps)
+  text_spelled bytes steps reads =
+      let r = words_spelled (text_words bytes) format.start (named 0) steps is.begins
+      (sym (text_bare format bytes)
+      ∙ bare-ReadsAs (steps_of format (input_of bytes)) steps reads) in
+      (r.0, ap (λ ws. ws ++ text_words bytes) (sym is.none) ∙ r.1)
+
+  -- and one that has their words is read as them
+  pub text_read : (bytes : List ℕ) (steps : List Step) → All g.IsStep steps
+      → text_words bytes ≡ flat_map g.whole steps → ReadsAs (steps_of format (input_of bytes)) steps
+  text_read bytes steps are words =
+      ReadsAs-bare (steps_of format (input_of bytes)) steps
+      (text_bare format bytes
+      ∙ ap (λ ws. word_steps format format.start (named 0) (map word_of ws)) words
+      ∙ words_read steps are)
+
+-- ---- What several formats have
+
+-- one more that passes a test
+pub all_more : {A : Type 0} (test : A → Bool) (xs : List A) (x : A) → list_all test xs ≡ true
+    → test x ≡ true → list_all test (xs ++ x ∷ []) ≡ true
+all_more test xs x are is =
+    list_all-append test xs (x ∷ []) ∙ ap (λ v. v && (test x && true)) are ∙ ap (λ v. v && true) is
+
+-- many words that do the same
+pub list_words : {Part : Type 0} (format : Format Part) {A : Type 0} (printed : A → List ℕ)
+    (fits : A → Bool) (with : Step → A → Step) (part : Part)
+    → ((s : Step) (x : A) → fits x ≡ true
+    → move_of format part s (word_of (printed x)) ≡ goes part (with s x))
+    → (xs : List A) (runs : List (List ℕ)) (s : Step) → list_all fits xs ≡ true
+    → word_steps format part s (map word_of (map printed xs ++ runs))
+    ≡ word_steps format part (fold with s xs) (map word_of runs)
+list_words format printed fits with part moves [] runs s are = refl
+list_words format printed fits with part moves (x ∷ xs) runs s are =
+    let r = both (fits x) (list_all fits xs) are in
+    ap (λ m. on_word format m
+    (λ part s. word_steps format part s (map word_of (map printed xs ++ runs)))) (moves s x r.0)
+    ∙ list_words format printed fits with part moves xs runs (with s x) r.1
+
+-- the literal of a number within the limit
+literal_is : (is_negative : Bool) (size : ℕ) → 1 ≤ size → size ≤ 268435455
+    → (is_literal 268435455 (cond is_negative (2 * size + 1) (2 * size)) ≡ true)
+    × (number_text is_negative size ≡ literal_text (cond is_negative (2 * size + 1) (2 * size)))
+literal_is false size low high =
+    let half : 2 * size / 2 ≡ size = omega arith in
+    let even : (2 * size % 2 == 0) ≡ true = grind (arith, nat_tests) in
+    let within : (nat_le 1 size && nat_le size 268435455) ≡ true = grind (arith, nat_tests) in
+    (ap (λ v. nat_le 1 v && nat_le v 268435455) half ∙ within, rw (even, half) refl)
+literal_is true size low high =
+    let half : (2 * size + 1) / 2 ≡ size = omega arith in
+    let odd : ((2 * size + 1) % 2 == 0) ≡ false = grind (arith, nat_tests) in
+    let within : (nat_le 1 size && nat_le size 268435455) ≡ true = grind (arith, nat_tests) in
+    (ap (λ v. nat_le 1 v && nat_le v 268435455) half ∙ within, rw (odd, half) refl)
+
+-- the number 0
+pub zero_text : (is_negative : Bool) (size : ℕ) (run : List ℕ) → run ≡ number_text is_negative size
+    → size ≡ 0 → (is_negative ≡ true → ⊥) → run ≡ codes "0"
+zero_text true size run text none positive = absurd (positive refl)
+zero_text false size run text none positive = text ∙ ap decimal none ∙ decimal_digit 0 (omega arith)
+
+-- what a number does where a literal stands: it is too large, it is the text of a literal, or it is
+-- the `0`
+pub literal_cases : {Part : Type 0} (P : Move Part → Type 0) (part : Part)
+    (ended : Step → Move Part) (s : Step) (n : Number) (run : List ℕ)
+    → IsSpelled (words.Number n) run → P (faults LiteralTooLarge)
+    → ((l : Literal) → is_literal 268435455 l ≡ true → run ≡ literal_text l
+    → P (goes part (with_literal s l)))
+    → (run ≡ codes "0" → P (ended s)) → P (literal_or_fault part ended s n)
+literal_cases P part ended s n run spelled large taken zero = by (nat_le n.size 268435455) refl
+  where
+    code : ℕ
+    code = cond n.is_negative (2 * n.size + 1) (2 * n.size)
+
+    fits : (v : Bool) → nat_le 1 n.size ≡ v → n.size ≤ 268435455
+        → P (literal_or_end part ended s (then_some (v && true) code))
+    fits true some small =
+        let low : 1 ≤ n.size = grind (arith, nat_tests) in
+        let is = literal_is n.is_negative n.size low small in
+        taken code is.0 ((spelled (omega arith)).0 ∙ is.1)
+    fits false none small =
+        let size : n.size ≡ 0 = grind (arith, nat_tests) in
+        let text = spelled (omega arith) in
+        let positive : n.is_negative ≡ true → ⊥ =
+        λ (e : n.is_negative ≡ true). let some = text.1 e in omega arith in
+        zero (zero_text n.is_negative n.size run text.0 size positive)
+
+    by : (v : Bool) → nat_le n.size 268435455 ≡ v
+        → P (cond v (literal_or_end part ended s (then_some (nat_le 1 n.size && v) code))
+        (faults LiteralTooLarge))
+    by true e =
+        let small : n.size ≤ 268435455 = grind (arith, nat_tests) in
+        fits (nat_le 1 n.size) refl small
+    by false e = large

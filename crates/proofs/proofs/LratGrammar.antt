@@ -1,0 +1,375 @@
+-- The steps of an LRAT text, both ways.
+use Rattle.std.proofs.Common.{◌≡◌, ℕ, zero, suc, ◌≤◌, ◌&&◌, nat_le, cond, Bool, true, false, List, [], ◌∷◌, ◌++◌, map, fold, Option, refl, sym, ap, ◌∙◌, append_assoc, arith}
+use Rattle.std.specs.Prelude.{codes, ℤ, pos, neg_ℤ}
+use Rattle.std.specs.Fmt.{decimal, signed_decimal}
+use Rattle.std.specs.List.{list_all}
+use Rattle.std.specs.Option.{option_map}
+use Rattle.std.proofs.lemmas.Bool.Decides.{nat_tests}
+use Rattle.std.proofs.lemmas.List.{append-nil, map-append}
+use Rattle.cnf_base.specs.Literals.{Literal}
+use Rattle.cnf_base.specs.Printing.{is_literal, literal_text, literal_words}
+use Rattle.cnf_base.specs.Words.{word_of}
+use Rattle.cnf_base.specs.declared.fault.TextFault.TheVariants.{BadToken, IdTooLarge}
+use Rattle.cnf_base.specs.declared.word.Number.{Number}
+use Rattle.cnf_base.specs.declared.word.Word.{Word}
+use Rattle.cnf_base.specs.declared.word.Word.TheVariants as words
+use Rattle.cnf_base.proofs.PrintLemmas.{both}
+use Rattle.cnf_base.proofs.GrammarLemmas.{number_text, IsSpelled, word_spelled}
+use Rattle.proofs.specs.declared.lrat_text.part.Part.{Part}
+use Rattle.proofs.specs.declared.lrat_text.part.Part.TheVariants.{Identifier, AfterIdentifier, Literals, Hints, Deletion}
+use Rattle.proofs.specs.declared.step_buf.StepKind.{StepKind}
+use Rattle.proofs.specs.declared.step_buf.StepKind.TheVariants.{Add, Delete}
+use Rattle.proofs.specs.Steps.{Step, is_small, is_hint, named, with_literal, with_hint}
+use Rattle.proofs.specs.TextSteps.{goes, completes, faults, move_of}
+use Rattle.proofs.specs.Lrat.{lrat, is_identifier, identifier, literal, hint, deleted}
+use Rattle.proofs.specs.Printing.{hint_words, lrat_words, IsLratStep}
+use Rattle.proofs.specs.Grammar.{LratIsGrammar}
+use Rattle.proofs.proofs.PrintedText.{with_literals, with_hints}
+use Rattle.proofs.proofs.LratPrinting.{identifier_move, first_literal_move, literal_move, hint_part, hint_move, hint_zero, step_of}
+use Rattle.proofs.proofs.GrammarText.{on_word, word_steps, Spelling, Spells, IsSpelling, text_spelled, text_read, list_words, all_more, literal_cases, zero_text}
+
+-- ---- The words of a step so far
+
+record IsNamed (s : Step) : Type 0 where
+  some : 1 ≤ s.id
+  small : is_small s.id ≡ true
+
+abbrev are_literals : List Literal → Bool
+are_literals ls = list_all (is_literal 268435455) ls
+
+abbrev Fits : Part → Step → Type 0
+Fits Identifier s = s ≡ named 0
+Fits AfterIdentifier s = IsNamed s × (s ≡ named s.id)
+Fits Literals s = IsNamed s × (s.kind ≡ Add) × (are_literals s.lits ≡ true) × (s.hints ≡ [])
+Fits Hints s = IsNamed s × (s.kind ≡ Add) × (are_literals s.lits ≡ true)
+    × (list_all (is_hint Add) s.hints ≡ true)
+Fits Deletion s = IsNamed s × (s.kind ≡ Delete) × (s.lits ≡ [])
+    × (list_all (is_hint Delete) s.hints ≡ true)
+
+abbrev so_far : Part → Step → List (List ℕ)
+so_far Identifier s = []
+so_far AfterIdentifier s = decimal s.id ∷ []
+so_far Literals s = decimal s.id ∷ map literal_text s.lits
+so_far Hints s = decimal s.id ∷ literal_words s.lits ++ map signed_decimal s.hints
+so_far Deletion s = decimal s.id ∷ codes "d" ∷ map signed_decimal s.hints
+
+abbrev spelling : Spelling Part
+spelling = record {
+  IsStep = IsLratStep;
+  whole = λ s. lrat_words s.kind s.id s.lits s.hints;
+  Fits = Fits;
+  so_far = so_far;
+}
+
+other : {kind : StepKind} → kind ≡ Add → kind ≡ Delete → ⊥
+other e f = cc
+
+inside : false ≡ true → ⊥
+inside e = cc
+
+-- an identifier
+identifier_spelled : (s : Step) (run : List ℕ) (n : Number) → IsSpelled (words.Number n) run
+    → Spells spelling Identifier s run (identifier n)
+identifier_spelled s run n spelled =
+    by n.is_negative refl (nat_le n.size 0) refl (is_small n.size) refl
+  where
+    by : (minus : Bool) → n.is_negative ≡ minus → (nought : Bool) → nat_le n.size 0 ≡ nought
+        → (small : Bool) → is_small n.size ≡ small
+        → Spells spelling Identifier s run
+        (cond minus (faults BadToken) (cond nought (faults BadToken)
+        (cond small (goes AfterIdentifier (named n.size)) (faults IdTooLarge))))
+    by true m nought z small e = tt
+    by false m true z small e = tt
+    by false m false z false e = tt
+    by false m false z true e =
+        let some : 1 ≤ n.size = grind (arith, nat_tests) in
+        let most : n.size ≤ 9223372036854775807 = grind (arith, nat_tests) in
+        let text : run ≡ decimal n.size = (spelled most).0 ∙ ap (λ v. number_text v n.size) m in
+        ((record { some = some; small = e }, refl), ap (λ w. w ∷ []) (sym text))
+
+-- a literal just after the identifier, or the `0` there
+first_spelled : (s : Step) (run : List ℕ) (n : Number) → Fits AfterIdentifier s
+    → IsSpelled (words.Number n) run → Spells spelling AfterIdentifier s run (literal s n)
+first_spelled s run n fits spelled =
+    literal_cases (Spells spelling AfterIdentifier s run) Literals (goes Hints) s n run spelled
+    tt taken ended
+  where
+    none : s.lits ≡ []
+    none = ap (λ t. t.lits) fits.1
+
+    taken : (l : Literal) → is_literal 268435455 l ≡ true → run ≡ literal_text l
+        → Spells spelling AfterIdentifier s run (goes Literals (with_literal s l))
+    taken l is text = (
+      (
+        record { some = fits.0.some; small = fits.0.small },
+        ap (λ t. t.kind) fits.1,
+        ap (λ ls. are_literals (ls ++ l ∷ [])) none ∙ ap (λ v. v && true) is,
+        ap (λ t. t.hints) fits.1,
+      ),
+      ap (λ ls. decimal s.id ∷ map literal_text (ls ++ l ∷ [])) none
+          ∙ ap (λ w. decimal s.id ∷ w ∷ []) (sym text),
+    )
+
+    ended : run ≡ codes "0" → Spells spelling AfterIdentifier s run (goes Hints s)
+    ended text = (
+      (
+        fits.0,
+        ap (λ t. t.kind) fits.1,
+        ap are_literals none,
+        ap (λ t. list_all (is_hint Add) t.hints) fits.1,
+      ),
+      ap (λ t. decimal s.id ∷ literal_words t.lits ++ map signed_decimal t.hints) fits.1
+          ∙ ap (λ w. decimal s.id ∷ w ∷ []) (sym text),
+    )
+
+-- a literal after another one, or the `0` there
+literal_spelled : (s : Step) (run : List ℕ) (n : Number) → Fits Literals s
+    → IsSpelled (words.Number n) run → Spells spelling Literals s run (literal s n)
+literal_spelled s run n fits spelled =
+    literal_cases (Spells spelling Literals s run) Literals (goes Hints) s n run spelled
+    tt taken ended
+  where
+    taken : (l : Literal) → is_literal 268435455 l ≡ true → run ≡ literal_text l
+        → Spells spelling Literals s run (goes Literals (with_literal s l))
+    taken l is text = (
+      (
+        record { some = fits.0.some; small = fits.0.small },
+        fits.1,
+        all_more (is_literal 268435455) s.lits l fits.2 is,
+        fits.3,
+      ),
+      ap (λ ws. decimal s.id ∷ ws) (map-append literal_text s.lits (l ∷ []))
+          ∙ ap (λ w. decimal s.id ∷ map literal_text s.lits ++ w ∷ []) (sym text),
+    )
+
+    ended : run ≡ codes "0" → Spells spelling Literals s run (goes Hints s)
+    ended text = (
+      (fits.0, fits.1, fits.2, ap (list_all (is_hint Add)) fits.3),
+      ap (λ hs. decimal s.id ∷ literal_words s.lits ++ map signed_decimal hs) fits.3
+          ∙ ap (λ ws. decimal s.id ∷ ws) (append-nil (literal_words s.lits))
+          ∙ ap (λ w. decimal s.id ∷ map literal_text s.lits ++ w ∷ []) (sym text),
+    )
+
+-- the hint of a number within the limit
+hint_is : (is_negative : Bool) (size : ℕ) → 1 ≤ size → is_small size ≡ true
+    → (is_hint Add (cond is_negative (neg_ℤ (pos size)) (pos size)) ≡ true)
+    × (number_text is_negative size
+    ≡ signed_decimal (cond is_negative (neg_ℤ (pos size)) (pos size)))
+hint_is false size some small =
+    let low : nat_le 1 size ≡ true = grind (arith, nat_tests) in
+    (ap (λ v. v && is_small size) low ∙ small, refl)
+hint_is true zero some small = absurd (omega arith)
+hint_is true (suc k) some small =
+    let low : nat_le 1 (suc k) ≡ true = grind (arith, nat_tests) in
+    (ap (λ v. v && is_small (suc k)) low ∙ small, refl)
+
+-- a hint, or the `0` that ends the step
+hint_spelled : (s : Step) (run : List ℕ) (n : Number) → Fits Hints s
+    → IsSpelled (words.Number n) run → Spells spelling Hints s run (hint s n)
+hint_spelled s run n fits spelled = by (is_small n.size) refl (nat_le n.size 0) refl
+  where
+    h : ℤ
+    h = cond n.is_negative (neg_ℤ (pos n.size)) (pos n.size)
+
+    onto : (more : List (List ℕ))
+        → decimal s.id ∷ literal_words s.lits ++ (map signed_decimal s.hints ++ more)
+        ≡ so_far Hints s ++ more
+    onto more = ap (λ ws. decimal s.id ∷ ws)
+        (sym (append_assoc (literal_words s.lits) (map signed_decimal s.hints) more))
+
+    by : (small : Bool) → is_small n.size ≡ small → (nought : Bool) → nat_le n.size 0 ≡ nought
+        → Spells spelling Hints s run
+        (cond small (cond nought (completes s) (goes Hints (with_hint s h))) (faults IdTooLarge))
+    by false e nought z = tt
+    by true e true z =
+        let most : n.size ≤ 9223372036854775807 = grind (arith, nat_tests) in
+        let none : n.size ≡ 0 = grind (arith, nat_tests) in
+        let text = spelled most in
+        let positive : n.is_negative ≡ true → ⊥ =
+        λ (m : n.is_negative ≡ true). let some = text.1 m in omega arith in (
+          record {
+            some = fits.0.some;
+            small = fits.0.small;
+            literals = fits.2;
+            deletion = λ (d : s.kind ≡ Delete). absurd (other fits.1 d);
+            hints = ap (λ k. list_all (is_hint k) s.hints) fits.1 ∙ fits.3;
+          },
+          ap (λ k. lrat_words k s.id s.lits s.hints) fits.1 ∙ onto (codes "0" ∷ [])
+              ∙ ap (λ w. so_far Hints s ++ w ∷ [])
+              (sym (zero_text n.is_negative n.size run text.0 none positive)),
+        )
+    by true e false z =
+        let most : n.size ≤ 9223372036854775807 = grind (arith, nat_tests) in
+        let some : 1 ≤ n.size = grind (arith, nat_tests) in
+        let is = hint_is n.is_negative n.size some e in (
+          (
+            record { some = fits.0.some; small = fits.0.small },
+            fits.1,
+            fits.2,
+            all_more (is_hint Add) s.hints h fits.3 is.0,
+          ),
+          ap (λ ws. decimal s.id ∷ literal_words s.lits ++ ws)
+              (map-append signed_decimal s.hints (h ∷ []))
+              ∙ onto (signed_decimal h ∷ [])
+              ∙ ap (λ w. so_far Hints s ++ w ∷ []) (sym ((spelled most).0 ∙ is.1)),
+        )
+
+-- an identifier that is deleted, or the `0` that ends the step
+deleted_spelled : (s : Step) (run : List ℕ) (n : Number) → Fits Deletion s
+    → IsSpelled (words.Number n) run → Spells spelling Deletion s run (deleted s n)
+deleted_spelled s run n fits spelled =
+    by n.is_negative refl (is_small n.size) refl (nat_le n.size 0) refl
+  where
+    by : (minus : Bool) → n.is_negative ≡ minus → (small : Bool) → is_small n.size ≡ small
+        → (nought : Bool) → nat_le n.size 0 ≡ nought
+        → Spells spelling Deletion s run
+        (cond minus (faults BadToken)
+        (cond small (cond nought (completes s) (goes Deletion (with_hint s (pos n.size))))
+        (faults IdTooLarge)))
+    by true m small e nought z = tt
+    by false m false e nought z = tt
+    by false m true e true z =
+        let most : n.size ≤ 9223372036854775807 = grind (arith, nat_tests) in
+        let none : n.size ≡ 0 = grind (arith, nat_tests) in
+        let text : run ≡ decimal n.size = (spelled most).0 ∙ ap (λ v. number_text v n.size) m in (
+          record {
+            some = fits.0.some;
+            small = fits.0.small;
+            literals = ap are_literals fits.2;
+            deletion = λ d. fits.2;
+            hints = ap (λ k. list_all (is_hint k) s.hints) fits.1 ∙ fits.3;
+          },
+          ap (λ k. lrat_words k s.id s.lits s.hints) fits.1
+              ∙ ap (λ w. so_far Deletion s ++ w ∷ [])
+              (sym (zero_text false n.size run text none (λ (bad : false ≡ true). cc))),
+        )
+    by false m true e false z =
+        let most : n.size ≤ 9223372036854775807 = grind (arith, nat_tests) in
+        let low : nat_le 1 n.size ≡ true = grind (arith, nat_tests) in
+        let text : run ≡ decimal n.size = (spelled most).0 ∙ ap (λ v. number_text v n.size) m in (
+          (
+            record { some = fits.0.some; small = fits.0.small },
+            fits.1,
+            fits.2,
+            all_more (is_hint Delete) s.hints (pos n.size) fits.3
+                (ap (λ v. v && is_small n.size) low ∙ e),
+          ),
+          ap (λ ws. decimal s.id ∷ codes "d" ∷ ws)
+              (map-append signed_decimal s.hints (pos n.size ∷ []))
+              ∙ ap (λ w. so_far Deletion s ++ w ∷ []) (sym text),
+        )
+
+-- the `d`
+d_spelled : (part : Part) (s : Step) (run : List ℕ) → Fits part s → run ≡ codes "d"
+    → Spells spelling part s run (move_of lrat part s words.D)
+d_spelled AfterIdentifier s run fits text = (
+  (record { some = fits.0.some; small = fits.0.small }, refl, refl, refl),
+  ap (λ w. decimal s.id ∷ w ∷ []) (sym text),
+)
+d_spelled _ s run fits text = tt
+
+number_spelled : (part : Part) (s : Step) (run : List ℕ) → Fits part s → (n : Number)
+    → IsSpelled (words.Number n) run
+    → Spells spelling part s run (move_of lrat part s (words.Number n))
+number_spelled Identifier s run fits n spelled = identifier_spelled s run n spelled
+number_spelled AfterIdentifier s run fits n spelled = first_spelled s run n fits spelled
+number_spelled Literals s run fits n spelled = literal_spelled s run n fits spelled
+number_spelled Hints s run fits n spelled = hint_spelled s run n fits spelled
+number_spelled Deletion s run fits n spelled = deleted_spelled s run n fits spelled
+
+word_moves : (part : Part) (s : Step) (run : List ℕ) → Fits part s → (w : Word) → IsSpelled w run
+    → Spells spelling part s run (move_of lrat part s w)
+word_moves part s run fits (words.Number n) spelled = number_spelled part s run fits n spelled
+word_moves part s run fits words.D spelled = d_spelled part s run fits spelled
+word_moves part s run fits _ spelled = tt
+
+-- ---- The words of a whole step
+
+module _ (rest : List (List ℕ)) where
+  abbrev later : Option (List Step)
+  later = word_steps lrat Identifier (named 0) (map word_of rest)
+
+  -- hints, or identifiers that are deleted, and the step's end
+  hints_read : (kind : StepKind) (hs : List ℤ) (s : Step) → list_all (is_hint kind) hs ≡ true
+      → word_steps lrat (hint_part kind) s (map word_of (hint_words hs ++ rest))
+      ≡ option_map (λ ss. fold with_hint s hs ∷ ss) later
+  hints_read kind hs s are =
+      ap (λ ws. word_steps lrat (hint_part kind) s (map word_of ws))
+      (append_assoc (map signed_decimal hs) (codes "0" ∷ []) rest)
+      ∙ list_words lrat signed_decimal (is_hint kind) with_hint (hint_part kind) (hint_move kind) hs
+      (codes "0" ∷ rest) s are
+      ∙ ap (λ m. on_word lrat m (λ part s. word_steps lrat part s (map word_of rest)))
+      (hint_zero kind (fold with_hint s hs))
+
+  -- an addition after its identifier
+  addition_read : (id : ℕ) (ls : List Literal) (hs : List ℤ) → are_literals ls ≡ true
+      → list_all (is_hint Add) hs ≡ true
+      → word_steps lrat AfterIdentifier (named id)
+      (map word_of ((literal_words ls ++ hint_words hs) ++ rest))
+      ≡ option_map (λ ss. step_of Add id ls hs ∷ ss) later
+  addition_read id [] hs are hints =
+      hints_read Add hs (named id) hints
+      ∙ ap (λ s. option_map (λ ss. s ∷ ss) later) (with_hints (named id) hs)
+  addition_read id (l ∷ ls) hs are hints =
+      let r = both (is_literal 268435455 l) (are_literals ls) are in
+      let first : Step = step_of Add id (l ∷ []) [] in
+      ap (λ m. on_word lrat m
+      (λ part s. word_steps lrat part s
+      (map word_of ((literal_words ls ++ hint_words hs) ++ rest))))
+      (first_literal_move (named id) l r.0)
+      ∙ ap (λ ws. word_steps lrat Literals first (map word_of ws))
+      (append_assoc (literal_words ls) (hint_words hs) rest
+      ∙ append_assoc (map literal_text ls) (codes "0" ∷ []) (hint_words hs ++ rest))
+      ∙ list_words lrat literal_text (is_literal 268435455) with_literal Literals literal_move ls
+      (codes "0" ∷ hint_words hs ++ rest) first r.1
+      ∙ ap (λ s. word_steps lrat Hints s (map word_of (hint_words hs ++ rest)))
+      (with_literals first ls)
+      ∙ hints_read Add hs (step_of Add id (l ∷ ls) []) hints
+      ∙ ap (λ s. option_map (λ ss. s ∷ ss) later) (with_hints (step_of Add id (l ∷ ls) []) hs)
+
+  words_read : (kind : StepKind) (id : ℕ) (ls : List Literal) (hs : List ℤ) → 1 ≤ id
+      → is_small id ≡ true → are_literals ls ≡ true → (kind ≡ Delete → ls ≡ [])
+      → list_all (is_hint kind) hs ≡ true
+      → word_steps lrat Identifier (named 0) (map word_of (lrat_words kind id ls hs ++ rest))
+      ≡ option_map (λ ss. step_of kind id ls hs ∷ ss) later
+  words_read Add id ls hs some small are empty hints =
+      ap (λ m. on_word lrat m
+      (λ part s. word_steps lrat part s
+      (map word_of ((literal_words ls ++ hint_words hs) ++ rest))))
+      (identifier_move (named 0) id some small)
+      ∙ addition_read id ls hs are hints
+  words_read Delete id ls hs some small are empty hints =
+      ap (λ m. on_word lrat m
+      (λ part s. word_steps lrat part s (map word_of (codes "d" ∷ hint_words hs ++ rest))))
+      (identifier_move (named 0) id some small)
+      ∙ hints_read Delete hs (step_of Delete id [] []) hints
+      ∙ ap (λ s. option_map (λ ss. s ∷ ss) later)
+      (with_hints (step_of Delete id [] []) hs
+      ∙ ap (λ t. step_of Delete id t hs) (sym (empty refl)))
+
+is_spelling : IsSpelling lrat spelling
+is_spelling = record {
+  begins = refl;
+  none = refl;
+  starts = refl;
+  ends = ends;
+  moves = λ part s run fits. word_moves part s run fits (word_of run) (word_spelled run);
+  reads = λ s is rest.
+      words_read rest s.kind s.id s.lits s.hints is.some is.small is.literals is.deletion is.hints;
+}
+  where
+    ends : (part : Part) (s : Step) → Fits part s → is_identifier part ≡ true → so_far part s ≡ []
+    ends Identifier s fits start = refl
+    ends AfterIdentifier s fits start = absurd (inside start)
+    ends Literals s fits start = absurd (inside start)
+    ends Hints s fits start = absurd (inside start)
+    ends Deletion s fits start = absurd (inside start)
+
+pub lrat_both_ways : LratIsGrammar
+lrat_both_ways = record {
+  read_is_written = λ bytes steps reads.
+      let r = text_spelled lrat spelling is_spelling bytes steps reads in
+      record { within = r.0; words = r.1 };
+  written_is_read =
+      λ bytes steps is. text_read lrat spelling is_spelling bytes steps is.within is.words;
+}
