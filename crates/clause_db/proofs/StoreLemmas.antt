@@ -1,4 +1,3 @@
-pub mod Distinct
 pub mod Entries
 pub mod Fields
 pub mod Ids

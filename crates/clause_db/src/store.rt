@@ -12,9 +12,9 @@ pub(crate) mod slot;
 ghost use Rattle.std.specs.Prelude.{◌≡◌, ◌≢◌, ℕ, ◌+◌, ◌-◌, ◌<◌, ◌≤◌, ◌==◌, ◌++◌, [], ◌∷◌, ◌^◌, min, true, false, Some, None, option_map, length, if◌then◌else◌, IsTrue, IsSome, IfSome, IfNone, IfOk, OnOk, OnErr};
 ghost use Rattle.std.specs.List.{swap};
 ghost use Rattle.std.specs.FinMap as maps;
-ghost use Rattle.cnf_base.specs.Literals.{Clause, has, same_clause};
+ghost use Rattle.cnf_base.specs.Literals.{Clause, has, same_clause, size};
 ghost use Rattle.slab.specs.Slab.{slab_len, HasRoomFor};
-ghost use Rattle.clause_db.specs.Store.Clauses.{size, literals_in, copies_with};
+ghost use Rattle.clause_db.specs.Store.Clauses.{literals_in, copies_with};
 ghost use Rattle.clause_db.specs.Store.LiteralMarks.{is_marked, mark_count};
 ghost use Rattle.tables.specs.Table.{at};
 

@@ -1,5 +1,6 @@
 pub mod LiteralLemmas
 pub mod SetLemmas
+pub mod SizeLemmas
 pub mod LineLemmas
 pub mod StreamLemmas
 pub mod TextLemmas

@@ -3,7 +3,7 @@
 ghost use Rattle.std.specs.Prelude.{◌≡◌, ◌≢◌, ◌⊎◌, true, false, IfOk, IfErr, OnErr};
 ghost use Rattle.cnf_base.specs.Stream.{Reader};
 ghost use Rattle.proofs.specs.Lrat.{lrat_steps};
-ghost use Rattle.steps.specs.Theory.Rules.{drat, lrat};
+ghost use Rattle.theory.specs.Rules.{drat, lrat};
 ghost use Rattle.sat_check.specs.CommandLine.Asked.{drat_rules, IsAsked};
 ghost use Rattle.sat_check.specs.CommandLine.Words.{Accepts, said_by};
 ghost use Rattle.sat_check.specs.ModelReport.{ChecksModel};

@@ -1,8 +1,6 @@
 pub mod Closing
 pub mod Counts
-pub mod Covers
 pub mod Exact
-pub mod Forced
 pub mod HasAt
 pub mod Left
 pub mod Levels
@@ -13,5 +11,4 @@ pub mod Passes
 pub mod Reduced
 pub mod Scan
 pub mod Truth
-pub mod Unit
 pub mod Values

@@ -5,9 +5,10 @@ use Rattle.std.specs.Ordering.{nat_cmp}
 use Rattle.std.specs.FinMap as maps
 use Rattle.std.specs.FinMap.{FinMap}
 use Rattle.cnf_base.specs.Literals.{Literal, Clause, has, complement, complements}
-use Rattle.propagation.specs.Forced.{Live, Forced, Clash}
+use Rattle.theory.specs.Propagation.{Live, Forced, Clash}
 use Rattle.clause_db.specs.Store.Clauses.{literals_in}
-use Rattle.propagation.specs.Trail.{TrailState, SameSet}
+use Rattle.propagation.specs.Trail.{TrailState}
+use Rattle.theory.specs.Sets.{SameSet}
 use Rattle.propagation.specs.declared.answer.Answer.{Answer}
 use Rattle.propagation.specs.declared.answer.Answer.TheVariants.{Clash as AnswersClash, Quiet}
 use Rattle.propagation.specs.declared.value.Value.{Value}

@@ -2,8 +2,8 @@
 use Rattle.std.specs.Prelude.{◌≡◌, ℕ, ◌≤◌, List, [], ◌∷◌, take, length, IsTrue}
 use Rattle.cnf_base.specs.Literals.{Literal, has}
 use Rattle.propagation.specs.Assumptions.{Assumption, AssumptionsState}
-use Rattle.propagation.specs.Forced.{Live, IsClosed, Forced}
-use Rattle.propagation.specs.Trail.{SameSet}
+use Rattle.theory.specs.Propagation.{Live, IsClosed, Forced}
+use Rattle.theory.specs.Sets.{SameSet}
 use Rattle.propagation.specs.declared.answer.Answer.TheVariants.{Quiet}
 
 -- the true literals are a closed set that has the assumed ones, and all of them are forced

@@ -2,7 +2,6 @@ pub mod Assumptions
 pub mod Closure
 pub mod Code
 pub mod Exact
-pub mod Forced
 pub mod Left
 pub mod Levels
 pub mod LiteralSet

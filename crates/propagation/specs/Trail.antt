@@ -1,9 +1,10 @@
 -- Trails: the literals that are true, in the order in which they were set.
 use Rattle.std.specs.Prelude.{◌≡◌, ℕ, ◌++◌, Bool, IsFalse, ◌&&◌, nat_le, Some, List, map, nat_eq, IsTrue, if◌then◌else◌}
 use Rattle.std.specs.Bool.{OnFalse}
-use Rattle.std.specs.List.{IsDistinct, list_any}
+use Rattle.std.specs.List.{IsDistinct}
 use Rattle.cnf_base.specs.Literals.{Literal, variable, complement, complements, Clause, has}
-use Rattle.propagation.specs.Forced.{Live}
+use Rattle.theory.specs.Propagation.{Live}
+use Rattle.theory.specs.Sets.{SameSet, conflicts}
 use Rattle.propagation.specs.declared.value.Value.{Value}
 use Rattle.propagation.specs.declared.value.Value.TheVariants.{True, False, Open}
 
@@ -23,14 +24,6 @@ value_under lits l = if has lits l then True else if has lits (complement l) the
 -- no two of the literals are of one variable
 abbrev pub HasNoVariableTwice : List Literal → Type 0
 HasNoVariableTwice lits = IsDistinct nat_eq (map variable lits)
-
--- the same literals
-abbrev pub SameSet : List Literal → List Literal → Type 0
-SameSet first second = (l : Literal) → has first l ≡ has second l
-
--- the list holds a literal and its complement
-abbrev pub conflicts : List Literal → Bool
-conflicts ls = list_any (λ l. has ls (complement l)) ls
 
 -- the complements of a clause's literals are true beside what was, unless a literal and its complement would be
 pub record MakesFalse (before : List Literal) (c : Clause) (clashes : Bool) (after : List Literal) : Type 0 where

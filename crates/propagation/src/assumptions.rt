@@ -6,7 +6,8 @@ ghost use Rattle.cnf_base.specs.Literals.{Literal, complement, complements, has}
 ghost use Rattle.propagation.specs.Assumptions.{Assumption, MayAssume, assumed_by, roots_in};
 ghost use Rattle.propagation.specs.Levels.{Notes, number_at};
 ghost use Rattle.tables.specs.Table.{at};
-ghost use Rattle.propagation.specs.Trail.{HasRoom, SameSet, conflicts};
+ghost use Rattle.propagation.specs.Trail.{HasRoom};
+ghost use Rattle.theory.specs.Sets.{SameSet, conflicts};
 ghost use Rattle.propagation.specs.declared.answer.Answer.TheVariants.{Clash};
 
 use crate::levels::{Level, Levels};

@@ -2,11 +2,11 @@
 
 ghost use Rattle.std.specs.Prelude.{◌≡◌, ◌≢◌, [], ◌≤◌, ◌<◌, ◌∷◌, ℕ, min, not, true, false, ◌==◌, length, Some, None, List, IsTrue, IsSome, IfSome, IfNone, IfOk, OnOk, OnErr};
 ghost use Rattle.std.specs.FinMap as maps;
-ghost use Rattle.cnf_base.specs.Literals.{Clause, has, same_clause, complement, complements};
-ghost use Rattle.clause_db.specs.Store.Clauses.{size, copies_with};
+ghost use Rattle.cnf_base.specs.Literals.{Clause, has, same_clause, complement, complements, size};
+ghost use Rattle.clause_db.specs.Store.Clauses.{copies_with};
 ghost use Rattle.propagation.specs.Assumptions.{Propagation, Assumption, Assuming, AssumingPart, HoldsLiveAlone, HasAt, IsReducedAt, LastIsAnswered, IsValue, MayAssume, assumed_by};
-ghost use Rattle.propagation.specs.Forced.{IsRootReason};
-ghost use Rattle.propagation.specs.Trail.{conflicts};
+ghost use Rattle.theory.specs.Propagation.{IsRootReason};
+ghost use Rattle.theory.specs.Sets.{conflicts};
 ghost use Rattle.propagation.specs.declared.answer.Answer.TheVariants.{Quiet};
 
 use crate::{Answer, Value};

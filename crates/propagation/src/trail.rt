@@ -4,13 +4,15 @@ mod values;
 
 ghost use Rattle.std.specs.Prelude.{◌≡◌, ℕ, ◌*◌, ◌/◌, ◌-◌, ◌==◌, ◌<◌, ◌≤◌, ◌||◌, ◌&&◌, not, [], ◌∷◌, ◌++◌, filter, length, map, take, is_some, IsSome, IsTrue, IsFalse, ◌↔◌, IfSome, IfNone, IfOk, OnOk, OnErr, if◌then◌else◌};
 ghost use Rattle.cnf_base.specs.Literals.{complement, has, variable};
-ghost use Rattle.propagation.specs.Left.{open_literals, how_many, AreFalseFrom, IsCount, IsOpenAt};
-ghost use Rattle.propagation.specs.Trail.{value_under, is_variable, HasNoVariableTwice, SameSet, HasRoom, MakesFalse, conflicts};
+ghost use Rattle.theory.specs.Left.{open_literals, how_many};
+ghost use Rattle.propagation.specs.Left.{AreFalseFrom, IsCount, IsOpenAt};
+ghost use Rattle.propagation.specs.Trail.{value_under, is_variable, HasNoVariableTwice, HasRoom};
+ghost use Rattle.propagation.specs.Trail.{MakesFalse};
+ghost use Rattle.theory.specs.Sets.{SameSet, conflicts};
 ghost use Rattle.propagation.specs.Values.{value_at, known_value};
 ghost use Rattle.propagation.specs.declared.value.Value.TheVariants.{Open};
 
 use self::values::Values;
-use crate::left::Left;
 use crate::part::Part;
 use crate::truths::{Truths, left_of};
 use crate::value::Value;
@@ -18,6 +20,7 @@ use cnf_base::{Lit, OutOfMemory};
 use std::alloc::Global;
 use std::marker::Model;
 use tables::{Table, key};
+use theory::Left;
 
 /// The literals that are true, in the order in which they were set. No two are of one variable.
 ///

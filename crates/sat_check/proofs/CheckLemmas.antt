@@ -16,7 +16,7 @@ use Rattle.proofs.specs.declared.step_end.StepEnd.{StepEnd}
 use Rattle.proofs.specs.Reading.{ProofReading, PlacedStep, Proof, faulty_proof, with_step, GivesStep, PassesNoEnd}
 use Rattle.proofs.proofs.ReachLemmas.{steps_of-within, binary_steps-within}
 use Rattle.steps.specs.ProofSession.{View, is_over}
-use Rattle.steps.specs.Theory.Rules.{Rule, after, sum_of, IsFinite}
+use Rattle.theory.specs.Rules.{Rule, after, sum_of, IsFinite}
 use Rattle.sat_check.specs.Reach.{IsVerdict, ReadsNoFurther, TellsRefused}
 use Rattle.sat_check.specs.Report.{Report, Outcome, Reports, text_of, with_lines, end_report, drat_proof}
 use Rattle.sat_check.specs.Checking.{Standing, Rest, GoesOn, Stops, IsRefused, LeavesRest, LeavesProof, AllReports, counted, traced}
@@ -27,7 +27,7 @@ use Rattle.sat_check.proofs.OutcomeLemmas.{Outcome-after, Writes-all, Writes-sti
 use Rattle.sat_check.proofs.ReachLemmas.{no_verdict, not_passed, LeavesRest-none, LeavesRest-broken, LeavesRest-decided, LeavesRest-step}
 use Rattle.sat_check.proofs.ReportLemmas.{some_report}
 use Rattle.sat_check.proofs.RestLemmas.{Rest-clean, Rest-fault, Rest-some, Rest-step}
-use Rattle.steps.proofs.TheoryLemmas.Existence.{after_finite, same_finite}
+use Rattle.theory.proofs.LawLemmas.Existence.{after_finite, same_finite}
 
 abbrev pub fresh_reading : Stream → ProofReading
 fresh_reading s = record { stream = s; kept = None; step_end = None; stored = 0 }

@@ -8,7 +8,7 @@ use Rattle.std.specs.FinMap.{FinMap, get-empty}
 use Rattle.std.proofs.lemmas.Option.{none-some}
 use Rattle.std.proofs.lemmas.List.Folds.{list_any-append}
 use Rattle.std.proofs.lemmas.List.Sums.{sum_by-append}
-use Rattle.cnf_base.specs.Literals.{Clause, same_clause}
+use Rattle.cnf_base.specs.Literals.{Clause, same_clause, size}
 use Rattle.cnf_base.specs.Seen.{OfSeen}
 use Rattle.cnf_base.specs.Stream.{Reader, Stream, Along, unread_stream}
 use Rattle.cnf_base.specs.declared.fault.Fault.{Fault}
@@ -19,23 +19,25 @@ use Rattle.dimacs.specs.declared.header.Header.{Header}
 use Rattle.dimacs.specs.Reading.{FormulaReading, clauses_to_come, rests_to_come, opened, unopened}
 use Rattle.steps.specs.Drat.Session.{DratState, fresh_drat, clauses_of}
 use Rattle.steps.specs.Lrat.Session.{Session, fresh_lrat, state_of}
-use Rattle.steps.specs.Theory.Rules.{Rule, lrat, drat, State, by_ids, by_copies, start, with_input, sum_of, Same}
-use Rattle.steps.specs.Lrat.{with_clause, numbered, lrat_start}
-use Rattle.steps.proofs.TheoryLemmas.Existence.{numbered_above}
-use Rattle.steps.specs.Theory.Sizes.{total, size, size_at, sum_to}
+use Rattle.theory.specs.Rules.{Rule, lrat, drat, State, by_ids, by_copies, start, with_input}
+use Rattle.theory.specs.Rules.{sum_of, Same}
+use Rattle.theory.specs.Lrat.{with_clause, numbered, lrat_start}
+use Rattle.theory.proofs.LawLemmas.Existence.{numbered_above}
+use Rattle.theory.specs.Sizes.{total, size_at, sum_to}
 use Rattle.steps.specs.ProofSession.{View}
-use Rattle.steps.specs.Theory.Verdicts.{is_empty}
-use Rattle.steps.proofs.DratLemmas.Copies.{copies-cons, none_alive}
+use Rattle.theory.specs.Verdicts.{is_empty}
+use Rattle.theory.proofs.DratLemmas.Copies.{copies-cons, none_alive}
 use Rattle.cnf_base.proofs.SetLemmas.{same_itself}
 use Rattle.steps.proofs.DratLemmas.Steps.{none_listed}
-use Rattle.steps.proofs.LratLemmas.LiveSets.{SameClauses-trans, SameClauses-eq}
-use Rattle.steps.proofs.TheoryLemmas.Rules.{same_trans, sum_same}
-use Rattle.steps.proofs.LratLemmas.SameSets.{with_same}
-use Rattle.steps.proofs.LratLemmas.Sessions.{numbered_push, fresh_is_numbered}
-use Rattle.steps.proofs.LratLemmas.Sums.{sum_with}
+use Rattle.theory.proofs.LratLemmas.LiveSets.{SameClauses-trans, SameClauses-eq}
+use Rattle.theory.proofs.LawLemmas.Rules.{same_trans, sum_same}
+use Rattle.theory.proofs.LratLemmas.SameSets.{with_same}
+use Rattle.theory.proofs.LratLemmas.States.{numbered_push}
+use Rattle.steps.proofs.LratLemmas.Sessions.{fresh_is_numbered}
+use Rattle.theory.proofs.LratLemmas.Sums.{sum_with}
 use Rattle.sat_check.specs.Checking.{IsLoaded, LoadsBody, Loads}
 use Rattle.sat_check.proofs.ReadLemmas.{length_push, seen_nothing, seen_run, Reads, Gave, FaultAfter, Reads-start, Reads-clause, Reads-done, Reads-fault}
-use Rattle.steps.specs.declared.drat.rules.DratRules.{DratRules}
+use Rattle.theory.specs.declared.drat_rules.DratRules.{DratRules}
 
 -- no clause has a number past the last
 -- one clause more, and its size more

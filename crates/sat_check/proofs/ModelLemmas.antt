@@ -13,7 +13,7 @@ use Rattle.cnf_base.specs.Stream.{Input, Reader, bytes_read}
 use Rattle.dimacs.specs.Claim.{claim_of, IsClaim, IsConsistent}
 use Rattle.dimacs.specs.Formula.{Formula, formula_of, clause_rests}
 use Rattle.dimacs.proofs.RestsLemmas.{clause_rests-length}
-use Rattle.steps.specs.Theory.Models.{Assignment, holds, satisfies, HasModel}
+use Rattle.theory.specs.Models.{Assignment, holds, satisfies, HasModel}
 use Rattle.sat_check.specs.Lines.{fault_line, fault_status}
 use Rattle.sat_check.specs.Report.{Outcome, Report, concluded}
 use Rattle.sat_check.specs.ModelReport.{meets, first_unmet, met_report, clauses_report, claim_report, model_report, Satisfies, ChecksModel, ReadsFormulaNoFurther}

@@ -13,13 +13,14 @@ use Rattle.proofs.specs.Steps.{Step}
 use Rattle.proofs.specs.Reading.{PlacedStep, Proof, with_step, PassesNoEnd}
 use Rattle.proofs.specs.declared.step_end.StepEnd.{StepEnd}
 use Rattle.steps.specs.ProofSession.{View}
-use Rattle.steps.specs.Theory.Rules.{Rule, State, by_ids, by_copies, start, Answers, after, Same}
-use Rattle.steps.specs.Theory.Verdicts.{Ending, verified, refused, no_empty_clause, Ends, Verdict, is_last, is_empty}
-use Rattle.steps.specs.declared.theory.accepted.Accepted.{Accepted}
-use Rattle.steps.proofs.LratLemmas.LiveSets.{SameClauses-sym}
-use Rattle.steps.proofs.LratLemmas.Steps.{ok_is, ok_err}
-use Rattle.steps.proofs.TheoryLemmas.Rules.{answer_unique}
-use Rattle.steps.proofs.TheoryLemmas.Verdicts.{ends_same}
+use Rattle.theory.specs.Rules.{Rule, State, by_ids, by_copies, start, Answers, after, Same}
+use Rattle.theory.specs.Verdicts.{Ending, verified, refused, no_empty_clause, Ends, Verdict}
+use Rattle.theory.specs.Verdicts.{is_last, is_empty}
+use Rattle.theory.specs.declared.accepted.Accepted.{Accepted}
+use Rattle.theory.proofs.LratLemmas.LiveSets.{SameClauses-sym}
+use Rattle.theory.proofs.LratLemmas.Steps.{ok_is, ok_err}
+use Rattle.theory.proofs.LawLemmas.Rules.{answer_unique}
+use Rattle.theory.proofs.LawLemmas.Verdicts.{ends_same}
 use Rattle.sat_check.specs.Reach.{deciding_step, refused_end, NeedsNoProof, IsVerdict}
 use Rattle.sat_check.specs.Report.{Outcome, bare_steps}
 use Rattle.sat_check.specs.Checking.{IsLoaded, Loads, IsRefused, LeavesRest, LeavesProof}

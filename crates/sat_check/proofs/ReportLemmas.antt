@@ -12,13 +12,13 @@ use Rattle.dimacs.specs.Formula.{Formula, formula_of, formula_with, header_of}
 use Rattle.dimacs.specs.declared.header.Header.{Header}
 use Rattle.proofs.specs.Reading.{Proof}
 use Rattle.proofs.specs.Steps.{Step}
-use Rattle.steps.specs.declared.theory.accepted.Accepted.{Accepted}
+use Rattle.theory.specs.declared.accepted.Accepted.{Accepted}
 use Rattle.steps.specs.ProofSession.{View, is_over}
-use Rattle.steps.specs.Theory.Rules.{Rule, start, sum_of, IsFinite}
-use Rattle.steps.specs.Theory.Verdicts.{verified, Ends}
-use Rattle.steps.proofs.TheoryLemmas.Existence.{same_finite, start_finite}
-use Rattle.steps.proofs.TheoryLemmas.Rules.{sum_same}
-use Rattle.steps.proofs.TheoryLemmas.Verdicts.{ends_same, some_ending, some_verdict}
+use Rattle.theory.specs.Rules.{Rule, start, sum_of, IsFinite}
+use Rattle.theory.specs.Verdicts.{verified, Ends}
+use Rattle.theory.proofs.LawLemmas.Existence.{same_finite, start_finite}
+use Rattle.theory.proofs.LawLemmas.Rules.{sum_same}
+use Rattle.theory.proofs.LawLemmas.Verdicts.{ends_same, some_ending, some_verdict}
 use Rattle.sat_check.specs.Lines.{formula_line, steps_line, fault_line, fault_status}
 use Rattle.sat_check.specs.Report.{Report, Outcome, Reports, concluded, with_lines, Checks, ReportsFormula, ProofReport, bare_steps, peak_of, proof_report}
 use Rattle.sat_check.specs.Checking.{IsLoaded, Loads, Rest}

@@ -5,18 +5,18 @@ use Rattle.cnf_base.specs.declared.fault.Fault.{Fault}
 use Rattle.proofs.specs.Steps.{Step}
 use Rattle.proofs.specs.Reading.{Proof, clean, faulty_proof, with_step}
 use Rattle.proofs.specs.declared.step_end.StepEnd.{StepEnd}
-use Rattle.steps.specs.declared.theory.accepted.Accepted.{Accepted}
-use Rattle.steps.specs.declared.theory.accepted.Accepted.TheVariants.{Empty}
-use Rattle.steps.specs.declared.theory.refusal.Refusal.{Refusal}
-use Rattle.steps.specs.Theory.Rules.{State, Answers, after, sum_of, Same, IsFinite}
-use Rattle.steps.specs.Theory.Verdicts.{verified, refused, no_empty_clause, is_last, Ends}
-use Rattle.steps.proofs.TheoryLemmas.Rules.{after_same, sum_same}
+use Rattle.theory.specs.declared.accepted.Accepted.{Accepted}
+use Rattle.theory.specs.declared.accepted.Accepted.TheVariants.{Empty}
+use Rattle.theory.specs.declared.refusal.Refusal.{Refusal}
+use Rattle.theory.specs.Rules.{State, Answers, after, sum_of, Same, IsFinite}
+use Rattle.theory.specs.Verdicts.{verified, refused, no_empty_clause, is_last, Ends}
+use Rattle.theory.proofs.LawLemmas.Rules.{after_same, sum_same}
 use Rattle.sat_check.specs.Lines.{refusal_line, steps_line}
 use Rattle.sat_check.specs.Report.{Report, concluded, with_lines, trace_lines, end_report, verdict_report, peak_of, bare_steps, proof_report}
 use Rattle.sat_check.specs.Checking.{Rest, traced}
 use Rattle.sat_check.specs.declared.subject.Subject.TheVariants as subjects
 use Rattle.sat_check.specs.declared.status.Status.TheVariants.{Verified, NotVerified}
-use Rattle.steps.proofs.TheoryLemmas.Verdicts.{ends_same, some_ending}
+use Rattle.theory.proofs.LawLemmas.Verdicts.{ends_same, some_ending}
 
 pub peak_same : (steps : List Step) (words : List Accepted) (first second : State) → Same first second → peak_of first steps words ≡ peak_of second steps words
 peak_same [] words first second same = sum_same first second same

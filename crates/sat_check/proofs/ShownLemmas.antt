@@ -1,7 +1,7 @@
 -- Numbers are shown up to the greatest of 64 bits.
 use Rattle.std.proofs.Common.{◌≡◌, ℕ, ◌-◌, ◌^◌, min, Bool, true, false, [], ◌∷◌, ◌++◌, refl, ap, ◌∙◌, codes, decimal, arith}
-use Rattle.steps.specs.declared.theory.accepted.Accepted.{Accepted}
-use Rattle.steps.specs.declared.theory.refusal.Refusal.{Refusal}
+use Rattle.theory.specs.declared.accepted.Accepted.{Accepted}
+use Rattle.theory.specs.declared.refusal.Refusal.{Refusal}
 use Rattle.sat_check.specs.Lines.{shown, word_text, refusal_line, with_cause, steps_line}
 use Rattle.sat_check.specs.Checking.{counted, traced}
 

@@ -9,10 +9,10 @@ use Rattle.cnf_base.specs.declared.fault.TextFault.TheVariants as text
 use Rattle.dimacs.specs.Formula.{Formula, formula_of}
 use Rattle.dimacs.specs.declared.header.Header.{Header}
 use Rattle.proofs.specs.Reading.{Proof}
-use Rattle.steps.specs.Theory.Models.{HasModel}
-use Rattle.steps.specs.Theory.Rules.{Rule, start}
-use Rattle.steps.specs.Theory.Verdicts.{Ending, verified, refused, no_empty_clause, Verdict}
-use Rattle.steps.proofs.TheoryLemmas.Verdicts.{verdict_sound, verdict_unique}
+use Rattle.theory.specs.Models.{HasModel}
+use Rattle.theory.specs.Rules.{Rule, start}
+use Rattle.theory.specs.Verdicts.{Ending, verified, refused, no_empty_clause, Verdict}
+use Rattle.theory.proofs.LawLemmas.Verdicts.{verdict_sound, verdict_unique}
 use Rattle.sat_check.specs.Checking.{AllReports}
 use Rattle.sat_check.specs.Lines.{fault_status, text_status}
 use Rattle.sat_check.specs.Reach.{ReadsNoFurther, TellsRefused}

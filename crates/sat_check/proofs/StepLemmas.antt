@@ -5,14 +5,15 @@ use Rattle.cnf_base.specs.Lines.{Sink, Writes}
 use Rattle.proofs.specs.Steps.{Step}
 use Rattle.proofs.specs.Reading.{Proof, with_step}
 use Rattle.proofs.specs.declared.step_end.StepEnd.{StepEnd}
-use Rattle.steps.specs.declared.theory.accepted.Accepted.{Accepted}
-use Rattle.steps.specs.declared.theory.accepted.Accepted.TheVariants.{Empty, Rup, Rat, Pr, Deleted, Ignored}
-use Rattle.steps.specs.declared.theory.refusal.Refusal.{Refusal}
-use Rattle.steps.specs.declared.theory.refusal.Refusal.TheVariants.{OutOfMemory}
+use Rattle.theory.specs.declared.accepted.Accepted.{Accepted}
+use Rattle.theory.specs.declared.accepted.Accepted.TheVariants.{Empty, Rup, Rat, Pr, Deleted}
+use Rattle.theory.specs.declared.accepted.Accepted.TheVariants.{Ignored}
+use Rattle.theory.specs.declared.refusal.Refusal.{Refusal}
+use Rattle.theory.specs.declared.refusal.Refusal.TheVariants.{OutOfMemory}
 use Rattle.steps.specs.ProofSession.{View}
-use Rattle.steps.specs.Theory.Rules.{Answers, after, sum_of, Same}
-use Rattle.steps.specs.Theory.StepAnswer.{UnlessOutOfMemory}
-use Rattle.steps.specs.Theory.Verdicts.{is_last}
+use Rattle.theory.specs.Rules.{Answers, after, sum_of, Same}
+use Rattle.theory.specs.Answers.{UnlessOutOfMemory}
+use Rattle.theory.specs.Verdicts.{is_last}
 use Rattle.sat_check.specs.Lines.{refusal_line, steps_line}
 use Rattle.sat_check.specs.Report.{Report, Outcome, concluded, with_lines, text_of}
 use Rattle.sat_check.specs.Reach.{IsVerdict}
@@ -24,7 +25,7 @@ use Rattle.sat_check.proofs.OutcomeLemmas.{Outcome-after, Writes-all}
 use Rattle.sat_check.proofs.ReachLemmas.{no_verdict}
 use Rattle.sat_check.proofs.RestLemmas.{Rest-some, Rest-refused, Rest-verified, Rest-step}
 use Rattle.sat_check.proofs.ShownLemmas.{traced_same, refusal_same, steps_same}
-use Rattle.steps.proofs.TheoryLemmas.Existence.{after_finite, same_finite}
+use Rattle.theory.proofs.LawLemmas.Existence.{after_finite, same_finite}
 
 -- an answer that isn't want of memory is the rule's
 pub given : (r : Refusal) (P : Type 0) → is_memory r ≡ false → UnlessOutOfMemory (Err r) P → P

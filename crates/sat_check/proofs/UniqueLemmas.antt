@@ -5,10 +5,10 @@ use Rattle.cnf_base.specs.declared.fault.Fault.{Fault}
 use Rattle.dimacs.specs.Formula.{formula_of}
 use Rattle.dimacs.specs.declared.header.Header.{Header}
 use Rattle.proofs.specs.Reading.{Proof}
-use Rattle.steps.specs.Theory.Rules.{Rule, start}
-use Rattle.steps.specs.Theory.Verdicts.{Ending}
-use Rattle.steps.specs.declared.theory.accepted.Accepted.{Accepted}
-use Rattle.steps.proofs.TheoryLemmas.Verdicts.{verdict_unique}
+use Rattle.theory.specs.Rules.{Rule, start}
+use Rattle.theory.specs.Verdicts.{Ending}
+use Rattle.theory.specs.declared.accepted.Accepted.{Accepted}
+use Rattle.theory.proofs.LawLemmas.Verdicts.{verdict_unique}
 use Rattle.sat_check.specs.Lines.{formula_line}
 use Rattle.sat_check.specs.Report.{Report, Checks, ReportsFormula, ReportsAreUnique, with_lines, proof_report, peak_of, bare_steps}
 

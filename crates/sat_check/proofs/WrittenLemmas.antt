@@ -22,12 +22,13 @@ use Rattle.cnf_base.specs.declared.fault.BinaryFault.TheVariants as binary
 use Rattle.dimacs.specs.Formula.{formula_of}
 use Rattle.dimacs.specs.declared.header.Header.{Header}
 use Rattle.proofs.specs.Reading.{Proof}
-use Rattle.steps.specs.Theory.Rules.{Rule}
-use Rattle.steps.specs.Theory.Verdicts.{Ending, verified, refused, no_empty_clause}
-use Rattle.steps.specs.declared.theory.accepted.Accepted.{Accepted}
-use Rattle.steps.specs.declared.theory.accepted.Accepted.TheVariants.{Rup, Rat, Pr, Deleted, Ignored, Empty}
-use Rattle.steps.specs.declared.theory.refusal.Refusal.{Refusal}
-use Rattle.steps.specs.declared.theory.refusal.Refusal.TheVariants as refusal
+use Rattle.theory.specs.Rules.{Rule}
+use Rattle.theory.specs.Verdicts.{Ending, verified, refused, no_empty_clause}
+use Rattle.theory.specs.declared.accepted.Accepted.{Accepted}
+use Rattle.theory.specs.declared.accepted.Accepted.TheVariants.{Rup, Rat, Pr, Deleted, Ignored}
+use Rattle.theory.specs.declared.accepted.Accepted.TheVariants.{Empty}
+use Rattle.theory.specs.declared.refusal.Refusal.{Refusal}
+use Rattle.theory.specs.declared.refusal.Refusal.TheVariants as refusal
 use Rattle.sat_check.specs.Lines.{shown, formula_line, kind_text, binary_text, fault_line, fault_status, word_text, trace_line, sign_text, with_cause, refusal_line, steps_line, end_line, sentence}
 use Rattle.sat_check.specs.Report.{Report, Outcome, text_of, concluded, with_lines, trace_lines, verdict_report, proof_report, ReportsFormula, ProofReport, HasWritten}
 use Rattle.sat_check.proofs.OutcomeLemmas.{text_of-append}

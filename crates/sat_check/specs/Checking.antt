@@ -12,12 +12,12 @@ use Rattle.dimacs.specs.declared.header.Header.{Header}
 use Rattle.proofs.specs.Steps.{Step}
 use Rattle.proofs.specs.Reading.{PlacedStep, Proof, with_step}
 use Rattle.proofs.specs.declared.step_end.StepEnd.{StepEnd}
-use Rattle.steps.specs.Theory.Rules.{Rule, State, start, Answers, after, sum_of, Same, IsFinite}
+use Rattle.theory.specs.Rules.{Rule, State, start, Answers, after, sum_of, Same, IsFinite}
 use Rattle.steps.specs.ProofSession.{View, is_over}
-use Rattle.steps.specs.Theory.Verdicts.{Ending, Ends, Verdict, is_empty, is_last}
-use Rattle.steps.specs.declared.theory.accepted.Accepted.{Accepted}
-use Rattle.steps.specs.declared.theory.refusal.Refusal.{Refusal}
-use Rattle.steps.specs.declared.theory.refusal.Refusal.TheVariants.{OutOfMemory as RefusedMemory}
+use Rattle.theory.specs.Verdicts.{Ending, Ends, Verdict, is_empty, is_last}
+use Rattle.theory.specs.declared.accepted.Accepted.{Accepted}
+use Rattle.theory.specs.declared.refusal.Refusal.{Refusal}
+use Rattle.theory.specs.declared.refusal.Refusal.TheVariants.{OutOfMemory as RefusedMemory}
 use Rattle.sat_check.specs.Lines.{trace_line}
 use Rattle.sat_check.specs.Reach.{deciding_step, refused_end, NeedsNoProof, ReadsNoFurther, TellsRefused}
 use Rattle.sat_check.specs.Report.{Report, Reports, Outcome, text_of, bare_steps, peak_of, proof_report}

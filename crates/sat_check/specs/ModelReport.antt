@@ -10,7 +10,7 @@ use Rattle.dimacs.specs.Formula.{Formula, formula_of, clause_rests}
 use Rattle.sat_check.specs.Lines.{unmet_line, clauses_line, fault_line, fault_status}
 use Rattle.sat_check.specs.Report.{Report, Outcome, IsUnlessBroken, concluded}
 use Rattle.sat_check.specs.declared.subject.Subject.TheVariants.{Model}
-use Rattle.steps.specs.Theory.Models.{HasModel}
+use Rattle.theory.specs.Models.{HasModel}
 use Rattle.sat_check.specs.declared.status.Status.{Status}
 use Rattle.sat_check.specs.declared.status.Status.TheVariants.{Verified, NotVerified}
 

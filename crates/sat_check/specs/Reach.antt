@@ -7,9 +7,9 @@ use Rattle.cnf_base.specs.declared.fault.Fault.{Fault}
 use Rattle.dimacs.specs.Formula.{Formula}
 use Rattle.proofs.specs.Reading.{PlacedStep, Proof}
 use Rattle.proofs.specs.declared.step_end.StepEnd.{StepEnd}
-use Rattle.steps.specs.Theory.Rules.{Rule}
-use Rattle.steps.specs.Theory.Verdicts.{Ending, verified, refused, no_empty_clause, Verdict, is_empty}
-use Rattle.steps.specs.declared.theory.accepted.Accepted.{Accepted}
+use Rattle.theory.specs.Rules.{Rule}
+use Rattle.theory.specs.Verdicts.{Ending, verified, refused, no_empty_clause, Verdict, is_empty}
+use Rattle.theory.specs.declared.accepted.Accepted.{Accepted}
 use Rattle.sat_check.specs.Report.{bare_steps}
 use Rattle.sat_check.specs.declared.checked.Checked.{Checked}
 use Rattle.sat_check.specs.declared.status.Status.{Status}

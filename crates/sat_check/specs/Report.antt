@@ -14,12 +14,12 @@ use Rattle.proofs.specs.Reading.{Proof}
 use Rattle.proofs.specs.Steps.{Step}
 use Rattle.proofs.specs.Binary.{binary_steps}
 use Rattle.proofs.specs.Drat.{drat_steps}
-use Rattle.steps.specs.Theory.Models.{HasModel}
-use Rattle.steps.specs.Theory.Rules.{Rule, State, start, after, sum_of}
-use Rattle.steps.specs.Theory.Verdicts.{Ending, verified, refused, no_empty_clause, Verdict}
-use Rattle.steps.specs.declared.drat.rules.DratRules.{DratRules}
+use Rattle.theory.specs.Models.{HasModel}
+use Rattle.theory.specs.Rules.{Rule, State, start, after, sum_of}
+use Rattle.theory.specs.Verdicts.{Ending, verified, refused, no_empty_clause, Verdict}
+use Rattle.theory.specs.declared.drat_rules.DratRules.{DratRules}
 use Rattle.sat_check.specs.declared.options.DratOptions.{DratOptions}
-use Rattle.steps.specs.declared.theory.accepted.Accepted.{Accepted}
+use Rattle.theory.specs.declared.accepted.Accepted.{Accepted}
 use Rattle.sat_check.specs.Lines.{formula_line, fault_line, fault_status, trace_line, refusal_line, steps_line, end_line, sentence}
 use Rattle.sat_check.specs.declared.subject.Subject.{Subject}
 use Rattle.sat_check.specs.declared.subject.Subject.TheVariants as subjects

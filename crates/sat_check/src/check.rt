@@ -5,7 +5,7 @@ ghost use Rattle.cnf_base.specs.Literals.{Clause};
 ghost use Rattle.cnf_base.specs.Stream.{Input, Along, tells_failure};
 ghost use Rattle.cnf_base.specs.Seen.{Seen, IsSeen, OneHasFailed};
 ghost use Rattle.dimacs.specs.Formula.{formula_of};
-ghost use Rattle.steps.specs.Theory.Rules.{Rule, rule_of};
+ghost use Rattle.theory.specs.Rules.{Rule, rule_of};
 ghost use Rattle.sat_check.specs.Report.{Report, Outcome, Checks, Reports, is_cut_short};
 ghost use Rattle.sat_check.specs.Checking.{IsLoaded, LeavesProof};
 

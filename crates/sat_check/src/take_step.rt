@@ -3,10 +3,10 @@
 ghost use Rattle.std.specs.Prelude.{◌≡◌, ◌≢◌, true, false, IfErr, IfNone, IfSome, OnOk, IsFalse};
 ghost use Rattle.cnf_base.specs.Lines.{Writes};
 ghost use Rattle.steps.specs.ProofSession.{is_over};
-ghost use Rattle.steps.specs.Theory.Verdicts.{is_last};
+ghost use Rattle.theory.specs.Verdicts.{is_last};
 ghost use Rattle.sat_check.specs.Lines.{refusal_line, trace_line};
-ghost use Rattle.sat_check.specs.Report.{Report, Outcome, is_cut_short};
-ghost use Rattle.sat_check.specs.Report.{concluded, with_lines, text_of};
+ghost use Rattle.sat_check.specs.Report.{Report, Outcome, is_cut_short, concluded, with_lines};
+ghost use Rattle.sat_check.specs.Report.{text_of};
 ghost use Rattle.sat_check.specs.Reach.{IsVerdict};
 ghost use Rattle.sat_check.specs.Checking.{Decides, GoesOn, IsRefused, Stops, IsBreak, IsTold, is_memory, traced};
 

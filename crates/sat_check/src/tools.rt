@@ -4,7 +4,7 @@ ghost use Rattle.std.specs.Prelude.{◌≡◌, true, false};
 ghost use Rattle.cnf_base.specs.Seen.{OfBothSeen, OneHasFailed};
 ghost use Rattle.dimacs.specs.Formula.{formula_of};
 ghost use Rattle.proofs.specs.Lrat.{lrat_steps};
-ghost use Rattle.steps.specs.Theory.Rules.{drat, lrat};
+ghost use Rattle.theory.specs.Rules.{drat, lrat};
 ghost use Rattle.sat_check.specs.CommandLine.Asked.{drat_rules};
 ghost use Rattle.sat_check.specs.Reach.{ReadsNoFurther, TellsRefused};
 ghost use Rattle.sat_check.specs.Report.{ChecksProof, drat_proof, is_cut_short};

@@ -1,3 +1,2 @@
 pub mod DratLemmas
 pub mod LratLemmas
-pub mod TheoryLemmas

@@ -1,4 +1,3 @@
 pub mod Drat
 pub mod Lrat
 pub mod ProofSession
-pub mod Theory

@@ -1,6 +1,6 @@
 -- A session of either rule, as its callers see it.
 use Rattle.std.specs.Prelude.{◌≡◌, ℕ, Bool, true, ◌||◌}
-use Rattle.steps.specs.Theory.Rules.{State}
+use Rattle.theory.specs.Rules.{State}
 
 pub record View : Type 0 where
   pub state : State

@@ -1,23 +1,20 @@
 //! Sessions that check a DRAT proof.
 
 mod pr;
-pub(crate) mod rules;
 mod step;
 
 ghost use Rattle.std.specs.Prelude.{◌≡◌, [], false};
 ghost use Rattle.std.specs.FinMap as maps;
 ghost use Rattle.steps.specs.Drat.Session.{fresh_drat, clauses_of};
 
-use crate::drat::rules::DratRules;
 use crate::drat::step::{add_copy, take_step};
 use crate::proof_session::ProofSession;
 use crate::proof_session::progress::Progress;
-use crate::theory::accepted::Accepted;
-use crate::theory::refusal::Refusal;
 use cnf_base::Lit;
 use proofs::StepBuf;
 use propagation::Propagate;
 use std::marker::Model;
+use theory::{Accepted, DratRules, Refusal};
 
 /// A check of a DRAT proof: the clauses of the formula are input first, and then the steps are taken in order.
 #[derive(Drop)]
@@ -69,7 +66,7 @@ impl<P: Propagate> DratSession<P> {
 }
 
 impl<P: Propagate> ProofSession for DratSession<P> {
-    ghost use Rattle.steps.specs.Theory.Rules.{by_copies};
+    ghost use Rattle.theory.specs.Rules.{by_copies};
 
     ghost shown = { λ s. record {
       state = by_copies s.rules (clauses_of s);

@@ -4,13 +4,9 @@
 mod drat;
 mod lrat;
 mod proof_session;
-mod theory;
+mod word;
 
 pub use drat::DratSession;
-pub use drat::rules::DratRules;
 pub use lrat::LratSession;
 pub use proof_session::ProofSession;
-pub use propagation::Left;
-pub use theory::accepted::Accepted;
-pub use theory::laws;
-pub use theory::refusal::Refusal;
+pub use theory::{Accepted, DratRules, Left, Refusal, laws};

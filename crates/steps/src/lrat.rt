@@ -9,23 +9,23 @@ mod walk;
 ghost use Rattle.std.specs.Prelude.{◌≡◌, ◌≢◌, ◌⊎◌, ◌+◌, ◌-◌, ◌<◌, ◌≤◌, ◌^◌, ◌||◌, ◌↔◌, min, max, true, false, IsTrue, IsFalse, IfOk, IfErr, OnOk, OnErr, ℕ};
 ghost use Rattle.std.specs.FinMap as maps;
 ghost use Rattle.cnf_base.specs.Literals.{complements};
-ghost use Rattle.steps.specs.Lrat.{chain, units_of, groups_of, AnswersChain, AnswersLrat, after_lrat, lrat_step, with_clause, SameClauses};
+ghost use Rattle.theory.specs.Lrat.{chain, units_of, groups_of, AnswersChain, AnswersLrat};
+ghost use Rattle.theory.specs.Lrat.{after_lrat, lrat_step, with_clause, SameClauses};
 ghost use Rattle.propagation.specs.Trail.{HasRoom};
 ghost use Rattle.steps.specs.Lrat.Shelf.{shelf_state};
 ghost use Rattle.steps.specs.Lrat.Session.{fresh_lrat, state_of, IsReady};
-ghost use Rattle.steps.specs.Theory.StepAnswer.{UnlessOutOfMemory};
+ghost use Rattle.theory.specs.Answers.{UnlessOutOfMemory};
 
 use crate::lrat::addition::judge_addition;
 use crate::lrat::live_clauses::{LiveClauses, delete_all};
 use crate::proof_session::ProofSession;
 use crate::proof_session::progress::Progress;
-use crate::theory::accepted::Accepted;
-use crate::theory::refusal::Refusal;
 use cnf_base::{Lit, OutOfMemory};
 use proofs::{StepBuf, StepKind};
 use propagation::Trail;
 use std::alloc::Global;
 use std::marker::Model;
+use theory::{Accepted, Refusal};
 
 /// A check of an LRAT proof: the clauses of the formula are input first, and then the steps are taken in order.
 #[derive(Drop)]
@@ -173,7 +173,7 @@ impl LratSession {
 
 impl ProofSession for LratSession {
     ghost use Rattle.std.specs.Prelude.{◌-◌};
-    ghost use Rattle.steps.specs.Theory.Rules.{by_ids};
+    ghost use Rattle.theory.specs.Rules.{by_ids};
 
     ghost shown = { λ s. record {
       state = by_ids (state_of s);

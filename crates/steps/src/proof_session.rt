@@ -4,14 +4,14 @@ pub(crate) mod progress;
 
 ghost use Rattle.std.specs.Prelude.{◌≡◌, ◌⊎◌, ◌+◌, ◌-◌, ◌^◌, ◌<◌, ◌≤◌, ◌||◌, ◌↔◌, min, max, length, true, false, IsTrue, IsFalse, IfOk, IfErr, OnOk, OnErr};
 ghost use Rattle.steps.specs.ProofSession.{View, is_over, IsCutOff};
-ghost use Rattle.steps.specs.Theory.Rules.{Same, with_input, Answers, after, literals_of, sum_of, rule_of, IsSatisfiable};
-ghost use Rattle.steps.specs.Theory.StepAnswer.{UnlessOutOfMemory};
-ghost use Rattle.steps.specs.Theory.Verdicts.{is_empty, is_last};
+ghost use Rattle.theory.specs.Rules.{Same, with_input, Answers, after, literals_of, sum_of};
+ghost use Rattle.theory.specs.Rules.{rule_of, IsSatisfiable};
+ghost use Rattle.theory.specs.Answers.{UnlessOutOfMemory};
+ghost use Rattle.theory.specs.Verdicts.{is_empty, is_last};
 
-use crate::theory::accepted::Accepted;
-use crate::theory::refusal::Refusal;
 use cnf_base::Lit;
 use proofs::StepBuf;
+use theory::{Accepted, Refusal};
 
 /// A check of a proof: the clauses of the formula are input first, and then the steps are taken in order.
 pub trait ProofSession {

@@ -5,12 +5,12 @@ use Rattle.std.specs.FinMap as maps
 use Rattle.std.specs.FinMap.{FinMap}
 use Rattle.cnf_base.specs.Literals.{Literal, Clause, has, complement}
 use Rattle.tables.specs.Table.{at}
-use Rattle.propagation.specs.Forced.{Live, Forced}
+use Rattle.theory.specs.Propagation.{Live, Forced}
 use Rattle.propagation.specs.Assumptions.{Assumption, HasAt}
 use Rattle.watch.specs.Order.{each_in_order}
 use Rattle.watch.specs.Watched.{HasUnit, IsWatched}
-use Rattle.propagation.specs.declared.left.Left.{Left}
-use Rattle.propagation.specs.declared.left.Left.TheVariants.{Nothing, One, More}
+use Rattle.theory.specs.declared.left.Left.{Left}
+use Rattle.theory.specs.declared.left.Left.TheVariants.{Nothing, One, More}
 use Rattle.watch.specs.declared.roots.Kept.{Kept}
 use Rattle.watch.specs.declared.roots.Kept.TheVariants.{Lost, Behind, All, Clash}
 use Rattle.watch.specs.declared.roots.Roots.{Roots}

@@ -4,11 +4,10 @@ use Rattle.std.specs.Ordering.{nat_cmp}
 use Rattle.std.specs.Coded.{Coded, code_by, coded×, coded_bool, coded_list, coded_ℕ}
 use Rattle.std.specs.FinMap as maps
 use Rattle.std.specs.FinMap.{FinMap}
-use Rattle.cnf_base.specs.Literals.{Literal, Clause}
+use Rattle.cnf_base.specs.Literals.{Literal, Clause, size}
 use Rattle.propagation.specs.Assumptions.{AssumptionsState, Propagation, roots_in}
 use Rattle.propagation.specs.Code.{propagation_code}
 use Rattle.propagation.specs.Scan.{IsHeld}
-use Rattle.clause_db.specs.Store.Clauses.{size}
 use Rattle.watch.specs.Lists.{AreApart, entries_in, list_at}
 use Rattle.watch.specs.Order.{each_in_order}
 use Rattle.watch.specs.Roots.{AreForced, IsKept, IsStanding}

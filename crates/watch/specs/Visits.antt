@@ -4,7 +4,7 @@ use Rattle.std.specs.Ordering.{nat_cmp}
 use Rattle.std.specs.FinMap as maps
 use Rattle.std.specs.FinMap.{FinMap}
 use Rattle.cnf_base.specs.Literals.{Literal, complement, Clause, has}
-use Rattle.propagation.specs.Forced.{Forced}
+use Rattle.theory.specs.Propagation.{Forced}
 use Rattle.propagation.specs.Assumptions.{AssumptionsState}
 use Rattle.propagation.specs.Exact.{Extends}
 use Rattle.watch.specs.Lists.{AreApart, has_list_at, list_at}

@@ -2,11 +2,11 @@
 use Rattle.std.specs.Prelude.{◌≡◌, ℕ, ◌<◌, ◌==◌, ◌||◌, Bool, true, false, Option, Some, None, List, [], ◌∷◌, take, nat_le, if◌then◌else◌, ⊤, IsTrue, IsSome}
 use Rattle.std.specs.Ordering.{nat_cmp}
 use Rattle.std.specs.FinMap.{FinMap}
-use Rattle.cnf_base.specs.Literals.{Literal, complement, Clause, has}
-use Rattle.propagation.specs.Forced.{Live}
+use Rattle.cnf_base.specs.Literals.{Literal, complement, Clause, has, size}
+use Rattle.theory.specs.Propagation.{Live}
 use Rattle.propagation.specs.Assumptions.{Assumption}
 use Rattle.watch.specs.Lists.{entries_of, strangers, times_in}
-use Rattle.clause_db.specs.Store.Clauses.{size, sum_over}
+use Rattle.clause_db.specs.Store.Clauses.{sum_over}
 use Rattle.propagation.specs.declared.answer.Answer.TheVariants.{Quiet}
 use Rattle.watch.specs.declared.watcher.Watcher.{Watcher}
 

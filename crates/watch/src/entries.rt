@@ -2,8 +2,7 @@
 
 ghost use Rattle.std.specs.Prelude.{◌≡◌, ◌≢◌, ℕ, ◌+◌, ◌<◌, ◌≤◌, ◌==◌, ◌&&◌, Some, length, if◌then◌else◌, IsTrue, IsFalse, IsSome, OnOk, OnErr};
 ghost use Rattle.std.specs.FinMap as maps;
-ghost use Rattle.cnf_base.specs.Literals.{Clause, has};
-ghost use Rattle.clause_db.specs.Store.Clauses.{size};
+ghost use Rattle.cnf_base.specs.Literals.{Clause, has, size};
 ghost use Rattle.watch.specs.Lists.{AreApart, entries_in, entries_of, list_at, strangers, times_in};
 ghost use Rattle.watch.specs.Watched.{IsListed, IsShortList, is_short, watches};
 

@@ -3,9 +3,9 @@
 ghost use Rattle.std.specs.Prelude.{◌≡◌, ◌≢◌, ℕ, ◌+◌, ◌<◌, ◌≤◌, length, slice_index, take, Some, IsTrue, IsFalse, IfOk, OnOk, OnErr, IfSome, IfNone};
 ghost use Rattle.std.specs.List.{swap};
 ghost use Rattle.std.specs.FinMap as maps;
-ghost use Rattle.cnf_base.specs.Literals.{Clause, complement, has};
-ghost use Rattle.clause_db.specs.Store.Clauses.{size};
-ghost use Rattle.propagation.specs.Trail.{HasRoomForAll, conflicts};
+ghost use Rattle.cnf_base.specs.Literals.{Clause, complement, has, size};
+ghost use Rattle.propagation.specs.Trail.{HasRoomForAll};
+ghost use Rattle.theory.specs.Sets.{conflicts};
 ghost use Rattle.watch.specs.Lists.{AreApart, entries_in, list_at, slot_at};
 ghost use Rattle.watch.specs.Order.{each_in_order};
 ghost use Rattle.watch.specs.Watched.{IsListed, IsMet, IsWatched};

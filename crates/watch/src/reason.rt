@@ -3,7 +3,7 @@
 ghost use Rattle.std.specs.Prelude.{◌≡◌, [], true, false, Some, IsSome, IfOk};
 ghost use Rattle.std.specs.FinMap as maps;
 ghost use Rattle.cnf_base.specs.Literals.{Clause};
-ghost use Rattle.propagation.specs.Forced.{IsRootReason};
+ghost use Rattle.theory.specs.Propagation.{IsRootReason};
 ghost use Rattle.propagation.specs.Trail.{HasRoomForAll};
 ghost use Rattle.watch.specs.Order.{each_in_order};
 ghost use Rattle.watch.specs.Roots.{IsKept, is_up_to_date};

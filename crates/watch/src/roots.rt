@@ -4,7 +4,8 @@ ghost use Rattle.std.specs.Prelude.{◌≡◌, ◌≢◌, ℕ, ◌<◌, ◌/◌,
 ghost use Rattle.std.specs.FinMap as maps;
 ghost use Rattle.cnf_base.specs.Literals.{Literal, Clause, complement, has};
 ghost use Rattle.tables.specs.Table.{at};
-ghost use Rattle.propagation.specs.Trail.{HasRoom, SameSet, conflicts};
+ghost use Rattle.propagation.specs.Trail.{HasRoom};
+ghost use Rattle.theory.specs.Sets.{SameSet, conflicts};
 ghost use Rattle.watch.specs.Roots.{HasReasons, IsArranged, IsKept, has_clash, is_up_to_date};
 ghost use Rattle.watch.specs.declared.roots.Kept.TheVariants.{Clash, Lost};
 

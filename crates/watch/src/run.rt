@@ -11,7 +11,7 @@ ghost use Rattle.watch.specs.Order.{each_in_order};
 ghost use Rattle.watch.specs.Roots.{AreNoted, HaveUnits};
 ghost use Rattle.watch.specs.Watched.{IsListed, IsWatched};
 ghost use Rattle.watch.specs.Visits.{Carries};
-ghost use Rattle.propagation.specs.Forced.{IsClosed};
+ghost use Rattle.theory.specs.Propagation.{IsClosed};
 ghost use Rattle.propagation.specs.declared.answer.Answer.TheVariants.{Quiet};
 
 use crate::follow::propagate;

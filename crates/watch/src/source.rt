@@ -4,7 +4,8 @@ ghost use Rattle.std.specs.Prelude.{◌≡◌, ◌++◌, ◌∷◌, filter, leng
 ghost use Rattle.std.specs.Bool.{OnFalse};
 ghost use Rattle.cnf_base.specs.Literals.{Literal, complements};
 ghost use Rattle.propagation.specs.Assumptions.{Assumption, MayAssume, assumed_by};
-ghost use Rattle.propagation.specs.Trail.{HasRoom, SameSet, conflicts};
+ghost use Rattle.propagation.specs.Trail.{HasRoom};
+ghost use Rattle.theory.specs.Sets.{SameSet, conflicts};
 ghost use Rattle.watch.specs.Source.{IsThere, clause_of};
 ghost use Rattle.propagation.specs.declared.answer.Answer.TheVariants.{Clash};
 

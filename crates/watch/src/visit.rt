@@ -1,8 +1,7 @@
 //! Visits of clauses that watch a literal which became false.
 
 ghost use Rattle.std.specs.Prelude.{◌≡◌, ℕ, ◌-◌, ◌<◌, ◌≤◌, length, slice_index, IsTrue};
-ghost use Rattle.cnf_base.specs.Literals.{complement, has};
-ghost use Rattle.clause_db.specs.Store.Clauses.{size};
+ghost use Rattle.cnf_base.specs.Literals.{complement, has, size};
 ghost use Rattle.propagation.specs.Trail.{HasNoVariableTwice};
 ghost use Rattle.watch.specs.Watched.{watches};
 ghost use Rattle.watch.specs.Visits.{IsVisit};

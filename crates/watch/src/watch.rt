@@ -3,7 +3,7 @@
 ghost use Rattle.std.specs.Prelude.{◌≡◌, ◌≢◌, ℕ, [], ◌*◌, ◌≤◌, ◌<◌, ◌++◌, drop, filter, min, true, false, IsTrue, IfOk, OnOk, OnErr, IfSome, IfNone, IsSome};
 ghost use Rattle.std.specs.FinMap as maps;
 ghost use Rattle.cnf_base.specs.Literals.{Literal, complements, has};
-ghost use Rattle.propagation.specs.Forced.{Clash, Forced};
+ghost use Rattle.theory.specs.Propagation.{Clash, Forced};
 ghost use Rattle.propagation.specs.Assumptions.{Assumes, HasAt, HoldsLiveAlone, IsAnswer, MayAssume, assumed_by};
 ghost use Rattle.propagation.specs.Trail.{HasRoom};
 ghost use Rattle.watch.specs.Order.{each_in_order};

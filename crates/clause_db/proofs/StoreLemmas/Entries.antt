@@ -8,8 +8,8 @@ use Rattle.std.proofs.lemmas.List.{get_or_past}
 use Rattle.std.proofs.lemmas.Option.{none-some}
 use Rattle.std.proofs.lemmas.List.Sums.{sum_by-cons}
 use Rattle.slab.specs.Slab.{Slab, get, with_value}
-use Rattle.cnf_base.specs.Literals.{Clause}
-use Rattle.clause_db.specs.Store.Clauses.{StoreState, size, sum_over, literals_in}
+use Rattle.cnf_base.specs.Literals.{Clause, size}
+use Rattle.clause_db.specs.Store.Clauses.{StoreState, sum_over, literals_in}
 use Rattle.clause_db.specs.Store.Entries.{kept_in, literals_kept, clauses_from, clauses_in}
 use Rattle.clause_db.specs.declared.store.entry.Entry.{Entry}
 use Rattle.clause_db.proofs.StoreLemmas.Sums.{get_insert, get_remove, same_maps, sum_insert, sum_empty}

@@ -5,11 +5,11 @@ use Rattle.std.proofs.lemmas.Bool.Decides.{nat_tests}
 use Rattle.std.proofs.lemmas.List.{take_all, take_more, take-append-drop}
 use Rattle.std.proofs.lemmas.Nat.{div-add-mod'}
 use Rattle.std.proofs.Math.Nat.{add-mul-mod_self_right}
-use Rattle.cnf_base.specs.Literals.{Literal, Clause, has}
+use Rattle.cnf_base.specs.Literals.{Literal, Clause, has, size, sum_distinct}
 use Rattle.cnf_base.proofs.SetLemmas.{both_pass, has_head, has_cases, has_append_left, has_append_right, has_append_cases}
-use Rattle.clause_db.specs.Store.Clauses.{size}
-use Rattle.clause_db.specs.Store.Hashes.{sum_distinct, mix, mixed_sum, hash}
-use Rattle.clause_db.proofs.StoreLemmas.Distinct.{IsWithin, sum_same, sum_push, size_push, size_covered, distinct_before, has_at}
+use Rattle.clause_db.specs.Store.Hashes.{mix, mixed_sum, hash}
+use Rattle.cnf_base.proofs.SizeLemmas.{IsWithin, sum_same, sum_push, size_push, size_covered}
+use Rattle.cnf_base.proofs.SizeLemmas.{distinct_before, has_at}
 
 -- ---- One more literal at the end
 

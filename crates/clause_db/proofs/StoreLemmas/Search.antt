@@ -7,16 +7,16 @@ use Rattle.std.specs.Ordering.{nat_cmp}
 use Rattle.std.proofs.lemmas.Bool.{false≢true, true≢false, and_parts, and_from}
 use Rattle.std.proofs.lemmas.Option.{none-some, same_Some}
 use Rattle.slab.specs.Slab.{Slab, get}
-use Rattle.cnf_base.specs.Literals.{Literal, Clause, has, same_clause}
+use Rattle.cnf_base.specs.Literals.{Literal, Clause, has, same_clause, size}
 use Rattle.cnf_base.proofs.SetLemmas.{all_each, each_all, same_there, same_back, same_from}
-use Rattle.clause_db.specs.Store.Clauses.{size, copies_with}
+use Rattle.clause_db.specs.Store.Clauses.{copies_with}
 use Rattle.clause_db.specs.Store.Entries.{is_match, clauses_in}
 use Rattle.clause_db.specs.Store.Hashes.{hash}
 use Rattle.clause_db.specs.Store.LiteralMarks.{mark_count}
 use Rattle.clause_db.specs.Store.Index.{spot_in, IsIndex}
 use Rattle.clause_db.specs.declared.store.entry.Entry.{Entry}
 use Rattle.clause_db.specs.declared.store.mark.Mark.{Mark}
-use Rattle.clause_db.proofs.StoreLemmas.Distinct.{IsWithin, size_same, all_covered}
+use Rattle.cnf_base.proofs.SizeLemmas.{IsWithin, size_same, all_covered}
 use Rattle.clause_db.proofs.StoreLemmas.Marks.{hash_same}
 use Rattle.clause_db.proofs.StoreLemmas.Sums.{sum_remove}
 use Rattle.clause_db.proofs.StoreLemmas.Entries.{clause_of, get_stored}

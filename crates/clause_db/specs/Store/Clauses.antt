@@ -1,10 +1,10 @@
--- The clauses of a store, how large they are, and what is summed over them.
-use Rattle.std.specs.Prelude.{ℕ, ◌+◌, sum_by, [], ◌∷◌, if◌then◌else◌, refl}
+-- The clauses of a store, and what is summed over them.
+use Rattle.std.specs.Prelude.{ℕ, sum_by, if◌then◌else◌, refl}
 use Rattle.std.specs.Ordering.{nat_cmp}
 use Rattle.std.specs.Coded.{Coded, code_by, coded×, coded_ℕ, coded_list}
 use Rattle.std.specs.FinMap as maps
 use Rattle.std.specs.FinMap.{FinMap}
-use Rattle.cnf_base.specs.Literals.{Literal, Clause, has}
+use Rattle.cnf_base.specs.Literals.{Literal, Clause, has, size}
 
 -- a store, as its callers see it
 pub record StoreState : Type 0 where
@@ -18,11 +18,6 @@ abbrev pub store_code : Coded StoreState
 store_code =
     code_by (FinMap nat_cmp Clause × ℕ) (coded× (maps.code coded_ℕ (coded_list coded_ℕ)) coded_ℕ)
     (λ s. (s.live, s.stored)) (λ p. record { live = p.0; stored = p.1 }) (λ _. refl)
-
--- the number of different literals
-abbrev pub size : Clause → ℕ
-size [] = 0
-size (l ∷ c) = if has c l then size c else 1 + size c
 
 -- the sum of the weights of the clauses, each as often as it is stored
 abbrev pub sum_over : (Clause → ℕ) → FinMap nat_cmp Clause → ℕ

@@ -2,8 +2,8 @@
 use Rattle.std.specs.Prelude.{◌≡◌, ℕ, ◌<◌, false, Some, length}
 use Rattle.std.specs.FinMap as maps
 use Rattle.slab.specs.Slab.{Slab}
-use Rattle.cnf_base.specs.Literals.{Clause}
-use Rattle.clause_db.specs.Store.Clauses.{size, literals_in, copies_with}
+use Rattle.cnf_base.specs.Literals.{Clause, size}
+use Rattle.clause_db.specs.Store.Clauses.{literals_in, copies_with}
 use Rattle.clause_db.specs.Store.Entries.{clauses_in}
 use Rattle.clause_db.specs.Store.LiteralMarks.{mark_count, is_marked}
 use Rattle.tables.specs.Table.{at}

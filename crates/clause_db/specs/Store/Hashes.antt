@@ -1,11 +1,6 @@
 -- Hashes of clauses as sets.
-use Rattle.std.specs.Prelude.{ℕ, ◌+◌, ◌*◌, ◌/◌, ◌%◌, ◌^◌, bit_xor, [], ◌∷◌, if◌then◌else◌}
-use Rattle.cnf_base.specs.Literals.{Literal, Clause, has}
-
--- the sum over the different literals
-abbrev pub sum_distinct : (Literal → ℕ) → Clause → ℕ
-sum_distinct f [] = 0
-sum_distinct f (l ∷ c) = if has c l then sum_distinct f c else f l + sum_distinct f c
+use Rattle.std.specs.Prelude.{ℕ, ◌+◌, ◌*◌, ◌/◌, ◌%◌, ◌^◌, bit_xor}
+use Rattle.cnf_base.specs.Literals.{Literal, Clause, sum_distinct}
 
 -- a literal spread over the words, by a seed that is added to its product with an odd word, modulo 2^64: then in turn an
 -- exclusive or with its own high bits and a product, so that sums of few literals differ

@@ -4,8 +4,7 @@ ghost use Rattle.std.specs.Prelude.{◌≡◌, ℕ, ◌==◌, ◌<◌, length, i
 ghost use Rattle.std.specs.Ordering.{nat_cmp};
 ghost use Rattle.std.specs.FinMap as maps;
 ghost use Rattle.std.specs.FinMap.{FinMap};
-ghost use Rattle.cnf_base.specs.Literals.{Clause};
-ghost use Rattle.clause_db.specs.Store.Clauses.{size};
+ghost use Rattle.cnf_base.specs.Literals.{Clause, size};
 ghost use Rattle.clause_db.specs.Store.Index.{under, place_in, Indexes};
 ghost use Rattle.tables.specs.Table.{at};
 

@@ -2,8 +2,7 @@
 
 ghost use Rattle.std.specs.Prelude.{◌≡◌, ℕ, ◌+◌, ◌<◌, ◌≤◌, ◌==◌, ◌&&◌, true, false, is_some, [], length, if◌then◌else◌, IsSome, IsTrue, IfOk, OnOk};
 ghost use Rattle.std.specs.List.{list_all};
-ghost use Rattle.cnf_base.specs.Literals.{has, same_clause};
-ghost use Rattle.clause_db.specs.Store.Clauses.{size};
+ghost use Rattle.cnf_base.specs.Literals.{has, same_clause, size};
 ghost use Rattle.clause_db.specs.Store.Hashes.{hash};
 ghost use Rattle.clause_db.specs.Store.LiteralMarks.{mark_count, is_marked};
 ghost use Rattle.tables.specs.Table.{at};

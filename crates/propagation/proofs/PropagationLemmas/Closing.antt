@@ -3,64 +3,23 @@ use Rattle.std.proofs.Common.{◌≡◌, ◌≢◌, ℕ, Result, Ok, Err, IfOk, 
 use Rattle.std.proofs.lemmas.Bool.{false≢true, true≢false, not-true, not-false, cases_eq}
 use Rattle.std.proofs.lemmas.Option.{none-some, same_Some}
 use Rattle.std.proofs.lemmas.Result.{on_ok_weaker}
-use Rattle.std.proofs.lemmas.List.Sums.{sum_by-cons}
 use Rattle.cnf_base.specs.Literals.{Literal, complement, Clause, has}
 use Rattle.cnf_base.proofs.SetLemmas.{filter_has, has_append_left, has_append_right, has_append_cases, has_cases, has_head, has_tail}
-use Rattle.propagation.specs.Closure.{FollowsFrom, is_old, by_unit, IsClosedAt, OthersFail, both_of, lacking}
-use Rattle.propagation.specs.Forced.{Live, Forced, IsRootReason}
-use Rattle.propagation.specs.Left.{open_literals, how_many, is_one_at_most, IsSettled}
+use Rattle.propagation.specs.Closure.{FollowsFrom, is_old, by_unit, both_of}
+use Rattle.theory.specs.Propagation.{IsClosedAt, OthersFail, Live, Forced, IsRootReason}
+use Rattle.theory.specs.Sets.{lacking}
+use Rattle.theory.specs.Left.{open_literals, how_many, is_one_at_most, IsSettled}
 use Rattle.propagation.specs.Trail.{HasRoomForAll}
-use Rattle.propagation.specs.declared.left.Left.{Left}
-use Rattle.propagation.specs.declared.left.Left.TheVariants.{Nothing, One, More}
-use Rattle.propagation.proofs.PropagationLemmas.Forced.{forced_unit}
-use Rattle.propagation.proofs.PropagationLemmas.Left.{left-none, left-one, left-more, open_cases}
-use Rattle.propagation.proofs.PropagationLemmas.Unit.{settled_at}
-
--- ---- One clause
-
-module _ (ls : List Literal) (c : Clause) where
-  -- where none is left, each of its literals follows
-  pub none_left_follow : how_many (open_literals ls c) ≡ Nothing → (m : Literal) → OthersFail (has ls) c m
-  none_left_follow e m l member ne = elim (open_cases ls c l member) [ inl h ↦ absurd (left-none (open_literals ls c) e l h) | inr h ↦ h ]
-
-  -- where one is left, it follows
-  pub one_left_follows : (m : Literal) → how_many (open_literals ls c) ≡ One m → (has c m ≡ true) × OthersFail (has ls) c m
-  one_left_follows m e =
-      let only = left-one (open_literals ls c) m e in (
-        (filter_has (λ l. not (has ls (complement l))) c m only.0).0,
-        λ l member ne. elim (open_cases ls c l member) [ inl h ↦ absurd (ne (only.1 l h)) | inr h ↦ h ],
-      )
+use Rattle.theory.specs.declared.left.Left.{Left}
+use Rattle.theory.specs.declared.left.Left.TheVariants.{Nothing, One, More}
+use Rattle.theory.proofs.PropagationLemmas.Forced.{forced_unit}
+use Rattle.theory.proofs.PropagationLemmas.Left.{left-more}
+use Rattle.theory.proofs.PropagationLemmas.Unit.{settled_at, none_left_follow, one_left_follows}
+use Rattle.theory.proofs.PropagationLemmas.Lacking.{lacking_le, lacking_falls}
 
 pub follows_forced : (live : Live) (ls : List Literal) → ((l : Literal) → has ls l ≡ true → Forced live [] l) → (k : ℕ) (c : Clause) → live k ≡ Some c → (l : Literal) → FollowsFrom ls c l → Forced live [] l
 follows_forced live ls sound k c at l (is_old h) = sound l h
 follows_forced live ls sound k c at l (by_unit member others) = forced_unit live [] k c at l member (λ m h ne. sound (complement m) (others m h ne))
-
--- ---- How many literals are not found yet
-
-module _ (first second : List Literal) (grows : (l : Literal) → has first l ≡ true → has second l ≡ true) where
-  weight_le : (a b : Bool) → (a ≡ true → b ≡ true) → cond {A = ℕ} (not b) 1 0 ≤ cond (not a) 1 0
-  weight_le true true keeps = omega arith
-  weight_le true false keeps = absurd (false≢true (keeps refl))
-  weight_le false true keeps = omega arith
-  weight_le false false keeps = omega arith
-
-  lacking-cons : (found : List Literal) (l : Literal) (ls : List Literal) → lacking found (l ∷ ls) ≡ cond (not (has found l)) 1 0 + lacking found ls
-  lacking-cons found l ls = sum_by-cons (λ k. cond (not (has found k)) 1 0) l ls
-
-  pub lacking_le : (ls : List Literal) → lacking second ls ≤ lacking first ls
-  lacking_le [] = omega arith
-  lacking_le (l ∷ ls) = omega (arith, lacking-cons first l ls, lacking-cons second l ls, weight_le (has first l) (has second l) (grows l), lacking_le ls)
-
-  pub lacking_falls : (m : Literal) → has first m ≡ false → has second m ≡ true → (ls : List Literal) → has ls m ≡ true → lacking second ls < lacking first ls
-  lacking_falls m absent new [] h = absurd (false≢true h)
-  lacking_falls m absent new (l ∷ ls) h =
-      elim (has_cases l ls m h) [
-        | inl e ↦
-            let old : cond {A = ℕ} (not (has first l)) 1 0 ≡ 1 = ap (λ b. cond {A = ℕ} (not b) 1 0) (ap (has first) e ∙ absent) in
-            let now : cond {A = ℕ} (not (has second l)) 1 0 ≡ 0 = ap (λ b. cond {A = ℕ} (not b) 1 0) (ap (has second) e ∙ new) in
-            omega (arith, lacking-cons first l ls, lacking-cons second l ls, old, now, lacking_le ls)
-        | inr g ↦ omega (arith, lacking-cons first l ls, lacking-cons second l ls, weight_le (has first l) (has second l) (grows l), lacking_falls m absent new ls g)
-      ]
 
 mapped : (f : ℕ → ℕ) (met : List ℕ) (v : ℕ) → has met v ≡ true → has (map f met) (f v) ≡ true
 mapped f [] v h = absurd (false≢true h)

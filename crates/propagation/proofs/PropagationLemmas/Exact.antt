@@ -5,14 +5,14 @@ use Rattle.cnf_base.specs.Literals.{Literal, has}
 use Rattle.cnf_base.proofs.SetLemmas.{has_append_left, has_append_right, has_append_cases}
 use Rattle.propagation.specs.Assumptions.{Assumption, AssumptionsState, MayAssume, IsAnswer, assumed_by}
 use Rattle.propagation.specs.Exact.{IsExact, AreExact, Extends}
-use Rattle.propagation.specs.Forced.{Live, IsClosed, Forced, Clash}
-use Rattle.propagation.specs.Trail.{SameSet, conflicts}
+use Rattle.theory.specs.Propagation.{Live, IsClosed, Forced, Clash}
+use Rattle.theory.specs.Sets.{SameSet, conflicts}
 use Rattle.propagation.specs.declared.answer.Answer.{Answer}
 use Rattle.propagation.specs.declared.answer.Answer.TheVariants.{Clash as AnswersClash, Quiet}
 use Rattle.propagation.proofs.PropagationLemmas.MakesFalse.{begins_made, longer_made}
-use Rattle.propagation.proofs.PropagationLemmas.Forced.{forced_assumed, forced_through, clash_through}
+use Rattle.theory.proofs.PropagationLemmas.Forced.{forced_assumed, forced_through, clash_through}
 use Rattle.propagation.proofs.PropagationLemmas.Passes.{has_begun}
-use Rattle.propagation.proofs.PropagationLemmas.Unit.{clash_of_conflict}
+use Rattle.theory.proofs.PropagationLemmas.Unit.{clash_of_conflict}
 
 -- what is forced by each of two lists that force one another is the same
 pub answer_through : (live : Live) (first second : List Literal) → ((l : Literal) → has first l ≡ true → Forced live second l) → ((l : Literal) → has second l ≡ true → Forced live first l) → (a : Answer) → IsAnswer live first a → IsAnswer live second a

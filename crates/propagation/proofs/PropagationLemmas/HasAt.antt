@@ -4,7 +4,7 @@ use Rattle.std.proofs.lemmas.Option.{none-some, same_Some}
 use Rattle.std.proofs.lemmas.Bool.{true≢false, cases_eq}
 use Rattle.cnf_base.specs.Literals.{Literal, Clause, has}
 use Rattle.propagation.specs.Assumptions.{HasAt}
-use Rattle.propagation.specs.Forced.{Live}
+use Rattle.theory.specs.Propagation.{Live}
 
 module _ (live : Live) (l : Literal) where
   pub lacks_none : (n : ℕ) → None ≡ live n → HasAt live l n → ⊥

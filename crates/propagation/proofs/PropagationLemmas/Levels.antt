@@ -8,7 +8,8 @@ use Rattle.cnf_base.proofs.SetLemmas.{both_pass, has-filter, filter_has, has_app
 use Rattle.propagation.specs.Assumptions.{Assumption, MayAssume, assumed_by}
 use Rattle.propagation.specs.Levels.{number_at, pushed, first_number, of_variables, IsNumbered, is_noted, is_noted_by_two, assumptions_of, IsLevel, AreLevels, Notes}
 use Rattle.tables.specs.Table.{at}
-use Rattle.propagation.specs.Trail.{TrailState, SameSet, HasNoVariableTwice}
+use Rattle.propagation.specs.Trail.{TrailState, HasNoVariableTwice}
+use Rattle.theory.specs.Sets.{SameSet}
 use Rattle.tables.specs.declared.table.Table.{Table}
 use Rattle.propagation.specs.declared.answer.Answer.TheVariants.{Clash}
 use Rattle.propagation.specs.declared.levels.Level.{Level}

@@ -6,8 +6,8 @@ use Rattle.std.proofs.lemmas.Option.{none-some, same_Some}
 use Rattle.std.proofs.lemmas.List.Sums.{sum_by-cons}
 use Rattle.cnf_base.specs.Literals.{Literal, complement, Clause, has, variable}
 use Rattle.cnf_base.proofs.SetLemmas.{has_cases, has_append_left, has_append_right, has_append_cases, has_head}
-use Rattle.propagation.specs.Left.{open_literals, how_many, IsSettled}
-use Rattle.propagation.specs.Forced.{Live}
+use Rattle.theory.specs.Left.{open_literals, how_many, IsSettled}
+use Rattle.theory.specs.Propagation.{Live}
 use Rattle.propagation.specs.Scan.Unit.{unset}
 use Rattle.propagation.specs.Trail.{TrailState}
 use Rattle.propagation.specs.declared.scan.unit.Pass.{Pass}

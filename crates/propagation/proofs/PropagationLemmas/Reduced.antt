@@ -5,7 +5,7 @@ use Rattle.std.specs.declared.result.Result.{Result}
 use Rattle.std.specs.declared.result.Result.TheVariants.{Ok, Err}
 use Rattle.std.proofs.lemmas.Bool.{false≢true, true≢false}
 use Rattle.cnf_base.specs.Literals.{Literal, Clause, complement, complements, has}
-use Rattle.propagation.specs.Forced.{Live}
+use Rattle.theory.specs.Propagation.{Live}
 use Rattle.propagation.specs.Assumptions.{Assuming, IsReducedAt, Propagation}
 use Rattle.propagation.specs.LiteralSet.{reduced_there}
 use Rattle.propagation.specs.declared.answer.Answer.{Answer}

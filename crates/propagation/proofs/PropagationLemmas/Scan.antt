@@ -8,18 +8,19 @@ use Rattle.std.specs.declared.result.Result.{Result}
 use Rattle.std.specs.declared.result.Result.TheVariants.{Ok, Err}
 use Rattle.std.proofs.lemmas.Bool.{false≢true, cases_eq}
 use Rattle.std.proofs.lemmas.Option.{none-some, same_Some}
-use Rattle.cnf_base.specs.Literals.{Literal, Clause, has, same_clause}
+use Rattle.cnf_base.specs.Literals.{Literal, Clause, has, same_clause, size}
 use Rattle.propagation.specs.Assumptions.{Assumes, Assuming, AssumptionsState, IsAnswer, MayAssume, Propagation, assumed_by}
 use Rattle.propagation.specs.Exact.{IsExact, AreExact}
-use Rattle.propagation.specs.Forced.{Live, IsClosed, Forced, Clash}
+use Rattle.theory.specs.Propagation.{Live, IsClosed, Forced, Clash}
 use Rattle.propagation.specs.Scan.{IsHeld, IsScan}
-use Rattle.clause_db.specs.Store.Clauses.{StoreState, size, literals_in}
-use Rattle.propagation.specs.Trail.{HasRoom, HasRoomForAll, SameSet, conflicts}
+use Rattle.clause_db.specs.Store.Clauses.{StoreState, literals_in}
+use Rattle.propagation.specs.Trail.{HasRoom, HasRoomForAll}
+use Rattle.theory.specs.Sets.{SameSet, conflicts}
 use Rattle.propagation.specs.declared.answer.Answer.{Answer}
 use Rattle.propagation.specs.declared.answer.Answer.TheVariants.{Quiet}
 use Rattle.cnf_base.proofs.SetLemmas.{both_pass, has_append_cases, has_append_left, has_append_right, same_there}
 use Rattle.propagation.proofs.PropagationLemmas.Exact.{answer_through, exact_nothing, exact_same, nothing_true, sound_before, start_before, conflict_clashes, answer_from, exact_after}
-use Rattle.propagation.proofs.PropagationLemmas.Forced.{forced_assumed}
+use Rattle.theory.proofs.PropagationLemmas.Forced.{forced_assumed}
 use Rattle.clause_db.proofs.StoreLemmas.Sums.{get_remove, sum_empty}
 
 pub scan_empty : (live : FinMap nat_cmp Clause) (held : AssumptionsState) → live ≡ maps.empty → held.trail.lits ≡ [] → held.assumptions ≡ [] → IsScan live held

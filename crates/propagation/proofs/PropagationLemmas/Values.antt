@@ -10,11 +10,10 @@ use Rattle.std.proofs.lemmas.Bool.Decides.{nat_tests}
 use Rattle.std.proofs.lemmas.List.{map-append, length-map, length-drop, get_or_append_left, get_or-append_right, take_all, take-append-drop}
 use Rattle.std.proofs.lemmas.Map.Keys.{IsDistinct-push}
 use Rattle.std.proofs.lemmas.Map.Made.{length-le_from_is_member}
-use Rattle.cnf_base.specs.Literals.{complement, has, variable}
+use Rattle.cnf_base.specs.Literals.{complement, has, variable, size}
 use Rattle.cnf_base.proofs.SetLemmas.{both_pass, has_cases, has_append_left, has_append_right, has_append_cases}
 use Rattle.cnf_base.proofs.LiteralLemmas.{complement-complement, complement-other}
-use Rattle.clause_db.specs.Store.Clauses.{size}
-use Rattle.clause_db.proofs.StoreLemmas.Distinct.{size_covered}
+use Rattle.cnf_base.proofs.SizeLemmas.{size_covered}
 use Rattle.propagation.specs.Trail.{value_under, HasNoVariableTwice}
 use Rattle.propagation.specs.Values.{IsTrail, known_value}
 use Rattle.propagation.specs.declared.value.Value.{Value}

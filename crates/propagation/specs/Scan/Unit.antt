@@ -1,8 +1,8 @@
 -- A pass over all clauses, the plainest propagation.
 use Rattle.std.specs.Prelude.{◌≡◌, ℕ, ◌<◌, not, Some, List, map, count_by, IsTrue}
 use Rattle.cnf_base.specs.Literals.{Literal, Clause, has, variable}
-use Rattle.propagation.specs.Left.{open_literals, how_many, IsSettled}
-use Rattle.propagation.specs.Forced.{Live, Clash}
+use Rattle.theory.specs.Left.{open_literals, how_many, IsSettled}
+use Rattle.theory.specs.Propagation.{Live, Clash}
 use Rattle.propagation.specs.Trail.{TrailState}
 use Rattle.propagation.specs.declared.scan.unit.Pass.{Pass}
 use Rattle.propagation.specs.declared.scan.unit.Pass.TheVariants.{Clash as PassClash, Changed, Quiet as PassQuiet}

@@ -6,7 +6,7 @@ use Rattle.sat_check.specs.declared.command_line.args.Args.{Args}
 use Rattle.sat_check.specs.declared.command_line.tool.Tool.{Tool}
 use Rattle.sat_check.specs.declared.options.DratOptions.{DratOptions}
 use Rattle.sat_check.specs.declared.options.LratOptions.{LratOptions}
-use Rattle.steps.specs.declared.drat.rules.DratRules.{DratRules}
+use Rattle.theory.specs.declared.drat_rules.DratRules.{DratRules}
 
 -- each flag asks for the option of its name; the seed is none of the words'
 abbrev pub drat_options : Args → (seed : ℕ) → DratOptions

@@ -11,7 +11,7 @@ use Rattle.propagation.specs.declared.answer.Answer.TheVariants.{Clash as Answer
 use Rattle.clause_db.specs.Store.Clauses.{copies_with}
 use Rattle.propagation.proofs.PropagationLemmas.Counts.{copies_without, none_with}
 use Rattle.clause_db.proofs.StoreLemmas.Sums.{get_remove}
-use Rattle.steps.specs.Theory.Propagation.{Clash}
+use Rattle.theory.specs.Propagation.{Clash}
 use Rattle.steps.specs.Drat.Candidates.{AllClash, SomeQuiet}
 
 -- each clause with the literal in a slot before this one clashes

@@ -9,17 +9,17 @@ use Rattle.cnf_base.specs.Literals.{Literal, Clause, complement, complements, ha
 use Rattle.cnf_base.proofs.LiteralLemmas.{complement-complement}
 use Rattle.cnf_base.proofs.SetLemmas.{any_from, any_none, any_some, has-complements, has-filter, has_append_right, has_head}
 use Rattle.propagation.specs.Assumptions.{Propagation, Assumption, HasAt, IsAnswer, IsReducedAt, assumed_by, is_reduced}
-use Rattle.propagation.specs.Trail.{SameSet, conflicts}
+use Rattle.theory.specs.Sets.{SameSet, conflicts}
 use Rattle.propagation.specs.declared.answer.Answer.{Answer}
 use Rattle.propagation.specs.declared.answer.Answer.TheVariants.{Clash as AnswersClash, Quiet}
-use Rattle.propagation.proofs.PropagationLemmas.Forced.{clash_by_false, forced_assumed}
-use Rattle.propagation.proofs.PropagationLemmas.MakesFalse.{not_both}
-use Rattle.steps.specs.declared.theory.accepted.Accepted.TheVariants.{Pr}
-use Rattle.steps.specs.declared.theory.refusal.Refusal.TheVariants.{NeitherRupNorPr}
-use Rattle.steps.specs.Theory.Propagation.{Live, Clash, HasPr, HasRup, not_falsified}
+use Rattle.theory.proofs.PropagationLemmas.Forced.{clash_by_false, forced_assumed}
+use Rattle.theory.proofs.PropagationLemmas.Conflicts.{not_both}
+use Rattle.theory.specs.declared.accepted.Accepted.TheVariants.{Pr}
+use Rattle.theory.specs.declared.refusal.Refusal.TheVariants.{NeitherRupNorPr}
+use Rattle.theory.specs.Propagation.{Live, Clash, HasPr, HasRup, not_falsified}
 use Rattle.proofs.specs.Steps.{clause_part, set_part}
-use Rattle.steps.specs.Theory.StepAnswer.{StepAnswer, UnlessOutOfMemory}
-use Rattle.steps.specs.Drat.{AnswersAdd, AnswersListed, AnswersWithSet}
+use Rattle.theory.specs.Answers.{StepAnswer, UnlessOutOfMemory}
+use Rattle.theory.specs.Drat.{AnswersAdd, AnswersListed, AnswersWithSet}
 use Rattle.steps.specs.Drat.Candidates.{AllReducedClash, SomeReducedQuiet, SearchedReduced}
 use Rattle.steps.proofs.DratLemmas.Slots.{slots-pr}
 use Rattle.steps.proofs.DratLemmas.Steps.{back, clash_same, no_rup_listed, there}

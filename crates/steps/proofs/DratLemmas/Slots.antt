@@ -8,11 +8,11 @@ use Rattle.std.specs.FinMap.Entries.{by_order, below_all}
 use Rattle.std.specs.Cmp.{nat_cmp_total, unsigned_tied}
 use Rattle.std.proofs.lemmas.Bool.{cases_Bool, cases_lt, false_from_ne_true}
 use Rattle.cnf_base.specs.Literals.{Literal, Clause, same_clause}
-use Rattle.steps.specs.Theory.Propagation.{Clash, HasRat, HasPr, IsRootReason}
-use Rattle.steps.specs.Drat.{take_off, copies_of, SameLive}
+use Rattle.theory.specs.Propagation.{Clash, HasRat, HasPr, IsRootReason}
+use Rattle.theory.specs.Drat.{take_off, copies_of, SameLive}
 use Rattle.cnf_base.proofs.SetLemmas.{both_pass, same_itself, same_symm, same_trans}
-use Rattle.propagation.proofs.PropagationLemmas.Covers.{Covers, clash_covers, reason_covers}
-use Rattle.steps.proofs.DratLemmas.Copies.{rat_covers, pr_covers, copies-cons, copies-take_off}
+use Rattle.theory.proofs.PropagationLemmas.Covers.{Covers, clash_covers, reason_covers}
+use Rattle.theory.proofs.DratLemmas.Copies.{rat_covers, pr_covers, copies-cons, copies-take_off}
 
 abbrev clauses_in : List (ℕ × Clause) → List Clause
 clauses_in es = map (λ e. e.1) es

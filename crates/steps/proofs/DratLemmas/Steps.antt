@@ -11,16 +11,16 @@ use Rattle.std.proofs.lemmas.List.Folds.{list_any_at}
 use Rattle.std.proofs.lemmas.Option.{slice_get_within, get_or_from_slice_get, none-some}
 use Rattle.cnf_base.specs.Literals.{Literal, Clause, complement, complements, has, without, same_clause}
 use Rattle.cnf_base.proofs.SetLemmas.{has_append_left, has_append_right, has_append_cases, has_head, both_pass, same_symm, same_trans}
-use Rattle.propagation.specs.Trail.{SameSet}
-use Rattle.steps.specs.declared.theory.accepted.Accepted.{Accepted}
-use Rattle.steps.specs.declared.theory.accepted.Accepted.TheVariants.{Rat}
-use Rattle.steps.specs.declared.theory.refusal.Refusal.TheVariants.{NotRup, NeitherRupNorRat}
-use Rattle.steps.specs.Theory.Propagation.{Live, Clash, HasRup}
+use Rattle.theory.specs.Sets.{SameSet}
+use Rattle.theory.specs.declared.accepted.Accepted.{Accepted}
+use Rattle.theory.specs.declared.accepted.Accepted.TheVariants.{Rat}
+use Rattle.theory.specs.declared.refusal.Refusal.TheVariants.{NotRup, NeitherRupNorRat}
+use Rattle.theory.specs.Propagation.{Live, Clash, HasRup}
 use Rattle.steps.specs.Drat.Candidates.{AllClash, SomeQuiet, SearchedCandidates}
-use Rattle.steps.specs.Lrat.{AnswersChain, conflict}
-use Rattle.steps.specs.Drat.{AnswersAdd, take_off, copies_of, SameLive}
-use Rattle.propagation.proofs.PropagationLemmas.Forced.{forced_assumed, clash_through}
-use Rattle.steps.proofs.DratLemmas.Copies.{copies-cons, alive_at}
+use Rattle.theory.specs.Lrat.{AnswersChain, conflict}
+use Rattle.theory.specs.Drat.{AnswersAdd, take_off, copies_of, SameLive}
+use Rattle.theory.proofs.PropagationLemmas.Forced.{forced_assumed, clash_through}
+use Rattle.theory.proofs.DratLemmas.Copies.{copies-cons, alive_at}
 use Rattle.steps.proofs.LratLemmas.Starts.{first_is}
 use Rattle.steps.proofs.DratLemmas.Slots.{tied, slots-insert, slots-remove, slots-clash, slots-rat, slots_covered, covered_by_slots}
 

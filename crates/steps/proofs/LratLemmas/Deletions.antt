@@ -3,10 +3,10 @@ use Rattle.std.proofs.Common.{◌≡◌, ℕ, true, false, Option, Some, None, i
 use Rattle.std.specs.Bool.{then_some}
 use Rattle.std.specs.Option.{option_or}
 use Rattle.std.proofs.lemmas.Bool.{false≢true, true≢false}
-use Rattle.steps.specs.declared.theory.refusal.Refusal.TheVariants.{UnknownId}
+use Rattle.theory.specs.declared.refusal.Refusal.TheVariants.{UnknownId}
 use Rattle.cnf_base.specs.Literals.{Clause}
-use Rattle.steps.specs.Theory.Propagation.{Live}
-use Rattle.steps.specs.Lrat.{without_id, without_ids, deletion_refusal}
+use Rattle.theory.specs.Propagation.{Live}
+use Rattle.theory.specs.Lrat.{without_id, without_ids, deletion_refusal}
 
 some_not_none : (o : Option Clause) → true ≡ is_some o → is_none o ≡ false
 some_not_none None h = absurd (true≢false h)

@@ -7,15 +7,22 @@ use Rattle.std.specs.Result.{is_err, OnOk, OnErr}
 use Rattle.std.specs.declared.result.Result.{Result}
 use Rattle.std.proofs.lemmas.Bool.{true≢false}
 use Rattle.std.proofs.lemmas.Bool.Decides.{nat_tests}
-use Rattle.steps.specs.declared.theory.accepted.Accepted.TheVariants.{Empty, Rup}
-use Rattle.steps.specs.declared.theory.refusal.Refusal.{Refusal}
-use Rattle.steps.specs.declared.theory.refusal.Refusal.TheVariants.{Ended, OutOfMemory, IdOutOfOrder, UnknownId, NotUnit, NotCandidate, NamedTwice, GroupWithoutConflict, NoConflict}
+use Rattle.theory.specs.declared.accepted.Accepted.TheVariants.{Empty, Rup}
+use Rattle.theory.specs.declared.refusal.Refusal.{Refusal}
+use Rattle.theory.specs.declared.refusal.Refusal.TheVariants.{Ended, OutOfMemory, IdOutOfOrder}
+use Rattle.theory.specs.declared.refusal.Refusal.TheVariants.{UnknownId, NotUnit, NotCandidate}
+use Rattle.theory.specs.declared.refusal.Refusal.TheVariants.{NamedTwice, GroupWithoutConflict}
+use Rattle.theory.specs.declared.refusal.Refusal.TheVariants.{NoConflict}
 use Rattle.proofs.specs.declared.step_buf.StepKind.TheVariants.{Add}
 use Rattle.proofs.specs.Steps.{Step}
 use Rattle.cnf_base.specs.Literals.{Literal, complement, Clause, has, complements}
-use Rattle.steps.specs.Theory.Propagation.{Live}
-use Rattle.steps.specs.Theory.StepAnswer.{StepAnswer, UnlessOutOfMemory}
-use Rattle.steps.specs.Lrat.{ChainEnd, conflict, open_with, unknown, not_unit, chain, Group, LratStep, add, delete, step_of, lrat_step, LratState, with_candidate, chain_refusal, group_refusal, groups_refusal, units_of, groups_of, AnswersGroups, AnswersChain, AnswersLrat, without_id, deletion_refusal, answer_of}
+use Rattle.theory.specs.Propagation.{Live}
+use Rattle.theory.specs.Answers.{StepAnswer, UnlessOutOfMemory}
+use Rattle.theory.specs.Lrat.{ChainEnd, conflict, open_with, unknown, not_unit, chain, Group}
+use Rattle.theory.specs.Lrat.{LratStep, add, delete, step_of, lrat_step, LratState, with_candidate}
+use Rattle.theory.specs.Lrat.{chain_refusal, group_refusal, groups_refusal, units_of, groups_of}
+use Rattle.theory.specs.Lrat.{AnswersGroups, AnswersChain, AnswersLrat, without_id}
+use Rattle.theory.specs.Lrat.{deletion_refusal, answer_of}
 
 -- a cause other than that
 abbrev IsRuled : Option Refusal → Type 0

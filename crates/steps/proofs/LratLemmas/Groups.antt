@@ -3,24 +3,27 @@ use Rattle.std.proofs.Common.{◌≡◌, ℕ, ◌+◌, ◌<◌, Bool, true, fals
 use lib.Signed.{lt_z}
 use mir.Val.{SFits}
 use Rattle.std.specs.Bool.{then_some}
-use Rattle.std.specs.Option.{option_or}
-use Rattle.std.specs.Option.{IfNone}
+use Rattle.std.specs.Option.{option_or, IfNone}
 use Rattle.std.proofs.lemmas.Bool.{false≢true, true≢false, or_cases}
 use Rattle.std.proofs.lemmas.List.Folds.{list_any-append}
-use Rattle.steps.specs.declared.theory.refusal.Refusal.{Refusal}
-use Rattle.steps.specs.declared.theory.refusal.Refusal.TheVariants.{UnknownId, NotUnit, NotCandidate, NamedTwice, GroupWithoutConflict, Unnamed}
-use Rattle.steps.specs.declared.theory.accepted.Accepted.TheVariants.{Rat}
+use Rattle.theory.specs.declared.refusal.Refusal.{Refusal}
+use Rattle.theory.specs.declared.refusal.Refusal.TheVariants.{UnknownId, NotUnit, NotCandidate}
+use Rattle.theory.specs.declared.refusal.Refusal.TheVariants.{NamedTwice, GroupWithoutConflict}
+use Rattle.theory.specs.declared.refusal.Refusal.TheVariants.{Unnamed}
+use Rattle.theory.specs.declared.accepted.Accepted.TheVariants.{Rat}
 use Rattle.steps.specs.declared.lrat.walk.WalkEnd.{WalkEnd}
 use Rattle.steps.specs.declared.lrat.walk.WalkEnd.TheVariants.{Conflict, Open, UnknownId as EndUnknown, NotUnit as EndNotUnit}
 use Rattle.cnf_base.specs.Literals.{Literal, complement, Clause, has, complements, without}
-use Rattle.steps.specs.Theory.Propagation.{Live}
-use Rattle.steps.specs.Lrat.{ChainEnd, conflict, open_with, unknown, not_unit, look_at, chain, Group, with_candidate, chain_refusal, group_refusal, groups_refusal, units_of, groups_of, is_unsettled, is_left_out, AnswersGroups}
-use Rattle.propagation.specs.Trail.{conflicts, SameSet}
-use Rattle.propagation.specs.Left.{open_literals, how_many}
+use Rattle.theory.specs.Propagation.{Live}
+use Rattle.theory.specs.Lrat.{ChainEnd, conflict, open_with, unknown, not_unit, look_at, chain}
+use Rattle.theory.specs.Lrat.{Group, with_candidate, chain_refusal, group_refusal, groups_refusal}
+use Rattle.theory.specs.Lrat.{units_of, groups_of, is_unsettled, is_left_out, AnswersGroups}
+use Rattle.theory.specs.Sets.{conflicts, SameSet}
+use Rattle.theory.specs.Left.{open_literals, how_many}
 use Rattle.steps.specs.Lrat.Shelf.{Holds}
 use Rattle.steps.specs.Lrat.Walk.{IsEnd, refusal_at}
 use Rattle.steps.specs.Lrat.Groups.{named_in, IsGroupEnd, is_unnamed, IsFirstLeftOut}
-use Rattle.steps.proofs.LratLemmas.SameSets.{same_set_more}
+use Rattle.theory.proofs.LratLemmas.SameSets.{same_set_more}
 use Rattle.steps.proofs.LratLemmas.Walks.{chain_same}
 use Rattle.steps.proofs.LratLemmas.Hints.{read, groups_skip, groups_more, named_skip, named_more, any_named}
 

@@ -7,7 +7,7 @@ use Rattle.std.proofs.lemmas.Bool.{true≢false}
 use Rattle.std.proofs.lemmas.Int.{to_z-of_z}
 use Rattle.std.proofs.lemmas.List.{drop_more, take_more}
 use Rattle.cnf_base.specs.Literals.{has}
-use Rattle.steps.specs.Lrat.{Group, units_of, groups_of}
+use Rattle.theory.specs.Lrat.{Group, units_of, groups_of}
 use Rattle.steps.specs.Lrat.Groups.{named_in}
 
 not_below : (n : ℕ) → lt_z (pos n) (pos 0) ≡ true → ⊥

@@ -5,8 +5,8 @@ use Rattle.std.proofs.lemmas.Bool.{false≢true}
 use Rattle.std.specs.Ordering.{nat_cmp}
 use Rattle.std.specs.FinMap as maps
 use Rattle.std.specs.FinMap.{FinMap}
-use Rattle.cnf_base.specs.Literals.{Clause}
-use Rattle.clause_db.specs.Store.Clauses.{StoreState, size, literals_in}
+use Rattle.cnf_base.specs.Literals.{Clause, size}
+use Rattle.clause_db.specs.Store.Clauses.{StoreState, literals_in}
 use Rattle.clause_db.proofs.StoreLemmas.Sums.{sum_remove}
 use Rattle.steps.specs.Lrat.Shelf.{IsPaired}
 use Rattle.steps.proofs.LratLemmas.Shelf.{freed_is}

@@ -4,9 +4,9 @@ use Rattle.std.specs.List.{IsDistinct}
 use Rattle.std.proofs.lemmas.Bool.{false≢true, true≢false, false_from_ne_true, and_parts, not-true, cases_lt}
 use Rattle.cnf_base.specs.Literals.{Literal, complement, Clause, has}
 use Rattle.cnf_base.proofs.SetLemmas.{has_cases}
-use Rattle.steps.specs.Theory.Propagation.{Live}
-use Rattle.steps.specs.Lrat.{is_unsettled, with_candidate}
-use Rattle.propagation.specs.Trail.{conflicts}
+use Rattle.theory.specs.Propagation.{Live}
+use Rattle.theory.specs.Lrat.{is_unsettled, with_candidate}
+use Rattle.theory.specs.Sets.{conflicts}
 use Rattle.steps.specs.Lrat.Shelf.{Holds, AllHold}
 use Rattle.steps.specs.Lrat.Groups.{is_unnamed, needs_group_at}
 use Rattle.steps.proofs.LratLemmas.Different.{distinct_more}

@@ -11,11 +11,12 @@ use Rattle.cnf_base.specs.Literals.{Literal, Clause, has}
 use Rattle.propagation.specs.Trail.{TrailState, HasRoom, HasRoomForAll}
 use Rattle.proofs.specs.declared.step_buf.StepKind.TheVariants.{Delete}
 use Rattle.proofs.specs.Steps.{Step}
-use Rattle.steps.specs.Theory.Propagation.{Live}
-use Rattle.steps.specs.Lrat.{with_clause, without_id, without_ids, step_of, lrat_step, LratState, after_lrat, SameAt, SameClauses}
+use Rattle.theory.specs.Propagation.{Live}
+use Rattle.theory.specs.Lrat.{with_clause, without_id, without_ids, step_of, lrat_step, LratState}
+use Rattle.theory.specs.Lrat.{after_lrat, SameAt, SameClauses}
 use Rattle.steps.specs.Lrat.Session.{IsReady}
 use Rattle.cnf_base.proofs.SetLemmas.{same_there}
-use Rattle.steps.proofs.LratLemmas.LiveSets.{SameClauses-eq}
+use Rattle.theory.proofs.LratLemmas.LiveSets.{SameClauses-eq}
 
 -- ---- A clause that is added
 

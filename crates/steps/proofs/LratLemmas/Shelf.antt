@@ -10,17 +10,18 @@ use Rattle.std.specs.FinMap.{FinMap, find, get-entries, get-insert, get-remove, 
 use Rattle.std.proofs.lemmas.Bool.{cases_eq, false≢true}
 use Rattle.std.specs.Bool.{IsTrue}
 use Rattle.std.specs.List.{IsDistinct}
-use Rattle.cnf_base.specs.Literals.{Literal, Clause, has, same_clause}
+use Rattle.cnf_base.specs.Literals.{Literal, Clause, has, same_clause, size}
 use Rattle.cnf_base.proofs.SetLemmas.{has_head, has_tail}
 use Rattle.clause_db.specs.Store.Clauses.{copies_with, literals_in}
 use Rattle.clause_db.proofs.StoreLemmas.Sums.{same_maps, sum_insert, sum_remove, sum_empty}
 use Rattle.steps.proofs.LratLemmas.Different.{distinct_head, distinct_tail}
-use Rattle.steps.specs.Theory.Propagation.{Live}
-use Rattle.steps.specs.Lrat.{with_clause, without_id, SameAt, SameClauses}
-use Rattle.steps.proofs.LratLemmas.LiveSets.{SameClauses-refl}
-use Rattle.steps.specs.Theory.Sizes.{size, size_at, sum_to}
+use Rattle.theory.specs.Propagation.{Live}
+use Rattle.theory.specs.Lrat.{with_clause, without_id, SameAt, SameClauses}
+use Rattle.theory.proofs.LratLemmas.LiveSets.{SameClauses-refl}
+use Rattle.theory.specs.Sizes.{size_at, sum_to}
 use Rattle.steps.specs.Lrat.Shelf.{clause_at, held_at, joined, Shelf, IsPaired, IsTally, Holds, AllHold}
-use Rattle.steps.proofs.LratLemmas.Sums.{sum_agree, sum_with, sum_without, with_here, with_other, without_here, without_other}
+use Rattle.theory.proofs.LratLemmas.Sums.{sum_agree, sum_with, sum_without, with_here, with_other}
+use Rattle.theory.proofs.LratLemmas.Sums.{without_here, without_other}
 
 -- ---- The map that is seen
 

@@ -5,22 +5,25 @@ use Rattle.std.specs.Option.{option_or}
 use Rattle.std.specs.List.{list_any}
 use Rattle.std.proofs.lemmas.List.Folds.{list_any-append}
 use Rattle.std.proofs.lemmas.Option.{same_Some, none-some}
-use Rattle.steps.specs.declared.theory.accepted.Accepted.TheVariants.{Rat}
-use Rattle.steps.specs.declared.theory.refusal.Refusal.{Refusal}
-use Rattle.steps.specs.declared.theory.refusal.Refusal.TheVariants.{NotCandidate, NamedTwice, GroupWithoutConflict, Unnamed}
+use Rattle.theory.specs.declared.accepted.Accepted.TheVariants.{Rat}
+use Rattle.theory.specs.declared.refusal.Refusal.{Refusal}
+use Rattle.theory.specs.declared.refusal.Refusal.TheVariants.{NotCandidate, NamedTwice}
+use Rattle.theory.specs.declared.refusal.Refusal.TheVariants.{GroupWithoutConflict, Unnamed}
 use Rattle.steps.specs.declared.lrat.walk.WalkEnd.{WalkEnd}
 use Rattle.steps.specs.declared.lrat.walk.WalkEnd.TheVariants.{Open, Conflict}
 use Rattle.cnf_base.specs.Literals.{Literal, complement, Clause, has, complements, without}
-use Rattle.steps.specs.Theory.Propagation.{Live}
-use Rattle.steps.specs.Theory.StepAnswer.{StepAnswer}
-use Rattle.steps.specs.Lrat.{chain, ChainEnd, conflict, open_with, unknown, not_unit, Group, with_candidate, group_refusal, groups_refusal, is_unsettled, is_left_out, AnswersGroups, AnswersChain}
-use Rattle.propagation.specs.Trail.{conflicts, SameSet}
+use Rattle.theory.specs.Propagation.{Live}
+use Rattle.theory.specs.Answers.{StepAnswer}
+use Rattle.theory.specs.Lrat.{chain, ChainEnd, conflict, open_with, unknown, not_unit, Group}
+use Rattle.theory.specs.Lrat.{with_candidate, group_refusal, groups_refusal, is_unsettled}
+use Rattle.theory.specs.Lrat.{is_left_out, AnswersGroups, AnswersChain}
+use Rattle.theory.specs.Sets.{conflicts, SameSet}
 use Rattle.steps.specs.Lrat.Walk.{IsEnd}
 use Rattle.steps.proofs.LratLemmas.Walks.{chain_same}
 use Rattle.steps.proofs.LratLemmas.Groups.{chain_conflict}
-use Rattle.steps.proofs.LratLemmas.SameSets.{chain_alike}
-use Rattle.propagation.proofs.PropagationLemmas.MakesFalse.{conflicts_same}
-use Rattle.steps.proofs.LratLemmas.LiveSets.{SameClauses-refl}
+use Rattle.theory.proofs.LratLemmas.SameSets.{chain_alike}
+use Rattle.theory.proofs.PropagationLemmas.Conflicts.{conflicts_same}
+use Rattle.theory.proofs.LratLemmas.LiveSets.{SameClauses-refl}
 
 module _ (live : Live) (first second : List Literal) (same : SameSet first second) (pivot : Literal) where
   start_same : (c : Clause) → SameSet (with_candidate first c pivot) (with_candidate second c pivot)

@@ -2,16 +2,16 @@
 use Rattle.std.proofs.Common.{◌≡◌, ℕ, true, false, not, cond, Option, Some, None, option_map, List, [], ◌∷◌, ◌++◌, refl, sym, ap, ◌∙◌, subst, inl, inr}
 use Rattle.std.proofs.lemmas.Bool.{false≢true}
 use Rattle.std.proofs.lemmas.List.Elements.{filter_agree}
-use Rattle.propagation.specs.declared.left.Left.{Left}
-use Rattle.propagation.specs.declared.left.Left.TheVariants.{Nothing, One, More}
+use Rattle.theory.specs.declared.left.Left.{Left}
+use Rattle.theory.specs.declared.left.Left.TheVariants.{Nothing, One, More}
 use Rattle.cnf_base.specs.Literals.{Literal, complement, Clause, has}
-use Rattle.steps.specs.Theory.Propagation.{Live}
-use Rattle.steps.specs.Lrat.{ChainEnd, conflict, open_with, look_at, chain}
-use Rattle.propagation.specs.Trail.{conflicts, SameSet}
-use Rattle.propagation.specs.Left.{open_literals, how_many}
+use Rattle.theory.specs.Propagation.{Live}
+use Rattle.theory.specs.Lrat.{ChainEnd, conflict, open_with, look_at, chain}
+use Rattle.theory.specs.Sets.{conflicts, SameSet}
+use Rattle.theory.specs.Left.{open_literals, how_many}
 use Rattle.cnf_base.proofs.SetLemmas.{both_pass, has_head, has_tail, has_cases, has_append_left, has_append_right, has_append_cases}
-use Rattle.steps.proofs.LratLemmas.SameSets.{same_set_more}
-use Rattle.propagation.proofs.PropagationLemmas.MakesFalse.{conflicts_same}
+use Rattle.theory.proofs.LratLemmas.SameSets.{same_set_more}
+use Rattle.theory.proofs.PropagationLemmas.Conflicts.{conflicts_same}
 use Rattle.steps.specs.declared.lrat.walk.WalkEnd.{WalkEnd}
 use Rattle.steps.specs.declared.lrat.walk.WalkEnd.TheVariants.{Conflict, Open, UnknownId, NotUnit}
 use Rattle.steps.specs.Lrat.Walk.{IsEnd}

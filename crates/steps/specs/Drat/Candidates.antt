@@ -2,7 +2,7 @@
 use Rattle.std.specs.Prelude.{◌≡◌, ℕ, Bool, true, false, Some, List, ◌++◌, IsTrue}
 use Rattle.propagation.specs.Assumptions.{is_reduced}
 use Rattle.cnf_base.specs.Literals.{Literal, Clause, has, complements, without}
-use Rattle.steps.specs.Theory.Propagation.{Live, Clash, not_falsified}
+use Rattle.theory.specs.Propagation.{Live, Clash, not_falsified}
 
 -- each live clause with the literal clashes, but for it, with what is assumed
 abbrev pub AllClash : Live → List Literal → Literal → Type 0

@@ -5,7 +5,7 @@ use Rattle.std.specs.Coded.{Coded, code_by, coded×, coded_ℕ, coded_bool, code
 use Rattle.std.specs.FinMap as maps
 use Rattle.std.specs.FinMap.{FinMap}
 use Rattle.cnf_base.specs.Literals.{Clause}
-use Rattle.steps.specs.declared.drat.rules.DratRules.{DratRules}
+use Rattle.theory.specs.declared.drat_rules.DratRules.{DratRules}
 
 pub record DratState : Type 0 where
   -- the live clauses, each in its slot

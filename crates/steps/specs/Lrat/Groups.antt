@@ -1,9 +1,9 @@
 -- Parts of the answer to a step, as the code finds them.
 use Rattle.std.specs.Prelude.{ℕ, ◌<◌, Bool, not, ◌&&◌, ◌++◌, Option, Some, None, List, map, ℤ, IsTrue, IsFalse}
 use Rattle.cnf_base.specs.Literals.{Literal, Clause, has, complements, without}
-use Rattle.steps.specs.Theory.Propagation.{Live}
-use Rattle.steps.specs.Lrat.{groups_of, chain, is_unsettled}
-use Rattle.propagation.specs.Trail.{conflicts}
+use Rattle.theory.specs.Propagation.{Live}
+use Rattle.theory.specs.Lrat.{groups_of, chain, is_unsettled}
+use Rattle.theory.specs.Sets.{conflicts}
 use Rattle.steps.specs.Lrat.Walk.{IsEnd}
 use Rattle.steps.specs.declared.lrat.walk.WalkEnd.{WalkEnd}
 

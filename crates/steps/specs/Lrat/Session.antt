@@ -6,8 +6,8 @@ use Rattle.std.specs.FinMap as map
 use Rattle.std.specs.FinMap.{FinMap}
 use Rattle.cnf_base.specs.Literals.{Clause}
 use Rattle.propagation.specs.Trail.{TrailState, HasRoomForAll}
-use Rattle.steps.specs.Lrat.{LratState}
-use Rattle.steps.specs.Theory.Propagation.{Live}
+use Rattle.theory.specs.Lrat.{LratState}
+use Rattle.theory.specs.Propagation.{Live}
 
 pub record Session : Type 0 where
   -- the live clauses, each at its identifier

@@ -7,9 +7,9 @@ use Rattle.std.specs.Coded.{Coded, code_by, coded×, coded_ℕ, coded_list}
 use Rattle.std.specs.FinMap as maps
 use Rattle.std.specs.FinMap.{FinMap}
 use Rattle.cnf_base.specs.Literals.{Literal, Clause, has}
-use Rattle.steps.specs.Theory.Propagation.{Live}
-use Rattle.steps.specs.Lrat.{LratState}
-use Rattle.steps.specs.Theory.Sizes.{total}
+use Rattle.theory.specs.Propagation.{Live}
+use Rattle.theory.specs.Lrat.{LratState}
+use Rattle.theory.specs.Sizes.{total}
 
 abbrev pub clause_at : FinMap nat_cmp Clause → ℕ → Clause
 clause_at store slot = unwrap_or (maps.get store slot) []

@@ -2,10 +2,10 @@
 use Rattle.std.specs.Prelude.{◌≡◌, Option, Some, None, List, ⊤}
 use Rattle.steps.specs.declared.lrat.walk.WalkEnd.{WalkEnd}
 use Rattle.steps.specs.declared.lrat.walk.WalkEnd.TheVariants.{Conflict, Open, UnknownId as EndUnknown, NotUnit as EndNotUnit}
-use Rattle.steps.specs.declared.theory.refusal.Refusal.{Refusal}
-use Rattle.steps.specs.declared.theory.refusal.Refusal.TheVariants.{UnknownId, NotUnit}
+use Rattle.theory.specs.declared.refusal.Refusal.{Refusal}
+use Rattle.theory.specs.declared.refusal.Refusal.TheVariants.{UnknownId, NotUnit}
 use Rattle.cnf_base.specs.Literals.{Literal, has}
-use Rattle.steps.specs.Lrat.{ChainEnd, conflict, open_with, unknown, not_unit}
+use Rattle.theory.specs.Lrat.{ChainEnd, conflict, open_with, unknown, not_unit}
 
 -- the walk's end; where it is open, the list has the literals that are true
 abbrev pub IsEnd : List Literal → WalkEnd → ChainEnd → Type 0

@@ -4,17 +4,16 @@ ghost use Rattle.std.specs.Prelude.{◌≡◌, ◌++◌, ℕ, [], true, Some, Is
 ghost use Rattle.std.specs.FinMap as maps;
 ghost use Rattle.cnf_base.specs.Literals.{Clause, Literal, complement, complements, has};
 ghost use Rattle.propagation.specs.Assumptions.{IsAnswer, HasAt, HoldsLiveAlone, assumed_by, MayAssume};
-ghost use Rattle.propagation.specs.Trail.{SameSet, conflicts};
-ghost use Rattle.steps.specs.Theory.Propagation.{HasRup, not_falsified};
-ghost use Rattle.steps.specs.Drat.{AnswersWithSet};
+ghost use Rattle.theory.specs.Sets.{SameSet, conflicts};
+ghost use Rattle.theory.specs.Propagation.{HasRup, not_falsified};
+ghost use Rattle.theory.specs.Drat.{AnswersWithSet};
 ghost use Rattle.steps.specs.Drat.Candidates.{SearchedReduced};
-ghost use Rattle.steps.specs.Theory.StepAnswer.{UnlessOutOfMemory};
+ghost use Rattle.theory.specs.Answers.{UnlessOutOfMemory};
 
-use crate::theory::accepted::Accepted;
-use crate::theory::refusal::Refusal;
 use clause_db::Slot;
 use cnf_base::{Lit, OutOfMemory};
 use propagation::{Answer, Propagate};
+use theory::{Accepted, Refusal};
 
 /// What propagation says where what the set leaves of a candidate is assumed false too, for that moment.
 fn answer_unless<P: Propagate>(

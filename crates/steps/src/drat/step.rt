@@ -4,21 +4,21 @@ ghost use Rattle.std.specs.Prelude.{◌≡◌, ◌++◌, ◌∷◌, ◌⊎◌, �
 ghost use Rattle.std.specs.FinMap as maps;
 ghost use Rattle.cnf_base.specs.Literals.{Clause, Literal, complement, complements, has, without};
 ghost use Rattle.propagation.specs.Assumptions.{IsAnswer, HasAt, HoldsLiveAlone, assumed_by, MayAssume};
-ghost use Rattle.propagation.specs.Trail.{SameSet, conflicts};
-ghost use Rattle.steps.specs.Theory.Propagation.{HasRup, IsRootReason, not_falsified};
-ghost use Rattle.steps.specs.Drat.{AnswersAdd, AnswersDelete, AnswersDrat, AnswersListed, AnswersWithSet, addition_of, after_drat, drat_step, SameLive};
-ghost use Rattle.steps.specs.Drat as drat;
+ghost use Rattle.theory.specs.Sets.{SameSet, conflicts};
+ghost use Rattle.theory.specs.Propagation.{HasRup, IsRootReason, not_falsified};
+ghost use Rattle.theory.specs.Drat.{AnswersAdd, AnswersDelete, AnswersDrat, AnswersListed};
+ghost use Rattle.theory.specs.Drat.{AnswersWithSet, addition_of, after_drat, drat_step, SameLive};
+ghost use Rattle.theory.specs.Drat as drat;
 ghost use Rattle.steps.specs.Drat.Candidates.{SearchedCandidates, SearchedReduced};
-ghost use Rattle.steps.specs.Theory.StepAnswer.{UnlessOutOfMemory};
+ghost use Rattle.theory.specs.Answers.{UnlessOutOfMemory};
 
 use crate::drat::pr::judge_with_set;
-use crate::drat::rules::DratRules;
-use crate::theory::accepted::{Accepted, word_of};
-use crate::theory::refusal::Refusal;
+use crate::word::word_of;
 use clause_db::Slot;
 use cnf_base::{Lit, OutOfMemory};
 use proofs::{StepBuf, StepKind};
 use propagation::{Answer, Propagate};
+use theory::{Accepted, DratRules, Refusal};
 
 /// What propagation says where the rest of a candidate is assumed false too, for that moment.
 fn answer_with<P: Propagate>(

@@ -3,20 +3,22 @@
 ghost use Rattle.std.specs.Prelude.{◌≡◌, [], IsFalse};
 ghost use Rattle.std.specs.FinMap as maps;
 ghost use Rattle.cnf_base.specs.Literals.{complements};
-ghost use Rattle.steps.specs.Lrat.{chain, groups_refusal, AnswersGroups, AnswersChain, units_of, groups_of};
-ghost use Rattle.propagation.specs.Trail.{conflicts, SameSet, HasRoom, HasRoomForAll};
+ghost use Rattle.theory.specs.Lrat.{chain, groups_refusal, AnswersGroups, AnswersChain, units_of};
+ghost use Rattle.theory.specs.Lrat.{groups_of};
+ghost use Rattle.theory.specs.Sets.{conflicts, SameSet};
+ghost use Rattle.propagation.specs.Trail.{HasRoom, HasRoomForAll};
 ghost use Rattle.steps.specs.Lrat.Walk.{IsEnd};
-ghost use Rattle.steps.specs.Theory.StepAnswer.{UnlessOutOfMemory};
+ghost use Rattle.theory.specs.Answers.{UnlessOutOfMemory};
 
 use crate::lrat::candidates::{first_left_out, judge_groups};
 use crate::lrat::live_clauses::LiveClauses;
 use crate::lrat::named::Named;
 use crate::lrat::walk::{WalkEnd, walk};
-use crate::theory::accepted::{Accepted, word_of};
-use crate::theory::refusal::Refusal;
+use crate::word::word_of;
 use cnf_base::Lit;
 use propagation::{Trail, Whole};
 use std::alloc::Global;
+use theory::{Accepted, Refusal};
 
 /// The answer where the unit hints gave no conflict: the groups in their order, and then the candidates without one.
 fn judge_candidates(

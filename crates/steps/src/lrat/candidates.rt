@@ -3,18 +3,19 @@
 ghost use Rattle.std.specs.Prelude.{◌≡◌, ◌==◌, ◌||◌, ℕ, Some, [], IfOk, IfNone, IsTrue, IsFalse};
 ghost use Rattle.std.specs.FinMap as maps;
 ghost use Rattle.cnf_base.specs.Literals.{complement, has};
-ghost use Rattle.steps.specs.Lrat.{group_refusal, groups_refusal, units_of, groups_of};
-ghost use Rattle.propagation.specs.Trail.{conflicts, SameSet, HasRoom, HasRoomForAll};
+ghost use Rattle.theory.specs.Lrat.{group_refusal, groups_refusal, units_of, groups_of};
+ghost use Rattle.theory.specs.Sets.{conflicts, SameSet};
+ghost use Rattle.propagation.specs.Trail.{HasRoom, HasRoomForAll};
 ghost use Rattle.steps.specs.Lrat.Shelf.{Holds};
 ghost use Rattle.steps.specs.Lrat.Groups.{named_in, needs_group_at, IsGroupEnd, IsFirstLeftOut};
 
 use crate::lrat::live_clauses::LiveClauses;
 use crate::lrat::named::Named;
 use crate::lrat::walk::{WalkEnd, refusal_of, walk};
-use crate::theory::refusal::Refusal;
 use cnf_base::Lit;
 use propagation::{Except, Trail};
 use std::alloc::AllocError;
+use theory::Refusal;
 
 /// Walks over a group's hints from where what is left of its candidate is false. The true literals stay as they were.
 fn walk_group(

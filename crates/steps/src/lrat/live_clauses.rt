@@ -4,10 +4,11 @@ ghost use Rattle.std.specs.Prelude.{◌≡◌, ℕ, ◌-◌, ◌<◌, ◌≤◌,
 ghost use Rattle.std.specs.Option.{option_copied};
 ghost use Rattle.std.specs.List.{IsDistinct};
 ghost use Rattle.std.specs.FinMap as maps;
-ghost use Rattle.steps.specs.Lrat.{with_clause, without_id, without_ids, deletion_refusal, SameClauses};
-ghost use Rattle.steps.specs.Theory.Sizes.{total};
+ghost use Rattle.theory.specs.Lrat.{with_clause, without_id, without_ids, deletion_refusal};
+ghost use Rattle.theory.specs.Lrat.{SameClauses};
+ghost use Rattle.theory.specs.Sizes.{total};
 ghost use Rattle.steps.specs.Lrat.Shelf.{empty_shelf, shelf_state, AllHold};
-ghost use Rattle.steps.specs.declared.theory.refusal.Refusal.TheVariants.{UnknownId};
+ghost use Rattle.theory.specs.declared.refusal.Refusal.TheVariants.{UnknownId};
 
 use clause_db::{Ids, NoIndex, Store};
 use cnf_base::{Lit, OutOfMemory};

@@ -3,14 +3,15 @@
 ghost use Rattle.std.specs.Prelude.{◌≡◌, ◌≤◌, ◌<◌, take, length, nat_abs, pos, slice_index_or, IsFalse};
 ghost use Rattle.std.specs.Option.{option_copied};
 ghost use Rattle.std.specs.FinMap as maps;
-ghost use Rattle.steps.specs.Lrat.{chain, units_of};
-ghost use Rattle.propagation.specs.Trail.{conflicts, SameSet, HasRoomForAll};
+ghost use Rattle.theory.specs.Lrat.{chain, units_of};
+ghost use Rattle.theory.specs.Sets.{conflicts, SameSet};
+ghost use Rattle.propagation.specs.Trail.{HasRoomForAll};
 ghost use Rattle.steps.specs.Lrat.Walk.{IsEnd, refusal_at};
 
 use crate::lrat::live_clauses::LiveClauses;
-use crate::theory::refusal::Refusal;
 use cnf_base::Lit;
 use propagation::{Left, Trail};
+use theory::Refusal;
 
 /// How a walk ends.
 #[derive(Clone, Copy, Debug, PartialEq, Eq)]

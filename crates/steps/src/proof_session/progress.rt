@@ -1,9 +1,9 @@
 //! How far a session has come.
 
 ghost use Rattle.std.specs.Prelude.{◌≡◌, ◌||◌, max, true, false};
-ghost use Rattle.steps.specs.Theory.Verdicts.{is_last};
+ghost use Rattle.theory.specs.Verdicts.{is_last};
 
-use crate::theory::accepted::Accepted;
+use theory::Accepted;
 
 /// What both sessions keep of it, and how a clause, a step and a refusal change it.
 #[derive(Drop)]

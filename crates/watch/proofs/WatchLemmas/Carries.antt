@@ -5,17 +5,17 @@ use Rattle.std.specs.FinMap as maps
 use Rattle.std.specs.FinMap.{FinMap}
 use Rattle.std.proofs.lemmas.Bool.{true≢false, false≢true}
 use Rattle.std.proofs.lemmas.List.{take_all}
-use Rattle.cnf_base.specs.Literals.{Literal, complement, Clause, has}
-use Rattle.clause_db.specs.Store.Clauses.{size}
-use Rattle.propagation.specs.Forced.{Forced, Clash}
+use Rattle.cnf_base.specs.Literals.{Literal, complement, Clause, has, size}
+use Rattle.theory.specs.Propagation.{Forced, Clash}
 use Rattle.propagation.specs.Assumptions.{AssumptionsState}
 use Rattle.propagation.specs.Exact.{Extends}
-use Rattle.propagation.specs.Trail.{SameSet}
+use Rattle.theory.specs.Sets.{SameSet}
 use Rattle.watch.specs.Order.{in_order, each_in_order}
 use Rattle.watch.specs.Roots.{AreReasoned, IsFalseAt}
 use Rattle.watch.specs.Visits.{Carries, IsPart}
 use Rattle.propagation.proofs.PropagationLemmas.Exact.{extends_on, extends_made}
-use Rattle.propagation.proofs.PropagationLemmas.Forced.{forced_assumed, forced_unit, forced_through, clash_by_false}
+use Rattle.theory.proofs.PropagationLemmas.Forced.{forced_assumed, forced_unit, forced_through}
+use Rattle.theory.proofs.PropagationLemmas.Forced.{clash_by_false}
 use Rattle.propagation.proofs.PropagationLemmas.Passes.{has_begun, pushed_each}
 use Rattle.watch.proofs.WatchLemmas.Moves.{entries_moved, still_watched, short_moved, watched_moved, shorts_moved}
 use Rattle.watch.specs.Watched.{watches}

@@ -4,16 +4,15 @@ use Rattle.std.specs.Ordering.{nat_cmp}
 use Rattle.std.specs.FinMap as maps
 use Rattle.std.specs.FinMap.{FinMap}
 use Rattle.std.proofs.lemmas.Bool.{cases_eq, true≢false, false≢true}
-use Rattle.cnf_base.specs.Literals.{Literal, complement, Clause, has}
+use Rattle.cnf_base.specs.Literals.{Literal, complement, Clause, has, size}
 use Rattle.cnf_base.proofs.SetLemmas.{has_head, has_tail, has_cases}
-use Rattle.propagation.specs.Forced.{IsClosed, Clash, by_empty, by_both}
-use Rattle.propagation.specs.Trail.{conflicts}
-use Rattle.clause_db.specs.Store.Clauses.{size}
+use Rattle.theory.specs.Propagation.{IsClosed, Clash, by_empty, by_both}
+use Rattle.theory.specs.Sets.{conflicts}
 use Rattle.watch.specs.Order.{in_order, each_in_order}
 use Rattle.watch.specs.Watched.{is_short, short_for, watches, IsMet, HasUnit, IsWatched}
-use Rattle.propagation.proofs.PropagationLemmas.MakesFalse.{conflict_from}
+use Rattle.theory.proofs.PropagationLemmas.Conflicts.{conflict_from}
 use Rattle.watch.proofs.WatchLemmas.Order.{has-in_order, seen_there, there_seen}
-use Rattle.clause_db.proofs.StoreLemmas.Distinct.{distinct_parts}
+use Rattle.cnf_base.proofs.SizeLemmas.{distinct_parts}
 
 -- the unit rule of one clause
 pub clause_closed : (c : Clause) (trues : List Literal) → size c ≡ length c → HasUnit c trues → ((l : Literal) → has trues (complement l) ≡ true → IsMet c l trues) →

@@ -12,7 +12,7 @@ use Rattle.watch.specs.Order.{in_order, each_in_order}
 use Rattle.watch.specs.Roots.{AreNoted, AreReasoned, HasReasons, HaveUnits, IsArranged, IsKept, IsKnown}
 use Rattle.watch.specs.Visits.{IsPart}
 use Rattle.watch.specs.Watched.{IsMet, HasUnit, IsWatched}
-use Rattle.propagation.specs.declared.left.Left.TheVariants.{Nothing, One, More}
+use Rattle.theory.specs.declared.left.Left.TheVariants.{Nothing, One, More}
 use Rattle.watch.specs.declared.roots.Kept.{Kept}
 use Rattle.watch.specs.declared.roots.Kept.TheVariants.{Lost, Behind, All, Clash}
 use Rattle.watch.specs.declared.roots.Roots.{Roots}

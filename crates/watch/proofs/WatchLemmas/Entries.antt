@@ -5,11 +5,10 @@ use Rattle.std.specs.declared.result.Result.{Result}
 use Rattle.std.specs.declared.result.Result.TheVariants.{Ok, Err}
 use Rattle.std.proofs.lemmas.Bool.{true≢false, false≢true}
 use Rattle.std.proofs.lemmas.Bool.Decides.{nat_tests}
-use Rattle.cnf_base.specs.Literals.{Literal, Clause, has}
+use Rattle.cnf_base.specs.Literals.{Literal, Clause, has, size}
 use Rattle.cnf_base.proofs.SetLemmas.{has_head}
-use Rattle.clause_db.specs.Store.Clauses.{size}
 use Rattle.watch.specs.Watched.{watches, is_short}
-use Rattle.clause_db.proofs.StoreLemmas.Distinct.{distinct_parts}
+use Rattle.cnf_base.proofs.SizeLemmas.{distinct_parts}
 
 pub on_ok_map : {R E : Type 0} {X Y : Type 0} → (r : Result R E) → (X → Y) → OnOk r X → OnOk r Y
 on_ok_map (Ok x) f h = f h

@@ -6,7 +6,7 @@ use Rattle.std.proofs.lemmas.List.Sums.{sum_by_more, sum_by_more_le, sum_by-cons
 use Rattle.cnf_base.specs.Literals.{Literal, complement, Clause, has}
 use Rattle.cnf_base.proofs.LiteralLemmas.{complement-complement}
 use Rattle.cnf_base.proofs.SetLemmas.{has_append_left}
-use Rattle.propagation.specs.Forced.{Live}
+use Rattle.theory.specs.Propagation.{Live}
 use Rattle.watch.specs.Lists.{entries_of, strangers, times_in}
 use Rattle.watch.specs.Visits.{IsPart}
 use Rattle.watch.specs.Watched.{watches, entries_for, IsListed, IsMet, IsWatched}

@@ -5,22 +5,23 @@ use Rattle.std.specs.FinMap as maps
 use Rattle.std.specs.FinMap.{FinMap}
 use Rattle.std.proofs.lemmas.Bool.{cases_eq, false_from_ne_true, true≢false, false≢true}
 use Rattle.std.proofs.lemmas.Option.{none-some, same_Some}
-use Rattle.cnf_base.specs.Literals.{Literal, complement, Clause, has}
+use Rattle.cnf_base.specs.Literals.{Literal, complement, Clause, has, size}
 use Rattle.tables.specs.Table.{at}
-use Rattle.propagation.specs.Forced.{Clash, Forced}
+use Rattle.theory.specs.Propagation.{Clash, Forced}
 use Rattle.propagation.specs.Assumptions.{Assumption, AssumptionsState, roots_in}
 use Rattle.watch.specs.Order.{in_order, each_in_order}
 use Rattle.watch.specs.Roots.{AreForced, AreNoted, AreReasoned, HasReasons, HaveUnits, IsArranged, IsFalseAt, IsKept, IsKnown, IsStanding, is_up_to_date, has_clash}
 use Rattle.watch.specs.Visits.{Carries, IsPart}
 use Rattle.watch.specs.Watched.{IsMet, HasUnit, IsWatched}
-use Rattle.propagation.specs.declared.left.Left.TheVariants.{One, More}
+use Rattle.theory.specs.declared.left.Left.TheVariants.{One, More}
 use Rattle.watch.specs.declared.roots.Kept.{Kept}
 use Rattle.watch.specs.declared.roots.Kept.TheVariants.{Lost, Behind, All, Clash as KeptClash}
 use Rattle.watch.specs.declared.roots.Roots.{Roots}
-use Rattle.propagation.specs.Trail.{HasNoVariableTwice, conflicts}
-use Rattle.clause_db.specs.Store.Clauses.{size}
-use Rattle.propagation.proofs.PropagationLemmas.Forced.{clash_by_false}
-use Rattle.propagation.proofs.PropagationLemmas.MakesFalse.{conflicts_more, no_conflict}
+use Rattle.propagation.specs.Trail.{HasNoVariableTwice}
+use Rattle.theory.specs.Sets.{conflicts}
+use Rattle.theory.proofs.PropagationLemmas.Forced.{clash_by_false}
+use Rattle.theory.proofs.PropagationLemmas.Conflicts.{conflicts_more}
+use Rattle.propagation.proofs.PropagationLemmas.MakesFalse.{no_conflict}
 use Rattle.watch.proofs.WatchLemmas.Closed.{all_closed, all_quiet, units_carried}
 use Rattle.watch.proofs.WatchLemmas.Follow.{front_part}
 use Rattle.watch.proofs.WatchLemmas.Order.{get_ordered, has-in_order, seen_there}

@@ -9,16 +9,15 @@ use Rattle.std.proofs.lemmas.Grind.{get_or_default_zero, same_number_lists}
 use Rattle.std.proofs.lemmas.List.Edits.{length-swap, swapped_from_swap}
 use Rattle.std.proofs.lemmas.List.Sums.{sum_by_push, sum_by-set, get_or-le-sum_by}
 use Rattle.std.proofs.lemmas.Option.{same_Some}
-use Rattle.cnf_base.specs.Literals.{Literal, complement, Clause, has}
+use Rattle.cnf_base.specs.Literals.{Literal, complement, Clause, has, size}
 use Rattle.cnf_base.proofs.SetLemmas.{has_head, has_tail}
-use Rattle.propagation.specs.Forced.{Live}
-use Rattle.clause_db.specs.Store.Clauses.{size}
+use Rattle.theory.specs.Propagation.{Live}
 use Rattle.watch.specs.Lists.{entries_of, strangers}
 use Rattle.watch.specs.Watched.{watches, is_short, entries_for, short_for, IsListed, IsMet, IsWatched}
 use Rattle.propagation.proofs.MemberLemmas.{has_place, has_front}
 use Rattle.watch.proofs.WatchLemmas.Lists.{blocking_own, eqb_turned, strangers_alike, strangers_pushed}
 use Rattle.watch.specs.declared.watcher.Watcher.{Watcher}
-use Rattle.clause_db.proofs.StoreLemmas.Distinct.{distinct_parts, distinct_before}
+use Rattle.cnf_base.proofs.SizeLemmas.{distinct_parts, distinct_before}
 use Rattle.clause_db.proofs.StoreLemmas.Sums.{get_insert, same_maps}
 
 -- three literals, two of which differ from the third

@@ -11,12 +11,13 @@ use Rattle.std.proofs.lemmas.Bool.Decides.{nat_tests}
 use Rattle.std.proofs.lemmas.List.Sums.{sum_by-cons}
 use Rattle.std.proofs.lemmas.Option.{none-some, same_Some}
 use Rattle.cnf_base.specs.Literals.{Literal, Clause, complement, complements, has, same_clause}
+use Rattle.cnf_base.specs.Literals.{size}
 use Rattle.cnf_base.proofs.LiteralLemmas.{complement-complement}
 use Rattle.cnf_base.proofs.SetLemmas.{both_pass, complements_has, filter_has, has-complements, has-filter, same_from}
 use Rattle.propagation.specs.Assumptions.{HasAt}
-use Rattle.clause_db.specs.Store.Clauses.{size, sum_over, literals_in, copies_with}
+use Rattle.clause_db.specs.Store.Clauses.{sum_over, literals_in, copies_with}
 use Rattle.watch.specs.Order.{set_of, in_order, each_in_order}
-use Rattle.clause_db.proofs.StoreLemmas.Distinct.{size_same}
+use Rattle.cnf_base.proofs.SizeLemmas.{size_same}
 use Rattle.clause_db.proofs.StoreLemmas.Sums.{get_insert, get_remove, same_maps}
 
 tie_is : (k q : ℕ) → eq_by_cmp nat_cmp k q ≡ eqb q k

@@ -4,7 +4,7 @@ use Rattle.std.proofs.lemmas.Bool.{cases_eq, false≢true}
 use Rattle.std.proofs.lemmas.Option.{same_Some}
 use Rattle.cnf_base.specs.Literals.{Literal, complement, Clause, has}
 use Rattle.cnf_base.proofs.SetLemmas.{has_append_left, has_append_right, has_head}
-use Rattle.propagation.specs.Forced.{Live, Forced}
+use Rattle.theory.specs.Propagation.{Live, Forced}
 use Rattle.propagation.specs.Assumptions.{HasAt}
 use Rattle.watch.specs.Roots.{AreReasoned}
 use Rattle.propagation.proofs.PropagationLemmas.Passes.{pushed_each}

@@ -5,9 +5,9 @@ use Rattle.std.specs.FinMap as maps
 use Rattle.std.specs.FinMap.{FinMap}
 use Rattle.cnf_base.specs.Literals.{Literal, Clause}
 use Rattle.cnf_base.proofs.SetLemmas.{same_from}
-use Rattle.propagation.specs.Forced.{Forced, IsRootReason}
+use Rattle.theory.specs.Propagation.{Forced, IsRootReason}
 use Rattle.propagation.specs.Trail.{HasRoomForAll}
-use Rattle.propagation.proofs.PropagationLemmas.Covers.{Covers, forced_covers, reason_covers}
+use Rattle.theory.proofs.PropagationLemmas.Covers.{Covers, forced_covers, reason_covers}
 use Rattle.watch.specs.Order.{in_order, each_in_order}
 use Rattle.watch.proofs.WatchLemmas.Order.{has-in_order, seen_there, there_seen}
 

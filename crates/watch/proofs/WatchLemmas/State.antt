@@ -6,12 +6,12 @@ use Rattle.std.specs.FinMap.{FinMap}
 use Rattle.std.proofs.lemmas.Bool.Decides.{nat_tests}
 use Rattle.std.proofs.lemmas.Bool.{cases_eq, false≢true}
 use Rattle.std.proofs.lemmas.Option.{none-some, same_Some}
-use Rattle.cnf_base.specs.Literals.{Literal, Clause, has}
+use Rattle.cnf_base.specs.Literals.{Literal, Clause, has, size}
 use Rattle.propagation.specs.Assumptions.{Assumption, AssumptionsState, Propagation, roots_in}
 use Rattle.propagation.specs.Exact.{AreExact}
 use Rattle.propagation.specs.Scan.{IsHeld}
-use Rattle.propagation.specs.Trail.{SameSet, HasRoomForAll}
-use Rattle.clause_db.specs.Store.Clauses.{size}
+use Rattle.theory.specs.Sets.{SameSet}
+use Rattle.propagation.specs.Trail.{HasRoomForAll}
 use Rattle.watch.specs.Lists.{AreApart, entries_in, entries_of, list_at, strangers, times_in}
 use Rattle.watch.specs.Order.{each_in_order}
 use Rattle.watch.specs.Roots.{AreForced, IsKept, IsKnown, IsStanding, is_up_to_date}

@@ -6,7 +6,7 @@ use Rattle.std.proofs.lemmas.List.Sums.{get_or-le-sum_by}
 use Rattle.std.proofs.lemmas.Option.{same_Some}
 use Rattle.cnf_base.specs.Literals.{Literal, Clause, has}
 use Rattle.cnf_base.proofs.SetLemmas.{has_append_right, has_cases, has_head}
-use Rattle.propagation.specs.Forced.{Live}
+use Rattle.theory.specs.Propagation.{Live}
 use Rattle.watch.specs.Visits.{IsPart}
 use Rattle.watch.specs.Watched.{is_short, short_for, IsShortList, HasUnit}
 use Rattle.propagation.proofs.PropagationLemmas.Passes.{pushed_each}

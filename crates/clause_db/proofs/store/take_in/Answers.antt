@@ -1,7 +1,7 @@
 use Rattle.std.proofs.Common.{◌≡◌, true, sym, subst, arith}
 use Rattle.cnf_base.specs.Literals.{same_clause}
 use Rattle.cnf_base.proofs.SetLemmas.{same_from, same_there, same_back}
-use Rattle.clause_db.proofs.StoreLemmas.Distinct.{size_same}
+use Rattle.cnf_base.proofs.SizeLemmas.{size_same}
 use Rattle.clause_db.proofs.store.take_in.Goals as goal
 
 pub returns-in-Ok-make_room-clause-short : goal.returns-in-Ok-make_room-clause-short

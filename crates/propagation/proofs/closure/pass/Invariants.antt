@@ -1,7 +1,7 @@
 use Rattle.std.proofs.Common.{◌≡◌, ℕ, true, []}
 use Rattle.std.specs.FinMap as maps
 use Rattle.cnf_base.specs.Literals.{has}
-use Rattle.propagation.specs.Forced.{Forced}
+use Rattle.theory.specs.Propagation.{Forced}
 use Rattle.propagation.proofs.PropagationLemmas.Closing.{IsPassedOver}
 use Rattle.propagation.proofs.closure.pass.Given as goal
 

@@ -1,5 +1,5 @@
 use Rattle.std.proofs.Common.{◌≡◌, take}
-use Rattle.propagation.specs.Left.{open_literals, how_many}
+use Rattle.theory.specs.Left.{open_literals, how_many}
 use Rattle.propagation.proofs.truths.left_of.Given as goal
 
 abbrev pub invariant-loop-l : goal.invariant-loop-l

@@ -4,7 +4,7 @@ use Rattle.cnf_base.specs.declared.fault.Fault.{Fault}
 use Rattle.cnf_base.proofs.StreamLemmas.{Along-map, Along-none}
 use Rattle.cnf_base.proofs.SeenLemmas.{seen_is_some}
 use Rattle.dimacs.specs.Formula.{formula_of}
-use Rattle.steps.specs.Theory.Rules.{rule_of}
+use Rattle.theory.specs.Rules.{rule_of}
 use Rattle.sat_check.specs.Checking.{LeavesProof}
 use Rattle.sat_check.specs.declared.status.Status.TheVariants.{Malformed}
 use Rattle.sat_check.proofs.ReachLemmas.{no_verdict, LeavesProof-fault}

@@ -1,7 +1,7 @@
 -- Want of memory, or the check.
 use Rattle.std.proofs.Common.{refl, rules}
 use Rattle.sat_check.specs.Report.{drat_proof, rules_of}
-use Rattle.steps.specs.Theory.Rules.{drat}
+use Rattle.theory.specs.Rules.{drat}
 use Rattle.sat_check.proofs.CheckLemmas.{reports_nothing, drat_proof-within}
 use Rattle.sat_check.proofs.drat.check_drat.Goals as goal
 

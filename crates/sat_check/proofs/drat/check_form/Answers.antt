@@ -3,7 +3,7 @@ use Rattle.std.proofs.Common.{refl, sym, ap, rules}
 use Rattle.proofs.specs.Binary.{binary_steps, binary_to_come}
 use Rattle.proofs.specs.Drat.{drat as drat_format, drat_steps, drat_to_come}
 use Rattle.sat_check.specs.Report.{drat_proof, rules_of}
-use Rattle.steps.specs.Theory.Rules.{drat}
+use Rattle.theory.specs.Rules.{drat}
 use Rattle.sat_check.proofs.LoadLemmas.{drat_unused}
 use Rattle.sat_check.proofs.CheckLemmas.{reports_nothing, reports_run, reports_as, drat_proof-within}
 use Rattle.proofs.proofs.ReachLemmas.{steps_of-within, binary_steps-within}

@@ -1,6 +1,6 @@
 -- The placed check, without the place.
 use Rattle.sat_check.specs.Report.{drat_proof, rules_of}
-use Rattle.steps.specs.Theory.Rules.{drat}
+use Rattle.theory.specs.Rules.{drat}
 use Rattle.sat_check.proofs.SoundLemmas.{unplaced}
 use Rattle.sat_check.proofs.drat.run_drat.Goals as goal
 

@@ -1,7 +1,7 @@
 -- What the lines hold is what the writer holds.
 use Rattle.std.proofs.Common.{rules}
 use Rattle.sat_check.specs.Report.{drat_proof, rules_of}
-use Rattle.steps.specs.Theory.Rules.{drat}
+use Rattle.theory.specs.Rules.{drat}
 use Rattle.sat_check.proofs.SoundLemmas.{both_check_proof}
 use Rattle.sat_check.proofs.drat.run_drat_placed.Goals as goal
 

@@ -1,6 +1,6 @@
 -- What was seen of the formula.
 use Rattle.std.proofs.Common.{refl, rules}
-use Rattle.steps.specs.Theory.Rules.{rule_of}
+use Rattle.theory.specs.Rules.{rule_of}
 use Rattle.sat_check.proofs.LoadLemmas.{loads_refused, loads_fault, loads_body, loads_body_fault}
 use Rattle.sat_check.proofs.load.load.Goals as goal
 

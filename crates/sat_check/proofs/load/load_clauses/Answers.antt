@@ -1,8 +1,8 @@
 -- A clause is input, until the last one or a fault.
 use Rattle.std.proofs.Common.{◌≡◌, ◌+◌, ◌≤◌, ◌||◌, max, true, false, rules}
 use Rattle.std.specs.Prelude.{Ok}
-use Rattle.steps.specs.Theory.Rules.{Same, with_input, sum_of}
-use Rattle.steps.specs.Theory.Verdicts.{is_empty}
+use Rattle.theory.specs.Rules.{Same, with_input, sum_of}
+use Rattle.theory.specs.Verdicts.{is_empty}
 use Rattle.sat_check.proofs.LoadLemmas.{Loading-start, Loading-clause, Loading-done, Loading-fault, Loading-refused, loaded_more}
 use Rattle.sat_check.proofs.ReadLemmas.{clause_told}
 use Rattle.sat_check.proofs.load.load_clauses.Goals as goal

@@ -1,6 +1,6 @@
 -- The clauses so far were input.
 use Rattle.cnf_base.specs.Stream.{most_to_come}
-use Rattle.steps.specs.Theory.Rules.{rule_of}
+use Rattle.theory.specs.Rules.{rule_of}
 use Rattle.sat_check.proofs.LoadLemmas.{Loading}
 use Rattle.sat_check.proofs.load.load_clauses.Given as goal
 

@@ -2,7 +2,7 @@
 use Rattle.std.proofs.Common.{refl, rules}
 use Rattle.proofs.specs.Lrat.{lrat as lrat_format, lrat_steps, lrat_to_come}
 use Rattle.proofs.proofs.ReachLemmas.{steps_of-within}
-use Rattle.steps.specs.Theory.Rules.{lrat}
+use Rattle.theory.specs.Rules.{lrat}
 use Rattle.sat_check.proofs.LoadLemmas.{lrat_unused}
 use Rattle.sat_check.proofs.CheckLemmas.{reports_nothing, reports_run}
 use Rattle.sat_check.proofs.lrat.check_lrat.Goals as goal

@@ -1,6 +1,6 @@
 -- The placed check, without the place.
 use Rattle.proofs.specs.Lrat.{lrat_steps}
-use Rattle.steps.specs.Theory.Rules.{lrat}
+use Rattle.theory.specs.Rules.{lrat}
 use Rattle.sat_check.proofs.SoundLemmas.{unplaced}
 use Rattle.sat_check.proofs.lrat.run_lrat.Goals as goal
 

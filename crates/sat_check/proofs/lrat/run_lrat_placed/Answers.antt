@@ -1,7 +1,7 @@
 -- What the lines hold is what the writer holds.
 use Rattle.std.proofs.Common.{rules}
 use Rattle.proofs.specs.Lrat.{lrat_steps}
-use Rattle.steps.specs.Theory.Rules.{lrat}
+use Rattle.theory.specs.Rules.{lrat}
 use Rattle.sat_check.proofs.SoundLemmas.{both_check_proof}
 use Rattle.sat_check.proofs.lrat.run_lrat_placed.Goals as goal
 

@@ -1,7 +1,7 @@
 use Rattle.std.proofs.Common.{map, nat_abs, sym, ◌∙◌, subst}
 use Rattle.std.specs.FinMap as maps
-use Rattle.steps.specs.Theory.StepAnswer.{StepAnswer, UnlessOutOfMemory}
-use Rattle.steps.specs.Lrat.{AnswersLrat, lrat_step}
+use Rattle.theory.specs.Answers.{StepAnswer, UnlessOutOfMemory}
+use Rattle.theory.specs.Lrat.{AnswersLrat, lrat_step}
 use Rattle.steps.specs.Lrat.Shelf.{shelf_state}
 use Rattle.steps.proofs.LratLemmas.Ending.{never_ended}
 use Rattle.steps.proofs.LratLemmas.Rooms.{ready_without, deleted_live}

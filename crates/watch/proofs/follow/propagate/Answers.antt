@@ -5,7 +5,8 @@ use Rattle.std.proofs.lemmas.Grind.{get_or_default_zero}
 use Rattle.std.proofs.lemmas.List.{take-take, take_more}
 use Rattle.cnf_base.specs.Literals.{Clause, complement, has, variable}
 use Rattle.cnf_base.proofs.LiteralLemmas.{complement-complement}
-use Rattle.propagation.specs.Trail.{HasNoVariableTwice, conflicts}
+use Rattle.propagation.specs.Trail.{HasNoVariableTwice}
+use Rattle.theory.specs.Sets.{conflicts}
 use Rattle.watch.specs.Watched.{IsMet}
 use Rattle.propagation.proofs.MemberLemmas.{has_place}
 use Rattle.propagation.proofs.PropagationLemmas.MakesFalse.{no_conflict}

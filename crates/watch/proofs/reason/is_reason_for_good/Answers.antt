@@ -2,8 +2,8 @@ use Rattle.std.proofs.Common.{sym, ap, ◌∙◌, subst}
 use Rattle.std.specs.FinMap as maps
 use Rattle.std.proofs.lemmas.Option.{same_Some}
 use Rattle.cnf_base.specs.Literals.{has}
-use Rattle.propagation.specs.Forced.{IsRootReason}
-use Rattle.propagation.specs.Left.{is_one_at_most}
+use Rattle.theory.specs.Propagation.{IsRootReason}
+use Rattle.theory.specs.Left.{is_one_at_most}
 use Rattle.propagation.specs.Trail.{HasNoVariableTwice, HasRoomForAll}
 use Rattle.propagation.proofs.PropagationLemmas.Closing.{no_reason_left, reason_left}
 use Rattle.watch.specs.Roots.{IsKept}

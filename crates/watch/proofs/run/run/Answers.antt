@@ -1,9 +1,9 @@
 use Rattle.std.proofs.Common.{◌≡◌, true, false, IfSome, IfNone, sym, subst}
 use Rattle.std.specs.FinMap as maps
 use Rattle.tables.specs.Table.{at}
-use Rattle.propagation.specs.Forced.{Clash, IsClosed}
+use Rattle.theory.specs.Propagation.{Clash, IsClosed}
 use Rattle.cnf_base.specs.Literals.{Literal, has}
-use Rattle.propagation.specs.Trail.{conflicts}
+use Rattle.theory.specs.Sets.{conflicts}
 use Rattle.watch.specs.Order.{each_in_order}
 use Rattle.watch.specs.Roots.{IsFalseAt}
 use Rattle.watch.specs.Watched.{IsWatched}

@@ -4,13 +4,13 @@ use Rattle.std.specs.FinMap as maps
 use Rattle.cnf_base.specs.Literals.{complements, has}
 use Rattle.propagation.specs.Assumptions.{assumed_by, roots_in}
 use Rattle.propagation.specs.Exact.{IsExact}
-use Rattle.propagation.specs.Trail.{SameSet}
+use Rattle.theory.specs.Sets.{SameSet}
 use Rattle.watch.specs.Order.{each_in_order}
 use Rattle.watch.specs.Roots.{AreForced}
 use Rattle.watch.specs.Source.{clause_of}
 use Rattle.propagation.proofs.PropagationLemmas.Scan.{part_clashes, part_answer, part_exact, scan_after}
 use Rattle.propagation.proofs.PropagationLemmas.Exact.{begins_on, longer_from}
-use Rattle.propagation.proofs.PropagationLemmas.Forced.{clash_through}
+use Rattle.theory.proofs.PropagationLemmas.Forced.{clash_through}
 use Rattle.watch.proofs.WatchLemmas.Kept.{kept_clash, kept_forced}
 use Rattle.std.proofs.lemmas.Bool.{false≢true}
 use Rattle.watch.proofs.WatchLemmas.State.{watch_answered, watch_undone}

@@ -1,7 +1,6 @@
 use Rattle.std.proofs.Common.{◌≡◌, ℕ, ◌<◌, ◌&&◌, false, true, not, take, length, sym, ap, ◌∙◌, arith}
 use Rattle.std.proofs.lemmas.List.{take_all}
-use Rattle.cnf_base.specs.Literals.{has}
-use Rattle.clause_db.specs.Store.Clauses.{size}
+use Rattle.cnf_base.specs.Literals.{has, size}
 use Rattle.cnf_base.proofs.SetLemmas.{same_from}
 use Rattle.clause_db.proofs.StoreLemmas.Marks.{is_in, marked_new, marked_old, few_more, gather_more, count_more, has_kept, push_same, push_fits, push_different}
 use Rattle.clause_db.proofs.store.marks.gather.Goals as goal

@@ -1,8 +1,9 @@
 use Rattle.std.proofs.Common.{◌≡◌, ℕ, true, []}
 use Rattle.std.specs.FinMap as maps
 use Rattle.cnf_base.specs.Literals.{has}
-use Rattle.propagation.specs.Closure.{both_of, lacking}
-use Rattle.propagation.specs.Forced.{Forced}
+use Rattle.propagation.specs.Closure.{both_of}
+use Rattle.theory.specs.Sets.{lacking}
+use Rattle.theory.specs.Propagation.{Forced}
 use Rattle.propagation.proofs.closure.Closure.of.Given as goal
 
 abbrev pub invariant-loop-closure : goal.invariant-loop-closure

@@ -1,7 +1,7 @@
 use Rattle.std.proofs.Common.{◌≡◌, false, Some, IfOk, subst}
 use Rattle.std.specs.FinMap as maps
 use Rattle.cnf_base.specs.Literals.{Clause}
-use Rattle.propagation.specs.Forced.{IsRootReason}
+use Rattle.theory.specs.Propagation.{IsRootReason}
 use Rattle.propagation.proofs.scan.ScanPropagate.is_root_reason.Goals as goal
 
 pub returns-clause-no : goal.returns-clause-no

@@ -1,12 +1,12 @@
 use Rattle.std.proofs.Common.{◌≡◌, false, ◌∙◌, sym, ap, subst}
 use Rattle.std.specs.FinMap as maps
-use Rattle.propagation.specs.Forced.{IsClosed}
+use Rattle.theory.specs.Propagation.{IsClosed}
 use Rattle.cnf_base.specs.Literals.{has}
-use Rattle.propagation.specs.Trail.{conflicts}
+use Rattle.theory.specs.Sets.{conflicts}
 use Rattle.propagation.proofs.PropagationLemmas.MakesFalse.{no_conflict}
-use Rattle.propagation.proofs.PropagationLemmas.Forced.{clash_through}
+use Rattle.theory.proofs.PropagationLemmas.Forced.{clash_through}
 use Rattle.propagation.proofs.PropagationLemmas.Passes.{has_begun}
-use Rattle.propagation.proofs.PropagationLemmas.Unit.{settled_closed, settled_quiet}
+use Rattle.theory.proofs.PropagationLemmas.Unit.{settled_closed, settled_quiet}
 use Rattle.propagation.proofs.scan.unit.propagate.Goals as goal
 
 pub returns-in-Clash-clause-answer : goal.returns-in-Clash-clause-answer

@@ -2,14 +2,14 @@ use Rattle.std.proofs.Common.{◌≡◌, ◌/◌, ◌∷◌, [], ◌++◌, ◌+�
 use Rattle.std.specs.FinMap as maps
 use Rattle.cnf_base.specs.Literals.{has}
 use Rattle.std.proofs.lemmas.Bool.{not-true, not-false}
-use Rattle.propagation.specs.Left.{open_literals, how_many, IsSettled}
-use Rattle.propagation.specs.Forced.{Forced}
-use Rattle.propagation.specs.declared.left.Left.TheVariants.{One as OneLeft, Nothing, More}
+use Rattle.theory.specs.Left.{open_literals, how_many, IsSettled}
+use Rattle.theory.specs.Propagation.{Forced}
+use Rattle.theory.specs.declared.left.Left.TheVariants.{One as OneLeft, Nothing, More}
 use Rattle.propagation.specs.declared.scan.unit.Pass.TheVariants.{Changed}
 use Rattle.propagation.proofs.PropagationLemmas.Exact.{extends_on, extends_made}
-use Rattle.propagation.proofs.PropagationLemmas.Left.{left_open}
+use Rattle.theory.proofs.PropagationLemmas.Left.{left_open}
 use Rattle.propagation.proofs.PropagationLemmas.Passes.{IsPassedTo, pushed_each, passed_none, passed_settled, passed_unit}
-use Rattle.propagation.proofs.PropagationLemmas.Unit.{left_is_forced, none_left_clashes}
+use Rattle.theory.proofs.PropagationLemmas.Unit.{left_is_forced, none_left_clashes}
 use Rattle.propagation.proofs.scan.unit.run_pass.Goals as goal
 use Rattle.propagation.proofs.scan.unit.run_pass.Goals.{in-Some+in-One+then-make_true, in-Some+in-One+else-make_true, in-Some+in-More, in_default}
 

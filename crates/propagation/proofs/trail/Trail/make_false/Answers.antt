@@ -2,9 +2,14 @@ use Rattle.std.proofs.Common.{◌≡◌, ◌/◌, ◌++◌, ◌∷◌, [], true,
 use Rattle.std.proofs.lemmas.List.{take_all}
 use Rattle.cnf_base.specs.Literals.{complement, has}
 use Rattle.cnf_base.proofs.LiteralLemmas.{complement-complement}
-use Rattle.propagation.specs.Trail.{conflicts, value_under}
+use Rattle.theory.specs.Sets.{conflicts}
+use Rattle.propagation.specs.Trail.{value_under}
 use Rattle.propagation.specs.declared.value.Value.TheVariants.{Open}
-use Rattle.propagation.proofs.PropagationLemmas.MakesFalse.{falsified, falsified_next, falsified_same, falsified_conflict, falsified_none, no_conflict, conflicts_same, same_old, same_pushed, quiet_push}
+use Rattle.propagation.proofs.PropagationLemmas.MakesFalse.{falsified, falsified_next}
+use Rattle.propagation.proofs.PropagationLemmas.MakesFalse.{falsified_same, falsified_conflict}
+use Rattle.propagation.proofs.PropagationLemmas.MakesFalse.{falsified_none, no_conflict, same_old}
+use Rattle.propagation.proofs.PropagationLemmas.MakesFalse.{same_pushed}
+use Rattle.theory.proofs.PropagationLemmas.Conflicts.{conflicts_same, quiet_push}
 use Rattle.clause_db.proofs.StoreLemmas.Marks.{is_in}
 use Rattle.propagation.proofs.MemberLemmas.{variable-complement}
 use Rattle.propagation.proofs.PropagationLemmas.Passes.{begins_push}

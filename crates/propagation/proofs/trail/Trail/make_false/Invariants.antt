@@ -1,5 +1,5 @@
 use Rattle.std.proofs.Common.{◌≡◌, ◌≤◌, false, length, take}
-use Rattle.propagation.specs.Trail.{SameSet, conflicts}
+use Rattle.theory.specs.Sets.{SameSet, conflicts}
 use Rattle.propagation.proofs.PropagationLemmas.MakesFalse.{falsified}
 use Rattle.propagation.proofs.trail.Trail.make_false.Given as goal
 

@@ -1,6 +1,7 @@
 use Rattle.std.proofs.Common.{◌≡◌, false, sym, subst}
-use Rattle.propagation.specs.Trail.{conflicts}
-use Rattle.propagation.proofs.PropagationLemmas.MakesFalse.{no_conflict, quiet_push}
+use Rattle.theory.specs.Sets.{conflicts}
+use Rattle.propagation.proofs.PropagationLemmas.MakesFalse.{no_conflict}
+use Rattle.theory.proofs.PropagationLemmas.Conflicts.{quiet_push}
 use Rattle.propagation.proofs.trail.Trail.make_true.Goals as goal
 
 pub returns-then-is_open-clause-quiet : goal.returns-then-is_open-clause-quiet

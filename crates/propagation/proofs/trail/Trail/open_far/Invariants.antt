@@ -1,5 +1,6 @@
 use Rattle.std.proofs.Common.{◌≤◌, take}
-use Rattle.propagation.specs.Left.{open_literals, IsCount}
+use Rattle.theory.specs.Left.{open_literals}
+use Rattle.propagation.specs.Left.{IsCount}
 use Rattle.propagation.proofs.trail.Trail.open_far.Given as goal
 
 abbrev pub invariant-loop-l : goal.invariant-loop-l

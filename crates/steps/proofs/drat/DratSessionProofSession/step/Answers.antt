@@ -1,10 +1,10 @@
 use Rattle.std.proofs.Common.{slice_get, subst}
 use Rattle.std.specs.FinMap as maps
-use Rattle.steps.specs.Drat.{after_drat, drat_step}
+use Rattle.theory.specs.Drat.{after_drat, drat_step}
 use Rattle.steps.specs.Drat.Session.{clauses_of}
-use Rattle.steps.specs.Theory.Models.{HasModel}
-use Rattle.steps.proofs.TheoryLemmas.Keeping.{drat_keeps}
-use Rattle.steps.proofs.LratLemmas.Sessions.{has_model_copies}
+use Rattle.theory.specs.Models.{HasModel}
+use Rattle.theory.proofs.LawLemmas.Keeping.{drat_keeps}
+use Rattle.theory.proofs.LratLemmas.States.{has_model_copies}
 use Rattle.steps.proofs.drat.DratSessionProofSession.step.Goals as goal
 
 pub returns-in-Ok-clause-keeps_models : goal.returns-in-Ok-clause-keeps_models

@@ -2,7 +2,7 @@ use Rattle.std.proofs.Common.{◌≡◌, ◌++◌, ℕ, Some, ◌<◌, true}
 use Rattle.std.specs.FinMap as maps
 use Rattle.cnf_base.specs.Literals.{Clause, has, complements, without}
 use Rattle.propagation.specs.Assumptions.{assumed_by}
-use Rattle.steps.specs.Theory.Propagation.{Clash}
+use Rattle.theory.specs.Propagation.{Clash}
 use Rattle.steps.proofs.DratLemmas.Candidates.{Remaining}
 use Rattle.steps.proofs.drat.step.all_clash.Given as goal
 

@@ -1,7 +1,7 @@
 use Rattle.std.proofs.Common.{sym, ap, ◌∙◌, subst, inl, inr}
 use Rattle.std.specs.FinMap as maps
 use Rattle.cnf_base.proofs.SetLemmas.{same_symm}
-use Rattle.steps.specs.Theory.Propagation.{IsRootReason}
+use Rattle.theory.specs.Propagation.{IsRootReason}
 use Rattle.steps.proofs.DratLemmas.Slots.{reason-slots, slots-reason}
 use Rattle.steps.proofs.DratLemmas.Steps.{alive_listed, none_listed, taken_off}
 use Rattle.steps.proofs.drat.step.delete.Goals as goal

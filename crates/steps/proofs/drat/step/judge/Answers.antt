@@ -2,7 +2,7 @@ use Rattle.std.proofs.Common.{◌++◌, ap, subst}
 use Rattle.std.specs.FinMap as maps
 use Rattle.cnf_base.specs.Literals.{complements}
 use Rattle.propagation.specs.Assumptions.{IsAnswer, assumed_by}
-use Rattle.steps.specs.Theory.Propagation.{Clash}
+use Rattle.theory.specs.Propagation.{Clash}
 use Rattle.steps.proofs.DratLemmas.Steps.{answers_rup, no_clash}
 use Rattle.steps.proofs.drat.step.judge.Goals as goal
 

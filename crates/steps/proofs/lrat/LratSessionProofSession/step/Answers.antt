@@ -1,11 +1,11 @@
 use Rattle.std.proofs.Common.{subst}
 use Rattle.std.specs.FinMap as maps
-use Rattle.steps.specs.Lrat.{after_lrat, lrat_step}
+use Rattle.theory.specs.Lrat.{after_lrat, lrat_step}
 use Rattle.steps.specs.Lrat.Shelf.{shelf_state}
 use Rattle.steps.specs.Lrat.Session.{state_of}
-use Rattle.steps.specs.Theory.Models.{HasModel}
-use Rattle.steps.proofs.TheoryLemmas.Keeping.{lrat_keeps}
-use Rattle.steps.proofs.LratLemmas.Sessions.{has_model_same}
+use Rattle.theory.specs.Models.{HasModel}
+use Rattle.theory.proofs.LawLemmas.Keeping.{lrat_keeps}
+use Rattle.theory.proofs.LratLemmas.States.{has_model_same}
 use Rattle.steps.proofs.lrat.LratSessionProofSession.step.Goals as goal
 
 pub returns-in-Ok-clause-keeps_models : goal.returns-in-Ok-clause-keeps_models

@@ -1,7 +1,7 @@
 use Rattle.std.proofs.Common.{subst}
 use Rattle.std.specs.FinMap as maps
 use Rattle.cnf_base.specs.Literals.{complements}
-use Rattle.steps.specs.Lrat.{chain, units_of, groups_of}
+use Rattle.theory.specs.Lrat.{chain, units_of, groups_of}
 use Rattle.steps.specs.Lrat.Walk.{IsEnd}
 use Rattle.steps.proofs.LratLemmas.Starts.{answers_open, first_is}
 use Rattle.steps.proofs.LratLemmas.Ending.{unless_map}

@@ -2,7 +2,7 @@ use Rattle.std.proofs.Common.{◌≡◌, ℕ, ◌+◌, ◌<◌, ◌||◌, eqb, t
 use Rattle.std.specs.FinMap as maps
 use Rattle.std.proofs.lemmas.List.{take_rest}
 use Rattle.cnf_base.specs.Literals.{has}
-use Rattle.steps.specs.Lrat.{group_refusal, groups_refusal, groups_of, units_of}
+use Rattle.theory.specs.Lrat.{group_refusal, groups_refusal, groups_of, units_of}
 use Rattle.steps.proofs.LratLemmas.Groups.{groups_pass_over, groups_go_on, named_kept, named_grows, when_none, held_grow}
 use Rattle.steps.proofs.lrat.candidates.judge_groups.Goals as goal
 use Rattle.steps.proofs.lrat.candidates.judge_groups.Goals.{then-hint-lt0+in_ok-refusal+else-is_some, else-hint-lt0}

@@ -1,10 +1,10 @@
 use Rattle.std.proofs.Common.{◌≡◌, ℕ, true, [], take, drop}
 use Rattle.std.specs.FinMap as maps
 use Rattle.cnf_base.specs.Literals.{complement, has}
-use Rattle.steps.specs.Lrat.{groups_refusal, groups_of}
+use Rattle.theory.specs.Lrat.{groups_refusal, groups_of}
 use Rattle.steps.specs.Lrat.Shelf.{Holds}
 use Rattle.steps.specs.Lrat.Groups.{named_in}
-use Rattle.propagation.specs.Trail.{SameSet}
+use Rattle.theory.specs.Sets.{SameSet}
 use Rattle.steps.proofs.lrat.candidates.judge_groups.Given as goal
 
 abbrev pub invariant-loop-i : goal.invariant-loop-i

@@ -1,6 +1,6 @@
 use Rattle.std.proofs.Common.{sym, ◌∙◌}
 use Rattle.std.specs.FinMap as maps
-use Rattle.steps.specs.Lrat.{units_of}
+use Rattle.theory.specs.Lrat.{units_of}
 use Rattle.steps.proofs.LratLemmas.Groups.{group_conflicts, group_walks}
 use Rattle.steps.proofs.lrat.candidates.walk_group.Goals as goal
 use Rattle.steps.proofs.lrat.candidates.walk_group.Goals.{then-make_false, else-make_false}

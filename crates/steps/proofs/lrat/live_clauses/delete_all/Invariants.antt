@@ -1,6 +1,6 @@
 use Rattle.std.proofs.Common.{◌≡◌, ◌≤◌, map, nat_abs, drop}
 use Rattle.std.specs.FinMap as maps
-use Rattle.steps.specs.Lrat.{without_ids, deletion_refusal}
+use Rattle.theory.specs.Lrat.{without_ids, deletion_refusal}
 use Rattle.steps.proofs.lrat.live_clauses.delete_all.Given as goal
 
 abbrev pub invariant-loop-id : goal.invariant-loop-id

@@ -1,8 +1,8 @@
 use Rattle.std.proofs.Common.{◌≡◌, ◌≤◌, ◌<◌, false, length, take, drop, nat_abs, pos, slice_index_or}
 use Rattle.std.specs.Option.{option_copied}
 use Rattle.std.specs.FinMap as maps
-use Rattle.steps.specs.Lrat.{chain, units_of}
-use Rattle.propagation.specs.Trail.{conflicts, SameSet}
+use Rattle.theory.specs.Lrat.{chain, units_of}
+use Rattle.theory.specs.Sets.{conflicts, SameSet}
 use Rattle.steps.proofs.LratLemmas.Walks.{Gives}
 use Rattle.steps.proofs.lrat.walk.walk.Given as goal
 

@@ -1,5 +1,5 @@
 use Rattle.std.proofs.Common.{◌≤◌, length, subst}
-use Rattle.clause_db.specs.Store.Clauses.{size}
+use Rattle.cnf_base.specs.Literals.{size}
 use Rattle.propagation.proofs.PropagationLemmas.Values.{fits_different}
 use Rattle.watch.proofs.watch.Watch.trail_len.Goals as goal
 

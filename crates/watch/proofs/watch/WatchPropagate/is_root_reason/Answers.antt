@@ -1,6 +1,6 @@
 use Rattle.std.proofs.Common.{is_some, sym, ap, ◌∙◌, subst}
 use Rattle.std.specs.FinMap as maps
-use Rattle.propagation.specs.Forced.{IsRootReason}
+use Rattle.theory.specs.Propagation.{IsRootReason}
 use Rattle.std.proofs.lemmas.Result.{IfOk-weaker}
 use Rattle.watch.proofs.WatchLemmas.Order.{alive_alike}
 use Rattle.watch.proofs.WatchLemmas.Shown.{none_shown, reason_shown}

@@ -1,6 +1,0 @@
-use Rattle.std.proofs.Common.{subst}
-use Rattle.steps.proofs.LratLemmas.Chains.{ChainMeans, chain_means}
-use Rattle.steps.proofs.theory.laws.chain_shows_clash.Goals as goal
-
-pub returns : goal.returns
-returns c = λ live assumed start hints forced ends. subst (ChainMeans live assumed) ends (chain_means live assumed hints start forced)

@@ -1,5 +1,0 @@
-use Rattle.steps.proofs.DratLemmas.CopySums.{sums_same}
-use Rattle.steps.proofs.theory.laws.equal_copies_equal_sums.Goals as goal
-
-pub returns : goal.returns
-returns c = sums_same

@@ -1,5 +1,0 @@
-use Rattle.steps.proofs.TheoryLemmas.Truth.{pr_keeps}
-use Rattle.steps.proofs.theory.laws.pr_keeps_models.Goals as goal
-
-pub returns : goal.returns
-returns c = λ live c witness pr m. pr_keeps m.0 live c witness m.1 pr

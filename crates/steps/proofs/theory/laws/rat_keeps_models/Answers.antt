@@ -1,5 +1,0 @@
-use Rattle.steps.proofs.TheoryLemmas.Truth.{rat_keeps}
-use Rattle.steps.proofs.theory.laws.rat_keeps_models.Goals as goal
-
-pub returns : goal.returns
-returns c = λ live c pivot rat m. rat_keeps m.0 live c pivot m.1 rat

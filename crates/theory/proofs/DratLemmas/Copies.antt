@@ -1,0 +1,211 @@
+-- The rule of DRAT depends only on how many copies of each clause are alive.
+use Rattle.std.proofs.Common.{◌≡◌, ℕ, zero, suc, ◌+◌, ◌-◌, ◌<◌, Bool, true}
+use Rattle.std.proofs.Common.{false, cond, Option, Some, Ok, Err, List, [], ◌∷◌, ◌++◌}
+use Rattle.std.proofs.Common.{slice_get, refl, sym, ap, ◌∙◌, subst, inl, inr, ◌⊎◌, not}
+use Rattle.std.proofs.Common.{arith}
+use Rattle.std.specs.List.{list_any}
+use Rattle.std.proofs.lemmas.Bool.{false≢true, true≢false, cases_Bool, or_cases, or_left}
+use Rattle.std.proofs.lemmas.Bool.{or_right, false_from_ne_true}
+use Rattle.std.proofs.lemmas.List.Sums.{sum_by-cons}
+use Rattle.std.proofs.lemmas.Option.{none-some}
+use Rattle.theory.specs.declared.accepted.Accepted.{Accepted}
+use Rattle.theory.specs.declared.accepted.Accepted.TheVariants.{Rup, Rat, Pr, Empty, Deleted}
+use Rattle.theory.specs.declared.accepted.Accepted.TheVariants.{Ignored}
+use Rattle.theory.specs.declared.refusal.Refusal.TheVariants.{NotRup, NeitherRupNorRat, NotAlive}
+use Rattle.theory.specs.declared.refusal.Refusal.TheVariants.{InconsistentSet, NeitherRupNorPr}
+use Rattle.cnf_base.specs.Literals.{Literal, complement, Clause, has, complements, without}
+use Rattle.cnf_base.specs.Literals.{same_clause}
+use Rattle.theory.specs.Propagation.{Live, HasRup, HasRat, HasPr, not_falsified}
+use Rattle.theory.specs.Answers.{StepAnswer}
+use Rattle.theory.specs.Drat.{DratStep, add, delete, AnswersAdd, AnswersDelete, AnswersDrat}
+use Rattle.theory.specs.Drat.{AnswersWithSet, IsKeptUnit, take_off, after_drat, copies_of, SameLive}
+use Rattle.cnf_base.proofs.SetLemmas.{same_there, same_back, same_itself, same_symm, same_trans}
+use Rattle.cnf_base.proofs.SetLemmas.{both_pass, has_append_left, has_append_right}
+use Rattle.cnf_base.proofs.SetLemmas.{has_append_cases, has-complements, complements_has}
+use Rattle.cnf_base.proofs.SetLemmas.{has-without, without_has, has-filter, filter_has}
+use Rattle.cnf_base.proofs.LiteralLemmas.{complement-complement}
+use Rattle.theory.proofs.PropagationLemmas.Covers.{Covers, clash_covers, reason_covers}
+use Rattle.theory.proofs.PropagationLemmas.Forced.{forced_assumed, clash_through}
+use Rattle.theory.specs.declared.drat_rules.DratRules.{DratRules}
+
+-- ---- Copies
+
+pub copies-cons : (e d : Clause) (live : List Clause) → copies_of e (d ∷ live) ≡ cond (same_clause e d) 1 0 + copies_of e live
+copies-cons e d live = sum_by-cons (λ x. cond (same_clause e x) 1 0) d live
+
+pub alive_copies : (c : Clause) (live : List Clause) → list_any (same_clause c) live ≡ true → 0 < copies_of c live
+alive_copies c [] h = absurd (false≢true h)
+alive_copies c (d ∷ live) h =
+    elim (or_cases (same_clause c d) (list_any (same_clause c) live) h) [
+      | inl e ↦ omega (arith, copies-cons c d live ∙ ap (λ b. cond b 1 0 + copies_of c live) e)
+      | inr g ↦ omega (arith, copies-cons c d live, alive_copies c live g)
+    ]
+
+pub none_alive : (c : Clause) (live : List Clause) → list_any (same_clause c) live ≡ false → copies_of c live ≡ 0
+none_alive c [] h = refl
+none_alive c (d ∷ live) h =
+    elim (cases_Bool (same_clause c d)) [
+      | inl e ↦ absurd (true≢false (sym (or_left (same_clause c d) (list_any (same_clause c) live) e) ∙ h))
+      | inr e ↦
+          let rest : list_any (same_clause c) live ≡ false = false_from_ne_true _ (λ g. true≢false (sym (or_right (same_clause c d) (list_any (same_clause c) live) g) ∙ h)) in
+          copies-cons c d live ∙ ap (λ b. cond b 1 0 + copies_of c live) e ∙ omega (arith, none_alive c live rest)
+    ]
+
+pub copies_alive : (c : Clause) (live : List Clause) → 0 < copies_of c live → list_any (same_clause c) live ≡ true
+copies_alive c live h = elim (cases_Bool (list_any (same_clause c) live)) [ inl e ↦ e | inr e ↦ absurd (omega (arith, none_alive c live e)) ]
+
+pub alive_at : (c : Clause) (live : List Clause) → list_any (same_clause c) live ≡ true → (j : ℕ) × (d : Clause) × (slice_get live j ≡ Some d) × (same_clause c d ≡ true)
+alive_at c [] h = absurd (false≢true h)
+alive_at c (d ∷ live) h =
+    elim (or_cases (same_clause c d) (list_any (same_clause c) live) h) [
+      | inl e ↦ (zero, d, refl, e)
+      | inr g ↦ let w = alive_at c live g in (suc w.0, w.1, w.2, w.3)
+    ]
+
+pub at_alive : (live : List Clause) (k : ℕ) (d : Clause) → slice_get live k ≡ Some d → list_any (same_clause d) live ≡ true
+at_alive [] k d at = absurd (none-some d at)
+at_alive (e ∷ live) zero d at = or_left (same_clause d e) _ (subst (λ x. same_clause d x ≡ true) (same (sym at)) (same_itself d))
+  where
+    same : ◌≡◌ {A = Option Clause} (Some d) (Some e) → d ≡ e
+    same e = cc
+at_alive (e ∷ live) (suc k) d at = or_right (same_clause d e) _ (at_alive live k d at)
+
+-- taking a clause off leaves one copy less of it, and as many of any other
+taken : (ec ed cd : Bool) (x y : ℕ) → (cd ≡ true → ec ≡ ed) → (cd ≡ false → ec ≡ true → ed ≡ true → ⊥) → y ≡ x - cond ec 1 0 → cond cd x (cond ed 1 0 + y) ≡ (cond ed 1 0 + x) - cond ec 1 0
+taken true true true x y alike apart e = omega arith
+taken false false true x y alike apart e = omega arith
+taken true false true x y alike apart e = absurd (true≢false (alike refl))
+taken false true true x y alike apart e = absurd (false≢true (alike refl))
+taken true true false x y alike apart e = absurd (apart refl refl refl)
+taken true false false x y alike apart e = omega arith
+taken false true false x y alike apart e = omega arith
+taken false false false x y alike apart e = omega arith
+
+pub copies-take_off : (e c : Clause) (live : List Clause) → copies_of e (take_off c live) ≡ copies_of e live - cond (same_clause e c) 1 0
+copies-take_off e c [] = omega arith
+copies-take_off e c (d ∷ live) =
+    pushed (same_clause c d) ∙ taken (same_clause e c) (same_clause e d) (same_clause c d) (copies_of e live) (copies_of e (take_off c live))
+    (λ cd. both_pass (same_clause e c) (same_clause e d) (λ ec. same_trans e c d ec cd) (λ ed. same_trans e d c ed (same_symm c d cd)))
+    (λ cd ec ed. true≢false (sym (same_trans c e d (same_symm e c ec) ed) ∙ cd))
+    (copies-take_off e c live)
+    ∙ ap (λ n. n - cond (same_clause e c) 1 0) (sym (copies-cons e d live))
+  where
+    pushed : (b : Bool) → copies_of e (cond b live (d ∷ take_off c live)) ≡ cond b (copies_of e live) (cond (same_clause e d) 1 0 + copies_of e (take_off c live))
+    pushed true = refl
+    pushed false = copies-cons e d (take_off c live)
+
+taken_off_same : (first second : List Clause) (c : Clause) → SameLive first second → SameLive (take_off c first) (take_off c second)
+taken_off_same first second c same =
+    record { copies = λ e. copies-take_off e c first ∙ ap (λ n. n - cond (same_clause e c) 1 0) (same.copies e) ∙ sym (copies-take_off e c second) }
+
+pub after_same : (first second : List Clause) (step : DratStep) (word : Accepted) → SameLive first second → SameLive (after_drat first step word) (after_drat second step word)
+after_same first second (add c set) word same =
+    record { copies = λ e. copies-cons e c first ∙ ap (λ n. cond (same_clause e c) 1 0 + n) (same.copies e) ∙ sym (copies-cons e c second) }
+after_same first second (delete c) Ignored same = same
+after_same first second (delete c) Deleted same = taken_off_same first second c same
+after_same first second (delete c) Rup same = taken_off_same first second c same
+after_same first second (delete c) Rat same = taken_off_same first second c same
+after_same first second (delete c) Pr same = taken_off_same first second c same
+after_same first second (delete c) Empty same = taken_off_same first second c same
+
+same_live_symm : (first second : List Clause) → SameLive first second → SameLive second first
+same_live_symm first second same = record { copies = λ e. sym (same.copies e) }
+
+-- ---- What follows from the same clauses
+
+pub covers_of : (first second : List Clause) → SameLive first second → Covers (slice_get first) (slice_get second)
+covers_of first second same k c at =
+    alive_at c second (copies_alive c second (omega (arith, alive_copies c first (at_alive first k c at), same.copies c)))
+
+-- the complements of clauses that include one another
+complements_more : (live : Live) (c d : Clause) → ((l : Literal) → has c l ≡ true → has d l ≡ true) → HasRup live c → HasRup live d
+complements_more live c d inside rup =
+    clash_through live (complements c) (complements d)
+    (λ a member. forced_assumed live (complements d) a (subst (λ x. has (complements d) x ≡ true) (complement-complement a) (has-complements d (complement a) (inside (complement a) (complements_has c a member))))) rup
+
+pub rat_covers : (first second : Live) → Covers first second → Covers second first → (c : Clause) (pivot : Literal) → HasRat first c pivot → HasRat second c pivot
+rat_covers first second there back c pivot rat = record { holds_pivot = rat.holds_pivot; candidates = go }
+  where
+    go : (k : ℕ) (d : Clause) → second k ≡ Some d → has d (complement pivot) ≡ true → HasRup second (c ++ without d (complement pivot))
+    go k d at member =
+        let w = back k d at in
+        complements_more second (c ++ without w.1 (complement pivot)) (c ++ without d (complement pivot))
+        (λ l h. elim (has_append_cases c (without w.1 (complement pivot)) l h) [
+          | inl g ↦ has_append_left c (without d (complement pivot)) l g
+          | inr g ↦ let p = without_has w.1 (complement pivot) l g in has_append_right c (without d (complement pivot)) l (has-without d (complement pivot) l (same_back d w.1 w.3 l p.0) p.1)
+        ])
+        (clash_covers first second there _ (rat.candidates w.0 w.1 w.2 (same_there d w.1 w.3 (complement pivot) member)))
+
+pub pr_covers : (first second : Live) → Covers first second → Covers second first → (c set : List Literal) → HasPr first c set → HasPr second c set
+pr_covers first second there back c set pr = record { consistent = pr.consistent; meets = pr.meets; others = go }
+  where
+    go : (k : ℕ) (d : Clause) → second k ≡ Some d → ((l : Literal) × (has d l ≡ true) × (has set l ≡ true)) ⊎ HasRup second (c ++ not_falsified set d)
+    go k d at =
+        let w = back k d at in
+        elim (pr.others w.0 w.1 w.2) [
+          | inl met ↦ inl (met.0, same_back d w.1 w.3 met.0 met.1, met.2)
+          | inr rup ↦ inr (complements_more second (c ++ not_falsified set w.1) (c ++ not_falsified set d)
+              (λ l h. elim (has_append_cases c (not_falsified set w.1) l h) [
+                | inl g ↦ has_append_left c (not_falsified set d) l g
+                | inr g ↦ let p = filter_has (λ l. not (has set (complement l))) w.1 l g in has_append_right c (not_falsified set d) l (has-filter (λ l. not (has set (complement l))) d l (same_back d w.1 w.3 l p.0) p.1)
+              ])
+              (clash_covers first second there _ rup))
+        ]
+
+alive_same : (first second : List Clause) (c : Clause) → SameLive first second → list_any (same_clause c) first ≡ list_any (same_clause c) second
+alive_same first second c same =
+    both_pass (list_any (same_clause c) first) (list_any (same_clause c) second)
+    (λ h. copies_alive c second (omega (arith, alive_copies c first h, same.copies c)))
+    (λ h. copies_alive c first (omega (arith, alive_copies c second h, same.copies c)))
+
+-- ---- The answers
+
+add_same : (first second : List Clause) (c : List Literal) (answer : StepAnswer) → SameLive first second → AnswersAdd first c answer → AnswersAdd second c answer
+add_same first second [] (Ok Empty) same a = clash_covers _ _ (covers_of first second same) [] a
+add_same first second [] (Err NotRup) same a = λ b. a (clash_covers _ _ (covers_of second first (same_live_symm first second same)) [] b)
+add_same first second (l ∷ c) (Ok Rup) same a = clash_covers _ _ (covers_of first second same) _ a
+add_same first second (l ∷ c) (Ok Rat) same a =
+    let there = covers_of first second same in
+    let back = covers_of second first (same_live_symm first second same) in
+    (λ b. a.0 (clash_covers _ _ back _ b), rat_covers _ _ there back (l ∷ c) l a.1)
+add_same first second (l ∷ c) (Err (NeitherRupNorRat m)) same a =
+    let there = covers_of first second same in
+    let back = covers_of second first (same_live_symm first second same) in
+    (a.0, λ b. a.1 (clash_covers _ _ back _ b), λ r. a.2 (rat_covers _ _ back there (l ∷ c) l r))
+add_same first second [] (Ok _) same a = absurd a
+add_same first second [] (Err _) same a = absurd a
+add_same first second (l ∷ c) (Ok _) same a = absurd a
+add_same first second (l ∷ c) (Err _) same a = absurd a
+
+set_same : (first second : List Clause) (c set : List Literal) (answer : StepAnswer) → SameLive first second → AnswersWithSet first c set answer → AnswersWithSet second c set answer
+set_same first second c set (Err InconsistentSet) same a = a
+set_same first second c set (Ok Rup) same a = (a.0, clash_covers _ _ (covers_of first second same) _ a.1)
+set_same first second c set (Ok Pr) same a =
+    let there = covers_of first second same in
+    let back = covers_of second first (same_live_symm first second same) in
+    (a.0, λ b. a.1 (clash_covers _ _ back _ b), pr_covers _ _ there back c set a.2)
+set_same first second c set (Err NeitherRupNorPr) same a =
+    let there = covers_of first second same in
+    let back = covers_of second first (same_live_symm first second same) in
+    (a.0, λ b. a.1 (clash_covers _ _ back _ b), λ r. a.2 (pr_covers _ _ back there c set r))
+set_same first second c set (Ok _) same a = absurd a
+set_same first second c set (Err _) same a = absurd a
+
+kept_same : (rules : DratRules) (first second : List Clause) (c : Clause) → SameLive first second → IsKeptUnit rules first c → IsKeptUnit rules second c
+kept_same rules first second c same kept = (kept.0, reason_covers _ _ (covers_of first second same) c c (same_itself c) kept.1)
+
+delete_same : (rules : DratRules) (first second : List Clause) (c : List Literal) (answer : StepAnswer) → SameLive first second → AnswersDelete rules first c answer → AnswersDelete rules second c answer
+delete_same rules first second c (Ok Deleted) same a =
+    (sym (alive_same first second c same) ∙ a.0, λ kept. a.1 (kept_same rules second first c (same_live_symm first second same) kept))
+delete_same rules first second c (Ok Ignored) same a = elim a [
+  | inl kept ↦ inl (sym (alive_same first second c same) ∙ kept.0, kept_same rules first second c same kept.1)
+  | inr absent ↦ inr (sym (alive_same first second c same) ∙ absent.0, absent.1)
+]
+delete_same rules first second c (Err NotAlive) same a = (sym (alive_same first second c same) ∙ a.0, a.1)
+delete_same rules first second c (Ok _) same a = absurd a
+delete_same rules first second c (Err _) same a = absurd a
+
+pub drat_same : (rules : DratRules) (first second : List Clause) (step : DratStep) (answer : StepAnswer) → SameLive first second → AnswersDrat rules first step answer → AnswersDrat rules second step answer
+drat_same rules first second (add c []) answer same a = add_same first second c answer same a
+drat_same rules first second (add c (l ∷ set)) answer same a = set_same first second c (l ∷ set) answer same a
+drat_same rules first second (delete c) answer same a = delete_same rules first second c answer same a

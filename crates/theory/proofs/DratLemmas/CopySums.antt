@@ -1,0 +1,42 @@
+-- Lists with as many copies of each clause have the same sum of sizes.
+use Rattle.std.proofs.Common.{◌≡◌, ℕ, ◌+◌, ◌-◌, ◌<◌, true, cond, List, []}
+use Rattle.std.proofs.Common.{◌∷◌, refl, sym, ap, ◌∙◌, inl, inr, arith}
+use Rattle.std.specs.Prelude.{sum_by}
+use Rattle.std.specs.List.{list_any}
+use Rattle.std.proofs.lemmas.Bool.{false≢true, cases_Bool, or_cases, both_ways}
+use Rattle.std.proofs.lemmas.List.Sums.{sum_by-cons}
+use Rattle.cnf_base.specs.Literals.{Clause, same_clause, size}
+use Rattle.theory.specs.Drat.{take_off, copies_of, SameLive}
+use Rattle.theory.proofs.DratLemmas.Copies.{copies-cons, copies-take_off, copies_alive}
+use Rattle.cnf_base.proofs.SetLemmas.{same_itself}
+use Rattle.theory.proofs.LawLemmas.Sizes.{size_same}
+
+-- taking a clause off leaves less by its size
+sum_take_off : (c : Clause) (live : List Clause) → list_any (same_clause c) live ≡ true → sum_by size live ≡ size c + sum_by size (take_off c live)
+sum_take_off c [] h = absurd (false≢true h)
+sum_take_off c (d ∷ live) h = elim (cases_Bool (same_clause c d)) [
+  | inl e ↦ sum_by-cons size d live ∙ ap (λ n. n + sum_by size live) (sym (size_same c d e)) ∙ ap (λ b. size c + sum_by size (cond b live (d ∷ take_off c live))) (sym e)
+  | inr e ↦
+      let rest : list_any (same_clause c) live ≡ true = elim (or_cases (same_clause c d) (list_any (same_clause c) live) h) [ inl g ↦ absurd (both_ways (same_clause c d) e g) | inr g ↦ g ] in
+      let below = sum_take_off c live rest in
+      let whole = sum_by-cons size d live in
+      let left = sum_by-cons size d (take_off c live) in
+      let swap : sum_by size (d ∷ live) ≡ size c + sum_by size (d ∷ take_off c live) = omega arith in
+      swap ∙ ap (λ b. size c + sum_by size (cond b live (d ∷ take_off c live))) (sym e)
+]
+
+copies_own : (c : Clause) (live : List Clause) → copies_of c (c ∷ live) ≡ 1 + copies_of c live
+copies_own c live = copies-cons c c live ∙ ap (λ b. cond b 1 0 + copies_of c live) (same_itself c)
+
+pub sums_same : (first second : List Clause) → SameLive first second → sum_by size first ≡ sum_by size second
+sums_same [] [] same = refl
+sums_same [] (d ∷ second) same = absurd (let own = copies_own d second in let is : 0 ≡ copies_of d (d ∷ second) = same.copies d in let wrong : ⊥ = omega arith in wrong)
+sums_same (c ∷ first) second same =
+    let own = copies_own c first in
+    let is = same.copies c in
+    let alive : 0 < copies_of c second = omega arith in
+    let rest : SameLive first (take_off c second) = record { copies = λ e. less (cond (same_clause e c) 1 0) (copies_of e first) _ _ _ (copies-cons e c first) (same.copies e) (copies-take_off e c second) } in
+    sum_by-cons size c first ∙ ap (λ n. size c + n) (sums_same first (take_off c second) rest) ∙ sym (sum_take_off c second (copies_alive c second alive))
+  where
+    less : (n x more there rest : ℕ) → more ≡ n + x → more ≡ there → rest ≡ there - n → x ≡ rest
+    less n x more there rest h i j = omega arith

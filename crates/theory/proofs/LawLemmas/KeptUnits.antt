@@ -1,0 +1,101 @@
+-- Where the rules keep units, what follows with nothing assumed follows after every accepted step.
+use Rattle.std.proofs.Common.{◌≡◌, ℕ, zero, suc, true, cond, Some, Ok, List, [], ◌∷◌}
+use Rattle.std.proofs.Common.{slice_get, sym, subst, inl, inr, ◌⊎◌}
+use Rattle.std.specs.Prelude.{IsTrue}
+use Rattle.std.proofs.lemmas.Bool.{false≢true, cases_Bool}
+use Rattle.std.proofs.lemmas.Option.{none-some, same_Some}
+use Rattle.cnf_base.specs.Literals.{Literal, complement, Clause, has, same_clause}
+use Rattle.cnf_base.proofs.SetLemmas.{same_there, same_back}
+use Rattle.theory.proofs.PropagationLemmas.Forced.{forced_unit}
+use Rattle.theory.specs.declared.accepted.Accepted.{Accepted}
+use Rattle.theory.specs.declared.accepted.Accepted.TheVariants.{Rup, Rat, Pr, Empty, Deleted}
+use Rattle.theory.specs.declared.accepted.Accepted.TheVariants.{Ignored}
+use Rattle.theory.specs.declared.drat_rules.DratRules.{DratRules}
+use Rattle.theory.specs.Drat.{DratStep, add, delete, AnswersDrat, take_off, after_drat}
+use Rattle.theory.specs.Propagation.{Live, IsClosed, Forced, IsRootReason}
+use Rattle.theory.specs.Laws.{UnitsAreKept}
+use Rattle.theory.proofs.LawLemmas.Reasons.{IsAll, all_that_follows}
+
+-- what follows from some clauses follows from these and others
+forced_more : (live more : Live) → ((k : ℕ) (c : Clause) → live k ≡ Some c → (j : ℕ) × (more j ≡ Some c))
+    → (l : Literal) → Forced live [] l → Forced more [] l
+forced_more live more each l f = record {
+  in_each = λ passes closed given.
+      f.in_each passes (record { unit = λ k c at. let w = each k c at in closed.unit w.0 c w.1 }) given;
+}
+
+-- ---- Without one copy of a clause
+
+module _ (c : Clause) where
+  -- each clause is still there, or it is a copy of the one that was taken off
+  left_of : (live : List Clause) (k : ℕ) (d : Clause) → slice_get live k ≡ Some d
+      → (same_clause c d ≡ true) ⊎ ((j : ℕ) × (slice_get (take_off c live) j ≡ Some d))
+  left_of [] k d at = absurd (none-some d at)
+  left_of (e ∷ live) zero d at = elim (cases_Bool (same_clause c e)) [
+    | inl same ↦ inl (subst (λ x. same_clause c x ≡ true) (same_Some e d at) same)
+    | inr other ↦ inr (zero, subst (λ b. slice_get (cond b live (e ∷ take_off c live)) zero ≡ Some d) (sym other) at)
+  ]
+  left_of (e ∷ live) (suc k) d at = elim (cases_Bool (same_clause c e)) [
+    | inl same ↦ inr (k, subst (λ b. slice_get (cond b live (e ∷ take_off c live)) k ≡ Some d) (sym same) at)
+    | inr other ↦ elim (left_of live k d at) [
+      | inl is ↦ inl is
+      | inr w ↦ inr (suc w.0, subst (λ b. slice_get (cond b live (e ∷ take_off c live)) (suc w.0) ≡ Some d) (sym other) w.1)
+    ]
+  ]
+
+  further : (e : Clause) (live rest : List Clause) (d : Clause) → ((j : ℕ) → slice_get rest j ≡ Some d → (k : ℕ) × (slice_get live k ≡ Some d))
+      → (j : ℕ) → slice_get (e ∷ rest) j ≡ Some d → (k : ℕ) × (slice_get (e ∷ live) k ≡ Some d)
+  further e live rest d was zero at = (zero, at)
+  further e live rest d was (suc j) at = let w = was j at in (suc w.0, w.1)
+
+  -- and what is left was there
+  was_in : (live : List Clause) (j : ℕ) (d : Clause) → slice_get (take_off c live) j ≡ Some d → (k : ℕ) × (slice_get live k ≡ Some d)
+  was_in [] j d at = absurd (none-some d at)
+  was_in (e ∷ live) j d at = elim (cases_Bool (same_clause c e)) [
+    | inl same ↦ (suc j, subst (λ b. slice_get (cond b live (e ∷ take_off c live)) j ≡ Some d) same at)
+    | inr other ↦ further e live (take_off c live) d (λ i. was_in live i d) j (subst (λ b. slice_get (cond b live (e ∷ take_off c live)) j ≡ Some d) other at)
+  ]
+
+  -- A clause that makes no literal hold for good takes nothing with it: all that follows without it is closed under its unit
+  -- rule too.
+  forced_without : (live : List Clause) → (IsRootReason (slice_get live) c → ⊥) → (l : Literal) → Forced (slice_get live) [] l
+      → Forced (slice_get (take_off c live)) [] l
+  forced_without live none l f = all.1.sound l (f.in_each (λ x. has all.0 x) closed (λ a h. absurd (false≢true h)))
+    where
+      all : (found : List Literal) × IsAll (slice_get (take_off c live)) found
+      all = all_that_follows (take_off c live)
+
+      back : (x : Literal) → has all.0 x ≡ true → Forced (slice_get live) [] x
+      back x h = forced_more (slice_get (take_off c live)) (slice_get live) (was_in live) x (all.1.sound x h)
+
+      closed : IsClosed (slice_get live) (λ x. has all.0 x)
+      closed = record {
+        unit = λ k d at m member others. elim (left_of live k d at) [
+          | inr w ↦ all.1.closed.unit w.0 d w.1 m member others
+          | inl same ↦ absurd (none (record {
+            literal = m;
+            member = same_back c d same m member;
+            forced = forced_unit (slice_get live) [] k d at m member (λ x inside ne. back (complement x) (others x inside ne));
+            others = λ x inside ne. back (complement x) (others x (same_there c d same x inside) ne);
+          }))
+        ];
+      }
+
+-- ---- Steps
+
+kept_by_step : (rules : DratRules) (live : List Clause) (step : DratStep) (word : Accepted) (l : Literal) → IsTrue rules.keep_units
+    → AnswersDrat rules live step (Ok word) → Forced (slice_get live) [] l → Forced (slice_get (after_drat live step word)) [] l
+kept_by_step rules live (add c set) word l on answers f = forced_more (slice_get live) (slice_get (c ∷ live)) (λ k d at. (suc k, at)) l f
+kept_by_step rules live (delete c) Deleted l on answers f = forced_without c live (λ r. answers.1 (on, r)) l f
+kept_by_step rules live (delete c) Ignored l on answers f = f
+kept_by_step rules live (delete c) Rup l on answers f = absurd answers
+kept_by_step rules live (delete c) Rat l on answers f = absurd answers
+kept_by_step rules live (delete c) Pr l on answers f = absurd answers
+kept_by_step rules live (delete c) Empty l on answers f = absurd answers
+
+pub units_are_kept : UnitsAreKept
+units_are_kept rules live last [] [] l on leads f = subst (λ x. Forced (slice_get x) [] l) (sym leads) f
+units_are_kept rules live last [] (word ∷ words) l on leads f = absurd leads
+units_are_kept rules live last (step ∷ steps) [] l on leads f = absurd leads
+units_are_kept rules live last (step ∷ steps) (word ∷ words) l on leads f =
+    units_are_kept rules (after_drat live step word) last steps words l on leads.1 (kept_by_step rules live step word l on leads.0 f)

@@ -1,0 +1,106 @@
+-- Whether a clause makes a literal hold for good can be decided: what follows with nothing assumed is a list, past a clash too.
+use Rattle.std.proofs.Common.{◌≡◌, ℕ, zero, suc, ◌≤◌, Bool, true, false, not}
+use Rattle.std.proofs.Common.{◌||◌, ◌&&◌, eqb, eqb-true, eq-eqb, Some, List, [], ◌∷◌}
+use Rattle.std.proofs.Common.{slice_get, refl, sym, ◌∙◌, subst, inl, inr, arith}
+use Rattle.std.specs.List.{list_any, list_all}
+use Rattle.std.proofs.lemmas.Bool.{false≢true, true≢false, cases_Bool, cases_eq, or_cases}
+use Rattle.std.proofs.lemmas.Bool.{or_left, or_right, and_parts, and_from, not-true, not_from_false}
+use Rattle.std.proofs.lemmas.Option.{none-some, same_Some}
+use Rattle.cnf_base.specs.Literals.{Literal, complement, Clause, has}
+use Rattle.cnf_base.proofs.SetLemmas.{any_from, any_some, all_each, each_all, has_cases}
+use Rattle.theory.specs.Propagation.{OthersFail, IsClosedAt, Live, IsClosed, Forced, IsRootReason}
+use Rattle.theory.specs.Sets.{lacking}
+use Rattle.theory.proofs.PropagationLemmas.Forced.{forced_unit}
+use Rattle.theory.proofs.LawLemmas.Growth.{IsDecided, lacking_more, all_literals, has-all_literals}
+
+-- ---- One clause
+
+-- whether the complements of all other literals of the clause are in the list
+abbrev others_fail : List Literal → Clause → Literal → Bool
+others_fail found c m = list_all (λ l. eqb l m || has found (complement l)) c
+
+fail_each : (found : List Literal) (c : Clause) (m : Literal) → others_fail found c m ≡ true → OthersFail (has found) c m
+fail_each found c m all l member ne =
+    elim (or_cases (eqb l m) (has found (complement l)) (all_each (λ l. eqb l m || has found (complement l)) c l all member)) [
+      | inl e ↦ absurd (ne (eqb-true l m e))
+      | inr h ↦ h
+    ]
+
+each_fail : (found : List Literal) (c : Clause) (m : Literal) → OthersFail (has found) c m → others_fail found c m ≡ true
+each_fail found c m others = each_all (λ l. eqb l m || has found (complement l)) c (λ l member. elim (cases_eq l m) [
+  | inl e ↦ or_left (eqb l m) (has found (complement l)) (eq-eqb l m e)
+  | inr ne ↦ or_right (eqb l m) (has found (complement l)) (others l member ne)
+])
+
+-- ---- What follows
+
+data Found (live : Live) (found : List Literal) : Type 0 where
+  one_more : (k : ℕ) (c : Clause) → live k ≡ Some c → (m : Literal) → has c m ≡ true → OthersFail (has found) c m → has found m ≡ false → Found live found
+  all_found : ((k : ℕ) (c : Clause) → live k ≡ Some c → IsClosedAt (has found) c) → Found live found
+
+found_more : (found : List Literal) (d : Clause) (live : List Clause) → IsClosedAt (has found) d → Found (slice_get live) found → Found (slice_get (d ∷ live)) found
+found_more found d live first (one_more k c at m member others new) = one_more (suc k) c at m member others new
+found_more found d live first (all_found rest) = all_found by_place
+  where
+    by_place : (k : ℕ) (c : Clause) → slice_get (d ∷ live) k ≡ Some c → IsClosedAt (has found) c
+    by_place zero c at = subst (IsClosedAt (has found)) (same_Some d c at) first
+    by_place (suc k) c at = rest k c at
+
+-- whether the clause gives a literal that is not found yet
+abbrev gives : List Literal → Clause → Literal → Bool
+gives found c m = not (has found m) && others_fail found c m
+
+look : (found : List Literal) (live : List Clause) → Found (slice_get live) found
+look found [] = all_found (λ k c at. absurd (none-some c at))
+look found (d ∷ live) = elim (cases_Bool (list_any (gives found d) d)) [
+  | inl some ↦
+      let w = any_some (gives found d) d some in
+      let parts = and_parts (not (has found w.0)) (others_fail found d w.0) w.2 in
+      one_more zero d refl w.0 w.1 (fail_each found d w.0 parts.1) (not-true (has found w.0) parts.0)
+  | inr none ↦ found_more found d live (λ m member others. elim (cases_Bool (has found m)) [
+    | inl h ↦ h
+    | inr new ↦ absurd (true≢false (sym (any_from (gives found d) d m member (and_from (not (has found m)) (others_fail found d m) (not_from_false (has found m) new) (each_fail found d m others))) ∙ none))
+  ]) (look found live)
+]
+
+-- a list of all that follows
+pub record IsAll (live : Live) (found : List Literal) : Type 0 where
+  pub sound : (l : Literal) → has found l ≡ true → Forced live [] l
+  pub closed : IsClosed live (λ l. has found l)
+
+module _ (live : List Clause) where
+  sound_more : (found : List Literal) → ((l : Literal) → has found l ≡ true → Forced (slice_get live) [] l) → (k : ℕ) (c : Clause) → slice_get live k ≡ Some c → (m : Literal) → has c m ≡ true → OthersFail (has found) c m →
+      (l : Literal) → has (m ∷ found) l ≡ true → Forced (slice_get live) [] l
+  sound_more found sound k c at m member others l h = elim (has_cases m found l h) [
+    | inl same ↦ subst (Forced (slice_get live) []) same (forced_unit (slice_get live) [] k c at m member (λ x inside ne. sound (complement x) (others x inside ne)))
+    | inr old ↦ sound l old
+  ]
+
+  -- at most `fuel` literals are not found yet
+  grow : (fuel : ℕ) (found : List Literal) → ((l : Literal) → has found l ≡ true → Forced (slice_get live) [] l) → lacking found (all_literals live) ≤ fuel → Found (slice_get live) found → (all : List Literal) × IsAll (slice_get live) all
+  grow fuel found sound bound (all_found closed) = (found, record { sound = sound; closed = record { unit = λ k c at. closed k c at } })
+  grow zero found sound bound (one_more k c at m member others new) =
+      absurd (let less = lacking_more found m new (all_literals live) (has-all_literals live k c m at member) in let wrong : ⊥ = omega arith in wrong)
+  grow (suc fuel) found sound bound (one_more k c at m member others new) =
+      let less = lacking_more found m new (all_literals live) (has-all_literals live k c m at member) in
+      grow fuel (m ∷ found) (sound_more found sound k c at m member others) (omega arith) (look (m ∷ found) live)
+
+  pub all_that_follows : (all : List Literal) × IsAll (slice_get live) all
+  all_that_follows = grow (lacking [] (all_literals live)) [] (λ l h. absurd (false≢true h)) (omega arith) (look [] live)
+
+  -- ---- Reasons
+
+  pub reason_decided : (c : Clause) → IsDecided (IsRootReason (slice_get live) c)
+  reason_decided c =
+      let w = all_that_follows in
+      let all = w.0 in
+      elim (cases_Bool (list_any (λ m. has all m && others_fail all c m) c)) [
+        | inl some ↦
+            let m = any_some (λ m. has all m && others_fail all c m) c some in
+            let parts = and_parts (has all m.0) (others_fail all c m.0) m.2 in
+            inl (record { literal = m.0; member = m.1; forced = w.1.sound m.0 parts.0; others = λ k h ne. w.1.sound (complement k) (fail_each all c m.0 parts.1 k h ne) })
+        | inr none ↦ inr (λ r.
+            let forced = r.forced.in_each (λ l. has all l) w.1.closed (λ a h. absurd (false≢true h)) in
+            let others = each_fail all c r.literal (λ k h ne. (r.others k h ne).in_each (λ l. has all l) w.1.closed (λ a h. absurd (false≢true h))) in
+            true≢false (sym (any_from (λ m. has all m && others_fail all c m) c r.literal r.member (and_from (has all r.literal) (others_fail all c r.literal) forced others)) ∙ none))
+      ]

@@ -1,0 +1,165 @@
+-- What is true under an assignment, and the assignment that makes a witness true.
+use Rattle.std.proofs.Common.{◌≡◌, ◌≢◌, ℕ, ◌+◌, ◌*◌, ◌/◌, ◌%◌, Bool}
+use Rattle.std.proofs.Common.{true, false, not, ◌||◌, cond, Some, List, [], ◌∷◌, ◌++◌}
+use Rattle.std.proofs.Common.{refl, sym, ap, ◌∙◌, inl, inr, arith, if◌then◌else◌}
+use Rattle.std.proofs.Common.{eq-eqb, ne_eqb}
+use Rattle.std.proofs.lemmas.Bool.{false≢true, true≢false, cases_Bool, cases_eq, not-true}
+use Rattle.std.proofs.lemmas.Bool.Decides.{nat_tests}
+use Rattle.cnf_base.specs.Literals.{Literal, complement, Clause, has, complements, without}
+use Rattle.theory.specs.Propagation.{Live, IsClosed, Forced, Clash, HasRup, HasRat, HasPr}
+use Rattle.theory.specs.Propagation.{not_falsified, by_empty, by_both}
+use Rattle.theory.specs.Models.{Assignment, holds, satisfies, Models}
+use Rattle.cnf_base.proofs.LiteralLemmas.{complement-complement, complement-other}
+use Rattle.theory.proofs.LawLemmas.Holds.{holds-complement}
+use Rattle.cnf_base.proofs.SetLemmas.{has_head, any_from, any_some, any_none, has_append_cases}
+use Rattle.cnf_base.proofs.SetLemmas.{complements_has, without_has, filter_has}
+
+pub complement_false : (v : Assignment) (l : Literal) → holds v l ≡ true → holds v (complement l) ≡ true → ⊥
+complement_false v l h g = true≢false (sym g ∙ holds-complement v l ∙ ap not h)
+
+pub complement_true : (v : Assignment) (l : Literal) → holds v (complement l) ≡ false → holds v l ≡ true
+complement_true v l h = elim (cases_Bool (holds v l)) [ inl e ↦ e | inr e ↦ absurd (true≢false (sym (holds-complement v l ∙ ap not e) ∙ h)) ]
+
+-- the true literals of a model are closed under the unit rule
+pub closed_by_model : (v : Assignment) (live : Live) → Models v live → IsClosed live (holds v)
+closed_by_model v live models = record { unit = go }
+  where
+    go : (k : ℕ) (c : Clause) → live k ≡ Some c → (m : Literal) → has c m ≡ true → ((l : Literal) → has c l ≡ true → l ≢ m → holds v (complement l) ≡ true) → holds v m ≡ true
+    go k c at m member others =
+        let w = any_some (holds v) c (models k c at) in
+        elim (cases_eq w.0 m) [
+          | inl e ↦ sym (ap (holds v) e) ∙ w.2
+          | inr ne ↦ absurd (complement_false v w.0 w.2 (others w.0 w.1 ne))
+        ]
+
+-- under an assignment that makes all live clauses and all assumed literals true, what is forced is true
+pub forced_true : (v : Assignment) (live : Live) (assumed : List Literal) (l : Literal) → Models v live → ((a : Literal) → has assumed a ≡ true → holds v a ≡ true) → Forced live assumed l → holds v l ≡ true
+forced_true v live assumed l models true_at forced = forced.in_each (holds v) (closed_by_model v live models) true_at
+
+pub clash_false : (v : Assignment) (live : Live) (assumed : List Literal) → Models v live → ((a : Literal) → has assumed a ≡ true → holds v a ≡ true) → Clash live assumed → ⊥
+clash_false v live assumed models true_at (by_empty k at) = false≢true (models k [] at)
+clash_false v live assumed models true_at (by_both l f g) =
+    complement_false v l (forced_true v live assumed l models true_at f) (forced_true v live assumed (complement l) models true_at g)
+
+-- the complements of a clause that is false are true
+pub complements_true : (v : Assignment) (c : Clause) → satisfies v c ≡ false → (a : Literal) → has (complements c) a ≡ true → holds v a ≡ true
+complements_true v c fails a member = complement_true v a (any_none (holds v) c (complement a) fails (complements_has c a member))
+
+-- a clause with RUP is true in every model
+pub rup_true : (v : Assignment) (live : Live) (c : Clause) → Models v live → HasRup live c → satisfies v c ≡ true
+rup_true v live c models rup =
+    elim (cases_Bool (satisfies v c)) [ inl e ↦ e | inr e ↦ absurd (clash_false v live (complements c) models (complements_true v c e) rup) ]
+
+-- ---- The assignment in which a witness is true
+
+unfoldable pub override : Assignment → List Literal → Assignment
+override v witness x = if has witness (2 * x) then true else if has witness (2 * x + 1) then false else v x
+
+-- a literal is the even or the odd one of its variable
+data Parity (l : Literal) : Type 0 where
+  even : l ≡ 2 * (l / 2) → complement l ≡ 2 * (l / 2) + 1 → ((v : Assignment) → holds v l ≡ v (l / 2)) → Parity l
+  odd : l ≡ 2 * (l / 2) + 1 → complement l ≡ 2 * (l / 2) → ((v : Assignment) → holds v l ≡ not (v (l / 2))) → Parity l
+
+parity : (l : Literal) → Parity l
+unfolding complement holds
+parity l =
+    elim (cases_eq (l % 2) 0) [
+      | inl e ↦ even (omega arith) (grind (arith, nat_tests)) (λ v. ap (λ b. cond b (v (l / 2)) (not (v (l / 2)))) (eq-eqb _ _ e))
+      | inr ne ↦ odd (omega arith) (grind (arith, nat_tests)) (λ v. ap (λ b. cond b (v (l / 2)) (not (v (l / 2)))) (ne_eqb _ _ ne))
+    ]
+
+pub override_true : (v : Assignment) (witness : List Literal) (l : Literal) → has witness l ≡ true → has witness (complement l) ≡ false → holds (override v witness) l ≡ true
+unfolding override
+override_true v witness l member absent =
+    elim (parity l) [
+      | even at other value ↦ value (override v witness) ∙ made_even (has witness (2 * (l / 2))) (has witness (2 * (l / 2) + 1)) (v (l / 2)) (ap (has witness) (sym at) ∙ member)
+      | odd at other value ↦ value (override v witness) ∙ made_odd (has witness (2 * (l / 2))) (has witness (2 * (l / 2) + 1)) (v (l / 2)) (ap (has witness) (sym other) ∙ absent) (ap (has witness) (sym at) ∙ member)
+    ]
+  where
+    made_even : (a b x : Bool) → a ≡ true → cond a true (cond b false x) ≡ true
+    made_even true b x e = refl
+    made_even false b x e = absurd (false≢true e)
+
+    made_odd : (a b x : Bool) → a ≡ false → b ≡ true → not (cond a true (cond b false x)) ≡ true
+    made_odd true b x e h = absurd (true≢false e)
+    made_odd false true x e h = refl
+    made_odd false false x e h = absurd (false≢true h)
+
+pub override_keeps : (v : Assignment) (witness : List Literal) (l : Literal) → holds v l ≡ true → has witness (complement l) ≡ false → holds (override v witness) l ≡ true
+unfolding override
+override_keeps v witness l h absent =
+    elim (parity l) [
+      | even at other value ↦ value (override v witness) ∙ kept_even (has witness (2 * (l / 2))) (has witness (2 * (l / 2) + 1)) (v (l / 2)) (ap (has witness) (sym other) ∙ absent) (sym (value v) ∙ h)
+      | odd at other value ↦ value (override v witness) ∙ kept_odd (has witness (2 * (l / 2))) (has witness (2 * (l / 2) + 1)) (v (l / 2)) (ap (has witness) (sym other) ∙ absent) (sym (value v) ∙ h)
+    ]
+  where
+    kept_even : (a b x : Bool) → b ≡ false → x ≡ true → cond a true (cond b false x) ≡ true
+    kept_even true b x e h = refl
+    kept_even false true x e h = absurd (true≢false e)
+    kept_even false false x e h = h
+
+    kept_odd : (a b x : Bool) → a ≡ false → not x ≡ true → not (cond a true (cond b false x)) ≡ true
+    kept_odd true b x e h = absurd (true≢false e)
+    kept_odd false true x e h = refl
+    kept_odd false false x e h = h
+
+-- ---- RAT and PR keep satisfiability
+
+-- a model of the live clauses and of one more
+abbrev pub HasModelWith : Live → Clause → Type 0
+HasModelWith live c = (v : Assignment) × Models v live × (satisfies v c ≡ true)
+
+-- Where a clause is false and has PR, making the witness true makes it true and keeps every live clause true.
+pub pr_keeps : (v : Assignment) (live : Live) (c : Clause) (witness : List Literal) → Models v live → HasPr live c witness → HasModelWith live c
+pr_keeps v live c witness models pr =
+    elim (cases_Bool (satisfies v c)) [ inl e ↦ (v, models, e) | inr e ↦ (override v witness, kept e, any_from _ c pr.meets.0 pr.meets.1 (override_true v witness pr.meets.0 pr.meets.2 (pr.consistent pr.meets.0 pr.meets.2))) ]
+  where
+    in_rest : satisfies v c ≡ false → (d : Clause) → (l : Literal) → has (c ++ not_falsified witness d) l ≡ true → holds v l ≡ true → (has d l ≡ true) × (has witness (complement l) ≡ false)
+    in_rest fails d l member h =
+        elim (has_append_cases c (not_falsified witness d) l member) [
+          | inl g ↦ absurd (true≢false (sym h ∙ any_none (holds v) c l fails g))
+          | inr g ↦ let w = filter_has (λ l. not (has witness (complement l))) d l g in (w.0, not-true _ w.1)
+        ]
+
+    kept : satisfies v c ≡ false → Models (override v witness) live
+    kept fails k d at =
+        elim (pr.others k d at) [
+          | inl m ↦ any_from _ d m.0 m.1 (override_true v witness m.0 m.2 (pr.consistent m.0 m.2))
+          | inr rup ↦
+              let w = any_some (holds v) (c ++ not_falsified witness d) (rup_true v live _ models rup) in
+              let r = in_rest fails d w.0 w.1 w.2 in
+              any_from _ d w.0 r.0 (override_keeps v witness w.0 w.2 r.1)
+        ]
+
+-- the same for RAT, where the pivot is made true
+pub rat_keeps : (v : Assignment) (live : Live) (c : Clause) (pivot : Literal) → Models v live → HasRat live c pivot → HasModelWith live c
+rat_keeps v live c pivot models rat =
+    elim (cases_Bool (satisfies v c)) [ inl e ↦ (v, models, e) | inr e ↦ (changed, kept e, any_from _ c pivot rat.holds_pivot made_true) ]
+  where
+    changed : Assignment
+    changed = override v (pivot ∷ [])
+
+    other : (l : Literal) → pivot ≢ complement l → has (pivot ∷ []) (complement l) ≡ false
+    other l ne = ap (λ b. b || false) (ne_eqb pivot (complement l) ne)
+
+    made_true : holds changed pivot ≡ true
+    made_true = override_true v (pivot ∷ []) pivot (has_head pivot []) (other pivot (λ e. complement-other pivot (sym e)))
+
+    in_rest : satisfies v c ≡ false → (d : Clause) (l : Literal) → has (c ++ without d (complement pivot)) l ≡ true → holds v l ≡ true → (has d l ≡ true) × (pivot ≢ complement l)
+    in_rest fails d l member h =
+        elim (has_append_cases c (without d (complement pivot)) l member) [
+          | inl g ↦ absurd (true≢false (sym h ∙ any_none (holds v) c l fails g))
+          | inr g ↦ let w = without_has d (complement pivot) l g in (w.0, λ e. w.1 (sym (complement-complement l) ∙ ap complement (sym e)))
+        ]
+
+    kept : satisfies v c ≡ false → Models changed live
+    kept fails k d at =
+        elim (cases_Bool (has d (complement pivot))) [
+          | inl member ↦
+              let w = any_some (holds v) (c ++ without d (complement pivot)) (rup_true v live _ models (rat.candidates k d at member)) in
+              let r = in_rest fails d w.0 w.1 w.2 in
+              any_from _ d w.0 r.0 (override_keeps v (pivot ∷ []) w.0 w.2 (other w.0 r.1))
+          | inr absent ↦
+              let w = any_some (holds v) d (models k d at) in
+              any_from _ d w.0 w.1 (override_keeps v (pivot ∷ []) w.0 w.2 (other w.0 (λ e. true≢false (sym w.1 ∙ ap (has d) (sym (complement-complement w.0) ∙ ap complement (sym e)) ∙ absent))))
+        ]

@@ -1,0 +1,188 @@
+-- A step has at most one answer, under each rule.
+use Rattle.std.proofs.Common.{◌≡◌, ℕ, ◌<◌, Bool, true, false, nat_le, Option, Some}
+use Rattle.std.proofs.Common.{None, Ok, Err, List, [], ◌∷◌, slice_get, refl, sym, ap}
+use Rattle.std.proofs.Common.{◌∙◌, inl, inr}
+use Rattle.std.proofs.lemmas.Bool.{true≢false, cases_Bool, cases_order, MatchBool-at_true}
+use Rattle.std.proofs.lemmas.Bool.{MatchBool-at_false}
+use Rattle.std.specs.List.{list_any}
+use Rattle.theory.specs.declared.accepted.Accepted.TheVariants.{Rup, Rat, Pr, Empty, Deleted}
+use Rattle.theory.specs.declared.accepted.Accepted.TheVariants.{Ignored}
+use Rattle.theory.specs.declared.refusal.Refusal.{Refusal}
+use Rattle.theory.specs.declared.refusal.Refusal.TheVariants.{NotRup, NeitherRupNorRat, NotAlive}
+use Rattle.theory.specs.declared.refusal.Refusal.TheVariants.{InconsistentSet, NeitherRupNorPr}
+use Rattle.theory.specs.declared.refusal.Refusal.TheVariants.{Unnamed}
+use Rattle.cnf_base.specs.Literals.{Literal, Clause, complements, same_clause}
+use Rattle.theory.specs.Propagation.{Live, HasRup, HasRat, HasPr}
+use Rattle.theory.specs.Answers.{StepAnswer}
+use Rattle.theory.specs.Drat.{DratStep, add, delete, AnswersAdd, AnswersDelete, AnswersDrat}
+use Rattle.theory.specs.Drat.{AnswersWithSet, IsKeptUnit}
+use Rattle.theory.specs.Sets.{conflicts}
+use Rattle.theory.specs.Lrat.{LratState, LratStep, add as add_lrat, delete as delete_lrat, Group}
+use Rattle.theory.specs.Lrat.{ChainEnd, conflict, open_with, unknown, not_unit, chain}
+use Rattle.theory.specs.Lrat.{groups_refusal, is_left_out, AnswersGroups, AnswersChain, AnswersLrat}
+use Rattle.theory.specs.declared.drat_rules.DratRules.{DratRules}
+
+-- ---- DRAT
+
+-- the three answers to an addition of a clause that is not empty
+data AddCases (live : Live) (pivot : Literal) (rest : List Literal) (answer : StepAnswer) : Type 0 where
+  rup : answer ≡ Ok Rup → HasRup live (pivot ∷ rest) → AddCases live pivot rest answer
+  rat : answer ≡ Ok Rat → ¬ HasRup live (pivot ∷ rest) → HasRat live (pivot ∷ rest) pivot → AddCases live pivot rest answer
+  neither : answer ≡ Err (NeitherRupNorRat pivot) → ¬ HasRup live (pivot ∷ rest) → ¬ HasRat live (pivot ∷ rest) pivot → AddCases live pivot rest answer
+
+add_cases : (live : List Clause) (pivot : Literal) (rest : List Literal) (answer : StepAnswer) → AnswersAdd live (pivot ∷ rest) answer → AddCases (slice_get live) pivot rest answer
+add_cases live pivot rest (Ok Rup) a = rup refl a
+add_cases live pivot rest (Ok Rat) a = rat refl a.0 a.1
+add_cases live pivot rest (Ok Empty) a = absurd a
+add_cases live pivot rest (Ok Pr) a = absurd a
+add_cases live pivot rest (Ok Deleted) a = absurd a
+add_cases live pivot rest (Ok Ignored) a = absurd a
+add_cases live pivot rest (Err (NeitherRupNorRat l)) a = neither (ap (λ x. Err (NeitherRupNorRat x)) a.0) a.1 a.2
+add_cases live pivot rest (Err NotRup) a = absurd a
+add_cases live pivot rest (Err _) a = absurd a
+
+add_unique : (live : Live) (pivot : Literal) (rest : List Literal) (first second : StepAnswer) → AddCases live pivot rest first → AddCases live pivot rest second → first ≡ second
+add_unique live pivot rest first second (rup e p) (rup f q) = e ∙ sym f
+add_unique live pivot rest first second (rup e p) (rat f q r) = absurd (q p)
+add_unique live pivot rest first second (rup e p) (neither f q r) = absurd (q p)
+add_unique live pivot rest first second (rat e p r) (rup f q) = absurd (p q)
+add_unique live pivot rest first second (rat e p r) (rat f q s) = e ∙ sym f
+add_unique live pivot rest first second (rat e p r) (neither f q s) = absurd (s r)
+add_unique live pivot rest first second (neither e p r) (rup f q) = absurd (p q)
+add_unique live pivot rest first second (neither e p r) (rat f q s) = absurd (r s)
+add_unique live pivot rest first second (neither e p r) (neither f q s) = e ∙ sym f
+
+data EmptyCases (live : Live) (answer : StepAnswer) : Type 0 where
+  rup : answer ≡ Ok Empty → HasRup live [] → EmptyCases live answer
+  not_rup : answer ≡ Err NotRup → ¬ HasRup live [] → EmptyCases live answer
+
+empty_cases : (live : List Clause) (answer : StepAnswer) → AnswersAdd live [] answer → EmptyCases (slice_get live) answer
+empty_cases live (Ok Empty) a = rup refl a
+empty_cases live (Ok Rup) a = absurd a
+empty_cases live (Ok Rat) a = absurd a
+empty_cases live (Ok Pr) a = absurd a
+empty_cases live (Ok Deleted) a = absurd a
+empty_cases live (Ok Ignored) a = absurd a
+empty_cases live (Err NotRup) a = not_rup refl a
+empty_cases live (Err _) a = absurd a
+
+empty_unique : (live : Live) (first second : StepAnswer) → EmptyCases live first → EmptyCases live second → first ≡ second
+empty_unique live first second (rup e p) (rup f q) = e ∙ sym f
+empty_unique live first second (rup e p) (not_rup f q) = absurd (q p)
+empty_unique live first second (not_rup e p) (rup f q) = absurd (p q)
+empty_unique live first second (not_rup e p) (not_rup f q) = e ∙ sym f
+
+-- the four answers to a deletion
+data DeleteCases (rules : DratRules) (live : List Clause) (c : List Literal) (answer : StepAnswer) : Type 0 where
+  deleted : answer ≡ Ok Deleted → list_any (same_clause c) live ≡ true → ¬ IsKeptUnit rules live c → DeleteCases rules live c answer
+  kept : answer ≡ Ok Ignored → list_any (same_clause c) live ≡ true → IsKeptUnit rules live c → DeleteCases rules live c answer
+  ignored : answer ≡ Ok Ignored → list_any (same_clause c) live ≡ false → rules.strict ≡ false → DeleteCases rules live c answer
+  not_alive : answer ≡ Err NotAlive → list_any (same_clause c) live ≡ false → rules.strict ≡ true → DeleteCases rules live c answer
+
+delete_cases : (rules : DratRules) (live : List Clause) (c : List Literal) (answer : StepAnswer) → AnswersDelete rules live c answer → DeleteCases rules live c answer
+delete_cases rules live c (Ok Deleted) a = deleted refl a.0 a.1
+delete_cases rules live c (Ok Ignored) a = elim a [ inl k ↦ kept refl k.0 k.1 | inr i ↦ ignored refl i.0 i.1 ]
+delete_cases rules live c (Err NotAlive) a = not_alive refl a.0 a.1
+delete_cases rules live c (Ok _) a = absurd a
+delete_cases rules live c (Err _) a = absurd a
+
+delete_unique : (rules : DratRules) (live : List Clause) (c : List Literal) (first second : StepAnswer) → DeleteCases rules live c first → DeleteCases rules live c second → first ≡ second
+delete_unique rules live c first second (deleted e p q) (deleted f r s) = e ∙ sym f
+delete_unique rules live c first second (deleted e p q) (kept f r s) = absurd (q s)
+delete_unique rules live c first second (deleted e p q) (ignored f r s) = absurd (true≢false (sym p ∙ r))
+delete_unique rules live c first second (deleted e p q) (not_alive f r s) = absurd (true≢false (sym p ∙ r))
+delete_unique rules live c first second (kept e p q) (deleted f r s) = absurd (s q)
+delete_unique rules live c first second (kept e p q) (kept f r s) = e ∙ sym f
+delete_unique rules live c first second (kept e p q) (ignored f r s) = e ∙ sym f
+delete_unique rules live c first second (kept e p q) (not_alive f r s) = absurd (true≢false (sym p ∙ r))
+delete_unique rules live c first second (ignored e p q) (deleted f r s) = absurd (true≢false (sym r ∙ p))
+delete_unique rules live c first second (ignored e p q) (kept f r s) = e ∙ sym f
+delete_unique rules live c first second (ignored e p q) (ignored f r s) = e ∙ sym f
+delete_unique rules live c first second (ignored e p q) (not_alive f r s) = absurd (true≢false (sym s ∙ q))
+delete_unique rules live c first second (not_alive e p q) (deleted f r s) = absurd (true≢false (sym r ∙ p))
+delete_unique rules live c first second (not_alive e p q) (kept f r s) = absurd (true≢false (sym r ∙ p))
+delete_unique rules live c first second (not_alive e p q) (ignored f r s) = absurd (true≢false (sym q ∙ s))
+delete_unique rules live c first second (not_alive e p q) (not_alive f r s) = e ∙ sym f
+
+-- the four answers to an addition that lists a set
+data SetCases (live : Live) (c set : List Literal) (answer : StepAnswer) : Type 0 where
+  inconsistent : answer ≡ Err InconsistentSet → conflicts set ≡ true → SetCases live c set answer
+  rup : answer ≡ Ok Rup → conflicts set ≡ false → HasRup live c → SetCases live c set answer
+  pr : answer ≡ Ok Pr → conflicts set ≡ false → ¬ HasRup live c → HasPr live c set → SetCases live c set answer
+  neither : answer ≡ Err NeitherRupNorPr → conflicts set ≡ false → ¬ HasRup live c → ¬ HasPr live c set → SetCases live c set answer
+
+set_cases : (live : List Clause) (c set : List Literal) (answer : StepAnswer) → AnswersWithSet live c set answer → SetCases (slice_get live) c set answer
+set_cases live c set (Err InconsistentSet) a = inconsistent refl a
+set_cases live c set (Ok Rup) a = rup refl a.0 a.1
+set_cases live c set (Ok Pr) a = pr refl a.0 a.1 a.2
+set_cases live c set (Err NeitherRupNorPr) a = neither refl a.0 a.1 a.2
+set_cases live c set (Ok _) a = absurd a
+set_cases live c set (Err _) a = absurd a
+
+set_unique : (live : Live) (c set : List Literal) (first second : StepAnswer) → SetCases live c set first → SetCases live c set second → first ≡ second
+set_unique live c set first second (inconsistent e p) (inconsistent f q) = e ∙ sym f
+set_unique live c set first second (inconsistent e p) (rup f q r) = absurd (true≢false (sym p ∙ q))
+set_unique live c set first second (inconsistent e p) (pr f q r s) = absurd (true≢false (sym p ∙ q))
+set_unique live c set first second (inconsistent e p) (neither f q r s) = absurd (true≢false (sym p ∙ q))
+set_unique live c set first second (rup e p h) (inconsistent f q) = absurd (true≢false (sym q ∙ p))
+set_unique live c set first second (rup e p h) (rup f q r) = e ∙ sym f
+set_unique live c set first second (rup e p h) (pr f q r s) = absurd (r h)
+set_unique live c set first second (rup e p h) (neither f q r s) = absurd (r h)
+set_unique live c set first second (pr e p h k) (inconsistent f q) = absurd (true≢false (sym q ∙ p))
+set_unique live c set first second (pr e p h k) (rup f q r) = absurd (h r)
+set_unique live c set first second (pr e p h k) (pr f q r s) = e ∙ sym f
+set_unique live c set first second (pr e p h k) (neither f q r s) = absurd (s k)
+set_unique live c set first second (neither e p h k) (inconsistent f q) = absurd (true≢false (sym q ∙ p))
+set_unique live c set first second (neither e p h k) (rup f q r) = absurd (h r)
+set_unique live c set first second (neither e p h k) (pr f q r s) = absurd (k s)
+set_unique live c set first second (neither e p h k) (neither f q r s) = e ∙ sym f
+
+pub drat_unique : (rules : DratRules) (live : List Clause) (step : DratStep) (first second : StepAnswer) → AnswersDrat rules live step first → AnswersDrat rules live step second → first ≡ second
+drat_unique rules live (add [] []) first second a b = empty_unique (slice_get live) first second (empty_cases live first a) (empty_cases live second b)
+drat_unique rules live (add (pivot ∷ rest) []) first second a b = add_unique (slice_get live) pivot rest first second (add_cases live pivot rest first a) (add_cases live pivot rest second b)
+drat_unique rules live (add c (l ∷ set)) first second a b = set_unique (slice_get live) c (l ∷ set) first second (set_cases live c (l ∷ set) first a) (set_cases live c (l ∷ set) second b)
+drat_unique rules live (delete c) first second a b = delete_unique rules live c first second (delete_cases rules live c first a) (delete_cases rules live c second b)
+
+-- ---- LRAT
+
+data GroupsCases (left_out : ℕ → Bool) (answer : StepAnswer) : Type 0 where
+  all_settled : answer ≡ Ok Rat → ((k : ℕ) → left_out k ≡ false) → GroupsCases left_out answer
+  lowest : (k : ℕ) → answer ≡ Err (Unnamed k) → left_out k ≡ true → ((j : ℕ) → j < k → left_out j ≡ false) → GroupsCases left_out answer
+
+groups_cases : (live : Live) (ls : List Literal) (pivot : Literal) (groups : List Group) (answer : StepAnswer) → AnswersGroups live ls pivot groups None answer → GroupsCases (is_left_out live ls pivot groups) answer
+groups_cases live ls pivot groups (Ok Rat) a = all_settled refl a
+groups_cases live ls pivot groups (Err (Unnamed k)) a = lowest k refl a.0 a.1
+groups_cases live ls pivot groups (Ok _) a = absurd a
+groups_cases live ls pivot groups (Err _) a = absurd a
+
+groups_unique : (left_out : ℕ → Bool) (first second : StepAnswer) → GroupsCases left_out first → GroupsCases left_out second → first ≡ second
+groups_unique left_out first second (all_settled e p) (all_settled f q) = e ∙ sym f
+groups_unique left_out first second (all_settled e p) (lowest k f at below) = absurd (true≢false (sym at ∙ p k))
+groups_unique left_out first second (lowest k e at below) (all_settled f q) = absurd (true≢false (sym at ∙ q k))
+groups_unique left_out first second (lowest k e at below) (lowest j f at' below') =
+    elim (cases_order k j) [
+      | inl same ↦ e ∙ ap (λ x. Err (Unnamed x)) same ∙ sym f
+      | inr apart ↦ elim apart [ inl k<j ↦ absurd (true≢false (sym at ∙ below' k k<j)) | inr j<k ↦ absurd (true≢false (sym at' ∙ below j j<k)) ]
+    ]
+
+after_groups_unique : (live : Live) (ls : List Literal) (pivot : Literal) (groups : List Group) (refusal : Option Refusal) (first second : StepAnswer) → AnswersGroups live ls pivot groups refusal first → AnswersGroups live ls pivot groups refusal second → first ≡ second
+after_groups_unique live ls pivot groups (Some r) first second a b = a ∙ sym b
+after_groups_unique live ls pivot groups None first second a b = groups_unique (is_left_out live ls pivot groups) first second (groups_cases live ls pivot groups first a) (groups_cases live ls pivot groups second b)
+
+chain_unique : (live : Live) (c : List Literal) (groups : List Group) (end : ChainEnd) (first second : StepAnswer) → AnswersChain live c groups end first → AnswersChain live c groups end second → first ≡ second
+chain_unique live [] groups conflict first second a b = a ∙ sym b
+chain_unique live (l ∷ c) groups conflict first second a b = a ∙ sym b
+chain_unique live [] groups (unknown k) first second a b = a ∙ sym b
+chain_unique live (l ∷ c) groups (unknown k) first second a b = a ∙ sym b
+chain_unique live [] groups (not_unit k) first second a b = a ∙ sym b
+chain_unique live (l ∷ c) groups (not_unit k) first second a b = a ∙ sym b
+chain_unique live [] groups (open_with ls) first second a b = a ∙ sym b
+chain_unique live (pivot ∷ rest) groups (open_with ls) first second a b = after_groups_unique live ls pivot groups (groups_refusal live ls pivot [] groups) first second a b
+
+pub lrat_unique : (state : LratState) (step : LratStep) (first second : StepAnswer) → AnswersLrat state step first → AnswersLrat state step second → first ≡ second
+lrat_unique state (add_lrat id c units groups) first second a b =
+    elim (cases_Bool (nat_le id state.top)) [
+      | inl e ↦ MatchBool-at_true _ _ e a ∙ sym (MatchBool-at_true _ _ e b)
+      | inr e ↦ chain_unique state.live c groups (chain state.live (complements c) units) first second (MatchBool-at_false _ _ e a) (MatchBool-at_false _ _ e b)
+    ]
+lrat_unique state (delete_lrat ids) first second a b = a ∙ sym b

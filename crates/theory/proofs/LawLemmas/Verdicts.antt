@@ -1,0 +1,144 @@
+-- A proof has one verdict, which depends on the clauses alone, and a verified formula has no model.
+use Rattle.std.proofs.Common.{◌≡◌, zero, suc, Bool, true, false, Ok, Err, List, [], ◌∷◌}
+use Rattle.std.proofs.Common.{slice_get, refl, sym, ap, ◌∙◌, subst, inl, inr}
+use Rattle.std.specs.Bool.{MatchBool}
+use Rattle.std.specs.List.{list_any}
+use Rattle.std.proofs.lemmas.Bool.{false≢true, cases_Bool, MatchBool-at_true, MatchBool-at_false}
+use Rattle.cnf_base.specs.Literals.{Clause}
+use Rattle.proofs.specs.Steps.{Step}
+use Rattle.theory.specs.declared.accepted.Accepted.{Accepted}
+use Rattle.theory.specs.declared.accepted.Accepted.TheVariants.{Rup, Rat, Pr, Empty, Deleted}
+use Rattle.theory.specs.declared.accepted.Accepted.TheVariants.{Ignored}
+use Rattle.theory.specs.declared.refusal.Refusal.{Refusal}
+use Rattle.theory.specs.Answers.{StepAnswer}
+use Rattle.theory.specs.Models.{HasModel}
+use Rattle.theory.specs.Rules.{Rule, State, start, Answers, after, Same, IsSatisfiable, IsFinite}
+use Rattle.theory.specs.Verdicts.{Ending, verified, refused, no_empty_clause, is_last, Ends}
+use Rattle.theory.specs.Verdicts.{is_empty, Verdict}
+use Rattle.theory.proofs.LawLemmas.Existence.{some_answer, after_finite, start_finite}
+use Rattle.theory.proofs.LratLemmas.Steps.{ok_is, ok_err}
+use Rattle.theory.proofs.LawLemmas.Rules.{answers_same, after_same, answer_unique, keeps, refutes}
+use Rattle.theory.proofs.LawLemmas.Rules.{started}
+
+-- ---- The same clauses
+
+pub ends_same : (steps : List Step) (words : List Accepted) (ending : Ending) (first second : State) → Same first second → Ends first steps words ending → Ends second steps words ending
+ends_same [] [] ending first second same e = e
+ends_same [] (word ∷ words) ending first second same e = absurd e
+ends_same (step ∷ steps) [] ending first second same e = (e.0, e.1, answers_same first second step (Err e.0) same e.2)
+ends_same (step ∷ steps) (word ∷ words) ending first second same e =
+    (answers_same first second step (Ok word) same e.0, by_word (is_last word) (ends_same steps words ending (after first step word) (after second step word) (after_same first second step word same)) e.1)
+  where
+    by_word : (b : Bool) → (Ends (after first step word) steps words ending → Ends (after second step word) steps words ending)
+        → MatchBool b ((words ≡ []) × (ending ≡ verified)) (Ends (after first step word) steps words ending) → MatchBool b ((words ≡ []) × (ending ≡ verified)) (Ends (after second step word) steps words ending)
+    by_word true rest h = h
+    by_word false rest h = rest h
+
+-- ---- At most one verdict
+
+err_is : (first second : Refusal) → ◌≡◌ {A = StepAnswer} (Err first) (Err second) → first ≡ second
+err_is first second e = cc
+
+ends_unique : (steps : List Step) (s : State) (first second : List Accepted) (ending other : Ending) → Ends s steps first ending → Ends s steps second other → (first ≡ second) × (ending ≡ other)
+ends_unique [] s [] [] ending other a b = (refl, a ∙ sym b)
+ends_unique [] s [] (w ∷ ws) ending other a b = absurd b
+ends_unique [] s (w ∷ ws) second ending other a b = absurd a
+ends_unique (step ∷ steps) s [] [] ending other a b = (refl, a.1 ∙ ap refused (err_is a.0 b.0 (answer_unique s step _ _ a.2 b.2)) ∙ sym b.1)
+ends_unique (step ∷ steps) s [] (w ∷ ws) ending other a b = absurd (ok_err w a.0 (answer_unique s step _ _ b.0 a.2))
+ends_unique (step ∷ steps) s (w ∷ ws) [] ending other a b = absurd (ok_err w b.0 (answer_unique s step _ _ a.0 b.2))
+ends_unique (step ∷ steps) s (w ∷ ws) (x ∷ xs) ending other a b =
+    let same = ok_is w x (answer_unique s step _ _ a.0 b.0) in
+    elim (cases_Bool (is_last w)) [
+      | inl last ↦
+          let p = MatchBool-at_true _ _ last a.1 in
+          let q = MatchBool-at_true _ _ (sym (ap is_last same) ∙ last) b.1 in
+          (λ i. same i ∷ (p.0 ∙ sym q.0) i, p.1 ∙ sym q.1)
+      | inr goes_on ↦
+          let rest = subst (λ word. Ends (after s step word) steps xs other) (sym same) (MatchBool-at_false _ _ (sym (ap is_last same) ∙ goes_on) b.1) in
+          let r = ends_unique steps (after s step w) ws xs ending other (MatchBool-at_false _ _ goes_on a.1) rest in
+          (λ i. same i ∷ r.0 i, r.1)
+    ]
+
+pub verdict_unique : (rule : Rule) (formula : List Clause) (steps : List Step) (first second : List Accepted) (ending other : Ending) →
+    Verdict rule formula steps first ending → Verdict rule formula steps second other → (first ≡ second) × (ending ≡ other)
+verdict_unique rule formula steps first second ending other a b =
+    elim (cases_Bool (list_any is_empty formula)) [
+      | inl e ↦ let p = MatchBool-at_true _ _ e a in let q = MatchBool-at_true _ _ e b in (p.0 ∙ sym q.0, p.1 ∙ sym q.1)
+      | inr e ↦ ends_unique steps (start rule formula) first second ending other (MatchBool-at_false _ _ e a) (MatchBool-at_false _ _ e b)
+    ]
+
+-- ---- A verdict
+
+abbrev no_words : List Accepted
+no_words = []
+
+pub some_ending : (steps : List Step) (state : State) → IsFinite state → (words : List Accepted) × (ending : Ending) × Ends state steps words ending
+some_ending [] state b = ([], no_empty_clause, refl)
+some_ending (step ∷ steps) state b =
+    let a = some_answer state step b in
+    by (λ word. some_ending steps (after state step word) (after_finite state step word b)) a.0 a.1
+  where
+    last : (word : Accepted) (v : Bool) → is_last word ≡ v → Answers state step (Ok word)
+        → ((words : List Accepted) × (ending : Ending) × Ends (after state step word) steps words ending)
+        → (words : List Accepted) × (ending : Ending) × Ends state (step ∷ steps) words ending
+    last word true e a later =
+        let P : Bool → Type 0 = λ v. MatchBool v ((no_words ≡ no_words) × (verified ≡ verified)) (Ends (after state step word) steps no_words verified) in
+        (word ∷ no_words, verified, (a, subst P (sym e) (refl, refl)))
+    last word false e a later =
+        let P : Bool → Type 0 = λ v. MatchBool v ((later.0 ≡ []) × (later.1 ≡ verified)) (Ends (after state step word) steps later.0 later.1) in
+        (word ∷ later.0, later.1, (a, subst P (sym e) later.2))
+
+    by : ((word : Accepted) → (words : List Accepted) × (ending : Ending) × Ends (after state step word) steps words ending)
+        → (answer : StepAnswer) → Answers state step answer → (words : List Accepted) × (ending : Ending) × Ends state (step ∷ steps) words ending
+    by later (Ok word) a = last word (is_last word) refl a (later word)
+    by later (Err r) a = ([], refused r, (r, refl, a))
+
+pub some_verdict : (rule : Rule) (formula : List Clause) (steps : List Step) → (words : List Accepted) × (ending : Ending) × Verdict rule formula steps words ending
+some_verdict rule formula steps = by (list_any is_empty formula) refl (some_ending steps (start rule formula) (start_finite rule formula))
+  where
+    by : (v : Bool) → list_any is_empty formula ≡ v → ((words : List Accepted) × (ending : Ending) × Ends (start rule formula) steps words ending)
+        → (words : List Accepted) × (ending : Ending) × Verdict rule formula steps words ending
+    by true e rest =
+        let P : Bool → Type 0 = λ v. MatchBool v ((no_words ≡ no_words) × (verified ≡ verified)) (Ends (start rule formula) steps no_words verified) in
+        (no_words, verified, subst P (sym e) (refl, refl))
+    by false e rest =
+        let P : Bool → Type 0 = λ v. MatchBool v ((rest.0 ≡ []) × (rest.1 ≡ verified)) (Ends (start rule formula) steps rest.0 rest.1) in
+        (rest.0, rest.1, subst P (sym e) rest.2)
+
+-- ---- A verified formula has no model
+
+last_is_empty : (word : Accepted) → is_last word ≡ true → word ≡ Empty
+last_is_empty Empty e = refl
+last_is_empty Rup e = absurd (false≢true e)
+last_is_empty Rat e = absurd (false≢true e)
+last_is_empty Pr e = absurd (false≢true e)
+last_is_empty Deleted e = absurd (false≢true e)
+last_is_empty Ignored e = absurd (false≢true e)
+
+verified_none : verified ≡ no_empty_clause → ⊥
+verified_none e = cc
+
+verified_refused : (r : Refusal) → verified ≡ refused r → ⊥
+verified_refused r e = cc
+
+ends_sound : (steps : List Step) (s : State) (words : List Accepted) → Ends s steps words verified → IsSatisfiable s → ⊥
+ends_sound [] s [] e has_model = verified_none e
+ends_sound [] s (word ∷ words) e has_model = e
+ends_sound (step ∷ steps) s [] e has_model = verified_refused e.0 e.1
+ends_sound (step ∷ steps) s (word ∷ words) e has_model =
+    elim (cases_Bool (is_last word)) [
+      | inl last ↦ refutes s step (subst (λ w. Answers s step (Ok w)) (last_is_empty word last) e.0) has_model
+      | inr goes_on ↦ ends_sound steps (after s step word) words (MatchBool-at_false _ _ goes_on e.1) (keeps s step word e.0 has_model)
+    ]
+
+empty_formula : (formula : List Clause) → list_any is_empty formula ≡ true → HasModel (slice_get formula) → ⊥
+empty_formula [] h m = false≢true h
+empty_formula ([] ∷ formula) h m = false≢true (m.1 zero [] refl)
+empty_formula ((l ∷ c) ∷ formula) h m = empty_formula formula h (m.0, λ k d at. m.1 (suc k) d at)
+
+pub verdict_sound : (rule : Rule) (formula : List Clause) (steps : List Step) (words : List Accepted) → Verdict rule formula steps words verified → ¬ HasModel (slice_get formula)
+verdict_sound rule formula steps words verdict m =
+    elim (cases_Bool (list_any is_empty formula)) [
+      | inl e ↦ empty_formula formula e m
+      | inr e ↦ ends_sound steps (start rule formula) words (MatchBool-at_false _ _ e verdict) (started rule formula m)
+    ]

@@ -1,0 +1,4 @@
+pub mod DratLemmas
+pub mod LawLemmas
+pub mod LratLemmas
+pub mod PropagationLemmas

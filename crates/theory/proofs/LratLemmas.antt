@@ -1,0 +1,6 @@
+pub mod Chains
+pub mod LiveSets
+pub mod SameSets
+pub mod States
+pub mod Steps
+pub mod Sums

@@ -1,0 +1,219 @@
+-- The rule of LRAT depends only on the sets of the live clauses.
+use Rattle.std.proofs.Common.{◌≡◌, ℕ, Bool, true, false, not, ◌&&◌, ◌||◌, cond, eqb}
+use Rattle.std.proofs.Common.{eq-eqb, nat_le, Option, Some, None, option_map, is_none, Ok, Err}
+use Rattle.std.proofs.Common.{List, [], ◌∷◌, refl, sym, ap, ◌∙◌, subst, inl, inr}
+use Rattle.std.specs.Bool.{then_some, MatchBool}
+use Rattle.std.specs.Option.{option_or}
+use Rattle.std.specs.List.{list_any}
+use Rattle.std.proofs.lemmas.Bool.{false≢true}
+use Rattle.theory.specs.declared.accepted.Accepted.TheVariants.{Rat}
+use Rattle.theory.specs.declared.refusal.Refusal.{Refusal}
+use Rattle.theory.specs.declared.refusal.Refusal.TheVariants.{IdOutOfOrder, UnknownId, NotCandidate}
+use Rattle.theory.specs.declared.refusal.Refusal.TheVariants.{NamedTwice, GroupWithoutConflict}
+use Rattle.theory.specs.declared.refusal.Refusal.TheVariants.{Unnamed}
+use Rattle.theory.specs.declared.left.Left.{Left}
+use Rattle.theory.specs.declared.left.Left.TheVariants.{Nothing, One, More}
+use Rattle.cnf_base.specs.Literals.{Literal, complement, Clause, has, complements, without}
+use Rattle.cnf_base.specs.Literals.{same_clause}
+use Rattle.theory.specs.Propagation.{Live}
+use Rattle.theory.specs.Answers.{StepAnswer}
+use Rattle.theory.specs.Lrat.{ChainEnd, conflict, open_with, unknown, not_unit, look_at, chain}
+use Rattle.theory.specs.Lrat.{Group, LratStep, add, delete, with_candidate, chain_refusal}
+use Rattle.theory.specs.Lrat.{group_refusal, groups_refusal, is_unsettled, is_left_out}
+use Rattle.theory.specs.Lrat.{AnswersGroups, AnswersChain, with_clause, without_id, without_ids}
+use Rattle.theory.specs.Lrat.{deletion_refusal, answer_of, AnswersLrat, SameAt, SameClauses}
+use Rattle.theory.specs.Sets.{conflicts, SameSet}
+use Rattle.theory.specs.Left.{open_literals, how_many}
+use Rattle.theory.proofs.PropagationLemmas.Conflicts.{conflicts_same}
+use Rattle.cnf_base.proofs.SetLemmas.{both_pass, has_head, has_tail, each_all, has-filter}
+use Rattle.cnf_base.proofs.SetLemmas.{filter_has, has_append_left, has_append_right}
+use Rattle.cnf_base.proofs.SetLemmas.{has_append_cases, has-complements, complements_has}
+use Rattle.cnf_base.proofs.SetLemmas.{has-without, without_has, same_there, same_back, same_symm}
+use Rattle.cnf_base.proofs.LiteralLemmas.{complement-complement}
+use Rattle.theory.proofs.PropagationLemmas.Left.{left-none, left-one, nothing_more, one_more}
+
+pub same_set_from : (c d : Clause) → same_clause c d ≡ true → SameSet c d
+same_set_from c d same l = both_pass (has c l) (has d l) (same_there c d same l) (same_back c d same l)
+
+pub same_set_more : (first second : List Literal) (m : Literal) → SameSet first second → SameSet (m ∷ first) (m ∷ second)
+same_set_more first second m same l = ap (λ b. eqb m l || b) (same l)
+
+-- ---- What is left
+
+open_there : (first second : List Literal) (c d : Clause) → SameSet first second → SameSet c d → (l : Literal) → has (open_literals first c) l ≡ true → has (open_literals second d) l ≡ true
+open_there first second c d same_ls same_c l h =
+    let w = filter_has (λ l. not (has first (complement l))) c l h in
+    has-filter (λ l. not (has second (complement l))) d l (sym (same_c l) ∙ w.0) (ap not (sym (same_ls (complement l))) ∙ w.1)
+
+open_same : (first second : List Literal) (c d : Clause) → SameSet first second → SameSet c d → SameSet (open_literals first c) (open_literals second d)
+open_same first second c d same_ls same_c l =
+    both_pass (has (open_literals first c) l) (has (open_literals second d) l) (open_there first second c d same_ls same_c l) (open_there second first d c (λ l. sym (same_ls l)) (λ l. sym (same_c l)) l)
+
+-- a list whose literals are all equal to one of them
+left_is_one : (ls : List Literal) (m : Literal) → has ls m ≡ true → ((l : Literal) → has ls l ≡ true → l ≡ m) → how_many ls ≡ One m
+left_is_one [] m member only = absurd (false≢true member)
+left_is_one (k ∷ ls) m member only =
+    let k_is : k ≡ m = only k (has_head k ls) in
+    ap (λ b. cond b (One k) More) (each_all (λ l. eqb l k) ls (λ l h. eq-eqb l k (only l (has_tail k ls l h) ∙ sym k_is))) ∙ ap One k_is
+
+left_is_nothing : (ls : List Literal) → ((l : Literal) → has ls l ≡ true → ⊥) → how_many ls ≡ Nothing
+left_is_nothing [] none = refl
+left_is_nothing (k ∷ ls) none = absurd (none k (has_head k ls))
+
+left_same : (xs ys : List Literal) → SameSet xs ys → how_many xs ≡ how_many ys
+left_same xs ys same =
+    elim (how_many xs) as (λ left. how_many xs ≡ left → left ≡ how_many ys) [
+      | Nothing ↦ λ e. sym (left_is_nothing ys (λ l h. left-none xs e l (same l ∙ h)))
+      | One m ↦ λ e. let w = left-one xs m e in sym (left_is_one ys m (sym (same m) ∙ w.0) (λ l h. w.1 l (same l ∙ h)))
+      | More ↦ λ e. elim (how_many ys) as (λ right. how_many ys ≡ right → More ≡ right) [
+        | Nothing ↦ λ f. absurd (nothing_more (sym (left_is_nothing xs (λ l h. left-none ys f l (sym (same l) ∙ h))) ∙ e))
+        | One m ↦ λ f. let w = left-one ys m f in absurd (one_more m (sym (left_is_one xs m (same m ∙ w.0) (λ l h. w.1 l (sym (same l) ∙ h))) ∙ e))
+        | More ↦ λ f. refl
+      ] refl
+    ] refl
+
+-- ---- Walks
+
+looks_same : (first second : List Literal) → SameSet first second → (a b : Option Clause) → SameAt a b → option_map (λ c. how_many (open_literals first c)) a ≡ option_map (λ c. how_many (open_literals second c)) b
+looks_same first second same None None h = refl
+looks_same first second same (Some c) (Some d) h = ap Some (left_same _ _ (open_same first second c d same (same_set_from c d h)))
+looks_same first second same None (Some d) h = absurd h
+looks_same first second same (Some c) None h = absurd h
+
+module _ (live other : Live) (same_clauses : SameClauses live other) where
+  -- from one list, a walk has one end
+  chain_is : (hints : List ℕ) (ls : List Literal) → chain live ls hints ≡ chain other ls hints
+  chain_is [] ls = refl
+  chain_is (k ∷ hints) ls =
+      let looks = looks_same ls ls (λ l. refl) (live k) (other k) (same_clauses.at k) in
+      let on_live : Literal → ChainEnd = λ l. chain live (l ∷ ls) hints in
+      let on_other : Literal → ChainEnd = λ l. chain other (l ∷ ls) hints in
+      ap (λ o. cond (conflicts ls) conflict (look_at k o on_live)) looks
+      ∙ ap (λ (f : Literal → ChainEnd). cond (conflicts ls) conflict (look_at k (option_map (λ c. how_many (open_literals ls c)) (other k)) f)) (λ i l. chain_is hints (l ∷ ls) i)
+
+  refusals_look : (r : Refusal) (k : ℕ) (o : Option Left) (f g : Literal → ChainEnd) → ((l : Literal) → chain_refusal r (f l) ≡ chain_refusal r (g l)) → chain_refusal r (look_at k o f) ≡ chain_refusal r (look_at k o g)
+  refusals_look r k None f g each = refl
+  refusals_look r k (Some Nothing) f g each = refl
+  refusals_look r k (Some (One l)) f g each = each l
+  refusals_look r k (Some More) f g each = refl
+
+  -- from lists that are the same set, a walk is refused alike
+  pub chain_alike : (r : Refusal) (hints : List ℕ) (first second : List Literal) → SameSet first second → chain_refusal r (chain live first hints) ≡ chain_refusal r (chain other second hints)
+  chain_alike r [] first second same =
+      by_conflict (conflicts first) ∙ ap (λ b. chain_refusal r (cond b conflict (open_with second))) (conflicts_same first second same)
+    where
+      by_conflict : (b : Bool) → chain_refusal r (cond b conflict (open_with first)) ≡ chain_refusal r (cond b conflict (open_with second))
+      by_conflict true = refl
+      by_conflict false = refl
+  chain_alike r (k ∷ hints) first second same =
+      by_conflict (conflicts first) (λ l. chain_alike r hints (l ∷ first) (l ∷ second) (same_set_more first second l same))
+      ∙ ap (λ o. chain_refusal r (cond (conflicts first) conflict (look_at k o (λ l. chain other (l ∷ second) hints)))) (looks_same first second same (live k) (other k) (same_clauses.at k))
+      ∙ ap (λ b. chain_refusal r (cond b conflict (look_at k (option_map (λ c. how_many (open_literals second c)) (other k)) (λ l. chain other (l ∷ second) hints)))) (conflicts_same first second same)
+    where
+      by_conflict : (b : Bool) → ((l : Literal) → chain_refusal r (chain live (l ∷ first) hints) ≡ chain_refusal r (chain other (l ∷ second) hints)) →
+          chain_refusal r (cond b conflict (look_at k (option_map (λ c. how_many (open_literals first c)) (live k)) (λ l. chain live (l ∷ first) hints)))
+          ≡ chain_refusal r (cond b conflict (look_at k (option_map (λ c. how_many (open_literals first c)) (live k)) (λ l. chain other (l ∷ second) hints)))
+      by_conflict true each = refl
+      by_conflict false each = refusals_look r k (option_map (λ c. how_many (open_literals first c)) (live k)) (λ l. chain live (l ∷ first) hints) (λ l. chain other (l ∷ second) hints) each
+
+  -- ---- Candidates
+
+  candidate_there : (ls : List Literal) (c d : Clause) (pivot l : Literal) → same_clause c d ≡ true → has (with_candidate ls c pivot) l ≡ true → has (with_candidate ls d pivot) l ≡ true
+  candidate_there ls c d pivot l same h =
+      elim (has_append_cases ls (complements (without c (complement pivot))) l h) [
+        | inl g ↦ has_append_left ls _ l g
+        | inr g ↦
+            let w = without_has c (complement pivot) (complement l) (complements_has (without c (complement pivot)) l g) in
+            has_append_right ls (complements (without d (complement pivot))) l
+            (subst (λ x. has (complements (without d (complement pivot))) x ≡ true) (complement-complement l)
+            (has-complements (without d (complement pivot)) (complement l) (has-without d (complement pivot) (complement l) (same_there c d same (complement l) w.0) w.1)))
+      ]
+
+  candidate_same : (ls : List Literal) (c d : Clause) (pivot : Literal) → same_clause c d ≡ true → SameSet (with_candidate ls c pivot) (with_candidate ls d pivot)
+  candidate_same ls c d pivot same l =
+      both_pass (has (with_candidate ls c pivot) l) (has (with_candidate ls d pivot) l) (candidate_there ls c d pivot l same) (candidate_there ls d c pivot l (same_symm c d same))
+
+  group_same : (ls : List Literal) (pivot : Literal) (earlier : List ℕ) (group : Group) (a b : Option Clause) → SameAt a b → group_refusal live ls pivot earlier group a ≡ group_refusal other ls pivot earlier group b
+  group_same ls pivot earlier group None None h = refl
+  group_same ls pivot earlier group (Some c) (Some d) h =
+      ap (λ t. option_or (then_some (not t) (NotCandidate group.candidate)) (option_or (then_some (list_any (λ k. eqb k group.candidate) earlier) (NamedTwice group.candidate)) (chain_refusal (GroupWithoutConflict group.candidate) (chain live (with_candidate ls c pivot) group.hints)))) (same_set_from c d h (complement pivot))
+      ∙ ap (λ e. option_or (then_some (not (has d (complement pivot))) (NotCandidate group.candidate)) (option_or (then_some (list_any (λ k. eqb k group.candidate) earlier) (NamedTwice group.candidate)) e))
+      (chain_alike (GroupWithoutConflict group.candidate) group.hints (with_candidate ls c pivot) (with_candidate ls d pivot) (candidate_same ls c d pivot h))
+  group_same ls pivot earlier group None (Some d) h = absurd h
+  group_same ls pivot earlier group (Some c) None h = absurd h
+
+  groups_same : (ls : List Literal) (pivot : Literal) (groups : List Group) (earlier : List ℕ) → groups_refusal live ls pivot earlier groups ≡ groups_refusal other ls pivot earlier groups
+  groups_same ls pivot [] earlier = refl
+  groups_same ls pivot (group ∷ groups) earlier =
+      ap (λ o. option_or o (groups_refusal live ls pivot (group.candidate ∷ earlier) groups)) (group_same ls pivot earlier group (live group.candidate) (other group.candidate) (same_clauses.at group.candidate))
+      ∙ ap (option_or (group_refusal other ls pivot earlier group (other group.candidate))) (groups_same ls pivot groups (group.candidate ∷ earlier))
+
+  unsettled_same : (ls : List Literal) (pivot : Literal) (a b : Option Clause) → SameAt a b → is_unsettled ls pivot a ≡ is_unsettled ls pivot b
+  unsettled_same ls pivot None None h = refl
+  unsettled_same ls pivot (Some c) (Some d) h =
+      ap (λ t. t && not (conflicts (with_candidate ls c pivot))) (same_set_from c d h (complement pivot))
+      ∙ ap (λ t. has d (complement pivot) && not t) (conflicts_same (with_candidate ls c pivot) (with_candidate ls d pivot) (candidate_same ls c d pivot h))
+  unsettled_same ls pivot None (Some d) h = absurd h
+  unsettled_same ls pivot (Some c) None h = absurd h
+
+  left_out_same : (ls : List Literal) (pivot : Literal) (groups : List Group) (k : ℕ) → is_left_out live ls pivot groups k ≡ is_left_out other ls pivot groups k
+  left_out_same ls pivot groups k = ap (λ t. not (list_any (λ group. eqb group.candidate k) groups) && t) (unsettled_same ls pivot (live k) (other k) (same_clauses.at k))
+
+  -- ---- Answers
+
+  groups_answer : (ls : List Literal) (pivot : Literal) (groups : List Group) (refusal : Option Refusal) (answer : StepAnswer) → AnswersGroups live ls pivot groups refusal answer → AnswersGroups other ls pivot groups refusal answer
+  groups_answer ls pivot groups (Some r) answer a = a
+  groups_answer ls pivot groups None (Ok Rat) a = λ k. sym (left_out_same ls pivot groups k) ∙ a k
+  groups_answer ls pivot groups None (Err (Unnamed k)) a = (sym (left_out_same ls pivot groups k) ∙ a.0, λ j h. sym (left_out_same ls pivot groups j) ∙ a.1 j h)
+  groups_answer ls pivot groups None (Ok _) a = absurd a
+  groups_answer ls pivot groups None (Err _) a = absurd a
+
+  chain_answer : (c : List Literal) (groups : List Group) (end : ChainEnd) (answer : StepAnswer) → AnswersChain live c groups end answer → AnswersChain other c groups end answer
+  chain_answer [] groups conflict answer a = a
+  chain_answer (l ∷ c) groups conflict answer a = a
+  chain_answer [] groups (unknown k) answer a = a
+  chain_answer (l ∷ c) groups (unknown k) answer a = a
+  chain_answer [] groups (not_unit k) answer a = a
+  chain_answer (l ∷ c) groups (not_unit k) answer a = a
+  chain_answer [] groups (open_with ls) answer a = a
+  chain_answer (pivot ∷ c) groups (open_with ls) answer a =
+      subst (λ refusal. AnswersGroups other ls pivot groups refusal answer) (groups_same ls pivot groups []) (groups_answer ls pivot groups (groups_refusal live ls pivot [] groups) answer a)
+
+  add_answer : (top id : ℕ) (c : List Literal) (units : List ℕ) (groups : List Group) (answer : StepAnswer) (late : Bool) →
+      MatchBool late (answer ≡ Err IdOutOfOrder) (AnswersChain live c groups (chain live (complements c) units) answer) →
+      MatchBool late (answer ≡ Err IdOutOfOrder) (AnswersChain other c groups (chain other (complements c) units) answer)
+  add_answer top id c units groups answer true a = a
+  add_answer top id c units groups answer false a =
+      subst (λ end. AnswersChain other c groups end answer) (chain_is units (complements c)) (chain_answer c groups (chain live (complements c) units) answer a)
+
+-- ---- Deletions, and what is alive
+
+is_none_same : (a b : Option Clause) → SameAt a b → is_none a ≡ is_none b
+is_none_same None None h = refl
+is_none_same (Some c) (Some d) h = refl
+is_none_same None (Some d) h = absurd h
+is_none_same (Some c) None h = absurd h
+
+same_at_cond : (b : Bool) (x y v w : Option Clause) → SameAt x y → SameAt v w → SameAt (cond b x v) (cond b y w)
+same_at_cond true x y v w h g = h
+same_at_cond false x y v w h g = g
+
+pub with_same : (first second : Live) (id : ℕ) (c d : Clause) → SameClauses first second → same_clause c d ≡ true → SameClauses (with_clause first id c) (with_clause second id d)
+with_same first second id c d same h = record { at = λ k. same_at_cond (eqb k id) (Some c) (Some d) (first k) (second k) h (same.at k) }
+
+without_same : (first second : Live) (id : ℕ) → SameClauses first second → SameClauses (without_id first id) (without_id second id)
+without_same first second id same = record { at = λ k. same_at_cond (eqb k id) None None (first k) (second k) tt (same.at k) }
+
+pub without_all_same : (ids : List ℕ) (first second : Live) → SameClauses first second → SameClauses (without_ids first ids) (without_ids second ids)
+without_all_same [] first second same = same
+without_all_same (id ∷ ids) first second same = without_all_same ids (without_id first id) (without_id second id) (without_same first second id same)
+
+deletion_same : (ids : List ℕ) (first second : Live) → SameClauses first second → deletion_refusal first ids ≡ deletion_refusal second ids
+deletion_same [] first second same = refl
+deletion_same (id ∷ ids) first second same =
+    ap (λ t. option_or (then_some t (UnknownId id)) (deletion_refusal (without_id first id) ids)) (is_none_same (first id) (second id) (same.at id))
+    ∙ ap (option_or (then_some (is_none (second id)) (UnknownId id))) (deletion_same ids (without_id first id) (without_id second id) (without_same first second id same))
+
+pub lrat_same : (first second : Live) (top : ℕ) (step : LratStep) (answer : StepAnswer) → SameClauses first second → AnswersLrat (record { live = first; top = top }) step answer → AnswersLrat (record { live = second; top = top }) step answer
+lrat_same first second top (add id c units groups) answer same a = add_answer first second same top id c units groups answer (nat_le id top) a
+lrat_same first second top (delete ids) answer same a = a ∙ ap answer_of (deletion_same ids first second same)

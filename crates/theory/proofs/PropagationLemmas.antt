@@ -1,0 +1,6 @@
+pub mod Conflicts
+pub mod Covers
+pub mod Forced
+pub mod Lacking
+pub mod Left
+pub mod Unit

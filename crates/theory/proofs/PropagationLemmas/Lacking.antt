@@ -1,0 +1,33 @@
+-- How many literals are not found yet.
+use Rattle.std.proofs.Common.{◌≡◌, ℕ, ◌+◌, ◌<◌, ◌≤◌, Bool, true, false, not}
+use Rattle.std.proofs.Common.{cond, List, [], ◌∷◌, refl, ap, ◌∙◌, arith, inl, inr}
+use Rattle.std.proofs.lemmas.Bool.{false≢true}
+use Rattle.std.proofs.lemmas.List.Sums.{sum_by-cons}
+use Rattle.cnf_base.specs.Literals.{Literal, has}
+use Rattle.cnf_base.proofs.SetLemmas.{has_cases}
+use Rattle.theory.specs.Sets.{lacking}
+
+module _ (first second : List Literal) (grows : (l : Literal) → has first l ≡ true → has second l ≡ true) where
+  weight_le : (a b : Bool) → (a ≡ true → b ≡ true) → cond {A = ℕ} (not b) 1 0 ≤ cond (not a) 1 0
+  weight_le true true keeps = omega arith
+  weight_le true false keeps = absurd (false≢true (keeps refl))
+  weight_le false true keeps = omega arith
+  weight_le false false keeps = omega arith
+
+  lacking-cons : (found : List Literal) (l : Literal) (ls : List Literal) → lacking found (l ∷ ls) ≡ cond (not (has found l)) 1 0 + lacking found ls
+  lacking-cons found l ls = sum_by-cons (λ k. cond (not (has found k)) 1 0) l ls
+
+  pub lacking_le : (ls : List Literal) → lacking second ls ≤ lacking first ls
+  lacking_le [] = omega arith
+  lacking_le (l ∷ ls) = omega (arith, lacking-cons first l ls, lacking-cons second l ls, weight_le (has first l) (has second l) (grows l), lacking_le ls)
+
+  pub lacking_falls : (m : Literal) → has first m ≡ false → has second m ≡ true → (ls : List Literal) → has ls m ≡ true → lacking second ls < lacking first ls
+  lacking_falls m absent new [] h = absurd (false≢true h)
+  lacking_falls m absent new (l ∷ ls) h =
+      elim (has_cases l ls m h) [
+        | inl e ↦
+            let old : cond {A = ℕ} (not (has first l)) 1 0 ≡ 1 = ap (λ b. cond {A = ℕ} (not b) 1 0) (ap (has first) e ∙ absent) in
+            let now : cond {A = ℕ} (not (has second l)) 1 0 ≡ 0 = ap (λ b. cond {A = ℕ} (not b) 1 0) (ap (has second) e ∙ new) in
+            omega (arith, lacking-cons first l ls, lacking-cons second l ls, old, now, lacking_le ls)
+        | inr g ↦ omega (arith, lacking-cons first l ls, lacking-cons second l ls, weight_le (has first l) (has second l) (grows l), lacking_falls m absent new ls g)
+      ]

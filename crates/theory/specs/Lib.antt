@@ -1,0 +1,11 @@
+pub mod Answers
+pub mod Drat
+pub mod Laws
+pub mod Left
+pub mod Lrat
+pub mod Models
+pub mod Propagation
+pub mod Rules
+pub mod Sets
+pub mod Sizes
+pub mod Verdicts

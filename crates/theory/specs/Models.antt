@@ -1,0 +1,24 @@
+-- Assignments, and which clauses they satisfy, as in DIMACS CNF: a clause needs one true literal.
+use Rattle.std.specs.Prelude.{◌≡◌, ℕ, ◌/◌, ◌%◌, Bool, not, ◌==◌, Some, IsTrue}
+use Rattle.std.specs.Prelude.{if◌then◌else◌}
+use Rattle.std.specs.List.{list_any}
+use Rattle.cnf_base.specs.Literals.{Literal, Clause}
+use Rattle.theory.specs.Propagation.{Live}
+
+-- An assignment is a test on variables: those that pass are true.
+abbrev pub Assignment : Type 0
+Assignment = ℕ → Bool
+
+unfoldable pub holds : Assignment → Literal → Bool
+holds v l = if l % 2 == 0 then v (l / 2) else not (v (l / 2))
+
+-- some literal of the clause is true
+abbrev pub satisfies : Assignment → Clause → Bool
+satisfies v c = list_any (holds v) c
+
+-- every live clause has a true literal
+abbrev pub Models : Assignment → Live → Type 0
+Models v live = (k : ℕ) (c : Clause) → live k ≡ Some c → IsTrue (satisfies v c)
+
+abbrev pub HasModel : Live → Type 0
+HasModel live = (v : Assignment) × Models v live

@@ -1,0 +1,18 @@
+//! Why a step is accepted.
+
+/// Why a step was accepted.
+#[derive(Clone, Copy, Debug, PartialEq, Eq)]
+pub enum Accepted {
+    /// An added clause with reverse unit propagation.
+    Rup,
+    /// An added clause that is a resolution asymmetric tautology on its first literal.
+    Rat,
+    /// An added clause that is propagation redundant by the set that it lists.
+    Pr,
+    /// A deletion of clauses that were alive.
+    Deleted,
+    /// A deletion of a clause that was not alive.
+    Ignored,
+    /// The empty clause, by reverse unit propagation.
+    Empty,
+}
