@@ -3,12 +3,15 @@
 
     tests/refused_by.py LOG [FOLDER]    the edits of crates/*/must-fail, or those of FOLDER/*
 
-An edit says in a line `refused by: FUNCTION.CLAUSE` which clause its wrong body doesn't meet. The one clause of a function that
-has no name is called `ensures`; `loop` is the invariant of a loop whose body is wrong, `requires` the condition of a call that
-is made wrongly.
+An edit says in a line `# refused by: FUNCTION.CLAUSE` which clause its wrong body doesn't meet. A clause without a name, and all
+of a function where one proof has all, is called `ensures`; `loop` is the invariant of a loop whose body is wrong, `invariant`
+that of a type, `requires` the condition of a call that is made wrongly. An edit for a law names a lemma of the law's proof, as
+FILE.LEMMA.
 
-LOG is what rt ci or rt must-fail wrote: of each refusal it tells the first goal that stays open. Where it cuts the goal's name
-short, what is left of it has to fit. An edit that LOG doesn't tell of is left out.
+LOG is what rt ci or rt must-fail wrote: of each refusal it tells the first goal that stays open, or that its proof isn't one
+any more. Where it cuts the goal's name short, the clause has to begin as what is left of it. That a proof names what the edit
+took away is no refusal by a clause. An edit that LOG doesn't tell of is left out, and so is one that names no clause, which is
+told.
 
 The last line is "N passed, M failed".
 """
@@ -19,36 +22,28 @@ import re
 import sys
 
 ROOT = os.path.dirname(os.path.dirname(os.path.abspath(__file__)))
-SAYS = "refused by: "
+SAYS = "# refused by: "
 TOLD = re.compile(r"rt: must-fail (\w+/\S+\.edit): refused, as it must be(.*)")
-OPEN = re.compile(r"note: (\S+\.rt):(\d+):\d+: (.*)")
+OPEN = re.compile(r": note: (\S+\.rt):(\d+):\d+: (.*)")
+UNFIT = re.compile(r": \./proofs/(\S+)\.antt:\d+:\d+: error: `([^`]*)`?")
 FUNCTION = re.compile(r"\s*(?:pub(?:\(\w+\))? )?(?:const )?fn (\w+)")
-HEAD = re.compile(r"(?:pub(?:\(\w+\))? )?(?:impl|trait)\b(.*)")
 
 
 def told_in(log):
     """What the log tells of each refusal, by crate and edit."""
     with open(log, encoding="utf-8", errors="replace") as lines:
         found = (TOLD.match(line.rstrip("\n")) for line in lines)
-        return {one.group(1): one.group(2).removeprefix(": ") for one in found if one}
+        return {one.group(1): one.group(2) for one in found if one}
 
 
 def said_by(edit):
     """The clause that the edit names, if it names one."""
     with open(edit, encoding="utf-8") as lines:
-        return next((line.strip().removeprefix(SAYS) for line in lines if line.startswith(SAYS)), None)
-
-
-def type_in(head):
-    """The type whose impl, or the trait, begins so."""
-    while re.search(r"<[^<>]*>", head):
-        head = re.sub(r"<[^<>]*>", "", head)
-    found = re.match(r"\W*(?:mut )?(\w+)", head.split(" for ")[-1])
-    return found.group(1) if found else ""
+        return next((line.strip().removeprefix(SAYS) for line in lines if line.startswith(SAYS)), "")
 
 
 def function_at(path, number):
-    """The function that has this line, with the name of its type before it."""
+    """The name of the function that has this line."""
     with open(path, encoding="utf-8") as text:
         lines = text.read().split("\n")
     at = number - 1
@@ -56,33 +51,32 @@ def function_at(path, number):
         at += 1
     while at > 0 and not FUNCTION.match(lines[at]):
         at -= 1
-    name = FUNCTION.match(lines[at]).group(1)
-    if not lines[at].startswith(" "):
-        return name
-    head = next((HEAD.match(line) for line in reversed(lines[:at]) if HEAD.match(line)), None)
-    return f"{type_in(head.group(1))}::{name}" if head else name
+    return FUNCTION.match(lines[at]).group(1)
 
 
 def clause_of(goal):
     """The clause that the goal's name has."""
     if "-clause-" in goal:
         return goal.rsplit("-clause-", 1)[1].split("-")[0]
-    return "loop" if "loop-" in goal else "requires" if "requires" in goal else "ensures"
+    kinds = [kind for kind in ("loop", "invariant", "requires") if re.match(rf"(.*-)?{kind}", goal)]
+    return kinds[0] if kinds else "ensures"
 
 
-def fits(said, folder, told):
-    """Whether what is told of a refusal is of the clause that the edit names, and what it is of."""
+def refuser(folder, told):
+    """The clause that is told to refuse, and whether it is told whole; nothing where no clause is."""
+    unfit = UNFIT.match(told)
+    if unfit:
+        path, goal = unfit.group(1).split("/"), unfit.group(2)
+        of_a_function = path[-1] in ("Answers", "Invariants")
+        return (f"{path[-2]}.{clause_of(goal)}" if of_a_function else f"{path[-1]}.{goal}"), True
     place = OPEN.match(told)
     if not place:
-        return False, told or "no goal"
+        return "", True
     path, number, rest = place.groups()
+    goal, is_whole = (re.findall(r"`([^`]*)(`?)", rest) or [("", "")])[0]
     function = function_at(f"{folder}/{path}", int(number))
-    goal = re.search(r"\(`([^`]*)`", rest)
-    if goal:
-        found = f"{function}.{clause_of(goal.group(1))}"
-        return said == found, found
-    # cut short: the function is known, and how the goal's name begins
-    return said.split(".")[0] == function, f"{function}, at a goal that is cut short"
+    is_known = is_whole or "-clause-" in goal
+    return f"{function}.{clause_of(goal) if is_known else ''}", bool(is_whole)
 
 
 def main(log, folder):
@@ -94,10 +88,14 @@ def main(log, folder):
         if name not in told:
             continue
         said = said_by(path)
-        well, found = fits(said or "", f"{ROOT}/crates/{name.split('/')[0]}", told[name])
+        if not said:
+            print(f"{name} names no clause")
+            continue
+        found, is_whole = refuser(f"{ROOT}/crates/{name.split('/')[0]}", told[name])
+        well = bool(found) and (said == found if is_whole else said.startswith(found))
         passed, failed = passed + well, failed + (not well)
         if not well:
-            print(f"FAILED: {name} is refused by {found}, and says {said}")
+            print(f"FAILED: {name} says {said}, and is refused by {found or told[name]}")
     print(f"{passed} passed, {failed} failed")
     return 0 if passed and not failed else 1
 
