@@ -7,12 +7,12 @@ use std::alloc::Global;
 use std::io::{self, Read};
 use steps::{Accepted, LratSession, ProofSession, Refusal};
 
-const TEXT: [u8; 42] = *b"10000000 1 -2 0 1 0\n10000000 d 10000000 0\n";
+const TEXT: [u8; 36] = *b"100000 1 -2 0 1 0\n100000 d 100000 0\n";
 
 /// The two steps of a pair. From pair to pair the identifier rises.
 #[derive(Drop)]
 struct Pairs {
-    text: [u8; 42],
+    text: [u8; 36],
     given: usize,
     // How many of its digits there are up to the one that rises by one.
     digits: usize,
@@ -24,7 +24,7 @@ impl Pairs {
         Pairs {
             text: TEXT,
             given: 0,
-            digits: if times > 1000 { 8 } else { 6 },
+            digits: if times > 1000 { 6 } else { 4 },
         }
     }
 }
@@ -43,7 +43,7 @@ fn rise(digits: &mut [u8]) {
 impl Read for Pairs {
     fn read(&mut self, buf: &mut [u8]) -> io::Result<usize> {
         if self.given >= self.text.len() {
-            for at in [0, 20, 31] {
+            for at in [0, 18, 27] {
                 if let Some(digits) = self.text.get_mut(at..self.digits.saturating_add(at)) {
                     rise(digits);
                 }
