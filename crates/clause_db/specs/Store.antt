@@ -1,10 +1,25 @@
--- The parts of a store, and what is seen of it.
-pub mod Buckets
-pub mod Clauses
-pub mod Entries
-pub mod Fields
-pub mod Hashes
-pub mod Ids
-pub mod Index
-pub mod Indexed
-pub mod LiteralMarks
+-- What a store is seen as; sums over the clauses of a store.
+use Rattle.std.specs.FinMap as maps
+use Rattle.std.specs.FinMap.{FinMap}
+use Rattle.std.specs.Ordering.{nat_cmp}
+use Rattle.std.specs.Prelude.{ℕ, sum_by, if◌then◌else◌}
+use Rattle.cnf_base.specs.Literals.{Clause, size, Literal, has}
+
+-- a store, as its callers see it
+pub record StoreState : Type 0 where
+  -- the live clauses, each in its slot
+  pub live : FinMap nat_cmp Clause
+  -- the sum of the lengths of all lists of literals that it keeps
+  pub stored : ℕ
+
+-- the sum of the weights of the clauses, each as often as it is stored
+abbrev pub sum_over : (Clause → ℕ) → FinMap nat_cmp Clause → ℕ
+sum_over weight clauses = sum_by weight (maps.values clauses)
+
+-- the sum of the sizes of the clauses
+abbrev pub literals_in : FinMap nat_cmp Clause → ℕ
+literals_in clauses = sum_over size clauses
+
+-- how many of the clauses have the literal
+abbrev pub copies_with : FinMap nat_cmp Clause → Literal → ℕ
+copies_with clauses l = sum_over (λ c. if has c l then 1 else 0) clauses

@@ -9,13 +9,15 @@ mod marks;
 mod search;
 pub(crate) mod slot;
 
-ghost use Rattle.std.specs.Prelude.{◌≡◌, ◌≢◌, ℕ, ◌+◌, ◌-◌, ◌<◌, ◌≤◌, ◌==◌, ◌++◌, [], ◌∷◌, ◌^◌, min, true, false, Some, None, option_map, length, if◌then◌else◌, IsTrue, IsSome, IfSome, IfNone, IfOk, OnOk, OnErr};
+ghost use Rattle.std.specs.Prelude.{◌≡◌, ◌≢◌, ℕ, ◌+◌, ◌-◌, ◌<◌, ◌≤◌, ◌==◌, ◌++◌, [], ◌∷◌, ◌^◌, min};
+ghost use Rattle.std.specs.Prelude.{true, false, Some, None, option_map, length, if◌then◌else◌};
+ghost use Rattle.std.specs.Prelude.{IsTrue, IsSome, IfSome, IfNone, IfOk, OnOk, OnErr};
 ghost use Rattle.std.specs.List.{swap};
 ghost use Rattle.std.specs.FinMap as maps;
 ghost use Rattle.cnf_base.specs.Literals.{Clause, has, same_clause, size};
 ghost use Rattle.slab.specs.Slab.{slab_len, HasRoomFor};
-ghost use Rattle.clause_db.specs.Store.Clauses.{literals_in, copies_with};
-ghost use Rattle.clause_db.specs.Store.LiteralMarks.{is_marked, mark_count};
+ghost use Rattle.clause_db.specs.Store.{literals_in, copies_with};
+ghost use Rattle.clause_db.specs.Code.LiteralMarks.{is_marked, mark_count};
 ghost use Rattle.tables.specs.Table.{at};
 
 use crate::Slot;
@@ -46,9 +48,10 @@ pub struct Store<I: Indexing = Index> {
 }
 
 impl<I: Indexing> Model for Store<I> {
-    ghost use Rattle.clause_db.specs.Store.Clauses.{StoreState, store_code};
-    ghost use Rattle.clause_db.specs.Store.Entries.{clauses_in, literals_kept};
-    ghost use Rattle.clause_db.specs.Store.Fields.{IsStore};
+    ghost use Rattle.clause_db.specs.Store.{StoreState};
+    ghost use Rattle.clause_db.specs.Code.Fields.{store_code};
+    ghost use Rattle.clause_db.specs.Code.Entries.{clauses_in, literals_kept};
+    ghost use Rattle.clause_db.specs.Code.Fields.{IsStore};
 
     ghost Value = { StoreState };
 

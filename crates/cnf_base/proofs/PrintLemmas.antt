@@ -10,7 +10,8 @@ use Rattle.std.proofs.lemmas.Fmt.{decimal_digit, decimal_nonempty, first_decimal
 use Rattle.std.proofs.lemmas.Str.Parse.{IsDigitsTest, IsNumeralModel, numerals_by_fold}
 use Rattle.cnf_base.specs.Literals.{Literal, variable}
 use Rattle.cnf_base.specs.Printing.{input_of, words_line, is_literal, literal_text}
-use Rattle.cnf_base.specs.Text.{is_separator, col_after, line_after, col_along, is_comment, listed, with_front, Listing, listing_at}
+use Rattle.cnf_base.specs.Text.{is_separator, col_after, line_after, is_comment, listed, with_front, Listing, listing_at}
+use Rattle.cnf_base.specs.Code.Text.{col_along}
 use Rattle.cnf_base.specs.Words.{is_digit, is_counting, decimal_value, size_of, number, number_literal, word_of}
 use Rattle.cnf_base.specs.declared.input.Ending.TheVariants.{End}
 use Rattle.cnf_base.specs.declared.place.Place.{Place}

@@ -3,10 +3,12 @@ use Rattle.std.proofs.Common.{◌≡◌, ℕ, ◌<◌, ◌≤◌, ◌==◌, cond
 use Rattle.std.specs.Prelude.{slice_index, slice_range, ◌-◌, ◌&&◌, Result, Ok, Err, IsErr}
 use Rattle.cnf_base.specs.declared.input.ReadFailed.{ReadFailed}
 use Rattle.std.proofs.lemmas.Bool.Decides.{nat_tests}
-use Rattle.cnf_base.specs.Stream.{Input, Stream, Along, IsLook, bumped, skipped, more_count, next_count, most_to_come, place_after, tells_failure}
-use Rattle.cnf_base.specs.Text.{is_separator, is_comment, col_after, line_after, col_along, listed, with_front, skips_at, comment_at, listing_at, FailsAt}
+use Rattle.cnf_base.specs.Stream.{Input, Stream, Along, IsLook, bumped, more_count, next_count, most_to_come, place_after, tells_failure}
+use Rattle.cnf_base.specs.Code.Stream.{skipped}
+use Rattle.cnf_base.specs.Text.{is_separator, is_comment, col_after, line_after, listed, with_front, skips_at, listing_at}
+use Rattle.cnf_base.specs.Code.Text.{col_along, comment_at, FailsAt}
 use Rattle.cnf_base.specs.Words.{word_of}
-use Rattle.cnf_base.specs.Whole.{IsWholeNumber}
+use Rattle.cnf_base.specs.Code.Whole.{IsWholeNumber}
 use Rattle.cnf_base.specs.declared.word.Number.{Number}
 use Rattle.cnf_base.specs.declared.word.Word.TheVariants as words
 use Rattle.std.proofs.lemmas.List.{length-take-le, take_all}

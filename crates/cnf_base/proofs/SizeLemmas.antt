@@ -4,7 +4,8 @@ use Rattle.std.proofs.Common.{cond, eqb, eqb-true, [], ◌∷◌, ◌++◌, leng
 use Rattle.std.proofs.Common.{zero, suc, refl, sym, ap, ◌∙◌, subst, arith, inl, inr}
 use Rattle.std.proofs.lemmas.Bool.{false≢true, true≢false, cases_Bool, eqb-false}
 use Rattle.std.proofs.lemmas.Bool.{false_from_ne_true}
-use Rattle.cnf_base.specs.Literals.{Literal, Clause, has, without, size, sum_distinct}
+use Rattle.cnf_base.specs.Literals.{Literal, Clause, has, without, size}
+use Rattle.cnf_base.specs.Code.Literals.{sum_distinct}
 use Rattle.cnf_base.proofs.SetLemmas.{both_pass, has_head, has_tail, has_cases, has_append_left}
 use Rattle.cnf_base.proofs.SetLemmas.{has_append_right, has_append_cases, has-without, without_has}
 

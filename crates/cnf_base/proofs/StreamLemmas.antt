@@ -5,7 +5,8 @@ use Rattle.std.specs.Io.KnownBytes.{Consumes, Keeps, IsAtEnd}
 use Rattle.std.proofs.KnownBytes.{Consumes-nil, Consumes-trans, Consumes-kept}
 use Rattle.std.proofs.lemmas.Grind.{common_steps}
 use Rattle.std.proofs.lemmas.List.{drop-drop, drop-take, take-append-drop}
-use Rattle.cnf_base.specs.Stream.{Input, Reader, Stream, MayGive, MayFollow, MayCome, Meets, Moves, Along, IsLook, IsSilent, is_failure, tells_failure, bumped, skipped, bytes_read, most_to_come, preceded}
+use Rattle.cnf_base.specs.Stream.{Input, Reader, Stream, MayGive, MayFollow, MayCome, Meets, Moves, Along, IsLook, IsSilent, is_failure, tells_failure, bumped, bytes_read, most_to_come, preceded}
+use Rattle.cnf_base.specs.Code.Stream.{skipped}
 use Rattle.cnf_base.specs.declared.input.Ending.{Ending}
 use Rattle.cnf_base.specs.declared.input.Ending.TheVariants.{End, Failed}
 

@@ -6,7 +6,8 @@ use Rattle.std.proofs.lemmas.Bool.{and_parts}
 use Rattle.cnf_base.specs.Stream.{more_count}
 use Rattle.std.proofs.lemmas.Bool.Decides.{nat_tests}
 use Rattle.cnf_base.specs.Words.{word_of}
-use Rattle.cnf_base.specs.Text.{is_separator, col_after, line_after, col_along, Spot, spot, one_on, next_line, along, Listed, listed, words_of, but_last, is_comment, line_tokens, last_tokens, with_front, Listing, lines_listing, lines_of, comment_at, skips_at, listing_at}
+use Rattle.cnf_base.specs.Text.{is_separator, col_after, line_after, Spot, spot, one_on, next_line, along, Listed, listed, words_of, but_last, is_comment, line_tokens, last_tokens, with_front, Listing, lines_listing, lines_of, skips_at, listing_at}
+use Rattle.cnf_base.specs.Code.Text.{col_along, comment_at}
 use Rattle.cnf_base.specs.declared.input.Ending.{Ending}
 use Rattle.cnf_base.specs.declared.input.Ending.TheVariants.{End, Failed}
 use Rattle.cnf_base.specs.declared.place.Place.{Place}

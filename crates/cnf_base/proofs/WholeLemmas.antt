@@ -11,8 +11,8 @@ use Rattle.std.proofs.lemmas.Bool.Decides.{nat_tests}
 use Rattle.std.proofs.lemmas.Grind.{common_steps}
 use Rattle.cnf_base.specs.Text.{is_separator}
 use Rattle.cnf_base.specs.Words.{is_digit, is_counting, decimal_after, decimal_value, size_of, word_of}
-use Rattle.cnf_base.specs.Digits.{digits_word, AreDigits}
-use Rattle.cnf_base.specs.Whole.{is_inner, IsEnded, IsWholeNumber, AreWholeDigits, GoOn}
+use Rattle.cnf_base.specs.Code.Digits.{digits_word, AreDigits}
+use Rattle.cnf_base.specs.Code.Whole.{is_inner, IsEnded, IsWholeNumber, AreWholeDigits, GoOn}
 use Rattle.cnf_base.specs.declared.scanner.digits.Digits.{Digits}
 use Rattle.cnf_base.specs.declared.scanner.digits.Digits.TheVariants.{Counting}
 use Rattle.cnf_base.specs.declared.word.Number.{Number}

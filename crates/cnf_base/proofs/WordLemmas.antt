@@ -6,7 +6,7 @@ use Rattle.std.specs.Str.{bytes_eq}
 use Rattle.std.proofs.lemmas.Grind.{fold-append}
 use Rattle.std.proofs.lemmas.Bool.Decides.{nat_tests}
 use Rattle.cnf_base.specs.Words.{is_digit, is_counting, decimal_value, size_of, number, number_of, fixed_word, number_or, word_of}
-use Rattle.cnf_base.specs.Digits.{with_byte, digits_word, begins_number, first_digits, AreDigits}
+use Rattle.cnf_base.specs.Code.Digits.{with_byte, digits_word, begins_number, first_digits, AreDigits}
 use Rattle.cnf_base.specs.declared.scanner.digits.Digits.{Digits}
 use Rattle.cnf_base.specs.declared.scanner.digits.Digits.TheVariants.{Nothing, Zero, Counting, NoNumber}
 use Rattle.cnf_base.specs.declared.word.Word.{Word}

@@ -2,11 +2,10 @@ pub mod Literals
 pub mod Marks
 pub mod Stream
 pub mod Words
-pub mod Digits
 pub mod Text
 pub mod Grammar
-pub mod Whole
 pub mod Lines
 pub mod Readers
 pub mod Seen
 pub mod Printing
+pub mod Code

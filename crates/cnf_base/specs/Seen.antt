@@ -1,9 +1,9 @@
 -- What a run saw of a reader.
-use Rattle.std.specs.Prelude.{◌≡◌, ◌⊎◌, ℕ, ◌+◌, true, ◌||◌, List, length, Option, Some}
 use Rattle.std.specs.Io.KnownBytes.{Consumes, IsAtEnd}
-use Rattle.cnf_base.specs.Stream.{Input, Reader, IsSilent, is_failure, tells_failure, MayGive, MayFollow}
-use Rattle.cnf_base.specs.declared.input.Ending.{Ending}
+use Rattle.std.specs.Prelude.{◌≡◌, ℕ, ◌+◌, ◌||◌, List, length, Option, Some, ◌⊎◌, true}
+use Rattle.cnf_base.specs.Stream.{Reader, IsSilent, is_failure, tells_failure, Input, MayFollow, MayGive}
 use Rattle.cnf_base.specs.declared.input.Ending.TheVariants.{End}
+use Rattle.cnf_base.specs.declared.input.Ending.{Ending}
 
 -- All bytes that the reader handed out in a run, and the input's end where it was met. The bytes are those that the
 -- reader lost, and so many less may still be read of it, also where they aren't known. The end was met only
@@ -23,11 +23,6 @@ pub record Seen (old new : Reader) : Type 0 where
 -- on in any way that the reader still may; where the end was met it is those bytes and that end.
 abbrev pub IsSeen : {old new : Reader} → Seen old new → Input → Type 0
 IsSeen {old} {new} seen i = MayFollow seen.met new.left seen.handed i.bytes i.ending
-
--- What a run saw of a reader, and a fact of each input that this may be.
-pub record OfSeen (old new : Reader) (Fact : Input → Type 0) : Type 0 where
-  pub seen : Seen old new
-  pub fact : (i : Input) → IsSeen seen i → Fact i
 
 -- The same of two readers: the fact is of one and the same pair of inputs.
 pub record OfBothSeen (old new also_old also_new : Reader) (Fact : Input → Input → Type 0) : Type 0 where

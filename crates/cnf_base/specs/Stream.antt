@@ -1,10 +1,10 @@
 -- Whole inputs, and what is known of an input while it is read.
-use Rattle.std.specs.Prelude.{◌≡◌, ℕ, ◌+◌, ◌^◌, ◌-◌, ◌<◌, ◌≤◌, ◌==◌, min, if◌then◌else◌, Bool, true, false, List, [], ◌++◌, length, drop, slice_index, Option, None, Some, Result, Ok, Err}
-use Rattle.std.specs.Io.KnownBytes.{Consumes, IsAtEnd}
-use Rattle.cnf_base.specs.declared.input.Ending.{Ending}
+use Rattle.std.specs.Io.KnownBytes.{IsAtEnd, Consumes}
+use Rattle.std.specs.Prelude.{ℕ, List, Option, Bool, true, false, None, Some, ◌≡◌, [], ◌-◌, ◌++◌, ◌<◌, length, slice_index, Result, Ok, Err, ◌+◌, ◌^◌, min, ◌==◌, if◌then◌else◌, drop, ◌≤◌}
 use Rattle.cnf_base.specs.declared.input.Ending.TheVariants.{End, Failed}
-use Rattle.cnf_base.specs.declared.place.Place.{Place}
+use Rattle.cnf_base.specs.declared.input.Ending.{Ending}
 use Rattle.cnf_base.specs.declared.input.ReadFailed.{ReadFailed}
+use Rattle.cnf_base.specs.declared.place.Place.{Place}
 
 -- an input: its bytes, and how it ends
 pub record Input : Type 0 where
@@ -83,39 +83,10 @@ place_after b p = if b == 10 then record { line = next_count p.line; col = 1 } e
 abbrev pub bumped : Stream → Stream
 bumped s = record s { ahead = drop 1 s.ahead; place = place_after (slice_index s.ahead 0) s.place; byte_no = next_count s.byte_no }
 
--- the source with so many bytes of a line taken
-abbrev pub skipped : ℕ → Stream → Stream
-skipped n s = record s {
-  ahead = drop n s.ahead;
-  place = record { line = s.place.line; col = more_count s.place.col n };
-  byte_no = more_count s.byte_no n;
-}
-
 -- a source of which nothing was read
 abbrev pub unread_stream : Reader → List ℕ → Stream
 unread_stream reader borrows =
     record { ahead = []; met = None; reader = reader; borrows = borrows; place = record { line = 1; col = 1 }; byte_no = 1 }
-
--- what was met is what the reader gave
-abbrev pub IsMet : Option Ending → Reader → Type 0
-IsMet None reader = Unit {0}
-IsMet (Some End) reader = IsAtEnd reader.left × (reader.over ≡ Some End)
-IsMet (Some Failed) reader = reader.over ≡ Some Failed
-
--- nothing is held past the end
-abbrev pub IsUsedUp : Option Ending → ℕ → ℕ → Type 0
-IsUsedUp None at end = Unit {0}
-IsUsedUp (Some met) at end = at ≡ end
-
--- what is true of the fields of a source
-pub record IsSource (piece : List ℕ) (from at end : ℕ) (met : Option Ending) (reader : Reader) (col : ℕ) : Type 0 where
-  pub behind : from ≤ at
-  pub ordered : at ≤ end
-  pub within : end ≤ length piece
-  pub size : length piece ≡ 65536
-  pub known : IsMet met reader
-  pub used_up : IsUsedUp met at end
-  pub from_one : 0 < col
 
 -- so many bytes may still be taken at most
 abbrev pub most_to_come : Stream → ℕ

@@ -1,16 +1,16 @@
 -- A text as lines of tokens (our own profile of DIMACS): a line that begins with `c` is a comment, a token is a longest run
 -- of bytes without a separator, and it counts only where a separator or the end of the input follows it.
-use Rattle.std.specs.Prelude.{◌≡◌, ℕ, zero, suc, ◌<◌, ◌≤◌, ◌==◌, ◌&&◌, ◌||◌, Bool, true, false, List, [], ◌∷◌, ◌++◌, length, Result, Ok, Err}
 use Rattle.std.specs.List.{slice_split}
-use Rattle.cnf_base.specs.Stream.{Input, Stream, next_count, most_to_come}
+use Rattle.std.specs.Prelude.{ℕ, ◌==◌, ◌||◌, Bool, zero, suc, List, [], ◌∷◌, false, true, ◌++◌, ◌&&◌, length, ◌≡◌, Result, Ok, Err, ◌<◌, ◌≤◌}
+use Rattle.cnf_base.specs.Stream.{next_count, Input, Stream, most_to_come}
 use Rattle.cnf_base.specs.Words.{word_of}
-use Rattle.cnf_base.specs.declared.input.Ending.{Ending}
 use Rattle.cnf_base.specs.declared.input.Ending.TheVariants.{End, Failed}
+use Rattle.cnf_base.specs.declared.input.Ending.{Ending}
 use Rattle.cnf_base.specs.declared.input.ReadFailed.{ReadFailed}
 use Rattle.cnf_base.specs.declared.place.Place.{Place}
-use Rattle.cnf_base.specs.declared.word.Word.{Word}
 use Rattle.cnf_base.specs.declared.token.Token as tokens
 use Rattle.cnf_base.specs.declared.token.Token.TheVariants as token
+use Rattle.cnf_base.specs.declared.word.Word.{Word}
 
 -- space, tab, CR and LF
 abbrev pub is_separator : ℕ → Bool
@@ -23,11 +23,6 @@ col_after p = record { line = p.line; col = next_count p.col }
 -- the start of the next line
 abbrev pub line_after : Place → Place
 line_after p = record { line = next_count p.line; col = 1 }
-
--- the place after these bytes of a line
-abbrev pub col_along : Place → List ℕ → Place
-col_along p [] = p
-col_along p (b ∷ bs) = col_along (col_after p) bs
 
 -- a place of an input, and how many bytes of the input come from there on
 pub record Spot : Type 0 where
@@ -108,10 +103,6 @@ lines_listing skips s (line ∷ next ∷ lines) ending =
 abbrev pub lines_of : List ℕ → List (List ℕ)
 lines_of bytes = slice_split (λ b. b == 10) bytes
 
--- the rest of a comment and what follows it, from a place on
-abbrev pub comment_at : Place → Input → Listing
-comment_at p i = lines_listing true (spot p (length i.bytes)) (lines_of i.bytes) i.ending
-
 -- at the start of a line the first line may be a comment
 abbrev pub skips_at : Place → List ℕ → Bool
 skips_at p bytes = (p.col == 1) && is_comment bytes
@@ -135,13 +126,3 @@ abbrev pub MovesOn : Result tokens.Token ReadFailed → Stream → Stream → Ty
 MovesOn (Ok (token.End _)) old new = most_to_come new ≤ most_to_come old
 MovesOn (Ok _) old new = most_to_come new < most_to_come old
 MovesOn (Err _) old new = most_to_come new ≤ most_to_come old
-
--- a word is the first of a text, unless a failed read cuts it
-abbrev pub GivesWord : Result Word ReadFailed → Place → Listing → Listing → Input → Type 0
-GivesWord (Ok word) p before after rest = before ≡ with_front (listed (token.Word p word) (length rest.bytes) ∷ []) after
-GivesWord (Err _) p before after rest = (before ≡ after) × (before.tokens ≡ []) × (before.ending ≡ Failed)
-
--- a failure leaves nothing to come
-abbrev pub FailsAt : {A : Type 0} → Result A ReadFailed → Input → Type 0
-FailsAt (Ok _) i = Unit {0}
-FailsAt (Err _) i = i ≡ record { bytes = []; ending = Failed }

@@ -64,7 +64,7 @@ pub struct FromRead<R: Read> {
 }
 
 impl<R: Read> Model for FromRead<R> {
-    ghost use Rattle.cnf_base.specs.Marks.{ending_of, IsKept};
+    ghost use Rattle.cnf_base.specs.Code.Marks.{ending_of, IsKept};
     ghost use Rattle.cnf_base.specs.Stream.{Reader};
 
     ghost Value = { Reader };

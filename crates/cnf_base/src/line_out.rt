@@ -1,7 +1,8 @@
 //! Lines out.
 ghost use Rattle.std.specs.Prelude.{◌≡◌, true, false, [], ◌∷◌, ◌++◌, Bool, List, ℕ, IsTrue, OnOk, OnErr};
 ghost use Rattle.std.specs.Io.KnownBytes.{Appends};
-ghost use Rattle.cnf_base.specs.Lines.{Writes, AppendsPart, unbroken_sink, line_of};
+ghost use Rattle.cnf_base.specs.Lines.{Writes, unbroken_sink, line_of};
+ghost use Rattle.cnf_base.specs.Code.Lines.{AppendsPart};
 
 use crate::{Out, WriteFailed};
 use std::marker::Model;

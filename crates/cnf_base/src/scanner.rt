@@ -1,8 +1,9 @@
 //! A text's tokens, with their places.
 ghost use Rattle.std.specs.Prelude.{◌≡◌, ◌<◌, ◌≤◌, ◌==◌, ◌&&◌, true, false, [], ◌∷◌, Ok, IfSome, IfNone, OnOk, OnErr, length, slice_index};
 ghost use Rattle.cnf_base.specs.Stream.{Along, most_to_come, tells_failure};
-ghost use Rattle.cnf_base.specs.Digits.{begins_number, first_digits};
-ghost use Rattle.cnf_base.specs.Text.{Gives, GivesWord, FailsAt, is_separator, skips_at, listing_at, comment_at, MovesOn};
+ghost use Rattle.cnf_base.specs.Code.Digits.{begins_number, first_digits};
+ghost use Rattle.cnf_base.specs.Text.{Gives, is_separator, skips_at, listing_at, MovesOn};
+ghost use Rattle.cnf_base.specs.Code.Text.{GivesWord, FailsAt, comment_at};
 
 mod digits;
 mod name;

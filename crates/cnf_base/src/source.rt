@@ -2,7 +2,8 @@
 ghost use Rattle.std.specs.Prelude.{◌≡◌, ◌≢◌, ◌+◌, ◌<◌, ◌≤◌, ◌==◌, true, false, [], length, slice_index, take, Some, IsSome, IfSome, IfNone, IfOk, IfErr, OnOk, OnErr};
 ghost use Rattle.std.specs.Io.KnownBytes.{Keeps, Consumes, IsAtEnd};
 ghost use Rattle.cnf_base.specs.Stream.{IsLook, IsSilent, Shows, most_to_come, tells_failure};
-ghost use Rattle.cnf_base.specs.Stream.{bumped, skipped, unread_stream};
+ghost use Rattle.cnf_base.specs.Stream.{bumped, unread_stream};
+ghost use Rattle.cnf_base.specs.Code.Stream.{skipped};
 
 use crate::{Ending, In, OutOfMemory, Piece, Place, ReadFailed};
 use std::alloc::Global;
@@ -26,7 +27,8 @@ pub struct Source<R: In> {
 
 impl<R: In> Model for Source<R> {
     ghost use Rattle.std.specs.Prelude.{◌-◌, slice_range};
-    ghost use Rattle.cnf_base.specs.Stream.{Stream, IsSource, more_count};
+    ghost use Rattle.cnf_base.specs.Stream.{Stream, more_count};
+    ghost use Rattle.cnf_base.specs.Code.Stream.{IsSource};
 
     ghost Value = { Stream };
 

@@ -19,17 +19,15 @@ use Rattle.cnf_base.specs.declared.fault.Fault.TheVariants.{Text, Binary, ReadFa
 use Rattle.cnf_base.specs.declared.fault.TextFault.TheVariants.{BadToken, BadLine, SecondStatus, NotClaimed, AfterEnd, Complement, LiteralTooLarge}
 use Rattle.cnf_base.proofs.StreamLemmas.{Along-then, Along-map}
 use Rattle.dimacs.specs.Formula.{and_then}
-use Rattle.dimacs.specs.Claim.{Said, on_first, on_status, on_literal, on_value, claim_on_word, on_line_end, claim_at_end, placed, claim_on_token, on_end, claim_among, claim_after, IsClaim}
-use Rattle.dimacs.specs.Claiming.{with_listed, ComesTo, Takes}
-use Rattle.dimacs.specs.declared.position.Position.{Position}
-use Rattle.dimacs.specs.declared.position.Position.TheVariants.{LineStart, AfterS, AfterStatus, Values}
+use Rattle.dimacs.specs.Claim.{LinePosition, at_line_start, after_s, after_status, in_values, Said, on_first, on_status, on_literal, on_value, claim_on_word, on_line_end, claim_at_end, placed, claim_on_token, on_end, claim_among, claim_after, IsClaim}
+use Rattle.dimacs.specs.Code.Claiming.{with_listed, ComesTo, Takes}
 
 -- ---- Only the set of the listed literals counts
 
 abbrev Same : List Literal → List Literal → Type 0
 Same xs ys = (l : Literal) → has xs l ≡ has ys l
 
-abbrev said : Position → Bool → Bool → List Literal → Said
+abbrev said : LinePosition → Bool → Bool → List Literal → Said
 said position has_status is_ended ls = record { position = position; has_status = has_status; is_ended = is_ended; listed = ls }
 
 -- the same fault, or the same said with the same set
@@ -38,51 +36,51 @@ data Alike : Result Said Fault → Result Said Fault → Type 0 where
   neither : (f : Fault) → Alike (Err f) (Err f)
 
 module _ (place : Place) (xs ls : List Literal) (same : Same xs ls) where
-  first_alike : (p : Position) (h e : Bool) (w : Word) → Alike (placed place (on_first (said p h e xs) w)) (placed place (on_first (said p h e ls) w))
+  first_alike : (p : LinePosition) (h e : Bool) (w : Word) → Alike (placed place (on_first (said p h e xs) w)) (placed place (on_first (said p h e ls) w))
   first_alike p true e words.S = neither (Text SecondStatus place)
-  first_alike p false e words.S = both (said AfterS false e xs) ls same
-  first_alike p h e words.V = both (said Values h e xs) ls same
+  first_alike p false e words.S = both (said after_s false e xs) ls same
+  first_alike p h e words.V = both (said in_values h e xs) ls same
   first_alike p h e _ = neither (Text BadLine place)
 
-  status_alike : (p : Position) (h e : Bool) (w : Word) → Alike (placed place (on_status (said p h e xs) w)) (placed place (on_status (said p h e ls) w))
-  status_alike p h e words.Satisfiable = both (said AfterStatus true e xs) ls same
+  status_alike : (p : LinePosition) (h e : Bool) (w : Word) → Alike (placed place (on_status (said p h e xs) w)) (placed place (on_status (said p h e ls) w))
+  status_alike p h e words.Satisfiable = both (said after_status true e xs) ls same
   status_alike p h e words.Unsatisfiable = neither (Text NotClaimed place)
   status_alike p h e words.Unknown = neither (Text NotClaimed place)
   status_alike p h e _ = neither (Text BadLine place)
 
-  listed_alike : (p : Position) (h e : Bool) (l : Literal) (a b : Bool) → a ≡ b
+  listed_alike : (p : LinePosition) (h e : Bool) (l : Literal) (a b : Bool) → a ≡ b
       → Alike (placed place (cond a (Err Complement) (Ok (said p h e (l ∷ xs))))) (placed place (cond b (Err Complement) (Ok (said p h e (l ∷ ls)))))
   listed_alike p h e l true true q = neither (Text Complement place)
   listed_alike p h e l false false q = both (said p h e (l ∷ xs)) (l ∷ ls) (λ k. ap (λ b. eqb l k || b) (same k))
   listed_alike p h e l true false q = absurd (true≢false q)
   listed_alike p h e l false true q = absurd (false≢true q)
 
-  literal_alike : (p : Position) (h e : Bool) (o : Option Literal) → Alike (placed place (on_literal (said p h e xs) o)) (placed place (on_literal (said p h e ls) o))
+  literal_alike : (p : LinePosition) (h e : Bool) (o : Option Literal) → Alike (placed place (on_literal (said p h e xs) o)) (placed place (on_literal (said p h e ls) o))
   literal_alike p h e None = both (said p h true xs) ls same
   literal_alike p h e (Some l) = listed_alike p h e l (has xs (complement l)) (has ls (complement l)) (same (complement l))
 
-  number_alike : (p : Position) (h e fits ended : Bool) (o : Option Literal)
+  number_alike : (p : LinePosition) (h e fits ended : Bool) (o : Option Literal)
       → Alike (placed place (cond fits (cond ended (Err AfterEnd) (on_literal (said p h e xs) o)) (Err LiteralTooLarge)))
       (placed place (cond fits (cond ended (Err AfterEnd) (on_literal (said p h e ls) o)) (Err LiteralTooLarge)))
   number_alike p h e false ended o = neither (Text LiteralTooLarge place)
   number_alike p h e true true o = neither (Text AfterEnd place)
   number_alike p h e true false o = literal_alike p h e o
 
-  value_alike : (p : Position) (h e : Bool) (w : Word) → Alike (placed place (on_value (said p h e xs) w)) (placed place (on_value (said p h e ls) w))
+  value_alike : (p : LinePosition) (h e : Bool) (w : Word) → Alike (placed place (on_value (said p h e xs) w)) (placed place (on_value (said p h e ls) w))
   value_alike p h e (words.Number n) = number_alike p h e (nat_le n.size 268435455) e (number_literal n)
   value_alike p h e _ = neither (Text BadToken place)
 
-  word_alike : (p : Position) (h e : Bool) (w : Word) → Alike (placed place (claim_on_word (said p h e xs) w)) (placed place (claim_on_word (said p h e ls) w))
-  word_alike LineStart h e w = first_alike LineStart h e w
-  word_alike AfterS h e w = status_alike AfterS h e w
-  word_alike AfterStatus h e w = neither (Text BadLine place)
-  word_alike Values h e w = value_alike Values h e w
+  word_alike : (p : LinePosition) (h e : Bool) (w : Word) → Alike (placed place (claim_on_word (said p h e xs) w)) (placed place (claim_on_word (said p h e ls) w))
+  word_alike at_line_start h e w = first_alike at_line_start h e w
+  word_alike after_s h e w = status_alike after_s h e w
+  word_alike after_status h e w = neither (Text BadLine place)
+  word_alike in_values h e w = value_alike in_values h e w
 
-  line_alike : (p : Position) (h e : Bool) → Alike (placed place (on_line_end (said p h e xs))) (placed place (on_line_end (said p h e ls)))
-  line_alike AfterS h e = neither (Text BadLine place)
-  line_alike LineStart h e = both (said LineStart h e xs) ls same
-  line_alike AfterStatus h e = both (said LineStart h e xs) ls same
-  line_alike Values h e = both (said LineStart h e xs) ls same
+  line_alike : (p : LinePosition) (h e : Bool) → Alike (placed place (on_line_end (said p h e xs))) (placed place (on_line_end (said p h e ls)))
+  line_alike after_s h e = neither (Text BadLine place)
+  line_alike at_line_start h e = both (said at_line_start h e xs) ls same
+  line_alike after_status h e = both (said at_line_start h e xs) ls same
+  line_alike in_values h e = both (said at_line_start h e xs) ls same
 
 token_alike : (s : Said) (ls : List Literal) (t : tokens.Token) → Same s.listed ls → Alike (claim_on_token s t) (claim_on_token (with_listed ls s) t)
 token_alike s ls (token.Word place w) same = word_alike place s.listed ls same s.position s.has_status s.is_ended w
@@ -107,7 +105,7 @@ claims_same xs ls same (Err ReadFailed) x = absurd (let bad : Ok xs ≡ Err Read
 claims_same xs ls same (Err (Text f p)) x = absurd (let bad : Ok xs ≡ Err (Text f p) = x in cc)
 claims_same xs ls same (Err (Binary f n)) x = absurd (let bad : Ok xs ≡ Err (Binary f n) = x in cc)
 
-concluded_alike : (place : Place) (p : Position) (h e : Bool) (xs ls : List Literal) → Same xs ls
+concluded_alike : (place : Place) (p : LinePosition) (h e : Bool) (xs ls : List Literal) → Same xs ls
     → Carries (placed place (claim_at_end (said p h e ls))) (placed place (claim_at_end (said p h e xs)))
 concluded_alike place p true true xs ls same = claims_same xs ls same
 concluded_alike place p true false xs ls same = λ r x. x

@@ -15,7 +15,8 @@ use Rattle.cnf_base.specs.declared.fault.Fault.TheVariants.{Text, Binary, ReadFa
 use Rattle.cnf_base.specs.declared.fault.TextFault.{TextFault}
 use Rattle.cnf_base.proofs.ListingLemmas.{Gives-within, listing_at-within}
 use Rattle.cnf_base.proofs.StreamLemmas.{Along-then, Along-map, Along-none}
-use Rattle.dimacs.specs.Reading.{FormulaReading, clauses_to_come, body_unless_ended, GivesClause, body_left, EndsBody, rests_unless_ended, rests_to_come, PassesNoZero, GivesRest, rests_left}
+use Rattle.dimacs.specs.Reading.{FormulaReading, clauses_to_come, body_unless_ended, GivesClause, rests_unless_ended, rests_to_come, PassesNoZero, GivesRest}
+use Rattle.dimacs.specs.Code.Reading.{body_left, EndsBody, rests_left}
 use Rattle.dimacs.specs.Formula.{Body, body_of, judged, body_on_word, body_at_end, faulty_body, whole, rests_on_word, rests_of}
 use Rattle.dimacs.specs.declared.header.Header.{Header}
 use Rattle.dimacs.proofs.RestsLemmas.{within-none, on_word-within, rests_among-within, gives_no_rest}

@@ -23,10 +23,8 @@ use Rattle.cnf_base.proofs.GrammarLemmas.{listing_says, s_spelled, v_spelled, sa
 use Rattle.cnf_base.proofs.LineLemmas.{append_nil}
 use Rattle.cnf_base.proofs.PrintLemmas.{both, literal_word, literal_taken}
 use Rattle.cnf_base.proofs.SetLemmas.{has_tail}
-use Rattle.dimacs.specs.declared.position.Position.{Position}
-use Rattle.dimacs.specs.declared.position.Position.TheVariants.{LineStart, AfterS, AfterStatus, Values}
 use Rattle.dimacs.specs.Formula.{and_then}
-use Rattle.dimacs.specs.Claim.{Said, on_first, on_status, on_literal, on_value, claim_on_word, on_line_end, claim_at_end, placed, claim_on_token, on_end, claim_among, claim_of, IsConsistent}
+use Rattle.dimacs.specs.Claim.{LinePosition, at_line_start, after_s, after_status, in_values, Said, on_first, on_status, on_literal, on_value, claim_on_word, on_line_end, claim_at_end, placed, claim_on_token, on_end, claim_among, claim_of, IsConsistent}
 use Rattle.dimacs.specs.Grammar.{filled_lines, all_words, ModelText, ModelIsGrammar}
 use Rattle.dimacs.specs.Printing.{status_words, value_words, IsModel}
 use Rattle.dimacs.proofs.ModelLemmas.{IsConsistent-put}
@@ -44,7 +42,7 @@ claim_says s [] = and_so (known (on_line_end s)) (λ s. known (claim_at_end s))
 claim_says s (Some w ∷ ss) = and_so (known (claim_on_word s w)) (λ s. claim_says s ss)
 claim_says s (None ∷ ss) = and_so (known (on_line_end s)) (λ s. claim_says s ss)
 
-abbrev at : Position → Bool → Bool → List Literal → Said
+abbrev at : LinePosition → Bool → Bool → List Literal → Said
 at position has_status is_ended ls =
     record { position = position; has_status = has_status; is_ended = is_ended; listed = ls }
 
@@ -68,13 +66,13 @@ module _ (p : Place) where
       (λ s. placed_known p (claim_at_end s))
 
   -- a line that is ended may be ended again
-  ends_again : (q : Position) (h e : Bool) (ls : List Literal)
+  ends_again : (q : LinePosition) (h e : Bool) (ls : List Literal)
       → and_so (known (on_line_end (at q h e ls))) (λ s. known (claim_at_end s))
       ≡ claim_says (at q h e ls) (None ∷ [])
-  ends_again LineStart h e ls = refl
-  ends_again AfterS h e ls = refl
-  ends_again AfterStatus h e ls = refl
-  ends_again Values h e ls = refl
+  ends_again at_line_start h e ls = refl
+  ends_again after_s h e ls = refl
+  ends_again after_status h e ls = refl
+  ends_again in_values h e ls = refl
 
   among_said : (ts : List Listed) (ss : List (Option Word)) (s : Said) → AreSaid ts ss
       → known (claim_among s ts p End) ≡ claim_says s ss
@@ -108,13 +106,13 @@ module _ (p : Place) where
       by (token.End q) e later = absurd e
 
 text_claim : (bytes : List ℕ)
-    → known (claim_of (input_of bytes)) ≡ claim_says (at LineStart false false [])
+    → known (claim_of (input_of bytes)) ≡ claim_says (at at_line_start false false [])
     (said_by (word_lines bytes))
 text_claim bytes =
     let l : Listing = listing_of (input_of bytes) in
-    ap (λ e. known (claim_among (at LineStart false false []) l.tokens l.end e))
+    ap (λ e. known (claim_among (at at_line_start false false []) l.tokens l.end e))
     (listing_says bytes).ending
-    ∙ among_said l.end l.tokens (said_by (word_lines bytes)) (at LineStart false false [])
+    ∙ among_said l.end l.tokens (said_by (word_lines bytes)) (at at_line_start false false [])
     (text_lines bytes)
 
 -- ---- Lines
@@ -154,20 +152,20 @@ values_append (w ∷ ws) us e ls = by (value_in e ls (word_of w)) (λ x. values_
 
 module _ (h : Bool) where
   value_said : {A : Type 0} (e : Bool) (ls : List Literal) (w : Word) (f : Said → Option A)
-      → and_so (known (on_value (at Values h e ls) w)) f
-      ≡ and_so (value_in e ls w) (λ x. f (at Values h x.0 x.1))
+      → and_so (known (on_value (at in_values h e ls) w)) f
+      ≡ and_so (value_in e ls w) (λ x. f (at in_values h x.0 x.1))
   value_said {A} e ls (words.Number n) f = by (nat_le n.size 268435455) e (number_literal n)
     where
       listed : (l : Literal) (v : Bool)
-          → and_so (known (cond v (Err Complement) (Ok (at Values h false (l ∷ ls))))) f
-          ≡ and_so (more_listed v ls l) (λ x. f (at Values h x.0 x.1))
+          → and_so (known (cond v (Err Complement) (Ok (at in_values h false (l ∷ ls))))) f
+          ≡ and_so (more_listed v ls l) (λ x. f (at in_values h x.0 x.1))
       listed l true = refl
       listed l false = refl
 
       by : (v e : Bool) (o : Option Literal)
-          → and_so (known (cond v (cond e (Err AfterEnd) (on_literal (at Values h e ls) o))
+          → and_so (known (cond v (cond e (Err AfterEnd) (on_literal (at in_values h e ls) o))
           (Err LiteralTooLarge))) f
-          ≡ and_so (cond v (cond e None (literal_in ls o)) None) (λ x. f (at Values h x.0 x.1))
+          ≡ and_so (cond v (cond e None (literal_in ls o)) None) (λ x. f (at in_values h x.0 x.1))
       by false e o = refl
       by true true o = refl
       by true false None = refl
@@ -175,19 +173,19 @@ module _ (h : Bool) where
   value_said e ls _ f = refl
 
   values_said : (ws : List (List ℕ)) (e : Bool) (ls : List Literal) (later : List (Option Word))
-      → claim_says (at Values h e ls) (line_then ws later)
-      ≡ and_so (values_in e ls ws) (λ x. claim_says (at LineStart h x.0 x.1) later)
+      → claim_says (at in_values h e ls) (line_then ws later)
+      ≡ and_so (values_in e ls ws) (λ x. claim_says (at at_line_start h x.0 x.1) later)
   values_said [] e ls later = refl
   values_said (w ∷ ws) e ls later =
       value_said e ls (word_of w) (λ s. claim_says s (line_then ws later))
       ∙ by (value_in e ls (word_of w)) (λ x. values_said ws x.0 x.1 later)
     where
       by : (o : Option (HeardSo))
-          → ((x : HeardSo) → claim_says (at Values h x.0 x.1) (line_then ws later)
-          ≡ and_so (values_in x.0 x.1 ws) (λ x. claim_says (at LineStart h x.0 x.1) later))
-          → and_so o (λ x. claim_says (at Values h x.0 x.1) (line_then ws later))
+          → ((x : HeardSo) → claim_says (at in_values h x.0 x.1) (line_then ws later)
+          ≡ and_so (values_in x.0 x.1 ws) (λ x. claim_says (at at_line_start h x.0 x.1) later))
+          → and_so o (λ x. claim_says (at in_values h x.0 x.1) (line_then ws later))
           ≡ and_so (and_so o (λ x. values_in x.0 x.1 ws))
-          (λ x. claim_says (at LineStart h x.0 x.1) later)
+          (λ x. claim_says (at at_line_start h x.0 x.1) later)
       by None next = refl
       by (Some x) next = next x
 
@@ -197,14 +195,14 @@ record AreValues (h e : Bool) (ls : List Literal) (ws : List (List ℕ)) (lines 
   pub ended : Bool
   pub listed : List Literal
   pub line : values_in e ls ws ≡ Some (ended, listed)
-  pub later : claim_says (at LineStart h ended listed) (said_by lines) ≡ Some r
+  pub later : claim_says (at at_line_start h ended listed) (said_by lines) ≡ Some r
 
 line_values : (h e : Bool) (ls : List Literal) (ws : List (List ℕ)) (lines : Lines)
     (r : List Literal)
-    → claim_says (at Values h e ls) (line_then ws (said_by lines)) ≡ Some r
+    → claim_says (at in_values h e ls) (line_then ws (said_by lines)) ≡ Some r
     → AreValues h e ls ws lines r
 line_values h e ls ws lines r is =
-    let x = went_on (values_in e ls ws) (λ x. claim_says (at LineStart h x.0 x.1) (said_by lines)) r
+    let x = went_on (values_in e ls ws) (λ x. claim_says (at at_line_start h x.0 x.1) (said_by lines)) r
     (sym (values_said h ws e ls (said_by lines)) ∙ is) in
     record { ended = x.0.0; listed = x.0.1; line = x.1; later = x.2 }
 
@@ -222,7 +220,7 @@ record IsRest (lines : Lines) (e : Bool) (ls r : List Literal) : Type 0 where
   pub values : values_in e ls (all_words after) ≡ Some (true, r)
 
 rest_read : (lines : Lines) (e : Bool) (ls r : List Literal)
-    → claim_says (at LineStart true e ls) (said_by lines) ≡ Some r → IsRest lines e ls r
+    → claim_says (at at_line_start true e ls) (said_by lines) ≡ Some r → IsRest lines e ls r
 rest_read [] true ls r is =
     let same : ls ≡ r = cc in
     record { after = []; lines_are = refl; values = ap (λ r. Some (true, r)) same }
@@ -233,9 +231,9 @@ rest_read ([] ∷ lines) e ls r is =
 rest_read ((w ∷ ws) ∷ lines) e ls r is = by (word_of w) refl is (λ e ls. rest_read lines e ls r)
   where
     by : (v : Word) → word_of w ≡ v
-        → and_so (known (on_first (at LineStart true e ls) v))
+        → and_so (known (on_first (at at_line_start true e ls) v))
         (λ s. claim_says s (line_then ws (said_by lines))) ≡ Some r
-        → ((e : Bool) (ls : List Literal) → claim_says (at LineStart true e ls) (said_by lines)
+        → ((e : Bool) (ls : List Literal) → claim_says (at at_line_start true e ls) (said_by lines)
         ≡ Some r → IsRest lines e ls r)
         → IsRest ((w ∷ ws) ∷ lines) e ls r
     by words.V v is next =
@@ -252,10 +250,10 @@ rest_read ((w ∷ ws) ∷ lines) e ls r is = by (word_of w) refl is (λ e ls. re
 
 rest_taken : (lines after : Lines) (e : Bool) (ls r : List Literal)
     → filled_lines lines ≡ map value_words after → values_in e ls (all_words after) ≡ Some (true, r)
-    → claim_says (at LineStart true e ls) (said_by lines) ≡ Some r
+    → claim_says (at at_line_start true e ls) (said_by lines) ≡ Some r
 rest_taken [] [] e ls r is values =
     let given = some_parts (e, ls) (true, r) values in
-    ap₂ (λ e ls. claim_says (at LineStart true e ls) []) given.0 given.1
+    ap₂ (λ e ls. claim_says (at at_line_start true e ls) []) given.0 given.1
 rest_taken [] (a ∷ after) e ls r is values =
     absurd (let bad : [] ≡ value_words a ∷ map value_words after = is in cc)
 rest_taken ([] ∷ lines) after e ls r is values = rest_taken lines after e ls r is values
@@ -266,9 +264,9 @@ rest_taken ((w ∷ ws) ∷ lines) (a ∷ after) e ls r is values =
     let later : filled_lines lines ≡ map value_words after = cc in
     let x = went_on (values_in e ls a) (λ x. values_in x.0 x.1 (all_words after)) (true, r)
     (sym (values_append a (all_words after) e ls) ∙ values) in
-    ap (λ line. claim_says (at LineStart true e ls) (line_then line (said_by lines))) first
+    ap (λ line. claim_says (at at_line_start true e ls) (line_then line (said_by lines))) first
     ∙ values_said true a e ls (said_by lines)
-    ∙ ap (λ o. and_so o (λ x. claim_says (at LineStart true x.0 x.1) (said_by lines))) x.1
+    ∙ ap (λ o. and_so o (λ x. claim_says (at at_line_start true x.0 x.1) (said_by lines))) x.1
     ∙ rest_taken lines after x.0.0 x.0.1 r later x.2
 
 -- ---- All lines
@@ -276,22 +274,22 @@ rest_taken ((w ∷ ws) ∷ lines) (a ∷ after) e ls r is values =
 record IsStatus (e : Bool) (ls : List Literal) (ws : List (List ℕ)) (later : List (Option Word))
     (r : List Literal) : Type 0 where
   pub words : ws ≡ codes "SATISFIABLE" ∷ []
-  pub later_says : claim_says (at LineStart true e ls) later ≡ Some r
+  pub later_says : claim_says (at at_line_start true e ls) later ≡ Some r
 
 status_read : (e : Bool) (ls : List Literal) (ws : List (List ℕ)) (later : List (Option Word))
     (r : List Literal)
-    → claim_says (at AfterS false e ls) (line_then ws later) ≡ Some r → IsStatus e ls ws later r
+    → claim_says (at after_s false e ls) (line_then ws later) ≡ Some r → IsStatus e ls ws later r
 status_read e ls [] later r is = absurd (let bad : None ≡ Some r = is in cc)
 status_read e ls (w ∷ ws) later r is = by (word_of w) refl is
   where
-    alone : (us : List (List ℕ)) → claim_says (at AfterStatus true e ls) (line_then us later)
+    alone : (us : List (List ℕ)) → claim_says (at after_status true e ls) (line_then us later)
         ≡ Some r
-        → (us ≡ []) × (claim_says (at LineStart true e ls) later ≡ Some r)
+        → (us ≡ []) × (claim_says (at at_line_start true e ls) later ≡ Some r)
     alone [] is = (refl, is)
     alone (u ∷ us) is = absurd (let bad : None ≡ Some r = is in cc)
 
     by : (v : Word) → word_of w ≡ v
-        → and_so (known (on_status (at AfterS false e ls) v))
+        → and_so (known (on_status (at after_s false e ls) v))
         (λ s. claim_says s (line_then ws later)) ≡ Some r
         → IsStatus e ls (w ∷ ws) later r
     by words.Satisfiable v is =
@@ -309,7 +307,7 @@ record IsOutput (lines : Lines) (e : Bool) (ls r : List Literal) : Type 0 where
   pub values : values_in e ls (all_words (before ++ after)) ≡ Some (true, r)
 
 lines_read : (lines : Lines) (e : Bool) (ls r : List Literal)
-    → claim_says (at LineStart false e ls) (said_by lines) ≡ Some r → IsOutput lines e ls r
+    → claim_says (at at_line_start false e ls) (said_by lines) ≡ Some r → IsOutput lines e ls r
 lines_read [] e ls r is = absurd (let bad : None ≡ Some r = is in cc)
 lines_read ([] ∷ lines) e ls r is =
     let x = lines_read lines e ls r is in
@@ -317,9 +315,9 @@ lines_read ([] ∷ lines) e ls r is =
 lines_read ((w ∷ ws) ∷ lines) e ls r is = by (word_of w) refl is (λ e ls. lines_read lines e ls r)
   where
     by : (v : Word) → word_of w ≡ v
-        → and_so (known (on_first (at LineStart false e ls) v))
+        → and_so (known (on_first (at at_line_start false e ls) v))
         (λ s. claim_says s (line_then ws (said_by lines))) ≡ Some r
-        → ((e : Bool) (ls : List Literal) → claim_says (at LineStart false e ls) (said_by lines)
+        → ((e : Bool) (ls : List Literal) → claim_says (at at_line_start false e ls) (said_by lines)
         ≡ Some r → IsOutput lines e ls r)
         → IsOutput ((w ∷ ws) ∷ lines) e ls r
     by words.V v is next =
@@ -347,7 +345,7 @@ lines_read ((w ∷ ws) ∷ lines) e ls r is = by (word_of w) refl is (λ e ls. l
 lines_taken : (lines before after : Lines) (e : Bool) (ls r : List Literal)
     → filled_lines lines ≡ map value_words before ++ status_words ∷ map value_words after
     → values_in e ls (all_words (before ++ after)) ≡ Some (true, r)
-    → claim_says (at LineStart false e ls) (said_by lines) ≡ Some r
+    → claim_says (at at_line_start false e ls) (said_by lines) ≡ Some r
 lines_taken [] [] after e ls r is values =
     absurd (let bad : [] ≡ status_words ∷ map value_words after = is in cc)
 lines_taken [] (b ∷ before) after e ls r is values =
@@ -359,7 +357,7 @@ lines_taken ([] ∷ lines) before after e ls r is values =
 lines_taken ((w ∷ ws) ∷ lines) [] after e ls r is values =
     let first : w ∷ ws ≡ status_words = cc in
     let later : filled_lines lines ≡ map value_words after = cc in
-    ap (λ line. claim_says (at LineStart false e ls) (line_then line (said_by lines))) first
+    ap (λ line. claim_says (at at_line_start false e ls) (line_then line (said_by lines))) first
     ∙ rest_taken lines after e ls r later values
 lines_taken ((w ∷ ws) ∷ lines) (b ∷ before) after e ls r is values =
     let first : w ∷ ws ≡ value_words b = cc in
@@ -368,9 +366,9 @@ lines_taken ((w ∷ ws) ∷ lines) (b ∷ before) after e ls r is values =
     let x = went_on (values_in e ls b) (λ x. values_in x.0 x.1 (all_words (before ++ after)))
     (true, r)
     (sym (values_append b (all_words (before ++ after)) e ls) ∙ values) in
-    ap (λ line. claim_says (at LineStart false e ls) (line_then line (said_by lines))) first
+    ap (λ line. claim_says (at at_line_start false e ls) (line_then line (said_by lines))) first
     ∙ values_said false b e ls (said_by lines)
-    ∙ ap (λ o. and_so o (λ x. claim_says (at LineStart false x.0 x.1) (said_by lines))) x.1
+    ∙ ap (λ o. and_so o (λ x. claim_says (at at_line_start false x.0 x.1) (said_by lines))) x.1
     ∙ lines_taken lines before after x.0.0 x.0.1 r later x.2
 
 -- ---- Values

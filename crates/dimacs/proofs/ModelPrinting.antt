@@ -6,7 +6,8 @@ use Rattle.std.proofs.lemmas.List.{append-nil, reverse-append}
 use Rattle.std.proofs.lemmas.List.Folds.{list_all-append}
 use Rattle.cnf_base.specs.Literals.{Literal, complement, has}
 use Rattle.cnf_base.specs.Printing.{input_of, is_literal, literal_text, literal_words}
-use Rattle.cnf_base.specs.Text.{col_along, line_after, Listing, listing_at}
+use Rattle.cnf_base.specs.Code.Text.{col_along}
+use Rattle.cnf_base.specs.Text.{line_after, Listing, listing_at}
 use Rattle.cnf_base.specs.Words.{number, word_of}
 use Rattle.cnf_base.specs.declared.fault.Fault.{Fault}
 use Rattle.cnf_base.specs.declared.fault.TextFault.TheVariants.{Complement, LiteralTooLarge}
@@ -19,16 +20,15 @@ use Rattle.cnf_base.proofs.LineLemmas.{append_nil}
 use Rattle.cnf_base.proofs.SetLemmas.{has_head, has_tail, has_append_left, has_append_right}
 use Rattle.cnf_base.proofs.TextLemmas.{listing_at-end}
 use Rattle.cnf_base.proofs.PrintLemmas.{line_from, along_from_one, past, past_from_one, Begins, next_word, next_line, first_word, both, fixed_plain, zero_plain, literal_word, literal_plain, literal_taken}
-use Rattle.dimacs.specs.declared.position.Position.TheVariants.{LineStart, Values}
-use Rattle.dimacs.specs.Claim.{Said, nothing, on_value, on_literal, claim_after, claim_of, IsConsistent}
+use Rattle.dimacs.specs.Claim.{at_line_start, in_values, Said, nothing, on_value, on_literal, claim_after, claim_of, IsConsistent}
 use Rattle.dimacs.specs.Printing.{value_line, literals_line, model_text, IsModel}
 
 -- what was said in a `v` line, and before one
 abbrev said_in_line : List Literal → Said
-said_in_line ls = record { position = Values; has_status = true; is_ended = false; listed = ls }
+said_in_line ls = record { position = in_values; has_status = true; is_ended = false; listed = ls }
 
 abbrev said_before_line : List Literal → Said
-said_before_line ls = record { position = LineStart; has_status = true; is_ended = false; listed = ls }
+said_before_line ls = record { position = at_line_start; has_status = true; is_ended = false; listed = ls }
 
 -- these literals are among those
 abbrev pub AreAmong : List Literal → List Literal → Type 0

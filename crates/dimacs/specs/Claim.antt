@@ -17,29 +17,34 @@ use Rattle.cnf_base.specs.declared.fault.Fault.TheVariants.{Text, ReadFailed, Ou
 use Rattle.cnf_base.specs.declared.fault.TextFault.{TextFault}
 use Rattle.cnf_base.specs.declared.fault.TextFault.TheVariants.{BadToken, BadLine, SecondStatus, NoStatus, NotClaimed, AfterEnd, UnterminatedModel, Complement, LiteralTooLarge}
 use Rattle.dimacs.specs.Formula.{and_then}
-use Rattle.dimacs.specs.declared.position.Position.{Position}
-use Rattle.dimacs.specs.declared.position.Position.TheVariants.{LineStart, AfterS, AfterStatus, Values}
+
+-- where in a line the next token stands: first, after an `s`, after the status, or after a `v`
+pub data LinePosition : Type 0 where
+  at_line_start : LinePosition
+  after_s : LinePosition
+  after_status : LinePosition
+  in_values : LinePosition
 
 -- what an output has said so far: where in its line the next token stands, whether there was a status line, whether there was
 -- the `0` that ends the model, and the literals that are listed
 pub record Said : Type 0 where
-  pub position : Position
+  pub position : LinePosition
   pub has_status : Bool
   pub is_ended : Bool
   pub listed : List Literal
 
 abbrev pub nothing : Said
-nothing = record { position = LineStart; has_status = false; is_ended = false; listed = [] }
+nothing = record { position = at_line_start; has_status = false; is_ended = false; listed = [] }
 
 -- a line's first token
 abbrev pub on_first : Said → Word → Result Said TextFault
-on_first s words.S = if s.has_status then Err SecondStatus else Ok (record s { position = AfterS })
-on_first s words.V = Ok (record s { position = Values })
+on_first s words.S = if s.has_status then Err SecondStatus else Ok (record s { position = after_s })
+on_first s words.V = Ok (record s { position = in_values })
 on_first s _ = Err BadLine
 
 -- the token after an `s`
 abbrev pub on_status : Said → Word → Result Said TextFault
-on_status s words.Satisfiable = Ok (record s { position = AfterStatus; has_status = true })
+on_status s words.Satisfiable = Ok (record s { position = after_status; has_status = true })
 on_status s words.Unsatisfiable = Err NotClaimed
 on_status s words.Unknown = Err NotClaimed
 on_status s _ = Err BadLine
@@ -58,19 +63,19 @@ on_value s (words.Number n) =
     else Err LiteralTooLarge
 on_value s _ = Err BadToken
 
-abbrev pub on_word_at : Position → Said → Word → Result Said TextFault
-on_word_at LineStart s w = on_first s w
-on_word_at AfterS s w = on_status s w
-on_word_at AfterStatus s w = Err BadLine
-on_word_at Values s w = on_value s w
+abbrev pub on_word_at : LinePosition → Said → Word → Result Said TextFault
+on_word_at at_line_start s w = on_first s w
+on_word_at after_s s w = on_status s w
+on_word_at after_status s w = Err BadLine
+on_word_at in_values s w = on_value s w
 
 abbrev pub claim_on_word : Said → Word → Result Said TextFault
 claim_on_word s w = on_word_at s.position s w
 
 -- a line may end everywhere but just after its `s`
-abbrev pub line_ended : Position → Said → Result Said TextFault
-line_ended AfterS s = Err BadLine
-line_ended _ s = Ok (record s { position = LineStart })
+abbrev pub line_ended : LinePosition → Said → Result Said TextFault
+line_ended after_s s = Err BadLine
+line_ended _ s = Ok (record s { position = at_line_start })
 
 abbrev pub on_line_end : Said → Result Said TextFault
 on_line_end s = line_ended s.position s

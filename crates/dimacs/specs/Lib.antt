@@ -1,7 +1,6 @@
 pub mod Formula
 pub mod Reading
 pub mod Claim
-pub mod Claiming
 pub mod Printing
 pub mod Grammar
-pub mod Models
+pub mod Code

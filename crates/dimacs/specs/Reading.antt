@@ -1,11 +1,11 @@
 -- A formula that is read clause by clause.
-use Rattle.std.specs.Prelude.{◌≡◌, ℕ, ◌+◌, ◌≤◌, slice_get, Bool, true, false, List, [], ◌∷◌, length, Option, None, Some, Result, Ok, Err}
+use Rattle.std.specs.Prelude.{ℕ, Bool, Option, Result, None, Some, Ok, Err, [], ◌≡◌, true, false, List, ◌≤◌, slice_get, length, ◌∷◌}
 use Rattle.cnf_base.specs.Literals.{Literal}
-use Rattle.cnf_base.specs.Stream.{Input, Stream}
-use Rattle.cnf_base.specs.Text.{Listing, listing_at}
-use Rattle.cnf_base.specs.declared.fault.Fault.{Fault}
+use Rattle.cnf_base.specs.Stream.{Stream, Input}
+use Rattle.cnf_base.specs.Text.{listing_at}
 use Rattle.cnf_base.specs.declared.fault.Fault.TheVariants.{OutOfMemory}
-use Rattle.dimacs.specs.Formula.{Body, body_of, faulty_body, whole, with_first_clause, Formula, rests_of}
+use Rattle.cnf_base.specs.declared.fault.Fault.{Fault}
+use Rattle.dimacs.specs.Formula.{Body, faulty_body, whole, body_of, with_first_clause, Formula, rests_of}
 use Rattle.dimacs.specs.declared.header.Header.{Header}
 
 -- a reader of a formula: where it stands in its input, the header, how many clauses were given, the answer that it
@@ -36,22 +36,6 @@ GivesClause (Ok false) c before after = (before ≡ after) × (before ≡ whole)
 GivesClause (Err OutOfMemory) c before after = after ≡ faulty_body OutOfMemory
 GivesClause (Err f) c before after = (before ≡ after) × (before ≡ faulty_body f)
 
-abbrev pub is_nil : List Literal → Bool
-is_nil [] = true
-is_nil (l ∷ ls) = false
-
--- what is to come after the clause that was given next
-abbrev pub body_left : Result Bool Fault → Header → ℕ → Listing → Body
-body_left (Ok true) h complete l = body_of h (complete + 1) [] l
-body_left (Ok false) h complete l = whole
-body_left (Err f) h complete l = faulty_body f
-
--- the end of the input was met in the midst of a clause, after the last one, or before it
-abbrev pub EndsBody : Result Bool Fault → Body → Type 0
-EndsBody (Ok true) b = ⊥
-EndsBody (Ok false) b = b ≡ whole
-EndsBody (Err f) b = b ≡ faulty_body f
-
 -- the formula of a header and what is to come
 abbrev pub opened : Header → Body → Formula
 opened h b = record { header = Some h; clauses = b.clauses; fault = b.fault }
@@ -79,8 +63,3 @@ PassesNoZero rests rest = (k left : ℕ) → slice_get rests k ≡ Some left →
 abbrev pub GivesRest : Result Bool Fault → List ℕ → List ℕ → Input → Type 0
 GivesRest (Ok true) before after rest = (before ≡ length rest.bytes ∷ after) × PassesNoZero before rest
 GivesRest _ before after rest = PassesNoZero before rest
-
--- what follows the clauses that come after the one that was given next
-abbrev pub rests_left : Result Bool Fault → Header → ℕ → Listing → List ℕ
-rests_left (Ok true) h complete l = rests_of h (complete + 1) l
-rests_left _ h complete l = []

@@ -1,7 +1,7 @@
 //! A clause as it was written.
 
 ghost use Rattle.std.specs.Prelude.{◌≡◌, ◌++◌, ◌∷◌, [], OnOk};
-ghost use Rattle.dimacs.specs.Reading.{is_nil};
+ghost use Rattle.dimacs.specs.Code.Reading.{is_nil};
 
 use cnf_base::{Lit, OutOfMemory};
 use std::alloc::Global;

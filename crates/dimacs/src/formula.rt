@@ -6,8 +6,10 @@ ghost use Rattle.cnf_base.specs.Text.{listing_at};
 ghost use Rattle.cnf_base.specs.declared.input.Ending.TheVariants.{End};
 ghost use Rattle.cnf_base.specs.Readers.{Advances, IsLeft, Keeps, Tells, TellsOf};
 ghost use Rattle.dimacs.specs.Formula.{body_at_end, body_of, clause_rests_at, formula_at, judged, rests_of};
-ghost use Rattle.dimacs.specs.Reading.{clauses_to_come, body_left, EndsBody, GivesClause, opened, unopened};
-ghost use Rattle.dimacs.specs.Reading.{GivesRest, rests_left, rests_to_come};
+ghost use Rattle.dimacs.specs.Reading.{clauses_to_come, GivesClause, opened, unopened};
+ghost use Rattle.dimacs.specs.Code.Reading.{body_left, EndsBody};
+ghost use Rattle.dimacs.specs.Reading.{GivesRest, rests_to_come};
+ghost use Rattle.dimacs.specs.Code.Reading.{rests_left};
 
 use crate::ClauseBuf;
 use crate::header::{Header, read_header};

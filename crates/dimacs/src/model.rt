@@ -22,7 +22,7 @@ impl marker::Model for Model {
     ghost use Rattle.std.specs.Prelude.{List};
     ghost use Rattle.cnf_base.specs.Literals.{Literal};
     ghost use Rattle.dimacs.specs.Claim.{IsConsistent};
-    ghost use Rattle.dimacs.specs.Models.{IsListed};
+    ghost use Rattle.dimacs.specs.Code.Models.{IsListed};
     ghost use Rattle.tables.specs.Table.{at};
 
     ghost Value = { List Literal };

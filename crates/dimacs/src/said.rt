@@ -3,7 +3,7 @@
 ghost use Rattle.std.specs.Prelude.{◌≡◌, Some, IfOk};
 ghost use Rattle.cnf_base.specs.declared.input.Ending.TheVariants.{End};
 ghost use Rattle.dimacs.specs.Claim.{nothing, on_first, on_status, on_value, on_literal, claim_on_word, on_line_end, on_end, placed, IsClaim, IsConsistent};
-ghost use Rattle.dimacs.specs.Claiming.{Takes};
+ghost use Rattle.dimacs.specs.Code.Claiming.{Takes};
 
 use crate::Model;
 use crate::position::Position;
@@ -22,11 +22,12 @@ pub(crate) struct Said {
 
 impl marker::Model for Said {
     ghost use Rattle.dimacs.specs.Claim.{Said, IsConsistent};
+    ghost use Rattle.dimacs.specs.Code.Claiming.{line_position};
 
     ghost Value = { Said };
 
     ghost view = { λ s. record {
-      position = s.position;
+      position = line_position s.position;
       has_status = s.has_status;
       is_ended = s.is_ended;
       listed = s.model;

@@ -11,10 +11,11 @@ use Rattle.cnf_base.proofs.StreamLemmas.{Along-then, Along-map, Along-look, Alon
 use Rattle.proofs.specs.declared.step_end.StepEnd.{StepEnd}
 use Rattle.proofs.specs.declared.step_end.StepEnd.TheVariants.{Byte}
 use Rattle.proofs.specs.Steps.{Step, named}
-use Rattle.proofs.specs.Reading.{Proof, proof_unless_ended, GivesStep, PassesNoEnd}
-use Rattle.proofs.specs.TextMoves.{EndsProof}
+use Rattle.proofs.specs.Reading.{Proof, GivesStep, PassesNoEnd}
+use Rattle.proofs.specs.Code.Reading.{proof_unless_ended}
+use Rattle.proofs.specs.Code.TextMoves.{EndsProof}
 use Rattle.proofs.specs.Binary.{BinarySpot, at_tag, BinaryMove, goes, completes, faults, binary_move_of, on_binary_move, binary_at_end, binary_steps_from, binary_steps_at}
-use Rattle.proofs.specs.BinaryMoves.{MovesBinary, binary_left}
+use Rattle.proofs.specs.Code.BinaryMoves.{MovesBinary, binary_left}
 use Rattle.proofs.specs.declared.moved.Moved.{Moved}
 use Rattle.proofs.specs.declared.drat_binary.part.Part.{Part}
 use Rattle.proofs.specs.declared.drat_binary.stopped.Stopped.{Stopped}

@@ -11,13 +11,11 @@ use Rattle.cnf_base.specs.declared.word.Word.{Word}
 use Rattle.cnf_base.specs.declared.word.Word.TheVariants as words
 use Rattle.cnf_base.proofs.PrintLemmas.{both}
 use Rattle.cnf_base.proofs.GrammarLemmas.{IsSpelled, word_spelled}
-use Rattle.proofs.specs.declared.drat_text.part.Part.{Part}
-use Rattle.proofs.specs.declared.drat_text.part.Part.TheVariants.{Start, Literals}
 use Rattle.proofs.specs.declared.step_buf.StepKind.{StepKind}
 use Rattle.proofs.specs.declared.step_buf.StepKind.TheVariants.{Add, Delete}
 use Rattle.proofs.specs.Steps.{Step, named, with_literal}
 use Rattle.proofs.specs.TextSteps.{goes, completes, move_of}
-use Rattle.proofs.specs.Drat.{drat, is_start}
+use Rattle.proofs.specs.Drat.{DratSpot, at_start, in_literals, drat, is_start}
 use Rattle.proofs.specs.Printing.{drat_words, IsDratStep}
 use Rattle.proofs.specs.Grammar.{DratIsGrammar}
 use Rattle.proofs.proofs.PrintedText.{with_literals, drat_step, drat_step_is}
@@ -35,16 +33,16 @@ drat_words-front : (kind : StepKind) (ls : List Literal)
 drat_words-front Add ls = refl
 drat_words-front Delete ls = refl
 
-record Fits (part : Part) (s : Step) : Type 0 where
-  begins : part ≡ Start → s ≡ named 0
+record Fits (part : DratSpot) (s : Step) : Type 0 where
+  begins : part ≡ at_start → s ≡ named 0
   id : s.id ≡ 0
   hints : s.hints ≡ []
   literals : list_all (is_literal 268435455) s.lits ≡ true
 
-abbrev so_far : Part → Step → List (List ℕ)
+abbrev so_far : DratSpot → Step → List (List ℕ)
 so_far part s = front s.kind ++ map literal_text s.lits
 
-abbrev spelling : Spelling Part
+abbrev spelling : Spelling DratSpot
 spelling = record {
   IsStep = IsDratStep;
   whole = λ s. drat_words s.kind s.lits;
@@ -52,13 +50,13 @@ spelling = record {
   so_far = so_far;
 }
 
-module _ (part : Part) (s : Step) (run : List ℕ) (fits : Fits part s) where
+module _ (part : DratSpot) (s : Step) (run : List ℕ) (fits : Fits part s) where
   -- one more literal
   taken : (l : Literal) → is_literal 268435455 l ≡ true → run ≡ literal_text l
-      → Spells spelling part s run (goes Literals (with_literal s l))
+      → Spells spelling part s run (goes in_literals (with_literal s l))
   taken l is text = (
     record {
-      begins = λ (e : Literals ≡ Start). cc;
+      begins = λ (e : in_literals ≡ at_start). cc;
       id = fits.id;
       hints = fits.hints;
       literals = all_more (is_literal 268435455) s.lits l fits.literals is;
@@ -78,18 +76,18 @@ module _ (part : Part) (s : Step) (run : List ℕ) (fits : Fits part s) where
   )
 
 -- the `d`
-d_spelled : (part : Part) (s : Step) (run : List ℕ) → Fits part s → run ≡ codes "d"
+d_spelled : (part : DratSpot) (s : Step) (run : List ℕ) → Fits part s → run ≡ codes "d"
     → Spells spelling part s run (move_of drat part s words.D)
-d_spelled Start s run fits text = (
-  record { begins = λ (e : Literals ≡ Start). cc; id = fits.id; hints = refl; literals = refl },
-  ap (λ w. w ∷ []) (sym text) ∙ ap (λ t. so_far Start t ++ run ∷ []) (sym (fits.begins refl)),
+d_spelled at_start s run fits text = (
+  record { begins = λ (e : in_literals ≡ at_start). cc; id = fits.id; hints = refl; literals = refl },
+  ap (λ w. w ∷ []) (sym text) ∙ ap (λ t. so_far at_start t ++ run ∷ []) (sym (fits.begins refl)),
 )
-d_spelled Literals s run fits text = tt
+d_spelled in_literals s run fits text = tt
 
-word_moves : (part : Part) (s : Step) (run : List ℕ) → Fits part s → (w : Word) → IsSpelled w run
+word_moves : (part : DratSpot) (s : Step) (run : List ℕ) → Fits part s → (w : Word) → IsSpelled w run
     → Spells spelling part s run (move_of drat part s w)
 word_moves part s run fits (words.Number n) spelled =
-    literal_cases (Spells spelling part s run) Literals completes s n run spelled tt
+    literal_cases (Spells spelling part s run) in_literals completes s n run spelled tt
     (taken part s run fits) (ended part s run fits)
 word_moves part s run fits words.D spelled = d_spelled part s run fits spelled
 word_moves part s run fits _ spelled = tt
@@ -98,31 +96,31 @@ word_moves part s run fits _ spelled = tt
 
 literals_read : (ls : List Literal) (rest : List (List ℕ)) (s : Step)
     → list_all (is_literal 268435455) ls ≡ true
-    → word_steps drat Literals s (map word_of (literal_words ls ++ rest))
+    → word_steps drat in_literals s (map word_of (literal_words ls ++ rest))
     ≡ option_map (λ ss. fold with_literal s ls ∷ ss)
-    (word_steps drat Start (named 0) (map word_of rest))
+    (word_steps drat at_start (named 0) (map word_of rest))
 literals_read ls rest s are =
-    ap (λ ws. word_steps drat Literals s (map word_of ws))
+    ap (λ ws. word_steps drat in_literals s (map word_of ws))
     (append_assoc (map literal_text ls) (codes "0" ∷ []) rest)
-    ∙ list_words drat literal_text (is_literal 268435455) with_literal Literals
-    (literal_move Literals) ls (codes "0" ∷ rest) s are
+    ∙ list_words drat literal_text (is_literal 268435455) with_literal in_literals
+    (literal_move in_literals) ls (codes "0" ∷ rest) s are
 
 words_read : (kind : StepKind) (ls : List Literal) (rest : List (List ℕ))
     → list_all (is_literal 268435455) ls ≡ true
-    → word_steps drat Start (named 0) (map word_of (drat_words kind ls ++ rest))
-    ≡ option_map (λ ss. drat_step kind ls ∷ ss) (word_steps drat Start (named 0) (map word_of rest))
+    → word_steps drat at_start (named 0) (map word_of (drat_words kind ls ++ rest))
+    ≡ option_map (λ ss. drat_step kind ls ∷ ss) (word_steps drat at_start (named 0) (map word_of rest))
 words_read Delete ls rest are =
     literals_read ls rest (drat_step Delete []) are
-    ∙ ap (λ s. option_map (λ ss. s ∷ ss) (word_steps drat Start (named 0) (map word_of rest)))
+    ∙ ap (λ s. option_map (λ ss. s ∷ ss) (word_steps drat at_start (named 0) (map word_of rest)))
     (with_literals (drat_step Delete []) ls)
 words_read Add [] rest are = refl
 words_read Add (l ∷ ls) rest are =
     let r = both (is_literal 268435455 l) (list_all (is_literal 268435455) ls) are in
     ap (λ m. on_word drat m
     (λ part s. word_steps drat part s (map word_of (literal_words ls ++ rest))))
-    (literal_move Start (named 0) l r.0)
+    (literal_move at_start (named 0) l r.0)
     ∙ literals_read ls rest (drat_step Add (l ∷ [])) r.1
-    ∙ ap (λ s. option_map (λ ss. s ∷ ss) (word_steps drat Start (named 0) (map word_of rest)))
+    ∙ ap (λ s. option_map (λ ss. s ∷ ss) (word_steps drat at_start (named 0) (map word_of rest)))
     (with_literals (drat_step Add (l ∷ [])) ls)
 
 is_spelling : IsSpelling drat spelling
@@ -133,13 +131,13 @@ is_spelling = record {
   ends = ends;
   moves = λ part s run fits. word_moves part s run fits (word_of run) (word_spelled run);
   reads = λ s is rest. words_read s.kind s.lits rest is.literals
-      ∙ ap (λ t. option_map (λ ss. t ∷ ss) (word_steps drat Start (named 0) (map word_of rest)))
+      ∙ ap (λ t. option_map (λ ss. t ∷ ss) (word_steps drat at_start (named 0) (map word_of rest)))
       (drat_step_is s is);
 }
   where
-    ends : (part : Part) (s : Step) → Fits part s → is_start part ≡ true → so_far part s ≡ []
-    ends Start s fits start = ap (so_far Start) (fits.begins refl)
-    ends Literals s fits start = cc
+    ends : (part : DratSpot) (s : Step) → Fits part s → is_start part ≡ true → so_far part s ≡ []
+    ends at_start s fits start = ap (so_far at_start) (fits.begins refl)
+    ends in_literals s fits start = cc
 
 pub drat_both_ways : DratIsGrammar
 drat_both_ways = record {

@@ -5,7 +5,7 @@ use Rattle.std.proofs.Math.Nat.{pow-suc}
 use Rattle.std.proofs.lemmas.Bool.Decides.{nat_tests}
 use Rattle.proofs.specs.Steps.{Step}
 use Rattle.proofs.specs.Binary.{groups_value, binary_number_move}
-use Rattle.proofs.specs.BinaryMoves.{KeepsGroups}
+use Rattle.proofs.specs.Code.BinaryMoves.{KeepsGroups}
 use Rattle.proofs.specs.declared.drat_binary.groups.Groups.{Groups}
 
 value-last : (bs : List ℕ) (b : ℕ) → groups_value (bs ++ b ∷ []) ≡ groups_value bs + b % 128 * 128 ^ length bs

@@ -15,13 +15,11 @@ use Rattle.cnf_base.specs.declared.word.Word.{Word}
 use Rattle.cnf_base.specs.declared.word.Word.TheVariants as words
 use Rattle.cnf_base.proofs.PrintLemmas.{both}
 use Rattle.cnf_base.proofs.GrammarLemmas.{number_text, IsSpelled, word_spelled}
-use Rattle.proofs.specs.declared.lrat_text.part.Part.{Part}
-use Rattle.proofs.specs.declared.lrat_text.part.Part.TheVariants.{Identifier, AfterIdentifier, Literals, Hints, Deletion}
 use Rattle.proofs.specs.declared.step_buf.StepKind.{StepKind}
 use Rattle.proofs.specs.declared.step_buf.StepKind.TheVariants.{Add, Delete}
 use Rattle.proofs.specs.Steps.{Step, is_small, is_hint, named, with_literal, with_hint}
 use Rattle.proofs.specs.TextSteps.{goes, completes, faults, move_of}
-use Rattle.proofs.specs.Lrat.{lrat, is_identifier, identifier, literal, hint, deleted}
+use Rattle.proofs.specs.Lrat.{LratSpot, at_identifier, after_identifier, in_literals, in_hints, in_deletion, lrat, is_identifier, identifier, literal, hint, deleted}
 use Rattle.proofs.specs.Printing.{hint_words, lrat_words, IsLratStep}
 use Rattle.proofs.specs.Grammar.{LratIsGrammar}
 use Rattle.proofs.proofs.PrintedText.{with_literals, with_hints}
@@ -37,23 +35,23 @@ record IsNamed (s : Step) : Type 0 where
 abbrev are_literals : List Literal → Bool
 are_literals ls = list_all (is_literal 268435455) ls
 
-abbrev Fits : Part → Step → Type 0
-Fits Identifier s = s ≡ named 0
-Fits AfterIdentifier s = IsNamed s × (s ≡ named s.id)
-Fits Literals s = IsNamed s × (s.kind ≡ Add) × (are_literals s.lits ≡ true) × (s.hints ≡ [])
-Fits Hints s = IsNamed s × (s.kind ≡ Add) × (are_literals s.lits ≡ true)
+abbrev Fits : LratSpot → Step → Type 0
+Fits at_identifier s = s ≡ named 0
+Fits after_identifier s = IsNamed s × (s ≡ named s.id)
+Fits in_literals s = IsNamed s × (s.kind ≡ Add) × (are_literals s.lits ≡ true) × (s.hints ≡ [])
+Fits in_hints s = IsNamed s × (s.kind ≡ Add) × (are_literals s.lits ≡ true)
     × (list_all (is_hint Add) s.hints ≡ true)
-Fits Deletion s = IsNamed s × (s.kind ≡ Delete) × (s.lits ≡ [])
+Fits in_deletion s = IsNamed s × (s.kind ≡ Delete) × (s.lits ≡ [])
     × (list_all (is_hint Delete) s.hints ≡ true)
 
-abbrev so_far : Part → Step → List (List ℕ)
-so_far Identifier s = []
-so_far AfterIdentifier s = decimal s.id ∷ []
-so_far Literals s = decimal s.id ∷ map literal_text s.lits
-so_far Hints s = decimal s.id ∷ literal_words s.lits ++ map signed_decimal s.hints
-so_far Deletion s = decimal s.id ∷ codes "d" ∷ map signed_decimal s.hints
+abbrev so_far : LratSpot → Step → List (List ℕ)
+so_far at_identifier s = []
+so_far after_identifier s = decimal s.id ∷ []
+so_far in_literals s = decimal s.id ∷ map literal_text s.lits
+so_far in_hints s = decimal s.id ∷ literal_words s.lits ++ map signed_decimal s.hints
+so_far in_deletion s = decimal s.id ∷ codes "d" ∷ map signed_decimal s.hints
 
-abbrev spelling : Spelling Part
+abbrev spelling : Spelling LratSpot
 spelling = record {
   IsStep = IsLratStep;
   whole = λ s. lrat_words s.kind s.id s.lits s.hints;
@@ -69,15 +67,15 @@ inside e = cc
 
 -- an identifier
 identifier_spelled : (s : Step) (run : List ℕ) (n : Number) → IsSpelled (words.Number n) run
-    → Spells spelling Identifier s run (identifier n)
+    → Spells spelling at_identifier s run (identifier n)
 identifier_spelled s run n spelled =
     by n.is_negative refl (nat_le n.size 0) refl (is_small n.size) refl
   where
     by : (minus : Bool) → n.is_negative ≡ minus → (nought : Bool) → nat_le n.size 0 ≡ nought
         → (small : Bool) → is_small n.size ≡ small
-        → Spells spelling Identifier s run
+        → Spells spelling at_identifier s run
         (cond minus (faults BadToken) (cond nought (faults BadToken)
-        (cond small (goes AfterIdentifier (named n.size)) (faults IdTooLarge))))
+        (cond small (goes after_identifier (named n.size)) (faults IdTooLarge))))
     by true m nought z small e = tt
     by false m true z small e = tt
     by false m false z false e = tt
@@ -88,17 +86,17 @@ identifier_spelled s run n spelled =
         ((record { some = some; small = e }, refl), ap (λ w. w ∷ []) (sym text))
 
 -- a literal just after the identifier, or the `0` there
-first_spelled : (s : Step) (run : List ℕ) (n : Number) → Fits AfterIdentifier s
-    → IsSpelled (words.Number n) run → Spells spelling AfterIdentifier s run (literal s n)
+first_spelled : (s : Step) (run : List ℕ) (n : Number) → Fits after_identifier s
+    → IsSpelled (words.Number n) run → Spells spelling after_identifier s run (literal s n)
 first_spelled s run n fits spelled =
-    literal_cases (Spells spelling AfterIdentifier s run) Literals (goes Hints) s n run spelled
+    literal_cases (Spells spelling after_identifier s run) in_literals (goes in_hints) s n run spelled
     tt taken ended
   where
     none : s.lits ≡ []
     none = ap (λ t. t.lits) fits.1
 
     taken : (l : Literal) → is_literal 268435455 l ≡ true → run ≡ literal_text l
-        → Spells spelling AfterIdentifier s run (goes Literals (with_literal s l))
+        → Spells spelling after_identifier s run (goes in_literals (with_literal s l))
     taken l is text = (
       (
         record { some = fits.0.some; small = fits.0.small },
@@ -110,7 +108,7 @@ first_spelled s run n fits spelled =
           ∙ ap (λ w. decimal s.id ∷ w ∷ []) (sym text),
     )
 
-    ended : run ≡ codes "0" → Spells spelling AfterIdentifier s run (goes Hints s)
+    ended : run ≡ codes "0" → Spells spelling after_identifier s run (goes in_hints s)
     ended text = (
       (
         fits.0,
@@ -123,14 +121,14 @@ first_spelled s run n fits spelled =
     )
 
 -- a literal after another one, or the `0` there
-literal_spelled : (s : Step) (run : List ℕ) (n : Number) → Fits Literals s
-    → IsSpelled (words.Number n) run → Spells spelling Literals s run (literal s n)
+literal_spelled : (s : Step) (run : List ℕ) (n : Number) → Fits in_literals s
+    → IsSpelled (words.Number n) run → Spells spelling in_literals s run (literal s n)
 literal_spelled s run n fits spelled =
-    literal_cases (Spells spelling Literals s run) Literals (goes Hints) s n run spelled
+    literal_cases (Spells spelling in_literals s run) in_literals (goes in_hints) s n run spelled
     tt taken ended
   where
     taken : (l : Literal) → is_literal 268435455 l ≡ true → run ≡ literal_text l
-        → Spells spelling Literals s run (goes Literals (with_literal s l))
+        → Spells spelling in_literals s run (goes in_literals (with_literal s l))
     taken l is text = (
       (
         record { some = fits.0.some; small = fits.0.small },
@@ -142,7 +140,7 @@ literal_spelled s run n fits spelled =
           ∙ ap (λ w. decimal s.id ∷ map literal_text s.lits ++ w ∷ []) (sym text),
     )
 
-    ended : run ≡ codes "0" → Spells spelling Literals s run (goes Hints s)
+    ended : run ≡ codes "0" → Spells spelling in_literals s run (goes in_hints s)
     ended text = (
       (fits.0, fits.1, fits.2, ap (list_all (is_hint Add)) fits.3),
       ap (λ hs. decimal s.id ∷ literal_words s.lits ++ map signed_decimal hs) fits.3
@@ -164,8 +162,8 @@ hint_is true (suc k) some small =
     (ap (λ v. v && is_small (suc k)) low ∙ small, refl)
 
 -- a hint, or the `0` that ends the step
-hint_spelled : (s : Step) (run : List ℕ) (n : Number) → Fits Hints s
-    → IsSpelled (words.Number n) run → Spells spelling Hints s run (hint s n)
+hint_spelled : (s : Step) (run : List ℕ) (n : Number) → Fits in_hints s
+    → IsSpelled (words.Number n) run → Spells spelling in_hints s run (hint s n)
 hint_spelled s run n fits spelled = by (is_small n.size) refl (nat_le n.size 0) refl
   where
     h : ℤ
@@ -173,13 +171,13 @@ hint_spelled s run n fits spelled = by (is_small n.size) refl (nat_le n.size 0) 
 
     onto : (more : List (List ℕ))
         → decimal s.id ∷ literal_words s.lits ++ (map signed_decimal s.hints ++ more)
-        ≡ so_far Hints s ++ more
+        ≡ so_far in_hints s ++ more
     onto more = ap (λ ws. decimal s.id ∷ ws)
         (sym (append_assoc (literal_words s.lits) (map signed_decimal s.hints) more))
 
     by : (small : Bool) → is_small n.size ≡ small → (nought : Bool) → nat_le n.size 0 ≡ nought
-        → Spells spelling Hints s run
-        (cond small (cond nought (completes s) (goes Hints (with_hint s h))) (faults IdTooLarge))
+        → Spells spelling in_hints s run
+        (cond small (cond nought (completes s) (goes in_hints (with_hint s h))) (faults IdTooLarge))
     by false e nought z = tt
     by true e true z =
         let most : n.size ≤ 9223372036854775807 = grind (arith, nat_tests) in
@@ -195,7 +193,7 @@ hint_spelled s run n fits spelled = by (is_small n.size) refl (nat_le n.size 0) 
             hints = ap (λ k. list_all (is_hint k) s.hints) fits.1 ∙ fits.3;
           },
           ap (λ k. lrat_words k s.id s.lits s.hints) fits.1 ∙ onto (codes "0" ∷ [])
-              ∙ ap (λ w. so_far Hints s ++ w ∷ [])
+              ∙ ap (λ w. so_far in_hints s ++ w ∷ [])
               (sym (zero_text n.is_negative n.size run text.0 none positive)),
         )
     by true e false z =
@@ -211,20 +209,20 @@ hint_spelled s run n fits spelled = by (is_small n.size) refl (nat_le n.size 0) 
           ap (λ ws. decimal s.id ∷ literal_words s.lits ++ ws)
               (map-append signed_decimal s.hints (h ∷ []))
               ∙ onto (signed_decimal h ∷ [])
-              ∙ ap (λ w. so_far Hints s ++ w ∷ []) (sym ((spelled most).0 ∙ is.1)),
+              ∙ ap (λ w. so_far in_hints s ++ w ∷ []) (sym ((spelled most).0 ∙ is.1)),
         )
 
 -- an identifier that is deleted, or the `0` that ends the step
-deleted_spelled : (s : Step) (run : List ℕ) (n : Number) → Fits Deletion s
-    → IsSpelled (words.Number n) run → Spells spelling Deletion s run (deleted s n)
+deleted_spelled : (s : Step) (run : List ℕ) (n : Number) → Fits in_deletion s
+    → IsSpelled (words.Number n) run → Spells spelling in_deletion s run (deleted s n)
 deleted_spelled s run n fits spelled =
     by n.is_negative refl (is_small n.size) refl (nat_le n.size 0) refl
   where
     by : (minus : Bool) → n.is_negative ≡ minus → (small : Bool) → is_small n.size ≡ small
         → (nought : Bool) → nat_le n.size 0 ≡ nought
-        → Spells spelling Deletion s run
+        → Spells spelling in_deletion s run
         (cond minus (faults BadToken)
-        (cond small (cond nought (completes s) (goes Deletion (with_hint s (pos n.size))))
+        (cond small (cond nought (completes s) (goes in_deletion (with_hint s (pos n.size))))
         (faults IdTooLarge)))
     by true m small e nought z = tt
     by false m false e nought z = tt
@@ -240,7 +238,7 @@ deleted_spelled s run n fits spelled =
             hints = ap (λ k. list_all (is_hint k) s.hints) fits.1 ∙ fits.3;
           },
           ap (λ k. lrat_words k s.id s.lits s.hints) fits.1
-              ∙ ap (λ w. so_far Deletion s ++ w ∷ [])
+              ∙ ap (λ w. so_far in_deletion s ++ w ∷ [])
               (sym (zero_text false n.size run text none (λ (bad : false ≡ true). cc))),
         )
     by false m true e false z =
@@ -256,28 +254,28 @@ deleted_spelled s run n fits spelled =
           ),
           ap (λ ws. decimal s.id ∷ codes "d" ∷ ws)
               (map-append signed_decimal s.hints (pos n.size ∷ []))
-              ∙ ap (λ w. so_far Deletion s ++ w ∷ []) (sym text),
+              ∙ ap (λ w. so_far in_deletion s ++ w ∷ []) (sym text),
         )
 
 -- the `d`
-d_spelled : (part : Part) (s : Step) (run : List ℕ) → Fits part s → run ≡ codes "d"
+d_spelled : (part : LratSpot) (s : Step) (run : List ℕ) → Fits part s → run ≡ codes "d"
     → Spells spelling part s run (move_of lrat part s words.D)
-d_spelled AfterIdentifier s run fits text = (
+d_spelled after_identifier s run fits text = (
   (record { some = fits.0.some; small = fits.0.small }, refl, refl, refl),
   ap (λ w. decimal s.id ∷ w ∷ []) (sym text),
 )
 d_spelled _ s run fits text = tt
 
-number_spelled : (part : Part) (s : Step) (run : List ℕ) → Fits part s → (n : Number)
+number_spelled : (part : LratSpot) (s : Step) (run : List ℕ) → Fits part s → (n : Number)
     → IsSpelled (words.Number n) run
     → Spells spelling part s run (move_of lrat part s (words.Number n))
-number_spelled Identifier s run fits n spelled = identifier_spelled s run n spelled
-number_spelled AfterIdentifier s run fits n spelled = first_spelled s run n fits spelled
-number_spelled Literals s run fits n spelled = literal_spelled s run n fits spelled
-number_spelled Hints s run fits n spelled = hint_spelled s run n fits spelled
-number_spelled Deletion s run fits n spelled = deleted_spelled s run n fits spelled
+number_spelled at_identifier s run fits n spelled = identifier_spelled s run n spelled
+number_spelled after_identifier s run fits n spelled = first_spelled s run n fits spelled
+number_spelled in_literals s run fits n spelled = literal_spelled s run n fits spelled
+number_spelled in_hints s run fits n spelled = hint_spelled s run n fits spelled
+number_spelled in_deletion s run fits n spelled = deleted_spelled s run n fits spelled
 
-word_moves : (part : Part) (s : Step) (run : List ℕ) → Fits part s → (w : Word) → IsSpelled w run
+word_moves : (part : LratSpot) (s : Step) (run : List ℕ) → Fits part s → (w : Word) → IsSpelled w run
     → Spells spelling part s run (move_of lrat part s w)
 word_moves part s run fits (words.Number n) spelled = number_spelled part s run fits n spelled
 word_moves part s run fits words.D spelled = d_spelled part s run fits spelled
@@ -287,7 +285,7 @@ word_moves part s run fits _ spelled = tt
 
 module _ (rest : List (List ℕ)) where
   abbrev later : Option (List Step)
-  later = word_steps lrat Identifier (named 0) (map word_of rest)
+  later = word_steps lrat at_identifier (named 0) (map word_of rest)
 
   -- hints, or identifiers that are deleted, and the step's end
   hints_read : (kind : StepKind) (hs : List ℤ) (s : Step) → list_all (is_hint kind) hs ≡ true
@@ -304,7 +302,7 @@ module _ (rest : List (List ℕ)) where
   -- an addition after its identifier
   addition_read : (id : ℕ) (ls : List Literal) (hs : List ℤ) → are_literals ls ≡ true
       → list_all (is_hint Add) hs ≡ true
-      → word_steps lrat AfterIdentifier (named id)
+      → word_steps lrat after_identifier (named id)
       (map word_of ((literal_words ls ++ hint_words hs) ++ rest))
       ≡ option_map (λ ss. step_of Add id ls hs ∷ ss) later
   addition_read id [] hs are hints =
@@ -317,12 +315,12 @@ module _ (rest : List (List ℕ)) where
       (λ part s. word_steps lrat part s
       (map word_of ((literal_words ls ++ hint_words hs) ++ rest))))
       (first_literal_move (named id) l r.0)
-      ∙ ap (λ ws. word_steps lrat Literals first (map word_of ws))
+      ∙ ap (λ ws. word_steps lrat in_literals first (map word_of ws))
       (append_assoc (literal_words ls) (hint_words hs) rest
       ∙ append_assoc (map literal_text ls) (codes "0" ∷ []) (hint_words hs ++ rest))
-      ∙ list_words lrat literal_text (is_literal 268435455) with_literal Literals literal_move ls
+      ∙ list_words lrat literal_text (is_literal 268435455) with_literal in_literals literal_move ls
       (codes "0" ∷ hint_words hs ++ rest) first r.1
-      ∙ ap (λ s. word_steps lrat Hints s (map word_of (hint_words hs ++ rest)))
+      ∙ ap (λ s. word_steps lrat in_hints s (map word_of (hint_words hs ++ rest)))
       (with_literals first ls)
       ∙ hints_read Add hs (step_of Add id (l ∷ ls) []) hints
       ∙ ap (λ s. option_map (λ ss. s ∷ ss) later) (with_hints (step_of Add id (l ∷ ls) []) hs)
@@ -330,7 +328,7 @@ module _ (rest : List (List ℕ)) where
   words_read : (kind : StepKind) (id : ℕ) (ls : List Literal) (hs : List ℤ) → 1 ≤ id
       → is_small id ≡ true → are_literals ls ≡ true → (kind ≡ Delete → ls ≡ [])
       → list_all (is_hint kind) hs ≡ true
-      → word_steps lrat Identifier (named 0) (map word_of (lrat_words kind id ls hs ++ rest))
+      → word_steps lrat at_identifier (named 0) (map word_of (lrat_words kind id ls hs ++ rest))
       ≡ option_map (λ ss. step_of kind id ls hs ∷ ss) later
   words_read Add id ls hs some small are empty hints =
       ap (λ m. on_word lrat m
@@ -358,12 +356,12 @@ is_spelling = record {
       words_read rest s.kind s.id s.lits s.hints is.some is.small is.literals is.deletion is.hints;
 }
   where
-    ends : (part : Part) (s : Step) → Fits part s → is_identifier part ≡ true → so_far part s ≡ []
-    ends Identifier s fits start = refl
-    ends AfterIdentifier s fits start = absurd (inside start)
-    ends Literals s fits start = absurd (inside start)
-    ends Hints s fits start = absurd (inside start)
-    ends Deletion s fits start = absurd (inside start)
+    ends : (part : LratSpot) (s : Step) → Fits part s → is_identifier part ≡ true → so_far part s ≡ []
+    ends at_identifier s fits start = refl
+    ends after_identifier s fits start = absurd (inside start)
+    ends in_literals s fits start = absurd (inside start)
+    ends in_hints s fits start = absurd (inside start)
+    ends in_deletion s fits start = absurd (inside start)
 
 pub lrat_both_ways : LratIsGrammar
 lrat_both_ways = record {

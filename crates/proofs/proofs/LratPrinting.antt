@@ -6,19 +6,18 @@ use Rattle.std.specs.List.{flat_map, list_all}
 use Rattle.std.proofs.lemmas.Bool.Decides.{nat_tests}
 use Rattle.cnf_base.specs.Literals.{Literal}
 use Rattle.cnf_base.specs.Printing.{input_of, is_literal, literal_text, literal_words, words_line}
-use Rattle.cnf_base.specs.Text.{col_along}
+use Rattle.cnf_base.specs.Code.Text.{col_along}
 use Rattle.cnf_base.specs.Words.{number, word_of}
 use Rattle.cnf_base.specs.declared.fault.TextFault.TheVariants.{LiteralTooLarge}
 use Rattle.cnf_base.specs.declared.place.Place.{Place}
 use Rattle.cnf_base.specs.declared.word.Word.TheVariants as words
 use Rattle.cnf_base.proofs.PrintLemmas.{line_from, IsPlain, along_from_one, past, past_from_one, next_word, first_word, both, fixed_plain, decimal_plain, minus_plain, decimal_no_comment, decimal_word, minus_word, zero_plain, literal_word, literal_plain, literal_taken}
-use Rattle.proofs.specs.declared.lrat_text.part.Part.{Part}
-use Rattle.proofs.specs.declared.lrat_text.part.Part.TheVariants.{Identifier, AfterIdentifier, Literals, Hints, Deletion}
 use Rattle.proofs.specs.declared.step_buf.StepKind.{StepKind}
 use Rattle.proofs.specs.declared.step_buf.StepKind.TheVariants.{Add, Delete}
 use Rattle.proofs.specs.Steps.{Step, is_small, is_hint, named, with_literal, with_hint}
-use Rattle.proofs.specs.TextSteps.{goes, completes, faults, literal_or_end, move_of, steps_from, steps_at}
-use Rattle.proofs.specs.Lrat.{lrat, lrat_steps}
+use Rattle.proofs.specs.TextSteps.{goes, completes, faults, literal_or_end, move_of, steps_from}
+use Rattle.proofs.specs.Code.TextSteps.{steps_at}
+use Rattle.proofs.specs.Lrat.{LratSpot, at_identifier, after_identifier, in_literals, in_hints, in_deletion, lrat, lrat_steps}
 use Rattle.proofs.specs.Printing.{ReadProof, read_of, proof_of, hint_words, lrat_words, lrat_line, IsLratStep}
 use Rattle.proofs.proofs.PrintedText.{with_read, with_literals, with_hints, word_goes, list_read, zero_read, lines_read}
 
@@ -26,24 +25,24 @@ use Rattle.proofs.proofs.PrintedText.{with_read, with_literals, with_hints, word
 
 -- a step's identifier
 pub identifier_move : (s : Step) (id : ℕ) → 1 ≤ id → is_small id ≡ true
-    → move_of lrat Identifier s (word_of (decimal id)) ≡ goes AfterIdentifier (named id)
+    → move_of lrat at_identifier s (word_of (decimal id)) ≡ goes after_identifier (named id)
 identifier_move s id some small =
     let most : id ≤ 9223372036854775807 = grind (arith, nat_tests) in
     let nonzero : nat_le id 0 ≡ false = grind (arith, nat_tests) in
-    ap (move_of lrat Identifier s) (decimal_word id (omega arith) (omega arith)) ∙ rw (nonzero, small) refl
+    ap (move_of lrat at_identifier s) (decimal_word id (omega arith) (omega arith)) ∙ rw (nonzero, small) refl
 
 -- a literal's word
 pub first_literal_move : (s : Step) (l : Literal) → is_literal 268435455 l ≡ true
-    → move_of lrat AfterIdentifier s (word_of (literal_text l)) ≡ goes Literals (with_literal s l)
+    → move_of lrat after_identifier s (word_of (literal_text l)) ≡ goes in_literals (with_literal s l)
 first_literal_move s l is =
-    ap (move_of lrat AfterIdentifier s) (literal_word 268435455 l (omega arith) is)
-    ∙ literal_taken 268435455 l (omega arith) is (literal_or_end Literals (goes Hints) s) (faults LiteralTooLarge)
+    ap (move_of lrat after_identifier s) (literal_word 268435455 l (omega arith) is)
+    ∙ literal_taken 268435455 l (omega arith) is (literal_or_end in_literals (goes in_hints) s) (faults LiteralTooLarge)
 
 pub literal_move : (s : Step) (l : Literal) → is_literal 268435455 l ≡ true
-    → move_of lrat Literals s (word_of (literal_text l)) ≡ goes Literals (with_literal s l)
+    → move_of lrat in_literals s (word_of (literal_text l)) ≡ goes in_literals (with_literal s l)
 literal_move s l is =
-    ap (move_of lrat Literals s) (literal_word 268435455 l (omega arith) is)
-    ∙ literal_taken 268435455 l (omega arith) is (literal_or_end Literals (goes Hints) s) (faults LiteralTooLarge)
+    ap (move_of lrat in_literals s) (literal_word 268435455 l (omega arith) is)
+    ∙ literal_taken 268435455 l (omega arith) is (literal_or_end in_literals (goes in_hints) s) (faults LiteralTooLarge)
 
 -- an identifier within the limit
 id_range : (k : ℕ) → (nat_le 1 k && is_small k) ≡ true → (1 ≤ k) × (k ≤ 9223372036854775807)
@@ -53,9 +52,9 @@ id_tests : (k : ℕ) → (nat_le 1 k && is_small k) ≡ true → (nat_le k 0 ≡
 id_tests k h = let r = id_range k h in (grind (arith, nat_tests), grind (arith, nat_tests))
 
 -- where hints stand, or identifiers that are deleted
-abbrev pub hint_part : StepKind → Part
-hint_part Add = Hints
-hint_part Delete = Deletion
+abbrev pub hint_part : StepKind → LratSpot
+hint_part Add = in_hints
+hint_part Delete = in_deletion
 
 hint_plain : (kind : StepKind) (h : ℤ) → is_hint kind h ≡ true → IsPlain (signed_decimal h)
 hint_plain Add (pos k) is = let r = id_range k is in decimal_plain k (omega arith)
@@ -68,15 +67,15 @@ pub hint_move : (kind : StepKind) (s : Step) (h : ℤ) → is_hint kind h ≡ tr
 hint_move Add s (pos k) is =
     let r = id_range k is in
     let t = id_tests k is in
-    ap (move_of lrat Hints s) (decimal_word k (omega arith) (omega arith)) ∙ rw (t.1, t.0) refl
+    ap (move_of lrat in_hints s) (decimal_word k (omega arith) (omega arith)) ∙ rw (t.1, t.0) refl
 hint_move Add s (negsuc k) is =
     let r = id_range (suc k) is in
     let t = id_tests (suc k) is in
-    ap (move_of lrat Hints s) (minus_word (suc k) (omega arith) (omega arith)) ∙ rw (t.1, t.0) refl
+    ap (move_of lrat in_hints s) (minus_word (suc k) (omega arith) (omega arith)) ∙ rw (t.1, t.0) refl
 hint_move Delete s (pos k) is =
     let r = id_range k is in
     let t = id_tests k is in
-    ap (move_of lrat Deletion s) (decimal_word k (omega arith) (omega arith)) ∙ rw (t.1, t.0) refl
+    ap (move_of lrat in_deletion s) (decimal_word k (omega arith) (omega arith)) ∙ rw (t.1, t.0) refl
 hint_move Delete s (negsuc k) is = absurd (let bad : false ≡ true = is in cc)
 
 -- the `0` after them
@@ -108,24 +107,24 @@ module _ (rest : List ℕ) (result : ReadProof)
   -- what follows the identifier of an addition
   addition_read : (id : ℕ) (ls : List Literal) (hs : List ℤ) (p : Place) → 0 < p.col
       → list_all (is_literal 268435455) ls ≡ true → list_all (is_hint Add) hs ≡ true
-      → read_of (steps_from lrat AfterIdentifier (named id) (line_from p (literal_words ls ++ hint_words hs) rest))
+      → read_of (steps_from lrat after_identifier (named id) (line_from p (literal_words ls ++ hint_words hs) rest))
       ≡ with_read (step_of Add id ls hs) (length (10 ∷ rest)) result
   addition_read id [] hs p from_one are hints =
-      ap read_of (word_goes lrat AfterIdentifier (named id) (next_word p (codes "0") (hint_words hs) rest from_one zero_plain) refl)
+      ap read_of (word_goes lrat after_identifier (named id) (next_word p (codes "0") (hint_words hs) rest from_one zero_plain) refl)
       ∙ hints_read Add id [] hs (past p (codes "0")) (past_from_one p (codes "0")) hints
   addition_read id (l ∷ ls) hs p from_one are hints =
       let r = both (is_literal 268435455 l) (list_all (is_literal 268435455) ls) are in
       let q : Place = past p (literal_text l) in
       let first : Step = step_of Add id (l ∷ []) [] in
-      ap read_of (word_goes lrat AfterIdentifier (named id) (next_word p (literal_text l) (literal_words ls ++ hint_words hs) rest from_one
+      ap read_of (word_goes lrat after_identifier (named id) (next_word p (literal_text l) (literal_words ls ++ hint_words hs) rest from_one
       (literal_plain 268435455 l (omega arith) r.0)) (first_literal_move (named id) l r.0))
-      ∙ ap (λ ws. read_of (steps_from lrat Literals first (line_from q ws rest)))
+      ∙ ap (λ ws. read_of (steps_from lrat in_literals first (line_from q ws rest)))
       (append_assoc (map literal_text ls) (codes "0" ∷ []) (hint_words hs))
-      ∙ list_read lrat literal_text (is_literal 268435455) with_literal Literals
+      ∙ list_read lrat literal_text (is_literal 268435455) with_literal in_literals
       (λ l is. literal_plain 268435455 l (omega arith) is) literal_move
       ls (codes "0" ∷ hint_words hs) rest _ first q (past_from_one p (literal_text l)) r.1
-      (λ q q_from_one. ap read_of (word_goes lrat Literals _ (next_word q (codes "0") (hint_words hs) rest q_from_one zero_plain) refl)
-      ∙ ap (λ s. read_of (steps_from lrat Hints s (line_from (past q (codes "0")) (hint_words hs) rest)))
+      (λ q q_from_one. ap read_of (word_goes lrat in_literals _ (next_word q (codes "0") (hint_words hs) rest q_from_one zero_plain) refl)
+      ∙ ap (λ s. read_of (steps_from lrat in_hints s (line_from (past q (codes "0")) (hint_words hs) rest)))
       (with_literals first ls)
       ∙ hints_read Add id (l ∷ ls) hs (past q (codes "0")) (past_from_one q (codes "0")) hints)
 
@@ -137,17 +136,17 @@ module _ (rest : List ℕ) (result : ReadProof)
       ≡ with_read (step_of kind id ls hs) (length (10 ∷ rest)) result
   step_read Add id ls hs p from_one some small are empty hints =
       let most : id ≤ 9223372036854775807 = grind (arith, nat_tests) in
-      ap read_of (word_goes lrat Identifier (named 0) (first_word p (decimal id) (literal_words ls ++ hint_words hs) rest
+      ap read_of (word_goes lrat at_identifier (named 0) (first_word p (decimal id) (literal_words ls ++ hint_words hs) rest
       (decimal_no_comment id (omega arith)) (decimal_plain id (omega arith)))
       (identifier_move (named 0) id some small))
       ∙ addition_read id ls hs (col_along p (decimal id)) (along_from_one p (decimal id) from_one) are hints
   step_read Delete id ls hs p from_one some small are empty hints =
       let most : id ≤ 9223372036854775807 = grind (arith, nat_tests) in
       let q : Place = col_along p (decimal id) in
-      ap read_of (word_goes lrat Identifier (named 0) (first_word p (decimal id) (codes "d" ∷ hint_words hs) rest
+      ap read_of (word_goes lrat at_identifier (named 0) (first_word p (decimal id) (codes "d" ∷ hint_words hs) rest
       (decimal_no_comment id (omega arith)) (decimal_plain id (omega arith)))
       (identifier_move (named 0) id some small))
-      ∙ ap read_of (word_goes lrat AfterIdentifier (named id) (next_word q (codes "d") (hint_words hs) rest (along_from_one p (decimal id) from_one)
+      ∙ ap read_of (word_goes lrat after_identifier (named id) (next_word q (codes "d") (hint_words hs) rest (along_from_one p (decimal id) from_one)
       (fixed_plain 100 [] refl)) refl)
       ∙ hints_read Delete id [] hs (past q (codes "d")) (past_from_one q (codes "d")) hints
       ∙ ap (λ t. with_read (step_of Delete id t hs) (length (10 ∷ rest)) result) (sym (empty refl))

@@ -18,7 +18,8 @@ use Rattle.proofs.specs.declared.step_buf.StepKind.{StepKind}
 use Rattle.proofs.specs.declared.step_end.StepEnd.TheVariants as ends
 use Rattle.proofs.specs.Steps.{Step, named, with_literal, with_hint}
 use Rattle.proofs.specs.Reading.{with_step}
-use Rattle.proofs.specs.TextSteps.{goes, completes, Format, move_of, steps_from, steps_listed, steps_at}
+use Rattle.proofs.specs.TextSteps.{goes, completes, Format, move_of, steps_from, steps_listed}
+use Rattle.proofs.specs.Code.TextSteps.{steps_at}
 use Rattle.proofs.specs.Printing.{ReadProof, read_of, proof_of, IsDratStep}
 
 -- many literals, and many hints

@@ -18,7 +18,8 @@ use Rattle.cnf_base.proofs.StreamLemmas.{Along-map}
 use Rattle.proofs.specs.declared.step_end.StepEnd.{StepEnd}
 use Rattle.proofs.specs.declared.step_end.StepEnd.TheVariants as ends
 use Rattle.proofs.specs.Steps.{Step, named}
-use Rattle.proofs.specs.Reading.{PlacedStep, Proof, clean, faulty_proof, with_step, proof_unless_ended, GivesStep, PassesNoEnd}
+use Rattle.proofs.specs.Reading.{PlacedStep, Proof, clean, faulty_proof, with_step, GivesStep, PassesNoEnd}
+use Rattle.proofs.specs.Code.Reading.{proof_unless_ended}
 use Rattle.proofs.specs.TextSteps.{Move, goes, completes, faults, Format, move_of, on_move, on_token, at_end, steps_among, steps_of}
 use Rattle.proofs.specs.Binary as binary
 use Rattle.proofs.specs.Binary.{BinarySpot, at_tag, in_step, in_number, BinaryMove, binary_move_of, on_binary_move, binary_at_end, binary_steps_among, binary_steps}

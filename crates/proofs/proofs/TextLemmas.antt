@@ -18,9 +18,10 @@ use Rattle.cnf_base.proofs.StreamLemmas.{Along-then, Along-map, Along-none, Alon
 use Rattle.proofs.specs.declared.step_end.StepEnd.{StepEnd}
 use Rattle.proofs.specs.declared.step_end.StepEnd.TheVariants as ends
 use Rattle.proofs.specs.Steps.{Step, named}
-use Rattle.proofs.specs.Reading.{Proof, clean, faulty_proof, proof_unless_ended, GivesStep, PassesNoEnd}
+use Rattle.proofs.specs.Reading.{Proof, clean, faulty_proof, GivesStep, PassesNoEnd}
+use Rattle.proofs.specs.Code.Reading.{proof_unless_ended}
 use Rattle.proofs.specs.TextSteps.{Move, goes, completes, faults, Format, move_of, on_move, at_end, steps_from, steps_listed}
-use Rattle.proofs.specs.TextMoves.{text_left, EndsProof, MovesText}
+use Rattle.proofs.specs.Code.TextMoves.{text_left, EndsProof, MovesText}
 use Rattle.proofs.specs.declared.moved.Moved.{Moved}
 use Rattle.proofs.specs.declared.stopped.Stopped.{Stopped}
 use Rattle.proofs.proofs.ReachLemmas.{steps_among-within, on_move-within, ended-within}
@@ -163,5 +164,5 @@ module _ {P : Type 0} (format : Format P) (old now new : Stream) (part : P) (s :
       empty l none failed = rw (none, failed) refl
 
 -- what a word was found to do, by the answer's pattern
-pub moves_told : {P : Type 0} (result answer : Result (Moved P) Stopped) (m : Move P) (s : Step) → MovesText result m s → result ≡ answer → MovesText answer m s
-moves_told {P} result answer m s moves is = let Q : Result (Moved P) Stopped → Type 0 = λ r. MovesText r m s in subst Q is moves
+pub moves_told : {P S : Type 0} (spot : P → S) (result answer : Result (Moved P) Stopped) (m : Move S) (s : Step) → MovesText spot result m s → result ≡ answer → MovesText spot answer m s
+moves_told {P} spot result answer m s moves is = let Q : Result (Moved P) Stopped → Type 0 = λ r. MovesText spot r m s in subst Q is moves

@@ -2,16 +2,16 @@
 -- number is written in groups of 7 bits, lowest first, where all bytes but the last have their high bit set; 2v is the
 -- variable v, and 2v + 1 its complement. That the last group is not empty, the limit of literals, the faults, their byte
 -- numbers and the order of judging are our own profile.
-use Rattle.std.specs.Prelude.{ℕ, ◌+◌, ◌*◌, ◌%◌, ◌==◌, nat_le, if◌then◌else◌, List, [], ◌∷◌, ◌++◌, length}
-use Rattle.cnf_base.specs.Stream.{Input, next_count}
-use Rattle.cnf_base.specs.declared.input.Ending.{Ending}
-use Rattle.cnf_base.specs.declared.input.Ending.TheVariants.{End, Failed}
-use Rattle.cnf_base.specs.declared.fault.Fault.TheVariants.{Binary, ReadFailed}
+use Rattle.std.specs.Prelude.{ℕ, ◌+◌, ◌*◌, ◌%◌, List, [], ◌∷◌, ◌==◌, if◌then◌else◌, nat_le, ◌++◌, length}
+use Rattle.cnf_base.specs.Stream.{next_count, Input}
+use Rattle.cnf_base.specs.declared.fault.BinaryFault.TheVariants.{BadTag, LiteralTooLarge, BadNumber, UnterminatedStep}
 use Rattle.cnf_base.specs.declared.fault.BinaryFault.{BinaryFault}
-use Rattle.cnf_base.specs.declared.fault.BinaryFault.TheVariants.{LiteralTooLarge, UnterminatedStep, BadTag, BadNumber}
+use Rattle.cnf_base.specs.declared.fault.Fault.TheVariants.{Binary, ReadFailed}
+use Rattle.cnf_base.specs.declared.input.Ending.TheVariants.{End, Failed}
+use Rattle.cnf_base.specs.declared.input.Ending.{Ending}
+use Rattle.proofs.specs.Reading.{Proof, clean, faulty_proof, with_step}
+use Rattle.proofs.specs.Steps.{Step, deleting, with_literal, named}
 use Rattle.proofs.specs.declared.step_end.StepEnd.TheVariants.{Byte}
-use Rattle.proofs.specs.Steps.{Step, named, deleting, with_literal}
-use Rattle.proofs.specs.Reading.{Proof, clean, faulty_proof, with_step, ProofReading, proof_unless_ended}
 
 -- ---- One byte of a step
 
@@ -88,7 +88,3 @@ binary_steps_at at i = binary_steps_from at_tag (named 0) at i
 
 abbrev pub binary_steps : Input → Proof
 binary_steps i = binary_steps_at 1 i
-
--- what is still to come of an input
-abbrev pub binary_to_come : ProofReading → Input → Proof
-binary_to_come r i = proof_unless_ended r.kept (binary_steps_at r.stream.byte_no i)

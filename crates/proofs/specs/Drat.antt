@@ -3,36 +3,35 @@
 -- faults and their places are our own profile.
 use Rattle.std.specs.Prelude.{Bool, true, false}
 use Rattle.cnf_base.specs.Stream.{Input}
-use Rattle.cnf_base.specs.declared.word.Number.{Number}
 use Rattle.cnf_base.specs.declared.fault.TextFault.TheVariants.{BadToken}
-use Rattle.proofs.specs.declared.drat_text.part.Part.{Part}
-use Rattle.proofs.specs.declared.drat_text.part.Part.TheVariants.{Start, Literals}
+use Rattle.cnf_base.specs.declared.word.Number.{Number}
+use Rattle.proofs.specs.Reading.{Proof}
 use Rattle.proofs.specs.Steps.{Step, deleting}
-use Rattle.proofs.specs.Reading.{Proof, ProofReading}
-use Rattle.proofs.specs.TextSteps.{Move, goes, completes, faults, literal_or_fault, Format, steps_of, left_to}
+use Rattle.proofs.specs.TextSteps.{Move, completes, literal_or_fault, goes, faults, Format, steps_of}
+
+-- where a word stands: at a step's start, or after a word of it
+pub data DratSpot : Type 0 where
+  at_start : DratSpot
+  in_literals : DratSpot
 
 -- a literal, or the `0` that ends the step
-abbrev pub drat_number_move : Part → Step → Number → Move Part
-drat_number_move part s n = literal_or_fault Literals completes s n
+abbrev pub drat_number_move : DratSpot → Step → Number → Move DratSpot
+drat_number_move spot s n = literal_or_fault in_literals completes s n
 
 -- `d` is a step's first word alone
-abbrev pub drat_d_move : Part → Step → Move Part
-drat_d_move Start s = goes Literals (deleting s)
-drat_d_move Literals s = faults BadToken
+abbrev pub drat_d_move : DratSpot → Step → Move DratSpot
+drat_d_move at_start s = goes in_literals (deleting s)
+drat_d_move in_literals s = faults BadToken
 
 -- ---- All steps
 
-abbrev pub is_start : Part → Bool
-is_start Start = true
-is_start Literals = false
+abbrev pub is_start : DratSpot → Bool
+is_start at_start = true
+is_start in_literals = false
 
 -- a step begins as an addition, with the identifier 0 that all steps have
-abbrev pub drat : Format Part
-drat = record { start = Start; is_start = is_start; number_move = drat_number_move; d_move = drat_d_move }
+abbrev pub drat : Format DratSpot
+drat = record { start = at_start; is_start = is_start; number_move = drat_number_move; d_move = drat_d_move }
 
 abbrev pub drat_steps : Input → Proof
 drat_steps i = steps_of drat i
-
--- what is still to come of an input
-abbrev pub drat_to_come : ProofReading → Input → Proof
-drat_to_come r i = left_to drat r i

@@ -1,10 +1,10 @@
 -- A proof that is read step by step, in whatever format.
-use Rattle.std.specs.Prelude.{◌≡◌, ℕ, ◌≤◌, slice_get, Bool, true, false, List, [], ◌∷◌, length, Option, None, Some, Result, Ok, Err}
-use Rattle.cnf_base.specs.Stream.{Input, Stream, tells_failure}
+use Rattle.std.specs.Prelude.{ℕ, List, Option, [], None, Some, ◌∷◌, Bool, Result, ◌≡◌, true, false, length, Ok, Err, ◌≤◌, slice_get}
+use Rattle.cnf_base.specs.Stream.{Stream, Input}
+use Rattle.cnf_base.specs.declared.fault.Fault.TheVariants.{OutOfMemory}
 use Rattle.cnf_base.specs.declared.fault.Fault.{Fault}
-use Rattle.cnf_base.specs.declared.fault.Fault.TheVariants.{OutOfMemory, ReadFailed}
-use Rattle.proofs.specs.declared.step_end.StepEnd.{StepEnd}
 use Rattle.proofs.specs.Steps.{Step}
+use Rattle.proofs.specs.declared.step_end.StepEnd.{StepEnd}
 
 -- a step, where its last `0` stands, and how many bytes of the input follow that
 pub record PlacedStep : Type 0 where
@@ -26,12 +26,6 @@ faulty_proof f = record { steps = []; fault = Some f }
 abbrev pub with_step : Step → StepEnd → ℕ → Proof → Proof
 with_step s end rest p = record { steps = record { step = s; end = end; rest = rest } ∷ p.steps; fault = p.fault }
 
--- after an end nothing else is to come
-abbrev pub proof_unless_ended : Option (Result Bool Fault) → Proof → Proof
-proof_unless_ended None p = p
-proof_unless_ended (Some (Ok _)) p = clean
-proof_unless_ended (Some (Err f)) p = faulty_proof f
-
 -- where a reader stands in its input, the answer that it gives from now on where it has come to an end, where the step
 -- ends that it gave last, and how many literals and hints it keeps of what it has read
 pub record ProofReading : Type 0 where
@@ -39,10 +33,6 @@ pub record ProofReading : Type 0 where
   pub kept : Option (Result Bool Fault)
   pub step_end : Option StepEnd
   pub stored : ℕ
-
--- a step is no end, and of a failed read that ended it the reader below tells
-abbrev pub EndsRightly : ProofReading → Type 0
-EndsRightly r = (r.kept ≡ Some (Ok true) → ⊥) × (r.kept ≡ Some (Err ReadFailed) → tells_failure r.stream.reader ≡ true)
 
 -- A step is the first of what is to come, and ends there; or nothing is to come, and it stays so; or a fault is, and it stays.
 -- After want of memory that is the fault that stays. `rest` is what follows of the input.

@@ -1,23 +1,23 @@
 -- The steps of a proof as text, over any number of lines, in whatever format.
-use Rattle.std.specs.Prelude.{ℕ, nat_le, Bool, if◌then◌else◌, List, [], ◌∷◌, Option, None, Some}
+use Rattle.std.specs.Prelude.{Option, None, Some, nat_le, if◌then◌else◌, Bool, ℕ, List, [], ◌∷◌}
 use Rattle.cnf_base.specs.Literals.{Literal}
 use Rattle.cnf_base.specs.Stream.{Input}
-use Rattle.cnf_base.specs.Text.{Listed, Listing, listing_at, listing_of}
+use Rattle.cnf_base.specs.Text.{Listed, Listing, listing_of}
 use Rattle.cnf_base.specs.Words.{number_literal}
-use Rattle.cnf_base.specs.declared.input.Ending.{Ending}
+use Rattle.cnf_base.specs.declared.fault.Fault.TheVariants.{Text, ReadFailed}
+use Rattle.cnf_base.specs.declared.fault.TextFault.TheVariants.{LiteralTooLarge, BadToken, UnterminatedStep}
+use Rattle.cnf_base.specs.declared.fault.TextFault.{TextFault}
 use Rattle.cnf_base.specs.declared.input.Ending.TheVariants.{End, Failed}
+use Rattle.cnf_base.specs.declared.input.Ending.{Ending}
 use Rattle.cnf_base.specs.declared.place.Place.{Place}
-use Rattle.cnf_base.specs.declared.word.Number.{Number}
-use Rattle.cnf_base.specs.declared.word.Word.{Word}
-use Rattle.cnf_base.specs.declared.word.Word.TheVariants as words
 use Rattle.cnf_base.specs.declared.token.Token as tokens
 use Rattle.cnf_base.specs.declared.token.Token.TheVariants as token
-use Rattle.cnf_base.specs.declared.fault.Fault.TheVariants.{Text, ReadFailed}
-use Rattle.cnf_base.specs.declared.fault.TextFault.{TextFault}
-use Rattle.cnf_base.specs.declared.fault.TextFault.TheVariants.{BadToken, LiteralTooLarge, UnterminatedStep}
+use Rattle.cnf_base.specs.declared.word.Number.{Number}
+use Rattle.cnf_base.specs.declared.word.Word.TheVariants as words
+use Rattle.cnf_base.specs.declared.word.Word.{Word}
+use Rattle.proofs.specs.Reading.{Proof, clean, faulty_proof, with_step}
+use Rattle.proofs.specs.Steps.{Step, with_literal, named}
 use Rattle.proofs.specs.declared.step_end.StepEnd.TheVariants as ends
-use Rattle.proofs.specs.Steps.{Step, named, with_literal}
-use Rattle.proofs.specs.Reading.{Proof, clean, faulty_proof, with_step, ProofReading, proof_unless_ended}
 
 -- what a word does: the step goes on in some part, it is complete, or the word can't stand there
 pub data Move (Part : Type 0) : Type 0 where
@@ -77,12 +77,5 @@ steps_from format part s l = steps_among format part s l.tokens l.end l.ending
 abbrev pub steps_listed : {Part : Type 0} → Format Part → Listing → Proof
 steps_listed format l = steps_from format format.start (named 0) l
 
-abbrev pub steps_at : {Part : Type 0} → Format Part → Place → Input → Proof
-steps_at format p i = steps_listed format (listing_at p i)
-
 abbrev pub steps_of : {Part : Type 0} → Format Part → Input → Proof
 steps_of format i = steps_listed format (listing_of i)
-
--- what is still to come to a reader of the format
-abbrev pub left_to : {Part : Type 0} → Format Part → ProofReading → Input → Proof
-left_to format r i = proof_unless_ended r.kept (steps_at format r.stream.place i)

@@ -5,9 +5,10 @@ ghost use Rattle.cnf_base.specs.Stream.{Along};
 ghost use Rattle.cnf_base.specs.Readers.{Advances, TellsOf};
 ghost use Rattle.cnf_base.specs.declared.input.Ending.TheVariants.{End};
 ghost use Rattle.proofs.specs.Reading.{GivesStep, PassesNoEnd};
-ghost use Rattle.proofs.specs.TextMoves.{EndsProof};
-ghost use Rattle.proofs.specs.Binary.{BinarySpot, binary_steps_at, binary_at_end, binary_to_come};
-ghost use Rattle.proofs.specs.BinaryMoves.{IsAt, binary_left};
+ghost use Rattle.proofs.specs.Code.TextMoves.{EndsProof};
+ghost use Rattle.proofs.specs.Binary.{BinarySpot, binary_steps_at, binary_at_end};
+ghost use Rattle.proofs.specs.Code.Binary.{binary_to_come};
+ghost use Rattle.proofs.specs.Code.BinaryMoves.{IsAt, binary_left};
 
 mod groups;
 mod moves;
@@ -33,7 +34,8 @@ pub struct DratBinary<R: In> {
 impl<R: In> Model for DratBinary<R> {
     ghost use Rattle.std.specs.Prelude.{◌≡◌, []};
     ghost use Rattle.std.specs.List.{sum};
-    ghost use Rattle.proofs.specs.Reading.{ProofReading, EndsRightly};
+    ghost use Rattle.proofs.specs.Reading.{ProofReading};
+    ghost use Rattle.proofs.specs.Code.Reading.{EndsRightly};
 
     ghost Value = { ProofReading };
 

@@ -7,8 +7,9 @@ ghost use Rattle.cnf_base.specs.Readers.{Advances, TellsOf};
 ghost use Rattle.cnf_base.specs.declared.input.Ending.TheVariants.{End};
 ghost use Rattle.proofs.specs.Reading.{GivesStep, PassesNoEnd};
 ghost use Rattle.proofs.specs.Steps.{Step, named};
-ghost use Rattle.proofs.specs.TextSteps.{Format, move_of, left_to, steps_listed, at_end};
-ghost use Rattle.proofs.specs.TextMoves.{text_left, EndsProof, FitsMoved, MovesText};
+ghost use Rattle.proofs.specs.TextSteps.{Format, move_of, steps_listed, at_end};
+ghost use Rattle.proofs.specs.Code.TextSteps.{left_to};
+ghost use Rattle.proofs.specs.Code.TextMoves.{text_left, EndsProof, FitsMoved, MovesText};
 
 use crate::moved::Moved;
 use crate::stopped::Stopped;
@@ -18,31 +19,38 @@ use std::marker::{Model, PhantomData};
 
 /// Where a word of a step stands, in a format that is text. A format says what a number and a `d` do in each part.
 pub trait Part: Copy {
+    /// Where a word may stand, as the format says it.
+    ghost Spot: { Type 0 };
+
+    /// Where the words of a part stand.
+    ghost spot: { Self → Spot };
+
     /// The format whose parts these are.
-    ghost format: { Format Self };
+    ghost format: { Format Spot };
 
     /// Whether a part can follow what was read of a step so far.
     ghost fits: { Self → Step → Bool };
 
     /// Where a step's first word stands.
     fn start() -> Self
-        ensures start { result ≡ format.start }
+        ensures start { spot result ≡ format.start }
         ensures fits { IsTrue (fits result (named 0)) };
 
     /// Whether no word of the step was read.
     fn is_start(self) -> bool
-        ensures { result ≡ format.is_start self };
+        ensures { result ≡ format.is_start (spot self) };
 
     /// Puts a number into the step.
     fn take_number(self, step: &mut StepBuf, number: Number) -> Result<Moved<Self>, Stopped>
         requires { IsTrue (fits self step.old) }
-        ensures moves { MovesText result (format.number_move self step.old number) step.new }
+        ensures moves { MovesText spot result
+            (format.number_move (spot self) step.old number) step.new }
         ensures fits { FitsMoved fits result step.new };
 
     /// Puts a `d` into the step.
     fn take_d(self, step: &mut StepBuf) -> Result<Moved<Self>, Stopped>
         requires { IsTrue (fits self step.old) }
-        ensures moves { MovesText result (format.d_move self step.old) step.new }
+        ensures moves { MovesText spot result (format.d_move (spot self) step.old) step.new }
         ensures fits { FitsMoved fits result step.new };
 }
 
@@ -59,7 +67,8 @@ pub struct Text<R: In, P: Part> {
 impl<R: In, P: Part> Model for Text<R, P> {
     ghost use Rattle.std.specs.Prelude.{◌≡◌, []};
     ghost use Rattle.std.specs.List.{sum};
-    ghost use Rattle.proofs.specs.Reading.{ProofReading, EndsRightly};
+    ghost use Rattle.proofs.specs.Reading.{ProofReading};
+    ghost use Rattle.proofs.specs.Code.Reading.{EndsRightly};
 
     ghost Value = { ProofReading };
 
@@ -132,7 +141,7 @@ fn read_step<R: In, P: Part>(
     step: &mut StepBuf,
     end: &mut Option<StepEnd>,
 ) -> Result<bool, Fault>
-    requires start { start ≡ P.format.start }
+    requires start { P.spot start ≡ P.format.start }
     requires fits { IsTrue (P.fits start (named 0)) }
     ensures step { Along scanner.old scanner.new (λ i j. GivesStep result end.new step.new
         (steps_listed P.format (listing_at scanner.old.place i))
@@ -164,7 +173,8 @@ fn read_step<R: In, P: Part>(
 // Puts a word into the step.
 fn move_on<P: Part>(part: P, step: &mut StepBuf, word: Word) -> Result<Moved<P>, Stopped>
     requires { IsTrue (P.fits part step.old) }
-    ensures moves { MovesText result (move_of P.format part step.old word) step.new }
+    ensures moves { MovesText P.spot result
+        (move_of P.format (P.spot part) step.old word) step.new }
     ensures fits { FitsMoved P.fits result step.new }
 {
     match word {
@@ -176,7 +186,7 @@ fn move_on<P: Part>(part: P, step: &mut StepBuf, word: Word) -> Result<Moved<P>,
 
 // What the end of the input means.
 fn at_end<P: Part>(part: P, place: Place) -> Result<bool, Fault>
-    ensures value { EndsProof result (at_end P.format part place End) }
+    ensures value { EndsProof result (at_end P.format (P.spot part) place End) }
     ensures read { result ≢ Err Fault.ReadFailed }
 {
     if part.is_start() {

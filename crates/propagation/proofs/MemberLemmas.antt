@@ -1,5 +1,6 @@
 -- Members of lists, by their places.
-use Rattle.std.proofs.Common.{◌≡◌, ℕ, ◌<◌, ◌+◌, true, eqb, List, [], ◌∷◌, map, take, length, get_or, nat_eq, arith, sym, ◌∙◌, inl, inr, ◌⊎◌, eq-eqb, refl, subst, add-one}
+use Rattle.std.proofs.Common.{◌≡◌, ℕ, ◌<◌, ◌+◌, true, eqb, List, [], ◌∷◌, map, take, length, get_or}
+use Rattle.std.proofs.Common.{nat_eq, arith, sym, ◌∙◌, inl, inr, ◌⊎◌, eq-eqb, refl, subst, add-one}
 use Rattle.std.proofs.lemmas.Bool.{false≢true, ne_eqb}
 use Rattle.std.proofs.lemmas.Bool.Decides.{nat_tests}
 use Rattle.std.proofs.lemmas.List.{get_or-take, length-take, get_or-map, length-map}

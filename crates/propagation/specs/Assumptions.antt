@@ -1,12 +1,13 @@
 -- Clauses in slots, and what is assumed of their literals (our own profile).
-use Rattle.std.specs.Prelude.{◌≡◌, ℕ, Bool, true, false, not, ◌&&◌, List, [], ◌∷◌, ◌++◌, filter, Some, Result, IfOk, OnOk, OnErr, ⊤, take, IsTrue}
+use Rattle.std.specs.Prelude.{◌≡◌, ℕ, Bool, true, false, not, ◌&&◌, List, [], ◌∷◌, ◌++◌, filter}
+use Rattle.std.specs.Prelude.{Some, Result, IfOk, OnOk, OnErr, ⊤, take, IsTrue}
 use Rattle.std.specs.List.{list_any}
 use Rattle.std.specs.Ordering.{nat_cmp}
 use Rattle.std.specs.FinMap as maps
 use Rattle.std.specs.FinMap.{FinMap}
 use Rattle.cnf_base.specs.Literals.{Literal, Clause, has, complement, complements}
 use Rattle.theory.specs.Propagation.{Live, Forced, Clash}
-use Rattle.clause_db.specs.Store.Clauses.{literals_in}
+use Rattle.clause_db.specs.Store.{literals_in}
 use Rattle.propagation.specs.Trail.{TrailState}
 use Rattle.theory.specs.Sets.{SameSet}
 use Rattle.propagation.specs.declared.answer.Answer.{Answer}
@@ -14,7 +15,8 @@ use Rattle.propagation.specs.declared.answer.Answer.TheVariants.{Clash as Answer
 use Rattle.propagation.specs.declared.value.Value.{Value}
 use Rattle.propagation.specs.declared.value.Value.TheVariants.{True, False, Open}
 
--- an assumption that stands: how it was answered, and all that is assumed up to it, which says nothing after a clash
+-- an assumption that stands: how it was answered, and all that is assumed up to it, which says
+-- nothing after a clash
 pub record Assumption : Type 0 where
   pub answer : Answer
   pub assumed : List Literal
@@ -62,16 +64,22 @@ abbrev pub IsAnswer : Live → List Literal → Answer → Type 0
 IsAnswer live assumed AnswersClash = Clash live assumed
 IsAnswer live assumed Quiet = ¬ Clash live assumed
 
--- one more assumption stands than before, with this answer; unless it clashed, exactly these literals are assumed
-pub record Assumes (before after : List Assumption) (answer : Answer) (assumed : List Literal) : Type 0 where
+-- one more assumption stands than before, with this answer; unless it clashed, exactly these
+-- literals are assumed
+pub record Assumes (before after : List Assumption) (answer : Answer) (assumed : List Literal)
+    : Type 0 where
   pub all : List Literal
   pub stands : after ≡ record { answer = answer; assumed = all } ∷ before
   pub same : answer ≡ Quiet → SameSet all assumed
 
--- these literals are assumed too and the answer is that of propagation, or memory was refused, now or before
-pub record Assuming {E : Type 0} (before after : Propagation) (added : List Literal) (result : Result Answer E) : Type 0 where
-  pub answer : IfOk result (λ a. IsAnswer (maps.get before.live) (assumed_by before.assumptions ++ added) a)
-  pub stands : IfOk result (λ a. Assumes before.assumptions after.assumptions a (assumed_by before.assumptions ++ added))
+-- these literals are assumed too and the answer is that of propagation, or memory was refused, now
+-- or before
+pub record Assuming {E : Type 0} (before after : Propagation) (added : List Literal)
+    (result : Result Answer E) : Type 0 where
+  pub answer : IfOk result
+      (λ a. IsAnswer (maps.get before.live) (assumed_by before.assumptions ++ added) a)
+  pub stands : IfOk result
+      (λ a. Assumes before.assumptions after.assumptions a (assumed_by before.assumptions ++ added))
   pub live : after.live ≡ before.live
   pub live_alone : HoldsLiveAlone after
   pub never_refused : OnOk result (before.has_refused ≡ false)
@@ -80,9 +88,11 @@ pub record Assuming {E : Type 0} (before after : Propagation) (added : List Lite
   pub stays : OnErr result (after.assumptions ≡ before.assumptions)
 
 -- so it is with the literals of the clause in the slot that the test keeps
-abbrev pub AssumingPart : {E : Type 0} → Propagation → Propagation → ℕ → (Literal → Bool) → Result Answer E → Type 0
+abbrev pub AssumingPart : {E : Type 0} → Propagation → Propagation → ℕ → (Literal → Bool) →
+    Result Answer E → Type 0
 AssumingPart before after slot keeps result =
-    (c : Clause) → maps.get before.live slot ≡ Some c → Assuming before after (complements (filter keeps c)) result
+    (c : Clause) → maps.get before.live slot ≡ Some c →
+        Assuming before after (complements (filter keeps c)) result
 
 -- what propagation from these literals says of one
 abbrev pub IsValue : Live → List Literal → Literal → Value → Type 0
@@ -96,13 +106,15 @@ pub record HasAt (live : Live) (l : Literal) (slot : ℕ) : Type 0 where
   pub at : live slot ≡ Some clause
   pub member : IsTrue (has clause l)
 
--- the literals that are true before the first assumption, where `starts` says how many were true before each
+-- the literals that are true before the first assumption, where `starts` says how many were true
+-- before each
 abbrev pub roots_in : List Literal → List Assumption → List ℕ → List Literal
 roots_in lits [] starts = lits
 roots_in lits (last ∷ rest) [] = []
 roots_in lits (last ∷ rest) (start ∷ starts) = roots_in (take start lits) rest starts
 
--- whether the set makes a literal of the clause false and none true: the set reduces the clause, as DPR proofs have it
+-- whether the set makes a literal of the clause false and none true: the set reduces the clause, as
+-- DPR proofs have it
 abbrev pub is_reduced : (Literal → Bool) → Clause → Bool
 is_reduced in_set c = list_any (λ l. in_set (complement l)) c && not (list_any in_set c)
 

@@ -1,20 +1,22 @@
--- How the code finds what is left of a clause, literal by literal.
-use Rattle.std.specs.Prelude.{◌≡◌, ℕ, ◌<◌, ◌≤◌, ◌==◌, List, [], ◌∷◌}
-use Rattle.std.specs.Prelude.{length, slice_index, IsTrue, IsFalse, if◌then◌else◌}
+-- What is left of a clause: its literals that are not false, how many there are, and the first of a
+-- part.
+use Rattle.std.specs.Prelude.{ℕ, ◌<◌, ◌≤◌, List, [], ◌∷◌, length, slice_index, IsFalse, IsTrue}
+use Rattle.std.specs.Prelude.{◌==◌, if◌then◌else◌, Bool, true, false}
+use Rattle.std.specs.List.{list_all}
 use Rattle.cnf_base.specs.Literals.{Literal, complement, Clause, has}
-use Rattle.theory.specs.declared.left.Left.{Left}
-use Rattle.theory.specs.declared.left.Left.TheVariants.{Nothing, One, More}
+use Rattle.propagation.specs.declared.left.Left.{Left}
+use Rattle.propagation.specs.declared.left.Left.TheVariants.{Nothing, One, More}
 
--- with one more literal
-abbrev pub with_one : Left → Literal → Left
-with_one Nothing l = One l
-with_one (One m) l = if l == m then One m else More
-with_one More l = More
+-- how many different literals there are
+abbrev pub how_many : List Literal → Left
+how_many [] = Nothing
+how_many (l ∷ ls) = if list_all (λ k. k == l) ls then One l else More
 
--- how many literals there are, and which one where it is alone
-pub record IsCount (ls : List Literal) (count : ℕ) (last : Literal) : Type 0 where
-  pub count_is : count ≡ length ls
-  pub alone : count ≡ 1 → ls ≡ last ∷ []
+-- whether all literals of a clause are false but for one, where this is left of it
+abbrev pub is_one_at_most : Left → Clause → Bool
+is_one_at_most More c = false
+is_one_at_most left [] = false
+is_one_at_most left (l ∷ c) = true
 
 -- the place is this one or after it, and its literal is not false
 abbrev pub IsOpenAt : List Literal → Clause → ℕ → ℕ → Type 0
@@ -23,4 +25,5 @@ IsOpenAt ls c from place =
 
 -- the literals from this place on are false
 abbrev pub AreFalseFrom : List Literal → Clause → ℕ → Type 0
-AreFalseFrom ls c from = (k : ℕ) → from ≤ k → k < length c → IsTrue (has ls (complement (slice_index c k)))
+AreFalseFrom ls c from =
+    (k : ℕ) → from ≤ k → k < length c → IsTrue (has ls (complement (slice_index c k)))

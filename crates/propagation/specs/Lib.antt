@@ -1,10 +1,6 @@
 pub mod Assumptions
-pub mod Closure
-pub mod Code
-pub mod Exact
 pub mod Left
-pub mod Levels
 pub mod LiteralSet
-pub mod Scan
+pub mod Numbers
 pub mod Trail
-pub mod Values
+pub mod Code

@@ -2,7 +2,7 @@
 use Rattle.std.specs.Prelude.{◌==◌, Bool, false, Option, Some, None}
 use Rattle.cnf_base.specs.Literals.{Literal, Clause}
 use Rattle.propagation.specs.Assumptions.{is_reduced}
-use Rattle.propagation.specs.Levels.{number_at}
+use Rattle.propagation.specs.Numbers.{number_at}
 use Rattle.propagation.specs.declared.literal_set.LiteralSet.{LiteralSet}
 
 -- whether the last filling has the literal

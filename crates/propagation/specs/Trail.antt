@@ -1,5 +1,6 @@
 -- Trails: the literals that are true, in the order in which they were set.
-use Rattle.std.specs.Prelude.{◌≡◌, ℕ, ◌++◌, Bool, IsFalse, ◌&&◌, nat_le, Some, List, map, nat_eq, IsTrue, if◌then◌else◌}
+use Rattle.std.specs.Prelude.{◌≡◌, ℕ, ◌++◌, Bool, IsFalse, ◌&&◌, nat_le, Some, List, map, nat_eq}
+use Rattle.std.specs.Prelude.{IsTrue, if◌then◌else◌}
 use Rattle.std.specs.Bool.{OnFalse}
 use Rattle.std.specs.List.{IsDistinct}
 use Rattle.cnf_base.specs.Literals.{Literal, variable, complement, complements, Clause, has}
@@ -8,7 +9,8 @@ use Rattle.theory.specs.Sets.{SameSet, conflicts}
 use Rattle.propagation.specs.declared.value.Value.{Value}
 use Rattle.propagation.specs.declared.value.Value.TheVariants.{True, False, Open}
 
--- the literals that were set, in that order, and the variables for which room was made, of which the order means nothing
+-- the literals that were set, in that order, and the variables for which room was made, of which
+-- the order means nothing
 pub record TrailState : Type 0 where
   pub lits : List Literal
   pub met : List ℕ
@@ -25,8 +27,10 @@ value_under lits l = if has lits l then True else if has lits (complement l) the
 abbrev pub HasNoVariableTwice : List Literal → Type 0
 HasNoVariableTwice lits = IsDistinct nat_eq (map variable lits)
 
--- the complements of a clause's literals are true beside what was, unless a literal and its complement would be
-pub record MakesFalse (before : List Literal) (c : Clause) (clashes : Bool) (after : List Literal) : Type 0 where
+-- the complements of a clause's literals are true beside what was, unless a literal and its
+-- complement would be
+pub record MakesFalse (before : List Literal) (c : Clause) (clashes : Bool) (after : List Literal)
+    : Type 0 where
   pub conflict : clashes ≡ conflicts (before ++ complements c)
   pub added : OnFalse clashes (SameSet after (before ++ complements c))
   pub quiet : IsFalse (conflicts after)

@@ -1,10 +1,13 @@
 //! The assumptions that stand, and the literals that are true.
 
-ghost use Rattle.std.specs.Prelude.{◌≡◌, ◌≢◌, ◌≤◌, ℕ, ◌/◌, ◌++◌, ◌∷◌, [], not, filter, take, drop, length, slice_index, is_some, List, IsTrue, IsFalse, IsSome, IfOk, OnOk, OnErr, if◌then◌else◌};
+ghost use Rattle.std.specs.Prelude.{◌≡◌, ◌≢◌, ◌≤◌, ℕ, ◌/◌, ◌++◌, ◌∷◌, [], not, filter, take, drop};
+ghost use Rattle.std.specs.Prelude.{length, slice_index, is_some, List, IsTrue, IsFalse, IsSome};
+ghost use Rattle.std.specs.Prelude.{IfOk, OnOk, OnErr, if◌then◌else◌};
 ghost use Rattle.std.specs.Bool.{OnFalse};
 ghost use Rattle.cnf_base.specs.Literals.{Literal, complement, complements, has};
 ghost use Rattle.propagation.specs.Assumptions.{Assumption, MayAssume, assumed_by, roots_in};
-ghost use Rattle.propagation.specs.Levels.{Notes, number_at};
+ghost use Rattle.propagation.specs.Code.Levels.{Notes};
+ghost use Rattle.propagation.specs.Numbers.{number_at};
 ghost use Rattle.tables.specs.Table.{at};
 ghost use Rattle.propagation.specs.Trail.{HasRoom};
 ghost use Rattle.theory.specs.Sets.{SameSet, conflicts};
@@ -32,8 +35,9 @@ pub struct Assumptions {
 
 impl Model for Assumptions {
     ghost use Rattle.propagation.specs.Assumptions.{AssumptionsState};
-    ghost use Rattle.propagation.specs.Levels.{IsNumbered, assumptions_of, number_at, starts_of};
-    ghost use Rattle.propagation.specs.Code.{assumptions_code};
+    ghost use Rattle.propagation.specs.Code.Levels.{IsNumbered, assumptions_of, starts_of};
+    ghost use Rattle.propagation.specs.Numbers.{number_at};
+    ghost use Rattle.propagation.specs.Code.Coding.{assumptions_code};
 
     ghost Value = { AssumptionsState };
 

@@ -1,14 +1,17 @@
 //! All that follows with nothing assumed, past a clash too.
 
-ghost use Rattle.std.specs.Prelude.{◌≡◌, ℕ, ◌<◌, ◌++◌, ◌∷◌, ◌||◌, [], not, true, false, List, Some, if◌then◌else◌, IsTrue, IsFalse, IsSome, IfOk, OnOk};
+ghost use Rattle.std.specs.Prelude.{◌≡◌, ℕ, ◌<◌, ◌++◌, ◌∷◌, ◌||◌, [], not, true, false, List, Some};
+ghost use Rattle.std.specs.Prelude.{if◌then◌else◌, IsTrue, IsFalse, IsSome, IfOk, OnOk};
 ghost use Rattle.std.specs.FinMap as maps;
 ghost use Rattle.cnf_base.specs.Literals.{Clause, Literal, has};
-ghost use Rattle.propagation.specs.Closure.{FollowsFrom, both_of};
-ghost use Rattle.theory.specs.Propagation.{IsClosedAt, Forced, IsClosed, IsRootReason};
-ghost use Rattle.theory.specs.Sets.{lacking};
-ghost use Rattle.theory.specs.Left.{open_literals, how_many};
+ghost use Rattle.propagation.specs.Code.Closure.{FollowsFrom, both_of};
+ghost use Rattle.theory.specs.Code.Propagation.{IsClosedAt};
+ghost use Rattle.theory.specs.Propagation.{Forced, IsClosed, IsRootReason, open_literals};
+ghost use Rattle.theory.specs.Code.Sets.{lacking};
+ghost use Rattle.propagation.specs.Left.{how_many};
 ghost use Rattle.propagation.specs.Trail.{HasRoomForAll};
 
+use crate::left::Left;
 use crate::trail::Trail;
 use crate::truths::{Truths, left_of};
 use clause_db::{Slot, Store};
@@ -16,7 +19,6 @@ use cnf_base::{Lit, OutOfMemory};
 use std::alloc::Global;
 use std::marker::Model;
 use tables::{Table, key};
-use theory::Left;
 
 /// The literals that follow from live clauses with nothing assumed: the whole least set. Past a clash both literals of a
 /// variable may be in it, which a trail cannot hold.

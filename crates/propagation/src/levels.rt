@@ -1,7 +1,7 @@
 //! The assumptions that stand, one on the other.
 
 ghost use Rattle.std.specs.Prelude.{◌≡◌};
-ghost use Rattle.propagation.specs.Levels.{answered, first_number, pushed};
+ghost use Rattle.propagation.specs.Code.Levels.{answered, first_number, pushed};
 
 use crate::Answer;
 

@@ -4,7 +4,7 @@ ghost use Rattle.std.specs.Prelude.{◌≡◌, ℕ, ◌≤◌, if◌then◌else�
 ghost use Rattle.std.specs.List.{list_any};
 ghost use Rattle.cnf_base.specs.Literals.{complement, has};
 ghost use Rattle.propagation.specs.Assumptions.{is_reduced};
-ghost use Rattle.propagation.specs.Levels.{number_at};
+ghost use Rattle.propagation.specs.Numbers.{number_at};
 ghost use Rattle.tables.specs.Table.{at};
 
 use cnf_base::{Lit, OutOfMemory};

@@ -1,10 +1,14 @@
 //! What every store of live clauses does that propagates.
 
-ghost use Rattle.std.specs.Prelude.{◌≡◌, ◌≢◌, [], ◌≤◌, ◌<◌, ◌∷◌, ℕ, min, not, true, false, ◌==◌, length, Some, None, List, IsTrue, IsSome, IfSome, IfNone, IfOk, OnOk, OnErr};
+ghost use Rattle.std.specs.Prelude.{◌≡◌, ◌≢◌, [], ◌≤◌, ◌<◌, ◌∷◌, ℕ, min, not, true, false, ◌==◌};
+ghost use Rattle.std.specs.Prelude.{length, Some, None, List, IsTrue, IsSome, IfSome, IfNone, IfOk};
+ghost use Rattle.std.specs.Prelude.{OnOk, OnErr};
 ghost use Rattle.std.specs.FinMap as maps;
 ghost use Rattle.cnf_base.specs.Literals.{Clause, has, same_clause, complement, complements, size};
-ghost use Rattle.clause_db.specs.Store.Clauses.{copies_with};
-ghost use Rattle.propagation.specs.Assumptions.{Propagation, Assumption, Assuming, AssumingPart, HoldsLiveAlone, HasAt, IsReducedAt, LastIsAnswered, IsValue, MayAssume, assumed_by};
+ghost use Rattle.clause_db.specs.Store.{copies_with};
+ghost use Rattle.propagation.specs.Assumptions.{Propagation, Assumption, Assuming, AssumingPart};
+ghost use Rattle.propagation.specs.Assumptions.{HoldsLiveAlone, HasAt, IsReducedAt, LastIsAnswered};
+ghost use Rattle.propagation.specs.Assumptions.{IsValue, MayAssume, assumed_by};
 ghost use Rattle.theory.specs.Propagation.{IsRootReason};
 ghost use Rattle.theory.specs.Sets.{conflicts};
 ghost use Rattle.propagation.specs.declared.answer.Answer.TheVariants.{Quiet};

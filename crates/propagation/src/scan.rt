@@ -2,12 +2,13 @@
 
 mod unit;
 
-ghost use Rattle.std.specs.Prelude.{◌≡◌, ℕ, [], ◌≤◌, ◌<◌, ◌++◌, filter, true, false, IfOk, OnErr, IfSome, IfNone, IsSome, IsTrue, IsFalse};
+ghost use Rattle.std.specs.Prelude.{◌≡◌, ℕ, [], ◌≤◌, ◌<◌, ◌++◌, filter, true, false, IfOk, OnErr};
+ghost use Rattle.std.specs.Prelude.{IfSome, IfNone, IsSome, IsTrue, IsFalse};
 ghost use Rattle.std.specs.FinMap as maps;
 ghost use Rattle.cnf_base.specs.Literals.{complements};
 ghost use Rattle.propagation.specs.Assumptions.{Assumes, HasAt, IsAnswer, MayAssume, assumed_by};
 ghost use Rattle.propagation.specs.LiteralSet.{in_set, reduced_there};
-ghost use Rattle.propagation.specs.Scan.{IsScan};
+ghost use Rattle.propagation.specs.Code.Scan.{IsScan};
 ghost use Rattle.propagation.specs.Trail.{HasRoom};
 
 use crate::assumptions::Assumptions;
@@ -32,15 +33,15 @@ pub struct Scan {
 
 impl Model for Scan {
     ghost use Rattle.propagation.specs.Assumptions.{Propagation};
-    ghost use Rattle.propagation.specs.Code.{propagation_code};
+    ghost use Rattle.propagation.specs.Code.Coding.{propagation_code};
 
     ghost Value = { Propagation };
 
     ghost coded = { propagation_code };
 
     ghost use Rattle.std.specs.Prelude.{◌≡◌};
-    ghost use Rattle.clause_db.specs.Store.Clauses.{literals_in};
-    ghost use Rattle.propagation.specs.Scan.{IsScan};
+    ghost use Rattle.clause_db.specs.Store.{literals_in};
+    ghost use Rattle.propagation.specs.Code.Scan.{IsScan};
 
     // Each field has to be named here. Of them the store alone has lists of literals of clauses.
     ghost view = { λ record {

@@ -2,17 +2,21 @@
 
 mod values;
 
-ghost use Rattle.std.specs.Prelude.{◌≡◌, ℕ, ◌*◌, ◌/◌, ◌-◌, ◌==◌, ◌<◌, ◌≤◌, ◌||◌, ◌&&◌, not, [], ◌∷◌, ◌++◌, filter, length, map, take, is_some, IsSome, IsTrue, IsFalse, ◌↔◌, IfSome, IfNone, IfOk, OnOk, OnErr, if◌then◌else◌};
+ghost use Rattle.std.specs.Prelude.{◌≡◌, ℕ, ◌*◌, ◌/◌, ◌-◌, ◌==◌, ◌<◌, ◌≤◌, ◌||◌, ◌&&◌, not, []};
+ghost use Rattle.std.specs.Prelude.{◌∷◌, ◌++◌, filter, length, map, take, is_some, IsSome, IsTrue};
+ghost use Rattle.std.specs.Prelude.{IsFalse, ◌↔◌, IfSome, IfNone, IfOk, OnOk, OnErr, if◌then◌else◌};
 ghost use Rattle.cnf_base.specs.Literals.{complement, has, variable};
-ghost use Rattle.theory.specs.Left.{open_literals, how_many};
-ghost use Rattle.propagation.specs.Left.{AreFalseFrom, IsCount, IsOpenAt};
+ghost use Rattle.theory.specs.Propagation.{open_literals};
+ghost use Rattle.propagation.specs.Left.{AreFalseFrom, IsOpenAt, how_many};
+ghost use Rattle.propagation.specs.Code.Left.{IsCount};
 ghost use Rattle.propagation.specs.Trail.{value_under, is_variable, HasNoVariableTwice, HasRoom};
 ghost use Rattle.propagation.specs.Trail.{MakesFalse};
 ghost use Rattle.theory.specs.Sets.{SameSet, conflicts};
-ghost use Rattle.propagation.specs.Values.{value_at, known_value};
+ghost use Rattle.propagation.specs.Code.Values.{value_at, known_value};
 ghost use Rattle.propagation.specs.declared.value.Value.TheVariants.{Open};
 
 use self::values::Values;
+use crate::left::Left;
 use crate::part::Part;
 use crate::truths::{Truths, left_of};
 use crate::value::Value;
@@ -20,7 +24,6 @@ use cnf_base::{Lit, OutOfMemory};
 use std::alloc::Global;
 use std::marker::Model;
 use tables::{Table, key};
-use theory::Left;
 
 /// The literals that are true, in the order in which they were set. No two are of one variable.
 ///
@@ -41,7 +44,7 @@ pub struct Trail {
 impl Model for Trail {
     ghost use Rattle.std.specs.Prelude.{vec_capacity};
     ghost use Rattle.propagation.specs.Trail.{TrailState};
-    ghost use Rattle.propagation.specs.Values.{IsTrail, value_at};
+    ghost use Rattle.propagation.specs.Code.Values.{IsTrail, value_at};
     ghost use Rattle.tables.specs.Table.{at};
 
     ghost Value = { TrailState };

@@ -2,11 +2,12 @@
 
 ghost use Rattle.std.specs.Prelude.{◌≡◌, List};
 ghost use Rattle.cnf_base.specs.Literals.{Literal, complement, has};
-ghost use Rattle.theory.specs.Left.{open_literals, how_many};
-ghost use Rattle.propagation.specs.Left.{with_one};
+ghost use Rattle.theory.specs.Propagation.{open_literals};
+ghost use Rattle.propagation.specs.Left.{how_many};
+ghost use Rattle.propagation.specs.Code.Left.{with_one};
 
+use crate::left::Left;
 use cnf_base::Lit;
-use theory::Left;
 
 /// Literals that are true, of which each can be asked for.
 pub(crate) trait Truths {

@@ -17,9 +17,10 @@ use Rattle.proofs.specs.Reading.{ProofReading, PlacedStep, Proof, faulty_proof, 
 use Rattle.proofs.proofs.ReachLemmas.{steps_of-within, binary_steps-within}
 use Rattle.steps.specs.ProofSession.{View, is_over}
 use Rattle.theory.specs.Rules.{Rule, after, sum_of, IsFinite}
-use Rattle.sat_check.specs.Reach.{IsVerdict, ReadsNoFurther, TellsRefused}
+use Rattle.sat_check.specs.Code.Reach.{IsVerdict}
+use Rattle.sat_check.specs.Reach.{ReadsNoFurther, TellsRefused}
 use Rattle.sat_check.specs.Report.{Report, Outcome, Reports, text_of, with_lines, end_report, drat_proof}
-use Rattle.sat_check.specs.Checking.{Standing, Rest, GoesOn, Stops, IsRefused, LeavesRest, LeavesProof, AllReports, counted, traced}
+use Rattle.sat_check.specs.Code.Checking.{Standing, Rest, GoesOn, Stops, IsRefused, LeavesRest, LeavesProof, AllReports, counted, traced}
 use Rattle.sat_check.proofs.ShownLemmas.{traced_same}
 use Rattle.sat_check.specs.declared.checked.Checked.{Checked}
 use Rattle.sat_check.specs.declared.status.Status.TheVariants.{NotVerified, Malformed}

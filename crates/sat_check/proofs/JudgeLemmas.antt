@@ -3,7 +3,7 @@ use Rattle.std.proofs.Common.{◌≡◌, ℕ, zero, suc, ◌+◌, ◌-◌, ◌�
 use Rattle.std.specs.Prelude.{Result, Ok, Err, slice_get}
 use Rattle.std.proofs.lemmas.Option.{none-some}
 use Rattle.cnf_base.specs.Literals.{Literal, Clause}
-use Rattle.cnf_base.specs.Seen.{OfSeen}
+use Rattle.cnf_base.specs.Code.Seen.{OfSeen}
 use Rattle.cnf_base.specs.Stream.{Input, Reader, Stream, Along, unread_stream, bytes_read}
 use Rattle.cnf_base.specs.declared.fault.Fault.{Fault}
 use Rattle.cnf_base.specs.declared.fault.Fault.TheVariants.{Text, Binary, ReadFailed, OutOfMemory}
@@ -12,7 +12,7 @@ use Rattle.dimacs.specs.Formula.{Body, Formula, formula_at, formula_of, clause_r
 use Rattle.dimacs.specs.Reading.{FormulaReading, clauses_to_come, rests_to_come, opened, unopened}
 use Rattle.dimacs.proofs.RestsLemmas.{clause_rests-within}
 use Rattle.sat_check.specs.ModelReport.{meets, first_unmet}
-use Rattle.sat_check.specs.Judging.{Judges, LeavesUnmet, ReadsToUnmet}
+use Rattle.sat_check.specs.Code.Judging.{Judges, LeavesUnmet, ReadsToUnmet}
 use Rattle.sat_check.specs.declared.judgement.Judgement.{Judgement}
 use Rattle.sat_check.specs.declared.judgement.Judgement.TheVariants.{Met, Unmet}
 use Rattle.sat_check.proofs.ReadLemmas.{length_push, with_clauses, seen_nothing, seen_run, seen_within, seen_map, Reads, Gave, NonePassed, FaultAfter, Reads-start, Reads-clause, Reads-done, Reads-fault}

@@ -9,7 +9,7 @@ use Rattle.std.proofs.lemmas.Option.{none-some}
 use Rattle.std.proofs.lemmas.List.Folds.{list_any-append}
 use Rattle.std.proofs.lemmas.List.Sums.{sum_by-append}
 use Rattle.cnf_base.specs.Literals.{Clause, same_clause, size}
-use Rattle.cnf_base.specs.Seen.{OfSeen}
+use Rattle.cnf_base.specs.Code.Seen.{OfSeen}
 use Rattle.cnf_base.specs.Stream.{Reader, Stream, Along, unread_stream}
 use Rattle.cnf_base.specs.declared.fault.Fault.{Fault}
 use Rattle.cnf_base.specs.declared.fault.Fault.TheVariants.{Text, Binary, ReadFailed, OutOfMemory}
@@ -17,8 +17,10 @@ use Rattle.cnf_base.proofs.StreamLemmas.{Along-then, Along-map}
 use Rattle.dimacs.specs.Formula.{Body, Formula, formula_at, formula_of, clause_rests_at}
 use Rattle.dimacs.specs.declared.header.Header.{Header}
 use Rattle.dimacs.specs.Reading.{FormulaReading, clauses_to_come, rests_to_come, opened, unopened}
-use Rattle.steps.specs.Drat.Session.{DratState, fresh_drat, clauses_of}
-use Rattle.steps.specs.Lrat.Session.{Session, fresh_lrat, state_of}
+use Rattle.steps.specs.DratSession.{DratState, fresh_drat}
+use Rattle.steps.specs.Code.DratSession.{clauses_of}
+use Rattle.steps.specs.LratSession.{Session, fresh_lrat}
+use Rattle.steps.specs.Code.LratSession.{state_of}
 use Rattle.theory.specs.Rules.{Rule, lrat, drat, State, by_ids, by_copies, start, with_input}
 use Rattle.theory.specs.Rules.{sum_of, Same}
 use Rattle.theory.specs.Lrat.{with_clause, numbered, lrat_start}
@@ -35,7 +37,7 @@ use Rattle.theory.proofs.LratLemmas.SameSets.{with_same}
 use Rattle.theory.proofs.LratLemmas.States.{numbered_push}
 use Rattle.steps.proofs.LratLemmas.Sessions.{fresh_is_numbered}
 use Rattle.theory.proofs.LratLemmas.Sums.{sum_with}
-use Rattle.sat_check.specs.Checking.{IsLoaded, LoadsBody, Loads}
+use Rattle.sat_check.specs.Code.Checking.{IsLoaded, LoadsBody, Loads}
 use Rattle.sat_check.proofs.ReadLemmas.{length_push, seen_nothing, seen_run, Reads, Gave, FaultAfter, Reads-start, Reads-clause, Reads-done, Reads-fault}
 use Rattle.theory.specs.declared.drat_rules.DratRules.{DratRules}
 

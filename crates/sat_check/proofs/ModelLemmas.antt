@@ -14,13 +14,12 @@ use Rattle.dimacs.specs.Claim.{claim_of, IsClaim, IsConsistent}
 use Rattle.dimacs.specs.Formula.{Formula, formula_of, clause_rests}
 use Rattle.dimacs.proofs.RestsLemmas.{clause_rests-length}
 use Rattle.theory.specs.Models.{Assignment, holds, satisfies, HasModel}
-use Rattle.sat_check.specs.Lines.{fault_line, fault_status}
+use Rattle.sat_check.specs.Lines.{a_model, fault_line, fault_status}
 use Rattle.sat_check.specs.Report.{Outcome, Report, concluded}
 use Rattle.sat_check.specs.ModelReport.{meets, first_unmet, met_report, clauses_report, claim_report, model_report, Satisfies, ChecksModel, ReadsFormulaNoFurther}
-use Rattle.sat_check.specs.Judging.{Judges, ReadsToUnmet, judged_report}
+use Rattle.sat_check.specs.Code.Judging.{Judges, ReadsToUnmet, judged_report}
 use Rattle.sat_check.specs.declared.judgement.Judgement.{Judgement}
 use Rattle.sat_check.specs.declared.judgement.Judgement.TheVariants.{Met, Unmet}
-use Rattle.sat_check.specs.declared.subject.Subject.TheVariants.{Model}
 use Rattle.sat_check.specs.declared.status.Status.{Status}
 use Rattle.sat_check.specs.declared.status.Status.TheVariants.{Verified, NotVerified}
 use Rattle.sat_check.proofs.JudgeLemmas.{unread_unmet}
@@ -60,7 +59,7 @@ judged_as listed (Unmet k) f j = ap (λ u. clauses_report u f) (sym j)
 -- a fault's lines, or want of memory
 abbrev pub TellsFault : List ℕ → Fault → Status → Sink → Sink → Type 0
 TellsFault name f status was now = (f ≡ OutOfMemory → (r : Report) → Outcome status was.held now.held r)
-    × ((f ≡ OutOfMemory → ⊥) → Outcome status was.held now.held (concluded Model (fault_line name f) (fault_status f)))
+    × ((f ≡ OutOfMemory → ⊥) → Outcome status was.held now.held (concluded a_model (fault_line name f) (fault_status f)))
 
 module _ (status : Status) (was now : Sink) where
   -- the formula's fault
@@ -68,7 +67,7 @@ module _ (status : Status) (was now : Sink) where
       → Outcome status was.held now.held (claim_report (Ok listed) f)
   formula_fault listed e f j told = by e j told
     where
-      other : (e : Fault) → (first_unmet 1 listed f.clauses ≡ None) × (f.fault ≡ Some e) → Outcome status was.held now.held (concluded Model (fault_line (codes "formula") e) (fault_status e))
+      other : (e : Fault) → (first_unmet 1 listed f.clauses ≡ None) × (f.fault ≡ Some e) → Outcome status was.held now.held (concluded a_model (fault_line (codes "formula") e) (fault_status e))
           → Outcome status was.held now.held (claim_report (Ok listed) f)
       other e j o =
           let P : Report → Type 0 = Outcome status was.held now.held in
@@ -85,7 +84,7 @@ module _ (status : Status) (was now : Sink) where
       → Outcome status was.held now.held (claim_report claim f)
   output_fault e claim f is told = by e is told
     where
-      other : (e : Fault) → claim ≡ Err e → Outcome status was.held now.held (concluded Model (fault_line (codes "output") e) (fault_status e))
+      other : (e : Fault) → claim ≡ Err e → Outcome status was.held now.held (concluded a_model (fault_line (codes "output") e) (fault_status e))
           → Outcome status was.held now.held (claim_report claim f)
       other e is o = let P : Result (List Literal) Fault → Type 0 = λ r. Outcome status was.held now.held (claim_report r f) in subst P (sym is) o
 
@@ -99,7 +98,7 @@ module _ (status : Status) (was now : Sink) where
   pub fault_unverified : (name : List ℕ) (e : Fault) → TellsFault name e status was now → status ≡ Verified → ⊥
   fault_unverified name e told is = by e told
     where
-      other : (e : Fault) → Outcome status was.held now.held (concluded Model (fault_line name e) (fault_status e)) → ⊥
+      other : (e : Fault) → Outcome status was.held now.held (concluded a_model (fault_line name e) (fault_status e)) → ⊥
       other e o = fault_is_no_verdict e (outcome_verified status was.held now.held _ is o)
 
       by : (e : Fault) → TellsFault name e status was now → ⊥
@@ -107,7 +106,7 @@ module _ (status : Status) (was now : Sink) where
       by (Binary k n) told = other (Binary k n) (told.1 (λ e. cc))
       by ReadFailed told = other ReadFailed (told.1 (λ e. cc))
       by OutOfMemory told =
-          let bad : NotVerified ≡ Verified = outcome_verified status was.held now.held (concluded Model [] NotVerified) is (told.0 refl (concluded Model [] NotVerified)) in
+          let bad : NotVerified ≡ Verified = outcome_verified status was.held now.held (concluded a_model [] NotVerified) is (told.0 refl (concluded a_model [] NotVerified)) in
           cc
 
 -- ---- What a verified model says

@@ -7,8 +7,7 @@ use Rattle.cnf_base.specs.Seen.{OfBothSeen}
 use Rattle.cnf_base.specs.Stream.{Input, Reader}
 use Rattle.cnf_base.proofs.LineLemmas.{append_nil, Appends-then, Writes-nothing}
 use Rattle.sat_check.specs.Report.{Report, text_of, Outcome, with_lines, concluded}
-use Rattle.sat_check.specs.Lines.{sentence}
-use Rattle.sat_check.specs.declared.subject.Subject.{Subject}
+use Rattle.sat_check.specs.Lines.{Certificate, sentence}
 use Rattle.sat_check.specs.declared.status.Status.{Status}
 use Rattle.sat_check.specs.declared.status.Status.TheVariants.{Verified, NotVerified, Malformed, ReadFailed, OutOfMemory, WriteFailed, Usage}
 
@@ -95,28 +94,28 @@ Outcome-line status old now new text r w sound o =
 written : (old new : Sink) (bytes text : List ℕ) → bytes ≡ text → Writes old new (line_of bytes) → Writes old new (line_of text)
 written old new bytes text e w = let P : List ℕ → Type 0 = λ b. Writes old new (line_of b) in subst P e w
 
-module _ (subject : Subject) (status : Status) (old first second last : Sink) (text : List ℕ) where
+module _ (certificate : Certificate) (status : Status) (old first second last : Sink) (text : List ℕ) where
   -- a conclusion that broke off in its first line, in its second, or at the flush; and a whole one
-  pub concluded-first : (bytes : List ℕ) → bytes ≡ text → Writes old first (line_of bytes) → Outcome WriteFailed old.held first.held (concluded subject text status)
-  concluded-first bytes e w = Outcome-broken old first text (record { lines = sentence subject status ∷ []; status = status }) (written old first bytes text e w)
+  pub concluded-first : (bytes : List ℕ) → bytes ≡ text → Writes old first (line_of bytes) → Outcome WriteFailed old.held first.held (concluded certificate text status)
+  concluded-first bytes e w = Outcome-broken old first text (record { lines = sentence certificate status ∷ []; status = status }) (written old first bytes text e w)
 
-  module _ (bytes : List ℕ) (e : bytes ≡ text) (w : Writes old first (line_of bytes)) (sound : first.is_broken ≡ false) (last_bytes : List ℕ) (is : last_bytes ≡ sentence subject status) (v : Writes first second (line_of last_bytes)) where
-    pub concluded-second : Outcome WriteFailed old.held second.held (concluded subject text status)
+  module _ (bytes : List ℕ) (e : bytes ≡ text) (w : Writes old first (line_of bytes)) (sound : first.is_broken ≡ false) (last_bytes : List ℕ) (is : last_bytes ≡ sentence certificate status) (v : Writes first second (line_of last_bytes)) where
+    pub concluded-second : Outcome WriteFailed old.held second.held (concluded certificate text status)
     concluded-second =
-        Outcome-line WriteFailed old first second.held text (record { lines = sentence subject status ∷ []; status = status }) (written old first bytes text e w) sound
-        (Outcome-broken first second (sentence subject status) (record { lines = []; status = status }) (written first second last_bytes (sentence subject status) is v))
+        Outcome-line WriteFailed old first second.held text (record { lines = sentence certificate status ∷ []; status = status }) (written old first bytes text e w) sound
+        (Outcome-broken first second (sentence certificate status) (record { lines = []; status = status }) (written first second last_bytes (sentence certificate status) is v))
 
     module _ (also : second.is_broken ≡ false) (flushed : Writes second last []) where
-      pub concluded-flush : Outcome WriteFailed old.held last.held (concluded subject text status)
+      pub concluded-flush : Outcome WriteFailed old.held last.held (concluded certificate text status)
       concluded-flush =
-          Outcome-line WriteFailed old first last.held text (record { lines = sentence subject status ∷ []; status = status }) (written old first bytes text e w) sound
-          (Outcome-line WriteFailed first second last.held (sentence subject status) (record { lines = []; status = status }) (written first second last_bytes (sentence subject status) is v) also
+          Outcome-line WriteFailed old first last.held text (record { lines = sentence certificate status ∷ []; status = status }) (written old first bytes text e w) sound
+          (Outcome-line WriteFailed first second last.held (sentence certificate status) (record { lines = []; status = status }) (written first second last_bytes (sentence certificate status) is v) also
           (Outcome-closed second last (record { lines = []; status = status }) flushed))
 
-      pub concluded-whole : last.is_broken ≡ false → Outcome status old.held last.held (concluded subject text status)
+      pub concluded-whole : last.is_broken ≡ false → Outcome status old.held last.held (concluded certificate text status)
       concluded-whole end =
-          Outcome-line status old first last.held text (record { lines = sentence subject status ∷ []; status = status }) (written old first bytes text e w) sound
-          (Outcome-line status first second last.held (sentence subject status) (record { lines = []; status = status }) (written first second last_bytes (sentence subject status) is v) also
+          Outcome-line status old first last.held text (record { lines = sentence certificate status ∷ []; status = status }) (written old first bytes text e w) sound
+          (Outcome-line status first second last.held (sentence certificate status) (record { lines = []; status = status }) (written first second last_bytes (sentence certificate status) is v) also
           (Outcome-all status second.held last.held (record { lines = []; status = status }) refl (Writes-all second last [] flushed end)))
 
 -- a line that broke off

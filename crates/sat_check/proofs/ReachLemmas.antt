@@ -21,9 +21,10 @@ use Rattle.theory.proofs.LratLemmas.LiveSets.{SameClauses-sym}
 use Rattle.theory.proofs.LratLemmas.Steps.{ok_is, ok_err}
 use Rattle.theory.proofs.LawLemmas.Rules.{answer_unique}
 use Rattle.theory.proofs.LawLemmas.Verdicts.{ends_same}
-use Rattle.sat_check.specs.Reach.{deciding_step, refused_end, NeedsNoProof, IsVerdict}
+use Rattle.sat_check.specs.Reach.{deciding_step, refused_end, NeedsNoProof}
+use Rattle.sat_check.specs.Code.Reach.{IsVerdict}
 use Rattle.sat_check.specs.Report.{Outcome, bare_steps}
-use Rattle.sat_check.specs.Checking.{IsLoaded, Loads, IsRefused, LeavesRest, LeavesProof}
+use Rattle.sat_check.specs.Code.Checking.{IsLoaded, Loads, IsRefused, LeavesRest, LeavesProof}
 use Rattle.sat_check.specs.declared.checked.Checked.{Checked}
 use Rattle.sat_check.specs.declared.status.Status.{Status}
 use Rattle.sat_check.specs.declared.status.Status.TheVariants.{Verified, NotVerified, Malformed}

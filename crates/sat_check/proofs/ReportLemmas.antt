@@ -19,11 +19,10 @@ use Rattle.theory.specs.Verdicts.{verified, Ends}
 use Rattle.theory.proofs.LawLemmas.Existence.{same_finite, start_finite}
 use Rattle.theory.proofs.LawLemmas.Rules.{sum_same}
 use Rattle.theory.proofs.LawLemmas.Verdicts.{ends_same, some_ending, some_verdict}
-use Rattle.sat_check.specs.Lines.{formula_line, steps_line, fault_line, fault_status}
+use Rattle.sat_check.specs.Lines.{a_proof, formula_line, steps_line, fault_line, fault_status}
 use Rattle.sat_check.specs.Report.{Report, Outcome, Reports, concluded, with_lines, Checks, ReportsFormula, ProofReport, bare_steps, peak_of, proof_report}
-use Rattle.sat_check.specs.Checking.{IsLoaded, Loads, Rest}
+use Rattle.sat_check.specs.Code.Checking.{IsLoaded, Loads, Rest}
 use Rattle.sat_check.proofs.ShownLemmas.{steps_same}
-use Rattle.sat_check.specs.declared.subject.Subject.TheVariants as subjects
 use Rattle.sat_check.specs.declared.status.Status.{Status}
 use Rattle.sat_check.specs.declared.status.Status.TheVariants.{Verified}
 use Rattle.sat_check.proofs.OutcomeLemmas.{Outcome-line}
@@ -62,21 +61,21 @@ module _ (rule : Rule) (s : View) (clauses : List Clause) (l : IsLoaded rule s c
 
   -- some clause is empty
   pub checks_verified : (trace : Bool) (h : Header) (p : Proof) → s.is_verified ≡ true
-      → Checks rule trace h clauses p (with_lines (formula_line h ∷ []) (concluded subjects.Proof (steps_line 0 s.peak) Verified))
+      → Checks rule trace h clauses p (with_lines (formula_line h ∷ []) (concluded a_proof (steps_line 0 s.peak) Verified))
   checks_verified trace h p is = record {
     words = [];
     ending = verified;
     verdict =
         let P : Bool → Type 0 = λ b. MatchBool b ((no_words ≡ no_words) × (verified ≡ verified)) (Ends (start rule clauses) (bare_steps p) no_words verified) in
         subst P (sym (sym l.verified ∙ is)) (refl, refl);
-    report = ap (λ m. with_lines (formula_line h ∷ []) (concluded subjects.Proof (steps_line 0 m) Verified)) (l.peak ∙ sym (none (bare_steps p))) ∙ ap (with_lines (formula_line h ∷ [])) (untraced trace (peak_of (start rule clauses) (bare_steps p) []));
+    report = ap (λ m. with_lines (formula_line h ∷ []) (concluded a_proof (steps_line 0 m) Verified)) (l.peak ∙ sym (none (bare_steps p))) ∙ ap (with_lines (formula_line h ∷ [])) (untraced trace (peak_of (start rule clauses) (bare_steps p) []));
   }
     where
       none : (steps : List Step) → peak_of (start rule clauses) steps [] ≡ sum_of (start rule clauses)
       none [] = refl
       none (step ∷ steps) = refl
 
-      untraced : (trace : Bool) (m : ℕ) → concluded subjects.Proof (steps_line 0 m) Verified ≡ proof_report trace 0 m [] verified p.fault
+      untraced : (trace : Bool) (m : ℕ) → concluded a_proof (steps_line 0 m) Verified ≡ proof_report trace 0 m [] verified p.fault
       untraced true m = refl
       untraced false m = refl
 
@@ -85,7 +84,7 @@ module _ (rule : Rule) (s : View) (clauses : List Clause) (l : IsLoaded rule s c
   checks_some trace h p = by s.is_verified refl
     where
       by : (v : Bool) → s.is_verified ≡ v → (r : Report) × Checks rule trace h clauses p (with_lines (formula_line h ∷ []) r)
-      by true e = (concluded subjects.Proof (steps_line 0 s.peak) Verified, checks_verified trace h p e)
+      by true e = (concluded a_proof (steps_line 0 s.peak) Verified, checks_verified trace h p e)
       by false e =
           let v = some_ending (bare_steps p) s.state loaded_finite in
           let r = proof_report trace 0 (max s.peak (peak_of s.state (bare_steps p) v.0)) v.0 v.1 p.fault in
@@ -103,9 +102,9 @@ reports_checked rule trace f p h r header fault checks =
 
 -- a fault of the formula
 pub reports_fault : (rule : Rule) (trace : Bool) (f : Formula) (p : Proof) (e : Fault) → f.fault ≡ Some e
-    → ReportsFormula rule trace f.header f.clauses f.fault p (concluded subjects.Proof (fault_line (codes "formula") e) (fault_status e))
+    → ReportsFormula rule trace f.header f.clauses f.fault p (concluded a_proof (fault_line (codes "formula") e) (fault_status e))
 reports_fault rule trace f p e fault =
-    let P : Option Fault → Type 0 = λ o. ReportsFormula rule trace f.header f.clauses o p (concluded subjects.Proof (fault_line (codes "formula") e) (fault_status e)) in
+    let P : Option Fault → Type 0 = λ o. ReportsFormula rule trace f.header f.clauses o p (concluded a_proof (fault_line (codes "formula") e) (fault_status e)) in
     subst P (sym fault) refl
 
 -- each formula and proof has a report
@@ -130,7 +129,7 @@ some_report rule trace i p = report_any rule trace (header_of (listing_of i)) p
 -- the formula's fault, or want of memory
 pub err_report : (rule : Rule) (s : View) (trace : Bool) (f : Fault) (i : Input) (p : Proof) (status : Status) (was now : Sink) → Loads rule s (Err f) (formula_of i)
     → (f ≡ OutOfMemory → (r : Report) → Outcome status was.held now.held r)
-    → ((f ≡ OutOfMemory → ⊥) → Outcome status was.held now.held (concluded subjects.Proof (fault_line (codes "formula") f) (fault_status f)))
+    → ((f ≡ OutOfMemory → ⊥) → Outcome status was.held now.held (concluded a_proof (fault_line (codes "formula") f) (fault_status f)))
     → Reports rule trace i p was.held now.held status
 err_report rule s trace (Text k x) i p status was now l memory told = record { report = _; reports = reports_fault rule trace (formula_of i) p (Text k x) l; outcome = told (λ e. cc) }
 err_report rule s trace (Binary k x) i p status was now l memory told = record { report = _; reports = reports_fault rule trace (formula_of i) p (Binary k x) l; outcome = told (λ e. cc) }
@@ -141,11 +140,11 @@ err_report rule s trace OutOfMemory i p status was now l memory told =
 -- a formula with an empty clause
 pub verified_report : (rule : Rule) (s : View) (clauses : List Clause) (l : IsLoaded rule s clauses) (trace : Bool) (h : Header) (p : Proof) (status : Status) (was mid now : Sink) (m : ℕ)
     → s.is_verified ≡ true → m ≡ s.peak → Writes was mid (line_of (formula_line h)) → mid.is_broken ≡ false
-    → Outcome status mid.held now.held (concluded subjects.Proof (steps_line 0 m) Verified)
+    → Outcome status mid.held now.held (concluded a_proof (steps_line 0 m) Verified)
     → (r : Report) × Checks rule trace h clauses p r × Outcome status was.held now.held r
 verified_report rule s clauses l trace h p status was mid now m is shown wrote whole o =
-    let P : List ℕ → Type 0 = λ t. Outcome status mid.held now.held (concluded subjects.Proof t Verified) in (
-      with_lines (formula_line h ∷ []) (concluded subjects.Proof (steps_line 0 s.peak) Verified),
+    let P : List ℕ → Type 0 = λ t. Outcome status mid.held now.held (concluded a_proof t Verified) in (
+      with_lines (formula_line h ∷ []) (concluded a_proof (steps_line 0 s.peak) Verified),
       checks_verified rule s clauses l trace h p is,
-      Outcome-line status was mid now.held (formula_line h) (concluded subjects.Proof (steps_line 0 s.peak) Verified) wrote whole (subst P (steps_same 0 0 m s.peak refl shown) o),
+      Outcome-line status was mid now.held (formula_line h) (concluded a_proof (steps_line 0 s.peak) Verified) wrote whole (subst P (steps_same 0 0 m s.peak refl shown) o),
     )

@@ -11,10 +11,9 @@ use Rattle.theory.specs.declared.refusal.Refusal.{Refusal}
 use Rattle.theory.specs.Rules.{State, Answers, after, sum_of, Same, IsFinite}
 use Rattle.theory.specs.Verdicts.{verified, refused, no_empty_clause, is_last, Ends}
 use Rattle.theory.proofs.LawLemmas.Rules.{after_same, sum_same}
-use Rattle.sat_check.specs.Lines.{refusal_line, steps_line}
+use Rattle.sat_check.specs.Lines.{a_proof, refusal_line, steps_line}
 use Rattle.sat_check.specs.Report.{Report, concluded, with_lines, trace_lines, end_report, verdict_report, peak_of, bare_steps, proof_report}
-use Rattle.sat_check.specs.Checking.{Rest, traced}
-use Rattle.sat_check.specs.declared.subject.Subject.TheVariants as subjects
+use Rattle.sat_check.specs.Code.Checking.{Rest, traced}
 use Rattle.sat_check.specs.declared.status.Status.TheVariants.{Verified, NotVerified}
 use Rattle.theory.proofs.LawLemmas.Verdicts.{ends_same, some_ending}
 
@@ -52,22 +51,22 @@ module _ (trace : Bool) (s : State) (n peak : ℕ) where
       (proof_report trace n (max peak (peak_of s (bare_steps p) v.0)) v.0 v.1 p.fault, record { words = v.0; ending = v.1; verdict = v.2; report = refl })
 
   module _ (st : Step) (end : StepEnd) (left : ℕ) (p : Proof) where
-    pub Rest-refused : (r : Refusal) → Answers s st (Err r) → Rest trace s n peak (with_step st end left p) (concluded subjects.Proof (refusal_line (n + 1) r) NotVerified)
+    pub Rest-refused : (r : Refusal) → Answers s st (Err r) → Rest trace s n peak (with_step st end left p) (concluded a_proof (refusal_line (n + 1) r) NotVerified)
     Rest-refused r a = record {
       words = [];
       ending = refused r;
       verdict = (r, refl, a);
-      report = ap (λ m. concluded subjects.Proof (refusal_line (m + 1) r) NotVerified) (let e : n ≡ n + 0 = omega arith in e)
-          ∙ sym (no_trace trace (concluded subjects.Proof (refusal_line (n + 0 + 1) r) NotVerified));
+      report = ap (λ m. concluded a_proof (refusal_line (m + 1) r) NotVerified) (let e : n ≡ n + 0 = omega arith in e)
+          ∙ sym (no_trace trace (concluded a_proof (refusal_line (n + 0 + 1) r) NotVerified));
     }
 
     pub Rest-verified : (t : State) → Answers s st (Ok Empty) → Same t (after s st Empty) → sum_of s ≤ peak
-        → Rest trace s n peak (with_step st end left p) (with_lines (traced trace (n + 1) Empty) (concluded subjects.Proof (steps_line (n + 1) (max peak (sum_of t))) Verified))
+        → Rest trace s n peak (with_step st end left p) (with_lines (traced trace (n + 1) Empty) (concluded a_proof (steps_line (n + 1) (max peak (sum_of t))) Verified))
     Rest-verified t a same least = record {
       words = Empty ∷ [];
       ending = verified;
       verdict = (a, (refl, refl));
-      report = ap (λ m. with_lines (traced trace (n + 1) Empty) (concluded subjects.Proof (steps_line (n + 1) m) Verified)) peaks;
+      report = ap (λ m. with_lines (traced trace (n + 1) Empty) (concluded a_proof (steps_line (n + 1) m) Verified)) peaks;
     }
       where
         peaks : max peak (sum_of t) ≡ max peak (peak_of s (st ∷ bare_steps p) (Empty ∷ []))

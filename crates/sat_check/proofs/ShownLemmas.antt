@@ -3,7 +3,7 @@ use Rattle.std.proofs.Common.{◌≡◌, ℕ, ◌-◌, ◌^◌, min, Bool, true,
 use Rattle.theory.specs.declared.accepted.Accepted.{Accepted}
 use Rattle.theory.specs.declared.refusal.Refusal.{Refusal}
 use Rattle.sat_check.specs.Lines.{shown, word_text, refusal_line, with_cause, steps_line}
-use Rattle.sat_check.specs.Checking.{counted, traced}
+use Rattle.sat_check.specs.Code.Checking.{counted, traced}
 
 pub shown_counted : (n : ℕ) → shown (counted n) ≡ shown n
 shown_counted n = ap decimal (let e : min (min n (2 ^ 64 - 1)) (2 ^ 64 - 1) ≡ min n (2 ^ 64 - 1) = omega arith in e)

@@ -13,7 +13,7 @@ use Rattle.theory.specs.Models.{HasModel}
 use Rattle.theory.specs.Rules.{Rule, start}
 use Rattle.theory.specs.Verdicts.{Ending, verified, refused, no_empty_clause, Verdict}
 use Rattle.theory.proofs.LawLemmas.Verdicts.{verdict_sound, verdict_unique}
-use Rattle.sat_check.specs.Checking.{AllReports}
+use Rattle.sat_check.specs.Code.Checking.{AllReports}
 use Rattle.sat_check.specs.Lines.{fault_status, text_status}
 use Rattle.sat_check.specs.Reach.{ReadsNoFurther, TellsRefused}
 use Rattle.sat_check.specs.Report.{Report, Outcome, ReportsFormula, ProofReport, Verifies, Reports, ChecksProof, IsUnlessBroken, bare_steps, peak_of, verdict_report}

@@ -14,11 +14,10 @@ use Rattle.steps.specs.ProofSession.{View}
 use Rattle.theory.specs.Rules.{Answers, after, sum_of, Same}
 use Rattle.theory.specs.Answers.{UnlessOutOfMemory}
 use Rattle.theory.specs.Verdicts.{is_last}
-use Rattle.sat_check.specs.Lines.{refusal_line, steps_line}
+use Rattle.sat_check.specs.Lines.{a_proof, refusal_line, steps_line}
 use Rattle.sat_check.specs.Report.{Report, Outcome, concluded, with_lines, text_of}
-use Rattle.sat_check.specs.Reach.{IsVerdict}
-use Rattle.sat_check.specs.Checking.{Rest, Stops, IsRefused, traced, is_memory}
-use Rattle.sat_check.specs.declared.subject.Subject.TheVariants as subjects
+use Rattle.sat_check.specs.Code.Reach.{IsVerdict}
+use Rattle.sat_check.specs.Code.Checking.{Rest, Stops, IsRefused, traced, is_memory}
 use Rattle.sat_check.specs.declared.status.Status.{Status}
 use Rattle.sat_check.specs.declared.status.Status.TheVariants.{Verified, NotVerified, Malformed}
 use Rattle.sat_check.proofs.OutcomeLemmas.{Outcome-after, Writes-all}
@@ -46,7 +45,7 @@ last_word Ignored h = absurd (let e : false ≡ true = h in cc)
 module _ (trace : Bool) (number : ℕ) (old : View) (step : Step) (was now : Sink) where
   -- refused, with or without memory
   pub Stops-refused : (status : Status) (r : Refusal) → (is_memory r ≡ true → (x : Report) → Outcome status was.held now.held x)
-      → (is_memory r ≡ false → Outcome status was.held now.held (concluded subjects.Proof (refusal_line number r) NotVerified))
+      → (is_memory r ≡ false → Outcome status was.held now.held (concluded a_proof (refusal_line number r) NotVerified))
       → UnlessOutOfMemory (Err r) (Answers old.state step (Err r)) → Stops trace number old step was now status
   Stops-refused status r memory refused answers n left end p is least finite = by (is_memory r) refl
     where
@@ -55,8 +54,8 @@ module _ (trace : Bool) (number : ℕ) (old : View) (step : Step) (was now : Sin
           let some = Rest-some trace old.state n old.peak finite (with_step step end left p) in
           (some.0, some.1, memory e some.0)
       by false e =
-          let P : List ℕ → Type 0 = λ t. Outcome status was.held now.held (concluded subjects.Proof t NotVerified) in (
-            concluded subjects.Proof (refusal_line (n + 1) r) NotVerified,
+          let P : List ℕ → Type 0 = λ t. Outcome status was.held now.held (concluded a_proof t NotVerified) in (
+            concluded a_proof (refusal_line (n + 1) r) NotVerified,
             Rest-refused trace old.state n old.peak step end left p r (given r _ e answers),
             subst P (refusal_same number (n + 1) r is) (refused e),
           )
@@ -74,10 +73,10 @@ module _ (trace : Bool) (number : ℕ) (old : View) (step : Step) (was now : Sin
       (same : Same new.state (after old.state step word))
       (peak : new.peak ≡ max old.peak (sum_of new.state)) where
     verified_rest : (n left : ℕ) (end : StepEnd) (p : Proof) → word ≡ Empty → sum_of old.state ≤ old.peak
-        → Rest trace old.state n old.peak (with_step step end left p) (with_lines (traced trace (n + 1) word) (concluded subjects.Proof (steps_line (n + 1) new.peak) Verified))
+        → Rest trace old.state n old.peak (with_step step end left p) (with_lines (traced trace (n + 1) word) (concluded a_proof (steps_line (n + 1) new.peak) Verified))
     verified_rest n left end p is least =
-        let P : ℕ → Type 0 = λ m. Rest trace old.state n old.peak (with_step step end left p) (with_lines (traced trace (n + 1) word) (concluded subjects.Proof (steps_line (n + 1) m) Verified)) in
-        let Q : Accepted → Type 0 = λ w. Rest trace old.state n old.peak (with_step step end left p) (with_lines (traced trace (n + 1) w) (concluded subjects.Proof (steps_line (n + 1) (max old.peak (sum_of new.state))) Verified)) in
+        let P : ℕ → Type 0 = λ m. Rest trace old.state n old.peak (with_step step end left p) (with_lines (traced trace (n + 1) word) (concluded a_proof (steps_line (n + 1) m) Verified)) in
+        let Q : Accepted → Type 0 = λ w. Rest trace old.state n old.peak (with_step step end left p) (with_lines (traced trace (n + 1) w) (concluded a_proof (steps_line (n + 1) (max old.peak (sum_of new.state))) Verified)) in
         let A : Accepted → Type 0 = λ w. Answers old.state step (Ok w) × Same new.state (after old.state step w) in
         let at_empty = subst A is (answers, same) in
         subst P (sym peak) (subst Q (sym is) (Rest-verified trace old.state n old.peak step end left p new.state at_empty.0 at_empty.1 least))
@@ -102,11 +101,11 @@ module _ (trace : Bool) (number : ℕ) (old : View) (step : Step) (was now : Sin
     -- the accepted empty clause
     pub Stops-verified : (status : Status) (mid : Sink) (m : ℕ) → is_last word ≡ true → m ≡ new.peak
         → Writes was mid (text_of (traced trace number word)) → mid.is_broken ≡ false
-        → Outcome status mid.held now.held (concluded subjects.Proof (steps_line number m) Verified) → Stops trace number old step was now status
+        → Outcome status mid.held now.held (concluded a_proof (steps_line number m) Verified) → Stops trace number old step was now status
     Stops-verified status mid m e shown wrote whole o n left end p is least finite =
-        let P : List ℕ → Type 0 = λ t. Outcome status mid.held now.held (concluded subjects.Proof t Verified) in
-        let Q : List (List ℕ) → Type 0 = λ t. Outcome status was.held now.held (with_lines t (concluded subjects.Proof (steps_line (n + 1) new.peak) Verified)) in (
-          with_lines (traced trace (n + 1) word) (concluded subjects.Proof (steps_line (n + 1) new.peak) Verified),
+        let P : List ℕ → Type 0 = λ t. Outcome status mid.held now.held (concluded a_proof t Verified) in
+        let Q : List (List ℕ) → Type 0 = λ t. Outcome status was.held now.held (with_lines t (concluded a_proof (steps_line (n + 1) new.peak) Verified)) in (
+          with_lines (traced trace (n + 1) word) (concluded a_proof (steps_line (n + 1) new.peak) Verified),
           verified_rest n left end p (last_word word e) least,
           subst Q (traced_same trace number (n + 1) word is)
               (Outcome-after status was.held mid.held now.held (traced trace number word) _ (Writes-all was mid (text_of (traced trace number word)) wrote whole)

@@ -29,11 +29,10 @@ use Rattle.theory.specs.declared.accepted.Accepted.TheVariants.{Rup, Rat, Pr, De
 use Rattle.theory.specs.declared.accepted.Accepted.TheVariants.{Empty}
 use Rattle.theory.specs.declared.refusal.Refusal.{Refusal}
 use Rattle.theory.specs.declared.refusal.Refusal.TheVariants as refusal
-use Rattle.sat_check.specs.Lines.{shown, formula_line, kind_text, binary_text, fault_line, fault_status, word_text, trace_line, sign_text, with_cause, refusal_line, steps_line, end_line, sentence}
+use Rattle.sat_check.specs.Lines.{a_proof, shown, formula_line, kind_text, binary_text, fault_line, fault_status, word_text, trace_line, sign_text, with_cause, refusal_line, steps_line, end_line, sentence}
 use Rattle.sat_check.specs.Report.{Report, Outcome, text_of, concluded, with_lines, trace_lines, verdict_report, proof_report, ReportsFormula, ProofReport, HasWritten}
 use Rattle.sat_check.proofs.OutcomeLemmas.{text_of-append}
 use Rattle.sat_check.specs.declared.status.Status.{Status}
-use Rattle.sat_check.specs.declared.subject.Subject.TheVariants.{Proof as about_proof}
 use Rattle.sat_check.specs.declared.status.Status.TheVariants.{Verified, NotVerified, Malformed, ReadFailed, OutOfMemory, WriteFailed, Usage}
 
 -- ---- Texts without a line feed
@@ -172,7 +171,7 @@ record Tells (r : Report) : Type 0 where
   plain : list_all has_no_feed r.lines ≡ true
   told : list_any (begins positive) r.lines ≡ true → r.status ≡ Verified
 
-sentence_plain : (s : Status) → Plain (sentence about_proof s)
+sentence_plain : (s : Status) → Plain (sentence a_proof s)
 sentence_plain Verified = fixed _ refl
 sentence_plain NotVerified = fixed _ refl
 sentence_plain Malformed = fixed _ refl
@@ -181,7 +180,7 @@ sentence_plain OutOfMemory = fixed _ refl
 sentence_plain WriteFailed = fixed _ refl
 sentence_plain Usage = fixed _ refl
 
-sentence_told : (s : Status) → (begins positive (sentence about_proof s) || false) ≡ true → s ≡ Verified
+sentence_told : (s : Status) → (begins positive (sentence a_proof s) || false) ≡ true → s ≡ Verified
 sentence_told Verified e = refl
 sentence_told NotVerified e = absurd (let bad : false ≡ true = e in cc)
 sentence_told Malformed e = absurd (let bad : false ≡ true = e in cc)
@@ -190,10 +189,10 @@ sentence_told OutOfMemory e = absurd (let bad : false ≡ true = e in cc)
 sentence_told WriteFailed e = absurd (let bad : false ≡ true = e in cc)
 sentence_told Usage e = absurd (let bad : false ≡ true = e in cc)
 
-concluded_tells : (line : List ℕ) (s : Status) → Plain line → begins positive line ≡ false → Tells (concluded about_proof line s)
+concluded_tells : (line : List ℕ) (s : Status) → Plain line → begins positive line ≡ false → Tells (concluded a_proof line s)
 concluded_tells line s e other = record {
-  plain = ap (λ v. v && (has_no_feed (sentence about_proof s) && true)) e.test ∙ ap (λ v. v && true) (sentence_plain s).test;
-  told = λ h. sentence_told s (sym (ap (λ v. v || (begins positive (sentence about_proof s) || false)) other) ∙ h);
+  plain = ap (λ v. v && (has_no_feed (sentence a_proof s) && true)) e.test ∙ ap (λ v. v && true) (sentence_plain s).test;
+  told = λ h. sentence_told s (sym (ap (λ v. v || (begins positive (sentence a_proof s) || false)) other) ∙ h);
 }
 
 kind_plain : (k : TextFault) → Plain (kind_text k)
@@ -235,7 +234,7 @@ fault_other name (fault.Binary kind n) = refl
 fault_other name fault.ReadFailed = refl
 fault_other name fault.OutOfMemory = refl
 
-fault_tells : (name : List ℕ) (f : Fault) → Plain name → Tells (concluded about_proof (fault_line name f) (fault_status f))
+fault_tells : (name : List ℕ) (f : Fault) → Plain name → Tells (concluded a_proof (fault_line name f) (fault_status f))
 fault_tells name f e = concluded_tells (fault_line name f) (fault_status f) (fault_plain name f e) (fault_other name f)
 
 word_plain : (w : Accepted) → Plain (word_text w)

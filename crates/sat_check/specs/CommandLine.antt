@@ -1,4 +1,3 @@
 -- What a command line says, and how it is read.
 pub mod Asked
-pub mod Commands
 pub mod Words

@@ -13,8 +13,6 @@ use Rattle.theory.specs.declared.accepted.Accepted.TheVariants.{Rup, Rat, Pr, De
 use Rattle.theory.specs.declared.accepted.Accepted.TheVariants.{Empty}
 use Rattle.theory.specs.declared.refusal.Refusal.{Refusal}
 use Rattle.theory.specs.declared.refusal.Refusal.TheVariants as refusal
-use Rattle.sat_check.specs.declared.subject.Subject.{Subject}
-use Rattle.sat_check.specs.declared.subject.Subject.TheVariants as subjects
 use Rattle.sat_check.specs.declared.status.Status.{Status}
 use Rattle.sat_check.specs.declared.status.Status.TheVariants as status
 
@@ -128,9 +126,14 @@ clauses_line n = codes "c clauses " ++ shown n
 
 -- ---- The verdict
 
+-- what is checked: that a formula has no model, or has one
+pub data Certificate : Type 0 where
+  a_proof : Certificate
+  a_model : Certificate
+
 -- the verdict's last line
-abbrev pub sentence : Subject → Status → List ℕ
-sentence subjects.Proof status.Verified = codes "s VERIFIED"
-sentence subjects.Proof _ = codes "s NOT VERIFIED"
-sentence subjects.Model status.Verified = codes "s MODEL VERIFIED"
-sentence subjects.Model _ = codes "s MODEL NOT VERIFIED"
+abbrev pub sentence : Certificate → Status → List ℕ
+sentence a_proof status.Verified = codes "s VERIFIED"
+sentence a_proof _ = codes "s NOT VERIFIED"
+sentence a_model status.Verified = codes "s MODEL VERIFIED"
+sentence a_model _ = codes "s MODEL NOT VERIFIED"

@@ -7,9 +7,8 @@ use Rattle.cnf_base.specs.Stream.{Input, Reader, bytes_read}
 use Rattle.cnf_base.specs.declared.fault.Fault.{Fault}
 use Rattle.dimacs.specs.Claim.{claim_of, IsConsistent}
 use Rattle.dimacs.specs.Formula.{Formula, formula_of, clause_rests}
-use Rattle.sat_check.specs.Lines.{unmet_line, clauses_line, fault_line, fault_status}
+use Rattle.sat_check.specs.Lines.{a_model, unmet_line, clauses_line, fault_line, fault_status}
 use Rattle.sat_check.specs.Report.{Report, Outcome, IsUnlessBroken, concluded}
-use Rattle.sat_check.specs.declared.subject.Subject.TheVariants.{Model}
 use Rattle.theory.specs.Models.{HasModel}
 use Rattle.sat_check.specs.declared.status.Status.{Status}
 use Rattle.sat_check.specs.declared.status.Status.TheVariants.{Verified, NotVerified}
@@ -25,18 +24,18 @@ first_unmet k listed (c ∷ cs) = if meets listed c then first_unmet (k + 1) lis
 
 -- all of so many clauses are met, and the formula ends so
 abbrev pub met_report : ℕ → Option Fault → Report
-met_report n None = concluded Model (clauses_line n) Verified
-met_report n (Some f) = concluded Model (fault_line (codes "formula") f) (fault_status f)
+met_report n None = concluded a_model (clauses_line n) Verified
+met_report n (Some f) = concluded a_model (fault_line (codes "formula") f) (fault_status f)
 
 -- a clause that isn't met comes before the formula's fault
 abbrev pub clauses_report : Option ℕ → Formula → Report
-clauses_report (Some k) f = concluded Model (unmet_line k) NotVerified
+clauses_report (Some k) f = concluded a_model (unmet_line k) NotVerified
 clauses_report None f = met_report (length f.clauses) f.fault
 
 -- the report of a claim; its fault comes before the formula is looked at
 abbrev pub claim_report : Result (List Literal) Fault → Formula → Report
 claim_report (Ok listed) f = clauses_report (first_unmet 1 listed f.clauses) f
-claim_report (Err e) f = concluded Model (fault_line (codes "output") e) (fault_status e)
+claim_report (Err e) f = concluded a_model (fault_line (codes "output") e) (fault_status e)
 
 abbrev pub model_report : (formula output : Input) → Report
 model_report formula output = claim_report (claim_of output) (formula_of formula)

@@ -1,6 +1,6 @@
 -- How far a proof is read, and where the step ends that is refused.
-use Rattle.std.specs.Prelude.{◌≡◌, ◌⊎◌, ◌+◌, ◌≤◌, true, List, [], ◌∷◌, length, slice_get, Option, None, Some}
 use Rattle.std.specs.List.{list_any}
+use Rattle.std.specs.Prelude.{List, [], ◌∷◌, length, slice_get, Option, None, Some, ◌≡◌, ◌⊎◌, true, ◌+◌, ◌≤◌}
 use Rattle.cnf_base.specs.Literals.{Clause}
 use Rattle.cnf_base.specs.Stream.{Input, Reader, bytes_read}
 use Rattle.cnf_base.specs.declared.fault.Fault.{Fault}
@@ -8,12 +8,11 @@ use Rattle.dimacs.specs.Formula.{Formula}
 use Rattle.proofs.specs.Reading.{PlacedStep, Proof}
 use Rattle.proofs.specs.declared.step_end.StepEnd.{StepEnd}
 use Rattle.theory.specs.Rules.{Rule}
-use Rattle.theory.specs.Verdicts.{Ending, verified, refused, no_empty_clause, Verdict, is_empty}
+use Rattle.theory.specs.Verdicts.{Ending, verified, refused, no_empty_clause, is_empty, Verdict}
 use Rattle.theory.specs.declared.accepted.Accepted.{Accepted}
 use Rattle.sat_check.specs.Report.{bare_steps}
 use Rattle.sat_check.specs.declared.checked.Checked.{Checked}
-use Rattle.sat_check.specs.declared.status.Status.{Status}
-use Rattle.sat_check.specs.declared.status.Status.TheVariants.{Verified, NotVerified}
+use Rattle.sat_check.specs.declared.status.Status.TheVariants.{NotVerified}
 
 -- the step that decides: the accepted empty clause, or the step that is refused; none where a clause of the formula
 -- decides, or no step does
@@ -36,10 +35,6 @@ refused_end steps words no_empty_clause = None
 -- the formula decides alone: it has a fault, or an empty clause
 abbrev pub NeedsNoProof : Option Fault → List Clause → Type 0
 NeedsNoProof fault clauses = (¬ (fault ≡ None)) ⊎ (list_any is_empty clauses ≡ true)
-
--- a status that is a verdict on a proof
-abbrev pub IsVerdict : Status → Type 0
-IsVerdict status = (status ≡ Verified) ⊎ (status ≡ NotVerified)
 
 -- No more of a proof was read than it takes, also where memory or the writer failed: where the formula decides alone the
 -- reader is as it was, and where a step decides, at most 65536 bytes past its end were read.

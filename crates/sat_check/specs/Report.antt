@@ -20,9 +20,7 @@ use Rattle.theory.specs.Verdicts.{Ending, verified, refused, no_empty_clause, Ve
 use Rattle.theory.specs.declared.drat_rules.DratRules.{DratRules}
 use Rattle.sat_check.specs.declared.options.DratOptions.{DratOptions}
 use Rattle.theory.specs.declared.accepted.Accepted.{Accepted}
-use Rattle.sat_check.specs.Lines.{formula_line, fault_line, fault_status, trace_line, refusal_line, steps_line, end_line, sentence}
-use Rattle.sat_check.specs.declared.subject.Subject.{Subject}
-use Rattle.sat_check.specs.declared.subject.Subject.TheVariants as subjects
+use Rattle.sat_check.specs.Lines.{formula_line, fault_line, fault_status, trace_line, refusal_line, steps_line, end_line, Certificate, a_proof, sentence}
 use Rattle.sat_check.specs.declared.status.Status.{Status}
 use Rattle.sat_check.specs.declared.status.Status.TheVariants.{Verified, NotVerified, OutOfMemory, WriteFailed}
 
@@ -51,8 +49,8 @@ Outcome s old new r = (s ≡ r.status) × Appends old new (text_of r.lines)
 -- ---- The report of a proof
 
 -- a line, and the verdict's last line
-abbrev pub concluded : Subject → List ℕ → Status → Report
-concluded subject line status = record { lines = line ∷ sentence subject status ∷ []; status = status }
+abbrev pub concluded : Certificate → List ℕ → Status → Report
+concluded certificate line status = record { lines = line ∷ sentence certificate status ∷ []; status = status }
 
 abbrev pub with_lines : List (List ℕ) → Report → Report
 with_lines front r = record { lines = front ++ r.lines; status = r.status }
@@ -64,13 +62,13 @@ trace_lines n (word ∷ words) = trace_line n word ∷ trace_lines (n + 1) words
 
 -- how a proof ends that runs out of steps
 abbrev pub end_report : Option Fault → Report
-end_report None = concluded subjects.Proof end_line NotVerified
-end_report (Some f) = concluded subjects.Proof (fault_line (codes "proof") f) (fault_status f)
+end_report None = concluded a_proof end_line NotVerified
+end_report (Some f) = concluded a_proof (fault_line (codes "proof") f) (fault_status f)
 
 -- the verdict after so many accepted steps
 abbrev pub verdict_report : ℕ → ℕ → Ending → Option Fault → Report
-verdict_report n peak verified fault = concluded subjects.Proof (steps_line n peak) Verified
-verdict_report n peak (refused r) fault = concluded subjects.Proof (refusal_line (n + 1) r) NotVerified
+verdict_report n peak verified fault = concluded a_proof (steps_line n peak) Verified
+verdict_report n peak (refused r) fault = concluded a_proof (refusal_line (n + 1) r) NotVerified
 verdict_report n peak no_empty_clause fault = end_report fault
 
 -- the greatest sum of the sizes of the live clauses, over a state and those after accepted steps
@@ -95,7 +93,7 @@ pub record Checks (rule : Rule) (trace : Bool) (h : Header) (clauses : List Clau
   pub report : r ≡ with_lines (formula_line h ∷ []) (proof_report trace 0 (peak_of (start rule clauses) (bare_steps proof) words) words ending proof.fault)
 
 abbrev pub ReportsFormula : Rule → Bool → Option Header → List Clause → Option Fault → Proof → Report → Type 0
-ReportsFormula rule trace header clauses (Some f) proof r = r ≡ concluded subjects.Proof (fault_line (codes "formula") f) (fault_status f)
+ReportsFormula rule trace header clauses (Some f) proof r = r ≡ concluded a_proof (fault_line (codes "formula") f) (fault_status f)
 ReportsFormula rule trace (Some h) clauses None proof r = Checks rule trace h clauses proof r
 ReportsFormula rule trace None clauses None proof r = ⊥
 

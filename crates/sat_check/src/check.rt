@@ -7,7 +7,7 @@ ghost use Rattle.cnf_base.specs.Seen.{Seen, IsSeen, OneHasFailed};
 ghost use Rattle.dimacs.specs.Formula.{formula_of};
 ghost use Rattle.theory.specs.Rules.{Rule, rule_of};
 ghost use Rattle.sat_check.specs.Report.{Report, Outcome, Checks, Reports, is_cut_short};
-ghost use Rattle.sat_check.specs.Checking.{IsLoaded, LeavesProof};
+ghost use Rattle.sat_check.specs.Code.Checking.{IsLoaded, LeavesProof};
 
 use crate::check_proof::check_proof;
 use crate::conclude::{break_off, conclude, write_line};

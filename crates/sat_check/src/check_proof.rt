@@ -5,7 +5,7 @@ ghost use Rattle.cnf_base.specs.Stream.{Along, tells_failure};
 ghost use Rattle.steps.specs.ProofSession.{is_over};
 ghost use Rattle.theory.specs.Rules.{sum_of, IsFinite};
 ghost use Rattle.sat_check.specs.Report.{Report, Outcome, is_cut_short};
-ghost use Rattle.sat_check.specs.Checking.{Rest, LeavesRest};
+ghost use Rattle.sat_check.specs.Code.Checking.{Rest, LeavesRest};
 
 use crate::conclude::{break_off, conclude};
 use crate::report::end_line;

@@ -4,6 +4,7 @@ ghost use Rattle.std.specs.Prelude.{◌≡◌, ◌⊎◌, false, true, [], ◌�
 ghost use Rattle.cnf_base.specs.Lines.{Writes, line_of};
 ghost use Rattle.sat_check.specs.Lines.{fault_line, fault_status};
 ghost use Rattle.sat_check.specs.Report.{Report, Outcome, concluded, is_cut_short, with_lines};
+ghost use Rattle.sat_check.specs.Code.Subjects.{certificate_of};
 
 use crate::Status;
 use crate::line::Line;
@@ -20,7 +21,8 @@ pub fn conclude<O: Out>(
     status: Status,
 ) -> Status
     ensures outcome { (text : List ℕ) → IfOk line (λ l. l ≡ text) →
-        Outcome result lines.old.held lines.new.held (concluded subject text status) }
+        Outcome result lines.old.held lines.new.held
+        (concluded (certificate_of subject) text status) }
     ensures status { (result ≡ status) ⊎ (result ≡ Status.OutOfMemory)
         ⊎ ((result ≡ Status.WriteFailed) × (lines.new.has_failed ≡ true)) }
     ensures no_failure { is_cut_short result ≡ false →
@@ -55,7 +57,7 @@ pub fn break_off<O: Out>(
         Outcome result lines.old.held lines.new.held r }
     ensures told { (fault ≡ Fault.OutOfMemory → ⊥) →
         Outcome result lines.old.held lines.new.held
-        (concluded subject (fault_line name.now fault) (fault_status fault)) }
+        (concluded (certificate_of subject) (fault_line name.now fault) (fault_status fault)) }
     ensures read_failed { result ≡ Status.ReadFailed → fault ≡ Fault.ReadFailed }
     ensures write_failed { result ≡ Status.WriteFailed → lines.new.has_failed ≡ true }
     ensures no_failure { is_cut_short result ≡ false →

@@ -4,9 +4,9 @@ ghost use Rattle.std.specs.Prelude.{◌≡◌, [], true, false};
 ghost use Rattle.std.specs.FinMap as maps;
 ghost use Rattle.cnf_base.specs.Seen.{OfBothSeen, OneHasFailed};
 ghost use Rattle.dimacs.specs.Formula.{formula_of};
-ghost use Rattle.steps.specs.Drat.Session.{fresh_drat};
+ghost use Rattle.steps.specs.DratSession.{fresh_drat};
 ghost use Rattle.theory.specs.Rules.{drat};
-ghost use Rattle.sat_check.specs.Checking.{AllReports};
+ghost use Rattle.sat_check.specs.Code.Checking.{AllReports};
 ghost use Rattle.sat_check.specs.Reach.{ReadsNoFurther, TellsRefused};
 ghost use Rattle.sat_check.specs.Report.{ChecksProof, drat_proof, rules_of, is_cut_short};
 

@@ -2,11 +2,11 @@
 
 ghost use Rattle.std.specs.Prelude.{◌≡◌, true, IfErr};
 ghost use Rattle.cnf_base.specs.Stream.{Along, tells_failure};
-ghost use Rattle.cnf_base.specs.Seen.{OfSeen};
+ghost use Rattle.cnf_base.specs.Code.Seen.{OfSeen};
 ghost use Rattle.dimacs.specs.Formula.{formula_of};
 ghost use Rattle.dimacs.specs.Reading.{clauses_to_come, rests_to_come};
 ghost use Rattle.sat_check.specs.ModelReport.{meets};
-ghost use Rattle.sat_check.specs.Judging.{Judges, LeavesUnmet, ReadsToUnmet};
+ghost use Rattle.sat_check.specs.Code.Judging.{Judges, LeavesUnmet, ReadsToUnmet};
 
 use crate::judgement::Judgement;
 use cnf_base::{Fault, In, Piece, Source};

@@ -2,11 +2,11 @@
 
 ghost use Rattle.std.specs.Prelude.{◌≡◌, true, [], IfErr};
 ghost use Rattle.cnf_base.specs.Stream.{Along, tells_failure};
-ghost use Rattle.cnf_base.specs.Seen.{OfSeen};
+ghost use Rattle.cnf_base.specs.Code.Seen.{OfSeen};
 ghost use Rattle.dimacs.specs.Formula.{formula_of};
 ghost use Rattle.dimacs.specs.Reading.{clauses_to_come};
 ghost use Rattle.theory.specs.Rules.{rule_of};
-ghost use Rattle.sat_check.specs.Checking.{IsLoaded, Loads, LoadsBody};
+ghost use Rattle.sat_check.specs.Code.Checking.{IsLoaded, Loads, LoadsBody};
 
 use cnf_base::{Fault, In, Piece, Source};
 use dimacs::{ClauseBuf, FormulaReader, Header};

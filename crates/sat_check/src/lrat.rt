@@ -5,7 +5,7 @@ ghost use Rattle.cnf_base.specs.Seen.{OfBothSeen, OneHasFailed};
 ghost use Rattle.dimacs.specs.Formula.{formula_of};
 ghost use Rattle.proofs.specs.Lrat.{lrat_steps};
 ghost use Rattle.theory.specs.Rules.{lrat};
-ghost use Rattle.sat_check.specs.Checking.{AllReports};
+ghost use Rattle.sat_check.specs.Code.Checking.{AllReports};
 ghost use Rattle.sat_check.specs.Reach.{ReadsNoFurther, TellsRefused};
 ghost use Rattle.sat_check.specs.Report.{ChecksProof, is_cut_short};
 

@@ -2,13 +2,14 @@
 
 ghost use Rattle.std.specs.Prelude.{◌≡◌, true, false, Ok, IfOk, IfErr};
 ghost use Rattle.cnf_base.specs.Stream.{tells_failure};
-ghost use Rattle.cnf_base.specs.Seen.{OfSeen, OfBothSeen, OneHasFailed};
+ghost use Rattle.cnf_base.specs.Code.Seen.{OfSeen};
+ghost use Rattle.cnf_base.specs.Seen.{OfBothSeen, OneHasFailed};
 ghost use Rattle.dimacs.specs.Claim.{claim_of, IsClaim, IsConsistent};
 ghost use Rattle.dimacs.specs.Formula.{formula_of};
 ghost use Rattle.sat_check.specs.Report.{Outcome, is_cut_short};
 ghost use Rattle.sat_check.specs.ModelReport.{claim_report, model_report};
 ghost use Rattle.sat_check.specs.ModelReport.{ChecksModel, ReadsFormulaNoFurther};
-ghost use Rattle.sat_check.specs.Judging.{judged_report, ReadsToUnmet};
+ghost use Rattle.sat_check.specs.Code.Judging.{judged_report, ReadsToUnmet};
 
 use crate::Status;
 use crate::conclude::{break_off, conclude};

@@ -2,6 +2,7 @@
 
 ghost use Rattle.std.specs.Prelude.{◌≡◌, ◌++◌, ◌/◌, codes, decimal, IfOk};
 ghost use Rattle.sat_check.specs.Lines.{formula_line, kind_text, binary_text, fault_line, fault_status, text_status, word_text, trace_line, sign_text, with_cause, refusal_line, steps_line, end_line, unmet_line, clauses_line, sentence};
+ghost use Rattle.sat_check.specs.Code.Subjects.{certificate_of};
 
 use crate::Status;
 use crate::line::Line;
@@ -119,7 +120,7 @@ pub fn clauses_line(alloc: Global, number: u64) -> Result<Line, OutOfMemory>
 
 /// The verdict's last line.
 pub fn sentence(subject: Subject, status: Status) -> &'static [u8]
-    ensures { result.now ≡ sentence subject status }
+    ensures { result.now ≡ sentence (certificate_of subject) status }
 {
     match status {
         Status::Verified => verified_sentence(subject),
@@ -133,7 +134,7 @@ pub fn sentence(subject: Subject, status: Status) -> &'static [u8]
 }
 
 fn verified_sentence(subject: Subject) -> &'static [u8]
-    ensures { result.now ≡ sentence subject Status.Verified }
+    ensures { result.now ≡ sentence (certificate_of subject) Status.Verified }
 {
     match subject {
         Subject::Proof => b"s VERIFIED",
@@ -143,7 +144,7 @@ fn verified_sentence(subject: Subject) -> &'static [u8]
 
 fn unverified_sentence(subject: Subject) -> &'static [u8]
     ensures { (status : Status) → (status ≡ Status.Verified → ⊥) →
-        result.now ≡ sentence subject status }
+        result.now ≡ sentence (certificate_of subject) status }
 {
     match subject {
         Subject::Proof => b"s NOT VERIFIED",

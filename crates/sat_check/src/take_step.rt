@@ -4,11 +4,11 @@ ghost use Rattle.std.specs.Prelude.{◌≡◌, ◌≢◌, true, false, IfErr, If
 ghost use Rattle.cnf_base.specs.Lines.{Writes};
 ghost use Rattle.steps.specs.ProofSession.{is_over};
 ghost use Rattle.theory.specs.Verdicts.{is_last};
-ghost use Rattle.sat_check.specs.Lines.{refusal_line, trace_line};
+ghost use Rattle.sat_check.specs.Lines.{a_proof, refusal_line, trace_line};
 ghost use Rattle.sat_check.specs.Report.{Report, Outcome, is_cut_short, concluded, with_lines};
 ghost use Rattle.sat_check.specs.Report.{text_of};
-ghost use Rattle.sat_check.specs.Reach.{IsVerdict};
-ghost use Rattle.sat_check.specs.Checking.{Decides, GoesOn, IsRefused, Stops, IsBreak, IsTold, is_memory, traced};
+ghost use Rattle.sat_check.specs.Code.Reach.{IsVerdict};
+ghost use Rattle.sat_check.specs.Code.Checking.{Decides, GoesOn, IsRefused, Stops, IsBreak, IsTold, is_memory, traced};
 
 use crate::Status;
 use crate::conclude::{conclude, give_up, write_line};
@@ -89,7 +89,7 @@ fn refuse<O: Out>(alloc: Global, number: u64, refusal: Refusal, lines: &mut Line
         Outcome result lines.old.held lines.new.held r }
     ensures refused { is_memory refusal ≡ false →
         Outcome result lines.old.held lines.new.held
-        (concluded Subject.Proof (refusal_line number refusal) Status.NotVerified) }
+        (concluded a_proof (refusal_line number refusal) Status.NotVerified) }
     ensures told { IsTold result lines.new }
     ensures no_failure { is_cut_short result ≡ false →
         lines.new.has_failed ≡ lines.old.has_failed }

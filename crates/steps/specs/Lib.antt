@@ -1,3 +1,4 @@
-pub mod Drat
-pub mod Lrat
 pub mod ProofSession
+pub mod DratSession
+pub mod LratSession
+pub mod Code

@@ -5,7 +5,8 @@ mod step;
 
 ghost use Rattle.std.specs.Prelude.{◌≡◌, [], false};
 ghost use Rattle.std.specs.FinMap as maps;
-ghost use Rattle.steps.specs.Drat.Session.{fresh_drat, clauses_of};
+ghost use Rattle.steps.specs.DratSession.{fresh_drat};
+ghost use Rattle.steps.specs.Code.DratSession.{clauses_of};
 
 use crate::drat::step::{add_copy, take_step};
 use crate::proof_session::ProofSession;
@@ -27,7 +28,8 @@ pub struct DratSession<P: Propagate> {
 impl<P: Propagate> Model for DratSession<P> {
     ghost use Rattle.std.specs.Prelude.{◌≡◌, [], false};
     ghost use Rattle.propagation.specs.Assumptions.{HoldsLiveAlone};
-    ghost use Rattle.steps.specs.Drat.Session.{DratState, drat_code};
+    ghost use Rattle.steps.specs.DratSession.{DratState};
+    ghost use Rattle.steps.specs.Code.DratSession.{drat_code};
 
     ghost Value = { DratState };
 

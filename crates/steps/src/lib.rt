@@ -9,4 +9,4 @@ mod word;
 pub use drat::DratSession;
 pub use lrat::LratSession;
 pub use proof_session::ProofSession;
-pub use theory::{Accepted, DratRules, Left, Refusal, laws};
+pub use theory::{Accepted, DratRules, Refusal, laws};

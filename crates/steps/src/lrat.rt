@@ -6,14 +6,16 @@ mod live_clauses;
 mod named;
 mod walk;
 
-ghost use Rattle.std.specs.Prelude.{◌≡◌, ◌≢◌, ◌⊎◌, ◌+◌, ◌-◌, ◌<◌, ◌≤◌, ◌^◌, ◌||◌, ◌↔◌, min, max, true, false, IsTrue, IsFalse, IfOk, IfErr, OnOk, OnErr, ℕ};
+ghost use Rattle.std.specs.Prelude.{◌≡◌, ◌≢◌, ◌⊎◌, ◌+◌, ◌-◌, ◌<◌, ◌≤◌, ◌^◌, ◌||◌, ◌↔◌, min, max};
+ghost use Rattle.std.specs.Prelude.{true, false, IsTrue, IsFalse, IfOk, IfErr, OnOk, OnErr, ℕ};
 ghost use Rattle.std.specs.FinMap as maps;
 ghost use Rattle.cnf_base.specs.Literals.{complements};
 ghost use Rattle.theory.specs.Lrat.{chain, units_of, groups_of, AnswersChain, AnswersLrat};
 ghost use Rattle.theory.specs.Lrat.{after_lrat, lrat_step, with_clause, SameClauses};
 ghost use Rattle.propagation.specs.Trail.{HasRoom};
-ghost use Rattle.steps.specs.Lrat.Shelf.{shelf_state};
-ghost use Rattle.steps.specs.Lrat.Session.{fresh_lrat, state_of, IsReady};
+ghost use Rattle.steps.specs.Code.Shelf.{shelf_state};
+ghost use Rattle.steps.specs.LratSession.{fresh_lrat};
+ghost use Rattle.steps.specs.Code.LratSession.{state_of, IsReady};
 ghost use Rattle.theory.specs.Answers.{UnlessOutOfMemory};
 
 use crate::lrat::addition::judge_addition;
@@ -40,7 +42,8 @@ pub struct LratSession {
 impl Model for LratSession {
     ghost use Rattle.std.specs.Prelude.{◌≡◌, false};
     ghost use Rattle.std.specs.FinMap as maps;
-    ghost use Rattle.steps.specs.Lrat.Session.{Session, session_code, IsReady};
+    ghost use Rattle.steps.specs.LratSession.{Session};
+    ghost use Rattle.steps.specs.Code.LratSession.{session_code, IsReady};
 
     ghost Value = { Session };
 

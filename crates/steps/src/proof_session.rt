@@ -2,7 +2,8 @@
 
 pub(crate) mod progress;
 
-ghost use Rattle.std.specs.Prelude.{◌≡◌, ◌⊎◌, ◌+◌, ◌-◌, ◌^◌, ◌<◌, ◌≤◌, ◌||◌, ◌↔◌, min, max, length, true, false, IsTrue, IsFalse, IfOk, IfErr, OnOk, OnErr};
+ghost use Rattle.std.specs.Prelude.{◌≡◌, ◌⊎◌, ◌+◌, ◌-◌, ◌^◌, ◌<◌, ◌≤◌, ◌||◌, ◌↔◌, min, max, length};
+ghost use Rattle.std.specs.Prelude.{true, false, IsTrue, IsFalse, IfOk, IfErr, OnOk, OnErr};
 ghost use Rattle.steps.specs.ProofSession.{View, is_over, IsCutOff};
 ghost use Rattle.theory.specs.Rules.{Same, with_input, Answers, after, literals_of, sum_of};
 ghost use Rattle.theory.specs.Rules.{rule_of, IsSatisfiable};

@@ -1,5 +1,6 @@
 -- What a table has at a key after a change.
-use Rattle.std.proofs.Common.{◌≡◌, ℕ, ◌<◌, ◌≤◌, false, cond, eqb, Option, Some, None, List, length, get_or, set, arith, sym, is_some}
+use Rattle.std.proofs.Common.{◌≡◌, ℕ, ◌<◌, ◌≤◌, false, cond, eqb, Option, Some, None, List, length}
+use Rattle.std.proofs.Common.{get_or, set, arith, sym, is_some}
 use Rattle.std.proofs.lemmas.Grind.{common_steps}
 use Rattle.std.proofs.lemmas.Bool.{true≢false}
 use Rattle.std.proofs.lemmas.List.{get_or_read}

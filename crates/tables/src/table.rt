@@ -1,6 +1,7 @@
 //! Values by small numbers, in memory of the order of the keys that were met.
 
-ghost use Rattle.std.specs.Prelude.{◌≡◌, ℕ, ◌==◌, ◌<◌, ◌≤◌, if◌then◌else◌, unwrap_or, IsSome, IsTrue, OnOk, OnErr, vec_len, slice_index_or};
+ghost use Rattle.std.specs.Prelude.{◌≡◌, ℕ, ◌==◌, ◌<◌, ◌≤◌, if◌then◌else◌, unwrap_or, IsSome};
+ghost use Rattle.std.specs.Prelude.{IsTrue, OnOk, OnErr, vec_len, slice_index_or};
 ghost use Rattle.std.specs.Option.{option_copied};
 ghost use Rattle.std.specs.Ordering.{nat_cmp};
 ghost use Rattle.std.specs.BTreeMap.{get};

@@ -2,5 +2,5 @@ pub mod Conflicts
 pub mod Covers
 pub mod Forced
 pub mod Lacking
-pub mod Left
+pub mod Open
 pub mod Unit

@@ -1,9 +1,11 @@
--- What a step may be answered: it is accepted with a word, or refused with its cause.
+-- What a step may be answered (our own profile): it is accepted with a word, or refused with its
+-- cause.
 use Rattle.std.specs.Prelude.{Result, Err, ⊤}
 use Rattle.theory.specs.declared.accepted.Accepted.{Accepted}
 use Rattle.theory.specs.declared.refusal.Refusal.{Refusal}
 use Rattle.theory.specs.declared.refusal.Refusal.TheVariants.{OutOfMemory}
 
+-- the word with which a step is accepted, or the cause for which it is refused
 abbrev pub StepAnswer : Type 0
 StepAnswer = Result Accepted Refusal
 

@@ -1,8 +1,10 @@
--- One step of a DRAT proof, over the list of the live clauses. Additions by RUP, or by RAT on the first literal written,
--- and deletions are those of DRAT, as DRAT-trim's page has it. Our own profile: RUP is asked first, a deletion of a unit
--- clause is done as written, and one of a clause that is not alive is ignored, or refused where the rules are strict. Where
--- they keep units, the deletion of a clause that makes a literal hold for good is ignored, as DRAT-trim ignores most of these.
--- Additions that list a set after their clause are those of DPR proofs; that they are tried by RUP and PR alone is our own.
+-- One step of a DRAT proof, over the list of the live clauses. Additions by RUP, or by RAT on the
+-- first literal written, and deletions are those of DRAT, as DRAT-trim's page has it. Our own
+-- profile: RUP is asked first, a deletion of a unit clause is done as written, and one of a clause
+-- that is not alive is ignored, or refused where the rules are strict. Where they keep units, the
+-- deletion of a clause that makes a literal hold for good is ignored, as DRAT-trim ignores most of
+-- these. Additions that list a set after their clause are those of DPR proofs; that they are tried
+-- by RUP and PR alone is our own.
 use Rattle.std.specs.Prelude.{◌≡◌, ℕ, Bool, true, false, ◌⊎◌, List, [], ◌∷◌, Ok}
 use Rattle.std.specs.Prelude.{Err, count_by, slice_get, IsTrue, IsFalse, if◌then◌else◌}
 use Rattle.std.specs.List.{list_any}
@@ -20,7 +22,8 @@ use Rattle.proofs.specs.Steps.{Step, clause_part, set_part}
 use Rattle.proofs.specs.declared.step_buf.StepKind.{StepKind}
 use Rattle.proofs.specs.declared.step_buf.StepKind.TheVariants.{Add, Delete}
 
--- a step, with its literals in the order in which they were written: an addition of a clause with the set that it lists, or a deletion
+-- a step, with its literals in the order in which they were written: an addition of a clause with
+-- the set that it lists, or a deletion
 pub data DratStep : Type 0 where
   add : List Literal → List Literal → DratStep
   delete : List Literal → DratStep
@@ -30,11 +33,13 @@ abbrev pub addition_of : Bool → List Literal → DratStep
 addition_of true lits = add (clause_part lits) (set_part lits)
 addition_of false lits = add lits []
 
--- what a step of a proof says in DRAT, where identifiers and hints mean nothing; a deletion is never divided
+-- what a step of a proof says in DRAT, where identifiers and hints mean nothing; a deletion is
+-- never divided
 abbrev pub drat_step_of : DratRules → StepKind → List ℕ → DratStep
 drat_step_of rules Add lits = addition_of rules.pr lits
 drat_step_of rules Delete lits = delete lits
 
+-- the same of a whole step, as it was read
 abbrev pub drat_step : DratRules → Step → DratStep
 drat_step rules s = drat_step_of rules s.kind s.lits
 
@@ -43,17 +48,20 @@ abbrev pub AnswersAdd : List Clause → List Literal → StepAnswer → Type 0
 AnswersAdd live [] (Ok Empty) = HasRup (slice_get live) []
 AnswersAdd live [] (Err NotRup) = ¬ HasRup (slice_get live) []
 AnswersAdd live (pivot ∷ rest) (Ok Rup) = HasRup (slice_get live) (pivot ∷ rest)
-AnswersAdd live (pivot ∷ rest) (Ok Rat) = ¬ HasRup (slice_get live) (pivot ∷ rest) × HasRat (slice_get live) (pivot ∷ rest) pivot
+AnswersAdd live (pivot ∷ rest) (Ok Rat) =
+    ¬ HasRup (slice_get live) (pivot ∷ rest) × HasRat (slice_get live) (pivot ∷ rest) pivot
 AnswersAdd live (pivot ∷ rest) (Err (NeitherRupNorRat l)) =
-    (l ≡ pivot) × ¬ HasRup (slice_get live) (pivot ∷ rest) × ¬ HasRat (slice_get live) (pivot ∷ rest) pivot
+    (l ≡ pivot) × ¬ HasRup (slice_get live) (pivot ∷ rest)
+    × ¬ HasRat (slice_get live) (pivot ∷ rest) pivot
 AnswersAdd live c _ = ⊥
 
--- What an addition may be answered that lists a set. A set with a literal and its complement is refused before all else, and
--- RAT is not asked.
+-- What an addition may be answered that lists a set. A set with a literal and its complement is
+-- refused before all else, and RAT is not asked.
 abbrev pub AnswersWithSet : List Clause → List Literal → List Literal → StepAnswer → Type 0
 AnswersWithSet live c set (Err InconsistentSet) = IsTrue (conflicts set)
 AnswersWithSet live c set (Ok Rup) = IsFalse (conflicts set) × HasRup (slice_get live) c
-AnswersWithSet live c set (Ok Pr) = IsFalse (conflicts set) × ¬ HasRup (slice_get live) c × HasPr (slice_get live) c set
+AnswersWithSet live c set (Ok Pr) =
+    IsFalse (conflicts set) × ¬ HasRup (slice_get live) c × HasPr (slice_get live) c set
 AnswersWithSet live c set (Err NeitherRupNorPr) =
     IsFalse (conflicts set) × ¬ HasRup (slice_get live) c × ¬ HasPr (slice_get live) c set
 AnswersWithSet live c set _ = ⊥
@@ -67,15 +75,19 @@ AnswersListed live c (l ∷ set) answer = AnswersWithSet live c (l ∷ set) answ
 abbrev pub IsKeptUnit : DratRules → List Clause → Clause → Type 0
 IsKeptUnit rules live c = IsTrue rules.keep_units × IsRootReason (slice_get live) c
 
--- What a deletion may be answered. One of a live clause is ignored where that is a kept unit; one of a clause that is not alive
--- is ignored too, or refused where the rules are strict.
+-- What a deletion may be answered. One of a live clause is ignored where that is a kept unit; one
+-- of a clause that is not alive is ignored too, or refused where the rules are strict.
 abbrev pub AnswersDelete : DratRules → List Clause → List Literal → StepAnswer → Type 0
-AnswersDelete rules live c (Ok Deleted) = IsTrue (list_any (same_clause c) live) × ¬ IsKeptUnit rules live c
+AnswersDelete rules live c (Ok Deleted) =
+    IsTrue (list_any (same_clause c) live) × ¬ IsKeptUnit rules live c
 AnswersDelete rules live c (Ok Ignored) =
-    (IsTrue (list_any (same_clause c) live) × IsKeptUnit rules live c) ⊎ (IsFalse (list_any (same_clause c) live) × IsFalse rules.strict)
-AnswersDelete rules live c (Err NotAlive) = IsFalse (list_any (same_clause c) live) × IsTrue rules.strict
+    (IsTrue (list_any (same_clause c) live) × IsKeptUnit rules live c)
+    ⊎ (IsFalse (list_any (same_clause c) live) × IsFalse rules.strict)
+AnswersDelete rules live c (Err NotAlive) =
+    IsFalse (list_any (same_clause c) live) × IsTrue rules.strict
 AnswersDelete rules live c _ = ⊥
 
+-- what a step may be answered, over the live clauses before it
 abbrev pub AnswersDrat : DratRules → List Clause → DratStep → StepAnswer → Type 0
 AnswersDrat rules live (add c set) answer = AnswersListed live c set answer
 AnswersDrat rules live (delete c) answer = AnswersDelete rules live c answer
@@ -91,9 +103,10 @@ after_drat live (add c set) word = c ∷ live
 after_drat live (delete c) Ignored = live
 after_drat live (delete c) word = take_off c live
 
--- The live clauses are a multiset: how many copies of a clause are alive is all that counts.
+-- how many copies of a clause are alive
 abbrev pub copies_of : Clause → List Clause → ℕ
 copies_of c live = count_by (same_clause c) live
 
+-- The live clauses are a multiset: how many copies of each clause are alive is all that counts.
 pub record SameLive (first second : List Clause) : Type 0 where
   pub copies : (c : Clause) → copies_of c first ≡ copies_of c second

@@ -1,4 +1,5 @@
--- What holds of the definitions. Each is the contract of a function of `laws`.
+-- What holds of the definitions. Each is the contract of a function of `laws`. That RUP, RAT and
+-- PR keep satisfiability is known of DRAT and DPR proofs; the other laws are our own.
 use Rattle.std.specs.Prelude.{◌≡◌, ℕ, List, [], ◌∷◌, Ok, IsTrue, slice_get, sum_by}
 use Rattle.theory.specs.declared.accepted.Accepted.{Accepted}
 use Rattle.theory.specs.declared.accepted.Accepted.TheVariants.{Rup, Rat, Pr, Empty}
@@ -15,28 +16,33 @@ use Rattle.theory.specs.Verdicts.{Ending, verified, Verdict}
 use Rattle.proofs.specs.Steps.{Step}
 use Rattle.theory.specs.declared.drat_rules.DratRules.{DratRules}
 
--- Under every assignment that makes the live clauses and the assumed literals true, what is forced is true.
+-- Under every assignment that makes the live clauses and the assumed literals true, what is forced
+-- is true.
 abbrev pub ForcedIsTrue : Type 0
-ForcedIsTrue = (v : Assignment) (live : Live) (assumed : List Literal) (l : Literal) → Models v live →
-    ((a : Literal) → IsTrue (has assumed a) → IsTrue (holds v a)) → Forced live assumed l → IsTrue (holds v l)
+ForcedIsTrue = (v : Assignment) (live : Live) (assumed : List Literal) (l : Literal) →
+    Models v live → ((a : Literal) → IsTrue (has assumed a) → IsTrue (holds v a)) →
+    Forced live assumed l → IsTrue (holds v l)
 
 -- A clause with RUP is true in every model.
 abbrev pub RupIsImplied : Type 0
-RupIsImplied = (v : Assignment) (live : Live) (c : Clause) → Models v live → HasRup live c → IsTrue (satisfies v c)
+RupIsImplied = (v : Assignment) (live : Live) (c : Clause) →
+    Models v live → HasRup live c → IsTrue (satisfies v c)
 
--- Clauses that have a model have one in which a clause with RAT, or with PR, is true too.
+-- Clauses that have a model have one in which a clause with RAT is true too.
 abbrev pub RatKeepsModels : Type 0
-RatKeepsModels = (live : Live) (c : Clause) (pivot : Literal) → HasRat live c pivot → HasModel live →
-    (v : Assignment) × Models v live × IsTrue (satisfies v c)
+RatKeepsModels = (live : Live) (c : Clause) (pivot : Literal) →
+    HasRat live c pivot → HasModel live → (v : Assignment) × Models v live × IsTrue (satisfies v c)
 
+-- Clauses that have a model have one in which a clause with PR is true too.
 abbrev pub PrKeepsModels : Type 0
-PrKeepsModels = (live : Live) (c : Clause) (witness : List Literal) → HasPr live c witness → HasModel live →
-    (v : Assignment) × Models v live × IsTrue (satisfies v c)
+PrKeepsModels = (live : Live) (c : Clause) (witness : List Literal) →
+    HasPr live c witness → HasModel live → (v : Assignment) × Models v live × IsTrue (satisfies v c)
 
 -- A walk from literals that are forced, which ends in a conflict, shows a clash.
 abbrev pub ChainShowsClash : Type 0
 ChainShowsClash = (live : Live) (assumed start : List Literal) (hints : List ℕ) →
-    ((a : Literal) → IsTrue (has start a) → Forced live assumed a) → chain live start hints ≡ conflict → Clash live assumed
+    ((a : Literal) → IsTrue (has start a) → Forced live assumed a) →
+    chain live start hints ≡ conflict → Clash live assumed
 
 -- what a clause has that was accepted with this word
 abbrev pub IsRedundant : Live → List Literal → Accepted → Type 0
@@ -48,7 +54,8 @@ IsRedundant live c _ = ⊥
 
 -- An addition that the LRAT rule accepts has RUP, or RAT on the first literal written.
 abbrev pub LratShowsRedundant : Type 0
-LratShowsRedundant = (state : LratState) (id : ℕ) (c : List Literal) (units : List ℕ) (groups : List Group) (word : Accepted) →
+LratShowsRedundant = (state : LratState) (id : ℕ) (c : List Literal) (units : List ℕ)
+    (groups : List Group) (word : Accepted) →
     AnswersLrat state (add id c units groups) (Ok word) → IsRedundant state.live c word
 
 -- An accepted step leaves clauses that have a model if those before it have one.
@@ -61,17 +68,18 @@ abbrev pub IsSoundVerdict : Type 0
 IsSoundVerdict = (rule : Rule) (formula : List Clause) (steps : List Step) (words : List Accepted) →
     Verdict rule formula steps words verified → ¬ HasModel (slice_get formula)
 
--- Steps of a DRAT proof are accepted with these words, one after the other, and leave these clauses.
+-- The steps of a DRAT proof are accepted with these words, one by one, and leave these clauses.
 abbrev pub Leads : DratRules → List Clause → List DratStep → List Accepted → List Clause → Type 0
 Leads rules live [] [] last = last ≡ live
 Leads rules live (step ∷ steps) (word ∷ words) last =
     AnswersDrat rules live step (Ok word) × Leads rules (after_drat live step word) steps words last
 Leads rules live steps words last = ⊥
 
--- Where the rules keep units, a literal that follows with nothing assumed follows after every later accepted step
--- (our own profile; a solver that deletes reason clauses counts on it).
+-- Where the rules keep units, a literal that follows with nothing assumed follows after every
+-- later accepted step (our own profile; a solver that deletes reason clauses counts on it).
 abbrev pub UnitsAreKept : Type 0
-UnitsAreKept = (rules : DratRules) (live last : List Clause) (steps : List DratStep) (words : List Accepted) (l : Literal) →
+UnitsAreKept = (rules : DratRules) (live last : List Clause) (steps : List DratStep)
+    (words : List Accepted) (l : Literal) →
     IsTrue rules.keep_units → Leads rules live steps words last →
     Forced (slice_get live) [] l → Forced (slice_get last) [] l
 
@@ -82,36 +90,51 @@ AnswersAreUnique = (state : State) (step : Step) (first second : StepAnswer) →
 
 -- Each step has an answer, where the live clauses are finitely many.
 abbrev pub AnswersExist : Type 0
-AnswersExist = (state : State) (step : Step) → IsFinite state → (answer : StepAnswer) × Answers state step answer
+AnswersExist = (state : State) (step : Step) →
+    IsFinite state → (answer : StepAnswer) × Answers state step answer
 
 -- A proof has at most one verdict.
 abbrev pub VerdictsAreUnique : Type 0
-VerdictsAreUnique = (rule : Rule) (formula : List Clause) (steps : List Step) (first second : List Accepted) (ending other : Ending) →
-    Verdict rule formula steps first ending → Verdict rule formula steps second other → (first ≡ second) × (ending ≡ other)
+VerdictsAreUnique = (rule : Rule) (formula : List Clause) (steps : List Step)
+    (first second : List Accepted) (ending other : Ending) →
+    Verdict rule formula steps first ending → Verdict rule formula steps second other →
+    (first ≡ second) × (ending ≡ other)
 
 -- Each proof has a verdict.
 abbrev pub VerdictsExist : Type 0
 VerdictsExist = (rule : Rule) (formula : List Clause) (steps : List Step) →
     (words : List Accepted) × (ending : Ending) × Verdict rule formula steps words ending
 
--- The answer to a DRAT step, and what is alive after it, depend only on how many copies of each clause are alive.
+-- The answer to a DRAT step, and what is alive after it, depend only on how many copies of each
+-- clause are alive.
 abbrev pub OnlyCopiesCount : Type 0
 OnlyCopiesCount =
-    ((rules : DratRules) (first second : List Clause) (step : DratStep) (answer : StepAnswer) → SameLive first second → AnswersDrat rules first step answer → AnswersDrat rules second step answer)
-    × ((first second : List Clause) (step : DratStep) (word : Accepted) → SameLive first second → SameLive (after_drat first step word) (after_drat second step word))
+    ((rules : DratRules) (first second : List Clause) (step : DratStep) (answer : StepAnswer) →
+    SameLive first second →
+    AnswersDrat rules first step answer → AnswersDrat rules second step answer)
+    × ((first second : List Clause) (step : DratStep) (word : Accepted) →
+    SameLive first second → SameLive (after_drat first step word) (after_drat second step word))
 
--- The answer to an LRAT step depends only on the sets of the live clauses, and so does what is alive after it.
+-- The answer to an LRAT step depends only on the sets of the live clauses, and so does what is
+-- alive after it.
 abbrev pub OnlySetsCount : Type 0
 OnlySetsCount =
-    ((first second : Live) (top : ℕ) (step : LratStep) (answer : StepAnswer) → SameClauses first second →
-    AnswersLrat (record { live = first; top = top }) step answer → AnswersLrat (record { live = second; top = top }) step answer)
-    × ((first second : Live) (id : ℕ) (c d : Clause) → SameClauses first second → IsTrue (same_clause c d) → SameClauses (with_clause first id c) (with_clause second id d))
-    × ((first second : Live) (ids : List ℕ) → SameClauses first second → SameClauses (without_ids first ids) (without_ids second ids))
+    ((first second : Live) (top : ℕ) (step : LratStep) (answer : StepAnswer) →
+    SameClauses first second →
+    AnswersLrat (record { live = first; top = top }) step answer →
+    AnswersLrat (record { live = second; top = top }) step answer)
+    × ((first second : Live) (id : ℕ) (c d : Clause) →
+    SameClauses first second → IsTrue (same_clause c d) →
+    SameClauses (with_clause first id c) (with_clause second id d))
+    × ((first second : Live) (ids : List ℕ) →
+    SameClauses first second → SameClauses (without_ids first ids) (without_ids second ids))
 
 -- States with the same clauses have the same sum of sizes.
 abbrev pub EqualSetsEqualTotals : Type 0
-EqualSetsEqualTotals = (first second : LratState) → SameClauses first.live second.live → first.top ≡ second.top → total first ≡ total second
+EqualSetsEqualTotals = (first second : LratState) →
+    SameClauses first.live second.live → first.top ≡ second.top → total first ≡ total second
 
 -- Lists with as many copies of each clause have the same sum of sizes.
 abbrev pub EqualCopiesEqualSums : Type 0
-EqualCopiesEqualSums = (first second : List Clause) → SameLive first second → sum_by size first ≡ sum_by size second
+EqualCopiesEqualSums = (first second : List Clause) →
+    SameLive first second → sum_by size first ≡ sum_by size second

@@ -1,7 +1,6 @@
 pub mod Answers
 pub mod Drat
 pub mod Laws
-pub mod Left
 pub mod Lrat
 pub mod Models
 pub mod Propagation
@@ -9,3 +8,4 @@ pub mod Rules
 pub mod Sets
 pub mod Sizes
 pub mod Verdicts
+pub mod Code

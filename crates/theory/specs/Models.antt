@@ -9,6 +9,7 @@ use Rattle.theory.specs.Propagation.{Live}
 abbrev pub Assignment : Type 0
 Assignment = ℕ → Bool
 
+-- whether a literal is true: 2 * x is where the variable x is, and 2 * x + 1 where it isn't
 unfoldable pub holds : Assignment → Literal → Bool
 holds v l = if l % 2 == 0 then v (l / 2) else not (v (l / 2))
 
@@ -20,5 +21,6 @@ satisfies v c = list_any (holds v) c
 abbrev pub Models : Assignment → Live → Type 0
 Models v live = (k : ℕ) (c : Clause) → live k ≡ Some c → IsTrue (satisfies v c)
 
+-- some assignment makes every live clause true
 abbrev pub HasModel : Live → Type 0
 HasModel live = (v : Assignment) × Models v live

@@ -1,4 +1,5 @@
--- The rules of LRAT and of DRAT seen as one: a state, what a step may be answered over it, and what it leaves.
+-- The rules of LRAT and of DRAT seen as one (our own): a state, what a step may be answered over
+-- it, and what it leaves.
 use Rattle.std.specs.Prelude.{◌≡◌, ℕ, ◌+◌, ◌-◌, ◌^◌, ◌<◌, min, sum_by, None}
 use Rattle.std.specs.Prelude.{List, ◌∷◌, slice_get, ⊤}
 use Rattle.cnf_base.specs.Literals.{Clause, size}
@@ -13,6 +14,7 @@ use Rattle.theory.specs.Answers.{StepAnswer}
 use Rattle.theory.specs.declared.accepted.Accepted.{Accepted}
 use Rattle.theory.specs.declared.drat_rules.DratRules.{DratRules}
 
+-- the rule by which a proof is checked
 pub data Rule : Type 0 where
   lrat : Rule
   drat : (rules : DratRules) → Rule
@@ -29,7 +31,8 @@ start (drat rules) formula = by_copies rules formula
 
 -- what one more clause of the formula leaves
 abbrev pub with_input : State → Clause → State
-with_input (by_ids s) c = by_ids (record { live = with_clause s.live (s.top + 1) c; top = s.top + 1 })
+with_input (by_ids s) c =
+    by_ids (record { live = with_clause s.live (s.top + 1) c; top = s.top + 1 })
 with_input (by_copies rules live) c = by_copies rules (c ∷ live)
 
 -- what a step may be answered
@@ -40,7 +43,8 @@ Answers (by_copies rules live) step answer = AnswersDrat rules live (drat_step r
 -- what a step leaves that was accepted with this word
 abbrev pub after : State → Step → Accepted → State
 after (by_ids s) step word = by_ids (after_lrat s (lrat_step step))
-after (by_copies rules live) step word = by_copies rules (after_drat live (drat_step rules step) word)
+after (by_copies rules live) step word =
+    by_copies rules (after_drat live (drat_step rules step) word)
 
 -- the sum of the sizes of the live clauses
 abbrev pub literals_of : State → ℕ
@@ -54,7 +58,8 @@ sum_of s = min (literals_of s) (2 ^ 64 - 1)
 -- the same clauses: at the same identifiers, or in as many copies
 abbrev pub Same : State → State → Type 0
 Same (by_ids s) (by_ids t) = SameClauses s.live t.live × (s.top ≡ t.top)
-Same (by_copies rules live) (by_copies rules_too others) = (rules ≡ rules_too) × SameLive live others
+Same (by_copies rules live) (by_copies rules_too others) =
+    (rules ≡ rules_too) × SameLive live others
 Same _ _ = ⊥
 
 -- some assignment satisfies the live clauses
@@ -72,6 +77,7 @@ pub record IsFiniteMap (live : Live) : Type 0 where
   pub bound : ℕ
   pub none : (k : ℕ) → bound < k → live k ≡ None
 
+-- finitely many clauses are alive
 abbrev pub IsFinite : State → Type 0
 IsFinite (by_ids s) = IsFiniteMap s.live
 IsFinite (by_copies rules live) = ⊤

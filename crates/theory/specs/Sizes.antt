@@ -3,6 +3,7 @@ use Rattle.std.specs.Prelude.{ℕ, zero, suc, ◌+◌, Option, Some, None}
 use Rattle.cnf_base.specs.Literals.{Clause, size}
 use Rattle.theory.specs.Lrat.{LratState}
 
+-- the size of the clause at an identifier, if one is alive
 abbrev pub size_at : Option Clause → ℕ
 size_at None = 0
 size_at (Some c) = size c

@@ -1,5 +1,5 @@
--- The verdict on a list of steps under either rule (our own profile: the first refused step, or the first accepted empty
--- clause, ends the check).
+-- The verdict on a list of steps under either rule (our own profile: the first refused step, or
+-- the first accepted empty clause, ends the check).
 use Rattle.std.specs.Prelude.{◌≡◌, Bool, true, false, List, [], ◌∷◌, Ok, Err, MatchBool}
 use Rattle.std.specs.List.{list_any}
 use Rattle.cnf_base.specs.Literals.{Clause}
@@ -9,24 +9,31 @@ use Rattle.theory.specs.declared.accepted.Accepted.TheVariants.{Empty}
 use Rattle.theory.specs.declared.refusal.Refusal.{Refusal}
 use Rattle.theory.specs.Rules.{Rule, State, start, Answers, after}
 
+-- how a check ends: the formula is shown to have no model, a step is refused, or the proof ends
+-- first
 pub data Ending : Type 0 where
   verified : Ending
   refused : Refusal → Ending
   no_empty_clause : Ending
 
+-- whether no step is looked at after one that was accepted with this word
 abbrev pub is_last : Accepted → Bool
 is_last Empty = true
 is_last _ = false
 
--- The steps are taken in order. Each that is accepted with a word goes on, up to the accepted empty clause;
--- the first that is refused ends the check. `words` are those of the accepted steps.
+-- The steps are taken in order. Each that is accepted with a word goes on, up to the accepted
+-- empty clause; the first that is refused ends the check. `words` are those of the accepted steps.
 abbrev pub Ends : State → List Step → List Accepted → Ending → Type 0
 Ends state [] [] ending = ending ≡ no_empty_clause
 Ends state [] (word ∷ words) ending = ⊥
-Ends state (step ∷ steps) [] ending = (r : Refusal) × (ending ≡ refused r) × Answers state step (Err r)
+Ends state (step ∷ steps) [] ending =
+    (r : Refusal) × (ending ≡ refused r) × Answers state step (Err r)
 Ends state (step ∷ steps) (word ∷ words) ending =
-    Answers state step (Ok word) × MatchBool (is_last word) ((words ≡ []) × (ending ≡ verified)) (Ends (after state step word) steps words ending)
+    Answers state step (Ok word)
+    × MatchBool (is_last word) ((words ≡ []) × (ending ≡ verified))
+    (Ends (after state step word) steps words ending)
 
+-- whether the clause has no literal
 abbrev pub is_empty : Clause → Bool
 is_empty [] = true
 is_empty (l ∷ c) = false
@@ -34,4 +41,5 @@ is_empty (l ∷ c) = false
 -- A formula with an empty clause is verified before the first step.
 abbrev pub Verdict : Rule → List Clause → List Step → List Accepted → Ending → Type 0
 Verdict rule formula steps words ending =
-    MatchBool (list_any is_empty formula) ((words ≡ []) × (ending ≡ verified)) (Ends (start rule formula) steps words ending)
+    MatchBool (list_any is_empty formula) ((words ≡ []) × (ending ≡ verified))
+    (Ends (start rule formula) steps words ending)

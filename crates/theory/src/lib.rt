@@ -4,10 +4,8 @@
 mod accepted;
 mod drat_rules;
 pub mod laws;
-mod left;
 mod refusal;
 
 pub use accepted::Accepted;
 pub use drat_rules::DratRules;
-pub use left::Left;
 pub use refusal::Refusal;

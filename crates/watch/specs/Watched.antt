@@ -1,26 +1,9 @@
--- Watched literals: the first two of each clause of two literals or more (as solvers and DRAT-trim have them; our own profile).
-use Rattle.std.specs.Prelude.{◌≡◌, ℕ, ◌<◌, ◌==◌, ◌||◌, Bool, true, false, Option, Some, None, List, [], ◌∷◌, take, nat_le, if◌then◌else◌, ⊤, IsTrue, IsSome}
-use Rattle.std.specs.Ordering.{nat_cmp}
+-- How many clauses are watched, and how many are too short to be.
 use Rattle.std.specs.FinMap.{FinMap}
-use Rattle.cnf_base.specs.Literals.{Literal, complement, Clause, has, size}
-use Rattle.theory.specs.Propagation.{Live}
-use Rattle.propagation.specs.Assumptions.{Assumption}
-use Rattle.watch.specs.Lists.{entries_of, strangers, times_in}
-use Rattle.clause_db.specs.Store.Clauses.{sum_over}
-use Rattle.propagation.specs.declared.answer.Answer.TheVariants.{Quiet}
-use Rattle.watch.specs.declared.watcher.Watcher.{Watcher}
-
--- whether a clause watches a literal
-abbrev pub watches : Clause → Literal → Bool
-watches [] l = false
-watches (a ∷ []) l = false
-watches (a ∷ b ∷ c) l = a == l || b == l
-
--- whether a clause is too short to watch two literals
-abbrev pub is_short : Clause → Bool
-is_short [] = true
-is_short (a ∷ []) = true
-is_short (a ∷ b ∷ c) = false
+use Rattle.std.specs.Ordering.{nat_cmp}
+use Rattle.std.specs.Prelude.{ℕ, nat_le, if◌then◌else◌}
+use Rattle.cnf_base.specs.Literals.{Clause, size}
+use Rattle.clause_db.specs.Store.{sum_over}
 
 -- how many of the clauses have two literals or more, and how many have fewer
 abbrev pub long_clauses : FinMap nat_cmp Clause → ℕ
@@ -28,49 +11,3 @@ long_clauses live = sum_over (λ c. if nat_le 2 (size c) then 1 else 0) live
 
 abbrev pub short_clauses : FinMap nat_cmp Clause → ℕ
 short_clauses live = sum_over (λ c. if nat_le 2 (size c) then 0 else 1) live
-
--- ---- The lists
-
--- how many entries there are for a slot in the list of a literal
-abbrev pub entries_for : Option Clause → Literal → ℕ
-entries_for None l = 0
-entries_for (Some c) l = if watches c l then 1 else 0
-
--- how many there are for it in the list of the short clauses
-abbrev pub short_for : Option Clause → ℕ
-short_for None = 0
-short_for (Some c) = if is_short c then 1 else 0
-
--- a slot stands once in the lists of the two literals that its clause watches, and nowhere else, each time with a literal of it
-pub record IsListed (live : Live) (list_of : Literal → List Watcher) : Type 0 where
-  pub watched : (l s : ℕ) → entries_of s (list_of l) ≡ entries_for (live s) l
-  pub low : (s : ℕ) → IsSome (live s) → s < 4294967296
-  pub own : (l s : ℕ) (c : Clause) → live s ≡ Some c → strangers s c (list_of l) ≡ 0
-
--- a slot of a short clause stands once in this list, and nothing else does
-pub record IsShortList (live : Live) (short : List ℕ) : Type 0 where
-  pub listed : (s : ℕ) → times_in s short ≡ short_for (live s)
-
--- ---- Where literals are false
-
--- if the clause watches the literal, then a literal of it is true
-abbrev pub IsMet : Clause → Literal → List Literal → Type 0
-IsMet c l trues = IsTrue (watches c l) → (m : Literal) × IsTrue (has c m) × IsTrue (has trues m)
-
--- a short clause has its literal, and it is true
-abbrev pub HasUnit : Clause → List Literal → Type 0
-HasUnit [] trues = ⊥
-HasUnit (a ∷ []) trues = IsTrue (has trues a)
-HasUnit (a ∷ b ∷ c) trues = ⊤
-
--- where a watched literal is false by the first list, a literal of the clause is true by the second
-pub record IsWatched (live : Live) (done trues : List Literal) : Type 0 where
-  pub each : (s : ℕ) (c : Clause) → live s ≡ Some c →
-      (l : Literal) → IsTrue (has done (complement l)) → IsMet c l trues
-
--- so it is after each assumption that was quiet, where `starts` says how many literals were true before it
-abbrev pub AreWatched : Live → List Literal → List Assumption → List ℕ → Type 0
-AreWatched live lits [] starts = ⊤
-AreWatched live lits (last ∷ rest) [] = ⊤
-AreWatched live lits (last ∷ rest) (start ∷ starts) =
-    (last.answer ≡ Quiet → IsWatched live lits lits) × AreWatched live (take start lits) rest starts

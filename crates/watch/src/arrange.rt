@@ -3,8 +3,8 @@
 ghost use Rattle.std.specs.Prelude.{◌≡◌, ◌≢◌, ℕ, Some, IsSome};
 ghost use Rattle.std.specs.FinMap as maps;
 ghost use Rattle.cnf_base.specs.Literals.{Clause, Literal, has};
-ghost use Rattle.clause_db.specs.Store.Clauses.{literals_in};
-ghost use Rattle.watch.specs.Roots.{IsArranged, IsBrought};
+ghost use Rattle.clause_db.specs.Store.{literals_in};
+ghost use Rattle.watch.specs.Code.Roots.{IsArranged, IsBrought};
 
 use clause_db::{Slot, Store};
 use propagation::{Left, Trail};

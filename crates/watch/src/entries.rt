@@ -1,10 +1,12 @@
 //! The entries of one clause in the lists.
 
-ghost use Rattle.std.specs.Prelude.{◌≡◌, ◌≢◌, ℕ, ◌+◌, ◌<◌, ◌≤◌, ◌==◌, ◌&&◌, Some, length, if◌then◌else◌, IsTrue, IsFalse, IsSome, OnOk, OnErr};
+ghost use Rattle.std.specs.Prelude.{◌≡◌, ◌≢◌, ℕ, ◌+◌, ◌<◌, ◌≤◌, ◌==◌, ◌&&◌, Some, length};
+ghost use Rattle.std.specs.Prelude.{if◌then◌else◌, IsTrue, IsFalse, IsSome, OnOk, OnErr};
 ghost use Rattle.std.specs.FinMap as maps;
 ghost use Rattle.cnf_base.specs.Literals.{Clause, has, size};
-ghost use Rattle.watch.specs.Lists.{AreApart, entries_in, entries_of, list_at, strangers, times_in};
-ghost use Rattle.watch.specs.Watched.{IsListed, IsShortList, is_short, watches};
+ghost use Rattle.watch.specs.Code.Lists.{AreApart, entries_in, entries_of, list_at, strangers};
+ghost use Rattle.watch.specs.Code.Lists.{times_in};
+ghost use Rattle.watch.specs.Code.Watched.{IsListed, IsShortList, is_short, watches};
 
 use crate::lists::WatchLists;
 use crate::slot_list::SlotList;

@@ -1,9 +1,10 @@
 //! Watch lists of literals that are far from each other.
 
-ghost use Rattle.std.specs.Prelude.{◌≡◌, ℕ, ◌+◌, ◌==◌, ◌++◌, ◌∷◌, [], length, min, if◌then◌else◌, IsSome, IfOk, OnOk, OnErr, Some, true, false, ◌≢◌, ◌<◌, ◌≤◌};
+ghost use Rattle.std.specs.Prelude.{◌≡◌, ℕ, ◌+◌, ◌==◌, ◌++◌, ◌∷◌, [], length, min, if◌then◌else◌};
+ghost use Rattle.std.specs.Prelude.{IsSome, IfOk, OnOk, OnErr, Some, true, false, ◌≢◌, ◌<◌, ◌≤◌};
 ghost use Rattle.cnf_base.specs.Literals.{Clause};
 ghost use Rattle.tables.specs.Table.{at};
-ghost use Rattle.watch.specs.Lists.{AreFarApart, entries_of, far_at, far_entries, strangers};
+ghost use Rattle.watch.specs.Code.Lists.{AreFarApart, entries_of, far_at, far_entries, strangers};
 
 use crate::watcher::{Watcher, add, take_off};
 use cnf_base::OutOfMemory;

@@ -1,16 +1,17 @@
 //! The watch list of a literal that became false.
 
-ghost use Rattle.std.specs.Prelude.{◌≡◌, ◌≢◌, ℕ, ◌+◌, ◌<◌, ◌≤◌, length, slice_index, take, Some, IsTrue, IsFalse, IfOk, OnOk, OnErr, IfSome, IfNone};
+ghost use Rattle.std.specs.Prelude.{◌≡◌, ◌≢◌, ℕ, ◌+◌, ◌<◌, ◌≤◌, length, slice_index, take, Some};
+ghost use Rattle.std.specs.Prelude.{IsTrue, IsFalse, IfOk, OnOk, OnErr, IfSome, IfNone};
 ghost use Rattle.std.specs.List.{swap};
 ghost use Rattle.std.specs.FinMap as maps;
 ghost use Rattle.cnf_base.specs.Literals.{Clause, complement, has, size};
 ghost use Rattle.propagation.specs.Trail.{HasRoomForAll};
 ghost use Rattle.theory.specs.Sets.{conflicts};
-ghost use Rattle.watch.specs.Lists.{AreApart, entries_in, list_at, slot_at};
-ghost use Rattle.watch.specs.Order.{each_in_order};
-ghost use Rattle.watch.specs.Watched.{IsListed, IsMet, IsWatched};
-ghost use Rattle.watch.specs.Roots.{AreNoted, IsFalseAt};
-ghost use Rattle.watch.specs.Visits.{Carries, IsInHand, with_list};
+ghost use Rattle.watch.specs.Code.Lists.{AreApart, entries_in, list_at, slot_at};
+ghost use Rattle.watch.specs.Code.Order.{each_in_order};
+ghost use Rattle.watch.specs.Code.Watched.{IsListed, IsMet, IsWatched};
+ghost use Rattle.watch.specs.Code.Roots.{AreNoted, IsFalseAt};
+ghost use Rattle.watch.specs.Code.Visits.{Carries, IsInHand, with_list};
 ghost use Rattle.tables.specs.Table.{at};
 ghost use Rattle.watch.specs.declared.follow.Next.TheVariants.{Further, Here, Nothing};
 

@@ -1,8 +1,10 @@
 //! Watch lists: by literal the entries of the clauses that watch it.
 
-ghost use Rattle.std.specs.Prelude.{◌≡◌, ℕ, ◌+◌, ◌==◌, ◌&&◌, ◌++◌, ◌∷◌, [], length, min, if◌then◌else◌, IsTrue, OnOk, OnErr, true, false, ◌≢◌, ◌<◌, ◌≤◌};
+ghost use Rattle.std.specs.Prelude.{◌≡◌, ℕ, ◌+◌, ◌==◌, ◌&&◌, ◌++◌, ◌∷◌, [], length, min};
+ghost use Rattle.std.specs.Prelude.{if◌then◌else◌, IsTrue, OnOk, OnErr, true, false, ◌≢◌, ◌<◌, ◌≤◌};
 ghost use Rattle.cnf_base.specs.Literals.{Literal, Clause, has};
-ghost use Rattle.watch.specs.Lists.{AreApart, entries_in, entries_of, has_list_at, list_at, strangers};
+ghost use Rattle.watch.specs.Code.Lists.{AreApart, entries_in, entries_of, has_list_at, list_at};
+ghost use Rattle.watch.specs.Code.Lists.{strangers};
 
 use crate::far_lists::FarLists;
 use crate::watcher::{Watcher, add, take_off};

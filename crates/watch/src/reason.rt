@@ -5,8 +5,8 @@ ghost use Rattle.std.specs.FinMap as maps;
 ghost use Rattle.cnf_base.specs.Literals.{Clause};
 ghost use Rattle.theory.specs.Propagation.{IsRootReason};
 ghost use Rattle.propagation.specs.Trail.{HasRoomForAll};
-ghost use Rattle.watch.specs.Order.{each_in_order};
-ghost use Rattle.watch.specs.Roots.{IsKept, is_up_to_date};
+ghost use Rattle.watch.specs.Code.Order.{each_in_order};
+ghost use Rattle.watch.specs.Code.Roots.{IsKept, is_up_to_date};
 
 use crate::roots::Roots;
 use clause_db::{Slot, Store};

@@ -4,11 +4,11 @@ ghost use Rattle.std.specs.Prelude.{◌≡◌, ℕ, [], true, false, OnOk};
 ghost use Rattle.std.specs.FinMap as maps;
 ghost use Rattle.propagation.specs.Trail.{HasRoomForAll};
 ghost use Rattle.theory.specs.Sets.{SameSet};
-ghost use Rattle.watch.specs.Order.{each_in_order};
-ghost use Rattle.watch.specs.Roots.{IsKept, is_lost, is_up_to_date};
-ghost use Rattle.watch.specs.Lists.{AreApart, entries_in, list_at};
-ghost use Rattle.watch.specs.Watched.{IsListed, IsShortList, short_for};
-ghost use Rattle.watch.specs.State.{IsWatch};
+ghost use Rattle.watch.specs.Code.Order.{each_in_order};
+ghost use Rattle.watch.specs.Code.Roots.{IsKept, is_lost, is_up_to_date};
+ghost use Rattle.watch.specs.Code.Lists.{AreApart, entries_in, list_at};
+ghost use Rattle.watch.specs.Code.Watched.{IsListed, IsShortList, short_for};
+ghost use Rattle.watch.specs.Code.State.{IsWatch};
 
 use crate::follow::propagate;
 use crate::lists::WatchLists;

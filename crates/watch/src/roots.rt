@@ -1,12 +1,14 @@
 //! The literals that are true with nothing assumed, each with the clause that makes it so.
 
-ghost use Rattle.std.specs.Prelude.{◌≡◌, ◌≢◌, ℕ, ◌<◌, ◌/◌, ◌==◌, ◌&&◌, ◌++◌, ◌∷◌, [], not, true, false, length, if◌then◌else◌, Some, IsTrue, IsFalse, IsSome, OnOk};
+ghost use Rattle.std.specs.Prelude.{◌≡◌, ◌≢◌, ℕ, ◌<◌, ◌/◌, ◌==◌, ◌&&◌, ◌++◌, ◌∷◌, [], not, true};
+ghost use Rattle.std.specs.Prelude.{false, length, if◌then◌else◌, Some, IsTrue, IsFalse, IsSome};
+ghost use Rattle.std.specs.Prelude.{OnOk};
 ghost use Rattle.std.specs.FinMap as maps;
 ghost use Rattle.cnf_base.specs.Literals.{Literal, Clause, complement, has};
 ghost use Rattle.tables.specs.Table.{at};
 ghost use Rattle.propagation.specs.Trail.{HasRoom};
 ghost use Rattle.theory.specs.Sets.{SameSet, conflicts};
-ghost use Rattle.watch.specs.Roots.{HasReasons, IsArranged, IsKept, has_clash, is_up_to_date};
+ghost use Rattle.watch.specs.Code.Roots.{HasReasons, IsArranged, IsKept, has_clash, is_up_to_date};
 ghost use Rattle.watch.specs.declared.roots.Kept.TheVariants.{Clash, Lost};
 
 use clause_db::{Slot, Store};

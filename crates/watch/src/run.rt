@@ -6,11 +6,11 @@ ghost use Rattle.cnf_base.specs.Literals.{has};
 ghost use Rattle.tables.specs.Table.{at};
 ghost use Rattle.propagation.specs.Assumptions.{IsAnswer};
 ghost use Rattle.propagation.specs.Trail.{HasRoomForAll};
-ghost use Rattle.watch.specs.Lists.{AreApart, entries_in, list_at};
-ghost use Rattle.watch.specs.Order.{each_in_order};
-ghost use Rattle.watch.specs.Roots.{AreNoted, HaveUnits};
-ghost use Rattle.watch.specs.Watched.{IsListed, IsWatched};
-ghost use Rattle.watch.specs.Visits.{Carries};
+ghost use Rattle.watch.specs.Code.Lists.{AreApart, entries_in, list_at};
+ghost use Rattle.watch.specs.Code.Order.{each_in_order};
+ghost use Rattle.watch.specs.Code.Roots.{AreNoted, HaveUnits};
+ghost use Rattle.watch.specs.Code.Watched.{IsListed, IsWatched};
+ghost use Rattle.watch.specs.Code.Visits.{Carries};
 ghost use Rattle.theory.specs.Propagation.{IsClosed};
 ghost use Rattle.propagation.specs.declared.answer.Answer.TheVariants.{Quiet};
 

@@ -1,8 +1,9 @@
 //! Slots, each with its place.
 
-ghost use Rattle.std.specs.Prelude.{◌≡◌, ℕ, ◌+◌, ◌==◌, ◌++◌, ◌∷◌, [], length, if◌then◌else◌, IsTrue, IsFalse, OnOk, OnErr};
+ghost use Rattle.std.specs.Prelude.{◌≡◌, ℕ, ◌+◌, ◌==◌, ◌++◌, ◌∷◌, [], length, if◌then◌else◌};
+ghost use Rattle.std.specs.Prelude.{IsTrue, IsFalse, OnOk, OnErr};
 ghost use Rattle.cnf_base.specs.Literals.{has};
-ghost use Rattle.watch.specs.Lists.{times_in};
+ghost use Rattle.watch.specs.Code.Lists.{times_in};
 
 use cnf_base::OutOfMemory;
 use std::alloc::Global;
@@ -21,7 +22,7 @@ impl Model for SlotList {
     ghost use Rattle.std.specs.Prelude.{List, ℕ};
     ghost use Rattle.std.specs.Coded.{coded_list, coded_ℕ};
     ghost use Rattle.tables.specs.Table.{at};
-    ghost use Rattle.watch.specs.SlotList.{IsPlaced};
+    ghost use Rattle.watch.specs.Code.SlotList.{IsPlaced};
 
     ghost Value = { List ℕ };
 

@@ -6,7 +6,7 @@ ghost use Rattle.cnf_base.specs.Literals.{Literal, complements};
 ghost use Rattle.propagation.specs.Assumptions.{Assumption, MayAssume, assumed_by};
 ghost use Rattle.propagation.specs.Trail.{HasRoom};
 ghost use Rattle.theory.specs.Sets.{SameSet, conflicts};
-ghost use Rattle.watch.specs.Source.{IsThere, clause_of};
+ghost use Rattle.watch.specs.Code.Source.{IsThere, clause_of};
 ghost use Rattle.propagation.specs.declared.answer.Answer.TheVariants.{Clash};
 
 use clause_db::{Slot, Store};

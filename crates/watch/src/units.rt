@@ -4,10 +4,10 @@ ghost use Rattle.std.specs.Prelude.{◌≡◌, ℕ, ◌∷◌, [], Some, IsTrue,
 ghost use Rattle.std.specs.FinMap as maps;
 ghost use Rattle.tables.specs.Table.{at};
 ghost use Rattle.propagation.specs.Trail.{HasRoomForAll};
-ghost use Rattle.watch.specs.Order.{each_in_order};
-ghost use Rattle.watch.specs.Roots.{AreNoted, HaveUnits, IsFalseAt};
-ghost use Rattle.watch.specs.Watched.{IsShortList, is_short};
-ghost use Rattle.watch.specs.Visits.{Carries};
+ghost use Rattle.watch.specs.Code.Order.{each_in_order};
+ghost use Rattle.watch.specs.Code.Roots.{AreNoted, HaveUnits, IsFalseAt};
+ghost use Rattle.watch.specs.Code.Watched.{IsShortList, is_short};
+ghost use Rattle.watch.specs.Code.Visits.{Carries};
 
 use crate::roots::set_by;
 use clause_db::{Slot, Store};

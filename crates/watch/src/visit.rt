@@ -3,8 +3,8 @@
 ghost use Rattle.std.specs.Prelude.{◌≡◌, ℕ, ◌-◌, ◌<◌, ◌≤◌, length, slice_index, IsTrue};
 ghost use Rattle.cnf_base.specs.Literals.{complement, has, size};
 ghost use Rattle.propagation.specs.Trail.{HasNoVariableTwice};
-ghost use Rattle.watch.specs.Watched.{watches};
-ghost use Rattle.watch.specs.Visits.{IsVisit};
+ghost use Rattle.watch.specs.Code.Watched.{watches};
+ghost use Rattle.watch.specs.Code.Visits.{IsVisit};
 
 use cnf_base::Lit;
 use propagation::{Trail, Value};

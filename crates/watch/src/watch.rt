@@ -1,15 +1,17 @@
 //! Propagation with two watched literals a clause.
 
-ghost use Rattle.std.specs.Prelude.{◌≡◌, ◌≢◌, ℕ, [], ◌*◌, ◌≤◌, ◌<◌, ◌++◌, drop, filter, min, true, false, IsTrue, IfOk, OnOk, OnErr, IfSome, IfNone, IsSome};
+ghost use Rattle.std.specs.Prelude.{◌≡◌, ◌≢◌, ℕ, [], ◌*◌, ◌≤◌, ◌<◌, ◌++◌, drop, filter, min, true};
+ghost use Rattle.std.specs.Prelude.{false, IsTrue, IfOk, OnOk, OnErr, IfSome, IfNone, IsSome};
 ghost use Rattle.std.specs.FinMap as maps;
 ghost use Rattle.cnf_base.specs.Literals.{Literal, complements, has};
 ghost use Rattle.theory.specs.Propagation.{Clash, Forced};
-ghost use Rattle.propagation.specs.Assumptions.{Assumes, HasAt, HoldsLiveAlone, IsAnswer, MayAssume, assumed_by};
+ghost use Rattle.propagation.specs.Assumptions.{Assumes, HasAt, HoldsLiveAlone, IsAnswer};
+ghost use Rattle.propagation.specs.Assumptions.{MayAssume, assumed_by};
 ghost use Rattle.propagation.specs.Trail.{HasRoom};
-ghost use Rattle.watch.specs.Order.{each_in_order};
-ghost use Rattle.watch.specs.Roots.{is_up_to_date};
-ghost use Rattle.watch.specs.Source.{IsThere, clause_of};
-ghost use Rattle.watch.specs.State.{IsWatch};
+ghost use Rattle.watch.specs.Code.Order.{each_in_order};
+ghost use Rattle.watch.specs.Code.Roots.{is_up_to_date};
+ghost use Rattle.watch.specs.Code.Source.{IsThere, clause_of};
+ghost use Rattle.watch.specs.Code.State.{IsWatch};
 ghost use Rattle.watch.specs.Watched.{long_clauses, short_clauses};
 
 use crate::arrange::arrange;
@@ -52,12 +54,13 @@ pub struct Watch {
 
 impl Model for Watch {
     ghost use Rattle.std.specs.Prelude.{◌≡◌, length};
-    ghost use Rattle.clause_db.specs.Store.Clauses.{literals_in};
-    ghost use Rattle.watch.specs.Lists.{entries_in};
-    ghost use Rattle.watch.specs.Order.{each_in_order};
+    ghost use Rattle.clause_db.specs.Store.{literals_in};
+    ghost use Rattle.watch.specs.Code.Lists.{entries_in};
+    ghost use Rattle.watch.specs.Code.Order.{each_in_order};
     ghost use Rattle.propagation.specs.Assumptions.{roots_in};
-    ghost use Rattle.watch.specs.Roots.{has_clash, is_up_to_date};
-    ghost use Rattle.watch.specs.State.{IsWatch, WatchState, variables_in, watch_code};
+    ghost use Rattle.watch.specs.Code.Roots.{has_clash, is_up_to_date};
+    ghost use Rattle.watch.specs.Code.State.{IsWatch, variables_in, watch_code};
+    ghost use Rattle.watch.specs.State.{WatchState};
 
     ghost Value = { WatchState };
 

@@ -1,8 +1,9 @@
 //! The entries of watch lists.
 
-ghost use Rattle.std.specs.Prelude.{◌≡◌, ℕ, ◌+◌, ◌==◌, ◌++◌, ◌∷◌, [], length, if◌then◌else◌, IsTrue, IfSome, OnOk, OnErr, take, ◌<◌, ◌≤◌};
+ghost use Rattle.std.specs.Prelude.{◌≡◌, ℕ, ◌+◌, ◌==◌, ◌++◌, ◌∷◌, [], length, if◌then◌else◌};
+ghost use Rattle.std.specs.Prelude.{IsTrue, IfSome, OnOk, OnErr, take, ◌<◌, ◌≤◌};
 ghost use Rattle.cnf_base.specs.Literals.{Clause};
-ghost use Rattle.watch.specs.Lists.{entries_of, slot_at, strangers};
+ghost use Rattle.watch.specs.Code.Lists.{entries_of, slot_at, strangers};
 
 use cnf_base::{Lit, OutOfMemory};
 

@@ -1,5 +1,8 @@
 -- The entries of a store as a finite map of clauses.
-use Rattle.std.proofs.Common.{◌≡◌, ◌≢◌, ℕ, zero, suc, ◌+◌, ◌*◌, ◌<◌, ◌≤◌, true, cond, eqb, eq-eqb, ne_eqb, Option, Some, None, option_map, is_some, List, [], ◌∷◌, get_or, count_by, sum_by, length, get_or-set_same, get_or-set_other, refl, sym, ap, ◌∙◌, subst, arith, inl, inr}
+use Rattle.std.proofs.Common.{◌≡◌, ◌≢◌, ℕ, zero, suc, ◌+◌, ◌*◌, ◌<◌, ◌≤◌, true, cond, eqb, eq-eqb}
+use Rattle.std.proofs.Common.{ne_eqb, Option, Some, None, option_map, is_some, List, [], ◌∷◌}
+use Rattle.std.proofs.Common.{get_or, count_by, sum_by, length, get_or-set_same, get_or-set_other}
+use Rattle.std.proofs.Common.{refl, sym, ap, ◌∙◌, subst, arith, inl, inr}
 use Rattle.std.specs.Ordering.{nat_cmp}
 use Rattle.std.specs.FinMap as maps
 use Rattle.std.specs.FinMap.{FinMap}
@@ -9,10 +12,11 @@ use Rattle.std.proofs.lemmas.Option.{none-some}
 use Rattle.std.proofs.lemmas.List.Sums.{sum_by-cons}
 use Rattle.slab.specs.Slab.{Slab, get, with_value}
 use Rattle.cnf_base.specs.Literals.{Clause, size}
-use Rattle.clause_db.specs.Store.Clauses.{StoreState, sum_over, literals_in}
-use Rattle.clause_db.specs.Store.Entries.{kept_in, literals_kept, clauses_from, clauses_in}
+use Rattle.clause_db.specs.Store.{StoreState, sum_over, literals_in}
+use Rattle.clause_db.specs.Code.Entries.{kept_in, literals_kept, clauses_from, clauses_in}
 use Rattle.clause_db.specs.declared.store.entry.Entry.{Entry}
-use Rattle.clause_db.proofs.StoreLemmas.Sums.{get_insert, get_remove, same_maps, sum_insert, sum_empty}
+use Rattle.clause_db.proofs.StoreLemmas.Sums.{get_insert, get_remove, same_maps, sum_insert}
+use Rattle.clause_db.proofs.StoreLemmas.Sums.{sum_empty}
 
 abbrev pub clause_of : Option Entry → Option Clause
 clause_of o = option_map (λ e. e.lits.items) o

@@ -1,22 +1,25 @@
 -- What is so of the fields of a store, through a change.
-use Rattle.std.proofs.Common.{◌≡◌, ◌≢◌, ℕ, ◌+◌, ◌-◌, ◌*◌, ◌<◌, ◌≤◌, Bool, true, false, cond, eqb, Some, None, [], length, sym, ap, ◌∙◌, subst, arith, inl, inr, ◌⊎◌}
+use Rattle.std.proofs.Common.{◌≡◌, ◌≢◌, ℕ, ◌+◌, ◌-◌, ◌*◌, ◌<◌, ◌≤◌, Bool, true, false, cond, eqb}
+use Rattle.std.proofs.Common.{Some, None, [], length, sym, ap, ◌∙◌, subst, arith, inl, inr, ◌⊎◌}
 use Rattle.std.proofs.lemmas.Option.{none-some, same_Some}
 use Rattle.std.specs.Ordering.{nat_cmp}
 use Rattle.std.specs.FinMap as maps
 use Rattle.std.specs.FinMap.{FinMap}
 use Rattle.slab.specs.Slab.{Slab, get, slab_len}
 use Rattle.cnf_base.specs.Literals.{Clause, has, size}
-use Rattle.clause_db.specs.Store.Clauses.{sum_over, literals_in, copies_with}
-use Rattle.clause_db.specs.Store.Entries.{clauses_in, literals_kept}
-use Rattle.clause_db.specs.Store.LiteralMarks.{mark_count, is_marked}
-use Rattle.clause_db.specs.Store.Fields.{IsStore}
+use Rattle.clause_db.specs.Store.{sum_over, literals_in, copies_with}
+use Rattle.clause_db.specs.Code.Entries.{clauses_in, literals_kept}
+use Rattle.clause_db.specs.Code.LiteralMarks.{mark_count, is_marked}
+use Rattle.clause_db.specs.Code.Fields.{IsStore}
 use Rattle.tables.specs.Table.{at}
 use Rattle.clause_db.specs.declared.store.entry.Entry.{Entry}
 use Rattle.clause_db.specs.declared.store.mark.Mark.{Mark}
 use Rattle.tables.specs.declared.table.Table.{Table}
 use Rattle.cnf_base.proofs.SizeLemmas.{size_le_length, size_same}
-use Rattle.clause_db.proofs.StoreLemmas.Sums.{get_insert, get_remove, sum_insert, sum_remove, sum_replace, sum_empty}
-use Rattle.clause_db.proofs.StoreLemmas.Entries.{clause_of, get_stored, stored_none, stored_same, stored_with, stored_without, sum_bound, kept_is}
+use Rattle.clause_db.proofs.StoreLemmas.Sums.{get_insert, get_remove, sum_insert, sum_remove}
+use Rattle.clause_db.proofs.StoreLemmas.Sums.{sum_replace, sum_empty}
+use Rattle.clause_db.proofs.StoreLemmas.Entries.{clause_of, get_stored, stored_none, stored_same}
+use Rattle.clause_db.proofs.StoreLemmas.Entries.{stored_with, stored_without, sum_bound, kept_is}
 
 -- ---- Look-ups in a changed map
 

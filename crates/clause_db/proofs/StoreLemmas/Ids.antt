@@ -1,5 +1,8 @@
 -- Identifiers by pages, and as a finite map.
-use Rattle.std.proofs.Common.{◌≡◌, ◌≢◌, ℕ, zero, suc, ◌+◌, ◌-◌, ◌*◌, ◌/◌, ◌%◌, ◌^◌, ◌<◌, ◌≤◌, cond, eqb, eq-eqb, ne_eqb, Option, Some, None, List, length, get_or, set, nat_cmp, refl, sym, ap, ◌∙◌, subst, arith, inl, inr, get_or-set_same, get_or-set_other}
+use Rattle.std.proofs.Common.{◌≡◌, ◌≢◌, ℕ, zero, suc, ◌+◌, ◌-◌, ◌*◌, ◌/◌, ◌%◌, ◌^◌, ◌<◌, ◌≤◌, cond}
+use Rattle.std.proofs.Common.{eqb, eq-eqb, ne_eqb, Option, Some, None, List, length, get_or, set}
+use Rattle.std.proofs.Common.{nat_cmp, refl, sym, ap, ◌∙◌, subst, arith, inl, inr, get_or-set_same}
+use Rattle.std.proofs.Common.{get_or-set_other}
 use Rattle.std.specs.Ordering.{eq_by_cmp}
 use Rattle.std.specs.Cmp.{nat_cmp_total}
 use Rattle.std.specs.FinMap as maps
@@ -10,7 +13,8 @@ use Rattle.std.proofs.lemmas.Option.{none-some}
 use Rattle.std.proofs.lemmas.Bool.Decides.{nat_tests}
 use Rattle.clause_db.specs.declared.store.ids.directory.Directory.{Directory}
 use Rattle.clause_db.specs.declared.store.ids.pages.Pages.{Pages}
-use Rattle.clause_db.specs.Store.Ids.{page_at, slot_from, place, entry_in, entry_at, with_slot, map_below, as_map, IsOwned, IsPaged}
+use Rattle.clause_db.specs.Code.Ids.{page_at, slot_from, place, entry_in, entry_at, with_slot}
+use Rattle.clause_db.specs.Code.Ids.{map_below, as_map, IsOwned, IsPaged}
 
 -- ---- As a finite map
 

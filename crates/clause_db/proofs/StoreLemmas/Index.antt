@@ -1,15 +1,19 @@
 -- What an index says of the clauses, through a change.
-use Rattle.std.proofs.Common.{◌≡◌, ◌≢◌, ℕ, ◌-◌, ◌<◌, Bool, true, false, cond, eqb, eqb-true, eq-eqb, ne_eqb, Option, Some, None, is_some, option_map, List, [], ◌∷◌, ◌++◌, length, get_or, slice_get, swap_remove, refl, sym, ap, ◌∙◌, subst, arith, inl, inr}
+use Rattle.std.proofs.Common.{◌≡◌, ◌≢◌, ℕ, ◌-◌, ◌<◌, Bool, true, false, cond, eqb, eqb-true, eq-eqb}
+use Rattle.std.proofs.Common.{ne_eqb, Option, Some, None, is_some, option_map, List, [], ◌∷◌, ◌++◌}
+use Rattle.std.proofs.Common.{length, get_or, slice_get, swap_remove, refl, sym, ap, ◌∙◌, subst}
+use Rattle.std.proofs.Common.{arith, inl, inr}
 use Rattle.std.specs.Ordering.{nat_cmp}
 use Rattle.std.specs.FinMap as maps
 use Rattle.std.specs.FinMap.{FinMap}
 use Rattle.std.proofs.lemmas.Bool.{false≢true, cases_eq}
 use Rattle.std.proofs.lemmas.Option.{none-some, slice_get_within}
 use Rattle.cnf_base.specs.Literals.{Clause}
-use Rattle.clause_db.specs.Store.Hashes.{hash}
-use Rattle.clause_db.specs.Store.Index.{spot_in, IsIndex}
+use Rattle.clause_db.specs.Code.Hashes.{hash}
+use Rattle.clause_db.specs.Code.Index.{spot_in, IsIndex}
 use Rattle.clause_db.proofs.StoreLemmas.Sums.{get_insert, get_remove}
-use Rattle.clause_db.proofs.StoreLemmas.Indexed.{placed_with, placed_without, spot_end, same_hash, same_place}
+use Rattle.clause_db.proofs.StoreLemmas.Indexed.{placed_with, placed_without, spot_end, same_hash}
+use Rattle.clause_db.proofs.StoreLemmas.Indexed.{same_place}
 
 pub index_empty : (seed : ℕ) (buckets : ℕ → List ℕ) (place_of : ℕ → ℕ) → ((h : ℕ) → buckets h ≡ []) → IsIndex seed buckets place_of maps.empty
 index_empty seed buckets place_of none = record {

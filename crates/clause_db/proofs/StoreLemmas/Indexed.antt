@@ -1,11 +1,14 @@
 -- Slots in buckets, each at its place, through a change.
-use Rattle.std.proofs.Common.{◌≡◌, ◌≢◌, ℕ, zero, suc, ◌-◌, ◌<◌, cond, eqb, eq-eqb, ne_eqb, Option, Some, None, unwrap_or, List, [], ◌∷◌, ◌++◌, length, get_or, set, take, slice_get, swap_remove, refl, sym, ap, ◌∙◌, subst, arith, inl, inr, ◌⊎◌}
+use Rattle.std.proofs.Common.{◌≡◌, ◌≢◌, ℕ, zero, suc, ◌-◌, ◌<◌, cond, eqb, eq-eqb, ne_eqb, Option}
+use Rattle.std.proofs.Common.{Some, None, unwrap_or, List, [], ◌∷◌, ◌++◌, length, get_or, set, take}
+use Rattle.std.proofs.Common.{slice_get, swap_remove, refl, sym, ap, ◌∙◌, subst, arith, inl, inr}
+use Rattle.std.proofs.Common.{◌⊎◌}
 use Rattle.std.proofs.lemmas.Option.{none-some, same_Some}
 use Rattle.std.proofs.lemmas.Bool.{cases_eq}
 use Rattle.std.proofs.lemmas.Option.{slice_get_within, slice_get_read}
 use Rattle.std.proofs.lemmas.Grind.{common_steps}
 use Rattle.std.proofs.lemmas.List.{length_push}
-use Rattle.clause_db.specs.Store.Indexed.{IsIndexed}
+use Rattle.clause_db.specs.Code.Indexed.{IsIndexed}
 
 abbrev pub spot : ℕ → ℕ → Option (ℕ × ℕ)
 spot h i = Some (h, i)

@@ -1,13 +1,19 @@
 -- Walks over a clause: what is so of the literals so far, through one more literal.
-use Rattle.std.proofs.Common.{◌≡◌, ℕ, ◌+◌, ◌*◌, ◌/◌, ◌%◌, ◌^◌, ◌<◌, ◌≤◌, ◌&&◌, ◌||◌, Bool, true, false, not, cond, eqb, eqb-true, eq-eqb, [], ◌∷◌, ◌++◌, length, take, drop, get_or, length-append, refl, sym, ap, ◌∙◌, subst, arith, inl, inr}
-use Rattle.std.proofs.lemmas.Bool.{false≢true, true≢false, not-true, not-false, or_cases, or_left, or_right}
+use Rattle.std.proofs.Common.{◌≡◌, ℕ, ◌+◌, ◌*◌, ◌/◌, ◌%◌, ◌^◌, ◌<◌, ◌≤◌, ◌&&◌, ◌||◌, Bool, true}
+use Rattle.std.proofs.Common.{false, not, cond, eqb, eqb-true, eq-eqb, [], ◌∷◌, ◌++◌, length, take}
+use Rattle.std.proofs.Common.{drop, get_or, length-append, refl, sym, ap, ◌∙◌, subst, arith, inl}
+use Rattle.std.proofs.Common.{inr}
+use Rattle.std.proofs.lemmas.Bool.{false≢true, true≢false, not-true, not-false, or_cases, or_left}
+use Rattle.std.proofs.lemmas.Bool.{or_right}
 use Rattle.std.proofs.lemmas.Bool.Decides.{nat_tests}
 use Rattle.std.proofs.lemmas.List.{take_all, take_more, take-append-drop}
 use Rattle.std.proofs.lemmas.Nat.{div-add-mod'}
 use Rattle.std.proofs.Math.Nat.{add-mul-mod_self_right}
-use Rattle.cnf_base.specs.Literals.{Literal, Clause, has, size, sum_distinct}
-use Rattle.cnf_base.proofs.SetLemmas.{both_pass, has_head, has_cases, has_append_left, has_append_right, has_append_cases}
-use Rattle.clause_db.specs.Store.Hashes.{mix, mixed_sum, hash}
+use Rattle.cnf_base.specs.Literals.{Literal, Clause, has, size}
+use Rattle.cnf_base.specs.Code.Literals.{sum_distinct}
+use Rattle.cnf_base.proofs.SetLemmas.{both_pass, has_head, has_cases, has_append_left}
+use Rattle.cnf_base.proofs.SetLemmas.{has_append_right, has_append_cases}
+use Rattle.clause_db.specs.Code.Hashes.{mix, mixed_sum, hash}
 use Rattle.cnf_base.proofs.SizeLemmas.{IsWithin, sum_same, sum_push, size_push, size_covered}
 use Rattle.cnf_base.proofs.SizeLemmas.{distinct_before, has_at}
 

@@ -1,5 +1,6 @@
 -- What is said of a result that is there or not.
-use Rattle.std.proofs.Common.{◌≡◌, ℕ, Option, Some, None, Result, Ok, Err, OnErr, IfSome, IfNone, sym, subst}
+use Rattle.std.proofs.Common.{◌≡◌, ℕ, Option, Some, None, Result, Ok, Err, OnErr, IfSome, IfNone}
+use Rattle.std.proofs.Common.{sym, subst}
 
 pub if_none_then : {T : Type 0} (o : Option T) {P Q : Type 0} → IfNone o P → (P → Q) → IfNone o Q
 if_none_then None h f = f h

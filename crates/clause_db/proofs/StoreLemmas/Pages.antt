@@ -1,7 +1,9 @@
 -- How many entries of a page are bound.
-use Rattle.std.proofs.Common.{◌≡◌, ◌≢◌, ℕ, zero, suc, ◌+◌, ◌-◌, ◌*◌, ◌<◌, ◌≤◌, Bool, true, false, cond, eqb, eq-eqb, ne_eqb, List, [], length, get_or, set, refl, sym, ap, ◌∙◌, subst, arith, inl, inr, get_or-set_same, get_or-set_other}
+use Rattle.std.proofs.Common.{◌≡◌, ◌≢◌, ℕ, zero, suc, ◌+◌, ◌-◌, ◌*◌, ◌<◌, ◌≤◌, Bool, true, false}
+use Rattle.std.proofs.Common.{cond, eqb, eq-eqb, ne_eqb, List, [], length, get_or, set, refl, sym}
+use Rattle.std.proofs.Common.{ap, ◌∙◌, subst, arith, inl, inr, get_or-set_same, get_or-set_other}
 use Rattle.std.proofs.lemmas.Bool.{cases_eq}
-use Rattle.clause_db.specs.Store.Ids.{counted_as, bound_from, Counts}
+use Rattle.clause_db.specs.Code.Ids.{counted_as, bound_from, Counts}
 
 counted_as-most : (entry : ℕ) → counted_as entry ≤ 1
 counted_as-most entry = by_test (eqb entry 0)

@@ -1,5 +1,7 @@
 -- What a search in a bucket says of the clauses.
-use Rattle.std.proofs.Common.{◌≡◌, ℕ, ◌<◌, Bool, true, false, cond, eqb, eqb-true, eq-eqb, Option, Some, None, option_map, is_some, List, length, slice_get, refl, sym, ap, ◌∙◌, arith}
+use Rattle.std.proofs.Common.{◌≡◌, ℕ, ◌<◌, Bool, true, false, cond, eqb, eqb-true, eq-eqb, Option}
+use Rattle.std.proofs.Common.{Some, None, option_map, is_some, List, length, slice_get, refl, sym}
+use Rattle.std.proofs.Common.{ap, ◌∙◌, arith}
 use Rattle.std.specs.List.{list_all}
 use Rattle.std.specs.FinMap as maps
 use Rattle.std.specs.FinMap.{FinMap}
@@ -9,11 +11,11 @@ use Rattle.std.proofs.lemmas.Option.{none-some, same_Some}
 use Rattle.slab.specs.Slab.{Slab, get}
 use Rattle.cnf_base.specs.Literals.{Literal, Clause, has, same_clause, size}
 use Rattle.cnf_base.proofs.SetLemmas.{all_each, each_all, same_there, same_back, same_from}
-use Rattle.clause_db.specs.Store.Clauses.{copies_with}
-use Rattle.clause_db.specs.Store.Entries.{is_match, clauses_in}
-use Rattle.clause_db.specs.Store.Hashes.{hash}
-use Rattle.clause_db.specs.Store.LiteralMarks.{mark_count}
-use Rattle.clause_db.specs.Store.Index.{spot_in, IsIndex}
+use Rattle.clause_db.specs.Store.{copies_with}
+use Rattle.clause_db.specs.Code.Entries.{is_match, clauses_in}
+use Rattle.clause_db.specs.Code.Hashes.{hash}
+use Rattle.clause_db.specs.Code.LiteralMarks.{mark_count}
+use Rattle.clause_db.specs.Code.Index.{spot_in, IsIndex}
 use Rattle.clause_db.specs.declared.store.entry.Entry.{Entry}
 use Rattle.clause_db.specs.declared.store.mark.Mark.{Mark}
 use Rattle.cnf_base.proofs.SizeLemmas.{IsWithin, size_same, all_covered}

@@ -1,5 +1,6 @@
 -- Sums over the clauses of a finite map.
-use Rattle.std.proofs.Common.{◌≡◌, ℕ, ◌+◌, Bool, true, false, cond, eqb, eq-eqb, Option, Some, None, List, [], ◌∷◌, map, sum_by, length, refl, sym, ap, ◌∙◌, arith}
+use Rattle.std.proofs.Common.{◌≡◌, ℕ, ◌+◌, Bool, true, false, cond, eqb, eq-eqb, Option, Some, None}
+use Rattle.std.proofs.Common.{List, [], ◌∷◌, map, sum_by, length, refl, sym, ap, ◌∙◌, arith}
 use Rattle.std.specs.Ordering.{nat_cmp, is_eq, eq_by_cmp}
 use Rattle.std.specs.Cmp.{nat_cmp_total}
 use Rattle.std.specs.declared.cmp.Ordering.{Ordering}
@@ -11,7 +12,7 @@ use Rattle.std.proofs.lemmas.List.Sums.{sum_by-cons}
 use Rattle.std.proofs.lemmas.Bool.Decides.{nat_tests}
 use Rattle.std.proofs.lemmas.Option.{none-some}
 use Rattle.cnf_base.specs.Literals.{Clause}
-use Rattle.clause_db.specs.Store.Clauses.{sum_over}
+use Rattle.clause_db.specs.Store.{sum_over}
 
 tie_is : (k q : ℕ) → eq_by_cmp nat_cmp k q ≡ eqb k q
 tie_is k q = grind (arith, nat_tests)

@@ -8,9 +8,9 @@ use Rattle.std.proofs.lemmas.List.Sorted.{list_any-IsPermutation, IsPermutation-
 use Rattle.std.proofs.lemmas.Option.{same_Some}
 use Rattle.slab.specs.Slab.{Slab, get, with_value}
 use Rattle.cnf_base.specs.Literals.{Clause, has}
-use Rattle.clause_db.specs.Store.Entries.{clauses_in}
-use Rattle.clause_db.specs.Store.Fields.{IsStore}
-use Rattle.clause_db.specs.Store.Index.{IsIndex}
+use Rattle.clause_db.specs.Code.Entries.{clauses_in}
+use Rattle.clause_db.specs.Code.Fields.{IsStore}
+use Rattle.clause_db.specs.Code.Index.{IsIndex}
 use Rattle.tables.specs.declared.table.Table.{Table}
 use Rattle.clause_db.specs.declared.store.entry.Entry.{Entry}
 use Rattle.clause_db.specs.declared.store.mark.Mark.{Mark}

@@ -1,8 +1,10 @@
 //! Slots by the hashes of their clauses.
 
-ghost use Rattle.std.specs.Prelude.{◌≡◌, ◌≢◌, ℕ, None, nat_eq, ◌==◌, ◌-◌, ◌<◌, [], ◌∷◌, ◌++◌, length, swap_remove, slice_index, if◌then◌else◌, IfOk, OnOk, OnErr};
+ghost use Rattle.std.specs.Prelude.{◌≡◌, ◌≢◌, ℕ, None, nat_eq, ◌==◌, ◌-◌, ◌<◌, [], ◌∷◌, ◌++◌};
+ghost use Rattle.std.specs.Prelude.{length, swap_remove, slice_index, if◌then◌else◌, IfOk, OnOk};
+ghost use Rattle.std.specs.Prelude.{OnErr};
 ghost use Rattle.std.specs.HashMap.{get};
-ghost use Rattle.clause_db.specs.Store.Buckets.{bucket_at};
+ghost use Rattle.clause_db.specs.Code.Buckets.{bucket_at};
 
 use cnf_base::OutOfMemory;
 use std::alloc::Global;

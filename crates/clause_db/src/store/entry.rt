@@ -2,8 +2,8 @@
 
 ghost use Rattle.std.specs.Prelude.{◌≡◌, ◌<◌, length};
 ghost use Rattle.std.specs.List.{swap};
-ghost use Rattle.clause_db.specs.Store.Entries.{is_match};
-ghost use Rattle.clause_db.specs.Store.LiteralMarks.{is_marked};
+ghost use Rattle.clause_db.specs.Code.Entries.{is_match};
+ghost use Rattle.clause_db.specs.Code.LiteralMarks.{is_marked};
 ghost use Rattle.tables.specs.Table.{at};
 ghost use Rattle.slab.specs.Slab.{get};
 

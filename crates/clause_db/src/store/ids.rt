@@ -4,9 +4,10 @@ mod directory;
 mod pages;
 mod row;
 
-ghost use Rattle.std.specs.Prelude.{◌≡◌, ◌≢◌, ℕ, ◌+◌, ◌-◌, ◌*◌, ◌/◌, ◌^◌, ◌<◌, ◌≤◌, slice_index, Some, None, IfSome, IfNone, IfOk, OnOk, OnErr};
+ghost use Rattle.std.specs.Prelude.{◌≡◌, ◌≢◌, ℕ, ◌+◌, ◌-◌, ◌*◌, ◌/◌, ◌^◌, ◌<◌, ◌≤◌, slice_index};
+ghost use Rattle.std.specs.Prelude.{Some, None, IfSome, IfNone, IfOk, OnOk, OnErr};
 ghost use Rattle.std.specs.FinMap as maps;
-ghost use Rattle.clause_db.specs.Store.Ids.{entry_at, page_at, slot_from, IsPaged, IsFirst};
+ghost use Rattle.clause_db.specs.Code.Ids.{entry_at, page_at, slot_from, IsPaged, IsFirst};
 
 use crate::store::ids::directory::Directory;
 use crate::store::ids::pages::{PAGE, Pages, place_in};
@@ -31,7 +32,7 @@ impl Model for Ids {
     ghost use Rattle.std.specs.Coded.{coded_ℕ};
     ghost use Rattle.std.specs.FinMap as maps;
     ghost use Rattle.std.specs.FinMap.{FinMap};
-    ghost use Rattle.clause_db.specs.Store.Ids.{as_map, IsPaged};
+    ghost use Rattle.clause_db.specs.Code.Ids.{as_map, IsPaged};
 
     ghost Value = { FinMap nat_cmp ℕ };
 

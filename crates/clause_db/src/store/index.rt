@@ -1,11 +1,12 @@
 //! What finds a clause again.
 
-ghost use Rattle.std.specs.Prelude.{◌≡◌, ℕ, ◌==◌, ◌<◌, length, if◌then◌else◌, Some, None, ⊤, OnOk, OnErr};
+ghost use Rattle.std.specs.Prelude.{◌≡◌, ℕ, ◌==◌, ◌<◌, length, if◌then◌else◌, Some, None, ⊤, OnOk};
+ghost use Rattle.std.specs.Prelude.{OnErr};
 ghost use Rattle.std.specs.Ordering.{nat_cmp};
 ghost use Rattle.std.specs.FinMap as maps;
 ghost use Rattle.std.specs.FinMap.{FinMap};
 ghost use Rattle.cnf_base.specs.Literals.{Clause, size};
-ghost use Rattle.clause_db.specs.Store.Index.{under, place_in, Indexes};
+ghost use Rattle.clause_db.specs.Code.Index.{under, place_in, Indexes};
 ghost use Rattle.tables.specs.Table.{at};
 
 use crate::store::buckets::Buckets;

@@ -1,8 +1,9 @@
 //! What a table has of a literal, and the writes of one literal.
 
-ghost use Rattle.std.specs.Prelude.{◌≡◌, ℕ, ◌+◌, ◌/◌, ◌^◌, ◌<◌, ◌==◌, ◌&&◌, ◌||◌, true, not, is_some, if◌then◌else◌, IsSome, IfOk, OnOk, OnErr};
-ghost use Rattle.clause_db.specs.Store.Hashes.{mix};
-ghost use Rattle.clause_db.specs.Store.LiteralMarks.{mark_count, is_marked};
+ghost use Rattle.std.specs.Prelude.{◌≡◌, ℕ, ◌+◌, ◌/◌, ◌^◌, ◌<◌, ◌==◌, ◌&&◌, ◌||◌, true, not};
+ghost use Rattle.std.specs.Prelude.{is_some, if◌then◌else◌, IsSome, IfOk, OnOk, OnErr};
+ghost use Rattle.clause_db.specs.Code.Hashes.{mix};
+ghost use Rattle.clause_db.specs.Code.LiteralMarks.{mark_count, is_marked};
 ghost use Rattle.tables.specs.Table.{at};
 
 use cnf_base::{Lit, OutOfMemory};
@@ -16,7 +17,7 @@ pub(crate) struct Mark {
 }
 
 /// A literal spread over the words, by the seed.
-#[tactic(auto, unfolding(crate::specs::Store::Hashes::mix))]
+#[tactic(auto, unfolding(crate::specs::Code::Hashes::mix))]
 pub(crate) fn mixed(seed: u64, l: Lit) -> u64
     ensures { result ≡ mix seed l }
 {

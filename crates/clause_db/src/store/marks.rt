@@ -1,10 +1,11 @@
 //! Walks over a clause that mark, count and compare its literals. Each is linear in the clause.
 
-ghost use Rattle.std.specs.Prelude.{◌≡◌, ℕ, ◌+◌, ◌<◌, ◌≤◌, ◌==◌, ◌&&◌, true, false, is_some, [], length, if◌then◌else◌, IsSome, IsTrue, IfOk, OnOk};
+ghost use Rattle.std.specs.Prelude.{◌≡◌, ℕ, ◌+◌, ◌<◌, ◌≤◌, ◌==◌, ◌&&◌, true, false, is_some, []};
+ghost use Rattle.std.specs.Prelude.{length, if◌then◌else◌, IsSome, IsTrue, IfOk, OnOk};
 ghost use Rattle.std.specs.List.{list_all};
 ghost use Rattle.cnf_base.specs.Literals.{has, same_clause, size};
-ghost use Rattle.clause_db.specs.Store.Hashes.{hash};
-ghost use Rattle.clause_db.specs.Store.LiteralMarks.{mark_count, is_marked};
+ghost use Rattle.clause_db.specs.Code.Hashes.{hash};
+ghost use Rattle.clause_db.specs.Code.LiteralMarks.{mark_count, is_marked};
 ghost use Rattle.tables.specs.Table.{at};
 
 use crate::store::mark::{

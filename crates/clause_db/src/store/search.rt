@@ -1,9 +1,9 @@
 //! The search for a clause that is marked.
 
 ghost use Rattle.std.specs.Prelude.{◌≡◌, ℕ, false, true, Some, slice_get, IfSome, IfNone};
-ghost use Rattle.clause_db.specs.Store.Entries.{is_match};
-ghost use Rattle.clause_db.specs.Store.Index.{under};
-ghost use Rattle.clause_db.specs.Store.LiteralMarks.{is_marked};
+ghost use Rattle.clause_db.specs.Code.Entries.{is_match};
+ghost use Rattle.clause_db.specs.Code.Index.{under};
+ghost use Rattle.clause_db.specs.Code.LiteralMarks.{is_marked};
 ghost use Rattle.tables.specs.Table.{at};
 ghost use Rattle.slab.specs.Slab.{get};
 

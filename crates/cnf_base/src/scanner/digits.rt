@@ -1,7 +1,7 @@
 //! The digits of a number, byte by byte.
 
 ghost use Rattle.std.specs.Prelude.{◌≡◌};
-ghost use Rattle.cnf_base.specs.Digits.{digits_word, with_byte};
+ghost use Rattle.cnf_base.specs.Code.Digits.{digits_word, with_byte};
 
 use crate::{Number, Word};
 

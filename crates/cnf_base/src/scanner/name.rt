@@ -3,7 +3,7 @@
 ghost use Rattle.std.specs.Prelude.{◌≡◌, ◌≤◌, ◌∷◌, ◌++◌, [], ℕ, List, cond, length, take};
 ghost use Rattle.std.specs.Str.{bytes_eq};
 ghost use Rattle.cnf_base.specs.Words.{fixed_word};
-ghost use Rattle.cnf_base.specs.Digits.{AreKept};
+ghost use Rattle.cnf_base.specs.Code.Digits.{AreKept};
 
 use crate::Word;
 

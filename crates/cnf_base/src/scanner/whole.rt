@@ -2,7 +2,7 @@
 ghost use Rattle.std.specs.Prelude.{◌≡◌, ◌+◌, ◌*◌, ◌<◌, ◌≤◌, true, length, take, IfSome};
 ghost use Rattle.std.specs.List.{list_all};
 ghost use Rattle.cnf_base.specs.Words.{is_digit, decimal_after};
-ghost use Rattle.cnf_base.specs.Whole.{IsWholeNumber, AreWholeDigits, GoOn};
+ghost use Rattle.cnf_base.specs.Code.Whole.{IsWholeNumber, AreWholeDigits, GoOn};
 
 use super::digits::Digits;
 use super::is_separator;

@@ -1,7 +1,7 @@
 //! The groups of a number.
 
 ghost use Rattle.std.specs.Prelude.{◌≡◌, ℕ, List, [], ◌∷◌, ◌++◌};
-ghost use Rattle.proofs.specs.BinaryMoves.{KeepsGroups};
+ghost use Rattle.proofs.specs.Code.BinaryMoves.{KeepsGroups};
 
 /// What is kept of a number's bytes so far: the number of the first one, the sum of the groups, and what one in the next
 /// group counts. The sum and the weight go up to `u64::MAX`.

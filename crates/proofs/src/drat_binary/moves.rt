@@ -2,7 +2,7 @@
 
 ghost use Rattle.std.specs.Prelude.{◌≡◌, ℕ, ◌<◌, List, [], ◌∷◌, ◌++◌};
 ghost use Rattle.proofs.specs.Binary.{BinarySpot, binary_move_of, tag_move, group_move, binary_number_move};
-ghost use Rattle.proofs.specs.BinaryMoves.{KeepsGroups, IsAt, MovesBinary};
+ghost use Rattle.proofs.specs.Code.BinaryMoves.{KeepsGroups, IsAt, MovesBinary};
 
 use super::groups::Groups;
 use super::part::Part;

@@ -1,7 +1,8 @@
 //! What a word does to a step.
 
 ghost use Rattle.std.specs.Prelude.{true};
-ghost use Rattle.proofs.specs.Drat.{drat};
+ghost use Rattle.proofs.specs.Drat.{DratSpot, drat};
+ghost use Rattle.proofs.specs.Code.DratMoves.{drat_spot};
 
 use super::part::Part;
 use crate::moved::Moved;
@@ -10,6 +11,10 @@ use crate::{StepBuf, text};
 use cnf_base::{Lit, Number, TextFault};
 
 impl text::Part for Part {
+    ghost Spot = { DratSpot };
+
+    ghost spot = { drat_spot };
+
     ghost format = { drat };
 
     ghost fits = { λ _ _. true };

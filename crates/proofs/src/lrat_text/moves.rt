@@ -1,9 +1,9 @@
 //! What a word does to a step.
 
 ghost use Rattle.std.specs.Prelude.{◌≡◌, ◌≤◌, IsTrue};
-ghost use Rattle.proofs.specs.Lrat.{lrat, identifier, literal, hint, deleted, signed};
-ghost use Rattle.proofs.specs.TextMoves.{FitsMoved, MovesText};
-ghost use Rattle.proofs.specs.LratMoves.{fits_part, is_addition};
+ghost use Rattle.proofs.specs.Lrat.{LratSpot, lrat, identifier, literal, hint, deleted, signed};
+ghost use Rattle.proofs.specs.Code.TextMoves.{FitsMoved, MovesText};
+ghost use Rattle.proofs.specs.Code.LratMoves.{lrat_spot, fits_part, is_addition};
 
 use super::part::Part;
 use crate::moved::Moved;
@@ -14,6 +14,10 @@ use cnf_base::{Lit, Number, TextFault};
 const MOST: u64 = 9223372036854775807;
 
 impl text::Part for Part {
+    ghost Spot = { LratSpot };
+
+    ghost spot = { lrat_spot };
+
     ghost format = { lrat };
 
     ghost fits = { fits_part };
@@ -49,7 +53,7 @@ impl text::Part for Part {
 }
 
 fn take_identifier(step: &mut StepBuf, number: Number) -> Result<Moved<Part>, Stopped>
-    ensures moves { MovesText result (identifier number) step.new }
+    ensures moves { MovesText lrat_spot result (identifier number) step.new }
     ensures fits { FitsMoved fits_part result step.new }
 {
     if number.is_negative || number.size == 0 {
@@ -64,7 +68,7 @@ fn take_identifier(step: &mut StepBuf, number: Number) -> Result<Moved<Part>, St
 
 fn take_literal(step: &mut StepBuf, number: Number) -> Result<Moved<Part>, Stopped>
     requires { IsTrue (is_addition step.old.kind) }
-    ensures moves { MovesText result (literal step.old number) step.new }
+    ensures moves { MovesText lrat_spot result (literal step.old number) step.new }
     ensures fits { FitsMoved fits_part result step.new }
 {
     if number.size > u64::from(Lit::MAX_VAR) {
@@ -79,7 +83,7 @@ fn take_literal(step: &mut StepBuf, number: Number) -> Result<Moved<Part>, Stopp
 
 fn take_hint(step: &mut StepBuf, number: Number) -> Result<Moved<Part>, Stopped>
     requires { IsTrue (is_addition step.old.kind) }
-    ensures moves { MovesText result (hint step.old number) step.new }
+    ensures moves { MovesText lrat_spot result (hint step.old number) step.new }
     ensures fits { FitsMoved fits_part result step.new }
 {
     if number.size > MOST {
@@ -93,7 +97,7 @@ fn take_hint(step: &mut StepBuf, number: Number) -> Result<Moved<Part>, Stopped>
 }
 
 fn take_deleted(step: &mut StepBuf, number: Number) -> Result<Moved<Part>, Stopped>
-    ensures moves { MovesText result (deleted step.old number) step.new }
+    ensures moves { MovesText lrat_spot result (deleted step.old number) step.new }
     ensures fits { FitsMoved fits_part result step.new }
 {
     if number.is_negative {

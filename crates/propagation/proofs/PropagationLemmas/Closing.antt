@@ -1,20 +1,26 @@
 -- All that follows with nothing assumed, and the clauses that make a literal hold for good.
-use Rattle.std.proofs.Common.{◌≡◌, ◌≢◌, ℕ, Result, Ok, Err, IfOk, OnOk, ◌+◌, ◌*◌, ◌/◌, ◌<◌, ◌≤◌, Bool, true, false, not, cond, ◌||◌, Some, None, List, [], ◌∷◌, ◌++◌, map, refl, sym, ap, ◌∙◌, subst, arith, inl, inr}
+use Rattle.std.proofs.Common.{◌≡◌, ◌≢◌, ℕ, Result, Ok, Err, IfOk, OnOk, ◌+◌, ◌*◌, ◌/◌, ◌<◌, Bool}
+use Rattle.std.proofs.Common.{true, false, not, ◌||◌, Some, None, List, [], ◌∷◌, ◌++◌, map, refl}
+use Rattle.std.proofs.Common.{sym, ap, ◌∙◌, subst, arith, inl, inr}
 use Rattle.std.proofs.lemmas.Bool.{false≢true, true≢false, not-true, not-false, cases_eq}
 use Rattle.std.proofs.lemmas.Option.{none-some, same_Some}
 use Rattle.std.proofs.lemmas.Result.{on_ok_weaker}
 use Rattle.cnf_base.specs.Literals.{Literal, complement, Clause, has}
-use Rattle.cnf_base.proofs.SetLemmas.{filter_has, has_append_left, has_append_right, has_append_cases, has_cases, has_head, has_tail}
-use Rattle.propagation.specs.Closure.{FollowsFrom, is_old, by_unit, both_of}
-use Rattle.theory.specs.Propagation.{IsClosedAt, OthersFail, Live, Forced, IsRootReason}
-use Rattle.theory.specs.Sets.{lacking}
-use Rattle.theory.specs.Left.{open_literals, how_many, is_one_at_most, IsSettled}
+use Rattle.cnf_base.proofs.SetLemmas.{has_append_left, has_append_right, has_append_cases}
+use Rattle.cnf_base.proofs.SetLemmas.{has_cases, has_head, has_tail}
+use Rattle.propagation.specs.Code.Closure.{FollowsFrom, is_old, by_unit, both_of}
+use Rattle.theory.specs.Code.Propagation.{IsClosedAt, OthersFail}
+use Rattle.theory.specs.Propagation.{Live, Forced, IsRootReason, open_literals}
+use Rattle.theory.specs.Code.Sets.{lacking}
+use Rattle.propagation.specs.Left.{how_many, is_one_at_most}
+use Rattle.propagation.specs.Code.Left.{IsSettled}
 use Rattle.propagation.specs.Trail.{HasRoomForAll}
-use Rattle.theory.specs.declared.left.Left.{Left}
-use Rattle.theory.specs.declared.left.Left.TheVariants.{Nothing, One, More}
+use Rattle.propagation.specs.declared.left.Left.{Left}
+use Rattle.propagation.specs.declared.left.Left.TheVariants.{Nothing, One, More}
 use Rattle.theory.proofs.PropagationLemmas.Forced.{forced_unit}
-use Rattle.theory.proofs.PropagationLemmas.Left.{left-more}
-use Rattle.theory.proofs.PropagationLemmas.Unit.{settled_at, none_left_follow, one_left_follows}
+use Rattle.theory.proofs.PropagationLemmas.Open.{AreAll, open_has}
+use Rattle.theory.proofs.PropagationLemmas.Unit.{none_left_follow, one_left_follows}
+use Rattle.propagation.proofs.PropagationLemmas.Left.{nothing_is, one_is, more_differ, settled_at}
 use Rattle.theory.proofs.PropagationLemmas.Lacking.{lacking_le, lacking_falls}
 
 pub follows_forced : (live : Live) (ls : List Literal) → ((l : Literal) → has ls l ≡ true → Forced live [] l) → (k : ℕ) (c : Clause) → live k ≡ Some c → (l : Literal) → FollowsFrom ls c l → Forced live [] l
@@ -59,23 +65,23 @@ module _ (live : Live) (trues : List Literal) (k : ℕ) (c : Clause) (at : live 
         by_left More e d is h = absurd (false≢true h)
         by_left Nothing e [] is h = absurd (false≢true h)
         by_left (One m) e [] is h = absurd (false≢true h)
-        by_left Nothing e (l ∷ d) is h = reason_from l (ap (λ x. has x l) is ∙ has_head l d) (none_left_follow trues c e l)
-        by_left (One m) e (l ∷ d) is h = let w = one_left_follows trues c m e in reason_from m w.0 w.1
+        by_left Nothing e (l ∷ d) is h = reason_from l (ap (λ x. has x l) is ∙ has_head l d) (none_left_follow trues c (nothing_is (open_literals trues c) e) l)
+        by_left (One m) e (l ∷ d) is h = let w = one_left_follows trues c m (one_is (open_literals trues c) m e) in reason_from m w.0 w.1
 
   module _ (all : (l : Literal) → Forced live [] l → has trues l ≡ true) where
-    open_alone : (r : IsRootReason live c) (l : Literal) → has (open_literals trues c) l ≡ true → l ≡ r.literal
+    open_alone : (r : IsRootReason live c) → AreAll (open_literals trues c) r.literal
     open_alone r l h =
-        let w = filter_has (λ l. not (has trues (complement l))) c l h in
+        let w = open_has trues c l h in
         elim (cases_eq l r.literal) [
           | inl e ↦ e
-          | inr ne ↦ absurd (true≢false (sym (all (complement l) (r.others l w.0 ne)) ∙ not-true _ w.1))
+          | inr ne ↦ absurd (true≢false (sym (all (complement l) (r.others l w.0 ne)) ∙ w.1))
         ]
 
     pub no_reason_left : is_one_at_most (how_many (open_literals trues c)) c ≡ false → ¬ IsRootReason live c
     no_reason_left h r = by_left (how_many (open_literals trues c)) refl c refl h
       where
         by_left : (left : Left) → how_many (open_literals trues c) ≡ left → (d : Clause) → c ≡ d → is_one_at_most left d ≡ false → ⊥
-        by_left More e d is h = left-more (open_literals trues c) r.literal e (open_alone r)
+        by_left More e d is h = more_differ (open_literals trues c) e r.literal (open_alone r)
         by_left Nothing e [] is h = false≢true (sym (ap (λ x. has x r.literal) is) ∙ r.member)
         by_left (One m) e [] is h = false≢true (sym (ap (λ x. has x r.literal) is) ∙ r.member)
         by_left Nothing e (l ∷ d) is h = absurd (true≢false h)
@@ -88,7 +94,7 @@ module _ {E : Type 0} (ls now : List Literal) (c : Clause) (r : Result Bool E) w
   pub all_follow : how_many (open_literals ls c) ≡ Nothing → OnOk r ((l : Literal) → has now l ≡ has (ls ++ c) l) → OnOk r ((l : Literal) → has now l ≡ true → FollowsFrom ls c l)
   all_follow e = on_ok_weaker r (λ lits l h. elim (has_append_cases ls c l (sym (lits l) ∙ h)) [
     | inl old ↦ is_old old
-    | inr member ↦ by_unit member (none_left_follow ls c e l)
+    | inr member ↦ by_unit member (none_left_follow ls c (nothing_is (open_literals ls c) e) l)
   ])
 
   module _ (m : Literal) (e : how_many (open_literals ls c) ≡ One m) where
@@ -97,7 +103,7 @@ module _ {E : Type 0} (ls now : List Literal) (c : Clause) (r : Result Bool E) w
     one_follows = on_ok_weaker r (λ lits l h. elim (has_append_cases ls (m ∷ []) l (sym (lits l) ∙ h)) [
       | inl old ↦ is_old old
       | inr here ↦ elim (has_cases m [] l here) [
-        | inl same ↦ let w = one_left_follows ls c m e in subst (FollowsFrom ls c) same (by_unit w.0 w.1)
+        | inl same ↦ let w = one_left_follows ls c m (one_is (open_literals ls c) m e) in subst (FollowsFrom ls c) same (by_unit w.0 w.1)
         | inr none ↦ absurd (false≢true none)
       ]
     ])
@@ -105,7 +111,7 @@ module _ {E : Type 0} (ls now : List Literal) (c : Clause) (r : Result Bool E) w
 pub one_is_new : {E : Type 0} (ls now : List Literal) (c : Clause) (m : Literal) → how_many (open_literals ls c) ≡ One m → (r : Result Bool E) → IfOk r (λ is_new. is_new ≡ not (has ls m)) → OnOk r ((l : Literal) → has now l ≡ has (ls ++ m ∷ []) l) →
     IfOk r (λ is_new. is_new ≡ true → (l : Literal) × (has c l ≡ true) × (has ls l ≡ false) × (has now l ≡ true))
 one_is_new ls now c m e (Ok is_new) was lits = λ new.
-    (m, (one_left_follows ls c m e).0, not-true (has ls m) (sym was ∙ new), lits m ∙ has_append_right ls (m ∷ []) m (has_head m []))
+    (m, (one_left_follows ls c m (one_is (open_literals ls c) m e)).0, not-true (has ls m) (sym was ∙ new), lits m ∙ has_append_right ls (m ∷ []) m (has_head m []))
 one_is_new ls now c m e (Err refused) was lits = tt
 
 pub one_is_closed : {E : Type 0} (ls : List Literal) (c : Clause) (m : Literal) → how_many (open_literals ls c) ≡ One m → (r : Result Bool E) → IfOk r (λ is_new. is_new ≡ not (has ls m)) → IfOk r (λ is_new. is_new ≡ false → IsClosedAt (has ls) c)

@@ -1,5 +1,7 @@
 -- How many clauses have a literal, and that one is found where the number isn't 0.
-use Rattle.std.proofs.Common.{◌≡◌, ◌≢◌, ℕ, ◌+◌, ◌<◌, Bool, true, false, cond, T, ◌&&◌, ◌==◌, Some, List, [], ◌∷◌, map, sum_by, Less, Equal, Greater, is_lt, le-ltb, eqb-true, eq-eqb, refl, sym, ap, ◌∙◌, subst, arith, inl, inr}
+use Rattle.std.proofs.Common.{◌≡◌, ◌≢◌, ℕ, ◌+◌, ◌<◌, Bool, true, false, cond, T, ◌&&◌, ◌==◌, Some}
+use Rattle.std.proofs.Common.{List, [], ◌∷◌, map, sum_by, Less, Equal, Greater, is_lt, le-ltb}
+use Rattle.std.proofs.Common.{eqb-true, eq-eqb, refl, sym, ap, ◌∙◌, subst, arith, inl, inr}
 use Rattle.std.specs.Ordering.{nat_cmp, eq_by_cmp}
 use Rattle.std.specs.Cmp.{unsigned_tied}
 use Rattle.std.specs.FinMap as maps
@@ -10,7 +12,7 @@ use Rattle.std.proofs.lemmas.List.Sums.{sum_by-cons}
 use Rattle.std.proofs.lemmas.Option.{none-some}
 use Rattle.cnf_base.specs.Literals.{Literal, Clause, has}
 use Rattle.propagation.specs.Assumptions.{HasAt}
-use Rattle.clause_db.specs.Store.Clauses.{copies_with}
+use Rattle.clause_db.specs.Store.{copies_with}
 use Rattle.clause_db.proofs.StoreLemmas.Sums.{sum_remove}
 
 -- ---- One that is there is counted

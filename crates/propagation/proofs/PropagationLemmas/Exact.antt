@@ -1,10 +1,12 @@
 -- What a propagation keeps of the literals that are true, as assumptions come and go.
-use Rattle.std.proofs.Common.{◌≡◌, ℕ, ◌≤◌, Bool, true, not, cond, arith, List, [], ◌∷◌, ◌++◌, length, take, sym, ap, ◌∙◌, subst, inl, inr}
+use Rattle.std.proofs.Common.{◌≡◌, ℕ, ◌≤◌, Bool, true, not, cond, arith, List, [], ◌∷◌, ◌++◌}
+use Rattle.std.proofs.Common.{length, take, sym, ap, ◌∙◌, subst, inl, inr}
 use Rattle.std.proofs.lemmas.List.{length-take, take-take}
 use Rattle.cnf_base.specs.Literals.{Literal, has}
 use Rattle.cnf_base.proofs.SetLemmas.{has_append_left, has_append_right, has_append_cases}
-use Rattle.propagation.specs.Assumptions.{Assumption, AssumptionsState, MayAssume, IsAnswer, assumed_by}
-use Rattle.propagation.specs.Exact.{IsExact, AreExact, Extends}
+use Rattle.propagation.specs.Assumptions.{Assumption, AssumptionsState, MayAssume, IsAnswer}
+use Rattle.propagation.specs.Assumptions.{assumed_by}
+use Rattle.propagation.specs.Code.Exact.{IsExact, AreExact, Extends}
 use Rattle.theory.specs.Propagation.{Live, IsClosed, Forced, Clash}
 use Rattle.theory.specs.Sets.{SameSet, conflicts}
 use Rattle.propagation.specs.declared.answer.Answer.{Answer}

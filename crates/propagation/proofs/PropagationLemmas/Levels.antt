@@ -1,12 +1,20 @@
 -- Variables that assumptions noted, as assumptions come and go.
-use Rattle.std.proofs.Common.{◌≡◌, ◌≢◌, ℕ, ◌+◌, ◌/◌, ◌<◌, ◌≤◌, Bool, true, false, not, cond, eqb, eqb-true, eq-eqb, List, [], ◌∷◌, ◌++◌, is_some, map, filter, take, length, length-append, get_or, refl, sym, ap, ◌∙◌, subst, inl, inr, ◌⊎◌, arith, append-nil}
+use Rattle.std.proofs.Common.{◌≡◌, ◌≢◌, ℕ, ◌+◌, ◌/◌, ◌<◌, ◌≤◌, Bool, true, false, not, cond, eqb}
+use Rattle.std.proofs.Common.{eqb-true, eq-eqb, List, [], ◌∷◌, ◌++◌, is_some, map, filter, take}
+use Rattle.std.proofs.Common.{length, length-append, get_or, refl, sym, ap, ◌∙◌, subst, inl, inr}
+use Rattle.std.proofs.Common.{◌⊎◌, arith, append-nil}
 use Rattle.std.proofs.lemmas.Bool.{false≢true, true≢false, cases_eq, or_cases, or_left, or_right}
 use Rattle.std.proofs.lemmas.List.{take-append-le}
 use Rattle.std.proofs.lemmas.List.Elements.{filter_agree, filter-append}
 use Rattle.cnf_base.specs.Literals.{Literal, complement, complements, has, variable}
-use Rattle.cnf_base.proofs.SetLemmas.{both_pass, has-filter, filter_has, has_append_left, has_append_right, has_append_cases, has-complements, complements_has}
+use Rattle.cnf_base.proofs.SetLemmas.{both_pass, has-filter, filter_has, has_append_left}
+use Rattle.cnf_base.proofs.SetLemmas.{has_append_right, has_append_cases, has-complements}
+use Rattle.cnf_base.proofs.SetLemmas.{complements_has}
 use Rattle.propagation.specs.Assumptions.{Assumption, MayAssume, assumed_by}
-use Rattle.propagation.specs.Levels.{number_at, pushed, first_number, of_variables, IsNumbered, is_noted, is_noted_by_two, assumptions_of, IsLevel, AreLevels, Notes}
+use Rattle.propagation.specs.Numbers.{number_at}
+use Rattle.propagation.specs.Code.Levels.{pushed, first_number, of_variables, IsNumbered, is_noted}
+use Rattle.propagation.specs.Code.Levels.{is_noted_by_two, assumptions_of, IsLevel, AreLevels}
+use Rattle.propagation.specs.Code.Levels.{Notes}
 use Rattle.tables.specs.Table.{at}
 use Rattle.propagation.specs.Trail.{TrailState, HasNoVariableTwice}
 use Rattle.theory.specs.Sets.{SameSet}
@@ -17,7 +25,8 @@ use Rattle.propagation.specs.declared.levels.Levels.{Levels}
 use Rattle.propagation.specs.declared.levels.Levels.TheVariants.{Nothing, One, Two}
 use Rattle.propagation.proofs.PropagationLemmas.MakesFalse.{by_open}
 use Rattle.clause_db.proofs.StoreLemmas.Marks.{has_take, is_in}
-use Rattle.propagation.proofs.MemberLemmas.{has_mapped, has_place, place_of_variable, variable-complement}
+use Rattle.propagation.proofs.MemberLemmas.{has_mapped, has_place, place_of_variable}
+use Rattle.propagation.proofs.MemberLemmas.{variable-complement}
 use Rattle.propagation.proofs.PropagationLemmas.Passes.{still_set}
 use Rattle.propagation.proofs.PropagationLemmas.Truth.{same_literal, more_cases, variable_open}
 

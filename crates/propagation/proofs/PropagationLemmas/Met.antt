@@ -1,5 +1,6 @@
 -- The variables for which a trail has room.
-use Rattle.std.proofs.Common.{◌≡◌, ℕ, Bool, true, false, ◌||◌, ◌&&◌, eqb, List, ap, sym, ◌∙◌, refl, eqb-true, ◌⊎◌, inl, inr}
+use Rattle.std.proofs.Common.{◌≡◌, ℕ, Bool, true, false, ◌||◌, ◌&&◌, eqb, List, ap, sym, ◌∙◌, refl}
+use Rattle.std.proofs.Common.{eqb-true, ◌⊎◌, inl, inr}
 use Rattle.std.proofs.lemmas.Bool.{false≢true}
 use Rattle.cnf_base.specs.Literals.{has}
 use Rattle.propagation.specs.Trail.{is_variable}

@@ -1,10 +1,11 @@
 -- Whether a literal is false, by its value among those that lie near.
-use Rattle.std.proofs.Common.{◌≡◌, ℕ, ◌<◌, Bool, true, false, Option, List, length, get_or, sym, ◌∙◌, subst, inl, inr, ◌⊎◌}
+use Rattle.std.proofs.Common.{◌≡◌, ℕ, ◌<◌, Bool, true, false, Option, List, length, get_or, sym}
+use Rattle.std.proofs.Common.{◌∙◌, subst, inl, inr, ◌⊎◌}
 use Rattle.std.specs.Option.{option_or}
 use Rattle.std.specs.Prelude.{slice_get}
 use Rattle.cnf_base.specs.Literals.{complement, has}
 use Rattle.propagation.specs.Trail.{value_under, HasNoVariableTwice}
-use Rattle.propagation.specs.Values.{known_value}
+use Rattle.propagation.specs.Code.Values.{known_value}
 use Rattle.propagation.specs.declared.value.Value.{Value}
 use Rattle.propagation.specs.declared.value.Value.TheVariants.{False}
 use Rattle.propagation.proofs.PropagationLemmas.MakesFalse.{value_not_false}

@@ -1,17 +1,22 @@
 -- Passes over the clauses: what they keep, and why they end.
-use Rattle.std.proofs.Common.{◌≡◌, ℕ, ◌+◌, ◌/◌, ◌<◌, ◌≤◌, Bool, true, false, not, cond, Some, None, List, [], ◌∷◌, ◌++◌, map, length, take, drop, refl, sym, ap, ◌∙◌, subst, inl, inr, arith}
+use Rattle.std.proofs.Common.{◌≡◌, ℕ, ◌+◌, ◌/◌, ◌<◌, ◌≤◌, Bool, true, false, not, cond, Some, None}
+use Rattle.std.proofs.Common.{List, [], ◌∷◌, ◌++◌, map, length, take, drop, refl, sym, ap, ◌∙◌}
+use Rattle.std.proofs.Common.{subst, inl, inr, arith}
 use Rattle.std.proofs.lemmas.Bool.{false≢true, cases_eq}
 use Rattle.std.proofs.lemmas.List.{take-append-le, take-append-drop}
 use Rattle.std.proofs.lemmas.Option.{none-some, same_Some}
 use Rattle.std.proofs.lemmas.List.Sums.{sum_by-cons}
 use Rattle.cnf_base.specs.Literals.{Literal, complement, Clause, has, variable}
-use Rattle.cnf_base.proofs.SetLemmas.{has_cases, has_append_left, has_append_right, has_append_cases, has_head}
-use Rattle.theory.specs.Left.{open_literals, how_many, IsSettled}
-use Rattle.theory.specs.Propagation.{Live}
-use Rattle.propagation.specs.Scan.Unit.{unset}
+use Rattle.cnf_base.proofs.SetLemmas.{has_cases, has_append_left, has_append_right}
+use Rattle.cnf_base.proofs.SetLemmas.{has_append_cases, has_head}
+use Rattle.propagation.specs.Left.{how_many}
+use Rattle.propagation.specs.Code.Left.{IsSettled}
+use Rattle.theory.specs.Propagation.{Live, open_literals}
+use Rattle.propagation.specs.Code.Passes.{unset}
 use Rattle.propagation.specs.Trail.{TrailState}
 use Rattle.propagation.specs.declared.scan.unit.Pass.{Pass}
-use Rattle.propagation.specs.declared.scan.unit.Pass.TheVariants.{Clash as PassClash, Changed, Quiet}
+use Rattle.propagation.specs.declared.scan.unit.Pass.TheVariants.{Clash as PassClash, Changed}
+use Rattle.propagation.specs.declared.scan.unit.Pass.TheVariants.{Quiet}
 use Rattle.propagation.proofs.PropagationLemmas.Truth.{variable_open}
 
 -- ---- A longer trail

@@ -1,5 +1,6 @@
 -- The invariant of the plainest propagation, as clauses come and go.
-use Rattle.std.proofs.Common.{◌≡◌, ◌≢◌, ℕ, ◌/◌, ◌++◌, ◌∷◌, Bool, true, false, cond, eqb, length, take, Some, None, List, [], sym, ap, ◌∙◌, subst, inl, inr}
+use Rattle.std.proofs.Common.{◌≡◌, ◌≢◌, ℕ, ◌/◌, ◌++◌, ◌∷◌, Bool, true, false, cond, eqb, length}
+use Rattle.std.proofs.Common.{take, Some, None, List, [], sym, ap, ◌∙◌, subst, inl, inr}
 use Rattle.std.specs.Ordering.{nat_cmp}
 use Rattle.std.specs.FinMap as maps
 use Rattle.std.specs.FinMap.{FinMap}
@@ -9,17 +10,21 @@ use Rattle.std.specs.declared.result.Result.TheVariants.{Ok, Err}
 use Rattle.std.proofs.lemmas.Bool.{false≢true, cases_eq}
 use Rattle.std.proofs.lemmas.Option.{none-some, same_Some}
 use Rattle.cnf_base.specs.Literals.{Literal, Clause, has, same_clause, size}
-use Rattle.propagation.specs.Assumptions.{Assumes, Assuming, AssumptionsState, IsAnswer, MayAssume, Propagation, assumed_by}
-use Rattle.propagation.specs.Exact.{IsExact, AreExact}
+use Rattle.propagation.specs.Assumptions.{Assumes, Assuming, AssumptionsState, IsAnswer, MayAssume}
+use Rattle.propagation.specs.Assumptions.{Propagation, assumed_by}
+use Rattle.propagation.specs.Code.Exact.{IsExact, AreExact}
 use Rattle.theory.specs.Propagation.{Live, IsClosed, Forced, Clash}
-use Rattle.propagation.specs.Scan.{IsHeld, IsScan}
-use Rattle.clause_db.specs.Store.Clauses.{StoreState, literals_in}
+use Rattle.propagation.specs.Code.Scan.{IsHeld, IsScan}
+use Rattle.clause_db.specs.Store.{StoreState, literals_in}
 use Rattle.propagation.specs.Trail.{HasRoom, HasRoomForAll}
 use Rattle.theory.specs.Sets.{SameSet, conflicts}
 use Rattle.propagation.specs.declared.answer.Answer.{Answer}
 use Rattle.propagation.specs.declared.answer.Answer.TheVariants.{Quiet}
-use Rattle.cnf_base.proofs.SetLemmas.{both_pass, has_append_cases, has_append_left, has_append_right, same_there}
-use Rattle.propagation.proofs.PropagationLemmas.Exact.{answer_through, exact_nothing, exact_same, nothing_true, sound_before, start_before, conflict_clashes, answer_from, exact_after}
+use Rattle.cnf_base.proofs.SetLemmas.{both_pass, has_append_cases, has_append_left}
+use Rattle.cnf_base.proofs.SetLemmas.{has_append_right, same_there}
+use Rattle.propagation.proofs.PropagationLemmas.Exact.{answer_through, exact_nothing, exact_same}
+use Rattle.propagation.proofs.PropagationLemmas.Exact.{nothing_true, sound_before, start_before}
+use Rattle.propagation.proofs.PropagationLemmas.Exact.{conflict_clashes, answer_from, exact_after}
 use Rattle.theory.proofs.PropagationLemmas.Forced.{forced_assumed}
 use Rattle.clause_db.proofs.StoreLemmas.Sums.{get_remove, sum_empty}
 

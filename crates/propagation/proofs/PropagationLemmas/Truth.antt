@@ -1,5 +1,7 @@
 -- What the literals of a trail say of others, and what they leave of a clause.
-use Rattle.std.proofs.Common.{◌≡◌, ℕ, ◌+◌, ◌<◌, Bool, true, false, cond, eqb, eqb-true, eq-eqb, List, map, nat_eq, length, get_or, take, arith, refl, sym, ap, ◌∙◌, subst, inl, inr, ◌⊎◌}
+use Rattle.std.proofs.Common.{◌≡◌, ℕ, ◌+◌, ◌<◌, Bool, true, false, cond, eqb, eqb-true, eq-eqb}
+use Rattle.std.proofs.Common.{List, map, nat_eq, length, get_or, take, arith, refl, sym, ap, ◌∙◌}
+use Rattle.std.proofs.Common.{subst, inl, inr, ◌⊎◌}
 use Rattle.std.proofs.lemmas.Bool.{true≢false, false_from_ne_true, or_cases, cases_eq, cases_lt}
 use Rattle.std.proofs.lemmas.List.{get_or-map, length-map}
 use Rattle.std.proofs.lemmas.Map.Keys.{apart_from_distinct}
@@ -9,7 +11,8 @@ use Rattle.propagation.specs.Trail.{value_under, HasNoVariableTwice}
 use Rattle.propagation.specs.declared.value.Value.{Value}
 use Rattle.propagation.specs.declared.value.Value.TheVariants.{True, False, Open}
 use Rattle.clause_db.proofs.StoreLemmas.Marks.{has_more}
-use Rattle.propagation.proofs.MemberLemmas.{place_of, has_place, place_of_variable, same_variable, variable-complement}
+use Rattle.propagation.proofs.MemberLemmas.{place_of, has_place, place_of_variable, same_variable}
+use Rattle.propagation.proofs.MemberLemmas.{variable-complement}
 
 -- literals of one variable are equal
 module _ (ls : List ℕ) (apart : HasNoVariableTwice ls) where

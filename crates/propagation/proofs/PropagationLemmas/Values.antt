@@ -1,24 +1,31 @@
 -- What the values by literal say of a trail.
-use Rattle.std.proofs.Common.{◌≡◌, ℕ, ◌*◌, ◌+◌, ◌-◌, ◌<◌, ◌≤◌, Bool, true, false, ◌||◌, cond, eqb, eqb-true, eq-eqb, Option, Some, None, is_some, List, [], ◌∷◌, ◌++◌, map, take, drop, get_or, length, nat_eq, length-append, arith, ap, sym, ◌∙◌, inl, inr, ◌⊎◌, refl, subst}
+use Rattle.std.proofs.Common.{◌≡◌, ℕ, ◌*◌, ◌+◌, ◌-◌, ◌<◌, ◌≤◌, Bool, true, false, ◌||◌, cond, eqb}
+use Rattle.std.proofs.Common.{eqb-true, eq-eqb, Option, Some, None, is_some, List, [], ◌∷◌, ◌++◌}
+use Rattle.std.proofs.Common.{map, take, drop, get_or, length, nat_eq, length-append, arith, ap}
+use Rattle.std.proofs.Common.{sym, ◌∙◌, inl, inr, ◌⊎◌, refl, subst}
 use Rattle.std.specs.List.{AllByRecursion, IsDistinct}
 use Rattle.std.specs.Cmp.{nat_eq_equiv}
 use Rattle.std.specs.Option.{option_or}
 use Rattle.std.specs.Prelude.{slice_get}
 use Rattle.std.proofs.lemmas.Option.{slice_get_read}
-use Rattle.std.proofs.lemmas.Bool.{false≢true, false_from_ne_true, or_cases, or_left, or_right, cases_eq, ne_eqb}
+use Rattle.std.proofs.lemmas.Bool.{false≢true, false_from_ne_true, or_cases, or_left, or_right}
+use Rattle.std.proofs.lemmas.Bool.{cases_eq, ne_eqb}
 use Rattle.std.proofs.lemmas.Bool.Decides.{nat_tests}
-use Rattle.std.proofs.lemmas.List.{map-append, length-map, length-drop, get_or_append_left, get_or-append_right, take_all, take-append-drop}
+use Rattle.std.proofs.lemmas.List.{map-append, length-map, length-drop, get_or_append_left}
+use Rattle.std.proofs.lemmas.List.{get_or-append_right, take_all, take-append-drop}
 use Rattle.std.proofs.lemmas.Map.Keys.{IsDistinct-push}
 use Rattle.std.proofs.lemmas.Map.Made.{length-le_from_is_member}
 use Rattle.cnf_base.specs.Literals.{complement, has, variable, size}
-use Rattle.cnf_base.proofs.SetLemmas.{both_pass, has_cases, has_append_left, has_append_right, has_append_cases}
+use Rattle.cnf_base.proofs.SetLemmas.{both_pass, has_cases, has_append_left, has_append_right}
+use Rattle.cnf_base.proofs.SetLemmas.{has_append_cases}
 use Rattle.cnf_base.proofs.LiteralLemmas.{complement-complement, complement-other}
 use Rattle.cnf_base.proofs.SizeLemmas.{size_covered}
 use Rattle.propagation.specs.Trail.{value_under, HasNoVariableTwice}
-use Rattle.propagation.specs.Values.{IsTrail, known_value}
+use Rattle.propagation.specs.Code.Values.{IsTrail, known_value}
 use Rattle.propagation.specs.declared.value.Value.{Value}
 use Rattle.propagation.specs.declared.value.Value.TheVariants.{True, False, Open}
-use Rattle.propagation.proofs.MemberLemmas.{place_of, has_mapped, has_any, variable-complement, HasNoVariableTwice-from_places}
+use Rattle.propagation.proofs.MemberLemmas.{place_of, has_mapped, has_any, variable-complement}
+use Rattle.propagation.proofs.MemberLemmas.{HasNoVariableTwice-from_places}
 use Rattle.propagation.proofs.PropagationLemmas.Truth.{places_apart, open_from_value, variable_open}
 use Rattle.clause_db.proofs.StoreLemmas.Marks.{has_push, has_more}
 

@@ -4,9 +4,9 @@ ghost use Rattle.std.specs.Prelude.{◌≡◌, IsTrue};
 ghost use Rattle.std.specs.FinMap as maps;
 ghost use Rattle.cnf_base.specs.Literals.{Literal, has};
 ghost use Rattle.propagation.specs.Assumptions.{IsAnswer};
-ghost use Rattle.propagation.specs.Exact.{Extends};
+ghost use Rattle.propagation.specs.Code.Exact.{Extends};
 ghost use Rattle.theory.specs.Propagation.{IsClosed, Forced};
-ghost use Rattle.propagation.specs.Scan.Unit.{IsPassed};
+ghost use Rattle.propagation.specs.Code.Passes.{IsPassed};
 ghost use Rattle.propagation.specs.Trail.{HasRoomForAll};
 ghost use Rattle.propagation.specs.declared.answer.Answer.TheVariants.{Quiet};
 

@@ -1,8 +1,9 @@
 //! What is known of each literal.
 
-ghost use Rattle.std.specs.Prelude.{◌≡◌, ℕ, ◌==◌, ◌≤◌, ◌<◌, ◌+◌, ◌*◌, if◌then◌else◌, Some, None, IsSome, IsTrue, is_some, OnOk, vec_len};
+ghost use Rattle.std.specs.Prelude.{◌≡◌, ℕ, ◌==◌, ◌≤◌, ◌<◌, ◌+◌, ◌*◌, if◌then◌else◌, Some, None};
+ghost use Rattle.std.specs.Prelude.{IsSome, IsTrue, is_some, OnOk, vec_len};
 ghost use Rattle.cnf_base.specs.Literals.{complement};
-ghost use Rattle.propagation.specs.Values.{value_at, known_value};
+ghost use Rattle.propagation.specs.Code.Values.{value_at, known_value};
 ghost use Rattle.tables.specs.Table.{at};
 
 use crate::value::Value;

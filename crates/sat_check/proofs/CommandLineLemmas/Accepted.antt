@@ -12,7 +12,7 @@ use Rattle.clap.specs.Kinds.{Kinds, or_else}
 use Rattle.clap.specs.Takes.{is_given}
 use Rattle.clap.specs.Walk.{Held, Row, Text, Walk, finished, has_row, nothing_held, settled, settled_rows, walk, walked, with_default}
 use Rattle.clap.specs.declared.error.kind.ErrorKind.TheVariants as kind
-use Rattle.sat_check.specs.CommandLine.Commands.{command_of}
+use Rattle.sat_check.specs.Code.Commands.{command_of}
 use Rattle.sat_check.specs.CommandLine.Words.{Accepts, begins_with_hyphen, is_among, is_empty_word, is_flag, is_some_empty, names, plain, times}
 use Rattle.sat_check.proofs.CommandLineLemmas.Rules.{fault_is, files_and_texts, flag_full, formula_full, help_full, rules_of, second_full, top_of}
 use Rattle.sat_check.proofs.CommandLineLemmas.Rows.{names_added, names_kept}

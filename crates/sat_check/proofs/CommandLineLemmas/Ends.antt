@@ -10,7 +10,7 @@ use Rattle.clap.specs.Faults.{fault_of, walk_fault}
 use Rattle.clap.specs.Walk.{Row, Rule, Text, Walk, finished, first_of, has_row, more_values, nothing_held, one_of, reading_by, row_text, settled_rows, walk, with_default, with_values}
 use Rattle.clap.specs.Simple.{matches_of}
 use Rattle.clap.specs.declared.parser.matches.ValueSource.TheVariants.{DefaultValue}
-use Rattle.sat_check.specs.CommandLine.Commands.{command_of}
+use Rattle.sat_check.specs.Code.Commands.{command_of}
 use Rattle.sat_check.specs.CommandLine.Words.{is_among, is_flag, names}
 use Rattle.sat_check.proofs.CommandLineLemmas.Rules.{fault_is, flag_full, files_and_texts, formula_full, help_full, matches_are, rules_of, second_full, top_of, version_full}
 use Rattle.sat_check.proofs.CommandLineLemmas.Rows.{at_end, has_row-row_for, new_row, option_or-None, row_for}

@@ -7,7 +7,7 @@ use Rattle.std.proofs.lemmas.Str.{IsCharBoundary-after_ascii, IsUtf8-drop, IsUtf
 use Rattle.clap.specs.Faults.{fault_of, settle_fault, turn_fault, walk_fault}
 use Rattle.clap.specs.Walk.{Row, Text, Walk, walked}
 use Rattle.sat_check.specs.CommandLine.Words.{begins_with_hyphen, is_among, is_flag, is_known}
-use Rattle.sat_check.specs.CommandLine.Commands.{command_of}
+use Rattle.sat_check.specs.Code.Commands.{command_of}
 use Rattle.sat_check.proofs.CommandLineLemmas.Rules.{fault_is, name_of, rules_of, top_of}
 use Rattle.sat_check.proofs.CommandLineLemmas.Turns.{IsName, at, holding, long_met, longs_of, nat_eq_same, or_nil, short_refused, shorts_of}
 use Rattle.sat_check.proofs.CommandLineLemmas.Steps.{After, end_mark, start_after, step_after, tail_free}

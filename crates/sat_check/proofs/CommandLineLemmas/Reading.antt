@@ -7,7 +7,7 @@ use Rattle.clap.specs.Simple.{HasMatchesOf, is_simple, matches_of}
 use Rattle.clap.specs.declared.error.Error.{Error}
 use Rattle.clap.specs.declared.error.kind.ErrorKind.TheVariants as kind
 use Rattle.clap.specs.declared.parser.matches.ArgMatches.{ArgMatches}
-use Rattle.sat_check.specs.CommandLine.Commands.{command_of}
+use Rattle.sat_check.specs.Code.Commands.{command_of}
 use Rattle.sat_check.specs.CommandLine.Words.{is_known, Accepts, end_mark, is_among, is_flag, said_by}
 use Rattle.sat_check.proofs.CommandLineLemmas.Rules.{is_plain, is_simple_too}
 use Rattle.sat_check.proofs.CommandLineLemmas.Ends.{Reads, flag_text, parse_reads}

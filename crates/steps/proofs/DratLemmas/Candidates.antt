@@ -1,5 +1,7 @@
 -- The search over the clauses with the pivot's complement.
-use Rattle.std.proofs.Common.{◌≡◌, ℕ, ◌+◌, ◌<◌, ◌≤◌, true, cond, ne_eqb, Option, Some, None, is_some, IsSome, List, ◌++◌, refl, sym, ap, ◌∙◌, subst, arith, inl, inr}
+use Rattle.std.proofs.Common.{◌≡◌, ℕ, ◌+◌, ◌<◌, ◌≤◌, true, cond, ne_eqb, Option, Some, None}
+use Rattle.std.proofs.Common.{is_some, IsSome, List, ◌++◌, refl, sym, ap, ◌∙◌, subst, arith, inl}
+use Rattle.std.proofs.Common.{inr}
 use Rattle.std.specs.Ordering.{nat_cmp}
 use Rattle.std.specs.FinMap as maps
 use Rattle.std.specs.FinMap.{FinMap}
@@ -8,11 +10,11 @@ use Rattle.cnf_base.specs.Literals.{Literal, Clause, has, complements, without}
 use Rattle.propagation.specs.Assumptions.{Propagation, Assumption, IsAnswer, HasAt, assumed_by}
 use Rattle.propagation.specs.declared.answer.Answer.{Answer}
 use Rattle.propagation.specs.declared.answer.Answer.TheVariants.{Clash as AnswersClash, Quiet}
-use Rattle.clause_db.specs.Store.Clauses.{copies_with}
+use Rattle.clause_db.specs.Store.{copies_with}
 use Rattle.propagation.proofs.PropagationLemmas.Counts.{copies_without, none_with}
 use Rattle.clause_db.proofs.StoreLemmas.Sums.{get_remove}
 use Rattle.theory.specs.Propagation.{Clash}
-use Rattle.steps.specs.Drat.Candidates.{AllClash, SomeQuiet}
+use Rattle.steps.specs.Code.Candidates.{AllClash, SomeQuiet}
 
 -- each clause with the literal in a slot before this one clashes
 abbrev pub Passed : Propagation → Literal → ℕ → Type 0

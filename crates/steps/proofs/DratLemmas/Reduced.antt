@@ -1,5 +1,8 @@
 -- The search over the clauses that a set reduces.
-use Rattle.std.proofs.Common.{◌≡◌, ℕ, suc, ◌+◌, ◌<◌, ◌≤◌, ◌&&◌, ◌⊎◌, not, Bool, true, false, cond, Option, Some, None, IfSome, IfNone, Ok, Err, IsSome, List, [], ◌∷◌, ◌++◌, ◌||◌, drop, eqb, length, take, take_while, refl, sym, ap, ◌∙◌, subst, arith, inl, inr}
+use Rattle.std.proofs.Common.{◌≡◌, ℕ, suc, ◌+◌, ◌<◌, ◌≤◌, ◌&&◌, ◌⊎◌, not, Bool, true, false, cond}
+use Rattle.std.proofs.Common.{Option, Some, None, IfSome, IfNone, Ok, Err, IsSome, List, [], ◌∷◌}
+use Rattle.std.proofs.Common.{◌++◌, ◌||◌, drop, eqb, length, take, take_while, refl, sym, ap, ◌∙◌}
+use Rattle.std.proofs.Common.{subst, arith, inl, inr}
 use Rattle.std.specs.List.{list_any}
 use Rattle.std.specs.Ordering.{nat_cmp}
 use Rattle.std.specs.FinMap as maps
@@ -7,8 +10,10 @@ use Rattle.std.specs.FinMap.{FinMap}
 use Rattle.std.proofs.lemmas.Bool.{cases_Bool, cases_lt, true≢false}
 use Rattle.cnf_base.specs.Literals.{Literal, Clause, complement, complements, has}
 use Rattle.cnf_base.proofs.LiteralLemmas.{complement-complement}
-use Rattle.cnf_base.proofs.SetLemmas.{any_from, any_none, any_some, has-complements, has-filter, has_append_right, has_head}
-use Rattle.propagation.specs.Assumptions.{Propagation, Assumption, HasAt, IsAnswer, IsReducedAt, assumed_by, is_reduced}
+use Rattle.cnf_base.proofs.SetLemmas.{any_from, any_none, any_some, has-complements, has-filter}
+use Rattle.cnf_base.proofs.SetLemmas.{has_append_right, has_head}
+use Rattle.propagation.specs.Assumptions.{Propagation, Assumption, HasAt, IsAnswer, IsReducedAt}
+use Rattle.propagation.specs.Assumptions.{assumed_by, is_reduced}
 use Rattle.theory.specs.Sets.{SameSet, conflicts}
 use Rattle.propagation.specs.declared.answer.Answer.{Answer}
 use Rattle.propagation.specs.declared.answer.Answer.TheVariants.{Clash as AnswersClash, Quiet}
@@ -16,23 +21,23 @@ use Rattle.theory.proofs.PropagationLemmas.Forced.{clash_by_false, forced_assume
 use Rattle.theory.proofs.PropagationLemmas.Conflicts.{not_both}
 use Rattle.theory.specs.declared.accepted.Accepted.TheVariants.{Pr}
 use Rattle.theory.specs.declared.refusal.Refusal.TheVariants.{NeitherRupNorPr}
-use Rattle.theory.specs.Propagation.{Live, Clash, HasPr, HasRup, not_falsified}
+use Rattle.theory.specs.Propagation.{Live, Clash, HasPr, HasRup, open_literals}
 use Rattle.proofs.specs.Steps.{clause_part, set_part}
 use Rattle.theory.specs.Answers.{StepAnswer, UnlessOutOfMemory}
 use Rattle.theory.specs.Drat.{AnswersAdd, AnswersListed, AnswersWithSet}
-use Rattle.steps.specs.Drat.Candidates.{AllReducedClash, SomeReducedQuiet, SearchedReduced}
+use Rattle.steps.specs.Code.Candidates.{AllReducedClash, SomeReducedQuiet, SearchedReduced}
 use Rattle.steps.proofs.DratLemmas.Slots.{slots-pr}
 use Rattle.steps.proofs.DratLemmas.Steps.{back, clash_same, no_rup_listed, there}
 
 -- each clause in a slot before this one that the set reduces clashes
 abbrev pub PassedReduced : Propagation → List Literal → ℕ → Type 0
 PassedReduced p set n =
-    (k : ℕ) (d : Clause) → k < n → maps.get p.live k ≡ Some d → is_reduced (has set) d ≡ true → Clash (maps.get p.live) (assumed_by p.assumptions ++ complements (not_falsified set d))
+    (k : ℕ) (d : Clause) → k < n → maps.get p.live k ≡ Some d → is_reduced (has set) d ≡ true → Clash (maps.get p.live) (assumed_by p.assumptions ++ complements (open_literals set d))
 
 -- what propagation answers with what the set leaves of the clause in the slot
 abbrev pub AnswersUnless : FinMap nat_cmp Clause → List Assumption → List Literal → ℕ → Answer → Type 0
 AnswersUnless live assumptions set slot a =
-    (c : Clause) → maps.get live slot ≡ Some c → IsAnswer (maps.get live) (assumed_by assumptions ++ complements (not_falsified set c)) a
+    (c : Clause) → maps.get live slot ≡ Some c → IsAnswer (maps.get live) (assumed_by assumptions ++ complements (open_literals set c)) a
 
 -- what is said of a result that is there, or is not
 pub found_at : (P : ℕ → Type 0) (o : Option ℕ) (x : ℕ) → o ≡ Some x → IfSome o P → P x
@@ -129,14 +134,14 @@ listed_some live c (l ∷ set) r some h = h
 module _ (live : FinMap nat_cmp Clause) (c set assumed : List Literal) (same : SameSet assumed (complements c)) where
   -- a clause that the set does not reduce meets it, or is false where the clause and all of it are assumed false
   others_from : AllReducedClash (maps.get live) assumed set → (k : ℕ) (d : Clause) → maps.get live k ≡ Some d →
-      ((l : Literal) × (has d l ≡ true) × (has set l ≡ true)) ⊎ HasRup (maps.get live) (c ++ not_falsified set d)
+      ((l : Literal) × (has d l ≡ true) × (has set l ≡ true)) ⊎ HasRup (maps.get live) (c ++ open_literals set d)
   others_from all k d at = elim (cases_Bool (list_any (has set) d)) [
     | inl met ↦ inl (any_some (has set) d met)
     | inr unmet ↦ elim (cases_Bool (list_any (λ l. has set (complement l)) d)) [
-      | inl touched ↦ inr (clash_same (maps.get live) _ _ (there c assumed same (not_falsified set d)) (all k d at (ap (λ b. b && not (list_any (has set) d)) touched ∙ ap not unmet)))
-      | inr untouched ↦ inr (clash_by_false (maps.get live) (complements (c ++ not_falsified set d)) k d at (λ l member.
-          forced_assumed (maps.get live) (complements (c ++ not_falsified set d)) (complement l)
-          (has-complements (c ++ not_falsified set d) l (has_append_right c (not_falsified set d) l
+      | inl touched ↦ inr (clash_same (maps.get live) _ _ (there c assumed same (open_literals set d)) (all k d at (ap (λ b. b && not (list_any (has set) d)) touched ∙ ap not unmet)))
+      | inr untouched ↦ inr (clash_by_false (maps.get live) (complements (c ++ open_literals set d)) k d at (λ l member.
+          forced_assumed (maps.get live) (complements (c ++ open_literals set d)) (complement l)
+          (has-complements (c ++ open_literals set d) l (has_append_right c (open_literals set d) l
           (has-filter (λ l. not (has set (complement l))) d l member (ap not (any_none (λ l. has set (complement l)) d l untouched member)))))))
     ]
   ]
@@ -149,7 +154,7 @@ module _ (live : FinMap nat_cmp Clause) (c set assumed : List Literal) (same : S
   some_not_pr : SomeReducedQuiet (maps.get live) assumed set → ¬ HasPr (maps.get live) c set
   some_not_pr some pr = elim (pr.others some.slot some.clause some.at) [
     | inl met ↦ true≢false (sym (any_from (has set) some.clause met.0 met.1 met.2) ∙ second_of (list_any (λ l. has set (complement l)) some.clause) _ some.reduced)
-    | inr rup ↦ some.quiet (clash_same (maps.get live) _ _ (back c assumed same (not_falsified set some.clause)) rup)
+    | inr rup ↦ some.quiet (clash_same (maps.get live) _ _ (back c assumed same (open_literals set some.clause)) rup)
   ]
 
   module _ (consistent : conflicts set ≡ false) (meets : (l : Literal) × (has c l ≡ true) × (has set l ≡ true)) (none : ¬ HasRup (maps.get live) c) where

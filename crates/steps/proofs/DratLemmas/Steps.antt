@@ -1,5 +1,7 @@
 -- The answers to a DRAT step, from what propagation over the slots says.
-use Rattle.std.proofs.Common.{◌≡◌, ◌≢◌, ℕ, Bool, true, false, cond, Some, None, Ok, Err, List, [], ◌∷◌, ◌++◌, slice_get, ◌+◌, refl, sym, ap, ◌∙◌, subst, inl, inr, eq-eqb}
+use Rattle.std.proofs.Common.{◌≡◌, ◌≢◌, ℕ, Bool, true, false, cond, Some, None, Ok, Err, List, []}
+use Rattle.std.proofs.Common.{◌∷◌, ◌++◌, slice_get, ◌+◌, refl, sym, ap, ◌∙◌, subst, inl, inr}
+use Rattle.std.proofs.Common.{eq-eqb}
 use Rattle.std.specs.List.{list_any}
 use Rattle.std.specs.Ordering.{nat_cmp, eq_by_cmp}
 use Rattle.std.specs.FinMap as maps
@@ -9,20 +11,23 @@ use Rattle.std.proofs.lemmas.Bool.{false_from_ne_true, true≢false}
 use Rattle.std.proofs.lemmas.List.{map-append}
 use Rattle.std.proofs.lemmas.List.Folds.{list_any_at}
 use Rattle.std.proofs.lemmas.Option.{slice_get_within, get_or_from_slice_get, none-some}
-use Rattle.cnf_base.specs.Literals.{Literal, Clause, complement, complements, has, without, same_clause}
-use Rattle.cnf_base.proofs.SetLemmas.{has_append_left, has_append_right, has_append_cases, has_head, both_pass, same_symm, same_trans}
+use Rattle.cnf_base.specs.Literals.{Literal, Clause, complement, complements, has, without}
+use Rattle.cnf_base.specs.Literals.{same_clause}
+use Rattle.cnf_base.proofs.SetLemmas.{has_append_left, has_append_right, has_append_cases, has_head}
+use Rattle.cnf_base.proofs.SetLemmas.{both_pass, same_symm, same_trans}
 use Rattle.theory.specs.Sets.{SameSet}
 use Rattle.theory.specs.declared.accepted.Accepted.{Accepted}
 use Rattle.theory.specs.declared.accepted.Accepted.TheVariants.{Rat}
 use Rattle.theory.specs.declared.refusal.Refusal.TheVariants.{NotRup, NeitherRupNorRat}
 use Rattle.theory.specs.Propagation.{Live, Clash, HasRup}
-use Rattle.steps.specs.Drat.Candidates.{AllClash, SomeQuiet, SearchedCandidates}
+use Rattle.steps.specs.Code.Candidates.{AllClash, SomeQuiet, SearchedCandidates}
 use Rattle.theory.specs.Lrat.{AnswersChain, conflict}
 use Rattle.theory.specs.Drat.{AnswersAdd, take_off, copies_of, SameLive}
 use Rattle.theory.proofs.PropagationLemmas.Forced.{forced_assumed, clash_through}
 use Rattle.theory.proofs.DratLemmas.Copies.{copies-cons, alive_at}
 use Rattle.steps.proofs.LratLemmas.Starts.{first_is}
-use Rattle.steps.proofs.DratLemmas.Slots.{tied, slots-insert, slots-remove, slots-clash, slots-rat, slots_covered, covered_by_slots}
+use Rattle.steps.proofs.DratLemmas.Slots.{tied, slots-insert, slots-remove, slots-clash, slots-rat}
+use Rattle.steps.proofs.DratLemmas.Slots.{slots_covered, covered_by_slots}
 
 -- ---- RUP and RAT
 

@@ -1,5 +1,6 @@
 -- The rule itself never answers that the session had ended.
-use Rattle.std.proofs.Common.{◌≡◌, ◌<◌, ℕ, Bool, true, false, not, nat_le, Option, Some, None, is_none, Ok, Err, List, [], ◌∷◌, sym, subst, arith, ℤ}
+use Rattle.std.proofs.Common.{◌≡◌, ◌<◌, ℕ, Bool, true, false, not, nat_le, Option, Some, None}
+use Rattle.std.proofs.Common.{is_none, Ok, Err, List, [], ◌∷◌, sym, subst, arith, ℤ}
 use Rattle.std.specs.Prelude.{⊤}
 use Rattle.std.specs.Bool.{then_some, MatchBool}
 use Rattle.std.specs.Option.{option_or}

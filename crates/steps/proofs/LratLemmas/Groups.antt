@@ -1,5 +1,8 @@
 -- Groups of hints, one at a time.
-use Rattle.std.proofs.Common.{◌≡◌, ℕ, ◌+◌, ◌<◌, Bool, true, false, not, ◌||◌, ◌&&◌, Ok, Err, cond, eqb, eqb-true, inl, inr, Option, Some, None, is_some, option_map, subst, List, [], ◌∷◌, ◌++◌, length, get_or, take, drop, refl, sym, ap, ◌∙◌, ℤ, pos, nat_abs, w64}
+use Rattle.std.proofs.Common.{◌≡◌, ℕ, ◌+◌, ◌<◌, Bool, true, false, not, ◌||◌, ◌&&◌, Ok, Err, cond}
+use Rattle.std.proofs.Common.{eqb, eqb-true, inl, inr, Option, Some, None, is_some, option_map}
+use Rattle.std.proofs.Common.{subst, List, [], ◌∷◌, ◌++◌, length, get_or, take, drop, refl, sym, ap}
+use Rattle.std.proofs.Common.{◌∙◌, ℤ, pos, nat_abs, w64}
 use lib.Signed.{lt_z}
 use mir.Val.{SFits}
 use Rattle.std.specs.Bool.{then_some}
@@ -12,20 +15,22 @@ use Rattle.theory.specs.declared.refusal.Refusal.TheVariants.{NamedTwice, GroupW
 use Rattle.theory.specs.declared.refusal.Refusal.TheVariants.{Unnamed}
 use Rattle.theory.specs.declared.accepted.Accepted.TheVariants.{Rat}
 use Rattle.steps.specs.declared.lrat.walk.WalkEnd.{WalkEnd}
-use Rattle.steps.specs.declared.lrat.walk.WalkEnd.TheVariants.{Conflict, Open, UnknownId as EndUnknown, NotUnit as EndNotUnit}
+use Rattle.steps.specs.declared.lrat.walk.WalkEnd.TheVariants.{Conflict, Open}
+use Rattle.steps.specs.declared.lrat.walk.WalkEnd.TheVariants.{UnknownId as EndUnknown}
+use Rattle.steps.specs.declared.lrat.walk.WalkEnd.TheVariants.{NotUnit as EndNotUnit}
 use Rattle.cnf_base.specs.Literals.{Literal, complement, Clause, has, complements, without}
-use Rattle.theory.specs.Propagation.{Live}
+use Rattle.theory.specs.Propagation.{Live, open_literals}
 use Rattle.theory.specs.Lrat.{ChainEnd, conflict, open_with, unknown, not_unit, look_at, chain}
 use Rattle.theory.specs.Lrat.{Group, with_candidate, chain_refusal, group_refusal, groups_refusal}
 use Rattle.theory.specs.Lrat.{units_of, groups_of, is_unsettled, is_left_out, AnswersGroups}
 use Rattle.theory.specs.Sets.{conflicts, SameSet}
-use Rattle.theory.specs.Left.{open_literals, how_many}
-use Rattle.steps.specs.Lrat.Shelf.{Holds}
-use Rattle.steps.specs.Lrat.Walk.{IsEnd, refusal_at}
-use Rattle.steps.specs.Lrat.Groups.{named_in, IsGroupEnd, is_unnamed, IsFirstLeftOut}
+use Rattle.steps.specs.Code.Shelf.{Holds}
+use Rattle.steps.specs.Code.Walk.{IsEnd, refusal_at}
+use Rattle.steps.specs.Code.Groups.{named_in, IsGroupEnd, is_unnamed, IsFirstLeftOut}
 use Rattle.theory.proofs.LratLemmas.SameSets.{same_set_more}
 use Rattle.steps.proofs.LratLemmas.Walks.{chain_same}
-use Rattle.steps.proofs.LratLemmas.Hints.{read, groups_skip, groups_more, named_skip, named_more, any_named}
+use Rattle.steps.proofs.LratLemmas.Hints.{read, groups_skip, groups_more, named_skip, named_more}
+use Rattle.steps.proofs.LratLemmas.Hints.{any_named}
 
 refusal_at_is : (r : Refusal) (trues : List Literal) (walked : WalkEnd) (end : ChainEnd) → IsEnd trues walked end → refusal_at r walked ≡ chain_refusal r end
 refusal_at_is r trues Conflict conflict h = refl
@@ -69,7 +74,7 @@ module _ (live : Live) (ls : List Literal) (pivot : Literal) (earlier : List ℕ
 -- the walk over a group's hints, from literals that conflict, or that do not
 pub chain_conflict : (live : Live) (ls : List Literal) (hints : List ℕ) → conflicts ls ≡ true → chain live ls hints ≡ conflict
 chain_conflict live ls [] h = ap (λ b. cond b conflict (open_with ls)) h
-chain_conflict live ls (k ∷ hints) h = ap (λ b. cond b conflict (look_at k (option_map (λ c. how_many (open_literals ls c)) (live k)) (λ l. chain live (l ∷ ls) hints))) h
+chain_conflict live ls (k ∷ hints) h = ap (λ b. cond b conflict (look_at k (option_map (open_literals ls) (live k)) (λ l. chain live (l ∷ ls) hints))) h
 
 module _ (live : Live) (ls : List Literal) (c : Clause) (opposite : Literal) (hints : List ℕ) where
   pub group_conflicts : conflicts (ls ++ complements (without c opposite)) ≡ true → (end : WalkEnd) → end ≡ Conflict → IsGroupEnd live ls c opposite hints end

@@ -1,5 +1,7 @@
 -- Signed hints as they are read in code.
-use Rattle.std.proofs.Common.{◌≡◌, ℕ, suc, ◌+◌, ◌<◌, true, false, ◌||◌, eqb, List, [], ◌∷◌, ◌++◌, length, get_or, take, drop, refl, sym, ap, ◌∙◌, ℤ, pos, negsuc, nat_abs, to_z, of_z, w64, map, arith, ltb-true, append-nil}
+use Rattle.std.proofs.Common.{◌≡◌, ℕ, suc, ◌+◌, ◌<◌, true, false, ◌||◌, eqb, List, [], ◌∷◌, ◌++◌}
+use Rattle.std.proofs.Common.{length, get_or, take, drop, refl, sym, ap, ◌∙◌, ℤ, pos, negsuc}
+use Rattle.std.proofs.Common.{nat_abs, to_z, of_z, w64, map, arith, ltb-true, append-nil}
 use lib.Signed.{lt_z}
 use mir.Val.{SFits}
 use Rattle.std.specs.List.{list_any}
@@ -8,7 +10,7 @@ use Rattle.std.proofs.lemmas.Int.{to_z-of_z}
 use Rattle.std.proofs.lemmas.List.{drop_more, take_more}
 use Rattle.cnf_base.specs.Literals.{has}
 use Rattle.theory.specs.Lrat.{Group, units_of, groups_of}
-use Rattle.steps.specs.Lrat.Groups.{named_in}
+use Rattle.steps.specs.Code.Groups.{named_in}
 
 not_below : (n : ℕ) → lt_z (pos n) (pos 0) ≡ true → ⊥
 not_below n h = let e : n < 0 = ltb-true n 0 h in let bad : ⊥ = omega arith in bad

@@ -6,9 +6,9 @@ use Rattle.std.specs.Ordering.{nat_cmp}
 use Rattle.std.specs.FinMap as maps
 use Rattle.std.specs.FinMap.{FinMap}
 use Rattle.cnf_base.specs.Literals.{Clause, size}
-use Rattle.clause_db.specs.Store.Clauses.{StoreState, literals_in}
+use Rattle.clause_db.specs.Store.{StoreState, literals_in}
 use Rattle.clause_db.proofs.StoreLemmas.Sums.{sum_remove}
-use Rattle.steps.specs.Lrat.Shelf.{IsPaired}
+use Rattle.steps.specs.Code.Shelf.{IsPaired}
 use Rattle.steps.proofs.LratLemmas.Shelf.{freed_is}
 
 module _ (store freed : StoreState) (alone : store.stored ≡ literals_in store.live) (freed_alone : freed.stored ≡ literals_in freed.live) where

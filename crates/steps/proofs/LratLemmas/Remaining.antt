@@ -1,14 +1,17 @@
 -- Candidates without a group: those that are passed over, and how many are left.
-use Rattle.std.proofs.Common.{◌≡◌, ℕ, ◌+◌, ◌<◌, ◌≤◌, Bool, true, false, not, ◌&&◌, Option, Some, None, List, ◌∷◌, length, refl, ap, sym, ◌∙◌, subst, arith, nat_eq, inl, inr}
+use Rattle.std.proofs.Common.{◌≡◌, ℕ, ◌+◌, ◌<◌, ◌≤◌, Bool, true, false, not, ◌&&◌, Option, Some}
+use Rattle.std.proofs.Common.{None, List, ◌∷◌, length, refl, ap, sym, ◌∙◌, subst, arith, nat_eq}
+use Rattle.std.proofs.Common.{inl, inr}
 use Rattle.std.specs.List.{IsDistinct}
-use Rattle.std.proofs.lemmas.Bool.{false≢true, true≢false, false_from_ne_true, and_parts, not-true, cases_lt}
+use Rattle.std.proofs.lemmas.Bool.{false≢true, true≢false, false_from_ne_true, and_parts, not-true}
+use Rattle.std.proofs.lemmas.Bool.{cases_lt}
 use Rattle.cnf_base.specs.Literals.{Literal, complement, Clause, has}
 use Rattle.cnf_base.proofs.SetLemmas.{has_cases}
 use Rattle.theory.specs.Propagation.{Live}
 use Rattle.theory.specs.Lrat.{is_unsettled, with_candidate}
 use Rattle.theory.specs.Sets.{conflicts}
-use Rattle.steps.specs.Lrat.Shelf.{Holds, AllHold}
-use Rattle.steps.specs.Lrat.Groups.{is_unnamed, needs_group_at}
+use Rattle.steps.specs.Code.Shelf.{Holds, AllHold}
+use Rattle.steps.specs.Code.Groups.{is_unnamed, needs_group_at}
 use Rattle.steps.proofs.LratLemmas.Different.{distinct_more}
 
 both_false : (b : Bool) → b && false ≡ false

@@ -1,5 +1,6 @@
 -- Room for the literals of all live clauses, as clauses come and go.
-use Rattle.std.proofs.Common.{◌≡◌, ℕ, ◌/◌, Bool, true, false, cond, eqb, Option, Some, None, List, [], ◌∷◌, map, nat_abs, ℤ, refl, sym, ap, ◌∙◌, subst}
+use Rattle.std.proofs.Common.{◌≡◌, ℕ, ◌/◌, Bool, true, false, cond, eqb, Option, Some, None, List}
+use Rattle.std.proofs.Common.{[], ◌∷◌, map, nat_abs, ℤ, refl, sym, ap, ◌∙◌, subst}
 use Rattle.std.specs.Ordering.{nat_cmp}
 use Rattle.std.specs.FinMap as maps
 use Rattle.std.specs.FinMap.{FinMap, get-empty}
@@ -14,7 +15,7 @@ use Rattle.proofs.specs.Steps.{Step}
 use Rattle.theory.specs.Propagation.{Live}
 use Rattle.theory.specs.Lrat.{with_clause, without_id, without_ids, step_of, lrat_step, LratState}
 use Rattle.theory.specs.Lrat.{after_lrat, SameAt, SameClauses}
-use Rattle.steps.specs.Lrat.Session.{IsReady}
+use Rattle.steps.specs.Code.LratSession.{IsReady}
 use Rattle.cnf_base.proofs.SetLemmas.{same_there}
 use Rattle.theory.proofs.LratLemmas.LiveSets.{SameClauses-eq}
 

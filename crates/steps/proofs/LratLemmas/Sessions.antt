@@ -3,7 +3,8 @@ use Rattle.std.proofs.Common.{◌≡◌, ℕ, zero, suc, []}
 use Rattle.std.specs.Ordering.{nat_cmp}
 use Rattle.std.specs.FinMap as maps
 use Rattle.theory.specs.Lrat.{numbered}
-use Rattle.steps.specs.Lrat.Session.{fresh_lrat, state_of}
+use Rattle.steps.specs.LratSession.{fresh_lrat}
+use Rattle.steps.specs.Code.LratSession.{state_of}
 
 pub fresh_is_numbered : (k : ℕ) → (state_of fresh_lrat).live k ≡ numbered [] k
 fresh_is_numbered zero = maps.get-empty nat_cmp zero

@@ -1,25 +1,30 @@
 -- Identifiers, slots and clauses as one finite map.
-use Rattle.std.proofs.Common.{◌≡◌, ℕ, Bool, true, false, cond, eqb, eq-eqb, ne_eqb, Option, Some, None, option_map, List, [], ◌∷◌, map, ◌+◌, ◌<◌, ◌≤◌, ◌≢◌, is_some, refl, sym, ap, ◌∙◌, subst, arith, nat_cmp, nat_eq, length, inl, inr, ◌⊎◌}
+use Rattle.std.proofs.Common.{◌≡◌, ℕ, Bool, true, false, cond, eqb, eq-eqb, ne_eqb, Option, Some}
+use Rattle.std.proofs.Common.{None, option_map, List, [], ◌∷◌, map, ◌+◌, ◌<◌, ◌≤◌, ◌≢◌, is_some}
+use Rattle.std.proofs.Common.{refl, sym, ap, ◌∙◌, subst, arith, nat_cmp, nat_eq, length, inl, inr}
+use Rattle.std.proofs.Common.{◌⊎◌}
 use Rattle.std.proofs.lemmas.Option.{same_Some, none-some}
 use Rattle.std.proofs.lemmas.Option.{}
 use Rattle.std.specs.Ordering.{eq_by_cmp}
 use Rattle.std.specs.Option.{unwrap_or, IsSome}
 use Rattle.std.specs.Cmp.{nat_cmp_total, unsigned_tied}
 use Rattle.std.specs.FinMap as maps
-use Rattle.std.specs.FinMap.{FinMap, find, get-entries, get-insert, get-remove, get-empty, get-from_entries, same_map, nat_cmp-IsAntisymmetric}
+use Rattle.std.specs.FinMap.{FinMap, find, get-entries, get-insert, get-remove, get-empty}
+use Rattle.std.specs.FinMap.{get-from_entries, same_map, nat_cmp-IsAntisymmetric}
 use Rattle.std.proofs.lemmas.Bool.{cases_eq, false≢true}
 use Rattle.std.specs.Bool.{IsTrue}
 use Rattle.std.specs.List.{IsDistinct}
 use Rattle.cnf_base.specs.Literals.{Literal, Clause, has, same_clause, size}
 use Rattle.cnf_base.proofs.SetLemmas.{has_head, has_tail}
-use Rattle.clause_db.specs.Store.Clauses.{copies_with, literals_in}
+use Rattle.clause_db.specs.Store.{copies_with, literals_in}
 use Rattle.clause_db.proofs.StoreLemmas.Sums.{same_maps, sum_insert, sum_remove, sum_empty}
 use Rattle.steps.proofs.LratLemmas.Different.{distinct_head, distinct_tail}
 use Rattle.theory.specs.Propagation.{Live}
 use Rattle.theory.specs.Lrat.{with_clause, without_id, SameAt, SameClauses}
 use Rattle.theory.proofs.LratLemmas.LiveSets.{SameClauses-refl}
 use Rattle.theory.specs.Sizes.{size_at, sum_to}
-use Rattle.steps.specs.Lrat.Shelf.{clause_at, held_at, joined, Shelf, IsPaired, IsTally, Holds, AllHold}
+use Rattle.steps.specs.Code.Shelf.{clause_at, held_at, joined, Shelf, IsPaired, IsTally, Holds}
+use Rattle.steps.specs.Code.Shelf.{AllHold}
 use Rattle.theory.proofs.LratLemmas.Sums.{sum_agree, sum_with, sum_without, with_here, with_other}
 use Rattle.theory.proofs.LratLemmas.Sums.{without_here, without_other}
 

@@ -1,5 +1,6 @@
 -- The answer depends on the set of true literals alone, from which groups and candidates start.
-use Rattle.std.proofs.Common.{◌≡◌, ℕ, not, ◌&&◌, ◌||◌, eqb, Option, Some, None, Ok, Err, List, [], ◌∷◌, ◌++◌, true, slice_get, refl, sym, ap, ◌∙◌, subst}
+use Rattle.std.proofs.Common.{◌≡◌, ℕ, not, ◌&&◌, ◌||◌, eqb, Option, Some, None, Ok, Err, List, []}
+use Rattle.std.proofs.Common.{◌∷◌, ◌++◌, true, slice_get, refl, sym, ap, ◌∙◌, subst}
 use Rattle.std.specs.Bool.{then_some}
 use Rattle.std.specs.Option.{option_or}
 use Rattle.std.specs.List.{list_any}
@@ -18,7 +19,7 @@ use Rattle.theory.specs.Lrat.{chain, ChainEnd, conflict, open_with, unknown, not
 use Rattle.theory.specs.Lrat.{with_candidate, group_refusal, groups_refusal, is_unsettled}
 use Rattle.theory.specs.Lrat.{is_left_out, AnswersGroups, AnswersChain}
 use Rattle.theory.specs.Sets.{conflicts, SameSet}
-use Rattle.steps.specs.Lrat.Walk.{IsEnd}
+use Rattle.steps.specs.Code.Walk.{IsEnd}
 use Rattle.steps.proofs.LratLemmas.Walks.{chain_same}
 use Rattle.steps.proofs.LratLemmas.Groups.{chain_conflict}
 use Rattle.theory.proofs.LratLemmas.SameSets.{chain_alike}

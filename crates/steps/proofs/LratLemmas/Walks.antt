@@ -1,20 +1,24 @@
 -- A walk depends on the set of true literals alone, and goes on hint by hint.
-use Rattle.std.proofs.Common.{◌≡◌, ℕ, true, false, not, cond, Option, Some, None, option_map, List, [], ◌∷◌, ◌++◌, refl, sym, ap, ◌∙◌, subst, inl, inr}
+use Rattle.std.proofs.Common.{◌≡◌, ℕ, Bool, true, false, not, cond, eqb, Option, Some, None}
+use Rattle.std.proofs.Common.{option_map}
+use Rattle.std.proofs.Common.{List, [], ◌∷◌, ◌++◌, refl, sym, ap, ◌∙◌, subst, inl, inr}
+use Rattle.std.specs.List.{list_all}
 use Rattle.std.proofs.lemmas.Bool.{false≢true}
 use Rattle.std.proofs.lemmas.List.Elements.{filter_agree}
-use Rattle.theory.specs.declared.left.Left.{Left}
-use Rattle.theory.specs.declared.left.Left.TheVariants.{Nothing, One, More}
+use Rattle.propagation.specs.declared.left.Left.{Left}
+use Rattle.propagation.specs.declared.left.Left.TheVariants.{Nothing, One, More}
 use Rattle.cnf_base.specs.Literals.{Literal, complement, Clause, has}
-use Rattle.theory.specs.Propagation.{Live}
-use Rattle.theory.specs.Lrat.{ChainEnd, conflict, open_with, look_at, chain}
+use Rattle.theory.specs.Propagation.{Live, open_literals}
+use Rattle.theory.specs.Lrat.{ChainEnd, conflict, open_with, not_unit, look_at, chain}
 use Rattle.theory.specs.Sets.{conflicts, SameSet}
-use Rattle.theory.specs.Left.{open_literals, how_many}
-use Rattle.cnf_base.proofs.SetLemmas.{both_pass, has_head, has_tail, has_cases, has_append_left, has_append_right, has_append_cases}
+use Rattle.propagation.specs.Left.{how_many}
+use Rattle.cnf_base.proofs.SetLemmas.{both_pass, has_head, has_tail, has_cases, has_append_left}
+use Rattle.cnf_base.proofs.SetLemmas.{has_append_right, has_append_cases}
 use Rattle.theory.proofs.LratLemmas.SameSets.{same_set_more}
 use Rattle.theory.proofs.PropagationLemmas.Conflicts.{conflicts_same}
 use Rattle.steps.specs.declared.lrat.walk.WalkEnd.{WalkEnd}
 use Rattle.steps.specs.declared.lrat.walk.WalkEnd.TheVariants.{Conflict, Open, UnknownId, NotUnit}
-use Rattle.steps.specs.Lrat.Walk.{IsEnd}
+use Rattle.steps.specs.Code.Walk.{IsEnd}
 
 pub same_set_push : (ls : List Literal) (m : Literal) → SameSet (ls ++ m ∷ []) (m ∷ ls)
 same_set_push ls m l =
@@ -40,11 +44,14 @@ open_same first second c same = filter_agree (λ l. not (has first (complement l
 abbrev pub Gives : ChainEnd → ChainEnd → Type 0
 Gives first second = (trues : List Literal) (end : WalkEnd) → IsEnd trues end first → IsEnd trues end second
 
-gives_look : (k : ℕ) (o : Option Left) (first second : Literal → ChainEnd) → ((l : Literal) → Gives (first l) (second l)) → Gives (look_at k o first) (look_at k o second)
+gives_look : (k : ℕ) (o : Option Clause) (first second : Literal → ChainEnd) → ((l : Literal) → Gives (first l) (second l)) → Gives (look_at k o first) (look_at k o second)
 gives_look k None first second each trues end h = h
-gives_look k (Some Nothing) first second each trues end h = h
-gives_look k (Some (One l)) first second each trues end h = each l trues end h
-gives_look k (Some More) first second each trues end h = h
+gives_look k (Some []) first second each trues end h = h
+gives_look k (Some (l ∷ ls)) first second each trues end h = by_test (list_all (λ m. eqb m l) ls) trues end h
+  where
+    by_test : (b : Bool) → Gives (cond b (first l) (not_unit k)) (cond b (second l) (not_unit k))
+    by_test true trues end h = each l trues end h
+    by_test false trues end h = h
 
 gives_open : (first second : List Literal) → SameSet first second → Gives (open_with first) (open_with second)
 gives_open first second same trues Open h = λ l. h l ∙ same l
@@ -61,11 +68,11 @@ chain_same live [] first second same =
       | false ↦ gives_open first second same
     ])
 chain_same live (k ∷ hints) first second same =
-    let look_first : Option Left = option_map (λ c. how_many (open_literals first c)) (live k) in
-    let look_second : Option Left = option_map (λ c. how_many (open_literals second c)) (live k) in
+    let look_first : Option Clause = option_map (open_literals first) (live k) in
+    let look_second : Option Clause = option_map (open_literals second) (live k) in
     let on_first : Literal → ChainEnd = λ l. chain live (l ∷ first) hints in
     let on_second : Literal → ChainEnd = λ l. chain live (l ∷ second) hints in
-    let looks : look_first ≡ look_second = ap (λ (f : Clause → Left). option_map f (live k)) (λ i c. how_many (open_same first second c same i)) in
+    let looks : look_first ≡ look_second = ap (λ (f : Clause → Clause). option_map f (live k)) (λ i c. open_same first second c same i) in
     subst (λ b. Gives (chain live first (k ∷ hints)) (cond b conflict (look_at k look_second on_second))) (conflicts_same first second same)
     (elim (conflicts first) as (λ b. Gives (cond b conflict (look_at k look_first on_first)) (cond b conflict (look_at k look_second on_second))) [
       | true ↦ λ trues end h. h
@@ -75,23 +82,40 @@ chain_same live (k ∷ hints) first second same =
 
 -- ---- One hint
 
+-- how the walk in code goes on, by how many literals are left
+abbrev look_left : ℕ → Left → (Literal → ChainEnd) → ChainEnd
+look_left k Nothing go_on = conflict
+look_left k (One l) go_on = go_on l
+look_left k More go_on = not_unit k
+
+-- it goes on as the rule does
+looks_left : (k : ℕ) (ls : List Literal) (go_on : Literal → ChainEnd) → look_at k (Some ls) go_on ≡ look_left k (how_many ls) go_on
+looks_left k [] go_on = refl
+looks_left k (l ∷ ls) go_on = by_test (list_all (λ m. eqb m l) ls)
+  where
+    by_test : (b : Bool) → cond b (go_on l) (not_unit k) ≡ look_left k (cond b (One l) More) go_on
+    by_test true = refl
+    by_test false = refl
+
 -- the next hint names nothing
 pub walk_unknown : (live : Live) (ls : List Literal) (left more : List ℕ) (k : ℕ) → left ≡ k ∷ more → (end : ChainEnd) → Gives (chain live ls left) end → conflicts ls ≡ false →
     live k ≡ None → (trues : List Literal) → IsEnd trues (UnknownId k) end
 walk_unknown live ls left more k left_is end so_far quiet none trues =
     let next : chain live ls left ≡ look_at k None (λ l. chain live (l ∷ ls) more) =
     ap (chain live ls) left_is
-    ∙ ap (λ b. cond b conflict (look_at k (option_map (λ c. how_many (open_literals ls c)) (live k)) (λ l. chain live (l ∷ ls) more))) quiet
-    ∙ ap (λ o. look_at k o (λ l. chain live (l ∷ ls) more)) (ap (option_map (λ c. how_many (open_literals ls c))) none) in
+    ∙ ap (λ b. cond b conflict (look_at k (option_map (open_literals ls) (live k)) (λ l. chain live (l ∷ ls) more))) quiet
+    ∙ ap (λ o. look_at k o (λ l. chain live (l ∷ ls) more)) (ap (option_map (open_literals ls)) none) in
     so_far trues (UnknownId k) (subst (IsEnd trues (UnknownId k)) (sym next) refl)
 
 -- a walk whose next hint is k
 module _ (live : Live) (ls : List Literal) (left more : List ℕ) (k : ℕ) (left_is : left ≡ k ∷ more) (end : ChainEnd) (so_far : Gives (chain live ls left) end) (quiet : conflicts ls ≡ false) (c : Clause) (at : live k ≡ Some c) where
-  next : (o : Left) → how_many (open_literals ls c) ≡ o → chain live ls left ≡ look_at k (Some o) (λ l. chain live (l ∷ ls) more)
-  next o e =
+  next : (left_of : Left) → how_many (open_literals ls c) ≡ left_of → chain live ls left ≡ look_left k left_of (λ l. chain live (l ∷ ls) more)
+  next left_of e =
       ap (chain live ls) left_is
-      ∙ ap (λ b. cond b conflict (look_at k (option_map (λ c. how_many (open_literals ls c)) (live k)) (λ l. chain live (l ∷ ls) more))) quiet
-      ∙ ap (λ o. look_at k o (λ l. chain live (l ∷ ls) more)) (ap (option_map (λ c. how_many (open_literals ls c))) at ∙ ap Some e)
+      ∙ ap (λ b. cond b conflict (look_at k (option_map (open_literals ls) (live k)) (λ l. chain live (l ∷ ls) more))) quiet
+      ∙ ap (λ o. look_at k o (λ l. chain live (l ∷ ls) more)) (ap (option_map (open_literals ls)) at)
+      ∙ looks_left k (open_literals ls c) (λ l. chain live (l ∷ ls) more)
+      ∙ ap (λ left_of. look_left k left_of (λ l. chain live (l ∷ ls) more)) e
 
   pub walk_nothing : (trues : List Literal) → Nothing ≡ how_many (open_literals ls c) → IsEnd trues Conflict end
   walk_nothing trues e = so_far trues Conflict (subst (IsEnd trues Conflict) (sym (next Nothing (sym e))) tt)

@@ -3,11 +3,12 @@
 ghost use Rattle.std.specs.Prelude.{◌≡◌, ◌++◌, ℕ, [], true, Some, IsSome, IsTrue, IsFalse, IfOk};
 ghost use Rattle.std.specs.FinMap as maps;
 ghost use Rattle.cnf_base.specs.Literals.{Clause, Literal, complement, complements, has};
-ghost use Rattle.propagation.specs.Assumptions.{IsAnswer, HasAt, HoldsLiveAlone, assumed_by, MayAssume};
+ghost use Rattle.propagation.specs.Assumptions.{IsAnswer, HasAt, HoldsLiveAlone, assumed_by};
+ghost use Rattle.propagation.specs.Assumptions.{MayAssume};
 ghost use Rattle.theory.specs.Sets.{SameSet, conflicts};
-ghost use Rattle.theory.specs.Propagation.{HasRup, not_falsified};
+ghost use Rattle.theory.specs.Propagation.{HasRup, open_literals};
 ghost use Rattle.theory.specs.Drat.{AnswersWithSet};
-ghost use Rattle.steps.specs.Drat.Candidates.{SearchedReduced};
+ghost use Rattle.steps.specs.Code.Candidates.{SearchedReduced};
 ghost use Rattle.theory.specs.Answers.{UnlessOutOfMemory};
 
 use clause_db::Slot;
@@ -26,7 +27,7 @@ fn answer_unless<P: Propagate>(
     ensures answer { IfOk result (λ a. (c : Clause) →
         maps.get (P.state clauses.old).live candidate ≡ Some c →
         IsAnswer (maps.get (P.state clauses.old).live)
-        (assumed_by (P.state clauses.old).assumptions ++ complements (not_falsified set.now c)) a) }
+        (assumed_by (P.state clauses.old).assumptions ++ complements (open_literals set.now c)) a) }
     ensures live { (P.state clauses.new).live ≡ (P.state clauses.old).live }
     ensures assumptions { (P.state clauses.new).assumptions ≡ (P.state clauses.old).assumptions }
 {

@@ -1,15 +1,17 @@
 //! One step of a DRAT proof, over any store of clauses that propagates.
 
-ghost use Rattle.std.specs.Prelude.{◌≡◌, ◌++◌, ◌∷◌, ◌⊎◌, ℕ, [], true, false, Some, IsSome, IsTrue, IsFalse, IfOk, OnOk, OnErr};
+ghost use Rattle.std.specs.Prelude.{◌≡◌, ◌++◌, ◌∷◌, ◌⊎◌, ℕ, [], true, false, Some, IsSome, IsTrue};
+ghost use Rattle.std.specs.Prelude.{IsFalse, IfOk, OnOk, OnErr};
 ghost use Rattle.std.specs.FinMap as maps;
 ghost use Rattle.cnf_base.specs.Literals.{Clause, Literal, complement, complements, has, without};
-ghost use Rattle.propagation.specs.Assumptions.{IsAnswer, HasAt, HoldsLiveAlone, assumed_by, MayAssume};
+ghost use Rattle.propagation.specs.Assumptions.{IsAnswer, HasAt, HoldsLiveAlone, assumed_by};
+ghost use Rattle.propagation.specs.Assumptions.{MayAssume};
 ghost use Rattle.theory.specs.Sets.{SameSet, conflicts};
-ghost use Rattle.theory.specs.Propagation.{HasRup, IsRootReason, not_falsified};
+ghost use Rattle.theory.specs.Propagation.{HasRup, IsRootReason, open_literals};
 ghost use Rattle.theory.specs.Drat.{AnswersAdd, AnswersDelete, AnswersDrat, AnswersListed};
 ghost use Rattle.theory.specs.Drat.{AnswersWithSet, addition_of, after_drat, drat_step, SameLive};
 ghost use Rattle.theory.specs.Drat as drat;
-ghost use Rattle.steps.specs.Drat.Candidates.{SearchedCandidates, SearchedReduced};
+ghost use Rattle.steps.specs.Code.Candidates.{SearchedCandidates, SearchedReduced};
 ghost use Rattle.theory.specs.Answers.{UnlessOutOfMemory};
 
 use crate::drat::pr::judge_with_set;

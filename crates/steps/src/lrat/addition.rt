@@ -7,7 +7,7 @@ ghost use Rattle.theory.specs.Lrat.{chain, groups_refusal, AnswersGroups, Answer
 ghost use Rattle.theory.specs.Lrat.{groups_of};
 ghost use Rattle.theory.specs.Sets.{conflicts, SameSet};
 ghost use Rattle.propagation.specs.Trail.{HasRoom, HasRoomForAll};
-ghost use Rattle.steps.specs.Lrat.Walk.{IsEnd};
+ghost use Rattle.steps.specs.Code.Walk.{IsEnd};
 ghost use Rattle.theory.specs.Answers.{UnlessOutOfMemory};
 
 use crate::lrat::candidates::{first_left_out, judge_groups};

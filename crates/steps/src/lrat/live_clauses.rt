@@ -1,13 +1,15 @@
 //! The live clauses, each at its identifier, and the sum of their sizes.
 
-ghost use Rattle.std.specs.Prelude.{◌≡◌, ℕ, ◌-◌, ◌<◌, ◌≤◌, ◌^◌, min, Some, None, is_some, option_map, map, nat_abs, length, List, OnOk, OnErr, IfOk, IfSome, IfNone};
+ghost use Rattle.std.specs.Prelude.{◌≡◌, ℕ, ◌-◌, ◌<◌, ◌≤◌, ◌^◌, min, Some, None, is_some};
+ghost use Rattle.std.specs.Prelude.{option_map, map, nat_abs, length, List, OnOk, OnErr, IfOk};
+ghost use Rattle.std.specs.Prelude.{IfSome, IfNone};
 ghost use Rattle.std.specs.Option.{option_copied};
 ghost use Rattle.std.specs.List.{IsDistinct};
 ghost use Rattle.std.specs.FinMap as maps;
 ghost use Rattle.theory.specs.Lrat.{with_clause, without_id, without_ids, deletion_refusal};
 ghost use Rattle.theory.specs.Lrat.{SameClauses};
 ghost use Rattle.theory.specs.Sizes.{total};
-ghost use Rattle.steps.specs.Lrat.Shelf.{empty_shelf, shelf_state, AllHold};
+ghost use Rattle.steps.specs.Code.Shelf.{empty_shelf, shelf_state, AllHold};
 ghost use Rattle.theory.specs.declared.refusal.Refusal.TheVariants.{UnknownId};
 
 use clause_db::{Ids, NoIndex, Store};
@@ -25,8 +27,8 @@ pub(crate) struct LiveClauses {
 
 impl Model for LiveClauses {
     ghost use Rattle.std.specs.Prelude.{◌≡◌};
-    ghost use Rattle.clause_db.specs.Store.Clauses.{literals_in};
-    ghost use Rattle.steps.specs.Lrat.Shelf.{Shelf, shelf_code, joined, held_at, IsPaired, IsTally};
+    ghost use Rattle.clause_db.specs.Store.{literals_in};
+    ghost use Rattle.steps.specs.Code.Shelf.{Shelf, shelf_code, joined, held_at, IsPaired, IsTally};
 
     ghost Value = { Shelf };
 

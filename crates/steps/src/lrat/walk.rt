@@ -1,12 +1,13 @@
 //! The walk over hints.
 
-ghost use Rattle.std.specs.Prelude.{◌≡◌, ◌≤◌, ◌<◌, take, length, nat_abs, pos, slice_index_or, IsFalse};
+ghost use Rattle.std.specs.Prelude.{◌≡◌, ◌≤◌, ◌<◌, take, length, nat_abs, pos, slice_index_or};
+ghost use Rattle.std.specs.Prelude.{IsFalse};
 ghost use Rattle.std.specs.Option.{option_copied};
 ghost use Rattle.std.specs.FinMap as maps;
 ghost use Rattle.theory.specs.Lrat.{chain, units_of};
 ghost use Rattle.theory.specs.Sets.{conflicts, SameSet};
 ghost use Rattle.propagation.specs.Trail.{HasRoomForAll};
-ghost use Rattle.steps.specs.Lrat.Walk.{IsEnd, refusal_at};
+ghost use Rattle.steps.specs.Code.Walk.{IsEnd, refusal_at};
 
 use crate::lrat::live_clauses::LiveClauses;
 use cnf_base::Lit;

@@ -15,7 +15,7 @@ use Rattle.theory.specs.declared.refusal.Refusal.TheVariants.{NotRup, NeitherRup
 use Rattle.theory.specs.declared.refusal.Refusal.TheVariants.{InconsistentSet, NeitherRupNorPr}
 use Rattle.cnf_base.specs.Literals.{Literal, complement, Clause, has, complements, without}
 use Rattle.cnf_base.specs.Literals.{same_clause}
-use Rattle.theory.specs.Propagation.{Live, HasRup, HasRat, HasPr, not_falsified}
+use Rattle.theory.specs.Propagation.{Live, HasRup, HasRat, HasPr, open_literals}
 use Rattle.theory.specs.Answers.{StepAnswer}
 use Rattle.theory.specs.Drat.{DratStep, add, delete, AnswersAdd, AnswersDelete, AnswersDrat}
 use Rattle.theory.specs.Drat.{AnswersWithSet, IsKeptUnit, take_off, after_drat, copies_of, SameLive}
@@ -139,15 +139,15 @@ rat_covers first second there back c pivot rat = record { holds_pivot = rat.hold
 pub pr_covers : (first second : Live) → Covers first second → Covers second first → (c set : List Literal) → HasPr first c set → HasPr second c set
 pr_covers first second there back c set pr = record { consistent = pr.consistent; meets = pr.meets; others = go }
   where
-    go : (k : ℕ) (d : Clause) → second k ≡ Some d → ((l : Literal) × (has d l ≡ true) × (has set l ≡ true)) ⊎ HasRup second (c ++ not_falsified set d)
+    go : (k : ℕ) (d : Clause) → second k ≡ Some d → ((l : Literal) × (has d l ≡ true) × (has set l ≡ true)) ⊎ HasRup second (c ++ open_literals set d)
     go k d at =
         let w = back k d at in
         elim (pr.others w.0 w.1 w.2) [
           | inl met ↦ inl (met.0, same_back d w.1 w.3 met.0 met.1, met.2)
-          | inr rup ↦ inr (complements_more second (c ++ not_falsified set w.1) (c ++ not_falsified set d)
-              (λ l h. elim (has_append_cases c (not_falsified set w.1) l h) [
-                | inl g ↦ has_append_left c (not_falsified set d) l g
-                | inr g ↦ let p = filter_has (λ l. not (has set (complement l))) w.1 l g in has_append_right c (not_falsified set d) l (has-filter (λ l. not (has set (complement l))) d l (same_back d w.1 w.3 l p.0) p.1)
+          | inr rup ↦ inr (complements_more second (c ++ open_literals set w.1) (c ++ open_literals set d)
+              (λ l h. elim (has_append_cases c (open_literals set w.1) l h) [
+                | inl g ↦ has_append_left c (open_literals set d) l g
+                | inr g ↦ let p = filter_has (λ l. not (has set (complement l))) w.1 l g in has_append_right c (open_literals set d) l (has-filter (λ l. not (has set (complement l))) d l (same_back d w.1 w.3 l p.0) p.1)
               ])
               (clash_covers first second there _ rup))
         ]

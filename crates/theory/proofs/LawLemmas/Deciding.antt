@@ -1,5 +1,5 @@
 -- Each step of a DRAT proof has an answer: whether propagation clashes can be decided.
-use Rattle.std.proofs.Common.{◌≡◌, ℕ, zero, suc, ◌<◌, ◌≤◌, true, false, not}
+use Rattle.std.proofs.Common.{◌≡◌, ℕ, zero, suc, ◌<◌, ◌≤◌, true, false}
 use Rattle.std.proofs.Common.{Option, Some, Ok, Err, List, [], ◌∷◌, ◌++◌, slice_get, refl}
 use Rattle.std.proofs.Common.{sym, ◌∙◌, subst, inl, inr, ◌⊎◌, arith}
 use Rattle.std.specs.List.{list_any}
@@ -9,21 +9,20 @@ use Rattle.theory.specs.declared.accepted.Accepted.TheVariants.{Rup, Rat, Pr, Em
 use Rattle.theory.specs.declared.accepted.Accepted.TheVariants.{Ignored}
 use Rattle.theory.specs.declared.refusal.Refusal.TheVariants.{NotRup, NeitherRupNorRat, NotAlive}
 use Rattle.theory.specs.declared.refusal.Refusal.TheVariants.{InconsistentSet, NeitherRupNorPr}
-use Rattle.theory.specs.declared.left.Left.TheVariants.{One}
 use Rattle.cnf_base.specs.Literals.{Literal, complement, Clause, has, complements, without}
 use Rattle.cnf_base.specs.Literals.{same_clause}
-use Rattle.theory.specs.Propagation.{Clash, HasRup, HasRat, HasPr, not_falsified}
+use Rattle.theory.specs.Propagation.{Clash, HasRup, HasRat, HasPr, open_literals}
 use Rattle.theory.specs.Answers.{StepAnswer}
 use Rattle.theory.specs.Drat.{DratStep, add, delete, AnswersAdd, AnswersDelete, AnswersDrat}
 use Rattle.theory.specs.Drat.{AnswersWithSet, IsKeptUnit}
-use Rattle.theory.specs.Sets.{conflicts, lacking}
-use Rattle.theory.specs.Left.{open_literals, how_many}
-use Rattle.cnf_base.proofs.SetLemmas.{any_from, any_some, filter_has}
+use Rattle.theory.specs.Sets.{conflicts}
+use Rattle.theory.specs.Code.Sets.{lacking}
+use Rattle.cnf_base.proofs.SetLemmas.{any_from, any_some}
 use Rattle.theory.proofs.PropagationLemmas.Forced.{forced_assumed}
 use Rattle.theory.proofs.PropagationLemmas.Conflicts.{not_both}
-use Rattle.theory.proofs.PropagationLemmas.Left.{left-one}
+use Rattle.theory.proofs.PropagationLemmas.Open.{IsAlone, open_has}
 use Rattle.theory.proofs.PropagationLemmas.Unit.{clash_of_conflict, none_left_clashes}
-use Rattle.theory.proofs.PropagationLemmas.Unit.{settled_quiet}
+use Rattle.theory.proofs.PropagationLemmas.Unit.{closed_quiet}
 use Rattle.theory.proofs.LawLemmas.Scans.{Found, all_false, one_left, none_new, scan, IsPart}
 use Rattle.theory.proofs.LawLemmas.Scans.{part_more}
 use Rattle.theory.proofs.LawLemmas.Growth.{IsDecided, lacking_more, all_literals, has-all_literals}
@@ -33,15 +32,13 @@ use Rattle.theory.specs.declared.drat_rules.DratRules.{DratRules}
 -- ---- Clashes
 
 module _ (live : List Clause) (assumed : List Literal) where
-  falls : (trues : List Literal) (k : ℕ) (c : Clause) → slice_get live k ≡ Some c → (m : Literal) → how_many (open_literals trues c) ≡ One m → has trues m ≡ false → lacking (m ∷ trues) (all_literals live) < lacking trues (all_literals live)
-  falls trues k c at m e new =
-      let only = left-one (open_literals trues c) m e in
-      lacking_more trues m new (all_literals live) (has-all_literals live k c m at (filter_has (λ l. not (has trues (complement l))) c m only.0).0)
+  falls : (trues : List Literal) (k : ℕ) (c : Clause) → slice_get live k ≡ Some c → (m : Literal) → IsAlone (open_literals trues c) m → has trues m ≡ false → lacking (m ∷ trues) (all_literals live) < lacking trues (all_literals live)
+  falls trues k c at m only new = lacking_more trues m new (all_literals live) (has-all_literals live k c m at (open_has trues c m only.0).0)
 
   -- at most `fuel` literals are not listed yet
   propagate : (fuel : ℕ) (trues : List Literal) → IsPart (slice_get live) assumed trues → lacking trues (all_literals live) ≤ fuel → conflicts trues ≡ false → Found (slice_get live) trues → IsDecided (Clash (slice_get live) assumed)
   propagate fuel trues part bound quiet (all_false k c at e) = inl (none_left_clashes (slice_get live) assumed trues part.sound k c at e)
-  propagate fuel trues part bound quiet (none_new settled) = inr (settled_quiet (slice_get live) trues settled assumed part.start quiet)
+  propagate fuel trues part bound quiet (none_new no_empty closed) = inr (closed_quiet (slice_get live) trues closed no_empty assumed part.start quiet)
   propagate zero trues part bound quiet (one_left k c at m e new) = absurd (let less = falls trues k c at m e new in let wrong : ⊥ = omega arith in wrong)
   propagate (suc fuel) trues part bound quiet (one_left k c at m e new) =
       let more = part_more (slice_get live) assumed trues part k c at m e in
@@ -105,7 +102,7 @@ module _ (live : List Clause) (c : Clause) (pivot : Literal) where
 module _ (live : List Clause) (c set : List Literal) where
   -- what PR asks of a clause
   abbrev PrPasses : Clause → Type 0
-  PrPasses d = ((l : Literal) × (has d l ≡ true) × (has set l ≡ true)) ⊎ HasRup (slice_get live) (c ++ not_falsified set d)
+  PrPasses d = ((l : Literal) × (has d l ≡ true) × (has set l ≡ true)) ⊎ HasRup (slice_get live) (c ++ open_literals set d)
 
   met_decided : (d : Clause) → IsDecided ((l : Literal) × (has d l ≡ true) × (has set l ≡ true))
   met_decided d = elim (cases_Bool (list_any (has set) d)) [
@@ -116,7 +113,7 @@ module _ (live : List Clause) (c set : List Literal) where
   pr_passes_decided : (d : Clause) → IsDecided (PrPasses d)
   pr_passes_decided d = elim (met_decided d) [
     | inl met ↦ inl (inl met)
-    | inr unmet ↦ elim (clash_decided live (complements (c ++ not_falsified set d))) [
+    | inr unmet ↦ elim (clash_decided live (complements (c ++ open_literals set d))) [
       | inl clash ↦ inl (inr clash)
       | inr none ↦ inr (λ passes. elim passes [ inl met ↦ unmet met | inr clash ↦ none clash ])
     ]

@@ -4,7 +4,7 @@ use Rattle.std.proofs.Common.{[], ◌∷◌, ◌++◌, slice_get, ap, ◌∙◌,
 use Rattle.std.proofs.lemmas.Option.{none-some}
 use Rattle.cnf_base.specs.Literals.{Literal, Clause, has}
 use Rattle.cnf_base.proofs.SetLemmas.{has_head, has_tail, has_append_left, has_append_right}
-use Rattle.theory.specs.Sets.{lacking}
+use Rattle.theory.specs.Code.Sets.{lacking}
 use Rattle.theory.proofs.PropagationLemmas.Lacking.{lacking_falls}
 
 abbrev pub IsDecided : Type 0 → Type 0

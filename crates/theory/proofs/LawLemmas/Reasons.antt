@@ -8,8 +8,9 @@ use Rattle.std.proofs.lemmas.Bool.{or_left, or_right, and_parts, and_from, not-t
 use Rattle.std.proofs.lemmas.Option.{none-some, same_Some}
 use Rattle.cnf_base.specs.Literals.{Literal, complement, Clause, has}
 use Rattle.cnf_base.proofs.SetLemmas.{any_from, any_some, all_each, each_all, has_cases}
-use Rattle.theory.specs.Propagation.{OthersFail, IsClosedAt, Live, IsClosed, Forced, IsRootReason}
-use Rattle.theory.specs.Sets.{lacking}
+use Rattle.theory.specs.Code.Propagation.{OthersFail, IsClosedAt}
+use Rattle.theory.specs.Propagation.{Live, IsClosed, Forced, IsRootReason}
+use Rattle.theory.specs.Code.Sets.{lacking}
 use Rattle.theory.proofs.PropagationLemmas.Forced.{forced_unit}
 use Rattle.theory.proofs.LawLemmas.Growth.{IsDecided, lacking_more, all_literals, has-all_literals}
 

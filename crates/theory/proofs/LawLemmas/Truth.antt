@@ -7,7 +7,7 @@ use Rattle.std.proofs.lemmas.Bool.{false≢true, true≢false, cases_Bool, cases
 use Rattle.std.proofs.lemmas.Bool.Decides.{nat_tests}
 use Rattle.cnf_base.specs.Literals.{Literal, complement, Clause, has, complements, without}
 use Rattle.theory.specs.Propagation.{Live, IsClosed, Forced, Clash, HasRup, HasRat, HasPr}
-use Rattle.theory.specs.Propagation.{not_falsified, by_empty, by_both}
+use Rattle.theory.specs.Propagation.{open_literals, by_empty, by_both}
 use Rattle.theory.specs.Models.{Assignment, holds, satisfies, Models}
 use Rattle.cnf_base.proofs.LiteralLemmas.{complement-complement, complement-other}
 use Rattle.theory.proofs.LawLemmas.Holds.{holds-complement}
@@ -114,9 +114,9 @@ pub pr_keeps : (v : Assignment) (live : Live) (c : Clause) (witness : List Liter
 pr_keeps v live c witness models pr =
     elim (cases_Bool (satisfies v c)) [ inl e ↦ (v, models, e) | inr e ↦ (override v witness, kept e, any_from _ c pr.meets.0 pr.meets.1 (override_true v witness pr.meets.0 pr.meets.2 (pr.consistent pr.meets.0 pr.meets.2))) ]
   where
-    in_rest : satisfies v c ≡ false → (d : Clause) → (l : Literal) → has (c ++ not_falsified witness d) l ≡ true → holds v l ≡ true → (has d l ≡ true) × (has witness (complement l) ≡ false)
+    in_rest : satisfies v c ≡ false → (d : Clause) → (l : Literal) → has (c ++ open_literals witness d) l ≡ true → holds v l ≡ true → (has d l ≡ true) × (has witness (complement l) ≡ false)
     in_rest fails d l member h =
-        elim (has_append_cases c (not_falsified witness d) l member) [
+        elim (has_append_cases c (open_literals witness d) l member) [
           | inl g ↦ absurd (true≢false (sym h ∙ any_none (holds v) c l fails g))
           | inr g ↦ let w = filter_has (λ l. not (has witness (complement l))) d l g in (w.0, not-true _ w.1)
         ]
@@ -126,7 +126,7 @@ pr_keeps v live c witness models pr =
         elim (pr.others k d at) [
           | inl m ↦ any_from _ d m.0 m.1 (override_true v witness m.0 m.2 (pr.consistent m.0 m.2))
           | inr rup ↦
-              let w = any_some (holds v) (c ++ not_falsified witness d) (rup_true v live _ models rup) in
+              let w = any_some (holds v) (c ++ open_literals witness d) (rup_true v live _ models rup) in
               let r = in_rest fails d w.0 w.1 w.2 in
               any_from _ d w.0 r.0 (override_keeps v witness w.0 w.2 r.1)
         ]

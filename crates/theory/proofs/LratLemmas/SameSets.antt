@@ -1,21 +1,19 @@
 -- The rule of LRAT depends only on the sets of the live clauses.
 use Rattle.std.proofs.Common.{◌≡◌, ℕ, Bool, true, false, not, ◌&&◌, ◌||◌, cond, eqb}
-use Rattle.std.proofs.Common.{eq-eqb, nat_le, Option, Some, None, option_map, is_none, Ok, Err}
+use Rattle.std.proofs.Common.{nat_le, Option, Some, None, option_map, is_none, Ok, Err}
 use Rattle.std.proofs.Common.{List, [], ◌∷◌, refl, sym, ap, ◌∙◌, subst, inl, inr}
 use Rattle.std.specs.Bool.{then_some, MatchBool}
 use Rattle.std.specs.Option.{option_or}
-use Rattle.std.specs.List.{list_any}
-use Rattle.std.proofs.lemmas.Bool.{false≢true}
+use Rattle.std.specs.List.{list_all, list_any}
+use Rattle.std.proofs.lemmas.Bool.{false≢true, cases_Bool}
 use Rattle.theory.specs.declared.accepted.Accepted.TheVariants.{Rat}
 use Rattle.theory.specs.declared.refusal.Refusal.{Refusal}
 use Rattle.theory.specs.declared.refusal.Refusal.TheVariants.{IdOutOfOrder, UnknownId, NotCandidate}
 use Rattle.theory.specs.declared.refusal.Refusal.TheVariants.{NamedTwice, GroupWithoutConflict}
 use Rattle.theory.specs.declared.refusal.Refusal.TheVariants.{Unnamed}
-use Rattle.theory.specs.declared.left.Left.{Left}
-use Rattle.theory.specs.declared.left.Left.TheVariants.{Nothing, One, More}
 use Rattle.cnf_base.specs.Literals.{Literal, complement, Clause, has, complements, without}
 use Rattle.cnf_base.specs.Literals.{same_clause}
-use Rattle.theory.specs.Propagation.{Live}
+use Rattle.theory.specs.Propagation.{Live, open_literals}
 use Rattle.theory.specs.Answers.{StepAnswer}
 use Rattle.theory.specs.Lrat.{ChainEnd, conflict, open_with, unknown, not_unit, look_at, chain}
 use Rattle.theory.specs.Lrat.{Group, LratStep, add, delete, with_candidate, chain_refusal}
@@ -23,14 +21,13 @@ use Rattle.theory.specs.Lrat.{group_refusal, groups_refusal, is_unsettled, is_le
 use Rattle.theory.specs.Lrat.{AnswersGroups, AnswersChain, with_clause, without_id, without_ids}
 use Rattle.theory.specs.Lrat.{deletion_refusal, answer_of, AnswersLrat, SameAt, SameClauses}
 use Rattle.theory.specs.Sets.{conflicts, SameSet}
-use Rattle.theory.specs.Left.{open_literals, how_many}
 use Rattle.theory.proofs.PropagationLemmas.Conflicts.{conflicts_same}
-use Rattle.cnf_base.proofs.SetLemmas.{both_pass, has_head, has_tail, each_all, has-filter}
+use Rattle.cnf_base.proofs.SetLemmas.{both_pass, has_head, has-filter}
 use Rattle.cnf_base.proofs.SetLemmas.{filter_has, has_append_left, has_append_right}
 use Rattle.cnf_base.proofs.SetLemmas.{has_append_cases, has-complements, complements_has}
 use Rattle.cnf_base.proofs.SetLemmas.{has-without, without_has, same_there, same_back, same_symm}
 use Rattle.cnf_base.proofs.LiteralLemmas.{complement-complement}
-use Rattle.theory.proofs.PropagationLemmas.Left.{left-none, left-one, nothing_more, one_more}
+use Rattle.theory.proofs.PropagationLemmas.Open.{first_alone, alone_first}
 
 pub same_set_from : (c d : Clause) → same_clause c d ≡ true → SameSet c d
 same_set_from c d same l = both_pass (has c l) (has d l) (same_there c d same l) (same_back c d same l)
@@ -49,53 +46,55 @@ open_same : (first second : List Literal) (c d : Clause) → SameSet first secon
 open_same first second c d same_ls same_c l =
     both_pass (has (open_literals first c) l) (has (open_literals second d) l) (open_there first second c d same_ls same_c l) (open_there second first d c (λ l. sym (same_ls l)) (λ l. sym (same_c l)) l)
 
--- a list whose literals are all equal to one of them
-left_is_one : (ls : List Literal) (m : Literal) → has ls m ≡ true → ((l : Literal) → has ls l ≡ true → l ≡ m) → how_many ls ≡ One m
-left_is_one [] m member only = absurd (false≢true member)
-left_is_one (k ∷ ls) m member only =
-    let k_is : k ≡ m = only k (has_head k ls) in
-    ap (λ b. cond b (One k) More) (each_all (λ l. eqb l k) ls (λ l h. eq-eqb l k (only l (has_tail k ls l h) ∙ sym k_is))) ∙ ap One k_is
+-- whether the first literal of a list is the only one, and which it is, depends on the set
+alone_there : (k m : Literal) (xs ys : List Literal) → SameSet (k ∷ xs) (m ∷ ys) → list_all (λ l. eqb l k) xs ≡ true → (list_all (λ l. eqb l m) ys ≡ true) × (k ≡ m)
+alone_there k m xs ys same all =
+    let only = (first_alone k xs all).1 in
+    (alone_first m ys k (λ l h. only l (same l ∙ h)), sym (only m (same m ∙ has_head m ys)))
 
-left_is_nothing : (ls : List Literal) → ((l : Literal) → has ls l ≡ true → ⊥) → how_many ls ≡ Nothing
-left_is_nothing [] none = refl
-left_is_nothing (k ∷ ls) none = absurd (none k (has_head k ls))
+module _ (j : ℕ) (go_on : Literal → ChainEnd) where
+  both_alone : (k m : Literal) (xs ys : List Literal) → SameSet (k ∷ xs) (m ∷ ys) → look_at j (Some (k ∷ xs)) go_on ≡ look_at j (Some (m ∷ ys)) go_on
+  both_alone k m xs ys same = elim (cases_Bool (list_all (λ l. eqb l k) xs)) [
+    | inl all ↦
+        let w = alone_there k m xs ys same all in
+        ap (λ b. cond b (go_on k) (not_unit j)) all ∙ ap go_on w.1 ∙ sym (ap (λ b. cond b (go_on m) (not_unit j)) w.0)
+    | inr two ↦ elim (cases_Bool (list_all (λ l. eqb l m) ys)) [
+      | inl all ↦ absurd (false≢true (sym two ∙ (alone_there m k ys xs (λ l. sym (same l)) all).0))
+      | inr too ↦ ap (λ b. cond b (go_on k) (not_unit j)) two ∙ sym (ap (λ b. cond b (go_on m) (not_unit j)) too)
+    ]
+  ]
 
-left_same : (xs ys : List Literal) → SameSet xs ys → how_many xs ≡ how_many ys
-left_same xs ys same =
-    elim (how_many xs) as (λ left. how_many xs ≡ left → left ≡ how_many ys) [
-      | Nothing ↦ λ e. sym (left_is_nothing ys (λ l h. left-none xs e l (same l ∙ h)))
-      | One m ↦ λ e. let w = left-one xs m e in sym (left_is_one ys m (sym (same m) ∙ w.0) (λ l h. w.1 l (same l ∙ h)))
-      | More ↦ λ e. elim (how_many ys) as (λ right. how_many ys ≡ right → More ≡ right) [
-        | Nothing ↦ λ f. absurd (nothing_more (sym (left_is_nothing xs (λ l h. left-none ys f l (sym (same l) ∙ h))) ∙ e))
-        | One m ↦ λ f. let w = left-one ys m f in absurd (one_more m (sym (left_is_one xs m (same m ∙ w.0) (λ l h. w.1 l (sym (same l) ∙ h))) ∙ e))
-        | More ↦ λ f. refl
-      ] refl
-    ] refl
+  left_same : (xs ys : List Literal) → SameSet xs ys → look_at j (Some xs) go_on ≡ look_at j (Some ys) go_on
+  left_same [] [] same = refl
+  left_same [] (m ∷ ys) same = absurd (false≢true (same m ∙ has_head m ys))
+  left_same (k ∷ xs) [] same = absurd (false≢true (sym (same k) ∙ has_head k xs))
+  left_same (k ∷ xs) (m ∷ ys) same = both_alone k m xs ys same
 
--- ---- Walks
+  -- ---- Walks
 
-looks_same : (first second : List Literal) → SameSet first second → (a b : Option Clause) → SameAt a b → option_map (λ c. how_many (open_literals first c)) a ≡ option_map (λ c. how_many (open_literals second c)) b
-looks_same first second same None None h = refl
-looks_same first second same (Some c) (Some d) h = ap Some (left_same _ _ (open_same first second c d same (same_set_from c d h)))
-looks_same first second same None (Some d) h = absurd h
-looks_same first second same (Some c) None h = absurd h
+  looks_same : (first second : List Literal) → SameSet first second → (a b : Option Clause) → SameAt a b → look_at j (option_map (open_literals first) a) go_on ≡ look_at j (option_map (open_literals second) b) go_on
+  looks_same first second same None None h = refl
+  looks_same first second same (Some c) (Some d) h = left_same (open_literals first c) (open_literals second d) (open_same first second c d same (same_set_from c d h))
+  looks_same first second same None (Some d) h = absurd h
+  looks_same first second same (Some c) None h = absurd h
 
 module _ (live other : Live) (same_clauses : SameClauses live other) where
   -- from one list, a walk has one end
   chain_is : (hints : List ℕ) (ls : List Literal) → chain live ls hints ≡ chain other ls hints
   chain_is [] ls = refl
   chain_is (k ∷ hints) ls =
-      let looks = looks_same ls ls (λ l. refl) (live k) (other k) (same_clauses.at k) in
       let on_live : Literal → ChainEnd = λ l. chain live (l ∷ ls) hints in
-      let on_other : Literal → ChainEnd = λ l. chain other (l ∷ ls) hints in
-      ap (λ o. cond (conflicts ls) conflict (look_at k o on_live)) looks
-      ∙ ap (λ (f : Literal → ChainEnd). cond (conflicts ls) conflict (look_at k (option_map (λ c. how_many (open_literals ls c)) (other k)) f)) (λ i l. chain_is hints (l ∷ ls) i)
+      ap (cond (conflicts ls) conflict) (looks_same k on_live ls ls (λ l. refl) (live k) (other k) (same_clauses.at k))
+      ∙ ap (λ (f : Literal → ChainEnd). cond (conflicts ls) conflict (look_at k (option_map (open_literals ls) (other k)) f)) (λ i l. chain_is hints (l ∷ ls) i)
 
-  refusals_look : (r : Refusal) (k : ℕ) (o : Option Left) (f g : Literal → ChainEnd) → ((l : Literal) → chain_refusal r (f l) ≡ chain_refusal r (g l)) → chain_refusal r (look_at k o f) ≡ chain_refusal r (look_at k o g)
+  refusals_look : (r : Refusal) (k : ℕ) (o : Option Clause) (f g : Literal → ChainEnd) → ((l : Literal) → chain_refusal r (f l) ≡ chain_refusal r (g l)) → chain_refusal r (look_at k o f) ≡ chain_refusal r (look_at k o g)
   refusals_look r k None f g each = refl
-  refusals_look r k (Some Nothing) f g each = refl
-  refusals_look r k (Some (One l)) f g each = each l
-  refusals_look r k (Some More) f g each = refl
+  refusals_look r k (Some []) f g each = refl
+  refusals_look r k (Some (l ∷ ls)) f g each = by_test (list_all (λ m. eqb m l) ls)
+    where
+      by_test : (b : Bool) → chain_refusal r (cond b (f l) (not_unit k)) ≡ chain_refusal r (cond b (g l) (not_unit k))
+      by_test true = each l
+      by_test false = refl
 
   -- from lists that are the same set, a walk is refused alike
   pub chain_alike : (r : Refusal) (hints : List ℕ) (first second : List Literal) → SameSet first second → chain_refusal r (chain live first hints) ≡ chain_refusal r (chain other second hints)
@@ -107,14 +106,14 @@ module _ (live other : Live) (same_clauses : SameClauses live other) where
       by_conflict false = refl
   chain_alike r (k ∷ hints) first second same =
       by_conflict (conflicts first) (λ l. chain_alike r hints (l ∷ first) (l ∷ second) (same_set_more first second l same))
-      ∙ ap (λ o. chain_refusal r (cond (conflicts first) conflict (look_at k o (λ l. chain other (l ∷ second) hints)))) (looks_same first second same (live k) (other k) (same_clauses.at k))
-      ∙ ap (λ b. chain_refusal r (cond b conflict (look_at k (option_map (λ c. how_many (open_literals second c)) (other k)) (λ l. chain other (l ∷ second) hints)))) (conflicts_same first second same)
+      ∙ ap (λ e. chain_refusal r (cond (conflicts first) conflict e)) (looks_same k (λ l. chain other (l ∷ second) hints) first second same (live k) (other k) (same_clauses.at k))
+      ∙ ap (λ b. chain_refusal r (cond b conflict (look_at k (option_map (open_literals second) (other k)) (λ l. chain other (l ∷ second) hints)))) (conflicts_same first second same)
     where
       by_conflict : (b : Bool) → ((l : Literal) → chain_refusal r (chain live (l ∷ first) hints) ≡ chain_refusal r (chain other (l ∷ second) hints)) →
-          chain_refusal r (cond b conflict (look_at k (option_map (λ c. how_many (open_literals first c)) (live k)) (λ l. chain live (l ∷ first) hints)))
-          ≡ chain_refusal r (cond b conflict (look_at k (option_map (λ c. how_many (open_literals first c)) (live k)) (λ l. chain other (l ∷ second) hints)))
+          chain_refusal r (cond b conflict (look_at k (option_map (open_literals first) (live k)) (λ l. chain live (l ∷ first) hints)))
+          ≡ chain_refusal r (cond b conflict (look_at k (option_map (open_literals first) (live k)) (λ l. chain other (l ∷ second) hints)))
       by_conflict true each = refl
-      by_conflict false each = refusals_look r k (option_map (λ c. how_many (open_literals first c)) (live k)) (λ l. chain live (l ∷ first) hints) (λ l. chain other (l ∷ second) hints) each
+      by_conflict false each = refusals_look r k (option_map (open_literals first) (live k)) (λ l. chain live (l ∷ first) hints) (λ l. chain other (l ∷ second) hints) each
 
   -- ---- Candidates
 

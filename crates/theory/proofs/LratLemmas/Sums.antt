@@ -1,6 +1,6 @@
 -- Sums of sizes over identifiers.
-use Rattle.std.proofs.Common.{◌≡◌, ◌≢◌, ℕ, zero, suc, ◌+◌, ◌-◌, ◌<◌}
-use Rattle.std.proofs.Common.{◌≤◌, Bool, true, false, cond, ne_eqb, eq-eqb, Some, None, refl}
+use Rattle.std.proofs.Common.{◌≡◌, ◌≢◌, ℕ, zero, suc, ◌+◌, ◌<◌}
+use Rattle.std.proofs.Common.{◌≤◌, cond, ne_eqb, eq-eqb, Some, None, refl}
 use Rattle.std.proofs.Common.{sym, ap, ◌∙◌, arith, inl, inr}
 use Rattle.std.proofs.lemmas.Bool.{cases_lt, cases_eq}
 use Rattle.cnf_base.specs.Literals.{Clause, size}

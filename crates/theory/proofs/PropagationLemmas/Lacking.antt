@@ -5,7 +5,7 @@ use Rattle.std.proofs.lemmas.Bool.{false≢true}
 use Rattle.std.proofs.lemmas.List.Sums.{sum_by-cons}
 use Rattle.cnf_base.specs.Literals.{Literal, has}
 use Rattle.cnf_base.proofs.SetLemmas.{has_cases}
-use Rattle.theory.specs.Sets.{lacking}
+use Rattle.theory.specs.Code.Sets.{lacking}
 
 module _ (first second : List Literal) (grows : (l : Literal) → has first l ≡ true → has second l ≡ true) where
   weight_le : (a b : Bool) → (a ≡ true → b ≡ true) → cond {A = ℕ} (not b) 1 0 ≤ cond (not a) 1 0

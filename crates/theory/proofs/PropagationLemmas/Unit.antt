@@ -1,74 +1,71 @@
--- The unit rule by what is left of clauses: what follows, and where nothing more does.
-use Rattle.std.proofs.Common.{◌≡◌, ℕ, true, false, not, Some, List, [], refl, sym, ap}
+-- The unit rule by the literals of clauses that are not false: what follows, and where nothing more does.
+use Rattle.std.proofs.Common.{◌≡◌, ℕ, true, false, Some, List, [], sym, ap}
 use Rattle.std.proofs.Common.{◌∙◌, inl, inr}
-use Rattle.std.proofs.lemmas.Bool.{true≢false, cases_eq, not-true}
+use Rattle.std.proofs.lemmas.Bool.{false≢true, true≢false, cases_eq}
 use Rattle.cnf_base.specs.Literals.{Literal, complement, Clause, has}
-use Rattle.cnf_base.proofs.SetLemmas.{filter_has}
-use Rattle.theory.specs.Propagation.{OthersFail, IsClosedAt, Live, IsClosed, Forced, Clash}
+use Rattle.theory.specs.Code.Propagation.{OthersFail, IsClosedAt}
+use Rattle.theory.specs.Propagation.{Live, IsClosed, Forced, Clash, open_literals}
 use Rattle.theory.specs.Propagation.{by_empty, by_both}
-use Rattle.theory.specs.Left.{open_literals, how_many, IsSettled}
 use Rattle.theory.specs.Sets.{conflicts}
-use Rattle.theory.specs.declared.left.Left.{Left}
-use Rattle.theory.specs.declared.left.Left.TheVariants.{Nothing, One, More}
 use Rattle.theory.proofs.PropagationLemmas.Conflicts.{conflict_from, conflicts_some}
 use Rattle.theory.proofs.PropagationLemmas.Forced.{forced_unit, clash_by_false}
-use Rattle.theory.proofs.PropagationLemmas.Left.{left-none, left-one, left-more, open_cases}
+use Rattle.theory.proofs.PropagationLemmas.Open.{AreAll, IsAlone, open_has, open_cases}
+
+-- ---- One clause
+
+module _ (ls : List Literal) (c : Clause) where
+  none_open : open_literals ls c ≡ [] → (l : Literal) → has c l ≡ true → has ls (complement l) ≡ true
+  none_open e l member = elim (open_cases ls c l member) [
+    | inl h ↦ absurd (false≢true (sym (ap (λ os. has os l) e) ∙ h))
+    | inr h ↦ h
+  ]
+
+  -- where all its literals are false, each of them follows
+  pub none_left_follow : open_literals ls c ≡ [] → (m : Literal) → OthersFail (has ls) c m
+  none_left_follow e m l member ne = none_open e l member
+
+  -- where one alone is not false, it follows
+  pub one_left_follows : (m : Literal) → IsAlone (open_literals ls c) m → (has c m ≡ true) × OthersFail (has ls) c m
+  one_left_follows m only = (
+    (open_has ls c m only.0).0,
+    λ l member ne. elim (open_cases ls c l member) [ inl h ↦ absurd (ne (only.1 l h)) | inr h ↦ h ],
+  )
+
+  open_is : (m : Literal) → OthersFail (has ls) c m → AreAll (open_literals ls c) m
+  open_is m others l h =
+      let w = open_has ls c l h in
+      elim (cases_eq l m) [
+        | inl e ↦ e
+        | inr ne ↦ absurd (true≢false (sym (others l w.0 ne) ∙ w.1))
+      ]
+
+  -- a true literal keeps the unit rule, and so do two different ones that are not false
+  pub true_closes : (l : Literal) → has (open_literals ls c) l ≡ true → has ls l ≡ true → IsClosedAt (has ls) c
+  true_closes l left h m member others = sym (ap (has ls) (open_is m others l left)) ∙ h
+
+  pub two_close : ((m : Literal) → ¬ AreAll (open_literals ls c) m) → IsClosedAt (has ls) c
+  two_close differ m member others = absurd (differ m (open_is m others))
+
+-- ---- What follows
 
 module _ (live : Live) (assumed : List Literal) where
   pub clash_of_conflict : (ls : List Literal) → ((a : Literal) → has ls a ≡ true → Forced live assumed a) → conflicts ls ≡ true → Clash live assumed
   clash_of_conflict ls forced h = let w = conflicts_some ls h in by_both w.0 (forced w.0 w.1) (forced (complement w.0) w.2)
 
-  -- the literal that is left is forced
-  pub left_is_forced : (ls : List Literal) → ((a : Literal) → has ls a ≡ true → Forced live assumed a) → (k : ℕ) (c : Clause) → live k ≡ Some c → (m : Literal) → how_many (open_literals ls c) ≡ One m → Forced live assumed m
-  left_is_forced ls forced k c at m e =
-      let only = left-one (open_literals ls c) m e in
-      forced_unit live assumed k c at m (filter_has (λ l. not (has ls (complement l))) c m only.0).0
-      (λ l member ne. elim (open_cases ls c l member) [ inl h ↦ absurd (ne (only.1 l h)) | inr h ↦ forced (complement l) h ])
+  module _ (ls : List Literal) (forced : (a : Literal) → has ls a ≡ true → Forced live assumed a) (k : ℕ) (c : Clause) (at : live k ≡ Some c) where
+    pub left_is_forced : (m : Literal) → IsAlone (open_literals ls c) m → Forced live assumed m
+    left_is_forced m only =
+        let w = one_left_follows ls c m only in
+        forced_unit live assumed k c at m w.0 (λ l member ne. forced (complement l) (w.1 l member ne))
 
-  pub none_left_clashes : (ls : List Literal) → ((a : Literal) → has ls a ≡ true → Forced live assumed a) → (k : ℕ) (c : Clause) → live k ≡ Some c → how_many (open_literals ls c) ≡ Nothing → Clash live assumed
-  none_left_clashes ls forced k c at e =
-      clash_by_false live assumed k c at (λ l member. elim (open_cases ls c l member) [ inl h ↦ absurd (left-none (open_literals ls c) e l h) | inr h ↦ forced (complement l) h ])
+    pub none_left_clashes : open_literals ls c ≡ [] → Clash live assumed
+    none_left_clashes e = clash_by_false live assumed k c at (λ l member. forced (complement l) (none_open ls c e l member))
 
 -- ---- Where nothing more follows
 
-module _ (trues : List Literal) (c : Clause) where
-  open_is : (m : Literal) → OthersFail (has trues) c m → (l : Literal) → has (open_literals trues c) l ≡ true → l ≡ m
-  open_is m others l h =
-      let w = filter_has (λ l. not (has trues (complement l))) c l h in
-      elim (cases_eq l m) [
-        | inl e ↦ e
-        | inr ne ↦ absurd (true≢false (sym (others l w.0 ne) ∙ not-true _ w.1))
-      ]
-
-  settled_unit : (m : Literal) → OthersFail (has trues) c m → (left : Left) → how_many (open_literals trues c) ≡ left → IsSettled trues left → has trues m ≡ true
-  settled_unit m others Nothing e h = absurd h
-  settled_unit m others (One l) e h = sym (ap (has trues) (open_is m others l (left-one (open_literals trues c) l e).0)) ∙ h
-  settled_unit m others More e h = absurd (left-more (open_literals trues c) m e (open_is m others))
-
-  pub settled_at : IsSettled trues (how_many (open_literals trues c)) → IsClosedAt (has trues) c
-  settled_at settled m member others = settled_unit m others (how_many (open_literals trues c)) refl settled
-
-module _ (live : Live) (trues : List Literal) (settled : (k : ℕ) (c : Clause) → live k ≡ Some c → IsSettled trues (how_many (open_literals trues c))) where
-  pub settled_closed : IsClosed live (λ l. has trues l)
-  settled_closed = record { unit = λ k c at. settled_at trues c (settled k c at) }
-
-  -- where no two of the literals clash either, nothing does
-  pub settled_quiet : (assumed : List Literal) → ((a : Literal) → has assumed a ≡ true → has trues a ≡ true) → conflicts trues ≡ false → Clash live assumed → ⊥
-  settled_quiet assumed start quiet (by_empty k at) = settled k [] at
-  settled_quiet assumed start quiet (by_both l f g) =
-      true≢false (sym (conflict_from trues l (f.in_each (λ l. has trues l) settled_closed start) (g.in_each (λ l. has trues l) settled_closed start)) ∙ quiet)
-
--- ---- One clause
-
-module _ (ls : List Literal) (c : Clause) where
-  -- where none is left, each of its literals follows
-  pub none_left_follow : how_many (open_literals ls c) ≡ Nothing → (m : Literal) → OthersFail (has ls) c m
-  none_left_follow e m l member ne = elim (open_cases ls c l member) [ inl h ↦ absurd (left-none (open_literals ls c) e l h) | inr h ↦ h ]
-
-  -- where one is left, it follows
-  pub one_left_follows : (m : Literal) → how_many (open_literals ls c) ≡ One m → (has c m ≡ true) × OthersFail (has ls) c m
-  one_left_follows m e =
-      let only = left-one (open_literals ls c) m e in (
-        (filter_has (λ l. not (has ls (complement l))) c m only.0).0,
-        λ l member ne. elim (open_cases ls c l member) [ inl h ↦ absurd (ne (only.1 l h)) | inr h ↦ h ],
-      )
+-- where no two of the literals clash either, nothing does
+pub closed_quiet : (live : Live) (ls : List Literal) → IsClosed live (has ls) → ((k : ℕ) → live k ≡ Some [] → ⊥) →
+    (assumed : List Literal) → ((a : Literal) → has assumed a ≡ true → has ls a ≡ true) → conflicts ls ≡ false → Clash live assumed → ⊥
+closed_quiet live ls closed no_empty assumed start quiet (by_empty k at) = no_empty k at
+closed_quiet live ls closed no_empty assumed start quiet (by_both l f g) =
+    true≢false (sym (conflict_from ls l (f.in_each (has ls) closed start) (g.in_each (has ls) closed start)) ∙ quiet)

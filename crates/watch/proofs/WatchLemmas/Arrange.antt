@@ -1,5 +1,6 @@
 -- Clauses whose literals that are not false are brought to the front.
-use Rattle.std.proofs.Common.{◌≡◌, ℕ, ◌<◌, ◌≤◌, true, false, eq-eqb, cond, Some, List, [], ◌∷◌, length, get_or, set, swap, refl, sym, ap, ◌∙◌, subst, arith, inl, inr}
+use Rattle.std.proofs.Common.{◌≡◌, ℕ, ◌<◌, ◌≤◌, true, false, eq-eqb, cond, Some, List, [], ◌∷◌}
+use Rattle.std.proofs.Common.{length, get_or, set, swap, refl, sym, ap, ◌∙◌, subst, arith, inl, inr}
 use Rattle.std.specs.Ordering.{nat_cmp}
 use Rattle.std.specs.FinMap as maps
 use Rattle.std.specs.FinMap.{FinMap}
@@ -8,8 +9,8 @@ use Rattle.std.proofs.lemmas.Grind.{get_or-set_at, get_or_default_zero}
 use Rattle.std.proofs.lemmas.List.{get_or-set_other, get_or-set_same, length-set}
 use Rattle.std.proofs.lemmas.Option.{same_Some}
 use Rattle.cnf_base.specs.Literals.{Literal, complement, Clause, has}
-use Rattle.watch.specs.Roots.{IsArranged, IsBrought}
-use Rattle.theory.specs.declared.left.Left.TheVariants.{Nothing, One, More}
+use Rattle.watch.specs.Code.Roots.{IsArranged, IsBrought}
+use Rattle.propagation.specs.declared.left.Left.TheVariants.{Nothing, One, More}
 use Rattle.propagation.proofs.MemberLemmas.{has_place, place_of}
 use Rattle.clause_db.proofs.StoreLemmas.Sums.{get_insert}
 use Rattle.clause_db.proofs.StoreLemmas.Swap.{has_swapped}

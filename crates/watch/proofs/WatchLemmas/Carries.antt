@@ -1,5 +1,7 @@
 -- What visits leave as it was.
-use Rattle.std.proofs.Common.{◌≡◌, ◌≢◌, ℕ, ◌+◌, ◌<◌, ◌≤◌, Bool, true, false, ◌&&◌, cond, not, eqb, eq-eqb, eqb-true, Option, Some, is_some, [], ◌∷◌, ◌++◌, length, get_or, swap, refl, sym, ap, ◌∙◌, subst, arith}
+use Rattle.std.proofs.Common.{◌≡◌, ◌≢◌, ℕ, ◌+◌, ◌<◌, ◌≤◌, Bool, true, false, ◌&&◌, cond, not, eqb}
+use Rattle.std.proofs.Common.{eq-eqb, eqb-true, Option, Some, is_some, [], ◌∷◌, ◌++◌, length}
+use Rattle.std.proofs.Common.{get_or, swap, refl, sym, ap, ◌∙◌, subst, arith}
 use Rattle.std.specs.Ordering.{nat_cmp}
 use Rattle.std.specs.FinMap as maps
 use Rattle.std.specs.FinMap.{FinMap}
@@ -8,17 +10,18 @@ use Rattle.std.proofs.lemmas.List.{take_all}
 use Rattle.cnf_base.specs.Literals.{Literal, complement, Clause, has, size}
 use Rattle.theory.specs.Propagation.{Forced, Clash}
 use Rattle.propagation.specs.Assumptions.{AssumptionsState}
-use Rattle.propagation.specs.Exact.{Extends}
+use Rattle.propagation.specs.Code.Exact.{Extends}
 use Rattle.theory.specs.Sets.{SameSet}
-use Rattle.watch.specs.Order.{in_order, each_in_order}
-use Rattle.watch.specs.Roots.{AreReasoned, IsFalseAt}
-use Rattle.watch.specs.Visits.{Carries, IsPart}
+use Rattle.watch.specs.Code.Order.{in_order, each_in_order}
+use Rattle.watch.specs.Code.Roots.{AreReasoned, IsFalseAt}
+use Rattle.watch.specs.Code.Visits.{Carries, IsPart}
 use Rattle.propagation.proofs.PropagationLemmas.Exact.{extends_on, extends_made}
 use Rattle.theory.proofs.PropagationLemmas.Forced.{forced_assumed, forced_unit, forced_through}
 use Rattle.theory.proofs.PropagationLemmas.Forced.{clash_by_false}
 use Rattle.propagation.proofs.PropagationLemmas.Passes.{has_begun, pushed_each}
-use Rattle.watch.proofs.WatchLemmas.Moves.{entries_moved, still_watched, short_moved, watched_moved, shorts_moved}
-use Rattle.watch.specs.Watched.{watches}
+use Rattle.watch.proofs.WatchLemmas.Moves.{entries_moved, still_watched, short_moved, watched_moved}
+use Rattle.watch.proofs.WatchLemmas.Moves.{shorts_moved}
+use Rattle.watch.specs.Code.Watched.{watches}
 use Rattle.watch.proofs.WatchLemmas.Order.{has-in_order, ordered_same, seen_there}
 use Rattle.watch.proofs.WatchLemmas.Reasons.{reasoned_more, reasoned_same}
 use Rattle.clause_db.proofs.StoreLemmas.Swap.{has_swapped}

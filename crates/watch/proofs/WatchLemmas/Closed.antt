@@ -1,5 +1,6 @@
 -- Where all is propagated, nothing more follows.
-use Rattle.std.proofs.Common.{◌≡◌, ◌≢◌, ℕ, Bool, true, false, cond, eqb, eq-eqb, ◌||◌, Some, List, [], ◌∷◌, length, refl, sym, ap, ◌∙◌, subst, arith, inl, inr}
+use Rattle.std.proofs.Common.{◌≡◌, ◌≢◌, ℕ, Bool, true, false, cond, eqb, eq-eqb, ◌||◌, Some, List}
+use Rattle.std.proofs.Common.{[], ◌∷◌, length, refl, sym, ap, ◌∙◌, subst, arith, inl, inr}
 use Rattle.std.specs.Ordering.{nat_cmp}
 use Rattle.std.specs.FinMap as maps
 use Rattle.std.specs.FinMap.{FinMap}
@@ -8,8 +9,8 @@ use Rattle.cnf_base.specs.Literals.{Literal, complement, Clause, has, size}
 use Rattle.cnf_base.proofs.SetLemmas.{has_head, has_tail, has_cases}
 use Rattle.theory.specs.Propagation.{IsClosed, Clash, by_empty, by_both}
 use Rattle.theory.specs.Sets.{conflicts}
-use Rattle.watch.specs.Order.{in_order, each_in_order}
-use Rattle.watch.specs.Watched.{is_short, short_for, watches, IsMet, HasUnit, IsWatched}
+use Rattle.watch.specs.Code.Order.{in_order, each_in_order}
+use Rattle.watch.specs.Code.Watched.{is_short, short_for, watches, IsMet, HasUnit, IsWatched}
 use Rattle.theory.proofs.PropagationLemmas.Conflicts.{conflict_from}
 use Rattle.watch.proofs.WatchLemmas.Order.{has-in_order, seen_there, there_seen}
 use Rattle.cnf_base.proofs.SizeLemmas.{distinct_parts}

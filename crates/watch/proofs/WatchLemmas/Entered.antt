@@ -1,5 +1,7 @@
 -- What is kept where a clause was added.
-use Rattle.std.proofs.Common.{◌≡◌, ◌≢◌, ℕ, ◌≤◌, Bool, true, false, cond, eqb, eq-eqb, ne_eqb, Option, Some, is_some, List, [], ◌∷◌, ◌++◌, length, take, refl, sym, ap, ◌∙◌, subst, arith, inl, inr, ◌⊎◌}
+use Rattle.std.proofs.Common.{◌≡◌, ◌≢◌, ℕ, ◌≤◌, Bool, true, false, cond, eqb, eq-eqb, ne_eqb}
+use Rattle.std.proofs.Common.{Option, Some, is_some, List, [], ◌∷◌, ◌++◌, length, take, refl, sym}
+use Rattle.std.proofs.Common.{ap, ◌∙◌, subst, arith, inl, inr, ◌⊎◌}
 use Rattle.std.specs.Ordering.{nat_cmp}
 use Rattle.std.specs.FinMap as maps
 use Rattle.std.specs.FinMap.{FinMap}
@@ -8,16 +10,19 @@ use Rattle.std.proofs.lemmas.List.{length-append, take_all, take-append-le}
 use Rattle.cnf_base.specs.Literals.{Literal, complement, Clause, has}
 use Rattle.cnf_base.proofs.SetLemmas.{has_append_left, has_append_right, has_cases, has_head}
 use Rattle.tables.specs.Table.{at}
-use Rattle.watch.specs.Order.{in_order, each_in_order}
-use Rattle.watch.specs.Roots.{AreNoted, AreReasoned, HasReasons, HaveUnits, IsArranged, IsKept, IsKnown}
-use Rattle.watch.specs.Visits.{IsPart}
-use Rattle.watch.specs.Watched.{IsMet, HasUnit, IsWatched}
-use Rattle.theory.specs.declared.left.Left.TheVariants.{Nothing, One, More}
+use Rattle.watch.specs.Code.Order.{in_order, each_in_order}
+use Rattle.watch.specs.Code.Roots.{AreNoted, AreReasoned, HasReasons, HaveUnits, IsArranged, IsKept}
+use Rattle.watch.specs.Code.Roots.{IsKnown}
+use Rattle.watch.specs.Code.Visits.{IsPart}
+use Rattle.watch.specs.Code.Watched.{IsMet, HasUnit, IsWatched}
+use Rattle.propagation.specs.declared.left.Left.TheVariants.{Nothing, One, More}
 use Rattle.watch.specs.declared.roots.Kept.{Kept}
 use Rattle.watch.specs.declared.roots.Kept.TheVariants.{Lost, Behind, All, Clash}
 use Rattle.watch.specs.declared.roots.Roots.{Roots}
 use Rattle.watch.proofs.WatchLemmas.Follow.{front_part, watched_grown}
-use Rattle.watch.proofs.WatchLemmas.Kept.{elsewhere, false_added, gone, noted_added, met_alone, met_open, reasoned_added, unit_alone, unit_open, units_added, watched_added}
+use Rattle.watch.proofs.WatchLemmas.Kept.{elsewhere, false_added, gone, noted_added, met_alone}
+use Rattle.watch.proofs.WatchLemmas.Kept.{met_open, reasoned_added, unit_alone, unit_open}
+use Rattle.watch.proofs.WatchLemmas.Kept.{units_added, watched_added}
 use Rattle.watch.proofs.WatchLemmas.Order.{has-in_order, seen_there}
 use Rattle.watch.proofs.WatchLemmas.Reasons.{reasoned_more, reasoned_same, reasoned_taken}
 use Rattle.watch.proofs.WatchLemmas.Units.{unit_more}

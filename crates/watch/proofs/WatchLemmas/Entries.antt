@@ -1,5 +1,6 @@
 -- The entries of one clause.
-use Rattle.std.proofs.Common.{◌≡◌, ◌≢◌, ℕ, ◌+◌, ◌<◌, ◌≤◌, true, false, cond, eqb, ◌||◌, ◌&&◌, [], ◌∷◌, length, get_or, refl, sym, ap, ◌∙◌, arith}
+use Rattle.std.proofs.Common.{◌≡◌, ◌≢◌, ℕ, ◌+◌, ◌<◌, ◌≤◌, true, false, cond, eqb, ◌||◌, ◌&&◌, []}
+use Rattle.std.proofs.Common.{◌∷◌, length, get_or, refl, sym, ap, ◌∙◌, arith}
 use Rattle.std.specs.Result.{OnErr, OnOk}
 use Rattle.std.specs.declared.result.Result.{Result}
 use Rattle.std.specs.declared.result.Result.TheVariants.{Ok, Err}
@@ -7,7 +8,7 @@ use Rattle.std.proofs.lemmas.Bool.{true≢false, false≢true}
 use Rattle.std.proofs.lemmas.Bool.Decides.{nat_tests}
 use Rattle.cnf_base.specs.Literals.{Literal, Clause, has, size}
 use Rattle.cnf_base.proofs.SetLemmas.{has_head}
-use Rattle.watch.specs.Watched.{watches, is_short}
+use Rattle.watch.specs.Code.Watched.{watches, is_short}
 use Rattle.cnf_base.proofs.SizeLemmas.{distinct_parts}
 
 pub on_ok_map : {R E : Type 0} {X Y : Type 0} → (r : Result R E) → (X → Y) → OnOk r X → OnOk r Y

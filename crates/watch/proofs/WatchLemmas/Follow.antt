@@ -1,5 +1,8 @@
 -- Visits of the clauses in a list, one after the other.
-use Rattle.std.proofs.Common.{◌≡◌, ◌≢◌, ℕ, ◌+◌, ◌<◌, ◌≤◌, Bool, true, false, cond, eqb, eq-eqb, eqb-true, ne_eqb, ◌||◌, Option, Some, None, List, [], ◌∷◌, ◌++◌, length, get_or, take, drop, refl, sym, ap, ◌∙◌, subst, arith, inl, inr}
+use Rattle.std.proofs.Common.{◌≡◌, ◌≢◌, ℕ, ◌+◌, ◌<◌, ◌≤◌, Bool, true, false, cond, eqb, eq-eqb}
+use Rattle.std.proofs.Common.{eqb-true, ne_eqb, ◌||◌, Option, Some, None, List, [], ◌∷◌, ◌++◌}
+use Rattle.std.proofs.Common.{length, get_or, take, drop, refl, sym, ap, ◌∙◌, subst, arith, inl}
+use Rattle.std.proofs.Common.{inr}
 use Rattle.std.proofs.lemmas.Bool.{cases_eq, true≢false, false≢true}
 use Rattle.std.proofs.lemmas.List.{take_all, take-append-drop}
 use Rattle.std.proofs.lemmas.List.Sums.{sum_by_more, sum_by_more_le, sum_by-cons}
@@ -7,9 +10,9 @@ use Rattle.cnf_base.specs.Literals.{Literal, complement, Clause, has}
 use Rattle.cnf_base.proofs.LiteralLemmas.{complement-complement}
 use Rattle.cnf_base.proofs.SetLemmas.{has_append_left}
 use Rattle.theory.specs.Propagation.{Live}
-use Rattle.watch.specs.Lists.{entries_of, strangers, times_in}
-use Rattle.watch.specs.Visits.{IsPart}
-use Rattle.watch.specs.Watched.{watches, entries_for, IsListed, IsMet, IsWatched}
+use Rattle.watch.specs.Code.Lists.{entries_of, strangers, times_in}
+use Rattle.watch.specs.Code.Visits.{IsPart}
+use Rattle.watch.specs.Code.Watched.{watches, entries_for, IsListed, IsMet, IsWatched}
 use Rattle.watch.specs.declared.watcher.Watcher.{Watcher}
 use Rattle.propagation.proofs.PropagationLemmas.Passes.{pushed_each}
 

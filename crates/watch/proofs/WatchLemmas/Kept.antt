@@ -1,5 +1,7 @@
 -- What is kept of the literals that are true with nothing assumed.
-use Rattle.std.proofs.Common.{◌≡◌, ◌≢◌, ℕ, Bool, true, false, ◌||◌, cond, eqb, eqb-true, eq-eqb, ne_eqb, Option, Some, None, is_some, option_map, List, [], ◌∷◌, length, take, refl, sym, ap, ◌∙◌, subst, arith, inl, inr, ◌⊎◌}
+use Rattle.std.proofs.Common.{◌≡◌, ◌≢◌, ℕ, Bool, true, false, ◌||◌, cond, eqb, eqb-true, eq-eqb}
+use Rattle.std.proofs.Common.{ne_eqb, Option, Some, None, is_some, option_map, List, [], ◌∷◌}
+use Rattle.std.proofs.Common.{length, take, refl, sym, ap, ◌∙◌, subst, arith, inl, inr, ◌⊎◌}
 use Rattle.std.specs.Ordering.{nat_cmp}
 use Rattle.std.specs.FinMap as maps
 use Rattle.std.specs.FinMap.{FinMap}
@@ -9,11 +11,13 @@ use Rattle.cnf_base.specs.Literals.{Literal, complement, Clause, has, size}
 use Rattle.tables.specs.Table.{at}
 use Rattle.theory.specs.Propagation.{Clash, Forced}
 use Rattle.propagation.specs.Assumptions.{Assumption, AssumptionsState, roots_in}
-use Rattle.watch.specs.Order.{in_order, each_in_order}
-use Rattle.watch.specs.Roots.{AreForced, AreNoted, AreReasoned, HasReasons, HaveUnits, IsArranged, IsFalseAt, IsKept, IsKnown, IsStanding, is_up_to_date, has_clash}
-use Rattle.watch.specs.Visits.{Carries, IsPart}
-use Rattle.watch.specs.Watched.{IsMet, HasUnit, IsWatched}
-use Rattle.theory.specs.declared.left.Left.TheVariants.{One, More}
+use Rattle.watch.specs.Code.Order.{in_order, each_in_order}
+use Rattle.watch.specs.Code.Roots.{AreForced, AreNoted, AreReasoned, HasReasons, HaveUnits}
+use Rattle.watch.specs.Code.Roots.{IsArranged, IsFalseAt, IsKept, IsKnown, IsStanding}
+use Rattle.watch.specs.Code.Roots.{is_up_to_date, has_clash}
+use Rattle.watch.specs.Code.Visits.{Carries, IsPart}
+use Rattle.watch.specs.Code.Watched.{IsMet, HasUnit, IsWatched}
+use Rattle.propagation.specs.declared.left.Left.TheVariants.{One, More}
 use Rattle.watch.specs.declared.roots.Kept.{Kept}
 use Rattle.watch.specs.declared.roots.Kept.TheVariants.{Lost, Behind, All, Clash as KeptClash}
 use Rattle.watch.specs.declared.roots.Roots.{Roots}
@@ -27,7 +31,8 @@ use Rattle.watch.proofs.WatchLemmas.Follow.{front_part}
 use Rattle.watch.proofs.WatchLemmas.Order.{get_ordered, has-in_order, seen_there}
 use Rattle.clause_db.proofs.StoreLemmas.Sums.{get_remove}
 use Rattle.cnf_base.proofs.SetLemmas.{has_head}
-use Rattle.watch.proofs.WatchLemmas.Reasons.{reasoned_among, reasoned_forced, reasoned_none, reasoned_same}
+use Rattle.watch.proofs.WatchLemmas.Reasons.{reasoned_among, reasoned_forced, reasoned_none}
+use Rattle.watch.proofs.WatchLemmas.Reasons.{reasoned_same}
 
 pub kept_forced : (live : FinMap nat_cmp Clause) (roots : Roots) (lits : List Literal) → IsKept live roots lits → AreForced (maps.get (each_in_order live)) lits
 kept_forced live roots lits kept = reasoned_forced (maps.get (each_in_order live)) (at roots.reasons) lits kept.reasoned

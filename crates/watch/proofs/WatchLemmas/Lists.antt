@@ -1,14 +1,18 @@
 -- Entries in lists.
-use Rattle.std.proofs.Common.{◌≡◌, ℕ, ◌+◌, ◌-◌, ◌<◌, ◌≤◌, ◌&&◌, not, true, false, Bool, cond, eqb, eq-eqb, ne_eqb, List, length, get_or, drop, take, set, slice_get, swap_remove, Vec, sum_by, min, [], ◌∷◌, ◌++◌, refl, sym, ap, ◌∙◌, arith, inl, inr}
+use Rattle.std.proofs.Common.{◌≡◌, ℕ, ◌+◌, ◌-◌, ◌<◌, ◌≤◌, ◌&&◌, not, true, false, Bool, cond, eqb}
+use Rattle.std.proofs.Common.{eq-eqb, ne_eqb, List, length, get_or, drop, take, set, slice_get}
+use Rattle.std.proofs.Common.{swap_remove, Vec, sum_by, min, [], ◌∷◌, ◌++◌, refl, sym, ap, ◌∙◌}
+use Rattle.std.proofs.Common.{arith, inl, inr}
 use Rattle.std.specs.Global.{Global}
 use Rattle.std.proofs.lemmas.Bool.{cases_eq}
 use Rattle.std.proofs.lemmas.Bool.Decides.{nat_tests}
 use Rattle.std.proofs.lemmas.Grind.{get_or_default_zero}
 use Rattle.std.proofs.lemmas.List.{drop-take, take-append-drop, take-take, take_all}
 use Rattle.std.proofs.lemmas.Option.{slice_get-get_or}
-use Rattle.std.proofs.lemmas.List.Sums.{get_or-le-sum_by, sum_by-append, sum_by-le-sum_by, sum_by-set, sum_by-swap_remove, sum_by_more, sum_by_push}
+use Rattle.std.proofs.lemmas.List.Sums.{get_or-le-sum_by, sum_by-append, sum_by-le-sum_by}
+use Rattle.std.proofs.lemmas.List.Sums.{sum_by-set, sum_by-swap_remove, sum_by_more, sum_by_push}
 use Rattle.cnf_base.specs.Literals.{Clause, has}
-use Rattle.watch.specs.Lists.{entries_of, items_of, slot_at, slot_of, strangers, times_in}
+use Rattle.watch.specs.Code.Lists.{entries_of, items_of, slot_at, slot_of, strangers, times_in}
 use Rattle.watch.specs.declared.watcher.Watcher.{Watcher}
 
 pub eqb_turned : (a b : ℕ) → eqb a b ≡ eqb b a

@@ -1,5 +1,8 @@
 -- A clause that watches another literal.
-use Rattle.std.proofs.Common.{◌≡◌, ◌≢◌, ℕ, zero, suc, ◌+◌, ◌<◌, ◌≤◌, Bool, true, false, cond, eqb, eq-eqb, ne_eqb, ◌||◌, ◌&&◌, Option, Some, None, is_some, List, [], ◌∷◌, ◌++◌, length, get_or, set, swap, take, not, refl, sym, ap, ◌∙◌, subst, arith, inl, inr}
+use Rattle.std.proofs.Common.{◌≡◌, ◌≢◌, ℕ, zero, suc, ◌+◌, ◌<◌, ◌≤◌, Bool, true, false, cond, eqb}
+use Rattle.std.proofs.Common.{eq-eqb, ne_eqb, ◌||◌, ◌&&◌, Option, Some, None, is_some, List, []}
+use Rattle.std.proofs.Common.{◌∷◌, ◌++◌, length, get_or, set, swap, take, not, refl, sym, ap, ◌∙◌}
+use Rattle.std.proofs.Common.{subst, arith, inl, inr}
 use Rattle.std.specs.Ordering.{nat_cmp}
 use Rattle.std.specs.FinMap as maps
 use Rattle.std.specs.FinMap.{FinMap}
@@ -12,10 +15,12 @@ use Rattle.std.proofs.lemmas.Option.{same_Some}
 use Rattle.cnf_base.specs.Literals.{Literal, complement, Clause, has, size}
 use Rattle.cnf_base.proofs.SetLemmas.{has_head, has_tail}
 use Rattle.theory.specs.Propagation.{Live}
-use Rattle.watch.specs.Lists.{entries_of, strangers}
-use Rattle.watch.specs.Watched.{watches, is_short, entries_for, short_for, IsListed, IsMet, IsWatched}
+use Rattle.watch.specs.Code.Lists.{entries_of, strangers}
+use Rattle.watch.specs.Code.Watched.{watches, is_short, entries_for, short_for, IsListed, IsMet}
+use Rattle.watch.specs.Code.Watched.{IsWatched}
 use Rattle.propagation.proofs.MemberLemmas.{has_place, has_front}
-use Rattle.watch.proofs.WatchLemmas.Lists.{blocking_own, eqb_turned, strangers_alike, strangers_pushed}
+use Rattle.watch.proofs.WatchLemmas.Lists.{blocking_own, eqb_turned, strangers_alike}
+use Rattle.watch.proofs.WatchLemmas.Lists.{strangers_pushed}
 use Rattle.watch.specs.declared.watcher.Watcher.{Watcher}
 use Rattle.cnf_base.proofs.SizeLemmas.{distinct_parts, distinct_before}
 use Rattle.clause_db.proofs.StoreLemmas.Sums.{get_insert, same_maps}

@@ -1,11 +1,14 @@
 -- Lists that are found at once, and the others.
-use Rattle.std.proofs.Common.{◌≡◌, ℕ, ◌<◌, ◌≤◌, Bool, true, false, ◌||◌, nat_lt, cond, eqb, eq-eqb, ne_eqb, Some, None, List, [], ◌∷◌, ◌++◌, length, get_or, set, slice_get, Vec, refl, sym, ap, ◌∙◌, subst, arith, inl, inr}
+use Rattle.std.proofs.Common.{◌≡◌, ℕ, ◌<◌, ◌≤◌, Bool, true, false, ◌||◌, nat_lt, cond, eqb, eq-eqb}
+use Rattle.std.proofs.Common.{ne_eqb, Some, None, List, [], ◌∷◌, ◌++◌, length, get_or, set}
+use Rattle.std.proofs.Common.{slice_get, Vec, refl, sym, ap, ◌∙◌, subst, arith, inl, inr}
 use Rattle.std.specs.Global.{Global}
 use Rattle.std.proofs.lemmas.Bool.{cases_eq, cases_lt, or_right}
 use Rattle.std.proofs.lemmas.Bool.Decides.{nat_tests}
-use Rattle.std.proofs.lemmas.List.{get_or_append_left, get_or_push, get_or-set_other, get_or-set_same, length-append, length-set}
+use Rattle.std.proofs.lemmas.List.{get_or_append_left, get_or_push, get_or-set_other}
+use Rattle.std.proofs.lemmas.List.{get_or-set_same, length-append, length-set}
 use Rattle.std.proofs.lemmas.Option.{slice_get-get_or, slice_get_past}
-use Rattle.watch.specs.Lists.{near_or}
+use Rattle.watch.specs.Code.Lists.{near_or}
 use Rattle.watch.specs.declared.watcher.Watcher.{Watcher}
 
 same_place : (xs ys : List (Vec Watcher Global)) (k : ℕ) (d : Vec Watcher Global) → length ys ≡ length xs → get_or ys k d ≡ get_or xs k d → slice_get ys k ≡ slice_get xs k

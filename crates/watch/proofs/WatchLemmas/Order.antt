@@ -1,5 +1,7 @@
 -- Clauses in order are the same sets.
-use Rattle.std.proofs.Common.{◌≡◌, ◌≢◌, ℕ, ◌+◌, Bool, true, false, cond, eqb, eqb-true, eq-eqb, filter, ◌&&◌, ◌||◌, T, Option, Some, None, option_map, is_some, List, [], ◌∷◌, map, sum_by, refl, sym, ap, ◌∙◌, subst, arith}
+use Rattle.std.proofs.Common.{◌≡◌, ◌≢◌, ℕ, ◌+◌, Bool, true, false, cond, eqb, eqb-true, eq-eqb}
+use Rattle.std.proofs.Common.{filter, ◌&&◌, ◌||◌, T, Option, Some, None, option_map, is_some, List}
+use Rattle.std.proofs.Common.{[], ◌∷◌, map, sum_by, refl, sym, ap, ◌∙◌, subst, arith}
 use Rattle.std.specs.Ordering.{nat_cmp, is_lt, eq_by_cmp}
 use Rattle.std.specs.Cmp.{nat_cmp_total}
 use Rattle.std.specs.List.{list_any}
@@ -13,10 +15,11 @@ use Rattle.std.proofs.lemmas.Option.{none-some, same_Some}
 use Rattle.cnf_base.specs.Literals.{Literal, Clause, complement, complements, has, same_clause}
 use Rattle.cnf_base.specs.Literals.{size}
 use Rattle.cnf_base.proofs.LiteralLemmas.{complement-complement}
-use Rattle.cnf_base.proofs.SetLemmas.{both_pass, complements_has, filter_has, has-complements, has-filter, same_from}
+use Rattle.cnf_base.proofs.SetLemmas.{both_pass, complements_has, filter_has, has-complements}
+use Rattle.cnf_base.proofs.SetLemmas.{has-filter, same_from}
 use Rattle.propagation.specs.Assumptions.{HasAt}
-use Rattle.clause_db.specs.Store.Clauses.{sum_over, literals_in, copies_with}
-use Rattle.watch.specs.Order.{set_of, in_order, each_in_order}
+use Rattle.clause_db.specs.Store.{sum_over, literals_in, copies_with}
+use Rattle.watch.specs.Code.Order.{set_of, in_order, each_in_order}
 use Rattle.cnf_base.proofs.SizeLemmas.{size_same}
 use Rattle.clause_db.proofs.StoreLemmas.Sums.{get_insert, get_remove, same_maps}
 

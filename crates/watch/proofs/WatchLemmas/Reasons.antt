@@ -1,12 +1,13 @@
 -- Literals that follow from their reasons.
-use Rattle.std.proofs.Common.{◌≡◌, ◌≢◌, ℕ, true, Option, Some, is_some, List, [], ◌∷◌, ◌++◌, sym, ap, ◌∙◌, subst, inl, inr}
+use Rattle.std.proofs.Common.{◌≡◌, ◌≢◌, ℕ, true, Option, Some, is_some, List, [], ◌∷◌, ◌++◌, sym}
+use Rattle.std.proofs.Common.{ap, ◌∙◌, subst, inl, inr}
 use Rattle.std.proofs.lemmas.Bool.{cases_eq, false≢true}
 use Rattle.std.proofs.lemmas.Option.{same_Some}
 use Rattle.cnf_base.specs.Literals.{Literal, complement, Clause, has}
 use Rattle.cnf_base.proofs.SetLemmas.{has_append_left, has_append_right, has_head}
 use Rattle.theory.specs.Propagation.{Live, Forced}
 use Rattle.propagation.specs.Assumptions.{HasAt}
-use Rattle.watch.specs.Roots.{AreReasoned}
+use Rattle.watch.specs.Code.Roots.{AreReasoned}
 use Rattle.propagation.proofs.PropagationLemmas.Passes.{pushed_each}
 
 pub reasoned_none : (live : Live) (reason_of : Literal → Option ℕ) (lits : List Literal) → lits ≡ [] → AreReasoned live reason_of lits

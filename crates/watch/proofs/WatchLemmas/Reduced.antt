@@ -1,5 +1,6 @@
 -- Clauses that a set reduces, in order.
-use Rattle.std.proofs.Common.{◌≡◌, ℕ, ◌&&◌, Bool, not, Option, Some, None, option_map, refl, sym, ap, ◌∙◌}
+use Rattle.std.proofs.Common.{◌≡◌, ℕ, ◌&&◌, Bool, not, Option, Some, None, option_map, refl, sym}
+use Rattle.std.proofs.Common.{ap, ◌∙◌}
 use Rattle.std.specs.List.{list_any}
 use Rattle.std.specs.Ordering.{nat_cmp}
 use Rattle.std.specs.FinMap as maps
@@ -7,7 +8,7 @@ use Rattle.std.specs.FinMap.{FinMap}
 use Rattle.cnf_base.specs.Literals.{Literal, Clause, complement}
 use Rattle.cnf_base.proofs.SetLemmas.{any_from, any_some, both_pass}
 use Rattle.propagation.specs.LiteralSet.{reduced_there}
-use Rattle.watch.specs.Order.{each_in_order, in_order}
+use Rattle.watch.specs.Code.Order.{each_in_order, in_order}
 use Rattle.watch.proofs.WatchLemmas.Order.{get_ordered, has-in_order}
 
 any_ordered : (p : Literal → Bool) (c : Clause) → list_any p (in_order c) ≡ list_any p c

@@ -8,7 +8,7 @@ use Rattle.cnf_base.proofs.SetLemmas.{same_from}
 use Rattle.theory.specs.Propagation.{Forced, IsRootReason}
 use Rattle.propagation.specs.Trail.{HasRoomForAll}
 use Rattle.theory.proofs.PropagationLemmas.Covers.{Covers, forced_covers, reason_covers}
-use Rattle.watch.specs.Order.{in_order, each_in_order}
+use Rattle.watch.specs.Code.Order.{in_order, each_in_order}
 use Rattle.watch.proofs.WatchLemmas.Order.{has-in_order, seen_there, there_seen}
 
 module _ (live : FinMap nat_cmp Clause) where

@@ -1,8 +1,9 @@
 -- Slots by their places.
-use Rattle.std.proofs.Common.{◌≡◌, ℕ, ◌<◌, true, Option, Some, None, List, length, get_or, sym, ap, ◌∙◌, subst}
+use Rattle.std.proofs.Common.{◌≡◌, ℕ, ◌<◌, true, Option, Some, None, List, length, get_or, sym, ap}
+use Rattle.std.proofs.Common.{◌∙◌, subst}
 use Rattle.std.proofs.lemmas.Option.{none-some, same_Some}
 use Rattle.cnf_base.specs.Literals.{has}
-use Rattle.watch.specs.SlotList.{IsPlaced}
+use Rattle.watch.specs.Code.SlotList.{IsPlaced}
 use Rattle.propagation.proofs.MemberLemmas.{place_of as place_in}
 
 module _ (slots : List ℕ) (place_of : ℕ → Option ℕ) (placed : IsPlaced slots place_of) (s : ℕ) (there : has slots s ≡ true) where

@@ -1,5 +1,8 @@
 -- What holds of watched literals, as assumptions come and go.
-use Rattle.std.proofs.Common.{◌≡◌, ◌≢◌, ℕ, suc, ◌+◌, ◌*◌, ◌/◌, ◌<◌, ◌≤◌, Bool, true, false, not, ◌&&◌, cond, eqb, eq-eqb, ne_eqb, Option, Some, None, is_some, nat_le, drop, slice_index, List, [], ◌∷◌, length, take, refl, sym, ap, ◌∙◌, subst, arith, inl, inr}
+use Rattle.std.proofs.Common.{◌≡◌, ◌≢◌, ℕ, suc, ◌+◌, ◌*◌, ◌/◌, ◌<◌, ◌≤◌, Bool, true, false, not}
+use Rattle.std.proofs.Common.{◌&&◌, cond, eqb, eq-eqb, ne_eqb, Option, Some, None, is_some, nat_le}
+use Rattle.std.proofs.Common.{drop, slice_index, List, [], ◌∷◌, length, take, refl, sym, ap, ◌∙◌}
+use Rattle.std.proofs.Common.{subst, arith, inl, inr}
 use Rattle.std.specs.Ordering.{nat_cmp}
 use Rattle.std.specs.FinMap as maps
 use Rattle.std.specs.FinMap.{FinMap}
@@ -8,16 +11,18 @@ use Rattle.std.proofs.lemmas.Bool.{cases_eq, false≢true}
 use Rattle.std.proofs.lemmas.Option.{none-some, same_Some}
 use Rattle.cnf_base.specs.Literals.{Literal, Clause, has, size}
 use Rattle.propagation.specs.Assumptions.{Assumption, AssumptionsState, Propagation, roots_in}
-use Rattle.propagation.specs.Exact.{AreExact}
-use Rattle.propagation.specs.Scan.{IsHeld}
+use Rattle.propagation.specs.Code.Exact.{AreExact}
+use Rattle.propagation.specs.Code.Scan.{IsHeld}
 use Rattle.theory.specs.Sets.{SameSet}
 use Rattle.propagation.specs.Trail.{HasRoomForAll}
-use Rattle.watch.specs.Lists.{AreApart, entries_in, entries_of, list_at, strangers, times_in}
-use Rattle.watch.specs.Order.{each_in_order}
-use Rattle.watch.specs.Roots.{AreForced, IsKept, IsKnown, IsStanding, is_up_to_date}
-use Rattle.watch.specs.State.{IsWatch}
-use Rattle.watch.specs.Visits.{Carries, IsPart}
-use Rattle.watch.specs.Watched.{AreWatched, IsListed, IsShortList, IsWatched, watches, is_short, entries_for, short_for, long_clauses, short_clauses}
+use Rattle.watch.specs.Code.Lists.{AreApart, entries_in, entries_of, list_at, strangers, times_in}
+use Rattle.watch.specs.Code.Order.{each_in_order}
+use Rattle.watch.specs.Code.Roots.{AreForced, IsKept, IsKnown, IsStanding, is_up_to_date}
+use Rattle.watch.specs.Code.State.{IsWatch}
+use Rattle.watch.specs.Code.Visits.{Carries, IsPart}
+use Rattle.watch.specs.Code.Watched.{AreWatched, IsListed, IsShortList, IsWatched, watches}
+use Rattle.watch.specs.Code.Watched.{is_short, entries_for, short_for}
+use Rattle.watch.specs.Watched.{long_clauses, short_clauses}
 use Rattle.propagation.specs.declared.answer.Answer.{Answer}
 use Rattle.propagation.specs.declared.answer.Answer.TheVariants.{Quiet}
 use Rattle.watch.specs.declared.lists.WatchLists.{WatchLists}
@@ -33,7 +38,8 @@ use Rattle.watch.proofs.WatchLemmas.Kept.{kept_carried, kept_forced, roots_alone
 use Rattle.watch.proofs.WatchLemmas.Moves.{and_false, and_true}
 use Rattle.watch.proofs.WatchLemmas.Order.{ordered_empty, size-in_order, sum_ordered}
 use Rattle.watch.proofs.WatchLemmas.Reasons.{reasoned_none, reasoned_same, reasoned_some}
-use Rattle.clause_db.proofs.StoreLemmas.Sums.{get_insert, get_remove, sum_insert, sum_remove, sum_empty}
+use Rattle.clause_db.proofs.StoreLemmas.Sums.{get_insert, get_remove, sum_insert, sum_remove}
+use Rattle.clause_db.proofs.StoreLemmas.Sums.{sum_empty}
 
 -- ---- Numbers
 

@@ -1,5 +1,7 @@
 -- The clauses of one literal and of none.
-use Rattle.std.proofs.Common.{◌≡◌, ℕ, ◌+◌, ◌<◌, ◌≤◌, Bool, true, false, not, cond, eqb, eq-eqb, Option, Some, None, List, [], ◌∷◌, ◌++◌, length, get_or, take, refl, sym, ap, ◌∙◌, subst, arith, inl, inr}
+use Rattle.std.proofs.Common.{◌≡◌, ℕ, ◌+◌, ◌<◌, ◌≤◌, Bool, true, false, not, cond, eqb, eq-eqb}
+use Rattle.std.proofs.Common.{Option, Some, None, List, [], ◌∷◌, ◌++◌, length, get_or, take, refl}
+use Rattle.std.proofs.Common.{sym, ap, ◌∙◌, subst, arith, inl, inr}
 use Rattle.std.proofs.lemmas.Bool.{true≢false, false≢true, not-false}
 use Rattle.std.proofs.lemmas.List.{take_all, take_more}
 use Rattle.std.proofs.lemmas.List.Sums.{get_or-le-sum_by}
@@ -7,8 +9,8 @@ use Rattle.std.proofs.lemmas.Option.{same_Some}
 use Rattle.cnf_base.specs.Literals.{Literal, Clause, has}
 use Rattle.cnf_base.proofs.SetLemmas.{has_append_right, has_cases, has_head}
 use Rattle.theory.specs.Propagation.{Live}
-use Rattle.watch.specs.Visits.{IsPart}
-use Rattle.watch.specs.Watched.{is_short, short_for, IsShortList, HasUnit}
+use Rattle.watch.specs.Code.Visits.{IsPart}
+use Rattle.watch.specs.Code.Watched.{is_short, short_for, IsShortList, HasUnit}
 use Rattle.propagation.proofs.PropagationLemmas.Passes.{pushed_each}
 use Rattle.watch.proofs.WatchLemmas.Follow.{has_times}
 

@@ -1,7 +1,8 @@
 //! The pages of page numbers.
 
-ghost use Rattle.std.specs.Prelude.{◌≡◌, ℕ, ◌<◌, ◌≤◌, ◌==◌, ◌^◌, if◌then◌else◌, IfSome, IfNone, OnOk, OnErr};
-ghost use Rattle.clause_db.specs.Store.Ids.{page_at, far_page, IsFirst};
+ghost use Rattle.std.specs.Prelude.{◌≡◌, ℕ, ◌<◌, ◌≤◌, ◌==◌, ◌^◌, if◌then◌else◌, IfSome, IfNone};
+ghost use Rattle.std.specs.Prelude.{OnOk, OnErr};
+ghost use Rattle.clause_db.specs.Code.Ids.{page_at, far_page, IsFirst};
 
 use crate::store::ids::row::{first_set, lengthen};
 use cnf_base::OutOfMemory;
@@ -39,7 +40,7 @@ fn first_far(far: &BTreeMap<u64, u32>, from: u64) -> Option<u64>
     }
 }
 
-#[tactic(auto, unfolding(crate::specs::Store::Ids::page_at))]
+#[tactic(auto, unfolding(crate::specs::Code::Ids::page_at))]
 impl Directory {
     /// No pages. It takes no memory.
     pub(crate) fn new(alloc: Global) -> Self

@@ -1,7 +1,9 @@
 //! Pages of entries.
 
-ghost use Rattle.std.specs.Prelude.{◌≡◌, ◌≢◌, ℕ, ◌+◌, ◌-◌, ◌*◌, ◌<◌, ◌≤◌, length, slice_index, slice_set, IsTrue, IfOk};
-ghost use Rattle.clause_db.specs.Store.Ids.{place, HasPage, IsCounted, IsEmptyPage, IsVacant, ReadsSame};
+ghost use Rattle.std.specs.Prelude.{◌≡◌, ◌≢◌, ℕ, ◌+◌, ◌-◌, ◌*◌, ◌<◌, ◌≤◌, length, slice_index};
+ghost use Rattle.std.specs.Prelude.{slice_set, IsTrue, IfOk};
+ghost use Rattle.clause_db.specs.Code.Ids.{place, HasPage, IsCounted, IsEmptyPage, IsVacant};
+ghost use Rattle.clause_db.specs.Code.Ids.{ReadsSame};
 
 use crate::store::ids::row::lengthen;
 use cnf_base::OutOfMemory;

@@ -1,7 +1,7 @@
 //! Rows of numbers, where 0 is nothing.
 
 ghost use Rattle.std.specs.Prelude.{◌≡◌, ℕ, ◌<◌, ◌≤◌, length, slice_index, IfSome, IfNone, OnOk};
-ghost use Rattle.clause_db.specs.Store.Ids.{IsFirst};
+ghost use Rattle.clause_db.specs.Code.Ids.{IsFirst};
 
 use cnf_base::OutOfMemory;
 

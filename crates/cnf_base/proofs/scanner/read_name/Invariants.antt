@@ -1,7 +1,7 @@
 -- The bytes so far are a run, and its first ones are kept.
 use Rattle.std.proofs.Common.{List, ℕ}
 use Rattle.cnf_base.specs.Stream.{most_to_come}
-use Rattle.cnf_base.specs.Digits.{AreKept}
+use Rattle.cnf_base.specs.Code.Digits.{AreKept}
 use Rattle.cnf_base.proofs.RunLemmas.{InRun}
 use Rattle.cnf_base.proofs.WordLemmas.{IsName}
 use Rattle.cnf_base.proofs.scanner.read_name.Given as goal

@@ -4,7 +4,7 @@ use Rattle.std.specs.Prelude.{Ok, Err}
 use Rattle.proofs.specs.declared.moved.Moved.TheVariants.{To, Complete}
 use Rattle.proofs.specs.declared.drat_binary.stopped.Stopped.TheVariants.{Binary}
 use Rattle.cnf_base.specs.declared.input.Ending.TheVariants.{End}
-use Rattle.proofs.specs.TextMoves.{EndsProof}
+use Rattle.proofs.specs.Code.TextMoves.{EndsProof}
 use Rattle.proofs.specs.Binary.{at_tag, binary_at_end}
 use Rattle.proofs.proofs.BinaryLemmas.{Between-none, Between-end, Between-byte, Between-step, Between-fault, Between-refused, moves_told}
 use Rattle.proofs.proofs.drat_binary.read_step.Goals as goal

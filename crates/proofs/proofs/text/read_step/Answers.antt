@@ -8,7 +8,7 @@ use Rattle.proofs.specs.declared.moved.Moved.TheVariants.{To, Complete}
 use Rattle.proofs.specs.declared.stopped.Stopped.{Stopped}
 use Rattle.proofs.specs.declared.stopped.Stopped.TheVariants.{Text}
 use Rattle.proofs.specs.TextSteps.{move_of}
-use Rattle.proofs.specs.TextMoves.{FitsMoved}
+use Rattle.proofs.specs.Code.TextMoves.{FitsMoved}
 use Rattle.proofs.proofs.TextLemmas.{Between-start, Between-line, Between-word, Between-step, Between-fault, Between-refused, Between-end, Between-failed, moves_told}
 use Rattle.proofs.proofs.text.read_step.Goals as goal
 
@@ -22,7 +22,7 @@ loop-place-preserved-in-Ok-To g c =
     let P : Result (Moved g.row.P.Denot) Stopped → Type 0 = λ r. FitsMoved g.P.Part.fits r c.move_on.new.step in
     rw c.in-Ok-To.next-is (
       Between-word g.P.Part.format _ _ _ _ _ c.loop-place.invariant.0 c.in-Ok-Word.place c.in-Ok-Word.word (told _ _ _ (Ok (token.Word c.in-Ok-Word.place c.in-Ok-Word.word)) c.next.ensures.tokens (search rules))
-          c.in-Ok-To.next c.move_on.new.step (moves_told _ next (move_of g.P.Part.format c.loop-place.part c.loop-place.step c.in-Ok-Word.word) _ c.move_on.ensures.moves is) (search rules) (search rules),
+          (g.P.Part.spot c.in-Ok-To.next) c.move_on.new.step (moves_told g.P.Part.spot _ next (move_of g.P.Part.format (g.P.Part.spot c.loop-place.part) c.loop-place.step c.in-Ok-Word.word) _ c.move_on.ensures.moves is) (search rules) (search rules),
       subst P is c.move_on.ensures.fits,
     )
 
@@ -31,14 +31,14 @@ returns-in-Ok-Complete-clause-step g c =
     let complete : Result (Moved g.row.P.Denot) Stopped = Ok Complete in
     let is : c.move_on.result ≡ complete = search rules in
     Between-step g.P.Part.format _ _ _ _ _ c.loop-place.invariant.0 c.in-Ok-Word.place c.in-Ok-Word.word (told _ _ _ (Ok (token.Word c.in-Ok-Word.place c.in-Ok-Word.word)) c.next.ensures.tokens (search rules))
-    _ (search rules) c.move_on.new.step (moves_told _ complete (move_of g.P.Part.format c.loop-place.part c.loop-place.step c.in-Ok-Word.word) _ c.move_on.ensures.moves is)
+    _ (search rules) c.move_on.new.step (moves_told g.P.Part.spot _ complete (move_of g.P.Part.format (g.P.Part.spot c.loop-place.part) c.loop-place.step c.in-Ok-Word.word) _ c.move_on.ensures.moves is)
 
 pub returns-in-Err-Text-clause-step : goal.returns-in-Err-Text-clause-step
 returns-in-Err-Text-clause-step g c =
     let stopped : Result (Moved g.row.P.Denot) Stopped = Err (Text c.in-Err-Text.kind) in
     let is : c.move_on.result ≡ stopped = search rules in
     Between-fault g.P.Part.format _ _ _ _ _ c.loop-place.invariant.0 c.in-Ok-Word.place c.in-Ok-Word.word (told _ _ _ (Ok (token.Word c.in-Ok-Word.place c.in-Ok-Word.word)) c.next.ensures.tokens (search rules))
-    c.in-Err-Text.kind c.move_on.new.step (moves_told _ stopped (move_of g.P.Part.format c.loop-place.part c.loop-place.step c.in-Ok-Word.word) _ c.move_on.ensures.moves is)
+    c.in-Err-Text.kind c.move_on.new.step (moves_told g.P.Part.spot _ stopped (move_of g.P.Part.format (g.P.Part.spot c.loop-place.part) c.loop-place.step c.in-Ok-Word.word) _ c.move_on.ensures.moves is)
 
 pub returns-in-Err-OutOfMemory-clause-step : goal.returns-in-Err-OutOfMemory-clause-step
 returns-in-Err-OutOfMemory-clause-step g c =

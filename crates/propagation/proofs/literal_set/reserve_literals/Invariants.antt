@@ -1,6 +1,6 @@
 use Rattle.std.proofs.Common.{◌≡◌, ℕ, true, take, IsSome}
 use Rattle.cnf_base.specs.Literals.{has}
-use Rattle.propagation.specs.Levels.{number_at}
+use Rattle.propagation.specs.Numbers.{number_at}
 use Rattle.tables.specs.Table.{at}
 use Rattle.propagation.proofs.literal_set.reserve_literals.Given as goal
 

@@ -3,9 +3,10 @@ use Rattle.std.specs.Bool.{OnFalse}
 use Rattle.std.specs.FinMap as maps
 use Rattle.cnf_base.specs.Literals.{complements, has}
 use Rattle.propagation.specs.Assumptions.{assumed_by}
-use Rattle.propagation.specs.Exact.{IsExact}
+use Rattle.propagation.specs.Code.Exact.{IsExact}
 use Rattle.theory.specs.Sets.{SameSet}
-use Rattle.propagation.proofs.PropagationLemmas.Scan.{no_roots, part_clashes, part_answer, part_exact, scan_after}
+use Rattle.propagation.proofs.PropagationLemmas.Scan.{no_roots, part_clashes, part_answer}
+use Rattle.propagation.proofs.PropagationLemmas.Scan.{part_exact, scan_after}
 use Rattle.propagation.proofs.PropagationLemmas.Exact.{begins_on, longer_from}
 use Rattle.propagation.proofs.scan.assume_part.Goals as goal
 

@@ -1,6 +1,6 @@
 use Rattle.std.proofs.Common.{ℕ, ◌∙◌, refl, Some, cond, eqb, Option}
 use Rattle.cnf_base.specs.Literals.{complement}
-use Rattle.propagation.specs.Values.{value_at, known_value}
+use Rattle.propagation.specs.Code.Values.{value_at, known_value}
 use Rattle.propagation.specs.declared.value.Value.{Value}
 use Rattle.propagation.specs.declared.value.Value.TheVariants.{Open}
 use Rattle.clause_db.proofs.StoreLemmas.Marks.{is_in}

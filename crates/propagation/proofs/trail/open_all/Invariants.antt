@@ -1,6 +1,6 @@
 use Rattle.std.proofs.Common.{◌≡◌, ℕ, ◌||◌, cond, is_some, take}
 use Rattle.cnf_base.specs.Literals.{complement, has}
-use Rattle.propagation.specs.Values.{value_at, known_value}
+use Rattle.propagation.specs.Code.Values.{value_at, known_value}
 use Rattle.propagation.specs.declared.value.Value.TheVariants.{Open}
 use Rattle.propagation.proofs.trail.open_all.Given as goal
 

@@ -1,5 +1,6 @@
 use Rattle.std.proofs.Common.{◌≡◌, take}
-use Rattle.theory.specs.Left.{open_literals, how_many}
+use Rattle.theory.specs.Propagation.{open_literals}
+use Rattle.propagation.specs.Left.{how_many}
 use Rattle.propagation.proofs.truths.left_of.Given as goal
 
 abbrev pub invariant-loop-l : goal.invariant-loop-l

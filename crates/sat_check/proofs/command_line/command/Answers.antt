@@ -1,7 +1,7 @@
 use Rattle.std.proofs.Common.{◌≡◌, ◌∙◌, ap, ap₂, sym, codes}
 use Rattle.std.proofs.lemmas.Result.{IfOk-weaker}
 use Rattle.clap.specs.Words.{app_of, with_rule}
-use Rattle.sat_check.specs.CommandLine.Commands.{command_of, flag_rule, new_command}
+use Rattle.sat_check.specs.Code.Commands.{command_of, flag_rule, new_command}
 use Rattle.sat_check.proofs.command_line.command.Goals as goal
 
 pub returns-in_ok-arg-in-Drat-6 : goal.returns-in_ok-arg-in-Drat-6

@@ -1,7 +1,9 @@
 -- Want of memory, or the check in the form that was asked for.
 use Rattle.std.proofs.Common.{refl, sym, ap, rules}
-use Rattle.proofs.specs.Binary.{binary_steps, binary_to_come}
-use Rattle.proofs.specs.Drat.{drat as drat_format, drat_steps, drat_to_come}
+use Rattle.proofs.specs.Binary.{binary_steps}
+use Rattle.proofs.specs.Code.Binary.{binary_to_come}
+use Rattle.proofs.specs.Drat.{drat as drat_format, drat_steps}
+use Rattle.proofs.specs.Code.Drat.{drat_to_come}
 use Rattle.sat_check.specs.Report.{drat_proof, rules_of}
 use Rattle.theory.specs.Rules.{drat}
 use Rattle.sat_check.proofs.LoadLemmas.{drat_unused}

@@ -1,6 +1,7 @@
 -- Want of memory, or the check.
 use Rattle.std.proofs.Common.{refl, rules}
-use Rattle.proofs.specs.Lrat.{lrat as lrat_format, lrat_steps, lrat_to_come}
+use Rattle.proofs.specs.Lrat.{lrat as lrat_format, lrat_steps}
+use Rattle.proofs.specs.Code.Lrat.{lrat_to_come}
 use Rattle.proofs.proofs.ReachLemmas.{steps_of-within}
 use Rattle.theory.specs.Rules.{lrat}
 use Rattle.sat_check.proofs.LoadLemmas.{lrat_unused}

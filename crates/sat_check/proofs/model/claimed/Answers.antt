@@ -1,7 +1,7 @@
 -- What was seen of the output.
 use Rattle.std.proofs.Common.{◌≡◌, ℕ, List, refl, sym, subst, rules}
 use Rattle.std.specs.Prelude.{Result, Err}
-use Rattle.cnf_base.specs.Seen.{OfSeen}
+use Rattle.cnf_base.specs.Code.Seen.{OfSeen}
 use Rattle.cnf_base.specs.declared.fault.Fault.{Fault}
 use Rattle.cnf_base.specs.declared.fault.Fault.TheVariants.{OutOfMemory}
 use Rattle.dimacs.specs.Claim.{IsClaim, claim_at, claim_of}

@@ -1,6 +1,6 @@
 use Rattle.std.specs.FinMap as maps
 use Rattle.theory.specs.Lrat.{with_clause, SameClauses}
-use Rattle.steps.specs.Lrat.Session.{IsReady}
+use Rattle.steps.specs.Code.LratSession.{IsReady}
 use Rattle.steps.proofs.LratLemmas.Rooms.{ready_roomed, ready_with, on_ok}
 use Rattle.steps.proofs.lrat.add_input.Goals as goal
 

@@ -2,7 +2,7 @@ use Rattle.std.proofs.Common.{map, nat_abs, sym, ◌∙◌, subst}
 use Rattle.std.specs.FinMap as maps
 use Rattle.theory.specs.Answers.{StepAnswer, UnlessOutOfMemory}
 use Rattle.theory.specs.Lrat.{AnswersLrat, lrat_step}
-use Rattle.steps.specs.Lrat.Shelf.{shelf_state}
+use Rattle.steps.specs.Code.Shelf.{shelf_state}
 use Rattle.steps.proofs.LratLemmas.Ending.{never_ended}
 use Rattle.steps.proofs.LratLemmas.Rooms.{ready_without, deleted_live}
 use Rattle.steps.proofs.lrat.take_step.Goals as goal

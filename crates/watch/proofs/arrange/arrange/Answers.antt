@@ -1,8 +1,9 @@
 use Rattle.std.proofs.Common.{◌<◌, length, get_or, sym, ap, ◌∙◌, subst}
 use Rattle.std.proofs.lemmas.Grind.{get_or_default_zero}
 use Rattle.std.proofs.lemmas.Option.{same_Some}
-use Rattle.watch.specs.Roots.{IsBrought}
-use Rattle.watch.proofs.WatchLemmas.Arrange.{arranged_more, arranged_nothing, arranged_one, one_inside}
+use Rattle.watch.specs.Code.Roots.{IsBrought}
+use Rattle.watch.proofs.WatchLemmas.Arrange.{arranged_more, arranged_nothing, arranged_one}
+use Rattle.watch.proofs.WatchLemmas.Arrange.{one_inside}
 use Rattle.watch.proofs.WatchLemmas.Order.{alive_clause}
 use Rattle.watch.proofs.arrange.arrange.Goals as goal
 

@@ -1,8 +1,8 @@
 use Rattle.std.proofs.lemmas.Grind.{common_steps}
 use Rattle.std.proofs.Common.{rules, ◌≡◌, ℕ, ◌+◌, ◌&&◌, cond, eqb, sym, ap, ◌∙◌, subst, arith}
 use Rattle.std.proofs.lemmas.Option.{same_Some}
-use Rattle.watch.specs.Lists.{entries_of, list_at}
-use Rattle.watch.specs.Watched.{watches}
+use Rattle.watch.specs.Code.Lists.{entries_of, list_at}
+use Rattle.watch.specs.Code.Watched.{watches}
 use Rattle.watch.proofs.WatchLemmas.Entries.{on_ok_map, two_apart, two_watched, one_each}
 use Rattle.watch.proofs.entries.add_entries.Goals as goal
 

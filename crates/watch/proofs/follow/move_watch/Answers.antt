@@ -1,16 +1,18 @@
-use Rattle.std.proofs.Common.{ℕ, ◌+◌, ◌≤◌, ◌++◌, ◌∷◌, [], cond, eqb, ne_eqb, refl, sym, ap, ◌∙◌, subst, arith}
+use Rattle.std.proofs.Common.{ℕ, ◌+◌, ◌≤◌, ◌++◌, ◌∷◌, [], cond, eqb, ne_eqb, refl, sym, ap, ◌∙◌}
+use Rattle.std.proofs.Common.{subst, arith}
 use Rattle.std.specs.List.{swap}
 use Rattle.std.specs.FinMap as maps
 use Rattle.std.proofs.lemmas.List.Edits.{length-swap}
 use Rattle.clause_db.proofs.StoreLemmas.Swap.{has_swapped}
 use Rattle.cnf_base.specs.Literals.{Clause}
-use Rattle.watch.specs.Lists.{entries_of, list_at, strangers}
-use Rattle.watch.specs.Visits.{with_list}
-use Rattle.watch.specs.Watched.{IsListed}
+use Rattle.watch.specs.Code.Lists.{entries_of, list_at, strangers}
+use Rattle.watch.specs.Code.Visits.{with_list}
+use Rattle.watch.specs.Code.Watched.{IsListed}
 use Rattle.watch.specs.declared.watcher.Watcher.{Watcher}
 use Rattle.watch.proofs.WatchLemmas.Follow.{listed_alike}
 use Rattle.watch.proofs.WatchLemmas.Lists.{entries_taken, slot_is, strangers_left}
-use Rattle.watch.proofs.WatchLemmas.Moves.{at_inserted, entries_moved, places_apart, put_back, strangers_moved, swap_back, times_moved, listed_moved}
+use Rattle.watch.proofs.WatchLemmas.Moves.{at_inserted, entries_moved, places_apart, put_back}
+use Rattle.watch.proofs.WatchLemmas.Moves.{strangers_moved, swap_back, times_moved, listed_moved}
 use Rattle.watch.proofs.follow.move_watch.Goals as goal
 
 pub swap-requires-in-Err : goal.swap-requires-in-Err

@@ -1,4 +1,5 @@
-use Rattle.std.proofs.Common.{◌≡◌, ◌+◌, ◌<◌, ◌++◌, ◌∷◌, [], Some, IfNone, length, map, take, get_or, true, false, ℕ, sym, ap, ◌∙◌, subst, arith}
+use Rattle.std.proofs.Common.{◌≡◌, ◌+◌, ◌<◌, ◌++◌, ◌∷◌, [], Some, IfNone, length, map, take, get_or}
+use Rattle.std.proofs.Common.{true, false, ℕ, sym, ap, ◌∙◌, subst, arith}
 use Rattle.std.specs.FinMap as maps
 use Rattle.tables.specs.Table.{at}
 use Rattle.std.proofs.lemmas.Grind.{get_or_default_zero}
@@ -7,7 +8,7 @@ use Rattle.cnf_base.specs.Literals.{Clause, complement, has, variable}
 use Rattle.cnf_base.proofs.LiteralLemmas.{complement-complement}
 use Rattle.propagation.specs.Trail.{HasNoVariableTwice}
 use Rattle.theory.specs.Sets.{conflicts}
-use Rattle.watch.specs.Watched.{IsMet}
+use Rattle.watch.specs.Code.Watched.{IsMet}
 use Rattle.propagation.proofs.MemberLemmas.{has_place}
 use Rattle.propagation.proofs.PropagationLemmas.MakesFalse.{no_conflict}
 use Rattle.propagation.proofs.PropagationLemmas.Passes.{has_begun}

@@ -1,9 +1,9 @@
 use Rattle.std.proofs.Common.{◌≡◌, ◌-◌, ◌≤◌, length, take}
 use Rattle.std.specs.FinMap as maps
 use Rattle.tables.specs.Table.{at}
-use Rattle.watch.specs.Lists.{AreApart, entries_in, list_at}
-use Rattle.watch.specs.Watched.{IsListed, IsWatched}
-use Rattle.watch.specs.Visits.{Carries}
+use Rattle.watch.specs.Code.Lists.{AreApart, entries_in, list_at}
+use Rattle.watch.specs.Code.Watched.{IsListed, IsWatched}
+use Rattle.watch.specs.Code.Visits.{Carries}
 use Rattle.watch.proofs.follow.propagate.Given as goal
 
 abbrev pub invariant-loop-done : goal.invariant-loop-done

@@ -1,15 +1,16 @@
-use Rattle.std.proofs.Common.{ℕ, set, ◌<◌, ◌&&◌, cond, eqb, Some, is_some, refl, sym, ap, ◌∙◌, subst}
+use Rattle.std.proofs.Common.{ℕ, set, ◌<◌, ◌&&◌, cond, eqb, Some, is_some, refl, sym, ap, ◌∙◌}
+use Rattle.std.proofs.Common.{subst}
 use Rattle.std.specs.List.{swap}
 use Rattle.std.specs.FinMap as maps
 use Rattle.tables.specs.Table.{at}
 use Rattle.std.proofs.lemmas.List.{get_or-set_same, length-set}
 use Rattle.std.proofs.lemmas.Option.{same_Some}
 use Rattle.cnf_base.specs.Literals.{has}
-use Rattle.watch.specs.Lists.{list_at}
-use Rattle.watch.specs.Order.{each_in_order, in_order}
-use Rattle.watch.specs.Roots.{IsFalseAt}
-use Rattle.watch.specs.Visits.{Carries, IsVisit}
-use Rattle.watch.specs.Watched.{watches}
+use Rattle.watch.specs.Code.Lists.{list_at}
+use Rattle.watch.specs.Code.Order.{each_in_order, in_order}
+use Rattle.watch.specs.Code.Roots.{IsFalseAt}
+use Rattle.watch.specs.Code.Visits.{Carries, IsVisit}
+use Rattle.watch.specs.Code.Watched.{watches}
 use Rattle.watch.specs.declared.watcher.Watcher.{Watcher}
 use Rattle.watch.specs.declared.visit.Visit.TheVariants.{Stays, Moves, Unit, Clash}
 use Rattle.watch.specs.declared.follow.Next.{Next}

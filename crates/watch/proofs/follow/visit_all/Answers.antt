@@ -2,7 +2,7 @@ use Rattle.std.proofs.Common.{◌<◌, ◌≤◌, length, sym, ◌∙◌, arith}
 use Rattle.std.specs.FinMap as maps
 use Rattle.tables.specs.Table.{at}
 use Rattle.cnf_base.specs.Literals.{complement}
-use Rattle.watch.specs.Lists.{list_at, slot_at}
+use Rattle.watch.specs.Code.Lists.{list_at, slot_at}
 use Rattle.watch.specs.declared.watcher.Watcher.{Watcher}
 use Rattle.watch.proofs.WatchLemmas.Lists.{slot_is}
 use Rattle.propagation.proofs.PropagationLemmas.Passes.{has_begun}

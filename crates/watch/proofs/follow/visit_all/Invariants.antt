@@ -2,9 +2,9 @@ use Rattle.std.proofs.Common.{◌≡◌, ℕ, ◌+◌, ◌-◌, ◌<◌, Some, l
 use Rattle.std.specs.FinMap as maps
 use Rattle.tables.specs.Table.{at}
 use Rattle.cnf_base.specs.Literals.{Clause}
-use Rattle.watch.specs.Lists.{entries_in, entries_of}
-use Rattle.watch.specs.Watched.{IsMet, IsListed}
-use Rattle.watch.specs.Visits.{Carries, IsInHand, with_list}
+use Rattle.watch.specs.Code.Lists.{entries_in, entries_of}
+use Rattle.watch.specs.Code.Watched.{IsMet, IsListed}
+use Rattle.watch.specs.Code.Visits.{Carries, IsInHand, with_list}
 use Rattle.watch.proofs.follow.visit_all.Given as goal
 
 abbrev pub invariant-loop-place : goal.invariant-loop-place

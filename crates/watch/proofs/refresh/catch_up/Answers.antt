@@ -2,8 +2,8 @@ use Rattle.std.proofs.Common.{◌≡◌, true, IfNone, sym, subst}
 use Rattle.std.specs.FinMap as maps
 use Rattle.cnf_base.specs.Literals.{Literal, has}
 use Rattle.tables.specs.Table.{at}
-use Rattle.watch.specs.Roots.{AreReasoned, IsKnown}
-use Rattle.watch.specs.Watched.{IsWatched}
+use Rattle.watch.specs.Code.Roots.{AreReasoned, IsKnown}
+use Rattle.watch.specs.Code.Watched.{IsWatched}
 use Rattle.propagation.proofs.PropagationLemmas.Passes.{has_begun}
 use Rattle.watch.proofs.WatchLemmas.Closed.{units_carried}
 use Rattle.watch.proofs.WatchLemmas.Kept.{noted_carried}

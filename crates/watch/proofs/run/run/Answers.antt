@@ -4,9 +4,9 @@ use Rattle.tables.specs.Table.{at}
 use Rattle.theory.specs.Propagation.{Clash, IsClosed}
 use Rattle.cnf_base.specs.Literals.{Literal, has}
 use Rattle.theory.specs.Sets.{conflicts}
-use Rattle.watch.specs.Order.{each_in_order}
-use Rattle.watch.specs.Roots.{IsFalseAt}
-use Rattle.watch.specs.Watched.{IsWatched}
+use Rattle.watch.specs.Code.Order.{each_in_order}
+use Rattle.watch.specs.Code.Roots.{IsFalseAt}
+use Rattle.watch.specs.Code.Watched.{IsWatched}
 use Rattle.propagation.proofs.PropagationLemmas.Passes.{has_begun}
 use Rattle.watch.proofs.WatchLemmas.Carries.{clash_from}
 use Rattle.watch.proofs.WatchLemmas.Closed.{all_closed, all_quiet, units_carried}

@@ -2,8 +2,8 @@ use Rattle.std.proofs.Common.{◌≡◌, ℕ, true, Some, take}
 use Rattle.std.specs.FinMap as maps
 use Rattle.tables.specs.Table.{at}
 use Rattle.cnf_base.specs.Literals.{Clause, has}
-use Rattle.watch.specs.Watched.{HasUnit}
-use Rattle.watch.specs.Visits.{Carries}
+use Rattle.watch.specs.Code.Watched.{HasUnit}
+use Rattle.watch.specs.Code.Visits.{Carries}
 use Rattle.watch.proofs.units.set_units.Given as goal
 
 abbrev pub invariant-loop-place : goal.invariant-loop-place

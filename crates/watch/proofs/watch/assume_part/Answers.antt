@@ -3,12 +3,13 @@ use Rattle.std.specs.Bool.{OnFalse}
 use Rattle.std.specs.FinMap as maps
 use Rattle.cnf_base.specs.Literals.{complements, has}
 use Rattle.propagation.specs.Assumptions.{assumed_by, roots_in}
-use Rattle.propagation.specs.Exact.{IsExact}
+use Rattle.propagation.specs.Code.Exact.{IsExact}
 use Rattle.theory.specs.Sets.{SameSet}
-use Rattle.watch.specs.Order.{each_in_order}
-use Rattle.watch.specs.Roots.{AreForced}
-use Rattle.watch.specs.Source.{clause_of}
-use Rattle.propagation.proofs.PropagationLemmas.Scan.{part_clashes, part_answer, part_exact, scan_after}
+use Rattle.watch.specs.Code.Order.{each_in_order}
+use Rattle.watch.specs.Code.Roots.{AreForced}
+use Rattle.watch.specs.Code.Source.{clause_of}
+use Rattle.propagation.proofs.PropagationLemmas.Scan.{part_clashes, part_answer, part_exact}
+use Rattle.propagation.proofs.PropagationLemmas.Scan.{scan_after}
 use Rattle.propagation.proofs.PropagationLemmas.Exact.{begins_on, longer_from}
 use Rattle.theory.proofs.PropagationLemmas.Forced.{clash_through}
 use Rattle.watch.proofs.WatchLemmas.Kept.{kept_clash, kept_forced}

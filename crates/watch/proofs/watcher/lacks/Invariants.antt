@@ -1,5 +1,5 @@
 use Rattle.std.proofs.Common.{◌≡◌, true, take}
-use Rattle.watch.specs.Lists.{entries_of}
+use Rattle.watch.specs.Code.Lists.{entries_of}
 use Rattle.watch.proofs.watcher.lacks.Given as goal
 
 abbrev pub invariant-loop-place : goal.invariant-loop-place

@@ -1,5 +1,5 @@
 use Rattle.std.proofs.Common.{◌≡◌, ◌≤◌, ◌-◌, length, take}
-use Rattle.watch.specs.Lists.{entries_of}
+use Rattle.watch.specs.Code.Lists.{entries_of}
 use Rattle.watch.proofs.watcher.pass_over.Given as goal
 
 abbrev pub invariant-loop-place : goal.invariant-loop-place

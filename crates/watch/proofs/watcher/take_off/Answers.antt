@@ -1,5 +1,5 @@
 use Rattle.std.proofs.Common.{◌≡◌, ◌+◌, ◌<◌, ◌≤◌, length, cond, eqb, sym, ap, ◌∙◌, subst}
-use Rattle.watch.specs.Lists.{entries_of, slot_at, strangers}
+use Rattle.watch.specs.Code.Lists.{entries_of, slot_at, strangers}
 use Rattle.watch.proofs.WatchLemmas.Lists.{entries_taken, strangers_left}
 use Rattle.watch.proofs.watcher.take_off.Goals as goal
 

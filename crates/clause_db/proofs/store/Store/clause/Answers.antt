@@ -1,6 +1,6 @@
 use Rattle.std.proofs.Common.{Some, is_some, length, sym, ap, ◌∙◌}
 use Rattle.cnf_base.specs.Literals.{size}
-use Rattle.clause_db.specs.Store.Entries.{clauses_in}
+use Rattle.clause_db.specs.Code.Entries.{clauses_in}
 use Rattle.std.specs.FinMap as maps
 use Rattle.clause_db.proofs.StoreLemmas.Entries.{clause_of, get_stored, live_entry}
 use Rattle.clause_db.proofs.store.Store.clause.Goals as goal

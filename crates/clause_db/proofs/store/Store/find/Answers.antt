@@ -4,12 +4,13 @@ use Rattle.std.proofs.lemmas.Bool.{true≢false}
 use Rattle.slab.specs.Slab.{get}
 use Rattle.cnf_base.specs.Literals.{Clause, has}
 use Rattle.cnf_base.proofs.SetLemmas.{all_each, each_all, same_back}
-use Rattle.clause_db.specs.Store.Index.{noted_place, under}
-use Rattle.clause_db.specs.Store.LiteralMarks.{is_marked, mark_count}
+use Rattle.clause_db.specs.Code.Index.{noted_place, under}
+use Rattle.clause_db.specs.Code.LiteralMarks.{is_marked, mark_count}
 use Rattle.tables.specs.Table.{at}
 use Rattle.clause_db.proofs.StoreLemmas.Entries.{clause_of, get_stored}
 use Rattle.clause_db.proofs.StoreLemmas.Search.{copies_pos, known_from_count, match_same, none_same}
-use Rattle.clause_db.proofs.StoreLemmas.Options.{if_some_from, if_some_from_none, if_none_from, if_none_from_some}
+use Rattle.clause_db.proofs.StoreLemmas.Options.{if_some_from, if_some_from_none, if_none_from}
+use Rattle.clause_db.proofs.StoreLemmas.Options.{if_none_from_some}
 use Rattle.clause_db.proofs.store.Store.find.Goals as goal
 use Rattle.clause_db.proofs.store.Store.find.Goals.{in-Some, in-None}
 

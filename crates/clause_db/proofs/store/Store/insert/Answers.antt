@@ -1,15 +1,18 @@
-use Rattle.std.proofs.Common.{◌≡◌, ◌≢◌, ℕ, ◌+◌, None, cond, count_by, subst, get_or, is_some, sym, ap, ◌∙◌, arith}
+use Rattle.std.proofs.Common.{◌≡◌, ◌≢◌, ℕ, ◌+◌, None, cond, count_by, subst, get_or, is_some, sym}
+use Rattle.std.proofs.Common.{ap, ◌∙◌, arith}
 use Rattle.std.specs.FinMap as maps
 use Rattle.slab.specs.Slab.{get, slab_len}
 use Rattle.cnf_base.specs.Literals.{has, size}
 use Rattle.cnf_base.proofs.SetLemmas.{both_pass, same_there, same_back}
-use Rattle.clause_db.specs.Store.Entries.{clauses_in}
-use Rattle.clause_db.specs.Store.LiteralMarks.{mark_count}
+use Rattle.clause_db.specs.Code.Entries.{clauses_in}
+use Rattle.clause_db.specs.Code.LiteralMarks.{mark_count}
 use Rattle.tables.specs.Table.{at}
 use Rattle.cnf_base.proofs.SizeLemmas.{IsWithin}
 use Rattle.clause_db.proofs.StoreLemmas.Options.{on_err_from}
-use Rattle.clause_db.proofs.StoreLemmas.Entries.{clause_of, get_stored, seen_same, stored_same, stored_with}
-use Rattle.clause_db.proofs.StoreLemmas.Fields.{live_kept, sound_same, sound_with, copies_few, sum_fits}
+use Rattle.clause_db.proofs.StoreLemmas.Entries.{clause_of, get_stored, seen_same, stored_same}
+use Rattle.clause_db.proofs.StoreLemmas.Entries.{stored_with}
+use Rattle.clause_db.proofs.StoreLemmas.Fields.{live_kept, sound_same, sound_with, copies_few}
+use Rattle.clause_db.proofs.StoreLemmas.Fields.{sum_fits}
 use Rattle.clause_db.proofs.store.Store.insert.Goals as goal
 
 pub take_in-requires-clause-counted : goal.take_in-requires-clause-counted

@@ -1,6 +1,6 @@
 use Rattle.std.proofs.Common.{sym, ap, ◌∙◌}
 use Rattle.std.specs.FinMap as maps
-use Rattle.clause_db.specs.Store.Clauses.{literals_in}
+use Rattle.clause_db.specs.Store.{literals_in}
 use Rattle.clause_db.proofs.StoreLemmas.Fields.{live_kept}
 use Rattle.clause_db.proofs.store.Store.is_sound.Goals as goal
 

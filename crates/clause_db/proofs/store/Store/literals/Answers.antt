@@ -1,5 +1,5 @@
 use Rattle.std.proofs.Common.{◌∙◌, sym, ap, min}
-use Rattle.clause_db.specs.Store.Clauses.{literals_in}
+use Rattle.clause_db.specs.Store.{literals_in}
 use Rattle.clause_db.proofs.StoreLemmas.Fields.{live_kept, kept_count}
 use Rattle.clause_db.proofs.store.Store.literals.Goals as goal
 

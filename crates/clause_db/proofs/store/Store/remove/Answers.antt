@@ -1,12 +1,13 @@
 use Rattle.std.proofs.Common.{ℕ, ◌+◌, ◌-◌, ◌≤◌, Some, is_some, length, cond, sym, ap, ◌∙◌, subst}
 use Rattle.std.specs.FinMap as maps
 use Rattle.cnf_base.specs.Literals.{has}
-use Rattle.clause_db.specs.Store.Entries.{clauses_in}
-use Rattle.clause_db.specs.Store.LiteralMarks.{mark_count}
-use Rattle.clause_db.specs.Store.Fields.{IsStore}
+use Rattle.clause_db.specs.Code.Entries.{clauses_in}
+use Rattle.clause_db.specs.Code.LiteralMarks.{mark_count}
+use Rattle.clause_db.specs.Code.Fields.{IsStore}
 use Rattle.tables.specs.Table.{at}
 use Rattle.clause_db.proofs.StoreLemmas.Entries.{live_entry}
-use Rattle.clause_db.proofs.StoreLemmas.Fields.{clause_here, different_read, within_sum, counted_here, live_kept, map_without, sound_without}
+use Rattle.clause_db.proofs.StoreLemmas.Fields.{clause_here, different_read, within_sum}
+use Rattle.clause_db.proofs.StoreLemmas.Fields.{counted_here, live_kept, map_without, sound_without}
 use Rattle.clause_db.proofs.store.Store.remove.Goals as goal
 
 pub remove-entry-requires : goal.remove-entry-requires

@@ -1,8 +1,8 @@
 use Rattle.std.proofs.Common.{◌≡◌, ◌<◌, is_some, length, sym, ap, ◌∙◌, subst}
 use Rattle.std.specs.List.{swap}
 use Rattle.std.specs.FinMap as maps
-use Rattle.clause_db.specs.Store.Entries.{clauses_in}
-use Rattle.clause_db.specs.Store.Index.{noted_place, under}
+use Rattle.clause_db.specs.Code.Entries.{clauses_in}
+use Rattle.clause_db.specs.Code.Index.{noted_place, under}
 use Rattle.std.proofs.lemmas.Option.{same_Some}
 use Rattle.clause_db.proofs.StoreLemmas.Entries.{live_entry}
 use Rattle.clause_db.proofs.StoreLemmas.Fields.{live_kept}

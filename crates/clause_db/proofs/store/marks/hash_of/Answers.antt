@@ -1,5 +1,5 @@
 use Rattle.std.proofs.Common.{◌+◌, ◌%◌, ◌^◌, sym, ap, ◌∙◌, arith}
-use Rattle.clause_db.specs.Store.Hashes.{mix}
+use Rattle.clause_db.specs.Code.Hashes.{mix}
 use Rattle.clause_db.proofs.StoreLemmas.Marks.{hash_whole, mixed_none, mixed_more, new_here}
 use Rattle.clause_db.proofs.store.marks.hash_of.Goals as goal
 

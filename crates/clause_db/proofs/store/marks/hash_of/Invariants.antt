@@ -1,5 +1,5 @@
 use Rattle.std.proofs.Common.{◌≡◌, take}
-use Rattle.clause_db.specs.Store.Hashes.{mixed_sum}
+use Rattle.clause_db.specs.Code.Hashes.{mixed_sum}
 use Rattle.clause_db.proofs.store.marks.hash_of.Given as goal
 
 abbrev pub invariant-loop-l : goal.invariant-loop-l

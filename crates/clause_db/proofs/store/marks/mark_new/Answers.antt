@@ -1,8 +1,10 @@
-use Rattle.std.proofs.Common.{◌≡◌, ℕ, ◌+◌, not, true, is_some, eqb, take, sym, ap, ◌∙◌, arith, inl, inr}
+use Rattle.std.proofs.Common.{◌≡◌, ℕ, ◌+◌, not, true, is_some, eqb, take, sym, ap, ◌∙◌, arith, inl}
+use Rattle.std.proofs.Common.{inr}
 use Rattle.std.proofs.lemmas.Bool.{not-true, not-false, or_cases, or_left, or_right}
 use Rattle.cnf_base.specs.Literals.{has}
 use Rattle.tables.specs.Table.{at}
-use Rattle.clause_db.proofs.StoreLemmas.Marks.{eqb_turn, has_more, has_take, mark_more, size_kept, size_more}
+use Rattle.clause_db.proofs.StoreLemmas.Marks.{eqb_turn, has_more, has_take, mark_more, size_kept}
+use Rattle.clause_db.proofs.StoreLemmas.Marks.{size_more}
 use Rattle.clause_db.proofs.store.marks.mark_new.Goals as goal
 use Rattle.clause_db.proofs.store.marks.mark_new.Goals.{then-branch, else-branch}
 

@@ -1,6 +1,6 @@
 use Rattle.std.proofs.Common.{◌≡◌, ℕ, ◌≤◌, true, take, IsSome}
 use Rattle.cnf_base.specs.Literals.{has, size}
-use Rattle.clause_db.specs.Store.LiteralMarks.{mark_count, is_marked}
+use Rattle.clause_db.specs.Code.LiteralMarks.{mark_count, is_marked}
 use Rattle.tables.specs.Table.{at}
 use Rattle.clause_db.proofs.store.marks.mark_new.Given as goal
 

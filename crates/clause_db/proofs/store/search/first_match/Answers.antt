@@ -2,8 +2,8 @@ use Rattle.std.proofs.Common.{◌≡◌, ℕ, sym, ap, ◌∙◌, arith, inl, in
 use Rattle.std.proofs.lemmas.Bool.{cases_lt}
 use Rattle.std.proofs.lemmas.Option.{slice_get_within, get_or_from_slice_get}
 use Rattle.slab.specs.Slab.{get}
-use Rattle.clause_db.specs.Store.Entries.{is_match}
-use Rattle.clause_db.specs.Store.LiteralMarks.{is_marked}
+use Rattle.clause_db.specs.Code.Entries.{is_match}
+use Rattle.clause_db.specs.Code.LiteralMarks.{is_marked}
 use Rattle.tables.specs.Table.{at}
 use Rattle.clause_db.proofs.store.search.first_match.Goals as goal
 

@@ -1,7 +1,7 @@
 use Rattle.std.proofs.Common.{◌≡◌, ℕ, ◌<◌, false, Some, slice_get}
 use Rattle.slab.specs.Slab.{get}
-use Rattle.clause_db.specs.Store.Entries.{is_match}
-use Rattle.clause_db.specs.Store.LiteralMarks.{is_marked}
+use Rattle.clause_db.specs.Code.Entries.{is_match}
+use Rattle.clause_db.specs.Code.LiteralMarks.{is_marked}
 use Rattle.tables.specs.Table.{at}
 use Rattle.clause_db.proofs.store.search.first_match.Given as goal
 

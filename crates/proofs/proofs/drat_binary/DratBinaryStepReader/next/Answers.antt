@@ -1,7 +1,7 @@
 -- An answer that is kept.
 use Rattle.std.proofs.Common.{Some, rules}
 use Rattle.proofs.specs.Binary.{binary_steps_at}
-use Rattle.proofs.specs.BinaryMoves.{binary_left}
+use Rattle.proofs.specs.Code.BinaryMoves.{binary_left}
 use Rattle.proofs.proofs.BinaryLemmas.{binary_kept}
 use Rattle.proofs.proofs.ReachLemmas.{Open-step}
 use Rattle.proofs.proofs.TextLemmas.{Kept-step}

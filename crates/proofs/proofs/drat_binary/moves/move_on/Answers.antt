@@ -1,7 +1,7 @@
 -- A number begins.
 use Rattle.std.proofs.Common.{◌≡◌, ◌==◌, [], false, cond, ap, sym, ◌∙◌, subst, rules}
 use Rattle.proofs.specs.Binary.{in_step, BinaryMove, completes, group_move, binary_move_of}
-use Rattle.proofs.specs.BinaryMoves.{IsAt, MovesBinary}
+use Rattle.proofs.specs.Code.BinaryMoves.{IsAt, MovesBinary}
 use Rattle.proofs.specs.declared.drat_binary.part.Part.{Part}
 use Rattle.proofs.proofs.drat_binary.moves.move_on.Goals as goal
 

@@ -1,6 +1,8 @@
 use Rattle.std.proofs.Common.{◌≡◌, ◌+◌, filter, [], refl, sym, ap, ◌∙◌, subst, rules}
-use Rattle.propagation.specs.Levels.{IsNumbered, assumptions_of, first_number, number_at}
-use Rattle.propagation.proofs.PropagationLemmas.Levels.{notes_none, pushed_numbered, pushed_seen, pushed_assumed, pushed_assumes}
+use Rattle.propagation.specs.Code.Levels.{IsNumbered, assumptions_of, first_number}
+use Rattle.propagation.specs.Numbers.{number_at}
+use Rattle.propagation.proofs.PropagationLemmas.Levels.{notes_none, pushed_numbered, pushed_seen}
+use Rattle.propagation.proofs.PropagationLemmas.Levels.{pushed_assumed, pushed_assumes}
 use Rattle.propagation.proofs.assumptions.Assumptions.assume.Goals as goal
 
 pub returns-then-make_false-clause-assumed : goal.returns-then-make_false-clause-assumed

@@ -1,8 +1,8 @@
 use Rattle.std.proofs.Common.{◌≡◌, ℕ, true, []}
 use Rattle.std.specs.FinMap as maps
 use Rattle.cnf_base.specs.Literals.{has}
-use Rattle.propagation.specs.Closure.{both_of}
-use Rattle.theory.specs.Sets.{lacking}
+use Rattle.propagation.specs.Code.Closure.{both_of}
+use Rattle.theory.specs.Code.Sets.{lacking}
 use Rattle.theory.specs.Propagation.{Forced}
 use Rattle.propagation.proofs.closure.Closure.of.Given as goal
 

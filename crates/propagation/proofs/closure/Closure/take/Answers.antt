@@ -1,5 +1,6 @@
 use Rattle.std.proofs.Common.{sym}
-use Rattle.propagation.proofs.PropagationLemmas.Closing.{all_follow, more_is_closed, one_follows, one_is_closed, one_is_new}
+use Rattle.propagation.proofs.PropagationLemmas.Closing.{all_follow, more_is_closed, one_follows}
+use Rattle.propagation.proofs.PropagationLemmas.Closing.{one_is_closed, one_is_new}
 use Rattle.propagation.proofs.closure.Closure.take.Goals as goal
 
 pub returns-in-Nothing-clause-follows : goal.returns-in-Nothing-clause-follows

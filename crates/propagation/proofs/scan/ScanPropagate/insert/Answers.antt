@@ -1,5 +1,6 @@
 use Rattle.std.proofs.Common.{◌≡◌, [], ◌∙◌, ap}
-use Rattle.propagation.proofs.PropagationLemmas.Scan.{scan_with, held_reserved, room_inserted, err_live}
+use Rattle.propagation.proofs.PropagationLemmas.Scan.{scan_with, held_reserved, room_inserted}
+use Rattle.propagation.proofs.PropagationLemmas.Scan.{err_live}
 use Rattle.propagation.proofs.scan.ScanPropagate.insert.Goals as goal
 
 pub invariant_of-self-2 : goal.invariant_of-self-2

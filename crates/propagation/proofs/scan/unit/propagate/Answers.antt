@@ -6,7 +6,7 @@ use Rattle.theory.specs.Sets.{conflicts}
 use Rattle.propagation.proofs.PropagationLemmas.MakesFalse.{no_conflict}
 use Rattle.theory.proofs.PropagationLemmas.Forced.{clash_through}
 use Rattle.propagation.proofs.PropagationLemmas.Passes.{has_begun}
-use Rattle.theory.proofs.PropagationLemmas.Unit.{settled_closed, settled_quiet}
+use Rattle.propagation.proofs.PropagationLemmas.Left.{settled_closed, settled_quiet}
 use Rattle.propagation.proofs.scan.unit.propagate.Goals as goal
 
 pub returns-in-Clash-clause-answer : goal.returns-in-Clash-clause-answer

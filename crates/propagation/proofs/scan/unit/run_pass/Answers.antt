@@ -2,16 +2,20 @@ use Rattle.std.proofs.Common.{◌≡◌, ◌/◌, ◌∷◌, [], ◌++◌, ◌+�
 use Rattle.std.specs.FinMap as maps
 use Rattle.cnf_base.specs.Literals.{has}
 use Rattle.std.proofs.lemmas.Bool.{not-true, not-false}
-use Rattle.theory.specs.Left.{open_literals, how_many, IsSettled}
-use Rattle.theory.specs.Propagation.{Forced}
-use Rattle.theory.specs.declared.left.Left.TheVariants.{One as OneLeft, Nothing, More}
+use Rattle.propagation.specs.Left.{how_many}
+use Rattle.propagation.specs.Code.Left.{IsSettled}
+use Rattle.theory.specs.Propagation.{Forced, open_literals}
+use Rattle.propagation.specs.declared.left.Left.TheVariants.{One as OneLeft, Nothing, More}
 use Rattle.propagation.specs.declared.scan.unit.Pass.TheVariants.{Changed}
 use Rattle.propagation.proofs.PropagationLemmas.Exact.{extends_on, extends_made}
-use Rattle.theory.proofs.PropagationLemmas.Left.{left_open}
-use Rattle.propagation.proofs.PropagationLemmas.Passes.{IsPassedTo, pushed_each, passed_none, passed_settled, passed_unit}
+use Rattle.propagation.proofs.PropagationLemmas.Left.{left_open, nothing_is, one_is}
+use Rattle.propagation.proofs.PropagationLemmas.Passes.{IsPassedTo, pushed_each, passed_none}
+use Rattle.propagation.proofs.PropagationLemmas.Passes.{passed_settled, passed_unit}
 use Rattle.theory.proofs.PropagationLemmas.Unit.{left_is_forced, none_left_clashes}
 use Rattle.propagation.proofs.scan.unit.run_pass.Goals as goal
-use Rattle.propagation.proofs.scan.unit.run_pass.Goals.{in-Some+in-One+then-make_true, in-Some+in-One+else-make_true, in-Some+in-More, in_default}
+use Rattle.propagation.proofs.scan.unit.run_pass.Goals.{in-Some+in-One+then-make_true}
+use Rattle.propagation.proofs.scan.unit.run_pass.Goals.{in-Some+in-One+else-make_true}
+use Rattle.propagation.proofs.scan.unit.run_pass.Goals.{in-Some+in-More, in_default}
 
 pub returns-in-Nothing-clause-pass : goal.returns-in-Nothing-clause-pass
 returns-in-Nothing-clause-pass c =
@@ -19,7 +23,7 @@ returns-in-Nothing-clause-pass c =
     let lits = c.loop-number.assumptions.trail.lits in
     let d = c.in-Some.clause.now in
     let left = subst (λ t. Nothing ≡ how_many (open_literals t.lits d)) c.trail.ensures c.in-Nothing.ensures in
-    none_left_clashes live c.args.assumptions.now.trail.lits lits c.loop-number.invariant.sound c.loop-number.number d (sym c.in-Some.ensures) (sym left)
+    none_left_clashes live c.args.assumptions.now.trail.lits lits c.loop-number.invariant.sound c.loop-number.number d (sym c.in-Some.ensures) (nothing_is (open_literals lits d) (sym left))
 
 pub make_true-requires-clause-reserved : goal.make_true-requires-clause-reserved
 make_true-requires-clause-reserved c =
@@ -53,7 +57,7 @@ loop-number-preserved c =
           let room : has before.trail.met (m / 2) ≡ true = c.requires.each n d at m of_clause.0 in
           let lits_are : w.make_true.new.self.trail.lits ≡ lits ++ m ∷ [] = e.lits ∙ ap (λ b. cond b (lits ++ m ∷ []) lits) w.if-make_true.true in
           let open_m = not-true (has lits m) (sym e.was_open ∙ w.if-make_true.true) in
-          let forced = left_is_forced live before.trail.lits lits so_far.sound n d at m (sym left) in
+          let forced = left_is_forced live before.trail.lits lits so_far.sound n d at m (one_is (open_literals lits d) m (sym left)) in
           rw (w.assumptions-is, w.found-is) (record {
             sound = λ k h. pushed_each (Forced live before.trail.lits) lits m so_far.sound forced k (ap (λ ls. has ls k) (sym lits_are) ∙ h);
             passed = subst (λ ls. IsPassedTo live before.trail ls (n + 1) Changed) (sym lits_are) (passed_unit live before.trail lits n m open_m of_clause.1 room c.loop-number.found so_far.passed);

@@ -1,4 +1,5 @@
-use Rattle.std.proofs.Common.{◌≡◌, ◌/◌, ◌++◌, ◌∷◌, [], true, length, length-append, take, refl, sym, ap, ◌∙◌, subst, arith}
+use Rattle.std.proofs.Common.{◌≡◌, ◌/◌, ◌++◌, ◌∷◌, [], true, length, length-append, take, refl, sym}
+use Rattle.std.proofs.Common.{ap, ◌∙◌, subst, arith}
 use Rattle.std.proofs.lemmas.List.{take_all}
 use Rattle.cnf_base.specs.Literals.{complement, has}
 use Rattle.cnf_base.proofs.LiteralLemmas.{complement-complement}
@@ -13,9 +14,12 @@ use Rattle.theory.proofs.PropagationLemmas.Conflicts.{conflicts_same, quiet_push
 use Rattle.clause_db.proofs.StoreLemmas.Marks.{is_in}
 use Rattle.propagation.proofs.MemberLemmas.{variable-complement}
 use Rattle.propagation.proofs.PropagationLemmas.Passes.{begins_push}
-use Rattle.propagation.proofs.PropagationLemmas.Truth.{true_from_value, false_from_value, open_from_value, value_is_open}
+use Rattle.propagation.proofs.PropagationLemmas.Truth.{true_from_value, false_from_value}
+use Rattle.propagation.proofs.PropagationLemmas.Truth.{open_from_value, value_is_open}
 use Rattle.propagation.proofs.trail.Trail.make_false.Goals as goal
-use Rattle.propagation.proofs.trail.Trail.make_false.Goals.{then-keeps_literal+in-False, then-keeps_literal+in-Open, else-keeps_literal}
+use Rattle.propagation.proofs.trail.Trail.make_false.Goals.{then-keeps_literal+in-False}
+use Rattle.propagation.proofs.trail.Trail.make_false.Goals.{then-keeps_literal+in-Open}
+use Rattle.propagation.proofs.trail.Trail.make_false.Goals.{else-keeps_literal}
 
 pub loop-l-init : goal.loop-l-init
 loop-l-init g c =

@@ -1,6 +1,6 @@
 use Rattle.std.specs.Vec.{vec_capacity}
 use Rattle.tables.specs.Table.{at}
-use Rattle.propagation.specs.Values.{value_at}
+use Rattle.propagation.specs.Code.Values.{value_at}
 use Rattle.propagation.proofs.PropagationLemmas.Values.{trail_empty}
 use Rattle.propagation.proofs.trail.Trail.new.Goals as goal
 

@@ -1,6 +1,6 @@
 use Rattle.std.proofs.Common.{◌≤◌, take}
-use Rattle.theory.specs.Left.{open_literals}
-use Rattle.propagation.specs.Left.{IsCount}
+use Rattle.theory.specs.Propagation.{open_literals}
+use Rattle.propagation.specs.Code.Left.{IsCount}
 use Rattle.propagation.proofs.trail.Trail.open_far.Given as goal
 
 abbrev pub invariant-loop-l : goal.invariant-loop-l

@@ -5,7 +5,8 @@ use Rattle.tables.specs.Table.{at}
 use Rattle.propagation.proofs.PropagationLemmas.Left.{count_with, count_same}
 use Rattle.propagation.proofs.PropagationLemmas.Near.{near_false}
 use Rattle.propagation.proofs.trail.Trail.open_near.Goals as goal
-use Rattle.propagation.proofs.trail.Trail.open_near.Goals.{in-False, in_default, then-not-matches, else-not-matches}
+use Rattle.propagation.proofs.trail.Trail.open_near.Goals.{in-False, in_default, then-not-matches}
+use Rattle.propagation.proofs.trail.Trail.open_near.Goals.{else-not-matches}
 
 pub loop-l-preserved : goal.loop-l-preserved
 loop-l-preserved c =

@@ -1,7 +1,7 @@
 use Rattle.std.proofs.Common.{◌<◌, ◌++◌, ◌∷◌, [], ◌∙◌, is_some, length, sym, ap, subst, arith, refl}
 use Rattle.std.specs.Vec.{vec_capacity}
 use Rattle.tables.specs.Table.{at}
-use Rattle.propagation.specs.Values.{IsTrail, value_at}
+use Rattle.propagation.specs.Code.Values.{IsTrail, value_at}
 use Rattle.propagation.proofs.PropagationLemmas.Values.{negative_key, trail_wider, trail_met}
 use Rattle.propagation.proofs.trail.Trail.reserve_anew.Goals as goal
 

@@ -3,7 +3,7 @@ use Rattle.std.specs.Vec.{vec_capacity}
 use Rattle.cnf_base.specs.Literals.{has, variable}
 use Rattle.tables.specs.Table.{at}
 use Rattle.propagation.specs.Trail.{value_under}
-use Rattle.propagation.specs.Values.{IsTrail, value_at}
+use Rattle.propagation.specs.Code.Values.{IsTrail, value_at}
 use Rattle.propagation.specs.declared.value.Value.{Value}
 use Rattle.propagation.specs.declared.value.Value.TheVariants.{True}
 use Rattle.propagation.proofs.PropagationLemmas.Values.{room_for, both_known, trail_set}

@@ -1,7 +1,7 @@
 use Rattle.std.proofs.Common.{take, ap, ◌∙◌, sym, subst}
 use Rattle.std.specs.Vec.{vec_capacity}
 use Rattle.tables.specs.Table.{at}
-use Rattle.propagation.specs.Values.{IsTrail, value_at}
+use Rattle.propagation.specs.Code.Values.{IsTrail, value_at}
 use Rattle.propagation.proofs.PropagationLemmas.Values.{trail_cut, last_known, trail_taken}
 use Rattle.propagation.proofs.trail.Trail.undo_to.Goals as goal
 

@@ -1,6 +1,6 @@
 use Rattle.std.proofs.Common.{◌≡◌, min, ap, ◌∙◌}
 use Rattle.cnf_base.specs.Literals.{size}
-use Rattle.clause_db.specs.Store.Clauses.{literals_in}
+use Rattle.clause_db.specs.Store.{literals_in}
 use Rattle.clause_db.proofs.StoreLemmas.Sums.{sum_empty}
 use Rattle.steps.proofs.drat.DratSession.new.Goals as goal
 

@@ -1,7 +1,7 @@
 use Rattle.std.proofs.Common.{slice_get, subst}
 use Rattle.std.specs.FinMap as maps
 use Rattle.theory.specs.Drat.{after_drat, drat_step}
-use Rattle.steps.specs.Drat.Session.{clauses_of}
+use Rattle.steps.specs.Code.DratSession.{clauses_of}
 use Rattle.theory.specs.Models.{HasModel}
 use Rattle.theory.proofs.LawLemmas.Keeping.{drat_keeps}
 use Rattle.theory.proofs.LratLemmas.States.{has_model_copies}

@@ -1,5 +1,6 @@
 use Rattle.std.proofs.Common.{refl, ap, ◌∙◌, arith}
-use Rattle.steps.proofs.DratLemmas.Reduced.{found_at, none_at, passed_all, passed_last, passed_next, quiet_found, unless_before}
+use Rattle.steps.proofs.DratLemmas.Reduced.{found_at, none_at, passed_all, passed_last, passed_next}
+use Rattle.steps.proofs.DratLemmas.Reduced.{quiet_found, unless_before}
 use Rattle.steps.proofs.drat.pr.all_reduced_clash.Goals as goal
 
 pub loop-found-init : goal.loop-found-init

@@ -1,5 +1,7 @@
 use Rattle.std.proofs.Common.{refl, ◌∙◌, arith}
-use Rattle.steps.proofs.DratLemmas.Candidates.{here_old, passed_all, passed_counted, passed_next, passed_last, quiet_found, remaining_first, remaining_next}
+use Rattle.steps.proofs.DratLemmas.Candidates.{here_old, passed_all, passed_counted, passed_next}
+use Rattle.steps.proofs.DratLemmas.Candidates.{passed_last, quiet_found, remaining_first}
+use Rattle.steps.proofs.DratLemmas.Candidates.{remaining_next}
 use Rattle.steps.proofs.drat.step.all_clash.Goals as goal
 
 pub loop-left-init : goal.loop-left-init

@@ -1,8 +1,8 @@
 use Rattle.std.proofs.Common.{subst}
 use Rattle.std.specs.FinMap as maps
 use Rattle.theory.specs.Lrat.{after_lrat, lrat_step}
-use Rattle.steps.specs.Lrat.Shelf.{shelf_state}
-use Rattle.steps.specs.Lrat.Session.{state_of}
+use Rattle.steps.specs.Code.Shelf.{shelf_state}
+use Rattle.steps.specs.Code.LratSession.{state_of}
 use Rattle.theory.specs.Models.{HasModel}
 use Rattle.theory.proofs.LawLemmas.Keeping.{lrat_keeps}
 use Rattle.theory.proofs.LratLemmas.States.{has_model_same}

@@ -1,6 +1,6 @@
 use Rattle.std.proofs.Common.{Some, None, sym, ◌∙◌, subst}
 use Rattle.std.specs.FinMap as maps
-use Rattle.steps.specs.Lrat.Groups.{IsFirstLeftOut}
+use Rattle.steps.specs.Code.Groups.{IsFirstLeftOut}
 use Rattle.steps.proofs.LratLemmas.Groups.{answers_unnamed, answers_rat, if_none}
 use Rattle.steps.proofs.lrat.addition.judge_candidates.Goals as goal
 

@@ -2,11 +2,15 @@ use Rattle.std.proofs.Common.{◌≡◌, ◌+◌, false, refl, ap, sym, ◌∙�
 use Rattle.std.specs.FinMap as maps
 use Rattle.std.proofs.lemmas.Bool.{cases_lt}
 use Rattle.cnf_base.specs.Literals.{complement, has}
-use Rattle.steps.specs.Lrat.Groups.{is_unnamed, needs_group_at}
+use Rattle.steps.specs.Code.Groups.{is_unnamed, needs_group_at}
 use Rattle.steps.proofs.LratLemmas.Groups.{tested}
-use Rattle.steps.proofs.LratLemmas.Remaining.{Others, others_passed, others_met, others_none, known_named, no_candidate, settled, passed_one}
+use Rattle.steps.proofs.LratLemmas.Remaining.{Others, others_passed, others_met, others_none}
+use Rattle.steps.proofs.LratLemmas.Remaining.{known_named, no_candidate, settled, passed_one}
 use Rattle.steps.proofs.lrat.candidates.first_left_out.Goals as goal
-use Rattle.steps.proofs.lrat.candidates.first_left_out.Goals.{then-contains+then-not-contains+else-needs_group, else-contains, else-contains-via-then-contains+else-not-contains, else-contains-via-else-contains}
+use Rattle.steps.proofs.lrat.candidates.first_left_out.Goals.{then-contains+then-not-contains+else-needs_group}
+use Rattle.steps.proofs.lrat.candidates.first_left_out.Goals.{else-contains}
+use Rattle.steps.proofs.lrat.candidates.first_left_out.Goals.{else-contains-via-then-contains+else-not-contains}
+use Rattle.steps.proofs.lrat.candidates.first_left_out.Goals.{else-contains-via-else-contains}
 
 pub loop-left-preserved : goal.loop-left-preserved
 loop-left-preserved c =

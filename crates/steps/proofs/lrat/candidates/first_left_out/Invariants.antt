@@ -1,6 +1,6 @@
 use Rattle.std.proofs.Common.{◌≡◌, ℕ, ◌<◌, ◌-◌, false}
 use Rattle.std.specs.FinMap as maps
-use Rattle.steps.specs.Lrat.Groups.{is_unnamed}
+use Rattle.steps.specs.Code.Groups.{is_unnamed}
 use Rattle.theory.specs.Sets.{SameSet}
 use Rattle.steps.proofs.LratLemmas.Remaining.{Others}
 use Rattle.steps.proofs.lrat.candidates.first_left_out.Given as goal

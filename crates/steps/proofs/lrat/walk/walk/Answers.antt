@@ -2,9 +2,10 @@ use Rattle.std.proofs.Common.{sym, ap, ◌∙◌, arith, rules, ◌/◌, nat_abs
 use Rattle.std.specs.Option.{option_copied}
 use Rattle.std.specs.FinMap as maps
 use Rattle.steps.proofs.LratLemmas.Hints.{units_more, read_is}
-use Rattle.steps.proofs.LratLemmas.Walks.{walk_one, walk_nothing, walk_more, walk_unknown, same_set_push}
+use Rattle.steps.proofs.LratLemmas.Walks.{walk_one, walk_nothing, walk_more, walk_unknown}
+use Rattle.steps.proofs.LratLemmas.Walks.{same_set_push}
 use Rattle.propagation.proofs.PropagationLemmas.Exact.{begins_on}
-use Rattle.theory.proofs.PropagationLemmas.Left.{left_open}
+use Rattle.propagation.proofs.PropagationLemmas.Left.{left_open}
 use Rattle.propagation.proofs.PropagationLemmas.MakesFalse.{made_true, begins_made, longer_made}
 use Rattle.steps.proofs.lrat.walk.walk.Goals as goal
 

@@ -1,4 +1,5 @@
-use Rattle.std.proofs.Common.{◌≡◌, ◌≤◌, ◌<◌, false, length, take, drop, nat_abs, pos, slice_index_or}
+use Rattle.std.proofs.Common.{◌≡◌, ◌≤◌, ◌<◌, false, length, take, drop, nat_abs, pos}
+use Rattle.std.proofs.Common.{slice_index_or}
 use Rattle.std.specs.Option.{option_copied}
 use Rattle.std.specs.FinMap as maps
 use Rattle.theory.specs.Lrat.{chain, units_of}

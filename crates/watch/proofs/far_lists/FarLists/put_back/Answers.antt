@@ -1,5 +1,5 @@
 use Rattle.std.proofs.Common.{ap, sym, ◌∙◌}
-use Rattle.watch.specs.Lists.{items_at}
+use Rattle.watch.specs.Code.Lists.{items_at}
 use Rattle.watch.proofs.WatchLemmas.Lists.{entries_put}
 use Rattle.watch.proofs.far_lists.FarLists.put_back.Goals as goal
 

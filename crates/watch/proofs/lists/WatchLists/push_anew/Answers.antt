@@ -1,6 +1,6 @@
 use Rattle.std.proofs.Common.{◌<◌, ◌≤◌, cond, eqb, length, Some, [], ◌∷◌, ◌++◌, sym, ap, ◌∙◌, arith}
 use Rattle.std.proofs.lemmas.Option.{slice_get-get_or}
-use Rattle.watch.specs.Lists.{far_at, list_at, near_or}
+use Rattle.watch.specs.Code.Lists.{far_at, list_at, near_or}
 use Rattle.watch.proofs.WatchLemmas.Entries.{on_err_all, on_ok_map}
 use Rattle.watch.proofs.WatchLemmas.Near.{either_way, near_written, rest_written}
 use Rattle.watch.proofs.lists.WatchLists.push_anew.Goals as goal

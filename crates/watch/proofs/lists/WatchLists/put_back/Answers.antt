@@ -1,6 +1,6 @@
 use Rattle.std.proofs.Common.{◌<◌, ◌≤◌, length, cond, eqb, slice_get, sym, ap, ◌∙◌, arith}
 use Rattle.std.proofs.lemmas.Option.{slice_get-get_or}
-use Rattle.watch.specs.Lists.{far_at, items_of, near_or}
+use Rattle.watch.specs.Code.Lists.{far_at, items_of, near_or}
 use Rattle.watch.proofs.WatchLemmas.Lists.{entries_put}
 use Rattle.watch.proofs.WatchLemmas.Near.{rest_written}
 use Rattle.watch.proofs.lists.WatchLists.put_back.Goals as goal

@@ -1,8 +1,9 @@
-use Rattle.std.proofs.Common.{is_some, cond, eqb, length, slice_get, sum_by, [], ◌∷◌, ◌++◌, sym, ap, ◌∙◌, arith}
+use Rattle.std.proofs.Common.{is_some, cond, eqb, length, slice_get, sum_by, [], ◌∷◌, ◌++◌, sym, ap}
+use Rattle.std.proofs.Common.{◌∙◌, arith}
 use Rattle.std.proofs.lemmas.List.{length-append}
 use Rattle.std.proofs.lemmas.List.Sums.{sum_by_push}
 use Rattle.tables.specs.Table.{at}
-use Rattle.watch.specs.Lists.{far_at, near_or}
+use Rattle.watch.specs.Code.Lists.{far_at, near_or}
 use Rattle.watch.proofs.WatchLemmas.Near.{known_more, near_more}
 use Rattle.watch.proofs.lists.WatchLists.widen.Goals as goal
 

@@ -1,6 +1,6 @@
 use Rattle.std.proofs.Common.{◌≡◌, true, length}
 use Rattle.cnf_base.specs.Literals.{Literal}
-use Rattle.watch.specs.Lists.{AreApart, entries_in, has_list_at, list_at}
+use Rattle.watch.specs.Code.Lists.{AreApart, entries_in, has_list_at, list_at}
 use Rattle.watch.proofs.lists.WatchLists.widen.Given as goal
 
 abbrev pub invariant-loop-key : goal.invariant-loop-key

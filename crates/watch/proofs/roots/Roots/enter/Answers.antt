@@ -1,11 +1,13 @@
-use Rattle.std.proofs.Common.{◌≡◌, Bool, true, false, not, ◌&&◌, cond, eqb, Some, length, [], ◌∷◌, ◌++◌, refl, sym, ap, ◌∙◌, subst, inl, inr}
+use Rattle.std.proofs.Common.{◌≡◌, Bool, true, false, not, ◌&&◌, cond, eqb, Some, length, [], ◌∷◌}
+use Rattle.std.proofs.Common.{◌++◌, refl, sym, ap, ◌∙◌, subst, inl, inr}
 use Rattle.std.proofs.lemmas.Bool.{not-false}
 use Rattle.std.proofs.lemmas.Option.{same_Some}
 use Rattle.cnf_base.specs.Literals.{has}
 use Rattle.tables.specs.Table.{at}
-use Rattle.watch.specs.Roots.{IsArranged, IsKept}
+use Rattle.watch.specs.Code.Roots.{IsArranged, IsKept}
 use Rattle.watch.specs.declared.roots.Kept.TheVariants.{Behind}
-use Rattle.watch.proofs.WatchLemmas.Entered.{is_idle, entered_false, entered_idle, entered_more, entered_set, entered_taken, entered_true}
+use Rattle.watch.proofs.WatchLemmas.Entered.{is_idle, entered_false, entered_idle, entered_more}
+use Rattle.watch.proofs.WatchLemmas.Entered.{entered_set, entered_taken, entered_true}
 use Rattle.watch.proofs.WatchLemmas.Order.{alive_clause}
 use Rattle.watch.proofs.roots.Roots.enter.Goals as goal
 use Rattle.watch.proofs.roots.Roots.enter.Goals.{in-Behind, in-All}

@@ -1,7 +1,7 @@
 use Rattle.std.proofs.Common.{◌+◌, cond, eqb, sym, ap, ◌∙◌, arith}
 use Rattle.tables.specs.Table.{at}
 use Rattle.cnf_base.specs.Literals.{has}
-use Rattle.watch.specs.Lists.{times_in}
+use Rattle.watch.specs.Code.Lists.{times_in}
 use Rattle.watch.proofs.WatchLemmas.Lists.{times_taken}
 use Rattle.watch.proofs.WatchLemmas.SlotList.{placed_none, placed_some}
 use Rattle.watch.proofs.slot_list.SlotList.remove.Goals as goal

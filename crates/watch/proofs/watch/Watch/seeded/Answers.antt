@@ -1,5 +1,5 @@
 use Rattle.std.proofs.Common.{ap, sym, ◌∙◌}
-use Rattle.watch.specs.Order.{each_in_order}
+use Rattle.watch.specs.Code.Order.{each_in_order}
 use Rattle.propagation.proofs.PropagationLemmas.Scan.{none_alone}
 use Rattle.watch.proofs.WatchLemmas.Order.{literals_ordered, ordered_empty}
 use Rattle.watch.proofs.WatchLemmas.State.{watch_empty}

@@ -2,10 +2,11 @@ use Rattle.std.proofs.Common.{ℕ, is_some, not, filter, unwrap_or, [], refl, sy
 use Rattle.std.specs.FinMap as maps
 use Rattle.cnf_base.specs.Literals.{complement, complements, has}
 use Rattle.propagation.specs.LiteralSet.{in_set}
-use Rattle.watch.specs.Order.{each_in_order, in_order}
+use Rattle.watch.specs.Code.Order.{each_in_order, in_order}
 use Rattle.propagation.proofs.PropagationLemmas.Reduced.{unless_alike, unless_refused}
 use Rattle.propagation.proofs.PropagationLemmas.Scan.{assuming_alike, assuming_from}
-use Rattle.watch.proofs.WatchLemmas.Order.{alive_alike, alive_clause, has-in_order, literals_ordered, part_alike, seen_there, there_seen}
+use Rattle.watch.proofs.WatchLemmas.Order.{alive_alike, alive_clause, has-in_order}
+use Rattle.watch.proofs.WatchLemmas.Order.{literals_ordered, part_alike, seen_there, there_seen}
 use Rattle.watch.proofs.watch.WatchPropagate.assume_unless.Goals as goal
 
 pub assume_part-assumed-requires-clause-alive : goal.assume_part-assumed-requires-clause-alive

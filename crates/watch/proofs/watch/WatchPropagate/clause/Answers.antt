@@ -1,6 +1,6 @@
 use Rattle.std.proofs.Common.{is_some, sym, ap, ◌∙◌}
 use Rattle.std.specs.FinMap as maps
-use Rattle.watch.specs.Order.{in_order}
+use Rattle.watch.specs.Code.Order.{in_order}
 use Rattle.watch.proofs.WatchLemmas.Order.{alive_alike, same-in_order, seen_there}
 use Rattle.watch.proofs.watch.WatchPropagate.clause.Goals as goal
 

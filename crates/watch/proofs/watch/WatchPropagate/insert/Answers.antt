@@ -1,18 +1,21 @@
-use Rattle.std.proofs.Common.{◌≡◌, ◌≢◌, ℕ, ◌/◌, Some, option_map, is_some, sym, ap, subst, ◌∙◌, arith}
+use Rattle.std.proofs.Common.{◌≡◌, ◌≢◌, ℕ, ◌/◌, Some, option_map, is_some, sym, ap, subst, ◌∙◌}
+use Rattle.std.proofs.Common.{arith}
 use Rattle.std.specs.FinMap as maps
 use Rattle.std.proofs.lemmas.Bool.{false_from_ne_true}
 use Rattle.cnf_base.specs.Literals.{Clause, has}
 use Rattle.cnf_base.proofs.SetLemmas.{same_from, same_there, same_trans}
-use Rattle.watch.specs.Order.{each_in_order, in_order}
-use Rattle.watch.specs.Roots.{IsArranged, IsKept}
-use Rattle.watch.specs.State.{IsWatch}
+use Rattle.watch.specs.Code.Order.{each_in_order, in_order}
+use Rattle.watch.specs.Code.Roots.{IsArranged, IsKept}
+use Rattle.watch.specs.Code.State.{IsWatch}
 use Rattle.std.proofs.lemmas.Option.{none-some, same_Some}
-use Rattle.watch.specs.Watched.{short_for}
-use Rattle.clause_db.specs.Store.Clauses.{literals_in}
+use Rattle.watch.specs.Code.Watched.{short_for}
+use Rattle.clause_db.specs.Store.{literals_in}
 use Rattle.propagation.proofs.PropagationLemmas.Scan.{room_added}
 use Rattle.watch.proofs.WatchLemmas.Follow.{times_has}
-use Rattle.watch.proofs.WatchLemmas.Order.{get_ordered, inserted_is, literals_ordered, removed_back, same-in_order, seen_there}
-use Rattle.watch.proofs.WatchLemmas.State.{alone_kept, same_state, watch_added, watch_noted, watch_reserved, watch_same}
+use Rattle.watch.proofs.WatchLemmas.Order.{get_ordered, inserted_is, literals_ordered, removed_back}
+use Rattle.watch.proofs.WatchLemmas.Order.{same-in_order, seen_there}
+use Rattle.watch.proofs.WatchLemmas.State.{alone_kept, same_state, watch_added, watch_noted}
+use Rattle.watch.proofs.WatchLemmas.State.{watch_reserved, watch_same}
 use Rattle.watch.proofs.watch.WatchPropagate.insert.Goals as goal
 
 pub arrange-left-requires : goal.arrange-left-requires

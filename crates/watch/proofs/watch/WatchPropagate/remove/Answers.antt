@@ -1,9 +1,10 @@
 use Rattle.std.proofs.Common.{◌/◌, is_some, sym, ap, ◌∙◌, subst}
 use Rattle.std.specs.FinMap as maps
-use Rattle.watch.specs.Order.{each_in_order}
-use Rattle.watch.specs.Roots.{IsKept}
+use Rattle.watch.specs.Code.Order.{each_in_order}
+use Rattle.watch.specs.Code.Roots.{IsKept}
 use Rattle.propagation.proofs.PropagationLemmas.Scan.{room_removed}
-use Rattle.watch.proofs.WatchLemmas.Order.{alive_alike, alive_clause, literals_ordered, ordered_remove}
+use Rattle.watch.proofs.WatchLemmas.Order.{alive_alike, alive_clause, literals_ordered}
+use Rattle.watch.proofs.WatchLemmas.Order.{ordered_remove}
 use Rattle.watch.proofs.WatchLemmas.State.{alone_kept, watch_removed}
 use Rattle.watch.proofs.watch.WatchPropagate.remove.Goals as goal
 

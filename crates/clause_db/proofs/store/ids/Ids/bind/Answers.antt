@@ -1,7 +1,8 @@
 use Rattle.std.proofs.Common.{cond, eqb, get_or, set, sym, ap, ◌∙◌, rules, arith}
 use Rattle.std.specs.FinMap as maps
-use Rattle.clause_db.specs.Store.Ids.{place}
-use Rattle.clause_db.proofs.StoreLemmas.Ids.{as_map-same, as_map-insert, unbound_entry, entry_at-written, entry_is}
+use Rattle.clause_db.specs.Code.Ids.{place}
+use Rattle.clause_db.proofs.StoreLemmas.Ids.{as_map-same, as_map-insert, unbound_entry}
+use Rattle.clause_db.proofs.StoreLemmas.Ids.{entry_at-written, entry_is}
 use Rattle.clause_db.proofs.store.ids.Ids.bind.Goals as goal
 
 pub returns-in_err-page-clause-err : goal.returns-in_err-page-clause-err

@@ -1,5 +1,5 @@
 use Rattle.clause_db.proofs.StoreLemmas.Ids.{as_map-empty, has_no_page}
-use Rattle.clause_db.specs.Store.Ids.{page_at}
+use Rattle.clause_db.specs.Code.Ids.{page_at}
 use Rattle.std.proofs.Common.{◌/◌}
 use Rattle.clause_db.proofs.store.ids.Ids.new.Goals as goal
 

@@ -1,7 +1,7 @@
 use Rattle.std.proofs.Common.{◌^◌, sym, ap, ◌∙◌, inl, inr, arith}
 use Rattle.std.specs.FinMap as maps
 use Rattle.std.proofs.lemmas.Bool.{cases_lt}
-use Rattle.clause_db.specs.Store.Ids.{page_at}
+use Rattle.clause_db.specs.Code.Ids.{page_at}
 use Rattle.clause_db.proofs.StoreLemmas.Ids.{get-as_map, get-past, get-unbound, passed_all}
 use Rattle.clause_db.proofs.StoreLemmas.Options.{if_none_always}
 use Rattle.clause_db.proofs.store.ids.Ids.next_bound.Goals as goal

@@ -1,5 +1,5 @@
 use Rattle.std.proofs.Common.{◌≡◌, ℕ, ◌-◌, ◌<◌, ◌≤◌}
-use Rattle.clause_db.specs.Store.Ids.{entry_at, IsPaged}
+use Rattle.clause_db.specs.Code.Ids.{entry_at, IsPaged}
 use Rattle.clause_db.proofs.store.ids.Ids.next_bound.Given as goal
 
 abbrev pub invariant-loop-found : goal.invariant-loop-found

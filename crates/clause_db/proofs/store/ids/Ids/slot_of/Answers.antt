@@ -1,6 +1,6 @@
 use Rattle.std.proofs.Common.{sym, ap, ◌∙◌, arith}
 use Rattle.std.specs.FinMap as maps
-use Rattle.clause_db.specs.Store.Ids.{slot_from}
+use Rattle.clause_db.specs.Code.Ids.{slot_from}
 use Rattle.clause_db.proofs.StoreLemmas.Ids.{get-as_map}
 use Rattle.clause_db.proofs.store.ids.Ids.slot_of.Goals as goal
 

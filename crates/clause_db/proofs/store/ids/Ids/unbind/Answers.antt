@@ -1,7 +1,8 @@
 use Rattle.std.proofs.Common.{set, sym, ap, ◌∙◌, refl, arith}
 use Rattle.std.specs.FinMap as maps
-use Rattle.clause_db.specs.Store.Ids.{place, slot_from}
-use Rattle.clause_db.proofs.StoreLemmas.Ids.{get-as_map, get-unbound, remove_unbound, as_map-remove, entry_at-written, has_page}
+use Rattle.clause_db.specs.Code.Ids.{place, slot_from}
+use Rattle.clause_db.proofs.StoreLemmas.Ids.{get-as_map, get-unbound, remove_unbound, as_map-remove}
+use Rattle.clause_db.proofs.StoreLemmas.Ids.{entry_at-written, has_page}
 use Rattle.clause_db.proofs.store.ids.Ids.unbind.Goals as goal
 
 pub returns-then-entry-eq0-clause-was : goal.returns-then-entry-eq0-clause-was

@@ -1,5 +1,5 @@
 use Rattle.std.proofs.Common.{◌≡◌, ℕ, ◌-◌, ◌<◌, ◌≤◌}
-use Rattle.clause_db.specs.Store.Ids.{far_page}
+use Rattle.clause_db.specs.Code.Ids.{far_page}
 use Rattle.clause_db.proofs.store.ids.directory.first_far.Given as goal
 
 abbrev pub invariant-loop-number : goal.invariant-loop-number

@@ -1,7 +1,8 @@
-use Rattle.std.proofs.Common.{rules, ◌≡◌, ◌≢◌, ℕ, ◌<◌, ◌++◌, ◌∷◌, [], cond, eqb, refl, sym, ap, ◌∙◌, arith}
+use Rattle.std.proofs.Common.{rules, ◌≡◌, ◌≢◌, ℕ, ◌<◌, ◌++◌, ◌∷◌, [], cond, eqb, refl, sym, ap, ◌∙◌}
+use Rattle.std.proofs.Common.{arith}
 use Rattle.std.proofs.lemmas.Grind.{common_steps}
-use Rattle.clause_db.specs.Store.Buckets.{bucket_at}
-use Rattle.clause_db.specs.Store.Index.{noted_place, place_in, under}
+use Rattle.clause_db.specs.Code.Buckets.{bucket_at}
+use Rattle.clause_db.specs.Code.Index.{noted_place, place_in, under}
 use Rattle.clause_db.proofs.StoreLemmas.Options.{on_err_from}
 use Rattle.clause_db.proofs.StoreLemmas.Indexed.{undone}
 use Rattle.clause_db.proofs.StoreLemmas.Index.{index_same, index_with, other_place, wrote_place}

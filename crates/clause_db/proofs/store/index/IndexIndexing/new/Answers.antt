@@ -1,5 +1,5 @@
-use Rattle.clause_db.specs.Store.Buckets.{bucket_at}
-use Rattle.clause_db.specs.Store.Index.{place_in}
+use Rattle.clause_db.specs.Code.Buckets.{bucket_at}
+use Rattle.clause_db.specs.Code.Index.{place_in}
 use Rattle.clause_db.proofs.StoreLemmas.Index.{index_empty}
 use Rattle.clause_db.proofs.store.index.IndexIndexing.new.Goals as goal
 

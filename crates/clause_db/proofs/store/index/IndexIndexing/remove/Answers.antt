@@ -1,5 +1,5 @@
 use Rattle.std.proofs.Common.{unwrap_or, sym, ap}
-use Rattle.clause_db.specs.Store.Index.{noted_place, place_in, under}
+use Rattle.clause_db.specs.Code.Index.{noted_place, place_in, under}
 use Rattle.clause_db.proofs.StoreLemmas.Index.{alone, index_without, place_inside}
 use Rattle.clause_db.proofs.store.index.IndexIndexing.remove.Goals as goal
 

@@ -1,5 +1,5 @@
 use Rattle.std.proofs.Common.{◌≡◌, ℕ, true, is_some, length}
-use Rattle.propagation.specs.Values.{value_at, known_value}
+use Rattle.propagation.specs.Code.Values.{value_at, known_value}
 use Rattle.propagation.proofs.trail.values.Values.widen.Given as goal
 
 abbrev pub invariant-loop-key : goal.invariant-loop-key

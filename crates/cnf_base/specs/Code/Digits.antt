@@ -1,0 +1,44 @@
+-- The digits of a number, byte by byte.
+use Rattle.std.specs.Prelude.{ℕ, ◌==◌, ◌||◌, Bool, ◌+◌, ◌-◌, ◌*◌, ◌^◌, min, if◌then◌else◌, true, false, ◌≡◌, ◌<◌, List, [], ◌∷◌, length, ◌≤◌, take}
+use Rattle.cnf_base.specs.Words.{is_digit, number, is_counting, size_of}
+use Rattle.cnf_base.specs.declared.scanner.digits.Digits.TheVariants.{Nothing, Zero, Counting, NoNumber}
+use Rattle.cnf_base.specs.declared.scanner.digits.Digits.{Digits}
+use Rattle.cnf_base.specs.declared.word.Word.TheVariants as words
+use Rattle.cnf_base.specs.declared.word.Word.{Word}
+
+-- whether a number may begin with the byte
+abbrev pub begins_number : ℕ → Bool
+begins_number b = b == 45 || is_digit b
+
+-- with one more byte
+abbrev pub with_byte : Digits → ℕ → Digits
+with_byte Nothing b = if is_digit b then (if b == 48 then Zero else Counting (b - 48)) else NoNumber
+with_byte Zero b = NoNumber
+with_byte (Counting n) b = if is_digit b then Counting (min (min (n * 10) (2 ^ 64 - 1) + (b - 48)) (2 ^ 64 - 1)) else NoNumber
+with_byte NoNumber b = NoNumber
+
+-- the digits that a number's first byte is
+abbrev pub first_digits : ℕ → Digits
+first_digits b = if b == 45 then Nothing else with_byte Nothing b
+
+-- the word that they make after an optional `-`
+abbrev pub digits_word : Bool → Digits → Word
+digits_word is_negative (Counting n) = words.Number (number is_negative n)
+digits_word false Zero = words.Number (number false 0)
+digits_word true Zero = words.Other
+digits_word is_negative Nothing = words.Other
+digits_word is_negative NoNumber = words.Other
+
+-- what is known of the digits
+abbrev pub AreDigits : Digits → List ℕ → Type 0
+AreDigits Nothing ds = ds ≡ []
+AreDigits Zero ds = ds ≡ 48 ∷ []
+AreDigits (Counting n) ds = (is_counting ds ≡ true) × (n ≡ size_of ds)
+AreDigits NoNumber ds = (is_counting ds ≡ false) × (0 < length ds) × (ds ≡ 48 ∷ [] → ⊥)
+
+-- the first bytes of a run, of which no more than 16 are kept
+pub record AreKept (bytes : List ℕ) (len : ℕ) (is_longer : Bool) (run : List ℕ) : Type 0 where
+  pub size : length bytes ≡ 16
+  pub within : len ≤ 16
+  pub whole : is_longer ≡ false → run ≡ take len bytes
+  pub longer : is_longer ≡ true → 16 < length run

@@ -1,0 +1,4 @@
+-- How the parts of the code fit together. No public contract speaks of it.
+pub mod Claiming
+pub mod Models
+pub mod Reading

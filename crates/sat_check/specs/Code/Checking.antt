@@ -1,0 +1,133 @@
+-- The parts of a check.
+use Rattle.std.specs.List.{list_any}
+use Rattle.std.specs.Prelude.{◌≡◌, ◌+◌, ◌≤◌, false, List, length, None, Some, Result, Ok, Err, ℕ, max, Bool, ◌⊎◌, Option, true, ◌-◌, ◌^◌, min, if◌then◌else◌, [], ◌∷◌}
+use Rattle.cnf_base.specs.Lines.{Sink, Writes}
+use Rattle.cnf_base.specs.Literals.{Clause}
+use Rattle.cnf_base.specs.Seen.{OfBothSeen}
+use Rattle.cnf_base.specs.Stream.{Input, Stream, Reader}
+use Rattle.cnf_base.specs.declared.fault.Fault.TheVariants.{OutOfMemory}
+use Rattle.cnf_base.specs.declared.fault.Fault.{Fault}
+use Rattle.dimacs.specs.Formula.{Body, Formula, formula_of}
+use Rattle.dimacs.specs.declared.header.Header.{Header}
+use Rattle.proofs.specs.Reading.{Proof, PlacedStep, with_step}
+use Rattle.proofs.specs.Steps.{Step}
+use Rattle.proofs.specs.declared.step_end.StepEnd.{StepEnd}
+use Rattle.theory.specs.Rules.{Rule, start, sum_of, Same, State, Answers, after, IsFinite}
+use Rattle.theory.specs.Verdicts.{is_empty, Ending, Ends, Verdict, is_last}
+use Rattle.theory.specs.declared.accepted.Accepted.{Accepted}
+use Rattle.theory.specs.declared.refusal.Refusal.TheVariants.{OutOfMemory as RefusedMemory}
+use Rattle.theory.specs.declared.refusal.Refusal.{Refusal}
+use Rattle.steps.specs.ProofSession.{View, is_over}
+use Rattle.sat_check.specs.Lines.{trace_line}
+use Rattle.sat_check.specs.Reach.{deciding_step, refused_end, NeedsNoProof, TellsRefused, ReadsNoFurther}
+use Rattle.sat_check.specs.Report.{Report, bare_steps, peak_of, proof_report, Reports, text_of, Outcome}
+use Rattle.sat_check.specs.declared.checked.Checked.{Checked}
+use Rattle.sat_check.specs.declared.status.Status.TheVariants.{NotVerified, OutOfMemory as NoMemory, WriteFailed, ReadFailed}
+use Rattle.sat_check.specs.declared.status.Status.{Status}
+
+-- where a reader stands, and what is still to come of an input
+pub record Standing : Type 0 where
+  pub stream : Stream
+  pub to_come : Input → Proof
+
+-- these clauses were input, and nothing else; as many more as a header allows still can be
+pub record IsLoaded (rule : Rule) (s : View) (clauses : List Clause) : Type 0 where
+  pub state : Same s.state (start rule clauses)
+  pub verified : s.is_verified ≡ list_any is_empty clauses
+  pub sound : s.is_ended ≡ false
+  pub unstepped : s.has_stepped ≡ false
+  pub peak : s.peak ≡ sum_of (start rule clauses)
+  pub room : 4294967295 ≤ s.room + length clauses
+
+-- the clauses of a formula were input, or its fault was met; want of memory says nothing
+abbrev pub LoadsBody : Rule → View → Result Unit Fault → Body → Type 0
+LoadsBody rule s (Ok u) b = (b.fault ≡ None) × IsLoaded rule s b.clauses
+LoadsBody rule s (Err OutOfMemory) b = Unit {0}
+LoadsBody rule s (Err f) b = b.fault ≡ Some f
+
+abbrev pub Loads : Rule → View → Result Header Fault → Formula → Type 0
+Loads rule s (Ok h) f = (f.header ≡ Some h) × (f.fault ≡ None) × IsLoaded rule s f.clauses
+Loads rule s (Err OutOfMemory) f = Unit {0}
+Loads rule s (Err e) f = f.fault ≡ Some e
+
+-- the rest of a report, from a state that so many accepted steps left, with the greatest sum of sizes up to it
+pub record Rest (trace : Bool) (state : State) (n : ℕ) (peak : ℕ) (proof : Proof) (r : Report) : Type 0 where
+  pub words : List Accepted
+  pub ending : Ending
+  pub verdict : Ends state (bare_steps proof) words ending
+  pub report : r ≡ proof_report trace n (max peak (peak_of state (bare_steps proof) words)) words ending proof.fault
+
+-- What is left of the steps of a proof from a state on: all that follows the step that decides, whatever the status; and
+-- where that ends, if it was refused.
+pub record LeavesRest (state : State) (p : Proof) (rest : Input) (checked : Checked) : Type 0 where
+  pub past : (words : List Accepted) (ending : Ending) (last : PlacedStep) → Ends state (bare_steps p) words ending
+      → deciding_step p.steps words ending ≡ Some last → last.rest ≤ length rest.bytes
+  pub refused : (words : List Accepted) (ending : Ending) → checked.status ≡ NotVerified → Ends state (bare_steps p) words ending
+      → checked.refused ≡ refused_end p.steps words ending
+  pub only : (checked.status ≡ NotVerified → ⊥) → checked.refused ≡ None
+
+-- What is left of a proof: all of it where the formula decides alone, and else all of it, or all that follows the step
+-- that decides; and where the refused step ends.
+pub record LeavesProof (rule : Rule) (fault : Option Fault) (clauses : List Clause) (p : Proof) (old new : Reader) (rest : Input) (checked : Checked) : Type 0 where
+  pub unread : NeedsNoProof fault clauses → new ≡ old
+  pub past : (words : List Accepted) (ending : Ending) (last : PlacedStep) → fault ≡ None
+      → Verdict rule clauses (bare_steps p) words ending → deciding_step p.steps words ending ≡ Some last → (new ≡ old) ⊎ (last.rest ≤ length rest.bytes)
+  pub told : TellsRefused rule fault clauses p checked
+
+-- what was written, by all that was seen of the formula and of the proof, how far this was read, and where the refused
+-- step ends
+abbrev pub AllReports : Rule → Bool → (Input → Proof) → Reader → Reader → Reader → Reader → Checked → Option (List ℕ) → Option (List ℕ) → Type 0
+AllReports rule trace steps formula formula_new proof proof_new checked old new =
+    OfBothSeen formula formula_new proof proof_new (λ i j. Reports rule trace i (steps j) old new checked.status
+    × ReadsNoFurther rule (formula_of i) j (steps j) proof proof_new × TellsRefused rule (formula_of i).fault (formula_of i).clauses (steps j) checked)
+
+-- a step that is refused
+abbrev pub IsRefused : State → Step → Type 0
+IsRefused state step = (r : Refusal) × Answers state step (Err r)
+
+-- a step that decides: it is refused, or it is the accepted empty clause
+abbrev pub Decides : State → Step → Type 0
+Decides state step =
+    IsRefused state step ⊎ ((word : Accepted) × Answers state step (Ok word) × (is_last word ≡ true))
+
+-- numbers are counted up to the greatest of 64 bits
+abbrev pub counted : ℕ → ℕ
+counted n = min n (2 ^ 64 - 1)
+
+-- the line of an accepted step, if a trace is asked for
+abbrev pub traced : Bool → ℕ → Accepted → List (List ℕ)
+traced trace n word = if trace then trace_line n word ∷ [] else []
+
+-- a step was accepted, it isn't the last, and its line was written
+pub record GoesOn (trace : Bool) (number : ℕ) (old new : View) (step : Step) (was now : Sink) : Type 0 where
+  pub word : Accepted
+  pub answers : Answers old.state step (Ok word)
+  pub not_last : is_last word ≡ false
+  pub state : Same new.state (after old.state step word)
+  pub peak : new.peak ≡ max old.peak (sum_of new.state)
+  pub sound : is_over new ≡ false
+  pub wrote : Writes was now (text_of (traced trace number word))
+  pub whole : now.is_broken ≡ false
+  pub no_failure : now.has_failed ≡ was.has_failed
+
+-- with this step the check ended: whatever follows it, what was written is the rest of the report
+abbrev pub Stops : Bool → ℕ → View → Step → Sink → Sink → Status → Type 0
+Stops trace number old step was now status =
+    (n left : ℕ) (end : StepEnd) (p : Proof) → number ≡ counted (n + 1) → sum_of old.state ≤ old.peak → IsFinite old.state
+    → (r : Report) × Rest trace old.state n old.peak (with_step step end left p) r × Outcome status was.held now.held r
+
+-- how a run may stop before its end
+abbrev pub IsBreak : Status → Sink → Type 0
+IsBreak NoMemory now = Unit {0}
+IsBreak WriteFailed now = now.has_failed ≡ true
+IsBreak _ now = ⊥
+
+-- neither a failed read, nor a failed write that the writer doesn't tell of
+abbrev pub IsTold : Status → Sink → Type 0
+IsTold ReadFailed now = ⊥
+IsTold WriteFailed now = now.has_failed ≡ true
+IsTold _ now = Unit {0}
+
+abbrev pub is_memory : Refusal → Bool
+is_memory RefusedMemory = true
+is_memory _ = false

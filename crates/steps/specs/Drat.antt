@@ -1,3 +1,0 @@
--- DRAT as the code has it.
-pub mod Candidates
-pub mod Session

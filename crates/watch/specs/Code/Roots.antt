@@ -1,0 +1,121 @@
+-- The literals that are true with nothing assumed, each with its reason (as solvers keep those of
+-- level 0; our own profile).
+use Rattle.std.specs.FinMap as maps
+use Rattle.std.specs.FinMap.{FinMap}
+use Rattle.std.specs.Ordering.{nat_cmp}
+use Rattle.std.specs.Prelude.{◌≡◌, ◌≢◌, ℕ, Bool, Option, Some, List, IsTrue, IsSome, ◌≤◌, [], take}
+use Rattle.std.specs.Prelude.{length, true, false, ◌∷◌, ⊤, ◌<◌, slice_index, IsFalse}
+use Rattle.cnf_base.specs.Literals.{Literal, Clause, has, complement}
+use Rattle.tables.specs.Table.{at}
+use Rattle.theory.specs.Propagation.{Live, Forced}
+use Rattle.propagation.specs.declared.left.Left.TheVariants.{Nothing, One, More}
+use Rattle.propagation.specs.declared.left.Left.{Left}
+use Rattle.propagation.specs.Assumptions.{HasAt, Assumption}
+use Rattle.watch.specs.Code.Order.{each_in_order}
+use Rattle.watch.specs.Code.Watched.{HasUnit, IsWatched}
+use Rattle.watch.specs.declared.roots.Kept.TheVariants.{Lost, Behind, All, Clash}
+use Rattle.watch.specs.declared.roots.Kept.{Kept}
+use Rattle.watch.specs.declared.roots.Roots.{Roots}
+
+-- ---- Reasons
+
+-- a literal of the list passes where the complements of the other literals of its reason do
+abbrev pub FollowsReasons : Live → (Literal → Option ℕ) → List Literal → (Literal → Bool) → Type 0
+FollowsReasons live reason_of lits passes =
+    (l : Literal) (s : ℕ) (c : Clause) → IsTrue (has lits l) → reason_of l ≡ Some s →
+    live s ≡ Some c →
+    ((k : Literal) → IsTrue (has c k) → k ≢ l → IsTrue (passes (complement k))) → IsTrue (passes l)
+
+-- the literals follow from their reasons alone, of which each has its literal
+pub record AreReasoned (live : Live) (reason_of : Literal → Option ℕ) (lits : List Literal)
+    : Type 0 where
+  pub has_it : (l : Literal) (s : ℕ) → IsTrue (has lits l) → reason_of l ≡ Some s → HasAt live l s
+  pub in_each : (passes : Literal → Bool) → FollowsReasons live reason_of lits passes →
+      (l : Literal) → IsTrue (has lits l) → IsTrue (passes l)
+
+-- there is room for the reasons of the clause's literals
+abbrev pub HasReasons : Clause → (Literal → Option ℕ) → Type 0
+HasReasons c reason_of = (l : Literal) → IsTrue (has c l) → IsSome (reason_of l)
+
+pub record AreNoted (live : Live) (reason_of : Literal → Option ℕ) : Type 0 where
+  pub each : (s : ℕ) (c : Clause) → live s ≡ Some c → HasReasons c reason_of
+
+-- ---- What is known
+
+-- all literals of the clause in the slot are false
+pub record IsFalseAt (live : Live) (slot : ℕ) (trues : List Literal) : Type 0 where
+  pub clause : Clause
+  pub at : live slot ≡ Some clause
+  pub falses : (k : Literal) → IsTrue (has clause k) → IsTrue (has trues (complement k))
+
+-- each short clause has its literal, and it is true
+abbrev pub HaveUnits : Live → List Literal → Type 0
+HaveUnits live trues = (s : ℕ) (c : Clause) → live s ≡ Some c → HasUnit c trues
+
+-- what is said of the literals that are kept is so
+abbrev pub IsKnown : FinMap nat_cmp Clause → Kept → List Literal → Type 0
+IsKnown live Lost roots = roots ≡ []
+IsKnown live (Behind from) roots =
+    (from ≤ length roots) × IsWatched (maps.get live) (take from roots) roots
+    × HaveUnits (maps.get live) roots
+IsKnown live All roots = IsWatched (maps.get live) roots roots × HaveUnits (maps.get live) roots
+IsKnown live (Clash slot) roots = IsFalseAt (maps.get (each_in_order live)) slot roots
+
+-- whether all that follows with nothing assumed is kept, or a clash
+abbrev pub is_up_to_date : Kept → Bool
+is_up_to_date Lost = false
+is_up_to_date (Behind from) = false
+is_up_to_date All = true
+is_up_to_date (Clash slot) = true
+
+-- whether a clash is kept
+abbrev pub has_clash : Kept → Bool
+has_clash Lost = false
+has_clash (Behind from) = false
+has_clash All = false
+has_clash (Clash slot) = true
+
+-- whether anything is kept
+abbrev pub is_lost : Kept → Bool
+is_lost Lost = true
+is_lost (Behind from) = false
+is_lost All = false
+is_lost (Clash slot) = false
+
+-- the kept literals follow from their reasons, and what is said of them is so
+pub record IsKept (live : FinMap nat_cmp Clause) (roots : Roots) (lits : List Literal)
+    : Type 0 where
+  pub noted : AreNoted (maps.get (each_in_order live)) (at roots.reasons)
+  pub reasoned : AreReasoned (maps.get (each_in_order live)) (at roots.reasons) lits
+  pub known : IsKnown live roots.kept lits
+
+-- all of them follow with nothing assumed
+abbrev pub AreForced : Live → List Literal → Type 0
+AreForced live lits = (l : Literal) → IsTrue (has lits l) → Forced live [] l
+
+-- where an assumption stands, what follows without is known
+abbrev pub IsStanding : Kept → List Assumption → Type 0
+IsStanding kept [] = ⊤
+IsStanding kept (last ∷ rest) = is_up_to_date kept ≡ true
+
+-- ---- A clause that is added
+
+-- a literal that is not false was brought to a place, if there was one from it on
+pub record IsBrought (trues : List Literal) (c d : Clause) (place : ℕ) (was_found : Bool)
+    : Type 0 where
+  pub alike : (l : Literal) → has d l ≡ has c l
+  pub before : (k : ℕ) → k < place → slice_index d k ≡ slice_index c k
+  pub found : was_found ≡ true → (place < length d)
+      × IsFalse (has trues (complement (slice_index d place)))
+  pub none : was_found ≡ false → (k : ℕ) → place ≤ k → k < length d →
+      IsTrue (has trues (complement (slice_index d k)))
+
+-- what is left of a clause stands first
+abbrev pub IsArranged : List Literal → Clause → Left → Type 0
+IsArranged trues c Nothing = (k : Literal) → IsTrue (has c k) → IsTrue (has trues (complement k))
+IsArranged trues c (One l) =
+    IsTrue (has c l) × (slice_index c 0 ≡ l) × IsFalse (has trues (complement l))
+    × ((k : Literal) → IsTrue (has c k) → k ≢ l → IsTrue (has trues (complement k)))
+IsArranged trues c More =
+    (2 ≤ length c) × IsFalse (has trues (complement (slice_index c 0)))
+        × IsFalse (has trues (complement (slice_index c 1)))

@@ -1,0 +1,61 @@
+-- What holds of the fields of `Watch`.
+use Rattle.std.specs.Coded.{Coded, code_by, coded×, coded_bool, coded_list, coded_ℕ}
+use Rattle.std.specs.FinMap as maps
+use Rattle.std.specs.FinMap.{FinMap}
+use Rattle.std.specs.Ordering.{nat_cmp}
+use Rattle.std.specs.Prelude.{ℕ, List, Bool, refl, ◌≡◌, ◌*◌, length}
+use Rattle.cnf_base.specs.Literals.{size, Clause}
+use Rattle.propagation.specs.Assumptions.{Propagation, AssumptionsState, roots_in}
+use Rattle.propagation.specs.Code.Coding.{propagation_code}
+use Rattle.propagation.specs.Code.Scan.{IsHeld}
+use Rattle.watch.specs.Code.Lists.{AreApart, entries_in, list_at}
+use Rattle.watch.specs.Code.Order.{each_in_order}
+use Rattle.watch.specs.Code.Roots.{AreForced, IsKept, IsStanding}
+use Rattle.watch.specs.Code.Watched.{AreWatched, IsListed, IsShortList}
+use Rattle.watch.specs.State.{WatchState}
+use Rattle.watch.specs.Watched.{long_clauses, short_clauses}
+use Rattle.watch.specs.declared.lists.WatchLists.{WatchLists}
+use Rattle.watch.specs.declared.roots.Roots.{Roots}
+
+-- how many different variables there are
+abbrev pub variables_in : List ℕ → ℕ
+variables_in met = size met
+
+-- the tuple of its fields
+abbrev pub watch_code : Coded WatchState
+watch_code =
+    code_by
+    (Propagation × (((ℕ × ℕ) × (ℕ × ℕ)) × (List ℕ × (Bool × Bool))))
+    (coded× propagation_code
+        (coded× (coded× (coded× coded_ℕ coded_ℕ) (coded× coded_ℕ coded_ℕ))
+        (coded× (coded_list coded_ℕ) (coded× coded_bool coded_bool))))
+    (λ s.
+        (s.propagation,
+        (((s.entries, s.loose), (s.trues, s.variables)),
+        (s.roots, (s.is_up_to_date, s.has_clash)))))
+    (λ p. record {
+      propagation = p.0;
+      entries = p.1.0.0.0;
+      loose = p.1.0.0.1;
+      trues = p.1.0.1.0;
+      variables = p.1.0.1.1;
+      roots = p.1.1.0;
+      is_up_to_date = p.1.1.1.0;
+      has_clash = p.1.1.1.1;
+    })
+    (λ _. refl)
+
+-- of what is held nothing follows that isn't true; each clause stands in the lists where it should,
+-- and nothing else does; what is false is watched; and what is kept of the literals that are true
+-- with nothing assumed is so
+pub record IsWatch (live : FinMap nat_cmp Clause) (lists : WatchLists) (short : List ℕ)
+    (roots : Roots) (held : AssumptionsState) : Type 0 where
+  pub scan : IsHeld (each_in_order live) (AreForced (maps.get (each_in_order live))) held
+  pub apart : AreApart lists
+  pub listed : IsListed (maps.get live) (list_at lists)
+  pub rest : IsShortList (maps.get live) short
+  pub watched : AreWatched (maps.get live) held.trail.lits held.assumptions held.starts
+  pub two_each : entries_in lists ≡ 2 * long_clauses live
+  pub one_each : length short ≡ short_clauses live
+  pub kept : IsKept live roots (roots_in held.trail.lits held.assumptions held.starts)
+  pub standing : IsStanding roots.kept held.assumptions
