@@ -1,5 +1,7 @@
 -- A text's words, as it is read, and that a number and a fixed word are spelled in one way.
-use Rattle.std.proofs.Common.{◌≡◌, ℕ, zero, suc, ◌≤◌, ◌==◌, ◌&&◌, ◌⊎◌, inl, inr, cond, not, Bool, true, false, List, [], ◌∷◌, ◌++◌, length, drop, map, filter, Option, None, Some, refl, sym, ap, ◌∙◌, append_assoc, subst, arith}
+use Rattle.std.proofs.Common.{◌≡◌, ℕ, zero, suc, ◌≤◌, ◌==◌, ◌&&◌, ◌⊎◌, inl, inr, cond, not, Bool}
+use Rattle.std.proofs.Common.{true, false, List, [], ◌∷◌, ◌++◌, length, drop, map, filter, Option}
+use Rattle.std.proofs.Common.{None, Some, refl, sym, ap, ◌∙◌, append_assoc, subst, arith}
 use Rattle.std.specs.Prelude.{codes}
 use Rattle.std.specs.Fmt.{decimal}
 use Rattle.std.specs.List.{list_all, flat_map, filter_map, cons_option, slice_split}
@@ -14,8 +16,11 @@ use Rattle.std.proofs.lemmas.List.Elements.{filter_map-append}
 use Rattle.std.proofs.lemmas.List.Folds.{list_all-append}
 use Rattle.cnf_base.specs.Grammar.{is_word, words_in, word_lines, text_words}
 use Rattle.cnf_base.specs.Printing.{input_of}
-use Rattle.cnf_base.specs.Text.{is_separator, Spot, spot, one_on, next_line, along, Listed, words_of, is_comment, line_tokens, with_front, Listing, lines_listing, listing_of}
-use Rattle.cnf_base.specs.Words.{is_digit, is_counting, has_minus, decimal_value, size_of, number, fixed_word, number_or, word_of}
+use Rattle.cnf_base.specs.Text.{is_separator, Spot, spot, one_on, next_line, along, Listed}
+use Rattle.cnf_base.specs.Text.{words_of, is_comment, line_tokens, with_front, Listing}
+use Rattle.cnf_base.specs.Text.{lines_listing, listing_of}
+use Rattle.cnf_base.specs.Words.{is_digit, is_counting, has_minus, decimal_value, size_of, number}
+use Rattle.cnf_base.specs.Words.{fixed_word, number_or, word_of}
 use Rattle.cnf_base.specs.declared.input.Ending.TheVariants.{End}
 use Rattle.cnf_base.specs.declared.word.Word.{Word}
 use Rattle.cnf_base.specs.declared.word.Word.TheVariants as words
@@ -144,10 +149,10 @@ listing_says bytes =
     let P : List (List ℕ) → Type 0 =
     λ lines. Says
     (lines_listing (is_comment bytes)
-    (spot (record { line = 1; col = 1 }) (length bytes)) lines End) (lines_said lines) in
+    (spot (record { line = 1; col = 1 }) 0) lines End) (lines_said lines) in
     subst P (sym f.2)
     (lines_say (is_comment bytes)
-    (spot (record { line = 1; col = 1 }) (length bytes)) f.0 f.1 same)
+    (spot (record { line = 1; col = 1 }) 0) f.0 f.1 same)
 
 -- the words of a text, line ends aside
 pub listing_words : (bytes : List ℕ)

@@ -1,25 +1,33 @@
 -- Texts that were printed plainly, as they are read.
-use Rattle.std.proofs.Common.{◌≡◌, ℕ, zero, suc, ◌+◌, ◌-◌, ◌*◌, ◌%◌, ◌^◌, ◌<◌, ◌≤◌, ◌==◌, ◌&&◌, nat_le, cond, not, Bool, true, false, List, [], ◌∷◌, ◌++◌, length, fold, get_or, Option, Some, refl, sym, ap, ◌∙◌, append_assoc, arith}
+use Rattle.std.proofs.Common.{◌≡◌, ℕ, zero, suc, ◌+◌, ◌-◌, ◌*◌, ◌%◌, ◌^◌, ◌<◌, ◌≤◌, ◌==◌, ◌&&◌}
+use Rattle.std.proofs.Common.{nat_le, cond, not, Bool, true, false, List, [], ◌∷◌, ◌++◌, length}
+use Rattle.std.proofs.Common.{fold, get_or, Option, Some, refl, sym, ap, ◌∙◌, append_assoc}
+use Rattle.std.proofs.Common.{append-nil, length-append, arith}
 use Rattle.std.specs.Prelude.{codes}
 use Rattle.std.specs.Fmt.{decimal}
 use Rattle.std.specs.List.{list_all, join_with_byte}
 use Rattle.std.proofs.lemmas.Bool.Decides.{nat_tests}
 use Rattle.std.specs.Bool.{then_some}
 use Rattle.std.specs.Int.{IsInRange}
-use Rattle.std.proofs.lemmas.Fmt.{decimal_digit, decimal_nonempty, first_decimal, digits_decimal, digits_value-decimal}
+use Rattle.std.proofs.lemmas.Fmt.{decimal_digit, decimal_nonempty, first_decimal, digits_decimal}
+use Rattle.std.proofs.lemmas.Fmt.{digits_value-decimal}
 use Rattle.std.proofs.lemmas.Str.Parse.{IsDigitsTest, IsNumeralModel, numerals_by_fold}
 use Rattle.cnf_base.specs.Literals.{Literal, variable}
-use Rattle.cnf_base.specs.Printing.{input_of, words_line, is_literal, literal_text}
-use Rattle.cnf_base.specs.Text.{is_separator, col_after, line_after, is_comment, listed, with_front, Listing, listing_at}
+use Rattle.cnf_base.specs.Printing.{words_line, is_literal, literal_text}
+use Rattle.cnf_base.specs.Stream.{suffix}
+use Rattle.cnf_base.specs.Text.{is_separator, col_after, line_after, is_comment, listed, with_front}
+use Rattle.cnf_base.specs.Text.{Listing, listing_at}
 use Rattle.cnf_base.specs.Code.Text.{col_along}
-use Rattle.cnf_base.specs.Words.{is_digit, is_counting, decimal_value, size_of, number, number_literal, word_of}
+use Rattle.cnf_base.specs.Words.{is_digit, is_counting, decimal_value, size_of, number}
+use Rattle.cnf_base.specs.Words.{number_literal, word_of}
 use Rattle.cnf_base.specs.declared.input.Ending.TheVariants.{End}
 use Rattle.cnf_base.specs.declared.place.Place.{Place}
 use Rattle.cnf_base.specs.declared.word.Number.{Number}
 use Rattle.cnf_base.specs.declared.word.Word.TheVariants as words
 use Rattle.cnf_base.specs.declared.token.Token as tokens
 use Rattle.cnf_base.specs.declared.token.Token.TheVariants as token
-use Rattle.cnf_base.proofs.TextLemmas.{Each, none, more, IsRun, inner_skips, and_false, listing_at-separator, listing_at-feed, listing_at-run}
+use Rattle.cnf_base.proofs.TextLemmas.{Each, none, more, IsRun, inner_skips, and_false}
+use Rattle.cnf_base.proofs.TextLemmas.{listing_at-separator, listing_at-feed, listing_at-run}
 use Rattle.cnf_base.specs.declared.scanner.digits.Digits.TheVariants.{Counting}
 use Rattle.cnf_base.proofs.WordLemmas.{negative, positive, Spells-word}
 
@@ -31,8 +39,8 @@ after_word [] rest = 10 ∷ rest
 after_word (w ∷ ws) rest = 32 ∷ w ++ after_word ws rest
 
 -- a text from after a word of a line on: the words that are left of the line, and what follows the line
-abbrev pub line_from : Place → List (List ℕ) → List ℕ → Listing
-line_from p ws rest = listing_at p (input_of (after_word ws rest))
+abbrev pub line_from : Place → ℕ → List (List ℕ) → List ℕ → Listing
+line_from p n ws rest = listing_at p (suffix n (after_word ws rest) End)
 
 -- a line's first word, and what follows it
 pub words_line-cons : (w : List ℕ) (ws : List (List ℕ)) (rest : List ℕ)
@@ -42,6 +50,20 @@ words_line-cons w (v ∷ vs) rest =
     ap (λ t. t ++ rest) (append_assoc w (32 ∷ join_with_byte 32 (v ∷ vs)) (10 ∷ []))
     ∙ append_assoc w (32 ∷ words_line (v ∷ vs)) rest
     ∙ ap (λ t. w ++ 32 ∷ t) (words_line-cons v vs rest)
+
+-- the offset of the byte after a line of which these words are left
+abbrev pub end_of_line : ℕ → List (List ℕ) → ℕ
+end_of_line n ws = n + length (after_word ws [])
+
+-- it stays while words are taken
+pub end_of_line-next : (n : ℕ) (w : List ℕ) (ws : List (List ℕ)) → end_of_line (suc n + length w) ws ≡ end_of_line n (w ∷ ws)
+end_of_line-next n w ws = omega (arith, length-append w (after_word ws []))
+
+pub end_of_line-first : (n : ℕ) (w : List ℕ) (ws : List (List ℕ)) → end_of_line (n + length w) ws ≡ n + length (words_line (w ∷ ws))
+end_of_line-first n w ws =
+    let all : length (words_line (w ∷ ws)) ≡ length (w ++ after_word ws []) =
+    ap length (sym (append-nil (words_line (w ∷ ws))) ∙ words_line-cons w ws []) in
+    omega (arith, all, length-append w (after_word ws []))
 
 -- a word that is a token
 pub record IsPlain (w : List ℕ) : Type 0 where
@@ -63,41 +85,41 @@ past p w = col_along (col_after p) w
 pub past_from_one : (p : Place) (w : List ℕ) → 0 < (past p w).col
 past_from_one p w = along_from_one (col_after p) w (after_from_one p)
 
--- a text's first token, how many bytes follow it, and the text after it
-pub record Begins (before : Listing) (t : tokens.Token) (left : ℕ) (after : Listing) : Type 0 where
-  pub is : before ≡ with_front (listed t left ∷ []) after
+-- a text's first token, the offset of the byte after it, and the text after it
+pub record Begins (before : Listing) (t : tokens.Token) (offset : ℕ) (after : Listing) : Type 0 where
+  pub is : before ≡ with_front (listed t offset ∷ []) after
 
 -- a word, and the rest of its line
-run_first : (p : Place) (w : List ℕ) (ws : List (List ℕ)) (rest : List ℕ) → IsRun p w
-    → listing_at p (input_of (w ++ after_word ws rest))
-    ≡ with_front (listed (token.Word p (word_of w)) (length (after_word ws rest)) ∷ [])
-    (line_from (col_along p w) ws rest)
-run_first p w [] rest r = listing_at-run p w 10 rest End r refl
-run_first p w (v ∷ vs) rest r = listing_at-run p w 32 (v ++ after_word vs rest) End r refl
+run_first : (p : Place) (n : ℕ) (w : List ℕ) (ws : List (List ℕ)) (rest : List ℕ) → IsRun p w
+    → listing_at p (suffix n (w ++ after_word ws rest) End)
+    ≡ with_front (listed (token.Word p (word_of w)) (n + length w) ∷ [])
+    (line_from (col_along p w) (n + length w) ws rest)
+run_first p n w [] rest r = listing_at-run p n w 10 rest End r refl
+run_first p n w (v ∷ vs) rest r = listing_at-run p n w 32 (v ++ after_word vs rest) End r refl
 
 -- a line's next word
-pub next_word : (p : Place) (w : List ℕ) (ws : List (List ℕ)) (rest : List ℕ) → 0 < p.col → IsPlain w
-    → Begins (line_from p (w ∷ ws) rest) (token.Word (col_after p) (word_of w)) (length (after_word ws rest))
-    (line_from (past p w) ws rest)
-next_word p w ws rest from_one plain = record {
-  is = listing_at-separator p 32 (w ++ after_word ws rest) End from_one refl refl
-      ∙ run_first (col_after p) w ws rest
+pub next_word : (p : Place) (n : ℕ) (w : List ℕ) (ws : List (List ℕ)) (rest : List ℕ) → 0 < p.col → IsPlain w
+    → Begins (line_from p n (w ∷ ws) rest) (token.Word (col_after p) (word_of w)) (suc n + length w)
+    (line_from (past p w) (suc n + length w) ws rest)
+next_word p n w ws rest from_one plain = record {
+  is = listing_at-separator p n 32 (w ++ after_word ws rest) End from_one refl refl
+      ∙ run_first (col_after p) (suc n) w ws rest
       (record { each = plain.each; some = plain.some; text = inner_skips p w from_one });
 }
 
 -- a line's end
-pub next_line : (p : Place) (rest : List ℕ)
-    → Begins (line_from p [] rest) (token.LineEnd p) (length rest) (listing_at (line_after p) (input_of rest))
-next_line p rest = record { is = listing_at-feed p rest End }
+pub next_line : (p : Place) (n : ℕ) (rest : List ℕ)
+    → Begins (line_from p n [] rest) (token.LineEnd p) (suc n) (listing_at (line_after p) (suffix (suc n) rest End))
+next_line p n rest = record { is = listing_at-feed p n rest End }
 
 -- a line's first word, which begins no comment
-pub first_word : (p : Place) (w : List ℕ) (ws : List (List ℕ)) (rest : List ℕ) → is_comment w ≡ false → IsPlain w
-    → Begins (listing_at p (input_of (words_line (w ∷ ws) ++ rest)))
-    (token.Word p (word_of w)) (length (after_word ws rest))
-    (line_from (col_along p w) ws rest)
-first_word p w ws rest no_comment plain = record {
-  is = ap (λ t. listing_at p (input_of t)) (words_line-cons w ws rest)
-      ∙ run_first p w ws rest (record {
+pub first_word : (p : Place) (n : ℕ) (w : List ℕ) (ws : List (List ℕ)) (rest : List ℕ) → is_comment w ≡ false → IsPlain w
+    → Begins (listing_at p (suffix n (words_line (w ∷ ws) ++ rest) End))
+    (token.Word p (word_of w)) (n + length w)
+    (line_from (col_along p w) (n + length w) ws rest)
+first_word p n w ws rest no_comment plain = record {
+  is = ap (λ t. listing_at p (suffix n t End)) (words_line-cons w ws rest)
+      ∙ run_first p n w ws rest (record {
         each = plain.each;
         some = plain.some;
         text = ap (λ v. (p.col == 1) && v) no_comment ∙ and_false (p.col == 1);

@@ -1,8 +1,11 @@
 -- What a run saw of its reader.
-use Rattle.std.proofs.Common.{◌≡◌, ℕ, ◌||◌, List, [], ◌++◌, Option, None, Some, refl, sym, ap, ◌∙◌, subst, append_assoc, append-nil, arith}
+use Rattle.std.proofs.Common.{◌≡◌, ℕ, ◌+◌, ◌||◌, List, [], ◌++◌, length, Option, None, Some, refl}
+use Rattle.std.proofs.Common.{sym, ap, ◌∙◌, subst, append_assoc, append-nil, arith}
 use Rattle.std.proofs.KnownBytes.{Consumes-nil}
 use Rattle.std.specs.Io.KnownBytes.{IsAtEnd}
-use Rattle.cnf_base.specs.Stream.{Input, Reader, Stream, MayGive, MayFollow, MayCome, Meets, Along, is_failure, tells_failure, unread_stream, preceded}
+use Rattle.cnf_base.specs.Stream.{Input, Suffix, from_offset, from_start, preceded, Reader, Stream}
+use Rattle.cnf_base.specs.Stream.{MayGive, MayFollow, MayCome, Meets, Along, is_failure}
+use Rattle.cnf_base.specs.Stream.{tells_failure, unread_stream}
 use Rattle.cnf_base.specs.Seen.{Seen, IsSeen, SeenMayBeGiven, SeenIsSome}
 use Rattle.cnf_base.specs.declared.input.Ending.{Ending}
 use Rattle.cnf_base.specs.declared.input.Ending.TheVariants.{End, Failed}
@@ -21,7 +24,7 @@ Seen-nothing reader = record {
   silent = IsSilent-nothing reader;
 }
 
-module _ (reader : Reader) (borrows : List ℕ) (last : Stream) (P : Input → Input → Type 0) (run : Along (unread_stream reader borrows) last P) where
+module _ (reader : Reader) (borrows : List ℕ) (last : Stream) (P : Suffix → Suffix → Type 0) (run : Along (unread_stream reader borrows) last P) where
   -- the bytes that were read were handed out
   pub Seen-run : Seen reader last.reader
   Seen-run = record {
@@ -51,7 +54,7 @@ module _ (reader : Reader) (borrows : List ℕ) (last : Stream) (P : Input → I
       last_given (Some Failed) m e is = m ∙ is
 
   -- what follows what was taken, of an input that begins with what was handed out
-  rest_of : (i : Input) → MayFollow last.met last.reader.left run.bytes i.bytes i.ending → (j : Input) × MayCome last j × (i ≡ preceded run.taken j)
+  rest_of : (i : Input) → MayFollow last.met last.reader.left run.bytes i.bytes i.ending → (j : Input) × MayCome last (from_offset (0 + length run.taken) j) × (i ≡ preceded run.taken j)
   rest_of i f = by last.met f
     where
       by : (met : Option Ending) → MayFollow met last.reader.left run.bytes i.bytes i.ending
@@ -68,12 +71,13 @@ module _ (reader : Reader) (borrows : List ℕ) (last : Stream) (P : Input → I
       )
 
   -- and of each such input the run's fact holds
-  pub Seen-fact : (i : Input) → IsSeen Seen-run i → (j : Input) × MayCome last j × P i j
+  pub Seen-fact : (i : Input) → IsSeen Seen-run i → (j : Suffix) × MayCome last j × P (from_start i) j
   unfolding Seen-run
   Seen-fact i f =
       let r = rest_of i f in
-      let Q : Input → Type 0 = λ x. P x r.0 in
-      (r.0, r.1, subst Q (sym r.2) (run.fact r.0 r.1))
+      let j : Suffix = from_offset (0 + length run.taken) r.0 in
+      let Q : Input → Type 0 = λ x. P (from_start x) j in
+      (j, r.1, subst Q (sym r.2) (run.fact 0 r.0 r.1))
 
 -- ---- Laws
 

@@ -1,8 +1,12 @@
 -- Lists as the sets of their literals.
-use Rattle.std.proofs.Common.{◌≡◌, ◌≢◌, Bool, true, false, not, cond, eqb, List, [], ◌∷◌, ◌++◌, filter, refl, sym, ap, ◌∙◌, inl, inr, ◌⊎◌, eqb-true, eq-eqb, ne_eqb}
-use Rattle.std.proofs.lemmas.Bool.{false≢true, true≢false, or_cases, or_left, or_right, and_parts, and_from, both_ways, not-true, not_from_false, false_from_ne_true}
+use Rattle.std.proofs.Common.{◌≡◌, ◌≢◌, Bool, true, false, not, cond, eqb, List, [], ◌∷◌, ◌++◌}
+use Rattle.std.proofs.Common.{filter, refl, sym, ap, ◌∙◌, inl, inr, ◌⊎◌, eqb-true, eq-eqb, ne_eqb}
+use Rattle.std.proofs.lemmas.Bool.{false≢true, true≢false, or_cases, or_left, or_right, and_parts}
+use Rattle.std.proofs.lemmas.Bool.{and_from, both_ways, not-true, not_from_false}
+use Rattle.std.proofs.lemmas.Bool.{false_from_ne_true}
 use Rattle.std.specs.List.{list_any, list_all}
-use Rattle.cnf_base.specs.Literals.{Literal, complement, Clause, has, complements, without, same_clause}
+use Rattle.cnf_base.specs.Literals.{Literal, complement, Clause, has, complements, without}
+use Rattle.cnf_base.specs.Literals.{same_clause}
 use Rattle.cnf_base.proofs.LiteralLemmas.{complement-complement}
 
 -- two tests that pass together are equal

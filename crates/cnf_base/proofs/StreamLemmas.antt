@@ -1,11 +1,16 @@
 -- What may still come of an input, from one moment to the next.
-use Rattle.std.proofs.Common.{◌≡◌, ℕ, ◌+◌, ◌-◌, ◌<◌, ◌≤◌, List, [], ◌∷◌, ◌++◌, length, take, drop, Option, None, Some, refl, sym, ap, ◌∙◌, subst, append_assoc, append-nil, length-append, length-drop, arith}
+use Rattle.std.proofs.Common.{◌≡◌, ℕ, ◌+◌, ◌-◌, ◌<◌, ◌≤◌, suc, List, [], ◌∷◌, ◌++◌, length, take}
+use Rattle.std.proofs.Common.{drop, Option, None, Some, refl, sym, ap, ◌∙◌, subst, append_assoc}
+use Rattle.std.proofs.Common.{append-nil, length-append, length-drop, arith}
 use Rattle.std.specs.Prelude.{slice_range, slice_index}
 use Rattle.std.specs.Io.KnownBytes.{Consumes, Keeps, IsAtEnd}
 use Rattle.std.proofs.KnownBytes.{Consumes-nil, Consumes-trans, Consumes-kept}
 use Rattle.std.proofs.lemmas.Grind.{common_steps}
 use Rattle.std.proofs.lemmas.List.{drop-drop, drop-take, take-append-drop}
-use Rattle.cnf_base.specs.Stream.{Input, Reader, Stream, MayGive, MayFollow, MayCome, Meets, Moves, Along, IsLook, IsSilent, is_failure, tells_failure, bumped, bytes_read, most_to_come, preceded}
+use Rattle.cnf_base.specs.Stream.{Input, Suffix, suffix, from_offset, preceded, Reader, Stream}
+use Rattle.cnf_base.specs.Stream.{MayGive, MayFollow, MayCome, Meets, Moves, Along, IsLook}
+use Rattle.cnf_base.specs.Stream.{IsSilent, is_failure, tells_failure, bumped, bytes_read}
+use Rattle.cnf_base.specs.Stream.{most_to_come}
 use Rattle.cnf_base.specs.Code.Stream.{skipped}
 use Rattle.cnf_base.specs.declared.input.Ending.{Ending}
 use Rattle.cnf_base.specs.declared.input.Ending.TheVariants.{End, Failed}
@@ -120,8 +125,9 @@ most_to_come-moved old new bytes taken m =
 -- ---- What may come
 
 -- what may come after a run, with the bytes that it took in front, might come before it
-pub MayCome-before : (old new : Stream) (bytes taken : List ℕ) → Moves old new bytes taken → (j : Input) → MayCome new j → MayCome old (preceded taken j)
-MayCome-before old new bytes taken m j f = by old.met new.met m.met f
+pub MayCome-before : (old new : Stream) (bytes taken : List ℕ) → Moves old new bytes taken → (n k : ℕ) (j : Input)
+    → MayCome new (from_offset k j) → MayCome old (from_offset n (preceded taken j))
+MayCome-before old new bytes taken m n k j f = by old.met new.met m.met f
   where
     -- the reader gave these bytes, and then what follows
     read_on : (later : List ℕ) → j.bytes ≡ new.ahead ++ later → MayGive new.reader.left later j.ending
@@ -151,65 +157,107 @@ MayCome-before old new bytes taken m j f = by old.met new.met m.met f
         let P : Ending → Type 0 = λ e. MayGive new.reader.left [] e in
         read_on [] (f.0 ∙ sym (append-nil new.ahead)) (subst P (sym f.1) (MayGive-failed new.reader.left))
 
-pub Along-before : (old new : Stream) (P : Input → Input → Type 0) → (run : Along old new P) → (j : Input) → MayCome new j → MayCome old (preceded run.taken j)
-Along-before old new P run j m = MayCome-before old new run.bytes run.taken run.moves j m
+pub Along-before : (old new : Stream) (P : Suffix → Suffix → Type 0) → (run : Along old new P) → (n k : ℕ) (j : Input)
+    → MayCome new (from_offset k j) → MayCome old (from_offset n (preceded run.taken j))
+Along-before old new P run n k j m = MayCome-before old new run.bytes run.taken run.moves n k j m
+
+-- ---- Two parts of what comes
+
+-- the first is these bytes, and then the second
+pub record Splits (first : Suffix) (taken : List ℕ) (second : Suffix) : Type 0 where
+  pub bytes : first.bytes ≡ taken ++ second.bytes
+  pub ending : first.ending ≡ second.ending
+  pub offset : second.offset ≡ first.offset + length taken
+
+Splits-run : (n : ℕ) (taken : List ℕ) (j : Input) → Splits (from_offset n (preceded taken j)) taken (from_offset (n + length taken) j)
+Splits-run n taken j = record { bytes = refl; ending = refl; offset = refl }
+
+-- the first part, and the second one, told by the other
+pub Splits-first : (i : Suffix) (taken : List ℕ) (j : Suffix) → Splits i taken j → i ≡ suffix i.offset (taken ++ j.bytes) j.ending
+Splits-first i taken j s =
+    ap (λ b. suffix i.offset b i.ending) s.bytes ∙ ap (λ e. suffix i.offset (taken ++ j.bytes) e) s.ending
+
+pub Splits-second : (i : Suffix) (taken : List ℕ) (j : Suffix) → Splits i taken j → suffix (i.offset + length taken) j.bytes j.ending ≡ j
+Splits-second i taken j s = ap (λ n. suffix n j.bytes j.ending) (sym s.offset)
+
+-- where it is one byte
+pub Splits-byte : (i : Suffix) (b : ℕ) (j : Suffix) → Splits i (b ∷ []) j → suffix (suc i.offset) j.bytes j.ending ≡ j
+Splits-byte i b j s = ap (λ n. suffix n j.bytes j.ending) (omega (arith, s.offset))
+
+pub Splits-none : (i j : Suffix) → Splits i [] j → i ≡ j
+Splits-none i j s =
+    Splits-first i [] j s ∙ ap (λ n. suffix n j.bytes j.ending) (omega (arith, s.offset))
+
+pub Splits-then : (i : Suffix) (taken : List ℕ) (j : Suffix) (others : List ℕ) (k : Suffix) → Splits i taken j → Splits j others k
+    → Splits i (taken ++ others) k
+Splits-then i taken j others k p q = record {
+  bytes = p.bytes ∙ ap (λ b. taken ++ b) q.bytes ∙ sym (append_assoc taken others k.bytes);
+  ending = p.ending ∙ q.ending;
+  offset = omega (arith, p.offset, q.offset, length-append taken others);
+}
 
 -- nothing was taken
 pub Along-look : (old new : Stream) → IsLook old new → Along old new (λ i j. i ≡ j)
-Along-look old new look = record { bytes = look.bytes; taken = []; moves = look.moves; fact = λ j m. refl }
+Along-look old new look = record { bytes = look.bytes; taken = []; moves = look.moves; fact = λ n j m. Splits-none _ _ (Splits-run n [] j) }
 
 pub most_to_come-look : (old new : Stream) → IsLook old new → most_to_come new ≡ most_to_come old
 most_to_come-look old new look = omega (arith, most_to_come-moved old new look.bytes [] look.moves)
 
 -- the same run, with another fact
-pub Along-map : (old new : Stream) (P Q : Input → Input → Type 0) → Along old new P
-    → ((i j : Input) → MayCome new j → P i j → Q i j) → Along old new Q
+pub Along-map : (old new : Stream) (P Q : Suffix → Suffix → Type 0) → Along old new P
+    → ((i j : Suffix) → MayCome new j → P i j → Q i j) → Along old new Q
 Along-map old new P Q run next = record {
   bytes = run.bytes;
   taken = run.taken;
   moves = run.moves;
-  fact = λ j m. next (preceded run.taken j) j m (run.fact j m);
+  fact = λ n j m. next (from_offset n (preceded run.taken j)) (from_offset (n + length run.taken) j) m (run.fact n j m);
 }
 
 -- one run after another
-pub Along-then : (a b c : Stream) (P Q R : Input → Input → Type 0) → Along a b P → Along b c Q
-    → ((i j k : Input) → MayCome c k → P i j → Q j k → R i k) → Along a c R
+pub Along-then : (a b c : Stream) (P Q R : Suffix → Suffix → Type 0) → Along a b P → Along b c Q
+    → ((i j k : Suffix) → MayCome c k → P i j → Q j k → R i k) → Along a c R
 Along-then a b c P Q R first second joined = record {
   bytes = first.bytes ++ second.bytes;
   taken = first.taken ++ second.taken;
   moves = Moves-then a b c first.bytes second.bytes first.taken second.taken first.moves second.moves;
-  fact = λ k m.
-      let S : Input → Type 0 = λ i. R i k in
-      subst S (sym (whole k)) (joined _ _ k m (first.fact (preceded second.taken k) (Along-before b c Q second k m)) (second.fact k m));
+  fact = λ n k m.
+      let at : ℕ = n + length first.taken in
+      let end : ℕ = at + length second.taken in
+      let j : Input = preceded second.taken k in
+      let S : Suffix → Suffix → Type 0 = λ i k. R i k in
+      let T : List ℕ → Type 0 = λ x. S (suffix n x k.ending) (from_offset (n + length (first.taken ++ second.taken)) k) in
+      let U : ℕ → Type 0 = λ x. S (from_offset n (preceded first.taken j)) (from_offset x k) in
+      subst T (sym (append_assoc first.taken second.taken k.bytes)) (subst U (offsets n)
+      (joined (from_offset n (preceded first.taken j)) (from_offset at j) (from_offset end k) m
+      (first.fact n j (Along-before b c Q second at end k m)) (second.fact at k m)));
 }
   where
-    whole : (k : Input) → preceded (first.taken ++ second.taken) k ≡ preceded first.taken (preceded second.taken k)
-    whole k = ap (λ t. record { bytes = t; ending = k.ending }) (append_assoc first.taken second.taken k.bytes)
+    offsets : (n : ℕ) → (n + length first.taken) + length second.taken ≡ n + length (first.taken ++ second.taken)
+    offsets n = omega (arith, length-append first.taken second.taken)
 
 -- A run that began with no more than 65536 bytes ahead has read no more than so many past what it took.
-pub Along-within : (old new : Stream) (P : Input → Input → Type 0) → length old.ahead ≤ 65536 → Along old new P
-    → Along old new (λ i j. P i j × (bytes_read old.reader new.reader + length j.bytes ≤ length i.bytes + 65536))
+pub Along-within : (old new : Stream) (P : Suffix → Suffix → Type 0) → length old.ahead ≤ 65536 → Along old new P
+    → Along old new (λ i j. P i j × (bytes_read old.reader new.reader + i.offset ≤ j.offset + 65536))
 Along-within old new P few run = record {
   bytes = run.bytes;
   taken = run.taken;
   moves = run.moves;
-  fact = λ j m. (run.fact j m, within j);
+  fact = λ n j m. (run.fact n j m, within n);
 }
   where
-    within : (j : Input) → bytes_read old.reader new.reader + length j.bytes ≤ length (run.taken ++ j.bytes) + 65536
-    within j =
+    within : (n : ℕ) → bytes_read old.reader new.reader + n ≤ n + length run.taken + 65536
+    within n =
         let whole : length old.ahead + length run.bytes ≡ length run.taken + length new.ahead =
         sym (length-append old.ahead run.bytes) ∙ ap length run.moves.whole ∙ length-append run.taken new.ahead in
-        let all = length-append run.taken j.bytes in
         let ahead = run.moves.ahead few in
-        omega (arith, whole, all, ahead, run.moves.count)
+        omega (arith, whole, ahead, run.moves.count)
 
 -- a run of no call at all
 pub Along-none : (s : Stream) → Along s s (λ i j. i ≡ j)
-Along-none s = record { bytes = []; taken = []; moves = Moves-nothing s; fact = λ j m. refl }
+Along-none s = record { bytes = []; taken = []; moves = Moves-nothing s; fact = λ n j m. Splits-none _ _ (Splits-run n [] j) }
 
 -- what is made of an input stays where nothing is taken
-pub Along-still : {A : Type 0} (s : Stream) (f : Input → A) → Along s s (λ i j. f i ≡ f j)
+pub Along-still : {A : Type 0} (s : Stream) (f : Suffix → A) → Along s s (λ i j. f i ≡ f j)
 Along-still s f = Along-map s s _ _ (Along-none s) (λ i j m e. ap f e)
 
 -- ---- A look, and a byte that is taken
@@ -242,28 +290,28 @@ first_byte [] h = absurd (omega arith)
 first_byte (b ∷ bs) h = refl
 
 -- the byte that was shown is the input's first
-pub shown_byte : (s : Stream) (b : ℕ) (j : Input) → 0 < length s.ahead → b ≡ slice_index s.ahead 0 → MayCome s j
-    → (rest : List ℕ) × (j ≡ record { bytes = b ∷ rest; ending = j.ending })
+pub shown_byte : (s : Stream) (b : ℕ) (j : Suffix) → 0 < length s.ahead → b ≡ slice_index s.ahead 0 → MayCome s j
+    → (rest : List ℕ) × (j ≡ suffix j.offset (b ∷ rest) j.ending)
 shown_byte s b j some first m = by s.met m
   where
     front : s.ahead ≡ b ∷ drop 1 s.ahead
     front = first_byte s.ahead some ∙ ap (λ x. x ∷ drop 1 s.ahead) (sym first)
 
-    by : (met : Option Ending) → MayFollow met s.reader.left s.ahead j.bytes j.ending → (rest : List ℕ) × (j ≡ record { bytes = b ∷ rest; ending = j.ending })
-    by (Some e) m = (drop 1 s.ahead, ap (λ t. record { bytes = t; ending = j.ending }) (m.0 ∙ front))
-    by None m = (drop 1 s.ahead ++ m.0, ap (λ t. record { bytes = t; ending = j.ending }) (m.1 ∙ ap (λ t. t ++ m.0) front))
+    by : (met : Option Ending) → MayFollow met s.reader.left s.ahead j.bytes j.ending → (rest : List ℕ) × (j ≡ suffix j.offset (b ∷ rest) j.ending)
+    by (Some e) m = (drop 1 s.ahead, ap (λ t. suffix j.offset t j.ending) (m.0 ∙ front))
+    by None m = (drop 1 s.ahead ++ m.0, ap (λ t. suffix j.offset t j.ending) (m.1 ∙ ap (λ t. t ++ m.0) front))
 
 -- the end that was shown is the input's
-pub shown_end : (s : Stream) (e : Ending) (j : Input) → s.ahead ≡ [] → s.met ≡ Some e → MayCome s j
-    → j ≡ record { bytes = []; ending = e }
+pub shown_end : (s : Stream) (e : Ending) (j : Suffix) → s.ahead ≡ [] → s.met ≡ Some e → MayCome s j
+    → j ≡ suffix j.offset [] e
 shown_end s e j nothing met m =
     let P : Option Ending → Type 0 = λ t. MayFollow t s.reader.left s.ahead j.bytes j.ending in
     let f : (j.bytes ≡ s.ahead) × (j.ending ≡ e) = subst P met m in
-    ap (λ t. record { bytes = t; ending = j.ending }) (f.0 ∙ nothing) ∙ ap (λ t. record { bytes = []; ending = t }) f.1
+    ap (λ t. suffix j.offset t j.ending) (f.0 ∙ nothing) ∙ ap (λ t. suffix j.offset [] t) f.1
 
 -- a byte was taken
 pub Along-bumped : (s : Stream) (b : ℕ) → 0 < length s.ahead → b ≡ slice_index s.ahead 0
-    → Along s (bumped s) (λ i j. i ≡ record { bytes = b ∷ j.bytes; ending = j.ending })
+    → Along s (bumped s) (λ i j. Splits i (b ∷ []) j)
 Along-bumped s b some first = record {
   bytes = [];
   taken = slice_index s.ahead 0 ∷ [];
@@ -276,28 +324,30 @@ Along-bumped s b some first = record {
     ahead = λ h. fewer_ahead s.ahead h;
     same_reader = refl;
   };
-  fact = λ j m. ap (λ x. record { bytes = x ∷ j.bytes; ending = j.ending }) (sym first);
+  fact = λ n j m.
+      let P : ℕ → Type 0 = λ x. Splits (suffix n (slice_index s.ahead 0 ∷ j.bytes) j.ending) (x ∷ []) (from_offset (n + 1) j) in
+      subst P (sym first) (Splits-run n (slice_index s.ahead 0 ∷ []) j);
 }
   where
     fewer_ahead : (ahead : List ℕ) → length ahead ≤ 65536 → length (drop 1 ahead) ≤ 65536
     fewer_ahead ahead h = grind (arith, common_steps)
 
 -- bytes of a line were taken
-pub Along-skipped : (s : Stream) (n : ℕ)
-    → Along s (skipped n s) (λ i j. i ≡ record { bytes = take n s.ahead ++ j.bytes; ending = j.ending })
-Along-skipped s n = record {
+pub Along-skipped : (s : Stream) (k : ℕ)
+    → Along s (skipped k s) (λ i j. Splits i (take k s.ahead) j)
+Along-skipped s k = record {
   bytes = [];
-  taken = take n s.ahead;
+  taken = take k s.ahead;
   moves = record {
-    whole = append-nil s.ahead ∙ sym (take-append-drop n s.ahead);
+    whole = append-nil s.ahead ∙ sym (take-append-drop k s.ahead);
     lost = Consumes-nil s.reader.left;
     count = omega arith;
     met = Meets-nothing s.met s.reader;
     silent = IsSilent-nothing s.reader;
-    ahead = λ h. omega (arith, length-drop n s.ahead, h);
+    ahead = λ h. omega (arith, length-drop k s.ahead, h);
     same_reader = refl;
   };
-  fact = λ j m. refl;
+  fact = λ n j m. Splits-run n (take k s.ahead) j;
 }
 
 pub most_to_come-bumped : (s : Stream) → 0 < length s.ahead → most_to_come (bumped s) < most_to_come s
@@ -309,9 +359,9 @@ some_input None = (record { bytes = []; ending = End }, tt)
 some_input (Some all) = (record { bytes = all; ending = End }, refl)
 
 -- and so may each source
-pub some_rest : (s : Stream) → (j : Input) × MayCome s j
+pub some_rest : (s : Stream) → (j : Suffix) × MayCome s j
 some_rest s = by s.met
   where
-    by : (met : Option Ending) → (j : Input) × MayFollow met s.reader.left s.ahead j.bytes j.ending
-    by (Some e) = (record { bytes = s.ahead; ending = e }, (refl, refl))
-    by None = let i = some_input s.reader.left in (record { bytes = s.ahead ++ i.0.bytes; ending = i.0.ending }, (i.0.bytes, refl, i.1))
+    by : (met : Option Ending) → (j : Suffix) × MayFollow met s.reader.left s.ahead j.bytes j.ending
+    by (Some e) = (suffix 0 s.ahead e, (refl, refl))
+    by None = let i = some_input s.reader.left in (suffix 0 (s.ahead ++ i.0.bytes) i.0.ending, (i.0.bytes, refl, i.1))

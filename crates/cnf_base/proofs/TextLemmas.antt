@@ -1,12 +1,17 @@
 -- A text's listing, byte by byte and run by run.
-use Rattle.std.proofs.Common.{◌≡◌, ℕ, ◌+◌, ◌-◌, ◌^◌, ◌<◌, ◌==◌, ◌&&◌, min, cond, Bool, true, false, List, [], ◌∷◌, ◌++◌, length, take, zero, suc, not, refl, sym, ap, ◌∙◌, arith}
+use Rattle.std.proofs.Common.{◌≡◌, ℕ, ◌+◌, ◌-◌, ◌^◌, ◌<◌, ◌==◌, ◌&&◌, min, cond, Bool, true, false}
+use Rattle.std.proofs.Common.{List, [], ◌∷◌, ◌++◌, length, take, zero, suc, not, refl, sym, ap, ◌∙◌}
+use Rattle.std.proofs.Common.{arith}
 use Rattle.std.specs.Prelude.{slice_index}
 use Rattle.std.specs.List.{slice_split, onto_first, list_all}
 use Rattle.std.proofs.lemmas.Bool.{and_parts}
-use Rattle.cnf_base.specs.Stream.{more_count}
+use Rattle.cnf_base.specs.Stream.{more_count, suffix}
 use Rattle.std.proofs.lemmas.Bool.Decides.{nat_tests}
 use Rattle.cnf_base.specs.Words.{word_of}
-use Rattle.cnf_base.specs.Text.{is_separator, col_after, line_after, Spot, spot, one_on, next_line, along, Listed, listed, words_of, but_last, is_comment, line_tokens, last_tokens, with_front, Listing, lines_listing, lines_of, skips_at, listing_at}
+use Rattle.cnf_base.specs.Text.{is_separator, col_after, line_after, Spot, spot, one_on, next_line}
+use Rattle.cnf_base.specs.Text.{along, Listed, listed, words_of, but_last, is_comment, line_tokens}
+use Rattle.cnf_base.specs.Text.{last_tokens, with_front, Listing, lines_listing, lines_of, skips_at}
+use Rattle.cnf_base.specs.Text.{listing_at}
 use Rattle.cnf_base.specs.Code.Text.{col_along, comment_at}
 use Rattle.cnf_base.specs.declared.input.Ending.{Ending}
 use Rattle.cnf_base.specs.declared.input.Ending.TheVariants.{End, Failed}
@@ -89,7 +94,7 @@ line-separator s b line [] ending h = ap (λ t. record { tokens = t; end = (alon
     last Failed = ap (λ ps. words_of s (but_last ps)) parts
         ∙ (let f = first_part is_separator line in keeps f.0 f.1 _ f.2)
 line-separator s b line (next ∷ rest) ending h =
-    ap (λ t. with_front (t ++ listed (token.LineEnd (along (one_on s) line).place) (next_line (along (one_on s) line)).left ∷ []) (lines_listing (is_comment next) (next_line (along (one_on s) line)) (next ∷ rest) ending)) (ap (words_of s) parts)
+    ap (λ t. with_front (t ++ listed (token.LineEnd (along (one_on s) line).place) (next_line (along (one_on s) line)).offset ∷ []) (lines_listing (is_comment next) (next_line (along (one_on s) line)) (next ∷ rest) ending)) (ap (words_of s) parts)
   where
     parts : slice_split is_separator (b ∷ line) ≡ [] ∷ slice_split is_separator line
     parts = ap (λ v. cond v ([] ∷ slice_split is_separator line) (onto_first b (slice_split is_separator line))) h
@@ -121,43 +126,43 @@ is_comment-lines_of (b ∷ bs) first rest e = by (b == 10) refl
         ap is_comment same
 
 -- a separator that is no line feed
-pub listing_at-separator : (p : Place) (b : ℕ) (bs : List ℕ) (ending : Ending) → 0 < p.col → is_separator b ≡ true → (b == 10) ≡ false
-    → listing_at p (record { bytes = b ∷ bs; ending = ending }) ≡ listing_at (col_after p) (record { bytes = bs; ending = ending })
-listing_at-separator p b bs ending from_one h line =
+pub listing_at-separator : (p : Place) (n b : ℕ) (bs : List ℕ) (ending : Ending) → 0 < p.col → is_separator b ≡ true → (b == 10) ≡ false
+    → listing_at p (suffix n (b ∷ bs) ending) ≡ listing_at (col_after p) (suffix (suc n) bs ending)
+listing_at-separator p n b bs ending from_one h line =
     let f = first_part (λ x. x == 10) bs in
-    ap (λ v. lines_listing v (spot p (length (b ∷ bs))) (lines_of (b ∷ bs)) ending) (separator_skips p b bs h)
-    ∙ ap (λ t. lines_listing false (spot p (length (b ∷ bs))) t ending) (lines_of-cons b bs f.0 f.1 line f.2)
-    ∙ line-separator (spot p (length (b ∷ bs))) b f.0 f.1 ending h
-    ∙ ap (λ t. lines_listing false (spot (col_after p) (length bs)) t ending) (sym f.2)
-    ∙ ap (λ v. lines_listing v (spot (col_after p) (length bs)) (lines_of bs) ending) (sym (inner_skips p bs from_one))
+    ap (λ v. lines_listing v (spot p n) (lines_of (b ∷ bs)) ending) (separator_skips p b bs h)
+    ∙ ap (λ t. lines_listing false (spot p n) t ending) (lines_of-cons b bs f.0 f.1 line f.2)
+    ∙ line-separator (spot p n) b f.0 f.1 ending h
+    ∙ ap (λ t. lines_listing false (spot (col_after p) (suc n)) t ending) (sym f.2)
+    ∙ ap (λ v. lines_listing v (spot (col_after p) (suc n)) (lines_of bs) ending) (sym (inner_skips p bs from_one))
 
 -- the lines after a line feed
-lines_listing-feed : (skips : Bool) (s : Spot) (p : Place) (line : List ℕ) (bs : List ℕ) (ending : Ending)
-    → next_line (along s line) ≡ spot p (length bs) → (p.col == 1) ≡ true
+lines_listing-feed : (skips : Bool) (s : Spot) (p : Place) (n : ℕ) (line : List ℕ) (bs : List ℕ) (ending : Ending)
+    → next_line (along s line) ≡ spot p n → (p.col == 1) ≡ true
     → lines_listing skips s (line ∷ lines_of bs) ending
-    ≡ with_front (line_tokens skips s line) (listing_at p (record { bytes = bs; ending = ending }))
-lines_listing-feed skips s p line bs ending next start =
+    ≡ with_front (line_tokens skips s line) (listing_at p (suffix n bs ending))
+lines_listing-feed skips s p n line bs ending next start =
     let f = first_part (λ x. x == 10) bs in
     ap (λ t. lines_listing skips s (line ∷ t) ending) f.2
     ∙ ap (λ v. with_front (line_tokens skips s line) (lines_listing v (next_line (along s line)) (f.0 ∷ f.1) ending)) (sym (is_comment-lines_of bs f.0 f.1 f.2))
     ∙ ap (λ t. with_front (line_tokens skips s line) (lines_listing (is_comment bs) (next_line (along s line)) t ending)) (sym f.2)
     ∙ ap (λ t. with_front (line_tokens skips s line) (lines_listing (is_comment bs) t (lines_of bs) ending)) next
-    ∙ ap (λ v. with_front (line_tokens skips s line) (lines_listing (v && is_comment bs) (spot p (length bs)) (lines_of bs) ending)) (sym start)
+    ∙ ap (λ v. with_front (line_tokens skips s line) (lines_listing (v && is_comment bs) (spot p n) (lines_of bs) ending)) (sym start)
 
 -- a line feed
-pub listing_at-feed : (p : Place) (bs : List ℕ) (ending : Ending)
-    → listing_at p (record { bytes = 10 ∷ bs; ending = ending })
-    ≡ with_front (listed (token.LineEnd p) (length bs) ∷ []) (listing_at (line_after p) (record { bytes = bs; ending = ending }))
-listing_at-feed p bs ending =
-    ap (λ v. lines_listing v (spot p (length (10 ∷ bs))) ([] ∷ lines_of bs) ending) (and_false (p.col == 1))
-    ∙ lines_listing-feed false (spot p (length (10 ∷ bs))) (line_after p) [] bs ending refl refl
+pub listing_at-feed : (p : Place) (n : ℕ) (bs : List ℕ) (ending : Ending)
+    → listing_at p (suffix n (10 ∷ bs) ending)
+    ≡ with_front (listed (token.LineEnd p) (suc n) ∷ []) (listing_at (line_after p) (suffix (suc n) bs ending))
+listing_at-feed p n bs ending =
+    ap (λ v. lines_listing v (spot p n) ([] ∷ lines_of bs) ending) (and_false (p.col == 1))
+    ∙ lines_listing-feed false (spot p n) (line_after p) (suc n) [] bs ending refl refl
 
 -- the end
-pub listing_at-end : (p : Place) (ending : Ending)
-    → listing_at p (record { bytes = []; ending = ending }) ≡ record { tokens = []; end = p; ending = ending }
-listing_at-end p ending = ap (λ v. lines_listing v (spot p 0) ([] ∷ []) ending) (and_false (p.col == 1)) ∙ by ending
+pub listing_at-end : (p : Place) (n : ℕ) (ending : Ending)
+    → listing_at p (suffix n [] ending) ≡ record { tokens = []; end = p; ending = ending }
+listing_at-end p n ending = ap (λ v. lines_listing v (spot p n) ([] ∷ []) ending) (and_false (p.col == 1)) ∙ by ending
   where
-    by : (ending : Ending) → lines_listing false (spot p 0) ([] ∷ []) ending ≡ record { tokens = []; end = p; ending = ending }
+    by : (ending : Ending) → lines_listing false (spot p n) ([] ∷ []) ending ≡ record { tokens = []; end = p; ending = ending }
     by End = refl
     by Failed = refl
 
@@ -167,25 +172,24 @@ skipped : (s : Spot) (b : ℕ) (line : List ℕ) (rest : List (List ℕ)) (endin
 skipped s b line [] ending = refl
 skipped s b line (next ∷ rest) ending = refl
 
-pub comment_at-more : (p : Place) (b : ℕ) (bs : List ℕ) (ending : Ending) → (b == 10) ≡ false
-    → comment_at p (record { bytes = b ∷ bs; ending = ending }) ≡ comment_at (col_after p) (record { bytes = bs; ending = ending })
-comment_at-more p b bs ending h =
+pub comment_at-more : (p : Place) (n b : ℕ) (bs : List ℕ) (ending : Ending) → (b == 10) ≡ false
+    → comment_at p (suffix n (b ∷ bs) ending) ≡ comment_at (col_after p) (suffix (suc n) bs ending)
+comment_at-more p n b bs ending h =
     let f = first_part (λ x. x == 10) bs in
-    ap (λ t. lines_listing true (spot p (length (b ∷ bs))) t ending) (lines_of-cons b bs f.0 f.1 h f.2)
-    ∙ skipped (spot p (length (b ∷ bs))) b f.0 f.1 ending ∙ ap (λ t. lines_listing true (spot (col_after p) (length bs)) t ending) (sym f.2)
+    ap (λ t. lines_listing true (spot p n) t ending) (lines_of-cons b bs f.0 f.1 h f.2)
+    ∙ skipped (spot p n) b f.0 f.1 ending ∙ ap (λ t. lines_listing true (spot (col_after p) (suc n)) t ending) (sym f.2)
 
-pub comment_at-feed : (p : Place) (bs : List ℕ) (ending : Ending)
-    → comment_at p (record { bytes = 10 ∷ bs; ending = ending }) ≡ listing_at (line_after p) (record { bytes = bs; ending = ending })
-comment_at-feed p bs ending = lines_listing-feed true (spot p (length (10 ∷ bs))) (line_after p) [] bs ending refl refl
+pub comment_at-feed : (p : Place) (n : ℕ) (bs : List ℕ) (ending : Ending)
+    → comment_at p (suffix n (10 ∷ bs) ending) ≡ listing_at (line_after p) (suffix (suc n) bs ending)
+comment_at-feed p n bs ending = lines_listing-feed true (spot p n) (line_after p) (suc n) [] bs ending refl refl
 
-pub comment_at-end : (p : Place) (ending : Ending)
-    → comment_at p (record { bytes = []; ending = ending }) ≡ listing_at p (record { bytes = []; ending = ending })
-comment_at-end p ending = sym (listing_at-end p ending)
+pub comment_at-end : (p : Place) (n : ℕ) (ending : Ending) → comment_at p (suffix n [] ending) ≡ listing_at p (suffix n [] ending)
+comment_at-end p n ending = sym (listing_at-end p n ending)
 
-pub listing_at-comment : (p : Place) (bs : List ℕ) (ending : Ending) → (p.col == 1) ≡ true
-    → listing_at p (record { bytes = 99 ∷ bs; ending = ending }) ≡ comment_at (col_after p) (record { bytes = bs; ending = ending })
-listing_at-comment p bs ending h =
-    ap (λ v. lines_listing (v && true) (spot p (length (99 ∷ bs))) (lines_of (99 ∷ bs)) ending) h ∙ comment_at-more p 99 bs ending refl
+pub listing_at-comment : (p : Place) (n : ℕ) (bs : List ℕ) (ending : Ending) → (p.col == 1) ≡ true
+    → listing_at p (suffix n (99 ∷ bs) ending) ≡ comment_at (col_after p) (suffix (suc n) bs ending)
+listing_at-comment p n bs ending h =
+    ap (λ v. lines_listing (v && true) (spot p n) (lines_of (99 ∷ bs)) ending) h ∙ comment_at-more p n 99 bs ending refl
 
 -- the column goes on by the bytes
 pub col_along-length : (p : Place) (run : List ℕ) → 0 < length run → col_along p run ≡ record { line = p.line; col = more_count p.col (length run) }
@@ -206,9 +210,9 @@ along-append s [] ys = refl
 along-append s (x ∷ xs) ys = along-append (one_on s) xs ys
 
 -- past bytes of a line stand the others
-along-spot : (p : Place) (xs ys : List ℕ) → along (spot p (length (xs ++ ys))) xs ≡ spot (col_along p xs) (length ys)
-along-spot p [] ys = refl
-along-spot p (x ∷ xs) ys = along-spot (col_after p) xs ys
+along-spot : (p : Place) (n : ℕ) (xs : List ℕ) → along (spot p n) xs ≡ spot (col_along p xs) (n + length xs)
+along-spot p n [] = ap (λ m. spot p m) (omega arith)
+along-spot p n (x ∷ xs) = along-spot (col_after p) (suc n) xs ∙ ap (λ m. spot (col_along p (x ∷ xs)) m) (omega arith)
 
 Each-feed : (run : List ℕ) → Each is_separator run → Each (λ b. b == 10) run
 Each-feed [] e = none
@@ -231,7 +235,7 @@ skips_at-front p (b ∷ bs) (suc n) some front = refl
 
 -- a run's token
 abbrev token_of : Spot → List ℕ → Listed
-token_of s run = listed (token.Word s.place (word_of run)) (along s run).left
+token_of s run = listed (token.Word s.place (word_of run)) (along s run).offset
 
 words_of-run : (s : Spot) (run : List ℕ) (parts : List (List ℕ)) → 0 < length run
     → words_of s ((run ++ []) ∷ parts) ≡ token_of s run ∷ words_of (one_on (along s run)) parts
@@ -269,23 +273,23 @@ lines_listing-run s p run line parts (next ∷ rest) ending r cut counts =
     (along-append s run line)
   where
     feed : Spot → Listed
-    feed q = listed (token.LineEnd q.place) (next_line q).left
+    feed q = listed (token.LineEnd q.place) (next_line q).offset
 
     after : Spot → Listing
     after q = lines_listing (is_comment next) (next_line q) (next ∷ rest) ending
 
 -- a run that a separator follows
-pub listing_at-run : (p : Place) (run : List ℕ) (b : ℕ) (bs : List ℕ) (ending : Ending) → IsRun p run → is_separator b ≡ true
-    → listing_at p (record { bytes = run ++ b ∷ bs; ending = ending })
-    ≡ with_front (listed (token.Word p (word_of run)) (length (b ∷ bs)) ∷ []) (listing_at (col_along p run) (record { bytes = b ∷ bs; ending = ending }))
-listing_at-run p run b bs ending r h =
+pub listing_at-run : (p : Place) (n : ℕ) (run : List ℕ) (b : ℕ) (bs : List ℕ) (ending : Ending) → IsRun p run → is_separator b ≡ true
+    → listing_at p (suffix n (run ++ b ∷ bs) ending)
+    ≡ with_front (listed (token.Word p (word_of run)) (n + length run) ∷ []) (listing_at (col_along p run) (suffix (n + length run) (b ∷ bs) ending))
+listing_at-run p n run b bs ending r h =
     ap (λ v. lines_listing v start (lines_of (run ++ b ∷ bs)) ending) (skips_at-append p run (b ∷ bs) r.some ∙ r.text)
     ∙ by (b == 10) refl
-    ∙ ap (λ q. with_front (listed (token.Word p (word_of run)) q.left ∷ []) (lines_listing false q (lines_of (b ∷ bs)) ending)) (along-spot p run (b ∷ bs))
-    ∙ ap (λ v. with_front (listed (token.Word p (word_of run)) (length (b ∷ bs)) ∷ []) (lines_listing v (spot (col_along p run) (length (b ∷ bs))) (lines_of (b ∷ bs)) ending)) (sym (separator_skips (col_along p run) b bs h))
+    ∙ ap (λ q. with_front (listed (token.Word p (word_of run)) q.offset ∷ []) (lines_listing false q (lines_of (b ∷ bs)) ending)) (along-spot p n run)
+    ∙ ap (λ v. with_front (listed (token.Word p (word_of run)) (n + length run) ∷ []) (lines_listing v (spot (col_along p run) (n + length run)) (lines_of (b ∷ bs)) ending)) (sym (separator_skips (col_along p run) b bs h))
   where
     start : Spot
-    start = spot p (length (run ++ b ∷ bs))
+    start = spot p n
 
     by : (v : Bool) → (b == 10) ≡ v → lines_listing false start (lines_of (run ++ b ∷ bs)) ending
         ≡ with_front (token_of start run ∷ []) (lines_listing false (along start run) (lines_of (b ∷ bs)) ending)
@@ -307,28 +311,28 @@ listing_at-run p run b bs ending r h =
         ∙ ap (λ t. with_front (token_of start run ∷ []) (lines_listing false (along start run) t ending)) (sym cut)
 
 -- a run at the end
-pub listing_at-last_run : (p : Place) (run : List ℕ) → IsRun p run
-    → listing_at p (record { bytes = run ++ []; ending = End })
-    ≡ with_front (listed (token.Word p (word_of run)) 0 ∷ []) (listing_at (col_along p run) (record { bytes = []; ending = End }))
-listing_at-last_run p run r =
+pub listing_at-last_run : (p : Place) (n : ℕ) (run : List ℕ) → IsRun p run
+    → listing_at p (suffix n (run ++ []) End)
+    ≡ with_front (listed (token.Word p (word_of run)) (n + length run) ∷ []) (listing_at (col_along p run) (suffix (n + length run) [] End))
+listing_at-last_run p n run r =
     ap (λ v. lines_listing v start (lines_of (run ++ [])) End) (skips_at-append p run [] r.some ∙ r.text)
     ∙ ap (λ t. lines_listing false start t End) (split-append (λ x. x == 10) run [] [] [] (Each-feed run r.each) refl)
     ∙ lines_listing-run start p run [] [] [] End r refl (λ _. refl)
-    ∙ ap (λ q. with_front (listed (token.Word p (word_of run)) q.left ∷ []) (lines_listing false q ([] ∷ []) End)) (along-spot p run [])
-    ∙ ap (with_front (listed (token.Word p (word_of run)) 0 ∷ [])) (sym (listing_at-end (col_along p run) End))
+    ∙ ap (λ q. with_front (listed (token.Word p (word_of run)) q.offset ∷ []) (lines_listing false q ([] ∷ []) End)) (along-spot p n run)
+    ∙ ap (with_front (listed (token.Word p (word_of run)) (n + length run) ∷ [])) (sym (listing_at-end (col_along p run) (n + length run) End))
   where
     start : Spot
-    start = spot p (length (run ++ []))
+    start = spot p n
 
 -- a run that touches a failed read
-pub listing_at-cut_run : (p : Place) (run : List ℕ) → IsRun p run
-    → listing_at p (record { bytes = run ++ []; ending = Failed }) ≡ listing_at (col_along p run) (record { bytes = []; ending = Failed })
-listing_at-cut_run p run r =
+pub listing_at-cut_run : (p : Place) (n : ℕ) (run : List ℕ) → IsRun p run
+    → listing_at p (suffix n (run ++ []) Failed) ≡ listing_at (col_along p run) (suffix (n + length run) [] Failed)
+listing_at-cut_run p n run r =
     ap (λ v. lines_listing v start (lines_of (run ++ [])) Failed) (skips_at-append p run [] r.some ∙ r.text)
     ∙ ap (λ t. lines_listing false start t Failed) (split-append (λ x. x == 10) run [] [] [] (Each-feed run r.each) refl)
     ∙ ap (λ ps. record { tokens = words_of start (but_last ps); end = (along start (run ++ [])).place; ending = Failed }) (split-append is_separator run [] [] [] r.each refl)
-    ∙ ap (λ q. record { tokens = []; end = q.place; ending = Failed }) (along-append start run [] ∙ along-spot p run [])
-    ∙ sym (listing_at-end (col_along p run) Failed)
+    ∙ ap (λ q. record { tokens = []; end = q.place; ending = Failed }) (along-append start run [] ∙ along-spot p n run)
+    ∙ sym (listing_at-end (col_along p run) (n + length run) Failed)
   where
     start : Spot
-    start = spot p (length (run ++ []))
+    start = spot p n

@@ -1,5 +1,7 @@
 -- Numbers that stand whole among bytes.
-use Rattle.std.proofs.Common.{◌≡◌, ℕ, zero, suc, ◌+◌, ◌-◌, ◌*◌, ◌^◌, ◌<◌, ◌≤◌, ◌==◌, ◌≢◌, not, true, false, List, [], ◌∷◌, ◌++◌, length, take, inl, inr, ◌⊎◌, refl, sym, ap, ◌∙◌, subst, arith, add-one}
+use Rattle.std.proofs.Common.{◌≡◌, ℕ, zero, suc, ◌+◌, ◌-◌, ◌*◌, ◌^◌, ◌<◌, ◌≤◌, ◌==◌, ◌≢◌, not, true}
+use Rattle.std.proofs.Common.{false, List, [], ◌∷◌, ◌++◌, length, take, inl, inr, ◌⊎◌, refl, sym}
+use Rattle.std.proofs.Common.{ap, ◌∙◌, subst, arith, add-one}
 use Rattle.std.specs.Prelude.{slice_index, slice_index_or, slice_set, slice_range}
 use Rattle.std.proofs.Math.Seq.{take-length}
 use Rattle.std.specs.List.{list_all}
@@ -10,7 +12,8 @@ use Rattle.std.proofs.lemmas.List.Sums.{fold-append}
 use Rattle.std.proofs.lemmas.Bool.Decides.{nat_tests}
 use Rattle.std.proofs.lemmas.Grind.{common_steps}
 use Rattle.cnf_base.specs.Text.{is_separator}
-use Rattle.cnf_base.specs.Words.{is_digit, is_counting, decimal_after, decimal_value, size_of, word_of}
+use Rattle.cnf_base.specs.Words.{is_digit, is_counting, decimal_after, decimal_value, size_of}
+use Rattle.cnf_base.specs.Words.{word_of}
 use Rattle.cnf_base.specs.Code.Digits.{digits_word, AreDigits}
 use Rattle.cnf_base.specs.Code.Whole.{is_inner, IsEnded, IsWholeNumber, AreWholeDigits, GoOn}
 use Rattle.cnf_base.specs.declared.scanner.digits.Digits.{Digits}

@@ -1,14 +1,19 @@
 -- What a run says, byte by byte.
-use Rattle.std.proofs.Common.{◌≡◌, ℕ, ◌+◌, ◌-◌, ◌*◌, ◌^◌, ◌≤◌, ◌==◌, ◌&&◌, min, cond, not, Bool, true, false, List, [], ◌∷◌, ◌++◌, length, None, refl, sym, ap, ◌∙◌, subst, arith, length-append}
+use Rattle.std.proofs.Common.{◌≡◌, ℕ, ◌+◌, ◌-◌, ◌*◌, ◌^◌, ◌≤◌, ◌==◌, ◌&&◌, min, cond, not, Bool}
+use Rattle.std.proofs.Common.{true, false, List, [], ◌∷◌, ◌++◌, length, None, refl, sym, ap, ◌∙◌}
+use Rattle.std.proofs.Common.{subst, arith, length-append}
 use Rattle.std.specs.Prelude.{codes}
 use Rattle.std.specs.List.{list_all}
 use Rattle.std.specs.Str.{bytes_eq}
 use Rattle.std.proofs.lemmas.Grind.{fold-append}
 use Rattle.std.proofs.lemmas.Bool.Decides.{nat_tests}
-use Rattle.cnf_base.specs.Words.{is_digit, is_counting, decimal_value, size_of, number, number_of, fixed_word, number_or, word_of}
-use Rattle.cnf_base.specs.Code.Digits.{with_byte, digits_word, begins_number, first_digits, AreDigits}
+use Rattle.cnf_base.specs.Words.{is_digit, is_counting, decimal_value, size_of, number, number_of}
+use Rattle.cnf_base.specs.Words.{fixed_word, number_or, word_of}
+use Rattle.cnf_base.specs.Code.Digits.{with_byte, digits_word, begins_number, first_digits}
+use Rattle.cnf_base.specs.Code.Digits.{AreDigits}
 use Rattle.cnf_base.specs.declared.scanner.digits.Digits.{Digits}
-use Rattle.cnf_base.specs.declared.scanner.digits.Digits.TheVariants.{Nothing, Zero, Counting, NoNumber}
+use Rattle.cnf_base.specs.declared.scanner.digits.Digits.TheVariants.{Nothing, Zero, Counting}
+use Rattle.cnf_base.specs.declared.scanner.digits.Digits.TheVariants.{NoNumber}
 use Rattle.cnf_base.specs.declared.word.Word.{Word}
 use Rattle.cnf_base.specs.declared.word.Word.TheVariants as words
 

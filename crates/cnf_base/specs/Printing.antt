@@ -1,5 +1,7 @@
--- Texts as they are printed plainly: words with one space between two, in lines that each end with a line feed.
-use Rattle.std.specs.Prelude.{ℕ, ◌%◌, ◌==◌, nat_le, ◌&&◌, if◌then◌else◌, Bool, List, [], ◌∷◌, ◌++◌, map, codes}
+-- Texts as they are printed plainly: words with one space between two, in lines that each end with
+-- a line feed.
+use Rattle.std.specs.Prelude.{ℕ, ◌%◌, ◌==◌, nat_le, ◌&&◌, if◌then◌else◌, Bool, List, [], ◌∷◌, ◌++◌}
+use Rattle.std.specs.Prelude.{map, codes}
 use Rattle.std.specs.Fmt.{decimal}
 use Rattle.std.specs.List.{join_with_byte}
 use Rattle.cnf_base.specs.Lines.{line_of}

@@ -1,5 +1,6 @@
 -- What all readers over a source have in common.
-use Rattle.std.specs.Prelude.{◌≡◌, ℕ, ◌<◌, ◌≤◌, Bool, true, List, Option, None, Some, Result, Ok, Err}
+use Rattle.std.specs.Prelude.{◌≡◌, ℕ, ◌<◌, ◌≤◌, Bool, true, List, Option, None, Some, Result, Ok}
+use Rattle.std.specs.Prelude.{Err}
 use Rattle.cnf_base.specs.Stream.{Reader, Stream, most_to_come, tells_failure}
 use Rattle.cnf_base.specs.declared.fault.Fault.{Fault}
 use Rattle.cnf_base.specs.declared.fault.Fault.TheVariants.{ReadFailed}
@@ -14,6 +15,7 @@ abbrev pub Tells : Fault → Reader → Reader → Type 0
 Tells ReadFailed old new = tells_failure new ≡ true
 Tells f old new = tells_failure new ≡ tells_failure old
 
+-- the same of any answer of a reader
 abbrev pub TellsOf : {A : Type 0} → Result A Fault → Reader → Reader → Type 0
 TellsOf (Ok _) old new = tells_failure new ≡ tells_failure old
 TellsOf (Err f) old new = Tells f old new

@@ -1,8 +1,10 @@
--- A text as lines of tokens (our own profile of DIMACS): a line that begins with `c` is a comment, a token is a longest run
--- of bytes without a separator, and it counts only where a separator or the end of the input follows it.
+-- A text as lines of tokens (our own profile of DIMACS): a line that begins with `c` is a comment,
+-- a token is a longest run of bytes without a separator, and it counts only where a separator or
+-- the end of the input follows it.
 use Rattle.std.specs.List.{slice_split}
-use Rattle.std.specs.Prelude.{ℕ, ◌==◌, ◌||◌, Bool, zero, suc, List, [], ◌∷◌, false, true, ◌++◌, ◌&&◌, length, ◌≡◌, Result, Ok, Err, ◌<◌, ◌≤◌}
-use Rattle.cnf_base.specs.Stream.{next_count, Input, Stream, most_to_come}
+use Rattle.std.specs.Prelude.{ℕ, ◌==◌, ◌||◌, Bool, suc, List, [], ◌∷◌, false, true, ◌++◌, ◌&&◌, ◌≡◌}
+use Rattle.std.specs.Prelude.{Result, Ok, Err, ◌<◌, ◌≤◌}
+use Rattle.cnf_base.specs.Stream.{next_count, Input, Suffix, from_start, Stream, most_to_come}
 use Rattle.cnf_base.specs.Words.{word_of}
 use Rattle.cnf_base.specs.declared.input.Ending.TheVariants.{End, Failed}
 use Rattle.cnf_base.specs.declared.input.Ending.{Ending}
@@ -24,42 +26,44 @@ col_after p = record { line = p.line; col = next_count p.col }
 abbrev pub line_after : Place → Place
 line_after p = record { line = next_count p.line; col = 1 }
 
--- a place of an input, and how many bytes of the input come from there on
+-- a place of an input, and the offset of the byte that stands there
 pub record Spot : Type 0 where
   pub place : Place
-  pub left : ℕ
+  pub offset : ℕ
 
+-- the place with this line and column, and its offset
 abbrev pub spot : Place → ℕ → Spot
-spot p left = record { place = p; left = left }
-
-abbrev pub one_less : ℕ → ℕ
-one_less zero = zero
-one_less (suc n) = n
+spot p offset = record { place = p; offset = offset }
 
 -- past a byte of a line, past a line's end, and past these bytes of a line
 abbrev pub one_on : Spot → Spot
-one_on s = spot (col_after s.place) (one_less s.left)
+one_on s = spot (col_after s.place) (suc s.offset)
 
+-- past the end of a line
 abbrev pub next_line : Spot → Spot
-next_line s = spot (line_after s.place) (one_less s.left)
+next_line s = spot (line_after s.place) (suc s.offset)
 
+-- past these bytes of a line
 abbrev pub along : Spot → List ℕ → Spot
 along s [] = s
 along s (b ∷ bs) = along (one_on s) bs
 
--- a token of an input, and how many bytes of the input follow it
+-- a token of an input, and the offset of the byte after it
 pub record Listed : Type 0 where
   pub token : tokens.Token
-  pub rest : ℕ
+  pub offset : ℕ
 
+-- a token with the offset of the byte after it
 abbrev pub listed : tokens.Token → ℕ → Listed
-listed t rest = record { token = t; rest = rest }
+listed t offset = record { token = t; offset = offset }
 
 -- the tokens of a line's parts between separators: one for each part that isn't empty
 abbrev pub words_of : Spot → List (List ℕ) → List Listed
 words_of s [] = []
 words_of s ([] ∷ parts) = words_of (one_on s) parts
-words_of s ((b ∷ bs) ∷ parts) = listed (token.Word s.place (word_of (b ∷ bs))) (along s (b ∷ bs)).left ∷ words_of (one_on (along s (b ∷ bs))) parts
+words_of s ((b ∷ bs) ∷ parts) =
+    listed (token.Word s.place (word_of (b ∷ bs))) (along s (b ∷ bs)).offset
+    ∷ words_of (one_on (along s (b ∷ bs))) parts
 
 -- all but the last
 abbrev pub but_last : List (List ℕ) → List (List ℕ)
@@ -75,7 +79,9 @@ is_comment (b ∷ bs) = b == 99
 -- the tokens of a whole line
 abbrev pub line_tokens : Bool → Spot → List ℕ → List Listed
 line_tokens true s line = []
-line_tokens false s line = words_of s (slice_split is_separator line) ++ listed (token.LineEnd (along s line).place) (next_line (along s line)).left ∷ []
+line_tokens false s line =
+    words_of s (slice_split is_separator line)
+    ++ listed (token.LineEnd (along s line).place) (next_line (along s line)).offset ∷ []
 
 -- the tokens of the last line. A part that touches a failed read isn't listed.
 abbrev pub last_tokens : Bool → Spot → List ℕ → Ending → List Listed
@@ -89,15 +95,18 @@ pub record Listing : Type 0 where
   pub end : Place
   pub ending : Ending
 
+-- a text with these tokens before its own
 abbrev pub with_front : List Listed → Listing → Listing
 with_front front l = record { tokens = front ++ l.tokens; end = l.end; ending = l.ending }
 
 -- the lines from a spot on, where the first one is a comment or isn't
 abbrev pub lines_listing : Bool → Spot → List (List ℕ) → Ending → Listing
 lines_listing skips s [] ending = record { tokens = []; end = s.place; ending = ending }
-lines_listing skips s (line ∷ []) ending = record { tokens = last_tokens skips s line ending; end = (along s line).place; ending = ending }
+lines_listing skips s (line ∷ []) ending =
+    record { tokens = last_tokens skips s line ending; end = (along s line).place; ending = ending }
 lines_listing skips s (line ∷ next ∷ lines) ending =
-    with_front (line_tokens skips s line) (lines_listing (is_comment next) (next_line (along s line)) (next ∷ lines) ending)
+    with_front (line_tokens skips s line)
+    (lines_listing (is_comment next) (next_line (along s line)) (next ∷ lines) ending)
 
 -- the bytes between line feeds
 abbrev pub lines_of : List ℕ → List (List ℕ)
@@ -108,17 +117,18 @@ abbrev pub skips_at : Place → List ℕ → Bool
 skips_at p bytes = (p.col == 1) && is_comment bytes
 
 -- a text from a place on
-abbrev pub listing_at : Place → Input → Listing
-listing_at p i = lines_listing (skips_at p i.bytes) (spot p (length i.bytes)) (lines_of i.bytes) i.ending
+abbrev pub listing_at : Place → Suffix → Listing
+listing_at p i = lines_listing (skips_at p i.bytes) (spot p i.offset) (lines_of i.bytes) i.ending
 
 -- a whole text
 abbrev pub listing_of : Input → Listing
-listing_of i = listing_at (record { line = 1; col = 1 }) i
+listing_of i = listing_at (record { line = 1; col = 1 }) (from_start i)
 
 -- a token is the first of a text, and what is left is the rest; the end and a failed read stay
-abbrev pub Gives : Result tokens.Token ReadFailed → Listing → Listing → Input → Type 0
-Gives (Ok (token.End p)) before after rest = (before ≡ after) × (before ≡ record { tokens = []; end = p; ending = End })
-Gives (Ok t) before after rest = before ≡ with_front (listed t (length rest.bytes) ∷ []) after
+abbrev pub Gives : Result tokens.Token ReadFailed → Listing → Listing → Suffix → Type 0
+Gives (Ok (token.End p)) before after rest =
+    (before ≡ after) × (before ≡ record { tokens = []; end = p; ending = End })
+Gives (Ok t) before after rest = before ≡ with_front (listed t rest.offset ∷ []) after
 Gives (Err _) before after rest = (before ≡ after) × (before.tokens ≡ []) × (before.ending ≡ Failed)
 
 -- each token but the end takes a byte

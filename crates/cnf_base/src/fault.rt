@@ -1,7 +1,8 @@
 //! What is wrong with an input.
 
 ghost use Rattle.std.specs.Prelude.{◌≡◌};
-ghost use Rattle.cnf_base.specs.declared.fault.Fault.TheVariants.{ReadFailed as Cut, OutOfMemory as Refused};
+ghost use Rattle.cnf_base.specs.declared.fault.Fault.TheVariants.{ReadFailed as Cut};
+ghost use Rattle.cnf_base.specs.declared.fault.Fault.TheVariants.{OutOfMemory as Refused};
 
 use crate::{OutOfMemory, Place, ReadFailed};
 

@@ -1,5 +1,6 @@
 //! A text's tokens, with their places.
-ghost use Rattle.std.specs.Prelude.{◌≡◌, ◌<◌, ◌≤◌, ◌==◌, ◌&&◌, true, false, [], ◌∷◌, Ok, IfSome, IfNone, OnOk, OnErr, length, slice_index};
+ghost use Rattle.std.specs.Prelude.{◌≡◌, ◌<◌, ◌≤◌, ◌==◌, ◌&&◌, true, false, [], ◌∷◌, Ok, IfSome};
+ghost use Rattle.std.specs.Prelude.{IfNone, OnOk, OnErr, length, slice_index};
 ghost use Rattle.cnf_base.specs.Stream.{Along, most_to_come, tells_failure};
 ghost use Rattle.cnf_base.specs.Code.Digits.{begins_number, first_digits};
 ghost use Rattle.cnf_base.specs.Text.{Gives, is_separator, skips_at, listing_at, MovesOn};

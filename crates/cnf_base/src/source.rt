@@ -1,5 +1,7 @@
 //! An input's bytes, one at a time.
-ghost use Rattle.std.specs.Prelude.{◌≡◌, ◌≢◌, ◌+◌, ◌<◌, ◌≤◌, ◌==◌, true, false, [], length, slice_index, take, Some, IsSome, IfSome, IfNone, IfOk, IfErr, OnOk, OnErr};
+ghost use Rattle.std.specs.Prelude.{◌≡◌, ◌≢◌, ◌+◌, ◌<◌, ◌≤◌, ◌==◌, true, false, [], length};
+ghost use Rattle.std.specs.Prelude.{slice_index, take, Some, IsSome, IfSome, IfNone, IfOk, IfErr};
+ghost use Rattle.std.specs.Prelude.{OnOk, OnErr};
 ghost use Rattle.std.specs.Io.KnownBytes.{Keeps, Consumes, IsAtEnd};
 ghost use Rattle.cnf_base.specs.Stream.{IsLook, IsSilent, Shows, most_to_come, tells_failure};
 ghost use Rattle.cnf_base.specs.Stream.{bumped, unread_stream};

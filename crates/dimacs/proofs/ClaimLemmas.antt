@@ -1,6 +1,7 @@
 -- A solver's output, one token at a time.
 use Rattle.std.proofs.Common.{◌≡◌, eqb, refl, sym, ap, subst, ◌∙◌}
-use Rattle.std.specs.Prelude.{nat_le, ◌||◌, cond, Bool, true, false, List, [], ◌∷◌, Option, None, Some, Result, Ok, Err}
+use Rattle.std.specs.Prelude.{nat_le, ◌||◌, cond, Bool, true, false, List, [], ◌∷◌, Option, None}
+use Rattle.std.specs.Prelude.{Some, Result, Ok, Err}
 use Rattle.std.proofs.lemmas.Bool.{true≢false, false≢true}
 use Rattle.cnf_base.specs.Literals.{Literal, complement, has}
 use Rattle.cnf_base.specs.Stream.{Stream, Along, tells_failure}
@@ -16,10 +17,15 @@ use Rattle.cnf_base.specs.declared.token.Token as tokens
 use Rattle.cnf_base.specs.declared.token.Token.TheVariants as token
 use Rattle.cnf_base.specs.declared.fault.Fault.{Fault}
 use Rattle.cnf_base.specs.declared.fault.Fault.TheVariants.{Text, Binary, ReadFailed, OutOfMemory}
-use Rattle.cnf_base.specs.declared.fault.TextFault.TheVariants.{BadToken, BadLine, SecondStatus, NotClaimed, AfterEnd, Complement, LiteralTooLarge}
-use Rattle.cnf_base.proofs.StreamLemmas.{Along-then, Along-map}
+use Rattle.cnf_base.specs.declared.fault.TextFault.TheVariants.{BadToken, BadLine, SecondStatus}
+use Rattle.cnf_base.specs.declared.fault.TextFault.TheVariants.{NotClaimed, AfterEnd, Complement}
+use Rattle.cnf_base.specs.declared.fault.TextFault.TheVariants.{LiteralTooLarge}
+use Rattle.cnf_base.proofs.StreamLemmas.{Along-then, Along-map, Along-still}
 use Rattle.dimacs.specs.Formula.{and_then}
-use Rattle.dimacs.specs.Claim.{LinePosition, at_line_start, after_s, after_status, in_values, Said, on_first, on_status, on_literal, on_value, claim_on_word, on_line_end, claim_at_end, placed, claim_on_token, on_end, claim_among, claim_after, IsClaim}
+use Rattle.dimacs.specs.Claim.{LinePosition, at_line_start, after_s, after_status, in_values, Said}
+use Rattle.dimacs.specs.Claim.{on_first, on_status, on_literal, on_value, claim_on_word}
+use Rattle.dimacs.specs.Claim.{on_line_end, claim_at_end, placed, claim_on_token, on_end}
+use Rattle.dimacs.specs.Claim.{claim_among, claim_after, IsClaim}
 use Rattle.dimacs.specs.Code.Claiming.{with_listed, ComesTo, Takes}
 
 -- ---- Only the set of the listed literals counts
@@ -139,6 +145,12 @@ fault_claimed (Binary f n) now after next takes = ap (λ a. and_then a next) tak
 pub record Hears (old now : Stream) (before so_far : Said) : Type 0 where
   pub text : Along old now (λ i j. Carries (claim_after before (listing_at old.place i)) (claim_after so_far (listing_at now.place j)))
   pub mark : tells_failure now.reader ≡ tells_failure old.reader
+
+pub Hears-start : (s : Stream) (so_far : Said) → Hears s s so_far so_far
+Hears-start s so_far = record {
+  text = Along-map s s _ _ (Along-still s (λ i. claim_after so_far (listing_at s.place i))) (λ i j m e r x. subst (IsClaim r) (sym e) x);
+  mark = refl;
+}
 
 module _ (old now new : Stream) (before so_far : Said) (hears : Hears old now before so_far) where
   module _ (r : Result Said Fault) (text : Along now new (λ i j. claim_after so_far (listing_at now.place i) ≡ and_then r (λ s. claim_after s (listing_at new.place j)))) where

@@ -1,5 +1,7 @@
 -- A formula's text, as its grammar has it.
-use Rattle.std.proofs.Common.{◌≡◌, ℕ, ◌+◌, ◌≤◌, nat_le, cond, Bool, true, false, List, [], ◌∷◌, ◌++◌, length, map, Option, None, Some, Result, Ok, Err, refl, sym, ap, ap₂, subst, ◌∙◌, append_assoc, arith}
+use Rattle.std.proofs.Common.{◌≡◌, ℕ, ◌+◌, ◌≤◌, nat_le, cond, Bool, true, false, List, [], ◌∷◌}
+use Rattle.std.proofs.Common.{◌++◌, length, map, Option, None, Some, Result, Ok, Err, refl, sym, ap}
+use Rattle.std.proofs.Common.{ap₂, subst, ◌∙◌, append_assoc, arith}
 use Rattle.std.specs.Prelude.{◌&&◌, if◌then◌else◌, codes}
 use Rattle.std.specs.Fmt.{decimal}
 use Rattle.std.specs.List.{flat_map, list_all}
@@ -21,17 +23,25 @@ use Rattle.cnf_base.specs.declared.token.Token.TheVariants as token
 use Rattle.cnf_base.specs.declared.fault.Fault.{Fault}
 use Rattle.cnf_base.specs.declared.fault.Fault.TheVariants.{Text}
 use Rattle.cnf_base.specs.declared.fault.TextFault.{TextFault}
-use Rattle.cnf_base.specs.declared.fault.TextFault.TheVariants.{BadHeader, NumberTooLarge, BadToken, LiteralOutOfRange, TooManyClauses, TooFewClauses}
+use Rattle.cnf_base.specs.declared.fault.TextFault.TheVariants.{BadHeader, NumberTooLarge, BadToken}
+use Rattle.cnf_base.specs.declared.fault.TextFault.TheVariants.{LiteralOutOfRange, TooManyClauses}
+use Rattle.cnf_base.specs.declared.fault.TextFault.TheVariants.{TooFewClauses}
 use Rattle.cnf_base.proofs.GrammarLemmas.{listing_says, number_spelled, p_spelled, cnf_spelled}
 use Rattle.cnf_base.proofs.LineLemmas.{append_nil}
 use Rattle.cnf_base.proofs.PrintLemmas.{both, count_word}
-use Rattle.dimacs.specs.Formula.{and_then, word_of_token, next_word, is_p, is_cnf, fixed, count_of, count, line_end_of_token, line_end_at_end, line_end, header_of, judged, Body, faulty_body, whole, with_first_clause, body_at_end, body_on_word, body_on_token, body_among, body_of, Formula, formula_with, formula_of}
+use Rattle.dimacs.specs.Formula.{and_then, word_of_token, next_word, is_p, is_cnf, fixed, count_of}
+use Rattle.dimacs.specs.Formula.{count, line_end_of_token, line_end_at_end, line_end, header_of}
+use Rattle.dimacs.specs.Formula.{judged, Body, faulty_body, whole, with_first_clause, body_at_end}
+use Rattle.dimacs.specs.Formula.{body_on_word, body_on_token, body_among, body_of, Formula}
+use Rattle.dimacs.specs.Formula.{formula_with, formula_of}
 use Rattle.dimacs.specs.Grammar.{filled_lines, all_words, FormulaText, FormulaIsGrammar}
 use Rattle.dimacs.specs.Printing.{header_words, IsFormula}
 use Rattle.dimacs.specs.declared.header.Header.{Header}
 use Rattle.dimacs.proofs.FormulaPrinting.{judged_literal, judged_zero}
 use Rattle.dimacs.proofs.HeaderLemmas.{after_p}
-use Rattle.dimacs.proofs.GrammarWords.{Lines, and_so, went_on, some_parts, line_then, said_by, IsSaid, AreSaid, text_lines, filled_words, literal_spelled, zero_spelled}
+use Rattle.dimacs.proofs.GrammarWords.{Lines, and_so, went_on, some_parts, line_then, said_by}
+use Rattle.dimacs.proofs.GrammarWords.{IsSaid, AreSaid, text_lines, filled_words, literal_spelled}
+use Rattle.dimacs.proofs.GrammarWords.{zero_spelled}
 
 -- ---- The clauses, where places and faults don't matter
 

@@ -1,8 +1,9 @@
 -- A formula's tokens, one at a time.
-use Rattle.std.proofs.Common.{◌≡◌, ℕ, ◌<◌, ◌≤◌, List, [], ◌∷◌, ◌++◌, length, Option, None, Some, refl, sym, ap, ◌∙◌, subst, arith}
+use Rattle.std.proofs.Common.{◌≡◌, ℕ, ◌<◌, ◌≤◌, List, [], ◌∷◌, ◌++◌, length, Option, None, Some}
+use Rattle.std.proofs.Common.{refl, sym, ap, ◌∙◌, subst, arith}
 use Rattle.std.specs.Prelude.{Bool, true, false, Result, Ok, Err}
 use Rattle.cnf_base.specs.Literals.{Literal}
-use Rattle.cnf_base.specs.Stream.{Input, Stream, Along, most_to_come, tells_failure}
+use Rattle.cnf_base.specs.Stream.{Suffix, Stream, Along, most_to_come, tells_failure}
 use Rattle.cnf_base.specs.Text.{Listing, listing_at, Gives}
 use Rattle.cnf_base.specs.declared.input.Ending.TheVariants.{End, Failed}
 use Rattle.cnf_base.specs.declared.input.ReadFailed.{ReadFailed as Cut}
@@ -13,13 +14,15 @@ use Rattle.cnf_base.specs.declared.token.Token.TheVariants as token
 use Rattle.cnf_base.specs.declared.fault.Fault.{Fault}
 use Rattle.cnf_base.specs.declared.fault.Fault.TheVariants.{Text, Binary, ReadFailed, OutOfMemory}
 use Rattle.cnf_base.specs.declared.fault.TextFault.{TextFault}
-use Rattle.cnf_base.proofs.ListingLemmas.{Gives-within, listing_at-within}
+use Rattle.cnf_base.proofs.ListingLemmas.{Gives-from, listing_at-from}
 use Rattle.cnf_base.proofs.StreamLemmas.{Along-then, Along-map, Along-none}
-use Rattle.dimacs.specs.Reading.{FormulaReading, clauses_to_come, body_unless_ended, GivesClause, rests_unless_ended, rests_to_come, PassesNoZero, GivesRest}
-use Rattle.dimacs.specs.Code.Reading.{body_left, EndsBody, rests_left}
-use Rattle.dimacs.specs.Formula.{Body, body_of, judged, body_on_word, body_at_end, faulty_body, whole, rests_on_word, rests_of}
+use Rattle.dimacs.specs.Reading.{FormulaReading, clauses_to_come, body_unless_ended, GivesClause}
+use Rattle.dimacs.specs.Reading.{offsets_unless_ended, offsets_to_come, PassesNoZero, GivesOffset}
+use Rattle.dimacs.specs.Code.Reading.{body_left, EndsBody, offsets_left}
+use Rattle.dimacs.specs.Formula.{Body, body_of, judged, body_on_word, body_at_end, faulty_body}
+use Rattle.dimacs.specs.Formula.{whole, offsets_on_word, offsets_of}
 use Rattle.dimacs.specs.declared.header.Header.{Header}
-use Rattle.dimacs.proofs.RestsLemmas.{within-none, on_word-within, rests_among-within, gives_no_rest}
+use Rattle.dimacs.proofs.OffsetLemmas.{from-none, on_word-from, offsets_among-from, gives_no_offset}
 
 -- a fault is what comes, and it stays
 pub gives_fault : (f : Fault) (c : List Literal) (b : Body) → b ≡ faulty_body f → GivesClause (Err f) c b (faulty_body f)
@@ -39,19 +42,19 @@ kept_gives (Err ReadFailed) c before after none b a = (b ∙ sym a, b)
 kept_gives (Err OutOfMemory) c before after none b a = a
 
 pub Kept-clause : (r : FormulaReading) (answer : Result Bool Fault) (c : List Literal) → r.kept ≡ Some answer → (r.kept ≡ Some (Ok true) → ⊥)
-    → Along r.stream r.stream (λ i j. GivesClause answer c (clauses_to_come r i) (clauses_to_come r j) × GivesRest answer (rests_to_come r i) (rests_to_come r j) j)
+    → Along r.stream r.stream (λ i j. GivesClause answer c (clauses_to_come r i) (clauses_to_come r j) × GivesOffset answer (offsets_to_come r i) (offsets_to_come r j) j)
 Kept-clause r answer c is none =
-    let told : (i : Input) → clauses_to_come r i ≡ body_unless_ended (Some answer) whole =
+    let told : (i : Suffix) → clauses_to_come r i ≡ body_unless_ended (Some answer) whole =
     λ i. ap (λ k. body_unless_ended k (body_of r.header r.complete [] (listing_at r.stream.place i))) is ∙ same answer _ in
     Along-map r.stream r.stream _ _ (Along-none r.stream) (λ i j m e. (
       kept_gives answer c _ _ (λ ok. none (is ∙ ap Some ok)) (told i) (told j),
-      gives_no_rest answer (rests_to_come r i) (rests_to_come r j) j (λ ok. none (is ∙ ap Some ok)) (no_rests i j),
+      gives_no_offset answer (offsets_to_come r i) (offsets_to_come r j) j (λ ok. none (is ∙ ap Some ok)) (no_offsets i j),
     ))
   where
-    no_rests : (i j : Input) → PassesNoZero (rests_to_come r i) j
-    no_rests i j =
-        let P : Option (Result Bool Fault) → Type 0 = λ k. PassesNoZero (rests_unless_ended k (rests_of r.header r.complete (listing_at r.stream.place i))) j in
-        subst P (sym is) (within-none (length j.bytes))
+    no_offsets : (i j : Suffix) → PassesNoZero (offsets_to_come r i) j
+    no_offsets i j =
+        let P : Option (Result Bool Fault) → Type 0 = λ k. PassesNoZero (offsets_unless_ended k (offsets_of r.header r.complete (listing_at r.stream.place i))) j in
+        subst P (sym is) (from-none j.offset)
 
     same : (answer : Result Bool Fault) (b : Body) → body_unless_ended (Some answer) b ≡ body_unless_ended (Some answer) whole
     same (Ok v) b = refl
@@ -73,13 +76,13 @@ ends_no_clause (Err f) b ends is = cc
 -- from one moment to another literals of one clause were read
 pub record Between (h : Header) (complete : ℕ) (old now : Stream) (before at_hand : List Literal) : Type 0 where
   pub text : Along old now (λ i j. (body_of h complete before (listing_at old.place i) ≡ body_of h complete at_hand (listing_at now.place j))
-      × (rests_of h complete (listing_at old.place i) ≡ rests_of h complete (listing_at now.place j)))
+      × (offsets_of h complete (listing_at old.place i) ≡ offsets_of h complete (listing_at now.place j)))
   pub fewer : most_to_come now ≤ most_to_come old
   pub mark : tells_failure now.reader ≡ tells_failure old.reader
 
 pub Between-start : (h : Header) (complete : ℕ) (s : Stream) (at_hand : List Literal) → Between h complete s s at_hand at_hand
 Between-start h complete s at_hand = record {
-  text = Along-map s s _ _ (Along-none s) (λ i j m e. (ap (λ x. body_of h complete at_hand (listing_at s.place x)) e, ap (λ x. rests_of h complete (listing_at s.place x)) e));
+  text = Along-map s s _ _ (Along-none s) (λ i j m e. (ap (λ x. body_of h complete at_hand (listing_at s.place x)) e, ap (λ x. offsets_of h complete (listing_at s.place x)) e));
   fewer = omega arith;
   mark = refl;
 }
@@ -88,7 +91,7 @@ module _ (h : Header) (complete : ℕ) (old now new : Stream) (before at_hand : 
   pub Between-line : (p : Place) → Along now new (λ i j. Gives (Ok (token.LineEnd p)) (listing_at now.place i) (listing_at new.place j) j)
       → most_to_come new < most_to_come now → tells_failure new.reader ≡ tells_failure now.reader → Between h complete old new before at_hand
   Between-line p gives fewer mark = record {
-    text = Along-then old now new _ _ _ so_far.text gives (λ i j k m q r. (q.0 ∙ ap (body_of h complete at_hand) r, q.1 ∙ ap (rests_of h complete) r));
+    text = Along-then old now new _ _ _ so_far.text gives (λ i j k m q r. (q.0 ∙ ap (body_of h complete at_hand) r, q.1 ∙ ap (offsets_of h complete) r));
     fewer = omega (arith, so_far.fewer, fewer);
     mark = mark ∙ so_far.mark;
   }
@@ -96,64 +99,64 @@ module _ (h : Header) (complete : ℕ) (old now new : Stream) (before at_hand : 
   -- an answer, what is to come, and how far the input was read
   abbrev Gave : Result Bool Fault → List Literal → Type 0
   Gave result c = Along old new (λ i j. GivesClause result c (body_of h complete before (listing_at old.place i)) (body_left result h complete (listing_at new.place j))
-      × GivesRest result (rests_of h complete (listing_at old.place i)) (rests_left result h complete (listing_at new.place j)) j)
+      × GivesOffset result (offsets_of h complete (listing_at old.place i)) (offsets_left result h complete (listing_at new.place j)) j)
 
   -- so it is of numbers that are so
-  passes : (xs ys : List ℕ) (j : Input) → xs ≡ ys → PassesNoZero ys j → PassesNoZero xs j
+  passes : (xs ys : List ℕ) (j : Suffix) → xs ≡ ys → PassesNoZero ys j → PassesNoZero xs j
   passes xs ys j is h = let P : List ℕ → Type 0 = λ x. PassesNoZero x j in subst P (sym is) h
 
   module _ (p : Place) (w : Word) (gives : Along now new (λ i j. Gives (Ok (token.Word p w)) (listing_at now.place i) (listing_at new.place j) j)) where
-    abbrev follows : Input → Result (Option Literal) TextFault → Body
+    abbrev follows : Suffix → Result (Option Literal) TextFault → Body
     follows j r = body_on_word complete at_hand p r (λ c ls. body_of h c ls (listing_at new.place j))
 
-    abbrev rests : Input → Result (Option Literal) TextFault → List ℕ
-    rests j r = rests_on_word complete (length j.bytes) r (λ c. rests_of h c (listing_at new.place j))
+    abbrev offsets : Suffix → Result (Option Literal) TextFault → List ℕ
+    offsets j r = offsets_on_word complete j.offset r (λ c. offsets_of h c (listing_at new.place j))
 
     word_text : Along old new (λ i j. (body_of h complete before (listing_at old.place i) ≡ follows j (judged h complete w))
-        × (rests_of h complete (listing_at old.place i) ≡ rests j (judged h complete w)))
-    word_text = Along-then old now new _ _ _ so_far.text gives (λ i j k m q r. (q.0 ∙ ap (body_of h complete at_hand) r, q.1 ∙ ap (rests_of h complete) r))
+        × (offsets_of h complete (listing_at old.place i) ≡ offsets j (judged h complete w)))
+    word_text = Along-then old now new _ _ _ so_far.text gives (λ i j k m q r. (q.0 ∙ ap (body_of h complete at_hand) r, q.1 ∙ ap (offsets_of h complete) r))
 
-    -- whatever the word is, what follows it has no more bytes than are left
-    rests-within : (i j : Input) → rests_of h complete (listing_at old.place i) ≡ rests j (judged h complete w) → PassesNoZero (rests_of h complete (listing_at old.place i)) j
-    rests-within i j is = passes _ (rests j (judged h complete w)) j is
-        (on_word-within h (length j.bytes) complete (length j.bytes) (judged h complete w) (λ c. rests_of h c (listing_at new.place j)) (omega arith)
-        (λ c. rests_among-within h (length j.bytes) c _ (listing_at-within new.place j)))
+    -- whatever the word is, no clause that was to come ends before what is left
+    offsets-from : (i j : Suffix) → offsets_of h complete (listing_at old.place i) ≡ offsets j (judged h complete w) → PassesNoZero (offsets_of h complete (listing_at old.place i)) j
+    offsets-from i j is = passes _ (offsets j (judged h complete w)) j is
+        (on_word-from h j.offset complete j.offset (judged h complete w) (λ c. offsets_of h c (listing_at new.place j)) (omega arith)
+        (λ c. offsets_among-from h j.offset c _ (listing_at-from new.place j)))
 
     pub Between-literal : (l : Literal) → Ok (Some l) ≡ judged h complete w → most_to_come new < most_to_come now → tells_failure new.reader ≡ tells_failure now.reader
         → Between h complete old new before (at_hand ++ l ∷ [])
     Between-literal l is fewer mark = record {
-      text = Along-map old new _ _ word_text (λ i j m q. (q.0 ∙ ap (follows j) (sym is), q.1 ∙ ap (rests j) (sym is)));
+      text = Along-map old new _ _ word_text (λ i j m q. (q.0 ∙ ap (follows j) (sym is), q.1 ∙ ap (offsets j) (sym is)));
       fewer = omega (arith, so_far.fewer, fewer);
       mark = mark ∙ so_far.mark;
     }
 
     pub Between-clause : Ok None ≡ judged h complete w → Gave (Ok true) at_hand
-    Between-clause is = Along-map old new _ _ word_text (λ i j m q. (q.0 ∙ ap (follows j) (sym is), (q.1 ∙ ap (rests j) (sym is), rests-within i j q.1)))
+    Between-clause is = Along-map old new _ _ word_text (λ i j m q. (q.0 ∙ ap (follows j) (sym is), (q.1 ∙ ap (offsets j) (sym is), offsets-from i j q.1)))
 
     pub Between-fault : (f : TextFault) → Err f ≡ judged h complete w → Gave (Err (Text f p)) at_hand
-    Between-fault f is = Along-map old new _ _ word_text (λ i j m q. (gives_fault (Text f p) at_hand _ (q.0 ∙ ap (follows j) (sym is)), rests-within i j q.1))
+    Between-fault f is = Along-map old new _ _ word_text (λ i j m q. (gives_fault (Text f p) at_hand _ (q.0 ∙ ap (follows j) (sym is)), offsets-from i j q.1))
 
     pub Between-refused : (c : List Literal) → Gave (Err OutOfMemory) c
-    Between-refused c = Along-map old new _ _ word_text (λ i j m q. (refl, rests-within i j q.1))
+    Between-refused c = Along-map old new _ _ word_text (λ i j m q. (refl, offsets-from i j q.1))
 
-  -- the rest has no more bytes than are left
-  rest-within : (result : Result Token Cut) (i j k : Input) → Gives result (listing_at now.place j) (listing_at new.place k) k
-      → rests_of h complete (listing_at old.place i) ≡ rests_of h complete (listing_at now.place j) → PassesNoZero (rests_of h complete (listing_at old.place i)) k
-  rest-within result i j k gives is =
-      passes _ (rests_of h complete (listing_at now.place j)) k is
-      (rests_among-within h (length k.bytes) complete _ (Gives-within result (listing_at now.place j) new.place k gives))
+  -- and none before the rest
+  rest-from : (result : Result Token Cut) (i j k : Suffix) → Gives result (listing_at now.place j) (listing_at new.place k) k
+      → offsets_of h complete (listing_at old.place i) ≡ offsets_of h complete (listing_at now.place j) → PassesNoZero (offsets_of h complete (listing_at old.place i)) k
+  rest-from result i j k gives is =
+      passes _ (offsets_of h complete (listing_at now.place j)) k is
+      (offsets_among-from h k.offset complete _ (Gives-from result (listing_at now.place j) new.place k gives))
 
   pub Between-end : (p : Place) (result : Result Bool Fault) → Along now new (λ i j. Gives (Ok (token.End p)) (listing_at now.place i) (listing_at new.place j) j)
       → EndsBody result (body_at_end h complete at_hand p End) → Gave result at_hand
   Between-end p result gives ends = Along-then old now new _ _ _ so_far.text gives (λ i j k m q r. (
     ends_so h complete p result at_hand _ _ ends (q.0 ∙ ap (body_of h complete at_hand) r.1),
-    gives_no_rest result _ (rests_left result h complete (listing_at new.place k)) k (ends_no_clause result (body_at_end h complete at_hand p End) ends) (rest-within (Ok (token.End p)) i j k r q.1),
+    gives_no_offset result _ (offsets_left result h complete (listing_at new.place k)) k (ends_no_clause result (body_at_end h complete at_hand p End) ends) (rest-from (Ok (token.End p)) i j k r q.1),
   ))
 
   pub Between-failed : (cut : Cut) → Along now new (λ i j. Gives (Err cut) (listing_at now.place i) (listing_at new.place j) j) → Gave (Err ReadFailed) at_hand
   Between-failed cut gives = Along-then old now new _ _ _ so_far.text gives (λ i j k m q r. (
     gives_fault ReadFailed at_hand _ (q.0 ∙ empty (listing_at now.place j) r.1 r.2),
-    rest-within (Err cut) i j k r q.1,
+    rest-from (Err cut) i j k r q.1,
   ))
     where
       empty : (l : Listing) → l.tokens ≡ [] → l.ending ≡ Failed → body_of h complete at_hand l ≡ faulty_body ReadFailed

@@ -1,5 +1,7 @@
 -- Tokens as the words of lines, where places don't matter, and how words are spelled.
-use Rattle.std.proofs.Common.{◌≡◌, ◌⊎◌, inl, inr, ℕ, ◌+◌, ◌*◌, ◌/◌, ◌%◌, ◌==◌, ◌≤◌, nat_le, cond, Bool, true, false, List, [], ◌∷◌, ◌++◌, Option, None, Some, refl, sym, ap, subst, ◌∙◌, arith}
+use Rattle.std.proofs.Common.{◌≡◌, ◌⊎◌, inl, inr, ℕ, ◌+◌, ◌*◌, ◌/◌, ◌%◌, ◌==◌, ◌≤◌, nat_le, cond}
+use Rattle.std.proofs.Common.{Bool, true, false, List, [], ◌∷◌, ◌++◌, Option, None, Some, refl, sym}
+use Rattle.std.proofs.Common.{ap, subst, ◌∙◌, arith}
 use Rattle.std.specs.Prelude.{◌&&◌, codes}
 use Rattle.std.specs.Bool.{then_some}
 use Rattle.std.specs.Fmt.{decimal}
@@ -16,7 +18,8 @@ use Rattle.cnf_base.specs.declared.word.Word.{Word}
 use Rattle.cnf_base.specs.declared.word.Word.TheVariants as words
 use Rattle.cnf_base.specs.declared.token.Token as tokens
 use Rattle.cnf_base.specs.declared.token.Token.TheVariants as token
-use Rattle.cnf_base.proofs.GrammarLemmas.{said, is_inside, all_said, line_said, text_said, listing_says, number_text, number_spelled}
+use Rattle.cnf_base.proofs.GrammarLemmas.{said, is_inside, all_said, line_said, text_said}
+use Rattle.cnf_base.proofs.GrammarLemmas.{listing_says, number_text, number_spelled}
 use Rattle.cnf_base.proofs.PrintLemmas.{both}
 use Rattle.dimacs.specs.Grammar.{filled_lines, all_words}
 

@@ -12,7 +12,8 @@ use Rattle.cnf_base.specs.declared.fault.Fault.{Fault}
 use Rattle.cnf_base.specs.declared.fault.Fault.TheVariants.{Text, ReadFailed}
 use Rattle.cnf_base.specs.declared.fault.TextFault.TheVariants.{BadHeader}
 use Rattle.cnf_base.proofs.StreamLemmas.{Along-then, Along-map, Along-none}
-use Rattle.dimacs.specs.Formula.{and_then, skip_blank, next_word, is_p, is_cnf, fixed, count, line_end, header_of}
+use Rattle.dimacs.specs.Formula.{and_then, skip_blank, next_word, is_p, is_cnf, fixed, count}
+use Rattle.dimacs.specs.Formula.{line_end, header_of}
 use Rattle.dimacs.specs.declared.header.Header.{Header}
 
 -- what follows each part

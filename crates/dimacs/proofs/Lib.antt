@@ -1,5 +1,5 @@
 pub mod HeaderLemmas
-pub mod RestsLemmas
+pub mod OffsetLemmas
 pub mod FormulaLemmas
 pub mod ModelLemmas
 pub mod ClaimLemmas

@@ -1,5 +1,7 @@
 -- A solver's output, as the grammar of a claimed model has it.
-use Rattle.std.proofs.Common.{◌≡◌, ℕ, ◌≤◌, ◌==◌, nat_le, cond, Bool, true, false, List, [], ◌∷◌, ◌++◌, map, reverse, Option, None, Some, Result, Ok, Err, refl, sym, ap, ap₂, subst, ◌∙◌, append_assoc, arith}
+use Rattle.std.proofs.Common.{◌≡◌, ℕ, ◌≤◌, ◌==◌, nat_le, cond, Bool, true, false, List, [], ◌∷◌}
+use Rattle.std.proofs.Common.{◌++◌, map, reverse, Option, None, Some, Result, Ok, Err, refl, sym}
+use Rattle.std.proofs.Common.{ap, ap₂, subst, ◌∙◌, append_assoc, arith}
 use Rattle.std.specs.Prelude.{◌&&◌, if◌then◌else◌, codes}
 use Rattle.std.specs.List.{list_all}
 use Rattle.std.proofs.lemmas.Bool.Decides.{nat_tests}
@@ -12,7 +14,8 @@ use Rattle.cnf_base.specs.Text.{Listed, Listing, listing_of}
 use Rattle.cnf_base.specs.Words.{number_literal, word_of}
 use Rattle.cnf_base.specs.declared.fault.Fault.{Fault}
 use Rattle.cnf_base.specs.declared.fault.TextFault.{TextFault}
-use Rattle.cnf_base.specs.declared.fault.TextFault.TheVariants.{AfterEnd, Complement, LiteralTooLarge}
+use Rattle.cnf_base.specs.declared.fault.TextFault.TheVariants.{AfterEnd, Complement}
+use Rattle.cnf_base.specs.declared.fault.TextFault.TheVariants.{LiteralTooLarge}
 use Rattle.cnf_base.specs.declared.input.Ending.TheVariants.{End}
 use Rattle.cnf_base.specs.declared.place.Place.{Place}
 use Rattle.cnf_base.specs.declared.word.Word.{Word}
@@ -24,12 +27,16 @@ use Rattle.cnf_base.proofs.LineLemmas.{append_nil}
 use Rattle.cnf_base.proofs.PrintLemmas.{both, literal_word, literal_taken}
 use Rattle.cnf_base.proofs.SetLemmas.{has_tail}
 use Rattle.dimacs.specs.Formula.{and_then}
-use Rattle.dimacs.specs.Claim.{LinePosition, at_line_start, after_s, after_status, in_values, Said, on_first, on_status, on_literal, on_value, claim_on_word, on_line_end, claim_at_end, placed, claim_on_token, on_end, claim_among, claim_of, IsConsistent}
+use Rattle.dimacs.specs.Claim.{LinePosition, at_line_start, after_s, after_status, in_values, Said}
+use Rattle.dimacs.specs.Claim.{on_first, on_status, on_literal, on_value, claim_on_word}
+use Rattle.dimacs.specs.Claim.{on_line_end, claim_at_end, placed, claim_on_token, on_end}
+use Rattle.dimacs.specs.Claim.{claim_among, claim_of, IsConsistent}
 use Rattle.dimacs.specs.Grammar.{filled_lines, all_words, ModelText, ModelIsGrammar}
 use Rattle.dimacs.specs.Printing.{status_words, value_words, IsModel}
 use Rattle.dimacs.proofs.ModelLemmas.{IsConsistent-put}
 use Rattle.dimacs.proofs.ModelPrinting.{AreAmong, no_complement, among_more}
-use Rattle.dimacs.proofs.GrammarWords.{Lines, and_so, went_on, some_parts, line_then, said_by, IsSaid, AreSaid, text_lines, literal_spelled, zero_spelled}
+use Rattle.dimacs.proofs.GrammarWords.{Lines, and_so, went_on, some_parts, line_then, said_by}
+use Rattle.dimacs.proofs.GrammarWords.{IsSaid, AreSaid, text_lines, literal_spelled, zero_spelled}
 
 -- ---- What is claimed, where places and faults don't matter
 

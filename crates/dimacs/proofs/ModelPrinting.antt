@@ -1,11 +1,14 @@
 -- A model that was printed, as it is read.
-use Rattle.std.proofs.Common.{◌≡◌, ℕ, ◌<◌, ◌==◌, ◌||◌, cond, Bool, true, false, List, [], ◌∷◌, ◌++◌, reverse, map, Result, Ok, Err, refl, sym, ap, ◌∙◌, append_assoc, arith}
+use Rattle.std.proofs.Common.{◌≡◌, ℕ, suc, ◌+◌, ◌<◌, ◌==◌, ◌||◌, cond, Bool, true, false, List, []}
+use Rattle.std.proofs.Common.{◌∷◌, ◌++◌, length, reverse, map, Result, Ok, Err, refl, sym, ap, ◌∙◌}
+use Rattle.std.proofs.Common.{append_assoc, arith}
 use Rattle.std.specs.Prelude.{codes}
 use Rattle.std.specs.List.{concat, flat_map, list_all}
 use Rattle.std.proofs.lemmas.List.{append-nil, reverse-append}
 use Rattle.std.proofs.lemmas.List.Folds.{list_all-append}
 use Rattle.cnf_base.specs.Literals.{Literal, complement, has}
 use Rattle.cnf_base.specs.Printing.{input_of, is_literal, literal_text, literal_words}
+use Rattle.cnf_base.specs.Stream.{suffix}
 use Rattle.cnf_base.specs.Code.Text.{col_along}
 use Rattle.cnf_base.specs.Text.{line_after, Listing, listing_at}
 use Rattle.cnf_base.specs.Words.{number, word_of}
@@ -19,8 +22,11 @@ use Rattle.cnf_base.specs.declared.token.Token.TheVariants as token
 use Rattle.cnf_base.proofs.LineLemmas.{append_nil}
 use Rattle.cnf_base.proofs.SetLemmas.{has_head, has_tail, has_append_left, has_append_right}
 use Rattle.cnf_base.proofs.TextLemmas.{listing_at-end}
-use Rattle.cnf_base.proofs.PrintLemmas.{line_from, along_from_one, past, past_from_one, Begins, next_word, next_line, first_word, both, fixed_plain, zero_plain, literal_word, literal_plain, literal_taken}
-use Rattle.dimacs.specs.Claim.{at_line_start, in_values, Said, nothing, on_value, on_literal, claim_after, claim_of, IsConsistent}
+use Rattle.cnf_base.proofs.PrintLemmas.{line_from, along_from_one, past, past_from_one, Begins}
+use Rattle.cnf_base.proofs.PrintLemmas.{next_word, next_line, first_word, both, fixed_plain}
+use Rattle.cnf_base.proofs.PrintLemmas.{zero_plain, literal_word, literal_plain, literal_taken}
+use Rattle.dimacs.specs.Claim.{at_line_start, in_values, Said, nothing, on_value, on_literal}
+use Rattle.dimacs.specs.Claim.{claim_after, claim_of, IsConsistent}
 use Rattle.dimacs.specs.Printing.{value_line, literals_line, model_text, IsModel}
 
 -- what was said in a `v` line, and before one
@@ -99,39 +105,40 @@ module _ (whole : List Literal) (consistent : IsConsistent whole) where
 
   -- literals of a line, after those that were listed, and what follows them
   values_read : (ls acc : List Literal) (ws : List (List ℕ)) (rest : List ℕ) (result : Result (List Literal) Fault)
-      (p : Place) → 0 < p.col
+      (p : Place) (n : ℕ) → 0 < p.col
       → list_all (is_literal 268435455) ls ≡ true → AreAmong acc whole → AreAmong ls whole
-      → ((now : List Literal) → now ≡ reverse ls ++ acc → AreAmong now whole → (q : Place) → 0 < q.col
-      → claim_after (said_in_line now) (line_from q ws rest) ≡ result)
-      → claim_after (said_in_line acc) (line_from p (map literal_text ls ++ ws) rest) ≡ result
-  values_read [] acc ws rest result p from_one are before after later = later acc refl before p from_one
-  values_read (l ∷ ls) acc ws rest result p from_one are before after later =
+      → ((now : List Literal) → now ≡ reverse ls ++ acc → AreAmong now whole → (q : Place) (m : ℕ) → 0 < q.col
+      → claim_after (said_in_line now) (line_from q m ws rest) ≡ result)
+      → claim_after (said_in_line acc) (line_from p n (map literal_text ls ++ ws) rest) ≡ result
+  values_read [] acc ws rest result p n from_one are before after later = later acc refl before p n from_one
+  values_read (l ∷ ls) acc ws rest result p n from_one are before after later =
       let r = both (is_literal 268435455 l) (list_all (is_literal 268435455) ls) are in
-      takes_value acc l (next_word p (literal_text l) (map literal_text ls ++ ws) rest from_one
+      takes_value acc l (next_word p n (literal_text l) (map literal_text ls ++ ws) rest from_one
       (literal_plain 268435455 l (omega arith) r.0))
       (literal_said acc l r.0 (no_complement acc ls l before after))
-      ∙ values_read ls (l ∷ acc) ws rest result (past p (literal_text l)) (past_from_one p (literal_text l)) r.1
+      ∙ values_read ls (l ∷ acc) ws rest result (past p (literal_text l)) (suc n + length (literal_text l)) (past_from_one p (literal_text l)) r.1
       (among_more acc ls l before after) (λ k h. after k (has_tail l ls k h))
       (λ now is. later now
       (is ∙ sym (ap (λ t. t ++ acc) (reverse-append (l ∷ []) ls) ∙ append_assoc (reverse ls) (l ∷ []) acc)))
 
   -- lines of values
-  lines_read : (lines : List (List Literal)) (last acc : List Literal) (p : Place) → 0 < p.col
+  lines_read : (lines : List (List Literal)) (last acc : List Literal) (p : Place) (n : ℕ) → 0 < p.col
       → list_all (is_literal 268435455) (concat lines ++ last) ≡ true → AreAmong acc whole
       → AreAmong (concat lines ++ last) whole
       → claim_after (said_before_line acc)
-      (listing_at p (input_of (flat_map literals_line lines ++ value_line (literal_words last))))
+      (listing_at p (suffix n (flat_map literals_line lines ++ value_line (literal_words last)) End))
       ≡ Ok (reverse (concat lines ++ last) ++ acc)
-  lines_read [] last acc p from_one are before after =
-      ap (λ t. claim_after (said_before_line acc) (listing_at p (input_of t)))
+  lines_read [] last acc p n from_one are before after =
+      ap (λ t. claim_after (said_before_line acc) (listing_at p (suffix n t End)))
       (sym (append_nil (value_line (literal_words last))))
-      ∙ takes_v acc (first_word p (codes "v") (literal_words last) [] refl (fixed_plain 118 [] refl))
-      ∙ values_read last acc (codes "0" ∷ []) [] (Ok (reverse last ++ acc)) (col_along p (codes "v"))
+      ∙ takes_v acc (first_word p n (codes "v") (literal_words last) [] refl (fixed_plain 118 [] refl))
+      ∙ values_read last acc (codes "0" ∷ []) [] (Ok (reverse last ++ acc)) (col_along p (codes "v")) (n + length (codes "v"))
       (along_from_one p (codes "v") from_one) are before after
-      (λ now is among q q_from_one.
-      takes_end now (next_word q (codes "0") [] [] q_from_one zero_plain) (next_line (past q (codes "0")) [])
-      (listing_at-end (line_after (past q (codes "0"))) End) ∙ ap Ok is)
-  lines_read (ls ∷ lines) last acc p from_one are before after =
+      (λ now is among q m q_from_one.
+      let k : ℕ = suc m + length (codes "0") in
+      takes_end now (next_word q m (codes "0") [] [] q_from_one zero_plain) (next_line (past q (codes "0")) k [])
+      (listing_at-end (line_after (past q (codes "0"))) (suc k) End) ∙ ap Ok is)
+  lines_read (ls ∷ lines) last acc p n from_one are before after =
       let later : List ℕ = flat_map literals_line lines ++ value_line (literal_words last) in
       let rest : List Literal = concat lines ++ last in
       let split : (ls ++ concat lines) ++ last ≡ ls ++ rest = append_assoc ls (concat lines) last in
@@ -139,16 +146,16 @@ module _ (whole : List Literal) (consistent : IsConsistent whole) where
       (sym (list_all-append (is_literal 268435455) ls rest)
       ∙ ap (list_all (is_literal 268435455)) (sym split) ∙ are) in
       let among : AreAmong (ls ++ rest) whole = λ k h. after k (ap (λ t. has t k) split ∙ h) in
-      ap (λ t. claim_after (said_before_line acc) (listing_at p (input_of t)))
+      ap (λ t. claim_after (said_before_line acc) (listing_at p (suffix n t End)))
       (append_assoc (literals_line ls) (flat_map literals_line lines) (value_line (literal_words last)))
-      ∙ takes_v acc (first_word p (codes "v") (map literal_text ls) later refl (fixed_plain 118 [] refl))
-      ∙ ap (λ ws. claim_after (said_in_line acc) (line_from (col_along p (codes "v")) ws later))
+      ∙ takes_v acc (first_word p n (codes "v") (map literal_text ls) later refl (fixed_plain 118 [] refl))
+      ∙ ap (λ ws. claim_after (said_in_line acc) (line_from (col_along p (codes "v")) (n + length (codes "v")) ws later))
       (sym (append-nil (map literal_text ls)))
-      ∙ values_read ls acc [] later (Ok (reverse ((ls ++ concat lines) ++ last) ++ acc)) (col_along p (codes "v"))
+      ∙ values_read ls acc [] later (Ok (reverse ((ls ++ concat lines) ++ last) ++ acc)) (col_along p (codes "v")) (n + length (codes "v"))
       (along_from_one p (codes "v") from_one) all.0
       before (λ k h. among k (has_append_left ls rest k h))
-      (λ now is now_among q q_from_one. takes_line_end now (next_line q later)
-      ∙ lines_read lines last now (line_after q) (omega arith) all.1 now_among
+      (λ now is now_among q m q_from_one. takes_line_end now (next_line q m later)
+      ∙ lines_read lines last now (line_after q) (suc m) (omega arith) all.1 now_among
       (λ k h. among k (has_append_right ls rest k h))
       ∙ ap Ok (ap (λ t. reverse rest ++ t) is ∙ sym (append_assoc (reverse rest) (reverse ls) acc)
       ∙ ap (λ t. t ++ acc) (sym (reverse-append ls rest) ∙ ap reverse (sym split))))
@@ -156,15 +163,17 @@ module _ (whole : List Literal) (consistent : IsConsistent whole) where
 -- a printed model is read back
 pub model_read : (lines : List (List Literal)) (last : List Literal) → IsModel (concat lines ++ last)
     → claim_of (input_of (model_text lines last)) ≡ Ok (reverse (concat lines ++ last))
-model_read lines last m =
+model_read lines last fits =
     let p : Place = record { line = 1; col = 1 } in
     let q : Place = past (col_along p (codes "s")) (codes "SATISFIABLE") in
+    let n : ℕ = 0 + length (codes "s") in
+    let m : ℕ = suc n + length (codes "SATISFIABLE") in
     let values : List ℕ = flat_map literals_line lines ++ value_line (literal_words last) in
     takes_status
-    (first_word p (codes "s") (codes "SATISFIABLE" ∷ []) values refl (fixed_plain 115 [] refl))
-    (next_word (col_along p (codes "s")) (codes "SATISFIABLE") [] values (omega arith)
+    (first_word p 0 (codes "s") (codes "SATISFIABLE" ∷ []) values refl (fixed_plain 115 [] refl))
+    (next_word (col_along p (codes "s")) n (codes "SATISFIABLE") [] values (omega arith)
     (fixed_plain 83 (codes "ATISFIABLE") refl))
-    (next_line q values)
-    ∙ lines_read (concat lines ++ last) m.consistent lines last [] (line_after q) (omega arith) m.literals
+    (next_line q m values)
+    ∙ lines_read (concat lines ++ last) fits.consistent lines last [] (line_after q) (suc m) (omega arith) fits.literals
     (λ k h. absurd (let bad : false ≡ true = h in cc)) (λ k h. h)
     ∙ ap Ok (append_nil (reverse (concat lines ++ last)))

@@ -1,7 +1,9 @@
--- The formula of an input (DIMACS CNF; the faults, their places and the order of judging are our own profile).
-use Rattle.std.specs.Prelude.{ℕ, ◌+◌, nat_le, Bool, true, false, if◌then◌else◌, List, [], ◌∷◌, ◌++◌, Option, None, Some, Result, Ok, Err}
+-- The formula of an input (DIMACS CNF; the faults, their places and the order of judging are our
+-- own profile).
+use Rattle.std.specs.Prelude.{ℕ, ◌+◌, nat_le, Bool, true, false, if◌then◌else◌, List, [], ◌∷◌, ◌++◌}
+use Rattle.std.specs.Prelude.{Option, None, Some, Result, Ok, Err}
 use Rattle.cnf_base.specs.Literals.{Literal, Clause}
-use Rattle.cnf_base.specs.Stream.{Input}
+use Rattle.cnf_base.specs.Stream.{Input, Suffix}
 use Rattle.cnf_base.specs.Words.{number_literal}
 use Rattle.cnf_base.specs.Text.{Listed, Listing, listing_at, listing_of}
 use Rattle.cnf_base.specs.declared.input.Ending.{Ending}
@@ -14,7 +16,9 @@ use Rattle.cnf_base.specs.declared.token.Token.TheVariants as token
 use Rattle.cnf_base.specs.declared.fault.Fault.{Fault}
 use Rattle.cnf_base.specs.declared.fault.Fault.TheVariants.{Text, ReadFailed}
 use Rattle.cnf_base.specs.declared.fault.TextFault.{TextFault}
-use Rattle.cnf_base.specs.declared.fault.TextFault.TheVariants.{BadHeader, NumberTooLarge, BadToken, LiteralOutOfRange, TooManyClauses, TooFewClauses, UnterminatedClause}
+use Rattle.cnf_base.specs.declared.fault.TextFault.TheVariants.{BadHeader, NumberTooLarge, BadToken}
+use Rattle.cnf_base.specs.declared.fault.TextFault.TheVariants.{LiteralOutOfRange, TooManyClauses}
+use Rattle.cnf_base.specs.declared.fault.TextFault.TheVariants.{TooFewClauses, UnterminatedClause}
 use Rattle.dimacs.specs.declared.header.Header.{Header}
 
 -- ---- The header: the first line that is no comment and not blank
@@ -33,11 +37,13 @@ abbrev pub cut_short : Ending → Place → Fault
 cut_short End p = Text BadHeader p
 cut_short Failed p = ReadFailed
 
+-- a token as a word of the header; a line's end or the input's is a fault
 abbrev pub word_of_token : tokens.Token → Listing → Result (Place × Word × Listing) Fault
 word_of_token (token.Word p w) rest = Ok (p, w, rest)
 word_of_token (token.LineEnd p) rest = Err (Text BadHeader p)
 word_of_token (token.End p) rest = Err (Text BadHeader p)
 
+-- the first of these tokens as a word of the header, and what follows it
 abbrev pub word_among : List Listed → Listing → Result (Place × Word × Listing) Fault
 word_among [] l = Err (cut_short l.ending l.end)
 word_among (t ∷ ts) l = word_of_token t.token (rest_of ts l)
@@ -46,11 +52,13 @@ word_among (t ∷ ts) l = word_of_token t.token (rest_of ts l)
 abbrev pub next_word : Listing → Result (Place × Word × Listing) Fault
 next_word l = word_among l.tokens l
 
+-- whether the token is the end of a line
 abbrev pub is_line_end : tokens.Token → Bool
 is_line_end (token.LineEnd p) = true
 is_line_end (token.Word p w) = false
 is_line_end (token.End p) = false
 
+-- the tokens from the first on that is no line's end
 abbrev pub drop_line_ends : List Listed → List Listed
 drop_line_ends [] = []
 drop_line_ends (t ∷ ts) = if is_line_end t.token then drop_line_ends ts else t ∷ ts
@@ -59,10 +67,12 @@ drop_line_ends (t ∷ ts) = if is_line_end t.token then drop_line_ends ts else t
 abbrev pub skip_blank : Listing → Listing
 skip_blank l = rest_of (drop_line_ends l.tokens) l
 
+-- the word `p`
 abbrev pub is_p : Word → Bool
 is_p words.P = true
 is_p _ = false
 
+-- the word `cnf`
 abbrev pub is_cnf : Word → Bool
 is_cnf words.Cnf = true
 is_cnf _ = false
@@ -79,18 +89,22 @@ count_of limit p (words.Number n) =
     else Err (Text NumberTooLarge p))
 count_of limit p _ = Err (Text BadHeader p)
 
+-- the next word as such a number, and what follows it
 abbrev pub count : ℕ → Listing → Result (ℕ × Listing) Fault
 count limit l = and_then (next_word l) (λ w. and_then (count_of limit w.0 w.1) (λ n. Ok (n, w.2)))
 
+-- a token where the header's line has to end
 abbrev pub line_end_of_token : tokens.Token → Listing → Result Listing Fault
 line_end_of_token (token.LineEnd p) rest = Ok rest
 line_end_of_token (token.Word p w) rest = Err (Text BadHeader p)
 line_end_of_token (token.End p) rest = Ok rest
 
+-- the end of the input where the header's line has to end
 abbrev pub line_end_at_end : Ending → Listing → Result Listing Fault
 line_end_at_end End l = Ok l
 line_end_at_end Failed l = Err ReadFailed
 
+-- the first of these tokens, or the input's end, where the header's line has to end
 abbrev pub line_end_among : List Listed → Listing → Result Listing Fault
 line_end_among [] l = line_end_at_end l.ending l
 line_end_among (t ∷ ts) l = line_end_of_token t.token (rest_of ts l)
@@ -104,7 +118,8 @@ abbrev pub header_of : Listing → Result (Header × Listing) Fault
 header_of l =
     and_then (fixed is_p (skip_blank l)) (λ l. and_then (fixed is_cnf l)
     (λ l. and_then (count 268435455 l) (λ vars. and_then (count 4294967295 vars.1)
-    (λ clauses. and_then (line_end clauses.1) (λ l. Ok (record { vars = vars.0; clauses = clauses.0 }, l))))))
+    (λ clauses. and_then (line_end clauses.1)
+    (λ l. Ok (record { vars = vars.0; clauses = clauses.0 }, l))))))
 
 -- ---- The clauses: literals ended by `0`, over any number of lines
 
@@ -113,19 +128,25 @@ pub record Body : Type 0 where
   pub clauses : List Clause
   pub fault : Option Fault
 
+-- no clause, and a fault
 abbrev pub faulty_body : Fault → Body
 faulty_body f = record { clauses = []; fault = Some f }
 
+-- no clause, and a clean end
 abbrev pub whole : Body
 whole = record { clauses = []; fault = None }
 
+-- a clause before the others
 abbrev pub with_first_clause : Clause → Body → Body
 with_first_clause c b = record { clauses = c ∷ b.clauses; fault = b.fault }
 
--- a literal, the `0` that ends a clause, or what is wrong with a word after so many clauses, in the order of judging
+-- a literal, the `0` that ends a clause, or what is wrong with a word after so many clauses, in the
+-- order of judging
 abbrev pub judged : Header → ℕ → Word → Result (Option Literal) TextFault
 judged h complete (words.Number n) =
-    if nat_le n.size 268435455 then (if nat_le h.clauses complete then Err TooManyClauses else (if nat_le n.size h.vars then Ok (number_literal n) else Err LiteralOutOfRange))
+    if nat_le n.size 268435455 then
+    (if nat_le h.clauses complete then Err TooManyClauses
+    else (if nat_le n.size h.vars then Ok (number_literal n) else Err LiteralOutOfRange))
     else Err NumberTooLarge
 judged h complete _ = Err BadToken
 
@@ -138,20 +159,27 @@ body_at_end h complete [] p End =
     else faulty_body (Text TooFewClauses p)
 
 -- what a judged word means; `rest` is what follows
-abbrev pub body_on_word : ℕ → List Literal → Place → Result (Option Literal) TextFault → (ℕ → List Literal → Body) → Body
+abbrev pub body_on_word : ℕ → List Literal → Place → Result (Option Literal) TextFault →
+    (ℕ → List Literal → Body) → Body
 body_on_word complete literals p (Ok (Some l)) rest = rest complete (literals ++ l ∷ [])
-body_on_word complete literals p (Ok None) rest = with_first_clause literals (rest (complete + 1) [])
+body_on_word complete literals p (Ok None) rest =
+    with_first_clause literals (rest (complete + 1) [])
 body_on_word complete literals p (Err f) rest = faulty_body (Text f p)
 
-abbrev pub body_on_token : Header → ℕ → List Literal → tokens.Token → (ℕ → List Literal → Body) → Body
-body_on_token h complete literals (token.Word p w) rest = body_on_word complete literals p (judged h complete w) rest
+-- what a token means; `rest` is what follows
+abbrev pub body_on_token : Header → ℕ → List Literal → tokens.Token → (ℕ → List Literal → Body) →
+    Body
+body_on_token h complete literals (token.Word p w) rest =
+    body_on_word complete literals p (judged h complete w) rest
 body_on_token h complete literals (token.LineEnd p) rest = rest complete literals
 body_on_token h complete literals (token.End p) rest = rest complete literals
 
+-- the clauses that these tokens have, after so many complete ones and these literals
 abbrev pub body_among : Header → ℕ → List Literal → List Listed → Place → Ending → Body
 body_among h complete literals [] p ending = body_at_end h complete literals p ending
 body_among h complete literals (t ∷ ts) p ending =
-    body_on_token h complete literals t.token (λ complete literals. body_among h complete literals ts p ending)
+    body_on_token h complete literals t.token
+    (λ complete literals. body_among h complete literals ts p ending)
 
 -- the clauses after so many complete ones, with these literals of a clause at hand
 abbrev pub body_of : Header → ℕ → List Literal → Listing → Body
@@ -165,43 +193,58 @@ pub record Formula : Type 0 where
   pub clauses : List Clause
   pub fault : Option Fault
 
+-- the formula of a header, or of a fault in the header
 abbrev pub formula_with : Result (Header × Listing) Fault → Formula
-formula_with (Ok h) = record { header = Some h.0; clauses = (body_of h.0 0 [] h.1).clauses; fault = (body_of h.0 0 [] h.1).fault }
+formula_with (Ok h) =
+    record {
+      header = Some h.0;
+      clauses = (body_of h.0 0 [] h.1).clauses;
+      fault = (body_of h.0 0 [] h.1).fault;
+    }
 formula_with (Err f) = record { header = None; clauses = []; fault = Some f }
 
-abbrev pub formula_at : Place → Input → Formula
+-- the formula that is read from a place on
+abbrev pub formula_at : Place → Suffix → Formula
 formula_at p i = formula_with (header_of (listing_at p i))
 
+-- the formula of a whole input
 abbrev pub formula_of : Input → Formula
 formula_of i = formula_with (header_of (listing_of i))
 
--- ---- How many bytes of the input follow the `0` of each clause before the first fault
+-- ---- Where each clause before the first fault ends: the offset of the byte after its `0`
 
--- what a judged word adds, which so many bytes follow; `rest` is what the others add
-abbrev pub rests_on_word : ℕ → ℕ → Result (Option Literal) TextFault → (ℕ → List ℕ) → List ℕ
-rests_on_word complete left (Ok (Some l)) rest = rest complete
-rests_on_word complete left (Ok None) rest = left ∷ rest (complete + 1)
-rests_on_word complete left (Err f) rest = []
+-- what a judged word adds; `offset` is that of the byte after it, and `rest` what the others add
+abbrev pub offsets_on_word : ℕ → ℕ → Result (Option Literal) TextFault → (ℕ → List ℕ) → List ℕ
+offsets_on_word complete offset (Ok (Some l)) rest = rest complete
+offsets_on_word complete offset (Ok None) rest = offset ∷ rest (complete + 1)
+offsets_on_word complete offset (Err f) rest = []
 
-abbrev pub rests_on_token : Header → ℕ → tokens.Token → ℕ → (ℕ → List ℕ) → List ℕ
-rests_on_token h complete (token.Word p w) left rest = rests_on_word complete left (judged h complete w) rest
-rests_on_token h complete (token.LineEnd p) left rest = rest complete
-rests_on_token h complete (token.End p) left rest = rest complete
+-- what a token adds
+abbrev pub offsets_on_token : Header → ℕ → tokens.Token → ℕ → (ℕ → List ℕ) → List ℕ
+offsets_on_token h complete (token.Word p w) offset rest =
+    offsets_on_word complete offset (judged h complete w) rest
+offsets_on_token h complete (token.LineEnd p) offset rest = rest complete
+offsets_on_token h complete (token.End p) offset rest = rest complete
 
-abbrev pub rests_among : Header → ℕ → List Listed → List ℕ
-rests_among h complete [] = []
-rests_among h complete (t ∷ ts) = rests_on_token h complete t.token t.rest (λ complete. rests_among h complete ts)
+-- what these tokens add, after so many complete clauses
+abbrev pub offsets_among : Header → ℕ → List Listed → List ℕ
+offsets_among h complete [] = []
+offsets_among h complete (t ∷ ts) =
+    offsets_on_token h complete t.token t.offset (λ complete. offsets_among h complete ts)
 
 -- those of the clauses after so many complete ones
-abbrev pub rests_of : Header → ℕ → Listing → List ℕ
-rests_of h complete l = rests_among h complete l.tokens
+abbrev pub offsets_of : Header → ℕ → Listing → List ℕ
+offsets_of h complete l = offsets_among h complete l.tokens
 
-abbrev pub rests_with : Result (Header × Listing) Fault → List ℕ
-rests_with (Ok h) = rests_of h.0 0 h.1
-rests_with (Err f) = []
+-- those of a header's clauses; none where the header has a fault
+abbrev pub offsets_with : Result (Header × Listing) Fault → List ℕ
+offsets_with (Ok h) = offsets_of h.0 0 h.1
+offsets_with (Err f) = []
 
-abbrev pub clause_rests_at : Place → Input → List ℕ
-clause_rests_at p i = rests_with (header_of (listing_at p i))
+-- those of a formula that is read from a place on
+abbrev pub clause_offsets_at : Place → Suffix → List ℕ
+clause_offsets_at p i = offsets_with (header_of (listing_at p i))
 
-abbrev pub clause_rests : Input → List ℕ
-clause_rests i = rests_with (header_of (listing_of i))
+-- those of a whole formula
+abbrev pub clause_offsets : Input → List ℕ
+clause_offsets i = offsets_with (header_of (listing_of i))

@@ -1,15 +1,17 @@
 //! A formula, clause by clause.
 
-ghost use Rattle.std.specs.Prelude.{◌≡◌, ◌+◌, ◌<◌, ◌≤◌, Bool, true, Option, Result, IfOk, IfErr, OnOk};
+ghost use Rattle.std.specs.Prelude.{◌≡◌, ◌+◌, ◌<◌, ◌≤◌, Bool, true, Option, Result, IfOk, IfErr};
+ghost use Rattle.std.specs.Prelude.{OnOk};
 ghost use Rattle.cnf_base.specs.Stream.{Stream, Along, most_to_come, tells_failure};
 ghost use Rattle.cnf_base.specs.Text.{listing_at};
 ghost use Rattle.cnf_base.specs.declared.input.Ending.TheVariants.{End};
 ghost use Rattle.cnf_base.specs.Readers.{Advances, IsLeft, Keeps, Tells, TellsOf};
-ghost use Rattle.dimacs.specs.Formula.{body_at_end, body_of, clause_rests_at, formula_at, judged, rests_of};
+ghost use Rattle.dimacs.specs.Formula.{body_at_end, body_of, clause_offsets_at, formula_at, judged};
+ghost use Rattle.dimacs.specs.Formula.{offsets_of};
 ghost use Rattle.dimacs.specs.Reading.{clauses_to_come, GivesClause, opened, unopened};
 ghost use Rattle.dimacs.specs.Code.Reading.{body_left, EndsBody};
-ghost use Rattle.dimacs.specs.Reading.{GivesRest, rests_to_come};
-ghost use Rattle.dimacs.specs.Code.Reading.{rests_left};
+ghost use Rattle.dimacs.specs.Reading.{GivesOffset, offsets_to_come};
+ghost use Rattle.dimacs.specs.Code.Reading.{offsets_left};
 
 use crate::ClauseBuf;
 use crate::header::{Header, read_header};
@@ -62,7 +64,7 @@ impl<R: In> FormulaReader<R> {
         // clauses.
         ensures opened { IfOk result (λ r. Along source r.stream
             (λ i j. (formula_at source.place i ≡ opened r.header (clauses_to_come r j))
-            × (clause_rests_at source.place i ≡ rests_to_come r j))) }
+            × (clause_offsets_at source.place i ≡ offsets_to_come r j))) }
         ensures started { IfOk result (λ r. (r.complete ≡ 0) × (r.kept ≡ None)) }
         ensures stored { IfOk result (λ r. r.stored ≡ 0) }
         ensures fewer { IfOk result (λ r. most_to_come r.stream ≤ most_to_come source) }
@@ -116,7 +118,7 @@ impl<R: In> FormulaReader<R> {
         ensures clause { Along self.old.stream self.new.stream
             (λ i j. GivesClause result clause.new (clauses_to_come self.old i)
             (clauses_to_come self.new j)
-            × GivesRest result (rests_to_come self.old i) (rests_to_come self.new j) j) }
+            × GivesOffset result (offsets_to_come self.old i) (offsets_to_come self.new j) j) }
         ensures header { self.new.header ≡ self.old.header }
         ensures counts { result ≡ Ok true → (self.new.complete ≡ self.old.complete + 1)
             × (self.new.complete ≤ self.old.header.clauses)
@@ -160,8 +162,8 @@ fn read_clause<R: In>(
     ensures clause { Along scanner.old scanner.new (λ i j. GivesClause result clause.new
         (body_of header complete clause.old (listing_at scanner.old.place i))
         (body_left result header complete (listing_at scanner.new.place j))
-        × GivesRest result (rests_of header complete (listing_at scanner.old.place i))
-        (rests_left result header complete (listing_at scanner.new.place j)) j) }
+        × GivesOffset result (offsets_of header complete (listing_at scanner.old.place i))
+        (offsets_left result header complete (listing_at scanner.new.place j)) j) }
     ensures counts { result ≡ Ok true → complete < header.clauses }
     ensures fewer { Advances result scanner.old scanner.new }
     ensures tells { TellsOf result scanner.old.reader scanner.new.reader }

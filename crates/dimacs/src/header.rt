@@ -4,7 +4,8 @@ ghost use Rattle.std.specs.Prelude.{◌≡◌, ◌≢◌, ◌≤◌, if◌then�
 ghost use Rattle.cnf_base.specs.Stream.{Along, most_to_come};
 ghost use Rattle.cnf_base.specs.Text.{listing_at};
 ghost use Rattle.cnf_base.specs.Readers.{TellsOf};
-ghost use Rattle.dimacs.specs.Formula.{and_then, skip_blank, next_word, is_p, is_cnf, fixed, count_of, count, line_end, header_of};
+ghost use Rattle.dimacs.specs.Formula.{and_then, skip_blank, next_word, is_p, is_cnf, fixed};
+ghost use Rattle.dimacs.specs.Formula.{count_of, count, line_end, header_of};
 
 use cnf_base::{Fault, In, Place, ReadFailed, Scanner, TextFault, Token, Word};
 

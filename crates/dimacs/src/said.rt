@@ -2,7 +2,9 @@
 
 ghost use Rattle.std.specs.Prelude.{◌≡◌, Some, IfOk};
 ghost use Rattle.cnf_base.specs.declared.input.Ending.TheVariants.{End};
-ghost use Rattle.dimacs.specs.Claim.{nothing, on_first, on_status, on_value, on_literal, claim_on_word, on_line_end, on_end, placed, IsClaim, IsConsistent};
+ghost use Rattle.dimacs.specs.Claim.{nothing, on_first, on_status, on_value, on_literal};
+ghost use Rattle.dimacs.specs.Claim.{claim_on_word, on_line_end, on_end, placed, IsClaim};
+ghost use Rattle.dimacs.specs.Claim.{IsConsistent};
 ghost use Rattle.dimacs.specs.Code.Claiming.{Takes};
 
 use crate::Model;

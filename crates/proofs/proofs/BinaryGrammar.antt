@@ -1,5 +1,7 @@
 -- The steps of a binary DRAT proof, both ways.
-use Rattle.std.proofs.Common.{◌≡◌, ℕ, suc, ◌+◌, ◌*◌, ◌/◌, ◌%◌, ◌<◌, ◌≤◌, ◌==◌, ◌&&◌, nat_le, cond, Bool, true, false, List, [], ◌∷◌, ◌++◌, length, map, Option, None, Some, refl, sym, ap, ◌∙◌, append_assoc, subst, arith}
+use Rattle.std.proofs.Common.{◌≡◌, ℕ, suc, ◌+◌, ◌*◌, ◌/◌, ◌%◌, ◌<◌, ◌≤◌, ◌==◌, ◌&&◌, nat_le, cond}
+use Rattle.std.proofs.Common.{Bool, true, false, List, [], ◌∷◌, ◌++◌, length, map, Option, None}
+use Rattle.std.proofs.Common.{Some, refl, sym, ap, ◌∙◌, append_assoc, subst, arith}
 use Rattle.std.specs.Prelude.{All}
 use Rattle.std.specs.List.{flat_map, list_all}
 use Rattle.std.specs.Option.{option_map}
@@ -9,13 +11,17 @@ use Rattle.std.proofs.lemmas.List.{append-nil}
 use Rattle.std.proofs.lemmas.List.Elements.{All-nil, All-cons}
 use Rattle.cnf_base.specs.Printing.{input_of, is_literal}
 use Rattle.cnf_base.specs.Stream.{next_count}
-use Rattle.cnf_base.specs.declared.fault.BinaryFault.TheVariants.{LiteralTooLarge, BadNumber, BadTag}
+use Rattle.cnf_base.specs.declared.fault.BinaryFault.TheVariants.{LiteralTooLarge, BadNumber}
+use Rattle.cnf_base.specs.declared.fault.BinaryFault.TheVariants.{BadTag}
 use Rattle.cnf_base.specs.declared.input.Ending.TheVariants.{End}
 use Rattle.proofs.specs.declared.step_end.StepEnd.TheVariants.{Byte}
 use Rattle.proofs.specs.Steps.{Step, named, deleting, with_literal}
 use Rattle.proofs.specs.Reading.{PlacedStep}
-use Rattle.proofs.specs.Binary.{groups_value, BinarySpot, at_tag, in_step, in_number, BinaryMove, goes, completes, faults, tag_move, group_move, binary_number_move, binary_move_of, on_binary_move, binary_steps_among, binary_steps}
-use Rattle.proofs.specs.Printing.{ReadStep, read_of, printed_steps, seven_bit_groups, group_bytes, number_bytes, tag_bytes, binary_step, IsDratStep}
+use Rattle.proofs.specs.Binary.{groups_value, BinarySpot, at_tag, in_step, in_number, BinaryMove}
+use Rattle.proofs.specs.Binary.{goes, completes, faults, tag_move, group_move, binary_number_move}
+use Rattle.proofs.specs.Binary.{binary_move_of, on_binary_move, binary_steps_among, binary_steps}
+use Rattle.proofs.specs.Printing.{ReadStep, read_of, printed_steps, seven_bit_groups, group_bytes}
+use Rattle.proofs.specs.Printing.{number_bytes, tag_bytes, binary_step, IsDratStep}
 use Rattle.proofs.specs.Grammar.{BinaryIsGrammar}
 use Rattle.proofs.proofs.BinaryPrinting.{groups_step, groups_are, group_bytes-cons, binary_read}
 use Rattle.proofs.proofs.GrammarText.{none_some, bare, bare-ReadsAs, bare-with_step, all_more}
@@ -191,21 +197,21 @@ abbrev AreSpelled : BinarySpot → Step → List ℕ → List Step → Type 0
 AreSpelled spot s bs steps =
     All IsDratStep steps × (so_far spot s ++ bs ≡ flat_map binary_step steps)
 
-bytes_spelled : (bs : List ℕ) (spot : BinarySpot) (s : Step) (at : ℕ) (steps : List Step)
+bytes_spelled : (bs : List ℕ) (spot : BinarySpot) (s : Step) (at offset : ℕ) (steps : List Step)
     → All (λ b. b < 256) bs → Fits spot s
-    → bare (binary_steps_among spot s at bs End) ≡ Some steps → AreSpelled spot s bs steps
-bytes_spelled [] at_tag s at steps are fits e =
+    → bare (binary_steps_among spot s at offset bs End) ≡ Some steps → AreSpelled spot s bs steps
+bytes_spelled [] at_tag s at offset steps are fits e =
     let nothing : [] ≡ steps = cc in
     subst (AreSpelled at_tag s []) nothing (All-nil IsDratStep, refl)
-bytes_spelled [] in_step s at steps are fits e = absurd (none_some steps e)
-bytes_spelled [] (in_number first bytes) s at steps are fits e = absurd (none_some steps e)
-bytes_spelled (b ∷ bs) spot s at steps are fits e =
+bytes_spelled [] in_step s at offset steps are fits e = absurd (none_some steps e)
+bytes_spelled [] (in_number first bytes) s at offset steps are fits e = absurd (none_some steps e)
+bytes_spelled (b ∷ bs) spot s at offset steps are fits e =
     by (binary_move_of spot s at b) (byte_moves spot s at b (are 0 b (omega arith)) fits)
-    (λ spot s at steps. bytes_spelled bs spot s at steps (λ k d l. are (suc k) d (omega arith))) e
+    (λ spot s at offset steps. bytes_spelled bs spot s at offset steps (λ k d l. are (suc k) d (omega arith))) e
   where
     IsSo : Type 0
-    IsSo = (spot : BinarySpot) (s : Step) (at : ℕ) (steps : List Step) → Fits spot s
-        → bare (binary_steps_among spot s at bs End) ≡ Some steps → AreSpelled spot s bs steps
+    IsSo = (spot : BinarySpot) (s : Step) (at offset : ℕ) (steps : List Step) → Fits spot s
+        → bare (binary_steps_among spot s at offset bs End) ≡ Some steps → AreSpelled spot s bs steps
 
     onto : (before : List ℕ) → before ≡ so_far spot s ++ b ∷ []
         → so_far spot s ++ b ∷ bs ≡ before ++ bs
@@ -213,37 +219,37 @@ bytes_spelled (b ∷ bs) spot s at steps are fits e =
 
     completed : (t : Step) → IsDratStep t → binary_step t ≡ so_far spot s ++ b ∷ [] → IsSo
         → (later : Option (List Step))
-        → bare (binary_steps_among at_tag (named 0) (next_count at) bs End) ≡ later
+        → bare (binary_steps_among at_tag (named 0) (next_count at) (suc offset) bs End) ≡ later
         → option_map (λ ss. t ∷ ss) later ≡ Some steps → AreSpelled spot s (b ∷ bs) steps
     completed t step bytes later None is_none e = absurd (none_some steps e)
     completed t step bytes later (Some ss) is_some e =
         let same : t ∷ ss ≡ steps = cc in
-        let r = later at_tag (named 0) (next_count at) ss refl is_some in
+        let r = later at_tag (named 0) (next_count at) (suc offset) ss refl is_some in
         subst (AreSpelled spot s (b ∷ bs)) same (
           All-cons IsDratStep t ss step r.0,
           onto (binary_step t) bytes ∙ ap (λ bs. binary_step t ++ bs) r.1,
         )
 
     by : (m : BinaryMove) → Spells (so_far spot s) b m → IsSo
-        → bare (on_binary_move at (length bs) m
-        (λ spot s. binary_steps_among spot s (next_count at) bs End)) ≡ Some steps
+        → bare (on_binary_move at (suc offset) m
+        (λ spot s. binary_steps_among spot s (next_count at) (suc offset) bs End)) ≡ Some steps
         → AreSpelled spot s (b ∷ bs) steps
     by (goes next t) m later e =
-        let r = later next t (next_count at) steps m.0 e in (r.0, onto (so_far next t) m.1 ∙ r.1)
+        let r = later next t (next_count at) (suc offset) steps m.0 e in (r.0, onto (so_far next t) m.1 ∙ r.1)
     by (completes t) m later e =
-        let rest = binary_steps_among at_tag (named 0) (next_count at) bs End in
+        let rest = binary_steps_among at_tag (named 0) (next_count at) (suc offset) bs End in
         completed t m.0 m.1 later (bare rest) refl
-        (sym (bare-with_step t (Byte at) (length bs) rest) ∙ e)
+        (sym (bare-with_step t (Byte at) (suc offset) rest) ∙ e)
     by (faults f first) m later e = absurd (none_some steps e)
 
 -- steps that are read back are read
-read_steps : (steps : List Step) → map (λ r. r.step) (printed_steps [] binary_step steps) ≡ steps
-read_steps [] = refl
-read_steps (s ∷ ss) = ap (λ t. s ∷ t) (read_steps ss)
+read_steps : (offset : ℕ) (steps : List Step) → map (λ r. r.step) (printed_steps [] binary_step offset steps) ≡ steps
+read_steps offset [] = refl
+read_steps offset (s ∷ ss) = ap (λ t. s ∷ t) (read_steps (offset + length (binary_step s)) ss)
 
 placed_steps : (ps : List PlacedStep)
     → map (λ (r : ReadStep). r.step)
-    (map (λ placed. record { step = placed.step; rest = placed.rest }) ps)
+    (map (λ placed. record { step = placed.step; offset = placed.offset }) ps)
     ≡ map (λ placed. placed.step) ps
 placed_steps [] = refl
 placed_steps (p ∷ ps) = ap (λ t. p.step ∷ t) (placed_steps ps)
@@ -251,7 +257,7 @@ placed_steps (p ∷ ps) = ap (λ t. p.step ∷ t) (placed_steps ps)
 pub binary_both_ways : BinaryIsGrammar
 binary_both_ways = record {
   read_is_written = λ bytes steps are reads.
-      let r = bytes_spelled bytes at_tag (named 0) 1 steps are refl
+      let r = bytes_spelled bytes at_tag (named 0) 1 0 steps are refl
       (bare-ReadsAs (binary_steps (input_of bytes)) steps reads) in
       record { within = r.0; spelled = r.1 };
   written_is_read = λ bytes steps is.
@@ -259,7 +265,7 @@ binary_both_ways = record {
       ∙ binary_read steps is.within in
       record {
         all = sym (placed_steps (binary_steps (input_of bytes)).steps)
-            ∙ ap (λ p. map (λ (r : ReadStep). r.step) p.steps) back ∙ read_steps steps;
+            ∙ ap (λ p. map (λ (r : ReadStep). r.step) p.steps) back ∙ read_steps 0 steps;
         no_fault = ap (λ p. p.fault) back;
       };
 }

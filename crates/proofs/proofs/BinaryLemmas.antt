@@ -1,25 +1,31 @@
 -- A binary proof's bytes, one at a time.
-use Rattle.std.proofs.Common.{◌≡◌, ℕ, ◌<◌, ◌≤◌, [], length, Option, None, Some, refl, sym, ap, ◌∙◌, subst, arith}
+use Rattle.std.proofs.Common.{◌≡◌, ℕ, ◌<◌, ◌≤◌, [], ◌∷◌, length, Option, None, Some, refl, sym, ap}
+use Rattle.std.proofs.Common.{◌∙◌, subst, arith}
 use Rattle.std.specs.Prelude.{Bool, true, false, Result, Ok, Err, slice_index}
-use Rattle.cnf_base.specs.Stream.{Input, Stream, Along, IsLook, bumped, next_count, most_to_come, tells_failure}
+use Rattle.cnf_base.specs.Stream.{Suffix, Stream, Along, IsLook, bumped, next_count, most_to_come}
+use Rattle.cnf_base.specs.Stream.{tells_failure}
 use Rattle.cnf_base.specs.Readers.{Keeps}
 use Rattle.cnf_base.specs.declared.input.Ending.TheVariants.{End, Failed}
 use Rattle.cnf_base.specs.declared.fault.Fault.{Fault}
 use Rattle.cnf_base.specs.declared.fault.Fault.TheVariants.{Binary, ReadFailed, OutOfMemory}
 use Rattle.cnf_base.specs.declared.fault.BinaryFault.{BinaryFault}
-use Rattle.cnf_base.proofs.StreamLemmas.{Along-then, Along-map, Along-look, Along-bumped, Along-still, shown_end, most_to_come-bumped, most_to_come-look}
+use Rattle.cnf_base.proofs.StreamLemmas.{Splits-first, Splits-byte, Along-then, Along-map}
+use Rattle.cnf_base.proofs.StreamLemmas.{Along-look, Along-bumped, Along-still, shown_end}
+use Rattle.cnf_base.proofs.StreamLemmas.{most_to_come-bumped, most_to_come-look}
 use Rattle.proofs.specs.declared.step_end.StepEnd.{StepEnd}
 use Rattle.proofs.specs.declared.step_end.StepEnd.TheVariants.{Byte}
 use Rattle.proofs.specs.Steps.{Step, named}
 use Rattle.proofs.specs.Reading.{Proof, GivesStep, PassesNoEnd}
 use Rattle.proofs.specs.Code.Reading.{proof_unless_ended}
 use Rattle.proofs.specs.Code.TextMoves.{EndsProof}
-use Rattle.proofs.specs.Binary.{BinarySpot, at_tag, BinaryMove, goes, completes, faults, binary_move_of, on_binary_move, binary_at_end, binary_steps_from, binary_steps_at}
+use Rattle.proofs.specs.Binary.{BinarySpot, at_tag, BinaryMove, goes, completes, faults}
+use Rattle.proofs.specs.Binary.{binary_move_of, on_binary_move, binary_at_end, binary_steps_from}
+use Rattle.proofs.specs.Binary.{binary_steps_at}
 use Rattle.proofs.specs.Code.BinaryMoves.{MovesBinary, binary_left}
 use Rattle.proofs.specs.declared.moved.Moved.{Moved}
 use Rattle.proofs.specs.declared.drat_binary.part.Part.{Part}
 use Rattle.proofs.specs.declared.drat_binary.stopped.Stopped.{Stopped}
-use Rattle.proofs.proofs.ReachLemmas.{binary_steps_among-within, binary_more-within}
+use Rattle.proofs.proofs.ReachLemmas.{on_binary_move-from, binary_steps_among-from}
 use Rattle.proofs.proofs.TextLemmas.{gives_fault}
 
 -- from one moment to another bytes of one step were read
@@ -32,13 +38,13 @@ pub Between-none : (s : Stream) → Between s s at_tag (named 0)
 Between-none s = record { text = Along-still s (binary_steps_at s.byte_no); fewer = omega arith; mark = refl }
 
 -- what is left after an answer, where it is kept if it is an end
-pub binary_kept : (result : Result Bool Fault) (kept : Option (Result Bool Fault)) (at : ℕ) (i : Input) → Keeps result kept
+pub binary_kept : (result : Result Bool Fault) (kept : Option (Result Bool Fault)) (at : ℕ) (i : Suffix) → Keeps result kept
     → binary_left result at i ≡ proof_unless_ended kept (binary_steps_at at i)
 binary_kept (Ok true) kept at i keeps = ap (λ k. proof_unless_ended k (binary_steps_at at i)) (sym keeps)
 binary_kept (Ok false) kept at i keeps = ap (λ k. proof_unless_ended k (binary_steps_at at i)) (sym keeps)
 binary_kept (Err f) kept at i keeps = ap (λ k. proof_unless_ended k (binary_steps_at at i)) (sym keeps)
 
-ends_so : (last : Proof) (result : Result Bool Fault) (end : Option StepEnd) (s : Step) (before : Proof) (at : ℕ) (j : Input)
+ends_so : (last : Proof) (result : Result Bool Fault) (end : Option StepEnd) (s : Step) (before : Proof) (at : ℕ) (j : Suffix)
     → EndsProof result last → before ≡ last → GivesStep result end s before (binary_left result at j) j
 ends_so last (Ok true) end s before at j ends e = absurd ends
 ends_so last (Ok false) end s before at j ends e = (e ∙ ends, e ∙ ends)
@@ -55,17 +61,23 @@ module _ (old now new : Stream) (spot : BinarySpot) (s : Step) (so_far : Between
       × PassesNoEnd (binary_steps_at old.byte_no i) j)
 
   -- so it is of steps that are so
-  passes : (p q : Proof) (j : Input) → p ≡ q → PassesNoEnd q j → PassesNoEnd p j
+  passes : (p q : Proof) (j : Suffix) → p ≡ q → PassesNoEnd q j → PassesNoEnd p j
   passes p q j is h = let P : Proof → Type 0 = λ x. PassesNoEnd x j in subst P (sym is) h
 
   -- a byte was taken
   module _ (b : ℕ) (some : 0 < length new.ahead) (first : b ≡ slice_index new.ahead 0) where
-    abbrev follows : Input → BinaryMove → Proof
-    follows j move = on_binary_move new.byte_no (length j.bytes) move (λ spot s. binary_steps_from spot s (next_count new.byte_no) j)
+    abbrev follows : Suffix → BinaryMove → Proof
+    follows j move = on_binary_move new.byte_no j.offset move (λ spot s. binary_steps_from spot s (next_count new.byte_no) j)
 
     byte_text : Along old (bumped new) (λ i j. binary_steps_at old.byte_no i ≡ follows j (binary_move_of spot s new.byte_no b))
     byte_text = Along-then old new (bumped new) _ _ _ looked (Along-bumped new b some first) (λ i j k m q r.
-        q ∙ ap (binary_steps_from spot s new.byte_no) r)
+        q ∙ ap (binary_steps_from spot s new.byte_no) (Splits-first j (b ∷ []) k r)
+        ∙ ap (λ t. follows t (binary_move_of spot s new.byte_no b)) (Splits-byte j b k r))
+
+    -- whatever the byte did, no step that was to come ends before what is left
+    follows-from : (j : Suffix) (move : BinaryMove) → PassesNoEnd (follows j move) j
+    follows-from j move = on_binary_move-from j.offset new.byte_no j.offset move (λ spot s. binary_steps_from spot s (next_count new.byte_no) j) (omega arith)
+        (λ spot s. binary_steps_among-from j.offset spot s (next_count new.byte_no) j.offset j.bytes j.ending (omega arith))
 
     pub Between-byte : (next : BinarySpot) (t : Step) → binary_move_of spot s new.byte_no b ≡ goes next t → tells_failure new.reader ≡ tells_failure now.reader
         → Between old (bumped new) next t
@@ -77,11 +89,11 @@ module _ (old now new : Stream) (spot : BinarySpot) (s : Step) (so_far : Between
 
     -- what is made of the move is given
     gave : (result : Result Bool Fault) (end : Option StepEnd) (t : Step)
-        → ((i j : Input) → binary_steps_at old.byte_no i ≡ follows j (binary_move_of spot s new.byte_no b)
+        → ((i j : Suffix) → binary_steps_at old.byte_no i ≡ follows j (binary_move_of spot s new.byte_no b)
         → GivesStep result end t (binary_steps_at old.byte_no i) (binary_left result (bumped new).byte_no j) j) → Gave (bumped new) result end t
     gave result end t gives = Along-map old (bumped new) _ _ byte_text (λ i j m q. (
       gives i j q,
-      passes _ (follows j (binary_move_of spot s new.byte_no b)) j q (binary_more-within spot s new.byte_no b j.bytes j.ending),
+      passes _ (follows j (binary_move_of spot s new.byte_no b)) j q (follows-from j (binary_move_of spot s new.byte_no b)),
     ))
 
     pub Between-step : (end : Option StepEnd) → end ≡ Some (Byte new.byte_no) → (t : Step) → binary_move_of spot s new.byte_no b ≡ completes t
@@ -94,23 +106,23 @@ module _ (old now new : Stream) (spot : BinarySpot) (s : Step) (so_far : Between
     pub Between-refused : (t : Step) → Gave (bumped new) (Err OutOfMemory) None t
     Between-refused t = gave (Err OutOfMemory) None t (λ i j q. refl)
 
-  -- the rest has no more bytes than are left
-  rest-within : (i j : Input) → binary_steps_at old.byte_no i ≡ binary_steps_from spot s new.byte_no j → PassesNoEnd (binary_steps_at old.byte_no i) j
-  rest-within i j is =
-      passes _ (binary_steps_from spot s new.byte_no j) j is (binary_steps_among-within (length j.bytes) spot s new.byte_no j.bytes j.ending (omega arith))
+  -- and none before the rest
+  rest-from : (i j : Suffix) → binary_steps_at old.byte_no i ≡ binary_steps_from spot s new.byte_no j → PassesNoEnd (binary_steps_at old.byte_no i) j
+  rest-from i j is =
+      passes _ (binary_steps_from spot s new.byte_no j) j is (binary_steps_among-from j.offset spot s new.byte_no j.offset j.bytes j.ending (omega arith))
 
   pub Between-end : (result : Result Bool Fault) (end : Option StepEnd) → new.ahead ≡ [] → new.met ≡ Some End → EndsProof result (binary_at_end spot new.byte_no End)
       → Gave new result end s
   Between-end result end nothing met ends = Along-map old new _ _ looked (λ i j m q.
       let e = shown_end new End j nothing met m in (
         ends_so (binary_at_end spot new.byte_no End) result end s _ new.byte_no j ends (q ∙ ap (binary_steps_from spot s new.byte_no) e),
-        rest-within i j q,
+        rest-from i j q,
       ))
 
   pub Between-failed : new.ahead ≡ [] → new.met ≡ Some Failed → Gave new (Err ReadFailed) None s
   Between-failed nothing met = Along-map old new _ _ looked (λ i j m q. (
     gives_fault ReadFailed None s _ j (q ∙ ap (binary_steps_from spot s new.byte_no) (shown_end new Failed j nothing met m)),
-    rest-within i j q,
+    rest-from i j q,
   ))
 
 -- what a byte was found to do, by the answer's pattern, and by the byte's number

@@ -1,5 +1,6 @@
 -- The steps of a DRAT text, both ways.
-use Rattle.std.proofs.Common.{◌≡◌, ℕ, true, List, [], ◌∷◌, ◌++◌, map, fold, refl, sym, ap, ◌∙◌, append_assoc}
+use Rattle.std.proofs.Common.{◌≡◌, ℕ, true, List, [], ◌∷◌, ◌++◌, map, fold, refl, sym, ap, ◌∙◌}
+use Rattle.std.proofs.Common.{append_assoc}
 use Rattle.std.specs.Prelude.{codes}
 use Rattle.std.specs.List.{list_all}
 use Rattle.std.specs.Option.{option_map}
@@ -20,7 +21,8 @@ use Rattle.proofs.specs.Printing.{drat_words, IsDratStep}
 use Rattle.proofs.specs.Grammar.{DratIsGrammar}
 use Rattle.proofs.proofs.PrintedText.{with_literals, drat_step, drat_step_is}
 use Rattle.proofs.proofs.DratPrinting.{literal_move}
-use Rattle.proofs.proofs.GrammarText.{on_word, word_steps, Spelling, Spells, IsSpelling, text_spelled, text_read, all_more, list_words, literal_cases}
+use Rattle.proofs.proofs.GrammarText.{on_word, word_steps, Spelling, Spells, IsSpelling}
+use Rattle.proofs.proofs.GrammarText.{text_spelled, text_read, all_more, list_words, literal_cases}
 
 -- ---- The words of a step so far
 

@@ -1,5 +1,7 @@
 -- The steps of a text by its words alone, in whatever format.
-use Rattle.std.proofs.Common.{◌≡◌, ℕ, suc, ◌+◌, ◌*◌, ◌/◌, ◌%◌, ◌≤◌, ◌==◌, ◌&&◌, nat_le, cond, Bool, true, false, List, [], ◌∷◌, ◌++◌, map, fold, Option, None, Some, refl, sym, ap, ◌∙◌, append_assoc, subst, arith}
+use Rattle.std.proofs.Common.{◌≡◌, ℕ, suc, ◌+◌, ◌*◌, ◌/◌, ◌%◌, ◌≤◌, ◌==◌, ◌&&◌, nat_le, cond, Bool}
+use Rattle.std.proofs.Common.{true, false, List, [], ◌∷◌, ◌++◌, map, fold, Option, None, Some, refl}
+use Rattle.std.proofs.Common.{sym, ap, ◌∙◌, append_assoc, subst, arith}
 use Rattle.std.specs.Prelude.{All, codes}
 use Rattle.std.specs.Fmt.{decimal}
 use Rattle.std.specs.Bool.{then_some}
@@ -26,7 +28,9 @@ use Rattle.cnf_base.proofs.GrammarLemmas.{said, number_text, IsSpelled, listing_
 use Rattle.cnf_base.proofs.PrintLemmas.{both}
 use Rattle.proofs.specs.Steps.{Step, named, with_literal}
 use Rattle.proofs.specs.Reading.{Proof, PlacedStep, clean, faulty_proof, with_step}
-use Rattle.proofs.specs.TextSteps.{Move, goes, completes, faults, Format, move_of, on_move, on_token, literal_or_end, literal_or_fault, steps_among, steps_of}
+use Rattle.proofs.specs.TextSteps.{Move, goes, completes, faults, Format, move_of, on_move}
+use Rattle.proofs.specs.TextSteps.{on_token, literal_or_end, literal_or_fault, steps_among}
+use Rattle.proofs.specs.TextSteps.{steps_of}
 use Rattle.proofs.specs.Grammar.{ReadsAs}
 use Rattle.cnf_base.specs.declared.fault.Fault.{Fault}
 use Rattle.cnf_base.specs.declared.fault.Fault.TheVariants.{Text}
@@ -62,9 +66,9 @@ pub bare-ReadsAs : (p : Proof) (steps : List Step) → ReadsAs p steps → bare 
 bare-ReadsAs p steps reads =
     ap (λ f. unless_faulty f (bare_steps p.steps)) reads.no_fault ∙ ap Some reads.all
 
-pub bare-with_step : (s : Step) (end : StepEnd) (left : ℕ) (p : Proof)
-    → bare (with_step s end left p) ≡ option_map (λ ss. s ∷ ss) (bare p)
-bare-with_step s end left p = by p.fault
+pub bare-with_step : (s : Step) (end : StepEnd) (offset : ℕ) (p : Proof)
+    → bare (with_step s end offset p) ≡ option_map (λ ss. s ∷ ss) (bare p)
+bare-with_step s end offset p = by p.fault
   where
     by : (f : Option Fault) → unless_faulty f (s ∷ bare_steps p.steps)
         ≡ option_map (λ ss. s ∷ ss) (unless_faulty f (bare_steps p.steps))
@@ -105,17 +109,17 @@ module _ {Part : Type 0} (format : Format Part) where
           → bare (steps_among format part s ts p End) ≡ word_steps part s words
 
       moved : IsSo → (at : Place) (m : Move Part)
-          → bare (on_move format at t.rest m (λ part s. steps_among format part s ts p End))
+          → bare (on_move format at t.offset m (λ part s. steps_among format part s ts p End))
           ≡ on_word m (λ part s. word_steps part s words)
       moved later at (goes part s) = later part s
       moved later at (completes s) =
-          bare-with_step s (ends.Text at) t.rest
+          bare-with_step s (ends.Text at) t.offset
           (steps_among format format.start (named 0) ts p End)
           ∙ ap (option_map (λ ss. s ∷ ss)) (later format.start (named 0))
       moved later at (faults f) = refl
 
       by : IsSo → (token : tokens.Token)
-          → bare (on_token format part s token t.rest
+          → bare (on_token format part s token t.offset
           (λ part s. steps_among format part s ts p End))
           ≡ word_steps part s (cons_option (said token) words)
       by later (token.Word at w) = moved later at (move_of format part s w)

@@ -1,5 +1,7 @@
 -- The steps of an LRAT text, both ways.
-use Rattle.std.proofs.Common.{◌≡◌, ℕ, zero, suc, ◌≤◌, ◌&&◌, nat_le, cond, Bool, true, false, List, [], ◌∷◌, ◌++◌, map, fold, Option, refl, sym, ap, ◌∙◌, append_assoc, arith}
+use Rattle.std.proofs.Common.{◌≡◌, ℕ, zero, suc, ◌≤◌, ◌&&◌, nat_le, cond, Bool, true, false, List}
+use Rattle.std.proofs.Common.{[], ◌∷◌, ◌++◌, map, fold, Option, refl, sym, ap, ◌∙◌, append_assoc}
+use Rattle.std.proofs.Common.{arith}
 use Rattle.std.specs.Prelude.{codes, ℤ, pos, neg_ℤ}
 use Rattle.std.specs.Fmt.{decimal, signed_decimal}
 use Rattle.std.specs.List.{list_all}
@@ -19,12 +21,16 @@ use Rattle.proofs.specs.declared.step_buf.StepKind.{StepKind}
 use Rattle.proofs.specs.declared.step_buf.StepKind.TheVariants.{Add, Delete}
 use Rattle.proofs.specs.Steps.{Step, is_small, is_hint, named, with_literal, with_hint}
 use Rattle.proofs.specs.TextSteps.{goes, completes, faults, move_of}
-use Rattle.proofs.specs.Lrat.{LratSpot, at_identifier, after_identifier, in_literals, in_hints, in_deletion, lrat, is_identifier, identifier, literal, hint, deleted}
+use Rattle.proofs.specs.Lrat.{LratSpot, at_identifier, after_identifier, in_literals, in_hints}
+use Rattle.proofs.specs.Lrat.{in_deletion, lrat, is_identifier, identifier, literal, hint, deleted}
 use Rattle.proofs.specs.Printing.{hint_words, lrat_words, IsLratStep}
 use Rattle.proofs.specs.Grammar.{LratIsGrammar}
 use Rattle.proofs.proofs.PrintedText.{with_literals, with_hints}
-use Rattle.proofs.proofs.LratPrinting.{identifier_move, first_literal_move, literal_move, hint_part, hint_move, hint_zero, step_of}
-use Rattle.proofs.proofs.GrammarText.{on_word, word_steps, Spelling, Spells, IsSpelling, text_spelled, text_read, list_words, all_more, literal_cases, zero_text}
+use Rattle.proofs.proofs.LratPrinting.{identifier_move, first_literal_move, literal_move, hint_part}
+use Rattle.proofs.proofs.LratPrinting.{hint_move, hint_zero, step_of}
+use Rattle.proofs.proofs.GrammarText.{on_word, word_steps, Spelling, Spells, IsSpelling}
+use Rattle.proofs.proofs.GrammarText.{text_spelled, text_read, list_words, all_more, literal_cases}
+use Rattle.proofs.proofs.GrammarText.{zero_text}
 
 -- ---- The words of a step so far
 

@@ -1,9 +1,10 @@
--- How many bytes follow the steps of a proof.
-use Rattle.std.proofs.Common.{◌≡◌, ℕ, zero, suc, ◌≤◌, List, [], ◌∷◌, length, Option, None, Some, sym, ap, subst, arith}
+-- Where the steps of a proof end.
+use Rattle.std.proofs.Common.{◌≡◌, ℕ, zero, suc, ◌≤◌, List, [], ◌∷◌, Option, None, Some, sym, ap}
+use Rattle.std.proofs.Common.{subst, arith}
 use Rattle.std.specs.Prelude.{Bool, true, false, Result, Ok, Err, slice_get, if◌then◌else◌}
 use Rattle.std.proofs.lemmas.Option.{none-some}
-use Rattle.cnf_base.specs.Stream.{Input, Stream, Along, next_count}
-use Rattle.cnf_base.specs.Text.{Listed, listing_of}
+use Rattle.cnf_base.specs.Stream.{Suffix, Stream, Along, next_count}
+use Rattle.cnf_base.specs.Text.{Listed}
 use Rattle.cnf_base.specs.declared.input.Ending.{Ending}
 use Rattle.cnf_base.specs.declared.input.Ending.TheVariants.{End, Failed}
 use Rattle.cnf_base.specs.declared.place.Place.{Place}
@@ -13,110 +14,99 @@ use Rattle.cnf_base.specs.declared.fault.Fault.{Fault}
 use Rattle.cnf_base.specs.declared.fault.Fault.TheVariants.{Text, Binary, ReadFailed}
 use Rattle.cnf_base.specs.declared.fault.TextFault.TheVariants.{UnterminatedStep}
 use Rattle.cnf_base.specs.declared.fault.BinaryFault.TheVariants as binary_fault
-use Rattle.cnf_base.proofs.ListingLemmas.{RestsWithin, listing_at-within}
+use Rattle.cnf_base.proofs.ListingLemmas.{EndFrom}
 use Rattle.cnf_base.proofs.StreamLemmas.{Along-map}
 use Rattle.proofs.specs.declared.step_end.StepEnd.{StepEnd}
 use Rattle.proofs.specs.declared.step_end.StepEnd.TheVariants as ends
 use Rattle.proofs.specs.Steps.{Step, named}
-use Rattle.proofs.specs.Reading.{PlacedStep, Proof, clean, faulty_proof, with_step, GivesStep, PassesNoEnd}
+use Rattle.proofs.specs.Reading.{PlacedStep, Proof, clean, faulty_proof, with_step, GivesStep}
+use Rattle.proofs.specs.Reading.{PassesNoEnd}
 use Rattle.proofs.specs.Code.Reading.{proof_unless_ended}
-use Rattle.proofs.specs.TextSteps.{Move, goes, completes, faults, Format, move_of, on_move, on_token, at_end, steps_among, steps_of}
+use Rattle.proofs.specs.TextSteps.{Move, goes, completes, faults, Format, move_of, on_move}
+use Rattle.proofs.specs.TextSteps.{on_token, at_end, steps_among}
 use Rattle.proofs.specs.Binary as binary
-use Rattle.proofs.specs.Binary.{BinarySpot, at_tag, in_step, in_number, BinaryMove, binary_move_of, on_binary_move, binary_at_end, binary_steps_among, binary_steps}
+use Rattle.proofs.specs.Binary.{BinarySpot, at_tag, in_step, in_number, BinaryMove, binary_move_of}
+use Rattle.proofs.specs.Binary.{on_binary_move, binary_at_end, binary_steps_among}
 
--- so many bytes at most follow each step
-abbrev pub StepsWithin : ℕ → Proof → Type 0
-StepsWithin n p = (k : ℕ) (placed : PlacedStep) → slice_get p.steps k ≡ Some placed → placed.rest ≤ n
+-- each step ends at this offset or later
+abbrev pub StepsFrom : ℕ → Proof → Type 0
+StepsFrom n p = (k : ℕ) (placed : PlacedStep) → slice_get p.steps k ≡ Some placed → n ≤ placed.offset
 
-pub within-none : (n : ℕ) (fault : Option Fault) → StepsWithin n (record { steps = []; fault = fault })
-within-none n fault k placed at = absurd (none-some placed at)
+pub from-none : (n : ℕ) (fault : Option Fault) → StepsFrom n (record { steps = []; fault = fault })
+from-none n fault k placed at = absurd (none-some placed at)
 
-pub within-step : (n left : ℕ) (s : Step) (end : StepEnd) (p : Proof) → left ≤ n → StepsWithin n p → StepsWithin n (with_step s end left p)
-within-step n left s end p h within = by
+pub from-step : (n offset : ℕ) (s : Step) (end : StepEnd) (p : Proof) → n ≤ offset → StepsFrom n p → StepsFrom n (with_step s end offset p)
+from-step n offset s end p h later = by
   where
-    by : (k : ℕ) (placed : PlacedStep) → slice_get (with_step s end left p).steps k ≡ Some placed → placed.rest ≤ n
+    by : (k : ℕ) (placed : PlacedStep) → slice_get (with_step s end offset p).steps k ≡ Some placed → n ≤ placed.offset
     by zero placed at =
-        let e : Some (record { step = s; end = end; rest = left }) ≡ Some placed = at in
-        let same : record { step = s; end = end; rest = left } ≡ placed = cc in
-        let rest : left ≡ placed.rest = ap (λ x. x.rest) same in
-        omega (arith, rest, h)
-    by (suc k) placed at = within k placed at
+        let e : Some (record { step = s; end = end; offset = offset }) ≡ Some placed = at in
+        let same : record { step = s; end = end; offset = offset } ≡ placed = cc in
+        let is : offset ≡ placed.offset = ap (λ x. x.offset) same in
+        omega (arith, is, h)
+    by (suc k) placed at = later k placed at
 
 -- ---- As text
 
 module _ {Part : Type 0} (format : Format Part) (n : ℕ) where
-  at_end-within : (part : Part) (p : Place) (ending : Ending) → StepsWithin n (at_end format part p ending)
-  at_end-within part p Failed = within-none n (Some ReadFailed)
-  at_end-within part p End = by (format.is_start part)
+  at_end-from : (part : Part) (p : Place) (ending : Ending) → StepsFrom n (at_end format part p ending)
+  at_end-from part p Failed = from-none n (Some ReadFailed)
+  at_end-from part p End = by (format.is_start part)
     where
-      by : (v : Bool) → StepsWithin n (if v then clean else faulty_proof (Text UnterminatedStep p))
-      by true = within-none n None
-      by false = within-none n (Some (Text UnterminatedStep p))
+      by : (v : Bool) → StepsFrom n (if v then clean else faulty_proof (Text UnterminatedStep p))
+      by true = from-none n None
+      by false = from-none n (Some (Text UnterminatedStep p))
 
-  pub on_move-within : (p : Place) (left : ℕ) (move : Move Part) (rest : Part → Step → Proof) → left ≤ n → ((part : Part) (s : Step) → StepsWithin n (rest part s))
-      → StepsWithin n (on_move format p left move rest)
-  on_move-within p left (goes part s) rest h within = within part s
-  on_move-within p left (completes s) rest h within = within-step n left s (ends.Text p) (rest format.start (named 0)) h (within format.start (named 0))
-  on_move-within p left (faults f) rest h within = within-none n (Some (Text f p))
+  pub on_move-from : (p : Place) (offset : ℕ) (move : Move Part) (rest : Part → Step → Proof) → n ≤ offset → ((part : Part) (s : Step) → StepsFrom n (rest part s))
+      → StepsFrom n (on_move format p offset move rest)
+  on_move-from p offset (goes part s) rest h later = later part s
+  on_move-from p offset (completes s) rest h later = from-step n offset s (ends.Text p) (rest format.start (named 0)) h (later format.start (named 0))
+  on_move-from p offset (faults f) rest h later = from-none n (Some (Text f p))
 
-  on_token-within : (part : Part) (s : Step) (t : tokens.Token) (left : ℕ) (rest : Part → Step → Proof) → left ≤ n → ((part : Part) (s : Step) → StepsWithin n (rest part s))
-      → StepsWithin n (on_token format part s t left rest)
-  on_token-within part s (token.Word p w) left rest h within = on_move-within p left (move_of format part s w) rest h within
-  on_token-within part s (token.LineEnd p) left rest h within = within part s
-  on_token-within part s (token.End p) left rest h within = within part s
+  on_token-from : (part : Part) (s : Step) (t : tokens.Token) (offset : ℕ) (rest : Part → Step → Proof) → n ≤ offset → ((part : Part) (s : Step) → StepsFrom n (rest part s))
+      → StepsFrom n (on_token format part s t offset rest)
+  on_token-from part s (token.Word p w) offset rest h later = on_move-from p offset (move_of format part s w) rest h later
+  on_token-from part s (token.LineEnd p) offset rest h later = later part s
+  on_token-from part s (token.End p) offset rest h later = later part s
 
-  pub steps_among-within : (part : Part) (s : Step) (ts : List Listed) (p : Place) (ending : Ending) → RestsWithin n ts → StepsWithin n (steps_among format part s ts p ending)
-  steps_among-within part s [] p ending h = at_end-within part p ending
-  steps_among-within part s (t ∷ ts) p ending h =
-      on_token-within part s t.token t.rest (λ part s. steps_among format part s ts p ending) h.0 (λ part s. steps_among-within part s ts p ending h.1)
-
-pub steps_of-within : {Part : Type 0} (format : Format Part) (i : Input) → PassesNoEnd (steps_of format i) i
-steps_of-within format i =
-    steps_among-within format (length i.bytes) format.start (named 0) (listing_of i).tokens (listing_of i).end (listing_of i).ending (listing_at-within (record { line = 1; col = 1 }) i)
+  pub steps_among-from : (part : Part) (s : Step) (ts : List Listed) (p : Place) (ending : Ending) → EndFrom n ts → StepsFrom n (steps_among format part s ts p ending)
+  steps_among-from part s [] p ending h = at_end-from part p ending
+  steps_among-from part s (t ∷ ts) p ending h =
+      on_token-from part s t.token t.offset (λ part s. steps_among format part s ts p ending) h.0 (λ part s. steps_among-from part s ts p ending h.1)
 
 -- ---- In binary
 
-binary_at_end-within : (n : ℕ) (spot : BinarySpot) (at : ℕ) (ending : Ending) → StepsWithin n (binary_at_end spot at ending)
-binary_at_end-within n spot at Failed = within-none n (Some ReadFailed)
-binary_at_end-within n at_tag at End = within-none n None
-binary_at_end-within n in_step at End = within-none n (Some (Binary binary_fault.UnterminatedStep at))
-binary_at_end-within n (in_number first bytes) at End = within-none n (Some (Binary binary_fault.UnterminatedStep at))
+binary_at_end-from : (n : ℕ) (spot : BinarySpot) (at : ℕ) (ending : Ending) → StepsFrom n (binary_at_end spot at ending)
+binary_at_end-from n spot at Failed = from-none n (Some ReadFailed)
+binary_at_end-from n at_tag at End = from-none n None
+binary_at_end-from n in_step at End = from-none n (Some (Binary binary_fault.UnterminatedStep at))
+binary_at_end-from n (in_number first bytes) at End = from-none n (Some (Binary binary_fault.UnterminatedStep at))
 
-on_binary_move-within : (n at left : ℕ) (move : BinaryMove) (rest : BinarySpot → Step → Proof) → left ≤ n → ((spot : BinarySpot) (s : Step) → StepsWithin n (rest spot s))
-    → StepsWithin n (on_binary_move at left move rest)
-on_binary_move-within n at left (binary.goes spot s) rest h within = within spot s
-on_binary_move-within n at left (binary.completes s) rest h within = within-step n left s (ends.Byte at) (rest at_tag (named 0)) h (within at_tag (named 0))
-on_binary_move-within n at left (binary.faults f first) rest h within = within-none n (Some (Binary f first))
+pub on_binary_move-from : (n at offset : ℕ) (move : BinaryMove) (rest : BinarySpot → Step → Proof) → n ≤ offset → ((spot : BinarySpot) (s : Step) → StepsFrom n (rest spot s))
+    → StepsFrom n (on_binary_move at offset move rest)
+on_binary_move-from n at offset (binary.goes spot s) rest h later = later spot s
+on_binary_move-from n at offset (binary.completes s) rest h later = from-step n offset s (ends.Byte at) (rest at_tag (named 0)) h (later at_tag (named 0))
+on_binary_move-from n at offset (binary.faults f first) rest h later = from-none n (Some (Binary f first))
 
-pub binary_steps_among-within : (n : ℕ) (spot : BinarySpot) (s : Step) (at : ℕ) (bs : List ℕ) (ending : Ending) → length bs ≤ n
-    → StepsWithin n (binary_steps_among spot s at bs ending)
-binary_steps_among-within n spot s at [] ending h = binary_at_end-within n spot at ending
-binary_steps_among-within n spot s at (b ∷ bs) ending h =
-    let fewer : length bs ≤ n = omega (arith, h) in
-    on_binary_move-within n at (length bs) (binary_move_of spot s at b) (λ spot s. binary_steps_among spot s (next_count at) bs ending) fewer
-    (λ spot s. binary_steps_among-within n spot s (next_count at) bs ending fewer)
-
-pub binary_steps-within : (i : Input) → PassesNoEnd (binary_steps i) i
-binary_steps-within i = binary_steps_among-within (length i.bytes) at_tag (named 0) 1 i.bytes i.ending (omega arith)
-
--- the steps of an input with one more byte in front
-pub binary_more-within : (spot : BinarySpot) (s : Step) (at b : ℕ) (bs : List ℕ) (ending : Ending)
-    → StepsWithin (length bs) (binary_steps_among spot s at (b ∷ bs) ending)
-binary_more-within spot s at b bs ending =
-    on_binary_move-within (length bs) at (length bs) (binary_move_of spot s at b) (λ spot s. binary_steps_among spot s (next_count at) bs ending) (omega arith)
-    (λ spot s. binary_steps_among-within (length bs) spot s (next_count at) bs ending (omega arith))
+pub binary_steps_among-from : (n : ℕ) (spot : BinarySpot) (s : Step) (at offset : ℕ) (bs : List ℕ) (ending : Ending) → n ≤ offset
+    → StepsFrom n (binary_steps_among spot s at offset bs ending)
+binary_steps_among-from n spot s at offset [] ending h = binary_at_end-from n spot at ending
+binary_steps_among-from n spot s at offset (b ∷ bs) ending h =
+    let further : n ≤ suc offset = omega (arith, h) in
+    on_binary_move-from n at (suc offset) (binary_move_of spot s at b) (λ spot s. binary_steps_among spot s (next_count at) (suc offset) bs ending) further
+    (λ spot s. binary_steps_among-from n spot s (next_count at) (suc offset) bs ending further)
 
 -- ---- After an end
 
 -- no step is to come
-pub ended-within : (n : ℕ) (answer : Result Bool Fault) → StepsWithin n (proof_unless_ended (Some answer) clean)
-ended-within n (Ok v) = within-none n None
-ended-within n (Err f) = within-none n (Some f)
+pub ended-from : (n : ℕ) (answer : Result Bool Fault) → StepsFrom n (proof_unless_ended (Some answer) clean)
+ended-from n (Ok v) = from-none n None
+ended-from n (Err f) = from-none n (Some f)
 
 -- Before an end, what a reader gave is what was read; and an answer that ends it is kept.
-pub Open-step : (coming : Stream → Input → Proof) (old here new : Stream) (kept now : Option (Result Bool Fault)) (result answer : Result Bool Fault)
-    (end : Option StepEnd) (s : Step) (left : Result Bool Fault → Input → Proof) → here ≡ old → kept ≡ None → result ≡ answer
-    → ((j : Input) → left answer j ≡ proof_unless_ended now (coming new j))
+pub Open-step : (coming : Stream → Suffix → Proof) (old here new : Stream) (kept now : Option (Result Bool Fault)) (result answer : Result Bool Fault)
+    (end : Option StepEnd) (s : Step) (left : Result Bool Fault → Suffix → Proof) → here ≡ old → kept ≡ None → result ≡ answer
+    → ((j : Suffix) → left answer j ≡ proof_unless_ended now (coming new j))
     → Along old new (λ i j. GivesStep result end s (coming old i) (left result j) j × PassesNoEnd (coming old i) j)
     → Along here new (λ i j. GivesStep answer end s (proof_unless_ended kept (coming here i)) (proof_unless_ended now (coming new j)) j
     × PassesNoEnd (proof_unless_ended kept (coming here i)) j)

@@ -1,7 +1,8 @@
 -- A proof's tokens, one at a time.
-use Rattle.std.proofs.Common.{◌≡◌, ◌<◌, ◌≤◌, [], length, Option, None, Some, refl, sym, ap, ◌∙◌, subst, arith}
+use Rattle.std.proofs.Common.{◌≡◌, ◌<◌, ◌≤◌, [], length, Option, None, Some, refl, sym, ap, ◌∙◌}
+use Rattle.std.proofs.Common.{subst, arith}
 use Rattle.std.specs.Prelude.{Bool, true, false, Result, Ok, Err}
-use Rattle.cnf_base.specs.Stream.{Input, Stream, Along, most_to_come, tells_failure}
+use Rattle.cnf_base.specs.Stream.{Suffix, Stream, Along, most_to_come, tells_failure}
 use Rattle.cnf_base.specs.Readers.{Keeps}
 use Rattle.cnf_base.specs.Text.{Listing, listing_at, Gives}
 use Rattle.cnf_base.specs.declared.input.Ending.TheVariants.{End, Failed}
@@ -13,28 +14,29 @@ use Rattle.cnf_base.specs.declared.token.Token.TheVariants as token
 use Rattle.cnf_base.specs.declared.fault.Fault.{Fault}
 use Rattle.cnf_base.specs.declared.fault.Fault.TheVariants.{Text, Binary, ReadFailed, OutOfMemory}
 use Rattle.cnf_base.specs.declared.fault.TextFault.{TextFault}
-use Rattle.cnf_base.proofs.ListingLemmas.{Gives-within, listing_at-within}
+use Rattle.cnf_base.proofs.ListingLemmas.{Gives-from, listing_at-from}
 use Rattle.cnf_base.proofs.StreamLemmas.{Along-then, Along-map, Along-none, Along-still}
 use Rattle.proofs.specs.declared.step_end.StepEnd.{StepEnd}
 use Rattle.proofs.specs.declared.step_end.StepEnd.TheVariants as ends
 use Rattle.proofs.specs.Steps.{Step, named}
 use Rattle.proofs.specs.Reading.{Proof, clean, faulty_proof, GivesStep, PassesNoEnd}
 use Rattle.proofs.specs.Code.Reading.{proof_unless_ended}
-use Rattle.proofs.specs.TextSteps.{Move, goes, completes, faults, Format, move_of, on_move, at_end, steps_from, steps_listed}
+use Rattle.proofs.specs.TextSteps.{Move, goes, completes, faults, Format, move_of, on_move, at_end}
+use Rattle.proofs.specs.TextSteps.{steps_from, steps_listed}
 use Rattle.proofs.specs.Code.TextMoves.{text_left, EndsProof, MovesText}
 use Rattle.proofs.specs.declared.moved.Moved.{Moved}
 use Rattle.proofs.specs.declared.stopped.Stopped.{Stopped}
-use Rattle.proofs.proofs.ReachLemmas.{steps_among-within, on_move-within, ended-within}
+use Rattle.proofs.proofs.ReachLemmas.{steps_among-from, on_move-from, ended-from}
 
 -- a fault is what comes, and it stays
-pub gives_fault : (f : Fault) (end : Option StepEnd) (s : Step) (p : Proof) (rest : Input) → p ≡ faulty_proof f → GivesStep (Err f) end s p (faulty_proof f) rest
+pub gives_fault : (f : Fault) (end : Option StepEnd) (s : Step) (p : Proof) (rest : Suffix) → p ≡ faulty_proof f → GivesStep (Err f) end s p (faulty_proof f) rest
 gives_fault (Text k p) end s b rest e = (e, e)
 gives_fault (Binary k n) end s b rest e = (e, e)
 gives_fault ReadFailed end s b rest e = (e, e)
 gives_fault OutOfMemory end s b rest e = refl
 
 -- an answer that is kept is what comes, and it stays
-kept_gives : (answer : Result Bool Fault) (end : Option StepEnd) (s : Step) (before after : Proof) (rest : Input) → (answer ≡ Ok true → ⊥)
+kept_gives : (answer : Result Bool Fault) (end : Option StepEnd) (s : Step) (before after : Proof) (rest : Suffix) → (answer ≡ Ok true → ⊥)
     → before ≡ proof_unless_ended (Some answer) clean → after ≡ proof_unless_ended (Some answer) clean → GivesStep answer end s before after rest
 kept_gives (Ok true) end s before after rest none b a = absurd (none refl)
 kept_gives (Ok false) end s before after rest none b a = (b ∙ sym a, b)
@@ -43,17 +45,17 @@ kept_gives (Err (Binary k n)) end s before after rest none b a = (b ∙ sym a, b
 kept_gives (Err ReadFailed) end s before after rest none b a = (b ∙ sym a, b)
 kept_gives (Err OutOfMemory) end s before after rest none b a = a
 
-pub Kept-step : (stream : Stream) (kept : Option (Result Bool Fault)) (coming : Input → Proof) (answer : Result Bool Fault) (end : Option StepEnd) (s : Step)
+pub Kept-step : (stream : Stream) (kept : Option (Result Bool Fault)) (coming : Suffix → Proof) (answer : Result Bool Fault) (end : Option StepEnd) (s : Step)
     → kept ≡ Some answer → (kept ≡ Some (Ok true) → ⊥)
     → Along stream stream (λ i j. GivesStep answer end s (proof_unless_ended kept (coming i)) (proof_unless_ended kept (coming j)) j
     × PassesNoEnd (proof_unless_ended kept (coming i)) j)
 Kept-step stream kept coming answer end s is none =
-    let told : (i : Input) → proof_unless_ended kept (coming i) ≡ proof_unless_ended (Some answer) clean =
+    let told : (i : Suffix) → proof_unless_ended kept (coming i) ≡ proof_unless_ended (Some answer) clean =
     λ i. ap (λ k. proof_unless_ended k (coming i)) is ∙ same answer (coming i) in
     Along-map stream stream _ _ (Along-none stream) (λ i j m e.
     let P : Proof → Type 0 = λ p. PassesNoEnd p j in (
       kept_gives answer end s _ _ j (λ ok. none (is ∙ ap Some ok)) (told i) (told j),
-      subst P (sym (told i)) (ended-within (length j.bytes) answer),
+      subst P (sym (told i)) (ended-from j.offset answer),
     ))
   where
     same : (answer : Result Bool Fault) (p : Proof) → proof_unless_ended (Some answer) p ≡ proof_unless_ended (Some answer) clean
@@ -67,7 +69,7 @@ text_kept format (Ok true) kept l keeps = ap (λ k. proof_unless_ended k (steps_
 text_kept format (Ok false) kept l keeps = ap (λ k. proof_unless_ended k (steps_listed format l)) (sym keeps)
 text_kept format (Err f) kept l keeps = ap (λ k. proof_unless_ended k (steps_listed format l)) (sym keeps)
 
-ends_so : {P : Type 0} (format : Format P) (last : Proof) (result : Result Bool Fault) (end : Option StepEnd) (s : Step) (before : Proof) (l : Listing) (rest : Input)
+ends_so : {P : Type 0} (format : Format P) (last : Proof) (result : Result Bool Fault) (end : Option StepEnd) (s : Step) (before : Proof) (l : Listing) (rest : Suffix)
     → EndsProof result last → before ≡ last
     → GivesStep result end s before (text_left format result l) rest
 ends_so format last (Ok true) end s before l rest ends e = absurd ends
@@ -102,20 +104,20 @@ module _ {P : Type 0} (format : Format P) (old now new : Stream) (part : P) (s :
       × PassesNoEnd (steps_listed format (listing_at old.place i)) j)
 
   -- so it is of steps that are so
-  passes : (p q : Proof) (j : Input) → p ≡ q → PassesNoEnd q j → PassesNoEnd p j
+  passes : (p q : Proof) (j : Suffix) → p ≡ q → PassesNoEnd q j → PassesNoEnd p j
   passes p q j is h = let P : Proof → Type 0 = λ x. PassesNoEnd x j in subst P (sym is) h
 
   module _ (p : Place) (w : Word) (gives : Along now new (λ i j. Gives (Ok (token.Word p w)) (listing_at now.place i) (listing_at new.place j) j)) where
-    abbrev follows : Input → Move P → Proof
-    follows j move = on_move format p (length j.bytes) move (λ part s. steps_from format part s (listing_at new.place j))
+    abbrev follows : Suffix → Move P → Proof
+    follows j move = on_move format p j.offset move (λ part s. steps_from format part s (listing_at new.place j))
 
     word_text : Along old new (λ i j. steps_listed format (listing_at old.place i) ≡ follows j (move_of format part s w))
     word_text = Along-then old now new _ _ _ so_far.text gives (λ i j k m q r. q ∙ ap (steps_from format part s) r)
 
-    -- whatever the word did, what follows it has no more bytes than are left
-    follows-within : (j : Input) (move : Move P) → PassesNoEnd (follows j move) j
-    follows-within j move = on_move-within format (length j.bytes) p (length j.bytes) move (λ part s. steps_from format part s (listing_at new.place j)) (omega arith)
-        (λ part s. steps_among-within format (length j.bytes) part s _ _ _ (listing_at-within new.place j))
+    -- whatever the word did, no step that was to come ends before what is left
+    follows-from : (j : Suffix) (move : Move P) → PassesNoEnd (follows j move) j
+    follows-from j move = on_move-from format j.offset p j.offset move (λ part s. steps_from format part s (listing_at new.place j)) (omega arith)
+        (λ part s. steps_among-from format j.offset part s _ _ _ (listing_at-from new.place j))
 
     pub Between-word : (next : P) (t : Step) → move_of format part s w ≡ goes next t → most_to_come new < most_to_come now → tells_failure new.reader ≡ tells_failure now.reader
         → Between format old new next t
@@ -127,9 +129,9 @@ module _ {P : Type 0} (format : Format P) (old now new : Stream) (part : P) (s :
 
     -- what is made of the move is given
     gave : (result : Result Bool Fault) (end : Option StepEnd) (t : Step)
-        → ((i j : Input) → steps_listed format (listing_at old.place i) ≡ follows j (move_of format part s w)
+        → ((i j : Suffix) → steps_listed format (listing_at old.place i) ≡ follows j (move_of format part s w)
         → GivesStep result end t (steps_listed format (listing_at old.place i)) (text_left format result (listing_at new.place j)) j) → Gave result end t
-    gave result end t gives = Along-map old new _ _ word_text (λ i j m q. (gives i j q, passes _ (follows j (move_of format part s w)) j q (follows-within j (move_of format part s w))))
+    gave result end t gives = Along-map old new _ _ word_text (λ i j m q. (gives i j q, passes _ (follows j (move_of format part s w)) j q (follows-from j (move_of format part s w))))
 
     pub Between-step : (end : Option StepEnd) → end ≡ Some (ends.Text p) → (t : Step) → move_of format part s w ≡ completes t → Gave (Ok true) end t
     Between-step end at t is = gave (Ok true) end t (λ i j q. (ends.Text p, at, q ∙ ap (follows j) is))
@@ -140,24 +142,24 @@ module _ {P : Type 0} (format : Format P) (old now new : Stream) (part : P) (s :
     pub Between-refused : (t : Step) → Gave (Err OutOfMemory) None t
     Between-refused t = gave (Err OutOfMemory) None t (λ i j q. refl)
 
-  -- the rest has no more bytes than are left
-  rest-within : (result : Result Token Cut) (i j k : Input) → Gives result (listing_at now.place j) (listing_at new.place k) k
+  -- and none before the rest
+  rest-from : (result : Result Token Cut) (i j k : Suffix) → Gives result (listing_at now.place j) (listing_at new.place k) k
       → steps_listed format (listing_at old.place i) ≡ steps_from format part s (listing_at now.place j) → PassesNoEnd (steps_listed format (listing_at old.place i)) k
-  rest-within result i j k gives is =
+  rest-from result i j k gives is =
       passes _ (steps_from format part s (listing_at now.place j)) k is
-      (steps_among-within format (length k.bytes) part s _ _ _ (Gives-within result (listing_at now.place j) new.place k gives))
+      (steps_among-from format k.offset part s _ _ _ (Gives-from result (listing_at now.place j) new.place k gives))
 
   pub Between-end : (p : Place) (result : Result Bool Fault) (end : Option StepEnd) → Along now new (λ i j. Gives (Ok (token.End p)) (listing_at now.place i) (listing_at new.place j) j) → EndsProof result (at_end format part p End)
       → Gave result end s
   Between-end p result end gives ends = Along-then old now new _ _ _ so_far.text gives (λ i j k m q r. (
     ends_so format (at_end format part p End) result end s _ _ k ends (q ∙ ap (steps_from format part s) r.1),
-    rest-within (Ok (token.End p)) i j k r q,
+    rest-from (Ok (token.End p)) i j k r q,
   ))
 
   pub Between-failed : (cut : Cut) → Along now new (λ i j. Gives (Err cut) (listing_at now.place i) (listing_at new.place j) j) → Gave (Err ReadFailed) None s
   Between-failed cut gives = Along-then old now new _ _ _ so_far.text gives (λ i j k m q r. (
     gives_fault ReadFailed None s _ k (q ∙ empty (listing_at now.place j) r.1 r.2),
-    rest-within (Err cut) i j k r q,
+    rest-from (Err cut) i j k r q,
   ))
     where
       empty : (l : Listing) → l.tokens ≡ [] → l.ending ≡ Failed → steps_from format part s l ≡ faulty_proof ReadFailed

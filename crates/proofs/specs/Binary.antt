@@ -1,10 +1,13 @@
--- The steps of a proof in binary DRAT, as on DRAT-trim's page: a step is the byte `a` or `d`, numbers, and a byte 0. A
--- number is written in groups of 7 bits, lowest first, where all bytes but the last have their high bit set; 2v is the
--- variable v, and 2v + 1 its complement. That the last group is not empty, the limit of literals, the faults, their byte
--- numbers and the order of judging are our own profile.
-use Rattle.std.specs.Prelude.{ℕ, ◌+◌, ◌*◌, ◌%◌, List, [], ◌∷◌, ◌==◌, if◌then◌else◌, nat_le, ◌++◌, length}
-use Rattle.cnf_base.specs.Stream.{next_count, Input}
-use Rattle.cnf_base.specs.declared.fault.BinaryFault.TheVariants.{BadTag, LiteralTooLarge, BadNumber, UnterminatedStep}
+-- The steps of a proof in binary DRAT, as on DRAT-trim's page: a step is the byte `a` or `d`,
+-- numbers, and a byte 0. A number is written in groups of 7 bits, lowest first, where all bytes but
+-- the last have their high bit set; 2v is the variable v, and 2v + 1 its complement. That the last
+-- group is not empty, the limit of literals, the faults, their byte numbers and the order of
+-- judging are our own profile.
+use Rattle.std.specs.Prelude.{ℕ, ◌+◌, ◌*◌, ◌%◌, List, [], ◌∷◌, ◌==◌, if◌then◌else◌, nat_le, ◌++◌}
+use Rattle.std.specs.Prelude.{suc}
+use Rattle.cnf_base.specs.Stream.{next_count, Input, Suffix, from_start}
+use Rattle.cnf_base.specs.declared.fault.BinaryFault.TheVariants.{BadTag, LiteralTooLarge}
+use Rattle.cnf_base.specs.declared.fault.BinaryFault.TheVariants.{BadNumber, UnterminatedStep}
 use Rattle.cnf_base.specs.declared.fault.BinaryFault.{BinaryFault}
 use Rattle.cnf_base.specs.declared.fault.Fault.TheVariants.{Binary, ReadFailed}
 use Rattle.cnf_base.specs.declared.input.Ending.TheVariants.{End, Failed}
@@ -20,19 +23,21 @@ abbrev pub groups_value : List ℕ → ℕ
 groups_value [] = 0
 groups_value (b ∷ bs) = b % 128 + 128 * groups_value bs
 
--- where a byte stands: at a step's tag, at the start of a number or the step's end, or inside a number, of which the first
--- byte had this number and these bytes were read
+-- where a byte stands: at a step's tag, at the start of a number or the step's end, or inside a
+-- number, of which the first byte had this number and these bytes were read
 pub data BinarySpot : Type 0 where
   at_tag : BinarySpot
   in_step : BinarySpot
   in_number : ℕ → List ℕ → BinarySpot
 
--- what a byte does: the step goes on, it is complete, or something is wrong at the byte with this number
+-- what a byte does: the step goes on, it is complete, or something is wrong at the byte with this
+-- number
 pub data BinaryMove : Type 0 where
   goes : BinarySpot → Step → BinaryMove
   completes : Step → BinaryMove
   faults : BinaryFault → ℕ → BinaryMove
 
+-- what a step's first byte does: `a` is 97, `d` is 100
 abbrev pub tag_move : Step → ℕ → ℕ → BinaryMove
 tag_move s at b =
     if b == 97 then goes in_step s
@@ -67,24 +72,29 @@ binary_at_end spot at Failed = faulty_proof ReadFailed
 binary_at_end at_tag at End = clean
 binary_at_end _ at End = faulty_proof (Binary UnterminatedStep at)
 
--- what the move of the byte with this number means; `rest` is what follows, and `left` how many bytes do
+-- what the move of the byte with this number means; `offset` is that of the byte after it, and
+-- `rest` what follows
 abbrev pub on_binary_move : ℕ → ℕ → BinaryMove → (BinarySpot → Step → Proof) → Proof
-on_binary_move at left (goes spot s) rest = rest spot s
-on_binary_move at left (completes s) rest = with_step s (Byte at) left (rest at_tag (named 0))
-on_binary_move at left (faults f first) rest = faulty_proof (Binary f first)
+on_binary_move at offset (goes spot s) rest = rest spot s
+on_binary_move at offset (completes s) rest = with_step s (Byte at) offset (rest at_tag (named 0))
+on_binary_move at offset (faults f first) rest = faulty_proof (Binary f first)
 
-abbrev pub binary_steps_among : BinarySpot → Step → ℕ → List ℕ → Ending → Proof
-binary_steps_among spot s at [] ending = binary_at_end spot at ending
-binary_steps_among spot s at (b ∷ bs) ending =
-    on_binary_move at (length bs) (binary_move_of spot s at b) (λ spot s. binary_steps_among spot s (next_count at) bs ending)
+-- the steps of bytes, of which the first has this number and this offset; the number goes no
+-- further than the greatest one
+abbrev pub binary_steps_among : BinarySpot → Step → (at offset : ℕ) → List ℕ → Ending → Proof
+binary_steps_among spot s at offset [] ending = binary_at_end spot at ending
+binary_steps_among spot s at offset (b ∷ bs) ending =
+    on_binary_move at (suc offset) (binary_move_of spot s at b)
+    (λ spot s. binary_steps_among spot s (next_count at) (suc offset) bs ending)
 
 -- the steps from the byte with this number on, where so much of a step was read before
-abbrev pub binary_steps_from : BinarySpot → Step → ℕ → Input → Proof
-binary_steps_from spot s at i = binary_steps_among spot s at i.bytes i.ending
+abbrev pub binary_steps_from : BinarySpot → Step → ℕ → Suffix → Proof
+binary_steps_from spot s at i = binary_steps_among spot s at i.offset i.bytes i.ending
 
 -- the steps from a byte on, and those of a whole input
-abbrev pub binary_steps_at : ℕ → Input → Proof
+abbrev pub binary_steps_at : ℕ → Suffix → Proof
 binary_steps_at at i = binary_steps_from at_tag (named 0) at i
 
+-- the steps of a whole input
 abbrev pub binary_steps : Input → Proof
-binary_steps i = binary_steps_at 1 i
+binary_steps i = binary_steps_at 1 (from_start i)

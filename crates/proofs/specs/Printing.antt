@@ -1,6 +1,7 @@
--- Proofs as they are printed plainly, and that they are read back as they were. Each law is the contract of a function
--- of `laws`.
-use Rattle.std.specs.Prelude.{◌≡◌, ℕ, ◌+◌, ◌≤◌, ℤ, pos, negsuc, List, [], ◌∷◌, ◌++◌, length, map, reverse, codes, Option, None, IsTrue, All}
+-- Proofs as they are printed plainly, and that they are read back as they were. Each law is the
+-- contract of a function of `laws`.
+use Rattle.std.specs.Prelude.{◌≡◌, ℕ, ◌+◌, ◌-◌, ◌≤◌, ℤ, pos, negsuc, List, [], ◌∷◌, ◌++◌, length}
+use Rattle.std.specs.Prelude.{map, reverse, codes, Option, None, IsTrue, All}
 use Rattle.std.specs.Fmt.{decimal, signed_decimal}
 use Rattle.std.specs.Int.Digits.{digits_of}
 use Rattle.std.specs.List.{flat_map, list_all}
@@ -15,30 +16,41 @@ use Rattle.proofs.specs.Drat.{drat_steps}
 use Rattle.proofs.specs.Binary.{binary_steps}
 use Rattle.proofs.specs.Lrat.{lrat_steps}
 
--- what a law says of a proof that is read: its steps, each with how many bytes follow its last `0`, and its fault
+-- what a law says of a proof that is read: its steps, each with the offset of the byte after its
+-- last `0`, and its fault
 pub record ReadStep : Type 0 where
   pub step : Step
-  pub rest : ℕ
+  pub offset : ℕ
 
+-- what is compared of a proof: its steps without their places, and its fault
 pub record ReadProof : Type 0 where
   pub steps : List ReadStep
   pub fault : Option Fault
 
+-- the same of a proof that was read
 abbrev pub read_of : Proof → ReadProof
-read_of p = record { steps = map (λ placed. record { step = placed.step; rest = placed.rest }) p.steps; fault = p.fault }
+read_of p =
+    record {
+      steps = map (λ placed. record { step = placed.step; offset = placed.offset }) p.steps;
+      fault = p.fault;
+    }
 
--- steps that are printed one after another: those bytes end the step's own text, and are the text of the steps after it
-abbrev pub printed_steps : List ℕ → (Step → List ℕ) → List Step → List ReadStep
-printed_steps end text [] = []
-printed_steps end text (s ∷ ss) = record { step = s; rest = length (end ++ flat_map text ss) } ∷ printed_steps end text ss
+-- steps that are printed one after another from an offset on, where these bytes follow the last `0`
+-- in each step's text
+abbrev pub printed_steps : List ℕ → (Step → List ℕ) → ℕ → List Step → List ReadStep
+printed_steps end text offset [] = []
+printed_steps end text offset (s ∷ ss) =
+    record { step = s; offset = offset + length (text s) - length end }
+    ∷ printed_steps end text (offset + length (text s)) ss
 
 -- a proof of exactly these steps, with a clean end
 abbrev pub proof_of : List ℕ → (Step → List ℕ) → List Step → ReadProof
-proof_of end text steps = record { steps = printed_steps end text steps; fault = None }
+proof_of end text steps = record { steps = printed_steps end text 0 steps; fault = None }
 
 -- ---- DRAT
 
--- a step's words (DRAT-trim's page): an addition is its literals and a `0`, and a deletion has a `d` before them
+-- a step's words (DRAT-trim's page): an addition is its literals and a `0`, and a deletion has a
+-- `d` before them
 abbrev pub drat_words : StepKind → List Literal → List (List ℕ)
 drat_words Add ls = literal_words ls
 drat_words Delete ls = codes "d" ∷ literal_words ls
@@ -56,7 +68,8 @@ pub record IsDratStep (s : Step) : Type 0 where
 -- A DRAT proof that is printed as text is read back: exactly its steps, and a clean end.
 abbrev pub DratIsReadBack : Type 0
 DratIsReadBack = (steps : List Step) → All IsDratStep steps →
-    read_of (drat_steps (input_of (flat_map drat_line steps))) ≡ proof_of (codes "\n") drat_line steps
+    read_of (drat_steps (input_of (flat_map drat_line steps))) ≡ proof_of
+    (codes "\n") drat_line steps
 
 -- ---- Binary DRAT
 
@@ -94,8 +107,8 @@ BinaryIsReadBack = (steps : List Step) → All IsDratStep steps →
 abbrev pub hint_words : List ℤ → List (List ℕ)
 hint_words hs = map signed_decimal hs ++ codes "0" ∷ []
 
--- a step's words (LRAT 2017): an addition is its identifier, its literals, a `0`, its hints and a `0`, and a deletion
--- an identifier, a `d`, the identifiers that are deleted and a `0`
+-- a step's words (LRAT 2017): an addition is its identifier, its literals, a `0`, its hints and a
+-- `0`, and a deletion an identifier, a `d`, the identifiers that are deleted and a `0`
 abbrev pub lrat_words : StepKind → ℕ → List Literal → List ℤ → List (List ℕ)
 lrat_words Add id ls hs = decimal id ∷ literal_words ls ++ hint_words hs
 lrat_words Delete id ls hs = decimal id ∷ codes "d" ∷ hint_words hs
@@ -115,17 +128,19 @@ pub record IsLratStep (s : Step) : Type 0 where
 -- An LRAT proof that is printed as text is read back: exactly its steps, and a clean end.
 abbrev pub LratIsReadBack : Type 0
 LratIsReadBack = (steps : List Step) → All IsLratStep steps →
-    read_of (lrat_steps (input_of (flat_map lrat_line steps))) ≡ proof_of (codes "\n") lrat_line steps
+    read_of (lrat_steps (input_of (flat_map lrat_line steps))) ≡ proof_of
+    (codes "\n") lrat_line steps
 
 -- ---- Examples
 
--- the steps of the example on DRAT-trim's page, and two of LRAT; the literal 2 * v is the variable v, and 2 * v + 1 its
--- complement
+-- the steps of the example on DRAT-trim's page, and two of LRAT; the literal 2 * v is the variable
+-- v, and 2 * v + 1 its complement
 abbrev pub example_drat : List Step
 example_drat =
     record { kind = Delete; id = 0; lits = 127 ∷ 16387 ∷ []; hints = [] }
     ∷ record { kind = Add; id = 0; lits = 258 ∷ 16383 ∷ []; hints = [] } ∷ []
 
+-- two steps of LRAT
 abbrev pub example_lrat : List Step
 example_lrat =
     record { kind = Add; id = 5; lits = 3 ∷ 4 ∷ []; hints = pos 4 ∷ negsuc 0 ∷ pos 3 ∷ [] }
@@ -136,6 +151,8 @@ abbrev pub ProofsLookSo : Type 0
 ProofsLookSo =
     All IsDratStep example_drat
     × (flat_map drat_line example_drat ≡ codes "d -63 -8193 0\n129 -8191 0\n")
-    × (flat_map binary_step example_drat ≡ 100 ∷ 127 ∷ 131 ∷ 128 ∷ 1 ∷ 0 ∷ 97 ∷ 130 ∷ 2 ∷ 255 ∷ 127 ∷ 0 ∷ [])
+    ×
+    (flat_map binary_step example_drat ≡ 100 ∷ 127 ∷ 131 ∷ 128 ∷ 1 ∷ 0 ∷ 97 ∷ 130 ∷ 2 ∷ 255
+    ∷ 127 ∷ 0 ∷ [])
     × All IsLratStep example_lrat
     × (flat_map lrat_line example_lrat ≡ codes "5 -1 2 0 4 -1 3 0\n5 d 1 12 0\n")

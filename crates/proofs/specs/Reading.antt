@@ -1,47 +1,57 @@
 -- A proof that is read step by step, in whatever format.
-use Rattle.std.specs.Prelude.{ℕ, List, Option, [], None, Some, ◌∷◌, Bool, Result, ◌≡◌, true, false, length, Ok, Err, ◌≤◌, slice_get}
-use Rattle.cnf_base.specs.Stream.{Stream, Input}
+use Rattle.std.specs.Prelude.{ℕ, List, Option, [], None, Some, ◌∷◌, Bool, Result, ◌≡◌, true, false}
+use Rattle.std.specs.Prelude.{Ok, Err, ◌≤◌, slice_get}
+use Rattle.cnf_base.specs.Stream.{Stream, Suffix}
 use Rattle.cnf_base.specs.declared.fault.Fault.TheVariants.{OutOfMemory}
 use Rattle.cnf_base.specs.declared.fault.Fault.{Fault}
 use Rattle.proofs.specs.Steps.{Step}
 use Rattle.proofs.specs.declared.step_end.StepEnd.{StepEnd}
 
--- a step, where its last `0` stands, and how many bytes of the input follow that
+-- a step, where its last `0` stands, and the offset of the byte after that
 pub record PlacedStep : Type 0 where
   pub step : Step
   pub end : StepEnd
-  pub rest : ℕ
+  pub offset : ℕ
 
 -- the steps before the first fault, and that fault; none where the proof ends cleanly
 pub record Proof : Type 0 where
   pub steps : List PlacedStep
   pub fault : Option Fault
 
+-- no step, and a clean end
 abbrev pub clean : Proof
 clean = record { steps = []; fault = None }
 
+-- no step, and a fault
 abbrev pub faulty_proof : Fault → Proof
 faulty_proof f = record { steps = []; fault = Some f }
 
+-- a step before the others
 abbrev pub with_step : Step → StepEnd → ℕ → Proof → Proof
-with_step s end rest p = record { steps = record { step = s; end = end; rest = rest } ∷ p.steps; fault = p.fault }
+with_step s end offset p =
+    record { steps = record { step = s; end = end; offset = offset } ∷ p.steps; fault = p.fault }
 
--- where a reader stands in its input, the answer that it gives from now on where it has come to an end, where the step
--- ends that it gave last, and how many literals and hints it keeps of what it has read
+-- where a reader stands in its input, the answer that it gives from now on where it has come to an
+-- end, where the step ends that it gave last, and how many literals and hints it keeps of what it
+-- has read
 pub record ProofReading : Type 0 where
   pub stream : Stream
   pub kept : Option (Result Bool Fault)
   pub step_end : Option StepEnd
   pub stored : ℕ
 
--- A step is the first of what is to come, and ends there; or nothing is to come, and it stays so; or a fault is, and it stays.
--- After want of memory that is the fault that stays. `rest` is what follows of the input.
-abbrev pub GivesStep : Result Bool Fault → Option StepEnd → Step → Proof → Proof → Input → Type 0
-GivesStep (Ok true) end s before after rest = (at : StepEnd) × (end ≡ Some at) × (before ≡ with_step s at (length rest.bytes) after)
+-- A step is the first of what is to come, and ends there; or nothing is to come, and it stays so;
+-- or a fault is, and it stays. After want of memory that is the fault that stays. `rest` is what
+-- follows of the input.
+abbrev pub GivesStep : Result Bool Fault → Option StepEnd → Step → Proof → Proof → Suffix → Type 0
+GivesStep (Ok true) end s before after rest =
+    (at : StepEnd) × (end ≡ Some at) × (before ≡ with_step s at rest.offset after)
 GivesStep (Ok false) end s before after rest = (before ≡ after) × (before ≡ clean)
 GivesStep (Err OutOfMemory) end s before after rest = after ≡ faulty_proof OutOfMemory
 GivesStep (Err f) end s before after rest = (before ≡ after) × (before ≡ faulty_proof f)
 
--- The end of no step that was to come was passed: at most so many bytes follow each as are still to come.
-abbrev pub PassesNoEnd : Proof → Input → Type 0
-PassesNoEnd p rest = (k : ℕ) (placed : PlacedStep) → slice_get p.steps k ≡ Some placed → placed.rest ≤ length rest.bytes
+-- The end of no step that was to come was passed: each ends where what is still to come begins, or
+-- later.
+abbrev pub PassesNoEnd : Proof → Suffix → Type 0
+PassesNoEnd p rest =
+    (k : ℕ) (placed : PlacedStep) → slice_get p.steps k ≡ Some placed → rest.offset ≤ placed.offset

@@ -5,7 +5,8 @@ use Rattle.cnf_base.specs.Stream.{Input}
 use Rattle.cnf_base.specs.Text.{Listed, Listing, listing_of}
 use Rattle.cnf_base.specs.Words.{number_literal}
 use Rattle.cnf_base.specs.declared.fault.Fault.TheVariants.{Text, ReadFailed}
-use Rattle.cnf_base.specs.declared.fault.TextFault.TheVariants.{LiteralTooLarge, BadToken, UnterminatedStep}
+use Rattle.cnf_base.specs.declared.fault.TextFault.TheVariants.{LiteralTooLarge, BadToken}
+use Rattle.cnf_base.specs.declared.fault.TextFault.TheVariants.{UnterminatedStep}
 use Rattle.cnf_base.specs.declared.fault.TextFault.{TextFault}
 use Rattle.cnf_base.specs.declared.input.Ending.TheVariants.{End, Failed}
 use Rattle.cnf_base.specs.declared.input.Ending.{Ending}
@@ -26,12 +27,14 @@ pub data Move (Part : Type 0) : Type 0 where
   faults : TextFault → Move Part
 
 -- a literal, with which the step goes on in a part, or the `0` that ends the literals
-abbrev pub literal_or_end : {Part : Type 0} → Part → (Step → Move Part) → Step → Option Literal → Move Part
+abbrev pub literal_or_end : {Part : Type 0} → Part → (Step → Move Part) → Step → Option Literal →
+    Move Part
 literal_or_end part ended s (Some l) = goes part (with_literal s l)
 literal_or_end part ended s None = ended s
 
 -- what a number does where a literal stands
-abbrev pub literal_or_fault : {Part : Type 0} → Part → (Step → Move Part) → Step → Number → Move Part
+abbrev pub literal_or_fault : {Part : Type 0} → Part → (Step → Move Part) → Step → Number →
+    Move Part
 literal_or_fault part ended s n =
     if nat_le n.size 268435455 then literal_or_end part ended s (number_literal n)
     else faults LiteralTooLarge
@@ -52,22 +55,31 @@ move_of format part s _ = faults BadToken
 -- what the end of the input means, by where it stands
 abbrev pub at_end : {Part : Type 0} → Format Part → Part → Place → Ending → Proof
 at_end format part p Failed = faulty_proof ReadFailed
-at_end format part p End = if format.is_start part then clean else faulty_proof (Text UnterminatedStep p)
+at_end format part p End =
+    if format.is_start part then clean else faulty_proof (Text UnterminatedStep p)
 
--- what a word's move means; `rest` is what follows, and `left` how many bytes do
-abbrev pub on_move : {Part : Type 0} → Format Part → Place → ℕ → Move Part → (Part → Step → Proof) → Proof
-on_move format p left (goes part s) rest = rest part s
-on_move format p left (completes s) rest = with_step s (ends.Text p) left (rest format.start (named 0))
-on_move format p left (faults f) rest = faulty_proof (Text f p)
+-- what a word's move means; `offset` is that of the byte after the word, and `rest` what follows
+abbrev pub on_move : {Part : Type 0} → Format Part → Place → ℕ → Move Part → (Part → Step → Proof) →
+    Proof
+on_move format p offset (goes part s) rest = rest part s
+on_move format p offset (completes s) rest =
+    with_step s (ends.Text p) offset (rest format.start (named 0))
+on_move format p offset (faults f) rest = faulty_proof (Text f p)
 
-abbrev pub on_token : {Part : Type 0} → Format Part → Part → Step → tokens.Token → ℕ → (Part → Step → Proof) → Proof
-on_token format part s (token.Word p w) left rest = on_move format p left (move_of format part s w) rest
-on_token format part s (token.LineEnd p) left rest = rest part s
-on_token format part s (token.End p) left rest = rest part s
+-- what a token means; a line's end means nothing
+abbrev pub on_token : {Part : Type 0} → Format Part → Part → Step → tokens.Token → ℕ →
+    (Part → Step → Proof) → Proof
+on_token format part s (token.Word p w) offset rest =
+    on_move format p offset (move_of format part s w) rest
+on_token format part s (token.LineEnd p) offset rest = rest part s
+on_token format part s (token.End p) offset rest = rest part s
 
-abbrev pub steps_among : {Part : Type 0} → Format Part → Part → Step → List Listed → Place → Ending → Proof
+-- the steps that these tokens have, where so much of a step was read before
+abbrev pub steps_among : {Part : Type 0} → Format Part → Part → Step → List Listed → Place →
+    Ending → Proof
 steps_among format part s [] p ending = at_end format part p ending
-steps_among format part s (t ∷ ts) p ending = on_token format part s t.token t.rest (λ part s. steps_among format part s ts p ending)
+steps_among format part s (t ∷ ts) p ending =
+    on_token format part s t.token t.offset (λ part s. steps_among format part s ts p ending)
 
 -- the steps of a text, where so much of a step was read before
 abbrev pub steps_from : {Part : Type 0} → Format Part → Part → Step → Listing → Proof
@@ -77,5 +89,6 @@ steps_from format part s l = steps_among format part s l.tokens l.end l.ending
 abbrev pub steps_listed : {Part : Type 0} → Format Part → Listing → Proof
 steps_listed format l = steps_from format format.start (named 0) l
 
+-- the steps of a whole input
 abbrev pub steps_of : {Part : Type 0} → Format Part → Input → Proof
 steps_of format i = steps_listed format (listing_of i)

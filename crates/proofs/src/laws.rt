@@ -1,7 +1,8 @@
 //! Laws of the definitions. The functions do nothing: their contracts are the theorems.
 
 ghost use Rattle.proofs.specs.Grammar.{DratIsGrammar, LratIsGrammar, BinaryIsGrammar};
-ghost use Rattle.proofs.specs.Printing.{DratIsReadBack, BinaryIsReadBack, LratIsReadBack, ProofsLookSo};
+ghost use Rattle.proofs.specs.Printing.{DratIsReadBack, BinaryIsReadBack, LratIsReadBack};
+ghost use Rattle.proofs.specs.Printing.{ProofsLookSo};
 
 /// A DRAT proof that is printed as text is read back: exactly its steps, and a clean end.
 pub fn drat_is_read_back()

@@ -2,7 +2,8 @@
 
 ghost use Rattle.std.specs.Prelude.{◌≡◌, [], length, IsTrue, OnOk};
 ghost use Rattle.std.specs.List.{list_all};
-ghost use Rattle.proofs.specs.Steps.{clause_part, set_part, is_hint, is_small, named, deleting, with_literal, with_hint};
+ghost use Rattle.proofs.specs.Steps.{clause_part, set_part, is_hint, is_small, named, deleting};
+ghost use Rattle.proofs.specs.Steps.{with_literal, with_hint};
 
 use cnf_base::{Lit, OutOfMemory};
 use std::alloc::Global;

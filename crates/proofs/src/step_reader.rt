@@ -1,7 +1,7 @@
 //! What every reader of proofs does.
 
 ghost use Rattle.std.specs.Prelude.{◌≡◌, ℕ, Bool, Option, Result};
-ghost use Rattle.cnf_base.specs.Stream.{Input, Stream, Along};
+ghost use Rattle.cnf_base.specs.Stream.{Suffix, Stream, Along};
 ghost use Rattle.cnf_base.specs.Readers.{Advances, Keeps, TellsOf};
 ghost use Rattle.cnf_base.specs.declared.fault.Fault.{Fault};
 ghost use Rattle.proofs.specs.Reading.{Proof, GivesStep, PassesNoEnd};
@@ -26,7 +26,7 @@ pub trait StepReader {
     ghost stored: { Self → ℕ };
 
     /// What is still to come of an input: steps, and how they end.
-    ghost to_come: { Self → Input → Proof };
+    ghost to_come: { Self → Suffix → Proof };
 
     /// Puts the next step into the buffer. At a clean end it answers false, at every call; after a fault, that fault.
     /// After a fault or false the buffer's content is open, and so is where the last step ended. No more than the step is

@@ -21,6 +21,7 @@ pub record Assumption : Type 0 where
   pub answer : Answer
   pub assumed : List Literal
 
+-- what contracts see of a propagation
 pub record Propagation : Type 0 where
   -- the live clauses, each in its slot
   pub live : FinMap nat_cmp Clause
@@ -92,7 +93,7 @@ abbrev pub AssumingPart : {E : Type 0} → Propagation → Propagation → ℕ �
     Result Answer E → Type 0
 AssumingPart before after slot keeps result =
     (c : Clause) → maps.get before.live slot ≡ Some c →
-        Assuming before after (complements (filter keeps c)) result
+    Assuming before after (complements (filter keeps c)) result
 
 -- what propagation from these literals says of one
 abbrev pub IsValue : Live → List Literal → Literal → Value → Type 0

@@ -39,5 +39,6 @@ pub record MakesFalse (before : List Literal) (c : Clause) (clashes : Bool) (aft
 abbrev pub HasRoom : List ℕ → Clause → Type 0
 HasRoom met c = (l : Literal) → IsTrue (has c l) → IsTrue (has met (variable l))
 
+-- there is room for the variable of each of these literals
 pub record HasRoomForAll (met : List ℕ) (live : Live) : Type 0 where
   pub each : (k : ℕ) (c : Clause) → live k ≡ Some c → HasRoom met c

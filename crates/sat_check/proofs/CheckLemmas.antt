@@ -1,7 +1,10 @@
 -- A check, step by step.
-use Rattle.std.proofs.Common.{◌≡◌, ℕ, ◌+◌, ◌≤◌, Bool, true, false, Option, None, Some, List, [], ◌++◌, length, refl, sym, ap, ◌∙◌, subst, arith, append_assoc, ◌⊎◌, inl, inr}
+use Rattle.std.proofs.Common.{◌≡◌, ℕ, ◌+◌, ◌≤◌, Bool, true, false, Option, None, Some, List, []}
+use Rattle.std.proofs.Common.{◌++◌, refl, sym, ap, ◌∙◌, subst, arith, append_assoc, ◌⊎◌}
+use Rattle.std.proofs.Common.{inl, inr}
 use Rattle.std.specs.Prelude.{Result, Ok, Err}
-use Rattle.cnf_base.specs.Stream.{Input, Reader, Stream, Along, unread_stream, bytes_read}
+use Rattle.cnf_base.specs.Stream.{Input, Suffix, from_start, Reader, Stream, Along, unread_stream}
+use Rattle.cnf_base.specs.Stream.{bytes_read}
 use Rattle.cnf_base.specs.Seen.{Seen, IsSeen}
 use Rattle.cnf_base.specs.Lines.{Sink, Writes}
 use Rattle.cnf_base.specs.declared.fault.Fault.{Fault}
@@ -10,22 +13,23 @@ use Rattle.cnf_base.proofs.LineLemmas.{Writes-then}
 use Rattle.cnf_base.proofs.StreamLemmas.{Along-then, Along-map, Along-none, Along-within}
 use Rattle.cnf_base.proofs.SeenLemmas.{Seen-nothing, Seen-run, Seen-fact}
 use Rattle.dimacs.specs.Formula.{formula_of}
-use Rattle.proofs.specs.Drat.{drat}
 use Rattle.proofs.specs.Steps.{Step}
 use Rattle.proofs.specs.declared.step_end.StepEnd.{StepEnd}
-use Rattle.proofs.specs.Reading.{ProofReading, PlacedStep, Proof, faulty_proof, with_step, GivesStep, PassesNoEnd}
-use Rattle.proofs.proofs.ReachLemmas.{steps_of-within, binary_steps-within}
+use Rattle.proofs.specs.Reading.{ProofReading, PlacedStep, Proof, faulty_proof, with_step}
+use Rattle.proofs.specs.Reading.{GivesStep, PassesNoEnd}
 use Rattle.steps.specs.ProofSession.{View, is_over}
 use Rattle.theory.specs.Rules.{Rule, after, sum_of, IsFinite}
 use Rattle.sat_check.specs.Code.Reach.{IsVerdict}
 use Rattle.sat_check.specs.Reach.{ReadsNoFurther, TellsRefused}
-use Rattle.sat_check.specs.Report.{Report, Outcome, Reports, text_of, with_lines, end_report, drat_proof}
-use Rattle.sat_check.specs.Code.Checking.{Standing, Rest, GoesOn, Stops, IsRefused, LeavesRest, LeavesProof, AllReports, counted, traced}
+use Rattle.sat_check.specs.Report.{Report, Outcome, Reports, text_of, with_lines, end_report}
+use Rattle.sat_check.specs.Code.Checking.{Standing, Rest, GoesOn, Stops, IsRefused, LeavesRest}
+use Rattle.sat_check.specs.Code.Checking.{LeavesProof, AllReports, counted, traced}
 use Rattle.sat_check.proofs.ShownLemmas.{traced_same}
 use Rattle.sat_check.specs.declared.checked.Checked.{Checked}
 use Rattle.sat_check.specs.declared.status.Status.TheVariants.{NotVerified, Malformed}
 use Rattle.sat_check.proofs.OutcomeLemmas.{Outcome-after, Writes-all, Writes-still, text_of-append}
-use Rattle.sat_check.proofs.ReachLemmas.{no_verdict, not_passed, LeavesRest-none, LeavesRest-broken, LeavesRest-decided, LeavesRest-step}
+use Rattle.sat_check.proofs.ReachLemmas.{no_verdict, LeavesRest-none, LeavesRest-broken}
+use Rattle.sat_check.proofs.ReachLemmas.{LeavesRest-decided, LeavesRest-step}
 use Rattle.sat_check.proofs.ReportLemmas.{some_report}
 use Rattle.sat_check.proofs.RestLemmas.{Rest-clean, Rest-fault, Rest-some, Rest-step}
 use Rattle.theory.proofs.LawLemmas.Existence.{after_finite, same_finite}
@@ -35,7 +39,7 @@ fresh_reading s = record { stream = s; kept = None; step_end = None; stored = 0 
 
 -- What follows the step that decides is left of a whole proof where it is of the steps that are to come.
 abbrev pub Leaves : View → Proof → View → Proof → Type 0
-Leaves first whole session p = (rest : Input) (checked : Checked) → LeavesRest session.state p rest checked → LeavesRest first.state whole rest checked
+Leaves first whole session p = (rest : Suffix) (checked : Checked) → LeavesRest session.state p rest checked → LeavesRest first.state whole rest checked
 
 -- From one moment to another these lines were written; the rest of the report is still to come, and the step that
 -- decides.
@@ -59,8 +63,8 @@ Checking-start trace start first was whole sound finite least = record {
   counts = refl;
   written = [];
   run = Along-map _ _ _ _ (Along-none start.stream) (λ i j m e. (
-    (λ r rest. let P : Input → Type 0 = λ x. Rest trace first.state 0 first.peak (start.to_come x) r in subst P (sym e) rest),
-    (λ left checked leaves. let P : Input → Type 0 = λ x. LeavesRest first.state (start.to_come x) left checked in subst P (sym e) leaves),
+    (λ r rest. let P : Suffix → Type 0 = λ x. Rest trace first.state 0 first.peak (start.to_come x) r in subst P (sym e) rest),
+    (λ left checked leaves. let P : Suffix → Type 0 = λ x. LeavesRest first.state (start.to_come x) left checked in subst P (sym e) leaves),
   ));
   wrote = Writes-still was;
   whole = whole;
@@ -75,12 +79,12 @@ with_both front more r = ap (λ x. record { lines = x; status = r.status }) (sym
 
 module _ (trace : Bool) (start now new : Standing) (first session : View) (accepted : ℕ) (was lines : Sink) (so_far : Checking trace start now first session accepted was lines) where
   -- the report was written to its end, and what follows the step that decides is left
-  abbrev pub Ended : Checked → Sink → Input → Input → Type 0
+  abbrev pub Ended : Checked → Sink → Suffix → Suffix → Type 0
   Ended checked last i j =
       (r : Report) × Rest trace first.state 0 first.peak (start.to_come i) r × Outcome checked.status was.held last.held r × LeavesRest first.state (start.to_come i) j checked
 
   -- what a call gave, and that it passed the end of no step
-  abbrev Gave : Result Bool Fault → Option StepEnd → Step → Input → Input → Type 0
+  abbrev Gave : Result Bool Fault → Option StepEnd → Step → Suffix → Suffix → Type 0
   Gave result end step i j = GivesStep result end step (now.to_come i) (new.to_come j) j × PassesNoEnd (now.to_come i) j
 
   module _ (number : ℕ) (counts : number ≡ counted (so_far.count + 1)) (step : Step) (end : Option StepEnd)
@@ -97,7 +101,7 @@ module _ (trace : Bool) (start now new : Standing) (first session : View) (accep
             subst P (with_both so_far.written (traced trace number goes.word) r) (p.0 (with_lines (traced trace number goes.word) r) (subst Q (sym q.0.2) (front k q.0.0 r rest)))),
         (λ left checked leaves.
             let Q : Proof → Type 0 = λ x. LeavesRest session.state x left checked in
-            p.1 left checked (subst Q (sym q.0.2) (LeavesRest-step session.state step q.0.0 (length k.bytes) (new.to_come k) left checked t.state goes.word goes.answers goes.not_last goes.state leaves))),
+            p.1 left checked (subst Q (sym q.0.2) (LeavesRest-step session.state step q.0.0 k.offset (new.to_come k) left checked t.state goes.word goes.answers goes.not_last goes.state leaves))),
       ));
       wrote = let P : List ℕ → Type 0 = Writes was last in
           subst P (sym (text_of-append so_far.written (traced trace number goes.word))) (Writes-then _ _ _ _ _ so_far.wrote goes.wrote);
@@ -108,13 +112,13 @@ module _ (trace : Bool) (start now new : Standing) (first session : View) (accep
       no_failure = goes.no_failure ∙ so_far.no_failure;
     }
       where
-        front : (k : Input) (at : StepEnd) (r : Report) → Rest trace t.state (so_far.count + 1) t.peak (new.to_come k) r
-            → Rest trace session.state so_far.count session.peak (with_step step at (length k.bytes) (new.to_come k)) (with_lines (traced trace number goes.word) r)
+        front : (k : Suffix) (at : StepEnd) (r : Report) → Rest trace t.state (so_far.count + 1) t.peak (new.to_come k) r
+            → Rest trace session.state so_far.count session.peak (with_step step at k.offset (new.to_come k)) (with_lines (traced trace number goes.word) r)
         front k at r rest =
             let R : ℕ → Type 0 = λ m. Rest trace t.state (so_far.count + 1) m (new.to_come k) r in
-            let S : List (List ℕ) → Type 0 = λ x. Rest trace session.state so_far.count session.peak (with_step step at (length k.bytes) (new.to_come k)) (with_lines x r) in
+            let S : List (List ℕ) → Type 0 = λ x. Rest trace session.state so_far.count session.peak (with_step step at k.offset (new.to_come k)) (with_lines x r) in
             subst S (sym (traced_same trace number (so_far.count + 1) goes.word counts))
-            (Rest-step trace session.state so_far.count session.peak step at (length k.bytes) (new.to_come k) goes.word t.state r goes.answers goes.not_last
+            (Rest-step trace session.state so_far.count session.peak step at k.offset (new.to_come k) goes.word t.state r goes.answers goes.not_last
             goes.state so_far.least (subst R goes.peak rest))
 
     pub Checking-stop : (checked : Checked) (last : Sink) → Stops trace number session step lines last checked.status
@@ -122,23 +126,23 @@ module _ (trace : Bool) (start now new : Standing) (first session : View) (accep
         → (checked.status ≡ NotVerified → checked.refused ≡ end) → ((checked.status ≡ NotVerified → ⊥) → checked.refused ≡ None)
         → Along start.stream new.stream (λ i j. Ended checked last i j)
     Checking-stop checked last stops refuses told only = Along-then _ _ _ _ _ _ so_far.run gives (λ i j k m p q.
-        let s = stops so_far.count (length k.bytes) q.0.0 (new.to_come k) counts so_far.least so_far.finite in
+        let s = stops so_far.count k.offset q.0.0 (new.to_come k) counts so_far.least so_far.finite in
         let Q : Proof → Type 0 = λ x. Rest trace session.state so_far.count session.peak x s.0 in
         let R : Proof → Type 0 = λ x. LeavesRest session.state x k checked in
         let S : Proof → Type 0 = λ x. PassesNoEnd x k in (
           with_lines so_far.written s.0,
           p.0 s.0 (subst Q (sym q.0.2) s.1),
           Outcome-after checked.status was.held lines.held last.held so_far.written s.0 (Writes-all was lines (text_of so_far.written) so_far.wrote so_far.whole) s.2,
-          p.1 k checked (subst R (sym q.0.2) (LeavesRest-decided session.state step q.0.0 (length k.bytes) (new.to_come k) k checked refuses (λ v. told v ∙ q.0.1) only (subst S q.0.2 q.1))),
+          p.1 k checked (subst R (sym q.0.2) (LeavesRest-decided session.state step q.0.0 k.offset (new.to_come k) k checked refuses (λ v. told v ∙ q.0.1) only (subst S q.0.2 q.1))),
         ))
 
   -- what is known so far of the report, and of the step that decides
-  abbrev SoFar : Input → Input → Type 0
+  abbrev SoFar : Suffix → Suffix → Type 0
   SoFar i j = ((r : Report) → Rest trace session.state so_far.count session.peak (now.to_come j) r
       → Rest trace first.state 0 first.peak (start.to_come i) (with_lines so_far.written r)) × Leaves first (start.to_come i) session (now.to_come j)
 
   -- the rest of the report that what is to come has
-  ended : (checked : Checked) (last : Sink) (i j k : Input) (r : Report) → SoFar i j → Rest trace session.state so_far.count session.peak (now.to_come j) r
+  ended : (checked : Checked) (last : Sink) (i j k : Suffix) (r : Report) → SoFar i j → Rest trace session.state so_far.count session.peak (now.to_come j) r
       → Outcome checked.status lines.held last.held r → LeavesRest session.state (now.to_come j) k checked → Ended checked last i k
   ended checked last i j k r p rest o leaves = (
     with_lines so_far.written r,
@@ -161,7 +165,7 @@ module _ (trace : Bool) (start now new : Standing) (first session : View) (accep
         → Along start.stream new.stream (λ i j. Ended checked last i j)
     Checking-fault end f gives refused other = by f gives refused other
       where
-        met : (f : Fault) (i j k : Input) → SoFar i j → now.to_come j ≡ faulty_proof f → Outcome checked.status lines.held last.held (end_report (Some f)) → Ended checked last i k
+        met : (f : Fault) (i j k : Suffix) → SoFar i j → now.to_come j ≡ faulty_proof f → Outcome checked.status lines.held last.held (end_report (Some f)) → Ended checked last i k
         met f i j k p e o =
             let Q : Proof → Type 0 = λ x. Rest trace session.state so_far.count session.peak x (end_report (Some f)) in
             let R : Proof → Type 0 = λ x. LeavesRest session.state x k checked in
@@ -189,19 +193,10 @@ step_told now new result answer end s gives is =
 
 -- ---- A whole proof
 
--- no step of a proof is followed by more than the proof
-pub drat_proof-within : (binary : Bool) (j : Input) → PassesNoEnd (drat_proof binary j) j
-drat_proof-within true j = binary_steps-within j
-drat_proof-within false j = steps_of-within drat j
-
--- where nothing was read no end was passed
-unread_within : (j : Input) (reader : Reader) (last : PlacedStep) → last.rest ≤ length j.bytes → bytes_read reader reader + last.rest ≤ length j.bytes + 65536
-unread_within j reader last h = omega (arith, h)
-
 -- neither was read
-pub reports_nothing : (rule : Rule) (trace : Bool) (steps : Input → Proof) (formula proof new : Reader) (checked : Checked) (was now : Sink) → ((j : Input) → PassesNoEnd (steps j) j) → proof ≡ new
+pub reports_nothing : (rule : Rule) (trace : Bool) (steps : Input → Proof) (formula proof new : Reader) (checked : Checked) (was now : Sink) → proof ≡ new
     → checked.refused ≡ None → ((r : Report) → Outcome checked.status was.held now.held r) → AllReports rule trace steps formula formula proof new checked was.held now.held
-reports_nothing rule trace steps formula proof new checked was now within same none o =
+reports_nothing rule trace steps formula proof new checked was now same none o =
     let P : Reader → Type 0 = λ r. AllReports rule trace steps formula formula proof r checked was.held now.held in
     subst P same (record {
       first = Seen-nothing formula;
@@ -209,10 +204,7 @@ reports_nothing rule trace steps formula proof new checked was now within same n
       fact = λ i j s t.
           let some = some_report rule trace i (steps j) in (
             record { report = some.0; reports = some.1; outcome = o some.0 },
-            record {
-              unread = λ n. refl;
-              past = λ words ending last whole e d. unread_within j proof last (not_passed (steps j) j (within j) words ending last d);
-            },
+            record { unread = λ n. refl; past = λ words ending last whole e d. omega arith },
             record { unread = λ n. none; refused = λ words ending whole is e. absurd (broken (inr is)); only = λ _. none },
           );
     })
@@ -221,25 +213,25 @@ reports_nothing rule trace steps formula proof new checked was now within same n
     broken v = no_verdict checked.status was.held now.held [] (o (record { lines = []; status = Malformed })) v
 
 -- what was left of a proof, and that no more than 65536 bytes were read past what was taken, say how far it was read
-reads_no_further : (rule : Rule) (i j k : Input) (p : Proof) (old new : Reader) (checked : Checked) → PassesNoEnd p j → LeavesProof rule (formula_of i).fault (formula_of i).clauses p old new k checked
-    → bytes_read old new + length k.bytes ≤ length j.bytes + 65536 → ReadsNoFurther rule (formula_of i) j p old new
-reads_no_further rule i j k p old new checked reach leaves within = record {
+reads_no_further : (rule : Rule) (i : Input) (k : Suffix) (p : Proof) (old new : Reader) (checked : Checked) → LeavesProof rule (formula_of i).fault (formula_of i).clauses p old new k checked
+    → bytes_read old new + 0 ≤ k.offset + 65536 → ReadsNoFurther rule (formula_of i) p old new
+reads_no_further rule i k p old new checked leaves within = record {
   unread = leaves.unread;
-  past = λ words ending last whole e d. by last (leaves.past words ending last whole e d) (not_passed p j reach words ending last d);
+  past = λ words ending last whole e d. by last (leaves.past words ending last whole e d);
 }
   where
-    by : (last : PlacedStep) → (new ≡ old) ⊎ (last.rest ≤ length k.bytes) → last.rest ≤ length j.bytes → bytes_read old new + last.rest ≤ length j.bytes + 65536
-    by last (inl same) h =
-        let P : Reader → Type 0 = λ r. bytes_read old r + last.rest ≤ length j.bytes + 65536 in
-        subst P (sym same) (unread_within j old last h)
-    by last (inr left) h = omega (arith, left, within)
+    by : (last : PlacedStep) → (new ≡ old) ⊎ (k.offset ≤ last.offset) → bytes_read old new ≤ last.offset + 65536
+    by last (inl same) =
+        let P : Reader → Type 0 = λ r. bytes_read old r ≤ last.offset + 65536 in
+        subst P (sym same) (omega arith)
+    by last (inr left) = omega (arith, left, within)
 
 -- a reader that was fresh was read
-module _ (rule : Rule) (trace : Bool) (to_come : ProofReading → Input → Proof) (steps : Input → Proof) (formula formula_new proof : Reader) (borrows : List ℕ) (source last : Stream) (new : Reader) (checked : Checked) (was now : Sink)
+module _ (rule : Rule) (trace : Bool) (to_come : ProofReading → Suffix → Proof) (steps : Input → Proof) (formula formula_new proof : Reader) (borrows : List ℕ) (source last : Stream) (new : Reader) (checked : Checked) (was now : Sink)
     (is : source ≡ unread_stream proof borrows) (kept : new ≡ last.reader)
-    (all : (j : Input) → to_come (fresh_reading (unread_stream proof borrows)) j ≡ steps j) (all_within : (j : Input) → PassesNoEnd (steps j) j) where
+    (all : (j : Input) → to_come (fresh_reading (unread_stream proof borrows)) (from_start j) ≡ steps j) where
   -- what a check did of a proof from where a reader stands
-  abbrev Did : Seen formula formula_new → ProofReading → Input → Input → Type 0
+  abbrev Did : Seen formula formula_new → ProofReading → Suffix → Suffix → Type 0
   Did f x j k =
       (i : Input) → IsSeen f i → Reports rule trace i (to_come x j) was.held now.held checked.status
       × LeavesProof rule (formula_of i).fault (formula_of i).clauses (to_come x j) x.stream.reader last.reader k checked
@@ -250,20 +242,19 @@ module _ (rule : Rule) (trace : Bool) (to_come : ProofReading → Input → Proo
   reports_run reader made f run =
       let P : ProofReading → Type 0 = λ x. Along x.stream last (Did f x) in
       let fresh : ProofReading = fresh_reading (unread_stream proof borrows) in
-      let Q : Input → Input → Type 0 = λ j k. Did f fresh j k × (bytes_read proof last.reader + length k.bytes ≤ length j.bytes + 65536) in
+      let Q : Suffix → Suffix → Type 0 = λ j k. Did f fresh j k × (bytes_read proof last.reader + j.offset ≤ k.offset + 65536) in
       let R : Reader → Type 0 = λ r. AllReports rule trace steps formula formula_new proof r checked was.held now.held in
-      let from_start = subst P (made ∙ ap fresh_reading is) run in
-      let within = Along-within (unread_stream proof borrows) last (Did f fresh) (omega arith) from_start in
+      let begun = subst P (made ∙ ap fresh_reading is) run in
+      let within = Along-within (unread_stream proof borrows) last (Did f fresh) (omega arith) begun in
       subst R (sym kept) (record {
         first = f;
         second = Seen-run proof borrows last Q within;
         fact = λ i j s t.
             let S : Proof → Type 0 = λ p. Reports rule trace i p was.held now.held checked.status
-            × ReadsNoFurther rule (formula_of i) j p proof last.reader × TellsRefused rule (formula_of i).fault (formula_of i).clauses p checked in
+            × ReadsNoFurther rule (formula_of i) p proof last.reader × TellsRefused rule (formula_of i).fault (formula_of i).clauses p checked in
             let seen = Seen-fact proof borrows last Q within j t in
             let did = seen.2.0 i s in
-            let T : Proof → Type 0 = λ p. PassesNoEnd p j in
-            subst S (all j) (did.0, reads_no_further rule i j seen.0 (to_come fresh j) proof last.reader checked (subst T (sym (all j)) (all_within j)) did.1 seen.2.1, did.1.told);
+            subst S (all j) (did.0, reads_no_further rule i seen.0 (to_come fresh (from_start j)) proof last.reader checked did.1 seen.2.1, did.1.told);
       })
 
 -- the same report by the same rule of the same steps
@@ -274,7 +265,7 @@ reports_as rule other trace steps others formula formula_new proof new checked w
   second = reports.second;
   fact = λ i j s t.
       let P : Rule → Proof → Type 0 = λ q p. Reports q trace i p was.held now.held checked.status
-      × ReadsNoFurther q (formula_of i) j p proof new × TellsRefused q (formula_of i).fault (formula_of i).clauses p checked in
+      × ReadsNoFurther q (formula_of i) p proof new × TellsRefused q (formula_of i).fault (formula_of i).clauses p checked in
       let Q : Rule → Type 0 = λ q. P q (steps j) in
       subst (P other) (all j) (subst Q is (reports.fact i j s t));
 }

@@ -1,21 +1,24 @@
 -- A formula is judged by listed literals, clause by clause.
-use Rattle.std.proofs.Common.{◌≡◌, ℕ, zero, suc, ◌+◌, ◌-◌, ◌≤◌, cond, Bool, true, false, List, [], ◌∷◌, ◌++◌, length, Option, None, Some, refl, sym, ap, ◌∙◌, subst, arith}
+use Rattle.std.proofs.Common.{◌≡◌, ℕ, zero, suc, ◌+◌, ◌-◌, ◌≤◌, cond, Bool, true, false, List, []}
+use Rattle.std.proofs.Common.{◌∷◌, ◌++◌, length, Option, None, Some, refl, sym, ap, ◌∙◌, subst}
+use Rattle.std.proofs.Common.{arith}
 use Rattle.std.specs.Prelude.{Result, Ok, Err, slice_get}
 use Rattle.std.proofs.lemmas.Option.{none-some}
 use Rattle.cnf_base.specs.Literals.{Literal, Clause}
 use Rattle.cnf_base.specs.Code.Seen.{OfSeen}
-use Rattle.cnf_base.specs.Stream.{Input, Reader, Stream, Along, unread_stream, bytes_read}
+use Rattle.cnf_base.specs.Stream.{Input, Suffix, Reader, Stream, Along, unread_stream, bytes_read}
 use Rattle.cnf_base.specs.declared.fault.Fault.{Fault}
 use Rattle.cnf_base.specs.declared.fault.Fault.TheVariants.{Text, Binary, ReadFailed, OutOfMemory}
 use Rattle.cnf_base.proofs.StreamLemmas.{Along-then, Along-map}
-use Rattle.dimacs.specs.Formula.{Body, Formula, formula_at, formula_of, clause_rests_at}
-use Rattle.dimacs.specs.Reading.{FormulaReading, clauses_to_come, rests_to_come, opened, unopened}
-use Rattle.dimacs.proofs.RestsLemmas.{clause_rests-within}
+use Rattle.dimacs.specs.Formula.{Body, Formula, formula_at, formula_of, clause_offsets_at}
+use Rattle.dimacs.specs.Reading.{FormulaReading, clauses_to_come, offsets_to_come, opened, unopened}
 use Rattle.sat_check.specs.ModelReport.{meets, first_unmet}
 use Rattle.sat_check.specs.Code.Judging.{Judges, LeavesUnmet, ReadsToUnmet}
 use Rattle.sat_check.specs.declared.judgement.Judgement.{Judgement}
 use Rattle.sat_check.specs.declared.judgement.Judgement.TheVariants.{Met, Unmet}
-use Rattle.sat_check.proofs.ReadLemmas.{length_push, with_clauses, seen_nothing, seen_run, seen_within, seen_map, Reads, Gave, NonePassed, FaultAfter, Reads-start, Reads-clause, Reads-done, Reads-fault}
+use Rattle.sat_check.proofs.ReadLemmas.{length_push, with_clauses, seen_nothing, seen_run}
+use Rattle.sat_check.proofs.ReadLemmas.{seen_within, seen_map, Reads, Gave, NonePassed, FaultAfter}
+use Rattle.sat_check.proofs.ReadLemmas.{Reads-start, Reads-clause, Reads-done, Reads-fault}
 
 -- after clauses that are met, the first that isn't is one of those that follow
 first_unmet-append : (k : ℕ) (listed : List Literal) (cs ds : List Clause) → first_unmet k listed cs ≡ None
@@ -45,11 +48,11 @@ past_first (x ∷ xs) ys zero m e = absurd (omega (arith, e))
 past_first (x ∷ xs) ys (suc n) m e = past_first xs ys n m (omega (arith, e))
 
 -- after clauses that are met, where no end of the others was passed, that of the first one that isn't met wasn't
-not_passed : (listed : List Literal) (read : List Clause) (old : FormulaReading) (i k : Input) → first_unmet 1 listed read ≡ None → NonePassed old read i k
-    → LeavesUnmet listed (clauses_to_come old i).clauses (rests_to_come old i) k
-not_passed listed read old i k met passed m left unmet at =
+not_passed : (listed : List Literal) (read : List Clause) (old : FormulaReading) (i k : Suffix) → first_unmet 1 listed read ≡ None → NonePassed old read i k
+    → LeavesUnmet listed (clauses_to_come old i).clauses (offsets_to_come old i) k
+not_passed listed read old i k met passed m offset unmet at =
     let later = passed.0 in
-    let rests = passed.1 in
+    let offsets = passed.1 in
     let on = passed.2 in
     let first = on.1.0 in
     let among : first_unmet (1 + length read) listed later.clauses ≡ Some m =
@@ -57,7 +60,7 @@ not_passed listed read old i k met passed m left unmet at =
     let least : 1 + length read ≤ m = unmet_least (1 + length read) listed later.clauses m among in
     let same : length first ≡ length read = on.1.1 in
     let index : m - 1 ≡ length first + (m - 1 - length first) = omega (arith, least, same) in
-    passed.3 (m - 1 - length first) left (sym (past_first first rests (m - 1) (m - 1 - length first) index) ∙ sym (ap (λ r. slice_get r (m - 1)) on.1.2) ∙ at)
+    passed.3 (m - 1 - length first) offset (sym (past_first first offsets (m - 1) (m - 1 - length first) index) ∙ sym (ap (λ r. slice_get r (m - 1)) on.1.2) ∙ at)
 
 -- from one moment to another so many clauses were read, and are met
 pub record Judging (listed : List Literal) (old now : FormulaReading) (met : ℕ) : Type 0 where
@@ -86,7 +89,7 @@ module _ (listed : List Literal) (old now new : FormulaReading) (met : ℕ) (so_
   -- what is found of the clauses, and that no more was read than the first that isn't met
   abbrev Judged : Result Judgement Fault → Type 0
   Judged result = Along old.stream new.stream (λ i j. Judges listed result (clauses_to_come old i).clauses (clauses_to_come old i).fault
-      × LeavesUnmet listed (clauses_to_come old i).clauses (rests_to_come old i) j)
+      × LeavesUnmet listed (clauses_to_come old i).clauses (offsets_to_come old i) j)
 
   pub Judging-unmet : Gave now new (Ok true) c → meets listed c ≡ false → Judged (Ok (Unmet (met + 1)))
   Judging-unmet gives is = Along-then _ _ _ _ _ _ so_far.reads.run gives (λ i j k m p q. (
@@ -94,7 +97,7 @@ module _ (listed : List Literal) (old now new : FormulaReading) (met : ℕ) (so_
         ∙ first_unmet-append 1 listed so_far.clauses (c ∷ (clauses_to_come new k).clauses) so_far.all
         ∙ ap (λ b. cond b (first_unmet (1 + length so_far.clauses + 1) listed (clauses_to_come new k).clauses) (Some (1 + length so_far.clauses))) is
         ∙ ap Some number,
-    not_passed listed so_far.clauses old i k so_far.all (clauses_to_come now j, rests_to_come now j, p, q.1.1),
+    not_passed listed so_far.clauses old i k so_far.all (clauses_to_come now j, offsets_to_come now j, p, q.1.1),
   ))
     where
       number : 1 + length so_far.clauses ≡ met + 1
@@ -130,10 +133,9 @@ AllJudges listed left new result = OfSeen left new (λ i. JudgesFormula listed r
 
 -- where nothing was read no end was passed
 pub unread_unmet : (listed : List Literal) (i : Input) (left new : Reader) → left ≡ new → ReadsToUnmet listed i left new
-unread_unmet listed i left new same k rest unmet at =
-    let P : Reader → Type 0 = λ r. bytes_read left r + rest ≤ length i.bytes + 65536 in
-    let small = clause_rests-within i (k - 1) rest at in
-    subst P same (omega (arith, small))
+unread_unmet listed i left new same k offset unmet at =
+    let P : Reader → Type 0 = λ r. bytes_read left r ≤ offset + 65536 in
+    subst P same (omega arith)
 
 -- nothing was read
 pub judges_refused : (listed : List Literal) (left new : Reader) (result : Result Judgement Fault) → left ≡ new → result ≡ Err OutOfMemory → AllJudges listed left new result
@@ -150,7 +152,7 @@ module _ (listed : List Literal) (left : Reader) (borrows : List ℕ) (source : 
       let P : Formula → Type 0 = λ x. JudgesFormula listed (Err f) x × (first_unmet 1 listed x.clauses ≡ None) in
       seen_map left new (λ i. P (formula_of i)) (λ i. JudgesFormula listed (Err f) (formula_of i) × ReadsToUnmet listed i left new)
       (seen_run (λ p i. P (formula_at p i)) left borrows source last new is kept (Along-map _ _ _ _ run (λ i j m e. subst P (sym e) (by f, refl))))
-      (λ i x. (x.0, λ k rest unmet at. absurd (none-some k (sym x.1 ∙ unmet))))
+      (λ i x. (x.0, λ k offset unmet at. absurd (none-some k (sym x.1 ∙ unmet))))
     where
       by : (f : Fault) → JudgesFormula listed (Err f) (unopened f)
       by (Text k p) = (refl, refl)
@@ -159,15 +161,15 @@ module _ (listed : List Literal) (left : Reader) (borrows : List ℕ) (source : 
       by OutOfMemory = tt
 
   -- the clauses were judged
-  pub judges_body : (r : FormulaReading) (result : Result Judgement Fault) → Along source r.stream (λ i j. (formula_at source.place i ≡ opened r.header (clauses_to_come r j)) × (clause_rests_at source.place i ≡ rests_to_come r j))
-      → Along r.stream last (λ i j. Judges listed result (clauses_to_come r i).clauses (clauses_to_come r i).fault × LeavesUnmet listed (clauses_to_come r i).clauses (rests_to_come r i) j)
+  pub judges_body : (r : FormulaReading) (result : Result Judgement Fault) → Along source r.stream (λ i j. (formula_at source.place i ≡ opened r.header (clauses_to_come r j)) × (clause_offsets_at source.place i ≡ offsets_to_come r j))
+      → Along r.stream last (λ i j. Judges listed result (clauses_to_come r i).clauses (clauses_to_come r i).fault × LeavesUnmet listed (clauses_to_come r i).clauses (offsets_to_come r i) j)
       → AllJudges listed left new result
   judges_body r result opens body =
-      let P : Formula → List ℕ → Input → Type 0 = λ x rests j. JudgesFormula listed result x × LeavesUnmet listed x.clauses rests j in
+      let P : Formula → List ℕ → Suffix → Type 0 = λ x offsets j. JudgesFormula listed result x × LeavesUnmet listed x.clauses offsets j in
       seen_map left new _ (λ i. JudgesFormula listed result (formula_of i) × ReadsToUnmet listed i left new)
-      (seen_within (λ p i j. P (formula_at p i) (clause_rests_at p i) j) left borrows source last new is kept
+      (seen_within (λ p i j. P (formula_at p i) (clause_offsets_at p i) j) left borrows source last new is kept
       (Along-then _ _ _ _ _ _ opens body (λ i j k m e q.
-      let Q : Formula → Type 0 = λ x. P x (rests_to_come r j) k in
-      let R : List ℕ → Type 0 = λ rests. P (formula_at source.place i) rests k in
+      let Q : Formula → Type 0 = λ x. P x (offsets_to_come r j) k in
+      let R : List ℕ → Type 0 = λ offsets. P (formula_at source.place i) offsets k in
       subst R (sym e.1) (subst Q (sym e.0) q))))
-      (λ i x. (x.1.0, λ k rest unmet at. let small = x.1.1 k rest unmet at in omega (arith, small, x.2)))
+      (λ i x. (x.1.0, λ k offset unmet at. let later = x.1.1 k offset unmet at in omega (arith, later, x.2)))

@@ -1,5 +1,6 @@
 -- Clauses go into a session one by one.
-use Rattle.std.proofs.Common.{◌≡◌, ℕ, ◌+◌, ◌≤◌, max, ◌-◌, Bool, true, false, ◌||◌, List, [], ◌∷◌, ◌++◌, length, Some, refl, sym, ap, ◌∙◌, subst, arith, cond}
+use Rattle.std.proofs.Common.{◌≡◌, ℕ, ◌+◌, ◌≤◌, max, ◌-◌, Bool, true, false, ◌||◌, List, [], ◌∷◌}
+use Rattle.std.proofs.Common.{◌++◌, length, Some, refl, sym, ap, ◌∙◌, subst, arith, cond}
 use Rattle.std.specs.Prelude.{Result, Ok, Err}
 use Rattle.std.specs.List.{list_any}
 use Rattle.std.specs.Ordering.{nat_cmp}
@@ -14,9 +15,9 @@ use Rattle.cnf_base.specs.Stream.{Reader, Stream, Along, unread_stream}
 use Rattle.cnf_base.specs.declared.fault.Fault.{Fault}
 use Rattle.cnf_base.specs.declared.fault.Fault.TheVariants.{Text, Binary, ReadFailed, OutOfMemory}
 use Rattle.cnf_base.proofs.StreamLemmas.{Along-then, Along-map}
-use Rattle.dimacs.specs.Formula.{Body, Formula, formula_at, formula_of, clause_rests_at}
+use Rattle.dimacs.specs.Formula.{Body, Formula, formula_at, formula_of, clause_offsets_at}
 use Rattle.dimacs.specs.declared.header.Header.{Header}
-use Rattle.dimacs.specs.Reading.{FormulaReading, clauses_to_come, rests_to_come, opened, unopened}
+use Rattle.dimacs.specs.Reading.{FormulaReading, clauses_to_come, offsets_to_come, opened, unopened}
 use Rattle.steps.specs.DratSession.{DratState, fresh_drat}
 use Rattle.steps.specs.Code.DratSession.{clauses_of}
 use Rattle.steps.specs.LratSession.{Session, fresh_lrat}
@@ -38,7 +39,9 @@ use Rattle.theory.proofs.LratLemmas.States.{numbered_push}
 use Rattle.steps.proofs.LratLemmas.Sessions.{fresh_is_numbered}
 use Rattle.theory.proofs.LratLemmas.Sums.{sum_with}
 use Rattle.sat_check.specs.Code.Checking.{IsLoaded, LoadsBody, Loads}
-use Rattle.sat_check.proofs.ReadLemmas.{length_push, seen_nothing, seen_run, Reads, Gave, FaultAfter, Reads-start, Reads-clause, Reads-done, Reads-fault}
+use Rattle.sat_check.proofs.ReadLemmas.{length_push, seen_nothing, seen_run, Reads, Gave}
+use Rattle.sat_check.proofs.ReadLemmas.{FaultAfter, Reads-start, Reads-clause, Reads-done}
+use Rattle.sat_check.proofs.ReadLemmas.{Reads-fault}
 use Rattle.theory.specs.declared.drat_rules.DratRules.{DratRules}
 
 -- no clause has a number past the last
@@ -204,7 +207,7 @@ module _ (rule : Rule) (s : View) (left : Reader) (borrows : List ℕ) (source :
   loads_fault f last new kept run = all_loads last new (Err f) kept (Along-map _ _ _ _ run (λ i j m p. fault_loads f _ (ap (λ y. y.fault) p)))
 
   module _ (r : FormulaReading) (last : Stream) (new : Reader) (kept : new ≡ last.reader)
-      (opens : Along source r.stream (λ i j. (formula_at source.place i ≡ opened r.header (clauses_to_come r j)) × (clause_rests_at source.place i ≡ rests_to_come r j))) where
+      (opens : Along source r.stream (λ i j. (formula_at source.place i ≡ opened r.header (clauses_to_come r j)) × (clause_offsets_at source.place i ≡ offsets_to_come r j))) where
     pub loads_body : (h : Header) → h ≡ r.header → Along r.stream last (λ i j. LoadsBody rule s (Ok tt) (clauses_to_come r i)) → AllLoads rule s left new (Ok h)
     loads_body h same body = all_loads last new (Ok h) kept (Along-then _ _ _ _ _ _ opens body (λ i j k m p q.
         let P : List Clause → Type 0 = IsLoaded rule s in

@@ -1,5 +1,7 @@
 -- The report of a model, and what a verified one says.
-use Rattle.std.proofs.Common.{◌≡◌, ℕ, zero, suc, ◌+◌, ◌-◌, ◌<◌, ◌≤◌, ◌*◌, ◌/◌, ◌%◌, cond, Bool, true, false, not, ◌||◌, List, [], ◌∷◌, length, Option, None, Some, refl, sym, ap, ◌∙◌, subst, arith, slice_get, codes}
+use Rattle.std.proofs.Common.{◌≡◌, ℕ, zero, suc, ◌+◌, ◌-◌, ◌<◌, ◌≤◌, ◌*◌, ◌/◌, ◌%◌, cond, Bool}
+use Rattle.std.proofs.Common.{true, false, not, ◌||◌, List, [], ◌∷◌, length, Option, None, Some}
+use Rattle.std.proofs.Common.{refl, sym, ap, ◌∙◌, subst, arith, slice_get, codes}
 use Rattle.std.specs.Prelude.{Result, Ok, Err, IfOk, IsTrue, ◌==◌}
 use Rattle.std.proofs.lemmas.Option.{none-some}
 use Rattle.std.proofs.lemmas.Bool.Decides.{nat_tests}
@@ -11,12 +13,14 @@ use Rattle.cnf_base.proofs.SetLemmas.{any_from, any_some}
 use Rattle.cnf_base.specs.Seen.{OfBothSeen}
 use Rattle.cnf_base.specs.Stream.{Input, Reader, bytes_read}
 use Rattle.dimacs.specs.Claim.{claim_of, IsClaim, IsConsistent}
-use Rattle.dimacs.specs.Formula.{Formula, formula_of, clause_rests}
-use Rattle.dimacs.proofs.RestsLemmas.{clause_rests-length}
+use Rattle.dimacs.specs.Formula.{Formula, formula_of, clause_offsets}
+use Rattle.dimacs.proofs.OffsetLemmas.{clause_offsets-length}
 use Rattle.theory.specs.Models.{Assignment, holds, satisfies, HasModel}
 use Rattle.sat_check.specs.Lines.{a_model, fault_line, fault_status}
 use Rattle.sat_check.specs.Report.{Outcome, Report, concluded}
-use Rattle.sat_check.specs.ModelReport.{meets, first_unmet, met_report, clauses_report, claim_report, model_report, Satisfies, ChecksModel, ReadsFormulaNoFurther}
+use Rattle.sat_check.specs.ModelReport.{meets, first_unmet, met_report, clauses_report}
+use Rattle.sat_check.specs.ModelReport.{claim_report, model_report, Satisfies, ChecksModel}
+use Rattle.sat_check.specs.ModelReport.{ReadsFormulaNoFurther}
 use Rattle.sat_check.specs.Code.Judging.{Judges, ReadsToUnmet, judged_report}
 use Rattle.sat_check.specs.declared.judgement.Judgement.{Judgement}
 use Rattle.sat_check.specs.declared.judgement.Judgement.TheVariants.{Met, Unmet}
@@ -223,17 +227,17 @@ unmet_bound k listed (c ∷ cs) m h = by (meets listed c) h (λ g. unmet_bound (
     by false h next = let e : Some k ≡ Some m = h in let same : k ≡ m = cc in (omega (arith, same), omega (arith, same))
 
 -- and it ends with a `0`
-unmet_rest : (listed : List Literal) (i : Input) (k : ℕ) → first_unmet 1 listed (formula_of i).clauses ≡ Some k
-    → (rest : ℕ) × (slice_get (clause_rests i) (k - 1) ≡ Some rest)
-unmet_rest listed i k unmet =
+unmet_offset : (listed : List Literal) (i : Input) (k : ℕ) → first_unmet 1 listed (formula_of i).clauses ≡ Some k
+    → (offset : ℕ) × (slice_get (clause_offsets i) (k - 1) ≡ Some offset)
+unmet_offset listed i k unmet =
     let bound = unmet_bound 1 listed (formula_of i).clauses k unmet in
-    let many = clause_rests-length i in
-    some_at (clause_rests i) (k - 1) (omega (arith, bound.0, bound.1, many))
+    let many = clause_offsets-length i in
+    some_at (clause_offsets i) (k - 1) (omega (arith, bound.0, bound.1, many))
 
 -- how far a formula was read of which the claim's literals are judged
 reads_no_further : (listed : List Literal) (i : Input) (old new : Reader) → ReadsToUnmet listed i old new → (k : ℕ) → first_unmet 1 listed (formula_of i).clauses ≡ Some k
-    → (rest : ℕ) × (slice_get (clause_rests i) (k - 1) ≡ Some rest) × (bytes_read old new + rest ≤ length i.bytes + 65536)
-reads_no_further listed i old new reads k unmet = let at = unmet_rest listed i k unmet in (at.0, at.1, reads k at.0 unmet at.1)
+    → (offset : ℕ) × (slice_get (clause_offsets i) (k - 1) ≡ Some offset) × (bytes_read old new ≤ offset + 65536)
+reads_no_further listed i old new reads k unmet = let at = unmet_offset listed i k unmet in (at.0, at.1, reads k at.0 unmet at.1)
 
 -- the formula is left where it isn't looked at
 pub formula_left : (claim : Result (List ℕ) Fault) (i : Input) (reader : Reader) → ReadsFormulaNoFurther claim i reader reader
@@ -250,5 +254,5 @@ formula_needed model claim i old new same reads = record {
   past = λ listed k is unmet.
       let P : Result (List ℕ) Fault → Type 0 = IsClaim (Ok model) in
       let alike = first_unmet_same 1 model listed (subst P is same) (formula_of i).clauses in
-      reads_no_further listed i old new (λ m left e at. reads m left (alike ∙ e) at) k unmet;
+      reads_no_further listed i old new (λ m offset e at. reads m offset (alike ∙ e) at) k unmet;
 }

@@ -1,11 +1,12 @@
 -- How far a proof is read, step by step.
-use Rattle.std.proofs.Common.{◌≡◌, ℕ, ◌≤◌, true, false, Option, None, Some, List, [], ◌∷◌, length, refl, sym, ap, ◌∙◌, subst, inl, inr, Ok, Err}
+use Rattle.std.proofs.Common.{◌≡◌, ℕ, ◌≤◌, true, false, Option, None, Some, List, [], ◌∷◌, length}
+use Rattle.std.proofs.Common.{refl, sym, ap, ◌∙◌, subst, inl, inr, Ok, Err}
 use Rattle.std.specs.Prelude.{slice_get}
 use Rattle.std.specs.List.{list_any}
 use Rattle.std.proofs.lemmas.Bool.{false≢true, MatchBool-at_true, MatchBool-at_false}
 use Rattle.std.proofs.lemmas.Option.{none-some}
 use Rattle.cnf_base.specs.Literals.{Clause}
-use Rattle.cnf_base.specs.Stream.{Input, Reader}
+use Rattle.cnf_base.specs.Stream.{Input, Suffix, Reader}
 use Rattle.cnf_base.specs.declared.fault.Fault.{Fault}
 use Rattle.cnf_base.specs.declared.fault.Fault.TheVariants.{Text, Binary, ReadFailed, OutOfMemory}
 use Rattle.dimacs.specs.Formula.{formula_of}
@@ -64,21 +65,21 @@ deciding_among steps (w ∷ ws) (refused r) last d = (length (w ∷ ws), d)
 deciding_among steps (w ∷ ws) no_empty_clause last d = absurd (none-some last d)
 
 -- so its end wasn't passed where no step's was
-pub not_passed : (p : Proof) (rest : Input) → PassesNoEnd p rest → (words : List Accepted) (ending : Ending) (last : PlacedStep)
-    → deciding_step p.steps words ending ≡ Some last → last.rest ≤ length rest.bytes
+pub not_passed : (p : Proof) (rest : Suffix) → PassesNoEnd p rest → (words : List Accepted) (ending : Ending) (last : PlacedStep)
+    → deciding_step p.steps words ending ≡ Some last → rest.offset ≤ last.offset
 not_passed p rest reach words ending last d =
     let at = deciding_among p.steps words ending last d in
     reach at.0 last at.1
 
 -- no step decides where none is to come
-pub LeavesRest-none : (s : State) (fault : Option Fault) (rest : Input) (checked : Checked) → checked.refused ≡ None → LeavesRest s (record { steps = []; fault = fault }) rest checked
+pub LeavesRest-none : (s : State) (fault : Option Fault) (rest : Suffix) (checked : Checked) → checked.refused ≡ None → LeavesRest s (record { steps = []; fault = fault }) rest checked
 LeavesRest-none s fault rest checked none = record {
   past = λ words ending last e d. by words ending last e d;
   refused = λ words ending is e. none ∙ no_end words ending e;
   only = λ _. none;
 }
   where
-    by : (words : List Accepted) (ending : Ending) (last : PlacedStep) → Ends s [] words ending → deciding_step [] words ending ≡ Some last → last.rest ≤ length rest.bytes
+    by : (words : List Accepted) (ending : Ending) (last : PlacedStep) → Ends s [] words ending → deciding_step [] words ending ≡ Some last → rest.offset ≤ last.offset
     by [] verified last e d = absurd (none-some last d)
     by [] (refused r) last e d = absurd (none-some last d)
     by [] no_empty_clause last e d = absurd (none-some last d)
@@ -91,7 +92,7 @@ LeavesRest-none s fault rest checked none = record {
     no_end (w ∷ ws) ending e = absurd e
 
 -- no verdict was answered
-pub LeavesRest-broken : (s : State) (p : Proof) (rest : Input) (checked : Checked) → checked.refused ≡ None → (IsVerdict checked.status → ⊥) → PassesNoEnd p rest
+pub LeavesRest-broken : (s : State) (p : Proof) (rest : Suffix) (checked : Checked) → checked.refused ≡ None → (IsVerdict checked.status → ⊥) → PassesNoEnd p rest
     → LeavesRest s p rest checked
 LeavesRest-broken s p rest checked none broken reach = record {
   past = λ words ending last e d. not_passed p rest reach words ending last d;
@@ -99,16 +100,16 @@ LeavesRest-broken s p rest checked none broken reach = record {
   only = λ _. none;
 }
 
-module _ (s : State) (step : Step) (end : StepEnd) (left : ℕ) (p : Proof) (rest : Input) (checked : Checked) where
+module _ (s : State) (step : Step) (end : StepEnd) (offset : ℕ) (p : Proof) (rest : Suffix) (checked : Checked) where
   abbrev here : PlacedStep
-  here = record { step = step; end = end; rest = left }
+  here = record { step = step; end = end; offset = offset }
 
   -- the check ended with this step, which was refused or not
   pub LeavesRest-decided : (checked.status ≡ NotVerified → IsRefused s step)
       → (checked.status ≡ NotVerified → checked.refused ≡ Some end) → ((checked.status ≡ NotVerified → ⊥) → checked.refused ≡ None)
-      → PassesNoEnd (with_step step end left p) rest → LeavesRest s (with_step step end left p) rest checked
+      → PassesNoEnd (with_step step end offset p) rest → LeavesRest s (with_step step end offset p) rest checked
   LeavesRest-decided refuses told only reach = record {
-    past = λ words ending last e d. not_passed (with_step step end left p) rest reach words ending last d;
+    past = λ words ending last e d. not_passed (with_step step end offset p) rest reach words ending last d;
     refused = λ words ending v e. told v ∙ ended (refuses v) words ending e;
     only = only;
   }
@@ -120,7 +121,7 @@ module _ (s : State) (step : Step) (end : StepEnd) (left : ℕ) (p : Proof) (res
 
   -- it was accepted, and the check went on
   pub LeavesRest-step : (t : State) (word : Accepted) → Answers s step (Ok word) → is_last word ≡ false → Same t (after s step word)
-      → LeavesRest t p rest checked → LeavesRest s (with_step step end left p) rest checked
+      → LeavesRest t p rest checked → LeavesRest s (with_step step end offset p) rest checked
   LeavesRest-step t word a not_last same later = record {
     past = λ words ending last e d. by words ending last e d;
     refused = λ words ending v e. ended words ending v e;
@@ -150,7 +151,7 @@ module _ (s : State) (step : Step) (end : StepEnd) (left : ℕ) (p : Proof) (res
           ends_same (bare_steps p) ws ending (after s step word) t (same_sym t (after s step word) same) ends
 
       by : (words : List Accepted) (ending : Ending) (last : PlacedStep) → Ends s (step ∷ bare_steps p) words ending
-          → deciding_step (here ∷ p.steps) words ending ≡ Some last → last.rest ≤ length rest.bytes
+          → deciding_step (here ∷ p.steps) words ending ≡ Some last → rest.offset ≤ last.offset
       by [] ending last e d = absurd (ok_err word e.0 (answer_unique s step _ _ a e.2))
       by (w ∷ ws) ending last e d =
           let now = goes_on w ws ending e in
@@ -163,7 +164,7 @@ module _ (s : State) (step : Step) (end : StepEnd) (left : ℕ) (p : Proof) (res
 
 -- ---- A whole proof
 
-module _ (rule : Rule) (fault : Option Fault) (clauses : List Clause) (p : Proof) (reader : Reader) (rest : Input) (checked : Checked) (none : checked.refused ≡ None) where
+module _ (rule : Rule) (fault : Option Fault) (clauses : List Clause) (p : Proof) (reader : Reader) (rest : Suffix) (checked : Checked) (none : checked.refused ≡ None) where
   -- no verdict was answered, and nothing was read
   pub LeavesProof-broken : (IsVerdict checked.status → ⊥) → LeavesProof rule fault clauses p reader reader rest checked
   LeavesProof-broken broken = record {
@@ -187,7 +188,7 @@ module _ (rule : Rule) (fault : Option Fault) (clauses : List Clause) (p : Proof
   }
 
 -- the steps were checked
-pub LeavesProof-checked : (rule : Rule) (s : View) (clauses : List Clause) (l : IsLoaded rule s clauses) (p : Proof) (old new : Reader) (rest : Input) (checked : Checked)
+pub LeavesProof-checked : (rule : Rule) (s : View) (clauses : List Clause) (l : IsLoaded rule s clauses) (p : Proof) (old new : Reader) (rest : Suffix) (checked : Checked)
     → s.is_verified ≡ false → LeavesRest s.state p rest checked → LeavesProof rule None clauses p old new rest checked
 LeavesProof-checked rule s clauses l p old new rest checked unverified leaves = record {
   unread = λ n. absurd (needed n);
@@ -210,7 +211,7 @@ LeavesProof-checked rule s clauses l p old new rest checked unverified leaves = 
     ends words ending e = ends_same (bare_steps p) words ending (start rule clauses) s.state (same_sym s.state (start rule clauses) l.state) (MatchBool-at_false _ _ none e)
 
 -- the formula has a fault, or memory ran out
-pub LeavesProof-fault : (rule : Rule) (s : View) (f : Fault) (i : Input) (p : Proof) (reader : Reader) (rest : Input) (checked : Checked) → checked.refused ≡ None
+pub LeavesProof-fault : (rule : Rule) (s : View) (f : Fault) (i : Input) (p : Proof) (reader : Reader) (rest : Suffix) (checked : Checked) → checked.refused ≡ None
     → Loads rule s (Err f) (formula_of i) → (f ≡ OutOfMemory → IsVerdict checked.status → ⊥)
     → LeavesProof rule (formula_of i).fault (formula_of i).clauses p reader reader rest checked
 LeavesProof-fault rule s f i p reader rest checked none loads broken = by f loads broken

@@ -1,8 +1,11 @@
 -- What was read of an input, and of a formula clause by clause.
-use Rattle.std.proofs.Common.{◌≡◌, ℕ, ◌+◌, ◌≤◌, Bool, true, false, List, [], ◌∷◌, ◌++◌, length, Option, None, Some, refl, sym, ap, ◌∙◌, subst, append_assoc, length-append, arith}
+use Rattle.std.proofs.Common.{◌≡◌, ℕ, ◌+◌, ◌≤◌, Bool, true, false, List, [], ◌∷◌, ◌++◌, length}
+use Rattle.std.proofs.Common.{Option, None, Some, refl, sym, ap, ◌∙◌, subst, append_assoc}
+use Rattle.std.proofs.Common.{length-append, arith}
 use Rattle.std.specs.Prelude.{Result, Ok, Err}
 use Rattle.cnf_base.specs.Literals.{Clause}
-use Rattle.cnf_base.specs.Stream.{Input, Reader, Stream, Along, unread_stream, bytes_read}
+use Rattle.cnf_base.specs.Stream.{Input, Suffix, from_start, Reader, Stream, Along, unread_stream}
+use Rattle.cnf_base.specs.Stream.{bytes_read}
 use Rattle.cnf_base.specs.Code.Seen.{OfSeen}
 use Rattle.cnf_base.specs.declared.fault.Fault.{Fault}
 use Rattle.cnf_base.specs.declared.fault.Fault.TheVariants.{Text, Binary, ReadFailed, OutOfMemory}
@@ -10,7 +13,8 @@ use Rattle.cnf_base.specs.declared.place.Place.{Place}
 use Rattle.cnf_base.proofs.SeenLemmas.{Seen-nothing, Seen-run, Seen-fact}
 use Rattle.cnf_base.proofs.StreamLemmas.{Along-then, Along-map, Along-none, Along-within}
 use Rattle.dimacs.specs.Formula.{Body}
-use Rattle.dimacs.specs.Reading.{FormulaReading, clauses_to_come, GivesClause, rests_to_come, PassesNoZero, GivesRest}
+use Rattle.dimacs.specs.Reading.{FormulaReading, clauses_to_come, GivesClause, offsets_to_come}
+use Rattle.dimacs.specs.Reading.{PassesNoZero, GivesOffset}
 
 -- ---- A whole input
 
@@ -20,32 +24,35 @@ seen_nothing P old new same all =
     let Q : Reader → Type 0 = λ r. OfSeen old r P in subst Q same (record { seen = Seen-nothing old; fact = λ i seen. all i })
 
 -- a reader that was fresh was read
-pub seen_run : (P : Place → Input → Type 0) (old : Reader) (borrows : List ℕ) (source last : Stream) (new : Reader)
+pub seen_run : (P : Place → Suffix → Type 0) (old : Reader) (borrows : List ℕ) (source last : Stream) (new : Reader)
     → source ≡ unread_stream old borrows → new ≡ last.reader → Along source last (λ i j. P source.place i)
-    → OfSeen old new (P (record { line = 1; col = 1 }))
+    → OfSeen old new (λ i. P (record { line = 1; col = 1 }) (from_start i))
 seen_run P old borrows source last new is kept run =
     let Q : Stream → Type 0 = λ x. Along x last (λ i j. P x.place i) in
-    let R : Input → Input → Type 0 = λ i j. P (record { line = 1; col = 1 }) i in
-    let S : Reader → Type 0 = λ r. OfSeen old r (P (record { line = 1; col = 1 })) in
-    let from_start = subst Q is run in
+    let R : Suffix → Suffix → Type 0 = λ i j. P (record { line = 1; col = 1 }) i in
+    let S : Reader → Type 0 = λ r. OfSeen old r (λ i. P (record { line = 1; col = 1 }) (from_start i)) in
+    let fresh = subst Q is run in
     subst S (sym kept) (record {
-      seen = Seen-run old borrows last R from_start;
-      fact = λ i seen. (Seen-fact old borrows last R from_start i seen).2;
+      seen = Seen-run old borrows last R fresh;
+      fact = λ i seen. (Seen-fact old borrows last R fresh i seen).2;
     })
 
 -- and of what follows of the input, with how many bytes were read
-pub seen_within : (P : Place → Input → Input → Type 0) (old : Reader) (borrows : List ℕ) (source last : Stream) (new : Reader)
+pub seen_within : (P : Place → Suffix → Suffix → Type 0) (old : Reader) (borrows : List ℕ) (source last : Stream) (new : Reader)
     → source ≡ unread_stream old borrows → new ≡ last.reader → Along source last (λ i j. P source.place i j)
-    → OfSeen old new (λ i. (j : Input) × P (record { line = 1; col = 1 }) i j × (bytes_read old new + length j.bytes ≤ length i.bytes + 65536))
+    → OfSeen old new (λ i. (j : Suffix) × P (record { line = 1; col = 1 }) (from_start i) j × (bytes_read old new ≤ j.offset + 65536))
 seen_within P old borrows source last new is kept run =
     let Q : Stream → Type 0 = λ x. Along x last (λ i j. P x.place i j) in
-    let R : Input → Input → Type 0 = λ i j. P (record { line = 1; col = 1 }) i j × (bytes_read old last.reader + length j.bytes ≤ length i.bytes + 65536) in
-    let S : Reader → Type 0 = λ r. OfSeen old r (λ i. (j : Input) × P (record { line = 1; col = 1 }) i j × (bytes_read old r + length j.bytes ≤ length i.bytes + 65536)) in
+    let R : Suffix → Suffix → Type 0 = λ i j. P (record { line = 1; col = 1 }) i j × (bytes_read old last.reader + i.offset ≤ j.offset + 65536) in
+    let S : Reader → Type 0 = λ r. OfSeen old r (λ i. (j : Suffix) × P (record { line = 1; col = 1 }) (from_start i) j × (bytes_read old r ≤ j.offset + 65536)) in
     let within : Along (unread_stream old borrows) last R = Along-within (unread_stream old borrows) last _ (omega arith) (subst Q is run) in
     subst S (sym kept) (record {
       seen = Seen-run old borrows last R within;
-      fact = λ i seen. let x = Seen-fact old borrows last R within i seen in (x.0, x.2.0, x.2.1);
+      fact = λ i seen. let x = Seen-fact old borrows last R within i seen in (x.0, x.2.0, of_whole (bytes_read old last.reader) x.0.offset x.2.1);
     })
+  where
+    of_whole : (read offset : ℕ) → read + 0 ≤ offset + 65536 → read ≤ offset + 65536
+    of_whole read offset h = omega (arith, h)
 
 -- another fact of what was seen
 pub seen_map : (old new : Reader) (P Q : Input → Type 0) → OfSeen old new P → ((i : Input) → P i → Q i) → OfSeen old new Q
@@ -59,28 +66,28 @@ length_push cs c = length-append cs (c ∷ [])
 abbrev pub with_clauses : List Clause → Body → Body
 with_clauses cs b = record { clauses = cs ++ b.clauses; fault = b.fault }
 
--- these clauses came first, with what follows each, and then the others
+-- these clauses came first, with where each ends, and then the others
 abbrev pub ReadsOn : List Clause → Body → Body → List ℕ → List ℕ → Type 0
-ReadsOn clauses before after rests rests_after =
-    (before ≡ with_clauses clauses after) × ((passed : List ℕ) × (length passed ≡ length clauses) × (rests ≡ passed ++ rests_after))
+ReadsOn clauses before after offsets offsets_after =
+    (before ≡ with_clauses clauses after) × ((passed : List ℕ) × (length passed ≡ length clauses) × (offsets ≡ passed ++ offsets_after))
 
 -- from one moment to another these clauses were read
 pub record Reads (old now : FormulaReading) (clauses : List Clause) : Type 0 where
   pub count : length clauses ≡ now.complete
-  pub run : Along old.stream now.stream (λ i j. ReadsOn clauses (clauses_to_come old i) (clauses_to_come now j) (rests_to_come old i) (rests_to_come now j))
+  pub run : Along old.stream now.stream (λ i j. ReadsOn clauses (clauses_to_come old i) (clauses_to_come now j) (offsets_to_come old i) (offsets_to_come now j))
   pub header : now.header ≡ old.header
 
 -- what a call of the reader gave
 abbrev pub Gave : FormulaReading → FormulaReading → Result Bool Fault → Clause → Type 0
 Gave now new result c = Along now.stream new.stream (λ i j. GivesClause result c (clauses_to_come now i) (clauses_to_come new j)
-    × GivesRest result (rests_to_come now i) (rests_to_come new j) j)
+    × GivesOffset result (offsets_to_come now i) (offsets_to_come new j) j)
 
 -- the `0` of no clause after these was passed
-abbrev pub NonePassed : FormulaReading → List Clause → Input → Input → Type 0
-NonePassed old clauses i k = (later : Body) × (rests : List ℕ) × ReadsOn clauses (clauses_to_come old i) later (rests_to_come old i) rests × PassesNoZero rests k
+abbrev pub NonePassed : FormulaReading → List Clause → Suffix → Suffix → Type 0
+NonePassed old clauses i k = (later : Body) × (offsets : List ℕ) × ReadsOn clauses (clauses_to_come old i) later (offsets_to_come old i) offsets × PassesNoZero offsets k
 
 -- whatever was given, the `0` of no clause that was to come was passed
-pub none_passed : (result : Result Bool Fault) (before after : List ℕ) (rest : Input) → GivesRest result before after rest → PassesNoZero before rest
+pub none_passed : (result : Result Bool Fault) (before after : List ℕ) (rest : Suffix) → GivesOffset result before after rest → PassesNoZero before rest
 none_passed (Ok true) before after rest gives = gives.1
 none_passed (Ok false) before after rest gives = gives
 none_passed (Err f) before after rest gives = gives
@@ -93,7 +100,7 @@ FaultAfter cs f b = b ≡ record { clauses = cs; fault = Some f }
 pub Reads-start : (r : FormulaReading) → r.complete ≡ 0 → Reads r r []
 Reads-start r none = record {
   count = sym none;
-  run = Along-map _ _ _ _ (Along-none r.stream) (λ i j m e. (ap (clauses_to_come r) e, ([], refl, ap (rests_to_come r) e)));
+  run = Along-map _ _ _ _ (Along-none r.stream) (λ i j m e. (ap (clauses_to_come r) e, ([], refl, ap (offsets_to_come r) e)));
   header = refl;
 }
 
@@ -106,9 +113,9 @@ module _ (old now new : FormulaReading) (clauses : List Clause) (so_far : Reads 
       p.0 ∙ ap (with_clauses clauses) q.0
           ∙ ap (λ cs. record { clauses = cs; fault = (clauses_to_come new k).fault }) (clauses_assoc clauses (clauses_to_come new k).clauses),
       (
-        p.1.0 ++ length k.bytes ∷ [],
-        length-append p.1.0 (length k.bytes ∷ []) ∙ ap (λ n. n + 1) p.1.1 ∙ sym (length_push clauses c),
-        p.1.2 ∙ ap (λ r. p.1.0 ++ r) q.1.0 ∙ sym (append_assoc p.1.0 (length k.bytes ∷ []) (rests_to_come new k)),
+        p.1.0 ++ k.offset ∷ [],
+        length-append p.1.0 (k.offset ∷ []) ∙ ap (λ n. n + 1) p.1.1 ∙ sym (length_push clauses c),
+        p.1.2 ∙ ap (λ r. p.1.0 ++ r) q.1.0 ∙ sym (append_assoc p.1.0 (k.offset ∷ []) (offsets_to_come new k)),
       ),
     ));
     header = header ∙ so_far.header;
@@ -119,7 +126,7 @@ module _ (old now new : FormulaReading) (clauses : List Clause) (so_far : Reads 
       clauses_assoc (b ∷ cs) ds = ap (λ t. b ∷ t) (clauses_assoc cs ds)
 
   -- nothing follows these clauses
-  after : (o : Option Fault) (i : Input) → clauses_to_come old i ≡ with_clauses clauses (record { clauses = []; fault = o })
+  after : (o : Option Fault) (i : Suffix) → clauses_to_come old i ≡ with_clauses clauses (record { clauses = []; fault = o })
       → clauses_to_come old i ≡ record { clauses = clauses; fault = o }
   after o i e = e ∙ ap (λ cs. record { clauses = cs; fault = o }) (no_more clauses)
     where
@@ -128,9 +135,9 @@ module _ (old now new : FormulaReading) (clauses : List Clause) (so_far : Reads 
       no_more (b ∷ cs) = ap (λ t. b ∷ t) (no_more cs)
 
   -- so it is where a call gave anything
-  passed : (result : Result Bool Fault) (i j k : Input) → ReadsOn clauses (clauses_to_come old i) (clauses_to_come now j) (rests_to_come old i) (rests_to_come now j)
-      → GivesRest result (rests_to_come now j) (rests_to_come new k) k → NonePassed old clauses i k
-  passed result i j k p gives = (clauses_to_come now j, rests_to_come now j, p, none_passed result _ (rests_to_come new k) k gives)
+  passed : (result : Result Bool Fault) (i j k : Suffix) → ReadsOn clauses (clauses_to_come old i) (clauses_to_come now j) (offsets_to_come old i) (offsets_to_come now j)
+      → GivesOffset result (offsets_to_come now j) (offsets_to_come new k) k → NonePassed old clauses i k
+  passed result i j k p gives = (clauses_to_come now j, offsets_to_come now j, p, none_passed result _ (offsets_to_come new k) k gives)
 
   pub Reads-done : Gave now new (Ok false) c
       → Along old.stream new.stream (λ i j. (clauses_to_come old i ≡ record { clauses = clauses; fault = None }) × NonePassed old clauses i j)

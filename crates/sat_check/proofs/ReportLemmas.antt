@@ -1,5 +1,6 @@
 -- A whole report.
-use Rattle.std.proofs.Common.{◌≡◌, ℕ, ◌≤◌, max, Bool, true, false, ◌||◌, Option, None, Some, List, [], ◌∷◌, refl, sym, ap, ◌∙◌, subst, codes, arith}
+use Rattle.std.proofs.Common.{◌≡◌, ℕ, ◌≤◌, max, Bool, true, false, ◌||◌, Option, None, Some, List}
+use Rattle.std.proofs.Common.{[], ◌∷◌, refl, sym, ap, ◌∙◌, subst, codes, arith}
 use Rattle.std.specs.Prelude.{Result, Ok, Err}
 use Rattle.std.specs.Bool.{MatchBool}
 use Rattle.cnf_base.specs.Literals.{Clause}
@@ -20,7 +21,8 @@ use Rattle.theory.proofs.LawLemmas.Existence.{same_finite, start_finite}
 use Rattle.theory.proofs.LawLemmas.Rules.{sum_same}
 use Rattle.theory.proofs.LawLemmas.Verdicts.{ends_same, some_ending, some_verdict}
 use Rattle.sat_check.specs.Lines.{a_proof, formula_line, steps_line, fault_line, fault_status}
-use Rattle.sat_check.specs.Report.{Report, Outcome, Reports, concluded, with_lines, Checks, ReportsFormula, ProofReport, bare_steps, peak_of, proof_report}
+use Rattle.sat_check.specs.Report.{Report, Outcome, Reports, concluded, with_lines, Checks}
+use Rattle.sat_check.specs.Report.{ReportsFormula, ProofReport, bare_steps, peak_of, proof_report}
 use Rattle.sat_check.specs.Code.Checking.{IsLoaded, Loads, Rest}
 use Rattle.sat_check.proofs.ShownLemmas.{steps_same}
 use Rattle.sat_check.specs.declared.status.Status.{Status}

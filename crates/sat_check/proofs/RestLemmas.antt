@@ -1,5 +1,6 @@
 -- The rest of a report, step by step.
-use Rattle.std.proofs.Common.{◌≡◌, ℕ, ◌+◌, ◌≤◌, max, cond, Bool, true, false, None, Some, List, [], ◌∷◌, length, refl, sym, ap, ◌∙◌, subst, arith, Ok, Err}
+use Rattle.std.proofs.Common.{◌≡◌, ℕ, ◌+◌, ◌≤◌, max, cond, Bool, true, false, None, Some, List, []}
+use Rattle.std.proofs.Common.{◌∷◌, length, refl, sym, ap, ◌∙◌, subst, arith, Ok, Err}
 use Rattle.std.specs.Bool.{MatchBool}
 use Rattle.cnf_base.specs.declared.fault.Fault.{Fault}
 use Rattle.proofs.specs.Steps.{Step}
@@ -12,7 +13,8 @@ use Rattle.theory.specs.Rules.{State, Answers, after, sum_of, Same, IsFinite}
 use Rattle.theory.specs.Verdicts.{verified, refused, no_empty_clause, is_last, Ends}
 use Rattle.theory.proofs.LawLemmas.Rules.{after_same, sum_same}
 use Rattle.sat_check.specs.Lines.{a_proof, refusal_line, steps_line}
-use Rattle.sat_check.specs.Report.{Report, concluded, with_lines, trace_lines, end_report, verdict_report, peak_of, bare_steps, proof_report}
+use Rattle.sat_check.specs.Report.{Report, concluded, with_lines, trace_lines, end_report}
+use Rattle.sat_check.specs.Report.{verdict_report, peak_of, bare_steps, proof_report}
 use Rattle.sat_check.specs.Code.Checking.{Rest, traced}
 use Rattle.sat_check.specs.declared.status.Status.TheVariants.{Verified, NotVerified}
 use Rattle.theory.proofs.LawLemmas.Verdicts.{ends_same, some_ending}
@@ -50,8 +52,8 @@ module _ (trace : Bool) (s : State) (n peak : ℕ) where
       let v = some_ending (bare_steps p) s b in
       (proof_report trace n (max peak (peak_of s (bare_steps p) v.0)) v.0 v.1 p.fault, record { words = v.0; ending = v.1; verdict = v.2; report = refl })
 
-  module _ (st : Step) (end : StepEnd) (left : ℕ) (p : Proof) where
-    pub Rest-refused : (r : Refusal) → Answers s st (Err r) → Rest trace s n peak (with_step st end left p) (concluded a_proof (refusal_line (n + 1) r) NotVerified)
+  module _ (st : Step) (end : StepEnd) (offset : ℕ) (p : Proof) where
+    pub Rest-refused : (r : Refusal) → Answers s st (Err r) → Rest trace s n peak (with_step st end offset p) (concluded a_proof (refusal_line (n + 1) r) NotVerified)
     Rest-refused r a = record {
       words = [];
       ending = refused r;
@@ -61,7 +63,7 @@ module _ (trace : Bool) (s : State) (n peak : ℕ) where
     }
 
     pub Rest-verified : (t : State) → Answers s st (Ok Empty) → Same t (after s st Empty) → sum_of s ≤ peak
-        → Rest trace s n peak (with_step st end left p) (with_lines (traced trace (n + 1) Empty) (concluded a_proof (steps_line (n + 1) (max peak (sum_of t))) Verified))
+        → Rest trace s n peak (with_step st end offset p) (with_lines (traced trace (n + 1) Empty) (concluded a_proof (steps_line (n + 1) (max peak (sum_of t))) Verified))
     Rest-verified t a same least = record {
       words = Empty ∷ [];
       ending = verified;
@@ -77,7 +79,7 @@ module _ (trace : Bool) (s : State) (n peak : ℕ) where
 
     pub Rest-step : (word : Accepted) (t : State) (r : Report) → Answers s st (Ok word) → is_last word ≡ false
         → Same t (after s st word) → sum_of s ≤ peak → Rest trace t (n + 1) (max peak (sum_of t)) p r
-        → Rest trace s n peak (with_step st end left p) (with_lines (traced trace (n + 1) word) r)
+        → Rest trace s n peak (with_step st end offset p) (with_lines (traced trace (n + 1) word) r)
     Rest-step word t r a not_last same least rest = record {
       words = word ∷ rest.words;
       ending = rest.ending;

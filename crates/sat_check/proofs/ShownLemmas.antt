@@ -1,5 +1,6 @@
 -- Numbers are shown up to the greatest of 64 bits.
-use Rattle.std.proofs.Common.{◌≡◌, ℕ, ◌-◌, ◌^◌, min, Bool, true, false, [], ◌∷◌, ◌++◌, refl, ap, ◌∙◌, codes, decimal, arith}
+use Rattle.std.proofs.Common.{◌≡◌, ℕ, ◌-◌, ◌^◌, min, Bool, true, false, [], ◌∷◌, ◌++◌, refl, ap}
+use Rattle.std.proofs.Common.{◌∙◌, codes, decimal, arith}
 use Rattle.theory.specs.declared.accepted.Accepted.{Accepted}
 use Rattle.theory.specs.declared.refusal.Refusal.{Refusal}
 use Rattle.sat_check.specs.Lines.{shown, word_text, refusal_line, with_cause, steps_line}

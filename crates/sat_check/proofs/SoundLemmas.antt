@@ -1,5 +1,6 @@
 -- What status 0 and a written `s VERIFIED` mean.
-use Rattle.std.proofs.Common.{◌≡◌, ℕ, ◌+◌, Bool, Option, None, Some, List, length, refl, sym, ap, ◌∙◌, subst, slice_get, inl, inr}
+use Rattle.std.proofs.Common.{◌≡◌, ℕ, ◌+◌, Bool, Option, None, Some, List, length, refl, sym, ap}
+use Rattle.std.proofs.Common.{◌∙◌, subst, slice_get, inl, inr}
 use Rattle.cnf_base.specs.Seen.{OfBothSeen}
 use Rattle.cnf_base.specs.Stream.{Input, Reader}
 use Rattle.cnf_base.specs.declared.fault.Fault.{Fault}
@@ -16,10 +17,13 @@ use Rattle.theory.proofs.LawLemmas.Verdicts.{verdict_sound, verdict_unique}
 use Rattle.sat_check.specs.Code.Checking.{AllReports}
 use Rattle.sat_check.specs.Lines.{fault_status, text_status}
 use Rattle.sat_check.specs.Reach.{ReadsNoFurther, TellsRefused}
-use Rattle.sat_check.specs.Report.{Report, Outcome, ReportsFormula, ProofReport, Verifies, Reports, ChecksProof, IsUnlessBroken, bare_steps, peak_of, verdict_report}
+use Rattle.sat_check.specs.Report.{Report, Outcome, ReportsFormula, ProofReport, Verifies, Reports}
+use Rattle.sat_check.specs.Report.{ChecksProof, IsUnlessBroken, bare_steps, peak_of, verdict_report}
 use Rattle.sat_check.specs.declared.checked.Checked.{Checked}
 use Rattle.sat_check.specs.declared.status.Status.{Status}
-use Rattle.sat_check.specs.declared.status.Status.TheVariants.{Verified, NotVerified, Malformed, ReadFailed, OutOfMemory, WriteFailed, Usage}
+use Rattle.sat_check.specs.declared.status.Status.TheVariants.{Verified, NotVerified, Malformed}
+use Rattle.sat_check.specs.declared.status.Status.TheVariants.{ReadFailed, OutOfMemory, WriteFailed}
+use Rattle.sat_check.specs.declared.status.Status.TheVariants.{Usage}
 use Rattle.sat_check.proofs.OutcomeLemmas.{both_told}
 use Rattle.sat_check.proofs.WrittenLemmas.{written_verified}
 
@@ -103,20 +107,20 @@ checks_proof rule trace i p old new status x = record {
 abbrev pub AllChecks : Rule → Bool → (Input → Proof) → Reader → Reader → Reader → Reader → Checked → Option (List ℕ) → Option (List ℕ) → Type 0
 AllChecks rule trace steps formula formula_new proof proof_new checked old new =
     OfBothSeen formula formula_new proof proof_new (λ i j. ChecksProof rule trace i (steps j) old new checked.status
-    × ReadsNoFurther rule (formula_of i) j (steps j) proof proof_new × TellsRefused rule (formula_of i).fault (formula_of i).clauses (steps j) checked)
+    × ReadsNoFurther rule (formula_of i) (steps j) proof proof_new × TellsRefused rule (formula_of i).fault (formula_of i).clauses (steps j) checked)
 
 pub both_check_proof : (rule : Rule) (trace : Bool) (steps : Input → Proof) (formula formula_new proof proof_new : Reader) (checked : Checked) (old new first last : Option (List ℕ)) → old ≡ first → new ≡ last
     → AllReports rule trace steps formula formula_new proof proof_new checked old new → AllChecks rule trace steps formula formula_new proof proof_new checked first last
 both_check_proof rule trace steps formula formula_new proof proof_new checked old new first last before after =
     both_told formula formula_new proof proof_new (λ x y i j. Reports rule trace i (steps j) x y checked.status
-    × ReadsNoFurther rule (formula_of i) j (steps j) proof proof_new × TellsRefused rule (formula_of i).fault (formula_of i).clauses (steps j) checked)
+    × ReadsNoFurther rule (formula_of i) (steps j) proof proof_new × TellsRefused rule (formula_of i).fault (formula_of i).clauses (steps j) checked)
     _ old new first last before after (λ i j x. (checks_proof rule trace i (steps j) first last checked.status x.0, x.1, x.2))
 
 -- without where the refused step ends
 pub unplaced : (rule : Rule) (trace : Bool) (steps : Input → Proof) (formula formula_new proof proof_new : Reader) (checked : Checked) (old new : Option (List ℕ))
     → AllChecks rule trace steps formula formula_new proof proof_new checked old new
     → OfBothSeen formula formula_new proof proof_new (λ i j. ChecksProof rule trace i (steps j) old new checked.status
-    × ReadsNoFurther rule (formula_of i) j (steps j) proof proof_new)
+    × ReadsNoFurther rule (formula_of i) (steps j) proof proof_new)
 unplaced rule trace steps formula formula_new proof proof_new checked old new all = record {
   first = all.first;
   second = all.second;

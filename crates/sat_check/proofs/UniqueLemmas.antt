@@ -10,7 +10,8 @@ use Rattle.theory.specs.Verdicts.{Ending}
 use Rattle.theory.specs.declared.accepted.Accepted.{Accepted}
 use Rattle.theory.proofs.LawLemmas.Verdicts.{verdict_unique}
 use Rattle.sat_check.specs.Lines.{formula_line}
-use Rattle.sat_check.specs.Report.{Report, Checks, ReportsFormula, ReportsAreUnique, with_lines, proof_report, peak_of, bare_steps}
+use Rattle.sat_check.specs.Report.{Report, Checks, ReportsFormula, ReportsAreUnique, with_lines}
+use Rattle.sat_check.specs.Report.{proof_report, peak_of, bare_steps}
 
 checks_unique : (rule : Rule) (trace : Bool) (h : Header) (clauses : List Clause) (p : Proof) (first second : Report)
     → Checks rule trace h clauses p first → Checks rule trace h clauses p second → first ≡ second

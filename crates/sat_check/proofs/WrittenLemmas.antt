@@ -1,5 +1,8 @@
 -- A line that was written is one of the report's.
-use Rattle.std.proofs.Common.{◌≡◌, ℕ, zero, suc, ◌+◌, ◌-◌, ◌/◌, ◌%◌, ◌^◌, ◌==◌, ◌&&◌, ◌||◌, min, if◌then◌else◌, cond, Bool, true, false, not, Option, None, Some, List, [], ◌∷◌, ◌++◌, length, codes, refl, sym, ap, ◌∙◌, subst, append_assoc, arith}
+use Rattle.std.proofs.Common.{◌≡◌, ℕ, zero, suc, ◌+◌, ◌-◌, ◌/◌, ◌%◌, ◌^◌, ◌==◌, ◌&&◌, ◌||◌, min}
+use Rattle.std.proofs.Common.{if◌then◌else◌, cond, Bool, true, false, not, Option, None, Some, List}
+use Rattle.std.proofs.Common.{[], ◌∷◌, ◌++◌, length, codes, refl, sym, ap, ◌∙◌, subst, append_assoc}
+use Rattle.std.proofs.Common.{arith}
 use Rattle.std.specs.Prelude.{decimal}
 use Rattle.std.specs.Fmt.{digits, digits_onto, digit_glyph}
 use Rattle.std.specs.List.{list_all, list_any, onto_first}
@@ -29,11 +32,17 @@ use Rattle.theory.specs.declared.accepted.Accepted.TheVariants.{Rup, Rat, Pr, De
 use Rattle.theory.specs.declared.accepted.Accepted.TheVariants.{Empty}
 use Rattle.theory.specs.declared.refusal.Refusal.{Refusal}
 use Rattle.theory.specs.declared.refusal.Refusal.TheVariants as refusal
-use Rattle.sat_check.specs.Lines.{a_proof, shown, formula_line, kind_text, binary_text, fault_line, fault_status, word_text, trace_line, sign_text, with_cause, refusal_line, steps_line, end_line, sentence}
-use Rattle.sat_check.specs.Report.{Report, Outcome, text_of, concluded, with_lines, trace_lines, verdict_report, proof_report, ReportsFormula, ProofReport, HasWritten}
+use Rattle.sat_check.specs.Lines.{a_proof, shown, formula_line, kind_text, binary_text, fault_line}
+use Rattle.sat_check.specs.Lines.{fault_status, word_text, trace_line, sign_text, with_cause}
+use Rattle.sat_check.specs.Lines.{refusal_line, steps_line, end_line, sentence}
+use Rattle.sat_check.specs.Report.{Report, Outcome, text_of, concluded, with_lines, trace_lines}
+use Rattle.sat_check.specs.Report.{verdict_report, proof_report, ReportsFormula, ProofReport}
+use Rattle.sat_check.specs.Report.{HasWritten}
 use Rattle.sat_check.proofs.OutcomeLemmas.{text_of-append}
 use Rattle.sat_check.specs.declared.status.Status.{Status}
-use Rattle.sat_check.specs.declared.status.Status.TheVariants.{Verified, NotVerified, Malformed, ReadFailed, OutOfMemory, WriteFailed, Usage}
+use Rattle.sat_check.specs.declared.status.Status.TheVariants.{Verified, NotVerified, Malformed}
+use Rattle.sat_check.specs.declared.status.Status.TheVariants.{ReadFailed, OutOfMemory, WriteFailed}
+use Rattle.sat_check.specs.declared.status.Status.TheVariants.{Usage}
 
 -- ---- Texts without a line feed
 

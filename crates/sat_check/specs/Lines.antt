@@ -1,5 +1,7 @@
--- The lines of a report (`s VERIFIED` and `s NOT VERIFIED` are those of DRAT-trim; all others are our own profile).
-use Rattle.std.specs.Prelude.{ℕ, ◌-◌, ◌/◌, ◌%◌, ◌^◌, ◌==◌, min, if◌then◌else◌, List, [], ◌++◌, codes, decimal}
+-- The lines of a report (`s VERIFIED` and `s NOT VERIFIED` are those of DRAT-trim; all others are
+-- our own profile).
+use Rattle.std.specs.Prelude.{ℕ, ◌-◌, ◌/◌, ◌%◌, ◌^◌, ◌==◌, min, if◌then◌else◌, List, [], ◌++◌}
+use Rattle.std.specs.Prelude.{codes, decimal}
 use Rattle.cnf_base.specs.Literals.{Literal}
 use Rattle.cnf_base.specs.declared.fault.Fault.{Fault}
 use Rattle.cnf_base.specs.declared.fault.Fault.TheVariants as fault
@@ -20,11 +22,15 @@ use Rattle.sat_check.specs.declared.status.Status.TheVariants as status
 abbrev pub shown : ℕ → List ℕ
 shown n = decimal (min n (2 ^ 64 - 1))
 
+-- the line of a formula's header
 abbrev pub formula_line : Header → List ℕ
-formula_line h = codes "c formula " ++ decimal h.vars ++ codes " variables " ++ decimal h.clauses ++ codes " clauses"
+formula_line h =
+    codes "c formula " ++ decimal h.vars ++ codes " variables " ++ decimal h.clauses
+    ++ codes " clauses"
 
 -- ---- Faults
 
+-- the text of a fault in a text
 abbrev pub kind_text : TextFault → List ℕ
 kind_text text.BadHeader = codes "bad header"
 kind_text text.NumberTooLarge = codes "number too large"
@@ -44,6 +50,7 @@ kind_text text.LiteralTooLarge = codes "literal too large"
 kind_text text.IdTooLarge = codes "identifier too large"
 kind_text text.UnterminatedStep = codes "unterminated step"
 
+-- the text of a fault in a binary proof
 abbrev pub binary_text : BinaryFault → List ℕ
 binary_text binary.LiteralTooLarge = codes "literal too large"
 binary_text binary.UnterminatedStep = codes "unterminated step"
@@ -52,16 +59,21 @@ binary_text binary.BadNumber = codes "bad number"
 
 -- the line of a fault in the input of this name; want of memory has none
 abbrev pub fault_line : List ℕ → Fault → List ℕ
-fault_line name (fault.Text kind p) = codes "c " ++ name ++ codes " " ++ decimal p.line ++ codes ":" ++ decimal p.col ++ codes ": " ++ kind_text kind
-fault_line name (fault.Binary kind n) = codes "c " ++ name ++ codes " byte " ++ decimal n ++ codes ": " ++ binary_text kind
+fault_line name (fault.Text kind p) =
+    codes "c " ++ name ++ codes " " ++ decimal p.line ++ codes ":" ++ decimal p.col ++ codes ": "
+    ++ kind_text kind
+fault_line name (fault.Binary kind n) =
+    codes "c " ++ name ++ codes " byte " ++ decimal n ++ codes ": " ++ binary_text kind
 fault_line name fault.ReadFailed = codes "c cannot read " ++ name
 fault_line name fault.OutOfMemory = []
 
+-- the status of a fault in a text: an output that claims no model is well formed
 abbrev pub text_status : TextFault → Status
 text_status text.NotClaimed = status.NotVerified
 text_status text.Complement = status.NotVerified
 text_status _ = status.Malformed
 
+-- the status of a fault
 abbrev pub fault_status : Fault → Status
 fault_status (fault.Text kind p) = text_status kind
 fault_status (fault.Binary kind n) = status.Malformed
@@ -70,6 +82,7 @@ fault_status fault.OutOfMemory = status.OutOfMemory
 
 -- ---- Steps
 
+-- the words of an accepted step
 abbrev pub word_text : Accepted → List ℕ
 word_text Rup = codes " add rup"
 word_text Rat = codes " add rat"
@@ -82,23 +95,29 @@ word_text Empty = codes " add rup"
 abbrev pub trace_line : ℕ → Accepted → List ℕ
 trace_line n word = codes "c " ++ shown n ++ word_text word
 
+-- the sign of a literal
 abbrev pub sign_text : Literal → List ℕ
 sign_text l = if l % 2 == 0 then [] else codes "-"
 
 -- the line so far, with the cause of a refusal
 abbrev pub with_cause : List ℕ → Refusal → List ℕ
 with_cause front refusal.NotRup = front ++ codes "not RUP"
-with_cause front (refusal.NeitherRupNorRat l) = front ++ codes "neither RUP nor RAT on " ++ sign_text l ++ decimal (l / 2)
+with_cause front (refusal.NeitherRupNorRat l) =
+    front ++ codes "neither RUP nor RAT on " ++ sign_text l ++ decimal (l / 2)
 with_cause front refusal.NotAlive = front ++ codes "clause is not alive"
 with_cause front refusal.InconsistentSet = front ++ codes "set holds a literal and its complement"
 with_cause front refusal.NeitherRupNorPr = front ++ codes "neither RUP nor PR"
 with_cause front refusal.IdOutOfOrder = front ++ codes "identifier is not above all earlier ones"
 with_cause front (refusal.UnknownId k) = front ++ codes "unknown id " ++ decimal k
 with_cause front (refusal.NotUnit k) = front ++ codes "hint " ++ decimal k ++ codes " is not unit"
-with_cause front (refusal.NotCandidate k) = front ++ codes "clause " ++ decimal k ++ codes " does not hold the complement"
-with_cause front (refusal.NamedTwice k) = front ++ codes "clause " ++ decimal k ++ codes " is named twice"
-with_cause front (refusal.GroupWithoutConflict k) = front ++ codes "group " ++ decimal k ++ codes " has no conflict"
-with_cause front (refusal.Unnamed k) = front ++ codes "clause " ++ decimal k ++ codes " holds the complement and is not named"
+with_cause front (refusal.NotCandidate k) =
+    front ++ codes "clause " ++ decimal k ++ codes " does not hold the complement"
+with_cause front (refusal.NamedTwice k) =
+    front ++ codes "clause " ++ decimal k ++ codes " is named twice"
+with_cause front (refusal.GroupWithoutConflict k) =
+    front ++ codes "group " ++ decimal k ++ codes " has no conflict"
+with_cause front (refusal.Unnamed k) =
+    front ++ codes "clause " ++ decimal k ++ codes " holds the complement and is not named"
 with_cause front refusal.NoConflict = front ++ codes "no conflict"
 with_cause front refusal.OutOfMemory = front
 with_cause front refusal.Ended = front
@@ -111,6 +130,7 @@ refusal_line n r = with_cause (codes "c step " ++ shown n ++ codes ": ") r
 abbrev pub steps_line : ℕ → ℕ → List ℕ
 steps_line n peak = codes "c steps " ++ shown n ++ codes " peak " ++ shown peak
 
+-- the line of a proof that ends without the empty clause
 abbrev pub end_line : List ℕ
 end_line = codes "c end: no empty clause"
 

@@ -1,12 +1,13 @@
--- What a check of a model writes, and how it ends (our own profile: only listed literals are true, and the first clause that has
--- none is told).
-use Rattle.std.specs.Prelude.{◌≡◌, ℕ, ◌+◌, ◌-◌, ◌≤◌, if◌then◌else◌, slice_get, IsTrue, Bool, List, [], ◌∷◌, length, Option, None, Some, Result, Ok, Err, codes}
+-- What a check of a model writes, and how it ends (our own profile: only listed literals are true,
+-- and the first clause that has none is told).
+use Rattle.std.specs.Prelude.{◌≡◌, ℕ, ◌+◌, ◌-◌, ◌≤◌, if◌then◌else◌, slice_get, IsTrue, Bool, List}
+use Rattle.std.specs.Prelude.{[], ◌∷◌, length, Option, None, Some, Result, Ok, Err, codes}
 use Rattle.std.specs.List.{list_any}
 use Rattle.cnf_base.specs.Literals.{Literal, Clause, has}
 use Rattle.cnf_base.specs.Stream.{Input, Reader, bytes_read}
 use Rattle.cnf_base.specs.declared.fault.Fault.{Fault}
 use Rattle.dimacs.specs.Claim.{claim_of, IsConsistent}
-use Rattle.dimacs.specs.Formula.{Formula, formula_of, clause_rests}
+use Rattle.dimacs.specs.Formula.{Formula, formula_of, clause_offsets}
 use Rattle.sat_check.specs.Lines.{a_model, unmet_line, clauses_line, fault_line, fault_status}
 use Rattle.sat_check.specs.Report.{Report, Outcome, IsUnlessBroken, concluded}
 use Rattle.theory.specs.Models.{HasModel}
@@ -17,7 +18,8 @@ use Rattle.sat_check.specs.declared.status.Status.TheVariants.{Verified, NotVeri
 abbrev pub meets : List Literal → Clause → Bool
 meets listed c = list_any (has listed) c
 
--- the number of the first clause that has no listed literal, where the first of these has this number
+-- the number of the first clause that has no listed literal, where the first of these has this
+-- number
 abbrev pub first_unmet : ℕ → List Literal → List Clause → Option ℕ
 first_unmet k listed [] = None
 first_unmet k listed (c ∷ cs) = if meets listed c then first_unmet (k + 1) listed cs else Some k
@@ -37,6 +39,7 @@ abbrev pub claim_report : Result (List Literal) Fault → Formula → Report
 claim_report (Ok listed) f = clauses_report (first_unmet 1 listed f.clauses) f
 claim_report (Err e) f = concluded a_model (fault_line (codes "output") e) (fault_status e)
 
+-- the report of a formula and a solver's output
 abbrev pub model_report : (formula output : Input) → Report
 model_report formula output = claim_report (claim_of output) (formula_of formula)
 
@@ -47,20 +50,25 @@ pub record Satisfies (claim : Result (List Literal) Fault) (clauses : List Claus
   pub consistent : IsConsistent listed
   pub met : (k : ℕ) (c : Clause) → slice_get clauses k ≡ Some c → IsTrue (meets listed c)
 
--- No more of a formula was read than a claim takes, also where memory or the writer failed: where the output has a fault
--- the formula's reader is as it was, and where some clause isn't met, the first such clause ends with a `0`, and at most
--- 65536 bytes past that were read.
-pub record ReadsFormulaNoFurther (claim : Result (List Literal) Fault) (formula : Input) (old new : Reader) : Type 0 where
+-- No more of a formula was read than a claim takes, also where memory or the writer failed: where
+-- the output has a fault the formula's reader is as it was, and where some clause isn't met, the
+-- first such clause ends with a `0`, and at most 65536 bytes past that were read.
+pub record ReadsFormulaNoFurther (claim : Result (List Literal) Fault) (formula : Input)
+    (old new : Reader) : Type 0 where
   pub unread : (f : Fault) → claim ≡ Err f → new ≡ old
-  pub past : (listed : List Literal) (k : ℕ) → claim ≡ Ok listed → first_unmet 1 listed (formula_of formula).clauses ≡ Some k
-      → (rest : ℕ) × (slice_get (clause_rests formula) (k - 1) ≡ Some rest) × (bytes_read old new + rest ≤ length formula.bytes + 65536)
+  pub past : (listed : List Literal) (k : ℕ) → claim ≡ Ok listed →
+      first_unmet 1 listed (formula_of formula).clauses ≡ Some k
+      → (offset : ℕ) × (slice_get (clause_offsets formula) (k - 1) ≡ Some offset)
+      × (bytes_read old new ≤ offset + 65536)
 
--- A run checked the model that this output claims of this formula: what it wrote and its status are those of the report.
--- Status 0 is answered exactly where the formula has no fault and the claim satisfies its clauses, unless memory or the
--- writer failed. Where it is, the formula has a model.
-pub record ChecksModel (formula output : Input) (old new : Option (List ℕ)) (status : Status) : Type 0 where
+-- A run checked the model that this output claims of this formula: what it wrote and its status are
+-- those of the report. Status 0 is answered exactly where the formula has no fault and the claim
+-- satisfies its clauses, unless memory or the writer failed. Where it is, the formula has a model.
+pub record ChecksModel (formula output : Input) (old new : Option (List ℕ)) (status : Status)
+    : Type 0 where
   pub outcome : Outcome status old new (model_report formula output)
   pub whole : status ≡ Verified → (formula_of formula).fault ≡ None
   pub satisfied : status ≡ Verified → Satisfies (claim_of output) (formula_of formula).clauses
-  pub complete : (formula_of formula).fault ≡ None → Satisfies (claim_of output) (formula_of formula).clauses → IsUnlessBroken Verified status
+  pub complete : (formula_of formula).fault ≡ None →
+      Satisfies (claim_of output) (formula_of formula).clauses → IsUnlessBroken Verified status
   pub has_model : status ≡ Verified → HasModel (slice_get (formula_of formula).clauses)

@@ -1,8 +1,9 @@
 -- How far a proof is read, and where the step ends that is refused.
 use Rattle.std.specs.List.{list_any}
-use Rattle.std.specs.Prelude.{List, [], ◌∷◌, length, slice_get, Option, None, Some, ◌≡◌, ◌⊎◌, true, ◌+◌, ◌≤◌}
+use Rattle.std.specs.Prelude.{List, [], ◌∷◌, length, slice_get, Option, None, Some, ◌≡◌, ◌⊎◌, true}
+use Rattle.std.specs.Prelude.{◌+◌, ◌≤◌}
 use Rattle.cnf_base.specs.Literals.{Clause}
-use Rattle.cnf_base.specs.Stream.{Input, Reader, bytes_read}
+use Rattle.cnf_base.specs.Stream.{Reader, bytes_read}
 use Rattle.cnf_base.specs.declared.fault.Fault.{Fault}
 use Rattle.dimacs.specs.Formula.{Formula}
 use Rattle.proofs.specs.Reading.{PlacedStep, Proof}
@@ -14,8 +15,8 @@ use Rattle.sat_check.specs.Report.{bare_steps}
 use Rattle.sat_check.specs.declared.checked.Checked.{Checked}
 use Rattle.sat_check.specs.declared.status.Status.TheVariants.{NotVerified}
 
--- the step that decides: the accepted empty clause, or the step that is refused; none where a clause of the formula
--- decides, or no step does
+-- the step that decides: the accepted empty clause, or the step that is refused; none where a
+-- clause of the formula decides, or no step does
 abbrev pub deciding_step : List PlacedStep → List Accepted → Ending → Option PlacedStep
 deciding_step steps [] verified = None
 deciding_step steps (word ∷ words) verified = slice_get steps (length words)
@@ -27,6 +28,7 @@ abbrev pub end_of : Option PlacedStep → Option StepEnd
 end_of None = None
 end_of (Some placed) = Some placed.end
 
+-- where the step ends that is refused, by the verdict
 abbrev pub refused_end : List PlacedStep → List Accepted → Ending → Option StepEnd
 refused_end steps words verified = None
 refused_end steps words (refused r) = end_of (slice_get steps (length words))
@@ -36,17 +38,23 @@ refused_end steps words no_empty_clause = None
 abbrev pub NeedsNoProof : Option Fault → List Clause → Type 0
 NeedsNoProof fault clauses = (¬ (fault ≡ None)) ⊎ (list_any is_empty clauses ≡ true)
 
--- No more of a proof was read than it takes, also where memory or the writer failed: where the formula decides alone the
--- reader is as it was, and where a step decides, at most 65536 bytes past its end were read.
-pub record ReadsNoFurther (rule : Rule) (f : Formula) (proof : Input) (p : Proof) (old new : Reader) : Type 0 where
+-- No more of a proof was read than it takes, also where memory or the writer failed: where the
+-- formula decides alone the reader is as it was, and where a step decides, at most 65536 bytes past
+-- its end were read.
+pub record ReadsNoFurther (rule : Rule) (f : Formula) (p : Proof) (old new : Reader) : Type 0 where
   pub unread : NeedsNoProof f.fault f.clauses → new ≡ old
   pub past : (words : List Accepted) (ending : Ending) (last : PlacedStep) → f.fault ≡ None
-      → Verdict rule f.clauses (bare_steps p) words ending → deciding_step p.steps words ending ≡ Some last
-      → bytes_read old new + last.rest ≤ length proof.bytes + 65536
+      → Verdict rule f.clauses (bare_steps p) words ending →
+      deciding_step p.steps words ending ≡ Some last
+      → bytes_read old new ≤ last.offset + 65536
 
--- A check tells where the refused step ends: exactly where the status is `NotVerified` since a step of the proof was refused.
-pub record TellsRefused (rule : Rule) (fault : Option Fault) (clauses : List Clause) (p : Proof) (checked : Checked) : Type 0 where
+-- A check tells where the refused step ends: exactly where the status is `NotVerified` since a step
+-- of the proof was refused.
+pub record TellsRefused (rule : Rule) (fault : Option Fault) (clauses : List Clause) (p : Proof)
+    (checked : Checked) : Type 0 where
   pub unread : NeedsNoProof fault clauses → checked.refused ≡ None
-  pub refused : (words : List Accepted) (ending : Ending) → fault ≡ None → checked.status ≡ NotVerified
-      → Verdict rule clauses (bare_steps p) words ending → checked.refused ≡ refused_end p.steps words ending
+  pub refused : (words : List Accepted) (ending : Ending) → fault ≡ None →
+      checked.status ≡ NotVerified
+      → Verdict rule clauses (bare_steps p) words ending →
+      checked.refused ≡ refused_end p.steps words ending
   pub only : (checked.status ≡ NotVerified → ⊥) → checked.refused ≡ None

@@ -1,5 +1,6 @@
 -- What a check writes, and how it ends.
-use Rattle.std.specs.Prelude.{◌≡◌, ◌⊎◌, ℕ, ◌+◌, max, slice_get, Bool, true, false, List, [], ◌∷◌, ◌++◌, length, map, Option, None, Some, codes, if◌then◌else◌}
+use Rattle.std.specs.Prelude.{◌≡◌, ◌⊎◌, ℕ, ◌+◌, max, slice_get, Bool, true, false, List, [], ◌∷◌}
+use Rattle.std.specs.Prelude.{◌++◌, length, map, Option, None, Some, codes, if◌then◌else◌}
 use Rattle.std.specs.List.{flat_map, list_any}
 use Rattle.std.specs.Str.{bytes_eq}
 use Rattle.std.specs.Io.KnownBytes.{Appends}
@@ -20,9 +21,11 @@ use Rattle.theory.specs.Verdicts.{Ending, verified, refused, no_empty_clause, Ve
 use Rattle.theory.specs.declared.drat_rules.DratRules.{DratRules}
 use Rattle.sat_check.specs.declared.options.DratOptions.{DratOptions}
 use Rattle.theory.specs.declared.accepted.Accepted.{Accepted}
-use Rattle.sat_check.specs.Lines.{formula_line, fault_line, fault_status, trace_line, refusal_line, steps_line, end_line, Certificate, a_proof, sentence}
+use Rattle.sat_check.specs.Lines.{formula_line, fault_line, fault_status, trace_line, refusal_line}
+use Rattle.sat_check.specs.Lines.{steps_line, end_line, Certificate, a_proof, sentence}
 use Rattle.sat_check.specs.declared.status.Status.{Status}
-use Rattle.sat_check.specs.declared.status.Status.TheVariants.{Verified, NotVerified, OutOfMemory, WriteFailed}
+use Rattle.sat_check.specs.declared.status.Status.TheVariants.{Verified, NotVerified, OutOfMemory}
+use Rattle.sat_check.specs.declared.status.Status.TheVariants.{WriteFailed}
 
 -- the lines that are written, and how the program ends
 pub record Report : Type 0 where
@@ -39,19 +42,24 @@ is_cut_short OutOfMemory = true
 is_cut_short WriteFailed = true
 is_cut_short status = false
 
--- A run wrote the report and ended so; or memory ran out, and it wrote a number of its lines; or the writer failed, and it
--- wrote a beginning of the text.
+-- A run wrote the report and ended so; or memory ran out, and it wrote a number of its lines; or
+-- the writer failed, and it wrote a beginning of the text.
 abbrev pub Outcome : Status → Option (List ℕ) → Option (List ℕ) → Report → Type 0
-Outcome OutOfMemory old new r = (done : List (List ℕ)) × (rest : List (List ℕ)) × (r.lines ≡ done ++ rest) × Appends old new (text_of done)
-Outcome WriteFailed old new r = (part : List ℕ) × (rest : List ℕ) × (text_of r.lines ≡ part ++ rest) × Appends old new part
+Outcome OutOfMemory old new r =
+    (done : List (List ℕ)) × (rest : List (List ℕ)) × (r.lines ≡ done ++ rest)
+    × Appends old new (text_of done)
+Outcome WriteFailed old new r =
+    (part : List ℕ) × (rest : List ℕ) × (text_of r.lines ≡ part ++ rest) × Appends old new part
 Outcome s old new r = (s ≡ r.status) × Appends old new (text_of r.lines)
 
 -- ---- The report of a proof
 
 -- a line, and the verdict's last line
 abbrev pub concluded : Certificate → List ℕ → Status → Report
-concluded certificate line status = record { lines = line ∷ sentence certificate status ∷ []; status = status }
+concluded certificate line status =
+    record { lines = line ∷ sentence certificate status ∷ []; status = status }
 
+-- a report with these lines before its own
 abbrev pub with_lines : List (List ℕ) → Report → Report
 with_lines front r = record { lines = front ++ r.lines; status = r.status }
 
@@ -75,36 +83,47 @@ verdict_report n peak no_empty_clause fault = end_report fault
 abbrev pub peak_of : State → List Step → List Accepted → ℕ
 peak_of state [] words = sum_of state
 peak_of state (step ∷ steps) [] = sum_of state
-peak_of state (step ∷ steps) (word ∷ words) = max (sum_of state) (peak_of (after state step word) steps words)
+peak_of state (step ∷ steps) (word ∷ words) =
+    max (sum_of state) (peak_of (after state step word) steps words)
 
+-- the steps without their places
 abbrev pub bare_steps : Proof → List Step
 bare_steps proof = map (λ placed. placed.step) proof.steps
 
 -- the trace, if it is asked for, and the verdict
 abbrev pub proof_report : Bool → ℕ → ℕ → List Accepted → Ending → Option Fault → Report
 proof_report trace n peak words ending fault =
-    with_lines (if trace then trace_lines (n + 1) words else []) (verdict_report (n + length words) peak ending fault)
+    with_lines (if trace then trace_lines (n + 1) words else [])
+    (verdict_report (n + length words) peak ending fault)
 
 -- the report of a formula without a fault
-pub record Checks (rule : Rule) (trace : Bool) (h : Header) (clauses : List Clause) (proof : Proof) (r : Report) : Type 0 where
+pub record Checks (rule : Rule) (trace : Bool) (h : Header) (clauses : List Clause) (proof : Proof)
+    (r : Report) : Type 0 where
   pub words : List Accepted
   pub ending : Ending
   pub verdict : Verdict rule clauses (bare_steps proof) words ending
-  pub report : r ≡ with_lines (formula_line h ∷ []) (proof_report trace 0 (peak_of (start rule clauses) (bare_steps proof) words) words ending proof.fault)
+  pub report : r ≡ with_lines (formula_line h ∷ [])
+      (proof_report trace 0
+      (peak_of (start rule clauses) (bare_steps proof) words) words ending proof.fault)
 
-abbrev pub ReportsFormula : Rule → Bool → Option Header → List Clause → Option Fault → Proof → Report → Type 0
-ReportsFormula rule trace header clauses (Some f) proof r = r ≡ concluded a_proof (fault_line (codes "formula") f) (fault_status f)
+-- the report of a formula with these parts: its fault comes before the proof
+abbrev pub ReportsFormula : Rule → Bool → Option Header → List Clause → Option Fault → Proof →
+    Report → Type 0
+ReportsFormula rule trace header clauses (Some f) proof r =
+    r ≡ concluded a_proof (fault_line (codes "formula") f) (fault_status f)
 ReportsFormula rule trace (Some h) clauses None proof r = Checks rule trace h clauses proof r
 ReportsFormula rule trace None clauses None proof r = ⊥
 
 -- the report of a formula and the steps of a proof, with the trace or without
 abbrev pub ProofReport : Rule → Bool → Input → Proof → Report → Type 0
 ProofReport rule trace formula proof r =
-    ReportsFormula rule trace (formula_of formula).header (formula_of formula).clauses (formula_of formula).fault proof r
+    ReportsFormula rule trace (formula_of formula).header (formula_of formula).clauses
+    (formula_of formula).fault proof r
 
 -- the rules that options ask for
 abbrev pub rules_of : DratOptions → DratRules
-rules_of options = record { strict = options.strict; pr = options.pr; keep_units = options.keep_units }
+rules_of options =
+    record { strict = options.strict; pr = options.pr; keep_units = options.keep_units }
 
 -- the steps of a proof in DRAT, in the binary form or as text
 abbrev pub drat_proof : (binary : Bool) → Input → Proof
@@ -122,34 +141,41 @@ pub record HasWritten (line : List ℕ) (old new : Option (List ℕ)) : Type 0 w
 
 -- the status is this one, unless memory or the writer failed
 abbrev pub IsUnlessBroken : Status → Status → Type 0
-IsUnlessBroken expected status = (status ≡ expected) ⊎ (status ≡ OutOfMemory) ⊎ (status ≡ WriteFailed)
+IsUnlessBroken expected status =
+    (status ≡ expected) ⊎ (status ≡ OutOfMemory) ⊎ (status ≡ WriteFailed)
 
--- The formula has no fault, and the proof verifies it: each step up to the first accepted empty clause is accepted by its
--- definition over the clauses that are alive before it.
+-- The formula has no fault, and the proof verifies it: each step up to the first accepted empty
+-- clause is accepted by its definition over the clauses that are alive before it.
 pub record Verifies (rule : Rule) (f : Formula) (p : Proof) : Type 0 where
   pub whole : f.fault ≡ None
   pub words : List Accepted
   pub verdict : Verdict rule f.clauses (bare_steps p) words verified
 
 -- What was written and the status are those of the report of this formula and this proof.
-pub record Reports (rule : Rule) (trace : Bool) (formula : Input) (proof : Proof) (old new : Option (List ℕ)) (status : Status) : Type 0 where
+pub record Reports (rule : Rule) (trace : Bool) (formula : Input) (proof : Proof)
+    (old new : Option (List ℕ)) (status : Status) : Type 0 where
   pub report : Report
   pub reports : ProofReport rule trace formula proof report
   pub outcome : Outcome status old new report
 
--- A run checked this proof of this formula: what it wrote and its status are those of the report. Status 0 is answered
--- exactly where the proof verifies the formula, unless memory or the writer failed. Where it is, and where the line
--- `s VERIFIED` was written, under whatever status, no assignment satisfies the formula.
-pub record ChecksProof (rule : Rule) (trace : Bool) (formula : Input) (proof : Proof) (old new : Option (List ℕ)) (status : Status) : Type 0 where
+-- A run checked this proof of this formula: what it wrote and its status are those of the report.
+-- Status 0 is answered exactly where the proof verifies the formula, unless memory or the writer
+-- failed. Where it is, and where the line `s VERIFIED` was written, under whatever status, no
+-- assignment satisfies the formula.
+pub record ChecksProof (rule : Rule) (trace : Bool) (formula : Input) (proof : Proof)
+    (old new : Option (List ℕ)) (status : Status) : Type 0 where
   pub reports : Reports rule trace formula proof old new status
   pub verified : status ≡ Verified → Verifies rule (formula_of formula) proof
   pub complete : Verifies rule (formula_of formula) proof → IsUnlessBroken Verified status
   pub sound : status ≡ Verified → ¬ HasModel (slice_get (formula_of formula).clauses)
-  pub written : HasWritten (codes "s VERIFIED") old new → ¬ HasModel (slice_get (formula_of formula).clauses)
+  pub written : HasWritten (codes "s VERIFIED") old new →
+      ¬ HasModel (slice_get (formula_of formula).clauses)
 
 -- ---- Laws
 
 -- A formula and a proof have at most one report.
 abbrev pub ReportsAreUnique : Type 0
-ReportsAreUnique = (rule : Rule) (trace : Bool) (formula : Input) (proof : Proof) (first second : Report) →
-    ProofReport rule trace formula proof first → ProofReport rule trace formula proof second → first ≡ second
+ReportsAreUnique =
+    (rule : Rule) (trace : Bool) (formula : Input) (proof : Proof) (first second : Report) →
+    ProofReport rule trace formula proof first → ProofReport rule trace formula proof second →
+    first ≡ second

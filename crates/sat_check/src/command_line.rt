@@ -4,12 +4,16 @@ pub(crate) mod args;
 pub(crate) mod tool;
 mod version;
 
-ghost use Rattle.std.specs.Prelude.{◌≡◌, ◌≤◌, ◌||◌, Some, codes, false, length, option_map, string_bytes, true};
+ghost use Rattle.std.specs.Prelude.{◌≡◌, ◌≤◌, ◌||◌, Some, codes, false, length, option_map};
+ghost use Rattle.std.specs.Prelude.{string_bytes, true};
 ghost use Rattle.std.specs.Prelude.{IfErr, IfOk};
 ghost use Rattle.std.specs.List.{list_all};
 ghost use Rattle.clap.specs.Words.{app_of, rule_of, kind_of};
-ghost use Rattle.sat_check.specs.Code.Commands.{command_of, flag_rule, formula_rule, new_command, second_rule};
-ghost use Rattle.sat_check.specs.CommandLine.Words.{Accepts, args, end_mark, is_among, is_empty_word, is_known, is_some_empty, names, said_by};
+ghost use Rattle.sat_check.specs.Code.Commands.{command_of, flag_rule, formula_rule, new_command};
+ghost use Rattle.sat_check.specs.Code.Commands.{second_rule};
+ghost use Rattle.sat_check.specs.CommandLine.Words.{Accepts, args, end_mark, is_among};
+ghost use Rattle.sat_check.specs.CommandLine.Words.{is_empty_word, is_known, is_some_empty, names};
+ghost use Rattle.sat_check.specs.CommandLine.Words.{said_by};
 
 use crate::command_line::args::{Args, ArgsFault};
 use crate::command_line::tool::Tool;

@@ -37,7 +37,7 @@ pub fn run_drat<F: In, P: In, O: Out>(
         (P.shown proof.old) (P.shown proof.new) (λ i j.
         ChecksProof (drat (rules_of options.now)) options.now.trace i
         (drat_proof options.now.binary j) (O.held out.old) (O.held out.new) result
-        × ReadsNoFurther (drat (rules_of options.now)) (formula_of i) j
+        × ReadsNoFurther (drat (rules_of options.now)) (formula_of i)
         (drat_proof options.now.binary j)
         (P.shown proof.old) (P.shown proof.new)) }
 
@@ -67,7 +67,7 @@ pub fn run_drat_placed<F: In, P: In, O: Out>(
         (P.shown proof.old) (P.shown proof.new) (λ i j.
         ChecksProof (drat (rules_of options.now)) options.now.trace i
         (drat_proof options.now.binary j) (O.held out.old) (O.held out.new) result.status
-        × ReadsNoFurther (drat (rules_of options.now)) (formula_of i) j
+        × ReadsNoFurther (drat (rules_of options.now)) (formula_of i)
         (drat_proof options.now.binary j)
         (P.shown proof.old) (P.shown proof.new)
         × TellsRefused (drat (rules_of options.now)) (formula_of i).fault (formula_of i).clauses

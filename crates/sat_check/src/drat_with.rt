@@ -31,7 +31,7 @@ pub fn run_drat_with<C: Propagate + Drop, F: In, P: In, O: Out>(
         (P.shown proof.old) (P.shown proof.new) (λ i j.
         ChecksProof (drat (rules_of options.now)) options.now.trace i
         (drat_proof options.now.binary j) (O.held out.old) (O.held out.new) result
-        × ReadsNoFurther (drat (rules_of options.now)) (formula_of i) j
+        × ReadsNoFurther (drat (rules_of options.now)) (formula_of i)
         (drat_proof options.now.binary j)
         (P.shown proof.old) (P.shown proof.new)) }
     ensures read_failed { result ≡ Status.ReadFailed →

@@ -4,7 +4,7 @@ ghost use Rattle.std.specs.Prelude.{◌≡◌, true, IfErr};
 ghost use Rattle.cnf_base.specs.Stream.{Along, tells_failure};
 ghost use Rattle.cnf_base.specs.Code.Seen.{OfSeen};
 ghost use Rattle.dimacs.specs.Formula.{formula_of};
-ghost use Rattle.dimacs.specs.Reading.{clauses_to_come, rests_to_come};
+ghost use Rattle.dimacs.specs.Reading.{clauses_to_come, offsets_to_come};
 ghost use Rattle.sat_check.specs.ModelReport.{meets};
 ghost use Rattle.sat_check.specs.Code.Judging.{Judges, LeavesUnmet, ReadsToUnmet};
 
@@ -48,7 +48,7 @@ fn judge_clauses<F: In>(
         Judges model.now result (clauses_to_come reader.old i).clauses
         (clauses_to_come reader.old i).fault
         × LeavesUnmet model.now (clauses_to_come reader.old i).clauses
-        (rests_to_come reader.old i) j) }
+        (offsets_to_come reader.old i) j) }
     ensures tells { IfErr result (λ f. f ≡ Fault.ReadFailed →
         tells_failure reader.new.stream.reader ≡ true) }
 {

@@ -34,7 +34,7 @@ pub fn run_lrat<F: In, P: In, O: Out>(
         (P.shown proof.old) (P.shown proof.new) (λ i j.
         ChecksProof lrat options.now.trace i (lrat_steps j)
         (O.held out.old) (O.held out.new) result
-        × ReadsNoFurther lrat (formula_of i) j (lrat_steps j)
+        × ReadsNoFurther lrat (formula_of i) (lrat_steps j)
         (P.shown proof.old) (P.shown proof.new)) }
 
     // A reader or the writer tells of each failure.
@@ -63,7 +63,7 @@ pub fn run_lrat_placed<F: In, P: In, O: Out>(
         (P.shown proof.old) (P.shown proof.new) (λ i j.
         ChecksProof lrat options.now.trace i (lrat_steps j)
         (O.held out.old) (O.held out.new) result.status
-        × ReadsNoFurther lrat (formula_of i) j (lrat_steps j)
+        × ReadsNoFurther lrat (formula_of i) (lrat_steps j)
         (P.shown proof.old) (P.shown proof.new)
         × TellsRefused lrat (formula_of i).fault (formula_of i).clauses (lrat_steps j) result) }
     ensures read_failed { result.status ≡ Status.ReadFailed →

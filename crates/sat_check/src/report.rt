@@ -1,7 +1,10 @@
 //! The lines of a report.
 
 ghost use Rattle.std.specs.Prelude.{◌≡◌, ◌++◌, ◌/◌, codes, decimal, IfOk};
-ghost use Rattle.sat_check.specs.Lines.{formula_line, kind_text, binary_text, fault_line, fault_status, text_status, word_text, trace_line, sign_text, with_cause, refusal_line, steps_line, end_line, unmet_line, clauses_line, sentence};
+ghost use Rattle.sat_check.specs.Lines.{formula_line, kind_text, binary_text, fault_line};
+ghost use Rattle.sat_check.specs.Lines.{fault_status, text_status, word_text, trace_line};
+ghost use Rattle.sat_check.specs.Lines.{sign_text, with_cause, refusal_line, steps_line, end_line};
+ghost use Rattle.sat_check.specs.Lines.{unmet_line, clauses_line, sentence};
 ghost use Rattle.sat_check.specs.Code.Subjects.{certificate_of};
 
 use crate::Status;

@@ -8,7 +8,8 @@ ghost use Rattle.sat_check.specs.Lines.{a_proof, refusal_line, trace_line};
 ghost use Rattle.sat_check.specs.Report.{Report, Outcome, is_cut_short, concluded, with_lines};
 ghost use Rattle.sat_check.specs.Report.{text_of};
 ghost use Rattle.sat_check.specs.Code.Reach.{IsVerdict};
-ghost use Rattle.sat_check.specs.Code.Checking.{Decides, GoesOn, IsRefused, Stops, IsBreak, IsTold, is_memory, traced};
+ghost use Rattle.sat_check.specs.Code.Checking.{Decides, GoesOn, IsRefused, Stops, IsBreak, IsTold};
+ghost use Rattle.sat_check.specs.Code.Checking.{is_memory, traced};
 
 use crate::Status;
 use crate::conclude::{conclude, give_up, write_line};

@@ -26,7 +26,7 @@ pub fn drat_forward<F: In, P: In, O: Out>(
         (P.shown proof.old) (P.shown proof.new) (λ i j.
         ChecksProof (drat (drat_rules args.now)) args.now.trace i
         (drat_proof args.now.binary j) (O.held out.old) (O.held out.new) result.status
-        × ReadsNoFurther (drat (drat_rules args.now)) (formula_of i) j
+        × ReadsNoFurther (drat (drat_rules args.now)) (formula_of i)
         (drat_proof args.now.binary j)
         (P.shown proof.old) (P.shown proof.new)
         × TellsRefused (drat (drat_rules args.now)) (formula_of i).fault (formula_of i).clauses
@@ -53,7 +53,7 @@ pub fn lrat_check<F: In, P: In, O: Out>(
         (P.shown proof.old) (P.shown proof.new) (λ i j.
         ChecksProof lrat args.now.trace i (lrat_steps j)
         (O.held out.old) (O.held out.new) result.status
-        × ReadsNoFurther lrat (formula_of i) j (lrat_steps j)
+        × ReadsNoFurther lrat (formula_of i) (lrat_steps j)
         (P.shown proof.old) (P.shown proof.new)
         × TellsRefused lrat (formula_of i).fault (formula_of i).clauses (lrat_steps j) result) }
     ensures read_failed { result.status ≡ Status.ReadFailed →

@@ -6,6 +6,7 @@ use Rattle.std.specs.Prelude.{ℕ, Bool, false}
 use Rattle.cnf_base.specs.Literals.{Clause}
 use Rattle.theory.specs.declared.drat_rules.DratRules.{DratRules}
 
+-- what contracts see of a session of DRAT
 pub record DratState : Type 0 where
   -- the live clauses, each in its slot
   pub live : FinMap nat_cmp Clause
@@ -24,5 +25,12 @@ pub record DratState : Type 0 where
 -- no clause was input
 abbrev pub fresh_drat : DratRules → DratState
 fresh_drat rules =
-    record { live = maps.empty; rules = rules; has_stepped = false; is_verified = false;
-    is_ended = false; peak = 0; stored = 0 }
+    record {
+      live = maps.empty;
+      rules = rules;
+      has_stepped = false;
+      is_verified = false;
+      is_ended = false;
+      peak = 0;
+      stored = 0;
+    }

@@ -5,6 +5,7 @@ use Rattle.std.specs.Ordering.{nat_cmp}
 use Rattle.std.specs.Prelude.{ℕ, Bool, false}
 use Rattle.cnf_base.specs.Literals.{Clause}
 
+-- what contracts see of a session of LRAT
 pub record Session : Type 0 where
   -- the live clauses, each at its identifier
   pub live : FinMap nat_cmp Clause
@@ -24,5 +25,12 @@ pub record Session : Type 0 where
 -- no clause was input
 abbrev pub fresh_lrat : Session
 fresh_lrat =
-    record { live = map.empty; top = 0; has_stepped = false; is_verified = false; is_ended = false;
-    peak = 0; stored = 0 }
+    record {
+      live = map.empty;
+      top = 0;
+      has_stepped = false;
+      is_verified = false;
+      is_ended = false;
+      peak = 0;
+      stored = 0;
+    }

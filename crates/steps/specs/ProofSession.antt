@@ -2,6 +2,7 @@
 use Rattle.std.specs.Prelude.{◌≡◌, ℕ, Bool, true, ◌||◌}
 use Rattle.theory.specs.Rules.{State}
 
+-- what contracts see of a session, under either rule
 pub record View : Type 0 where
   pub state : State
   -- whether some step was accepted

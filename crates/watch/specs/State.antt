@@ -3,20 +3,16 @@ use Rattle.std.specs.Prelude.{ℕ, Bool, List}
 use Rattle.cnf_base.specs.Literals.{Literal}
 use Rattle.propagation.specs.Assumptions.{Propagation}
 
+-- What contracts see of `Watch`: what is seen of any propagation; how many entries all watch lists
+-- have, and the list of the clauses of one literal and of none (`loose`); how many literals are
+-- true, and how many variables were met; the literals that are kept as true with nothing assumed,
+-- whether these are known to be all or a clash is known, and whether a clash is.
 pub record WatchState : Type 0 where
-  -- what is seen of any propagation
   pub propagation : Propagation
-  -- the entries of all watch lists
   pub entries : ℕ
-  -- the entries of the list of the clauses of one literal and of none
   pub loose : ℕ
-  -- how many literals are true
   pub trues : ℕ
-  -- how many variables were met
   pub variables : ℕ
-  -- the literals that are kept as true with nothing assumed
   pub roots : List Literal
-  -- whether these are known to be all, or a clash is known
   pub is_up_to_date : Bool
-  -- whether a clash is known
   pub has_clash : Bool

@@ -9,5 +9,6 @@ use Rattle.clause_db.specs.Store.{sum_over}
 abbrev pub long_clauses : FinMap nat_cmp Clause → ℕ
 long_clauses live = sum_over (λ c. if nat_le 2 (size c) then 1 else 0) live
 
+-- how many clauses have one literal or none
 abbrev pub short_clauses : FinMap nat_cmp Clause → ℕ
 short_clauses live = sum_over (λ c. if nat_le 2 (size c) then 0 else 1) live

@@ -1,7 +1,9 @@
 -- The digits of a number, byte by byte.
-use Rattle.std.specs.Prelude.{ℕ, ◌==◌, ◌||◌, Bool, ◌+◌, ◌-◌, ◌*◌, ◌^◌, min, if◌then◌else◌, true, false, ◌≡◌, ◌<◌, List, [], ◌∷◌, length, ◌≤◌, take}
+use Rattle.std.specs.Prelude.{ℕ, ◌==◌, ◌||◌, Bool, ◌+◌, ◌-◌, ◌*◌, ◌^◌, min, if◌then◌else◌, true}
+use Rattle.std.specs.Prelude.{false, ◌≡◌, ◌<◌, List, [], ◌∷◌, length, ◌≤◌, take}
 use Rattle.cnf_base.specs.Words.{is_digit, number, is_counting, size_of}
-use Rattle.cnf_base.specs.declared.scanner.digits.Digits.TheVariants.{Nothing, Zero, Counting, NoNumber}
+use Rattle.cnf_base.specs.declared.scanner.digits.Digits.TheVariants.{Nothing, Zero, Counting}
+use Rattle.cnf_base.specs.declared.scanner.digits.Digits.TheVariants.{NoNumber}
 use Rattle.cnf_base.specs.declared.scanner.digits.Digits.{Digits}
 use Rattle.cnf_base.specs.declared.word.Word.TheVariants as words
 use Rattle.cnf_base.specs.declared.word.Word.{Word}
@@ -14,7 +16,9 @@ begins_number b = b == 45 || is_digit b
 abbrev pub with_byte : Digits → ℕ → Digits
 with_byte Nothing b = if is_digit b then (if b == 48 then Zero else Counting (b - 48)) else NoNumber
 with_byte Zero b = NoNumber
-with_byte (Counting n) b = if is_digit b then Counting (min (min (n * 10) (2 ^ 64 - 1) + (b - 48)) (2 ^ 64 - 1)) else NoNumber
+with_byte (Counting n) b =
+    if is_digit b then Counting (min (min (n * 10) (2 ^ 64 - 1) + (b - 48)) (2 ^ 64 - 1))
+    else NoNumber
 with_byte NoNumber b = NoNumber
 
 -- the digits that a number's first byte is

@@ -25,7 +25,8 @@ IsUsedUp None at end = Unit {0}
 IsUsedUp (Some met) at end = at ≡ end
 
 -- what is true of the fields of a source
-pub record IsSource (piece : List ℕ) (from at end : ℕ) (met : Option Ending) (reader : Reader) (col : ℕ) : Type 0 where
+pub record IsSource (piece : List ℕ) (from at end : ℕ) (met : Option Ending) (reader : Reader)
+    (col : ℕ) : Type 0 where
   pub behind : from ≤ at
   pub ordered : at ≤ end
   pub within : end ≤ length piece

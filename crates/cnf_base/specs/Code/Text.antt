@@ -1,7 +1,8 @@
 -- How the code follows a text, word by word.
-use Rattle.std.specs.Prelude.{ℕ, List, [], ◌∷◌, true, length, ◌≡◌, Result, Ok, Err}
-use Rattle.cnf_base.specs.Stream.{Input}
-use Rattle.cnf_base.specs.Text.{col_after, spot, lines_listing, Listing, lines_of, with_front, listed}
+use Rattle.std.specs.Prelude.{ℕ, List, [], ◌∷◌, true, ◌≡◌, Result, Ok, Err}
+use Rattle.cnf_base.specs.Stream.{Suffix, suffix}
+use Rattle.cnf_base.specs.Text.{col_after, spot, lines_listing, Listing, lines_of, with_front}
+use Rattle.cnf_base.specs.Text.{listed}
 use Rattle.cnf_base.specs.declared.input.Ending.TheVariants.{Failed}
 use Rattle.cnf_base.specs.declared.input.ReadFailed.{ReadFailed}
 use Rattle.cnf_base.specs.declared.place.Place.{Place}
@@ -15,15 +16,17 @@ col_along p [] = p
 col_along p (b ∷ bs) = col_along (col_after p) bs
 
 -- the rest of a comment and what follows it, from a place on
-abbrev pub comment_at : Place → Input → Listing
-comment_at p i = lines_listing true (spot p (length i.bytes)) (lines_of i.bytes) i.ending
+abbrev pub comment_at : Place → Suffix → Listing
+comment_at p i = lines_listing true (spot p i.offset) (lines_of i.bytes) i.ending
 
 -- a word is the first of a text, unless a failed read cuts it
-abbrev pub GivesWord : Result Word ReadFailed → Place → Listing → Listing → Input → Type 0
-GivesWord (Ok word) p before after rest = before ≡ with_front (listed (token.Word p word) (length rest.bytes) ∷ []) after
-GivesWord (Err _) p before after rest = (before ≡ after) × (before.tokens ≡ []) × (before.ending ≡ Failed)
+abbrev pub GivesWord : Result Word ReadFailed → Place → Listing → Listing → Suffix → Type 0
+GivesWord (Ok word) p before after rest =
+    before ≡ with_front (listed (token.Word p word) rest.offset ∷ []) after
+GivesWord (Err _) p before after rest =
+    (before ≡ after) × (before.tokens ≡ []) × (before.ending ≡ Failed)
 
 -- a failure leaves nothing to come
-abbrev pub FailsAt : {A : Type 0} → Result A ReadFailed → Input → Type 0
+abbrev pub FailsAt : {A : Type 0} → Result A ReadFailed → Suffix → Type 0
 FailsAt (Ok _) i = Unit {0}
-FailsAt (Err _) i = i ≡ record { bytes = []; ending = Failed }
+FailsAt (Err _) i = i ≡ suffix i.offset [] Failed

@@ -4,7 +4,8 @@ use Rattle.cnf_base.specs.Literals.{Literal, has}
 use Rattle.cnf_base.specs.declared.fault.Fault.TheVariants.{OutOfMemory}
 use Rattle.cnf_base.specs.declared.fault.Fault.{Fault}
 use Rattle.dimacs.specs.Claim.{LinePosition, at_line_start, after_s, after_status, in_values, Said}
-use Rattle.dimacs.specs.declared.position.Position.TheVariants.{LineStart, AfterS, AfterStatus, Values}
+use Rattle.dimacs.specs.declared.position.Position.TheVariants.{LineStart, AfterS, AfterStatus}
+use Rattle.dimacs.specs.declared.position.Position.TheVariants.{Values}
 use Rattle.dimacs.specs.declared.position.Position.{Position}
 
 abbrev pub line_position : Position → LinePosition
@@ -15,9 +16,11 @@ line_position Values = in_values
 
 -- the same, but that these literals are listed
 abbrev pub with_listed : List Literal → Said → Said
-with_listed ls s = record { position = s.position; has_status = s.has_status; is_ended = s.is_ended; listed = ls }
+with_listed ls s =
+    record { position = s.position; has_status = s.has_status; is_ended = s.is_ended; listed = ls }
 
--- the code has come to what was to be said, but for the order of the literals and those that were listed again
+-- the code has come to what was to be said, but for the order of the literals and those that were
+-- listed again
 pub record ComesTo (now : Said) (said : Result Said Fault) : Type 0 where
   pub listed : List Literal
   pub is : said ≡ Ok (with_listed listed now)

@@ -3,7 +3,7 @@ use Rattle.std.specs.Prelude.{Bool, true, false, List, [], ◌∷◌, ℕ, ◌+�
 use Rattle.cnf_base.specs.Literals.{Literal}
 use Rattle.cnf_base.specs.Text.{Listing}
 use Rattle.cnf_base.specs.declared.fault.Fault.{Fault}
-use Rattle.dimacs.specs.Formula.{Body, body_of, faulty_body, whole, rests_of}
+use Rattle.dimacs.specs.Formula.{Body, body_of, faulty_body, whole, offsets_of}
 use Rattle.dimacs.specs.declared.header.Header.{Header}
 
 abbrev pub is_nil : List Literal → Bool
@@ -24,7 +24,7 @@ EndsBody (Err f) b = b ≡ faulty_body f
 
 -- ---- How far the input is read
 
--- what follows the clauses that come after the one that was given next
-abbrev pub rests_left : Result Bool Fault → Header → ℕ → Listing → List ℕ
-rests_left (Ok true) h complete l = rests_of h (complete + 1) l
-rests_left _ h complete l = []
+-- where the clauses end that come after the one that was given next
+abbrev pub offsets_left : Result Bool Fault → Header → ℕ → Listing → List ℕ
+offsets_left (Ok true) h complete l = offsets_of h (complete + 1) l
+offsets_left _ h complete l = []

@@ -1,8 +1,10 @@
 -- Where the parts of a step in LRAT stand, and what they hold.
 use Rattle.std.specs.Prelude.{Bool, true, false}
-use Rattle.proofs.specs.Lrat.{LratSpot, at_identifier, after_identifier, in_literals, in_hints, in_deletion}
+use Rattle.proofs.specs.Lrat.{LratSpot, at_identifier, after_identifier, in_literals, in_hints}
+use Rattle.proofs.specs.Lrat.{in_deletion}
 use Rattle.proofs.specs.Steps.{Step}
-use Rattle.proofs.specs.declared.lrat_text.part.Part.TheVariants.{Identifier, AfterIdentifier, Literals, Hints, Deletion}
+use Rattle.proofs.specs.declared.lrat_text.part.Part.TheVariants.{Identifier, AfterIdentifier}
+use Rattle.proofs.specs.declared.lrat_text.part.Part.TheVariants.{Literals, Hints, Deletion}
 use Rattle.proofs.specs.declared.lrat_text.part.Part.{Part}
 use Rattle.proofs.specs.declared.step_buf.StepKind.TheVariants.{Add, Delete}
 use Rattle.proofs.specs.declared.step_buf.StepKind.{StepKind}

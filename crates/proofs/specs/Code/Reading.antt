@@ -13,4 +13,6 @@ proof_unless_ended (Some (Err f)) p = faulty_proof f
 
 -- a step is no end, and of a failed read that ended it the reader below tells
 abbrev pub EndsRightly : ProofReading → Type 0
-EndsRightly r = (r.kept ≡ Some (Ok true) → ⊥) × (r.kept ≡ Some (Err ReadFailed) → tells_failure r.stream.reader ≡ true)
+EndsRightly r =
+    (r.kept ≡ Some (Ok true) → ⊥)
+    × (r.kept ≡ Some (Err ReadFailed) → tells_failure r.stream.reader ≡ true)

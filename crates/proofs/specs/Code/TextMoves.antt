@@ -10,15 +10,18 @@ use Rattle.proofs.specs.declared.moved.Moved.{Moved}
 use Rattle.proofs.specs.declared.stopped.Stopped.TheVariants.{Text, OutOfMemory}
 use Rattle.proofs.specs.declared.stopped.Stopped.{Stopped}
 
--- the step after the word, where `spot` says at which spot each part stands; a refused growth says nothing
-abbrev pub MovesText : {Part Spot : Type 0} → (Part → Spot) → Result (Moved Part) Stopped → Move Spot → Step → Type 0
+-- the step after the word, where `spot` says at which spot each part stands; a refused growth says
+-- nothing
+abbrev pub MovesText : {Part Spot : Type 0} → (Part → Spot) → Result (Moved Part) Stopped →
+    Move Spot → Step → Type 0
 MovesText spot (Ok (To part)) move step = move ≡ goes (spot part) step
 MovesText spot (Ok Complete) move step = move ≡ completes step
 MovesText spot (Err (Text f)) move step = move ≡ faults f
 MovesText spot (Err OutOfMemory) move step = Unit {0}
 
 -- the part that comes next can follow what was read of the step
-abbrev pub FitsMoved : {Part : Type 0} → (Part → Step → Bool) → Result (Moved Part) Stopped → Step → Type 0
+abbrev pub FitsMoved : {Part : Type 0} → (Part → Step → Bool) → Result (Moved Part) Stopped → Step →
+    Type 0
 FitsMoved fits (Ok (To part)) step = IsTrue (fits part step)
 FitsMoved fits (Ok Complete) step = Unit {0}
 FitsMoved fits (Err e) step = Unit {0}

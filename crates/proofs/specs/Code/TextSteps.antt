@@ -1,14 +1,14 @@
 -- How the code follows the steps of a text.
-use Rattle.cnf_base.specs.Stream.{Input}
+use Rattle.cnf_base.specs.Stream.{Suffix}
 use Rattle.cnf_base.specs.Text.{listing_at}
 use Rattle.cnf_base.specs.declared.place.Place.{Place}
 use Rattle.proofs.specs.Code.Reading.{proof_unless_ended}
 use Rattle.proofs.specs.Reading.{Proof, ProofReading}
 use Rattle.proofs.specs.TextSteps.{Format, steps_listed}
 
-abbrev pub steps_at : {Part : Type 0} → Format Part → Place → Input → Proof
+abbrev pub steps_at : {Part : Type 0} → Format Part → Place → Suffix → Proof
 steps_at format p i = steps_listed format (listing_at p i)
 
 -- what is still to come to a reader of the format
-abbrev pub left_to : {Part : Type 0} → Format Part → ProofReading → Input → Proof
+abbrev pub left_to : {Part : Type 0} → Format Part → ProofReading → Suffix → Proof
 left_to format r i = proof_unless_ended r.kept (steps_at format r.stream.place i)

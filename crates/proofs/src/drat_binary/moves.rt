@@ -1,7 +1,8 @@
 //! What a byte does to a step.
 
 ghost use Rattle.std.specs.Prelude.{◌≡◌, ℕ, ◌<◌, List, [], ◌∷◌, ◌++◌};
-ghost use Rattle.proofs.specs.Binary.{BinarySpot, binary_move_of, tag_move, group_move, binary_number_move};
+ghost use Rattle.proofs.specs.Binary.{BinarySpot, binary_move_of, tag_move, group_move};
+ghost use Rattle.proofs.specs.Binary.{binary_number_move};
 ghost use Rattle.proofs.specs.Code.BinaryMoves.{KeepsGroups, IsAt, MovesBinary};
 
 use super::groups::Groups;

@@ -27,17 +27,20 @@ answer_code = code_by Bool coded_bool is_quiet answer_if_quiet answer_back
 abbrev pub assumption_code : Coded Assumption
 assumption_code =
     code_by (Answer × List ℕ) (coded× answer_code (coded_list coded_ℕ)) (λ a. (a.answer, a.assumed))
-        (λ p. record { answer = p.0; assumed = p.1 }) (λ _. refl)
+    (λ p. record { answer = p.0; assumed = p.1 }) (λ _. refl)
 
 abbrev pub assumptions_code : Coded AssumptionsState
 assumptions_code =
     code_by
     ((List ℕ × List ℕ) × (List Assumption × List ℕ))
     (coded× (coded× (coded_list coded_ℕ) (coded_list coded_ℕ))
-        (coded× (coded_list assumption_code) (coded_list coded_ℕ)))
+    (coded× (coded_list assumption_code) (coded_list coded_ℕ)))
     (λ s. ((s.trail.lits, s.trail.met), (s.assumptions, s.starts)))
-    (λ p. record { trail = record { lits = p.0.0; met = p.0.1 }; assumptions = p.1.0;
-        starts = p.1.1 })
+    (λ p. record {
+      trail = record { lits = p.0.0; met = p.0.1 };
+      assumptions = p.1.0;
+      starts = p.1.1;
+    })
     (λ _. refl)
 
 -- the tuple of its fields
@@ -46,7 +49,7 @@ propagation_code =
     code_by
     (FinMap nat_cmp Clause × (List Assumption × (ℕ × Bool)))
     (coded× (maps.code coded_ℕ (coded_list coded_ℕ))
-        (coded× (coded_list assumption_code) (coded× coded_ℕ coded_bool)))
+    (coded× (coded_list assumption_code) (coded× coded_ℕ coded_bool)))
     (λ s. (s.live, (s.assumptions, (s.stored, s.has_refused))))
     (λ p. record { live = p.0; assumptions = p.1.0; stored = p.1.1.0; has_refused = p.1.1.1 })
     (λ _. refl)

@@ -20,7 +20,7 @@ AreExact live Roots lits [] starts = Roots lits
 AreExact live Roots lits (last ∷ rest) [] = ⊥
 AreExact live Roots lits (last ∷ rest) (start ∷ starts) =
     (last.answer ≡ Quiet → IsExact live last.assumed lits)
-        × AreExact live Roots (take start lits) rest starts
+    × AreExact live Roots (take start lits) rest starts
 
 -- further literals are true, and nothing else is changed
 pub record Extends (before after : AssumptionsState) : Type 0 where

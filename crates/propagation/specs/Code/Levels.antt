@@ -53,10 +53,14 @@ assumptions_of number_of lits (One first) =
     record { answer = first.answer; assumed = of_variables (is_noted number_of first.number) lits }
     ∷ []
 assumptions_of number_of lits (Two first second) =
-    record { answer = second.answer;
-        assumed = of_variables (is_noted_by_two number_of first.number second.number) lits }
-    ∷ record { answer = first.answer;
-        assumed = of_variables (is_noted number_of first.number) (take second.start lits) } ∷ []
+    record {
+      answer = second.answer;
+      assumed = of_variables (is_noted_by_two number_of first.number second.number) lits;
+    }
+    ∷ record {
+      answer = first.answer;
+      assumed = of_variables (is_noted number_of first.number) (take second.start lits);
+    } ∷ []
 
 -- how many literals were true before each of them
 abbrev pub starts_of : Levels → List ℕ
@@ -80,7 +84,7 @@ AreLevels number_of made lits Nothing = ⊤
 AreLevels number_of made lits (One first) = IsLevel number_of made lits first
 AreLevels number_of made lits (Two first second) =
     IsLevel number_of made (take second.start lits) first × IsLevel number_of made lits second
-        × (first.number ≢ second.number)
+    × (first.number ≢ second.number)
 
 -- there is a number for each variable with room, none is above that of the last assumption, and
 -- those that stand have theirs

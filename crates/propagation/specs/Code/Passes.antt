@@ -22,5 +22,5 @@ IsPassed live before lits Changed =
     unset lits vs < unset before.lits vs
 IsPassed live before lits PassQuiet =
     (lits ≡ before.lits) ×
-        ((k : ℕ) (c : Clause) → live k ≡ Some c →
-        IsSettled before.lits (how_many (open_literals before.lits c)))
+    ((k : ℕ) (c : Clause) → live k ≡ Some c →
+    IsSettled before.lits (how_many (open_literals before.lits c)))

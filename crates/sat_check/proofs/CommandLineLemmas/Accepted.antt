@@ -1,23 +1,34 @@
 -- The words that a tool accepts are not refused.
-use Rattle.std.proofs.Common.{◌≡◌, ◌∙◌, ◌+◌, ◌<◌, ◌≤◌, ap, ap₂, sym, subst, refl, codes, List, [], ◌∷◌, ◌++◌, Bool, true, false, ℕ, zero, suc, Option, None, Some, option_map, String, string_bytes, cond, true≢false, arith, length, length-append}
-use Rattle.std.specs.Prelude.{◌==◌, ◌&&◌, ◌||◌, drop, is_some, not, slice_get, if◌then◌else◌, filter}
+use Rattle.std.proofs.Common.{◌≡◌, ◌∙◌, ◌+◌, ◌<◌, ◌≤◌, ap, ap₂, sym, subst, refl, codes, List, []}
+use Rattle.std.proofs.Common.{◌∷◌, ◌++◌, Bool, true, false, ℕ, zero, suc, Option, None, Some}
+use Rattle.std.proofs.Common.{option_map, String, string_bytes, cond, true≢false, arith, length}
+use Rattle.std.proofs.Common.{length-append}
+use Rattle.std.specs.Prelude.{◌==◌, ◌&&◌, ◌||◌, drop, is_some, not, slice_get, if◌then◌else◌}
+use Rattle.std.specs.Prelude.{filter}
 use Rattle.std.specs.Str.{bytes_eq}
 use Rattle.std.specs.List.{fold, list_all, list_any}
 use Rattle.std.specs.Option.{option_map_or}
 use Rattle.std.proofs.lemmas.List.Elements.{filter-append}
 use Rattle.std.proofs.lemmas.Slice.Eq.{bytes_eq-Decides}
-use Rattle.clap.specs.Faults.{check_fault, default_fault, defaults_fault, fault_of, given_default_fault, settle_fault, turn_fault, walk_fault}
+use Rattle.clap.specs.Faults.{check_fault, default_fault, defaults_fault, fault_of}
+use Rattle.clap.specs.Faults.{given_default_fault, settle_fault, turn_fault, walk_fault}
 use Rattle.clap.specs.Facts.{explicit_source}
 use Rattle.clap.specs.Kinds.{Kinds, or_else}
 use Rattle.clap.specs.Takes.{is_given}
-use Rattle.clap.specs.Walk.{Held, Row, Text, Walk, finished, has_row, nothing_held, settled, settled_rows, walk, walked, with_default}
+use Rattle.clap.specs.Walk.{Held, Row, Text, Walk, finished, has_row, nothing_held, settled}
+use Rattle.clap.specs.Walk.{settled_rows, walk, walked, with_default}
 use Rattle.clap.specs.declared.error.kind.ErrorKind.TheVariants as kind
 use Rattle.sat_check.specs.Code.Commands.{command_of}
-use Rattle.sat_check.specs.CommandLine.Words.{Accepts, begins_with_hyphen, is_among, is_empty_word, is_flag, is_some_empty, names, plain, times}
-use Rattle.sat_check.proofs.CommandLineLemmas.Rules.{fault_is, files_and_texts, flag_full, formula_full, help_full, rules_of, second_full, top_of}
+use Rattle.sat_check.specs.CommandLine.Words.{Accepts, begins_with_hyphen, is_among, is_empty_word}
+use Rattle.sat_check.specs.CommandLine.Words.{is_flag, is_some_empty, names, plain, times}
+use Rattle.sat_check.proofs.CommandLineLemmas.Rules.{fault_is, files_and_texts, flag_full}
+use Rattle.sat_check.proofs.CommandLineLemmas.Rules.{formula_full, help_full, rules_of, second_full}
+use Rattle.sat_check.proofs.CommandLineLemmas.Rules.{top_of}
 use Rattle.sat_check.proofs.CommandLineLemmas.Rows.{names_added, names_kept}
 use Rattle.sat_check.proofs.CommandLineLemmas.Turns.{at}
-use Rattle.sat_check.proofs.CommandLineLemmas.Steps.{After, Shows, end_mark, flag_passes, name_passes, start_after, step_after, tail_free, words_after}
+use Rattle.sat_check.proofs.CommandLineLemmas.Steps.{After, Shows, end_mark, flag_passes}
+use Rattle.sat_check.proofs.CommandLineLemmas.Steps.{name_passes, start_after, step_after}
+use Rattle.sat_check.proofs.CommandLineLemmas.Steps.{tail_free, words_after}
 use Rattle.sat_check.proofs.CommandLineLemmas.Ends.{formula_row_end, row_at_end}
 use Rattle.sat_check.specs.declared.command_line.tool.Tool.{Tool}
 use Rattle.sat_check.specs.declared.command_line.tool.Tool.TheVariants.{Drat, Lrat, Model}

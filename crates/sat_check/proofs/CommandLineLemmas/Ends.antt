@@ -1,21 +1,29 @@
 -- What the parse gives at the end: the defaults, the last checks, and what is read of the rows.
-use Rattle.std.proofs.Common.{length, ◌≤◌, ◌≡◌, ◌∙◌, ap, sym, subst, refl, codes, List, [], ◌∷◌, Bool, true, false, Option, Some, None, ℕ, cond, true≢false}
-use Rattle.std.specs.Prelude.{◌&&◌, drop, is_some, option_map, option_and_then, slice_get, if◌then◌else◌}
+use Rattle.std.proofs.Common.{length, ◌≤◌, ◌≡◌, ◌∙◌, ap, sym, subst, refl, codes, List, [], ◌∷◌}
+use Rattle.std.proofs.Common.{Bool, true, false, Option, Some, None, ℕ, cond, true≢false}
+use Rattle.std.specs.Prelude.{◌&&◌, drop, is_some, option_map, option_and_then, slice_get}
+use Rattle.std.specs.Prelude.{if◌then◌else◌}
 use Rattle.std.specs.Str.{bytes_eq}
 use Rattle.std.specs.List.{fold}
 use Rattle.std.specs.Option.{option_or}
 use Rattle.std.proofs.lemmas.Slice.Eq.{bytes_eq-Decides}
 use Rattle.std.proofs.lemmas.List.Folds.{find-append}
 use Rattle.clap.specs.Faults.{fault_of, walk_fault}
-use Rattle.clap.specs.Walk.{Row, Rule, Text, Walk, finished, first_of, has_row, more_values, nothing_held, one_of, reading_by, row_text, settled_rows, walk, with_default, with_values}
+use Rattle.clap.specs.Walk.{Row, Rule, Text, Walk, finished, first_of, has_row, more_values}
+use Rattle.clap.specs.Walk.{nothing_held, one_of, reading_by, row_text, settled_rows, walk}
+use Rattle.clap.specs.Walk.{with_default, with_values}
 use Rattle.clap.specs.Simple.{matches_of}
 use Rattle.clap.specs.declared.parser.matches.ValueSource.TheVariants.{DefaultValue}
 use Rattle.sat_check.specs.Code.Commands.{command_of}
 use Rattle.sat_check.specs.CommandLine.Words.{is_among, is_flag, names}
-use Rattle.sat_check.proofs.CommandLineLemmas.Rules.{fault_is, flag_full, files_and_texts, formula_full, help_full, matches_are, rules_of, second_full, top_of, version_full}
-use Rattle.sat_check.proofs.CommandLineLemmas.Rows.{at_end, has_row-row_for, new_row, option_or-None, row_for}
+use Rattle.sat_check.proofs.CommandLineLemmas.Rules.{fault_is, flag_full, files_and_texts}
+use Rattle.sat_check.proofs.CommandLineLemmas.Rules.{formula_full, help_full, matches_are, rules_of}
+use Rattle.sat_check.proofs.CommandLineLemmas.Rules.{second_full, top_of, version_full}
+use Rattle.sat_check.proofs.CommandLineLemmas.Rows.{at_end, has_row-row_for, new_row}
+use Rattle.sat_check.proofs.CommandLineLemmas.Rows.{option_or-None, row_for}
 use Rattle.sat_check.proofs.CommandLineLemmas.Turns.{at, or_nil}
-use Rattle.sat_check.proofs.CommandLineLemmas.Steps.{After, Shows, end_mark, file_row, flag_row, start_after, words_after}
+use Rattle.sat_check.proofs.CommandLineLemmas.Steps.{After, Shows, end_mark, file_row, flag_row}
+use Rattle.sat_check.proofs.CommandLineLemmas.Steps.{start_after, words_after}
 use Rattle.sat_check.specs.declared.command_line.tool.Tool.{Tool}
 use Rattle.sat_check.specs.declared.command_line.tool.Tool.TheVariants.{Drat, Lrat, Model}
 

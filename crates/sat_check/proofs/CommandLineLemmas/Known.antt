@@ -1,16 +1,21 @@
 -- A word that begins with a hyphen and is no flag is refused.
-use Rattle.std.proofs.Common.{◌≡◌, ◌∙◌, ap, sym, subst, refl, codes, List, [], ◌∷◌, ◌++◌, Bool, true, false, Option, Some, None, ℕ, true≢false, map, arith, length, suc}
+use Rattle.std.proofs.Common.{◌≡◌, ◌∙◌, ap, sym, subst, refl, codes, List, [], ◌∷◌, ◌++◌, Bool}
+use Rattle.std.proofs.Common.{true, false, Option, Some, None, ℕ, true≢false, map, arith, length}
+use Rattle.std.proofs.Common.{suc}
 use Rattle.std.specs.Prelude.{◌==◌, ◌&&◌, ◌||◌, not, is_some, slice_get, String, string_bytes, drop}
 use Rattle.std.specs.Str.{IsUtf8, all_scalars, bytes_eq, chars, encode_utf8_all, is_utf8}
 use Rattle.std.specs.List.{list_all}
-use Rattle.std.proofs.lemmas.Str.{IsCharBoundary-after_ascii, IsUtf8-drop, IsUtf8-from_is_utf8, IsUtf8-had, is_utf8-from_IsUtf8}
+use Rattle.std.proofs.lemmas.Str.{IsCharBoundary-after_ascii, IsUtf8-drop, IsUtf8-from_is_utf8}
+use Rattle.std.proofs.lemmas.Str.{IsUtf8-had, is_utf8-from_IsUtf8}
 use Rattle.clap.specs.Faults.{fault_of, settle_fault, turn_fault, walk_fault}
 use Rattle.clap.specs.Walk.{Row, Text, Walk, walked}
 use Rattle.sat_check.specs.CommandLine.Words.{begins_with_hyphen, is_among, is_flag, is_known}
 use Rattle.sat_check.specs.Code.Commands.{command_of}
 use Rattle.sat_check.proofs.CommandLineLemmas.Rules.{fault_is, name_of, rules_of, top_of}
-use Rattle.sat_check.proofs.CommandLineLemmas.Turns.{IsName, at, holding, long_met, longs_of, nat_eq_same, or_nil, short_refused, shorts_of}
-use Rattle.sat_check.proofs.CommandLineLemmas.Steps.{After, end_mark, start_after, step_after, tail_free}
+use Rattle.sat_check.proofs.CommandLineLemmas.Turns.{IsName, at, holding, long_met, longs_of}
+use Rattle.sat_check.proofs.CommandLineLemmas.Turns.{nat_eq_same, or_nil, short_refused, shorts_of}
+use Rattle.sat_check.proofs.CommandLineLemmas.Steps.{After, end_mark, start_after, step_after}
+use Rattle.sat_check.proofs.CommandLineLemmas.Steps.{tail_free}
 use Rattle.sat_check.specs.declared.command_line.tool.Tool.{Tool}
 
 -- the text after a hyphen is text, and has a first character

@@ -1,14 +1,17 @@
 -- From a parse of the command to what the words say.
-use Rattle.std.proofs.Common.{◌≡◌, ◌∙◌, ap, sym, subst, refl, codes, List, [], ◌∷◌, Bool, true, false, Option, Some, None, map, inl, inr}
+use Rattle.std.proofs.Common.{◌≡◌, ◌∙◌, ap, sym, subst, refl, codes, List, [], ◌∷◌, Bool, true}
+use Rattle.std.proofs.Common.{false, Option, Some, None, map, inl, inr}
 use Rattle.std.specs.Prelude.{◌&&◌, drop, Err, string_bytes, String}
-use Rattle.clap.specs.Words.{App, FailsBy, Text, fault_of, found_of, is_simple_and_free, kind_of, one_of, one_text, rows_of}
+use Rattle.clap.specs.Words.{App, FailsBy, Text, fault_of, found_of, is_simple_and_free, kind_of}
+use Rattle.clap.specs.Words.{one_of, one_text, rows_of}
 use Rattle.clap.proofs.WalkLemmas.{one_text-rows}
 use Rattle.clap.specs.Simple.{HasMatchesOf, is_simple, matches_of}
 use Rattle.clap.specs.declared.error.Error.{Error}
 use Rattle.clap.specs.declared.error.kind.ErrorKind.TheVariants as kind
 use Rattle.clap.specs.declared.parser.matches.ArgMatches.{ArgMatches}
 use Rattle.sat_check.specs.Code.Commands.{command_of}
-use Rattle.sat_check.specs.CommandLine.Words.{is_known, Accepts, end_mark, is_among, is_flag, said_by}
+use Rattle.sat_check.specs.CommandLine.Words.{is_known, Accepts, end_mark, is_among, is_flag}
+use Rattle.sat_check.specs.CommandLine.Words.{said_by}
 use Rattle.sat_check.proofs.CommandLineLemmas.Rules.{is_plain, is_simple_too}
 use Rattle.sat_check.proofs.CommandLineLemmas.Ends.{Reads, flag_text, parse_reads}
 use Rattle.std.specs.List.{list_all}

@@ -1,12 +1,14 @@
 -- The rows that uses add, and what is found in them.
-use Rattle.std.proofs.Common.{◌≡◌, ◌∙◌, ap, ap₂, refl, List, [], ◌∷◌, ◌++◌, append-nil, Bool, true, false, Option, Some, None, cond, true≢false}
+use Rattle.std.proofs.Common.{◌≡◌, ◌∙◌, ap, ap₂, refl, List, [], ◌∷◌, ◌++◌, append-nil, Bool, true}
+use Rattle.std.proofs.Common.{false, Option, Some, None, cond, true≢false}
 use Rattle.std.specs.Prelude.{◌||◌, is_some, not}
 use Rattle.std.specs.Str.{bytes_eq}
 use Rattle.std.specs.List.{find}
 use Rattle.std.specs.Option.{option_or}
 use Rattle.std.proofs.lemmas.List.Folds.{find-append, list_any-append}
 use Rattle.std.proofs.lemmas.List.Elements.{filter-append}
-use Rattle.clap.specs.Walk.{Row, Rule, Text, at_row, has_row, more_values, reading_by, with_values, without}
+use Rattle.clap.specs.Walk.{Row, Rule, Text, at_row, has_row, more_values, reading_by, with_values}
+use Rattle.clap.specs.Walk.{without}
 use Rattle.clap.specs.declared.parser.matches.ValueSource.TheVariants.{CommandLine}
 use Rattle.sat_check.specs.CommandLine.Words.{is_among, is_flag, names}
 use Rattle.sat_check.specs.declared.command_line.tool.Tool.{Tool}

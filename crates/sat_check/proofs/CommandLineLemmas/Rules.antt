@@ -3,7 +3,8 @@ use Rattle.std.proofs.Common.{◌≡◌, codes, refl, List, [], ◌∷◌, true,
 use Rattle.std.specs.Prelude.{drop, is_some}
 use Rattle.clap.specs.Faults.{built_fault, entered_fault, fault_of, is_simple_and_free, level_fault}
 use Rattle.clap.specs.Walk.{Held, Rule, Text, nothing_held, rows_after, walk}
-use Rattle.clap.specs.Simple.{Shape, entered, filled, help_rule, is_simple, matches_of, version_rule, with_index}
+use Rattle.clap.specs.Simple.{Shape, entered, filled, help_rule, is_simple, matches_of}
+use Rattle.clap.specs.Simple.{version_rule, with_index}
 use Rattle.sat_check.specs.Code.Commands.{command_of, flag_rule, formula_rule, second_rule}
 use Rattle.sat_check.specs.declared.command_line.tool.Tool.{Tool}
 use Rattle.sat_check.specs.declared.command_line.tool.Tool.TheVariants.{Drat, Lrat, Model}

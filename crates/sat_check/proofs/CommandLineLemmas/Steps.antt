@@ -1,5 +1,7 @@
 -- What is held after each word, and what the walk gives at the end.
-use Rattle.std.proofs.Common.{◌≤◌, ◌≡◌, ◌∙◌, ◌<◌, ap, ap₂, sym, subst, refl, codes, List, [], ◌∷◌, ◌++◌, append_assoc, append-nil, Bool, true, false, Option, Some, None, ℕ, cond, suc, true≢false, inl, inr, ◌⊎◌, ⊎_elim, arith, length}
+use Rattle.std.proofs.Common.{◌≤◌, ◌≡◌, ◌∙◌, ◌<◌, ap, ap₂, sym, subst, refl, codes, List, [], ◌∷◌}
+use Rattle.std.proofs.Common.{◌++◌, append_assoc, append-nil, Bool, true, false, Option, Some, None}
+use Rattle.std.proofs.Common.{ℕ, cond, suc, true≢false, inl, inr, ◌⊎◌, ⊎_elim, arith, length}
 use Rattle.std.specs.Prelude.{◌==◌, ◌&&◌, ◌||◌, is_some, option_map, slice_get, if◌then◌else◌}
 use Rattle.std.specs.Str.{bytes_eq}
 use Rattle.std.specs.List.{fold}
@@ -8,12 +10,17 @@ use Rattle.std.specs.Option.{option_map_or}
 use Rattle.std.proofs.lemmas.Bool.Decides.{nat_tests}
 use Rattle.clap.specs.Faults.{positional_fault, settle_fault, step_fault, turn_fault, walk_fault}
 use Rattle.clap.specs.Kinds.{Kinds, or_else}
-use Rattle.clap.specs.Walk.{Row, Rule, Text, Walk, arg_by_index, has_row, idle, is_pending, pushed, settled, settled_rows, to_positional, used, value, walked}
+use Rattle.clap.specs.Walk.{Row, Rule, Text, Walk, arg_by_index, has_row, idle, is_pending, pushed}
+use Rattle.clap.specs.Walk.{settled, settled_rows, to_positional, used, value, walked}
 use Rattle.clap.specs.declared.error.kind.ErrorKind.TheVariants as kind
 use Rattle.clap.proofs.OnLiterals.{clap_on_literals}
-use Rattle.sat_check.proofs.CommandLineLemmas.Rules.{flag_full, formula_full, name_of, rules_of, second_full, top_of}
-use Rattle.sat_check.proofs.CommandLineLemmas.Rows.{among_added, among_kept, has_row-row_for, names_added, names_kept, new_row, row_added, row_for, row_kept, used_first}
-use Rattle.sat_check.proofs.CommandLineLemmas.Turns.{at, cons_not_nil, holding, name_met, or_nil, plain_taken}
+use Rattle.sat_check.proofs.CommandLineLemmas.Rules.{flag_full, formula_full, name_of, rules_of}
+use Rattle.sat_check.proofs.CommandLineLemmas.Rules.{second_full, top_of}
+use Rattle.sat_check.proofs.CommandLineLemmas.Rows.{among_added, among_kept, has_row-row_for}
+use Rattle.sat_check.proofs.CommandLineLemmas.Rows.{names_added, names_kept, new_row, row_added}
+use Rattle.sat_check.proofs.CommandLineLemmas.Rows.{row_for, row_kept, used_first}
+use Rattle.sat_check.proofs.CommandLineLemmas.Turns.{at, cons_not_nil, holding, name_met, or_nil}
+use Rattle.sat_check.proofs.CommandLineLemmas.Turns.{plain_taken}
 use Rattle.sat_check.specs.CommandLine.Words.{is_among, is_flag, is_set, names}
 use Rattle.sat_check.specs.declared.command_line.tool.Tool.{Tool}
 use Rattle.sat_check.specs.declared.command_line.tool.Tool.TheVariants.{Drat, Lrat, Model}

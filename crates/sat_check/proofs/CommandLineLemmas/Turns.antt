@@ -1,5 +1,7 @@
 -- What `clap`'s walk makes of one word, and when it refuses the word.
-use Rattle.std.proofs.Common.{◌≡◌, ◌∙◌, ap, ap₂, sym, subst, refl, codes, List, [], ◌∷◌, Bool, true, false, Option, Some, None, ℕ, cond, suc, true≢false, inl, inr, ◌⊎◌, arith, length}
+use Rattle.std.proofs.Common.{◌≡◌, ◌∙◌, ap, ap₂, sym, subst, refl, codes, List, [], ◌∷◌, Bool, true}
+use Rattle.std.proofs.Common.{false, Option, Some, None, ℕ, cond, suc, true≢false, inl, inr, ◌⊎◌}
+use Rattle.std.proofs.Common.{arith, length}
 use Rattle.std.specs.Prelude.{◌==◌, ◌&&◌, ◌||◌, is_some, not, if◌then◌else◌, slice_get, take, ◌+◌}
 use Rattle.std.specs.Str.{bytes_eq, chars}
 use Rattle.std.specs.List.{before_first, prefix_len}
@@ -7,11 +9,17 @@ use Rattle.std.specs.Option.{option_map_or}
 use Rattle.std.proofs.lemmas.Bool.Decides.{nat_tests}
 use Rattle.std.proofs.lemmas.Slice.Eq.{bytes_eq-Decides}
 use Rattle.clap.specs.Lexer.{has_byte, long_of, short_of}
-use Rattle.clap.specs.Faults.{bundle_fault, bundle_step_fault, flag_word_fault, flags_fault, long_fault, react_fault, settle_fault, short_fault, step_fault, turn_fault}
+use Rattle.clap.specs.Faults.{bundle_fault, bundle_step_fault, flag_word_fault, flags_fault}
+use Rattle.clap.specs.Faults.{long_fault, react_fault, settle_fault, short_fault, step_fault}
+use Rattle.clap.specs.Faults.{turn_fault}
 use Rattle.clap.specs.Kinds.{Kinds, or_else}
-use Rattle.clap.specs.Walk.{Held, Outcome, Row, Rule, Step, Text, Walk, after_flag, after_step, arg_by_index, arg_by_long, arg_by_short, bundle_met, bundle_step, idle, long_or_other, plain, reacted, short_or_plain, to_positional, trailing, value, walked}
+use Rattle.clap.specs.Walk.{Held, Outcome, Row, Rule, Step, Text, Walk, after_flag, after_step}
+use Rattle.clap.specs.Walk.{arg_by_index, arg_by_long, arg_by_short, bundle_met, bundle_step, idle}
+use Rattle.clap.specs.Walk.{long_or_other, plain, reacted, short_or_plain, to_positional, trailing}
+use Rattle.clap.specs.Walk.{value, walked}
 use Rattle.clap.specs.declared.error.kind.ErrorKind.{ErrorKind}
-use Rattle.sat_check.proofs.CommandLineLemmas.Rules.{flag_full, help_full, name_of, rules_of, shape, top_of, version_full}
+use Rattle.sat_check.proofs.CommandLineLemmas.Rules.{flag_full, help_full, name_of, rules_of, shape}
+use Rattle.sat_check.proofs.CommandLineLemmas.Rules.{top_of, version_full}
 use Rattle.sat_check.specs.CommandLine.Words.{is_flag}
 use Rattle.sat_check.specs.declared.command_line.tool.Tool.{Tool}
 use Rattle.sat_check.specs.declared.command_line.tool.Tool.TheVariants.{Drat, Lrat, Model}

@@ -1,10 +1,11 @@
 -- The parts of a check.
 use Rattle.std.specs.List.{list_any}
-use Rattle.std.specs.Prelude.{◌≡◌, ◌+◌, ◌≤◌, false, List, length, None, Some, Result, Ok, Err, ℕ, max, Bool, ◌⊎◌, Option, true, ◌-◌, ◌^◌, min, if◌then◌else◌, [], ◌∷◌}
+use Rattle.std.specs.Prelude.{◌≡◌, ◌+◌, ◌≤◌, false, List, length, None, Some, Result, Ok, Err, ℕ}
+use Rattle.std.specs.Prelude.{max, Bool, ◌⊎◌, Option, true, ◌-◌, ◌^◌, min, if◌then◌else◌, [], ◌∷◌}
 use Rattle.cnf_base.specs.Lines.{Sink, Writes}
 use Rattle.cnf_base.specs.Literals.{Clause}
 use Rattle.cnf_base.specs.Seen.{OfBothSeen}
-use Rattle.cnf_base.specs.Stream.{Input, Stream, Reader}
+use Rattle.cnf_base.specs.Stream.{Input, Suffix, Stream, Reader}
 use Rattle.cnf_base.specs.declared.fault.Fault.TheVariants.{OutOfMemory}
 use Rattle.cnf_base.specs.declared.fault.Fault.{Fault}
 use Rattle.dimacs.specs.Formula.{Body, Formula, formula_of}
@@ -19,16 +20,19 @@ use Rattle.theory.specs.declared.refusal.Refusal.TheVariants.{OutOfMemory as Ref
 use Rattle.theory.specs.declared.refusal.Refusal.{Refusal}
 use Rattle.steps.specs.ProofSession.{View, is_over}
 use Rattle.sat_check.specs.Lines.{trace_line}
-use Rattle.sat_check.specs.Reach.{deciding_step, refused_end, NeedsNoProof, TellsRefused, ReadsNoFurther}
-use Rattle.sat_check.specs.Report.{Report, bare_steps, peak_of, proof_report, Reports, text_of, Outcome}
+use Rattle.sat_check.specs.Reach.{deciding_step, refused_end, NeedsNoProof, TellsRefused}
+use Rattle.sat_check.specs.Reach.{ReadsNoFurther}
+use Rattle.sat_check.specs.Report.{Report, bare_steps, peak_of, proof_report, Reports, text_of}
+use Rattle.sat_check.specs.Report.{Outcome}
 use Rattle.sat_check.specs.declared.checked.Checked.{Checked}
-use Rattle.sat_check.specs.declared.status.Status.TheVariants.{NotVerified, OutOfMemory as NoMemory, WriteFailed, ReadFailed}
+use Rattle.sat_check.specs.declared.status.Status.TheVariants.{NotVerified, OutOfMemory as NoMemory}
+use Rattle.sat_check.specs.declared.status.Status.TheVariants.{WriteFailed, ReadFailed}
 use Rattle.sat_check.specs.declared.status.Status.{Status}
 
 -- where a reader stands, and what is still to come of an input
 pub record Standing : Type 0 where
   pub stream : Stream
-  pub to_come : Input → Proof
+  pub to_come : Suffix → Proof
 
 -- these clauses were input, and nothing else; as many more as a header allows still can be
 pub record IsLoaded (rule : Rule) (s : View) (clauses : List Clause) : Type 0 where
@@ -50,36 +54,46 @@ Loads rule s (Ok h) f = (f.header ≡ Some h) × (f.fault ≡ None) × IsLoaded 
 Loads rule s (Err OutOfMemory) f = Unit {0}
 Loads rule s (Err e) f = f.fault ≡ Some e
 
--- the rest of a report, from a state that so many accepted steps left, with the greatest sum of sizes up to it
-pub record Rest (trace : Bool) (state : State) (n : ℕ) (peak : ℕ) (proof : Proof) (r : Report) : Type 0 where
+-- the rest of a report, from a state that so many accepted steps left, with the greatest sum of
+-- sizes up to it
+pub record Rest (trace : Bool) (state : State) (n : ℕ) (peak : ℕ) (proof : Proof) (r : Report)
+    : Type 0 where
   pub words : List Accepted
   pub ending : Ending
   pub verdict : Ends state (bare_steps proof) words ending
-  pub report : r ≡ proof_report trace n (max peak (peak_of state (bare_steps proof) words)) words ending proof.fault
+  pub report : r ≡ proof_report trace n
+      (max peak (peak_of state (bare_steps proof) words)) words ending proof.fault
 
--- What is left of the steps of a proof from a state on: all that follows the step that decides, whatever the status; and
--- where that ends, if it was refused.
-pub record LeavesRest (state : State) (p : Proof) (rest : Input) (checked : Checked) : Type 0 where
-  pub past : (words : List Accepted) (ending : Ending) (last : PlacedStep) → Ends state (bare_steps p) words ending
-      → deciding_step p.steps words ending ≡ Some last → last.rest ≤ length rest.bytes
-  pub refused : (words : List Accepted) (ending : Ending) → checked.status ≡ NotVerified → Ends state (bare_steps p) words ending
+-- What is left of the steps of a proof from a state on: all that follows the step that decides,
+-- whatever the status; and where that ends, if it was refused.
+pub record LeavesRest (state : State) (p : Proof) (rest : Suffix) (checked : Checked) : Type 0 where
+  pub past : (words : List Accepted) (ending : Ending) (last : PlacedStep) →
+      Ends state (bare_steps p) words ending
+      → deciding_step p.steps words ending ≡ Some last → rest.offset ≤ last.offset
+  pub refused : (words : List Accepted) (ending : Ending) → checked.status ≡ NotVerified →
+      Ends state (bare_steps p) words ending
       → checked.refused ≡ refused_end p.steps words ending
   pub only : (checked.status ≡ NotVerified → ⊥) → checked.refused ≡ None
 
--- What is left of a proof: all of it where the formula decides alone, and else all of it, or all that follows the step
--- that decides; and where the refused step ends.
-pub record LeavesProof (rule : Rule) (fault : Option Fault) (clauses : List Clause) (p : Proof) (old new : Reader) (rest : Input) (checked : Checked) : Type 0 where
+-- What is left of a proof: all of it where the formula decides alone, and else all of it, or all
+-- that follows the step that decides; and where the refused step ends.
+pub record LeavesProof (rule : Rule) (fault : Option Fault) (clauses : List Clause) (p : Proof)
+    (old new : Reader) (rest : Suffix) (checked : Checked) : Type 0 where
   pub unread : NeedsNoProof fault clauses → new ≡ old
   pub past : (words : List Accepted) (ending : Ending) (last : PlacedStep) → fault ≡ None
-      → Verdict rule clauses (bare_steps p) words ending → deciding_step p.steps words ending ≡ Some last → (new ≡ old) ⊎ (last.rest ≤ length rest.bytes)
+      → Verdict rule clauses (bare_steps p) words ending →
+      deciding_step p.steps words ending ≡ Some last → (new ≡ old) ⊎ (rest.offset ≤ last.offset)
   pub told : TellsRefused rule fault clauses p checked
 
--- what was written, by all that was seen of the formula and of the proof, how far this was read, and where the refused
--- step ends
-abbrev pub AllReports : Rule → Bool → (Input → Proof) → Reader → Reader → Reader → Reader → Checked → Option (List ℕ) → Option (List ℕ) → Type 0
+-- what was written, by all that was seen of the formula and of the proof, how far this was read,
+-- and where the refused step ends
+abbrev pub AllReports : Rule → Bool → (Input → Proof) → Reader → Reader → Reader → Reader →
+    Checked → Option (List ℕ) → Option (List ℕ) → Type 0
 AllReports rule trace steps formula formula_new proof proof_new checked old new =
-    OfBothSeen formula formula_new proof proof_new (λ i j. Reports rule trace i (steps j) old new checked.status
-    × ReadsNoFurther rule (formula_of i) j (steps j) proof proof_new × TellsRefused rule (formula_of i).fault (formula_of i).clauses (steps j) checked)
+    OfBothSeen formula formula_new proof proof_new
+    (λ i j. Reports rule trace i (steps j) old new checked.status
+    × ReadsNoFurther rule (formula_of i) (steps j) proof proof_new
+    × TellsRefused rule (formula_of i).fault (formula_of i).clauses (steps j) checked)
 
 -- a step that is refused
 abbrev pub IsRefused : State → Step → Type 0
@@ -88,7 +102,8 @@ IsRefused state step = (r : Refusal) × Answers state step (Err r)
 -- a step that decides: it is refused, or it is the accepted empty clause
 abbrev pub Decides : State → Step → Type 0
 Decides state step =
-    IsRefused state step ⊎ ((word : Accepted) × Answers state step (Ok word) × (is_last word ≡ true))
+    IsRefused state step ⊎
+    ((word : Accepted) × Answers state step (Ok word) × (is_last word ≡ true))
 
 -- numbers are counted up to the greatest of 64 bits
 abbrev pub counted : ℕ → ℕ
@@ -99,7 +114,8 @@ abbrev pub traced : Bool → ℕ → Accepted → List (List ℕ)
 traced trace n word = if trace then trace_line n word ∷ [] else []
 
 -- a step was accepted, it isn't the last, and its line was written
-pub record GoesOn (trace : Bool) (number : ℕ) (old new : View) (step : Step) (was now : Sink) : Type 0 where
+pub record GoesOn (trace : Bool) (number : ℕ) (old new : View) (step : Step) (was now : Sink)
+    : Type 0 where
   pub word : Accepted
   pub answers : Answers old.state step (Ok word)
   pub not_last : is_last word ≡ false
@@ -113,8 +129,10 @@ pub record GoesOn (trace : Bool) (number : ℕ) (old new : View) (step : Step) (
 -- with this step the check ended: whatever follows it, what was written is the rest of the report
 abbrev pub Stops : Bool → ℕ → View → Step → Sink → Sink → Status → Type 0
 Stops trace number old step was now status =
-    (n left : ℕ) (end : StepEnd) (p : Proof) → number ≡ counted (n + 1) → sum_of old.state ≤ old.peak → IsFinite old.state
-    → (r : Report) × Rest trace old.state n old.peak (with_step step end left p) r × Outcome status was.held now.held r
+    (n offset : ℕ) (end : StepEnd) (p : Proof) → number ≡ counted (n + 1) →
+    sum_of old.state ≤ old.peak → IsFinite old.state
+    → (r : Report) × Rest trace old.state n old.peak (with_step step end offset p) r
+    × Outcome status was.held now.held r
 
 -- how a run may stop before its end
 abbrev pub IsBreak : Status → Sink → Type 0

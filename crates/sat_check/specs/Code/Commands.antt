@@ -33,6 +33,8 @@ command_of Drat = with_files
     (with_rule
     (with_rule
     (with_rule (new_command (codes "drat-forward")) (flag_rule (codes "binary")))
-    (flag_rule (codes "trace"))) (flag_rule (codes "strict"))) (flag_rule (codes "pr"))) (flag_rule (codes "keep-units")))
-command_of Lrat = with_files (with_rule (new_command (codes "lrat-check")) (flag_rule (codes "trace")))
+    (flag_rule (codes "trace"))) (flag_rule
+    (codes "strict"))) (flag_rule (codes "pr"))) (flag_rule (codes "keep-units")))
+command_of Lrat =
+    with_files (with_rule (new_command (codes "lrat-check")) (flag_rule (codes "trace")))
 command_of Model = with_files (new_command (codes "model-check"))

@@ -1,10 +1,11 @@
 -- The parts of a check of a model.
-use Rattle.std.specs.Prelude.{◌≡◌, List, length, Option, None, Some, Result, Ok, Err, ℕ, ◌-◌, ◌≤◌, slice_get, ◌+◌}
+use Rattle.std.specs.Prelude.{◌≡◌, List, length, Option, None, Some, Result, Ok, Err, ℕ, ◌-◌, ◌≤◌}
+use Rattle.std.specs.Prelude.{slice_get, ◌+◌}
 use Rattle.cnf_base.specs.Literals.{Literal, Clause}
-use Rattle.cnf_base.specs.Stream.{Input, Reader, bytes_read}
+use Rattle.cnf_base.specs.Stream.{Input, Suffix, Reader, bytes_read}
 use Rattle.cnf_base.specs.declared.fault.Fault.TheVariants.{OutOfMemory}
 use Rattle.cnf_base.specs.declared.fault.Fault.{Fault}
-use Rattle.dimacs.specs.Formula.{formula_of, clause_rests}
+use Rattle.dimacs.specs.Formula.{formula_of, clause_offsets}
 use Rattle.sat_check.specs.Lines.{a_model, unmet_line, clauses_line}
 use Rattle.sat_check.specs.ModelReport.{first_unmet}
 use Rattle.sat_check.specs.Report.{Report, concluded}
@@ -12,24 +13,28 @@ use Rattle.sat_check.specs.declared.judgement.Judgement.TheVariants.{Met, Unmet}
 use Rattle.sat_check.specs.declared.judgement.Judgement.{Judgement}
 use Rattle.sat_check.specs.declared.status.Status.TheVariants.{Verified, NotVerified}
 
--- clauses and the fault after them are judged so by the listed literals; want of memory says nothing
+-- clauses and the fault after them are judged so by the listed literals; want of memory says
+-- nothing
 abbrev pub Judges : List Literal → Result Judgement Fault → List Clause → Option Fault → Type 0
-Judges listed (Ok (Met n)) clauses fault = (first_unmet 1 listed clauses ≡ None) × (n ≡ length clauses) × (fault ≡ None)
+Judges listed (Ok (Met n)) clauses fault =
+    (first_unmet 1 listed clauses ≡ None) × (n ≡ length clauses) × (fault ≡ None)
 Judges listed (Ok (Unmet k)) clauses fault = first_unmet 1 listed clauses ≡ Some k
 Judges listed (Err OutOfMemory) clauses fault = Unit {0}
 Judges listed (Err f) clauses fault = (first_unmet 1 listed clauses ≡ None) × (fault ≡ Some f)
 
--- The `0` of the first clause that isn't met wasn't passed: at most so many bytes follow it as are still to come. `rests` is
--- how many follow each clause.
-abbrev pub LeavesUnmet : List Literal → List Clause → List ℕ → Input → Type 0
-LeavesUnmet listed clauses rests rest =
-    (k left : ℕ) → first_unmet 1 listed clauses ≡ Some k → slice_get rests (k - 1) ≡ Some left → left ≤ length rest.bytes
+-- The `0` of the first clause that isn't met wasn't passed: that clause ends where what is still to
+-- come begins, or later. `offsets` is where each clause ends.
+abbrev pub LeavesUnmet : List Literal → List Clause → List ℕ → Suffix → Type 0
+LeavesUnmet listed clauses offsets rest =
+    (k offset : ℕ) → first_unmet 1 listed clauses ≡ Some k →
+    slice_get offsets (k - 1) ≡ Some offset → rest.offset ≤ offset
 
 -- at most 65536 bytes past it were read
 abbrev pub ReadsToUnmet : List Literal → Input → Reader → Reader → Type 0
 ReadsToUnmet listed formula old new =
-    (k left : ℕ) → first_unmet 1 listed (formula_of formula).clauses ≡ Some k → slice_get (clause_rests formula) (k - 1) ≡ Some left
-    → bytes_read old new + left ≤ length formula.bytes + 65536
+    (k offset : ℕ) → first_unmet 1 listed (formula_of formula).clauses ≡ Some k →
+    slice_get (clause_offsets formula) (k - 1) ≡ Some offset
+    → bytes_read old new ≤ offset + 65536
 
 -- the report of a formula that was judged so
 abbrev pub judged_report : Judgement → Report

@@ -19,6 +19,7 @@ drat_options args seed = record {
   seed = seed;
 }
 
+-- of LRAT the trace alone is asked for
 abbrev pub lrat_options : Args → LratOptions
 lrat_options args = record { trace = args.trace }
 
@@ -40,4 +41,5 @@ asked_of a = record {
 
 -- The arguments are what the words ask of the tool, where none of these is `--`.
 abbrev pub IsAsked : {Z : Type 0} → Tool → List (String Z) → Args → Type 0
-IsAsked tool all a = is_among (said_by all) end_mark ≡ false → asked_of a ≡ words.args tool (said_by all)
+IsAsked tool all a =
+    is_among (said_by all) end_mark ≡ false → asked_of a ≡ words.args tool (said_by all)

@@ -1,5 +1,6 @@
 -- What the words of a command line say. `words` are those after the program's name.
-use Rattle.std.specs.Prelude.{◌≡◌, ◌≤◌, ◌||◌, ◌&&◌, ◌==◌, ℕ, Bool, true, false, not, List, [], ◌∷◌, Option, None, Some, codes}
+use Rattle.std.specs.Prelude.{◌≡◌, ◌≤◌, ◌||◌, ◌&&◌, ◌==◌, ℕ, Bool, true, false, not, List, [], ◌∷◌}
+use Rattle.std.specs.Prelude.{Option, None, Some, codes}
 use Rattle.std.specs.Prelude.{String, string_bytes, map, drop, length, slice_get, filter}
 use Rattle.std.specs.List.{list_all, list_any}
 use Rattle.std.specs.Str.{bytes_eq}
@@ -8,7 +9,8 @@ use Rattle.sat_check.specs.declared.command_line.tool.Tool.TheVariants.{Drat, Lr
 
 -- the flags that the tool has
 abbrev pub flags : Tool → List (List ℕ)
-flags Drat = codes "--binary" ∷ codes "--trace" ∷ codes "--strict" ∷ codes "--pr" ∷ codes "--keep-units" ∷ []
+flags Drat =
+    codes "--binary" ∷ codes "--trace" ∷ codes "--strict" ∷ codes "--pr" ∷ codes "--keep-units" ∷ []
 flags Lrat = codes "--trace" ∷ []
 flags Model = []
 
@@ -16,6 +18,7 @@ flags Model = []
 abbrev pub is_among : List (List ℕ) → List ℕ → Bool
 is_among words word = list_any (bytes_eq word) words
 
+-- whether the word is a flag of the tool
 abbrev pub is_flag : Tool → List ℕ → Bool
 is_flag tool word = is_among (flags tool) word
 
@@ -52,6 +55,7 @@ args tool words = record {
 
 -- ---- the words that a tool takes
 
+-- whether the word begins with a `-`
 abbrev pub begins_with_hyphen : List ℕ → Bool
 begins_with_hyphen [] = false
 begins_with_hyphen (b ∷ bs) = b == 45
@@ -64,6 +68,7 @@ plain words = filter (λ word. not (begins_with_hyphen word)) words
 abbrev pub times : List ℕ → List (List ℕ) → ℕ
 times word words = length (filter (bytes_eq word) words)
 
+-- whether the word has no byte
 abbrev pub is_empty_word : List ℕ → Bool
 is_empty_word word = length word == 0
 
@@ -83,7 +88,8 @@ pub record Accepts (tool : Tool) (words : List (List ℕ)) : Type 0 where
 
 -- the word is a flag of the tool, or begins with no hyphen, or is the hyphen alone
 abbrev pub is_known : Tool → List ℕ → Bool
-is_known tool word = is_flag tool word || (not (begins_with_hyphen word) || bytes_eq word (codes "-"))
+is_known tool word =
+    is_flag tool word || (not (begins_with_hyphen word) || bytes_eq word (codes "-"))
 
 -- the word `--`
 abbrev pub end_mark : List ℕ

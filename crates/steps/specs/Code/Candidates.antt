@@ -8,7 +8,7 @@ use Rattle.propagation.specs.Assumptions.{is_reduced}
 abbrev pub AllClash : Live → List Literal → Literal → Type 0
 AllClash live assumed opposite =
     (k : ℕ) (d : Clause) → live k ≡ Some d → IsTrue (has d opposite) →
-        Clash live (assumed ++ complements (without d opposite))
+    Clash live (assumed ++ complements (without d opposite))
 
 -- some live clause with the literal doesn't
 pub record SomeQuiet (live : Live) (assumed : List Literal) (opposite : Literal) : Type 0 where
@@ -27,7 +27,7 @@ SearchedCandidates live assumed opposite false = SomeQuiet live assumed opposite
 abbrev pub AllReducedClash : Live → List Literal → List Literal → Type 0
 AllReducedClash live assumed set =
     (k : ℕ) (d : Clause) → live k ≡ Some d → IsTrue (is_reduced (has set) d) →
-        Clash live (assumed ++ complements (open_literals set d))
+    Clash live (assumed ++ complements (open_literals set d))
 
 -- some live clause that the set reduces doesn't
 pub record SomeReducedQuiet (live : Live) (assumed set : List Literal) : Type 0 where

@@ -32,4 +32,4 @@ abbrev pub IsFirstLeftOut : Live → List Literal → Literal → List ℕ → O
 IsFirstLeftOut live ls pivot named None = (k : ℕ) → IsFalse (is_unnamed live ls pivot named k)
 IsFirstLeftOut live ls pivot named (Some k) =
     IsTrue (is_unnamed live ls pivot named k)
-        × ((j : ℕ) → j < k → IsFalse (is_unnamed live ls pivot named j))
+    × ((j : ℕ) → j < k → IsFalse (is_unnamed live ls pivot named j))

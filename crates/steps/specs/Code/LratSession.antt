@@ -15,11 +15,18 @@ abbrev pub session_code : Coded Session
 session_code =
     code_by (FinMap nat_cmp Clause × (ℕ × (Bool × (Bool × (Bool × (ℕ × ℕ))))))
     (coded× (map.code coded_ℕ (coded_list coded_ℕ))
-        (coded× coded_ℕ
-        (coded× coded_bool (coded× coded_bool (coded× coded_bool (coded× coded_ℕ coded_ℕ))))))
+    (coded× coded_ℕ
+    (coded× coded_bool (coded× coded_bool (coded× coded_bool (coded× coded_ℕ coded_ℕ))))))
     (λ s. (s.live, (s.top, (s.has_stepped, (s.is_verified, (s.is_ended, (s.peak, s.stored)))))))
-    (λ p. record { live = p.0; top = p.1.0; has_stepped = p.1.1.0; is_verified = p.1.1.1.0;
-        is_ended = p.1.1.1.1.0; peak = p.1.1.1.1.1.0; stored = p.1.1.1.1.1.1 })
+    (λ p. record {
+      live = p.0;
+      top = p.1.0;
+      has_stepped = p.1.1.0;
+      is_verified = p.1.1.1.0;
+      is_ended = p.1.1.1.1.0;
+      peak = p.1.1.1.1.1.0;
+      stored = p.1.1.1.1.1.1;
+    })
     (λ _. refl)
 
 -- nothing is true, and there is room for all that may become true

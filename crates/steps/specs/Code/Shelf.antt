@@ -33,9 +33,9 @@ pub record Shelf : Type 0 where
 abbrev pub shelf_code : Coded Shelf
 shelf_code =
     code_by (FinMap nat_cmp Clause × (ℕ × ℕ))
-        (coded× (maps.code coded_ℕ (coded_list coded_ℕ)) (coded× coded_ℕ coded_ℕ))
+    (coded× (maps.code coded_ℕ (coded_list coded_ℕ)) (coded× coded_ℕ coded_ℕ))
     (λ s. (s.live, (s.top, s.stored))) (λ p. record { live = p.0; top = p.1.0; stored = p.1.1 })
-        (λ _. refl)
+    (λ _. refl)
 
 abbrev pub empty_shelf : Shelf
 empty_shelf = record { live = maps.empty; top = 0; stored = 0 }

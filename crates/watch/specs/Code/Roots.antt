@@ -118,4 +118,4 @@ IsArranged trues c (One l) =
     × ((k : Literal) → IsTrue (has c k) → k ≢ l → IsTrue (has trues (complement k)))
 IsArranged trues c More =
     (2 ≤ length c) × IsFalse (has trues (complement (slice_index c 0)))
-        × IsFalse (has trues (complement (slice_index c 1)))
+    × IsFalse (has trues (complement (slice_index c 1)))

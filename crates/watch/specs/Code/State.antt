@@ -27,12 +27,15 @@ watch_code =
     code_by
     (Propagation × (((ℕ × ℕ) × (ℕ × ℕ)) × (List ℕ × (Bool × Bool))))
     (coded× propagation_code
-        (coded× (coded× (coded× coded_ℕ coded_ℕ) (coded× coded_ℕ coded_ℕ))
-        (coded× (coded_list coded_ℕ) (coded× coded_bool coded_bool))))
-    (λ s.
-        (s.propagation,
-        (((s.entries, s.loose), (s.trues, s.variables)),
-        (s.roots, (s.is_up_to_date, s.has_clash)))))
+    (coded× (coded× (coded× coded_ℕ coded_ℕ) (coded× coded_ℕ coded_ℕ))
+    (coded× (coded_list coded_ℕ) (coded× coded_bool coded_bool))))
+    (λ s. (
+      s.propagation,
+      (
+        ((s.entries, s.loose), (s.trues, s.variables)),
+        (s.roots, (s.is_up_to_date, s.has_clash)),
+      ),
+    ))
     (λ p. record {
       propagation = p.0;
       entries = p.1.0.0.0;

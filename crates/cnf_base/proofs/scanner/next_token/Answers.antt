@@ -3,7 +3,9 @@ use Rattle.std.proofs.Common.{◌≡◌, ◌<◌, ◌==◌, true, ap, sym, ◌�
 use Rattle.std.proofs.lemmas.Bool.{and_parts}
 use Rattle.std.proofs.lemmas.Bool.Decides.{nat_tests}
 use Rattle.std.proofs.lemmas.Grind.{common_steps}
-use Rattle.cnf_base.proofs.RunLemmas.{Stands-start, Stands-end, Stands-failed, Stands-looked, Stands-separator, Stands-feed, Stands-comment, Stands-cut, Stands-word, Stands-cut_word, whole_number-read}
+use Rattle.cnf_base.proofs.RunLemmas.{Stands-start, Stands-end, Stands-failed, Stands-looked}
+use Rattle.cnf_base.proofs.RunLemmas.{Stands-separator, Stands-feed, Stands-comment, Stands-cut}
+use Rattle.cnf_base.proofs.RunLemmas.{Stands-word, Stands-cut_word, whole_number-read}
 use Rattle.cnf_base.proofs.TokenLemmas.{failed}
 use Rattle.cnf_base.proofs.scanner.next_token.Goals as goal
 

@@ -1,6 +1,7 @@
 -- A byte of the number is taken, until a separator, the end or a failed read.
 use Rattle.std.proofs.Common.{[], ◌∷◌, ◌++◌, rules, ◌∙◌}
-use Rattle.cnf_base.proofs.RunLemmas.{InRun-first, InRun-looked, InRun-bumped, InRun-separator, InRun-end, InRun-failed}
+use Rattle.cnf_base.proofs.RunLemmas.{InRun-first, InRun-looked, InRun-bumped, InRun-separator}
+use Rattle.cnf_base.proofs.RunLemmas.{InRun-end, InRun-failed}
 use Rattle.cnf_base.proofs.WordLemmas.{Spells-first, Spells-more, Spells-word}
 use Rattle.cnf_base.proofs.scanner.read_number.Goals as goal
 

@@ -3,8 +3,13 @@ use Rattle.std.proofs.Common.{rules}
 use Rattle.std.specs.Prelude.{Ok}
 use Rattle.cnf_base.specs.declared.token.Token.TheVariants as token
 use Rattle.cnf_base.proofs.TokenLemmas.{told}
-use Rattle.dimacs.proofs.ClaimLemmas.{Hears-word, Hears-bad_word, Hears-line, Hears-bad_line, Hears-end, Hears-failed}
+use Rattle.dimacs.specs.Claim.{nothing}
+use Rattle.dimacs.proofs.ClaimLemmas.{Hears-start, Hears-word, Hears-bad_word, Hears-line}
+use Rattle.dimacs.proofs.ClaimLemmas.{Hears-bad_line, Hears-end, Hears-failed}
 use Rattle.dimacs.proofs.claim.read_tokens.Goals as goal
+
+pub loop-place-init : goal.loop-place-init
+loop-place-init g c = rw c.new-said.ensures (Hears-start _ nothing)
 
 pub loop-place-preserved-in_default : goal.loop-place-preserved-in_default
 loop-place-preserved-in_default g c =

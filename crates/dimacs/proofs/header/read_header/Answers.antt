@@ -1,6 +1,7 @@
 -- The parts in turn.
 use Rattle.dimacs.specs.Formula.{skip_blank, is_p, is_cnf, fixed, count, line_end}
-use Rattle.dimacs.proofs.HeaderLemmas.{Heads-start, Heads-part, Heads-fault, after_p, after_cnf, after_vars, after_clauses, done}
+use Rattle.dimacs.proofs.HeaderLemmas.{Heads-start, Heads-part, Heads-fault, after_p, after_cnf}
+use Rattle.dimacs.proofs.HeaderLemmas.{after_vars, after_clauses, done}
 use Rattle.dimacs.proofs.header.read_header.Goals as goal
 
 pub returns-in-Err-read_cnf-clause-header : goal.returns-in-Err-read_cnf-clause-header

@@ -6,7 +6,8 @@ use Rattle.proofs.specs.declared.drat_binary.stopped.Stopped.TheVariants.{Binary
 use Rattle.cnf_base.specs.declared.input.Ending.TheVariants.{End}
 use Rattle.proofs.specs.Code.TextMoves.{EndsProof}
 use Rattle.proofs.specs.Binary.{at_tag, binary_at_end}
-use Rattle.proofs.proofs.BinaryLemmas.{Between-none, Between-end, Between-byte, Between-step, Between-fault, Between-refused, moves_told}
+use Rattle.proofs.proofs.BinaryLemmas.{Between-none, Between-end, Between-byte, Between-step}
+use Rattle.proofs.proofs.BinaryLemmas.{Between-fault, Between-refused, moves_told}
 use Rattle.proofs.proofs.drat_binary.read_step.Goals as goal
 
 pub loop-byte-init : goal.loop-byte-init

@@ -9,7 +9,9 @@ use Rattle.proofs.specs.declared.stopped.Stopped.{Stopped}
 use Rattle.proofs.specs.declared.stopped.Stopped.TheVariants.{Text}
 use Rattle.proofs.specs.TextSteps.{move_of}
 use Rattle.proofs.specs.Code.TextMoves.{FitsMoved}
-use Rattle.proofs.proofs.TextLemmas.{Between-start, Between-line, Between-word, Between-step, Between-fault, Between-refused, Between-end, Between-failed, moves_told}
+use Rattle.proofs.proofs.TextLemmas.{Between-start, Between-line, Between-word, Between-step}
+use Rattle.proofs.proofs.TextLemmas.{Between-fault, Between-refused, Between-end, Between-failed}
+use Rattle.proofs.proofs.TextLemmas.{moves_told}
 use Rattle.proofs.proofs.text.read_step.Goals as goal
 
 pub loop-place-init : goal.loop-place-init

@@ -4,8 +4,10 @@ use Rattle.cnf_base.proofs.StreamLemmas.{Along-map, Along-none}
 use Rattle.sat_check.specs.Lines.{formula_line, steps_line}
 use Rattle.sat_check.specs.declared.status.Status.TheVariants.{Malformed}
 use Rattle.sat_check.proofs.OutcomeLemmas.{Outcome-line}
-use Rattle.sat_check.proofs.ReachLemmas.{no_verdict, LeavesProof-broken, LeavesProof-empty, LeavesProof-checked}
-use Rattle.sat_check.proofs.ReportLemmas.{loaded_finite, loaded_least, checks_some, checks_rest, verified_report}
+use Rattle.sat_check.proofs.ReachLemmas.{no_verdict, LeavesProof-broken, LeavesProof-empty}
+use Rattle.sat_check.proofs.ReachLemmas.{LeavesProof-checked}
+use Rattle.sat_check.proofs.ReportLemmas.{loaded_finite, loaded_least, checks_some, checks_rest}
+use Rattle.sat_check.proofs.ReportLemmas.{verified_report}
 use Rattle.sat_check.proofs.check.check_loaded.Goals as goal
 
 pub returns-in-Err-clause-report : goal.returns-in-Err-clause-report

@@ -3,7 +3,8 @@ use Rattle.std.proofs.Common.{◌≡◌, ◌+◌, ◌∙◌, true, false, rules,
 use Rattle.std.specs.Prelude.{Ok}
 use Rattle.sat_check.specs.Lines.{end_line}
 use Rattle.sat_check.specs.Code.Checking.{Standing, counted}
-use Rattle.sat_check.proofs.CheckLemmas.{Checking-start, Checking-step, Checking-stop, Checking-end, Checking-fault, step_told}
+use Rattle.sat_check.proofs.CheckLemmas.{Checking-start, Checking-step, Checking-stop, Checking-end}
+use Rattle.sat_check.proofs.CheckLemmas.{Checking-fault, step_told}
 use Rattle.sat_check.proofs.check_proof.check_proof.Goals as goal
 
 pub loop-number-init : goal.loop-number-init

@@ -4,9 +4,11 @@ use Rattle.clap.proofs.WalkLemmas.{first_value-rows}
 use Rattle.sat_check.specs.CommandLine.Words.{said_by}
 use Rattle.std.proofs.lemmas.Bool.{true≢false}
 use Rattle.sat_check.proofs.CommandLineLemmas.Accepted.{has_formula, names_full}
-use Rattle.sat_check.proofs.CommandLineLemmas.Reading.{fails_for_memory, flag_given, known_words, knows, reads}
+use Rattle.sat_check.proofs.CommandLineLemmas.Reading.{fails_for_memory, flag_given, known_words}
+use Rattle.sat_check.proofs.CommandLineLemmas.Reading.{knows, reads}
 use Rattle.sat_check.proofs.command_line.read_args.Goals as goal
-use Rattle.sat_check.proofs.command_line.read_args.Goals.{in-Some-get_str+in_ok-to_string-in-Some-get_str, in-None}
+use Rattle.sat_check.proofs.command_line.read_args.Goals.{in-Some-get_str+in_ok-to_string-in-Some-get_str}
+use Rattle.sat_check.proofs.command_line.read_args.Goals.{in-None}
 
 pub returns-in-Err-clause-accepts : goal.returns-in-Err-clause-accepts
 returns-in-Err-clause-accepts c accepts =

@@ -2,18 +2,17 @@
 use Rattle.std.proofs.Common.{refl, sym, ap, rules}
 use Rattle.proofs.specs.Binary.{binary_steps}
 use Rattle.proofs.specs.Code.Binary.{binary_to_come}
-use Rattle.proofs.specs.Drat.{drat as drat_format, drat_steps}
+use Rattle.proofs.specs.Drat.{drat_steps}
 use Rattle.proofs.specs.Code.Drat.{drat_to_come}
 use Rattle.sat_check.specs.Report.{drat_proof, rules_of}
 use Rattle.theory.specs.Rules.{drat}
 use Rattle.sat_check.proofs.LoadLemmas.{drat_unused}
-use Rattle.sat_check.proofs.CheckLemmas.{reports_nothing, reports_run, reports_as, drat_proof-within}
-use Rattle.proofs.proofs.ReachLemmas.{steps_of-within, binary_steps-within}
+use Rattle.sat_check.proofs.CheckLemmas.{reports_nothing, reports_run, reports_as}
 use Rattle.sat_check.proofs.drat.check_form.Goals as goal
 
 pub returns-in_default-clause-report : goal.returns-in_default-clause-report
 returns-in_default-clause-report g c =
-    reports_nothing (drat (rules_of c.args.options)) c.args.options.trace (drat_proof c.args.options.binary) _ _ _ c.without_step.result c.args.lines.now c.give_up.new.lines (drat_proof-within c.args.options.binary) refl (search rules) (λ r. rw (c.without_step.ensures, c.give_up.ensures.status) (c.give_up.ensures.outcome r))
+    reports_nothing (drat (rules_of c.args.options)) c.args.options.trace (drat_proof c.args.options.binary) _ _ _ c.without_step.result c.args.lines.now c.give_up.new.lines refl (search rules) (λ r. rw (c.without_step.ensures, c.give_up.ensures.status) (c.give_up.ensures.outcome r))
 
 pub check-checked-requires-clause-unused : goal.check-checked-requires-clause-unused
 check-checked-requires-clause-unused g c = drat_unused (rules_of c.args.options) c.args.session.now c.requires.fresh
@@ -25,12 +24,12 @@ pub returns-then-options-clause-report : goal.returns-then-options-clause-report
 returns-then-options-clause-report g c =
     reports_as (drat c.args.session.now.rules) (drat (rules_of c.args.options)) c.args.options.trace binary_steps (drat_proof c.args.options.binary) _ _ _ _ c.check-checked.result c.args.lines.now c.check-checked.new.lines (ap (λ s. drat s.rules) c.requires.fresh)
     (λ j. ap (λ b. drat_proof b j) (sym c.if-options.true))
-    (reports_run (drat c.args.session.now.rules) c.args.options.trace binary_to_come binary_steps _ _ _ _ c.over.result _ _ c.check-checked.result c.args.lines.now c.check-checked.new.lines c.over.ensures (search rules) (λ j. refl) binary_steps-within
+    (reports_run (drat c.args.session.now.rules) c.args.options.trace binary_to_come binary_steps _ _ _ _ c.over.result _ _ c.check-checked.result c.args.lines.now c.check-checked.new.lines c.over.ensures (search rules) (λ j. refl)
     c.new-reader.result c.new-reader.ensures c.check-checked.ensures.report.0 c.check-checked.ensures.report.1)
 
 pub returns-else-options-clause-report : goal.returns-else-options-clause-report
 returns-else-options-clause-report g c =
     reports_as (drat c.args.session.now.rules) (drat (rules_of c.args.options)) c.args.options.trace drat_steps (drat_proof c.args.options.binary) _ _ _ _ c.check-checked-else-options.result c.args.lines.now c.check-checked-else-options.new.lines (ap (λ s. drat s.rules) c.requires.fresh)
     (λ j. ap (λ b. drat_proof b j) (sym c.if-options.false))
-    (reports_run (drat c.args.session.now.rules) c.args.options.trace drat_to_come drat_steps _ _ _ _ c.over-else-options.result _ _ c.check-checked-else-options.result c.args.lines.now c.check-checked-else-options.new.lines c.over-else-options.ensures (search rules) (λ j. refl) (steps_of-within drat_format)
+    (reports_run (drat c.args.session.now.rules) c.args.options.trace drat_to_come drat_steps _ _ _ _ c.over-else-options.result _ _ c.check-checked-else-options.result c.args.lines.now c.check-checked-else-options.new.lines c.over-else-options.ensures (search rules) (λ j. refl)
     c.new-reader-else-options.result c.new-reader-else-options.ensures c.check-checked-else-options.ensures.report.0 c.check-checked-else-options.ensures.report.1)

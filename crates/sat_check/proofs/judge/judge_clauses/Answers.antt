@@ -2,7 +2,8 @@
 use Rattle.std.proofs.Common.{◌≡◌, true, false, rules}
 use Rattle.std.specs.Prelude.{Ok}
 use Rattle.sat_check.specs.ModelReport.{meets}
-use Rattle.sat_check.proofs.JudgeLemmas.{Judging-start, Judging-clause, Judging-unmet, Judging-done, Judging-fault}
+use Rattle.sat_check.proofs.JudgeLemmas.{Judging-start, Judging-clause, Judging-unmet, Judging-done}
+use Rattle.sat_check.proofs.JudgeLemmas.{Judging-fault}
 use Rattle.sat_check.proofs.ReadLemmas.{clause_told}
 use Rattle.sat_check.proofs.judge.judge_clauses.Goals as goal
 

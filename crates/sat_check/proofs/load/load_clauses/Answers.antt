@@ -3,7 +3,8 @@ use Rattle.std.proofs.Common.{◌≡◌, ◌+◌, ◌≤◌, ◌||◌, max, true
 use Rattle.std.specs.Prelude.{Ok}
 use Rattle.theory.specs.Rules.{Same, with_input, sum_of}
 use Rattle.theory.specs.Verdicts.{is_empty}
-use Rattle.sat_check.proofs.LoadLemmas.{Loading-start, Loading-clause, Loading-done, Loading-fault, Loading-refused, loaded_more}
+use Rattle.sat_check.proofs.LoadLemmas.{Loading-start, Loading-clause, Loading-done, Loading-fault}
+use Rattle.sat_check.proofs.LoadLemmas.{Loading-refused, loaded_more}
 use Rattle.sat_check.proofs.ReadLemmas.{clause_told}
 use Rattle.sat_check.proofs.load.load_clauses.Goals as goal
 

@@ -4,7 +4,8 @@ use Rattle.cnf_base.proofs.SeenLemmas.{Seen-nothing}
 use Rattle.dimacs.specs.Claim.{claim_of}
 use Rattle.dimacs.specs.Formula.{formula_of}
 use Rattle.sat_check.specs.Report.{Report, Outcome}
-use Rattle.sat_check.proofs.ModelLemmas.{claimed_report, claimed_consistent, formula_left, formula_needed, output_fault, fault_unverified}
+use Rattle.sat_check.proofs.ModelLemmas.{claimed_report, claimed_consistent, formula_left}
+use Rattle.sat_check.proofs.ModelLemmas.{formula_needed, output_fault, fault_unverified}
 use Rattle.sat_check.proofs.model.check_model.Goals as goal
 
 pub returns-in-Ok-clause-report : goal.returns-in-Ok-clause-report

@@ -1,7 +1,8 @@
 -- What was read, of a source that is used up.
 use Rattle.std.proofs.Common.{◌∙◌, ap, [], take, rules, arith}
 use Rattle.std.proofs.lemmas.Grind.{common_steps}
-use Rattle.cnf_base.proofs.StreamLemmas.{Consumes-failed, look_filled, slice_range-front, still_nothing}
+use Rattle.cnf_base.proofs.StreamLemmas.{Consumes-failed, look_filled, slice_range-front}
+use Rattle.cnf_base.proofs.StreamLemmas.{still_nothing}
 use Rattle.cnf_base.proofs.source.Source.fill.Goals as goal
 
 pub returns-in-Some-eq0-clause-look : goal.returns-in-Some-eq0-clause-look

@@ -1,4 +1,5 @@
-use Rattle.std.proofs.Common.{◌≡◌, ℕ, ◌∷◌, [], ◌++◌, Some, cond, eqb, unwrap_or, ap, ◌∙◌, sym, subst, rules}
+use Rattle.std.proofs.Common.{◌≡◌, ℕ, ◌∷◌, [], ◌++◌, Some, cond, eqb, unwrap_or, ap, ◌∙◌, sym}
+use Rattle.std.proofs.Common.{subst, rules}
 use Rattle.cnf_base.specs.Literals.{Literal, has}
 use Rattle.tables.specs.Table.{at}
 use Rattle.dimacs.proofs.ModelLemmas.{has_pushed, listed_more, IsConsistent-put}

@@ -1,7 +1,8 @@
 -- A number goes on, or it is whole.
 use Rattle.std.proofs.Common.{◌≡◌, [], ◌∷◌, ◌++◌, true, false, cond, ap, sym, ◌∙◌, subst, rules}
 use Rattle.std.specs.Prelude.{nat_le}
-use Rattle.proofs.specs.Binary.{in_number, BinaryMove, goes, binary_number_move, groups_value, group_move}
+use Rattle.proofs.specs.Binary.{in_number, BinaryMove, goes, binary_number_move, groups_value}
+use Rattle.proofs.specs.Binary.{group_move}
 use Rattle.proofs.specs.Code.BinaryMoves.{MovesBinary}
 use Rattle.proofs.proofs.GroupLemmas.{number_kept}
 use Rattle.proofs.proofs.drat_binary.moves.take_group.Goals as goal
