@@ -1,14 +1,8 @@
 //! The programs, over any system: from the words of the command line to the status.
 
-ghost use Rattle.std.specs.Prelude.{◌≡◌, ◌≢◌, ◌⊎◌, true, false, IfOk, IfErr, OnErr};
-ghost use Rattle.cnf_base.specs.Stream.{Reader};
-ghost use Rattle.proofs.specs.Lrat.{lrat_steps};
-ghost use Rattle.theory.specs.Rules.{drat, lrat};
-ghost use Rattle.sat_check.specs.CommandLine.Asked.{drat_rules, IsAsked};
-ghost use Rattle.sat_check.specs.CommandLine.Words.{Accepts, said_by};
-ghost use Rattle.sat_check.specs.ModelReport.{ChecksModel};
-ghost use Rattle.sat_check.specs.Report.{ChecksProof, drat_proof, is_cut_short};
-ghost use Rattle.filter_io.specs.Runs.{OfInputs};
+ghost use Rattle.std.specs.Prelude.{◌≡◌, IfOk, IfErr, OnErr};
+ghost use Rattle.sat_check.specs.CommandLine.Asked.{IsAsked};
+ghost use Rattle.filter_io.specs.Runs.{MakesNoCheck, RunsTool};
 
 use crate::inputs::{open_both, tell_failures, tell_refusal};
 use crate::system::System;
@@ -22,20 +16,10 @@ pub fn run_drat_forward<S: System, O: Out>(
     out: &mut O,
 ) -> Result<Status, Status>
     // The words ask for this, and it was done with the inputs that they name.
-    ensures checks { IfOk result (λ status. (args : Args) × IsAsked Tool.Drat words.now args
-        × OfInputs (S.holds system.now) args status (λ i j.
-        ChecksProof (drat (drat_rules args)) args.trace i (drat_proof args.binary j)
-        (O.held out.old) (O.held out.new) status)) }
-    ensures write_failed { IfOk result (λ status. status ≡ Status.WriteFailed →
-        O.has_failed out.new ≡ true) }
-    ensures no_failure { IfOk result (λ status. is_cut_short status ≡ false →
-        O.has_failed out.new ≡ O.has_failed out.old) }
-    ensures flushed { IfOk result (λ status. is_cut_short status ≡ false →
-        O.is_flushed out.new ≡ true) }
-    ensures unchecked { IfErr result (λ status.
-        (status ≡ Status.Usage) ⊎ (status ≡ Status.OutOfMemory)) }
-    ensures accepts { IfErr result (λ status. Accepts Tool.Drat (said_by words.now) →
-        status ≡ Status.OutOfMemory) }
+    ensures runs { IfOk result (RunsTool Tool.Drat words.now (S.holds system.now)
+        (O.held out.old) (O.held out.new) (O.has_failed out.old) (O.has_failed out.new)
+        (O.is_flushed out.new)) }
+    ensures no_check { IfErr result (MakesNoCheck Tool.Drat words.now) }
     ensures unwritten { OnErr result (out.new ≡ out.old) }
 {
     let args = asked(system, Tool::Drat, words)?;
@@ -54,20 +38,10 @@ pub fn run_lrat_check<S: System, O: Out>(
     out: &mut O,
 ) -> Result<Status, Status>
     // The words ask for this, and it was done with the inputs that they name.
-    ensures checks { IfOk result (λ status. (args : Args) × IsAsked Tool.Lrat words.now args
-        × OfInputs (S.holds system.now) args status (λ i j.
-        ChecksProof lrat args.trace i (lrat_steps j)
-        (O.held out.old) (O.held out.new) status)) }
-    ensures write_failed { IfOk result (λ status. status ≡ Status.WriteFailed →
-        O.has_failed out.new ≡ true) }
-    ensures no_failure { IfOk result (λ status. is_cut_short status ≡ false →
-        O.has_failed out.new ≡ O.has_failed out.old) }
-    ensures flushed { IfOk result (λ status. is_cut_short status ≡ false →
-        O.is_flushed out.new ≡ true) }
-    ensures unchecked { IfErr result (λ status.
-        (status ≡ Status.Usage) ⊎ (status ≡ Status.OutOfMemory)) }
-    ensures accepts { IfErr result (λ status. Accepts Tool.Lrat (said_by words.now) →
-        status ≡ Status.OutOfMemory) }
+    ensures runs { IfOk result (RunsTool Tool.Lrat words.now (S.holds system.now)
+        (O.held out.old) (O.held out.new) (O.has_failed out.old) (O.has_failed out.new)
+        (O.is_flushed out.new)) }
+    ensures no_check { IfErr result (MakesNoCheck Tool.Lrat words.now) }
     ensures unwritten { OnErr result (out.new ≡ out.old) }
 {
     let args = asked(system, Tool::Lrat, words)?;
@@ -85,19 +59,10 @@ pub fn run_model_check<S: System, O: Out>(
     out: &mut O,
 ) -> Result<Status, Status>
     // The words ask for this, and it was done with the inputs that they name.
-    ensures checks { IfOk result (λ status. (args : Args) × IsAsked Tool.Model words.now args
-        × OfInputs (S.holds system.now) args status (λ i j.
-        ChecksModel i j (O.held out.old) (O.held out.new) status)) }
-    ensures write_failed { IfOk result (λ status. status ≡ Status.WriteFailed →
-        O.has_failed out.new ≡ true) }
-    ensures no_failure { IfOk result (λ status. is_cut_short status ≡ false →
-        O.has_failed out.new ≡ O.has_failed out.old) }
-    ensures flushed { IfOk result (λ status. is_cut_short status ≡ false →
-        O.is_flushed out.new ≡ true) }
-    ensures unchecked { IfErr result (λ status.
-        (status ≡ Status.Usage) ⊎ (status ≡ Status.OutOfMemory)) }
-    ensures accepts { IfErr result (λ status. Accepts Tool.Model (said_by words.now) →
-        status ≡ Status.OutOfMemory) }
+    ensures runs { IfOk result (RunsTool Tool.Model words.now (S.holds system.now)
+        (O.held out.old) (O.held out.new) (O.has_failed out.old) (O.has_failed out.new)
+        (O.is_flushed out.new)) }
+    ensures no_check { IfErr result (MakesNoCheck Tool.Model words.now) }
     ensures unwritten { OnErr result (out.new ≡ out.old) }
 {
     let args = asked(system, Tool::Model, words)?;
@@ -110,10 +75,7 @@ pub fn run_model_check<S: System, O: Out>(
 // What the words ask of the tool. Where they ask for nothing right, or for help or the version, the text is told.
 fn asked<S: System>(system: &S, tool: Tool, words: &[String]) -> Result<Args, Status>
     ensures asked { IfOk result (λ args. IsAsked tool words.now args) }
-    ensures unchecked { IfErr result (λ status.
-        (status ≡ Status.Usage) ⊎ (status ≡ Status.OutOfMemory)) }
-    ensures accepts { IfErr result (λ status. Accepts tool (said_by words.now) →
-        status ≡ Status.OutOfMemory) }
+    ensures no_check { IfErr result (MakesNoCheck tool words.now) }
 {
     match read_args(system.alloc(), tool, words) {
         Ok(args) => Ok(args),

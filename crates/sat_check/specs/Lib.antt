@@ -3,5 +3,6 @@ pub mod Lines
 pub mod ModelReport
 pub mod Reach
 pub mod Report
+pub mod Runs
 pub mod Status
 pub mod Code

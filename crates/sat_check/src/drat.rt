@@ -2,13 +2,12 @@
 
 ghost use Rattle.std.specs.Prelude.{◌≡◌, [], true, false};
 ghost use Rattle.std.specs.FinMap as maps;
-ghost use Rattle.cnf_base.specs.Seen.{OfBothSeen, OneHasFailed};
-ghost use Rattle.dimacs.specs.Formula.{formula_of};
+ghost use Rattle.cnf_base.specs.Seen.{OneHasFailed};
 ghost use Rattle.steps.specs.DratSession.{fresh_drat};
 ghost use Rattle.theory.specs.Rules.{drat};
 ghost use Rattle.sat_check.specs.Code.Checking.{AllReports};
-ghost use Rattle.sat_check.specs.Reach.{ReadsNoFurther, TellsRefused};
-ghost use Rattle.sat_check.specs.Report.{ChecksProof, drat_proof, rules_of, is_cut_short};
+ghost use Rattle.sat_check.specs.Report.{drat_proof, rules_of, is_cut_short};
+ghost use Rattle.sat_check.specs.Runs.{RunsPlaced, RunsProof};
 
 use crate::check::check;
 use crate::conclude::give_up;
@@ -31,25 +30,10 @@ pub fn run_drat<F: In, P: In, O: Out>(
     proof: &mut P,
     out: &mut O,
 ) -> Status
-    // What was seen of the two readers is one pair of inputs, and of this the check is true. No
-    // more of the proof was read than it takes.
-    ensures checks { OfBothSeen (F.shown formula.old) (F.shown formula.new)
-        (P.shown proof.old) (P.shown proof.new) (λ i j.
-        ChecksProof (drat (rules_of options.now)) options.now.trace i
-        (drat_proof options.now.binary j) (O.held out.old) (O.held out.new) result
-        × ReadsNoFurther (drat (rules_of options.now)) (formula_of i)
-        (drat_proof options.now.binary j)
-        (P.shown proof.old) (P.shown proof.new)) }
-
-    // A reader or the writer tells of each failure.
-    ensures read_failed { result ≡ Status.ReadFailed →
-        OneHasFailed (F.shown formula.new) (P.shown proof.new) }
-    ensures write_failed { result ≡ Status.WriteFailed → O.has_failed out.new ≡ true }
-
-    // Unless memory or the writer failed, this tells of no new failure, and all was flushed.
-    ensures no_failure { is_cut_short result ≡ false →
-        O.has_failed out.new ≡ O.has_failed out.old }
-    ensures flushed { is_cut_short result ≡ false → O.is_flushed out.new ≡ true }
+    ensures { RunsProof (drat (rules_of options.now)) options.now.trace
+        (drat_proof options.now.binary) (F.shown formula.old) (F.shown formula.new)
+        (P.shown proof.old) (P.shown proof.new) (O.held out.old) (O.held out.new)
+        (O.has_failed out.old) (O.has_failed out.new) (O.is_flushed out.new) result }
 {
     run_drat_placed(alloc, options, formula, proof, out).status
 }
@@ -62,24 +46,10 @@ pub fn run_drat_placed<F: In, P: In, O: Out>(
     proof: &mut P,
     out: &mut O,
 ) -> Checked
-    // As of `run_drat`; and of the same inputs it tells where the refused step ends.
-    ensures checks { OfBothSeen (F.shown formula.old) (F.shown formula.new)
-        (P.shown proof.old) (P.shown proof.new) (λ i j.
-        ChecksProof (drat (rules_of options.now)) options.now.trace i
-        (drat_proof options.now.binary j) (O.held out.old) (O.held out.new) result.status
-        × ReadsNoFurther (drat (rules_of options.now)) (formula_of i)
-        (drat_proof options.now.binary j)
-        (P.shown proof.old) (P.shown proof.new)
-        × TellsRefused (drat (rules_of options.now)) (formula_of i).fault (formula_of i).clauses
-        (drat_proof options.now.binary j) result) }
-    ensures read_failed { result.status ≡ Status.ReadFailed →
-        OneHasFailed (F.shown formula.new) (P.shown proof.new) }
-    ensures write_failed { result.status ≡ Status.WriteFailed → O.has_failed out.new ≡ true }
-
-    // Unless memory or the writer failed, this tells of no new failure, and all was flushed.
-    ensures no_failure { is_cut_short result.status ≡ false →
-        O.has_failed out.new ≡ O.has_failed out.old }
-    ensures flushed { is_cut_short result.status ≡ false → O.is_flushed out.new ≡ true }
+    ensures { RunsPlaced (drat (rules_of options.now)) options.now.trace
+        (drat_proof options.now.binary) (F.shown formula.old) (F.shown formula.new)
+        (P.shown proof.old) (P.shown proof.new) (O.held out.old) (O.held out.new)
+        (O.has_failed out.old) (O.has_failed out.new) (O.is_flushed out.new) result }
 {
     let mut lines = LineOut::new(&mut *out);
     let checked = check_drat(alloc, *options, formula, proof, &mut lines);

@@ -1,13 +1,12 @@
 //! A check of an LRAT proof, from bytes to bytes.
 
 ghost use Rattle.std.specs.Prelude.{◌≡◌, true, false};
-ghost use Rattle.cnf_base.specs.Seen.{OfBothSeen, OneHasFailed};
-ghost use Rattle.dimacs.specs.Formula.{formula_of};
+ghost use Rattle.cnf_base.specs.Seen.{OneHasFailed};
 ghost use Rattle.proofs.specs.Lrat.{lrat_steps};
 ghost use Rattle.theory.specs.Rules.{lrat};
 ghost use Rattle.sat_check.specs.Code.Checking.{AllReports};
-ghost use Rattle.sat_check.specs.Reach.{ReadsNoFurther, TellsRefused};
-ghost use Rattle.sat_check.specs.Report.{ChecksProof, is_cut_short};
+ghost use Rattle.sat_check.specs.Report.{is_cut_short};
+ghost use Rattle.sat_check.specs.Runs.{RunsPlaced, RunsProof};
 
 use crate::check::check;
 use crate::conclude::give_up;
@@ -28,24 +27,10 @@ pub fn run_lrat<F: In, P: In, O: Out>(
     proof: &mut P,
     out: &mut O,
 ) -> Status
-    // What was seen of the two readers is one pair of inputs, and of this the check is true. No
-    // more of the proof was read than it takes.
-    ensures checks { OfBothSeen (F.shown formula.old) (F.shown formula.new)
-        (P.shown proof.old) (P.shown proof.new) (λ i j.
-        ChecksProof lrat options.now.trace i (lrat_steps j)
-        (O.held out.old) (O.held out.new) result
-        × ReadsNoFurther lrat (formula_of i) (lrat_steps j)
-        (P.shown proof.old) (P.shown proof.new)) }
-
-    // A reader or the writer tells of each failure.
-    ensures read_failed { result ≡ Status.ReadFailed →
-        OneHasFailed (F.shown formula.new) (P.shown proof.new) }
-    ensures write_failed { result ≡ Status.WriteFailed → O.has_failed out.new ≡ true }
-
-    // Unless memory or the writer failed, this tells of no new failure, and all was flushed.
-    ensures no_failure { is_cut_short result ≡ false →
-        O.has_failed out.new ≡ O.has_failed out.old }
-    ensures flushed { is_cut_short result ≡ false → O.is_flushed out.new ≡ true }
+    ensures { RunsProof lrat options.now.trace lrat_steps
+        (F.shown formula.old) (F.shown formula.new) (P.shown proof.old) (P.shown proof.new)
+        (O.held out.old) (O.held out.new) (O.has_failed out.old) (O.has_failed out.new)
+        (O.is_flushed out.new) result }
 {
     run_lrat_placed(alloc, options, formula, proof, out).status
 }
@@ -58,22 +43,10 @@ pub fn run_lrat_placed<F: In, P: In, O: Out>(
     proof: &mut P,
     out: &mut O,
 ) -> Checked
-    // As of `run_lrat`; and of the same inputs it tells where the refused step ends.
-    ensures checks { OfBothSeen (F.shown formula.old) (F.shown formula.new)
-        (P.shown proof.old) (P.shown proof.new) (λ i j.
-        ChecksProof lrat options.now.trace i (lrat_steps j)
-        (O.held out.old) (O.held out.new) result.status
-        × ReadsNoFurther lrat (formula_of i) (lrat_steps j)
-        (P.shown proof.old) (P.shown proof.new)
-        × TellsRefused lrat (formula_of i).fault (formula_of i).clauses (lrat_steps j) result) }
-    ensures read_failed { result.status ≡ Status.ReadFailed →
-        OneHasFailed (F.shown formula.new) (P.shown proof.new) }
-    ensures write_failed { result.status ≡ Status.WriteFailed → O.has_failed out.new ≡ true }
-
-    // Unless memory or the writer failed, this tells of no new failure, and all was flushed.
-    ensures no_failure { is_cut_short result.status ≡ false →
-        O.has_failed out.new ≡ O.has_failed out.old }
-    ensures flushed { is_cut_short result.status ≡ false → O.is_flushed out.new ≡ true }
+    ensures { RunsPlaced lrat options.now.trace lrat_steps
+        (F.shown formula.old) (F.shown formula.new) (P.shown proof.old) (P.shown proof.new)
+        (O.held out.old) (O.held out.new) (O.has_failed out.old) (O.has_failed out.new)
+        (O.is_flushed out.new) result }
 {
     let mut lines = LineOut::new(&mut *out);
     let checked = check_lrat(alloc, options.trace, formula, proof, &mut lines);

@@ -9,6 +9,7 @@ ghost use Rattle.dimacs.specs.Formula.{formula_of};
 ghost use Rattle.sat_check.specs.Report.{Outcome, is_cut_short};
 ghost use Rattle.sat_check.specs.ModelReport.{claim_report, model_report};
 ghost use Rattle.sat_check.specs.ModelReport.{ChecksModel, ReadsFormulaNoFurther};
+ghost use Rattle.sat_check.specs.Runs.{Runs};
 ghost use Rattle.sat_check.specs.Code.Judging.{judged_report, ReadsToUnmet};
 
 use crate::Status;
@@ -32,22 +33,12 @@ pub fn run_model<F: In, M: In, O: Out>(
     output: &mut M,
     out: &mut O,
 ) -> Status
-    // What was seen of the two readers is one pair of inputs, and of this the check is true. No
-    // more of the formula was read than it takes.
-    ensures checks { OfBothSeen (F.shown formula.old) (F.shown formula.new)
-        (M.shown output.old) (M.shown output.new) (λ i j.
+    // The model was checked, and no more of the formula was read than that takes.
+    ensures { Runs (F.shown formula.old) (F.shown formula.new)
+        (M.shown output.old) (M.shown output.new)
+        (O.has_failed out.old) (O.has_failed out.new) (O.is_flushed out.new) result (λ i j.
         ChecksModel i j (O.held out.old) (O.held out.new) result
         × ReadsFormulaNoFurther (claim_of j) i (F.shown formula.old) (F.shown formula.new)) }
-
-    // A reader or the writer tells of each failure.
-    ensures read_failed { result ≡ Status.ReadFailed →
-        OneHasFailed (F.shown formula.new) (M.shown output.new) }
-    ensures write_failed { result ≡ Status.WriteFailed → O.has_failed out.new ≡ true }
-
-    // Unless memory or the writer failed, this tells of no new failure, and all was flushed.
-    ensures no_failure { is_cut_short result ≡ false →
-        O.has_failed out.new ≡ O.has_failed out.old }
-    ensures flushed { is_cut_short result ≡ false → O.is_flushed out.new ≡ true }
 {
     let mut lines = LineOut::new(&mut *out);
     let status = check_model(alloc, formula, output, &mut lines);

@@ -5,6 +5,12 @@ use Rattle.theory.specs.Rules.{drat}
 use Rattle.sat_check.proofs.SoundLemmas.{both_check_proof}
 use Rattle.sat_check.proofs.drat.run_drat_placed.Goals as goal
 
-pub returns-clause-checks : goal.returns-clause-checks
-returns-clause-checks g c =
-    both_check_proof (drat (rules_of c.args.options.now)) c.args.options.now.trace (drat_proof c.args.options.now.binary) _ _ _ _ c.check_drat-checked.result _ _ _ _ (search rules) (search rules) c.check_drat-checked.ensures.report
+pub returns : goal.returns
+returns g c = record {
+  checks =
+      both_check_proof (drat (rules_of c.args.options.now)) c.args.options.now.trace (drat_proof c.args.options.now.binary) _ _ _ _ c.check_drat-checked.result _ _ _ _ (search rules) (search rules) c.check_drat-checked.ensures.report;
+  read_failed = search rules;
+  write_failed = search rules;
+  no_failure = search rules;
+  flushed = search rules;
+}

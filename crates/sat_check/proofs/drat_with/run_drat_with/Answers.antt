@@ -5,7 +5,13 @@ use Rattle.theory.specs.Rules.{drat}
 use Rattle.sat_check.proofs.SoundLemmas.{both_check_proof, unplaced}
 use Rattle.sat_check.proofs.drat_with.run_drat_with.Goals as goal
 
-pub returns-clause-checks : goal.returns-clause-checks
-returns-clause-checks g c =
-    unplaced (drat (rules_of c.args.options.now)) c.args.options.now.trace (drat_proof c.args.options.now.binary) _ _ _ _ c.check_with-checked.result _ _
-    (both_check_proof (drat (rules_of c.args.options.now)) c.args.options.now.trace (drat_proof c.args.options.now.binary) _ _ _ _ c.check_with-checked.result _ _ _ _ (search rules) (search rules) c.check_with-checked.ensures.report)
+pub returns : goal.returns
+returns g c =
+    unplaced (drat (rules_of c.args.options.now)) c.args.options.now.trace (drat_proof c.args.options.now.binary) _ _ _ _ c.check_with-checked.result _ _ _ _ _ (record {
+      checks =
+          both_check_proof (drat (rules_of c.args.options.now)) c.args.options.now.trace (drat_proof c.args.options.now.binary) _ _ _ _ c.check_with-checked.result _ _ _ _ (search rules) (search rules) c.check_with-checked.ensures.report;
+      read_failed = search rules;
+      write_failed = search rules;
+      no_failure = search rules;
+      flushed = search rules;
+    })

@@ -5,6 +5,12 @@ use Rattle.theory.specs.Rules.{lrat}
 use Rattle.sat_check.proofs.SoundLemmas.{both_check_proof}
 use Rattle.sat_check.proofs.lrat.run_lrat_placed.Goals as goal
 
-pub returns-clause-checks : goal.returns-clause-checks
-returns-clause-checks g c =
-    both_check_proof lrat c.args.options.now.trace lrat_steps _ _ _ _ c.check_lrat-checked.result _ _ _ _ (search rules) (search rules) c.check_lrat-checked.ensures.report
+pub returns : goal.returns
+returns g c = record {
+  checks =
+      both_check_proof lrat c.args.options.now.trace lrat_steps _ _ _ _ c.check_lrat-checked.result _ _ _ _ (search rules) (search rules) c.check_lrat-checked.ensures.report;
+  read_failed = search rules;
+  write_failed = search rules;
+  no_failure = search rules;
+  flushed = search rules;
+}

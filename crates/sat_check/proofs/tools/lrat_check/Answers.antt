@@ -1,5 +1,5 @@
 -- The options are those that the words ask for.
 use Rattle.sat_check.proofs.tools.lrat_check.Goals as goal
 
-pub returns-clause-checks : goal.returns-clause-checks
-returns-clause-checks g c = rw c.of.ensures at c.run_lrat_placed.ensures.checks
+pub returns : goal.returns
+returns g c = rw c.of.ensures at c.run_lrat_placed.ensures

@@ -1,0 +1,46 @@
+-- What is promised of a run of a check, by its readers, its writer and its status.
+use Rattle.std.specs.Prelude.{◌≡◌, ℕ, Bool, true, false, List, Option}
+use Rattle.cnf_base.specs.Seen.{OfBothSeen, OneHasFailed}
+use Rattle.cnf_base.specs.Stream.{Input, Reader}
+use Rattle.dimacs.specs.Formula.{formula_of}
+use Rattle.proofs.specs.Reading.{Proof}
+use Rattle.theory.specs.Rules.{Rule}
+use Rattle.sat_check.specs.Reach.{ReadsNoFurther, TellsRefused}
+use Rattle.sat_check.specs.Report.{ChecksProof, is_cut_short}
+use Rattle.sat_check.specs.declared.checked.Checked.{Checked}
+use Rattle.sat_check.specs.declared.status.Status.{Status}
+use Rattle.sat_check.specs.declared.status.Status.TheVariants.{ReadFailed, WriteFailed}
+
+-- What was seen of the two readers in a run is one pair of inputs, and of this the fact is true. A
+-- reader or the writer tells of each failure. Unless memory or the writer failed, the writer tells
+-- of no new failure, and all was flushed.
+pub record Runs (formula formula_new second second_new : Reader)
+    (had_failed has_failed is_flushed : Bool) (status : Status) (Fact : Input → Input → Type 0)
+    : Type 0 where
+  pub checks : OfBothSeen formula formula_new second second_new Fact
+  pub read_failed : status ≡ ReadFailed → OneHasFailed formula_new second_new
+  pub write_failed : status ≡ WriteFailed → has_failed ≡ true
+  pub no_failure : is_cut_short status ≡ false → has_failed ≡ had_failed
+  pub flushed : is_cut_short status ≡ false → is_flushed ≡ true
+
+-- A run checked a proof of a formula, and read no more of the proof than the check takes. `steps`
+-- are those of an input; the writer held `old`, and then `new`.
+abbrev pub RunsProof : Rule → (trace : Bool) → (steps : Input → Proof) →
+    (formula formula_new proof proof_new : Reader) → (old new : Option (List ℕ)) →
+    (had_failed has_failed is_flushed : Bool) → Status → Type 0
+RunsProof rule trace steps formula formula_new proof proof_new old new had_failed has_failed
+    is_flushed status =
+    Runs formula formula_new proof proof_new had_failed has_failed is_flushed status
+    (λ i j. ChecksProof rule trace i (steps j) old new status
+    × ReadsNoFurther rule (formula_of i) (steps j) proof proof_new)
+
+-- The same, and of the same inputs it tells where the refused step ends.
+abbrev pub RunsPlaced : Rule → (trace : Bool) → (steps : Input → Proof) →
+    (formula formula_new proof proof_new : Reader) → (old new : Option (List ℕ)) →
+    (had_failed has_failed is_flushed : Bool) → Checked → Type 0
+RunsPlaced rule trace steps formula formula_new proof proof_new old new had_failed has_failed
+    is_flushed checked =
+    Runs formula formula_new proof proof_new had_failed has_failed is_flushed checked.status
+    (λ i j. ChecksProof rule trace i (steps j) old new checked.status
+    × ReadsNoFurther rule (formula_of i) (steps j) proof proof_new
+    × TellsRefused rule (formula_of i).fault (formula_of i).clauses (steps j) checked)
