@@ -9,10 +9,11 @@ use clause_db::{Ids, Slot, Store};
 use cnf_base::{Fault, FromRead, LineOut, Lit, Scanner, ToWrite};
 use dimacs::{ClauseBuf, FormulaReader, read_claim};
 use proofs::{DratBinary, DratText, LratText, StepBuf, StepReader};
-use propagation::{Answer, Propagate, Scan, Trail, Whole};
+use propagation::{Answer, Propagate, Scan};
 use std::alloc::Global;
 use std::io::{Read, Write};
 use steps::{DratRules, DratSession, LratSession, ProofSession};
+use trail::{Trail, Whole};
 use watch::Watch;
 
 const PLAIN_RULES: DratRules = DratRules {

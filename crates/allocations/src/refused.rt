@@ -8,9 +8,10 @@ use clause_db::{Ids, Slot, Store};
 use cnf_base::{Fault, Lit, OutOfMemory};
 use dimacs::{ClauseBuf, FormulaReader};
 use proofs::{DratBinary, DratText, LratText, StepBuf, StepReader};
-use propagation::{Propagate, Scan, Trail, Value, Whole};
+use propagation::{Propagate, Scan};
 use std::alloc::Global;
 use steps::{DratRules, DratSession, LratSession, ProofSession, Refusal};
+use trail::{Trail, Value, Whole};
 use watch::Watch;
 
 const PLAIN_RULES: DratRules = DratRules {

@@ -1,6 +1,8 @@
 pub mod LiteralLemmas
 pub mod SetLemmas
 pub mod SizeLemmas
+pub mod MemberLemmas
+pub mod WalkLemmas
 pub mod LineLemmas
 pub mod StreamLemmas
 pub mod TextLemmas

@@ -4,14 +4,15 @@ use Rattle.std.specs.Prelude.{string_bytes}
 use Rattle.cnf_base.specs.Stream.{Input, Reader}
 use Rattle.proofs.specs.Lrat.{lrat_steps}
 use Rattle.theory.specs.Rules.{drat, lrat}
-use Rattle.sat_check.specs.CommandLine.Asked.{drat_rules, IsAsked}
-use Rattle.sat_check.specs.CommandLine.Words.{Accepts, said_by}
+use Rattle.sat_check.specs.Options.{drat_rules}
+use Rattle.command_line.specs.Asked.{IsAsked}
+use Rattle.command_line.specs.Words.{Accepts, said_by}
 use Rattle.sat_check.specs.ModelReport.{ChecksModel}
 use Rattle.sat_check.specs.Report.{ChecksProof, drat_proof}
 use Rattle.sat_check.specs.Runs.{Runs}
-use Rattle.sat_check.specs.declared.command_line.args.Args.{Args}
-use Rattle.sat_check.specs.declared.command_line.tool.Tool.{Tool}
-use Rattle.sat_check.specs.declared.command_line.tool.Tool.TheVariants.{Drat, Lrat, Model}
+use Rattle.command_line.specs.declared.args.Args.{Args}
+use Rattle.command_line.specs.declared.tool.Tool.{Tool}
+use Rattle.command_line.specs.declared.tool.Tool.TheVariants.{Drat, Lrat, Model}
 use Rattle.sat_check.specs.declared.status.Status.{Status}
 use Rattle.sat_check.specs.declared.status.Status.TheVariants.{Usage, OutOfMemory}
 

@@ -1,7 +1,7 @@
 //! The programs, over any system: from the words of the command line to the status.
 
 ghost use Rattle.std.specs.Prelude.{◌≡◌, IfOk, IfErr, OnErr};
-ghost use Rattle.sat_check.specs.CommandLine.Asked.{IsAsked};
+ghost use Rattle.command_line.specs.Asked.{IsAsked};
 ghost use Rattle.filter_io.specs.Runs.{MakesNoCheck, RunsTool};
 
 use crate::inputs::{open_both, tell_failures, tell_refusal};

@@ -9,9 +9,9 @@ ghost use Rattle.std.specs.Prelude.{◌<◌};
 
 use clause_db::{Ids, Slot, Store};
 use cnf_base::{Lit, OutOfMemory};
-use propagation::{Trail, Value};
 use std::alloc::Global;
 use std::env;
+use trail::{Trail, Value};
 
 const ENTRIES: u64 = 1000000;
 

@@ -1,2 +1,1 @@
-pub mod MemberLemmas
 pub mod PropagationLemmas

@@ -2,13 +2,7 @@ pub mod Closing
 pub mod Counts
 pub mod Exact
 pub mod HasAt
-pub mod Left
 pub mod Levels
-pub mod MakesFalse
-pub mod Met
-pub mod Near
 pub mod Passes
 pub mod Reduced
 pub mod Scan
-pub mod Truth
-pub mod Values

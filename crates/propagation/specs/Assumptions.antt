@@ -1,19 +1,19 @@
 -- Clauses in slots, and what is assumed of their literals (our own profile).
-use Rattle.std.specs.Prelude.{◌≡◌, ℕ, Bool, true, false, not, ◌&&◌, List, [], ◌∷◌, ◌++◌, filter}
-use Rattle.std.specs.Prelude.{Some, Result, IfOk, OnOk, OnErr, ⊤, take, IsTrue}
-use Rattle.std.specs.List.{list_any}
+use Rattle.std.specs.Prelude.{◌≡◌, ℕ, Bool, true, false, List, [], ◌∷◌, ◌++◌, filter, Some, Result}
+use Rattle.std.specs.Prelude.{IfOk, OnOk, OnErr, ⊤, take, IsTrue}
 use Rattle.std.specs.Ordering.{nat_cmp}
+use Rattle.trail.specs.Reduced.{is_reduced}
 use Rattle.std.specs.FinMap as maps
 use Rattle.std.specs.FinMap.{FinMap}
 use Rattle.cnf_base.specs.Literals.{Literal, Clause, has, complement, complements}
 use Rattle.theory.specs.Propagation.{Live, Forced, Clash}
 use Rattle.clause_db.specs.Store.{literals_in}
-use Rattle.propagation.specs.Trail.{TrailState}
+use Rattle.trail.specs.Trail.{TrailState}
 use Rattle.theory.specs.Sets.{SameSet}
 use Rattle.propagation.specs.declared.answer.Answer.{Answer}
 use Rattle.propagation.specs.declared.answer.Answer.TheVariants.{Clash as AnswersClash, Quiet}
-use Rattle.propagation.specs.declared.value.Value.{Value}
-use Rattle.propagation.specs.declared.value.Value.TheVariants.{True, False, Open}
+use Rattle.trail.specs.declared.value.Value.{Value}
+use Rattle.trail.specs.declared.value.Value.TheVariants.{True, False, Open}
 
 -- an assumption that stands: how it was answered, and all that is assumed up to it, which says
 -- nothing after a clash
@@ -113,11 +113,6 @@ abbrev pub roots_in : List Literal → List Assumption → List ℕ → List Lit
 roots_in lits [] starts = lits
 roots_in lits (last ∷ rest) [] = []
 roots_in lits (last ∷ rest) (start ∷ starts) = roots_in (take start lits) rest starts
-
--- whether the set makes a literal of the clause false and none true: the set reduces the clause, as
--- DPR proofs have it
-abbrev pub is_reduced : (Literal → Bool) → Clause → Bool
-is_reduced in_set c = list_any (λ l. in_set (complement l)) c && not (list_any in_set c)
 
 -- the set reduces the clause in the slot
 pub record IsReducedAt (live : Live) (set : List Literal) (slot : ℕ) : Type 0 where

@@ -2,8 +2,6 @@
 pub mod Closure
 pub mod Coding
 pub mod Exact
-pub mod Left
 pub mod Levels
 pub mod Passes
 pub mod Scan
-pub mod Values

@@ -7,18 +7,19 @@ ghost use Rattle.std.specs.Bool.{OnFalse};
 ghost use Rattle.cnf_base.specs.Literals.{Literal, complement, complements, has};
 ghost use Rattle.propagation.specs.Assumptions.{Assumption, MayAssume, assumed_by, roots_in};
 ghost use Rattle.propagation.specs.Code.Levels.{Notes};
-ghost use Rattle.propagation.specs.Numbers.{number_at};
+ghost use Rattle.trail.specs.Numbers.{number_at};
 ghost use Rattle.tables.specs.Table.{at};
-ghost use Rattle.propagation.specs.Trail.{HasRoom};
+ghost use Rattle.trail.specs.Trail.{HasRoom};
 ghost use Rattle.theory.specs.Sets.{SameSet, conflicts};
 ghost use Rattle.propagation.specs.declared.answer.Answer.TheVariants.{Clash};
 
+use crate::Answer;
 use crate::levels::{Level, Levels};
-use crate::{Answer, Part, Trail};
 use cnf_base::{Lit, OutOfMemory};
 use std::alloc::Global;
 use std::marker::Model;
 use tables::Table;
+use trail::{Part, Trail};
 
 /// At most two assumptions that stand, the second on the first, and the literals that are true: what each propagation has in common.
 ///
@@ -36,7 +37,7 @@ pub struct Assumptions {
 impl Model for Assumptions {
     ghost use Rattle.propagation.specs.Assumptions.{AssumptionsState};
     ghost use Rattle.propagation.specs.Code.Levels.{IsNumbered, assumptions_of, starts_of};
-    ghost use Rattle.propagation.specs.Numbers.{number_at};
+    ghost use Rattle.trail.specs.Numbers.{number_at};
     ghost use Rattle.propagation.specs.Code.Coding.{assumptions_code};
 
     ghost Value = { AssumptionsState };

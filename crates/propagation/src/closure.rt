@@ -8,17 +8,15 @@ ghost use Rattle.propagation.specs.Code.Closure.{FollowsFrom, both_of};
 ghost use Rattle.theory.specs.Code.Propagation.{IsClosedAt};
 ghost use Rattle.theory.specs.Propagation.{Forced, IsClosed, IsRootReason, open_literals};
 ghost use Rattle.theory.specs.Code.Sets.{lacking};
-ghost use Rattle.propagation.specs.Left.{how_many};
-ghost use Rattle.propagation.specs.Trail.{HasRoomForAll};
+ghost use Rattle.trail.specs.Left.{how_many};
+ghost use Rattle.trail.specs.Trail.{HasRoomForAll};
 
-use crate::left::Left;
-use crate::trail::Trail;
-use crate::truths::{Truths, left_of};
 use clause_db::{Slot, Store};
 use cnf_base::{Lit, OutOfMemory};
 use std::alloc::Global;
 use std::marker::Model;
 use tables::{Table, key};
+use trail::{Left, Trail, Truths, left_of};
 
 /// The literals that follow from live clauses with nothing assumed: the whole least set. Past a clash both literals of a
 /// variable may be in it, which a trail cannot hold.

@@ -13,9 +13,10 @@ ghost use Rattle.theory.specs.Propagation.{IsRootReason};
 ghost use Rattle.theory.specs.Sets.{conflicts};
 ghost use Rattle.propagation.specs.declared.answer.Answer.TheVariants.{Quiet};
 
-use crate::{Answer, Value};
+use crate::Answer;
 use clause_db::Slot;
 use cnf_base::{Lit, OutOfMemory};
+use trail::Value;
 
 /// Live clauses, each in a slot, and unit propagation from literals that are assumed.
 ///

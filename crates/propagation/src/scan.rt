@@ -7,18 +7,20 @@ ghost use Rattle.std.specs.Prelude.{IfSome, IfNone, IsSome, IsTrue, IsFalse};
 ghost use Rattle.std.specs.FinMap as maps;
 ghost use Rattle.cnf_base.specs.Literals.{complements};
 ghost use Rattle.propagation.specs.Assumptions.{Assumes, HasAt, IsAnswer, MayAssume, assumed_by};
-ghost use Rattle.propagation.specs.LiteralSet.{in_set, reduced_there};
+ghost use Rattle.trail.specs.LiteralSet.{in_set};
+ghost use Rattle.trail.specs.Reduced.{reduced_there};
 ghost use Rattle.propagation.specs.Code.Scan.{IsScan};
-ghost use Rattle.propagation.specs.Trail.{HasRoom};
+ghost use Rattle.trail.specs.Trail.{HasRoom};
 
 use crate::assumptions::Assumptions;
 use crate::closure::is_root_reason;
 use crate::scan::unit::propagate;
-use crate::{Answer, Except, LiteralSet, Part, Propagate, Unless, Value, Whole};
+use crate::{Answer, Propagate};
 use clause_db::{Slot, Store};
 use cnf_base::{Lit, OutOfMemory};
 use std::alloc::Global;
 use std::marker::Model;
+use trail::{Except, LiteralSet, Part, Unless, Value, Whole};
 
 /// Live clauses, and unit propagation by plain passes over all of them: slow, and in little memory.
 #[derive(Drop)]

@@ -1,5 +1,4 @@
 pub mod CheckLemmas
-pub mod CommandLineLemmas
 pub mod JudgeLemmas
 pub mod LoadLemmas
 pub mod ModelLemmas

@@ -1,6 +1,5 @@
 -- How the parts of the code fit together. No public contract speaks of it.
 pub mod Checking
-pub mod Commands
 pub mod Judging
 pub mod Reach
 pub mod Subjects

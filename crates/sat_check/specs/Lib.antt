@@ -1,6 +1,6 @@
-pub mod CommandLine
 pub mod Lines
 pub mod ModelReport
+pub mod Options
 pub mod Reach
 pub mod Report
 pub mod Runs

@@ -4,7 +4,6 @@
 mod check;
 mod check_proof;
 mod checked;
-mod command_line;
 mod conclude;
 mod drat;
 mod drat_with;
@@ -23,9 +22,7 @@ mod take_step;
 mod tools;
 
 pub use checked::Checked;
-pub use command_line::args::{Args, ArgsFault};
-pub use command_line::read_args;
-pub use command_line::tool::Tool;
+pub use command_line::{Args, ArgsFault, Tool, read_args};
 pub use drat::{run_drat, run_drat_placed};
 pub use drat_with::run_drat_with;
 pub use lrat::{run_lrat, run_lrat_placed};

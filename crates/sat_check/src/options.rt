@@ -1,7 +1,7 @@
 //! What a run is asked to do.
 
 ghost use Rattle.std.specs.Prelude.{◌≡◌};
-ghost use Rattle.sat_check.specs.CommandLine.Asked.{drat_options, lrat_options};
+ghost use Rattle.sat_check.specs.Options.{drat_options, lrat_options};
 ghost use Rattle.sat_check.specs.Report.{rules_of};
 
 use crate::Args;

@@ -2,7 +2,7 @@
 
 ghost use Rattle.proofs.specs.Lrat.{lrat_steps};
 ghost use Rattle.theory.specs.Rules.{drat, lrat};
-ghost use Rattle.sat_check.specs.CommandLine.Asked.{drat_rules};
+ghost use Rattle.sat_check.specs.Options.{drat_rules};
 ghost use Rattle.sat_check.specs.Report.{drat_proof};
 ghost use Rattle.sat_check.specs.Runs.{RunsPlaced};
 

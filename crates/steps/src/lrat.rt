@@ -12,7 +12,7 @@ ghost use Rattle.std.specs.FinMap as maps;
 ghost use Rattle.cnf_base.specs.Literals.{complements};
 ghost use Rattle.theory.specs.Lrat.{chain, units_of, groups_of, AnswersChain, AnswersLrat};
 ghost use Rattle.theory.specs.Lrat.{after_lrat, lrat_step, with_clause, SameClauses};
-ghost use Rattle.propagation.specs.Trail.{HasRoom};
+ghost use Rattle.trail.specs.Trail.{HasRoom};
 ghost use Rattle.steps.specs.Code.Shelf.{shelf_state};
 ghost use Rattle.steps.specs.LratSession.{fresh_lrat};
 ghost use Rattle.steps.specs.Code.LratSession.{state_of, IsReady};
@@ -24,10 +24,10 @@ use crate::proof_session::ProofSession;
 use crate::proof_session::progress::Progress;
 use cnf_base::{Lit, OutOfMemory};
 use proofs::{StepBuf, StepKind};
-use propagation::Trail;
 use std::alloc::Global;
 use std::marker::Model;
 use theory::{Accepted, Refusal};
+use trail::Trail;
 
 /// A check of an LRAT proof: the clauses of the formula are input first, and then the steps are taken in order.
 #[derive(Drop)]

@@ -7,7 +7,7 @@ ghost use Rattle.clause_db.specs.Store.{literals_in};
 ghost use Rattle.watch.specs.Code.Roots.{IsArranged, IsBrought};
 
 use clause_db::{Slot, Store};
-use propagation::{Left, Trail};
+use trail::{Left, Trail};
 
 /// Brings a literal that is not false to this place, if there is one from it on. Tells whether there is.
 fn bring(store: &mut Store, trail: &Trail, slot: Slot, place: usize) -> bool

@@ -5,7 +5,7 @@ ghost use Rattle.std.specs.Prelude.{IsTrue, IsFalse, IfOk, OnOk, OnErr, IfSome, 
 ghost use Rattle.std.specs.List.{swap};
 ghost use Rattle.std.specs.FinMap as maps;
 ghost use Rattle.cnf_base.specs.Literals.{Clause, complement, has, size};
-ghost use Rattle.propagation.specs.Trail.{HasRoomForAll};
+ghost use Rattle.trail.specs.Trail.{HasRoomForAll};
 ghost use Rattle.theory.specs.Sets.{conflicts};
 ghost use Rattle.watch.specs.Code.Lists.{AreApart, entries_in, list_at, slot_at};
 ghost use Rattle.watch.specs.Code.Order.{each_in_order};

@@ -4,7 +4,7 @@ ghost use Rattle.std.specs.Prelude.{◌≡◌, [], true, false, Some, IsSome, If
 ghost use Rattle.std.specs.FinMap as maps;
 ghost use Rattle.cnf_base.specs.Literals.{Clause};
 ghost use Rattle.theory.specs.Propagation.{IsRootReason};
-ghost use Rattle.propagation.specs.Trail.{HasRoomForAll};
+ghost use Rattle.trail.specs.Trail.{HasRoomForAll};
 ghost use Rattle.watch.specs.Code.Order.{each_in_order};
 ghost use Rattle.watch.specs.Code.Roots.{IsKept, is_up_to_date};
 

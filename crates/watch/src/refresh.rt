@@ -2,7 +2,7 @@
 
 ghost use Rattle.std.specs.Prelude.{◌≡◌, ℕ, [], true, false, OnOk};
 ghost use Rattle.std.specs.FinMap as maps;
-ghost use Rattle.propagation.specs.Trail.{HasRoomForAll};
+ghost use Rattle.trail.specs.Trail.{HasRoomForAll};
 ghost use Rattle.theory.specs.Sets.{SameSet};
 ghost use Rattle.watch.specs.Code.Order.{each_in_order};
 ghost use Rattle.watch.specs.Code.Roots.{IsKept, is_lost, is_up_to_date};

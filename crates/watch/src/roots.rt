@@ -6,16 +6,17 @@ ghost use Rattle.std.specs.Prelude.{OnOk};
 ghost use Rattle.std.specs.FinMap as maps;
 ghost use Rattle.cnf_base.specs.Literals.{Literal, Clause, complement, has};
 ghost use Rattle.tables.specs.Table.{at};
-ghost use Rattle.propagation.specs.Trail.{HasRoom};
+ghost use Rattle.trail.specs.Trail.{HasRoom};
 ghost use Rattle.theory.specs.Sets.{SameSet, conflicts};
 ghost use Rattle.watch.specs.Code.Roots.{HasReasons, IsArranged, IsKept, has_clash, is_up_to_date};
 ghost use Rattle.watch.specs.declared.roots.Kept.TheVariants.{Clash, Lost};
 
 use clause_db::{Slot, Store};
 use cnf_base::{Lit, OutOfMemory};
-use propagation::{Assumptions, Left, Trail};
+use propagation::Assumptions;
 use std::alloc::Global;
 use tables::{Table, key};
+use trail::{Left, Trail};
 
 /// What is known of the literals that are true with nothing assumed.
 #[derive(Clone, Copy)]

@@ -5,7 +5,7 @@ ghost use Rattle.std.specs.FinMap as maps;
 ghost use Rattle.cnf_base.specs.Literals.{has};
 ghost use Rattle.tables.specs.Table.{at};
 ghost use Rattle.propagation.specs.Assumptions.{IsAnswer};
-ghost use Rattle.propagation.specs.Trail.{HasRoomForAll};
+ghost use Rattle.trail.specs.Trail.{HasRoomForAll};
 ghost use Rattle.watch.specs.Code.Lists.{AreApart, entries_in, list_at};
 ghost use Rattle.watch.specs.Code.Order.{each_in_order};
 ghost use Rattle.watch.specs.Code.Roots.{AreNoted, HaveUnits};

@@ -4,14 +4,15 @@ ghost use Rattle.std.specs.Prelude.{◌≡◌, ◌++◌, ◌∷◌, filter, leng
 ghost use Rattle.std.specs.Bool.{OnFalse};
 ghost use Rattle.cnf_base.specs.Literals.{Literal, complements};
 ghost use Rattle.propagation.specs.Assumptions.{Assumption, MayAssume, assumed_by};
-ghost use Rattle.propagation.specs.Trail.{HasRoom};
+ghost use Rattle.trail.specs.Trail.{HasRoom};
 ghost use Rattle.theory.specs.Sets.{SameSet, conflicts};
 ghost use Rattle.watch.specs.Code.Source.{IsThere, clause_of};
 ghost use Rattle.propagation.specs.declared.answer.Answer.TheVariants.{Clash};
 
 use clause_db::{Slot, Store};
 use cnf_base::{Lit, OutOfMemory};
-use propagation::{Assumptions, Part};
+use propagation::Assumptions;
+use trail::Part;
 
 /// A clause that is given, or that of a slot.
 #[derive(Clone, Copy)]

@@ -2,12 +2,12 @@
 
 ghost use Rattle.std.specs.Prelude.{◌≡◌, ℕ, ◌-◌, ◌<◌, ◌≤◌, length, slice_index, IsTrue};
 ghost use Rattle.cnf_base.specs.Literals.{complement, has, size};
-ghost use Rattle.propagation.specs.Trail.{HasNoVariableTwice};
+ghost use Rattle.trail.specs.Trail.{HasNoVariableTwice};
 ghost use Rattle.watch.specs.Code.Watched.{watches};
 ghost use Rattle.watch.specs.Code.Visits.{IsVisit};
 
 use cnf_base::Lit;
-use propagation::{Trail, Value};
+use trail::{Trail, Value};
 
 /// Two literals of a clause that take each other's place, so that another one is watched.
 #[derive(Clone, Copy)]

@@ -7,7 +7,7 @@ ghost use Rattle.cnf_base.specs.Literals.{Literal, complements, has};
 ghost use Rattle.theory.specs.Propagation.{Clash, Forced};
 ghost use Rattle.propagation.specs.Assumptions.{Assumes, HasAt, HoldsLiveAlone, IsAnswer};
 ghost use Rattle.propagation.specs.Assumptions.{MayAssume, assumed_by};
-ghost use Rattle.propagation.specs.Trail.{HasRoom};
+ghost use Rattle.trail.specs.Trail.{HasRoom};
 ghost use Rattle.watch.specs.Code.Order.{each_in_order};
 ghost use Rattle.watch.specs.Code.Roots.{is_up_to_date};
 ghost use Rattle.watch.specs.Code.Source.{IsThere, clause_of};
@@ -25,12 +25,10 @@ use crate::slot_list::SlotList;
 use crate::source::{Source, assume_from};
 use clause_db::{Slot, Store};
 use cnf_base::{Lit, OutOfMemory};
-use propagation::{
-    Answer, Assumptions, Except, LiteralSet, Part, Propagate, Unless, Value, Whole, first_reduced,
-    first_with,
-};
+use propagation::{Answer, Assumptions, Propagate, first_reduced, first_with};
 use std::alloc::Global;
 use std::marker::Model;
+use trail::{Except, LiteralSet, Part, Unless, Value, Whole};
 
 /// Live clauses, and unit propagation with two watched literals a clause: what follows from an assumption is found without a
 /// look at the clauses that have nothing to do with it.

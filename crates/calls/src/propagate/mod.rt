@@ -4,4 +4,4 @@ mod calls;
 mod fresh;
 mod roots;
 mod sequences;
-mod trail;
+mod trails;

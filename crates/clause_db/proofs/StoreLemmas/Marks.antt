@@ -1,34 +1,20 @@
 -- Walks over a clause: what is so of the literals so far, through one more literal.
 use Rattle.std.proofs.Common.{◌≡◌, ℕ, ◌+◌, ◌*◌, ◌/◌, ◌%◌, ◌^◌, ◌<◌, ◌≤◌, ◌&&◌, ◌||◌, Bool, true}
-use Rattle.std.proofs.Common.{false, not, cond, eqb, eqb-true, eq-eqb, [], ◌∷◌, ◌++◌, length, take}
-use Rattle.std.proofs.Common.{drop, get_or, length-append, refl, sym, ap, ◌∙◌, subst, arith, inl}
-use Rattle.std.proofs.Common.{inr}
-use Rattle.std.proofs.lemmas.Bool.{false≢true, true≢false, not-true, not-false, or_cases, or_left}
-use Rattle.std.proofs.lemmas.Bool.{or_right}
+use Rattle.std.proofs.Common.{false, not, cond, eqb, eqb-true, [], ◌∷◌, ◌++◌, length, take, get_or}
+use Rattle.std.proofs.Common.{length-append, refl, sym, ap, ◌∙◌, subst, arith}
+use Rattle.std.proofs.lemmas.Bool.{false≢true, true≢false, not-true, not-false}
 use Rattle.std.proofs.lemmas.Bool.Decides.{nat_tests}
-use Rattle.std.proofs.lemmas.List.{take_all, take_more, take-append-drop}
+use Rattle.std.proofs.lemmas.List.{take_all}
 use Rattle.std.proofs.lemmas.Nat.{div-add-mod'}
 use Rattle.std.proofs.Math.Nat.{add-mul-mod_self_right}
 use Rattle.cnf_base.specs.Literals.{Literal, Clause, has, size}
 use Rattle.cnf_base.specs.Code.Literals.{sum_distinct}
-use Rattle.cnf_base.proofs.SetLemmas.{both_pass, has_head, has_cases, has_append_left}
-use Rattle.cnf_base.proofs.SetLemmas.{has_append_right, has_append_cases}
 use Rattle.clause_db.specs.Code.Hashes.{mix, mixed_sum, hash}
 use Rattle.cnf_base.proofs.SizeLemmas.{IsWithin, sum_same, sum_push, size_push, size_covered}
-use Rattle.cnf_base.proofs.SizeLemmas.{distinct_before, has_at}
+use Rattle.cnf_base.proofs.SizeLemmas.{distinct_before}
+use Rattle.cnf_base.proofs.WalkLemmas.{has_push, has_take, take_is, has_more, is_in}
 
 -- ---- One more literal at the end
-
-pub has_push : (c : Clause) (x l : Literal) → has (c ++ x ∷ []) l ≡ (has c l || eqb x l)
-has_push c x l = both_pass (has (c ++ x ∷ []) l) (has c l || eqb x l)
-    (λ h. elim (has_append_cases c (x ∷ []) l h) [
-      | inl g ↦ or_left (has c l) (eqb x l) g
-      | inr g ↦ elim (has_cases x [] l g) [ inl e ↦ or_right (has c l) (eqb x l) (eq-eqb x l e) | inr n ↦ absurd (false≢true n) ]
-    ])
-    (λ h. elim (or_cases (has c l) (eqb x l) h) [
-      | inl g ↦ has_append_left c (x ∷ []) l g
-      | inr e ↦ has_append_right c (x ∷ []) l (subst (λ y. has (x ∷ []) y ≡ true) (eqb-true x l e) (has_head x []))
-    ])
 
 add_rest : (a b m : ℕ) → (a % m + b) % m ≡ (a + b) % m
 add_rest a b m =
@@ -68,32 +54,20 @@ mixed_again seed c x old =
     let f = mix seed in
     ap (λ n. n % 2 ^ 64) (sum_push f c x ∙ ap (λ b. cond b (sum_distinct f c) (f x + sum_distinct f c)) old)
 
-pub has_take : (c : Clause) (n : ℕ) (l : Literal) → has (take n c) l ≡ true → has c l ≡ true
-has_take c n l h = ap (λ ls. has ls l) (sym (take-append-drop n c)) ∙ has_append_left (take n c) (drop n c) l h
-
 -- ---- One turn of a walk: x is the literal at i
 
 module _ (c : Clause) (i : ℕ) (inside : i < length c) (x : Literal) (is : x ≡ get_or c i x) where
-  pub take_is : take (i + 1) c ≡ take i c ++ x ∷ []
-  take_is = take_more c i x inside ∙ ap (λ y. take i c ++ y ∷ []) (sym is)
-
-  pub has_more : (l : Literal) → has (take (i + 1) c) l ≡ (has (take i c) l || eqb x l)
-  has_more l = ap (λ ls. has ls l) take_is ∙ has_push (take i c) x l
-
-  pub is_in : has c x ≡ true
-  is_in = has_at c i x inside is
-
   pub mixed_more : (seed : ℕ) → has (take i c) x ≡ false → mixed_sum seed (take (i + 1) c) ≡ (mixed_sum seed (take i c) + mix seed x) % 2 ^ 64
-  mixed_more seed new = ap (mixed_sum seed) take_is ∙ mixed_push seed (take i c) x new
+  mixed_more seed new = ap (mixed_sum seed) (take_is c i inside x is) ∙ mixed_push seed (take i c) x new
 
   pub mixed_kept : (seed : ℕ) → has (take i c) x ≡ true → mixed_sum seed (take (i + 1) c) ≡ mixed_sum seed (take i c)
-  mixed_kept seed old = ap (mixed_sum seed) take_is ∙ mixed_again seed (take i c) x old
+  mixed_kept seed old = ap (mixed_sum seed) (take_is c i inside x is) ∙ mixed_again seed (take i c) x old
 
   pub size_more : has (take i c) x ≡ false → size (take (i + 1) c) ≡ 1 + size (take i c)
-  size_more new = ap size take_is ∙ size_push (take i c) x ∙ ap (λ b. cond b (size (take i c)) (1 + size (take i c))) new
+  size_more new = ap size (take_is c i inside x is) ∙ size_push (take i c) x ∙ ap (λ b. cond b (size (take i c)) (1 + size (take i c))) new
 
   pub size_kept : has (take i c) x ≡ true → size (take (i + 1) c) ≡ size (take i c)
-  size_kept old = ap size take_is ∙ size_push (take i c) x ∙ ap (λ b. cond b (size (take i c)) (1 + size (take i c))) old
+  size_kept old = ap size (take_is c i inside x is) ∙ size_push (take i c) x ∙ ap (λ b. cond b (size (take i c)) (1 + size (take i c))) old
 
   pub new_here : size c ≡ length c → has (take i c) x ≡ false
   new_here different = distinct_before c i x different inside is

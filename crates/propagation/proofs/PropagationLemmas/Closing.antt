@@ -12,15 +12,15 @@ use Rattle.propagation.specs.Code.Closure.{FollowsFrom, is_old, by_unit, both_of
 use Rattle.theory.specs.Code.Propagation.{IsClosedAt, OthersFail}
 use Rattle.theory.specs.Propagation.{Live, Forced, IsRootReason, open_literals}
 use Rattle.theory.specs.Code.Sets.{lacking}
-use Rattle.propagation.specs.Left.{how_many, is_one_at_most}
-use Rattle.propagation.specs.Code.Left.{IsSettled}
-use Rattle.propagation.specs.Trail.{HasRoomForAll}
-use Rattle.propagation.specs.declared.left.Left.{Left}
-use Rattle.propagation.specs.declared.left.Left.TheVariants.{Nothing, One, More}
+use Rattle.trail.specs.Left.{how_many, is_one_at_most}
+use Rattle.trail.specs.Code.Left.{IsSettled}
+use Rattle.trail.specs.Trail.{HasRoomForAll}
+use Rattle.trail.specs.declared.left.Left.{Left}
+use Rattle.trail.specs.declared.left.Left.TheVariants.{Nothing, One, More}
 use Rattle.theory.proofs.PropagationLemmas.Forced.{forced_unit}
 use Rattle.theory.proofs.PropagationLemmas.Open.{AreAll, open_has}
 use Rattle.theory.proofs.PropagationLemmas.Unit.{none_left_follow, one_left_follows}
-use Rattle.propagation.proofs.PropagationLemmas.Left.{nothing_is, one_is, more_differ, settled_at}
+use Rattle.trail.proofs.TrailLemmas.Left.{nothing_is, one_is, more_differ, settled_at}
 use Rattle.theory.proofs.PropagationLemmas.Lacking.{lacking_le, lacking_falls}
 
 pub follows_forced : (live : Live) (ls : List Literal) → ((l : Literal) → has ls l ≡ true → Forced live [] l) → (k : ℕ) (c : Clause) → live k ≡ Some c → (l : Literal) → FollowsFrom ls c l → Forced live [] l

@@ -11,9 +11,9 @@ use Rattle.theory.specs.Propagation.{Live, IsClosed, Forced, Clash}
 use Rattle.theory.specs.Sets.{SameSet, conflicts}
 use Rattle.propagation.specs.declared.answer.Answer.{Answer}
 use Rattle.propagation.specs.declared.answer.Answer.TheVariants.{Clash as AnswersClash, Quiet}
-use Rattle.propagation.proofs.PropagationLemmas.MakesFalse.{begins_made, longer_made}
+use Rattle.trail.proofs.TrailLemmas.MakesFalse.{begins_made, longer_made}
 use Rattle.theory.proofs.PropagationLemmas.Forced.{forced_assumed, forced_through, clash_through}
-use Rattle.propagation.proofs.PropagationLemmas.Passes.{has_begun}
+use Rattle.trail.proofs.TrailLemmas.Longer.{has_begun}
 use Rattle.theory.proofs.PropagationLemmas.Unit.{clash_of_conflict}
 
 -- what is forced by each of two lists that force one another is the same

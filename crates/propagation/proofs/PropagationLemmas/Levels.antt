@@ -11,24 +11,24 @@ use Rattle.cnf_base.proofs.SetLemmas.{both_pass, has-filter, filter_has, has_app
 use Rattle.cnf_base.proofs.SetLemmas.{has_append_right, has_append_cases, has-complements}
 use Rattle.cnf_base.proofs.SetLemmas.{complements_has}
 use Rattle.propagation.specs.Assumptions.{Assumption, MayAssume, assumed_by}
-use Rattle.propagation.specs.Numbers.{number_at}
+use Rattle.trail.specs.Numbers.{number_at}
 use Rattle.propagation.specs.Code.Levels.{pushed, first_number, of_variables, IsNumbered, is_noted}
 use Rattle.propagation.specs.Code.Levels.{is_noted_by_two, assumptions_of, IsLevel, AreLevels}
 use Rattle.propagation.specs.Code.Levels.{Notes}
 use Rattle.tables.specs.Table.{at}
-use Rattle.propagation.specs.Trail.{TrailState, HasNoVariableTwice}
+use Rattle.trail.specs.Trail.{TrailState, HasNoVariableTwice}
 use Rattle.theory.specs.Sets.{SameSet}
 use Rattle.tables.specs.declared.table.Table.{Table}
 use Rattle.propagation.specs.declared.answer.Answer.TheVariants.{Clash}
 use Rattle.propagation.specs.declared.levels.Level.{Level}
 use Rattle.propagation.specs.declared.levels.Levels.{Levels}
 use Rattle.propagation.specs.declared.levels.Levels.TheVariants.{Nothing, One, Two}
-use Rattle.propagation.proofs.PropagationLemmas.MakesFalse.{by_open}
-use Rattle.clause_db.proofs.StoreLemmas.Marks.{has_take, is_in}
-use Rattle.propagation.proofs.MemberLemmas.{has_mapped, has_place, place_of_variable}
-use Rattle.propagation.proofs.MemberLemmas.{variable-complement}
+use Rattle.trail.proofs.TrailLemmas.MakesFalse.{by_open}
+use Rattle.cnf_base.proofs.WalkLemmas.{has_take, is_in}
+use Rattle.cnf_base.proofs.MemberLemmas.{has_mapped, has_place, place_of_variable}
+use Rattle.cnf_base.proofs.MemberLemmas.{variable-complement}
 use Rattle.propagation.proofs.PropagationLemmas.Passes.{still_set}
-use Rattle.propagation.proofs.PropagationLemmas.Truth.{same_literal, more_cases, variable_open}
+use Rattle.trail.proofs.TrailLemmas.Truth.{same_literal, more_cases, variable_open}
 
 -- ---- Variables of lists
 

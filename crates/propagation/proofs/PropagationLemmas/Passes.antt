@@ -1,39 +1,20 @@
 -- Passes over the clauses: what they keep, and why they end.
 use Rattle.std.proofs.Common.{◌≡◌, ℕ, ◌+◌, ◌/◌, ◌<◌, ◌≤◌, Bool, true, false, not, cond, Some, None}
-use Rattle.std.proofs.Common.{List, [], ◌∷◌, ◌++◌, map, length, take, drop, refl, sym, ap, ◌∙◌}
-use Rattle.std.proofs.Common.{subst, inl, inr, arith}
+use Rattle.std.proofs.Common.{List, [], ◌∷◌, ◌++◌, map, refl, sym, ap, ◌∙◌, subst, inl, inr, arith}
 use Rattle.std.proofs.lemmas.Bool.{false≢true, cases_eq}
-use Rattle.std.proofs.lemmas.List.{take-append-le, take-append-drop}
 use Rattle.std.proofs.lemmas.Option.{none-some, same_Some}
 use Rattle.std.proofs.lemmas.List.Sums.{sum_by-cons}
 use Rattle.cnf_base.specs.Literals.{Literal, complement, Clause, has, variable}
-use Rattle.cnf_base.proofs.SetLemmas.{has_cases, has_append_left, has_append_right}
-use Rattle.cnf_base.proofs.SetLemmas.{has_append_cases, has_head}
-use Rattle.propagation.specs.Left.{how_many}
-use Rattle.propagation.specs.Code.Left.{IsSettled}
+use Rattle.cnf_base.proofs.SetLemmas.{has_cases, has_append_left, has_append_right, has_head}
+use Rattle.trail.specs.Left.{how_many}
+use Rattle.trail.specs.Code.Left.{IsSettled}
 use Rattle.theory.specs.Propagation.{Live, open_literals}
 use Rattle.propagation.specs.Code.Passes.{unset}
-use Rattle.propagation.specs.Trail.{TrailState}
+use Rattle.trail.specs.Trail.{TrailState}
 use Rattle.propagation.specs.declared.scan.unit.Pass.{Pass}
 use Rattle.propagation.specs.declared.scan.unit.Pass.TheVariants.{Clash as PassClash, Changed}
 use Rattle.propagation.specs.declared.scan.unit.Pass.TheVariants.{Quiet}
-use Rattle.propagation.proofs.PropagationLemmas.Truth.{variable_open}
-
--- ---- A longer trail
-
-pub begins_push : (first ls : List ℕ) (m : ℕ) → take (length first) ls ≡ first → length first ≤ length ls → take (length first) (ls ++ m ∷ []) ≡ first
-begins_push first ls m begins longer = take-append-le (length first) ls (m ∷ []) longer ∙ begins
-
-pub has_begun : (first ls : List ℕ) (l : ℕ) → take (length first) ls ≡ first → has first l ≡ true → has ls l ≡ true
-has_begun first ls l begins h =
-    subst (λ xs. has xs l ≡ true) (take-append-drop (length first) ls) (has_append_left (take (length first) ls) (drop (length first) ls) l (ap (λ xs. has xs l) begins ∙ h))
-
-pub pushed_each : (P : ℕ → Type 0) (ls : List ℕ) (m : ℕ) → ((l : ℕ) → has ls l ≡ true → P l) → P m → (l : ℕ) → has (ls ++ m ∷ []) l ≡ true → P l
-pushed_each P ls m each here l h =
-    elim (has_append_cases ls (m ∷ []) l h) [
-      | inl g ↦ each l g
-      | inr g ↦ elim (has_cases m [] l g) [ inl e ↦ subst P e here | inr none ↦ absurd (false≢true none) ]
-    ]
+use Rattle.trail.proofs.TrailLemmas.Truth.{variable_open}
 
 -- ---- How many variables are open
 

@@ -8,7 +8,7 @@ use Rattle.std.proofs.lemmas.Bool.{false≢true, true≢false}
 use Rattle.cnf_base.specs.Literals.{Literal, Clause, complement, complements, has}
 use Rattle.theory.specs.Propagation.{Live}
 use Rattle.propagation.specs.Assumptions.{Assuming, IsReducedAt, Propagation}
-use Rattle.propagation.specs.LiteralSet.{reduced_there}
+use Rattle.trail.specs.Reduced.{reduced_there}
 use Rattle.propagation.specs.declared.answer.Answer.{Answer}
 
 module _ (live : Live) (in_set : Literal → Bool) (set : Clause) (alike : (l : Literal) → in_set l ≡ has set l) where

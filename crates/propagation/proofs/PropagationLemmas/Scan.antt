@@ -16,7 +16,7 @@ use Rattle.propagation.specs.Code.Exact.{IsExact, AreExact}
 use Rattle.theory.specs.Propagation.{Live, IsClosed, Forced, Clash}
 use Rattle.propagation.specs.Code.Scan.{IsHeld, IsScan}
 use Rattle.clause_db.specs.Store.{StoreState, literals_in}
-use Rattle.propagation.specs.Trail.{HasRoom, HasRoomForAll}
+use Rattle.trail.specs.Trail.{HasRoom, HasRoomForAll}
 use Rattle.theory.specs.Sets.{SameSet, conflicts}
 use Rattle.propagation.specs.declared.answer.Answer.{Answer}
 use Rattle.propagation.specs.declared.answer.Answer.TheVariants.{Quiet}

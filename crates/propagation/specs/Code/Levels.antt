@@ -6,8 +6,8 @@ use Rattle.cnf_base.specs.Literals.{Literal, has, variable}
 use Rattle.tables.specs.Table.{at}
 use Rattle.tables.specs.declared.table.Table.{Table}
 use Rattle.propagation.specs.Assumptions.{Assumption}
-use Rattle.propagation.specs.Numbers.{number_at}
-use Rattle.propagation.specs.Trail.{TrailState}
+use Rattle.trail.specs.Numbers.{number_at}
+use Rattle.trail.specs.Trail.{TrailState}
 use Rattle.propagation.specs.declared.answer.Answer.{Answer}
 use Rattle.propagation.specs.declared.levels.Level.{Level}
 use Rattle.propagation.specs.declared.levels.Levels.TheVariants.{Nothing, One, Two}

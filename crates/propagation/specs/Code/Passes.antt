@@ -1,10 +1,10 @@
 -- A pass over all clauses, the plainest propagation.
 use Rattle.std.specs.Prelude.{ℕ, not, List, map, count_by, ◌≡◌, ◌<◌, Some, IsTrue}
 use Rattle.cnf_base.specs.Literals.{Literal, has, variable, Clause}
-use Rattle.propagation.specs.Code.Left.{IsSettled}
-use Rattle.propagation.specs.Left.{how_many}
+use Rattle.trail.specs.Code.Left.{IsSettled}
+use Rattle.trail.specs.Left.{how_many}
 use Rattle.theory.specs.Propagation.{Live, Clash, open_literals}
-use Rattle.propagation.specs.Trail.{TrailState}
+use Rattle.trail.specs.Trail.{TrailState}
 use Rattle.propagation.specs.declared.scan.unit.Pass.TheVariants.{Clash as PassClash, Changed}
 use Rattle.propagation.specs.declared.scan.unit.Pass.TheVariants.{Quiet as PassQuiet}
 use Rattle.propagation.specs.declared.scan.unit.Pass.{Pass}

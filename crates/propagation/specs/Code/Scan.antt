@@ -6,7 +6,7 @@ use Rattle.std.specs.Prelude.{List, ◌≡◌, []}
 use Rattle.cnf_base.specs.Literals.{Literal, Clause}
 use Rattle.propagation.specs.Assumptions.{AssumptionsState}
 use Rattle.propagation.specs.Code.Exact.{AreExact}
-use Rattle.propagation.specs.Trail.{HasRoomForAll}
+use Rattle.trail.specs.Trail.{HasRoomForAll}
 
 -- there is room for all live clauses, and after an assumption just what is forced is true; `Roots`
 -- holds of what is true with nothing assumed

@@ -7,12 +7,13 @@ ghost use Rattle.propagation.specs.Assumptions.{IsAnswer};
 ghost use Rattle.propagation.specs.Code.Exact.{Extends};
 ghost use Rattle.theory.specs.Propagation.{IsClosed, Forced};
 ghost use Rattle.propagation.specs.Code.Passes.{IsPassed};
-ghost use Rattle.propagation.specs.Trail.{HasRoomForAll};
+ghost use Rattle.trail.specs.Trail.{HasRoomForAll};
 ghost use Rattle.propagation.specs.declared.answer.Answer.TheVariants.{Quiet};
 
+use crate::Answer;
 use crate::assumptions::Assumptions;
-use crate::{Answer, Left};
 use clause_db::Store;
+use trail::Left;
 
 /// What a pass over all clauses ends in.
 #[derive(Clone, Copy)]

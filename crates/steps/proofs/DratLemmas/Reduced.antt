@@ -13,7 +13,8 @@ use Rattle.cnf_base.proofs.LiteralLemmas.{complement-complement}
 use Rattle.cnf_base.proofs.SetLemmas.{any_from, any_none, any_some, has-complements, has-filter}
 use Rattle.cnf_base.proofs.SetLemmas.{has_append_right, has_head}
 use Rattle.propagation.specs.Assumptions.{Propagation, Assumption, HasAt, IsAnswer, IsReducedAt}
-use Rattle.propagation.specs.Assumptions.{assumed_by, is_reduced}
+use Rattle.propagation.specs.Assumptions.{assumed_by}
+use Rattle.trail.specs.Reduced.{is_reduced}
 use Rattle.theory.specs.Sets.{SameSet, conflicts}
 use Rattle.propagation.specs.declared.answer.Answer.{Answer}
 use Rattle.propagation.specs.declared.answer.Answer.TheVariants.{Clash as AnswersClash, Quiet}

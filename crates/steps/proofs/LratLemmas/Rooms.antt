@@ -9,7 +9,7 @@ use Rattle.std.specs.declared.result.Result.{Result}
 use Rattle.std.specs.declared.result.Result.TheVariants.{Ok, Err}
 use Rattle.std.proofs.lemmas.Option.{none-some}
 use Rattle.cnf_base.specs.Literals.{Literal, Clause, has}
-use Rattle.propagation.specs.Trail.{TrailState, HasRoom, HasRoomForAll}
+use Rattle.trail.specs.Trail.{TrailState, HasRoom, HasRoomForAll}
 use Rattle.proofs.specs.declared.step_buf.StepKind.TheVariants.{Delete}
 use Rattle.proofs.specs.Steps.{Step}
 use Rattle.theory.specs.Propagation.{Live}

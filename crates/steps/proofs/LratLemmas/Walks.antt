@@ -5,13 +5,13 @@ use Rattle.std.proofs.Common.{List, [], ◌∷◌, ◌++◌, refl, sym, ap, ◌�
 use Rattle.std.specs.List.{list_all}
 use Rattle.std.proofs.lemmas.Bool.{false≢true}
 use Rattle.std.proofs.lemmas.List.Elements.{filter_agree}
-use Rattle.propagation.specs.declared.left.Left.{Left}
-use Rattle.propagation.specs.declared.left.Left.TheVariants.{Nothing, One, More}
+use Rattle.trail.specs.declared.left.Left.{Left}
+use Rattle.trail.specs.declared.left.Left.TheVariants.{Nothing, One, More}
 use Rattle.cnf_base.specs.Literals.{Literal, complement, Clause, has}
 use Rattle.theory.specs.Propagation.{Live, open_literals}
 use Rattle.theory.specs.Lrat.{ChainEnd, conflict, open_with, not_unit, look_at, chain}
 use Rattle.theory.specs.Sets.{conflicts, SameSet}
-use Rattle.propagation.specs.Left.{how_many}
+use Rattle.trail.specs.Left.{how_many}
 use Rattle.cnf_base.proofs.SetLemmas.{both_pass, has_head, has_tail, has_cases, has_append_left}
 use Rattle.cnf_base.proofs.SetLemmas.{has_append_right, has_append_cases}
 use Rattle.theory.proofs.LratLemmas.SameSets.{same_set_more}

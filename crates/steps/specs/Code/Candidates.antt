@@ -2,7 +2,7 @@
 use Rattle.std.specs.Prelude.{◌≡◌, ℕ, Some, List, ◌++◌, IsTrue, Bool, true, false}
 use Rattle.cnf_base.specs.Literals.{Literal, Clause, has, complements, without}
 use Rattle.theory.specs.Propagation.{Live, Clash, open_literals}
-use Rattle.propagation.specs.Assumptions.{is_reduced}
+use Rattle.trail.specs.Reduced.{is_reduced}
 
 -- each live clause with the literal clashes, but for it, with what is assumed
 abbrev pub AllClash : Live → List Literal → Literal → Type 0

@@ -7,7 +7,7 @@ use Rattle.std.specs.Prelude.{ℕ, Bool, refl, ◌≡◌, []}
 use Rattle.cnf_base.specs.Literals.{Clause}
 use Rattle.theory.specs.Lrat.{LratState}
 use Rattle.theory.specs.Propagation.{Live}
-use Rattle.propagation.specs.Trail.{TrailState, HasRoomForAll}
+use Rattle.trail.specs.Trail.{TrailState, HasRoomForAll}
 use Rattle.steps.specs.LratSession.{Session}
 
 -- a session is stored as the pairs of its fields

@@ -6,7 +6,7 @@ ghost use Rattle.cnf_base.specs.Literals.{complements};
 ghost use Rattle.theory.specs.Lrat.{chain, groups_refusal, AnswersGroups, AnswersChain, units_of};
 ghost use Rattle.theory.specs.Lrat.{groups_of};
 ghost use Rattle.theory.specs.Sets.{conflicts, SameSet};
-ghost use Rattle.propagation.specs.Trail.{HasRoom, HasRoomForAll};
+ghost use Rattle.trail.specs.Trail.{HasRoom, HasRoomForAll};
 ghost use Rattle.steps.specs.Code.Walk.{IsEnd};
 ghost use Rattle.theory.specs.Answers.{UnlessOutOfMemory};
 
@@ -16,9 +16,9 @@ use crate::lrat::named::Named;
 use crate::lrat::walk::{WalkEnd, walk};
 use crate::word::word_of;
 use cnf_base::Lit;
-use propagation::{Trail, Whole};
 use std::alloc::Global;
 use theory::{Accepted, Refusal};
+use trail::{Trail, Whole};
 
 /// The answer where the unit hints gave no conflict: the groups in their order, and then the candidates without one.
 fn judge_candidates(

@@ -5,7 +5,7 @@ ghost use Rattle.std.specs.FinMap as maps;
 ghost use Rattle.cnf_base.specs.Literals.{complement, has};
 ghost use Rattle.theory.specs.Lrat.{group_refusal, groups_refusal, units_of, groups_of};
 ghost use Rattle.theory.specs.Sets.{conflicts, SameSet};
-ghost use Rattle.propagation.specs.Trail.{HasRoom, HasRoomForAll};
+ghost use Rattle.trail.specs.Trail.{HasRoom, HasRoomForAll};
 ghost use Rattle.steps.specs.Code.Shelf.{Holds};
 ghost use Rattle.steps.specs.Code.Groups.{named_in, needs_group_at, IsGroupEnd, IsFirstLeftOut};
 
@@ -13,9 +13,9 @@ use crate::lrat::live_clauses::LiveClauses;
 use crate::lrat::named::Named;
 use crate::lrat::walk::{WalkEnd, refusal_of, walk};
 use cnf_base::Lit;
-use propagation::{Except, Trail};
 use std::alloc::AllocError;
 use theory::Refusal;
+use trail::{Except, Trail};
 
 /// Walks over a group's hints from where what is left of its candidate is false. The true literals stay as they were.
 fn walk_group(

@@ -6,13 +6,13 @@ ghost use Rattle.std.specs.Option.{option_copied};
 ghost use Rattle.std.specs.FinMap as maps;
 ghost use Rattle.theory.specs.Lrat.{chain, units_of};
 ghost use Rattle.theory.specs.Sets.{conflicts, SameSet};
-ghost use Rattle.propagation.specs.Trail.{HasRoomForAll};
+ghost use Rattle.trail.specs.Trail.{HasRoomForAll};
 ghost use Rattle.steps.specs.Code.Walk.{IsEnd, refusal_at};
 
 use crate::lrat::live_clauses::LiveClauses;
 use cnf_base::Lit;
-use propagation::{Left, Trail};
 use theory::Refusal;
+use trail::{Left, Trail};
 
 /// How a walk ends.
 #[derive(Clone, Copy, Debug, PartialEq, Eq)]

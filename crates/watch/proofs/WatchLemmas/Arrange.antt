@@ -10,8 +10,8 @@ use Rattle.std.proofs.lemmas.List.{get_or-set_other, get_or-set_same, length-set
 use Rattle.std.proofs.lemmas.Option.{same_Some}
 use Rattle.cnf_base.specs.Literals.{Literal, complement, Clause, has}
 use Rattle.watch.specs.Code.Roots.{IsArranged, IsBrought}
-use Rattle.propagation.specs.declared.left.Left.TheVariants.{Nothing, One, More}
-use Rattle.propagation.proofs.MemberLemmas.{has_place, place_of}
+use Rattle.trail.specs.declared.left.Left.TheVariants.{Nothing, One, More}
+use Rattle.cnf_base.proofs.MemberLemmas.{has_place, place_of}
 use Rattle.clause_db.proofs.StoreLemmas.Sums.{get_insert}
 use Rattle.clause_db.proofs.StoreLemmas.Swap.{has_swapped}
 

@@ -18,7 +18,7 @@ use Rattle.watch.specs.Code.Visits.{Carries, IsPart}
 use Rattle.propagation.proofs.PropagationLemmas.Exact.{extends_on, extends_made}
 use Rattle.theory.proofs.PropagationLemmas.Forced.{forced_assumed, forced_unit, forced_through}
 use Rattle.theory.proofs.PropagationLemmas.Forced.{clash_by_false}
-use Rattle.propagation.proofs.PropagationLemmas.Passes.{has_begun, pushed_each}
+use Rattle.trail.proofs.TrailLemmas.Longer.{has_begun, pushed_each}
 use Rattle.watch.proofs.WatchLemmas.Moves.{entries_moved, still_watched, short_moved, watched_moved}
 use Rattle.watch.proofs.WatchLemmas.Moves.{shorts_moved}
 use Rattle.watch.specs.Code.Watched.{watches}

@@ -15,7 +15,7 @@ use Rattle.watch.specs.Code.Roots.{AreNoted, AreReasoned, HasReasons, HaveUnits,
 use Rattle.watch.specs.Code.Roots.{IsKnown}
 use Rattle.watch.specs.Code.Visits.{IsPart}
 use Rattle.watch.specs.Code.Watched.{IsMet, HasUnit, IsWatched}
-use Rattle.propagation.specs.declared.left.Left.TheVariants.{Nothing, One, More}
+use Rattle.trail.specs.declared.left.Left.TheVariants.{Nothing, One, More}
 use Rattle.watch.specs.declared.roots.Kept.{Kept}
 use Rattle.watch.specs.declared.roots.Kept.TheVariants.{Lost, Behind, All, Clash}
 use Rattle.watch.specs.declared.roots.Roots.{Roots}

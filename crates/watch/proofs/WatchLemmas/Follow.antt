@@ -14,7 +14,7 @@ use Rattle.watch.specs.Code.Lists.{entries_of, strangers, times_in}
 use Rattle.watch.specs.Code.Visits.{IsPart}
 use Rattle.watch.specs.Code.Watched.{watches, entries_for, IsListed, IsMet, IsWatched}
 use Rattle.watch.specs.declared.watcher.Watcher.{Watcher}
-use Rattle.propagation.proofs.PropagationLemmas.Passes.{pushed_each}
+use Rattle.trail.proofs.TrailLemmas.Longer.{pushed_each}
 
 -- ---- Clauses with a true literal
 

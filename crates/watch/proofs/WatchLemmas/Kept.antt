@@ -17,15 +17,15 @@ use Rattle.watch.specs.Code.Roots.{IsArranged, IsFalseAt, IsKept, IsKnown, IsSta
 use Rattle.watch.specs.Code.Roots.{is_up_to_date, has_clash}
 use Rattle.watch.specs.Code.Visits.{Carries, IsPart}
 use Rattle.watch.specs.Code.Watched.{IsMet, HasUnit, IsWatched}
-use Rattle.propagation.specs.declared.left.Left.TheVariants.{One, More}
+use Rattle.trail.specs.declared.left.Left.TheVariants.{One, More}
 use Rattle.watch.specs.declared.roots.Kept.{Kept}
 use Rattle.watch.specs.declared.roots.Kept.TheVariants.{Lost, Behind, All, Clash as KeptClash}
 use Rattle.watch.specs.declared.roots.Roots.{Roots}
-use Rattle.propagation.specs.Trail.{HasNoVariableTwice}
+use Rattle.trail.specs.Trail.{HasNoVariableTwice}
 use Rattle.theory.specs.Sets.{conflicts}
 use Rattle.theory.proofs.PropagationLemmas.Forced.{clash_by_false}
 use Rattle.theory.proofs.PropagationLemmas.Conflicts.{conflicts_more}
-use Rattle.propagation.proofs.PropagationLemmas.MakesFalse.{no_conflict}
+use Rattle.trail.proofs.TrailLemmas.MakesFalse.{no_conflict}
 use Rattle.watch.proofs.WatchLemmas.Closed.{all_closed, all_quiet, units_carried}
 use Rattle.watch.proofs.WatchLemmas.Follow.{front_part}
 use Rattle.watch.proofs.WatchLemmas.Order.{get_ordered, has-in_order, seen_there}

@@ -18,7 +18,7 @@ use Rattle.theory.specs.Propagation.{Live}
 use Rattle.watch.specs.Code.Lists.{entries_of, strangers}
 use Rattle.watch.specs.Code.Watched.{watches, is_short, entries_for, short_for, IsListed, IsMet}
 use Rattle.watch.specs.Code.Watched.{IsWatched}
-use Rattle.propagation.proofs.MemberLemmas.{has_place, has_front}
+use Rattle.cnf_base.proofs.MemberLemmas.{has_place, has_front}
 use Rattle.watch.proofs.WatchLemmas.Lists.{blocking_own, eqb_turned, strangers_alike}
 use Rattle.watch.proofs.WatchLemmas.Lists.{strangers_pushed}
 use Rattle.watch.specs.declared.watcher.Watcher.{Watcher}

@@ -8,7 +8,7 @@ use Rattle.cnf_base.proofs.SetLemmas.{has_append_left, has_append_right, has_hea
 use Rattle.theory.specs.Propagation.{Live, Forced}
 use Rattle.propagation.specs.Assumptions.{HasAt}
 use Rattle.watch.specs.Code.Roots.{AreReasoned}
-use Rattle.propagation.proofs.PropagationLemmas.Passes.{pushed_each}
+use Rattle.trail.proofs.TrailLemmas.Longer.{pushed_each}
 
 pub reasoned_none : (live : Live) (reason_of : Literal → Option ℕ) (lits : List Literal) → lits ≡ [] → AreReasoned live reason_of lits
 reasoned_none live reason_of lits none = record {

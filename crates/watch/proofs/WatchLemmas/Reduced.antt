@@ -7,7 +7,7 @@ use Rattle.std.specs.FinMap as maps
 use Rattle.std.specs.FinMap.{FinMap}
 use Rattle.cnf_base.specs.Literals.{Literal, Clause, complement}
 use Rattle.cnf_base.proofs.SetLemmas.{any_from, any_some, both_pass}
-use Rattle.propagation.specs.LiteralSet.{reduced_there}
+use Rattle.trail.specs.Reduced.{reduced_there}
 use Rattle.watch.specs.Code.Order.{each_in_order, in_order}
 use Rattle.watch.proofs.WatchLemmas.Order.{get_ordered, has-in_order}
 

@@ -6,7 +6,7 @@ use Rattle.std.specs.FinMap.{FinMap}
 use Rattle.cnf_base.specs.Literals.{Literal, Clause}
 use Rattle.cnf_base.proofs.SetLemmas.{same_from}
 use Rattle.theory.specs.Propagation.{Forced, IsRootReason}
-use Rattle.propagation.specs.Trail.{HasRoomForAll}
+use Rattle.trail.specs.Trail.{HasRoomForAll}
 use Rattle.theory.proofs.PropagationLemmas.Covers.{Covers, forced_covers, reason_covers}
 use Rattle.watch.specs.Code.Order.{in_order, each_in_order}
 use Rattle.watch.proofs.WatchLemmas.Order.{has-in_order, seen_there, there_seen}

@@ -4,7 +4,7 @@ use Rattle.std.proofs.Common.{◌∙◌, subst}
 use Rattle.std.proofs.lemmas.Option.{none-some, same_Some}
 use Rattle.cnf_base.specs.Literals.{has}
 use Rattle.watch.specs.Code.SlotList.{IsPlaced}
-use Rattle.propagation.proofs.MemberLemmas.{place_of as place_in}
+use Rattle.cnf_base.proofs.MemberLemmas.{place_of as place_in}
 
 module _ (slots : List ℕ) (place_of : ℕ → Option ℕ) (placed : IsPlaced slots place_of) (s : ℕ) (there : has slots s ≡ true) where
   noted_at : (i : ℕ) × (i < length slots) × (get_or slots i 0 ≡ s) × (place_of s ≡ Some i)

@@ -14,7 +14,7 @@ use Rattle.propagation.specs.Assumptions.{Assumption, AssumptionsState, Propagat
 use Rattle.propagation.specs.Code.Exact.{AreExact}
 use Rattle.propagation.specs.Code.Scan.{IsHeld}
 use Rattle.theory.specs.Sets.{SameSet}
-use Rattle.propagation.specs.Trail.{HasRoomForAll}
+use Rattle.trail.specs.Trail.{HasRoomForAll}
 use Rattle.watch.specs.Code.Lists.{AreApart, entries_in, entries_of, list_at, strangers, times_in}
 use Rattle.watch.specs.Code.Order.{each_in_order}
 use Rattle.watch.specs.Code.Roots.{AreForced, IsKept, IsKnown, IsStanding, is_up_to_date}
@@ -30,7 +30,7 @@ use Rattle.watch.specs.declared.roots.Kept.TheVariants.{Lost}
 use Rattle.watch.specs.declared.roots.Roots.{Roots}
 use Rattle.tables.specs.Table.{at}
 use Rattle.propagation.proofs.PropagationLemmas.Exact.{begins_on, longer_from}
-use Rattle.propagation.proofs.PropagationLemmas.Passes.{has_begun}
+use Rattle.trail.proofs.TrailLemmas.Longer.{has_begun}
 use Rattle.propagation.proofs.PropagationLemmas.Scan.{held_reserved}
 use Rattle.watch.proofs.WatchLemmas.Follow.{front_part}
 use Rattle.watch.proofs.WatchLemmas.Lists.{strangers_none}

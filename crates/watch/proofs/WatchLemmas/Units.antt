@@ -11,7 +11,7 @@ use Rattle.cnf_base.proofs.SetLemmas.{has_append_right, has_cases, has_head}
 use Rattle.theory.specs.Propagation.{Live}
 use Rattle.watch.specs.Code.Visits.{IsPart}
 use Rattle.watch.specs.Code.Watched.{is_short, short_for, IsShortList, HasUnit}
-use Rattle.propagation.proofs.PropagationLemmas.Passes.{pushed_each}
+use Rattle.trail.proofs.TrailLemmas.Longer.{pushed_each}
 use Rattle.watch.proofs.WatchLemmas.Follow.{has_times}
 
 -- ---- One clause

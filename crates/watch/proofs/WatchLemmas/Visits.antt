@@ -5,11 +5,11 @@ use Rattle.std.proofs.lemmas.Bool.{false_from_ne_true, cases_eq, cases_lt, true�
 use Rattle.cnf_base.specs.Literals.{Literal, complement, Clause, has}
 use Rattle.cnf_base.proofs.LiteralLemmas.{complement-complement}
 use Rattle.cnf_base.proofs.SetLemmas.{has_append_right, has_head}
-use Rattle.propagation.specs.Trail.{value_under, HasNoVariableTwice}
-use Rattle.propagation.specs.declared.value.Value.{Value}
-use Rattle.propagation.specs.declared.value.Value.TheVariants.{True, False, Open}
-use Rattle.propagation.proofs.MemberLemmas.{place_of, has_place}
-use Rattle.propagation.proofs.PropagationLemmas.Truth.{consistent}
+use Rattle.trail.specs.Trail.{value_under, HasNoVariableTwice}
+use Rattle.trail.specs.declared.value.Value.{Value}
+use Rattle.trail.specs.declared.value.Value.TheVariants.{True, False, Open}
+use Rattle.cnf_base.proofs.MemberLemmas.{place_of, has_place}
+use Rattle.trail.proofs.TrailLemmas.Truth.{consistent}
 
 -- a literal whose value isn't false isn't false
 pub not_false : (trues : List Literal) → HasNoVariableTwice trues → (m : Literal) (v : Value) → v ≡ value_under trues m → (v ≡ False → ⊥) → has trues (complement m) ≡ false

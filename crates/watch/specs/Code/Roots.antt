@@ -8,8 +8,8 @@ use Rattle.std.specs.Prelude.{length, true, false, ◌∷◌, ⊤, ◌<◌, slic
 use Rattle.cnf_base.specs.Literals.{Literal, Clause, has, complement}
 use Rattle.tables.specs.Table.{at}
 use Rattle.theory.specs.Propagation.{Live, Forced}
-use Rattle.propagation.specs.declared.left.Left.TheVariants.{Nothing, One, More}
-use Rattle.propagation.specs.declared.left.Left.{Left}
+use Rattle.trail.specs.declared.left.Left.TheVariants.{Nothing, One, More}
+use Rattle.trail.specs.declared.left.Left.{Left}
 use Rattle.propagation.specs.Assumptions.{HasAt, Assumption}
 use Rattle.watch.specs.Code.Order.{each_in_order}
 use Rattle.watch.specs.Code.Watched.{HasUnit, IsWatched}

@@ -1,6 +1,6 @@
 use Rattle.std.proofs.Common.{refl, sym, ◌∙◌}
 use Rattle.std.proofs.lemmas.List.{take_all}
-use Rattle.propagation.specs.Numbers.{number_at}
+use Rattle.trail.specs.Numbers.{number_at}
 use Rattle.propagation.proofs.PropagationLemmas.Levels.{noted_none, noted_next, noted_past}
 use Rattle.propagation.proofs.PropagationLemmas.Levels.{noted_whole}
 use Rattle.propagation.proofs.assumptions.note_all.Goals as goal

@@ -1,6 +1,6 @@
 use Rattle.std.proofs.Common.{◌≡◌, ℕ, ◌/◌, true, take, IsSome}
 use Rattle.cnf_base.specs.Literals.{Literal, has}
-use Rattle.propagation.specs.Numbers.{number_at}
+use Rattle.trail.specs.Numbers.{number_at}
 use Rattle.tables.specs.Table.{at}
 use Rattle.propagation.proofs.assumptions.reserve_variables.Given as goal
 

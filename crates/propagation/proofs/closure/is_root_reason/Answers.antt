@@ -2,7 +2,7 @@ use Rattle.std.proofs.Common.{sym, ap, ◌∙◌, subst}
 use Rattle.std.specs.FinMap as maps
 use Rattle.std.proofs.lemmas.Option.{same_Some}
 use Rattle.theory.specs.Propagation.{IsRootReason}
-use Rattle.propagation.specs.Left.{is_one_at_most}
+use Rattle.trail.specs.Left.{is_one_at_most}
 use Rattle.propagation.proofs.PropagationLemmas.Closing.{no_reason_left, reason_left}
 use Rattle.propagation.proofs.closure.is_root_reason.Goals as goal
 

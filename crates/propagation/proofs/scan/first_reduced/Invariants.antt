@@ -1,6 +1,7 @@
 use Rattle.std.proofs.Common.{◌≡◌, ◌≤◌, ◌<◌, ℕ, false}
 use Rattle.std.specs.FinMap as maps
-use Rattle.propagation.specs.LiteralSet.{in_set, reduced_there}
+use Rattle.trail.specs.LiteralSet.{in_set}
+use Rattle.trail.specs.Reduced.{reduced_there}
 use Rattle.propagation.proofs.scan.first_reduced.Given as goal
 
 abbrev pub invariant-loop-number : goal.invariant-loop-number

@@ -1,6 +1,6 @@
 use Rattle.std.proofs.Common.{sym, subst}
 use Rattle.std.specs.FinMap as maps
-use Rattle.propagation.specs.Trail.{HasRoom}
+use Rattle.trail.specs.Trail.{HasRoom}
 use Rattle.steps.proofs.LratLemmas.Rooms.{ready_with}
 use Rattle.steps.proofs.lrat.take_addition.Goals as goal
 

@@ -6,13 +6,13 @@ use Rattle.std.proofs.lemmas.Grind.{get_or_default_zero}
 use Rattle.std.proofs.lemmas.List.{take-take, take_more}
 use Rattle.cnf_base.specs.Literals.{Clause, complement, has, variable}
 use Rattle.cnf_base.proofs.LiteralLemmas.{complement-complement}
-use Rattle.propagation.specs.Trail.{HasNoVariableTwice}
+use Rattle.trail.specs.Trail.{HasNoVariableTwice}
 use Rattle.theory.specs.Sets.{conflicts}
 use Rattle.watch.specs.Code.Watched.{IsMet}
-use Rattle.propagation.proofs.MemberLemmas.{has_place}
-use Rattle.propagation.proofs.PropagationLemmas.MakesFalse.{no_conflict}
-use Rattle.propagation.proofs.PropagationLemmas.Passes.{has_begun}
-use Rattle.propagation.proofs.PropagationLemmas.Values.{fits_within}
+use Rattle.cnf_base.proofs.MemberLemmas.{has_place}
+use Rattle.trail.proofs.TrailLemmas.MakesFalse.{no_conflict}
+use Rattle.trail.proofs.TrailLemmas.Longer.{has_begun}
+use Rattle.trail.proofs.TrailLemmas.Values.{fits_within}
 use Rattle.watch.proofs.WatchLemmas.Carries.{carries_on}
 use Rattle.watch.proofs.WatchLemmas.Follow.{front_part, watched_done, watched_grown, watched_more}
 use Rattle.watch.proofs.follow.propagate.Goals as goal

@@ -5,7 +5,7 @@ use Rattle.cnf_base.specs.Literals.{complement}
 use Rattle.watch.specs.Code.Lists.{list_at, slot_at}
 use Rattle.watch.specs.declared.watcher.Watcher.{Watcher}
 use Rattle.watch.proofs.WatchLemmas.Lists.{slot_is}
-use Rattle.propagation.proofs.PropagationLemmas.Passes.{has_begun}
+use Rattle.trail.proofs.TrailLemmas.Longer.{has_begun}
 use Rattle.watch.proofs.WatchLemmas.Carries.{carries_on}
 use Rattle.watch.proofs.WatchLemmas.Follow.{all_met, front_apart, visited_further, visited_here}
 use Rattle.watch.proofs.follow.visit_all.Goals as goal

@@ -3,8 +3,8 @@ use Rattle.std.specs.FinMap as maps
 use Rattle.std.proofs.lemmas.Option.{same_Some}
 use Rattle.cnf_base.specs.Literals.{has}
 use Rattle.theory.specs.Propagation.{IsRootReason}
-use Rattle.propagation.specs.Left.{is_one_at_most}
-use Rattle.propagation.specs.Trail.{HasNoVariableTwice, HasRoomForAll}
+use Rattle.trail.specs.Left.{is_one_at_most}
+use Rattle.trail.specs.Trail.{HasNoVariableTwice, HasRoomForAll}
 use Rattle.propagation.proofs.PropagationLemmas.Closing.{no_reason_left, reason_left}
 use Rattle.watch.specs.Code.Roots.{IsKept}
 use Rattle.watch.proofs.WatchLemmas.Kept.{all_forced, kept_forced, roots_alone}

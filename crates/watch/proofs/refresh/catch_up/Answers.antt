@@ -4,7 +4,7 @@ use Rattle.cnf_base.specs.Literals.{Literal, has}
 use Rattle.tables.specs.Table.{at}
 use Rattle.watch.specs.Code.Roots.{AreReasoned, IsKnown}
 use Rattle.watch.specs.Code.Watched.{IsWatched}
-use Rattle.propagation.proofs.PropagationLemmas.Passes.{has_begun}
+use Rattle.trail.proofs.TrailLemmas.Longer.{has_begun}
 use Rattle.watch.proofs.WatchLemmas.Closed.{units_carried}
 use Rattle.watch.proofs.WatchLemmas.Kept.{noted_carried}
 use Rattle.watch.proofs.WatchLemmas.Units.{unit_more}

@@ -7,7 +7,7 @@ use Rattle.theory.specs.Sets.{conflicts}
 use Rattle.watch.specs.Code.Order.{each_in_order}
 use Rattle.watch.specs.Code.Roots.{IsFalseAt}
 use Rattle.watch.specs.Code.Watched.{IsWatched}
-use Rattle.propagation.proofs.PropagationLemmas.Passes.{has_begun}
+use Rattle.trail.proofs.TrailLemmas.Longer.{has_begun}
 use Rattle.watch.proofs.WatchLemmas.Carries.{clash_from}
 use Rattle.watch.proofs.WatchLemmas.Closed.{all_closed, all_quiet, units_carried}
 use Rattle.watch.proofs.WatchLemmas.Units.{unit_more}

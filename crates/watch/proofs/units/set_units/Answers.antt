@@ -5,7 +5,7 @@ use Rattle.cnf_base.specs.Literals.{complement, has}
 use Rattle.cnf_base.proofs.SetLemmas.{has_head}
 use Rattle.watch.specs.Code.Order.{each_in_order, in_order}
 use Rattle.watch.specs.Code.Roots.{IsFalseAt}
-use Rattle.propagation.proofs.PropagationLemmas.Passes.{has_begun}
+use Rattle.trail.proofs.TrailLemmas.Longer.{has_begun}
 use Rattle.watch.proofs.WatchLemmas.Carries.{carries_on, carries_unit, clashes}
 use Rattle.watch.proofs.WatchLemmas.Order.{has-in_order, seen_there}
 use Rattle.watch.proofs.WatchLemmas.Units.{all_units, no_literal, only_literal, short_alive}

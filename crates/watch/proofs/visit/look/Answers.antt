@@ -1,4 +1,4 @@
-use Rattle.propagation.proofs.PropagationLemmas.Truth.{false_from_value}
+use Rattle.trail.proofs.TrailLemmas.Truth.{false_from_value}
 use Rattle.watch.proofs.WatchLemmas.Visits.{not_false, others_false, each_false, other_member}
 use Rattle.watch.proofs.visit.look.Goals as goal
 

@@ -3,7 +3,8 @@ use Rattle.std.proofs.Common.{arith}
 use Rattle.std.proofs.lemmas.List.{take_all}
 use Rattle.cnf_base.specs.Literals.{has, size}
 use Rattle.cnf_base.proofs.SetLemmas.{same_from}
-use Rattle.clause_db.proofs.StoreLemmas.Marks.{is_in, marked_new, marked_old, few_more, gather_more}
+use Rattle.cnf_base.proofs.WalkLemmas.{is_in}
+use Rattle.clause_db.proofs.StoreLemmas.Marks.{marked_new, marked_old, few_more, gather_more}
 use Rattle.clause_db.proofs.StoreLemmas.Marks.{count_more, has_kept, push_same, push_fits}
 use Rattle.clause_db.proofs.StoreLemmas.Marks.{push_different}
 use Rattle.clause_db.proofs.store.marks.gather.Goals as goal

@@ -3,8 +3,8 @@ use Rattle.std.proofs.Common.{inr}
 use Rattle.std.proofs.lemmas.Bool.{not-true, not-false, or_cases, or_left, or_right}
 use Rattle.cnf_base.specs.Literals.{has}
 use Rattle.tables.specs.Table.{at}
-use Rattle.clause_db.proofs.StoreLemmas.Marks.{eqb_turn, has_more, has_take, mark_more, size_kept}
-use Rattle.clause_db.proofs.StoreLemmas.Marks.{size_more}
+use Rattle.clause_db.proofs.StoreLemmas.Marks.{eqb_turn, mark_more, size_kept, size_more}
+use Rattle.cnf_base.proofs.WalkLemmas.{has_more, has_take}
 use Rattle.clause_db.proofs.store.marks.mark_new.Goals as goal
 use Rattle.clause_db.proofs.store.marks.mark_new.Goals.{then-branch, else-branch}
 

@@ -1,6 +1,6 @@
 use Rattle.std.proofs.Common.{◌≡◌, ◌+◌, filter, [], refl, sym, ap, ◌∙◌, subst, rules}
 use Rattle.propagation.specs.Code.Levels.{IsNumbered, assumptions_of, first_number}
-use Rattle.propagation.specs.Numbers.{number_at}
+use Rattle.trail.specs.Numbers.{number_at}
 use Rattle.propagation.proofs.PropagationLemmas.Levels.{notes_none, pushed_numbered, pushed_seen}
 use Rattle.propagation.proofs.PropagationLemmas.Levels.{pushed_assumed, pushed_assumes}
 use Rattle.propagation.proofs.assumptions.Assumptions.assume.Goals as goal

@@ -1,6 +1,6 @@
 use Rattle.std.proofs.Common.{◌≡◌, false, sym, ap, ◌∙◌, subst}
 use Rattle.cnf_base.specs.Literals.{complement, has}
-use Rattle.propagation.specs.Numbers.{number_at}
+use Rattle.trail.specs.Numbers.{number_at}
 use Rattle.propagation.proofs.PropagationLemmas.Levels.{true_levels, true_assumptions}
 use Rattle.propagation.proofs.assumptions.Assumptions.make_true.Goals as goal
 

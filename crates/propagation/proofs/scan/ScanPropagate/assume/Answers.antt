@@ -1,6 +1,6 @@
 use Rattle.std.proofs.Common.{refl, sym, ap, ◌∙◌}
 use Rattle.cnf_base.specs.Literals.{complements}
-use Rattle.propagation.proofs.PropagationLemmas.MakesFalse.{whole_is}
+use Rattle.trail.proofs.TrailLemmas.MakesFalse.{whole_is}
 use Rattle.propagation.proofs.PropagationLemmas.Scan.{assuming_from}
 use Rattle.clause_db.proofs.StoreLemmas.Options.{on_err_then}
 use Rattle.propagation.proofs.scan.ScanPropagate.assume.Goals as goal

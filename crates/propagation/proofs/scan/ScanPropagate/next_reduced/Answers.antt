@@ -1,7 +1,7 @@
 use Rattle.std.proofs.Common.{sym, subst}
 use Rattle.std.specs.FinMap as maps
 use Rattle.propagation.specs.Assumptions.{IsReducedAt}
-use Rattle.propagation.specs.LiteralSet.{in_set}
+use Rattle.trail.specs.LiteralSet.{in_set}
 use Rattle.propagation.proofs.PropagationLemmas.Reduced.{not_reduced, reduced_at}
 use Rattle.clause_db.proofs.StoreLemmas.Options.{if_none_then, if_some_then}
 use Rattle.propagation.proofs.scan.ScanPropagate.next_reduced.Goals as goal

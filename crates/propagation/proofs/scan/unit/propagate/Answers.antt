@@ -3,10 +3,10 @@ use Rattle.std.specs.FinMap as maps
 use Rattle.theory.specs.Propagation.{IsClosed}
 use Rattle.cnf_base.specs.Literals.{has}
 use Rattle.theory.specs.Sets.{conflicts}
-use Rattle.propagation.proofs.PropagationLemmas.MakesFalse.{no_conflict}
+use Rattle.trail.proofs.TrailLemmas.MakesFalse.{no_conflict}
 use Rattle.theory.proofs.PropagationLemmas.Forced.{clash_through}
-use Rattle.propagation.proofs.PropagationLemmas.Passes.{has_begun}
-use Rattle.propagation.proofs.PropagationLemmas.Left.{settled_closed, settled_quiet}
+use Rattle.trail.proofs.TrailLemmas.Longer.{has_begun}
+use Rattle.trail.proofs.TrailLemmas.Left.{settled_closed, settled_quiet}
 use Rattle.propagation.proofs.scan.unit.propagate.Goals as goal
 
 pub returns-in-Clash-clause-answer : goal.returns-in-Clash-clause-answer

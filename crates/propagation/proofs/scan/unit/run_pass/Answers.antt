@@ -2,15 +2,16 @@ use Rattle.std.proofs.Common.{◌≡◌, ◌/◌, ◌∷◌, [], ◌++◌, ◌+�
 use Rattle.std.specs.FinMap as maps
 use Rattle.cnf_base.specs.Literals.{has}
 use Rattle.std.proofs.lemmas.Bool.{not-true, not-false}
-use Rattle.propagation.specs.Left.{how_many}
-use Rattle.propagation.specs.Code.Left.{IsSettled}
+use Rattle.trail.specs.Left.{how_many}
+use Rattle.trail.specs.Code.Left.{IsSettled}
 use Rattle.theory.specs.Propagation.{Forced, open_literals}
-use Rattle.propagation.specs.declared.left.Left.TheVariants.{One as OneLeft, Nothing, More}
+use Rattle.trail.specs.declared.left.Left.TheVariants.{One as OneLeft, Nothing, More}
 use Rattle.propagation.specs.declared.scan.unit.Pass.TheVariants.{Changed}
 use Rattle.propagation.proofs.PropagationLemmas.Exact.{extends_on, extends_made}
-use Rattle.propagation.proofs.PropagationLemmas.Left.{left_open, nothing_is, one_is}
-use Rattle.propagation.proofs.PropagationLemmas.Passes.{IsPassedTo, pushed_each, passed_none}
-use Rattle.propagation.proofs.PropagationLemmas.Passes.{passed_settled, passed_unit}
+use Rattle.trail.proofs.TrailLemmas.Left.{left_open, nothing_is, one_is}
+use Rattle.propagation.proofs.PropagationLemmas.Passes.{IsPassedTo, passed_none, passed_settled}
+use Rattle.propagation.proofs.PropagationLemmas.Passes.{passed_unit}
+use Rattle.trail.proofs.TrailLemmas.Longer.{pushed_each}
 use Rattle.theory.proofs.PropagationLemmas.Unit.{left_is_forced, none_left_clashes}
 use Rattle.propagation.proofs.scan.unit.run_pass.Goals as goal
 use Rattle.propagation.proofs.scan.unit.run_pass.Goals.{in-Some+in-One+then-make_true}

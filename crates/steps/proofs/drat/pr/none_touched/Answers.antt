@@ -4,7 +4,7 @@ use Rattle.std.proofs.lemmas.Bool.{or_cases}
 use Rattle.std.proofs.lemmas.List.{take_all}
 use Rattle.cnf_base.specs.Literals.{complement, has}
 use Rattle.propagation.specs.Assumptions.{HasAt}
-use Rattle.clause_db.proofs.StoreLemmas.Marks.{has_more}
+use Rattle.cnf_base.proofs.WalkLemmas.{has_more}
 use Rattle.steps.proofs.drat.pr.none_touched.Goals as goal
 
 pub loop-l-preserved : goal.loop-l-preserved

@@ -1,7 +1,7 @@
 use Rattle.std.proofs.Common.{sym, ◌∙◌}
 use Rattle.std.specs.FinMap as maps
 use Rattle.theory.specs.Lrat.{units_of}
-use Rattle.propagation.proofs.PropagationLemmas.MakesFalse.{whole_conflict, whole_added}
+use Rattle.trail.proofs.TrailLemmas.MakesFalse.{whole_conflict, whole_added}
 use Rattle.steps.proofs.LratLemmas.Starts.{units_conflict, units_walk}
 use Rattle.steps.proofs.lrat.addition.walk_units.Goals as goal
 

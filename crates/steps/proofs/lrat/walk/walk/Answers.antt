@@ -5,8 +5,8 @@ use Rattle.steps.proofs.LratLemmas.Hints.{units_more, read_is}
 use Rattle.steps.proofs.LratLemmas.Walks.{walk_one, walk_nothing, walk_more, walk_unknown}
 use Rattle.steps.proofs.LratLemmas.Walks.{same_set_push}
 use Rattle.propagation.proofs.PropagationLemmas.Exact.{begins_on}
-use Rattle.propagation.proofs.PropagationLemmas.Left.{left_open}
-use Rattle.propagation.proofs.PropagationLemmas.MakesFalse.{made_true, begins_made, longer_made}
+use Rattle.trail.proofs.TrailLemmas.Left.{left_open}
+use Rattle.trail.proofs.TrailLemmas.MakesFalse.{made_true, begins_made, longer_made}
 use Rattle.steps.proofs.lrat.walk.walk.Goals as goal
 
 pub make_true-requires-clause-not_false : goal.make_true-requires-clause-not_false

@@ -1,7 +1,7 @@
 use Rattle.std.proofs.Common.{[], sym, ap, ◌∙◌, subst}
 use Rattle.std.specs.FinMap as maps
 use Rattle.theory.specs.Propagation.{Clash}
-use Rattle.propagation.specs.Trail.{HasNoVariableTwice}
+use Rattle.trail.specs.Trail.{HasNoVariableTwice}
 use Rattle.propagation.specs.Assumptions.{roots_in}
 use Rattle.watch.proofs.WatchLemmas.Kept.{kept_clash, kept_forced, no_clash}
 use Rattle.watch.proofs.watch.Watch.has_root_clash.Goals as goal

@@ -2,7 +2,7 @@ use Rattle.std.proofs.Common.{[], take, sym, ap, ◌∙◌, subst}
 use Rattle.std.specs.FinMap as maps
 use Rattle.cnf_base.specs.Literals.{has}
 use Rattle.theory.specs.Propagation.{Forced}
-use Rattle.propagation.specs.Trail.{HasNoVariableTwice}
+use Rattle.trail.specs.Trail.{HasNoVariableTwice}
 use Rattle.propagation.specs.Assumptions.{roots_in}
 use Rattle.watch.proofs.WatchLemmas.Kept.{all_forced, kept_forced}
 use Rattle.watch.proofs.watch.Watch.root_literals.Goals as goal

@@ -1,6 +1,6 @@
 use Rattle.std.proofs.Common.{◌≤◌, length, subst}
 use Rattle.cnf_base.specs.Literals.{size}
-use Rattle.propagation.proofs.PropagationLemmas.Values.{fits_different}
+use Rattle.trail.proofs.TrailLemmas.Values.{fits_different}
 use Rattle.watch.proofs.watch.Watch.trail_len.Goals as goal
 
 pub returns-clause-fits : goal.returns-clause-fits

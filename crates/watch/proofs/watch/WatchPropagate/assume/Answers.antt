@@ -1,7 +1,7 @@
 use Rattle.std.proofs.Common.{refl, sym, ap, ◌∙◌}
 use Rattle.cnf_base.specs.Literals.{complements}
 use Rattle.watch.specs.Code.Order.{each_in_order}
-use Rattle.propagation.proofs.PropagationLemmas.MakesFalse.{whole_is}
+use Rattle.trail.proofs.TrailLemmas.MakesFalse.{whole_is}
 use Rattle.propagation.proofs.PropagationLemmas.Scan.{assuming_from}
 use Rattle.watch.proofs.WatchLemmas.Order.{literals_ordered}
 use Rattle.watch.proofs.watch.WatchPropagate.assume.Goals as goal

@@ -1,7 +1,7 @@
 use Rattle.std.proofs.Common.{ℕ, is_some, not, filter, unwrap_or, [], refl, sym, ap, ◌∙◌}
 use Rattle.std.specs.FinMap as maps
 use Rattle.cnf_base.specs.Literals.{complement, complements, has}
-use Rattle.propagation.specs.LiteralSet.{in_set}
+use Rattle.trail.specs.LiteralSet.{in_set}
 use Rattle.watch.specs.Code.Order.{each_in_order, in_order}
 use Rattle.propagation.proofs.PropagationLemmas.Reduced.{unless_alike, unless_refused}
 use Rattle.propagation.proofs.PropagationLemmas.Scan.{assuming_alike, assuming_from}

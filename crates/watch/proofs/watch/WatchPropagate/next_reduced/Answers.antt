@@ -1,7 +1,7 @@
 use Rattle.std.proofs.Common.{is_some, ap, sym, subst, ◌∙◌}
 use Rattle.std.specs.FinMap as maps
 use Rattle.propagation.specs.Assumptions.{IsReducedAt}
-use Rattle.propagation.specs.LiteralSet.{in_set}
+use Rattle.trail.specs.LiteralSet.{in_set}
 use Rattle.watch.specs.Code.Order.{each_in_order}
 use Rattle.propagation.proofs.PropagationLemmas.Reduced.{not_reduced, reduced_at}
 use Rattle.watch.proofs.WatchLemmas.Reduced.{reduced_ordered}

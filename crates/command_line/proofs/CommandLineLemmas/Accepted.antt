@@ -1,0 +1,304 @@
+-- The words that a tool accepts are not refused.
+use Rattle.std.proofs.Common.{◌≡◌, ◌∙◌, ◌+◌, ◌<◌, ◌≤◌, ap, ap₂, sym, subst, refl, codes, List, []}
+use Rattle.std.proofs.Common.{◌∷◌, ◌++◌, Bool, true, false, ℕ, zero, suc, Option, None, Some}
+use Rattle.std.proofs.Common.{option_map, String, string_bytes, cond, true≢false, arith, length}
+use Rattle.std.proofs.Common.{length-append}
+use Rattle.std.specs.Prelude.{◌==◌, ◌&&◌, ◌||◌, drop, is_some, not, slice_get, if◌then◌else◌}
+use Rattle.std.specs.Prelude.{filter}
+use Rattle.std.specs.Str.{bytes_eq}
+use Rattle.std.specs.List.{fold, list_all, list_any}
+use Rattle.std.specs.Option.{option_map_or}
+use Rattle.std.proofs.lemmas.List.Elements.{filter-append}
+use Rattle.std.proofs.lemmas.Slice.Eq.{bytes_eq-Decides}
+use Rattle.clap.specs.Faults.{check_fault, default_fault, defaults_fault, fault_of}
+use Rattle.clap.specs.Faults.{given_default_fault, settle_fault, turn_fault, walk_fault}
+use Rattle.clap.specs.Facts.{explicit_source}
+use Rattle.clap.specs.Kinds.{Kinds, or_else}
+use Rattle.clap.specs.Takes.{is_given}
+use Rattle.clap.specs.Walk.{Held, Row, Text, Walk, finished, has_row, nothing_held, settled}
+use Rattle.clap.specs.Walk.{settled_rows, walk, walked, with_default}
+use Rattle.clap.specs.declared.error.kind.ErrorKind.TheVariants as kind
+use Rattle.command_line.specs.Code.Commands.{command_of}
+use Rattle.command_line.specs.Words.{Accepts, begins_with_hyphen, is_among, is_empty_word, is_flag}
+use Rattle.command_line.specs.Words.{is_some_empty, names, plain, times}
+use Rattle.command_line.proofs.CommandLineLemmas.Rules.{fault_is, files_and_texts, flag_full}
+use Rattle.command_line.proofs.CommandLineLemmas.Rules.{formula_full, help_full, rules_of}
+use Rattle.command_line.proofs.CommandLineLemmas.Rules.{second_full, top_of}
+use Rattle.command_line.proofs.CommandLineLemmas.Rows.{names_added, names_kept}
+use Rattle.command_line.proofs.CommandLineLemmas.Turns.{at}
+use Rattle.command_line.proofs.CommandLineLemmas.Steps.{After, Shows, end_mark, flag_passes}
+use Rattle.command_line.proofs.CommandLineLemmas.Steps.{name_passes, start_after, step_after}
+use Rattle.command_line.proofs.CommandLineLemmas.Steps.{tail_free, words_after}
+use Rattle.command_line.proofs.CommandLineLemmas.Ends.{formula_row_end, row_at_end}
+use Rattle.command_line.specs.declared.tool.Tool.{Tool}
+use Rattle.command_line.specs.declared.tool.Tool.TheVariants.{Drat, Lrat, Model}
+
+nils : (a b : Kinds) → a ≡ [] → b ≡ [] → or_else a b ≡ []
+nils a b e f = ap₂ or_else e f
+
+-- ---- the last checks
+
+no_default : (b : Bool) (k : Kinds) → (if b || true then [] else k) ≡ []
+no_default true k = refl
+no_default false k = refl
+
+flag_default_fault : (f : Text) (rows : List Row) → default_fault rows (flag_full f) ≡ []
+flag_default_fault f rows = go (has_row f rows)
+  where
+    go : (b : Bool) → (if b || false then [] else given_default_fault (flag_full f) (codes "false" ∷ [])) ≡ []
+    go true = refl
+    go false = refl
+
+files_fault : (rows : List Row) → defaults_fault rows files_and_texts ≡ []
+unfolding defaults_fault
+files_fault rows =
+    nils _ _ (no_default (has_row (codes "formula") rows) _)
+    (nils _ _ (no_default (has_row (codes "second") (with_default rows formula_full)) _)
+    (nils _ _ (no_default (has_row (codes "help") (with_default (with_default rows formula_full) second_full)) _)
+    (nils _ _ (no_default (has_row (codes "version") (with_default (with_default (with_default rows formula_full) second_full) help_full)) _) refl)))
+
+all_defaults_fault : (tool : Tool) (rows : List Row) → defaults_fault rows (rules_of tool) ≡ []
+unfolding defaults_fault
+all_defaults_fault Drat rows =
+    nils _ _ (flag_default_fault (codes "binary") rows)
+    (nils _ _ (flag_default_fault (codes "trace") (with_default rows (flag_full (codes "binary"))))
+    (nils _ _ (flag_default_fault (codes "strict") (with_default (with_default rows (flag_full (codes "binary"))) (flag_full (codes "trace"))))
+    (nils _ _ (flag_default_fault (codes "pr") (with_default (with_default (with_default rows (flag_full (codes "binary"))) (flag_full (codes "trace"))) (flag_full (codes "strict"))))
+    (nils _ _ (flag_default_fault (codes "keep-units") (with_default (with_default (with_default (with_default rows (flag_full (codes "binary"))) (flag_full (codes "trace"))) (flag_full (codes "strict"))) (flag_full (codes "pr"))))
+    (files_fault
+    (with_default (with_default (with_default (with_default (with_default rows (flag_full (codes "binary"))) (flag_full (codes "trace"))) (flag_full (codes "strict"))) (flag_full (codes "pr"))) (flag_full (codes "keep-units"))))))))
+all_defaults_fault Lrat rows = nils _ _ (flag_default_fault (codes "trace") rows) (files_fault (with_default rows (flag_full (codes "trace"))))
+all_defaults_fault Model rows = files_fault rows
+
+check_is : (tool : Tool) (rows : List Row) → check_fault (top_of tool) rows false ≡ (if not (is_given (codes "formula") rows) || false then kind.MissingRequiredArgument ∷ [] else [])
+check_is Drat rows = refl
+check_is Lrat rows = refl
+check_is Model rows = refl
+
+formula_given : (tool : Tool) (words ns : List Text) (rows : List Row) → Shows tool words ns rows → 1 ≤ length ns
+    → is_given (codes "formula") (fold with_default rows (rules_of tool)) ≡ true
+formula_given tool words [] rows s some = absurd (omega arith)
+formula_given tool words (a ∷ ns) rows s some =
+    ap (λ (o : Option Row). option_map_or (λ (r : Row). explicit_source r.source) o false)
+    (row_at_end tool (codes "formula") rows ∙ (formula_row_end tool _ ∙ s.formula))
+
+abbrev rest_fault : Tool → Held → Kinds
+rest_fault tool h = or_else (settle_fault (rules_of tool) false h)
+    (or_else (defaults_fault (settled (rules_of tool) h).rows (rules_of tool)) (check_fault (top_of tool) (finished (rules_of tool) h) false))
+
+rest_passes : (tool : Tool) (words : List Text) (w : Walk) → After tool words w → 1 ≤ length (names tool words) → rest_fault tool w.held ≡ []
+rest_passes tool words w a some =
+    let one : 1 ≤ length a.ns = subst (λ (l : List Text). 1 ≤ length l) a.shows.said some in
+    ap (λ (v : Walk). rest_fault tool v.held) a.is
+    ∙ nils _ _ a.settles
+    (nils _ _ (all_defaults_fault tool (settled_rows (rules_of tool) a.pending a.rows))
+    (check_is tool (fold with_default (settled_rows (rules_of tool) a.pending a.rows) (rules_of tool))
+    ∙ ap (λ b. if not b || false then kind.MissingRequiredArgument ∷ [] else []) (formula_given tool words a.ns (settled_rows (rules_of tool) a.pending a.rows) a.shows one)))
+
+-- ---- the words
+
+abbrev is_accepted : Tool → Text → Bool
+is_accepted tool word = not (begins_with_hyphen word) || is_flag tool word
+
+both : (a b : Bool) → (a && b) ≡ true → (a ≡ true) × (b ≡ true)
+both true b e = (refl, e)
+both false b e = absurd (true≢false (sym e))
+
+neither : (a b : Bool) → (a || b) ≡ false → (a ≡ false) × (b ≡ false)
+neither true b e = absurd (true≢false e)
+neither false b e = (refl, e)
+
+-- no flag begins without a hyphen
+flag_has_hyphen : (tool : Tool) (word : Text) → is_flag tool word ≡ true → begins_with_hyphen word ≡ true
+flag_has_hyphen tool [] flag = absurd (true≢false (sym flag ∙ none tool))
+  where
+    none : (tool : Tool) → is_flag tool [] ≡ false
+    none Drat = refl
+    none Lrat = refl
+    none Model = refl
+flag_has_hyphen tool (x ∷ xs) flag = go (x == 45) refl
+  where
+    none : (tool : Tool) → (x == 45) ≡ false → is_flag tool (x ∷ xs) ≡ false
+    none Drat e = rw e refl
+    none Lrat e = rw e refl
+    none Model e = refl
+
+    go : (b : Bool) → (x == 45) ≡ b → (x == 45) ≡ true
+    go true e = e
+    go false e = absurd (true≢false (sym flag ∙ none tool e))
+
+-- of known words, those that are no flag are those with no hyphen before them
+names_count : (tool : Tool) (words : List Text) → list_all (is_accepted tool) words ≡ true → length (names tool words) ≡ length (plain words)
+names_count tool [] known = refl
+names_count tool (word ∷ words) known =
+    go (begins_with_hyphen word) (is_flag tool word) refl refl (both _ _ known).0 (names_count tool words (both _ _ known).1)
+  where
+    go : (h f : Bool) → begins_with_hyphen word ≡ h → is_flag tool word ≡ f → is_accepted tool word ≡ true → length (names tool words) ≡ length (plain words)
+        → length (names tool (word ∷ words)) ≡ length (plain (word ∷ words))
+    go true true eh ef k rest = rw (eh, ef) rest
+    go false false eh ef k rest = rw (eh, ef) (ap suc rest)
+    go true false eh ef k rest = absurd (true≢false (sym k ∙ rw (eh, ef) refl))
+    go false true eh ef k rest = absurd (true≢false (sym (flag_has_hyphen tool word ef) ∙ eh))
+
+end_mark_unknown : (tool : Tool) → is_accepted tool end_mark ≡ false
+end_mark_unknown Drat = refl
+end_mark_unknown Lrat = refl
+end_mark_unknown Model = refl
+
+pub known_free : (tool : Tool) (words : List Text) → list_all (is_accepted tool) words ≡ true → is_among words end_mark ≡ false
+known_free tool [] known = refl
+known_free tool (word ∷ words) known = go (bytes_eq end_mark word) refl (known_free tool words (both _ _ known).1)
+  where
+    go : (b : Bool) → bytes_eq end_mark word ≡ b → is_among words end_mark ≡ false → (b || is_among words end_mark) ≡ false
+    go false e rest = rest
+    go true e rest =
+        absurd (true≢false (sym (both _ _ known).0 ∙ (ap (is_accepted tool) (sym ((bytes_eq-Decides end_mark word).0 e)) ∙ end_mark_unknown tool)))
+
+times_more : (f word : Text) (done : List Text) → times f (done ++ word ∷ []) ≡ times f done + length (filter (bytes_eq f) (word ∷ []))
+times_more f word done = ap length (filter-append (bytes_eq f) done (word ∷ [])) ∙ length-append (filter (bytes_eq f) done) (filter (bytes_eq f) (word ∷ []))
+
+never_among : (f : Text) (done : List Text) → times f done ≤ 0 → is_among done f ≡ false
+never_among f [] none = refl
+never_among f (x ∷ done) none = go (bytes_eq f x) none (never_among f done)
+  where
+    go : (b : Bool) → length (cond b (x ∷ filter (bytes_eq f) done) (filter (bytes_eq f) done)) ≤ 0 → (times f done ≤ 0 → is_among done f ≡ false)
+        → (b || is_among done f) ≡ false
+    go true low rest = absurd (omega arith)
+    go false low rest = rest low
+
+-- what is left of the words is accepted after those before them
+record Fits (tool : Tool) (done words : List Text) : Type 0 where
+  full : list_any is_empty_word words ≡ false
+  most : length (names tool done) + length (names tool words) ≤ 2
+  known : list_all (is_accepted tool) words ≡ true
+  once : (f : Text) → is_flag tool f ≡ true → times f done + times f words ≤ 1
+
+module _ (tool : Tool) (done : List Text) (word : Text) (words : List Text) (fits : Fits tool done (word ∷ words)) where
+  names_step : (b : Bool) → is_flag tool word ≡ b → length (names tool (done ++ word ∷ [])) + length (names tool words) ≤ length (names tool done) + length (names tool (word ∷ words))
+  names_step true e =
+      let kept = ap length (names_kept tool done word e) in
+      rw e (omega (arith, kept))
+  names_step false e =
+      let added = ap length (names_added tool done word e) ∙ length-append (names tool done) (word ∷ []) in
+      rw e (omega (arith, added))
+
+  times_step : (f : Text) → times f (done ++ word ∷ []) + times f words ≤ times f done + times f (word ∷ words)
+  times_step f = go (bytes_eq f word) (times_more f word done)
+    where
+      go : (b : Bool) → times f (done ++ word ∷ []) ≡ times f done + length (cond b (word ∷ []) [])
+          → times f (done ++ word ∷ []) + times f words ≤ times f done + length (cond b (word ∷ filter (bytes_eq f) words) (filter (bytes_eq f) words))
+      go true e = omega (arith, e)
+      go false e = omega (arith, e)
+
+  fits_next : Fits tool (done ++ word ∷ []) words
+  fits_next =
+      let step = names_step (is_flag tool word) refl in
+      let before = fits.most in
+      record {
+        full = (neither _ _ fits.full).1;
+        most = omega (arith, step, before);
+        known = (both _ _ fits.known).1;
+        once = λ f flag. let more = times_step f in let low = fits.once f flag in omega (arith, more, low);
+      }
+
+  fits_flag : is_flag tool word ≡ true → is_among done word ≡ false
+  fits_flag flag =
+      let here : times word (word ∷ words) ≡ suc (times word words) = ap (λ b. length (cond b (word ∷ filter (bytes_eq word) words) (filter (bytes_eq word) words))) ((bytes_eq-Decides word word).1 refl) in
+      let low = fits.once word flag in
+      never_among word done (omega (arith, here, low))
+
+  fits_name : is_flag tool word ≡ false → length (names tool done) < 2
+  fits_name flag =
+      let here : length (names tool (word ∷ words)) ≡ suc (length (names tool words)) = ap (λ b. length (cond (not b) (word ∷ names tool words) (names tool words))) flag in
+      let most = fits.most in
+      omega (arith, here, most)
+
+turn_passes : (tool : Tool) (done : List Text) (word : Text) (words : List Text) → Fits tool done (word ∷ words) → (w : Walk) → After tool done w
+    → turn_fault (top_of tool) [] w word ≡ []
+turn_passes tool done word words fits w a = go (is_flag tool word) refl
+  where
+    plain_word : (word : Text) → is_empty_word word ≡ false → is_accepted tool word ≡ true → is_flag tool word ≡ false → length (names tool done) < 2
+        → turn_fault (top_of tool) [] w word ≡ []
+    plain_word [] full known flag few = absurd (true≢false full)
+    plain_word (x ∷ xs) full known flag few = name_passes tool done w a x xs flag (at_start (x == 45) (sym (ap (λ b. not (x == 45) || b) flag) ∙ known)) few
+      where
+        at_start : (b : Bool) → (not b || false) ≡ true → b ≡ false
+        at_start true e = sym e
+        at_start false e = refl
+
+    go : (b : Bool) → is_flag tool word ≡ b → turn_fault (top_of tool) [] w word ≡ []
+    go true flag = flag_passes tool done w a word flag (fits_flag tool done word words fits flag)
+    go false flag = plain_word word (neither _ _ fits.full).0 (both _ _ fits.known).0 flag (fits_name tool done word words fits flag)
+
+walk_passes : (tool : Tool) (words done : List Text) (w : Walk) → After tool done w → Fits tool done words → walk_fault (top_of tool) [] w words ≡ []
+unfolding walk_fault
+walk_passes tool [] done w a fits = refl
+walk_passes tool (word ∷ words) done w a fits =
+    let passes = turn_passes tool done word words fits w a in
+    let apart = tail_free word words (known_free tool (word ∷ words) fits.known) in
+    nils _ _ passes
+    (walk_passes tool words (done ++ word ∷ []) (walked (rules_of tool) [] w word) (step_after tool done w a word apart.0 passes) (fits_next tool done word words fits))
+
+-- a parse of accepted words has no fault
+pub no_fault : (tool : Tool) (words : List Text) → Accepts tool (drop 1 words) → fault_of (command_of tool) words ≡ []
+no_fault tool words accepts =
+    let said = drop 1 words in
+    let count = names_count tool said accepts.known in
+    let least = accepts.least in
+    let most = accepts.most in
+    let fits : Fits tool [] said = record {
+      full = accepts.full;
+      most = omega (arith, count, most);
+      known = accepts.known;
+      once = λ f flag. let low = accepts.once f flag in omega (arith, low);
+    } in
+    let passes = walk_passes tool said [] (at [] None 1) (start_after tool) fits in
+    let after = words_after tool said [] (at [] None 1) (start_after tool) (known_free tool said accepts.known) passes in
+    fault_is tool words
+    ∙ nils (walk_fault (top_of tool) [] (at [] None 1) said) (rest_fault tool (walk (rules_of tool) [] nothing_held said).held) passes
+    (rest_passes tool said (walk (rules_of tool) [] nothing_held said) after (omega (arith, count, least)))
+
+-- accepted words name the formula
+pub has_formula : (tool : Tool) (words : List Text) → Accepts tool words → slice_get (names tool words) 0 ≡ None → ⊥
+has_formula tool words accepts none = go (names tool words) (names_count tool words accepts.known) none
+  where
+    go : (ns : List Text) → length ns ≡ length (plain words) → slice_get ns 0 ≡ None → ⊥
+    go [] e none = let least = accepts.least in omega (arith, e, least)
+    go (a ∷ ns) e none = true≢false (ap is_some none)
+
+-- what is left of words none of which passes a test
+none_left : (p t : Text → Bool) (words : List Text) → list_any t words ≡ false → list_any t (filter p words) ≡ false
+none_left p t [] e = refl
+none_left p t (w ∷ ws) e = by (p w) (t w) refl (none_left p t ws)
+  where
+    by : (kept : Bool) (v : Bool) → t w ≡ v → (list_any t ws ≡ false → list_any t (filter p ws) ≡ false) → list_any t (cond kept (w ∷ filter p ws) (filter p ws)) ≡ false
+    by kept true h next = absurd (true≢false (sym (ap (λ v. v || list_any t ws) h) ∙ e))
+    by true false h next = ap (λ v. v || list_any t (filter p ws)) h ∙ next (sym (ap (λ v. v || list_any t ws) h) ∙ e)
+    by false false h next = next (sym (ap (λ v. v || list_any t ws) h) ∙ e)
+
+at_none : (t : Text → Bool) (words : List Text) (k : ℕ) (w : Text) → list_any t words ≡ false → Some w ≡ slice_get words k → t w ≡ false
+at_none t [] k w e is = absurd (true≢false (ap is_some is))
+at_none t (x ∷ xs) zero w e is = by (t x) refl
+  where
+    by : (v : Bool) → t x ≡ v → t w ≡ false
+    by true h = absurd (true≢false (sym (ap (λ v. v || list_any t xs) h) ∙ e))
+    by false h = let same : w ≡ x = cc in ap t same ∙ h
+at_none t (x ∷ xs) (suc k) w e is = at_none t xs k w (by (t x) e) is
+  where
+    by : (v : Bool) → (v || list_any t xs) ≡ false → list_any t xs ≡ false
+    by true h = absurd (true≢false h)
+    by false h = h
+
+-- the names of accepted words are not empty
+pub names_full : {Z : Type 0} (tool : Tool) (words : List Text) (formula : Text) (second : Option (String Z)) → Accepts tool words
+    → Some formula ≡ slice_get (names tool words) 0 → option_map string_bytes second ≡ slice_get (names tool words) 1
+    → (is_empty_word formula || is_some_empty second) ≡ false
+names_full {Z} tool words formula second accepts first then_second =
+    ap (λ v. v || is_some_empty second) (at_none is_empty_word (names tool words) 0 formula full first) ∙ by second then_second
+  where
+    full : list_any is_empty_word (names tool words) ≡ false
+    full = none_left _ is_empty_word words accepts.full
+
+    by : (s : Option (String Z)) → option_map string_bytes s ≡ slice_get (names tool words) 1 → is_some_empty s ≡ false
+    by None is = refl
+    by (Some name) is = at_none is_empty_word (names tool words) 1 (string_bytes name) full is

@@ -1,0 +1,442 @@
+-- What is held after each word, and what the walk gives at the end.
+use Rattle.std.proofs.Common.{◌≤◌, ◌≡◌, ◌∙◌, ◌<◌, ap, ap₂, sym, subst, refl, codes, List, [], ◌∷◌}
+use Rattle.std.proofs.Common.{◌++◌, append_assoc, append-nil, Bool, true, false, Option, Some, None}
+use Rattle.std.proofs.Common.{ℕ, cond, suc, true≢false, inl, inr, ◌⊎◌, ⊎_elim, arith, length}
+use Rattle.std.specs.Prelude.{◌==◌, ◌&&◌, ◌||◌, is_some, option_map, slice_get, if◌then◌else◌}
+use Rattle.std.specs.Str.{bytes_eq}
+use Rattle.std.specs.List.{fold}
+use Rattle.std.proofs.lemmas.Slice.Eq.{bytes_eq-Decides}
+use Rattle.std.specs.Option.{option_map_or}
+use Rattle.std.proofs.lemmas.Bool.Decides.{nat_tests}
+use Rattle.clap.specs.Faults.{positional_fault, settle_fault, step_fault, turn_fault, walk_fault}
+use Rattle.clap.specs.Kinds.{Kinds, or_else}
+use Rattle.clap.specs.Walk.{Row, Rule, Text, Walk, arg_by_index, has_row, idle, is_pending, pushed}
+use Rattle.clap.specs.Walk.{settled, settled_rows, to_positional, used, value, walked}
+use Rattle.clap.specs.declared.error.kind.ErrorKind.TheVariants as kind
+use Rattle.clap.proofs.OnLiterals.{clap_on_literals}
+use Rattle.command_line.proofs.CommandLineLemmas.Rules.{flag_full, formula_full, name_of, rules_of}
+use Rattle.command_line.proofs.CommandLineLemmas.Rules.{second_full, top_of}
+use Rattle.command_line.proofs.CommandLineLemmas.Rows.{among_added, among_kept, has_row-row_for}
+use Rattle.command_line.proofs.CommandLineLemmas.Rows.{names_added, names_kept, new_row, row_added}
+use Rattle.command_line.proofs.CommandLineLemmas.Rows.{row_for, row_kept, used_first}
+use Rattle.command_line.proofs.CommandLineLemmas.Turns.{at, cons_not_nil, holding, name_met}
+use Rattle.command_line.proofs.CommandLineLemmas.Turns.{or_nil, plain_taken}
+use Rattle.command_line.specs.Words.{is_among, is_flag, is_set, names}
+use Rattle.command_line.specs.declared.tool.Tool.{Tool}
+use Rattle.command_line.specs.declared.tool.Tool.TheVariants.{Drat, Lrat, Model}
+
+abbrev pub flag_row : Text → Row
+flag_row name = new_row (flag_full name) (codes "true" ∷ [])
+
+abbrev pub set_row : Tool → Text → List Text → Option Row
+set_row tool name done = cond (is_set tool (45 ∷ 45 ∷ name) done) (Some (flag_row name)) None
+
+abbrev pub file_row : Rule → List Text → ℕ → Option Row
+file_row a ns k = option_map (λ word. new_row a (word ∷ [])) (slice_get ns k)
+
+-- the rows show the words so far, whose names are ns
+pub record Shows (tool : Tool) (done ns : List Text) (rows : List Row) : Type 0 where
+  pub said : names tool done ≡ ns
+  pub binary : row_for (codes "binary") rows ≡ set_row tool (codes "binary") done
+  pub trace : row_for (codes "trace") rows ≡ set_row tool (codes "trace") done
+  pub strict : row_for (codes "strict") rows ≡ set_row tool (codes "strict") done
+  pub pr : row_for (codes "pr") rows ≡ set_row tool (codes "pr") done
+  pub keep_units : row_for (codes "keep-units") rows ≡ set_row tool (codes "keep-units") done
+  pub formula : row_for (codes "formula") rows ≡ file_row formula_full ns 0
+  pub second : row_for (codes "second") rows ≡ file_row second_full ns 1
+
+-- the walk stands after the words so far
+pub record After (tool : Tool) (done : List Text) (w : Walk) : Type 0 where
+  pub rows : List Row
+  pub pending : Option (Text × List Text)
+  pub ns : List Text
+  pub few : length ns ≤ 2
+  pub is : w ≡ at rows pending (suc (length ns))
+  pub settles : settle_fault (rules_of tool) false (holding rows pending) ≡ []
+  pub shows : Shows tool done ns (settled_rows (rules_of tool) pending rows)
+
+-- ---- a flag
+
+bytes_eq_sym : (a b : Text) → bytes_eq a b ≡ bytes_eq b a
+bytes_eq_sym a b = go (bytes_eq a b) (bytes_eq b a) refl refl
+  where
+    go : (x y : Bool) → bytes_eq a b ≡ x → bytes_eq b a ≡ y → x ≡ y
+    go true y e f = sym ((bytes_eq-Decides b a).1 (sym ((bytes_eq-Decides a b).0 e))) ∙ f
+    go false false e f = refl
+    go false true e f = sym e ∙ (bytes_eq-Decides a b).1 (sym ((bytes_eq-Decides b a).0 f))
+
+set_kept : (tool : Tool) (name : Text) (done : List Text) (rows : List Row) (r : Row) (word : Text) → bytes_eq r.id name ≡ false → bytes_eq (45 ∷ 45 ∷ name) word ≡ false
+    → row_for name rows ≡ set_row tool name done → row_for name (rows ++ r ∷ []) ≡ set_row tool name (done ++ word ∷ [])
+set_kept tool name done rows r word id other shown =
+    row_kept name rows r id ∙ (shown
+    ∙ ap (λ b. cond (is_flag tool (45 ∷ 45 ∷ name) && b) (Some (flag_row name)) None) (sym (among_kept done word (45 ∷ 45 ∷ name) other)))
+
+set_added : (tool : Tool) (name : Text) (done : List Text) (rows : List Row) → bytes_eq name name ≡ true → is_flag tool (45 ∷ 45 ∷ name) ≡ true
+    → row_for name rows ≡ None → row_for name (rows ++ flag_row name ∷ []) ≡ set_row tool name (done ++ (45 ∷ 45 ∷ name) ∷ [])
+set_added tool name done rows same flag none =
+    row_added name rows (flag_row name) same none
+    ∙ sym (ap₂ (λ (a b : Bool). cond (a && b) (Some (flag_row name)) None) flag (among_added done (45 ∷ 45 ∷ name) (45 ∷ 45 ∷ name) same))
+
+no_row : (name : Text) (rows : List Row) → has_row name rows ≡ false → row_for name rows ≡ None
+no_row name rows e = go (row_for name rows) (sym (has_row-row_for name rows) ∙ e)
+  where
+    go : (o : Option Row) → is_some o ≡ false → o ≡ None
+    go None e = refl
+    go (Some r) e = absurd (true≢false e)
+
+file_kept : (name : Text) (a : Rule) (ns : List Text) (k : ℕ) (rows : List Row) (r : Row) → bytes_eq r.id name ≡ false
+    → row_for name rows ≡ file_row a ns k → row_for name (rows ++ r ∷ []) ≡ file_row a ns k
+file_kept name a ns k rows r id shown = row_kept name rows r id ∙ shown
+
+module _ (tool : Tool) (done ns : List Text) (rows : List Row) (s : Shows tool done ns rows) where
+  -- the row of a name, after this flag
+  set_after : (flag name : Text) → is_flag tool (45 ∷ 45 ∷ flag) ≡ true → has_row flag rows ≡ false → row_for name rows ≡ set_row tool name done
+      → row_for name (rows ++ flag_row flag ∷ []) ≡ set_row tool name (done ++ (45 ∷ 45 ∷ flag) ∷ [])
+  set_after flag name is new shown = go (bytes_eq flag name) refl
+    where
+      P : Text → Type 0
+      P x = row_for x (rows ++ flag_row flag ∷ []) ≡ set_row tool x (done ++ (45 ∷ 45 ∷ flag) ∷ [])
+
+      go : (b : Bool) → bytes_eq flag name ≡ b → P name
+      go true same = subst P ((bytes_eq-Decides flag name).0 same) (set_added tool flag done rows ((bytes_eq-Decides flag flag).1 refl) is (no_row flag rows new))
+      go false other = set_kept tool name done rows _ _ other (bytes_eq_sym name flag ∙ other) shown
+
+  flag_shown : (flag : Text) → bytes_eq flag (codes "formula") ≡ false → bytes_eq flag (codes "second") ≡ false → is_flag tool (45 ∷ 45 ∷ flag) ≡ true → has_row flag rows ≡ false
+      → Shows tool (done ++ (45 ∷ 45 ∷ flag) ∷ []) ns (rows ++ flag_row flag ∷ [])
+  flag_shown flag no_formula no_second is new = record {
+    said = names_kept tool done (45 ∷ 45 ∷ flag) is ∙ s.said;
+    binary = set_after flag (codes "binary") is new s.binary;
+    trace = set_after flag (codes "trace") is new s.trace;
+    strict = set_after flag (codes "strict") is new s.strict;
+    pr = set_after flag (codes "pr") is new s.pr;
+    keep_units = set_after flag (codes "keep-units") is new s.keep_units;
+    formula = file_kept _ formula_full ns 0 rows _ no_formula s.formula;
+    second = file_kept _ second_full ns 1 rows _ no_second s.second;
+  }
+
+-- what the walk asks of a flag, and what it makes of it
+abbrev FlagTurn : Tool → Text → List Row → Option (Text × List Text) → ℕ → Type 0
+FlagTurn tool name r p n = (turn_fault (top_of tool) [] (at r p n) (45 ∷ 45 ∷ name)
+    ≡ or_else (or_else (settle_fault (rules_of tool) false (holding r p)) (or_else (cond (has_row name (settled_rows (rules_of tool) p r) && true) (kind.ArgumentConflict ∷ []) []) [])) [])
+    × (walked (rules_of tool) [] (at r p n) (45 ∷ 45 ∷ name) ≡ at (used (flag_full name) [] (settled_rows (rules_of tool) p r)) None n)
+
+drat_binary : (r : List Row) (p : Option (Text × List Text)) (n : ℕ) → FlagTurn Drat (codes "binary") r p n
+unfolding clap_on_literals
+drat_binary r p n = (refl, refl)
+
+drat_trace : (r : List Row) (p : Option (Text × List Text)) (n : ℕ) → FlagTurn Drat (codes "trace") r p n
+unfolding clap_on_literals
+drat_trace r p n = (refl, refl)
+
+drat_strict : (r : List Row) (p : Option (Text × List Text)) (n : ℕ) → FlagTurn Drat (codes "strict") r p n
+unfolding clap_on_literals
+drat_strict r p n = (refl, refl)
+
+drat_pr : (r : List Row) (p : Option (Text × List Text)) (n : ℕ) → FlagTurn Drat (codes "pr") r p n
+unfolding clap_on_literals
+drat_pr r p n = (refl, refl)
+
+drat_keep_units : (r : List Row) (p : Option (Text × List Text)) (n : ℕ) → FlagTurn Drat (codes "keep-units") r p n
+unfolding clap_on_literals
+drat_keep_units r p n = (refl, refl)
+
+lrat_trace : (r : List Row) (p : Option (Text × List Text)) (n : ℕ) → FlagTurn Lrat (codes "trace") r p n
+unfolding clap_on_literals
+lrat_trace r p n = (refl, refl)
+
+no_conflict : (b : Bool) → or_else (cond (b && true) (kind.ArgumentConflict ∷ []) []) [] ≡ [] → b ≡ false
+no_conflict true e = absurd (cons_not_nil _ _ e)
+no_conflict false e = refl
+
+module _ (tool : Tool) (done : List Text) (name : Text) (r : List Row) (p : Option (Text × List Text)) (ns : List Text) where
+  flag_new : FlagTurn tool name r p (suc (length ns)) → turn_fault (top_of tool) [] (at r p (suc (length ns))) (45 ∷ 45 ∷ name) ≡ []
+      → has_row name (settled_rows (rules_of tool) p r) ≡ false
+  flag_new turn f = no_conflict _ (or_nil _ _ (or_nil _ _ (sym turn.0 ∙ f)).0).1
+
+  flag_after : length ns ≤ 2 → FlagTurn tool name r p (suc (length ns)) → has_row name (settled_rows (rules_of tool) p r) ≡ false
+      → Shows tool (done ++ (45 ∷ 45 ∷ name) ∷ []) ns (settled_rows (rules_of tool) p r ++ flag_row name ∷ [])
+      → After tool (done ++ (45 ∷ 45 ∷ name) ∷ []) (walked (rules_of tool) [] (at r p (suc (length ns))) (45 ∷ 45 ∷ name))
+  flag_after few turn new shows =
+      let rows = settled_rows (rules_of tool) p r in
+      let grown : used (flag_full name) [] rows ≡ rows ++ flag_row name ∷ [] = used_first (flag_full name) (codes "true" ∷ []) rows new in
+      record {
+        rows = rows ++ flag_row name ∷ [];
+        pending = None;
+        ns = ns;
+        few = few;
+        is = turn.1 ∙ ap (λ l. at l None (suc (length ns))) grown;
+        settles = refl;
+        shows = shows;
+      }
+
+-- ---- a flag of the tool, by its name
+
+either : (a b : Bool) → (a || b) ≡ true → (a ≡ true) ⊎ (b ≡ true)
+either true b e = inl refl
+either false b e = inr e
+
+-- the flag was not there before, and what is held after it
+record FlagMet (tool : Tool) (done : List Text) (r : List Row) (p : Option (Text × List Text)) (ns : List Text) (word : Text) : Type 0 where
+  after : turn_fault (top_of tool) [] (at r p (suc (length ns))) word ≡ [] → After tool (done ++ word ∷ []) (walked (rules_of tool) [] (at r p (suc (length ns))) word)
+  fine : is_among done word ≡ false → turn_fault (top_of tool) [] (at r p (suc (length ns))) word ≡ []
+
+module _ (tool : Tool) (done : List Text) (r : List Row) (p : Option (Text × List Text)) (ns : List Text)
+    (few : length ns ≤ 2) (settles : settle_fault (rules_of tool) false (holding r p) ≡ []) (shows : Shows tool done ns (settled_rows (rules_of tool) p r)) where
+  has_none : (name : Text) → row_for name (settled_rows (rules_of tool) p r) ≡ set_row tool name done → is_among done (45 ∷ 45 ∷ name) ≡ false
+      → has_row name (settled_rows (rules_of tool) p r) ≡ false
+  has_none name shown none =
+      has_row-row_for name _ ∙ ap is_some (shown ∙ ap (λ b. cond (is_flag tool (45 ∷ 45 ∷ name) && b) (Some (flag_row name)) None) none)
+      ∙ go (is_flag tool (45 ∷ 45 ∷ name))
+    where
+      go : (b : Bool) → is_some (cond (b && false) (Some (flag_row name)) None) ≡ false
+      go true = refl
+      go false = refl
+
+  no_fault : (name : Text) → FlagTurn tool name r p (suc (length ns)) → has_row name (settled_rows (rules_of tool) p r) ≡ false
+      → turn_fault (top_of tool) [] (at r p (suc (length ns))) (45 ∷ 45 ∷ name) ≡ []
+  no_fault name turn new =
+      turn.0 ∙ ap₂ (λ (k : Kinds) (b : Bool). or_else (or_else k (or_else (cond (b && true) (kind.ArgumentConflict ∷ []) []) [])) []) settles new
+
+  one_met : (name : Text) → bytes_eq name (codes "formula") ≡ false → bytes_eq name (codes "second") ≡ false → row_for name (settled_rows (rules_of tool) p r) ≡ set_row tool name done
+      → is_flag tool (45 ∷ 45 ∷ name) ≡ true → FlagTurn tool name r p (suc (length ns)) → FlagMet tool done r p ns (45 ∷ 45 ∷ name)
+  one_met name no_formula no_second shown flag turn = record {
+    after = λ f. let new = flag_new tool done name r p ns turn f in
+        flag_after tool done name r p ns few turn new (flag_shown tool done ns _ shows name no_formula no_second flag new);
+    fine = λ none. no_fault name turn (has_none name shown none);
+  }
+
+pick : (P : Text → Type 0) (word f : Text) (rest : Bool) → (bytes_eq word f || rest) ≡ true → P f → (rest ≡ true → P word) → P word
+pick P word f rest e here there = go (bytes_eq word f) refl e
+  where
+    go : (b : Bool) → bytes_eq word f ≡ b → (b || rest) ≡ true → P word
+    go true same e = subst P (sym ((bytes_eq-Decides word f).0 same)) here
+    go false same e = there e
+
+flag_met : (tool : Tool) (done : List Text) (r : List Row) (p : Option (Text × List Text)) (ns : List Text) → length ns ≤ 2 → settle_fault (rules_of tool) false (holding r p) ≡ []
+    → Shows tool done ns (settled_rows (rules_of tool) p r) → (word : Text) → is_flag tool word ≡ true → FlagMet tool done r p ns word
+flag_met Drat done r p ns few settles shows word flag =
+    let P : Text → Type 0 = FlagMet Drat done r p ns in
+    pick P word (codes "--binary") (is_among (codes "--trace" ∷ codes "--strict" ∷ codes "--pr" ∷ codes "--keep-units" ∷ []) word) flag (one_met Drat done r p ns few settles shows (codes "binary") refl refl shows.binary refl (drat_binary r p (suc (length ns))))
+    (λ e. pick P word (codes "--trace") (is_among (codes "--strict" ∷ codes "--pr" ∷ codes "--keep-units" ∷ []) word) e (one_met Drat done r p ns few settles shows (codes "trace") refl refl shows.trace refl (drat_trace r p (suc (length ns))))
+    (λ e. pick P word (codes "--strict") (is_among (codes "--pr" ∷ codes "--keep-units" ∷ []) word) e (one_met Drat done r p ns few settles shows (codes "strict") refl refl shows.strict refl (drat_strict r p (suc (length ns))))
+    (λ e. pick P word (codes "--pr") (is_among (codes "--keep-units" ∷ []) word) e (one_met Drat done r p ns few settles shows (codes "pr") refl refl shows.pr refl (drat_pr r p (suc (length ns))))
+    (λ e. pick P word (codes "--keep-units") false e (one_met Drat done r p ns few settles shows (codes "keep-units") refl refl shows.keep_units refl (drat_keep_units r p (suc (length ns))))
+    (λ e. absurd (true≢false (sym e)))))))
+flag_met Lrat done r p ns few settles shows word flag =
+    let P : Text → Type 0 = FlagMet Lrat done r p ns in
+    pick P word (codes "--trace") false flag (one_met Lrat done r p ns few settles shows (codes "trace") refl refl shows.trace refl (lrat_trace r p (suc (length ns))))
+    (λ e. absurd (true≢false (sym e)))
+flag_met Model done r p ns few settles shows word flag = absurd (true≢false (sym flag))
+
+-- ---- a name
+
+-- a word that is no flag sets none
+set_by_name : (tool : Tool) (name : Text) (done : List Text) (rows : List Row) (r : Row) (word : Text) → bytes_eq r.id name ≡ false → is_flag tool word ≡ false
+    → row_for name rows ≡ set_row tool name done → row_for name (rows ++ r ∷ []) ≡ set_row tool name (done ++ word ∷ [])
+set_by_name tool name done rows r word id flag shown = row_kept name rows r id ∙ (shown ∙ go (bytes_eq (45 ∷ 45 ∷ name) word) refl)
+  where
+    go : (b : Bool) → bytes_eq (45 ∷ 45 ∷ name) word ≡ b → set_row tool name done ≡ set_row tool name (done ++ word ∷ [])
+    go false e = ap (λ b. cond (is_flag tool (45 ∷ 45 ∷ name) && b) (Some (flag_row name)) None) (sym (among_kept done word (45 ∷ 45 ∷ name) e))
+    go true e =
+        let lacks : is_flag tool (45 ∷ 45 ∷ name) ≡ false = ap (is_flag tool) ((bytes_eq-Decides (45 ∷ 45 ∷ name) word).0 e) ∙ flag in
+        ap (λ b. cond (b && is_among done (45 ∷ 45 ∷ name)) (Some (flag_row name)) None) lacks
+        ∙ sym (ap (λ b. cond (b && is_among (done ++ word ∷ []) (45 ∷ 45 ∷ name)) (Some (flag_row name)) None) lacks)
+
+-- what is held of a file name, after the names ns
+abbrev FileTurn : Tool → Rule → List Row → Option (Text × List Text) → ℕ → Text → Type 0
+FileTurn tool a r p n word = (step_fault (top_of tool) n (holding r p) value ≡ settle_fault (rules_of tool) false (holding r p))
+    × (to_positional (rules_of tool) (arg_by_index (rules_of tool) n) word (at r p n) (holding r p)
+    ≡ at (settled_rows (rules_of tool) p r) (Some (a.id, word ∷ [])) (suc n))
+    × (settled_rows (rules_of tool) (Some (a.id, word ∷ [])) (settled_rows (rules_of tool) p r) ≡ used a (word ∷ []) (settled_rows (rules_of tool) p r))
+    × (settle_fault (rules_of tool) false (holding (settled_rows (rules_of tool) p r) (Some (a.id, word ∷ [])))
+    ≡ or_else (cond (has_row a.id (settled_rows (rules_of tool) p r) && true) (kind.ArgumentConflict ∷ []) []) [])
+
+and_false : (b : Bool) → (b && false) ≡ false
+and_false true = refl
+and_false false = refl
+
+abbrev fault_by : List Rule → List Row → Option (Text × List Text) → Bool → Kinds
+fault_by c r p b = if b then [] else settle_fault c false (holding r p)
+
+abbrev walk_by : List Rule → Rule → List Row → Option (Text × List Text) → ℕ → Text → Bool → Walk
+walk_by c a r p n word b =
+    record { held = pushed a.id word (if b then holding r p else settled c (holding r p)); waiting = idle; position = n; is_trailing = false; stopped = None }
+
+first_turn : (tool : Tool) (r : List Row) (p : Option (Text × List Text)) (word : Text) → FileTurn tool formula_full r p 1 word
+first_turn Drat r p word = (ap (fault_by (rules_of Drat) r p) (and_false (is_pending formula_full p)), ap (walk_by (rules_of Drat) formula_full r p 2 word) (and_false (is_pending formula_full p)), refl, refl)
+first_turn Lrat r p word = (ap (fault_by (rules_of Lrat) r p) (and_false (is_pending formula_full p)), ap (walk_by (rules_of Lrat) formula_full r p 2 word) (and_false (is_pending formula_full p)), refl, refl)
+first_turn Model r p word = (ap (fault_by (rules_of Model) r p) (and_false (is_pending formula_full p)), ap (walk_by (rules_of Model) formula_full r p 2 word) (and_false (is_pending formula_full p)), refl, refl)
+
+second_turn : (tool : Tool) (r : List Row) (p : Option (Text × List Text)) (word : Text) → FileTurn tool second_full r p 2 word
+second_turn Drat r p word = (ap (fault_by (rules_of Drat) r p) (and_false (is_pending second_full p)), ap (walk_by (rules_of Drat) second_full r p 3 word) (and_false (is_pending second_full p)), refl, refl)
+second_turn Lrat r p word = (ap (fault_by (rules_of Lrat) r p) (and_false (is_pending second_full p)), ap (walk_by (rules_of Lrat) second_full r p 3 word) (and_false (is_pending second_full p)), refl, refl)
+second_turn Model r p word = (ap (fault_by (rules_of Model) r p) (and_false (is_pending second_full p)), ap (walk_by (rules_of Model) second_full r p 3 word) (and_false (is_pending second_full p)), refl, refl)
+
+past_one : (k : ℕ) → (1 == suc (suc (suc k))) ≡ false
+past_one k = grind (arith, nat_tests)
+
+past_two : (k : ℕ) → (2 == suc (suc (suc k))) ≡ false
+past_two k = grind (arith, nat_tests)
+
+abbrev stray_by : List Rule → List Row → Option (Text × List Text) → Bool → Bool → Kinds
+stray_by c r p x y =
+    option_map_or (λ a. positional_fault c false a (holding r p)) (cond x (Some formula_full) (cond y (Some second_full) None)) (kind.UnknownArgument ∷ [])
+
+third_turn : (tool : Tool) (r : List Row) (p : Option (Text × List Text)) (k : ℕ) → step_fault (top_of tool) (suc (suc (suc k))) (holding r p) value ≡ kind.UnknownArgument ∷ []
+third_turn Drat r p k = ap₂ (stray_by (rules_of Drat) r p) (past_one k) (past_two k)
+third_turn Lrat r p k = ap₂ (stray_by (rules_of Lrat) r p) (past_one k) (past_two k)
+third_turn Model r p k = ap₂ (stray_by (rules_of Model) r p) (past_one k) (past_two k)
+
+-- the word is a file name, and what is held after it
+record FileMet (tool : Tool) (done : List Text) (r : List Row) (p : Option (Text × List Text)) (ns : List Text) (word : Text) : Type 0 where
+  after : step_fault (top_of tool) (suc (length ns)) (holding r p) value ≡ []
+      → After tool (done ++ word ∷ []) (to_positional (rules_of tool) (arg_by_index (rules_of tool) (suc (length ns))) word (at r p (suc (length ns))) (holding r p))
+  fine : length ns < 2 → step_fault (top_of tool) (suc (length ns)) (holding r p) value ≡ []
+
+module _ (tool : Tool) (done : List Text) (r : List Row) (p : Option (Text × List Text))
+    (settles : settle_fault (rules_of tool) false (holding r p) ≡ []) (word : Text) (flag : is_flag tool word ≡ false) where
+  rowless : (id : Text) (rows : List Row) → row_for id rows ≡ None → has_row id rows ≡ false
+  rowless id rows e = has_row-row_for id rows ∙ ap is_some e
+
+  -- a name that the rule a takes, after the names ns
+  name_taken : (a : Rule) (ns named : List Text) → length named ≡ suc (length ns) → length named ≤ 2 → FileTurn tool a r p (suc (length ns)) word → has_row a.id (settled_rows (rules_of tool) p r) ≡ false
+      → used a (word ∷ []) (settled_rows (rules_of tool) p r) ≡ settled_rows (rules_of tool) p r ++ new_row a (word ∷ []) ∷ []
+      → Shows tool (done ++ word ∷ []) named (settled_rows (rules_of tool) p r ++ new_row a (word ∷ []) ∷ []) → FileMet tool done r p ns word
+  name_taken a ns named grows few turn new grown shows =
+      let rows = settled_rows (rules_of tool) p r in
+      record {
+        after = λ f. record {
+          rows = rows;
+          pending = Some (a.id, word ∷ []);
+          ns = named;
+          few = few;
+          is = turn.1 ∙ ap (λ n. at rows (Some (a.id, word ∷ [])) (suc n)) (sym grows);
+          settles = turn.3 ∙ ap (λ b. or_else (cond (b && true) (kind.ArgumentConflict ∷ []) []) []) new;
+          shows = subst (Shows tool (done ++ word ∷ []) named) (sym (turn.2 ∙ grown)) shows;
+        };
+        fine = λ few. turn.0 ∙ settles;
+      }
+
+  -- what the rows show with its row
+  name_shown : (a : Rule) (ns : List Text) (rows : List Row) → bytes_eq a.id (codes "binary") ≡ false → bytes_eq a.id (codes "trace") ≡ false → bytes_eq a.id (codes "strict") ≡ false → bytes_eq a.id (codes "pr") ≡ false → bytes_eq a.id (codes "keep-units") ≡ false → Shows tool done ns rows
+      → row_for (codes "formula") (rows ++ new_row a (word ∷ []) ∷ []) ≡ file_row formula_full (ns ++ word ∷ []) 0
+      → row_for (codes "second") (rows ++ new_row a (word ∷ []) ∷ []) ≡ file_row second_full (ns ++ word ∷ []) 1
+      → Shows tool (done ++ word ∷ []) (ns ++ word ∷ []) (rows ++ new_row a (word ∷ []) ∷ [])
+  name_shown a ns rows no_binary no_trace no_strict no_pr no_keep_units s formula second = record {
+    said = names_added tool done word flag ∙ ap (λ l. l ++ word ∷ []) s.said;
+    binary = set_by_name tool (codes "binary") done rows _ word no_binary flag s.binary;
+    trace = set_by_name tool (codes "trace") done rows _ word no_trace flag s.trace;
+    strict = set_by_name tool (codes "strict") done rows _ word no_strict flag s.strict;
+    pr = set_by_name tool (codes "pr") done rows _ word no_pr flag s.pr;
+    keep_units = set_by_name tool (codes "keep-units") done rows _ word no_keep_units flag s.keep_units;
+    formula = formula;
+    second = second;
+  }
+
+  first_met : Shows tool done [] (settled_rows (rules_of tool) p r) → FileMet tool done r p [] word
+  first_met s =
+      let rows = settled_rows (rules_of tool) p r in
+      let new : has_row (codes "formula") rows ≡ false = rowless (codes "formula") rows s.formula in
+      name_taken formula_full [] (word ∷ []) refl (omega arith) (first_turn tool r p word) new (used_first formula_full (word ∷ []) rows new)
+      (name_shown formula_full [] rows refl refl refl refl refl s (row_added (codes "formula") rows _ refl s.formula) (row_kept (codes "second") rows _ refl ∙ s.second))
+
+  second_met : (a : Text) → Shows tool done (a ∷ []) (settled_rows (rules_of tool) p r) → FileMet tool done r p (a ∷ []) word
+  second_met a s =
+      let rows = settled_rows (rules_of tool) p r in
+      let new : has_row (codes "second") rows ≡ false = rowless (codes "second") rows s.second in
+      name_taken second_full (a ∷ []) (a ∷ word ∷ []) refl (omega arith) (second_turn tool r p word) new (used_first second_full (word ∷ []) rows new)
+      (name_shown second_full (a ∷ []) rows refl refl refl refl refl s (row_kept (codes "formula") rows _ refl ∙ s.formula) (row_added (codes "second") rows _ refl s.second))
+
+  file_met : (ns : List Text) → Shows tool done ns (settled_rows (rules_of tool) p r) → FileMet tool done r p ns word
+  file_met [] s = first_met s
+  file_met (a ∷ []) s = second_met a s
+  file_met (a ∷ b ∷ ns) s = record {
+    after = λ f. absurd (cons_not_nil _ _ (sym (third_turn tool r p (length ns)) ∙ f));
+    fine = λ few. absurd (omega arith);
+  }
+
+-- ---- one word
+
+abbrev pub end_mark : Text
+end_mark = codes "--"
+
+-- a word that the walk does not refuse leaves it after that word
+step_at : (tool : Tool) (done : List Text) (r : List Row) (p : Option (Text × List Text)) (ns : List Text) → length ns ≤ 2 → settle_fault (rules_of tool) false (holding r p) ≡ []
+    → Shows tool done ns (settled_rows (rules_of tool) p r) → (word : Text) → bytes_eq word end_mark ≡ false
+    → turn_fault (top_of tool) [] (at r p (suc (length ns))) word ≡ []
+    → After tool (done ++ word ∷ []) (walked (rules_of tool) [] (at r p (suc (length ns))) word)
+step_at tool done r p ns few settles shows word mark f = go (is_flag tool word) refl
+  where
+    go : (b : Bool) → is_flag tool word ≡ b → After tool (done ++ word ∷ []) (walked (rules_of tool) [] (at r p (suc (length ns))) word)
+    go true flag = (flag_met tool done r p ns few settles shows word flag).after f
+    go false flag = ⊎_elim
+        (λ taken. subst (After tool (done ++ word ∷ [])) (sym taken.1) ((file_met tool done r p settles word flag ns shows).after (sym taken.0 ∙ f)))
+        (λ refused. absurd (refused f))
+        (name_met tool r p (suc (length ns)) word flag mark settles)
+
+pub step_after : (tool : Tool) (done : List Text) (w : Walk) → After tool done w → (word : Text) → bytes_eq word end_mark ≡ false
+    → turn_fault (top_of tool) [] w word ≡ [] → After tool (done ++ word ∷ []) (walked (rules_of tool) [] w word)
+step_after tool done w a word mark f =
+    let g = ap (λ v. turn_fault (top_of tool) [] v word) (sym a.is) ∙ f in
+    subst (λ v. After tool (done ++ word ∷ []) (walked (rules_of tool) [] v word)) (sym a.is)
+    (step_at tool done a.rows a.pending a.ns a.few a.settles a.shows word mark g)
+
+-- a flag that was not there, and a word that begins with no hyphen where there is room for a name, are not refused
+pub flag_passes : (tool : Tool) (done : List Text) (w : Walk) → After tool done w → (word : Text) → is_flag tool word ≡ true → is_among done word ≡ false
+    → turn_fault (top_of tool) [] w word ≡ []
+flag_passes tool done w a word flag none =
+    ap (λ v. turn_fault (top_of tool) [] v word) a.is ∙ (flag_met tool done a.rows a.pending a.ns a.few a.settles a.shows word flag).fine none
+
+pub name_passes : (tool : Tool) (done : List Text) (w : Walk) → After tool done w → (x : ℕ) (xs : Text) → is_flag tool (x ∷ xs) ≡ false → (x == 45) ≡ false
+    → length (names tool done) < 2 → turn_fault (top_of tool) [] w (x ∷ xs) ≡ []
+name_passes tool done w a x xs flag plain few =
+    let room : length a.ns < 2 = subst (λ (l : List Text). length l < 2) a.shows.said few in
+    ap (λ v. turn_fault (top_of tool) [] v (x ∷ xs)) a.is
+    ∙ ((plain_taken (rules_of tool) (name_of tool) a.rows a.pending (suc (length a.ns)) x xs plain).0
+    ∙ (file_met tool done a.rows a.pending a.settles (x ∷ xs) flag a.ns a.shows).fine room)
+
+-- ---- all the words
+
+pub tail_free : (word : Text) (words : List Text) → is_among (word ∷ words) end_mark ≡ false → (bytes_eq word end_mark ≡ false) × (is_among words end_mark ≡ false)
+tail_free word words e = go (bytes_eq end_mark word) refl e
+  where
+    go : (b : Bool) → bytes_eq end_mark word ≡ b → (b || is_among words end_mark) ≡ false → (bytes_eq word end_mark ≡ false) × (is_among words end_mark ≡ false)
+    go true same e = absurd (true≢false e)
+    go false same e = (bytes_eq_sym word end_mark ∙ same, e)
+
+pub words_after : (tool : Tool) (words done : List Text) (w : Walk) → After tool done w → is_among words end_mark ≡ false → walk_fault (top_of tool) [] w words ≡ []
+    → After tool (done ++ words) (fold (walked (rules_of tool) []) w words)
+unfolding walk_fault
+words_after tool [] done w a free f = subst (λ l. After tool l w) (sym (append-nil done)) a
+words_after tool (word ∷ words) done w a free f =
+    let both = or_nil (turn_fault (top_of tool) [] w word) _ f in
+    let apart = tail_free word words free in
+    subst (λ l. After tool l (fold (walked (rules_of tool) []) (walked (rules_of tool) [] w word) words)) (append_assoc done (word ∷ []) words)
+    (words_after tool words (done ++ word ∷ []) (walked (rules_of tool) [] w word) (step_after tool done w a word apart.0 both.0) apart.1 both.1)
+
+pub start_after : (tool : Tool) → After tool [] (at [] None 1)
+start_after tool = record {
+  rows = [];
+  pending = None;
+  ns = [];
+  few = omega arith;
+  is = refl;
+  settles = refl;
+  shows = record {
+    said = refl;
+    binary = sym (unset tool (codes "binary"));
+    trace = sym (unset tool (codes "trace"));
+    strict = sym (unset tool (codes "strict"));
+    pr = sym (unset tool (codes "pr"));
+    keep_units = sym (unset tool (codes "keep-units"));
+    formula = refl;
+    second = refl;
+  };
+}
+  where
+    unset : (tool : Tool) (name : Text) → set_row tool name [] ≡ None
+    unset tool name = go (is_flag tool (45 ∷ 45 ∷ name))
+      where
+        go : (b : Bool) → cond (b && false) (Some (flag_row name)) None ≡ None
+        go true = refl
+        go false = refl

@@ -1,0 +1,296 @@
+-- What `clap`'s walk makes of one word, and when it refuses the word.
+use Rattle.std.proofs.Common.{◌≡◌, ◌∙◌, ap, ap₂, sym, subst, refl, codes, List, [], ◌∷◌, Bool, true}
+use Rattle.std.proofs.Common.{false, Option, Some, None, ℕ, cond, suc, true≢false, inl, inr, ◌⊎◌}
+use Rattle.std.proofs.Common.{arith, length}
+use Rattle.std.specs.Prelude.{◌==◌, ◌&&◌, ◌||◌, is_some, not, if◌then◌else◌, slice_get, take, ◌+◌}
+use Rattle.std.specs.Str.{bytes_eq, chars}
+use Rattle.std.specs.List.{before_first, prefix_len}
+use Rattle.std.specs.Option.{option_map_or}
+use Rattle.std.proofs.lemmas.Bool.Decides.{nat_tests}
+use Rattle.std.proofs.lemmas.Slice.Eq.{bytes_eq-Decides}
+use Rattle.clap.specs.Lexer.{has_byte, long_of, short_of}
+use Rattle.clap.specs.Faults.{bundle_fault, bundle_step_fault, flag_word_fault, flags_fault}
+use Rattle.clap.specs.Faults.{long_fault, react_fault, settle_fault, short_fault, step_fault}
+use Rattle.clap.specs.Faults.{turn_fault}
+use Rattle.clap.specs.Kinds.{Kinds, or_else}
+use Rattle.clap.specs.Walk.{Held, Outcome, Row, Rule, Step, Text, Walk, after_flag, after_step}
+use Rattle.clap.specs.Walk.{arg_by_index, arg_by_long, arg_by_short, bundle_met, bundle_step, idle}
+use Rattle.clap.specs.Walk.{long_or_other, plain, reacted, short_or_plain, to_positional, trailing}
+use Rattle.clap.specs.Walk.{value, walked}
+use Rattle.clap.specs.declared.error.kind.ErrorKind.{ErrorKind}
+use Rattle.command_line.proofs.CommandLineLemmas.Rules.{flag_full, help_full, name_of, rules_of}
+use Rattle.command_line.proofs.CommandLineLemmas.Rules.{shape, top_of, version_full}
+use Rattle.command_line.specs.Words.{is_flag}
+use Rattle.command_line.specs.declared.tool.Tool.{Tool}
+use Rattle.command_line.specs.declared.tool.Tool.TheVariants.{Drat, Lrat, Model}
+
+-- what is held between two words
+abbrev pub holding : List Row → Option (Text × List Text) → Held
+holding r p = record { rows = r; pending = p; skip = 0 }
+
+-- the walk between two words, at a position
+abbrev pub at : List Row → Option (Text × List Text) → ℕ → Walk
+at r p n = record { held = holding r p; waiting = idle; position = n; is_trailing = false; stopped = None }
+
+-- ---- lists of kinds
+
+pub or_nil : (a b : Kinds) → or_else a b ≡ [] → (a ≡ []) × (b ≡ [])
+or_nil [] b e = (refl, e)
+or_nil (k ∷ ks) b e = absurd (true≢false (ap is_cons e))
+  where
+    is_cons : Kinds → Bool
+    is_cons [] = false
+    is_cons (x ∷ xs) = true
+
+pub cons_not_nil : (k : ErrorKind) (ks : Kinds) → k ∷ ks ≡ [] → ⊥
+cons_not_nil k ks e = true≢false (ap is_cons e)
+  where
+    is_cons : Kinds → Bool
+    is_cons [] = false
+    is_cons (x ∷ xs) = true
+
+pub nat_eq_same : (x y : ℕ) → (x == y) ≡ true → x ≡ y
+nat_eq_same x y e = grind (arith, nat_tests)
+
+-- ---- the name before a `=`
+
+whole : (t : Text) → has_byte 61 t ≡ false → before_first (λ x. x == 61) t ≡ t
+whole [] e = refl
+whole (x ∷ xs) e = go (x == 61) refl e (whole xs)
+  where
+    go : (b : Bool) → (x == 61) ≡ b → (b || has_byte 61 xs) ≡ false → (has_byte 61 xs ≡ false → before_first (λ x. x == 61) xs ≡ xs)
+        → before_first (λ x. x == 61) (x ∷ xs) ≡ x ∷ xs
+    go true t e rest = absurd (true≢false e)
+    go false t e rest =
+        let one : 1 + prefix_len (λ x. not (x == 61)) xs ≡ suc (prefix_len (λ x. not (x == 61)) xs) = omega arith in
+        rw t (ap (λ k. take k (x ∷ xs)) one ∙ ap (λ l. x ∷ l) (rest e))
+
+no_mark : (b : Bool) (v : Text) → (if b then Some v else None) ≡ None → b ≡ false
+no_mark false v e = refl
+no_mark true v e = absurd (true≢false (ap is_some e))
+
+-- what a letter after one hyphen names: nothing, or a flag that asks for a text
+abbrev pub IsShort : Option Rule → Type 0
+IsShort o = (o ≡ None) ⊎ ((o ≡ Some help_full) ⊎ (o ≡ Some version_full))
+
+-- ---- a word that is taken as a name
+
+module _ (c : List Rule) (name : Text) (r : List Row) (p : Option (Text × List Text)) (n : ℕ) where
+  abbrev Taken : Text → Type 0
+  Taken word = (turn_fault (shape name c) [] (at r p n) word ≡ step_fault (shape name c) n (holding r p) value)
+      × (walked c [] (at r p n) word ≡ to_positional c (arg_by_index c n) word (at r p n) (holding r p))
+
+  -- by the tests that the walk makes of the word
+  met_by : Text → Bool → Option (Text × Option Text) → Held × Step
+  met_by word b l = if b then (holding r p, trailing n) else long_or_other c idle word l (holding r p)
+
+  -- neither `--`, nor a long flag
+  short_fault_is : (word : Text) → bytes_eq word (45 ∷ 45 ∷ []) ≡ false → long_of word ≡ None → (s : Option Text) → short_of word ≡ s
+      → turn_fault (shape name c) [] (at r p n) word
+      ≡ or_else (option_map_or (λ flags. bundle_fault c false flags (holding r p)) s [])
+      (step_fault (shape name c) n (short_or_plain c idle word s (holding r p)).0 (short_or_plain c idle word s (holding r p)).1)
+  short_fault_is word b l s e =
+      ap₂ (λ (b : Bool) (l : Option (Text × Option Text)).
+      or_else (if b then [] else flag_word_fault c false l word (holding r p))
+      (step_fault (shape name c) n (if b then (holding r p, trailing n) else long_or_other c idle word l (holding r p)).0
+      (if b then (holding r p, trailing n) else long_or_other c idle word l (holding r p)).1)) b l
+      ∙ ap (λ (s : Option Text). or_else (option_map_or (λ flags. bundle_fault c false flags (holding r p)) s [])
+      (step_fault (shape name c) n (short_or_plain c idle word s (holding r p)).0 (short_or_plain c idle word s (holding r p)).1)) e
+
+  short_walk_is : (word : Text) → bytes_eq word (45 ∷ 45 ∷ []) ≡ false → long_of word ≡ None → (s : Option Text) → short_of word ≡ s
+      → walked c [] (at r p n) word
+      ≡ after_step c word (at r p n) (short_or_plain c idle word s (holding r p)).0 (short_or_plain c idle word s (holding r p)).1
+  unfolding walked
+  short_walk_is word b l s e =
+      ap₂ (λ (b : Bool) (l : Option (Text × Option Text)).
+      after_step c word (at r p n) (if b then (holding r p, trailing n) else long_or_other c idle word l (holding r p)).0
+      (if b then (holding r p, trailing n) else long_or_other c idle word l (holding r p)).1) b l
+      ∙ ap (λ (s : Option Text). after_step c word (at r p n) (short_or_plain c idle word s (holding r p)).0 (short_or_plain c idle word s (holding r p)).1) e
+
+  plain_word_taken : (word : Text) → bytes_eq word (45 ∷ 45 ∷ []) ≡ false → long_of word ≡ None → short_of word ≡ None → Taken word
+  plain_word_taken word b l s = (short_fault_is word b l None s, short_walk_is word b l None s)
+
+  pub empty_taken : Taken []
+  empty_taken = plain_word_taken [] refl refl refl
+
+  pub plain_taken : (x : ℕ) (xs : Text) → (x == 45) ≡ false → Taken (x ∷ xs)
+  plain_taken x xs e =
+      plain_word_taken (x ∷ xs) (ap (λ b. b && bytes_eq xs (45 ∷ [])) e) (rw e refl) (rw e refl)
+
+  pub hyphen_taken : Taken (45 ∷ [])
+  hyphen_taken = plain_word_taken (45 ∷ []) refl refl refl
+
+  -- ---- a word that begins with one hyphen
+
+  module _ (y : ℕ) (ys : Text) (e : (y == 45) ≡ false) where
+    no_end : bytes_eq (45 ∷ y ∷ ys) (45 ∷ 45 ∷ []) ≡ false
+    no_end = ap (λ b. b && bytes_eq ys []) e
+
+    no_long : long_of (45 ∷ y ∷ ys) ≡ None
+    no_long = rw e refl
+
+    some_short : short_of (45 ∷ y ∷ ys) ≡ Some (y ∷ ys)
+    some_short = rw e refl
+
+    bundle_none : slice_get (chars (y ∷ ys)) 0 ≡ None → bundle_fault c false (y ∷ ys) (holding r p) ≡ []
+    unfolding flags_fault
+    bundle_none first = ap (λ o. bundle_step_fault c false o (y ∷ ys) 0 (holding r p) (flags_fault c false (length ys))) first
+
+    bundle_is : (o : Option ℕ) → slice_get (chars (y ∷ ys)) 0 ≡ o
+        → bundle_fault c false (y ∷ ys) (holding r p) ≡ bundle_step_fault c false o (y ∷ ys) 0 (holding r p) (flags_fault c false (length ys))
+    unfolding flags_fault
+    bundle_is o first = ap (λ o. bundle_step_fault c false o (y ∷ ys) 0 (holding r p) (flags_fault c false (length ys))) first
+
+    met_none : slice_get (chars (y ∷ ys)) 0 ≡ None → bundle_met c (length (y ∷ ys)) (y ∷ ys) 0 plain (holding r p) ≡ (holding r p, plain)
+    unfolding bundle_met
+    met_none first = ap (λ o. bundle_step c o (y ∷ ys) 0 plain (holding r p) (bundle_met c (length ys))) first
+
+    taken_at : (m : Held × Outcome) → bundle_met c (length (y ∷ ys)) (y ∷ ys) 0 plain (holding r p) ≡ m
+        → short_or_plain c idle (45 ∷ y ∷ ys) (Some (y ∷ ys)) (holding r p) ≡ after_flag c idle (45 ∷ y ∷ ys) m.0 m.1
+    taken_at m same = ap (λ m. after_flag c idle (45 ∷ y ∷ ys) m.0 m.1) same
+
+    no_char_taken : slice_get (chars (y ∷ ys)) 0 ≡ None → Taken (45 ∷ y ∷ ys)
+    no_char_taken first =
+        let step : short_or_plain c idle (45 ∷ y ∷ ys) (Some (y ∷ ys)) (holding r p) ≡ (holding r p, value) = taken_at (holding r p, plain) (met_none first) in (
+          short_fault_is (45 ∷ y ∷ ys) no_end no_long (Some (y ∷ ys)) some_short
+              ∙ ap₂ (λ (k : Kinds) (m : Held × Step). or_else k (step_fault (shape name c) n m.0 m.1)) (bundle_none first) step,
+          short_walk_is (45 ∷ y ∷ ys) no_end no_long (Some (y ∷ ys)) some_short
+              ∙ ap (λ (m : Held × Step). after_step c (45 ∷ y ∷ ys) (at r p n) m.0 m.1) step,
+        )
+
+    -- a character names no flag, or asks for a text
+    char_refused : (o : Option Rule) → IsShort o → (rest : Text) (next : Held → Kinds)
+        → settle_fault c false (holding r p) ≡ [] → short_fault c false o rest (holding r p) next ≡ [] → ⊥
+    char_refused o (inl none) rest next s f = cons_not_nil _ _ (rw none at f)
+    char_refused o (inr (inl help)) rest next s f =
+        let g : or_else (react_fault c false help_full [] (holding r p)) (next (reacted c help_full [] (holding r p))) ≡ [] = rw help at f in
+        cons_not_nil _ _ (or_nil _ _ (or_nil _ _ g).0).1
+    char_refused o (inr (inr version)) rest next s f =
+        let g : or_else (react_fault c false version_full [] (holding r p)) (next (reacted c version_full [] (holding r p))) ≡ [] = rw version at f in
+        cons_not_nil _ _ (or_nil _ _ (or_nil _ _ g).0).1
+
+    pub short_refused : ((x : ℕ) → IsShort (arg_by_short c x)) → settle_fault c false (holding r p) ≡ []
+        → (x : ℕ) → slice_get (chars (y ∷ ys)) 0 ≡ Some x → turn_fault (shape name c) [] (at r p n) (45 ∷ y ∷ ys) ≡ [] → ⊥
+    short_refused shorts s x first f =
+        let g = sym (short_fault_is (45 ∷ y ∷ ys) no_end no_long (Some (y ∷ ys)) some_short) ∙ f in
+        let k = sym (bundle_is (Some x) first) ∙ (or_nil _ _ g).0 in
+        char_refused (arg_by_short c x) (shorts x) _ _ s k
+
+    pub short_met : ((x : ℕ) → IsShort (arg_by_short c x)) → settle_fault c false (holding r p) ≡ []
+        → Taken (45 ∷ y ∷ ys) ⊎ (turn_fault (shape name c) [] (at r p n) (45 ∷ y ∷ ys) ≡ [] → ⊥)
+    short_met shorts s = go (slice_get (chars (y ∷ ys)) 0) refl
+      where
+        go : (o : Option ℕ) → slice_get (chars (y ∷ ys)) 0 ≡ o → Taken (45 ∷ y ∷ ys) ⊎ (turn_fault (shape name c) [] (at r p n) (45 ∷ y ∷ ys) ≡ [] → ⊥)
+        go None first = inl (no_char_taken first)
+        go (Some x) first = inr (short_refused shorts s x first)
+
+  -- ---- a word that begins with two
+
+  -- a long name is a flag of the tool, asks for a text, or is unknown
+  abbrev IsLong : (Text → Type 0) → Text → Option Rule → Type 0
+  IsLong P name o = (o ≡ None) ⊎ (((o ≡ Some help_full) ⊎ (o ≡ Some version_full)) ⊎ ((f : Text) × (o ≡ Some (flag_full f)) × (f ≡ name) × P f))
+
+  long_refused : (P : Text → Type 0) (name : Text) (o : Option Rule) → IsLong P name o → (v : Option Text) → settle_fault c false (holding r p) ≡ []
+      → (v ≡ None → P name → ⊥) → long_fault c false o v (holding r p) ≡ [] → ⊥
+  long_refused P name o (inl none) v s refuted f = cons_not_nil _ _ (rw none at f)
+  long_refused P name o (inr (inl (inl help))) None s refuted f =
+      let g : react_fault c false help_full [] (holding r p) ≡ [] = rw help at f in
+      cons_not_nil _ _ (or_nil _ _ g).1
+  long_refused P name o (inr (inl (inl help))) (Some v) s refuted f = cons_not_nil _ _ (rw help at f)
+  long_refused P name o (inr (inl (inr version))) None s refuted f =
+      let g : react_fault c false version_full [] (holding r p) ≡ [] = rw version at f in
+      cons_not_nil _ _ (or_nil _ _ g).1
+  long_refused P name o (inr (inl (inr version))) (Some v) s refuted f = cons_not_nil _ _ (rw version at f)
+  long_refused P name o (inr (inr flag)) None s refuted f = refuted refl (subst P flag.2 flag.3)
+  long_refused P name o (inr (inr flag)) (Some v) s refuted f = cons_not_nil _ _ (rw flag.1 at f)
+
+  pub long_met : (P : Text → Type 0) → ((name : Text) → IsLong P name (arg_by_long c name)) → (z : ℕ) (zs : Text) → (P (z ∷ zs) → ⊥)
+      → settle_fault c false (holding r p) ≡ [] → turn_fault (shape name c) [] (at r p n) (45 ∷ 45 ∷ z ∷ zs) ≡ [] → ⊥
+  long_met P longs z zs refuted s f =
+      long_refused P _ _ (longs _) _ s
+      (λ none has. refuted (subst P (whole (z ∷ zs) (no_mark _ _ none)) has))
+      (or_nil _ _ f).0
+
+-- ---- the three tools
+
+pub shorts_of : (tool : Tool) (x : ℕ) → IsShort (arg_by_short (rules_of tool) x)
+shorts_of tool x = elim tool as (λ t. IsShort (arg_by_short (rules_of t) x)) [
+  | Drat ↦ go (104 == x || false) (86 == x || false)
+  | Lrat ↦ go (104 == x || false) (86 == x || false)
+  | Model ↦ go (104 == x || false) (86 == x || false)
+]
+  where
+    go : (help version : Bool) → IsShort (cond help (Some help_full) (cond version (Some version_full) None))
+    go true version = inr (inl refl)
+    go false true = inr (inr refl)
+    go false false = inl refl
+
+-- the name of a flag of the tool
+abbrev pub IsName : Tool → Text → Type 0
+IsName tool name = is_flag tool (45 ∷ 45 ∷ name) ≡ true
+
+same_text : (a b : Text) → bytes_eq a b ≡ true → a ≡ b
+same_text a b e = (bytes_eq-Decides a b).0 e
+
+module _ (tool : Tool) (name : Text) where
+  text_or_none : (help version : Bool) → IsLong [] [] [] None 0 (IsName tool) name (cond help (Some help_full) (cond version (Some version_full) None))
+  text_or_none true version = inr (inl (inl refl))
+  text_or_none false true = inr (inl (inr refl))
+  text_or_none false false = inl refl
+
+  flag_or : (f : Text) → IsName tool f → (b : Bool) → (bytes_eq f name || false) ≡ b → (o : Option Rule) → IsLong [] [] [] None 0 (IsName tool) name o
+      → IsLong [] [] [] None 0 (IsName tool) name (cond b (Some (flag_full f)) o)
+  flag_or f has true e o rest = inr (inr (f, refl, same_text f name (or_true (bytes_eq f name) e), has))
+    where
+      or_true : (b : Bool) → (b || false) ≡ true → b ≡ true
+      or_true true e = refl
+      or_true false e = e
+  flag_or f has false e o rest = rest
+
+pub longs_of : (tool : Tool) (name : Text) → IsLong [] [] [] None 0 (IsName tool) name (arg_by_long (rules_of tool) name)
+longs_of Drat name =
+    flag_or Drat name (codes "binary") refl _ refl _
+    (flag_or Drat name (codes "trace") refl _ refl _
+    (flag_or Drat name (codes "strict") refl _ refl _
+    (flag_or Drat name (codes "pr") refl _ refl _
+    (flag_or Drat name (codes "keep-units") refl _ refl _
+    (text_or_none Drat name (bytes_eq (codes "help") name || false) (bytes_eq (codes "version") name || false))))))
+longs_of Lrat name = flag_or Lrat name (codes "trace") refl _ refl _ (text_or_none Lrat name (bytes_eq (codes "help") name || false) (bytes_eq (codes "version") name || false))
+longs_of Model name = text_or_none Model name (bytes_eq (codes "help") name || false) (bytes_eq (codes "version") name || false)
+
+-- the walk takes the word for a name
+abbrev pub IsTaken : Tool → List Row → Option (Text × List Text) → ℕ → Text → Type 0
+IsTaken tool r p n word = (turn_fault (top_of tool) [] (at r p n) word ≡ step_fault (top_of tool) n (holding r p) value)
+    × (walked (rules_of tool) [] (at r p n) word ≡ to_positional (rules_of tool) (arg_by_index (rules_of tool) n) word (at r p n) (holding r p))
+
+-- a word that is no flag is taken for a name, or refused
+pub name_met : (tool : Tool) (r : List Row) (p : Option (Text × List Text)) (n : ℕ) (word : Text) → is_flag tool word ≡ false → bytes_eq word (codes "--") ≡ false
+    → settle_fault (rules_of tool) false (holding r p) ≡ []
+    → IsTaken tool r p n word ⊎ (turn_fault (top_of tool) [] (at r p n) word ≡ [] → ⊥)
+name_met tool r p n [] flag mark s = inl (empty_taken (rules_of tool) (name_of tool) r p n)
+name_met tool r p n (x ∷ xs) flag mark s = go (x == 45) refl xs flag mark
+  where
+    second : (y : ℕ) (ys : Text) → is_flag tool (45 ∷ y ∷ ys) ≡ false → bytes_eq (45 ∷ y ∷ ys) (codes "--") ≡ false → (b : Bool) → (y == 45) ≡ b
+        → IsTaken tool r p n (45 ∷ y ∷ ys) ⊎ (turn_fault (top_of tool) [] (at r p n) (45 ∷ y ∷ ys) ≡ [] → ⊥)
+    second y ys flag mark false e = short_met (rules_of tool) (name_of tool) r p n y ys e (shorts_of tool) s
+    second y ys flag mark true e = third ys (subst (λ k. is_flag tool (45 ∷ k ∷ ys) ≡ false) is flag) (subst (λ k. bytes_eq (45 ∷ k ∷ ys) (codes "--") ≡ false) is mark)
+      where
+        is : y ≡ 45
+        is = nat_eq_same y 45 e
+
+        third : (ys : Text) → is_flag tool (45 ∷ 45 ∷ ys) ≡ false → bytes_eq (45 ∷ 45 ∷ ys) (codes "--") ≡ false
+            → IsTaken tool r p n (45 ∷ y ∷ ys) ⊎ (turn_fault (top_of tool) [] (at r p n) (45 ∷ y ∷ ys) ≡ [] → ⊥)
+        third [] flag mark = absurd (true≢false mark)
+        third (z ∷ zs) flag mark =
+            subst (λ k. IsTaken tool r p n (45 ∷ k ∷ z ∷ zs) ⊎ (turn_fault (top_of tool) [] (at r p n) (45 ∷ k ∷ z ∷ zs) ≡ [] → ⊥)) (sym is)
+            (inr (long_met (rules_of tool) (name_of tool) r p n (IsName tool) (longs_of tool) z zs (λ has. true≢false (sym has ∙ flag)) s))
+
+    go : (b : Bool) → (x == 45) ≡ b → (xs : Text) → is_flag tool (x ∷ xs) ≡ false → bytes_eq (x ∷ xs) (codes "--") ≡ false
+        → IsTaken tool r p n (x ∷ xs) ⊎ (turn_fault (top_of tool) [] (at r p n) (x ∷ xs) ≡ [] → ⊥)
+    go false e xs flag mark = inl (plain_taken (rules_of tool) (name_of tool) r p n x xs e)
+    go true e [] flag mark = subst (λ k. IsTaken tool r p n (k ∷ []) ⊎ (turn_fault (top_of tool) [] (at r p n) (k ∷ []) ≡ [] → ⊥)) (sym (nat_eq_same x 45 e))
+        (inl (hyphen_taken (rules_of tool) (name_of tool) r p n))
+    go true e (y ∷ ys) flag mark =
+        let is = nat_eq_same x 45 e in
+        subst (λ k. IsTaken tool r p n (k ∷ y ∷ ys) ⊎ (turn_fault (top_of tool) [] (at r p n) (k ∷ y ∷ ys) ≡ [] → ⊥)) (sym is)
+        (second y ys (subst (λ k. is_flag tool (k ∷ y ∷ ys) ≡ false) is flag) (subst (λ k. bytes_eq (k ∷ y ∷ ys) (codes "--") ≡ false) is mark) (y == 45) refl)

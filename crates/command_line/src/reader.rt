@@ -1,0 +1,189 @@
+//! The reader of the words.
+
+ghost use Rattle.std.specs.Prelude.{◌≡◌, ◌≤◌, ◌||◌, Some, codes, false, length, option_map};
+ghost use Rattle.std.specs.Prelude.{string_bytes, true};
+ghost use Rattle.std.specs.Prelude.{IfErr, IfOk};
+ghost use Rattle.std.specs.List.{list_all};
+ghost use Rattle.clap.specs.Words.{app_of, rule_of, kind_of};
+ghost use Rattle.command_line.specs.Code.Commands.{command_of, flag_rule, formula_rule};
+ghost use Rattle.command_line.specs.Code.Commands.{new_command, second_rule, with_files};
+ghost use Rattle.command_line.specs.Words.{Accepts, args, end_mark, is_among, is_empty_word};
+ghost use Rattle.command_line.specs.Words.{is_known, is_some_empty, names, said_by};
+
+use crate::version::VERSION;
+use crate::{Args, ArgsFault, Tool};
+use clap::error::ErrorKind;
+use clap::{Arg, ArgAction, Command, Error};
+use std::alloc::{AllocError, Global};
+
+/// What is shown of a proof that may be named.
+const PROOF: &str = "The proof (standard input if absent)";
+
+/// What is shown of a solver's output that may be named.
+const OUTPUT: &str = "The solver's output (standard input if absent)";
+
+/// The flag `--name`.
+fn flag<'a>(alloc: Global, name: &'a str, help: &'a str) -> Arg<'a>
+    ensures rule { rule_of result ≡ flag_rule name.entry.now }
+    ensures local { result.global ≡ false }
+{
+    Arg::new(alloc, name)
+        .long(name)
+        .action(ArgAction::SetTrue)
+        .help(help)
+}
+
+fn trace<'a>(alloc: Global) -> Arg<'a>
+    ensures rule { rule_of result ≡ flag_rule (codes "trace") }
+    ensures local { result.global ≡ false }
+{
+    flag(alloc, "trace", "Show each step as it is checked")
+}
+
+/// The file that must be named.
+fn formula<'a>(alloc: Global) -> Arg<'a>
+    ensures rule { rule_of result ≡ formula_rule }
+    ensures local { result.global ≡ false }
+{
+    Arg::new(alloc, "formula")
+        .value_name("FORMULA")
+        .action(ArgAction::Set)
+        .required(true)
+        .help("The formula, in DIMACS CNF")
+}
+
+/// The file that may be named.
+fn second<'a>(alloc: Global, name: &'a str, help: &'a str) -> Arg<'a>
+    ensures rule { rule_of result ≡ second_rule }
+    ensures local { result.global ≡ false }
+{
+    Arg::new(alloc, "second")
+        .value_name(name)
+        .action(ArgAction::Set)
+        .help(help)
+}
+
+/// A command without arguments, which shows its version where that is asked for.
+fn new_command<'a>(alloc: Global, name: &'a str) -> Command<'a>
+    ensures { app_of result ≡ new_command name.entry.now }
+{
+    Command::new(alloc, name).version(VERSION)
+}
+
+/// The command with the file that must be named and the one that may be.
+fn with_files<'a>(
+    alloc: Global,
+    command: Command<'a>,
+    name: &'a str,
+    help: &'a str,
+) -> Result<Command<'a>, AllocError>
+    ensures { IfOk result (λ c. app_of c ≡ with_files (app_of command.entry)) }
+{
+    command.arg(formula(alloc))?.arg(second(alloc, name, help))
+}
+
+/// The command line of the tool, as `clap` reads it.
+fn command<'a>(alloc: Global, tool: Tool) -> Result<Command<'a>, AllocError>
+    ensures { IfOk result (λ command. app_of command ≡ command_of tool) }
+{
+    match tool {
+        Tool::Drat => {
+            let binary = flag(alloc, "binary", "Read the proof in the binary form");
+            let strict = "Refuse a deletion of a clause that is not alive";
+            let pr = "Take additions that list a set, by propagation redundancy";
+            let keep_units = "Ignore deletions of clauses that make a literal hold for good";
+            let drat = new_command(alloc, "drat-forward")
+                .arg(binary)?
+                .arg(trace(alloc))?
+                .arg(flag(alloc, "strict", strict))?
+                .arg(flag(alloc, "pr", pr))?
+                .arg(flag(alloc, "keep-units", keep_units))?;
+            with_files(alloc, drat, "PROOF", PROOF)
+        }
+        Tool::Lrat => {
+            let lrat = new_command(alloc, "lrat-check").arg(trace(alloc))?;
+            with_files(alloc, lrat, "PROOF", PROOF)
+        }
+        Tool::Model => with_files(alloc, new_command(alloc, "model-check"), "OUTPUT", OUTPUT),
+    }
+}
+
+/// The refusal that shows the text.
+fn refusal(text: Result<String, AllocError>) -> ArgsFault {
+    match text {
+        Ok(text) => ArgsFault::Words(text),
+        Err(_) => ArgsFault::OutOfMemory,
+    }
+}
+
+/// What to show of an error of `clap`: its text, which is the help or the version where that was asked for.
+fn fault_from(alloc: Global, error: &Error) -> ArgsFault
+    ensures { kind_of error.now ≡ ErrorKind.OutOfMemory → result ≡ ArgsFault.OutOfMemory }
+{
+    match error.kind() {
+        ErrorKind::OutOfMemory => ArgsFault::OutOfMemory,
+        _ => refusal(format!(in alloc; "{error}")),
+    }
+}
+
+/// Whether a name has no letter.
+fn is_any_empty(formula: &String, second: &Option<String>) -> bool
+    ensures { result ≡ (is_empty_word (string_bytes formula.now) || is_some_empty second.now) }
+{
+    match second {
+        Some(name) => formula.is_empty() || name.is_empty(),
+        None => formula.is_empty(),
+    }
+}
+
+/// Reads the words of the tool's command line, which begin with the program's name.
+pub fn read_args(alloc: Global, tool: Tool, words: &[String]) -> Result<Args, ArgsFault>
+    ensures binary { IfOk result (λ a. is_among (said_by words.now) end_mark ≡ false
+        → a.binary ≡ (args tool (said_by words.now)).binary) }
+    ensures trace { IfOk result (λ a. is_among (said_by words.now) end_mark ≡ false
+        → a.trace ≡ (args tool (said_by words.now)).trace) }
+    ensures strict { IfOk result (λ a. is_among (said_by words.now) end_mark ≡ false
+        → a.strict ≡ (args tool (said_by words.now)).strict) }
+    ensures pr { IfOk result (λ a. is_among (said_by words.now) end_mark ≡ false
+        → a.pr ≡ (args tool (said_by words.now)).pr) }
+    ensures keep_units { IfOk result (λ a. is_among (said_by words.now) end_mark ≡ false
+        → a.keep_units ≡ (args tool (said_by words.now)).keep_units) }
+    ensures formula { IfOk result (λ a. is_among (said_by words.now) end_mark ≡ false
+        → Some (string_bytes a.formula) ≡ (args tool (said_by words.now)).formula) }
+    ensures second { IfOk result (λ a. is_among (said_by words.now) end_mark ≡ false
+        → option_map string_bytes a.second ≡ (args tool (said_by words.now)).second) }
+    ensures names { IfOk result (λ a. is_among (said_by words.now) end_mark ≡ false
+        → length (names tool (said_by words.now)) ≤ 2) }
+    ensures hyphens { IfOk result (λ a. is_among (said_by words.now) end_mark ≡ false
+        → list_all (is_known tool) (said_by words.now) ≡ true) }
+    ensures full { IfOk result (λ a.
+        (is_empty_word (string_bytes a.formula) || is_some_empty a.second) ≡ false) }
+    ensures accepts { IfErr result (λ e. Accepts tool (said_by words.now)
+        → e ≡ ArgsFault.OutOfMemory) }
+{
+    let command = command(alloc, tool)?;
+    let matches = match command.try_get_matches_from(words) {
+        Ok(matches) => matches,
+        Err(error) => return Err(fault_from(alloc, &error)),
+    };
+    let Some(formula) = matches.get_str("formula") else {
+        return Err(refusal("error: the formula is not named\n".to_string(alloc)));
+    };
+    let formula = formula.to_string(alloc)?;
+    let second = match matches.get_str("second") {
+        Some(name) => Some(name.to_string(alloc)?),
+        None => None,
+    };
+    if is_any_empty(&formula, &second) {
+        return Err(refusal("error: a name is empty\n".to_string(alloc)));
+    }
+    Ok(Args {
+        binary: matches.get_flag("binary"),
+        trace: matches.get_flag("trace"),
+        strict: matches.get_flag("strict"),
+        pr: matches.get_flag("pr"),
+        keep_units: matches.get_flag("keep-units"),
+        formula,
+        second,
+    })
+}

@@ -1,8 +1,0 @@
-use Rattle.std.proofs.Common.{◌≤◌, length, subst}
-use Rattle.propagation.proofs.PropagationLemmas.Values.{fits_within}
-use Rattle.propagation.proofs.trail.Trail.len.Goals as goal
-
-pub returns-clause-fits : goal.returns-clause-fits
-returns-clause-fits c =
-    let t = c.self.inside in
-    subst (λ s. length s.lits ≤ length s.met) c.self.view_is (fits_within t.lits.items t.met.items c.self.invariant.different c.self.invariant.within)

@@ -1,7 +1,0 @@
-use Rattle.std.proofs.Common.{◌≡◌, take}
-use Rattle.theory.specs.Propagation.{open_literals}
-use Rattle.propagation.specs.Left.{how_many}
-use Rattle.propagation.proofs.truths.left_of.Given as goal
-
-abbrev pub invariant-loop-l : goal.invariant-loop-l
-invariant-loop-l g l = l.left ≡ how_many (open_literals (g.T.Truths.trues l.truths) (take l.l-index l.clause))

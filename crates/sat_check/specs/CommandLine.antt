@@ -1,3 +1,0 @@
--- What a command line says, and how it is read.
-pub mod Asked
-pub mod Words

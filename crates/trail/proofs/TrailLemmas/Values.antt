@@ -1,0 +1,347 @@
+-- What the values by literal say of a trail.
+use Rattle.std.proofs.Common.{◌≡◌, ℕ, ◌*◌, ◌+◌, ◌-◌, ◌<◌, ◌≤◌, Bool, true, false, ◌||◌, cond, eqb}
+use Rattle.std.proofs.Common.{eqb-true, eq-eqb, Option, Some, None, is_some, List, [], ◌∷◌, ◌++◌}
+use Rattle.std.proofs.Common.{map, take, drop, get_or, length, nat_eq, length-append, arith, ap}
+use Rattle.std.proofs.Common.{sym, ◌∙◌, inl, inr, ◌⊎◌, refl, subst}
+use Rattle.std.specs.List.{AllByRecursion, IsDistinct}
+use Rattle.std.specs.Cmp.{nat_eq_equiv}
+use Rattle.std.specs.Option.{option_or}
+use Rattle.std.specs.Prelude.{slice_get}
+use Rattle.std.proofs.lemmas.Option.{slice_get_read}
+use Rattle.std.proofs.lemmas.Bool.{false≢true, false_from_ne_true, or_cases, or_left, or_right}
+use Rattle.std.proofs.lemmas.Bool.{cases_eq, ne_eqb}
+use Rattle.std.proofs.lemmas.Bool.Decides.{nat_tests}
+use Rattle.std.proofs.lemmas.List.{map-append, length-map, length-drop, get_or_append_left}
+use Rattle.std.proofs.lemmas.List.{get_or-append_right, take_all, take-append-drop}
+use Rattle.std.proofs.lemmas.Map.Keys.{IsDistinct-push}
+use Rattle.std.proofs.lemmas.Map.Made.{length-le_from_is_member}
+use Rattle.cnf_base.specs.Literals.{complement, has, variable, size}
+use Rattle.cnf_base.proofs.SetLemmas.{both_pass, has_cases, has_append_left, has_append_right}
+use Rattle.cnf_base.proofs.SetLemmas.{has_append_cases}
+use Rattle.cnf_base.proofs.LiteralLemmas.{complement-complement, complement-other}
+use Rattle.cnf_base.proofs.SizeLemmas.{size_covered}
+use Rattle.trail.specs.Trail.{value_under, HasNoVariableTwice}
+use Rattle.trail.specs.Code.Values.{IsTrail, known_value}
+use Rattle.trail.specs.declared.value.Value.{Value}
+use Rattle.trail.specs.declared.value.Value.TheVariants.{True, False, Open}
+use Rattle.cnf_base.proofs.MemberLemmas.{place_of, has_mapped, has_any, variable-complement}
+use Rattle.trail.proofs.TrailLemmas.Truth.{HasNoVariableTwice-from_places, places_apart}
+use Rattle.trail.proofs.TrailLemmas.Truth.{open_from_value, variable_open}
+use Rattle.cnf_base.proofs.WalkLemmas.{has_push, has_more}
+
+abbrev Values : Type 0
+Values = ℕ → Option Value
+
+or_nothing : (b : Bool) → (b || false) ≡ b
+or_nothing true = refl
+or_nothing false = refl
+
+value_by_tests : (lits : List ℕ) (l : ℕ) (a b : Bool) → has lits l ≡ a → has lits (complement l) ≡ b → value_under lits l ≡ cond a True (cond b False Open)
+value_by_tests lits l a b p q = rw (p, q) refl
+
+-- ---- One more literal at the end
+
+module _ (lits : List ℕ) (l : ℕ) (is_open : value_under lits l ≡ Open) where
+  tests : (has lits l ≡ false) × (has lits (complement l) ≡ false)
+  tests = open_from_value lits l (sym is_open)
+
+  pub value_pushed : (k : ℕ) → value_under (lits ++ l ∷ []) k ≡ cond (eqb k (complement l)) False (cond (eqb k l) True (value_under lits k))
+  value_pushed k = elim (cases_eq k (complement l)) [
+    | inl same ↦
+        value_by_tests (lits ++ l ∷ []) k false true
+        (has_push lits l k ∙ ap (λ m. has lits m || eqb l m) same ∙ ap (λ b. b || eqb l (complement l)) tests.1 ∙ ne_eqb l (complement l) (λ e. complement-other l (sym e)))
+        (has_push lits l (complement k) ∙ or_right (has lits (complement k)) (eqb l (complement k)) (eq-eqb l (complement k) (sym (ap complement same ∙ complement-complement l))))
+        ∙ sym (ap (λ b. cond b False (cond (eqb k l) True (value_under lits k))) (eq-eqb k (complement l) same))
+    | inr other ↦ elim (cases_eq k l) [
+      | inl here ↦
+          value_by_tests (lits ++ l ∷ []) k true _ (has_push lits l k ∙ or_right (has lits k) (eqb l k) (eq-eqb l k (sym here))) refl
+          ∙ sym (ap (λ b. cond b False (cond (eqb k l) True (value_under lits k))) (ne_eqb k (complement l) other) ∙ ap (λ b. cond b True (value_under lits k)) (eq-eqb k l here))
+      | inr apart ↦
+          value_by_tests (lits ++ l ∷ []) k (has lits k) (has lits (complement k))
+          (has_push lits l k ∙ ap (λ b. has lits k || b) (ne_eqb l k (λ e. apart (sym e))) ∙ or_nothing (has lits k))
+          (has_push lits l (complement k) ∙ ap (λ b. has lits (complement k) || b) (ne_eqb l (complement k) (λ e. other (sym (complement-complement k) ∙ ap complement (sym e)))) ∙ or_nothing (has lits (complement k)))
+          ∙ sym (ap (λ b. cond b False (cond (eqb k l) True (value_under lits k))) (ne_eqb k (complement l) other) ∙ ap (λ b. cond b True (value_under lits k)) (ne_eqb k l apart))
+    ]
+  ]
+
+  pub different_pushed : HasNoVariableTwice lits → HasNoVariableTwice (lits ++ l ∷ [])
+  different_pushed different =
+      subst (IsDistinct nat_eq) (sym (map-append variable lits (l ∷ [])))
+      (IsDistinct-push nat_eq_equiv (map variable lits) (variable l) different (sym (has_any (map variable lits) (variable l)) ∙ variable_open lits l tests.0 tests.1))
+
+-- ---- The last literals taken off
+
+-- all but the first ones follow them
+front_and_rest : (ls : List ℕ) (n : ℕ) → ls ≡ take n ls ++ take (length ls - n) (drop n ls)
+front_and_rest ls n = sym (ap (λ rest. take n ls ++ rest) (take_all (length ls - n) (drop n ls) (omega (arith, length-drop n ls))) ∙ take-append-drop n ls)
+
+module _ (front rest : List ℕ) (different : HasNoVariableTwice (front ++ rest)) where
+  pub different_front : HasNoVariableTwice front
+  different_front = HasNoVariableTwice-from_places front (λ i j low high same.
+      let e = length-append front rest in
+      let first : i < length front = omega arith in
+      places_apart (front ++ rest) different i j low (omega (arith, e))
+      (ap variable (get_or_append_left front rest 0 i first) ∙ same ∙ sym (ap variable (get_or_append_left front rest 0 j high))))
+
+  -- what one of the last ones says, none before says
+  lacks : (l k : ℕ) → has rest l ≡ true → variable k ≡ variable l → has front k ≡ false
+  lacks l k last same = false_from_ne_true (has front k) (λ h.
+      let w = place_of front k h in
+      let u = place_of rest l last in
+      let low = w.1 in
+      let high = u.1 in
+      let e = length-append front rest in
+      places_apart (front ++ rest) different w.0 (length front + u.0) (omega arith) (omega (arith, e))
+      (ap variable (get_or_append_left front rest 0 w.0 low ∙ w.2) ∙ same ∙ sym (ap variable (get_or-append_right front rest (length front) (length front + u.0) 0 refl (omega arith) ∙ ap (λ i. get_or rest i 0) (omega arith) ∙ u.2))))
+
+  pub value_front : (k : ℕ) → value_under front k ≡ cond (has rest k || has rest (complement k)) Open (value_under (front ++ rest) k)
+  value_front k = by_tests (has rest k) (has rest (complement k)) refl refl
+    where
+      same_has : (l : ℕ) → has rest l ≡ false → has (front ++ rest) l ≡ has front l
+      same_has l none = both_pass (has (front ++ rest) l) (has front l)
+          (λ h. elim (has_append_cases front rest l h) [ inl g ↦ g | inr g ↦ absurd (false≢true (sym none ∙ g)) ])
+          (λ h. has_append_left front rest l h)
+
+      by_tests : (a b : Bool) → has rest k ≡ a → has rest (complement k) ≡ b → value_under front k ≡ cond (has rest k || has rest (complement k)) Open (value_under (front ++ rest) k)
+      by_tests true b e f =
+          value_by_tests front k false false (lacks k k e refl) (lacks k (complement k) e (variable-complement k))
+          ∙ sym (ap (λ t. cond (t || has rest (complement k)) Open (value_under (front ++ rest) k)) e)
+      by_tests false true e f =
+          value_by_tests front k false false (lacks (complement k) k f (sym (variable-complement k))) (lacks (complement k) (complement k) f refl)
+          ∙ sym (ap (λ t. cond (t || has rest (complement k)) Open (value_under (front ++ rest) k)) e ∙ ap (λ t. cond t Open (value_under (front ++ rest) k)) f)
+      by_tests false false e f =
+          value_by_tests front k _ _ refl refl
+          ∙ sym (value_by_tests (front ++ rest) k _ _ (same_has k e) (same_has (complement k) f))
+          ∙ sym (ap (λ t. cond (t || has rest (complement k)) Open (value_under (front ++ rest) k)) e ∙ ap (λ t. cond t Open (value_under (front ++ rest) k)) f)
+
+-- ---- The invariant
+
+distinct_size : (vs : List ℕ) → IsDistinct nat_eq vs → size vs ≡ length vs
+unfolding IsDistinct
+distinct_size [] apart = refl
+distinct_size (v ∷ vs) apart =
+    let rest = distinct_size vs apart.1 in
+    let more = ap (λ b. cond b (size vs) (1 + size vs)) (absent vs apart.0) in
+    omega (arith, rest, more)
+  where
+    absent : (vs : List ℕ) → AllByRecursion (λ w. nat_eq v w ≡ false) vs → has vs v ≡ false
+    absent [] all = refl
+    absent (w ∷ vs) all = false_from_ne_true (has (w ∷ vs) v) (λ h. elim (has_cases w vs v h) [
+      | inl e ↦ false≢true (sym all.0 ∙ eq-eqb v w (sym e))
+      | inr g ↦ false≢true (sym (absent vs all.1) ∙ g)
+    ])
+
+-- there are at most as many literals as different variables
+pub fits_different : (lits met : List ℕ) → HasNoVariableTwice lits → ((v : ℕ) → has (map variable lits) v ≡ true → has met v ≡ true) → length lits ≤ size met
+fits_different lits met different within =
+    let covered = size_covered (map variable lits) met within in
+    let each = distinct_size (map variable lits) different in
+    let long = length-map lits variable in
+    omega (arith, covered, each, long)
+
+-- where no variable is there twice, there are at most as many literals as variables
+pub fits_within : (lits met : List ℕ) → HasNoVariableTwice lits → ((v : ℕ) → has (map variable lits) v ≡ true → has met v ≡ true) → length lits ≤ length met
+fits_within lits met different within =
+    let most = length-le_from_is_member nat_eq_equiv (map variable lits) met different (λ v h. sym (has_any met v) ∙ within v (has_any (map variable lits) v ∙ h)) in
+    let long = length-map lits variable in
+    omega (arith, most, long)
+
+pub trail_empty : {T : Type 0} (lits met : List ℕ) (capacity : ℕ) (seen : ℕ → Option T) (value_of : Values) → lits ≡ [] → met ≡ [] → ((v : ℕ) → seen v ≡ None) → ((k : ℕ) → value_of k ≡ None) → IsTrail lits met capacity seen value_of
+unfolding IsDistinct
+trail_empty lits met capacity seen value_of no_lits none_met none_seen none = rw (no_lits, none_met) (record {
+  different = tt;
+  within = λ v h. h;
+  fits = omega arith;
+  noted = λ v. ap is_some (none_seen v);
+  known = λ l h. absurd (false≢true h);
+  values = λ l. ap known_value (none l);
+})
+
+-- the positive literal's complement
+pub negative_key : (v l : ℕ) → l ≡ 2 * v → complement l ≡ 2 * v + 1
+unfolding complement
+negative_key v l e = grind (arith, nat_tests, e)
+
+-- two writes, of both literals of a variable that has values
+module _ (l : ℕ) (a b : Value) (value_of first after : Values)
+    (writes_one : (k : ℕ) → first k ≡ cond (eqb k l) (Some a) (value_of k))
+    (writes_other : (k : ℕ) → after k ≡ cond (eqb k (complement l)) (Some b) (first k)) where
+  written : (k : ℕ) → after k ≡ cond (eqb k (complement l)) (Some b) (cond (eqb k l) (Some a) (value_of k))
+  written k = writes_other k ∙ ap (cond (eqb k (complement l)) (Some b)) (writes_one k)
+
+  pub written_value : (k : ℕ) → known_value (after k) ≡ cond (eqb k (complement l)) b (cond (eqb k l) a (known_value (value_of k)))
+  written_value k = ap known_value (written k) ∙ inside (eqb k (complement l)) (eqb k l) (value_of k)
+    where
+      inside : (p q : Bool) (o : Option Value) → known_value (cond p (Some b) (cond q (Some a) o)) ≡ cond p b (cond q a (known_value o))
+      inside true q o = refl
+      inside false true o = refl
+      inside false false o = refl
+
+  pub written_some : is_some (value_of l) ≡ true → is_some (value_of (complement l)) ≡ true → (k : ℕ) → is_some (after k) ≡ is_some (value_of k)
+  written_some one other k = elim (cases_eq k (complement l)) [
+    | inl same ↦ ap is_some (written k ∙ ap (λ t. cond t (Some b) (cond (eqb k l) (Some a) (value_of k))) (eq-eqb k (complement l) same)) ∙ sym (ap (λ m. is_some (value_of m)) same ∙ other)
+    | inr apart ↦ elim (cases_eq k l) [
+      | inl here ↦
+          ap is_some (written k ∙ ap (λ t. cond t (Some b) (cond (eqb k l) (Some a) (value_of k))) (ne_eqb k (complement l) apart) ∙ ap (λ t. cond t (Some a) (value_of k)) (eq-eqb k l here))
+          ∙ sym (ap (λ m. is_some (value_of m)) here ∙ one)
+      | inr away ↦ ap is_some (written k ∙ ap (λ t. cond t (Some b) (cond (eqb k l) (Some a) (value_of k))) (ne_eqb k (complement l) apart) ∙ ap (λ t. cond t (Some a) (value_of k)) (ne_eqb k l away))
+    ]
+  ]
+
+within_pushed : (lits met : List ℕ) (l : ℕ) → ((v : ℕ) → has (map variable lits) v ≡ true → has met v ≡ true) → has met (variable l) ≡ true → (v : ℕ) → has (map variable (lits ++ l ∷ [])) v ≡ true → has met v ≡ true
+within_pushed lits met l within here v h =
+    elim (or_cases (has (map variable lits) v) (eqb (variable l) v) (sym (has_push (map variable lits) (variable l) v) ∙ ap (λ vs. has vs v) (sym (map-append variable lits (l ∷ []))) ∙ h)) [
+      | inl old ↦ within v old
+      | inr new ↦ subst (λ w. has met w ≡ true) (eqb-true (variable l) v new) here
+    ]
+
+module _ {T : Type 0} (lits met : List ℕ) (capacity : ℕ) (seen : ℕ → Option T) (value_of : Values) (trail : IsTrail lits met capacity seen value_of) where
+  -- there is more room, for literals and for values
+  pub trail_wider : (more : ℕ) (seen_too : ℕ → Option T) (after : Values) → capacity ≤ more → ((v : ℕ) → is_some (seen_too v) ≡ is_some (seen v)) →
+      ((k : ℕ) → known_value (after k) ≡ known_value (value_of k)) → ((k : ℕ) → is_some (value_of k) ≡ true → is_some (after k) ≡ true) → IsTrail lits met more seen_too after
+  trail_wider more seen_too after wide same_seen same kept = record {
+    different = trail.different;
+    within = trail.within;
+    fits = let fits = trail.fits in omega arith;
+    noted = λ v. same_seen v ∙ trail.noted v;
+    known = λ l h. kept l (trail.known l h);
+    values = λ l. same l ∙ trail.values l;
+  }
+
+  -- one more variable is met
+  module _ (v : ℕ) (value : T) (seen_too : ℕ → Option T) (puts : (k : ℕ) → seen_too k ≡ cond (eqb k v) (Some value) (seen k)) (room : length met < capacity)
+      (positive : is_some (value_of (2 * v)) ≡ true) (negative : is_some (value_of (2 * v + 1)) ≡ true) where
+    of_v : (l : ℕ) → variable l ≡ v → (l ≡ 2 * v) ⊎ (l ≡ 2 * v + 1)
+    of_v l e = grind (arith, nat_tests, e)
+
+    known_both : (l : ℕ) → has (met ++ v ∷ []) (variable l) ≡ true → is_some (value_of l) ≡ true
+    known_both l h = elim (or_cases (has met (variable l)) (eqb v (variable l)) (sym (has_push met v (variable l)) ∙ h)) [
+      | inl old ↦ trail.known l old
+      | inr new ↦ elim (of_v l (sym (eqb-true v (variable l) new))) [
+        | inl even ↦ ap (λ k. is_some (value_of k)) even ∙ positive
+        | inr odd ↦ ap (λ k. is_some (value_of k)) odd ∙ negative
+      ]
+    ]
+
+    noted_too : (w : ℕ) → is_some (seen_too w) ≡ has (met ++ v ∷ []) w
+    noted_too w = elim (cases_eq w v) [
+      | inl same ↦ ap is_some (puts w ∙ ap (λ b. cond b (Some value) (seen w)) (eq-eqb w v same)) ∙ sym (has_push met v w ∙ or_right (has met w) (eqb v w) (eq-eqb v w (sym same)))
+      | inr other ↦
+          ap is_some (puts w ∙ ap (λ b. cond b (Some value) (seen w)) (ne_eqb w v other)) ∙ trail.noted w
+          ∙ sym (has_push met v w ∙ ap (λ b. has met w || b) (ne_eqb v w (λ e. other (sym e))) ∙ or_nothing (has met w))
+    ]
+
+    pub trail_met : IsTrail lits (met ++ v ∷ []) capacity seen_too value_of
+    trail_met = record {
+      different = trail.different;
+      within = λ w h. has_append_left met (v ∷ []) w (trail.within w h);
+      fits = let e = length-append met (v ∷ []) in omega (arith, e, room);
+      noted = noted_too;
+      known = known_both;
+      values = trail.values;
+    }
+
+  -- each literal's variable was met, and no variable is there twice, so that there is room for one more where it is open
+  pub room_for : (l : ℕ) → value_under lits l ≡ Open → has met (variable l) ≡ true → length lits < capacity
+  room_for l is_open here =
+      let most = fits_within (lits ++ l ∷ []) met (different_pushed lits l is_open trail.different) (within_pushed lits met l trail.within here) in
+      let fits = trail.fits in
+      let more = length-append lits (l ∷ []) in
+      omega (arith, most, fits, more)
+
+  -- both literals of a variable that was met have a value
+  pub both_known : (l : ℕ) → has met (variable l) ≡ true → (is_some (value_of l) ≡ true) × (is_some (value_of (complement l)) ≡ true)
+  both_known l here = (trail.known l here, trail.known (complement l) (ap (has met) (variable-complement l) ∙ here))
+
+  module _ (l : ℕ) (is_open : value_under lits l ≡ Open) (here : has met (variable l) ≡ true) (first after : Values)
+      (makes_true : (k : ℕ) → first k ≡ cond (eqb k l) (Some True) (value_of k))
+      (makes_false : (k : ℕ) → after k ≡ cond (eqb k (complement l)) (Some False) (first k)) where
+    pub trail_set : IsTrail (lits ++ l ∷ []) met capacity seen after
+    trail_set =
+        let known = both_known l here in
+        let some = written_some l True False value_of first after makes_true makes_false known.0 known.1 in
+        record {
+          different = different_pushed lits l is_open trail.different;
+          within = within_pushed lits met l trail.within here;
+          fits = trail.fits;
+          noted = trail.noted;
+          known = λ k h. some k ∙ trail.known k h;
+          values = λ k.
+              written_value l True False value_of first after makes_true makes_false k
+              ∙ ap (λ u. cond (eqb k (complement l)) False (cond (eqb k l) True u)) (trail.values k)
+              ∙ sym (value_pushed lits l is_open k);
+        }
+
+module _ {T : Type 0} (front rest met : List ℕ) (capacity : ℕ) (seen : ℕ → Option T) (value_of : Values) (trail : IsTrail (front ++ rest) met capacity seen value_of) where
+  -- both literals of each variable that was set have a value
+  pub last_known : (l : ℕ) → has rest l ≡ true → (is_some (value_of l) ≡ true) × (is_some (value_of (complement l)) ≡ true)
+  last_known l h = both_known (front ++ rest) met capacity seen value_of trail l (trail.within (variable l) (has_mapped (front ++ rest) l (has_append_right front rest l h)))
+
+  module _ (after : Values) (known : (k : ℕ) → is_some (after k) ≡ is_some (value_of k))
+      (opened : (k : ℕ) → known_value (after k) ≡ cond (has rest k || has rest (complement k)) Open (known_value (value_of k))) where
+    pub trail_taken : IsTrail front met capacity seen after
+    trail_taken = record {
+      different = different_front front rest trail.different;
+      within = λ v h. trail.within v (ap (λ vs. has vs v) (map-append variable front rest) ∙ has_append_left (map variable front) (map variable rest) v h);
+      fits = trail.fits;
+      noted = trail.noted;
+      known = λ k h. known k ∙ trail.known k h;
+      values = λ k. opened k ∙ ap (cond (has rest k || has rest (complement k)) Open) (trail.values k) ∙ sym (value_front front rest trail.different k);
+    }
+
+-- the trail as what stays and what is taken back
+pub trail_cut : {T : Type 0} (lits shown met : List ℕ) (capacity : ℕ) (seen : ℕ → Option T) (value_of : Values) → shown ≡ lits → IsTrail lits met capacity seen value_of → (n : ℕ) →
+    IsTrail (take n shown ++ take (length shown - n) (drop n shown)) met capacity seen value_of
+trail_cut lits shown met capacity seen value_of same trail n = subst (λ ls. IsTrail ls met capacity seen value_of) (sym same ∙ front_and_rest shown n) trail
+
+-- ---- Literals made open, one after the other
+
+module _ (c : List ℕ) (i : ℕ) (inside : i < length c) (x : ℕ) (is : x ≡ get_or c i x) (was before after : ℕ → Value) where
+  pub opened_more : ((k : ℕ) → before k ≡ cond (has (take i c) k || has (take i c) (complement k)) Open (was k)) →
+      ((k : ℕ) → after k ≡ cond (eqb k (complement x)) Open (cond (eqb k x) Open (before k))) →
+      (k : ℕ) → after k ≡ cond (has (take (i + 1) c) k || has (take (i + 1) c) (complement k)) Open (was k)
+  opened_more so_far step k = elim (cases_eq k (complement x)) [
+    | inl same ↦
+        step k ∙ ap (λ b. cond b Open (cond (eqb k x) Open (before k))) (eq-eqb k (complement x) same)
+        ∙ sym (ap (λ b. cond b Open (was k)) (or_right (has (take (i + 1) c) k) _ (more (complement k) ∙ or_right (has (take i c) (complement k)) _ (eq-eqb x (complement k) (sym (ap complement same ∙ complement-complement x))))))
+    | inr other ↦ elim (cases_eq k x) [
+      | inl here ↦
+          step k ∙ ap (λ b. cond b Open (cond (eqb k x) Open (before k))) (ne_eqb k (complement x) other) ∙ ap (λ b. cond b Open (before k)) (eq-eqb k x here)
+          ∙ sym (ap (λ b. cond b Open (was k)) (or_left _ (has (take (i + 1) c) (complement k)) (more k ∙ or_right (has (take i c) k) _ (eq-eqb x k (sym here)))))
+      | inr apart ↦
+          step k ∙ ap (λ b. cond b Open (cond (eqb k x) Open (before k))) (ne_eqb k (complement x) other) ∙ ap (λ b. cond b Open (before k)) (ne_eqb k x apart)
+          ∙ so_far k
+          ∙ sym (
+          ap (λ b. cond (b || has (take (i + 1) c) (complement k)) Open (was k)) (more k ∙ ap (λ b. has (take i c) k || b) (ne_eqb x k (λ e. apart (sym e))) ∙ or_nothing (has (take i c) k))
+          ∙ ap (λ b. cond (has (take i c) k || b) Open (was k))
+          (more (complement k) ∙ ap (λ b. has (take i c) (complement k) || b) (ne_eqb x (complement k) (λ e. other (sym (complement-complement k) ∙ ap complement (sym e)))) ∙ or_nothing (has (take i c) (complement k)))
+          )
+    ]
+  ]
+    where
+      more : (l : ℕ) → has (take (i + 1) c) l ≡ (has (take i c) l || eqb x l)
+      more = has_more c i inside x is
+
+-- ---- A value that was looked up
+
+-- the trail says the same of a literal whose value lies near
+pub near_value : (near : List Value) (far : Values) (lits : List ℕ) → ((l : ℕ) → known_value (option_or (slice_get near l) (far l)) ≡ value_under lits l) →
+    (l i : ℕ) (v : Value) → i ≡ l → i < length near → v ≡ get_or near i v → v ≡ value_under lits l
+near_value near far lits says l i v same inside is =
+    let found : slice_get near l ≡ Some v = ap (slice_get near) (sym same) ∙ slice_get_read near (length near) i v refl inside is in
+    sym (ap (λ o. known_value (option_or o (far l))) found) ∙ says l
+
+-- the complement of a literal that is false is true
+pub value_false : (lits : List ℕ) (l : ℕ) (v : Value) → v ≡ value_under lits l → v ≡ False → has lits (complement l) ≡ true
+value_false lits l v is false_is = by_tests (has lits l) (has lits (complement l)) refl refl
+  where
+    not_true : True ≡ False → ⊥
+    not_true e = cc
+
+    not_open : Open ≡ False → ⊥
+    not_open e = cc
+
+    by_tests : (a b : Bool) → has lits l ≡ a → has lits (complement l) ≡ b → has lits (complement l) ≡ true
+    by_tests true b e f = absurd (not_true (sym (is ∙ value_by_tests lits l true b e f) ∙ false_is))
+    by_tests false true e f = f
+    by_tests false false e f = absurd (not_open (sym (is ∙ value_by_tests lits l false false e f) ∙ false_is))

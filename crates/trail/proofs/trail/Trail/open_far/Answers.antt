@@ -1,0 +1,23 @@
+use Rattle.std.proofs.Common.{sym, ◌∙◌, arith}
+use Rattle.trail.proofs.TrailLemmas.Left.{count_with, count_same}
+use Rattle.trail.proofs.trail.Trail.open_far.Goals as goal
+use Rattle.trail.proofs.trail.Trail.open_far.Goals.{then-is_left, else-is_left}
+
+pub loop-l-preserved : goal.loop-l-preserved
+loop-l-preserved c =
+    let trues = c.args.self.now.lits in
+    let clause = c.args.clause.now in
+    let i = c.loop-l.l-index in
+    let inside = c.loop-l-test.true in
+    let x = c.l-item.result in
+    let so_far = c.loop-l.invariant in
+    elim c.if-is_left.branch [
+      | then-is_left w ↦ record {
+        counted = rw (w.count-is, w.last-is) (count_with trues clause i inside x c.l-item.is (sym c.is_false-is_left.ensures ∙ w.if-is_left.true) c.loop-l.count c.loop-l.last so_far.counted);
+        few = let few = so_far.few in omega (arith, w.count-is);
+      }
+      | else-is_left w ↦ record {
+        counted = rw (w.count-is, w.last-is) (count_same trues clause i inside x c.l-item.is (sym c.is_false-is_left.ensures ∙ w.if-is_left.false) c.loop-l.count c.loop-l.last so_far.counted);
+        few = let few = so_far.few in omega (arith, w.count-is);
+      }
+    ]

@@ -1,0 +1,29 @@
+-- How the code holds a trail: a value by literal.
+use Rattle.std.specs.Option.{option_or}
+use Rattle.std.specs.Prelude.{ℕ, Option, slice_get, unwrap_or, ◌≡◌, ◌≤◌, List, map, length, is_some}
+use Rattle.std.specs.Prelude.{IsTrue, IsSome}
+use Rattle.cnf_base.specs.Literals.{Literal, variable, has}
+use Rattle.tables.specs.Table.{at}
+use Rattle.trail.specs.Trail.{value_under, HasNoVariableTwice}
+use Rattle.trail.specs.declared.trail.values.Values.{Values}
+use Rattle.trail.specs.declared.value.Value.TheVariants.{Open}
+use Rattle.trail.specs.declared.value.Value.{Value}
+
+-- the value of a literal, if it has one
+abbrev pub value_at : Values → ℕ → Option Value
+value_at values l = option_or (slice_get values.dense.items l) (at values.far l)
+
+-- a literal without a value is open
+abbrev pub known_value : Option Value → Value
+known_value o = unwrap_or o Open
+
+-- just the variables that were met are seen, and both literals of each have a value, which is what
+-- the trail says of them; it has no variable twice, and room for one literal of each
+pub record IsTrail {T : Type 0} (lits : List Literal) (met : List ℕ) (capacity : ℕ)
+    (seen : ℕ → Option T) (value_of : ℕ → Option Value) : Type 0 where
+  pub different : HasNoVariableTwice lits
+  pub within : (v : ℕ) → IsTrue (has (map variable lits) v) → IsTrue (has met v)
+  pub fits : length met ≤ capacity
+  pub noted : (v : ℕ) → is_some (seen v) ≡ has met v
+  pub known : (l : Literal) → IsTrue (has met (variable l)) → IsSome (value_of l)
+  pub values : (l : Literal) → known_value (value_of l) ≡ value_under lits l

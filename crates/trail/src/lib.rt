@@ -1,0 +1,16 @@
+//! The literals that are true, and what is left of a clause under them.
+#![tactic(auto)]
+
+mod left;
+mod literal_set;
+mod part;
+mod trail;
+mod truths;
+mod value;
+
+pub use left::Left;
+pub use literal_set::LiteralSet;
+pub use part::{Except, Part, Unless, Whole};
+pub use trail::Trail;
+pub use truths::{Truths, left_of};
+pub use value::Value;

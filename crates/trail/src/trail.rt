@@ -1,0 +1,393 @@
+//! The trail: the literals that are true.
+
+mod values;
+
+ghost use Rattle.std.specs.Prelude.{◌≡◌, ℕ, ◌*◌, ◌/◌, ◌-◌, ◌==◌, ◌<◌, ◌≤◌, ◌||◌, ◌&&◌, not, []};
+ghost use Rattle.std.specs.Prelude.{◌∷◌, ◌++◌, filter, length, map, take, is_some, IsSome, IsTrue};
+ghost use Rattle.std.specs.Prelude.{IsFalse, ◌↔◌, IfSome, IfNone, IfOk, OnOk, OnErr, if◌then◌else◌};
+ghost use Rattle.cnf_base.specs.Literals.{complement, has, variable};
+ghost use Rattle.theory.specs.Propagation.{open_literals};
+ghost use Rattle.trail.specs.Left.{AreFalseFrom, IsOpenAt, how_many};
+ghost use Rattle.trail.specs.Code.Left.{IsCount};
+ghost use Rattle.trail.specs.Trail.{value_under, is_variable, HasNoVariableTwice, HasRoom};
+ghost use Rattle.trail.specs.Trail.{MakesFalse};
+ghost use Rattle.theory.specs.Sets.{SameSet, conflicts};
+ghost use Rattle.trail.specs.Code.Values.{value_at, known_value};
+ghost use Rattle.trail.specs.declared.value.Value.TheVariants.{Open};
+
+use self::values::Values;
+use crate::left::Left;
+use crate::part::Part;
+use crate::truths::{Truths, left_of};
+use crate::value::Value;
+use cnf_base::{Lit, OutOfMemory};
+use std::alloc::Global;
+use std::marker::Model;
+use tables::{Table, key};
+
+/// The literals that are true, in the order in which they were set. No two are of one variable.
+///
+/// Room is made for a variable with [`Trail::reserve`]. From then on no other call takes memory for it.
+///
+/// Contracts see a trail as the list of the literals and the set of the variables for which there is room.
+#[derive(Drop)]
+pub struct Trail {
+    /// It has room for one literal of each variable that was met.
+    lits: Vec<Lit>,
+    met: Vec<u32>,
+    /// The variables that were met.
+    seen: Table<()>,
+    /// By literal, for both literals of each variable that was met.
+    values: Values,
+}
+
+impl Model for Trail {
+    ghost use Rattle.std.specs.Prelude.{vec_capacity};
+    ghost use Rattle.trail.specs.Trail.{TrailState};
+    ghost use Rattle.trail.specs.Code.Values.{IsTrail, value_at};
+    ghost use Rattle.tables.specs.Table.{at};
+
+    ghost Value = { TrailState };
+
+    ghost view = { λ t. record {
+      lits = t.lits.items;
+      met = t.met.items;
+    } };
+
+    ghost invariant = { λ t.
+        IsTrail t.lits.items t.met.items (vec_capacity t.lits) (at t.seen) (value_at t.values) };
+}
+
+/// The literal that says that the variable is true; none for 0 and past the greatest variable.
+fn positive(var: u32) -> Option<Lit>
+    ensures some { IfSome result (λ l. l ≡ 2 * var) }
+    ensures variant { is_some result ≡ is_variable var }
+{
+    if var > Lit::MAX_VAR {
+        return None;
+    }
+    Lit::new(var as i32)
+}
+
+/// Makes the literals and their complements open.
+fn open_all(values: &mut Values, lits: &[Lit])
+    requires { (l : ℕ) → IsTrue (has lits.now l) → IsSome (value_at values.old l)
+        × IsSome (value_at values.old (complement l)) }
+    ensures known { (k : ℕ) →
+        is_some (value_at values.new k) ≡ is_some (value_at values.old k) }
+    ensures opened { (k : ℕ) → known_value (value_at values.new k) ≡
+        (if has lits.now k || has lits.now (complement k) then Open
+        else known_value (value_at values.old k)) }
+{
+    for l in lits {
+        values.set_both(*l, Value::Open, Value::Open);
+    }
+}
+
+impl Truths for Trail {
+    ghost trues = { λ t. t.lits };
+
+    fn falsifies(&self, l: Lit) -> bool {
+        self.is_false(l)
+    }
+}
+
+impl Trail {
+    /// An empty trail. It has room for no variable.
+    pub fn new(alloc: Global) -> Result<Self, OutOfMemory>
+        ensures lits { IfOk result (λ t. t.lits ≡ []) }
+        ensures met { IfOk result (λ t. t.met ≡ []) }
+    {
+        Ok(Trail {
+            lits: Vec::new(alloc),
+            met: Vec::new(alloc),
+            seen: Table::new(alloc),
+            values: Values::new(alloc),
+        })
+    }
+
+    /// Makes room for a variable. The room stays until the end of the trail. A number that is no literal's variable needs none.
+    ///
+    /// # Errors
+    ///
+    /// Where memory runs out. The trail is then as it was.
+    #[inline(always)]
+    pub fn reserve(&mut self, var: u32) -> Result<(), OutOfMemory>
+        ensures met { OnOk result ((v : ℕ) → has self.new.met v ≡
+            (has self.old.met v || (v == var && is_variable v))) }
+        ensures lits { OnOk result (self.new.lits ≡ self.old.lits) }
+        ensures err { OnErr result (self.new ≡ self.old) }
+    {
+        if self.has_room(var) {
+            return Ok(());
+        }
+        self.reserve_anew(var)
+    }
+
+    /// Whether there is room for a variable.
+    #[inline(always)]
+    pub fn has_room(&self, var: u32) -> bool
+        ensures { result ≡ has self.now.met var }
+    {
+        self.seen.get(var).is_some()
+    }
+
+    /// Makes room for a variable for which there is none.
+    #[cold]
+    #[inline(never)]
+    fn reserve_anew(&mut self, var: u32) -> Result<(), OutOfMemory>
+        requires { IsFalse (has self.old.met var) }
+        ensures met { OnOk result ((v : ℕ) → has self.new.met v ≡
+            (has self.old.met v || (v == var && is_variable v))) }
+        ensures lits { OnOk result (self.new.lits ≡ self.old.lits) }
+        ensures err { OnErr result (self.new ≡ self.old) }
+    {
+        let Some(lit) = positive(var) else {
+            return Ok(());
+        };
+        self.lits.reserve(self.met.len() + 1)?;
+        self.met.reserve(1)?;
+        self.values.reserve(lit, self.met.len())?;
+        self.seen.reserve(var, ())?;
+        self.met.push_reserved(var);
+        Ok(())
+    }
+
+    /// Sets a literal whose variable has room and is open. It takes no memory.
+    pub fn set(&mut self, l: Lit)
+        requires reserved { IsTrue (has self.old.met (l / 2)) }
+        requires open { value_under self.old.lits l ≡ Open }
+        ensures lits { self.new.lits ≡ self.old.lits ++ l ∷ [] }
+        ensures met { (v : ℕ) → has self.new.met v ≡ has self.old.met v }
+    {
+        self.lits.push_reserved(l);
+        self.values.set_both(l, Value::True, Value::False);
+    }
+
+    /// What the trail says of a literal. It takes no memory.
+    pub fn value(&self, l: Lit) -> Value
+        ensures value { result ≡ value_under self.now.lits l }
+        ensures different { HasNoVariableTwice self.now.lits }
+    {
+        self.values.value(key(l))
+    }
+
+    /// How many literals were set. They are at most as many as the variables for which there is room.
+    pub fn len(&self) -> usize
+        ensures value { result ≡ length self.now.lits }
+        ensures different { HasNoVariableTwice self.now.lits }
+        ensures within { (v : ℕ) → IsTrue (has (map variable self.now.lits) v) →
+            IsTrue (has self.now.met v) }
+        ensures fits { length self.now.lits ≤ length self.now.met }
+    {
+        self.lits.len()
+    }
+
+    /// Whether no literal was set.
+    pub fn is_empty(&self) -> bool
+        ensures { IsTrue result ↔ (self.now.lits ≡ []) }
+    {
+        self.lits.is_empty()
+    }
+
+    /// Takes back all but the first `n` literals. It takes no memory.
+    pub fn undo_to(&mut self, n: usize)
+        requires { n ≤ length self.old.lits }
+        ensures lits { self.new.lits ≡ take n self.old.lits }
+        ensures met { (v : ℕ) → has self.new.met v ≡ has self.old.met v }
+    {
+        open_all(&mut self.values, &self.lits[n..]);
+        self.lits.truncate(n);
+    }
+
+    /// The literals, in the order in which they were set.
+    pub fn lits(&self) -> &[Lit]
+        ensures value { result.now ≡ self.now.lits }
+        ensures different { HasNoVariableTwice self.now.lits }
+    {
+        self.lits.as_slice()
+    }
+
+    /// Makes room for the variables of a clause.
+    ///
+    /// # Errors
+    ///
+    /// Where memory runs out. Room for some of them may have been made then.
+    pub fn reserve_all(&mut self, clause: &[Lit]) -> Result<(), OutOfMemory>
+        ensures room { OnOk result (HasRoom self.new.met clause.now) }
+        ensures met { (v : ℕ) → IsTrue (has self.old.met v) → IsTrue (has self.new.met v) }
+        ensures lits { self.new.lits ≡ self.old.lits }
+    {
+        for l in clause {
+            self.reserve(l.var())?;
+        }
+        Ok(())
+    }
+
+    /// Sets a literal that is not false, unless it is true already. Tells whether it was open. It takes no memory.
+    pub fn make_true(&mut self, l: Lit) -> bool
+        requires reserved { IsTrue (has self.old.met (l / 2)) }
+        requires not_false { IsFalse (has self.old.lits (complement l)) }
+        ensures was_open { result ≡ not (has self.old.lits l) }
+        ensures lits { self.new.lits ≡
+            (if result then self.old.lits ++ l ∷ [] else self.old.lits) }
+        ensures quiet { IsFalse (conflicts self.new.lits) }
+        ensures met { SameSet self.new.met self.old.met }
+    {
+        let is_open = self.value(l) == Value::Open;
+        if is_open {
+            self.set(l);
+        }
+        is_open
+    }
+
+    /// Whether the literal is true.
+    pub fn is_true(&self, l: Lit) -> bool
+        ensures { result ≡ has self.now.lits l }
+    {
+        matches!(self.value(l), Value::True)
+    }
+
+    /// Whether the literal is false.
+    pub fn is_false(&self, l: Lit) -> bool
+        ensures { result ≡ has self.now.lits (complement l) }
+    {
+        matches!(self.value(l), Value::False)
+    }
+
+    /// Makes the literals of a part of a clause false, up to the first that is true. Tells whether there is one, so that a literal and its
+    /// complement would be true. It takes no memory.
+    pub fn make_false<P: Part>(&mut self, clause: &[Lit], part: &P) -> bool
+        requires { HasRoom self.old.met clause.now }
+        ensures made { MakesFalse self.old.lits
+            (filter (P.keeps part.now) clause.now) result self.new.lits }
+        ensures begins { take (length self.old.lits) self.new.lits ≡ self.old.lits }
+        ensures longer { length self.old.lits ≤ length self.new.lits }
+        ensures met { SameSet self.new.met self.old.met }
+    {
+        let _different = self.len();
+        for l in clause {
+            if part.keeps_literal(*l) {
+                match self.value(*l) {
+                    Value::True => return true,
+                    Value::False => {}
+                    Value::Open => self.set(l.neg()),
+                }
+            }
+        }
+        false
+    }
+
+    /// How many literals of a clause are not false, where each counts as often as it is repeated, and the last of them.
+    #[inline(always)]
+    fn open_in(&self, clause: &[Lit]) -> (usize, Lit)
+        ensures { IsCount (open_literals self.now.lits clause.now) result.0 result.1 }
+    {
+        match self.open_near(clause) {
+            Some(found) => found,
+            None => self.open_far(clause),
+        }
+    }
+
+    /// The same as `open_in`, where the values of all literals lie near. A call in the loop would have the place of the values read
+    /// again for each literal.
+    #[inline(always)]
+    fn open_near(&self, clause: &[Lit]) -> Option<(usize, Lit)>
+        ensures { IfSome result (λ r.
+            IsCount (open_literals self.now.lits clause.now) r.0 r.1) }
+    {
+        let near = self.values.near();
+        let mut count = 0;
+        let mut open = Lit::default();
+        for l in clause {
+            let value = near.get(l.index())?;
+            if !matches!(value, Value::False) {
+                count += 1;
+                open = *l;
+            }
+        }
+        Some((count, open))
+    }
+
+    /// The same as `open_in`, wherever the values lie.
+    #[cold]
+    #[inline(never)]
+    fn open_far(&self, clause: &[Lit]) -> (usize, Lit)
+        ensures { IsCount (open_literals self.now.lits clause.now) result.0 result.1 }
+    {
+        let mut count = 0;
+        let mut last = Lit::default();
+        for l in clause {
+            let is_left = !self.is_false(*l);
+            if is_left {
+                count += 1;
+                last = *l;
+            }
+        }
+        (count, last)
+    }
+
+    /// The same as `first_open`, where the values of all literals that it looks at lie near.
+    #[inline(always)]
+    fn first_open_near(&self, clause: &[Lit], from: usize) -> Option<Option<usize>>
+        ensures found { IfSome result (λ r. IfSome r (IsOpenAt self.now.lits clause.now from)) }
+        ensures none { IfSome result (λ r. IfNone r (AreFalseFrom self.now.lits clause.now from)) }
+    {
+        let near = self.values.near();
+        for place in from..clause.len() {
+            let value = near.get(clause[place].index())?;
+            if !matches!(value, Value::False) {
+                return Some(Some(place));
+            }
+        }
+        Some(None)
+    }
+
+    /// The same as `first_open`, wherever the values lie.
+    #[cold]
+    #[inline(never)]
+    fn first_open_far(&self, clause: &[Lit], from: usize) -> Option<usize>
+        ensures found { IfSome result (IsOpenAt self.now.lits clause.now from) }
+        ensures none { IfNone result (AreFalseFrom self.now.lits clause.now from) }
+    {
+        for place in from..clause.len() {
+            if !self.is_false(clause[place]) {
+                return Some(place);
+            }
+        }
+        None
+    }
+
+    /// The first place of a clause from this one on whose literal is not false. It takes no memory.
+    #[inline(always)]
+    pub fn first_open(&self, clause: &[Lit], from: usize) -> Option<usize>
+        ensures found { IfSome result (IsOpenAt self.now.lits clause.now from) }
+        ensures none { IfNone result (AreFalseFrom self.now.lits clause.now from) }
+    {
+        match self.first_open_near(clause, from) {
+            Some(found) => found,
+            None => self.first_open_far(clause, from),
+        }
+    }
+
+    /// What is left of a clause, as [`Trail::left`] says it. It takes no memory.
+    ///
+    /// It is made for clauses of which at most one literal is left: it looks at all literals, with no branch for each.
+    pub fn unit_left(&self, clause: &[Lit]) -> Left
+        ensures { result ≡ how_many (open_literals self.now.lits clause.now) }
+    {
+        let (count, last) = self.open_in(clause);
+        match count {
+            0 => Left::Nothing,
+            1 => Left::One(last),
+            _ => self.left(clause),
+        }
+    }
+
+    /// What is left of a clause. It takes no memory.
+    pub fn left(&self, clause: &[Lit]) -> Left
+        ensures { result ≡ how_many (open_literals self.now.lits clause.now) }
+    {
+        left_of(self, clause)
+    }
+}
