@@ -24,7 +24,7 @@ ROOT = os.path.dirname(os.path.dirname(os.path.abspath(__file__)))
 SAYS = "# refused by: "
 TOLD = re.compile(r"rt: must-fail (\w+/\S+\.edit): refused, as it must be(.*)")
 OPEN = re.compile(r": note: (\S+\.rt):(\d+):\d+: (.*)")
-UNFIT = re.compile(r": \./proofs/(\S+)\.antt:\d+:\d+: error: `([^`]*)`?")
+UNFIT = re.compile(r": \./proofs/(\S+)\.antt:\d+:\d+: error: (?:\d+ declarations? that depends? on )?`([^`]*)`?")
 FUNCTION = re.compile(r"\s*(?:pub(?:\(\w+\))? )?(?:const )?fn (\w+)")
 
 

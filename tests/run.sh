@@ -1,9 +1,10 @@
 #!/usr/bin/env bash
-# All tests: whether the edits of tests/edits can still be made, docs/THEOREM.md quotes what is there, and what is promised is
-# said by the upper floor of specs/ alone; the proofs of the programs; the gate (the proofs of the tests and what else isn't
-# kept, the must-fail edits, the crates' tests and the programs' stored runs); whether each edit was refused by the clause that
-# it names; then the programs as users run them, their manual pages, counts of allocations, and runs in which each allocation
-# is refused. At the end stands what each part took. The last line is "N passed, M failed" over all.
+# All tests: whether the edits of tests/edits can still be made, docs/THEOREM.md quotes what is there, and what is promised
+# is said by the upper floor of specs/ alone; the proofs of the programs; the gate (the proofs of the tests and what else
+# isn't kept, the must-fail edits, the crates' tests and the programs' stored runs); whether each edit was refused by the
+# clause that it names; then the programs as users run them, also on a folder of many proofs, their manual pages, counts of
+# allocations, and runs in which each allocation is refused. At the end stands what each part took. The last line is "N
+# passed, M failed" over all.
 #
 # RT names the command rt, where it isn't on the PATH.
 set -uo pipefail
@@ -69,7 +70,7 @@ if [ "$ended" -eq 0 ] && [ -x "$LRAT_CHECK" ] && [ -x "$DRAT_FORWARD" ] && [ -x 
     cp "$MODEL_CHECK" bin/model-check
 fi
 
-for script in tests/programs.sh tests/manual.sh tests/allocations.py tests/refusals.py; do
+for script in tests/programs.sh tests/folder.sh tests/manual.sh tests/allocations.py tests/refusals.py; do
     part "$script" "$script"
     count $?
 done
