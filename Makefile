@@ -3,7 +3,8 @@
 # make bench  measures; see bench/README.md
 # make clean  removes what these made, but for what the proofs keep in crates/*/out
 #
-# make install       copies the programs in bin/ and their manual pages to PREFIX, under DESTDIR where that is set
+# make install       copies the programs in bin/, their manual pages and completions for bash, zsh and fish to PREFIX, under DESTDIR
+#                    where that is set
 # make uninstall     removes them there
 # make test-solvers  runs real SAT solvers, and the programs on what they wrote
 # make test-package  builds the Debian package, and runs the programs that are in it
@@ -15,9 +16,13 @@ RT ?= rt
 PREFIX ?= /usr/local
 BINDIR ?= $(PREFIX)/bin
 MANDIR ?= $(PREFIX)/share/man
+BASHDIR ?= $(PREFIX)/share/bash-completion/completions
+ZSHDIR ?= $(PREFIX)/share/zsh/site-functions
+FISHDIR ?= $(PREFIX)/share/fish/vendor_completions.d
 INSTALL ?= install
 
 PROGRAMS := drat-forward lrat-check model-check
+COMPLETIONS := packaging/completions
 
 SOURCES := crates.txt HANDLES $(shell find crates -name out -prune -o -type f -print)
 
@@ -59,11 +64,19 @@ install:
 	$(INSTALL) -d "$(DESTDIR)$(BINDIR)" "$(DESTDIR)$(MANDIR)/man1"
 	$(INSTALL) -m 755 $(PROGRAMS:%=bin/%) "$(DESTDIR)$(BINDIR)"
 	$(INSTALL) -m 644 $(PROGRAMS:%=man/%.1) "$(DESTDIR)$(MANDIR)/man1"
+	$(INSTALL) -d "$(DESTDIR)$(BASHDIR)" "$(DESTDIR)$(ZSHDIR)" "$(DESTDIR)$(FISHDIR)"
+	for program in $(PROGRAMS); do \
+	    $(INSTALL) -m 644 $(COMPLETIONS)/gazhumbe.bash "$(DESTDIR)$(BASHDIR)/$$program" || exit 1; \
+	done
+	$(INSTALL) -m 644 $(COMPLETIONS)/_gazhumbe "$(DESTDIR)$(ZSHDIR)"
+	$(INSTALL) -m 644 $(PROGRAMS:%=$(COMPLETIONS)/%.fish) "$(DESTDIR)$(FISHDIR)"
 
 uninstall:
 	for program in $(PROGRAMS); do \
-	    rm -f "$(DESTDIR)$(BINDIR)/$$program" "$(DESTDIR)$(MANDIR)/man1/$$program.1"; \
+	    rm -f "$(DESTDIR)$(BINDIR)/$$program" "$(DESTDIR)$(MANDIR)/man1/$$program.1" \
+	        "$(DESTDIR)$(BASHDIR)/$$program" "$(DESTDIR)$(FISHDIR)/$$program.fish"; \
 	done
+	rm -f "$(DESTDIR)$(ZSHDIR)/_gazhumbe"
 
 clean:
 	rm -rf bin bench/out

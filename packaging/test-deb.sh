@@ -1,7 +1,11 @@
 #!/usr/bin/env bash
 # Builds the Debian package by build-deb.sh, and again from its source package; unpacks it into a folder, and runs the three
 # programs from there. By hand, with make test-package: it needs what build-deb.sh needs, and lintian where that is installed.
-# The last line is "N passed, M failed".
+#
+#     packaging/test-deb.sh [--clean]
+#
+# With --clean it is built once more in a chroot that has nothing but the build dependencies, and installed and tested in one that
+# has nothing but its own; that needs mmdebstrap, root and Debian's archive. The last line is "N passed, M failed".
 set -uo pipefail
 cd "$(dirname "$0")/.."
 root=$PWD
@@ -48,6 +52,14 @@ of_package() {
         "MODEL_CHECK=$there/usr/bin/model-check")
     try "$which: tests/programs.sh" env "${checkers[@]}" tests/programs.sh
     try "$which: tests/manual.sh" env "${checkers[@]}" tests/manual.sh
+    try "$which: tests/completions.sh" env "${checkers[@]}" tests/completions.sh
+    local completions=packaging/completions
+    for program in drat-forward lrat-check model-check; do
+        try "$which: bash completes $program" \
+            cmp "$there/usr/share/bash-completion/completions/$program" $completions/gazhumbe.bash
+        try "$which: fish completes $program" cmp "$there/usr/share/fish/vendor_completions.d/$program.fish" $completions/$program.fish
+    done
+    try "$which: zsh completes" cmp "$there/usr/share/zsh/vendor-completions/_gazhumbe" $completions/_gazhumbe
 
     # as its user does it: its own examples, by what the folder has alone
     examples=$there/usr/share/doc/gazhumbe/examples
@@ -72,5 +84,26 @@ try "the source package can be unpacked" dpkg-source -x "$room/built/$name.dsc" 
 try "the source package can be built" env -C source dpkg-buildpackage -b -us -uc || end
 cd "$root" || exit 1
 of_package "the package that was built again" "$room/again/${name}_amd64.deb"
+
+# in_chroot NAME COMMAND PACKAGES: runs the command as root in a new chroot with these packages and the folder /work, of which it
+# keeps what the command leaves in /work/kept
+in_chroot() {
+    try "$1" mmdebstrap --variant=apt --include="$3" --hook-dir=/usr/share/mmdebstrap/hooks/merged-usr \
+        --customize-hook="copy-in $room/work /" --customize-hook="chroot \"\$1\" sh -ec 'cd /work; $2'" \
+        --customize-hook="sync-out /work/kept $room/kept" bookworm /dev/null
+}
+
+if [ "${1:-}" = --clean ]; then
+    mkdir -p "$room/work/kept" "$room/kept"
+    cp "$room/built/$name".* "$room/work"
+    in_chroot "it is built in a clean chroot" \
+        "dpkg-source -x $name.dsc source; cd source; apt-get -y build-dep ./; dpkg-buildpackage -b -us -uc; cp ../*.deb ../kept" \
+        dpkg-dev || end
+    of_package "the package of the clean chroot" "$room/kept/${name}_amd64.deb"
+    cp "$room/kept/${name}_amd64.deb" "$room/work"
+    in_chroot "it is installed and tested in a clean chroot" \
+        "dpkg-source -x $name.dsc source; apt-get -y install ./${name}_amd64.deb; cd source; packaging/installed.sh" \
+        dpkg-dev,make,python3 || end
+fi
 
 end
