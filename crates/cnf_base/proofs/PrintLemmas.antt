@@ -29,7 +29,8 @@ use Rattle.cnf_base.specs.declared.token.Token.TheVariants as token
 use Rattle.cnf_base.proofs.TextLemmas.{Each, none, more, IsRun, inner_skips, and_false}
 use Rattle.cnf_base.proofs.TextLemmas.{listing_at-separator, listing_at-feed, listing_at-run}
 use Rattle.cnf_base.specs.declared.scanner.digits.Digits.TheVariants.{Counting}
-use Rattle.cnf_base.proofs.WordLemmas.{negative, positive, Spells-word}
+use Rattle.cnf_base.specs.Code.Digits.{negative, positive}
+use Rattle.cnf_base.proofs.WordLemmas.{Spells-word}
 
 -- ---- Lines of words
 

@@ -51,7 +51,7 @@ pub most_next : (n : ℕ) → most (n + 1) ≡ 10 * most n + 255
 unfolding most
 most_next n = ap most (add-one n)
 
-pub most_small : (n : ℕ) → n ≤ 4 → most n ≤ 999999
+most_small : (n : ℕ) → n ≤ 4 → most n ≤ 999999
 unfolding most
 most_small zero h = omega arith
 most_small (suc zero) h = omega arith
@@ -69,6 +69,10 @@ pub record IsFew (bytes : List ℕ) (number i : ℕ) (values : List ℕ) (count 
   pub last : more ≡ 1 → value ≡ decimal_after number (take i bytes)
   pub small : value ≤ most i
   pub room : length values ≡ 6
+
+-- one more digit of such a value doesn't overflow
+pub few_small : (bytes : List ℕ) (number i : ℕ) (values : List ℕ) (count value more : ℕ) → IsFew bytes number i values count value more → i ≤ 4 → value ≤ 999999
+few_small bytes number i values count value more so_far few = let most = most_small i few in let small = so_far.small in omega arith
 
 module _ (bytes : List ℕ) (number i : ℕ) (values : List ℕ) (count value more after next digit : ℕ) (so_far : IsFew bytes number i values count value more)
     (few : i ≤ 4) (next_is : next ≡ value * 10 + digit) (byte : digit ≤ 255) where

@@ -10,7 +10,7 @@ use Rattle.std.proofs.lemmas.Bool.Decides.{nat_tests}
 use Rattle.cnf_base.specs.Words.{is_digit, is_counting, decimal_value, size_of, number, number_of}
 use Rattle.cnf_base.specs.Words.{fixed_word, number_or, word_of}
 use Rattle.cnf_base.specs.Code.Digits.{with_byte, digits_word, begins_number, first_digits}
-use Rattle.cnf_base.specs.Code.Digits.{AreDigits}
+use Rattle.cnf_base.specs.Code.Digits.{AreDigits, Spells, negative, positive, IsName}
 use Rattle.cnf_base.specs.declared.scanner.digits.Digits.{Digits}
 use Rattle.cnf_base.specs.declared.scanner.digits.Digits.TheVariants.{Nothing, Zero, Counting}
 use Rattle.cnf_base.specs.declared.scanner.digits.Digits.TheVariants.{NoNumber}
@@ -150,11 +150,6 @@ positive_word s b bs digit h =
     by (Counting n) h = rw (h.0, h.1) refl
     by NoNumber h = rw (h.0, minus, zero_only h.2) refl
 
--- what a number's run has so far
-pub data Spells : Bool → Digits → List ℕ → Type 0 where
-  negative : (s : Digits) (ds : List ℕ) → AreDigits s ds → Spells true s (45 ∷ ds)
-  positive : (s : Digits) (b : ℕ) (bs : List ℕ) → is_digit b ≡ true → AreDigits s (b ∷ bs) → Spells false s (b ∷ bs)
-
 pub Spells-first : (b : ℕ) → begins_number b ≡ true → Spells (b == 45) (first_digits b) (b ∷ [])
 Spells-first b h = by (b == 45) refl
   where
@@ -169,13 +164,6 @@ Spells-more is_negative s run b (positive _ d ds digit h) = positive (with_byte 
 pub Spells-word : (is_negative : Bool) (s : Digits) (run : List ℕ) → Spells is_negative s run → digits_word is_negative s ≡ word_of run
 Spells-word is_negative s run (negative _ ds h) = sym (negative_word s ds h)
 Spells-word is_negative s run (positive _ b bs digit h) = sym (positive_word s b bs digit h)
-
--- a run that begins with another byte
-pub record IsName (run : List ℕ) : Type 0 where
-  pub first : ℕ
-  pub others : List ℕ
-  pub is : run ≡ first ∷ others
-  pub begins : begins_number first ≡ false
 
 pub IsName-more : (run : List ℕ) (b : ℕ) → IsName run → IsName (run ++ b ∷ [])
 IsName-more run b n = record { first = n.first; others = n.others ++ b ∷ []; is = ap (λ x. x ++ b ∷ []) n.is; begins = n.begins }

@@ -1,18 +1,18 @@
 //! A text's tokens, with their places.
-ghost use Rattle.std.specs.Prelude.{◌≡◌, ◌<◌, ◌≤◌, ◌==◌, ◌&&◌, true, false, [], ◌∷◌, Ok, IfSome};
-ghost use Rattle.std.specs.Prelude.{IfNone, OnOk, OnErr, length, slice_index};
+ghost use Rattle.std.specs.Prelude.{◌≡◌, ◌≤◌, ◌==◌, ◌&&◌, true, Ok, IfSome, IfNone, OnOk, OnErr};
 ghost use Rattle.cnf_base.specs.Stream.{Along, most_to_come, tells_failure};
-ghost use Rattle.cnf_base.specs.Code.Digits.{begins_number, first_digits};
-ghost use Rattle.cnf_base.specs.Text.{Gives, is_separator, skips_at, listing_at, MovesOn};
-ghost use Rattle.cnf_base.specs.Code.Text.{GivesWord, FailsAt, comment_at};
+ghost use Rattle.cnf_base.specs.Code.Digits.{begins_number};
+ghost use Rattle.cnf_base.specs.Text.{Gives, is_separator, listing_at, MovesOn};
+ghost use Rattle.cnf_base.specs.Code.Text.{BeginsRun, TakesWord, FailsAt, comment_at};
 
 mod digits;
 mod name;
+mod run;
 mod whole;
 
 use crate::{In, Place, ReadFailed, Source, Token, Word};
-use digits::Digits;
 use name::Name;
+use run::{Numeral, Run};
 use std::marker::Model;
 use whole::whole_number;
 
@@ -146,87 +146,35 @@ fn skip_comment<R: In>(source: &mut Source<R>) -> Result<(), ReadFailed>
 // The run that begins with the byte that was shown.
 #[inline(never)]
 fn read_word<R: In>(source: &mut Source<R>, first: u8) -> Result<Word, ReadFailed>
-    requires ahead { 0 < length source.old.ahead }
-    requires first { first ≡ slice_index source.old.ahead 0 }
-    requires run { is_separator first ≡ false }
-    requires text { skips_at source.old.place (first ∷ []) ≡ false }
-    ensures text { Along source.old source.new (λ i j.
-        GivesWord result source.old.place (listing_at source.old.place i)
-        (listing_at source.new.place j) j) }
-    ensures fewer { most_to_come source.new < most_to_come source.old }
-    ensures failed { OnErr result (tells_failure source.new.reader ≡ true) }
-    ensures mark { OnOk result
-        (tells_failure source.new.reader ≡ tells_failure source.old.reader) }
+    requires { BeginsRun source.old first }
+    ensures { TakesWord result source.old source.new }
 {
     if may_begin_number(first) {
-        read_number(source, first)
+        read_run::<R, Numeral>(source, first)
     } else {
-        read_name(source, first)
+        read_run::<R, Name>(source, first)
     }
 }
 
-// A run that begins with a digit or a `-`.
-fn read_number<R: In>(source: &mut Source<R>, first: u8) -> Result<Word, ReadFailed>
-    requires ahead { 0 < length source.old.ahead }
-    requires first { first ≡ slice_index source.old.ahead 0 }
-    requires run { is_separator first ≡ false }
-    requires text { skips_at source.old.place (first ∷ []) ≡ false }
-    requires number { begins_number first ≡ true }
-    ensures text { Along source.old source.new (λ i j.
-        GivesWord result source.old.place (listing_at source.old.place i)
-        (listing_at source.new.place j) j) }
-    ensures fewer { most_to_come source.new < most_to_come source.old }
-    ensures failed { OnErr result (tells_failure source.new.reader ≡ true) }
-    ensures mark { OnOk result
-        (tells_failure source.new.reader ≡ tells_failure source.old.reader) }
+// The run that begins with the byte that was shown, byte by byte.
+fn read_run<R: In, W: Run>(source: &mut Source<R>, first: u8) -> Result<Word, ReadFailed>
+    requires run { BeginsRun source.old first }
+    requires kind { W.begins first }
+    ensures { TakesWord result source.old source.new }
 {
     source.bump();
-    let is_negative = first == b'-';
-    let mut digits = first_digits(first);
+    let mut run = W::of(first);
     loop {
         match source.peek() {
             Ok(Some(byte)) => {
                 if is_separator(byte) {
-                    return Ok(digits.word(is_negative));
+                    return Ok(run.says());
                 }
                 source.bump_in_line();
-                digits = digits.with_byte(byte);
+                run.add(byte);
             }
-            Ok(None) => return Ok(digits.word(is_negative)),
+            Ok(None) => return Ok(run.says()),
             Err(cut) => return Err(cut),
-        }
-    }
-}
-
-// A run that begins with another byte.
-fn read_name<R: In>(source: &mut Source<R>, first: u8) -> Result<Word, ReadFailed>
-    requires ahead { 0 < length source.old.ahead }
-    requires first { first ≡ slice_index source.old.ahead 0 }
-    requires run { is_separator first ≡ false }
-    requires text { skips_at source.old.place (first ∷ []) ≡ false }
-    requires name { begins_number first ≡ false }
-    ensures text { Along source.old source.new (λ i j.
-        GivesWord result source.old.place (listing_at source.old.place i)
-        (listing_at source.new.place j) j) }
-    ensures fewer { most_to_come source.new < most_to_come source.old }
-    ensures failed { OnErr result (tells_failure source.new.reader ≡ true) }
-    ensures mark { OnOk result
-        (tells_failure source.new.reader ≡ tells_failure source.old.reader) }
-{
-    source.bump();
-    let mut name = Name::new();
-    name.push(first);
-    loop {
-        match source.peek() {
-            Ok(Some(byte)) => {
-                if is_separator(byte) {
-                    return Ok(name.word());
-                }
-                source.bump_in_line();
-                name.push(byte);
-            }
-            Ok(None) => return Ok(name.word()),
-            Err(broken) => return Err(broken),
         }
     }
 }
@@ -236,17 +184,6 @@ fn may_begin_number(byte: u8) -> bool
     ensures { result ≡ begins_number byte }
 {
     byte == b'-' || byte.is_ascii_digit()
-}
-
-// The digits that a number's first byte is.
-fn first_digits(byte: u8) -> Digits
-    ensures { result ≡ first_digits byte }
-{
-    if byte == b'-' {
-        Digits::Nothing
-    } else {
-        Digits::Nothing.with_byte(byte)
-    }
 }
 
 // Whether a comment begins with the byte.

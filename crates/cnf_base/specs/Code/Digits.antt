@@ -46,3 +46,21 @@ pub record AreKept (bytes : List ℕ) (len : ℕ) (is_longer : Bool) (run : List
   pub within : len ≤ 16
   pub whole : is_longer ≡ false → run ≡ take len bytes
   pub longer : is_longer ≡ true → 16 < length run
+
+-- what a number's run has so far
+pub data Spells : Bool → Digits → List ℕ → Type 0 where
+  negative : (s : Digits) (ds : List ℕ) → AreDigits s ds → Spells true s (45 ∷ ds)
+  positive : (s : Digits) (b : ℕ) (bs : List ℕ) → is_digit b ≡ true → AreDigits s (b ∷ bs)
+      → Spells false s (b ∷ bs)
+
+-- a run that begins with another byte
+pub record IsName (run : List ℕ) : Type 0 where
+  pub first : ℕ
+  pub others : List ℕ
+  pub is : run ≡ first ∷ others
+  pub begins : begins_number first ≡ false
+
+-- the first bytes of a run that is no number
+pub record IsKept (bytes : List ℕ) (len : ℕ) (is_longer : Bool) (run : List ℕ) : Type 0 where
+  pub kept : AreKept bytes len is_longer run
+  pub is_name : IsName run

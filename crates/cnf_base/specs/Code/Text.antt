@@ -1,8 +1,9 @@
 -- How the code follows a text, word by word.
-use Rattle.std.specs.Prelude.{ℕ, List, [], ◌∷◌, true, ◌≡◌, Result, Ok, Err}
-use Rattle.cnf_base.specs.Stream.{Suffix, suffix}
+use Rattle.std.specs.Prelude.{ℕ, List, [], ◌∷◌, true, false, ◌≡◌, ◌<◌, Result, Ok, Err, OnOk, OnErr}
+use Rattle.std.specs.Prelude.{length, slice_index}
+use Rattle.cnf_base.specs.Stream.{Suffix, suffix, Stream, Along, most_to_come, tells_failure}
 use Rattle.cnf_base.specs.Text.{col_after, spot, lines_listing, Listing, lines_of, with_front}
-use Rattle.cnf_base.specs.Text.{listed}
+use Rattle.cnf_base.specs.Text.{listed, is_separator, skips_at, listing_at}
 use Rattle.cnf_base.specs.declared.input.Ending.TheVariants.{Failed}
 use Rattle.cnf_base.specs.declared.input.ReadFailed.{ReadFailed}
 use Rattle.cnf_base.specs.declared.place.Place.{Place}
@@ -30,3 +31,18 @@ GivesWord (Err _) p before after rest =
 abbrev pub FailsAt : {A : Type 0} → Result A ReadFailed → Suffix → Type 0
 FailsAt (Ok _) i = Unit {0}
 FailsAt (Err _) i = i ≡ suffix i.offset [] Failed
+
+-- a run begins where a text stands, with this byte, which was shown
+pub record BeginsRun (source : Stream) (byte : ℕ) : Type 0 where
+  pub ahead : 0 < length source.ahead
+  pub first : byte ≡ slice_index source.ahead 0
+  pub run : is_separator byte ≡ false
+  pub text : skips_at source.place (byte ∷ []) ≡ false
+
+-- a run is taken of a text, and its word is the result
+pub record TakesWord (result : Result Word ReadFailed) (old new : Stream) : Type 0 where
+  pub text : Along old new (λ i j.
+      GivesWord result old.place (listing_at old.place i) (listing_at new.place j) j)
+  pub fewer : most_to_come new < most_to_come old
+  pub failed : OnErr result (tells_failure new.reader ≡ true)
+  pub mark : OnOk result (tells_failure new.reader ≡ tells_failure old.reader)

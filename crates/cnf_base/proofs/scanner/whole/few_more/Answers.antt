@@ -1,6 +1,6 @@
 -- A byte that is no digit ends the number, and each digit before goes on with it.
 use Rattle.std.proofs.Common.{◌≤◌, refl, ◌∙◌, arith, inl, inr}
-use Rattle.cnf_base.proofs.WholeLemmas.{most_first, most_small, IsFew-digit, IsFew-ended}
+use Rattle.cnf_base.proofs.WholeLemmas.{most_first, few_small, IsFew-digit, IsFew-ended}
 use Rattle.cnf_base.proofs.scanner.whole.few_more.Goals as goal
 use Rattle.cnf_base.proofs.scanner.whole.few_more.Goals.{then-digit-gt9, else-digit-gt9}
 
@@ -24,21 +24,10 @@ overflow_add-count c =
     ]
 
 pub overflow_mul-value : goal.overflow_mul-value
-overflow_mul-value c =
-    let few = c.requires.few in
-    let inside = c.loop-i-test.true in
-    let most = most_small c.loop-i.i (omega arith) in
-    let small = c.loop-i.invariant.small in
-    omega arith
+overflow_mul-value c = let low = few_small _ _ _ _ _ _ _ c.loop-i.invariant (omega (arith, c.requires.few, c.loop-i-test.true)) in omega arith
 
 pub overflow_add-value : goal.overflow_add-value
-overflow_add-value c =
-    let few = c.requires.few in
-    let inside = c.loop-i-test.true in
-    let most = most_small c.loop-i.i (omega arith) in
-    let small = c.loop-i.invariant.small in
-    let byte = c.from.ensures in
-    omega arith
+overflow_add-value c = let low = few_small _ _ _ _ _ _ _ c.loop-i.invariant (omega (arith, c.requires.few, c.loop-i-test.true)) in omega (arith, c.from.ensures)
 
 pub loop-i-preserved : goal.loop-i-preserved
 loop-i-preserved c =

@@ -1,0 +1,45 @@
+-- A byte of the run is taken, until a separator, the end or a failed read.
+use Rattle.std.proofs.Common.{[], ◌∷◌, ◌++◌, rules}
+use Rattle.cnf_base.proofs.RunLemmas.{InRun-first, InRun-looked, InRun-bumped, InRun-separator}
+use Rattle.cnf_base.proofs.RunLemmas.{InRun-end, InRun-failed}
+use Rattle.cnf_base.proofs.scanner.read_run.Goals as goal
+
+pub loop-byte-init : goal.loop-byte-init
+loop-byte-init g c =
+    let here = c.requires.run in
+    rw c.bump.ensures
+    (c.args.first ∷ [], InRun-first _ _ here.ahead here.first here.run here.text, c.of-run.ensures)
+
+pub loop-byte-preserved : goal.loop-byte-preserved
+loop-byte-preserved g c =
+    let so_far = c.loop-byte.invariant in
+    rw c.bump_in_line.ensures
+    (so_far.0 ++ c.in-Ok-Some.byte ∷ [], InRun-bumped _ _ _ _ (InRun-looked _ _ _ _ so_far.1 c.peek.ensures.look (search rules)) (search rules) (search rules) (search rules), c.add.ensures so_far.0 so_far.2)
+
+pub returns-then-is_separator : goal.returns-then-is_separator
+returns-then-is_separator g c =
+    let so_far = c.loop-byte.invariant in
+    let looked = InRun-looked _ _ _ _ so_far.1 c.peek.ensures.look (search rules) in record {
+      text = InRun-separator _ _ _ _ c.in-Ok-Some.byte (c.says.ensures so_far.0 so_far.2) looked (search rules) (search rules) (search rules);
+      fewer = looked.fewer;
+      failed = tt;
+      mark = looked.mark;
+    }
+
+pub returns-in-Ok-None : goal.returns-in-Ok-None
+returns-in-Ok-None g c =
+    let so_far = c.loop-byte.invariant in
+    let looked = InRun-looked _ _ _ _ so_far.1 c.peek.ensures.look (search rules) in record {
+      text = InRun-end _ _ _ _ (c.says-in-Ok-None.ensures so_far.0 so_far.2) looked (search rules) (search rules);
+      fewer = looked.fewer;
+      failed = tt;
+      mark = looked.mark;
+    }
+
+pub returns-in-Err : goal.returns-in-Err
+returns-in-Err g c = record {
+  text = InRun-failed _ _ _ _ c.loop-byte.invariant.1 c.peek.ensures.look (search rules) (search rules);
+  fewer = search rules;
+  failed = search rules;
+  mark = tt;
+}

@@ -1,0 +1,8 @@
+use Rattle.cnf_base.proofs.WordLemmas.{IsName-more}
+use Rattle.cnf_base.proofs.scanner.run.NameRun.add.Goals as goal
+
+pub returns : goal.returns
+returns c = λ run so_far. record {
+  kept = c.push.ensures.more run so_far.kept;
+  is_name = IsName-more run c.args.byte so_far.is_name;
+}
