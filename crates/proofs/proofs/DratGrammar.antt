@@ -22,7 +22,7 @@ use Rattle.proofs.specs.Grammar.{DratIsGrammar}
 use Rattle.proofs.proofs.PrintedText.{with_literals, drat_step, drat_step_is}
 use Rattle.proofs.proofs.DratPrinting.{literal_move}
 use Rattle.proofs.proofs.GrammarText.{on_word, word_steps, Spelling, Spells, IsSpelling}
-use Rattle.proofs.proofs.GrammarText.{text_spelled, text_read, all_more, list_words, literal_cases}
+use Rattle.proofs.proofs.GrammarText.{text_both_ways, all_more, list_words, literal_cases}
 
 -- ---- The words of a step so far
 
@@ -142,10 +142,4 @@ is_spelling = record {
     ends in_literals s fits start = cc
 
 pub drat_both_ways : DratIsGrammar
-drat_both_ways = record {
-  read_is_written = λ bytes steps reads.
-      let r = text_spelled drat spelling is_spelling bytes steps reads in
-      record { within = r.0; words = r.1 };
-  written_is_read =
-      λ bytes steps is. text_read drat spelling is_spelling bytes steps is.within is.words;
-}
+drat_both_ways = text_both_ways drat spelling is_spelling

@@ -31,7 +31,7 @@ use Rattle.proofs.specs.Reading.{Proof, PlacedStep, clean, faulty_proof, with_st
 use Rattle.proofs.specs.TextSteps.{Move, goes, completes, faults, Format, move_of, on_move}
 use Rattle.proofs.specs.TextSteps.{on_token, literal_or_end, literal_or_fault, steps_among}
 use Rattle.proofs.specs.TextSteps.{steps_of}
-use Rattle.proofs.specs.Grammar.{ReadsAs}
+use Rattle.proofs.specs.Grammar.{ReadsAs, IsTextOf, IsGrammar}
 use Rattle.cnf_base.specs.declared.fault.Fault.{Fault}
 use Rattle.cnf_base.specs.declared.fault.Fault.TheVariants.{Text}
 use Rattle.cnf_base.specs.declared.fault.TextFault.TheVariants.{UnterminatedStep, LiteralTooLarge}
@@ -230,7 +230,7 @@ module _ {Part : Type 0} (format : Format Part) (g : Spelling Part) (is : IsSpel
       ∙ ap (option_map (λ ss. s ∷ ss)) (words_read ss (λ k d l. are (suc k) d (omega arith)))
 
   -- a text that is read as steps has their words
-  pub text_spelled : (bytes : List ℕ) (steps : List Step)
+  text_spelled : (bytes : List ℕ) (steps : List Step)
       → ReadsAs (steps_of format (input_of bytes)) steps
       → All g.IsStep steps × (text_words bytes ≡ flat_map g.whole steps)
   text_spelled bytes steps reads =
@@ -240,13 +240,21 @@ module _ {Part : Type 0} (format : Format Part) (g : Spelling Part) (is : IsSpel
       (r.0, ap (λ ws. ws ++ text_words bytes) (sym is.none) ∙ r.1)
 
   -- and one that has their words is read as them
-  pub text_read : (bytes : List ℕ) (steps : List Step) → All g.IsStep steps
+  text_read : (bytes : List ℕ) (steps : List Step) → All g.IsStep steps
       → text_words bytes ≡ flat_map g.whole steps → ReadsAs (steps_of format (input_of bytes)) steps
   text_read bytes steps are words =
       ReadsAs-bare (steps_of format (input_of bytes)) steps
       (text_bare format bytes
       ∙ ap (λ ws. word_steps format format.start (named 0) (map word_of ws)) words
       ∙ words_read steps are)
+
+  -- so a text is read as steps exactly where its words are theirs
+  pub text_both_ways : IsGrammar (steps_of format) (IsTextOf g.IsStep g.whole)
+  text_both_ways = record {
+    read_is_written = λ bytes steps reads.
+        let r = text_spelled bytes steps reads in record { within = r.0; words = r.1 };
+    written_is_read = λ bytes steps written. text_read bytes steps written.within written.words;
+  }
 
 -- ---- What several formats have
 

@@ -29,7 +29,7 @@ use Rattle.proofs.proofs.PrintedText.{with_literals, with_hints}
 use Rattle.proofs.proofs.LratPrinting.{identifier_move, first_literal_move, literal_move, hint_part}
 use Rattle.proofs.proofs.LratPrinting.{hint_move, hint_zero, step_of}
 use Rattle.proofs.proofs.GrammarText.{on_word, word_steps, Spelling, Spells, IsSpelling}
-use Rattle.proofs.proofs.GrammarText.{text_spelled, text_read, list_words, all_more, literal_cases}
+use Rattle.proofs.proofs.GrammarText.{text_both_ways, list_words, all_more, literal_cases}
 use Rattle.proofs.proofs.GrammarText.{zero_text}
 
 -- ---- The words of a step so far
@@ -37,6 +37,9 @@ use Rattle.proofs.proofs.GrammarText.{zero_text}
 record IsNamed (s : Step) : Type 0 where
   some : 1 ≤ s.id
   small : is_small s.id ≡ true
+
+named_still : (s : Step) (l : Literal) → IsNamed s → IsNamed (with_literal s l)
+named_still s l named = record { some = named.some; small = named.small }
 
 abbrev are_literals : List Literal → Bool
 are_literals ls = list_all (is_literal 268435455) ls
@@ -91,6 +94,11 @@ identifier_spelled s run n spelled =
         let text : run ≡ decimal n.size = (spelled most).0 ∙ ap (λ v. number_text v n.size) m in
         ((record { some = some; small = e }, refl), ap (λ w. w ∷ []) (sym text))
 
+-- the text of a literal goes on with it
+abbrev TakesLiteral : LratSpot → Step → List ℕ → Type 0
+TakesLiteral part s run = (l : Literal) → is_literal 268435455 l ≡ true → run ≡ literal_text l
+    → Spells spelling part s run (goes in_literals (with_literal s l))
+
 -- a literal just after the identifier, or the `0` there
 first_spelled : (s : Step) (run : List ℕ) (n : Number) → Fits after_identifier s
     → IsSpelled (words.Number n) run → Spells spelling after_identifier s run (literal s n)
@@ -101,11 +109,10 @@ first_spelled s run n fits spelled =
     none : s.lits ≡ []
     none = ap (λ t. t.lits) fits.1
 
-    taken : (l : Literal) → is_literal 268435455 l ≡ true → run ≡ literal_text l
-        → Spells spelling after_identifier s run (goes in_literals (with_literal s l))
+    taken : TakesLiteral after_identifier s run
     taken l is text = (
       (
-        record { some = fits.0.some; small = fits.0.small },
+        named_still s l fits.0,
         ap (λ t. t.kind) fits.1,
         ap (λ ls. are_literals (ls ++ l ∷ [])) none ∙ ap (λ v. v && true) is,
         ap (λ t. t.hints) fits.1,
@@ -133,11 +140,10 @@ literal_spelled s run n fits spelled =
     literal_cases (Spells spelling in_literals s run) in_literals (goes in_hints) s n run spelled
     tt taken ended
   where
-    taken : (l : Literal) → is_literal 268435455 l ≡ true → run ≡ literal_text l
-        → Spells spelling in_literals s run (goes in_literals (with_literal s l))
+    taken : TakesLiteral in_literals s run
     taken l is text = (
       (
-        record { some = fits.0.some; small = fits.0.small },
+        named_still s l fits.0,
         fits.1,
         all_more (is_literal 268435455) s.lits l fits.2 is,
         fits.3,
@@ -370,10 +376,4 @@ is_spelling = record {
     ends in_deletion s fits start = absurd (inside start)
 
 pub lrat_both_ways : LratIsGrammar
-lrat_both_ways = record {
-  read_is_written = λ bytes steps reads.
-      let r = text_spelled lrat spelling is_spelling bytes steps reads in
-      record { within = r.0; words = r.1 };
-  written_is_read =
-      λ bytes steps is. text_read lrat spelling is_spelling bytes steps is.within is.words;
-}
+lrat_both_ways = text_both_ways lrat spelling is_spelling

@@ -4,6 +4,7 @@ use Rattle.std.specs.Prelude.{◌≡◌, ℕ, ◌<◌, List, map, None, All}
 use Rattle.std.specs.List.{flat_map}
 use Rattle.cnf_base.specs.Grammar.{text_words}
 use Rattle.cnf_base.specs.Printing.{input_of}
+use Rattle.cnf_base.specs.Stream.{Input}
 use Rattle.proofs.specs.Steps.{Step}
 use Rattle.proofs.specs.Reading.{Proof}
 use Rattle.proofs.specs.Drat.{drat_steps}
@@ -16,33 +17,33 @@ pub record ReadsAs (p : Proof) (steps : List Step) : Type 0 where
   pub all : map (λ placed. placed.step) p.steps ≡ steps
   pub no_fault : p.fault ≡ None
 
--- ---- DRAT
+-- ---- Text
 
 -- a text whose words are those of these steps, one after another, however they stand in lines
-pub record IsDratText (bytes : List ℕ) (steps : List Step) : Type 0 where
-  pub within : All IsDratStep steps
-  pub words : text_words bytes ≡ flat_map (λ s. drat_words s.kind s.lits) steps
+pub record IsTextOf (IsStep : Step → Type 0) (step_words : Step → List (List ℕ)) (bytes : List ℕ)
+    (steps : List Step) : Type 0 where
+  pub within : All IsStep steps
+  pub words : text_words bytes ≡ flat_map step_words steps
 
--- A text is read as DRAT steps exactly where it is theirs.
-pub record DratIsGrammar : Type 0 where
+-- A text is read as steps exactly where it is theirs.
+pub record IsGrammar (read : Input → Proof) (IsText : List ℕ → List Step → Type 0) : Type 0 where
   pub read_is_written : (bytes : List ℕ) (steps : List Step)
-      → ReadsAs (drat_steps (input_of bytes)) steps → IsDratText bytes steps
+      → ReadsAs (read (input_of bytes)) steps → IsText bytes steps
   pub written_is_read : (bytes : List ℕ) (steps : List Step)
-      → IsDratText bytes steps → ReadsAs (drat_steps (input_of bytes)) steps
+      → IsText bytes steps → ReadsAs (read (input_of bytes)) steps
 
--- ---- LRAT
+abbrev pub IsDratText : List ℕ → List Step → Type 0
+IsDratText bytes steps = IsTextOf IsDratStep (λ s. drat_words s.kind s.lits) bytes steps
 
--- a text whose words are those of these steps, one after another, however they stand in lines
-pub record IsLratText (bytes : List ℕ) (steps : List Step) : Type 0 where
-  pub within : All IsLratStep steps
-  pub words : text_words bytes ≡ flat_map (λ s. lrat_words s.kind s.id s.lits s.hints) steps
+abbrev pub DratIsGrammar : Type 0
+DratIsGrammar = IsGrammar drat_steps IsDratText
 
--- A text is read as LRAT steps exactly where it is theirs.
-pub record LratIsGrammar : Type 0 where
-  pub read_is_written : (bytes : List ℕ) (steps : List Step)
-      → ReadsAs (lrat_steps (input_of bytes)) steps → IsLratText bytes steps
-  pub written_is_read : (bytes : List ℕ) (steps : List Step)
-      → IsLratText bytes steps → ReadsAs (lrat_steps (input_of bytes)) steps
+abbrev pub IsLratText : List ℕ → List Step → Type 0
+IsLratText bytes steps =
+    IsTextOf IsLratStep (λ s. lrat_words s.kind s.id s.lits s.hints) bytes steps
+
+abbrev pub LratIsGrammar : Type 0
+LratIsGrammar = IsGrammar lrat_steps IsLratText
 
 -- ---- Binary DRAT
 
