@@ -23,7 +23,7 @@ use Rattle.proofs.specs.Binary.{binary_move_of, on_binary_move, binary_at_end, b
 use Rattle.proofs.specs.Binary.{binary_steps_at}
 use Rattle.proofs.specs.Code.BinaryMoves.{MovesBinary, binary_left}
 use Rattle.proofs.specs.declared.moved.Moved.{Moved}
-use Rattle.proofs.specs.declared.drat_binary.part.Part.{Part}
+use Rattle.proofs.specs.declared.drat_binary.part.BinaryPart.{BinaryPart}
 use Rattle.proofs.specs.declared.drat_binary.stopped.Stopped.{Stopped}
 use Rattle.proofs.proofs.ReachLemmas.{on_binary_move-from, binary_steps_among-from}
 use Rattle.proofs.proofs.TextLemmas.{gives_fault}
@@ -126,9 +126,9 @@ module _ (old now new : Stream) (spot : BinarySpot) (s : Step) (so_far : Between
   ))
 
 -- what a byte was found to do, by the answer's pattern, and by the byte's number
-pub moves_told : (result answer : Result (Moved Part) Stopped) (spot : BinarySpot) (s t : Step) (at known b : ℕ)
+pub moves_told : (result answer : Result (Moved BinaryPart) Stopped) (spot : BinarySpot) (s t : Step) (at known b : ℕ)
     → MovesBinary result (binary_move_of spot s at b) t → at ≡ known → result ≡ answer → MovesBinary answer (binary_move_of spot s known b) t
 moves_told result answer spot s t at known b moves number is =
-    let P : Result (Moved Part) Stopped → Type 0 = λ r. MovesBinary r (binary_move_of spot s known b) t in
+    let P : Result (Moved BinaryPart) Stopped → Type 0 = λ r. MovesBinary r (binary_move_of spot s known b) t in
     let Q : ℕ → Type 0 = λ n. MovesBinary result (binary_move_of spot s n b) t in
     subst P is (subst Q number moves)

@@ -19,7 +19,7 @@ use crate::moved::Moved;
 use crate::{StepBuf, StepEnd, StepReader};
 use cnf_base::{BinaryFault, Fault, In, ReadFailed, Source};
 use moves::move_on;
-use part::Part;
+use part::BinaryPart;
 use std::marker::Model;
 use stopped::Stopped;
 
@@ -113,7 +113,7 @@ fn read_step<R: In>(
     ensures tells { TellsOf result source.old.reader source.new.reader }
 {
     step.name(0);
-    let mut part = Part::Tag;
+    let mut part = BinaryPart::Tag;
     loop {
         let byte_no = source.byte_no();
         match source.peek() {
@@ -136,14 +136,14 @@ fn read_step<R: In>(
 }
 
 // What the end of the input means.
-fn at_end(part: Part, byte_no: u64) -> Result<bool, Fault>
+fn at_end(part: BinaryPart, byte_no: u64) -> Result<bool, Fault>
     ensures value { (spot : BinarySpot) → IsAt part spot →
         EndsProof result (binary_at_end spot byte_no End) }
     ensures read { result ≢ Err Fault.ReadFailed }
 {
     match part {
-        Part::Tag => Ok(false),
-        Part::Literals | Part::Number(_) => {
+        BinaryPart::Tag => Ok(false),
+        BinaryPart::Literals | BinaryPart::Number(_) => {
             Err(Fault::Binary(BinaryFault::UnterminatedStep, byte_no))
         }
     }

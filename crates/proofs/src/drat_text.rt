@@ -3,8 +3,8 @@
 mod moves;
 mod part;
 
-use crate::text::Text;
-use part::Part;
+use crate::text::TextReader;
+use part::DratPart;
 
 /// A proof in DRAT as text.
-pub type DratText<R> = Text<R, Part>;
+pub type DratText<R> = TextReader<R, DratPart>;

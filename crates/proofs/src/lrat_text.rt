@@ -3,8 +3,8 @@
 mod moves;
 mod part;
 
-use crate::text::Text;
-use part::Part;
+use crate::text::TextReader;
+use part::LratPart;
 
 /// A proof in LRAT as text.
-pub type LratText<R> = Text<R, Part>;
+pub type LratText<R> = TextReader<R, LratPart>;

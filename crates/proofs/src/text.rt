@@ -18,7 +18,7 @@ use cnf_base::{Fault, In, Number, Place, ReadFailed, Scanner, Source, TextFault,
 use std::marker::{Model, PhantomData};
 
 /// Where a word of a step stands, in a format that is text. A format says what a number and a `d` do in each part.
-pub trait Part: Copy {
+pub trait TextPart: Copy {
     /// Where a word may stand, as the format says it.
     ghost Spot: { Type 0 };
 
@@ -57,14 +57,14 @@ pub trait Part: Copy {
 /// A proof as text, over any number of lines, in the format whose parts these are. It holds no more than the words of one
 /// step, in the buffer that the caller lends.
 #[derive(Drop)]
-pub struct Text<R: In, P: Part> {
+pub struct TextReader<R: In, P: TextPart> {
     scanner: Scanner<R>,
     kept: Option<Result<bool, Fault>>,
     end: Option<StepEnd>,
     parts: PhantomData<P>,
 }
 
-impl<R: In, P: Part> Model for Text<R, P> {
+impl<R: In, P: TextPart> Model for TextReader<R, P> {
     ghost use Rattle.std.specs.Prelude.{◌≡◌, []};
     ghost use Rattle.std.specs.List.{sum};
     ghost use Rattle.proofs.specs.Reading.{ProofReading};
@@ -84,12 +84,12 @@ impl<R: In, P: Part> Model for Text<R, P> {
     ghost invariant = { λ r. EndsRightly (view r) × ((view r).stored ≡ 0) };
 }
 
-impl<R: In, P: Part> Text<R, P> {
+impl<R: In, P: TextPart> TextReader<R, P> {
     /// A reader that stands where the source does. It reads nothing and takes no memory.
     pub fn new(source: Source<R>) -> Self
         ensures { result ≡ record { stream = source; kept = None; step_end = None; stored = 0 } }
     {
-        Text {
+        TextReader {
             scanner: Scanner::new(source),
             kept: None,
             end: None,
@@ -106,7 +106,7 @@ impl<R: In, P: Part> Text<R, P> {
     }
 }
 
-impl<R: In, P: Part> StepReader for Text<R, P> {
+impl<R: In, P: TextPart> StepReader for TextReader<R, P> {
     ghost stream = { λ r. r.stream };
 
     ghost kept = { λ r. r.kept };
@@ -135,7 +135,7 @@ impl<R: In, P: Part> StepReader for Text<R, P> {
 }
 
 // The step that begins with the next word, and where it ends. `start` is where a first word stands.
-fn read_step<R: In, P: Part>(
+fn read_step<R: In, P: TextPart>(
     start: P,
     scanner: &mut Scanner<R>,
     step: &mut StepBuf,
@@ -171,7 +171,7 @@ fn read_step<R: In, P: Part>(
 }
 
 // Puts a word into the step.
-fn move_on<P: Part>(part: P, step: &mut StepBuf, word: Word) -> Result<Moved<P>, Stopped>
+fn move_on<P: TextPart>(part: P, step: &mut StepBuf, word: Word) -> Result<Moved<P>, Stopped>
     requires { IsTrue (P.fits part step.old) }
     ensures moves { MovesText P.spot result
         (move_of P.format (P.spot part) step.old word) step.new }
@@ -185,7 +185,7 @@ fn move_on<P: Part>(part: P, step: &mut StepBuf, word: Word) -> Result<Moved<P>,
 }
 
 // What the end of the input means.
-fn at_end<P: Part>(part: P, place: Place) -> Result<bool, Fault>
+fn at_end<P: TextPart>(part: P, place: Place) -> Result<bool, Fault>
     ensures value { EndsProof result (at_end P.format (P.spot part) place End) }
     ensures read { result ≢ Err Fault.ReadFailed }
 {

@@ -8,8 +8,8 @@ use Rattle.proofs.specs.Binary.{goes, completes, faults, binary_steps_at}
 use Rattle.proofs.specs.Reading.{Proof, clean, faulty_proof}
 use Rattle.proofs.specs.Steps.{Step}
 use Rattle.proofs.specs.declared.drat_binary.groups.Groups.{Groups}
-use Rattle.proofs.specs.declared.drat_binary.part.Part.TheVariants as part
-use Rattle.proofs.specs.declared.drat_binary.part.Part.{Part}
+use Rattle.proofs.specs.declared.drat_binary.part.BinaryPart.TheVariants as part
+use Rattle.proofs.specs.declared.drat_binary.part.BinaryPart.{BinaryPart}
 use Rattle.proofs.specs.declared.drat_binary.stopped.Stopped.TheVariants.{Binary, OutOfMemory}
 use Rattle.proofs.specs.declared.drat_binary.stopped.Stopped.{Stopped}
 use Rattle.proofs.specs.declared.moved.Moved.TheVariants.{To, Complete}
@@ -21,14 +21,14 @@ pub record KeepsGroups (g : Groups) (bytes : List ℕ) : Type 0 where
   pub weight : g.weight ≡ min (128 ^ length bytes) (2 ^ 64 - 1)
 
 -- the reader stands there
-abbrev pub IsAt : Part → BinarySpot → Type 0
+abbrev pub IsAt : BinaryPart → BinarySpot → Type 0
 IsAt part.Tag spot = spot ≡ at_tag
 IsAt part.Literals spot = spot ≡ in_step
 IsAt (part.Number g) spot =
     (bytes : List ℕ) × (spot ≡ in_number g.first bytes) × KeepsGroups g bytes
 
 -- the step after the byte; a refused growth says nothing
-abbrev pub MovesBinary : Result (Moved Part) Stopped → BinaryMove → Step → Type 0
+abbrev pub MovesBinary : Result (Moved BinaryPart) Stopped → BinaryMove → Step → Type 0
 MovesBinary (Ok (To part)) move step =
     (spot : BinarySpot) × (move ≡ goes spot step) × IsAt part spot
 MovesBinary (Ok Complete) move step = move ≡ completes step

@@ -6,7 +6,7 @@ ghost use Rattle.proofs.specs.Binary.{binary_number_move};
 ghost use Rattle.proofs.specs.Code.BinaryMoves.{KeepsGroups, IsAt, MovesBinary};
 
 use super::groups::Groups;
-use super::part::Part;
+use super::part::BinaryPart;
 use super::stopped::Stopped;
 use crate::StepBuf;
 use crate::moved::Moved;
@@ -14,27 +14,27 @@ use cnf_base::{BinaryFault, Lit, Number};
 
 /// Puts the byte with this number into the step.
 pub fn move_on(
-    part: Part,
+    part: BinaryPart,
     step: &mut StepBuf,
     byte_no: u64,
     byte: u8,
-) -> Result<Moved<Part>, Stopped>
+) -> Result<Moved<BinaryPart>, Stopped>
     ensures { (spot : BinarySpot) → IsAt part spot →
         MovesBinary result (binary_move_of spot step.old byte_no byte) step.new }
 {
     match part {
-        Part::Tag => take_tag(step, byte_no, byte),
-        Part::Literals => {
+        BinaryPart::Tag => take_tag(step, byte_no, byte),
+        BinaryPart::Literals => {
             if byte == 0 {
                 return Ok(Moved::Complete);
             }
             take_group(Groups::new(byte_no), step, byte)
         }
-        Part::Number(groups) => take_group(groups, step, byte),
+        BinaryPart::Number(groups) => take_group(groups, step, byte),
     }
 }
 
-fn take_tag(step: &mut StepBuf, byte_no: u64, byte: u8) -> Result<Moved<Part>, Stopped>
+fn take_tag(step: &mut StepBuf, byte_no: u64, byte: u8) -> Result<Moved<BinaryPart>, Stopped>
     ensures { MovesBinary result (tag_move step.old byte_no byte) step.new }
 {
     match byte {
@@ -42,23 +42,23 @@ fn take_tag(step: &mut StepBuf, byte_no: u64, byte: u8) -> Result<Moved<Part>, S
         b'd' => step.delete(),
         _ => return Err(Stopped::Binary(BinaryFault::BadTag, byte_no)),
     }
-    Ok(Moved::To(Part::Literals))
+    Ok(Moved::To(BinaryPart::Literals))
 }
 
 // One more byte of a number.
-fn take_group(groups: Groups, step: &mut StepBuf, byte: u8) -> Result<Moved<Part>, Stopped>
+fn take_group(groups: Groups, step: &mut StepBuf, byte: u8) -> Result<Moved<BinaryPart>, Stopped>
     ensures { (bytes : List ℕ) → KeepsGroups groups bytes →
         MovesBinary result (group_move step.old groups.first bytes byte) step.new }
 {
     let groups = groups.with(byte);
     if byte >= 128 {
-        return Ok(Moved::To(Part::Number(groups)));
+        return Ok(Moved::To(BinaryPart::Number(groups)));
     }
     take_number(groups, step, byte)
 }
 
 // A whole number, with its last byte.
-fn take_number(groups: Groups, step: &mut StepBuf, last: u8) -> Result<Moved<Part>, Stopped>
+fn take_number(groups: Groups, step: &mut StepBuf, last: u8) -> Result<Moved<BinaryPart>, Stopped>
     ensures { MovesBinary result (binary_number_move step.old groups.first last groups.value)
         step.new }
 {
@@ -78,5 +78,5 @@ fn take_number(groups: Groups, step: &mut StepBuf, last: u8) -> Result<Moved<Par
     if step.push_literal(lit).is_err() {
         return Err(Stopped::OutOfMemory);
     }
-    Ok(Moved::To(Part::Literals))
+    Ok(Moved::To(BinaryPart::Literals))
 }

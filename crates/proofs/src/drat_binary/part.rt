@@ -4,7 +4,7 @@ use super::groups::Groups;
 
 /// Where a byte of a step stands.
 #[derive(Clone, Copy)]
-pub enum Part {
+pub enum BinaryPart {
     Tag,
     Literals,
     Number(Groups),

@@ -4,13 +4,13 @@ ghost use Rattle.std.specs.Prelude.{true};
 ghost use Rattle.proofs.specs.Drat.{DratSpot, drat};
 ghost use Rattle.proofs.specs.Code.DratMoves.{drat_spot};
 
-use super::part::Part;
+use super::part::DratPart;
 use crate::moved::Moved;
 use crate::stopped::Stopped;
 use crate::{StepBuf, text};
 use cnf_base::{Lit, Number, TextFault};
 
-impl text::Part for Part {
+impl text::TextPart for DratPart {
     ghost Spot = { DratSpot };
 
     ghost spot = { drat_spot };
@@ -19,15 +19,15 @@ impl text::Part for Part {
 
     ghost fits = { λ _ _. true };
 
-    fn start() -> Part {
-        Part::Start
+    fn start() -> DratPart {
+        DratPart::Start
     }
 
     fn is_start(self) -> bool {
-        matches!(self, Part::Start)
+        matches!(self, DratPart::Start)
     }
 
-    fn take_number(self, step: &mut StepBuf, number: Number) -> Result<Moved<Part>, Stopped> {
+    fn take_number(self, step: &mut StepBuf, number: Number) -> Result<Moved<DratPart>, Stopped> {
         if number.size > u64::from(Lit::MAX_VAR) {
             return Err(Stopped::Text(TextFault::LiteralTooLarge));
         }
@@ -35,16 +35,16 @@ impl text::Part for Part {
             return Ok(Moved::Complete);
         };
         step.push_literal(lit)?;
-        Ok(Moved::To(Part::Literals))
+        Ok(Moved::To(DratPart::Literals))
     }
 
-    fn take_d(self, step: &mut StepBuf) -> Result<Moved<Part>, Stopped> {
+    fn take_d(self, step: &mut StepBuf) -> Result<Moved<DratPart>, Stopped> {
         match self {
-            Part::Start => {
+            DratPart::Start => {
                 step.delete();
-                Ok(Moved::To(Part::Literals))
+                Ok(Moved::To(DratPart::Literals))
             }
-            Part::Literals => Err(Stopped::Text(TextFault::BadToken)),
+            DratPart::Literals => Err(Stopped::Text(TextFault::BadToken)),
         }
     }
 }

@@ -5,7 +5,7 @@ ghost use Rattle.proofs.specs.Lrat.{LratSpot, lrat, identifier, literal, hint, d
 ghost use Rattle.proofs.specs.Code.TextMoves.{FitsMoved, MovesText};
 ghost use Rattle.proofs.specs.Code.LratMoves.{lrat_spot, fits_part, is_addition};
 
-use super::part::Part;
+use super::part::LratPart;
 use crate::moved::Moved;
 use crate::stopped::Stopped;
 use crate::{StepBuf, text};
@@ -13,7 +13,7 @@ use cnf_base::{Lit, Number, TextFault};
 
 const MOST: u64 = 9223372036854775807;
 
-impl text::Part for Part {
+impl text::TextPart for LratPart {
     ghost Spot = { LratSpot };
 
     ghost spot = { lrat_spot };
@@ -22,37 +22,37 @@ impl text::Part for Part {
 
     ghost fits = { fits_part };
 
-    fn start() -> Part {
-        Part::Identifier
+    fn start() -> LratPart {
+        LratPart::Identifier
     }
 
     fn is_start(self) -> bool {
-        matches!(self, Part::Identifier)
+        matches!(self, LratPart::Identifier)
     }
 
-    fn take_number(self, step: &mut StepBuf, number: Number) -> Result<Moved<Part>, Stopped> {
+    fn take_number(self, step: &mut StepBuf, number: Number) -> Result<Moved<LratPart>, Stopped> {
         match self {
-            Part::Identifier => take_identifier(step, number),
-            Part::AfterIdentifier | Part::Literals => take_literal(step, number),
-            Part::Hints => take_hint(step, number),
-            Part::Deletion => take_deleted(step, number),
+            LratPart::Identifier => take_identifier(step, number),
+            LratPart::AfterIdentifier | LratPart::Literals => take_literal(step, number),
+            LratPart::Hints => take_hint(step, number),
+            LratPart::Deletion => take_deleted(step, number),
         }
     }
 
-    fn take_d(self, step: &mut StepBuf) -> Result<Moved<Part>, Stopped> {
+    fn take_d(self, step: &mut StepBuf) -> Result<Moved<LratPart>, Stopped> {
         match self {
-            Part::AfterIdentifier => {
+            LratPart::AfterIdentifier => {
                 step.delete();
-                Ok(Moved::To(Part::Deletion))
+                Ok(Moved::To(LratPart::Deletion))
             }
-            Part::Identifier | Part::Literals | Part::Hints | Part::Deletion => {
+            LratPart::Identifier | LratPart::Literals | LratPart::Hints | LratPart::Deletion => {
                 Err(Stopped::Text(TextFault::BadToken))
             }
         }
     }
 }
 
-fn take_identifier(step: &mut StepBuf, number: Number) -> Result<Moved<Part>, Stopped>
+fn take_identifier(step: &mut StepBuf, number: Number) -> Result<Moved<LratPart>, Stopped>
     ensures moves { MovesText lrat_spot result (identifier number) step.new }
     ensures fits { FitsMoved fits_part result step.new }
 {
@@ -63,10 +63,10 @@ fn take_identifier(step: &mut StepBuf, number: Number) -> Result<Moved<Part>, St
         return Err(past_limit());
     }
     step.name(number.size);
-    Ok(Moved::To(Part::AfterIdentifier))
+    Ok(Moved::To(LratPart::AfterIdentifier))
 }
 
-fn take_literal(step: &mut StepBuf, number: Number) -> Result<Moved<Part>, Stopped>
+fn take_literal(step: &mut StepBuf, number: Number) -> Result<Moved<LratPart>, Stopped>
     requires { IsTrue (is_addition step.old.kind) }
     ensures moves { MovesText lrat_spot result (literal step.old number) step.new }
     ensures fits { FitsMoved fits_part result step.new }
@@ -75,13 +75,13 @@ fn take_literal(step: &mut StepBuf, number: Number) -> Result<Moved<Part>, Stopp
         return Err(Stopped::Text(TextFault::LiteralTooLarge));
     }
     let Some(lit) = Lit::from_number(number) else {
-        return Ok(Moved::To(Part::Hints));
+        return Ok(Moved::To(LratPart::Hints));
     };
     step.push_literal(lit)?;
-    Ok(Moved::To(Part::Literals))
+    Ok(Moved::To(LratPart::Literals))
 }
 
-fn take_hint(step: &mut StepBuf, number: Number) -> Result<Moved<Part>, Stopped>
+fn take_hint(step: &mut StepBuf, number: Number) -> Result<Moved<LratPart>, Stopped>
     requires { IsTrue (is_addition step.old.kind) }
     ensures moves { MovesText lrat_spot result (hint step.old number) step.new }
     ensures fits { FitsMoved fits_part result step.new }
@@ -93,10 +93,10 @@ fn take_hint(step: &mut StepBuf, number: Number) -> Result<Moved<Part>, Stopped>
         return Ok(Moved::Complete);
     }
     step.push_hint(signed(number))?;
-    Ok(Moved::To(Part::Hints))
+    Ok(Moved::To(LratPart::Hints))
 }
 
-fn take_deleted(step: &mut StepBuf, number: Number) -> Result<Moved<Part>, Stopped>
+fn take_deleted(step: &mut StepBuf, number: Number) -> Result<Moved<LratPart>, Stopped>
     ensures moves { MovesText lrat_spot result (deleted step.old number) step.new }
     ensures fits { FitsMoved fits_part result step.new }
 {
@@ -110,7 +110,7 @@ fn take_deleted(step: &mut StepBuf, number: Number) -> Result<Moved<Part>, Stopp
         return Ok(Moved::Complete);
     }
     step.push_hint(number.size as i64)?;
-    Ok(Moved::To(Part::Deletion))
+    Ok(Moved::To(LratPart::Deletion))
 }
 
 fn signed(number: Number) -> i64

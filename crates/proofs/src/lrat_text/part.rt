@@ -2,7 +2,7 @@
 
 /// Where a word of a step stands.
 #[derive(Clone, Copy)]
-pub enum Part {
+pub enum LratPart {
     Identifier,
     AfterIdentifier,
     Literals,

@@ -2,14 +2,14 @@
 use Rattle.std.proofs.Common.{◌≡◌, ◌==◌, [], false, cond, ap, sym, ◌∙◌, subst, rules}
 use Rattle.proofs.specs.Binary.{in_step, BinaryMove, completes, group_move, binary_move_of}
 use Rattle.proofs.specs.Code.BinaryMoves.{IsAt, MovesBinary}
-use Rattle.proofs.specs.declared.drat_binary.part.Part.{Part}
+use Rattle.proofs.specs.declared.drat_binary.part.BinaryPart.{BinaryPart}
 use Rattle.proofs.proofs.drat_binary.moves.move_on.Goals as goal
 
 pub returns-else-byte-eq0 : goal.returns-else-byte-eq0
 returns-else-byte-eq0 c = λ spot at.
     let b = c.args.byte in
     let s = c.args.step.now in
-    let At : Part → Type 0 = λ p. IsAt p spot in
+    let At : BinaryPart → Type 0 = λ p. IsAt p spot in
     let place : spot ≡ in_step = subst At c.in-Literals.is at in
     let other : (b == 0) ≡ false = search rules in
     let same : group_move s c.new.result.first [] b ≡ binary_move_of spot s c.args.byte_no b =
