@@ -1,11 +1,9 @@
 pub mod Entries
 pub mod Fields
-pub mod Ids
 pub mod Index
 pub mod Indexed
 pub mod Marks
 pub mod Options
-pub mod Pages
 pub mod Search
 pub mod Sums
 pub mod Swap

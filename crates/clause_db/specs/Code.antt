@@ -3,7 +3,6 @@ pub mod Buckets
 pub mod Entries
 pub mod Fields
 pub mod Hashes
-pub mod Ids
 pub mod Index
 pub mod Indexed
 pub mod LiteralMarks

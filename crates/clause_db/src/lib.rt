@@ -1,9 +1,8 @@
-//! The live clauses of a proof checker, and their identifiers.
+//! The live clauses of a proof checker.
 #![tactic(auto)]
 
 mod store;
 
+pub use ids::{Ids, Slot};
 pub use store::Store;
-pub use store::ids::Ids;
 pub use store::index::{Index, Indexing, NoIndex};
-pub use store::slot::Slot;

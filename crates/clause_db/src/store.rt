@@ -2,12 +2,10 @@
 
 mod buckets;
 mod entry;
-pub(crate) mod ids;
 pub(crate) mod index;
 mod mark;
 mod marks;
 mod search;
-pub(crate) mod slot;
 
 ghost use Rattle.std.specs.Prelude.{◌≡◌, ◌≢◌, ℕ, ◌+◌, ◌-◌, ◌<◌, ◌≤◌, ◌==◌, ◌++◌, [], ◌∷◌, ◌^◌, min};
 ghost use Rattle.std.specs.Prelude.{true, false, Some, None, option_map, length, if◌then◌else◌};
@@ -20,13 +18,13 @@ ghost use Rattle.clause_db.specs.Store.{literals_in, copies_with};
 ghost use Rattle.clause_db.specs.Code.LiteralMarks.{is_marked, mark_count};
 ghost use Rattle.tables.specs.Table.{at};
 
-use crate::Slot;
 use crate::store::entry::{Entry, swap_literals};
 use crate::store::index::{Index, Indexing, NoIndex};
 use crate::store::mark::Mark;
 use crate::store::marks::{all_known, count_all, gather, mark_all, mark_new, release, unmark_all};
 use crate::store::search::find_marked;
 use cnf_base::{Lit, OutOfMemory};
+use ids::Slot;
 use slab::Slab;
 use smallvec::SmallVec;
 use std::alloc::Global;
@@ -76,10 +74,8 @@ impl<I: Indexing> Model for Store<I> {
 /// A store with more clauses would take far more memory than there is. Counts and places have four bytes.
 const MOST: usize = 4294967295;
 
-/// Makes room for one more clause of so many literals.
-fn make_room(alloc: Global, entries: &mut Slab<Entry>, len: usize) -> Result<Entry, OutOfMemory>
-    ensures empty { IfOk result (λ e. e.lits.items ≡ []) }
-    ensures wide { IfOk result (λ e. len ≤ e.lits.capacity) }
+/// Makes room for one more clause.
+fn make_room(entries: &mut Slab<Entry>) -> Result<(), OutOfMemory>
     ensures room { OnOk result (HasRoomFor entries.new 1) }
     ensures few { OnOk result (slab_len entries.new < 4294967295) }
     ensures slots { entries.new.slots ≡ entries.old.slots }
@@ -88,25 +84,8 @@ fn make_room(alloc: Global, entries: &mut Slab<Entry>, len: usize) -> Result<Ent
     if entries.len() >= MOST {
         return Err(OutOfMemory);
     }
-    let lits = SmallVec::with_capacity(alloc, len)?;
     entries.reserve(1)?;
-    Ok(Entry { lits })
-}
-
-/// Makes room for one more clause, which repeats no literal, and copies its literals.
-fn make_copy(alloc: Global, entries: &mut Slab<Entry>, lits: &[Lit]) -> Result<Entry, OutOfMemory>
-    ensures items { IfOk result (λ e. e.lits.items ≡ lits.now) }
-    ensures room { OnOk result (HasRoomFor entries.new 1) }
-    ensures few { OnOk result (slab_len entries.new < 4294967295) }
-    ensures slots { entries.new.slots ≡ entries.old.slots }
-    ensures key { entries.new.vacant_key ≡ entries.old.vacant_key }
-{
-    if entries.len() >= MOST {
-        return Err(OutOfMemory);
-    }
-    let lits = SmallVec::from_slice(alloc, lits)?;
-    entries.reserve(1)?;
-    Ok(Entry { lits })
+    Ok(())
 }
 
 /// Makes room for a clause with these literals, and counts each of them. Where memory is refused, nothing is counted.
@@ -133,13 +112,17 @@ fn take_in(
 {
     if let Ok(len) = mark_new(marks, lits) {
         if len == lits.len() {
-            if let Ok(entry) = make_copy(alloc, entries, lits) {
+            if let Ok(copy) = SmallVec::from_slice(alloc, lits)
+                && make_room(entries).is_ok()
+            {
                 count_all(marks, lits);
-                return Ok(entry);
+                return Ok(Entry { lits: copy });
             }
-        } else if let Ok(mut entry) = make_room(alloc, entries, len) {
-            gather(marks, lits, &mut entry.lits);
-            return Ok(entry);
+        } else if let Ok(mut kept) = SmallVec::with_capacity(alloc, len)
+            && make_room(entries).is_ok()
+        {
+            gather(marks, lits, &mut kept);
+            return Ok(Entry { lits: kept });
         }
     }
     unmark_all(marks, lits);

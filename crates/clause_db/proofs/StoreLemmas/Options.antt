@@ -6,10 +6,6 @@ pub if_none_then : {T : Type 0} (o : Option T) {P Q : Type 0} → IfNone o P →
 if_none_then None h f = f h
 if_none_then (Some x) h f = tt
 
-pub if_none_always : {T : Type 0} (o : Option T) {P : Type 0} → P → IfNone o P
-if_none_always None h = h
-if_none_always (Some x) h = tt
-
 pub if_some_then : (o : Option ℕ) {P Q : ℕ → Type 0} → ((x : ℕ) → P x → Q x) → IfSome o P → IfSome o Q
 if_some_then None f h = tt
 if_some_then (Some x) f h = f x h

@@ -16,6 +16,18 @@ pub(crate) struct Mark {
     pub(crate) marked: bool,
 }
 
+impl Mark {
+    fn with(self, marked: bool) -> Mark
+        ensures count { result.count ≡ self.count }
+        ensures marked { result.marked ≡ marked }
+    {
+        Mark {
+            count: self.count,
+            marked,
+        }
+    }
+}
+
 /// A literal spread over the words, by the seed.
 #[tactic(auto, unfolding(crate::specs::Code::Hashes::mix))]
 pub(crate) fn mixed(seed: u64, l: Lit) -> u64
@@ -47,11 +59,7 @@ pub(crate) fn set_mark(marks: &mut Table<Mark>, l: Lit) -> bool
 {
     match marks.get(key(l)) {
         Some(mark) => {
-            let marked = Mark {
-                count: mark.count,
-                marked: true,
-            };
-            marks.set(key(l), marked);
+            marks.set(key(l), mark.with(true));
             !mark.marked
         }
         None => true,
@@ -71,11 +79,7 @@ pub(crate) fn add_mark(marks: &mut Table<Mark>, l: Lit) -> Result<bool, OutOfMem
 {
     match marks.get(key(l)) {
         Some(mark) => {
-            let marked = Mark {
-                count: mark.count,
-                marked: true,
-            };
-            marks.set(key(l), marked);
+            marks.set(key(l), mark.with(true));
             Ok(!mark.marked)
         }
         None => {
@@ -97,11 +101,7 @@ pub(crate) fn clear_mark(marks: &mut Table<Mark>, l: Lit)
     ensures known { (k : ℕ) → is_some (at marks.new k) ≡ is_some (at marks.old k) }
 {
     if let Some(mark) = marks.get(key(l)) {
-        let unmarked = Mark {
-            count: mark.count,
-            marked: false,
-        };
-        marks.set(key(l), unmarked);
+        marks.set(key(l), mark.with(false));
     }
 }
 

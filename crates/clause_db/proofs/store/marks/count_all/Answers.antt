@@ -9,12 +9,9 @@ count_up-requires-clause-few c marked =
 
 pub loop-l-preserved : goal.loop-l-preserved
 loop-l-preserved c =
-    let lits = c.args.lits.now in
-    let i = c.loop-l.l-index in
-    let x = c.l-item.result in
-    let inside : i < length lits = omega arith in
+    let inside : c.loop-l.l-index < length c.args.lits.now = omega arith in
     record {
-      marked = λ k. gather_more lits i inside x c.l-item.is k _ _ (c.count_up.ensures.marked k) (c.loop-l.invariant.marked k);
-      counts = λ k. count_more lits i inside x c.l-item.is k _ _ _ _ (c.count_up.ensures.counts k) (c.loop-l.invariant.marked k) (c.loop-l.invariant.counts k);
+      marked = λ k. gather_more _ _ inside _ c.l-item.is k _ _ (c.count_up.ensures.marked k) (c.loop-l.invariant.marked k);
+      counts = λ k. count_more _ _ inside _ c.l-item.is k _ _ _ _ (c.count_up.ensures.counts k) (c.loop-l.invariant.marked k) (c.loop-l.invariant.counts k);
       known = λ k. c.count_up.ensures.known k ∙ c.loop-l.invariant.known k;
     }

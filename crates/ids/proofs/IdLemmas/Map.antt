@@ -1,0 +1,208 @@
+-- Identifiers by pages, and as a finite map.
+use Rattle.std.proofs.Common.{◌≡◌, ◌≢◌, ℕ, zero, suc, ◌+◌, ◌-◌, ◌*◌, ◌/◌, ◌%◌, ◌^◌, ◌<◌, ◌≤◌, cond}
+use Rattle.std.proofs.Common.{eqb, eq-eqb, ne_eqb, Option, Some, None, List, length, get_or, set}
+use Rattle.std.proofs.Common.{nat_cmp, refl, sym, ap, ◌∙◌, subst, arith, inl, inr, get_or-set_same}
+use Rattle.std.proofs.Common.{get_or-set_other, IfNone}
+use Rattle.std.specs.Ordering.{eq_by_cmp}
+use Rattle.std.specs.Cmp.{nat_cmp_total}
+use Rattle.std.specs.FinMap as maps
+use Rattle.std.specs.FinMap.{FinMap}
+use Rattle.std.proofs.lemmas.Bool.{cases_eq, cases_lt}
+use Rattle.std.proofs.lemmas.List.{get_or_past}
+use Rattle.std.proofs.lemmas.Option.{none-some}
+use Rattle.std.proofs.lemmas.Bool.Decides.{nat_tests}
+use Rattle.ids.specs.declared.directory.Directory.{Directory}
+use Rattle.ids.specs.declared.pages.Pages.{Pages}
+use Rattle.ids.specs.Code.Ids.{page_at, slot_from, place, entry_in, entry_at, with_slot}
+use Rattle.ids.specs.Code.Ids.{map_below, as_map, IsOwned, IsPaged}
+
+-- ---- As a finite map
+
+tie_is : (k q : ℕ) → eq_by_cmp nat_cmp k q ≡ eqb k q
+tie_is k q = grind (arith, nat_tests)
+
+with_other : (m : FinMap nat_cmp ℕ) (id : ℕ) (o : Option ℕ) (q : ℕ) → q ≢ id → maps.get (with_slot m id o) q ≡ maps.get m q
+with_other m id None q apart = refl
+with_other m id (Some s) q apart = maps.get-insert nat_cmp_total m id s q ∙ ap (λ b. cond b (Some s) (maps.get m q)) (tie_is q id ∙ ne_eqb q id apart)
+
+with_same : (m : FinMap nat_cmp ℕ) (id : ℕ) (o : Option ℕ) → maps.get m id ≡ None → maps.get (with_slot m id o) id ≡ o
+with_same m id None none = none
+with_same m id (Some s) none = maps.get-insert nat_cmp_total m id s id ∙ ap (λ b. cond b (Some s) (maps.get m id)) (tie_is id id ∙ eq-eqb id id refl)
+
+below_none : (n : ℕ) (slot : ℕ → Option ℕ) (q : ℕ) → n ≤ q → maps.get (map_below n slot) q ≡ None
+unfolding map_below
+below_none zero slot q past = maps.get-empty nat_cmp q
+below_none (suc n) slot q past = with_other (map_below n slot) n (slot n) q (λ e. absurd (let wrong : ⊥ = omega arith in wrong)) ∙ below_none n slot q (omega arith)
+
+below_at : (n : ℕ) (slot : ℕ → Option ℕ) (q : ℕ) → q < n → maps.get (map_below n slot) q ≡ slot q
+unfolding map_below
+below_at zero slot q low = absurd (let wrong : ⊥ = omega arith in wrong)
+below_at (suc n) slot q low = elim (cases_eq q n) [
+  | inl is ↦ subst (λ k. maps.get (with_slot (map_below n slot) n (slot n)) k ≡ slot k) (sym is) (with_same (map_below n slot) n (slot n) (below_none n slot n (omega arith)))
+  | inr apart ↦ with_other (map_below n slot) n (slot n) q apart ∙ below_at n slot q (omega arith)
+]
+
+module _ (directory : Directory) (pages : Pages) where
+  pub get-as_map : (q : ℕ) → q < 2 ^ 64 → maps.get (as_map directory pages) q ≡ slot_from (entry_at directory pages q)
+  unfolding as_map
+  get-as_map q low = below_at (2 ^ 64) (λ id. slot_from (entry_at directory pages id)) q low
+
+  pub get-past : (q : ℕ) → 2 ^ 64 ≤ q → maps.get (as_map directory pages) q ≡ None
+  unfolding as_map
+  get-past q past = below_none (2 ^ 64) (λ id. slot_from (entry_at directory pages id)) q past
+
+  pub get-unbound : (q : ℕ) → entry_at directory pages q ≡ 0 → maps.get (as_map directory pages) q ≡ None
+  get-unbound q none = elim (cases_lt q (2 ^ 64)) [
+    | inl low ↦ get-as_map q low ∙ ap slot_from none
+    | inr past ↦ get-past q past
+  ]
+
+  -- what has no slot has no entry
+  pub unbound_entry : (q : ℕ) → q < 2 ^ 64 → maps.get (as_map directory pages) q ≡ None → entry_at directory pages q ≡ 0
+  unbound_entry q low none = elim (cases_eq (entry_at directory pages q) 0) [
+    | inl is ↦ is
+    | inr some ↦ absurd (none-some (entry_at directory pages q - 1) (sym none ∙ get-as_map q low ∙ ap (λ b. cond b None (Some (entry_at directory pages q - 1))) (ne_eqb (entry_at directory pages q) 0 some)))
+  ]
+
+  pub as_map-empty : ((k : ℕ) → entry_at directory pages k ≡ 0) → as_map directory pages ≡ maps.empty
+  as_map-empty none = maps.same_map nat_cmp_total maps.nat_cmp-IsAntisymmetric _ _ (λ q. get-unbound q (none q) ∙ sym (maps.get-empty nat_cmp q))
+
+  module _ (directory_after : Directory) (pages_after : Pages) where
+    pub as_map-same : ((k : ℕ) → entry_at directory_after pages_after k ≡ entry_at directory pages k) → as_map directory_after pages_after ≡ as_map directory pages
+    unfolding as_map
+    as_map-same same = maps.same_map nat_cmp_total maps.nat_cmp-IsAntisymmetric _ _ (λ q. elim (cases_lt q (2 ^ 64)) [
+      | inl low ↦
+          below_at (2 ^ 64) (λ id. slot_from (entry_at directory_after pages_after id)) q low ∙ ap slot_from (same q)
+          ∙ sym (below_at (2 ^ 64) (λ id. slot_from (entry_at directory pages id)) q low)
+      | inr past ↦
+          below_none (2 ^ 64) (λ id. slot_from (entry_at directory_after pages_after id)) q past
+          ∙ sym (below_none (2 ^ 64) (λ id. slot_from (entry_at directory pages id)) q past)
+    ])
+
+-- a change of one entry
+module _ (directory after : Directory) (pages pages_after : Pages) (id entry : ℕ) (fits : id < 2 ^ 64) (changes : (k : ℕ) → entry_at after pages_after k ≡ cond (eqb k id) entry (entry_at directory pages k)) where
+  changed : (q : ℕ) → maps.get (as_map after pages_after) q ≡ cond (eq_by_cmp nat_cmp q id) (slot_from entry) (maps.get (as_map directory pages) q)
+  changed q = elim (cases_eq q id) [
+    | inl is ↦
+        get-as_map after pages_after q (omega arith)
+        ∙ ap slot_from (changes q ∙ ap (λ b. cond b entry (entry_at directory pages q)) (eq-eqb q id is))
+        ∙ ap (λ b. cond b (slot_from entry) (maps.get (as_map directory pages) q)) (sym (tie_is q id ∙ eq-eqb q id is))
+    | inr apart ↦
+        by_bound q (changes q ∙ ap (λ b. cond b entry (entry_at directory pages q)) (ne_eqb q id apart))
+        ∙ ap (λ b. cond b (slot_from entry) (maps.get (as_map directory pages) q)) (sym (tie_is q id ∙ ne_eqb q id apart))
+  ]
+    where
+      by_bound : (q : ℕ) → entry_at after pages_after q ≡ entry_at directory pages q → maps.get (as_map after pages_after) q ≡ maps.get (as_map directory pages) q
+      by_bound q same = elim (cases_lt q (2 ^ 64)) [
+        | inl low ↦ get-as_map after pages_after q low ∙ ap slot_from same ∙ sym (get-as_map directory pages q low)
+        | inr past ↦ get-past after pages_after q past ∙ sym (get-past directory pages q past)
+      ]
+
+  pub as_map-insert : (slot : ℕ) → entry ≡ slot + 1 → as_map after pages_after ≡ maps.insert (as_map directory pages) id slot
+  as_map-insert slot is = maps.same_map nat_cmp_total maps.nat_cmp-IsAntisymmetric _ _ (λ q.
+      changed q ∙ ap (λ o. cond (eq_by_cmp nat_cmp q id) o (maps.get (as_map directory pages) q)) some
+      ∙ sym (maps.get-insert nat_cmp_total (as_map directory pages) id slot q))
+    where
+      some : slot_from entry ≡ Some slot
+      some =
+          let same : entry - 1 ≡ slot = omega arith in
+          ap (λ b. cond b None (Some (entry - 1))) (ne_eqb entry 0 (λ e. absurd (let wrong : ⊥ = omega arith in wrong))) ∙ ap (λ s. Some s) same
+
+  pub as_map-remove : entry ≡ 0 → as_map after pages_after ≡ maps.remove (as_map directory pages) id
+  as_map-remove is = maps.same_map nat_cmp_total maps.nat_cmp-IsAntisymmetric _ _ (λ q.
+      changed q ∙ ap (λ o. cond (eq_by_cmp nat_cmp q id) o (maps.get (as_map directory pages) q)) (ap slot_from is)
+      ∙ sym (maps.get-remove nat_cmp_total (as_map directory pages) id q))
+
+pub remove_unbound : (directory : Directory) (pages : Pages) (id : ℕ) → id < 2 ^ 64 → entry_at directory pages id ≡ 0 → as_map directory pages ≡ maps.remove (as_map directory pages) id
+remove_unbound directory pages id fits none = as_map-remove directory directory pages pages id 0 fits (λ k. elim (cases_eq k id) [
+  | inl is ↦ ap (entry_at directory pages) is ∙ none ∙ ap (λ b. cond b 0 (entry_at directory pages k)) (sym (eq-eqb k id is))
+  | inr apart ↦ ap (λ b. cond b 0 (entry_at directory pages k)) (sym (ne_eqb k id apart))
+]) refl
+
+-- ---- Pages of page numbers
+
+module _ (page : ℕ → ℕ) (numbers : List ℕ) (owned : IsOwned page numbers) where
+  pub page_within : (number : ℕ) → page number ≢ 0 → page number ≤ length numbers
+  page_within number some = elim (cases_lt (page number - 1) (length numbers)) [
+    | inl low ↦ omega arith
+    | inr past ↦
+        let none = get_or_past numbers (page number - 1) 0 past in
+        let is = (owned number some).0 in
+        absurd (let wrong : ⊥ = omega arith in wrong)
+  ]
+
+  pub page_apart : (p q : ℕ) → page p ≢ 0 → page p ≡ page q → p ≡ q
+  page_apart p q some same =
+      let a = (owned p some).0 in
+      let b = (owned q (λ e. some (same ∙ e))).0 in
+      let at = ap (λ n. get_or numbers (n - 1) 0) same in
+      omega arith
+
+  -- an entry is written
+  pub entry_in-set : (entries : List ℕ) (id entry : ℕ) → page (id / 1024) ≢ 0 → place (page (id / 1024)) id < length entries → (k : ℕ) →
+      entry_in page (set entries (place (page (id / 1024)) id) entry) k ≡ cond (eqb k id) entry (entry_in page entries k)
+  entry_in-set entries id entry some within k = elim (cases_eq k id) [
+    | inl is ↦
+        subst (λ n. entry_in page (set entries (place (page (id / 1024)) id) entry) n ≡ entry) (sym is)
+        (ap (λ b. cond b 0 (get_or (set entries (place (page (id / 1024)) id) entry) (place (page (id / 1024)) id) 0)) (ne_eqb (page (id / 1024)) 0 some)
+        ∙ get_or-set_same entries (place (page (id / 1024)) id) entry 0 within)
+        ∙ ap (λ b. cond b entry (entry_in page entries k)) (sym (eq-eqb k id is))
+    | inr apart ↦
+        elim (cases_eq (page (k / 1024)) 0) [
+          | inl none ↦ at_none none
+          | inr there ↦ ap (cond (eqb (page (k / 1024)) 0) 0) (get_or-set_other entries (place (page (id / 1024)) id) (place (page (k / 1024)) k) entry 0 (λ e. apart (same_id there e)))
+        ]
+        ∙ ap (λ b. cond b entry (entry_in page entries k)) (sym (ne_eqb k id apart))
+  ]
+    where
+      at_none : page (k / 1024) ≡ 0 → entry_in page (set entries (place (page (id / 1024)) id) entry) k ≡ entry_in page entries k
+      at_none none =
+          ap (λ b. cond b 0 (get_or (set entries (place (page (id / 1024)) id) entry) (place (page (k / 1024)) k) 0)) (eq-eqb (page (k / 1024)) 0 none)
+          ∙ ap (λ b. cond b 0 (get_or entries (place (page (k / 1024)) k) 0)) (sym (eq-eqb (page (k / 1024)) 0 none))
+
+      same_id : page (k / 1024) ≢ 0 → place (page (k / 1024)) k ≡ place (page (id / 1024)) id → k ≡ id
+      same_id there e =
+          let same : page (k / 1024) ≡ page (id / 1024) = omega arith in
+          let number = page_apart (k / 1024) (id / 1024) there same in
+          let rest : k % 1024 ≡ id % 1024 = omega arith in
+          omega arith
+
+pub has_no_page : (page : ℕ → ℕ) (entries : List ℕ) (id : ℕ) → page (id / 1024) ≡ 0 → entry_in page entries id ≡ 0
+has_no_page page entries id none = ap (λ b. cond b 0 (get_or entries (place (page (id / 1024)) id) 0)) (eq-eqb (page (id / 1024)) 0 none)
+
+-- ---- The identifiers of a directory and its pages
+
+module _ (directory : Directory) (pages : Pages) (paged : IsPaged directory pages) where
+  pub entry_at-written : (after : Pages) (id entry : ℕ) → page_at directory (id / 1024) ≢ 0 → after.entries.items ≡ set pages.entries.items (place (page_at directory (id / 1024)) id) entry → (k : ℕ) →
+      entry_at directory after k ≡ cond (eqb k id) entry (entry_at directory pages k)
+  entry_at-written after id entry some written k =
+      let room = paged.counted.room in
+      let low = page_within (page_at directory) pages.numbers.items paged.owned (id / 1024) some in
+      let within : place (page_at directory (id / 1024)) id < length pages.entries.items = omega arith in
+      ap (λ xs. entry_in (page_at directory) xs k) written
+      ∙ entry_in-set (page_at directory) pages.numbers.items paged.owned pages.entries.items id entry some within k
+
+  -- an identifier with an entry has a page
+  pub has_page : (id : ℕ) → entry_at directory pages id ≢ 0 → page_at directory (id / 1024) ≢ 0
+  has_page id some none = some (has_no_page (page_at directory) pages.entries.items id none)
+
+  pub entry_is : (id : ℕ) → page_at directory (id / 1024) ≢ 0 → entry_at directory pages id ≡ get_or pages.entries.items (place (page_at directory (id / 1024)) id) 0
+  entry_is id some = ap (λ b. cond b 0 (get_or pages.entries.items (place (page_at directory (id / 1024)) id) 0)) (ne_eqb (page_at directory (id / 1024)) 0 some)
+
+-- nothing is bound past a page, where no later page number has one
+module _ (page : ℕ → ℕ) (entries : List ℕ) (from start : ℕ) (passed : (k : ℕ) → from ≤ k → k < start → entry_in page entries k ≡ 0) (rest : (k : ℕ) → start ≤ k → k < 1024 * (start / 1024) + 1024 → entry_in page entries k ≡ 0)
+    (none : (k : ℕ) → start / 1024 + 1 ≤ k → k < 2 ^ 64 → page k ≡ 0) where
+  pub passed_all : (k : ℕ) → from ≤ k → k < 2 ^ 64 → entry_in page entries k ≡ 0
+  passed_all k above fits = elim (cases_lt k start) [
+    | inl before ↦ passed k above before
+    | inr past ↦ elim (cases_lt (k / 1024) (start / 1024 + 1)) [
+      | inl here ↦ rest k past (omega arith)
+      | inr later ↦ has_no_page page entries k (none (k / 1024) later (omega arith))
+    ]
+  ]
+
+-- ---- What is said where nothing is found
+
+pub if_none_always : {T : Type 0} (o : Option T) {P : Type 0} → P → IfNone o P
+if_none_always None h = h
+if_none_always (Some x) h = tt

@@ -1,0 +1,11 @@
+//! The identifiers of clauses, each with the slot of its clause.
+#![tactic(auto)]
+
+mod directory;
+mod map;
+mod pages;
+mod row;
+mod slot;
+
+pub use map::Ids;
+pub use slot::Slot;
