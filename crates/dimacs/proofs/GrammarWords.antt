@@ -120,11 +120,19 @@ pub record IsLiteralNumber (w : List ℕ) (n : Number) (l : Literal) : Type 0 wh
   pub some : 1 ≤ n.size
   pub within : n.size ≤ 268435455
 
-some_within : (n : ℕ) (a b : Bool) (x y l : ℕ) → then_some (a && b) x ≡ Some l
+some_within : (n : ℕ) (a b : Bool) (x l : ℕ) → then_some (a && b) x ≡ Some l
     → (a ≡ true) × (b ≡ true) × (x ≡ l)
-some_within n true true x y l e = (refl, refl, cc)
-some_within n true false x y l e = absurd (let bad : None ≡ Some l = e in cc)
-some_within n false b x y l e = absurd (let bad : None ≡ Some l = e in cc)
+some_within n true true x l e = (refl, refl, cc)
+some_within n true false x l e = absurd (let bad : None ≡ Some l = e in cc)
+some_within n false b x l e = absurd (let bad : None ≡ Some l = e in cc)
+
+-- what is known of a number within the limits of a literal's
+limited : (n x l : ℕ) → then_some (nat_le 1 n && nat_le n 268435455) x ≡ Some l
+    → (1 ≤ n) × (n ≤ 268435455) × (x ≡ l)
+limited n x l e =
+    let r = some_within n (nat_le 1 n) (nat_le n 268435455) x l e in
+    let low : 1 ≤ n = let a = r.0 in grind (arith, nat_tests) in
+    let high : n ≤ 268435455 = let a = r.1 in grind (arith, nat_tests) in (low, high, r.2)
 
 pub literal_spelled : (w : List ℕ) (n : Number) (l : Literal) → word_of w ≡ words.Number n
     → number_literal n ≡ Some l
@@ -135,34 +143,30 @@ literal_spelled w n l is e = by n.is_negative n.size is e
         → then_some (nat_le 1 m && nat_le m 268435455) (cond s (2 * m + 1) (2 * m)) ≡ Some l
         → IsLiteralNumber w (number s m) l
     by true m is e =
-        let r = some_within m (nat_le 1 m) (nat_le m 268435455) (2 * m + 1) m l e in
-        let low : 1 ≤ m = let a = r.0 in grind (arith, nat_tests) in
-        let high : m ≤ 268435455 = let a = r.1 in grind (arith, nat_tests) in
+        let r = limited m (2 * m + 1) l e in
         let half : l / 2 ≡ m = let a = r.2 in omega arith in
         let odd : (l % 2 == 0) ≡ false = let a = r.2 in let c : l % 2 ≡ 1 =
         omega arith in grind (arith, nat_tests) in
         record {
-          text = (number_spelled w true m (omega arith) is).0
+          text = (number_spelled w true m (let high = r.1 in omega arith) is).0
               ∙ ap (λ d. 45 ∷ decimal d) (sym half)
               ∙ ap (λ v. cond v (decimal (l / 2)) (45 ∷ decimal (l / 2))) (sym odd);
           is = half;
-          some = low;
-          within = high;
+          some = r.0;
+          within = r.1;
         }
     by false m is e =
-        let r = some_within m (nat_le 1 m) (nat_le m 268435455) (2 * m) m l e in
-        let low : 1 ≤ m = let a = r.0 in grind (arith, nat_tests) in
-        let high : m ≤ 268435455 = let a = r.1 in grind (arith, nat_tests) in
+        let r = limited m (2 * m) l e in
         let half : l / 2 ≡ m = let a = r.2 in omega arith in
         let even : (l % 2 == 0) ≡ true = let a = r.2 in let c : l % 2 ≡ 0 =
         omega arith in grind (arith, nat_tests) in
         record {
-          text = (number_spelled w false m (omega arith) is).0
+          text = (number_spelled w false m (let high = r.1 in omega arith) is).0
               ∙ ap (λ d. decimal d) (sym half)
               ∙ ap (λ v. cond v (decimal (l / 2)) (45 ∷ decimal (l / 2))) (sym even);
           is = half;
-          some = low;
-          within = high;
+          some = r.0;
+          within = r.1;
         }
 
 -- the only number within the limit that names no literal
