@@ -20,7 +20,7 @@ use Rattle.cnf_base.proofs.GrammarLemmas.{number_text, IsSpelled, word_spelled}
 use Rattle.proofs.specs.declared.step_buf.StepKind.{StepKind}
 use Rattle.proofs.specs.declared.step_buf.StepKind.TheVariants.{Add, Delete}
 use Rattle.proofs.specs.Steps.{Step, is_small, is_hint, named, with_literal, with_hint}
-use Rattle.proofs.specs.TextSteps.{goes, completes, faults, move_of}
+use Rattle.proofs.specs.TextSteps.{Move, goes, completes, faults, move_of}
 use Rattle.proofs.specs.Lrat.{LratSpot, at_identifier, after_identifier, in_literals, in_hints}
 use Rattle.proofs.specs.Lrat.{in_deletion, lrat, is_identifier, identifier, literal, hint, deleted}
 use Rattle.proofs.specs.Printing.{hint_words, lrat_words, IsLratStep}
@@ -94,14 +94,19 @@ identifier_spelled s run n spelled =
         let text : run ≡ decimal n.size = (spelled most).0 ∙ ap (λ v. number_text v n.size) m in
         ((record { some = some; small = e }, refl), ap (λ w. w ∷ []) (sym text))
 
+-- what a number does there is spelled by its text
+abbrev IsNumberSpelled : LratSpot → (Step → Number → Move LratSpot) → Type 0
+IsNumberSpelled part does =
+    (s : Step) (run : List ℕ) (n : Number) → Fits part s → IsSpelled (words.Number n) run
+    → Spells spelling part s run (does s n)
+
 -- the text of a literal goes on with it
 abbrev TakesLiteral : LratSpot → Step → List ℕ → Type 0
 TakesLiteral part s run = (l : Literal) → is_literal 268435455 l ≡ true → run ≡ literal_text l
     → Spells spelling part s run (goes in_literals (with_literal s l))
 
 -- a literal just after the identifier, or the `0` there
-first_spelled : (s : Step) (run : List ℕ) (n : Number) → Fits after_identifier s
-    → IsSpelled (words.Number n) run → Spells spelling after_identifier s run (literal s n)
+first_spelled : IsNumberSpelled after_identifier literal
 first_spelled s run n fits spelled =
     literal_cases (Spells spelling after_identifier s run) in_literals (goes in_hints) s n run spelled
     tt taken ended
@@ -134,8 +139,7 @@ first_spelled s run n fits spelled =
     )
 
 -- a literal after another one, or the `0` there
-literal_spelled : (s : Step) (run : List ℕ) (n : Number) → Fits in_literals s
-    → IsSpelled (words.Number n) run → Spells spelling in_literals s run (literal s n)
+literal_spelled : IsNumberSpelled in_literals literal
 literal_spelled s run n fits spelled =
     literal_cases (Spells spelling in_literals s run) in_literals (goes in_hints) s n run spelled
     tt taken ended
@@ -174,8 +178,7 @@ hint_is true (suc k) some small =
     (ap (λ v. v && is_small (suc k)) low ∙ small, refl)
 
 -- a hint, or the `0` that ends the step
-hint_spelled : (s : Step) (run : List ℕ) (n : Number) → Fits in_hints s
-    → IsSpelled (words.Number n) run → Spells spelling in_hints s run (hint s n)
+hint_spelled : IsNumberSpelled in_hints hint
 hint_spelled s run n fits spelled = by (is_small n.size) refl (nat_le n.size 0) refl
   where
     h : ℤ
@@ -225,8 +228,7 @@ hint_spelled s run n fits spelled = by (is_small n.size) refl (nat_le n.size 0) 
         )
 
 -- an identifier that is deleted, or the `0` that ends the step
-deleted_spelled : (s : Step) (run : List ℕ) (n : Number) → Fits in_deletion s
-    → IsSpelled (words.Number n) run → Spells spelling in_deletion s run (deleted s n)
+deleted_spelled : IsNumberSpelled in_deletion deleted
 deleted_spelled s run n fits spelled =
     by n.is_negative refl (is_small n.size) refl (nat_le n.size 0) refl
   where

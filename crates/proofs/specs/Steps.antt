@@ -31,8 +31,8 @@ clause_part [] = []
 clause_part (first ∷ rest) = first ∷ take_while (λ l. not (l == first)) rest
 
 -- the set that an addition lists
-abbrev pub set_part : List Literal → List Literal
-set_part lits = drop (length (clause_part lits)) lits
+abbrev pub witness_part : List Literal → List Literal
+witness_part lits = drop (length (clause_part lits)) lits
 
 -- an addition and a deletion without literals and hints, and a step with one more of each
 abbrev pub named : ℕ → Step

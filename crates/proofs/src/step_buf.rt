@@ -2,7 +2,7 @@
 
 ghost use Rattle.std.specs.Prelude.{◌≡◌, [], length, IsTrue, OnOk};
 ghost use Rattle.std.specs.List.{list_all};
-ghost use Rattle.proofs.specs.Steps.{clause_part, set_part, is_hint, is_small, named, deleting};
+ghost use Rattle.proofs.specs.Steps.{clause_part, witness_part, is_hint, is_small, named, deleting};
 ghost use Rattle.proofs.specs.Steps.{with_literal, with_hint};
 
 use cnf_base::{Lit, OutOfMemory};
@@ -101,7 +101,7 @@ impl StepBuf {
     /// set begins there. No literal is copied, and it takes no memory.
     pub fn parts(&self) -> (&[Lit], &[Lit])
         ensures clause { result.0.now ≡ clause_part self.now.lits }
-        ensures set { result.1.now ≡ set_part self.now.lits }
+        ensures set { result.1.now ≡ witness_part self.now.lits }
     {
         let lits = self.lits();
         lits.split_at(clause_len(lits))

@@ -18,7 +18,7 @@ use Rattle.theory.specs.Propagation.{HasRup, HasRat, HasPr, IsRootReason}
 use Rattle.theory.specs.Answers.{StepAnswer}
 use Rattle.theory.specs.declared.drat_rules.DratRules.{DratRules}
 use Rattle.theory.specs.Sets.{conflicts}
-use Rattle.proofs.specs.Steps.{Step, clause_part, set_part}
+use Rattle.proofs.specs.Steps.{Step, clause_part, witness_part}
 use Rattle.proofs.specs.declared.step_buf.StepKind.{StepKind}
 use Rattle.proofs.specs.declared.step_buf.StepKind.TheVariants.{Add, Delete}
 
@@ -30,7 +30,7 @@ pub data DratStep : Type 0 where
 
 -- an addition lists a set only where the rules have PR
 abbrev pub addition_of : Bool → List Literal → DratStep
-addition_of true lits = add (clause_part lits) (set_part lits)
+addition_of true lits = add (clause_part lits) (witness_part lits)
 addition_of false lits = add lits []
 
 -- what a step of a proof says in DRAT, where identifiers and hints mean nothing; a deletion is

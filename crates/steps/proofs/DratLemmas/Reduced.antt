@@ -23,7 +23,7 @@ use Rattle.theory.proofs.PropagationLemmas.Conflicts.{not_both}
 use Rattle.theory.specs.declared.accepted.Accepted.TheVariants.{Pr}
 use Rattle.theory.specs.declared.refusal.Refusal.TheVariants.{NeitherRupNorPr}
 use Rattle.theory.specs.Propagation.{Live, Clash, HasPr, HasRup, open_literals}
-use Rattle.proofs.specs.Steps.{clause_part, set_part}
+use Rattle.proofs.specs.Steps.{clause_part, witness_part}
 use Rattle.theory.specs.Answers.{StepAnswer, UnlessOutOfMemory}
 use Rattle.theory.specs.Drat.{AnswersAdd, AnswersListed, AnswersWithSet}
 use Rattle.steps.specs.Code.Candidates.{AllReducedClash, SomeReducedQuiet, SearchedReduced}
@@ -106,7 +106,7 @@ untouched_clash live assumed set none k d at reduced =
 -- ---- What an addition lists
 
 -- a set that is listed begins with the clause's first literal
-pub parts_meet : (lits : List Literal) → (set_part lits ≡ []) ⊎ ((l : Literal) × (has (clause_part lits) l ≡ true) × (has (set_part lits) l ≡ true))
+pub parts_meet : (lits : List Literal) → (witness_part lits ≡ []) ⊎ ((l : Literal) × (has (clause_part lits) l ≡ true) × (has (witness_part lits) l ≡ true))
 parts_meet [] = inl refl
 parts_meet (first ∷ rest) = elim (from_first rest) [
   | inl none ↦ inl none
@@ -173,7 +173,7 @@ module _ (live : FinMap nat_cmp Clause) (c set assumed : List Literal) (same : S
     answers_reduced true false value all = absurd (true≢false value)
     answers_reduced false true value some = absurd (true≢false (sym value))
 
-pub parts_given : (lits c set : List Literal) → c ≡ clause_part lits → set ≡ set_part lits → (set ≡ []) ⊎ ((l : Literal) × (has c l ≡ true) × (has set l ≡ true))
+pub parts_given : (lits c set : List Literal) → c ≡ clause_part lits → set ≡ witness_part lits → (set ≡ []) ⊎ ((l : Literal) × (has c l ≡ true) × (has set l ≡ true))
 parts_given lits c set c_is set_is =
     subst (λ (s : List Literal). (s ≡ []) ⊎ ((l : Literal) × (has c l ≡ true) × (has s l ≡ true))) (sym set_is)
-    (subst (λ (x : List Literal). (set_part lits ≡ []) ⊎ ((l : Literal) × (has x l ≡ true) × (has (set_part lits) l ≡ true))) (sym c_is) (parts_meet lits))
+    (subst (λ (x : List Literal). (witness_part lits ≡ []) ⊎ ((l : Literal) × (has x l ≡ true) × (has (witness_part lits) l ≡ true))) (sym c_is) (parts_meet lits))
