@@ -108,39 +108,21 @@ text_at_end tool id set = option_and_then row_text (end_row tool id (cond (is_fl
 abbrev IsFlagText : Tool → Text → Bool → Type 0
 IsFlagText tool id set = text_at_end tool id set ≡ flag_text (is_flag tool (45 ∷ 45 ∷ id)) set
 
-by_cases : (tool : Tool) (id : Text) → IsFlagText tool id true → IsFlagText tool id false → (set : Bool) → IsFlagText tool id set
-by_cases tool id on off true = on
-by_cases tool id on off false = off
+-- the text of each flag at the end
+record FlagTexts (tool : Tool) (set : Bool) : Type 0 where
+  binary : IsFlagText tool (codes "binary") set
+  trace : IsFlagText tool (codes "trace") set
+  strict : IsFlagText tool (codes "strict") set
+  pr : IsFlagText tool (codes "pr") set
+  keep_units : IsFlagText tool (codes "keep-units") set
 
-binary_text : (tool : Tool) (set : Bool) → IsFlagText tool (codes "binary") set
+flag_texts : (tool : Tool) (set : Bool) → FlagTexts tool set
 unfolding text_at_end
-binary_text Drat set = by_cases Drat (codes "binary") refl refl set
-binary_text Lrat set = refl
-binary_text Model set = refl
-
-trace_text : (tool : Tool) (set : Bool) → IsFlagText tool (codes "trace") set
-unfolding text_at_end
-trace_text Drat set = by_cases Drat (codes "trace") refl refl set
-trace_text Lrat set = by_cases Lrat (codes "trace") refl refl set
-trace_text Model set = refl
-
-strict_text : (tool : Tool) (set : Bool) → IsFlagText tool (codes "strict") set
-unfolding text_at_end
-strict_text Drat set = by_cases Drat (codes "strict") refl refl set
-strict_text Lrat set = refl
-strict_text Model set = refl
-
-pr_text : (tool : Tool) (set : Bool) → IsFlagText tool (codes "pr") set
-unfolding text_at_end
-pr_text Drat set = by_cases Drat (codes "pr") refl refl set
-pr_text Lrat set = refl
-pr_text Model set = refl
-
-keep_units_text : (tool : Tool) (set : Bool) → IsFlagText tool (codes "keep-units") set
-unfolding text_at_end
-keep_units_text Drat set = by_cases Drat (codes "keep-units") refl refl set
-keep_units_text Lrat set = refl
-keep_units_text Model set = refl
+flag_texts Drat true = record { binary = refl; trace = refl; strict = refl; pr = refl; keep_units = refl }
+flag_texts Drat false = record { binary = refl; trace = refl; strict = refl; pr = refl; keep_units = refl }
+flag_texts Lrat true = record { binary = refl; trace = refl; strict = refl; pr = refl; keep_units = refl }
+flag_texts Lrat false = record { binary = refl; trace = refl; strict = refl; pr = refl; keep_units = refl }
+flag_texts Model set = record { binary = refl; trace = refl; strict = refl; pr = refl; keep_units = refl }
 
 kept_through : (o : Option Row) → option_or (option_or (option_or (option_or (option_or o None) None) None) None) None ≡ o
 kept_through None = refl
@@ -177,11 +159,11 @@ first_text a ns k = go (slice_get ns k)
 reads_shown : (tool : Tool) (words ns : List Text) (rows : List Row) → length ns ≤ 2 → Shows tool words ns rows → Reads tool words (fold with_default rows (rules_of tool))
 unfolding text_at_end
 reads_shown tool words ns rows few s = record {
-  binary = ap (option_and_then row_text) (row_at_end tool (codes "binary") rows ∙ ap (end_row tool (codes "binary")) s.binary) ∙ binary_text tool (is_among words (codes "--binary"));
-  trace = ap (option_and_then row_text) (row_at_end tool (codes "trace") rows ∙ ap (end_row tool (codes "trace")) s.trace) ∙ trace_text tool (is_among words (codes "--trace"));
-  strict = ap (option_and_then row_text) (row_at_end tool (codes "strict") rows ∙ ap (end_row tool (codes "strict")) s.strict) ∙ strict_text tool (is_among words (codes "--strict"));
-  pr = ap (option_and_then row_text) (row_at_end tool (codes "pr") rows ∙ ap (end_row tool (codes "pr")) s.pr) ∙ pr_text tool (is_among words (codes "--pr"));
-  keep_units = ap (option_and_then row_text) (row_at_end tool (codes "keep-units") rows ∙ ap (end_row tool (codes "keep-units")) s.keep_units) ∙ keep_units_text tool (is_among words (codes "--keep-units"));
+  binary = ap (option_and_then row_text) (row_at_end tool (codes "binary") rows ∙ ap (end_row tool (codes "binary")) s.binary) ∙ (flag_texts tool (is_among words (codes "--binary"))).binary;
+  trace = ap (option_and_then row_text) (row_at_end tool (codes "trace") rows ∙ ap (end_row tool (codes "trace")) s.trace) ∙ (flag_texts tool (is_among words (codes "--trace"))).trace;
+  strict = ap (option_and_then row_text) (row_at_end tool (codes "strict") rows ∙ ap (end_row tool (codes "strict")) s.strict) ∙ (flag_texts tool (is_among words (codes "--strict"))).strict;
+  pr = ap (option_and_then row_text) (row_at_end tool (codes "pr") rows ∙ ap (end_row tool (codes "pr")) s.pr) ∙ (flag_texts tool (is_among words (codes "--pr"))).pr;
+  keep_units = ap (option_and_then row_text) (row_at_end tool (codes "keep-units") rows ∙ ap (end_row tool (codes "keep-units")) s.keep_units) ∙ (flag_texts tool (is_among words (codes "--keep-units"))).keep_units;
   formula = ap (option_and_then (λ (r : Row). slice_get r.values 0)) (row_at_end tool (codes "formula") rows ∙ (formula_row_end tool _ ∙ s.formula))
       ∙ (first_text formula_full ns 0 ∙ ap (λ (l : List Text). slice_get l 0) (sym s.said));
   second = ap (option_and_then (λ (r : Row). slice_get r.values 0)) (row_at_end tool (codes "second") rows ∙ (second_row_end tool _ ∙ s.second))

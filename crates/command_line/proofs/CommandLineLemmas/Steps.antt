@@ -120,25 +120,17 @@ FlagTurn tool name r p n = (turn_fault (top_of tool) [] (at r p n) (45 ∷ 45 �
     ≡ or_else (or_else (settle_fault (rules_of tool) false (holding r p)) (or_else (cond (has_row name (settled_rows (rules_of tool) p r) && true) (kind.ArgumentConflict ∷ []) []) [])) [])
     × (walked (rules_of tool) [] (at r p n) (45 ∷ 45 ∷ name) ≡ at (used (flag_full name) [] (settled_rows (rules_of tool) p r)) None n)
 
-drat_binary : (r : List Row) (p : Option (Text × List Text)) (n : ℕ) → FlagTurn Drat (codes "binary") r p n
-unfolding clap_on_literals
-drat_binary r p n = (refl, refl)
+-- what the walk makes of each flag of `drat-forward`
+record DratTurns (r : List Row) (p : Option (Text × List Text)) (n : ℕ) : Type 0 where
+  binary : FlagTurn Drat (codes "binary") r p n
+  trace : FlagTurn Drat (codes "trace") r p n
+  strict : FlagTurn Drat (codes "strict") r p n
+  pr : FlagTurn Drat (codes "pr") r p n
+  keep_units : FlagTurn Drat (codes "keep-units") r p n
 
-drat_trace : (r : List Row) (p : Option (Text × List Text)) (n : ℕ) → FlagTurn Drat (codes "trace") r p n
+drat_turns : (r : List Row) (p : Option (Text × List Text)) (n : ℕ) → DratTurns r p n
 unfolding clap_on_literals
-drat_trace r p n = (refl, refl)
-
-drat_strict : (r : List Row) (p : Option (Text × List Text)) (n : ℕ) → FlagTurn Drat (codes "strict") r p n
-unfolding clap_on_literals
-drat_strict r p n = (refl, refl)
-
-drat_pr : (r : List Row) (p : Option (Text × List Text)) (n : ℕ) → FlagTurn Drat (codes "pr") r p n
-unfolding clap_on_literals
-drat_pr r p n = (refl, refl)
-
-drat_keep_units : (r : List Row) (p : Option (Text × List Text)) (n : ℕ) → FlagTurn Drat (codes "keep-units") r p n
-unfolding clap_on_literals
-drat_keep_units r p n = (refl, refl)
+drat_turns r p n = record { binary = (refl, refl); trace = (refl, refl); strict = (refl, refl); pr = (refl, refl); keep_units = (refl, refl) }
 
 lrat_trace : (r : List Row) (p : Option (Text × List Text)) (n : ℕ) → FlagTurn Lrat (codes "trace") r p n
 unfolding clap_on_literals
@@ -216,11 +208,12 @@ flag_met : (tool : Tool) (done : List Text) (r : List Row) (p : Option (Text × 
     → Shows tool done ns (settled_rows (rules_of tool) p r) → (word : Text) → is_flag tool word ≡ true → FlagMet tool done r p ns word
 flag_met Drat done r p ns few settles shows word flag =
     let P : Text → Type 0 = FlagMet Drat done r p ns in
-    pick P word (codes "--binary") (is_among (codes "--trace" ∷ codes "--strict" ∷ codes "--pr" ∷ codes "--keep-units" ∷ []) word) flag (one_met Drat done r p ns few settles shows (codes "binary") refl refl shows.binary refl (drat_binary r p (suc (length ns))))
-    (λ e. pick P word (codes "--trace") (is_among (codes "--strict" ∷ codes "--pr" ∷ codes "--keep-units" ∷ []) word) e (one_met Drat done r p ns few settles shows (codes "trace") refl refl shows.trace refl (drat_trace r p (suc (length ns))))
-    (λ e. pick P word (codes "--strict") (is_among (codes "--pr" ∷ codes "--keep-units" ∷ []) word) e (one_met Drat done r p ns few settles shows (codes "strict") refl refl shows.strict refl (drat_strict r p (suc (length ns))))
-    (λ e. pick P word (codes "--pr") (is_among (codes "--keep-units" ∷ []) word) e (one_met Drat done r p ns few settles shows (codes "pr") refl refl shows.pr refl (drat_pr r p (suc (length ns))))
-    (λ e. pick P word (codes "--keep-units") false e (one_met Drat done r p ns few settles shows (codes "keep-units") refl refl shows.keep_units refl (drat_keep_units r p (suc (length ns))))
+    let turns = drat_turns r p (suc (length ns)) in
+    pick P word (codes "--binary") (is_among (codes "--trace" ∷ codes "--strict" ∷ codes "--pr" ∷ codes "--keep-units" ∷ []) word) flag (one_met Drat done r p ns few settles shows (codes "binary") refl refl shows.binary refl turns.binary)
+    (λ e. pick P word (codes "--trace") (is_among (codes "--strict" ∷ codes "--pr" ∷ codes "--keep-units" ∷ []) word) e (one_met Drat done r p ns few settles shows (codes "trace") refl refl shows.trace refl turns.trace)
+    (λ e. pick P word (codes "--strict") (is_among (codes "--pr" ∷ codes "--keep-units" ∷ []) word) e (one_met Drat done r p ns few settles shows (codes "strict") refl refl shows.strict refl turns.strict)
+    (λ e. pick P word (codes "--pr") (is_among (codes "--keep-units" ∷ []) word) e (one_met Drat done r p ns few settles shows (codes "pr") refl refl shows.pr refl turns.pr)
+    (λ e. pick P word (codes "--keep-units") false e (one_met Drat done r p ns few settles shows (codes "keep-units") refl refl shows.keep_units refl turns.keep_units)
     (λ e. absurd (true≢false (sym e)))))))
 flag_met Lrat done r p ns few settles shows word flag =
     let P : Text → Type 0 = FlagMet Lrat done r p ns in
