@@ -6,8 +6,7 @@ use Rattle.proofs.specs.Steps.{Step}
 use Rattle.proofs.specs.Reading.{Proof, with_step}
 use Rattle.proofs.specs.declared.step_end.StepEnd.{StepEnd}
 use Rattle.theory.specs.declared.accepted.Accepted.{Accepted}
-use Rattle.theory.specs.declared.accepted.Accepted.TheVariants.{Empty, Rup, Rat, Pr, Deleted}
-use Rattle.theory.specs.declared.accepted.Accepted.TheVariants.{Ignored}
+use Rattle.theory.specs.declared.accepted.Accepted.TheVariants.{Empty}
 use Rattle.theory.specs.declared.refusal.Refusal.{Refusal}
 use Rattle.theory.specs.declared.refusal.Refusal.TheVariants.{OutOfMemory}
 use Rattle.steps.specs.ProofSession.{View}
@@ -36,11 +35,7 @@ given_ok w P x = x
 
 pub last_word : (w : Accepted) → is_last w ≡ true → w ≡ Empty
 last_word Empty h = refl
-last_word Rup h = absurd (let e : false ≡ true = h in cc)
-last_word Rat h = absurd (let e : false ≡ true = h in cc)
-last_word Pr h = absurd (let e : false ≡ true = h in cc)
-last_word Deleted h = absurd (let e : false ≡ true = h in cc)
-last_word Ignored h = absurd (let e : false ≡ true = h in cc)
+last_word _ h = absurd (let e : false ≡ true = h in cc)
 
 module _ (trace : Bool) (number : ℕ) (old : View) (step : Step) (was now : Sink) where
   -- refused, with or without memory

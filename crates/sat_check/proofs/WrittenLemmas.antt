@@ -28,8 +28,7 @@ use Rattle.proofs.specs.Reading.{Proof}
 use Rattle.theory.specs.Rules.{Rule}
 use Rattle.theory.specs.Verdicts.{Ending, verified, refused, no_empty_clause}
 use Rattle.theory.specs.declared.accepted.Accepted.{Accepted}
-use Rattle.theory.specs.declared.accepted.Accepted.TheVariants.{Rup, Rat, Pr, Deleted, Ignored}
-use Rattle.theory.specs.declared.accepted.Accepted.TheVariants.{Empty}
+use Rattle.theory.specs.declared.accepted.Accepted.TheVariants.{Rup}
 use Rattle.theory.specs.declared.refusal.Refusal.{Refusal}
 use Rattle.theory.specs.declared.refusal.Refusal.TheVariants as refusal
 use Rattle.sat_check.specs.Lines.{a_proof, shown, formula_line, kind_text, binary_text, fault_line}
@@ -182,21 +181,11 @@ record Tells (r : Report) : Type 0 where
 
 sentence_plain : (s : Status) → Plain (sentence a_proof s)
 sentence_plain Verified = fixed _ refl
-sentence_plain NotVerified = fixed _ refl
-sentence_plain Malformed = fixed _ refl
-sentence_plain ReadFailed = fixed _ refl
-sentence_plain OutOfMemory = fixed _ refl
-sentence_plain WriteFailed = fixed _ refl
-sentence_plain Usage = fixed _ refl
+sentence_plain _ = fixed _ refl
 
 sentence_told : (s : Status) → (begins positive (sentence a_proof s) || false) ≡ true → s ≡ Verified
 sentence_told Verified e = refl
-sentence_told NotVerified e = absurd (let bad : false ≡ true = e in cc)
-sentence_told Malformed e = absurd (let bad : false ≡ true = e in cc)
-sentence_told ReadFailed e = absurd (let bad : false ≡ true = e in cc)
-sentence_told OutOfMemory e = absurd (let bad : false ≡ true = e in cc)
-sentence_told WriteFailed e = absurd (let bad : false ≡ true = e in cc)
-sentence_told Usage e = absurd (let bad : false ≡ true = e in cc)
+sentence_told _ e = absurd (let bad : false ≡ true = e in cc)
 
 concluded_tells : (line : List ℕ) (s : Status) → Plain line → begins positive line ≡ false → Tells (concluded a_proof line s)
 concluded_tells line s e other = record {
@@ -206,28 +195,11 @@ concluded_tells line s e other = record {
 
 kind_plain : (k : TextFault) → Plain (kind_text k)
 kind_plain text.BadHeader = fixed _ refl
-kind_plain text.NumberTooLarge = fixed _ refl
-kind_plain text.BadToken = fixed _ refl
-kind_plain text.LiteralOutOfRange = fixed _ refl
-kind_plain text.TooManyClauses = fixed _ refl
-kind_plain text.TooFewClauses = fixed _ refl
-kind_plain text.UnterminatedClause = fixed _ refl
-kind_plain text.BadLine = fixed _ refl
-kind_plain text.SecondStatus = fixed _ refl
-kind_plain text.NoStatus = fixed _ refl
-kind_plain text.NotClaimed = fixed _ refl
-kind_plain text.AfterEnd = fixed _ refl
-kind_plain text.UnterminatedModel = fixed _ refl
-kind_plain text.Complement = fixed _ refl
-kind_plain text.LiteralTooLarge = fixed _ refl
-kind_plain text.IdTooLarge = fixed _ refl
-kind_plain text.UnterminatedStep = fixed _ refl
+kind_plain _ = fixed _ refl
 
 binary_plain : (k : BinaryFault) → Plain (binary_text k)
-binary_plain binary.LiteralTooLarge = fixed _ refl
-binary_plain binary.UnterminatedStep = fixed _ refl
 binary_plain binary.BadTag = fixed _ refl
-binary_plain binary.BadNumber = fixed _ refl
+binary_plain _ = fixed _ refl
 
 fault_plain : (name : List ℕ) (f : Fault) → Plain name → Plain (fault_line name f)
 fault_plain name (fault.Text kind p) e =
@@ -238,21 +210,15 @@ fault_plain name fault.ReadFailed e = fixed (codes "c cannot read ") refl ⊕ e
 fault_plain name fault.OutOfMemory e = fixed [] refl
 
 fault_other : (name : List ℕ) (f : Fault) → begins positive (fault_line name f) ≡ false
-fault_other name (fault.Text kind p) = refl
-fault_other name (fault.Binary kind n) = refl
 fault_other name fault.ReadFailed = refl
-fault_other name fault.OutOfMemory = refl
+fault_other name _ = refl
 
 fault_tells : (name : List ℕ) (f : Fault) → Plain name → Tells (concluded a_proof (fault_line name f) (fault_status f))
 fault_tells name f e = concluded_tells (fault_line name f) (fault_status f) (fault_plain name f e) (fault_other name f)
 
 word_plain : (w : Accepted) → Plain (word_text w)
 word_plain Rup = fixed _ refl
-word_plain Rat = fixed _ refl
-word_plain Pr = fixed _ refl
-word_plain Deleted = fixed _ refl
-word_plain Ignored = fixed _ refl
-word_plain Empty = fixed _ refl
+word_plain _ = fixed _ refl
 
 sign_plain : (l : Literal) → Plain (sign_text l)
 sign_plain l = by (l % 2 == 0)
@@ -280,20 +246,7 @@ cause_plain front refusal.Ended e = e
 
 refusal_other : (n : ℕ) (r : Refusal) → begins positive (refusal_line n r) ≡ false
 refusal_other n refusal.NotRup = refl
-refusal_other n (refusal.NeitherRupNorRat l) = refl
-refusal_other n refusal.NotAlive = refl
-refusal_other n refusal.InconsistentSet = refl
-refusal_other n refusal.NeitherRupNorPr = refl
-refusal_other n refusal.IdOutOfOrder = refl
-refusal_other n (refusal.UnknownId k) = refl
-refusal_other n (refusal.NotUnit k) = refl
-refusal_other n (refusal.NotCandidate k) = refl
-refusal_other n (refusal.NamedTwice k) = refl
-refusal_other n (refusal.GroupWithoutConflict k) = refl
-refusal_other n (refusal.Unnamed k) = refl
-refusal_other n refusal.NoConflict = refl
-refusal_other n refusal.OutOfMemory = refl
-refusal_other n refusal.Ended = refl
+refusal_other n _ = refl
 
 shown_plain : (n : ℕ) → Plain (shown n)
 shown_plain n = number_plain (min n (2 ^ 64 - 1))
