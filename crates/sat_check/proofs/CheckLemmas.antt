@@ -23,10 +23,13 @@ use Rattle.sat_check.specs.Code.Reach.{IsVerdict}
 use Rattle.sat_check.specs.Reach.{ReadsNoFurther, TellsRefused}
 use Rattle.sat_check.specs.Report.{Report, Outcome, Reports, text_of, with_lines, end_report}
 use Rattle.sat_check.specs.Code.Checking.{Standing, Rest, GoesOn, Stops, IsRefused, LeavesRest}
-use Rattle.sat_check.specs.Code.Checking.{LeavesProof, AllReports, counted, traced}
+use Rattle.sat_check.specs.Code.Checking.{LeavesProof, AllReports, RunsInto, counted, traced}
+use Rattle.sat_check.specs.Code.Writer.{LeavesWriter}
 use Rattle.sat_check.proofs.ShownLemmas.{traced_same}
 use Rattle.sat_check.specs.declared.checked.Checked.{Checked}
 use Rattle.sat_check.specs.declared.status.Status.TheVariants.{NotVerified, Malformed}
+use Rattle.sat_check.specs.declared.status.Status.TheVariants.{OutOfMemory as NoMemory, WriteFailed}
+use Rattle.sat_check.specs.declared.status.Status.TheVariants.{ReadFailed as NoRead}
 use Rattle.sat_check.proofs.OutcomeLemmas.{Outcome-after, Writes-all, Writes-still, text_of-append}
 use Rattle.sat_check.proofs.ReachLemmas.{no_verdict, LeavesRest-none, LeavesRest-broken}
 use Rattle.sat_check.proofs.ReachLemmas.{LeavesRest-decided, LeavesRest-step}
@@ -194,7 +197,7 @@ step_told now new result answer end s gives is =
 -- ---- A whole proof
 
 -- neither was read
-pub reports_nothing : (rule : Rule) (trace : Bool) (steps : Input → Proof) (formula proof new : Reader) (checked : Checked) (was now : Sink) → proof ≡ new
+reports_nothing : (rule : Rule) (trace : Bool) (steps : Input → Proof) (formula proof new : Reader) (checked : Checked) (was now : Sink) → proof ≡ new
     → checked.refused ≡ None → ((r : Report) → Outcome checked.status was.held now.held r) → AllReports rule trace steps formula formula proof new checked was.held now.held
 reports_nothing rule trace steps formula proof new checked was now same none o =
     let P : Reader → Type 0 = λ r. AllReports rule trace steps formula formula proof r checked was.held now.held in
@@ -211,6 +214,20 @@ reports_nothing rule trace steps formula proof new checked was now same none o =
   where
     broken : IsVerdict checked.status → ⊥
     broken v = no_verdict checked.status was.held now.held [] (o (record { lines = []; status = Malformed })) v
+
+-- memory ran out before either was read
+pub runs_nothing : (rule : Rule) (trace : Bool) (steps : Input → Proof) (formula proof new : Reader) (checked : Checked) (was now : Sink) → proof ≡ new
+    → checked ≡ record { status = NoMemory; refused = None } → ((r : Report) → Outcome NoMemory was.held now.held r) → LeavesWriter NoMemory was now
+    → RunsInto rule trace steps formula formula proof new was now checked
+runs_nothing rule trace steps formula proof new checked was now same is o writer =
+    let gone : Checked = record { status = NoMemory; refused = None } in
+    let P : Checked → Type 0 = λ c. RunsInto rule trace steps formula formula proof new was now c in
+    subst P (sym is) (record {
+      report = reports_nothing rule trace steps formula proof new gone was now same refl o;
+      read_failed = λ e. absurd (let bad : NoMemory ≡ NoRead = e in cc);
+      write_failed = λ e. absurd (let bad : NoMemory ≡ WriteFailed = e in cc);
+      writer = writer;
+    })
 
 -- what was left of a proof, and that no more than 65536 bytes were read past what was taken, say how far it was read
 reads_no_further : (rule : Rule) (i : Input) (k : Suffix) (p : Proof) (old new : Reader) (checked : Checked) → LeavesProof rule (formula_of i).fault (formula_of i).clauses p old new k checked

@@ -1,6 +1,7 @@
 -- What status 0 and a written `s VERIFIED` mean.
 use Rattle.std.proofs.Common.{◌≡◌, ℕ, ◌+◌, Bool, Option, None, Some, List, length, refl, sym, ap}
 use Rattle.std.proofs.Common.{◌∙◌, subst, slice_get, inl, inr}
+use Rattle.cnf_base.specs.Lines.{Sink}
 use Rattle.cnf_base.specs.Seen.{OfBothSeen}
 use Rattle.cnf_base.specs.Stream.{Input, Reader}
 use Rattle.cnf_base.specs.declared.fault.Fault.{Fault}
@@ -14,7 +15,7 @@ use Rattle.theory.specs.Models.{HasModel}
 use Rattle.theory.specs.Rules.{Rule, start}
 use Rattle.theory.specs.Verdicts.{Ending, verified, refused, no_empty_clause, Verdict}
 use Rattle.theory.proofs.LawLemmas.Verdicts.{verdict_sound, verdict_unique}
-use Rattle.sat_check.specs.Code.Checking.{AllReports}
+use Rattle.sat_check.specs.Code.Checking.{AllReports, RunsInto}
 use Rattle.sat_check.specs.Lines.{fault_status, text_status}
 use Rattle.sat_check.specs.Reach.{ReadsNoFurther, TellsRefused}
 use Rattle.sat_check.specs.Report.{Report, Outcome, ReportsFormula, ProofReport, Verifies, Reports}
@@ -105,17 +106,30 @@ checks_proof rule trace i p old new status x = record {
     refuted is = verifies_sound rule (formula_of i) p (report_verified rule trace i p x.report x.reports is)
 
 -- and by all that was seen of the formula and of the proof
-abbrev pub AllChecks : Rule → Bool → (Input → Proof) → Reader → Reader → Reader → Reader → Checked → Option (List ℕ) → Option (List ℕ) → Type 0
+abbrev AllChecks : Rule → Bool → (Input → Proof) → Reader → Reader → Reader → Reader → Checked → Option (List ℕ) → Option (List ℕ) → Type 0
 AllChecks rule trace steps formula formula_new proof proof_new checked old new =
     OfBothSeen formula formula_new proof proof_new (λ i j. ChecksProof rule trace i (steps j) old new checked.status
     × ReadsNoFurther rule (formula_of i) (steps j) proof proof_new × TellsRefused rule (formula_of i).fault (formula_of i).clauses (steps j) checked)
 
-pub both_check_proof : (rule : Rule) (trace : Bool) (steps : Input → Proof) (formula formula_new proof proof_new : Reader) (checked : Checked) (old new first last : Option (List ℕ)) → old ≡ first → new ≡ last
+both_check_proof : (rule : Rule) (trace : Bool) (steps : Input → Proof) (formula formula_new proof proof_new : Reader) (checked : Checked) (old new first last : Option (List ℕ)) → old ≡ first → new ≡ last
     → AllReports rule trace steps formula formula_new proof proof_new checked old new → AllChecks rule trace steps formula formula_new proof proof_new checked first last
 both_check_proof rule trace steps formula formula_new proof proof_new checked old new first last before after =
     both_told formula formula_new proof proof_new (λ x y i j. Reports rule trace i (steps j) x y checked.status
     × ReadsNoFurther rule (formula_of i) (steps j) proof proof_new × TellsRefused rule (formula_of i).fault (formula_of i).clauses (steps j) checked)
     _ old new first last before after (λ i j x. (checks_proof rule trace i (steps j) first last checked.status x.0, x.1, x.2))
+
+-- a run into lines over a writer, said of the writer
+pub runs_placed : (rule : Rule) (trace : Bool) (steps : Input → Proof) (formula formula_new proof proof_new : Reader) (checked : Checked) (was now : Sink) (old new : Option (List ℕ)) (had_failed has_failed is_flushed : Bool)
+    → was.held ≡ old → now.held ≡ new → was.has_failed ≡ had_failed → now.has_failed ≡ has_failed → now.is_flushed ≡ is_flushed
+    → RunsInto rule trace steps formula formula_new proof proof_new was now checked
+    → RunsPlaced rule trace steps formula formula_new proof proof_new old new had_failed has_failed is_flushed checked
+runs_placed rule trace steps formula formula_new proof proof_new checked was now old new had_failed has_failed is_flushed before after had has flushed runs = record {
+  checks = both_check_proof rule trace steps formula formula_new proof proof_new checked was.held now.held old new before after runs.report;
+  read_failed = runs.read_failed;
+  write_failed = λ is. sym has ∙ runs.write_failed is;
+  no_failure = λ is. sym has ∙ (runs.writer.no_failure is ∙ had);
+  flushed = λ is. sym flushed ∙ runs.writer.flushed is;
+}
 
 -- without where the refused step ends
 pub unplaced : (rule : Rule) (trace : Bool) (steps : Input → Proof) (formula formula_new proof proof_new : Reader) (checked : Checked) (old new : Option (List ℕ)) (had_failed has_failed is_flushed : Bool)

@@ -3,3 +3,4 @@ pub mod Checking
 pub mod Judging
 pub mod Reach
 pub mod Subjects
+pub mod Writer

@@ -6,7 +6,8 @@ ghost use Rattle.cnf_base.specs.Stream.{Input, Along, tells_failure};
 ghost use Rattle.cnf_base.specs.Seen.{Seen, IsSeen, OneHasFailed};
 ghost use Rattle.dimacs.specs.Formula.{formula_of};
 ghost use Rattle.theory.specs.Rules.{Rule, rule_of};
-ghost use Rattle.sat_check.specs.Report.{Report, Outcome, Checks, Reports, is_cut_short};
+ghost use Rattle.sat_check.specs.Report.{Report, Outcome, Checks, Reports};
+ghost use Rattle.sat_check.specs.Code.Writer.{LeavesWriter};
 ghost use Rattle.sat_check.specs.Code.Checking.{IsLoaded, LeavesProof};
 
 use crate::check_proof::check_proof;
@@ -42,10 +43,7 @@ pub fn check<F: In, S: ProofSession, R: StepReader, O: Out>(
     ensures read_failed { result.status ≡ Status.ReadFailed →
         OneHasFailed (F.shown formula.new) (R.stream reader.new).reader }
     ensures write_failed { result.status ≡ Status.WriteFailed → lines.new.has_failed ≡ true }
-    ensures no_failure { is_cut_short result.status ≡ false →
-        lines.new.has_failed ≡ lines.old.has_failed }
-    ensures flushed { is_cut_short result.status ≡ false → lines.new.is_flushed ≡ true }
-    ensures same_writer { lines.new.borrows ≡ lines.old.borrows }
+    ensures writer { LeavesWriter result.status lines.old lines.new }
 {
     match load(alloc, formula, session) {
         Ok(header) => check_loaded(alloc, trace, header, session, reader, lines),
@@ -78,10 +76,7 @@ fn check_loaded<S: ProofSession, R: StepReader, O: Out>(
     ensures read_failed { result.status ≡ Status.ReadFailed →
         tells_failure (R.stream reader.new).reader ≡ true }
     ensures write_failed { result.status ≡ Status.WriteFailed → lines.new.has_failed ≡ true }
-    ensures no_failure { is_cut_short result.status ≡ false →
-        lines.new.has_failed ≡ lines.old.has_failed }
-    ensures flushed { is_cut_short result.status ≡ false → lines.new.is_flushed ≡ true }
-    ensures same_writer { lines.new.borrows ≡ lines.old.borrows }
+    ensures writer { LeavesWriter result.status lines.old lines.new }
 {
     if let Err(status) = write_line(lines, formula_line(alloc, header)) {
         return Checked::without_step(status);

@@ -4,6 +4,7 @@ ghost use Rattle.std.specs.Prelude.{◌≡◌, ◌⊎◌, false, true, [], ◌�
 ghost use Rattle.cnf_base.specs.Lines.{Writes, line_of};
 ghost use Rattle.sat_check.specs.Lines.{fault_line, fault_status};
 ghost use Rattle.sat_check.specs.Report.{Report, Outcome, concluded, is_cut_short, with_lines};
+ghost use Rattle.sat_check.specs.Code.Writer.{LeavesWriter};
 ghost use Rattle.sat_check.specs.Code.Subjects.{certificate_of};
 
 use crate::Status;
@@ -25,10 +26,7 @@ pub fn conclude<O: Out>(
         (concluded (certificate_of subject) text status) }
     ensures status { (result ≡ status) ⊎ (result ≡ Status.OutOfMemory)
         ⊎ ((result ≡ Status.WriteFailed) × (lines.new.has_failed ≡ true)) }
-    ensures no_failure { is_cut_short result ≡ false →
-        lines.new.has_failed ≡ lines.old.has_failed }
-    ensures flushed { is_cut_short result ≡ false → lines.new.is_flushed ≡ true }
-    ensures same_writer { lines.new.borrows ≡ lines.old.borrows }
+    ensures writer { LeavesWriter result lines.old lines.new }
 {
     let Ok(line) = line else {
         return give_up(lines);
@@ -60,10 +58,7 @@ pub fn break_off<O: Out>(
         (concluded (certificate_of subject) (fault_line name.now fault) (fault_status fault)) }
     ensures read_failed { result ≡ Status.ReadFailed → fault ≡ Fault.ReadFailed }
     ensures write_failed { result ≡ Status.WriteFailed → lines.new.has_failed ≡ true }
-    ensures no_failure { is_cut_short result ≡ false →
-        lines.new.has_failed ≡ lines.old.has_failed }
-    ensures flushed { is_cut_short result ≡ false → lines.new.is_flushed ≡ true }
-    ensures same_writer { lines.new.borrows ≡ lines.old.borrows }
+    ensures writer { LeavesWriter result lines.old lines.new }
 {
     match fault {
         Fault::OutOfMemory => give_up(lines),
@@ -108,7 +103,7 @@ pub fn write_line<O: Out>(
 pub fn give_up<O: Out>(lines: &mut LineOut<O>) -> Status
     ensures status { result ≡ Status.OutOfMemory }
     ensures outcome { (r : Report) → Outcome Status.OutOfMemory lines.old.held lines.new.held r }
-    ensures same_writer { lines.new.borrows ≡ lines.old.borrows }
+    ensures writer { LeavesWriter Status.OutOfMemory lines.old lines.new }
 {
     let _ = lines.finish();
     Status::OutOfMemory

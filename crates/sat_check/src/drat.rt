@@ -1,12 +1,10 @@
 //! A check of a DRAT proof, from bytes to bytes.
 
-ghost use Rattle.std.specs.Prelude.{◌≡◌, [], true, false};
+ghost use Rattle.std.specs.Prelude.{◌≡◌, [], false};
 ghost use Rattle.std.specs.FinMap as maps;
-ghost use Rattle.cnf_base.specs.Seen.{OneHasFailed};
-ghost use Rattle.steps.specs.DratSession.{fresh_drat};
 ghost use Rattle.theory.specs.Rules.{drat};
-ghost use Rattle.sat_check.specs.Code.Checking.{AllReports};
-ghost use Rattle.sat_check.specs.Report.{drat_proof, rules_of, is_cut_short};
+ghost use Rattle.sat_check.specs.Code.Checking.{RunsInto};
+ghost use Rattle.sat_check.specs.Report.{drat_proof, rules_of};
 ghost use Rattle.sat_check.specs.Runs.{RunsPlaced, RunsProof};
 
 use crate::check::check;
@@ -66,16 +64,9 @@ fn check_drat<F: In, P: In, O: Out>(
     lines: &mut LineOut<O>,
 ) -> Checked
     requires { lines.old.is_broken ≡ false }
-    ensures report { AllReports (drat (rules_of options)) options.trace (drat_proof options.binary)
+    ensures { RunsInto (drat (rules_of options)) options.trace (drat_proof options.binary)
         (F.shown formula.old) (F.shown formula.new) (P.shown proof.old) (P.shown proof.new)
-        result lines.old.held lines.new.held }
-    ensures read_failed { result.status ≡ Status.ReadFailed →
-        OneHasFailed (F.shown formula.new) (P.shown proof.new) }
-    ensures write_failed { result.status ≡ Status.WriteFailed → lines.new.has_failed ≡ true }
-    ensures no_failure { is_cut_short result.status ≡ false →
-        lines.new.has_failed ≡ lines.old.has_failed }
-    ensures flushed { is_cut_short result.status ≡ false → lines.new.is_flushed ≡ true }
-    ensures same_writer { lines.new.borrows ≡ lines.old.borrows }
+        lines.old lines.new result }
 {
     let Ok(clauses) = Watch::seeded(alloc, options.seed) else {
         return Checked::without_step(give_up(lines));
@@ -83,7 +74,7 @@ fn check_drat<F: In, P: In, O: Out>(
     check_with(alloc, options, clauses, formula, proof, lines)
 }
 
-// The check by a propagation without clauses.
+// The check by a propagation without clauses, in the form that was asked for.
 pub(crate) fn check_with<C: Propagate + Drop, F: In, P: In, O: Out>(
     alloc: Global,
     options: DratOptions,
@@ -96,56 +87,24 @@ pub(crate) fn check_with<C: Propagate + Drop, F: In, P: In, O: Out>(
     requires nothing_assumed { (C.state clauses).assumptions ≡ [] }
     requires none_refused { (C.state clauses).has_refused ≡ false }
     requires whole { lines.old.is_broken ≡ false }
-    ensures report { AllReports (drat (rules_of options)) options.trace (drat_proof options.binary)
+    ensures { RunsInto (drat (rules_of options)) options.trace (drat_proof options.binary)
         (F.shown formula.old) (F.shown formula.new) (P.shown proof.old) (P.shown proof.new)
-        result lines.old.held lines.new.held }
-    ensures read_failed { result.status ≡ Status.ReadFailed →
-        OneHasFailed (F.shown formula.new) (P.shown proof.new) }
-    ensures write_failed { result.status ≡ Status.WriteFailed → lines.new.has_failed ≡ true }
-    ensures no_failure { is_cut_short result.status ≡ false →
-        lines.new.has_failed ≡ lines.old.has_failed }
-    ensures flushed { is_cut_short result.status ≡ false → lines.new.is_flushed ≡ true }
-    ensures same_writer { lines.new.borrows ≡ lines.old.borrows }
+        lines.old lines.new result }
 {
     let mut session = DratSession::new(clauses, options.rules());
-    check_form(alloc, options, formula, &mut session, proof, lines)
-}
-
-// The check by a session without clauses, in the form that was asked for.
-fn check_form<C: Propagate + Drop, F: In, P: In, O: Out>(
-    alloc: Global,
-    options: DratOptions,
-    formula: &mut F,
-    session: &mut DratSession<C>,
-    proof: &mut P,
-    lines: &mut LineOut<O>,
-) -> Checked
-    requires fresh { session.old ≡ fresh_drat (rules_of options) }
-    requires whole { lines.old.is_broken ≡ false }
-    ensures report { AllReports (drat (rules_of options)) options.trace (drat_proof options.binary)
-        (F.shown formula.old) (F.shown formula.new) (P.shown proof.old) (P.shown proof.new)
-        result lines.old.held lines.new.held }
-    ensures read_failed { result.status ≡ Status.ReadFailed →
-        OneHasFailed (F.shown formula.new) (P.shown proof.new) }
-    ensures write_failed { result.status ≡ Status.WriteFailed → lines.new.has_failed ≡ true }
-    ensures no_failure { is_cut_short result.status ≡ false →
-        lines.new.has_failed ≡ lines.old.has_failed }
-    ensures flushed { is_cut_short result.status ≡ false → lines.new.is_flushed ≡ true }
-    ensures same_writer { lines.new.borrows ≡ lines.old.borrows }
-{
     let Ok(piece) = Piece::new(alloc) else {
         return Checked::without_step(give_up(lines));
     };
     let trace = options.trace;
     if options.binary {
         let mut reader = DratBinary::new(Source::over(piece, &mut *proof));
-        let checked = check(alloc, trace, formula, session, &mut reader, lines);
+        let checked = check(alloc, trace, formula, &mut session, &mut reader, lines);
         let rest = reader.release();
         let _ = &*rest;
         checked
     } else {
         let mut reader = DratText::new(Source::over(piece, &mut *proof));
-        let checked = check(alloc, trace, formula, session, &mut reader, lines);
+        let checked = check(alloc, trace, formula, &mut session, &mut reader, lines);
         let rest = reader.release();
         let _ = &*rest;
         checked

@@ -3,6 +3,7 @@
 
 mod check;
 mod check_proof;
+mod check_step;
 mod checked;
 mod conclude;
 mod drat;
@@ -18,7 +19,6 @@ mod options;
 mod report;
 mod status;
 mod subject;
-mod take_step;
 mod tools;
 
 pub use checked::Checked;

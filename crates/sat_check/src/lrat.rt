@@ -1,11 +1,9 @@
 //! A check of an LRAT proof, from bytes to bytes.
 
-ghost use Rattle.std.specs.Prelude.{◌≡◌, true, false};
-ghost use Rattle.cnf_base.specs.Seen.{OneHasFailed};
+ghost use Rattle.std.specs.Prelude.{◌≡◌, false};
 ghost use Rattle.proofs.specs.Lrat.{lrat_steps};
 ghost use Rattle.theory.specs.Rules.{lrat};
-ghost use Rattle.sat_check.specs.Code.Checking.{AllReports};
-ghost use Rattle.sat_check.specs.Report.{is_cut_short};
+ghost use Rattle.sat_check.specs.Code.Checking.{RunsInto};
 ghost use Rattle.sat_check.specs.Runs.{RunsPlaced, RunsProof};
 
 use crate::check::check;
@@ -63,15 +61,8 @@ fn check_lrat<F: In, P: In, O: Out>(
     lines: &mut LineOut<O>,
 ) -> Checked
     requires { lines.old.is_broken ≡ false }
-    ensures report { AllReports lrat trace lrat_steps (F.shown formula.old) (F.shown formula.new)
-        (P.shown proof.old) (P.shown proof.new) result lines.old.held lines.new.held }
-    ensures read_failed { result.status ≡ Status.ReadFailed →
-        OneHasFailed (F.shown formula.new) (P.shown proof.new) }
-    ensures write_failed { result.status ≡ Status.WriteFailed → lines.new.has_failed ≡ true }
-    ensures no_failure { is_cut_short result.status ≡ false →
-        lines.new.has_failed ≡ lines.old.has_failed }
-    ensures flushed { is_cut_short result.status ≡ false → lines.new.is_flushed ≡ true }
-    ensures same_writer { lines.new.borrows ≡ lines.old.borrows }
+    ensures { RunsInto lrat trace lrat_steps (F.shown formula.old) (F.shown formula.new)
+        (P.shown proof.old) (P.shown proof.new) lines.old lines.new result }
 {
     let Ok(mut session) = LratSession::new(alloc) else {
         return Checked::without_step(give_up(lines));

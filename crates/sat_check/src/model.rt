@@ -1,12 +1,13 @@
 //! A check of a model, from bytes to bytes.
 
-ghost use Rattle.std.specs.Prelude.{◌≡◌, true, false, Ok, IfOk, IfErr};
+ghost use Rattle.std.specs.Prelude.{◌≡◌, true, Ok, IfOk, IfErr};
 ghost use Rattle.cnf_base.specs.Stream.{tells_failure};
 ghost use Rattle.cnf_base.specs.Code.Seen.{OfSeen};
 ghost use Rattle.cnf_base.specs.Seen.{OfBothSeen, OneHasFailed};
 ghost use Rattle.dimacs.specs.Claim.{claim_of, IsClaim, IsConsistent};
 ghost use Rattle.dimacs.specs.Formula.{formula_of};
-ghost use Rattle.sat_check.specs.Report.{Outcome, is_cut_short};
+ghost use Rattle.sat_check.specs.Report.{Outcome};
+ghost use Rattle.sat_check.specs.Code.Writer.{LeavesWriter};
 ghost use Rattle.sat_check.specs.ModelReport.{claim_report, model_report};
 ghost use Rattle.sat_check.specs.ModelReport.{ChecksModel, ReadsFormulaNoFurther};
 ghost use Rattle.sat_check.specs.Runs.{Runs};
@@ -62,10 +63,7 @@ fn check_model<F: In, M: In, O: Out>(
     ensures read_failed { result ≡ Status.ReadFailed →
         OneHasFailed (F.shown formula.new) (M.shown output.new) }
     ensures write_failed { result ≡ Status.WriteFailed → lines.new.has_failed ≡ true }
-    ensures no_failure { is_cut_short result ≡ false →
-        lines.new.has_failed ≡ lines.old.has_failed }
-    ensures flushed { is_cut_short result ≡ false → lines.new.is_flushed ≡ true }
-    ensures same_writer { lines.new.borrows ≡ lines.old.borrows }
+    ensures writer { LeavesWriter result lines.old lines.new }
 {
     match claimed(alloc, output) {
         Ok(model) => check_formula(alloc, &model, formula, lines),
@@ -100,10 +98,7 @@ fn check_formula<F: In, O: Out>(
     ensures read_failed { result ≡ Status.ReadFailed →
         tells_failure (F.shown formula.new) ≡ true }
     ensures write_failed { result ≡ Status.WriteFailed → lines.new.has_failed ≡ true }
-    ensures no_failure { is_cut_short result ≡ false →
-        lines.new.has_failed ≡ lines.old.has_failed }
-    ensures flushed { is_cut_short result ≡ false → lines.new.is_flushed ≡ true }
-    ensures same_writer { lines.new.borrows ≡ lines.old.borrows }
+    ensures writer { LeavesWriter result lines.old lines.new }
 {
     match judge(alloc, formula, model) {
         Ok(judgement) => conclude_judgement(alloc, judgement, lines),
@@ -115,10 +110,7 @@ fn conclude_judgement<O: Out>(alloc: Global, judgement: Judgement, lines: &mut L
     ensures outcome { Outcome result lines.old.held lines.new.held (judged_report judgement) }
     ensures read { result ≡ Status.ReadFailed → ⊥ }
     ensures write_failed { result ≡ Status.WriteFailed → lines.new.has_failed ≡ true }
-    ensures no_failure { is_cut_short result ≡ false →
-        lines.new.has_failed ≡ lines.old.has_failed }
-    ensures flushed { is_cut_short result ≡ false → lines.new.is_flushed ≡ true }
-    ensures same_writer { lines.new.borrows ≡ lines.old.borrows }
+    ensures writer { LeavesWriter result lines.old lines.new }
 {
     match judgement {
         Judgement::Met(number) => {

@@ -4,7 +4,7 @@ use Rattle.std.specs.Prelude.{◌≡◌, ◌+◌, ◌≤◌, false, List, length
 use Rattle.std.specs.Prelude.{max, Bool, ◌⊎◌, Option, true, ◌-◌, ◌^◌, min, if◌then◌else◌, [], ◌∷◌}
 use Rattle.cnf_base.specs.Lines.{Sink, Writes}
 use Rattle.cnf_base.specs.Literals.{Clause}
-use Rattle.cnf_base.specs.Seen.{OfBothSeen}
+use Rattle.cnf_base.specs.Seen.{OfBothSeen, OneHasFailed}
 use Rattle.cnf_base.specs.Stream.{Input, Suffix, Stream, Reader}
 use Rattle.cnf_base.specs.declared.fault.Fault.TheVariants.{OutOfMemory}
 use Rattle.cnf_base.specs.declared.fault.Fault.{Fault}
@@ -19,6 +19,7 @@ use Rattle.theory.specs.declared.accepted.Accepted.{Accepted}
 use Rattle.theory.specs.declared.refusal.Refusal.TheVariants.{OutOfMemory as RefusedMemory}
 use Rattle.theory.specs.declared.refusal.Refusal.{Refusal}
 use Rattle.steps.specs.ProofSession.{View, is_over}
+use Rattle.sat_check.specs.Code.Writer.{LeavesWriter}
 use Rattle.sat_check.specs.Lines.{trace_line}
 use Rattle.sat_check.specs.Reach.{deciding_step, refused_end, NeedsNoProof, TellsRefused}
 use Rattle.sat_check.specs.Reach.{ReadsNoFurther}
@@ -42,6 +43,12 @@ pub record IsLoaded (rule : Rule) (s : View) (clauses : List Clause) : Type 0 wh
   pub unstepped : s.has_stepped ≡ false
   pub peak : s.peak ≡ sum_of (start rule clauses)
   pub room : 4294967295 ≤ s.room + length clauses
+
+-- a session that takes steps: it isn't over, and of what it holds the peak is known
+pub record IsOpen (s : View) : Type 0 where
+  pub sound : is_over s ≡ false
+  pub finite : IsFinite s.state
+  pub least : sum_of s.state ≤ s.peak
 
 -- the clauses of a formula were input, or its fault was met; want of memory says nothing
 abbrev pub LoadsBody : Rule → View → Result Unit Fault → Body → Type 0
@@ -94,6 +101,16 @@ AllReports rule trace steps formula formula_new proof proof_new checked old new 
     (λ i j. Reports rule trace i (steps j) old new checked.status
     × ReadsNoFurther rule (formula_of i) (steps j) proof proof_new
     × TellsRefused rule (formula_of i).fault (formula_of i).clauses (steps j) checked)
+
+-- A run from readers to the writer of the lines: what was written, and which of them failed.
+pub record RunsInto (rule : Rule) (trace : Bool) (steps : Input → Proof)
+    (formula formula_new proof proof_new : Reader) (was now : Sink) (checked : Checked)
+    : Type 0 where
+  pub report : AllReports rule trace steps formula formula_new proof proof_new checked
+      was.held now.held
+  pub read_failed : checked.status ≡ ReadFailed → OneHasFailed formula_new proof_new
+  pub write_failed : checked.status ≡ WriteFailed → now.has_failed ≡ true
+  pub writer : LeavesWriter checked.status was now
 
 -- a step that is refused
 abbrev pub IsRefused : State → Step → Type 0

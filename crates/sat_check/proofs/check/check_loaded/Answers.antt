@@ -29,11 +29,14 @@ returns-then-verified-clause-report g c =
     (c.conclude-status.ensures.outcome (steps_line 0 c.peak.result) c.steps_line-line.ensures) in
     (done.0, done.1, rw c.without_step-then-verified.ensures done.2, LeavesProof-empty rule None clauses _ _ k c.without_step-then-verified.result (search rules) (sym l.verified ∙ search rules)))
 
-pub check_proof-requires-clause-finite : goal.check_proof-requires-clause-finite
-check_proof-requires-clause-finite g c = loaded_finite c.requires.loaded.0 (g.S.ProofSession.shown c.args.session.now) c.requires.loaded.1 c.requires.loaded.2
-
-pub check_proof-requires-clause-least : goal.check_proof-requires-clause-least
-check_proof-requires-clause-least g c = loaded_least c.requires.loaded.0 (g.S.ProofSession.shown c.args.session.now) c.requires.loaded.1 c.requires.loaded.2
+pub check_proof-requires-clause-open : goal.check_proof-requires-clause-open
+check_proof-requires-clause-open g c =
+    let loaded = c.requires.loaded in
+    record {
+      sound = search rules;
+      finite = loaded_finite loaded.0 (g.S.ProofSession.shown c.args.session.now) loaded.1 loaded.2;
+      least = loaded_least loaded.0 (g.S.ProofSession.shown c.args.session.now) loaded.1 loaded.2;
+    }
 
 pub returns-clause-report : goal.returns-clause-report
 returns-clause-report g c =

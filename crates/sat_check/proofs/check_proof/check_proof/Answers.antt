@@ -10,7 +10,7 @@ use Rattle.sat_check.proofs.check_proof.check_proof.Goals as goal
 pub loop-number-init : goal.loop-number-init
 loop-number-init g c =
     Checking-start c.args.trace (record { stream = g.R.StepReader.stream c.args.reader.now; to_come = g.R.StepReader.to_come c.args.reader.now }) (g.S.ProofSession.shown c.args.session.now) c.args.lines.now
-    c.requires.whole c.requires.sound c.requires.finite c.requires.least
+    c.requires.whole c.requires.open.sound c.requires.open.finite c.requires.open.least
 
 pub returns-in-Some-clause-report : goal.returns-in-Some-clause-report
 returns-in-Some-clause-report g c =
@@ -19,7 +19,7 @@ returns-in-Some-clause-report g c =
     let now : Standing = record { stream = g.R.StepReader.stream c.loop-number.reader; to_come = g.R.StepReader.to_come c.loop-number.reader } in
     let new : Standing = record { stream = g.R.StepReader.stream c.next.new.self; to_come = g.R.StepReader.to_come c.next.new.self } in
     Checking-stop c.args.trace start now new _ _ _ _ _ c.loop-number.invariant c.saturating_add-number.result counts c.next.new.step _ (step_told now new _ (Ok true) _ _ c.next.ensures.step (search rules))
-    c.by_step.result c.take_step.new.lines (rw c.by_step.ensures.status c.in-Some.ensures.stops) (rw c.by_step.ensures.status c.in-Some.ensures.refused)
+    c.by_step.result c.check_step.new.lines (rw c.by_step.ensures.status c.in-Some.ensures.stops) (rw c.by_step.ensures.status c.in-Some.ensures.refused)
     (λ v. c.by_step.ensures.refused (search rules) ∙ search rules) (λ v. c.by_step.ensures.only (search rules))
 
 pub loop-number-preserved : goal.loop-number-preserved
@@ -37,7 +37,7 @@ returns-in-Ok-false-clause-report g c =
     let now : Standing = record { stream = g.R.StepReader.stream c.loop-number.reader; to_come = g.R.StepReader.to_come c.loop-number.reader } in
     let new : Standing = record { stream = g.R.StepReader.stream c.next.new.self; to_come = g.R.StepReader.to_come c.next.new.self } in
     Checking-end c.args.trace start now new _ _ _ _ _ c.loop-number.invariant c.next.new.step c.without_step.result (search rules) c.conclude-status.new.lines (step_told now new _ (Ok false) _ _ c.next.ensures.step (search rules))
-    (rw c.without_step.ensures (c.conclude-status.ensures.outcome end_line c.end_line-line.ensures))
+    (rw c.without_step.ensures (c.conclude-status.ensures.outcome end_line c.end_line.ensures))
 
 pub returns-in-Err-clause-report : goal.returns-in-Err-clause-report
 returns-in-Err-clause-report g c =

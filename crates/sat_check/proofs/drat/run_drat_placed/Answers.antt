@@ -2,15 +2,10 @@
 use Rattle.std.proofs.Common.{rules}
 use Rattle.sat_check.specs.Report.{drat_proof, rules_of}
 use Rattle.theory.specs.Rules.{drat}
-use Rattle.sat_check.proofs.SoundLemmas.{both_check_proof}
+use Rattle.sat_check.proofs.SoundLemmas.{runs_placed}
 use Rattle.sat_check.proofs.drat.run_drat_placed.Goals as goal
 
 pub returns : goal.returns
-returns g c = record {
-  checks =
-      both_check_proof (drat (rules_of c.args.options.now)) c.args.options.now.trace (drat_proof c.args.options.now.binary) _ _ _ _ c.check_drat-checked.result _ _ _ _ (search rules) (search rules) c.check_drat-checked.ensures.report;
-  read_failed = search rules;
-  write_failed = search rules;
-  no_failure = search rules;
-  flushed = search rules;
-}
+returns g c =
+    runs_placed (drat (rules_of c.args.options.now)) c.args.options.now.trace (drat_proof c.args.options.now.binary) _ _ _ _ c.check_drat-checked.result _ _ _ _ _ _ _
+    (search rules) (search rules) (search rules) (search rules) (search rules) c.check_drat-checked.ensures

@@ -2,15 +2,10 @@
 use Rattle.std.proofs.Common.{rules}
 use Rattle.proofs.specs.Lrat.{lrat_steps}
 use Rattle.theory.specs.Rules.{lrat}
-use Rattle.sat_check.proofs.SoundLemmas.{both_check_proof}
+use Rattle.sat_check.proofs.SoundLemmas.{runs_placed}
 use Rattle.sat_check.proofs.lrat.run_lrat_placed.Goals as goal
 
 pub returns : goal.returns
-returns g c = record {
-  checks =
-      both_check_proof lrat c.args.options.now.trace lrat_steps _ _ _ _ c.check_lrat-checked.result _ _ _ _ (search rules) (search rules) c.check_lrat-checked.ensures.report;
-  read_failed = search rules;
-  write_failed = search rules;
-  no_failure = search rules;
-  flushed = search rules;
-}
+returns g c =
+    runs_placed lrat c.args.options.now.trace lrat_steps _ _ _ _ c.check_lrat-checked.result _ _ _ _ _ _ _
+    (search rules) (search rules) (search rules) (search rules) (search rules) c.check_lrat-checked.ensures

@@ -1,6 +1,6 @@
 use Rattle.sat_check.specs.Lines.{trace_line}
 use Rattle.sat_check.proofs.OutcomeLemmas.{Writes-line, on_ok}
-use Rattle.sat_check.proofs.take_step.write_trace.Goals as goal
+use Rattle.sat_check.proofs.check_step.write_trace.Goals as goal
 
 pub returns-clause-wrote : goal.returns-clause-wrote
 returns-clause-wrote g c =

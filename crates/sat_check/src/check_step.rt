@@ -7,6 +7,7 @@ ghost use Rattle.theory.specs.Verdicts.{is_last};
 ghost use Rattle.sat_check.specs.Lines.{a_proof, refusal_line, trace_line};
 ghost use Rattle.sat_check.specs.Report.{Report, Outcome, is_cut_short, concluded, with_lines};
 ghost use Rattle.sat_check.specs.Report.{text_of};
+ghost use Rattle.sat_check.specs.Code.Writer.{LeavesWriter};
 ghost use Rattle.sat_check.specs.Code.Reach.{IsVerdict};
 ghost use Rattle.sat_check.specs.Code.Checking.{Decides, GoesOn, IsRefused, Stops, IsBreak, IsTold};
 ghost use Rattle.sat_check.specs.Code.Checking.{is_memory, traced};
@@ -20,9 +21,9 @@ use proofs::StepBuf;
 use std::alloc::Global;
 use steps::{Accepted, ProofSession, Refusal};
 
-/// Takes the step of this number, and writes its line where a trace is asked for. Where the check ends with it, the
+/// Checks the step of this number, and writes its line where a trace is asked for. Where the check ends with it, the
 /// verdict is written, and the status answered.
-pub fn take_step<S: ProofSession, O: Out>(
+pub fn check_step<S: ProofSession, O: Out>(
     alloc: Global,
     trace: bool,
     session: &mut S,
@@ -41,10 +42,7 @@ pub fn take_step<S: ProofSession, O: Out>(
     ensures refused { IfSome result (λ status. status ≡ Status.NotVerified →
         IsRefused (S.shown session.old).state step.now) }
     ensures told { IfSome result (λ status. IsTold status lines.new) }
-    ensures no_failure { IfSome result (λ status. is_cut_short status ≡ false →
-        lines.new.has_failed ≡ lines.old.has_failed) }
-    ensures flushed { IfSome result (λ status. is_cut_short status ≡ false →
-        lines.new.is_flushed ≡ true) }
+    ensures writer { IfSome result (λ status. LeavesWriter status lines.old lines.new) }
     ensures same_writer { lines.new.borrows ≡ lines.old.borrows }
 {
     let word = match session.step(step) {
@@ -92,10 +90,7 @@ fn refuse<O: Out>(alloc: Global, number: u64, refusal: Refusal, lines: &mut Line
         Outcome result lines.old.held lines.new.held
         (concluded a_proof (refusal_line number refusal) Status.NotVerified) }
     ensures told { IsTold result lines.new }
-    ensures no_failure { is_cut_short result ≡ false →
-        lines.new.has_failed ≡ lines.old.has_failed }
-    ensures flushed { is_cut_short result ≡ false → lines.new.is_flushed ≡ true }
-    ensures same_writer { lines.new.borrows ≡ lines.old.borrows }
+    ensures writer { LeavesWriter result lines.old lines.new }
 {
     match refusal {
         Refusal::OutOfMemory => give_up(lines),

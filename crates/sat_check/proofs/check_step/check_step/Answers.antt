@@ -4,7 +4,7 @@ use Rattle.sat_check.specs.Lines.{steps_line}
 use Rattle.sat_check.specs.declared.status.Status.TheVariants.{Malformed}
 use Rattle.sat_check.proofs.ReachLemmas.{no_verdict}
 use Rattle.sat_check.proofs.StepLemmas.{Stops-refused, was_refused, Stops-traced, Stops-verified}
-use Rattle.sat_check.proofs.take_step.take_step.Goals as goal
+use Rattle.sat_check.proofs.check_step.check_step.Goals as goal
 
 pub returns-in-Err-clause-stops : goal.returns-in-Err-clause-stops
 returns-in-Err-clause-stops g c =

@@ -1,0 +1,12 @@
+-- What a run leaves of the writer of its lines.
+use Rattle.std.specs.Prelude.{◌≡◌, true, false}
+use Rattle.cnf_base.specs.Lines.{Sink}
+use Rattle.sat_check.specs.Report.{is_cut_short}
+use Rattle.sat_check.specs.declared.status.Status.{Status}
+
+-- Unless memory or the writer failed, the writer tells of no new failure, and all was flushed. It
+-- is the same writer.
+pub record LeavesWriter (status : Status) (old new : Sink) : Type 0 where
+  pub no_failure : is_cut_short status ≡ false → new.has_failed ≡ old.has_failed
+  pub flushed : is_cut_short status ≡ false → new.is_flushed ≡ true
+  pub same_writer : new.borrows ≡ old.borrows
