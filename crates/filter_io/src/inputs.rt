@@ -22,8 +22,8 @@ pub(crate) fn open_both<S: System>(system: &S, args: &Args) -> Result<(S::Input,
     Ok((formula, second))
 }
 
-/// Tells why a read failed, where the check ended for that: once, by the name that the command line gave.
-pub(crate) fn tell_failures<S: System>(
+/// Explains why a read failed, where the check ended for that: once, by the name that the command line gave.
+pub(crate) fn explain_failures<S: System>(
     system: &S,
     args: &Args,
     inputs: (&S::Input, &S::Input),
@@ -37,8 +37,8 @@ pub(crate) fn tell_failures<S: System>(
     system.tell_failure(second_name(args), second);
 }
 
-/// Tells where the step ends that was refused, if one was.
-pub(crate) fn tell_refusal<S: System>(system: &S, args: &Args, checked: Checked) {
+/// Explains where the step ends that was refused, if one was.
+pub(crate) fn explain_refusal<S: System>(system: &S, args: &Args, checked: Checked) {
     if let Some(end) = checked.refused {
         system.tell_refusal(second_name(args), end);
     }

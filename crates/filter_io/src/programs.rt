@@ -2,12 +2,15 @@
 
 ghost use Rattle.std.specs.Prelude.{◌≡◌, IfOk, IfErr, OnErr};
 ghost use Rattle.command_line.specs.Asked.{IsAsked};
-ghost use Rattle.filter_io.specs.Runs.{MakesNoCheck, RunsTool};
+ghost use Rattle.filter_io.specs.Runs.{MakesNoCheck, RunsTool, ToolChecks};
+ghost use Rattle.sat_check.specs.Runs.{Runs};
 
-use crate::inputs::{open_both, tell_failures, tell_refusal};
+use crate::inputs::{explain_failures, explain_refusal, open_both};
 use crate::system::System;
 use cnf_base::Out;
-use sat_check::{Args, ArgsFault, Status, Tool, drat_forward, lrat_check, read_args, run_model};
+use sat_check::{
+    Args, ArgsFault, Checked, Status, Tool, drat_forward, lrat_check, read_args, run_model,
+};
 
 /// The program `drat-forward`. Where there is no check, the status says why, and nothing is written.
 pub fn run_drat_forward<S: System, O: Out>(
@@ -22,13 +25,7 @@ pub fn run_drat_forward<S: System, O: Out>(
     ensures no_check { IfErr result (MakesNoCheck Tool.Drat words.now) }
     ensures unwritten { OnErr result (out.new ≡ out.old) }
 {
-    let args = asked(system, Tool::Drat, words)?;
-    let (mut formula, mut proof) = open_both(system, &args)?;
-    let (alloc, seed) = (system.alloc(), system.seed());
-    let checked = drat_forward(alloc, &args, seed, &mut formula, &mut proof, out);
-    tell_failures(system, &args, (&formula, &proof), checked.status);
-    tell_refusal(system, &args, checked);
-    Ok(checked.status)
+    run_tool(system, Tool::Drat, words, out)
 }
 
 /// The program `lrat-check`. Where there is no check, the status says why, and nothing is written.
@@ -44,12 +41,7 @@ pub fn run_lrat_check<S: System, O: Out>(
     ensures no_check { IfErr result (MakesNoCheck Tool.Lrat words.now) }
     ensures unwritten { OnErr result (out.new ≡ out.old) }
 {
-    let args = asked(system, Tool::Lrat, words)?;
-    let (mut formula, mut proof) = open_both(system, &args)?;
-    let checked = lrat_check(system.alloc(), &args, &mut formula, &mut proof, out);
-    tell_failures(system, &args, (&formula, &proof), checked.status);
-    tell_refusal(system, &args, checked);
-    Ok(checked.status)
+    run_tool(system, Tool::Lrat, words, out)
 }
 
 /// The program `model-check`. Where there is no check, the status says why, and nothing is written.
@@ -65,11 +57,52 @@ pub fn run_model_check<S: System, O: Out>(
     ensures no_check { IfErr result (MakesNoCheck Tool.Model words.now) }
     ensures unwritten { OnErr result (out.new ≡ out.old) }
 {
-    let args = asked(system, Tool::Model, words)?;
-    let (mut formula, mut output) = open_both(system, &args)?;
-    let status = run_model(system.alloc(), &mut formula, &mut output, out);
-    tell_failures(system, &args, (&formula, &output), status);
-    Ok(status)
+    run_tool(system, Tool::Model, words, out)
+}
+
+fn run_tool<S: System, O: Out>(
+    system: &S,
+    tool: Tool,
+    words: &[String],
+    out: &mut O,
+) -> Result<Status, Status>
+    ensures runs { IfOk result (RunsTool tool words.now (S.holds system.now)
+        (O.held out.old) (O.held out.new) (O.has_failed out.old) (O.has_failed out.new)
+        (O.is_flushed out.new)) }
+    ensures no_check { IfErr result (MakesNoCheck tool words.now) }
+    ensures unwritten { OnErr result (out.new ≡ out.old) }
+{
+    let args = asked(system, tool, words)?;
+    let (mut formula, mut second) = open_both(system, &args)?;
+    let checked = check(system, tool, &args, &mut formula, &mut second, out);
+    explain_failures(system, &args, (&formula, &second), checked.status);
+    explain_refusal(system, &args, checked);
+    Ok(checked.status)
+}
+
+// Checks the two inputs, as the arguments ask of the tool.
+fn check<S: System, O: Out>(
+    system: &S,
+    tool: Tool,
+    args: &Args,
+    formula: &mut S::Input,
+    second: &mut S::Input,
+    out: &mut O,
+) -> Checked
+    ensures { Runs (S.Input.shown formula.old) (S.Input.shown formula.new)
+        (S.Input.shown second.old) (S.Input.shown second.new)
+        (O.has_failed out.old) (O.has_failed out.new) (O.is_flushed out.new) result.status
+        (ToolChecks tool args.now (O.held out.old) (O.held out.new) result.status) }
+{
+    let alloc = system.alloc();
+    match tool {
+        Tool::Drat => drat_forward(alloc, args, system.seed(), formula, second, out),
+        Tool::Lrat => lrat_check(alloc, args, formula, second, out),
+        Tool::Model => Checked {
+            status: run_model(alloc, formula, second, out),
+            refused: None,
+        },
+    }
 }
 
 // What the words ask of the tool. Where they ask for nothing right, or for help or the version, the text is told.

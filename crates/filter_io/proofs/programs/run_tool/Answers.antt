@@ -1,6 +1,6 @@
 -- The check is that of the inputs that were opened by the names of the words.
 use Rattle.filter_io.proofs.RunLemmas.{of_inputs}
-use Rattle.filter_io.proofs.programs.run_lrat_check.Goals as goal
+use Rattle.filter_io.proofs.programs.run_tool.Goals as goal
 
 pub returns-clause-runs : goal.returns-clause-runs
 returns-clause-runs g c = record {
@@ -9,6 +9,6 @@ returns-clause-runs g c = record {
   formula = _;
   second = _;
   runs =
-      of_inputs _ _ _ _ _ _ _ _ _ _ _ _ c.in_ok-formula.ensures.formula c.in_ok-formula.ensures.second
-      c.lrat_check-checked.ensures (λ i j x. x.0);
+      of_inputs _ _ _ _ _ _ _ _ _ _ _ c.in_ok-formula.ensures.formula c.in_ok-formula.ensures.second
+      c.check-checked.ensures;
 }
