@@ -7,7 +7,7 @@ pub mod Order
 pub mod Visits
 pub mod Moves
 pub mod Reasons
-pub mod Carries
+pub mod PropagatesTo
 pub mod Follow
 pub mod Units
 pub mod Entries

@@ -4,8 +4,8 @@ ghost use Rattle.std.specs.Prelude.{◌≡◌, ◌≢◌, ℕ, ◌+◌, ◌<◌,
 ghost use Rattle.std.specs.Prelude.{if◌then◌else◌, IsTrue, IsFalse, IsSome, OnOk, OnErr};
 ghost use Rattle.std.specs.FinMap as maps;
 ghost use Rattle.cnf_base.specs.Literals.{Clause, has, size};
-ghost use Rattle.watch.specs.Code.Lists.{AreApart, entries_in, entries_of, list_at, strangers};
-ghost use Rattle.watch.specs.Code.Lists.{times_in};
+ghost use Rattle.watch.specs.Code.Lists.{AreApart, entries_in, entries_of, foreign_blockers};
+ghost use Rattle.watch.specs.Code.Lists.{list_at, times_in};
 ghost use Rattle.watch.specs.Code.Watched.{IsListed, IsShortList, is_short, watches};
 
 use crate::lists::WatchLists;
@@ -26,9 +26,9 @@ pub(crate) fn add_entries(
     ensures watched { OnOk result ((c : Clause) → maps.get store.now.live slot ≡ Some c →
         (l s : ℕ) → entries_of s (list_at lists.new l) ≡ entries_of s (list_at lists.old l)
         + (if watches c l && s == slot then 1 else 0)) }
-    ensures strangers { (c : Clause) → maps.get store.now.live slot ≡ Some c →
+    ensures foreign_blockers { (c : Clause) → maps.get store.now.live slot ≡ Some c →
         (l s : ℕ) (d : Clause) → (s ≡ slot → d ≡ c) →
-        strangers s d (list_at lists.new l) ≤ strangers s d (list_at lists.old l) }
+        foreign_blockers s d (list_at lists.new l) ≤ foreign_blockers s d (list_at lists.old l) }
     ensures rest { OnOk result ((c : Clause) → maps.get store.now.live slot ≡ Some c →
         (s : ℕ) → times_in s short.new ≡ times_in s short.old
         + (if is_short c && s == slot then 1 else 0)) }
@@ -70,8 +70,8 @@ pub(crate) fn remove_entries(
     ensures watched { (c : Clause) → maps.get store.now.live slot ≡ Some c →
         (l s : ℕ) → entries_of s (list_at lists.new l)
         + (if watches c l && s == slot then 1 else 0) ≡ entries_of s (list_at lists.old l) }
-    ensures strangers { (l s : ℕ) (d : Clause) →
-        strangers s d (list_at lists.new l) ≤ strangers s d (list_at lists.old l) }
+    ensures foreign_blockers { (l s : ℕ) (d : Clause) →
+        foreign_blockers s d (list_at lists.new l) ≤ foreign_blockers s d (list_at lists.old l) }
     ensures rest { (c : Clause) → maps.get store.now.live slot ≡ Some c →
         (s : ℕ) → times_in s short.new + (if is_short c && s == slot then 1 else 0) ≡
         times_in s short.old }

@@ -4,7 +4,8 @@ ghost use Rattle.std.specs.Prelude.{◌≡◌, ℕ, ◌+◌, ◌==◌, ◌++◌,
 ghost use Rattle.std.specs.Prelude.{IsSome, IfOk, OnOk, OnErr, Some, true, false, ◌≢◌, ◌<◌, ◌≤◌};
 ghost use Rattle.cnf_base.specs.Literals.{Clause};
 ghost use Rattle.tables.specs.Table.{at};
-ghost use Rattle.watch.specs.Code.Lists.{AreFarApart, entries_of, far_at, far_entries, strangers};
+ghost use Rattle.watch.specs.Code.Lists.{AreFarApart, entries_of, far_at, far_entries};
+ghost use Rattle.watch.specs.Code.Lists.{foreign_blockers};
 
 use crate::watcher::{Watcher, add, take_off};
 use cnf_base::OutOfMemory;
@@ -134,8 +135,8 @@ impl FarLists {
         ensures others { (k : ℕ) → k ≢ key → far_at self.new k ≡ far_at self.old k }
         ensures times { (s : ℕ) → entries_of s (far_at self.new key) +
             (if s == slot then 1 else 0) ≡ entries_of s (far_at self.old key) }
-        ensures strangers { (k s : ℕ) (c : Clause) →
-            strangers s c (far_at self.new k) ≤ strangers s c (far_at self.old k) }
+        ensures foreign_blockers { (k s : ℕ) (c : Clause) →
+            foreign_blockers s c (far_at self.new k) ≤ foreign_blockers s c (far_at self.old k) }
         ensures entries { far_entries self.new + 1 ≡ far_entries self.old }
         ensures apart { AreFarApart self.new }
     {

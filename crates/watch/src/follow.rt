@@ -11,7 +11,7 @@ ghost use Rattle.watch.specs.Code.Lists.{AreApart, entries_in, list_at, slot_at}
 ghost use Rattle.watch.specs.Code.Order.{each_in_order};
 ghost use Rattle.watch.specs.Code.Watched.{IsListed, IsMet, IsWatched};
 ghost use Rattle.watch.specs.Code.Roots.{AreNoted, IsFalseAt};
-ghost use Rattle.watch.specs.Code.Visits.{Carries, IsInHand, with_list};
+ghost use Rattle.watch.specs.Code.Visits.{PropagatesTo, IsInHand, with_list};
 ghost use Rattle.tables.specs.Table.{at};
 ghost use Rattle.watch.specs.declared.follow.Next.TheVariants.{Further, Here, Nothing};
 
@@ -122,7 +122,7 @@ fn visit(
     ensures listed { IsListed (maps.get store.new.live) (with_list lists.new l list.new.items) }
     ensures entries { entries_in lists.new + length list.new.items ≡
         entries_in lists.old + length list.old.items }
-    ensures carries { Carries store.old.live store.new.live assumptions.old assumptions.new
+    ensures propagates { PropagatesTo store.old.live store.new.live assumptions.old assumptions.new
         (at reasons.old) (at reasons.new) }
 {
     if assumptions.trail().is_true(list[place].blocking) {
@@ -170,7 +170,7 @@ fn visit_all(
     ensures listed { IsListed (maps.get store.new.live) (with_list lists.new l list.new.items) }
     ensures entries { entries_in lists.new + length list.new.items ≡
         entries_in lists.old + length list.old.items }
-    ensures carries { Carries store.old.live store.new.live assumptions.old assumptions.new
+    ensures propagates { PropagatesTo store.old.live store.new.live assumptions.old assumptions.new
         (at reasons.old) (at reasons.new) }
 {
     let mut place = 0;
@@ -205,7 +205,7 @@ fn follow(
     ensures apart { AreApart lists.new }
     ensures listed { IsListed (maps.get store.new.live) (list_at lists.new) }
     ensures entries { entries_in lists.new ≡ entries_in lists.old }
-    ensures carries { Carries store.old.live store.new.live assumptions.old assumptions.new
+    ensures propagates { PropagatesTo store.old.live store.new.live assumptions.old assumptions.new
         (at reasons.old) (at reasons.new) }
 {
     if !lists.has_list(l) {
@@ -242,7 +242,7 @@ pub(crate) fn propagate(
     ensures apart { AreApart lists.new }
     ensures listed { IsListed (maps.get store.new.live) (list_at lists.new) }
     ensures entries { entries_in lists.new ≡ entries_in lists.old }
-    ensures carries { Carries store.old.live store.new.live assumptions.old assumptions.new
+    ensures propagates { PropagatesTo store.old.live store.new.live assumptions.old assumptions.new
         (at reasons.old) (at reasons.new) }
 {
     let mut done = from;

@@ -2,6 +2,7 @@
 #![tactic(auto)]
 
 mod arrange;
+mod clause_source;
 mod entries;
 mod far_lists;
 mod follow;
@@ -11,7 +12,6 @@ mod refresh;
 mod roots;
 mod run;
 mod slot_list;
-mod source;
 mod units;
 mod visit;
 mod watch;

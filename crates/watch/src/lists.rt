@@ -3,8 +3,8 @@
 ghost use Rattle.std.specs.Prelude.{◌≡◌, ℕ, ◌+◌, ◌==◌, ◌&&◌, ◌++◌, ◌∷◌, [], length, min};
 ghost use Rattle.std.specs.Prelude.{if◌then◌else◌, IsTrue, OnOk, OnErr, true, false, ◌≢◌, ◌<◌, ◌≤◌};
 ghost use Rattle.cnf_base.specs.Literals.{Literal, Clause, has};
-ghost use Rattle.watch.specs.Code.Lists.{AreApart, entries_in, entries_of, has_list_at, list_at};
-ghost use Rattle.watch.specs.Code.Lists.{strangers};
+ghost use Rattle.watch.specs.Code.Lists.{AreApart, entries_in, entries_of, foreign_blockers};
+ghost use Rattle.watch.specs.Code.Lists.{has_list_at, list_at};
 
 use crate::far_lists::FarLists;
 use crate::watcher::{Watcher, add, take_off};
@@ -200,8 +200,8 @@ impl WatchLists {
         ensures others { (k : Literal) → k ≢ l → list_at self.new k ≡ list_at self.old k }
         ensures times { (s : ℕ) → entries_of s (list_at self.new l) +
             (if s == slot then 1 else 0) ≡ entries_of s (list_at self.old l) }
-        ensures strangers { (k s : ℕ) (c : Clause) →
-            strangers s c (list_at self.new k) ≤ strangers s c (list_at self.old k) }
+        ensures foreign_blockers { (k s : ℕ) (c : Clause) →
+            foreign_blockers s c (list_at self.new k) ≤ foreign_blockers s c (list_at self.old k) }
         ensures entries { entries_in self.new + 1 ≡ entries_in self.old }
         ensures apart { AreApart self.new }
     {
@@ -219,9 +219,9 @@ impl WatchLists {
         ensures ok { OnOk result ((k s : ℕ) → entries_of s (list_at self.new k) ≡
             entries_of s (list_at self.old k) + (if k == first && s == slot then 1 else 0)
             + (if k == second && s == slot then 1 else 0)) }
-        ensures strangers { (k s : ℕ) (c : Clause) →
+        ensures foreign_blockers { (k s : ℕ) (c : Clause) →
             (s ≡ slot → IsTrue (has c first) × IsTrue (has c second)) →
-            strangers s c (list_at self.new k) ≤ strangers s c (list_at self.old k) }
+            foreign_blockers s c (list_at self.new k) ≤ foreign_blockers s c (list_at self.old k) }
         ensures more { OnOk result (entries_in self.new ≡ entries_in self.old + 2) }
         ensures err { OnErr result ((k s : ℕ) → entries_of s (list_at self.new k) ≡
             entries_of s (list_at self.old k)) }

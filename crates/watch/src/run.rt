@@ -10,7 +10,7 @@ ghost use Rattle.watch.specs.Code.Lists.{AreApart, entries_in, list_at};
 ghost use Rattle.watch.specs.Code.Order.{each_in_order};
 ghost use Rattle.watch.specs.Code.Roots.{AreNoted, HaveUnits};
 ghost use Rattle.watch.specs.Code.Watched.{IsListed, IsWatched};
-ghost use Rattle.watch.specs.Code.Visits.{Carries};
+ghost use Rattle.watch.specs.Code.Visits.{PropagatesTo};
 ghost use Rattle.theory.specs.Propagation.{IsClosed};
 ghost use Rattle.propagation.specs.declared.answer.Answer.TheVariants.{Quiet};
 
@@ -47,7 +47,7 @@ pub(crate) fn run(
     ensures apart { AreApart lists.new }
     ensures listed { IsListed (maps.get store.new.live) (list_at lists.new) }
     ensures entries { entries_in lists.new ≡ entries_in lists.old }
-    ensures carries { Carries store.old.live store.new.live assumptions.old assumptions.new
+    ensures propagates { PropagatesTo store.old.live store.new.live assumptions.old assumptions.new
         (at reasons.old) (at reasons.new) }
 {
     let found = propagate(store, lists, assumptions, reasons, from)?;

@@ -7,7 +7,7 @@ ghost use Rattle.trail.specs.Trail.{HasRoomForAll};
 ghost use Rattle.watch.specs.Code.Order.{each_in_order};
 ghost use Rattle.watch.specs.Code.Roots.{AreNoted, HaveUnits, IsFalseAt};
 ghost use Rattle.watch.specs.Code.Watched.{IsShortList, is_short};
-ghost use Rattle.watch.specs.Code.Visits.{Carries};
+ghost use Rattle.watch.specs.Code.Visits.{PropagatesTo};
 
 use crate::roots::set_by;
 use clause_db::{Slot, Store};
@@ -39,7 +39,7 @@ pub(crate) fn set_units(
         IsFalseAt (maps.get (each_in_order store.now.live)) s assumptions.new.trail.lits) }
     ensures units { IfNone result
         (HaveUnits (maps.get store.now.live) assumptions.new.trail.lits) }
-    ensures carries { Carries store.now.live store.now.live assumptions.old assumptions.new
+    ensures propagates { PropagatesTo store.now.live store.now.live assumptions.old assumptions.new
         (at reasons.old) (at reasons.new) }
 {
     for place in 0..slots.len() {

@@ -10,11 +10,12 @@ ghost use Rattle.propagation.specs.Assumptions.{MayAssume, assumed_by};
 ghost use Rattle.trail.specs.Trail.{HasRoom};
 ghost use Rattle.watch.specs.Code.Order.{each_in_order};
 ghost use Rattle.watch.specs.Code.Roots.{is_up_to_date};
-ghost use Rattle.watch.specs.Code.Source.{IsThere, clause_of};
+ghost use Rattle.watch.specs.Code.ClauseSource.{IsThere, clause_of};
 ghost use Rattle.watch.specs.Code.State.{IsWatch};
 ghost use Rattle.watch.specs.Watched.{long_clauses, short_clauses};
 
 use crate::arrange::arrange;
+use crate::clause_source::{ClauseSource, assume_from};
 use crate::entries::{add_entries, remove_entries};
 use crate::lists::WatchLists;
 use crate::reason::is_reason_for_good;
@@ -22,7 +23,6 @@ use crate::refresh::refresh;
 use crate::roots::Roots;
 use crate::run::run;
 use crate::slot_list::SlotList;
-use crate::source::{Source, assume_from};
 use clause_db::{Slot, Store};
 use cnf_base::{Lit, OutOfMemory};
 use propagation::{Answer, Assumptions, Propagate, first_reduced, first_with};
@@ -83,7 +83,7 @@ impl Model for Watch {
         has_refused = has_refused;
       };
       entries = entries_in lists;
-      loose = length short;
+      short_entries = length short;
       trues = length assumptions.trail.lits;
       variables = variables_in assumptions.trail.met;
       roots = roots_in assumptions.trail.lits assumptions.assumptions assumptions.starts;
@@ -103,7 +103,7 @@ fn assume_part<P: Part>(
     short: &SlotList,
     assumptions: &mut Assumptions,
     roots: &mut Roots,
-    source: &Source<'_>,
+    source: &ClauseSource<'_>,
     part: &P,
 ) -> Result<Answer, OutOfMemory>
     requires may { MayAssume assumptions.old.assumptions }
@@ -179,8 +179,8 @@ impl Watch {
 
     /// How many entries the list of the other clauses has, one for each.
     pub fn short_entries(&self) -> usize
-        ensures value { result ≡ self.now.loose }
-        ensures one_each { self.now.loose ≡ short_clauses self.now.propagation.live }
+        ensures value { result ≡ self.now.short_entries }
+        ensures one_each { self.now.short_entries ≡ short_clauses self.now.propagation.live }
     {
         self.short.slots().len()
     }
@@ -332,7 +332,7 @@ impl Propagate for Watch {
             &self.short,
             &mut self.assumptions,
             &mut self.roots,
-            &Source::Given(lits),
+            &ClauseSource::Given(lits),
             &Whole,
         );
         self.store.is_sound();
@@ -348,7 +348,7 @@ impl Propagate for Watch {
             &self.short,
             &mut self.assumptions,
             &mut self.roots,
-            &Source::Stored(slot),
+            &ClauseSource::Stored(slot),
             &Except(l),
         );
         self.store.is_sound();
@@ -368,7 +368,7 @@ impl Propagate for Watch {
             &self.short,
             &mut self.assumptions,
             &mut self.roots,
-            &Source::Stored(slot),
+            &ClauseSource::Stored(slot),
             &Unless(&self.set),
         );
         self.store.is_sound();

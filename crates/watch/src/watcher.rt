@@ -3,7 +3,7 @@
 ghost use Rattle.std.specs.Prelude.{◌≡◌, ℕ, ◌+◌, ◌==◌, ◌++◌, ◌∷◌, [], length, if◌then◌else◌};
 ghost use Rattle.std.specs.Prelude.{IsTrue, IfSome, OnOk, OnErr, take, ◌<◌, ◌≤◌};
 ghost use Rattle.cnf_base.specs.Literals.{Clause};
-ghost use Rattle.watch.specs.Code.Lists.{entries_of, slot_at, strangers};
+ghost use Rattle.watch.specs.Code.Lists.{entries_of, foreign_blockers, slot_at};
 
 use cnf_base::{Lit, OutOfMemory};
 
@@ -118,8 +118,8 @@ pub(crate) fn take_off(list: &mut Vec<Watcher>, slot: u32, middle: usize) -> usi
     requires { 0 < entries_of slot list.old.items }
     ensures times { (s : ℕ) → entries_of s list.new.items + (if s == slot then 1 else 0) ≡
         entries_of s list.old.items }
-    ensures strangers { (s : ℕ) (c : Clause) →
-        strangers s c list.new.items ≤ strangers s c list.old.items }
+    ensures foreign_blockers { (s : ℕ) (c : Clause) →
+        foreign_blockers s c list.new.items ≤ foreign_blockers s c list.old.items }
     ensures len { length list.new.items + 1 ≡ length list.old.items }
 {
     let place = place_in(list, slot, middle);

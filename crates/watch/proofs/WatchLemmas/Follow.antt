@@ -10,7 +10,7 @@ use Rattle.cnf_base.specs.Literals.{Literal, complement, Clause, has}
 use Rattle.cnf_base.proofs.LiteralLemmas.{complement-complement}
 use Rattle.cnf_base.proofs.SetLemmas.{has_append_left}
 use Rattle.theory.specs.Propagation.{Live}
-use Rattle.watch.specs.Code.Lists.{entries_of, strangers, times_in}
+use Rattle.watch.specs.Code.Lists.{entries_of, foreign_blockers, times_in}
 use Rattle.watch.specs.Code.Visits.{IsPart}
 use Rattle.watch.specs.Code.Watched.{watches, entries_for, IsListed, IsMet, IsWatched}
 use Rattle.watch.specs.declared.watcher.Watcher.{Watcher}
@@ -114,7 +114,7 @@ module _ (live after : Live) (l : Literal) (trues more : List Literal) (part : I
 -- ---- Lists that are the same
 
 pub listed_alike : (live : Live) (first second : Literal → List Watcher) → ((k : Literal) → second k ≡ first k) → IsListed live first → IsListed live second
-listed_alike live first second alike listed = record { watched = λ l s. ap (entries_of s) (alike l) ∙ listed.watched l s; low = listed.low; own = λ l s c is. ap (strangers s c) (alike l) ∙ listed.own l s c is }
+listed_alike live first second alike listed = record { watched = λ l s. ap (entries_of s) (alike l) ∙ listed.watched l s; low = listed.low; own = λ l s c is. ap (foreign_blockers s c) (alike l) ∙ listed.own l s c is }
 
 -- a literal without a list
 pub none_met : (live : Live) (lists : Literal → List Watcher) (l : Literal) → lists l ≡ [] → IsListed live lists → (trues : List Literal) (s : ℕ) (c : Clause) → live s ≡ Some c → IsMet c l trues

@@ -15,7 +15,7 @@ use Rattle.watch.specs.Code.Order.{in_order, each_in_order}
 use Rattle.watch.specs.Code.Roots.{AreForced, AreNoted, AreReasoned, HasReasons, HaveUnits}
 use Rattle.watch.specs.Code.Roots.{IsArranged, IsFalseAt, IsKept, IsKnown, IsStanding}
 use Rattle.watch.specs.Code.Roots.{is_up_to_date, has_clash}
-use Rattle.watch.specs.Code.Visits.{Carries, IsPart}
+use Rattle.watch.specs.Code.Visits.{PropagatesTo, IsPart}
 use Rattle.watch.specs.Code.Watched.{IsMet, HasUnit, IsWatched}
 use Rattle.trail.specs.declared.left.Left.TheVariants.{One, More}
 use Rattle.watch.specs.declared.roots.Kept.{Kept}
@@ -86,7 +86,7 @@ module _ (live : FinMap nat_cmp Clause) (roots : Roots) (lits : List Literal) (a
 
 -- ---- What visits leave
 
-module _ (a b : FinMap nat_cmp Clause) (x y : AssumptionsState) (r s : Literal → Option ℕ) (carried : Carries a b x y r s) where
+module _ (a b : FinMap nat_cmp Clause) (x y : AssumptionsState) (r s : Literal → Option ℕ) (carried : PropagatesTo a b x y r s) where
   pub noted_carried : AreNoted (maps.get (each_in_order a)) r → AreNoted (maps.get (each_in_order b)) s
   noted_carried noted = record { each = λ k c is l member. carried.noted l (noted.each k c (ap (λ m. maps.get m k) (sym carried.same) ∙ is) l member) }
 

@@ -12,7 +12,8 @@ use Rattle.std.proofs.lemmas.Option.{slice_get-get_or}
 use Rattle.std.proofs.lemmas.List.Sums.{get_or-le-sum_by, sum_by-append, sum_by-le-sum_by}
 use Rattle.std.proofs.lemmas.List.Sums.{sum_by-set, sum_by-swap_remove, sum_by_more, sum_by_push}
 use Rattle.cnf_base.specs.Literals.{Clause, has}
-use Rattle.watch.specs.Code.Lists.{entries_of, items_of, slot_at, slot_of, strangers, times_in}
+use Rattle.watch.specs.Code.Lists.{entries_of, foreign_blockers, items_of, slot_at, slot_of}
+use Rattle.watch.specs.Code.Lists.{times_in}
 use Rattle.watch.specs.declared.watcher.Watcher.{Watcher}
 
 pub eqb_turned : (a b : ℕ) → eqb a b ≡ eqb b a
@@ -38,8 +39,8 @@ entries_taken xs i s d inside read k =
     let here : cond {A = ℕ} (eqb (get_or xs i d).slot k) 1 0 ≡ cond (eqb k s) 1 0 = ap (λ y. cond {A = ℕ} (eqb y k) 1 0) same ∙ ap (λ b. cond {A = ℕ} b 1 0) (eqb_turned s k) in
     omega (arith, taken, here)
 
-pub strangers_left : (xs : List Watcher) (i : ℕ) (d : Watcher) → i < length xs → (s : ℕ) (c : Clause) → strangers s c (swap_remove xs i d) ≤ strangers s c xs
-strangers_left xs i d inside s c = let taken = sum_by-swap_remove (λ w. cond (eqb w.slot s && not (has c w.blocking)) 1 0) xs i d inside in omega (arith, taken)
+pub blockers_left : (xs : List Watcher) (i : ℕ) (d : Watcher) → i < length xs → (s : ℕ) (c : Clause) → foreign_blockers s c (swap_remove xs i d) ≤ foreign_blockers s c xs
+blockers_left xs i d inside s c = let taken = sum_by-swap_remove (λ w. cond (eqb w.slot s && not (has c w.blocking)) 1 0) xs i d inside in omega (arith, taken)
 
 -- an entry that isn't the next one
 pub entries_next : (xs : List Watcher) (i s : ℕ) (d : Watcher) → i < length xs → ((get_or xs i d).slot ≡ s → ⊥) → entries_of s (take i xs) ≡ 0 → entries_of s (take (i + 1) xs) ≡ 0
@@ -65,8 +66,8 @@ entries_none xs i s past none some =
     omega arith
 
 -- an entry of a clause, with a literal of it
-pub strangers_pushed : (xs : List Watcher) (w : Watcher) (s : ℕ) (c : Clause) → (s ≡ w.slot → has c w.blocking ≡ true) → strangers s c (xs ++ w ∷ []) ≤ strangers s c xs
-strangers_pushed xs w s c own =
+pub blockers_pushed : (xs : List Watcher) (w : Watcher) (s : ℕ) (c : Clause) → (s ≡ w.slot → has c w.blocking ≡ true) → foreign_blockers s c (xs ++ w ∷ []) ≤ foreign_blockers s c xs
+blockers_pushed xs w s c own =
     let pushed = sum_by_push (λ x. cond (eqb x.slot s && not (has c x.blocking)) 1 0) xs w in
     let none : cond {A = ℕ} (eqb w.slot s && not (has c w.blocking)) 1 0 ≡ 0 = elim (cases_eq w.slot s) [
       | inl e ↦ ap (λ b. cond {A = ℕ} (b && not (has c w.blocking)) 1 0) (eq-eqb w.slot s e) ∙ ap (λ b. cond {A = ℕ} (not b) 1 0) (own (sym e))
@@ -75,8 +76,8 @@ strangers_pushed xs w s c own =
     omega (arith, pushed, none)
 
 -- a slot without entries
-pub strangers_none : (xs : List Watcher) (s : ℕ) (c : Clause) → entries_of s xs ≡ 0 → strangers s c xs ≡ 0
-strangers_none xs s c none =
+pub blockers_none : (xs : List Watcher) (s : ℕ) (c : Clause) → entries_of s xs ≡ 0 → foreign_blockers s c xs ≡ 0
+blockers_none xs s c none =
     let fewer = sum_by-le-sum_by (λ w. cond (eqb w.slot s && not (has c w.blocking)) 1 0) (λ w. cond (eqb w.slot s) 1 0) xs (λ w. at_most (eqb w.slot s) (not (has c w.blocking))) in
     omega (arith, fewer, none)
   where
@@ -86,11 +87,11 @@ strangers_none xs s c none =
     at_most false b = omega arith
 
 -- clauses with the same literals
-pub strangers_alike : (xs : List Watcher) (s : ℕ) (c d : Clause) → ((k : ℕ) → has d k ≡ has c k) → strangers s d xs ≡ strangers s c xs
-strangers_alike xs s c d alike = λ i. sum_by (λ w. cond {A = ℕ} (eqb w.slot s && not (alike w.blocking i)) 1 0) xs
+pub blockers_alike : (xs : List Watcher) (s : ℕ) (c d : Clause) → ((k : ℕ) → has d k ≡ has c k) → foreign_blockers s d xs ≡ foreign_blockers s c xs
+blockers_alike xs s c d alike = λ i. sum_by (λ w. cond {A = ℕ} (eqb w.slot s && not (alike w.blocking i)) 1 0) xs
 
 -- the literal of an entry
-pub blocking_own : (xs : List Watcher) (i : ℕ) (w : Watcher) (c : Clause) → i < length xs → w ≡ get_or xs i w → strangers w.slot c xs ≡ 0 → has c w.blocking ≡ true
+pub blocking_own : (xs : List Watcher) (i : ℕ) (w : Watcher) (c : Clause) → i < length xs → w ≡ get_or xs i w → foreign_blockers w.slot c xs ≡ 0 → has c w.blocking ≡ true
 blocking_own xs i w c inside is none =
     let one = get_or-le-sum_by (λ x. cond (eqb x.slot w.slot && not (has c x.blocking)) 1 0) xs i w inside in
     let here : cond {A = ℕ} (eqb w.slot w.slot && not (has c w.blocking)) 1 0 ≡ 0 = ap (λ x. cond {A = ℕ} (eqb x.slot w.slot && not (has c x.blocking)) 1 0) is ∙ (let most = one in omega (arith, most, none)) in

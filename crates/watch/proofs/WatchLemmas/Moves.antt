@@ -15,12 +15,12 @@ use Rattle.std.proofs.lemmas.Option.{same_Some}
 use Rattle.cnf_base.specs.Literals.{Literal, complement, Clause, has, size}
 use Rattle.cnf_base.proofs.SetLemmas.{has_head, has_tail}
 use Rattle.theory.specs.Propagation.{Live}
-use Rattle.watch.specs.Code.Lists.{entries_of, strangers}
+use Rattle.watch.specs.Code.Lists.{entries_of, foreign_blockers}
 use Rattle.watch.specs.Code.Watched.{watches, is_short, entries_for, short_for, IsListed, IsMet}
 use Rattle.watch.specs.Code.Watched.{IsWatched}
 use Rattle.cnf_base.proofs.MemberLemmas.{has_place, has_front}
-use Rattle.watch.proofs.WatchLemmas.Lists.{blocking_own, eqb_turned, strangers_alike}
-use Rattle.watch.proofs.WatchLemmas.Lists.{strangers_pushed}
+use Rattle.watch.proofs.WatchLemmas.Lists.{blocking_own, eqb_turned, blockers_alike}
+use Rattle.watch.proofs.WatchLemmas.Lists.{blockers_pushed}
 use Rattle.watch.specs.declared.watcher.Watcher.{Watcher}
 use Rattle.cnf_base.proofs.SizeLemmas.{distinct_parts, distinct_before}
 use Rattle.clause_db.proofs.StoreLemmas.Sums.{get_insert, same_maps}
@@ -157,16 +157,16 @@ module _ (lists after : Literal → List Watcher) (l m : ℕ) (w : Watcher) (oth
   ]
 
   -- where the literals of both entries are of the clause
-  pub strangers_moved : (c : Clause) → has c w.blocking ≡ true → ((s : ℕ) (e : Clause) → strangers s e left ≤ strangers s e list) → (x s : ℕ) (e : Clause) → (s ≡ w.slot → e ≡ c) → strangers s e (is x) ≤ strangers s e (was x)
-  strangers_moved c own fewer x s e same = elim (cases_eq x l) [
+  pub blockers_moved : (c : Clause) → has c w.blocking ≡ true → ((s : ℕ) (e : Clause) → foreign_blockers s e left ≤ foreign_blockers s e list) → (x s : ℕ) (e : Clause) → (s ≡ w.slot → e ≡ c) → foreign_blockers s e (is x) ≤ foreign_blockers s e (was x)
+  blockers_moved c own fewer x s e same = elim (cases_eq x l) [
     | inl y ↦
-        subst (λ b. strangers s e (cond b left (after x)) ≤ strangers s e (cond b list (lists x))) (sym (eq-eqb x l y)) (fewer s e)
+        subst (λ b. foreign_blockers s e (cond b left (after x)) ≤ foreign_blockers s e (cond b list (lists x))) (sym (eq-eqb x l y)) (fewer s e)
     | inr ne ↦
-        subst (λ b. strangers s e (cond b left (after x)) ≤ strangers s e (cond b list (lists x))) (sym (ne_eqb x l ne)) (elim (cases_eq x m) [
+        subst (λ b. foreign_blockers s e (cond b left (after x)) ≤ foreign_blockers s e (cond b list (lists x))) (sym (ne_eqb x l ne)) (elim (cases_eq x m) [
           | inl y ↦
-              subst (λ xs. strangers s e xs ≤ strangers s e (lists x)) (sym (pushed x ∙ ap (λ b. cond b (lists x ++ w ∷ []) (lists x)) (eq-eqb x m y)))
-              (strangers_pushed (lists x) w s e (λ z. ap (λ d. has d w.blocking) (same z) ∙ own))
-          | inr apart ↦ let alike = ap (strangers s e) (at_other x apart) in omega (arith, alike)
+              subst (λ xs. foreign_blockers s e xs ≤ foreign_blockers s e (lists x)) (sym (pushed x ∙ ap (λ b. cond b (lists x ++ w ∷ []) (lists x)) (eq-eqb x m y)))
+              (blockers_pushed (lists x) w s e (λ z. ap (λ d. has d w.blocking) (same z) ∙ own))
+          | inr apart ↦ let alike = ap (foreign_blockers s e) (at_other x apart) in omega (arith, alike)
         ])
   ]
 
@@ -209,7 +209,7 @@ module _ (live : FinMap nat_cmp Clause) (slot : ℕ) (c d : Clause) (here : maps
 
   pub listed_moved : (lists after : Literal → List Watcher) → IsListed (maps.get live) lists →
       ((x s : ℕ) → entries_of s (after x) + cond (eqb x l && eqb s slot) 1 0 ≡ entries_of s (lists x) + cond (eqb x m && eqb s slot) 1 0) → ((k : Literal) → has d k ≡ has c k) →
-      ((x s : ℕ) (e : Clause) → (s ≡ slot → e ≡ c) → strangers s e (after x) ≤ strangers s e (lists x)) → IsListed (maps.get (maps.insert live slot d)) after
+      ((x s : ℕ) (e : Clause) → (s ≡ slot → e ≡ c) → foreign_blockers s e (after x) ≤ foreign_blockers s e (lists x)) → IsListed (maps.get (maps.insert live slot d)) after
   listed_moved lists after listed times alike fewer = record {
     watched = λ x s. elim (cases_eq s slot) [
       | inl e ↦
@@ -236,7 +236,7 @@ module _ (live : FinMap nat_cmp Clause) (slot : ℕ) (c d : Clause) (here : maps
           let is_d = same_Some d e (sym at_slot ∙ ap (maps.get (maps.insert live slot d)) (sym same) ∙ is) in
           let none = listed.own x s c (ap (maps.get live) same ∙ here) in
           let left = fewer x s c (λ _. refl) in
-          ap (λ y. strangers s y (after x)) (sym is_d) ∙ strangers_alike (after x) s c d alike ∙ omega (arith, none, left)
+          ap (λ y. foreign_blockers s y (after x)) (sym is_d) ∙ blockers_alike (after x) s c d alike ∙ omega (arith, none, left)
       | inr ne ↦
           let none = listed.own x s e (sym (at_others s ne) ∙ is) in
           let left = fewer x s e (λ same. absurd (ne same)) in
@@ -265,7 +265,7 @@ module _ (live : FinMap nat_cmp Clause) (slot : ℕ) (c d : Clause) (here : maps
 -- ---- A slot in the list that is in hand
 
 slot_alive : (live : Live) (lists : Literal → List Watcher) (l : Literal) (list : List Watcher) → IsListed live (λ k. cond (eqb k l) list (lists k)) → (place : ℕ) (d : Watcher) → place < length list →
-    (c : Clause) × (live (get_or list place d).slot ≡ Some c) × (watches c l ≡ true) × (strangers (get_or list place d).slot c list ≡ 0)
+    (c : Clause) × (live (get_or list place d).slot ≡ Some c) × (watches c l ≡ true) × (foreign_blockers (get_or list place d).slot c list ≡ 0)
 slot_alive live lists l list listed place d inside =
     let s = (get_or list place d).slot in
     let one = get_or-le-sum_by (λ w. cond (eqb w.slot s) 1 0) list place d inside in
@@ -278,17 +278,17 @@ slot_alive live lists l list listed place d inside =
     by_watch c false e h = absurd (omega (arith, h))
 
     by_clause : (o : Option Clause) → live (get_or list place d).slot ≡ o → 0 < entries_for o l →
-        (c : Clause) × (live (get_or list place d).slot ≡ Some c) × (watches c l ≡ true) × (strangers (get_or list place d).slot c list ≡ 0)
+        (c : Clause) × (live (get_or list place d).slot ≡ Some c) × (watches c l ≡ true) × (foreign_blockers (get_or list place d).slot c list ≡ 0)
     by_clause None is h = absurd (omega (arith, h))
     by_clause (Some c) is h =
-        (c, is, by_watch c (watches c l) refl h, ap (λ b. strangers (get_or list place d).slot c (cond b list (lists l))) (sym (eq-eqb l l refl)) ∙ listed.own l (get_or list place d).slot c is)
+        (c, is, by_watch c (watches c l) refl h, ap (λ b. foreign_blockers (get_or list place d).slot c (cond b list (lists l))) (sym (eq-eqb l l refl)) ∙ listed.own l (get_or list place d).slot c is)
 
 -- its clause, which has its literal
 pub entry_alive : (live : Live) (lists : Literal → List Watcher) (l : Literal) (list : List Watcher) → IsListed live (λ k. cond (eqb k l) list (lists k)) → (place : ℕ) (e : Watcher) → place < length list → e ≡ get_or list place e →
     (c : Clause) × (live e.slot ≡ Some c) × (watches c l ≡ true) × (has c e.blocking ≡ true)
 entry_alive live lists l list listed place e inside is =
     let w = slot_alive live lists l list listed place e inside in
-    (w.0, ap (λ x. live x.slot) is ∙ w.1, w.2, blocking_own list place e w.0 inside is (ap (λ x. strangers x.slot w.0 list) is ∙ w.3))
+    (w.0, ap (λ x. live x.slot) is ∙ w.1, w.2, blocking_own list place e w.0 inside is (ap (λ x. foreign_blockers x.slot w.0 list) is ∙ w.3))
 
 -- an entry with another literal of its clause
 pub listed_written : (live : Live) (lists : Literal → List Watcher) (l : Literal) (list : List Watcher) → IsListed live (λ k. cond (eqb k l) list (lists k)) → (place : ℕ) (e entry : Watcher) → place < length list → e ≡ get_or list place e → entry.slot ≡ e.slot →
@@ -302,10 +302,10 @@ listed_written live lists l list listed place e entry inside is same own = recor
   low = listed.low;
   own = λ k s c there. elim (cases_eq k l) [
     | inl y ↦
-        let none = ap (λ b. strangers s c (cond b list (lists k))) (sym (eq-eqb k l y)) ∙ listed.own k s c there in
+        let none = ap (λ b. foreign_blockers s c (cond b list (lists k))) (sym (eq-eqb k l y)) ∙ listed.own k s c there in
         let left = fewer s c there in
-        ap (λ b. strangers s c (cond b (set list place entry) (lists k))) (eq-eqb k l y) ∙ omega (arith, none, left)
-    | inr ne ↦ ap (λ b. strangers s c (cond b (set list place entry) (lists k))) (ne_eqb k l ne) ∙ ap (λ b. strangers s c (cond b list (lists k))) (sym (ne_eqb k l ne)) ∙ listed.own k s c there
+        ap (λ b. foreign_blockers s c (cond b (set list place entry) (lists k))) (eq-eqb k l y) ∙ omega (arith, none, left)
+    | inr ne ↦ ap (λ b. foreign_blockers s c (cond b (set list place entry) (lists k))) (ne_eqb k l ne) ∙ ap (λ b. foreign_blockers s c (cond b list (lists k))) (sym (ne_eqb k l ne)) ∙ listed.own k s c there
   ];
 }
   where
@@ -315,7 +315,7 @@ listed_written live lists l list listed place e entry inside is same own = recor
         let alike : cond {A = ℕ} (eqb entry.slot s) 1 0 ≡ cond (eqb (get_or list place e).slot s) 1 0 = ap (λ n. cond {A = ℕ} (eqb n s) 1 0) (same ∙ ap (λ x. x.slot) is) in
         omega (arith, put, alike)
 
-    fewer : (s : ℕ) (c : Clause) → live s ≡ Some c → strangers s c (set list place entry) ≤ strangers s c list
+    fewer : (s : ℕ) (c : Clause) → live s ≡ Some c → foreign_blockers s c (set list place entry) ≤ foreign_blockers s c list
     fewer s c there =
         let put = sum_by-set (λ w. cond (eqb w.slot s && not (has c w.blocking)) 1 0) list place entry e inside in
         let none : cond {A = ℕ} (eqb entry.slot s && not (has c entry.blocking)) 1 0 ≡ 0 = elim (cases_eq entry.slot s) [

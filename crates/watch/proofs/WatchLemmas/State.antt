@@ -15,11 +15,12 @@ use Rattle.propagation.specs.Code.Exact.{AreExact}
 use Rattle.propagation.specs.Code.Scan.{IsHeld}
 use Rattle.theory.specs.Sets.{SameSet}
 use Rattle.trail.specs.Trail.{HasRoomForAll}
-use Rattle.watch.specs.Code.Lists.{AreApart, entries_in, entries_of, list_at, strangers, times_in}
+use Rattle.watch.specs.Code.Lists.{AreApart, entries_in, entries_of, foreign_blockers, list_at}
+use Rattle.watch.specs.Code.Lists.{times_in}
 use Rattle.watch.specs.Code.Order.{each_in_order}
 use Rattle.watch.specs.Code.Roots.{AreForced, IsKept, IsKnown, IsStanding, is_up_to_date}
 use Rattle.watch.specs.Code.State.{IsWatch}
-use Rattle.watch.specs.Code.Visits.{Carries, IsPart}
+use Rattle.watch.specs.Code.Visits.{PropagatesTo, IsPart}
 use Rattle.watch.specs.Code.Watched.{AreWatched, IsListed, IsShortList, IsWatched, watches}
 use Rattle.watch.specs.Code.Watched.{is_short, entries_for, short_for}
 use Rattle.watch.specs.Watched.{long_clauses, short_clauses}
@@ -33,7 +34,7 @@ use Rattle.propagation.proofs.PropagationLemmas.Exact.{begins_on, longer_from}
 use Rattle.trail.proofs.TrailLemmas.Longer.{has_begun}
 use Rattle.propagation.proofs.PropagationLemmas.Scan.{held_reserved}
 use Rattle.watch.proofs.WatchLemmas.Follow.{front_part}
-use Rattle.watch.proofs.WatchLemmas.Lists.{strangers_none}
+use Rattle.watch.proofs.WatchLemmas.Lists.{blockers_none}
 use Rattle.watch.proofs.WatchLemmas.Kept.{kept_carried, kept_forced, roots_alone, roots_part}
 use Rattle.watch.proofs.WatchLemmas.Moves.{and_false, and_true}
 use Rattle.watch.proofs.WatchLemmas.Order.{ordered_empty, size-in_order, sum_ordered}
@@ -57,7 +58,7 @@ short_alike before after same = sym (short_shown after) ∙ ap short_clauses sam
 
 -- ---- Levels
 
-are_kept : (a b : FinMap nat_cmp Clause) (x y : AssumptionsState) (r t : Literal → Option ℕ) → Carries a b x y r t → (lits : List Literal) → IsPart lits x.trail.lits → (assumptions : List Assumption) (starts : List ℕ) →
+are_kept : (a b : FinMap nat_cmp Clause) (x y : AssumptionsState) (r t : Literal → Option ℕ) → PropagatesTo a b x y r t → (lits : List Literal) → IsPart lits x.trail.lits → (assumptions : List Assumption) (starts : List ℕ) →
     AreWatched (maps.get a) lits assumptions starts → AreWatched (maps.get b) lits assumptions starts
 are_kept a b x y r t carried lits part [] starts watched = tt
 are_kept a b x y r t carried lits part (last ∷ rest) [] watched = tt
@@ -75,7 +76,7 @@ same_roots before after lits_are assumptions_are starts_are =
 -- ---- One more assumption
 
 module _ (live live2 : FinMap nat_cmp Clause) (lists lists2 : WatchLists) (short : List ℕ) (roots roots2 : Roots) (before after found : AssumptionsState) (watch : IsWatch live lists short roots before)
-    (carried : Carries live live2 after found (at roots.reasons) (at roots2.reasons)) (as_known : roots2.kept ≡ roots.kept) (apart : AreApart lists2) (listed : IsListed (maps.get live2) (list_at lists2)) (entries : entries_in lists2 ≡ entries_in lists)
+    (carried : PropagatesTo live live2 after found (at roots.reasons) (at roots2.reasons)) (as_known : roots2.kept ≡ roots.kept) (apart : AreApart lists2) (listed : IsListed (maps.get live2) (list_at lists2)) (entries : entries_in lists2 ≡ entries_in lists)
     (begins : take (length before.trail.lits) after.trail.lits ≡ before.trail.lits) where
   begins_found : take (length before.trail.lits) found.trail.lits ≡ before.trail.lits
   begins_found = begins_on before.trail.lits after.trail.lits found.trail.lits begins (longer_from before.trail.lits after.trail.lits begins) carried.extends.begins
@@ -174,7 +175,7 @@ watch_noted live lists short roots after held as_known old watch = record {
 }
 
 pub watch_same : (live : FinMap nat_cmp Clause) (lists after : WatchLists) (short : List ℕ) (roots : Roots) (held : AssumptionsState) → AreApart after → ((l s : ℕ) → entries_of s (list_at after l) ≡ entries_of s (list_at lists l)) →
-    ((l s : ℕ) (c : Clause) → maps.get live s ≡ Some c → strangers s c (list_at after l) ≤ strangers s c (list_at lists l)) → entries_in after ≡ entries_in lists → IsWatch live lists short roots held → IsWatch live after short roots held
+    ((l s : ℕ) (c : Clause) → maps.get live s ≡ Some c → foreign_blockers s c (list_at after l) ≤ foreign_blockers s c (list_at lists l)) → entries_in after ≡ entries_in lists → IsWatch live lists short roots held → IsWatch live after short roots held
 watch_same live lists after short roots held apart times fewer entries watch = record {
   scan = watch.scan;
   apart = apart;
@@ -270,7 +271,7 @@ module _ (live after : FinMap nat_cmp Clause) (lists lists2 : WatchLists) (short
 
   pub watch_added : maps.get live slot ≡ None → after ≡ maps.insert live slot c → slot < 4294967296 →
       ((l s : ℕ) → entries_of s (list_at lists2 l) ≡ entries_of s (list_at lists l) + cond (watches c l && eqb s slot) 1 0) →
-      ((l s : ℕ) (d : Clause) → (s ≡ slot → d ≡ c) → strangers s d (list_at lists2 l) ≤ strangers s d (list_at lists l)) → ((s : ℕ) → times_in s short2 ≡ times_in s short + cond (is_short c && eqb s slot) 1 0) →
+      ((l s : ℕ) (d : Clause) → (s ≡ slot → d ≡ c) → foreign_blockers s d (list_at lists2 l) ≤ foreign_blockers s d (list_at lists l)) → ((s : ℕ) → times_in s short2 ≡ times_in s short + cond (is_short c && eqb s slot) 1 0) →
       entries_in lists2 ≡ entries_in lists + cond (is_short c) 0 2 → length short2 ≡ length short + cond (is_short c) 1 0 → IsWatch after lists2 short2 roots2 held2
   watch_added free is low times fewer short_times entries longer =
       let more = ap long_clauses is ∙ sum_insert (λ c. cond (nat_le 2 (size c)) 1 0) live slot c free in
@@ -288,7 +289,7 @@ module _ (live after : FinMap nat_cmp Clause) (lists lists2 : WatchLists) (short
         ];
         own = λ l s d is_d. elim (cases_eq s slot) [
           | inl e ↦
-              let none = strangers_none (list_at lists l) s d (watch.listed.watched l s ∙ ap (λ k. entries_for (maps.get live k) l) e ∙ ap (λ o. entries_for o l) free) in
+              let none = blockers_none (list_at lists l) s d (watch.listed.watched l s ∙ ap (λ k. entries_for (maps.get live k) l) e ∙ ap (λ o. entries_for o l) free) in
               let left = fewer l s d (λ _. same_Some d c (sym is_d ∙ here s e)) in
               omega (arith, none, left)
           | inr ne ↦
@@ -319,7 +320,7 @@ module _ (live after : FinMap nat_cmp Clause) (lists lists2 : WatchLists) (short
 
   pub watch_removed : maps.get live slot ≡ Some c → after ≡ maps.remove live slot →
       ((l s : ℕ) → entries_of s (list_at lists2 l) + cond (watches c l && eqb s slot) 1 0 ≡ entries_of s (list_at lists l)) →
-      ((l s : ℕ) (d : Clause) → strangers s d (list_at lists2 l) ≤ strangers s d (list_at lists l)) → ((s : ℕ) → times_in s short2 + cond (is_short c && eqb s slot) 1 0 ≡ times_in s short) →
+      ((l s : ℕ) (d : Clause) → foreign_blockers s d (list_at lists2 l) ≤ foreign_blockers s d (list_at lists l)) → ((s : ℕ) → times_in s short2 + cond (is_short c && eqb s slot) 1 0 ≡ times_in s short) →
       entries_in lists2 + cond (is_short c) 0 2 ≡ entries_in lists → length short2 + cond (is_short c) 1 0 ≡ length short → IsWatch after lists2 short2 roots2 held2
   watch_removed there is times fewer short_times entries shorter =
       let less = sum_remove (λ c. cond (nat_le 2 (size c)) 1 0) live slot c there in

@@ -18,8 +18,9 @@ abbrev pub entries_of : ℕ → List Watcher → ℕ
 entries_of s list = sum_by (λ w. if w.slot == s then 1 else 0) list
 
 -- how many are of a slot and have a literal that the clause lacks
-abbrev pub strangers : ℕ → Clause → List Watcher → ℕ
-strangers s c list = sum_by (λ w. if w.slot == s && not (has c w.blocking) then 1 else 0) list
+abbrev pub foreign_blockers : ℕ → Clause → List Watcher → ℕ
+foreign_blockers s c list =
+    sum_by (λ w. if w.slot == s && not (has c w.blocking) then 1 else 0) list
 
 -- the slot of an entry, if there is one
 abbrev pub slot_of : Option Watcher → ℕ

@@ -32,14 +32,14 @@ watch_code =
     (λ s. (
       s.propagation,
       (
-        ((s.entries, s.loose), (s.trues, s.variables)),
+        ((s.entries, s.short_entries), (s.trues, s.variables)),
         (s.roots, (s.is_up_to_date, s.has_clash)),
       ),
     ))
     (λ p. record {
       propagation = p.0;
       entries = p.1.0.0.0;
-      loose = p.1.0.0.1;
+      short_entries = p.1.0.0.1;
       trues = p.1.0.1.0;
       variables = p.1.0.1.1;
       roots = p.1.1.0;

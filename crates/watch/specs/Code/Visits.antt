@@ -35,7 +35,7 @@ IsVisit trues c l Clash = (k : Literal) → IsTrue (has c k) → IsTrue (has tru
 
 -- the clauses are the same but for the order of their literals, what was watched still is, and more
 -- literals are true, all forced, each by a reason
-pub record Carries (before after : FinMap nat_cmp Clause) (held now : AssumptionsState)
+pub record PropagatesTo (before after : FinMap nat_cmp Clause) (held now : AssumptionsState)
     (reason_of reason_now : Literal → Option ℕ) : Type 0 where
   pub same : each_in_order after ≡ each_in_order before
   pub short : (s : ℕ) → short_for (maps.get after s) ≡ short_for (maps.get before s)

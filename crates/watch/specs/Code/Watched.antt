@@ -6,7 +6,7 @@ use Rattle.cnf_base.specs.Literals.{Literal, Clause, has, complement}
 use Rattle.theory.specs.Propagation.{Live}
 use Rattle.propagation.specs.Assumptions.{Assumption}
 use Rattle.propagation.specs.declared.answer.Answer.TheVariants.{Quiet}
-use Rattle.watch.specs.Code.Lists.{entries_of, strangers, times_in}
+use Rattle.watch.specs.Code.Lists.{entries_of, foreign_blockers, times_in}
 use Rattle.watch.specs.declared.watcher.Watcher.{Watcher}
 
 -- whether a clause watches a literal
@@ -38,7 +38,7 @@ short_for (Some c) = if is_short c then 1 else 0
 pub record IsListed (live : Live) (list_of : Literal → List Watcher) : Type 0 where
   pub watched : (l s : ℕ) → entries_of s (list_of l) ≡ entries_for (live s) l
   pub low : (s : ℕ) → IsSome (live s) → s < 4294967296
-  pub own : (l s : ℕ) (c : Clause) → live s ≡ Some c → strangers s c (list_of l) ≡ 0
+  pub own : (l s : ℕ) (c : Clause) → live s ≡ Some c → foreign_blockers s c (list_of l) ≡ 0
 
 -- a slot of a short clause stands once in this list, and nothing else does
 pub record IsShortList (live : Live) (short : List ℕ) : Type 0 where

@@ -5,14 +5,14 @@ use Rattle.std.specs.FinMap as maps
 use Rattle.std.proofs.lemmas.List.Edits.{length-swap}
 use Rattle.clause_db.proofs.StoreLemmas.Swap.{has_swapped}
 use Rattle.cnf_base.specs.Literals.{Clause}
-use Rattle.watch.specs.Code.Lists.{entries_of, list_at, strangers}
+use Rattle.watch.specs.Code.Lists.{entries_of, foreign_blockers, list_at}
 use Rattle.watch.specs.Code.Visits.{with_list}
 use Rattle.watch.specs.Code.Watched.{IsListed}
 use Rattle.watch.specs.declared.watcher.Watcher.{Watcher}
 use Rattle.watch.proofs.WatchLemmas.Follow.{listed_alike}
-use Rattle.watch.proofs.WatchLemmas.Lists.{entries_taken, slot_is, strangers_left}
+use Rattle.watch.proofs.WatchLemmas.Lists.{entries_taken, slot_is, blockers_left}
 use Rattle.watch.proofs.WatchLemmas.Moves.{at_inserted, entries_moved, places_apart, put_back}
-use Rattle.watch.proofs.WatchLemmas.Moves.{strangers_moved, swap_back, times_moved, listed_moved}
+use Rattle.watch.proofs.WatchLemmas.Moves.{blockers_moved, swap_back, times_moved, listed_moved}
 use Rattle.watch.proofs.follow.move_watch.Goals as goal
 
 pub swap-requires-in-Err : goal.swap-requires-in-Err
@@ -99,10 +99,10 @@ returns-in-Ok-clause-listed c =
     let d = swap w.0 x.from x.to in
     let moved = c.swap.ensures.live w.0 (ap (maps.get live) c.at-at.ensures ∙ here) ∙ ap (λ s. maps.insert live s d) c.at-at.ensures in
     let taken = λ (s : ℕ). ap (λ xs. entries_of s xs + cond (eqb s slot) 1 0) c.swap_remove.ensures.items ∙ entries_taken list c.args.place slot _ c.requires.inside (sym read) s in
-    let fewer = λ (s : ℕ) (e : Clause). subst (λ xs. strangers s e xs ≤ strangers s e list) (sym c.swap_remove.ensures.items) (strangers_left list c.args.place _ c.requires.inside s e) in
+    let fewer = λ (s : ℕ) (e : Clause). subst (λ xs. foreign_blockers s e xs ≤ foreign_blockers s e list) (sym c.swap_remove.ensures.items) (blockers_left list c.args.place _ c.requires.inside s e) in
     subst (λ m. IsListed (maps.get m) (with_list c.push.new.self c.args.l left)) (sym moved)
     (listed_moved live slot w.0 d here c.args.l x.next (entries_moved c.args.l x.next w.0 x.from x.to w.2 low w.3 past inside w.5)
     (with_list c.args.lists.now c.args.l list) (with_list c.push.new.self c.args.l left) c.requires.listed
     (times_moved (list_at c.args.lists.now) (list_at c.push.new.self) c.args.l x.next entry other c.in-Ok.ensures.ok list left taken)
     (has_swapped w.0 d x.from x.to (omega (arith, low, past, inside)) inside refl)
-    (strangers_moved (list_at c.args.lists.now) (list_at c.push.new.self) c.args.l x.next entry other c.in-Ok.ensures.ok list left taken w.0 w.6 fewer))
+    (blockers_moved (list_at c.args.lists.now) (list_at c.push.new.self) c.args.l x.next entry other c.in-Ok.ensures.ok list left taken w.0 w.6 fewer))

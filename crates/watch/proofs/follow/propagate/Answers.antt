@@ -13,7 +13,7 @@ use Rattle.cnf_base.proofs.MemberLemmas.{has_place}
 use Rattle.trail.proofs.TrailLemmas.MakesFalse.{no_conflict}
 use Rattle.trail.proofs.TrailLemmas.Longer.{has_begun}
 use Rattle.trail.proofs.TrailLemmas.Values.{fits_within}
-use Rattle.watch.proofs.WatchLemmas.Carries.{carries_on}
+use Rattle.watch.proofs.WatchLemmas.PropagatesTo.{propagates_on}
 use Rattle.watch.proofs.WatchLemmas.Follow.{front_part, watched_done, watched_grown, watched_more}
 use Rattle.watch.proofs.follow.propagate.Goals as goal
 
@@ -25,20 +25,20 @@ follow-requires-clause-is_false c =
     let read = c.index-lits-done.is ∙ ap (λ ls. get_or ls c.loop-done.done c.index-lits-done.result) shown ∙ get_or_default_zero trues c.loop-done.done c.index-lits-done.result inside in
     ap (λ l. has trues (complement l)) c.neg-l.ensures ∙ ap (has trues) (complement-complement c.index-lits-done.result ∙ read) ∙ has_place trues c.loop-done.done inside
 
-pub returns-in_err-slot-clause-carries : goal.returns-in_err-slot-clause-carries
-returns-in_err-slot-clause-carries c =
-    carries_on c.args.store.now.live c.loop-done.store.live c.follow.new.store.live c.args.assumptions.now c.loop-done.assumptions c.follow.new.assumptions (at c.args.reasons.now) (at c.loop-done.reasons) (at c.follow.new.reasons) c.loop-done.invariant.carries c.follow.ensures.carries
+pub returns-in_err-slot-clause-propagates : goal.returns-in_err-slot-clause-propagates
+returns-in_err-slot-clause-propagates c =
+    propagates_on c.args.store.now.live c.loop-done.store.live c.follow.new.store.live c.args.assumptions.now c.loop-done.assumptions c.follow.new.assumptions (at c.args.reasons.now) (at c.loop-done.reasons) (at c.follow.new.reasons) c.loop-done.invariant.propagates c.follow.ensures.propagates
 
-pub returns-in-Some-clause-carries : goal.returns-in-Some-clause-carries
-returns-in-Some-clause-carries c =
-    carries_on c.args.store.now.live c.loop-done.store.live c.follow.new.store.live c.args.assumptions.now c.loop-done.assumptions c.follow.new.assumptions (at c.args.reasons.now) (at c.loop-done.reasons) (at c.follow.new.reasons) c.loop-done.invariant.carries c.follow.ensures.carries
+pub returns-in-Some-clause-propagates : goal.returns-in-Some-clause-propagates
+returns-in-Some-clause-propagates c =
+    propagates_on c.args.store.now.live c.loop-done.store.live c.follow.new.store.live c.args.assumptions.now c.loop-done.assumptions c.follow.new.assumptions (at c.args.reasons.now) (at c.loop-done.reasons) (at c.follow.new.reasons) c.loop-done.invariant.propagates c.follow.ensures.propagates
 
 pub loop-done-smaller : goal.loop-done-smaller
 loop-done-smaller c =
     let met = c.args.assumptions.now.trail.met in
     let held = c.loop-done.assumptions in
     let within = subst (λ t. (v : ℕ) → has (map variable t.lits) v ≡ true → has t.met v ≡ true) c.trail.ensures c.len.ensures.within in
-    let fits = fits_within held.trail.lits met (subst (λ t. HasNoVariableTwice t.lits) c.trail.ensures c.len.ensures.different) (λ v h. sym (c.loop-done.invariant.carries.extends.met v) ∙ within v h) in
+    let fits = fits_within held.trail.lits met (subst (λ t. HasNoVariableTwice t.lits) c.trail.ensures c.len.ensures.different) (λ v h. sym (c.loop-done.invariant.propagates.extends.met v) ∙ within v h) in
     let low = c.loop-done-test.true in
     let n = c.len.ensures.value ∙ ap (λ t. length t.lits) c.trail.ensures in
     omega (arith, fits, low, n)
@@ -56,18 +56,18 @@ loop-done-preserved c =
     let inside : before.done < length trues = let low = c.loop-done-test.true in let n = c.len.ensures.value ∙ ap (λ t. length t.lits) c.trail.ensures in omega arith in
     let read = c.index-lits-done.is ∙ ap (λ ls. get_or ls before.done p) shown ∙ get_or_default_zero trues before.done p inside in
     let front : take (before.done + 1) after ≡ take before.done trues ++ p ∷ [] =
-    sym (take-take (before.done + 1) (length trues) after (omega (arith, inside))) ∙ ap (take (before.done + 1)) e.carries.extends.begins ∙ take_more trues before.done 0 inside
+    sym (take-take (before.done + 1) (length trues) after (omega (arith, inside))) ∙ ap (take (before.done + 1)) e.propagates.extends.begins ∙ take_more trues before.done 0 inside
     ∙ ap (λ x. take before.done trues ++ x ∷ []) (sym read) in
-    let kept = e.carries.kept (take before.done trues) trues (front_part before.done trues) (λ l h. h) so_far.watched in
+    let kept = e.propagates.kept (take before.done trues) trues (front_part before.done trues) (λ l h. h) so_far.watched in
     let partners = subst (λ o. IfNone o ((s : ℕ) (d : Clause) → maps.get c.follow.new.store.live s ≡ Some d → IsMet d c.neg-l.result after)) c.in-None.is e.met in
-    let grown = watched_grown live (take before.done trues) trues after (λ l h. has_begun trues after l e.carries.extends.begins h) kept in record {
-      inside = let longer = e.carries.extends.longer in omega (arith, inside, longer);
+    let grown = watched_grown live (take before.done trues) trues after (λ l h. has_begun trues after l e.propagates.extends.begins h) kept in record {
+      inside = let longer = e.propagates.extends.longer in omega (arith, inside, longer);
       apart = e.apart;
       listed = e.listed;
       entries = e.entries ∙ so_far.entries;
       watched = watched_done live _ (take (before.done + 1) after) after front
           (watched_more live (take before.done trues) after p grown (λ s d is. subst (λ l. IsMet d l after) c.neg-l.ensures (partners s d is)));
-      carries = carries_on c.args.store.now.live before.store.live c.follow.new.store.live c.args.assumptions.now before.assumptions c.follow.new.assumptions (at c.args.reasons.now) (at before.reasons) (at c.follow.new.reasons) so_far.carries e.carries;
+      propagates = propagates_on c.args.store.now.live before.store.live c.follow.new.store.live c.args.assumptions.now before.assumptions c.follow.new.assumptions (at c.args.reasons.now) (at before.reasons) (at c.follow.new.reasons) so_far.propagates e.propagates;
     }
 
 pub returns-clause-quiet : goal.returns-clause-quiet

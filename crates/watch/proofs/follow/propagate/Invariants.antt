@@ -3,7 +3,7 @@ use Rattle.std.specs.FinMap as maps
 use Rattle.tables.specs.Table.{at}
 use Rattle.watch.specs.Code.Lists.{AreApart, entries_in, list_at}
 use Rattle.watch.specs.Code.Watched.{IsListed, IsWatched}
-use Rattle.watch.specs.Code.Visits.{Carries}
+use Rattle.watch.specs.Code.Visits.{PropagatesTo}
 use Rattle.watch.proofs.follow.propagate.Given as goal
 
 abbrev pub invariant-loop-done : goal.invariant-loop-done
@@ -13,7 +13,7 @@ invariant-loop-done l = record {
   listed : IsListed (maps.get l.store.live) (list_at l.lists);
   entries : entries_in l.lists ≡ entries_in l.fn.lists;
   watched : IsWatched (maps.get l.store.live) (take l.done l.assumptions.trail.lits) l.assumptions.trail.lits;
-  carries : Carries l.fn.store.live l.store.live l.fn.assumptions l.assumptions (at l.fn.reasons) (at l.reasons);
+  propagates : PropagatesTo l.fn.store.live l.store.live l.fn.assumptions l.assumptions (at l.fn.reasons) (at l.reasons);
 }
 
 abbrev pub decreases-loop-done : goal.decreases-loop-done

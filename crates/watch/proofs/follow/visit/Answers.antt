@@ -9,13 +9,13 @@ use Rattle.cnf_base.specs.Literals.{has}
 use Rattle.watch.specs.Code.Lists.{list_at}
 use Rattle.watch.specs.Code.Order.{each_in_order, in_order}
 use Rattle.watch.specs.Code.Roots.{IsFalseAt}
-use Rattle.watch.specs.Code.Visits.{Carries, IsVisit}
+use Rattle.watch.specs.Code.Visits.{PropagatesTo, IsVisit}
 use Rattle.watch.specs.Code.Watched.{watches}
 use Rattle.watch.specs.declared.watcher.Watcher.{Watcher}
 use Rattle.watch.specs.declared.visit.Visit.TheVariants.{Stays, Moves, Unit, Clash}
 use Rattle.watch.specs.declared.follow.Next.{Next}
 use Rattle.watch.specs.declared.follow.Next.TheVariants.{Further, Here, Nothing}
-use Rattle.watch.proofs.WatchLemmas.Carries.{carries_moved, carries_unit, clashes}
+use Rattle.watch.proofs.WatchLemmas.PropagatesTo.{propagates_moved, propagates_unit, clashes}
 use Rattle.watch.proofs.WatchLemmas.Lists.{slot_is}
 use Rattle.watch.proofs.WatchLemmas.Moves.{entry_alive, listed_written, others_moved}
 use Rattle.watch.proofs.WatchLemmas.Order.{has-in_order, seen_there}
@@ -110,9 +110,9 @@ returns-in_ok-move_watch-in-Moves-clause-others c = λ s apart.
     let read = ap (λ x. x.slot) c.index-2.ensures ∙ sym (slot_is list c.args.place e c.requires.inside) in
     ap (λ m. maps.get m s) (c.in_ok-move_watch-in-Moves.ensures.moved w.0 (ap (maps.get live) (sym read) ∙ w.1)) ∙ others_moved live _ _ s apart
 
-pub returns-in_ok-move_watch-in-Moves-clause-carries :
-    goal.returns-in_ok-move_watch-in-Moves-clause-carries
-returns-in_ok-move_watch-in-Moves-clause-carries c =
+pub returns-in_ok-move_watch-in-Moves-clause-propagates :
+    goal.returns-in_ok-move_watch-in-Moves-clause-propagates
+returns-in_ok-move_watch-in-Moves-clause-propagates c =
     let live = c.args.store.now.live in
     let held = c.args.assumptions.now in
     let x = c.in-Moves.exchange in
@@ -121,8 +121,8 @@ returns-in_ok-move_watch-in-Moves-clause-carries c =
     let here = sym c.clause.ensures.clause in
     let move = subst (λ t. IsVisit t.lits d c.args.l (Moves x)) c.trail-2.ensures c.in-Moves.ensures.visit in
     let moved = c.in_ok-move_watch-in-Moves.ensures.moved d (ap (maps.get live) (sym at_is) ∙ here) ∙ ap (λ s. maps.insert live s (swap d x.from x.to)) (sym at_is) in
-    subst (λ m. Carries live m held held (at c.args.reasons.now) (at c.args.reasons.now)) (sym moved)
-    (carries_moved live held c.at-at.result d here x.from x.to c.args.l _ (sym c.clause.ensures.different) move.0 move.1 move.2 move.3 move.4 move.5 (at c.args.reasons.now))
+    subst (λ m. PropagatesTo live m held held (at c.args.reasons.now) (at c.args.reasons.now)) (sym moved)
+    (propagates_moved live held c.at-at.result d here x.from x.to c.args.l _ (sym c.clause.ensures.different) move.0 move.1 move.2 move.3 move.4 move.5 (at c.args.reasons.now))
 
 pub returns-in-Unit-clause-met : goal.returns-in-Unit-clause-met
 returns-in-Unit-clause-met c = λ _ d here _.
@@ -134,13 +134,13 @@ returns-in-Unit-clause-met c = λ _ d here _.
     let e = c.set_by.ensures in
     (m, ap (λ x. has x m) (sym same) ∙ unit.0, made_true c.set_by.result c.args.assumptions.now.trail.lits c.set_by.new.assumptions.trail.lits m e.was_open e.lits)
 
-pub returns-in-Unit-clause-carries : goal.returns-in-Unit-clause-carries
-returns-in-Unit-clause-carries c =
+pub returns-in-Unit-clause-propagates : goal.returns-in-Unit-clause-propagates
+returns-in-Unit-clause-propagates c =
     let live = c.args.store.now.live in
     let d = c.clause.result.now in
     let unit = subst (λ t. IsVisit t.lits d c.args.l (Unit c.in-Unit.m)) c.trail-2.ensures c.in-Unit.ensures.visit in
     let e = c.set_by.ensures in
-    carries_unit live c.args.assumptions.now c.at-at.result d (sym c.clause.ensures.clause) c.in-Unit.m unit.0 unit.2 c.set_by.new.assumptions c.set_by.result e.was_open e.lits e.met e.assumptions e.starts (at c.args.reasons.now) (at c.set_by.new.reasons)
+    propagates_unit live c.args.assumptions.now c.at-at.result d (sym c.clause.ensures.clause) c.in-Unit.m unit.0 unit.2 c.set_by.new.assumptions c.set_by.result e.was_open e.lits e.met e.assumptions e.starts (at c.args.reasons.now) (at c.set_by.new.reasons)
     (λ k. e.reasons k ∙ ap (λ n. cond (c.set_by.result && eqb k c.in-Unit.m) (Some n) (at c.args.reasons.now k)) (sym c.at-at.ensures))
 
 pub returns-in-Clash-clause-clash : goal.returns-in-Clash-clause-clash

@@ -6,17 +6,17 @@ use Rattle.watch.specs.Code.Lists.{list_at, slot_at}
 use Rattle.watch.specs.declared.watcher.Watcher.{Watcher}
 use Rattle.watch.proofs.WatchLemmas.Lists.{slot_is}
 use Rattle.trail.proofs.TrailLemmas.Longer.{has_begun}
-use Rattle.watch.proofs.WatchLemmas.Carries.{carries_on}
+use Rattle.watch.proofs.WatchLemmas.PropagatesTo.{propagates_on}
 use Rattle.watch.proofs.WatchLemmas.Follow.{all_met, front_apart, visited_further, visited_here}
 use Rattle.watch.proofs.follow.visit_all.Goals as goal
 
 pub visit-requires-clause-is_false : goal.visit-requires-clause-is_false
 visit-requires-clause-is_false c =
-    has_begun c.args.assumptions.now.trail.lits c.loop-place.assumptions.trail.lits (complement c.args.l) c.loop-place.invariant.carries.extends.begins c.requires.is_false
+    has_begun c.args.assumptions.now.trail.lits c.loop-place.assumptions.trail.lits (complement c.args.l) c.loop-place.invariant.propagates.extends.begins c.requires.is_false
 
-pub returns-in_err-visit-clause-carries : goal.returns-in_err-visit-clause-carries
-returns-in_err-visit-clause-carries c =
-    carries_on c.args.store.now.live c.loop-place.store.live c.visit.new.store.live c.args.assumptions.now c.loop-place.assumptions c.visit.new.assumptions (at c.args.reasons.now) (at c.loop-place.reasons) (at c.visit.new.reasons) c.loop-place.invariant.carries c.visit.ensures.carries
+pub returns-in_err-visit-clause-propagates : goal.returns-in_err-visit-clause-propagates
+returns-in_err-visit-clause-propagates c =
+    propagates_on c.args.store.now.live c.loop-place.store.live c.visit.new.store.live c.args.assumptions.now c.loop-place.assumptions c.visit.new.assumptions (at c.args.reasons.now) (at c.loop-place.reasons) (at c.visit.new.reasons) c.loop-place.invariant.propagates c.visit.ensures.propagates
 
 pub loop-place-preserved-in-Further : goal.loop-place-preserved-in-Further
 loop-place-preserved-in-Further c =
@@ -31,10 +31,10 @@ loop-place-preserved-in-Further c =
       hand = e.hand;
       listed = e.listed;
       entries = let step = e.entries in let was = so_far.entries in omega arith;
-      carries = carries_on c.args.store.now.live before.store.live c.visit.new.store.live c.args.assumptions.now before.assumptions c.visit.new.assumptions (at c.args.reasons.now) (at before.reasons) (at c.visit.new.reasons) so_far.carries e.carries;
+      propagates = propagates_on c.args.store.now.live before.store.live c.visit.new.store.live c.args.assumptions.now before.assumptions c.visit.new.assumptions (at c.args.reasons.now) (at before.reasons) (at c.visit.new.reasons) so_far.propagates e.propagates;
       visited =
           visited_further (maps.get before.store.live) (maps.get c.visit.new.store.live) c.args.l before.assumptions.trail.lits c.visit.new.assumptions.trail.lits
-          (λ l h. has_begun before.assumptions.trail.lits c.visit.new.assumptions.trail.lits l e.carries.extends.begins h) before.list.items before.place (slot_at before.list.items before.place) so_far.visited e.others after e.front
+          (λ l h. has_begun before.assumptions.trail.lits c.visit.new.assumptions.trail.lits l e.propagates.extends.begins h) before.list.items before.place (slot_at before.list.items before.place) so_far.visited e.others after e.front
           d still (sym (slot_is after before.place d still) ∙ e.same_slot c.in-Further.is) (e.met c.in-Further.is);
     }
 
@@ -48,17 +48,17 @@ loop-place-preserved c =
       hand = e.hand;
       listed = e.listed;
       entries = let step = e.entries in let was = so_far.entries in omega arith;
-      carries = carries_on c.args.store.now.live before.store.live c.visit.new.store.live c.args.assumptions.now before.assumptions c.visit.new.assumptions (at c.args.reasons.now) (at before.reasons) (at c.visit.new.reasons) so_far.carries e.carries;
+      propagates = propagates_on c.args.store.now.live before.store.live c.visit.new.store.live c.args.assumptions.now before.assumptions c.visit.new.assumptions (at c.args.reasons.now) (at before.reasons) (at c.visit.new.reasons) so_far.propagates e.propagates;
       visited =
           visited_here (maps.get before.store.live) (maps.get c.visit.new.store.live) c.args.l before.assumptions.trail.lits c.visit.new.assumptions.trail.lits
-          (λ l h. has_begun before.assumptions.trail.lits c.visit.new.assumptions.trail.lits l e.carries.extends.begins h) before.list.items before.place (slot_at before.list.items before.place) so_far.visited e.others
+          (λ l h. has_begun before.assumptions.trail.lits c.visit.new.assumptions.trail.lits l e.propagates.extends.begins h) before.list.items before.place (slot_at before.list.items before.place) so_far.visited e.others
           c.visit.new.list.items e.front
           (λ s there same. front_apart (maps.get before.store.live) (list_at before.lists) c.args.l before.list.items so_far.listed before.place s d inside there (same ∙ slot_is before.list.items before.place d inside));
     }
 
-pub returns-in-Nothing-clause-carries : goal.returns-in-Nothing-clause-carries
-returns-in-Nothing-clause-carries c =
-    carries_on c.args.store.now.live c.loop-place.store.live c.visit.new.store.live c.args.assumptions.now c.loop-place.assumptions c.visit.new.assumptions (at c.args.reasons.now) (at c.loop-place.reasons) (at c.visit.new.reasons) c.loop-place.invariant.carries c.visit.ensures.carries
+pub returns-in-Nothing-clause-propagates : goal.returns-in-Nothing-clause-propagates
+returns-in-Nothing-clause-propagates c =
+    propagates_on c.args.store.now.live c.loop-place.store.live c.visit.new.store.live c.args.assumptions.now c.loop-place.assumptions c.visit.new.assumptions (at c.args.reasons.now) (at c.loop-place.reasons) (at c.visit.new.reasons) c.loop-place.invariant.propagates c.visit.ensures.propagates
 
 pub returns-clause-met : goal.returns-clause-met
 returns-clause-met c =

@@ -4,7 +4,7 @@ use Rattle.tables.specs.Table.{at}
 use Rattle.cnf_base.specs.Literals.{Clause}
 use Rattle.watch.specs.Code.Lists.{entries_in, entries_of}
 use Rattle.watch.specs.Code.Watched.{IsMet, IsListed}
-use Rattle.watch.specs.Code.Visits.{Carries, IsInHand, with_list}
+use Rattle.watch.specs.Code.Visits.{PropagatesTo, IsInHand, with_list}
 use Rattle.watch.proofs.follow.visit_all.Given as goal
 
 abbrev pub invariant-loop-place : goal.invariant-loop-place
@@ -12,7 +12,7 @@ invariant-loop-place l = record {
   hand : IsInHand l.lists l.l;
   listed : IsListed (maps.get l.store.live) (with_list l.lists l.l l.list.items);
   entries : entries_in l.lists + length l.list.items ≡ entries_in l.fn.lists + length l.fn.list.items;
-  carries : Carries l.fn.store.live l.store.live l.fn.assumptions l.assumptions (at l.fn.reasons) (at l.reasons);
+  propagates : PropagatesTo l.fn.store.live l.store.live l.fn.assumptions l.assumptions (at l.fn.reasons) (at l.reasons);
   visited : (s : ℕ) → 0 < entries_of s (take l.place l.list.items) → (c : Clause) → maps.get l.store.live s ≡ Some c → IsMet c l.l l.assumptions.trail.lits;
 }
 

@@ -8,14 +8,14 @@ use Rattle.watch.specs.Code.Order.{each_in_order}
 use Rattle.watch.specs.Code.Roots.{IsFalseAt}
 use Rattle.watch.specs.Code.Watched.{IsWatched}
 use Rattle.trail.proofs.TrailLemmas.Longer.{has_begun}
-use Rattle.watch.proofs.WatchLemmas.Carries.{clash_from}
+use Rattle.watch.proofs.WatchLemmas.PropagatesTo.{clash_from}
 use Rattle.watch.proofs.WatchLemmas.Closed.{all_closed, all_quiet, units_carried}
 use Rattle.watch.proofs.WatchLemmas.Units.{unit_more}
 use Rattle.watch.proofs.run.run.Goals as goal
 
 pub returns-in-Some-clause-answer : goal.returns-in-Some-clause-answer
 returns-in-Some-clause-answer c =
-    clash_from c.args.store.now.live c.propagate.new.store.live c.args.assumptions.now c.propagate.new.assumptions (at c.args.reasons.now) (at c.propagate.new.reasons) c.propagate.ensures.carries c.in-Some.field-0
+    clash_from c.args.store.now.live c.propagate.new.store.live c.args.assumptions.now c.propagate.new.assumptions (at c.args.reasons.now) (at c.propagate.new.reasons) c.propagate.ensures.propagates c.in-Some.field-0
     (subst (λ o. IfSome o (λ s. IsFalseAt (maps.get (each_in_order c.propagate.new.store.live)) s c.propagate.new.assumptions.trail.lits)) c.in-Some.is c.in_ok-found.ensures.clash)
 
 pub returns-in-None-clause-answer : goal.returns-in-None-clause-answer
@@ -23,7 +23,7 @@ returns-in-None-clause-answer c = λ clash.
     let held = c.args.assumptions.now in
     let after = c.propagate.new.store.live in
     let trues = c.propagate.new.assumptions.trail.lits in
-    let e = c.propagate.ensures.carries in
+    let e = c.propagate.ensures.propagates in
     let more : (l : Literal) → has held.trail.lits l ≡ true → has trues l ≡ true = λ l h. has_begun held.trail.lits trues l e.extends.begins h in
     let units = units_carried c.args.store.now.live after trues e.same e.short (λ s d is. unit_more d held.trail.lits trues more (c.requires.units s d is)) in
     let watched = subst (λ o. IfNone o (IsWatched (maps.get after) trues trues)) c.in-None.is c.in_ok-found.ensures.watched in
@@ -35,7 +35,7 @@ returns-in-None-clause-closed c = λ _.
     let held = c.args.assumptions.now in
     let after = c.propagate.new.store.live in
     let trues = c.propagate.new.assumptions.trail.lits in
-    let e = c.propagate.ensures.carries in
+    let e = c.propagate.ensures.propagates in
     let more : (l : Literal) → has held.trail.lits l ≡ true → has trues l ≡ true = λ l h. has_begun held.trail.lits trues l e.extends.begins h in
     let units = units_carried c.args.store.now.live after trues e.same e.short (λ s d is. unit_more d held.trail.lits trues more (c.requires.units s d is)) in
     let watched = subst (λ o. IfNone o (IsWatched (maps.get after) trues trues)) c.in-None.is c.in_ok-found.ensures.watched in

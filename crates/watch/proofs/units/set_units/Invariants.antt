@@ -3,11 +3,11 @@ use Rattle.std.specs.FinMap as maps
 use Rattle.tables.specs.Table.{at}
 use Rattle.cnf_base.specs.Literals.{Clause, has}
 use Rattle.watch.specs.Code.Watched.{HasUnit}
-use Rattle.watch.specs.Code.Visits.{Carries}
+use Rattle.watch.specs.Code.Visits.{PropagatesTo}
 use Rattle.watch.proofs.units.set_units.Given as goal
 
 abbrev pub invariant-loop-place : goal.invariant-loop-place
 invariant-loop-place l = record {
   units : (s : ℕ) → has (take l.place l.slots) s ≡ true → (c : Clause) → maps.get l.store.live s ≡ Some c → HasUnit c l.assumptions.trail.lits;
-  carries : Carries l.store.live l.store.live l.fn.assumptions l.assumptions (at l.fn.reasons) (at l.reasons);
+  propagates : PropagatesTo l.store.live l.store.live l.fn.assumptions l.assumptions (at l.fn.reasons) (at l.reasons);
 }

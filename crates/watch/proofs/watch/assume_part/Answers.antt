@@ -7,7 +7,7 @@ use Rattle.propagation.specs.Code.Exact.{IsExact}
 use Rattle.theory.specs.Sets.{SameSet}
 use Rattle.watch.specs.Code.Order.{each_in_order}
 use Rattle.watch.specs.Code.Roots.{AreForced}
-use Rattle.watch.specs.Code.Source.{clause_of}
+use Rattle.watch.specs.Code.ClauseSource.{clause_of}
 use Rattle.propagation.proofs.PropagationLemmas.Scan.{part_clashes, part_answer, part_exact}
 use Rattle.propagation.proofs.PropagationLemmas.Scan.{scan_after}
 use Rattle.propagation.proofs.PropagationLemmas.Exact.{begins_on, longer_from}
@@ -40,26 +40,26 @@ returns-in-Ok-clause-watch g c =
     let added = complements (filter (g.P.Part.keeps c.args.part.now) (clause_of live c.args.source.now)) in
     let e = c.in_ok-assume_from.ensures in
     let p = c.in-Ok.ensures in
-    let extends = p.carries.extends in
+    let extends = p.propagates.extends in
     let all = e.assumed.0 in
     let same = subst (λ b. OnFalse b (SameSet after.trail.lits (before.trail.lits ++ added))) c.if-branch.false e.added in
     let alike = subst (λ b. OnFalse b (SameSet all (assumed_by before.assumptions ++ added))) c.if-branch.false e.assumed.2 in
     let stand = c.answer.ensures.assumptions _ _ (extends.assumptions ∙ e.assumed.1) in
     let starts = c.answer.ensures.starts ∙ extends.starts ∙ e.starts in
     let begins = begins_on before.trail.lits after.trail.lits found.trail.lits e.begins (longer_from before.trail.lits after.trail.lits e.begins) extends.begins in
-    watch_answered live c.run.new.store.live c.args.lists.now c.run.new.lists c.args.short.now c.args.roots.now _ before after found c.requires.watch p.carries refl p.apart p.listed p.entries e.begins c.requires.up_to_date last answer all c.answer.ensures.trail stand starts p.watched
+    watch_answered live c.run.new.store.live c.args.lists.now c.run.new.lists c.args.short.now c.args.roots.now _ before after found c.requires.watch p.propagates refl p.apart p.listed p.entries e.begins c.requires.up_to_date last answer all c.answer.ensures.trail stand starts p.watched
     (scan_after (each_in_order live) (AreForced (maps.get (each_in_order live))) (λ ls forced. forced) before after added c.requires.may c.requires.watch.scan last answer all stand starts
     (ap (λ t. take (length before.trail.lits) t.lits) c.answer.ensures.trail ∙ begins) (λ v. ap (λ t. has t.met v) c.answer.ensures.trail ∙ extends.met v ∙ e.met v)
     (λ quiet. subst (λ t. IsExact (maps.get (each_in_order live)) all t.lits) (sym c.answer.ensures.trail)
-    (part_exact (each_in_order live) (AreForced (maps.get (each_in_order live))) (λ ls forced. forced) before after added c.requires.may c.requires.watch.scan same all found.trail.lits alike extends.begins p.carries.sound (p.closed quiet))))
+    (part_exact (each_in_order live) (AreForced (maps.get (each_in_order live))) (λ ls forced. forced) before after added c.requires.may c.requires.watch.scan same all found.trail.lits alike extends.begins p.propagates.sound (p.closed quiet))))
 
 pub returns-in-Err-clause-watch : goal.returns-in-Err-clause-watch
 returns-in-Err-clause-watch g c =
     let e = c.in_ok-assume_from.ensures in
     let p = c.in-Err.ensures in
-    let extends = p.carries.extends in
+    let extends = p.propagates.extends in
     let u = c.undo.ensures in
-    watch_undone c.args.store.now.live c.run.new.store.live c.args.lists.now c.run.new.lists c.args.short.now c.args.roots.now _ c.args.assumptions.now c.assume_from.new.assumptions c.run.new.assumptions c.requires.watch p.carries refl p.apart p.listed p.entries e.begins
+    watch_undone c.args.store.now.live c.run.new.store.live c.args.lists.now c.run.new.lists c.args.short.now c.args.roots.now _ c.args.assumptions.now c.assume_from.new.assumptions c.run.new.assumptions c.requires.watch p.propagates refl p.apart p.listed p.entries e.begins
     c.undo.new.self _ (extends.assumptions ∙ e.assumed.1) (extends.starts ∙ e.starts) u.assumptions u.starts u.lits (λ v. u.met v ∙ extends.met v ∙ e.met v)
 
 pub returns-then-has_clash-clause-answer : goal.returns-then-has_clash-clause-answer

@@ -5,4 +5,4 @@ use Rattle.watch.proofs.watch.Watch.short_entries.Goals as goal
 
 pub returns-clause-one_each : goal.returns-clause-one_each
 returns-clause-one_each c =
-    ap (λ w. w.loose) (sym c.self.view_is) ∙ c.self.invariant.0.one_each ∙ sym (short_shown c.self.inside.store.live) ∙ ap (λ w. short_clauses w.propagation.live) c.self.view_is
+    ap (λ w. w.short_entries) (sym c.self.view_is) ∙ c.self.invariant.0.one_each ∙ sym (short_shown c.self.inside.store.live) ∙ ap (λ w. short_clauses w.propagation.live) c.self.view_is

@@ -6,7 +6,7 @@ ghost use Rattle.cnf_base.specs.Literals.{Literal, complements};
 ghost use Rattle.propagation.specs.Assumptions.{Assumption, MayAssume, assumed_by};
 ghost use Rattle.trail.specs.Trail.{HasRoom};
 ghost use Rattle.theory.specs.Sets.{SameSet, conflicts};
-ghost use Rattle.watch.specs.Code.Source.{IsThere, clause_of};
+ghost use Rattle.watch.specs.Code.ClauseSource.{IsThere, clause_of};
 ghost use Rattle.propagation.specs.declared.answer.Answer.TheVariants.{Clash};
 
 use clause_db::{Slot, Store};
@@ -16,7 +16,7 @@ use trail::Part;
 
 /// A clause that is given, or that of a slot.
 #[derive(Clone, Copy)]
-pub(crate) enum Source<'a> {
+pub(crate) enum ClauseSource<'a> {
     /// These literals.
     Given(&'a [Lit]),
     /// Those of the clause in this slot.
@@ -31,7 +31,7 @@ pub(crate) enum Source<'a> {
 pub(crate) fn assume_from<P: Part>(
     store: &Store,
     assumptions: &mut Assumptions,
-    source: &Source<'_>,
+    source: &ClauseSource<'_>,
     part: &P,
 ) -> Result<bool, OutOfMemory>
     requires may { MayAssume assumptions.old.assumptions }
@@ -56,7 +56,7 @@ pub(crate) fn assume_from<P: Part>(
     ensures err { OnErr result (assumptions.new ≡ assumptions.old) }
 {
     match *source {
-        Source::Given(lits) => assumptions.assume(lits, part),
-        Source::Stored(slot) => assumptions.assume(store.clause(slot), part),
+        ClauseSource::Given(lits) => assumptions.assume(lits, part),
+        ClauseSource::Stored(slot) => assumptions.assume(store.clause(slot), part),
     }
 }

@@ -14,7 +14,7 @@ use Rattle.propagation.specs.Code.Exact.{Extends}
 use Rattle.theory.specs.Sets.{SameSet}
 use Rattle.watch.specs.Code.Order.{in_order, each_in_order}
 use Rattle.watch.specs.Code.Roots.{AreReasoned, IsFalseAt}
-use Rattle.watch.specs.Code.Visits.{Carries, IsPart}
+use Rattle.watch.specs.Code.Visits.{PropagatesTo, IsPart}
 use Rattle.propagation.proofs.PropagationLemmas.Exact.{extends_on, extends_made}
 use Rattle.theory.proofs.PropagationLemmas.Forced.{forced_assumed, forced_unit, forced_through}
 use Rattle.theory.proofs.PropagationLemmas.Forced.{clash_by_false}
@@ -29,8 +29,8 @@ use Rattle.clause_db.proofs.StoreLemmas.Swap.{has_swapped}
 pub extends_none : (held : AssumptionsState) → Extends held held
 extends_none held = record { begins = take_all (length held.trail.lits) held.trail.lits (omega arith); longer = omega arith; met = λ v. refl; assumptions = refl; starts = refl }
 
-pub carries_none : (live : FinMap nat_cmp Clause) (held : AssumptionsState) (reason_of : Literal → Option ℕ) → Carries live live held held reason_of reason_of
-carries_none live held reason_of = record {
+pub propagates_none : (live : FinMap nat_cmp Clause) (held : AssumptionsState) (reason_of : Literal → Option ℕ) → PropagatesTo live live held held reason_of reason_of
+propagates_none live held reason_of = record {
   same = refl;
   short = λ s. refl;
   kept = λ done trues p q w. w;
@@ -41,8 +41,8 @@ carries_none live held reason_of = record {
   reasoned = λ are. are;
 }
 
-pub carries_on : (a b c : FinMap nat_cmp Clause) (x y z : AssumptionsState) (r s t : Literal → Option ℕ) → Carries a b x y r s → Carries b c y z s t → Carries a c x z r t
-carries_on a b c x y z r s t first second =
+pub propagates_on : (a b c : FinMap nat_cmp Clause) (x y z : AssumptionsState) (r s t : Literal → Option ℕ) → PropagatesTo a b x y r s → PropagatesTo b c y z s t → PropagatesTo a c x z r t
+propagates_on a b c x y z r s t first second =
     let more : IsPart x.trail.lits y.trail.lits = λ l h. has_begun x.trail.lits y.trail.lits l first.extends.begins h in record {
       same = second.same ∙ first.same;
       short = λ s. second.short s ∙ first.short s;
@@ -56,15 +56,15 @@ carries_on a b c x y z r s t first second =
     }
 
 -- a clause that became false
-pub clash_from : (a b : FinMap nat_cmp Clause) (x y : AssumptionsState) (r s : Literal → Option ℕ) → Carries a b x y r s → (slot : ℕ) → IsFalseAt (maps.get (each_in_order b)) slot y.trail.lits → Clash (maps.get (each_in_order a)) x.trail.lits
+pub clash_from : (a b : FinMap nat_cmp Clause) (x y : AssumptionsState) (r s : Literal → Option ℕ) → PropagatesTo a b x y r s → (slot : ℕ) → IsFalseAt (maps.get (each_in_order b)) slot y.trail.lits → Clash (maps.get (each_in_order a)) x.trail.lits
 clash_from a b x y r s carried slot false_at =
     clash_by_false (maps.get (each_in_order a)) x.trail.lits slot false_at.clause (ap (λ m. maps.get m slot) (sym carried.same) ∙ false_at.at) (λ k h. carried.sound (complement k) (false_at.falses k h))
 
 -- the literal m, which isn't false, is exchanged with l, which is
 module _ (live : FinMap nat_cmp Clause) (held : AssumptionsState) (slot : ℕ) (c : Clause) (here : maps.get live slot ≡ Some c) where
-  pub carries_moved : (from to : ℕ) (l m : Literal) → size c ≡ length c → from < 2 → get_or c from 0 ≡ l → 2 ≤ to → to < length c → get_or c to 0 ≡ m → has held.trail.lits (complement m) ≡ false →
-      (reason_of : Literal → Option ℕ) → Carries live (maps.insert live slot (swap c from to)) held held reason_of reason_of
-  carries_moved from to l m different low there past inside to_is m_open reason_of = record {
+  pub propagates_moved : (from to : ℕ) (l m : Literal) → size c ≡ length c → from < 2 → get_or c from 0 ≡ l → 2 ≤ to → to < length c → get_or c to 0 ≡ m → has held.trail.lits (complement m) ≡ false →
+      (reason_of : Literal → Option ℕ) → PropagatesTo live (maps.insert live slot (swap c from to)) held held reason_of reason_of
+  propagates_moved from to l m different low there past inside to_is m_open reason_of = record {
     same = ordered_same live slot c (swap c from to) here swapped;
     short = shorts_moved live slot c (swap c from to) here l m moved (short_moved c from to low past inside);
     kept = λ done trues p q w.
@@ -92,10 +92,10 @@ module _ (live : FinMap nat_cmp Clause) (held : AssumptionsState) (slot : ℕ) (
         forced_unit (maps.get (each_in_order live)) held.trail.lits slot (in_order c) (seen_there live slot c here) m (has-in_order c m ∙ member)
         (λ k h ne. forced_assumed (maps.get (each_in_order live)) held.trail.lits (complement k) (others k (sym (has-in_order c k) ∙ h) ne))
 
-    pub carries_unit : (after : AssumptionsState) (is_open : Bool) → is_open ≡ not (has held.trail.lits m) → after.trail.lits ≡ cond is_open (held.trail.lits ++ m ∷ []) held.trail.lits →
+    pub propagates_unit : (after : AssumptionsState) (is_open : Bool) → is_open ≡ not (has held.trail.lits m) → after.trail.lits ≡ cond is_open (held.trail.lits ++ m ∷ []) held.trail.lits →
         SameSet after.trail.met held.trail.met → after.assumptions ≡ held.assumptions → after.starts ≡ held.starts → (reason_of reason_now : Literal → Option ℕ) →
-        ((k : Literal) → reason_now k ≡ cond (is_open && eqb k m) (Some slot) (reason_of k)) → Carries live live held after reason_of reason_now
-    carries_unit after is_open was is met assumptions starts reason_of reason_now reasons = record {
+        ((k : Literal) → reason_now k ≡ cond (is_open && eqb k m) (Some slot) (reason_of k)) → PropagatesTo live live held after reason_of reason_now
+    propagates_unit after is_open was is met assumptions starts reason_of reason_now reasons = record {
       same = refl;
       short = λ s. refl;
       kept = λ done trues p q w. w;
