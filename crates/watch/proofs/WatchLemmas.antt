@@ -1,8 +1,5 @@
 -- Watched literals.
-pub mod Lists
-pub mod Near
 pub mod Shown
-pub mod SlotList
 pub mod Order
 pub mod Visits
 pub mod Moves

@@ -4,14 +4,13 @@ ghost use Rattle.std.specs.Prelude.{◌≡◌, ◌≢◌, ℕ, ◌+◌, ◌<◌,
 ghost use Rattle.std.specs.Prelude.{if◌then◌else◌, IsTrue, IsFalse, IsSome, OnOk, OnErr};
 ghost use Rattle.std.specs.FinMap as maps;
 ghost use Rattle.cnf_base.specs.Literals.{Clause, has, size};
-ghost use Rattle.watch.specs.Code.Lists.{AreApart, entries_in, entries_of, foreign_blockers};
-ghost use Rattle.watch.specs.Code.Lists.{list_at, times_in};
+ghost use Rattle.watch_lists.specs.Lists.{AreApart, entries_in, entries_of, foreign_blockers};
+ghost use Rattle.watch_lists.specs.Lists.{list_at, times_in};
 ghost use Rattle.watch.specs.Code.Watched.{IsListed, IsShortList, is_short, watches};
 
-use crate::lists::WatchLists;
-use crate::slot_list::SlotList;
 use clause_db::{Slot, Store};
 use cnf_base::OutOfMemory;
+use watch_lists::{SlotList, WatchLists};
 
 /// Puts the slot of a clause into the lists of its first two literals, or into that of the short clauses.
 pub(crate) fn add_entries(

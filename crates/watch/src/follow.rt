@@ -7,7 +7,7 @@ ghost use Rattle.std.specs.FinMap as maps;
 ghost use Rattle.cnf_base.specs.Literals.{Clause, complement, has, size};
 ghost use Rattle.trail.specs.Trail.{HasRoomForAll};
 ghost use Rattle.theory.specs.Sets.{conflicts};
-ghost use Rattle.watch.specs.Code.Lists.{AreApart, entries_in, list_at, slot_at};
+ghost use Rattle.watch_lists.specs.Lists.{AreApart, entries_in, list_at, slot_at};
 ghost use Rattle.watch.specs.Code.Order.{each_in_order};
 ghost use Rattle.watch.specs.Code.Watched.{IsListed, IsMet, IsWatched};
 ghost use Rattle.watch.specs.Code.Roots.{AreNoted, IsFalseAt};
@@ -15,14 +15,13 @@ ghost use Rattle.watch.specs.Code.Visits.{PropagatesTo, IsInHand, with_list};
 ghost use Rattle.tables.specs.Table.{at};
 ghost use Rattle.watch.specs.declared.follow.Next.TheVariants.{Further, Here, Nothing};
 
-use crate::lists::WatchLists;
 use crate::roots::set_by;
 use crate::visit::{Exchange, Visit, look};
-use crate::watcher::Watcher;
 use clause_db::{Slot, Store};
 use cnf_base::{Lit, OutOfMemory};
 use propagation::Assumptions;
 use tables::Table;
+use watch_lists::{WatchLists, Watcher};
 
 /// Lets the clause of an entry watch another literal instead of `l`, whose list is in hand and loses the entry.
 #[inline(always)]

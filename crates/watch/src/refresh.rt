@@ -6,18 +6,17 @@ ghost use Rattle.trail.specs.Trail.{HasRoomForAll};
 ghost use Rattle.theory.specs.Sets.{SameSet};
 ghost use Rattle.watch.specs.Code.Order.{each_in_order};
 ghost use Rattle.watch.specs.Code.Roots.{IsKept, is_lost, is_up_to_date};
-ghost use Rattle.watch.specs.Code.Lists.{AreApart, entries_in, list_at};
+ghost use Rattle.watch_lists.specs.Lists.{AreApart, entries_in, list_at};
 ghost use Rattle.watch.specs.Code.Watched.{IsListed, IsShortList, short_for};
 ghost use Rattle.watch.specs.Code.State.{IsWatch};
 
 use crate::follow::propagate;
-use crate::lists::WatchLists;
 use crate::roots::{Kept, Roots};
-use crate::slot_list::SlotList;
 use crate::units::set_units;
 use clause_db::Store;
 use cnf_base::OutOfMemory;
 use propagation::Assumptions;
+use watch_lists::{SlotList, WatchLists};
 
 /// Where nothing is kept, keeps the literals of the clauses of one literal, which are yet to be propagated. It takes no memory.
 fn start(store: &Store, short: &SlotList, assumptions: &mut Assumptions, roots: &mut Roots)

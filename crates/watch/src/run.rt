@@ -6,7 +6,7 @@ ghost use Rattle.cnf_base.specs.Literals.{has};
 ghost use Rattle.tables.specs.Table.{at};
 ghost use Rattle.propagation.specs.Assumptions.{IsAnswer};
 ghost use Rattle.trail.specs.Trail.{HasRoomForAll};
-ghost use Rattle.watch.specs.Code.Lists.{AreApart, entries_in, list_at};
+ghost use Rattle.watch_lists.specs.Lists.{AreApart, entries_in, list_at};
 ghost use Rattle.watch.specs.Code.Order.{each_in_order};
 ghost use Rattle.watch.specs.Code.Roots.{AreNoted, HaveUnits};
 ghost use Rattle.watch.specs.Code.Watched.{IsListed, IsWatched};
@@ -15,11 +15,11 @@ ghost use Rattle.theory.specs.Propagation.{IsClosed};
 ghost use Rattle.propagation.specs.declared.answer.Answer.TheVariants.{Quiet};
 
 use crate::follow::propagate;
-use crate::lists::WatchLists;
 use clause_db::Store;
 use cnf_base::OutOfMemory;
 use propagation::{Answer, Assumptions};
 use tables::Table;
+use watch_lists::WatchLists;
 
 /// Sets all that follows from the literals that are true, or stops at a clash. Those before the place `from` are propagated.
 pub(crate) fn run(

@@ -17,18 +17,17 @@ ghost use Rattle.watch.specs.Watched.{long_clauses, short_clauses};
 use crate::arrange::arrange;
 use crate::clause_source::{ClauseSource, assume_from};
 use crate::entries::{add_entries, remove_entries};
-use crate::lists::WatchLists;
 use crate::reason::is_reason_for_good;
 use crate::refresh::refresh;
 use crate::roots::Roots;
 use crate::run::run;
-use crate::slot_list::SlotList;
 use clause_db::{Slot, Store};
 use cnf_base::{Lit, OutOfMemory};
 use propagation::{Answer, Assumptions, Propagate, first_reduced, first_with};
 use std::alloc::Global;
 use std::marker::Model;
 use trail::{Except, LiteralSet, Part, Unless, Value, Whole};
+use watch_lists::{SlotList, WatchLists};
 
 /// Live clauses, and unit propagation with two watched literals a clause: what follows from an assumption is found without a
 /// look at the clauses that have nothing to do with it.
@@ -53,7 +52,7 @@ pub struct Watch {
 impl Model for Watch {
     ghost use Rattle.std.specs.Prelude.{◌≡◌, length};
     ghost use Rattle.clause_db.specs.Store.{literals_in};
-    ghost use Rattle.watch.specs.Code.Lists.{entries_in};
+    ghost use Rattle.watch_lists.specs.Lists.{entries_in};
     ghost use Rattle.watch.specs.Code.Order.{each_in_order};
     ghost use Rattle.propagation.specs.Assumptions.{roots_in};
     ghost use Rattle.watch.specs.Code.Roots.{has_clash, is_up_to_date};

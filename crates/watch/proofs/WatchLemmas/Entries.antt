@@ -1,23 +1,12 @@
 -- The entries of one clause.
 use Rattle.std.proofs.Common.{◌≡◌, ◌≢◌, ℕ, ◌+◌, ◌<◌, ◌≤◌, true, false, cond, eqb, ◌||◌, ◌&&◌, []}
 use Rattle.std.proofs.Common.{◌∷◌, length, get_or, refl, sym, ap, ◌∙◌, arith}
-use Rattle.std.specs.Result.{OnErr, OnOk}
-use Rattle.std.specs.declared.result.Result.{Result}
-use Rattle.std.specs.declared.result.Result.TheVariants.{Ok, Err}
 use Rattle.std.proofs.lemmas.Bool.{true≢false, false≢true}
 use Rattle.std.proofs.lemmas.Bool.Decides.{nat_tests}
 use Rattle.cnf_base.specs.Literals.{Literal, Clause, has, size}
 use Rattle.cnf_base.proofs.SetLemmas.{has_head}
 use Rattle.watch.specs.Code.Watched.{watches, is_short}
 use Rattle.cnf_base.proofs.SizeLemmas.{distinct_parts}
-
-pub on_ok_map : {R E : Type 0} {X Y : Type 0} → (r : Result R E) → (X → Y) → OnOk r X → OnOk r Y
-on_ok_map (Ok x) f h = f h
-on_ok_map (Err e) f h = h
-
-pub on_err_all : {R E : Type 0} {X : Type 0} → (r : Result R E) → X → OnErr r X
-on_err_all (Ok x) h = tt
-on_err_all (Err e) h = h
 
 -- a clause of two literals or more
 module _ (first second : Literal) where

@@ -10,10 +10,10 @@ use Rattle.cnf_base.specs.Literals.{Literal, complement, Clause, has}
 use Rattle.cnf_base.proofs.LiteralLemmas.{complement-complement}
 use Rattle.cnf_base.proofs.SetLemmas.{has_append_left}
 use Rattle.theory.specs.Propagation.{Live}
-use Rattle.watch.specs.Code.Lists.{entries_of, foreign_blockers, times_in}
+use Rattle.watch_lists.specs.Lists.{entries_of, foreign_blockers, times_in}
 use Rattle.watch.specs.Code.Visits.{IsPart}
 use Rattle.watch.specs.Code.Watched.{watches, entries_for, IsListed, IsMet, IsWatched}
-use Rattle.watch.specs.declared.watcher.Watcher.{Watcher}
+use Rattle.watch_lists.specs.declared.watcher.Watcher.{Watcher}
 use Rattle.trail.proofs.TrailLemmas.Longer.{pushed_each}
 
 -- ---- Clauses with a true literal

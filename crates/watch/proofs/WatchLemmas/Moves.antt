@@ -15,13 +15,13 @@ use Rattle.std.proofs.lemmas.Option.{same_Some}
 use Rattle.cnf_base.specs.Literals.{Literal, complement, Clause, has, size}
 use Rattle.cnf_base.proofs.SetLemmas.{has_head, has_tail}
 use Rattle.theory.specs.Propagation.{Live}
-use Rattle.watch.specs.Code.Lists.{entries_of, foreign_blockers}
+use Rattle.watch_lists.specs.Lists.{entries_of, foreign_blockers}
 use Rattle.watch.specs.Code.Watched.{watches, is_short, entries_for, short_for, IsListed, IsMet}
 use Rattle.watch.specs.Code.Watched.{IsWatched}
 use Rattle.cnf_base.proofs.MemberLemmas.{has_place, has_front}
-use Rattle.watch.proofs.WatchLemmas.Lists.{blocking_own, eqb_turned, blockers_alike}
-use Rattle.watch.proofs.WatchLemmas.Lists.{blockers_pushed}
-use Rattle.watch.specs.declared.watcher.Watcher.{Watcher}
+use Rattle.watch_lists.proofs.WatchListsLemmas.Lists.{blockers_alike, blockers_pushed}
+use Rattle.watch_lists.proofs.WatchListsLemmas.Lists.{blocking_own, eqb_turned}
+use Rattle.watch_lists.specs.declared.watcher.Watcher.{Watcher}
 use Rattle.cnf_base.proofs.SizeLemmas.{distinct_parts, distinct_before}
 use Rattle.clause_db.proofs.StoreLemmas.Sums.{get_insert, same_maps}
 

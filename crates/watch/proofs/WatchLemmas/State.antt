@@ -15,8 +15,8 @@ use Rattle.propagation.specs.Code.Exact.{AreExact}
 use Rattle.propagation.specs.Code.Scan.{IsHeld}
 use Rattle.theory.specs.Sets.{SameSet}
 use Rattle.trail.specs.Trail.{HasRoomForAll}
-use Rattle.watch.specs.Code.Lists.{AreApart, entries_in, entries_of, foreign_blockers, list_at}
-use Rattle.watch.specs.Code.Lists.{times_in}
+use Rattle.watch_lists.specs.Lists.{AreApart, entries_in, entries_of, foreign_blockers, list_at}
+use Rattle.watch_lists.specs.Lists.{times_in}
 use Rattle.watch.specs.Code.Order.{each_in_order}
 use Rattle.watch.specs.Code.Roots.{AreForced, IsKept, IsKnown, IsStanding, is_up_to_date}
 use Rattle.watch.specs.Code.State.{IsWatch}
@@ -26,7 +26,7 @@ use Rattle.watch.specs.Code.Watched.{is_short, entries_for, short_for}
 use Rattle.watch.specs.Watched.{long_clauses, short_clauses}
 use Rattle.propagation.specs.declared.answer.Answer.{Answer}
 use Rattle.propagation.specs.declared.answer.Answer.TheVariants.{Quiet}
-use Rattle.watch.specs.declared.lists.WatchLists.{WatchLists}
+use Rattle.watch_lists.specs.declared.lists.WatchLists.{WatchLists}
 use Rattle.watch.specs.declared.roots.Kept.TheVariants.{Lost}
 use Rattle.watch.specs.declared.roots.Roots.{Roots}
 use Rattle.tables.specs.Table.{at}
@@ -34,7 +34,7 @@ use Rattle.propagation.proofs.PropagationLemmas.Exact.{begins_on, longer_from}
 use Rattle.trail.proofs.TrailLemmas.Longer.{has_begun}
 use Rattle.propagation.proofs.PropagationLemmas.Scan.{held_reserved}
 use Rattle.watch.proofs.WatchLemmas.Follow.{front_part}
-use Rattle.watch.proofs.WatchLemmas.Lists.{blockers_none}
+use Rattle.watch_lists.proofs.WatchListsLemmas.Lists.{blockers_none}
 use Rattle.watch.proofs.WatchLemmas.Kept.{kept_carried, kept_forced, roots_alone, roots_part}
 use Rattle.watch.proofs.WatchLemmas.Moves.{and_false, and_true}
 use Rattle.watch.proofs.WatchLemmas.Order.{ordered_empty, size-in_order, sum_ordered}

@@ -8,14 +8,14 @@ use Rattle.cnf_base.specs.Literals.{Literal, has, complement, Clause}
 use Rattle.theory.specs.Propagation.{Forced}
 use Rattle.propagation.specs.Assumptions.{AssumptionsState}
 use Rattle.propagation.specs.Code.Exact.{Extends}
-use Rattle.watch.specs.Code.Lists.{AreApart, has_list_at, list_at}
+use Rattle.watch_lists.specs.Lists.{AreApart, has_list_at, list_at}
 use Rattle.watch.specs.Code.Order.{each_in_order}
 use Rattle.watch.specs.Code.Roots.{AreReasoned}
 use Rattle.watch.specs.Code.Watched.{IsWatched, short_for}
-use Rattle.watch.specs.declared.lists.WatchLists.{WatchLists}
+use Rattle.watch_lists.specs.declared.lists.WatchLists.{WatchLists}
 use Rattle.watch.specs.declared.visit.Visit.TheVariants.{Stays, Moves, Unit, Clash}
 use Rattle.watch.specs.declared.visit.Visit.{Visit}
-use Rattle.watch.specs.declared.watcher.Watcher.{Watcher}
+use Rattle.watch_lists.specs.declared.watcher.Watcher.{Watcher}
 
 -- all its literals are in the other list
 abbrev pub IsPart : List Literal → List Literal → Type 0

@@ -6,8 +6,8 @@ use Rattle.cnf_base.specs.Literals.{Literal, Clause, has, complement}
 use Rattle.theory.specs.Propagation.{Live}
 use Rattle.propagation.specs.Assumptions.{Assumption}
 use Rattle.propagation.specs.declared.answer.Answer.TheVariants.{Quiet}
-use Rattle.watch.specs.Code.Lists.{entries_of, foreign_blockers, times_in}
-use Rattle.watch.specs.declared.watcher.Watcher.{Watcher}
+use Rattle.watch_lists.specs.Lists.{entries_of, foreign_blockers, times_in}
+use Rattle.watch_lists.specs.declared.watcher.Watcher.{Watcher}
 
 -- whether a clause watches a literal
 abbrev pub watches : Clause → Literal → Bool

@@ -1,5 +1,5 @@
 use Rattle.std.specs.FinMap as maps
-use Rattle.watch.specs.Code.Lists.{list_at}
+use Rattle.watch_lists.specs.Lists.{list_at}
 use Rattle.watch.proofs.WatchLemmas.Follow.{none_met}
 use Rattle.watch.proofs.follow.follow.Goals as goal
 

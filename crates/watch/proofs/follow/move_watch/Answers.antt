@@ -5,12 +5,12 @@ use Rattle.std.specs.FinMap as maps
 use Rattle.std.proofs.lemmas.List.Edits.{length-swap}
 use Rattle.clause_db.proofs.StoreLemmas.Swap.{has_swapped}
 use Rattle.cnf_base.specs.Literals.{Clause}
-use Rattle.watch.specs.Code.Lists.{entries_of, foreign_blockers, list_at}
+use Rattle.watch_lists.specs.Lists.{entries_of, foreign_blockers, list_at}
 use Rattle.watch.specs.Code.Visits.{with_list}
 use Rattle.watch.specs.Code.Watched.{IsListed}
-use Rattle.watch.specs.declared.watcher.Watcher.{Watcher}
+use Rattle.watch_lists.specs.declared.watcher.Watcher.{Watcher}
 use Rattle.watch.proofs.WatchLemmas.Follow.{listed_alike}
-use Rattle.watch.proofs.WatchLemmas.Lists.{entries_taken, slot_is, blockers_left}
+use Rattle.watch_lists.proofs.WatchListsLemmas.Lists.{blockers_left, entries_taken, slot_is}
 use Rattle.watch.proofs.WatchLemmas.Moves.{at_inserted, entries_moved, places_apart, put_back}
 use Rattle.watch.proofs.WatchLemmas.Moves.{blockers_moved, swap_back, times_moved, listed_moved}
 use Rattle.watch.proofs.follow.move_watch.Goals as goal

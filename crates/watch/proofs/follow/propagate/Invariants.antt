@@ -1,7 +1,7 @@
 use Rattle.std.proofs.Common.{◌≡◌, ◌-◌, ◌≤◌, length, take}
 use Rattle.std.specs.FinMap as maps
 use Rattle.tables.specs.Table.{at}
-use Rattle.watch.specs.Code.Lists.{AreApart, entries_in, list_at}
+use Rattle.watch_lists.specs.Lists.{AreApart, entries_in, list_at}
 use Rattle.watch.specs.Code.Watched.{IsListed, IsWatched}
 use Rattle.watch.specs.Code.Visits.{PropagatesTo}
 use Rattle.watch.proofs.follow.propagate.Given as goal

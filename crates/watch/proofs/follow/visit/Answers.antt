@@ -6,17 +6,17 @@ use Rattle.tables.specs.Table.{at}
 use Rattle.std.proofs.lemmas.List.{get_or-set_same, length-set}
 use Rattle.std.proofs.lemmas.Option.{same_Some}
 use Rattle.cnf_base.specs.Literals.{has}
-use Rattle.watch.specs.Code.Lists.{list_at}
+use Rattle.watch_lists.specs.Lists.{list_at}
 use Rattle.watch.specs.Code.Order.{each_in_order, in_order}
 use Rattle.watch.specs.Code.Roots.{IsFalseAt}
 use Rattle.watch.specs.Code.Visits.{PropagatesTo, IsVisit}
 use Rattle.watch.specs.Code.Watched.{watches}
-use Rattle.watch.specs.declared.watcher.Watcher.{Watcher}
+use Rattle.watch_lists.specs.declared.watcher.Watcher.{Watcher}
 use Rattle.watch.specs.declared.visit.Visit.TheVariants.{Stays, Moves, Unit, Clash}
 use Rattle.watch.specs.declared.follow.Next.{Next}
 use Rattle.watch.specs.declared.follow.Next.TheVariants.{Further, Here, Nothing}
 use Rattle.watch.proofs.WatchLemmas.PropagatesTo.{propagates_moved, propagates_unit, clashes}
-use Rattle.watch.proofs.WatchLemmas.Lists.{slot_is}
+use Rattle.watch_lists.proofs.WatchListsLemmas.Lists.{slot_is}
 use Rattle.watch.proofs.WatchLemmas.Moves.{entry_alive, listed_written, others_moved}
 use Rattle.watch.proofs.WatchLemmas.Order.{has-in_order, seen_there}
 use Rattle.watch.proofs.WatchLemmas.Visits.{made_true}

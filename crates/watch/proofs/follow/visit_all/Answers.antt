@@ -2,9 +2,9 @@ use Rattle.std.proofs.Common.{◌<◌, ◌≤◌, length, sym, ◌∙◌, arith}
 use Rattle.std.specs.FinMap as maps
 use Rattle.tables.specs.Table.{at}
 use Rattle.cnf_base.specs.Literals.{complement}
-use Rattle.watch.specs.Code.Lists.{list_at, slot_at}
-use Rattle.watch.specs.declared.watcher.Watcher.{Watcher}
-use Rattle.watch.proofs.WatchLemmas.Lists.{slot_is}
+use Rattle.watch_lists.specs.Lists.{list_at, slot_at}
+use Rattle.watch_lists.specs.declared.watcher.Watcher.{Watcher}
+use Rattle.watch_lists.proofs.WatchListsLemmas.Lists.{slot_is}
 use Rattle.trail.proofs.TrailLemmas.Longer.{has_begun}
 use Rattle.watch.proofs.WatchLemmas.PropagatesTo.{propagates_on}
 use Rattle.watch.proofs.WatchLemmas.Follow.{all_met, front_apart, visited_further, visited_here}

@@ -2,7 +2,7 @@ use Rattle.std.proofs.Common.{◌≡◌, ℕ, ◌+◌, ◌-◌, ◌<◌, Some, l
 use Rattle.std.specs.FinMap as maps
 use Rattle.tables.specs.Table.{at}
 use Rattle.cnf_base.specs.Literals.{Clause}
-use Rattle.watch.specs.Code.Lists.{entries_in, entries_of}
+use Rattle.watch_lists.specs.Lists.{entries_in, entries_of}
 use Rattle.watch.specs.Code.Watched.{IsMet, IsListed}
 use Rattle.watch.specs.Code.Visits.{PropagatesTo, IsInHand, with_list}
 use Rattle.watch.proofs.follow.visit_all.Given as goal

@@ -1,0 +1,5 @@
+-- Watch lists.
+pub mod Lists
+pub mod Near
+pub mod Results
+pub mod SlotList

@@ -1,0 +1,120 @@
+-- Entries in lists.
+use Rattle.std.proofs.Common.{◌≡◌, ℕ, ◌+◌, ◌-◌, ◌<◌, ◌≤◌, ◌&&◌, not, true, false, Bool, cond, eqb}
+use Rattle.std.proofs.Common.{eq-eqb, ne_eqb, List, length, get_or, drop, take, set, slice_get}
+use Rattle.std.proofs.Common.{swap_remove, Vec, sum_by, min, [], ◌∷◌, ◌++◌, refl, sym, ap, ◌∙◌}
+use Rattle.std.proofs.Common.{arith, inl, inr}
+use Rattle.std.specs.Global.{Global}
+use Rattle.std.proofs.lemmas.Bool.{cases_eq}
+use Rattle.std.proofs.lemmas.Bool.Decides.{nat_tests}
+use Rattle.std.proofs.lemmas.Grind.{get_or_default_zero}
+use Rattle.std.proofs.lemmas.List.{drop-take, take-append-drop, take-take, take_all}
+use Rattle.std.proofs.lemmas.Option.{slice_get-get_or}
+use Rattle.std.proofs.lemmas.List.Sums.{get_or-le-sum_by, sum_by-append, sum_by-le-sum_by}
+use Rattle.std.proofs.lemmas.List.Sums.{sum_by-set, sum_by-swap_remove, sum_by_more, sum_by_push}
+use Rattle.cnf_base.specs.Literals.{Clause, has}
+use Rattle.watch_lists.specs.Lists.{entries_of, foreign_blockers, items_of, slot_at, slot_of}
+use Rattle.watch_lists.specs.Lists.{times_in}
+use Rattle.watch_lists.specs.declared.watcher.Watcher.{Watcher}
+
+pub eqb_turned : (a b : ℕ) → eqb a b ≡ eqb b a
+eqb_turned a b = grind (arith, nat_tests)
+
+-- a slot that is taken out
+pub times_taken : (xs : List ℕ) (i s x : ℕ) → i < length xs → get_or xs i 0 ≡ s → x ≡ get_or xs i x → (k : ℕ) → times_in k (swap_remove xs i x) + cond (eqb k s) 1 0 ≡ times_in k xs
+times_taken xs i s x inside read is k =
+    let same : get_or xs i x ≡ s = get_or_default_zero xs i x inside ∙ read in
+    let taken = sum_by-swap_remove (λ y. cond (eqb y k) 1 0) xs i x inside in
+    let here : cond {A = ℕ} (eqb (get_or xs i x) k) 1 0 ≡ cond (eqb k s) 1 0 = ap (λ y. cond {A = ℕ} (eqb y k) 1 0) same ∙ ap (λ b. cond {A = ℕ} b 1 0) (eqb_turned s k) in
+    omega arith
+
+-- the entry at a place
+pub slot_is : (xs : List Watcher) (i : ℕ) (d : Watcher) → i < length xs → slot_at xs i ≡ (get_or xs i d).slot
+slot_is xs i d inside = ap slot_of (slice_get-get_or xs i d inside)
+
+-- an entry that is taken out
+pub entries_taken : (xs : List Watcher) (i s : ℕ) (d : Watcher) → i < length xs → slot_at xs i ≡ s → (k : ℕ) → entries_of k (swap_remove xs i d) + cond (eqb k s) 1 0 ≡ entries_of k xs
+entries_taken xs i s d inside read k =
+    let taken = sum_by-swap_remove (λ w. cond (eqb w.slot k) 1 0) xs i d inside in
+    let same : (get_or xs i d).slot ≡ s = sym (slot_is xs i d inside) ∙ read in
+    let here : cond {A = ℕ} (eqb (get_or xs i d).slot k) 1 0 ≡ cond (eqb k s) 1 0 = ap (λ y. cond {A = ℕ} (eqb y k) 1 0) same ∙ ap (λ b. cond {A = ℕ} b 1 0) (eqb_turned s k) in
+    omega (arith, taken, here)
+
+pub blockers_left : (xs : List Watcher) (i : ℕ) (d : Watcher) → i < length xs → (s : ℕ) (c : Clause) → foreign_blockers s c (swap_remove xs i d) ≤ foreign_blockers s c xs
+blockers_left xs i d inside s c = let taken = sum_by-swap_remove (λ w. cond (eqb w.slot s && not (has c w.blocking)) 1 0) xs i d inside in omega (arith, taken)
+
+-- an entry that isn't the next one
+pub entries_next : (xs : List Watcher) (i s : ℕ) (d : Watcher) → i < length xs → ((get_or xs i d).slot ≡ s → ⊥) → entries_of s (take i xs) ≡ 0 → entries_of s (take (i + 1) xs) ≡ 0
+entries_next xs i s d inside other none =
+    let more = sum_by_more (λ w. cond (eqb w.slot s) 1 0) xs i d inside in
+    let here : cond {A = ℕ} (eqb (get_or xs i d).slot s) 1 0 ≡ 0 = ap (λ b. cond {A = ℕ} b 1 0) (ne_eqb (get_or xs i d).slot s other) in
+    omega (arith, more, here, none)
+
+-- an entry that is none of the next ones
+pub entries_chunk : (xs : List Watcher) (from n s : ℕ) → entries_of s (take from xs) ≡ 0 → entries_of s (take (from + n - from) (drop from xs)) ≡ 0 → entries_of s (take (from + n) xs) ≡ 0
+entries_chunk xs from n s none absent =
+    let whole = ap (entries_of s) (sym (take-append-drop from (take (from + n) xs))) in
+    let split = sum_by-append (λ w. cond (eqb w.slot s) 1 0) (take from (take (from + n) xs)) (drop from (take (from + n) xs)) in
+    let front = ap (entries_of s) (take-take from (from + n) xs (omega arith)) ∙ none in
+    let same : from + n - from ≡ n = omega arith in
+    let rest = ap (entries_of s) (drop-take from n xs) ∙ ap (λ k. entries_of s (take k (drop from xs))) (sym same) ∙ absent in
+    omega (arith, whole, split, front, rest)
+
+-- an entry that is in no place
+pub entries_none : (xs : List Watcher) (i s : ℕ) → length xs ≤ i → entries_of s (take i xs) ≡ 0 → 0 < entries_of s xs → ⊥
+entries_none xs i s past none some =
+    let all = ap (entries_of s) (take_all i xs past) in
+    omega arith
+
+-- an entry of a clause, with a literal of it
+pub blockers_pushed : (xs : List Watcher) (w : Watcher) (s : ℕ) (c : Clause) → (s ≡ w.slot → has c w.blocking ≡ true) → foreign_blockers s c (xs ++ w ∷ []) ≤ foreign_blockers s c xs
+blockers_pushed xs w s c own =
+    let pushed = sum_by_push (λ x. cond (eqb x.slot s && not (has c x.blocking)) 1 0) xs w in
+    let none : cond {A = ℕ} (eqb w.slot s && not (has c w.blocking)) 1 0 ≡ 0 = elim (cases_eq w.slot s) [
+      | inl e ↦ ap (λ b. cond {A = ℕ} (b && not (has c w.blocking)) 1 0) (eq-eqb w.slot s e) ∙ ap (λ b. cond {A = ℕ} (not b) 1 0) (own (sym e))
+      | inr ne ↦ ap (λ b. cond {A = ℕ} (b && not (has c w.blocking)) 1 0) (ne_eqb w.slot s ne)
+    ] in
+    omega (arith, pushed, none)
+
+-- a slot without entries
+pub blockers_none : (xs : List Watcher) (s : ℕ) (c : Clause) → entries_of s xs ≡ 0 → foreign_blockers s c xs ≡ 0
+blockers_none xs s c none =
+    let fewer = sum_by-le-sum_by (λ w. cond (eqb w.slot s && not (has c w.blocking)) 1 0) (λ w. cond (eqb w.slot s) 1 0) xs (λ w. at_most (eqb w.slot s) (not (has c w.blocking))) in
+    omega (arith, fewer, none)
+  where
+    at_most : (a b : Bool) → cond {A = ℕ} (a && b) 1 0 ≤ cond a 1 0
+    at_most true true = omega arith
+    at_most true false = omega arith
+    at_most false b = omega arith
+
+-- clauses with the same literals
+pub blockers_alike : (xs : List Watcher) (s : ℕ) (c d : Clause) → ((k : ℕ) → has d k ≡ has c k) → foreign_blockers s d xs ≡ foreign_blockers s c xs
+blockers_alike xs s c d alike = λ i. sum_by (λ w. cond {A = ℕ} (eqb w.slot s && not (alike w.blocking i)) 1 0) xs
+
+-- the literal of an entry
+pub blocking_own : (xs : List Watcher) (i : ℕ) (w : Watcher) (c : Clause) → i < length xs → w ≡ get_or xs i w → foreign_blockers w.slot c xs ≡ 0 → has c w.blocking ≡ true
+blocking_own xs i w c inside is none =
+    let one = get_or-le-sum_by (λ x. cond (eqb x.slot w.slot && not (has c x.blocking)) 1 0) xs i w inside in
+    let here : cond {A = ℕ} (eqb w.slot w.slot && not (has c w.blocking)) 1 0 ≡ 0 = ap (λ x. cond {A = ℕ} (eqb x.slot w.slot && not (has c x.blocking)) 1 0) is ∙ (let most = one in omega (arith, most, none)) in
+    by_test (has c w.blocking) (ap (λ b. cond {A = ℕ} (b && not (has c w.blocking)) 1 0) (sym (eq-eqb w.slot w.slot refl)) ∙ here)
+  where
+    by_test : (b : Bool) → cond {A = ℕ} (not b) 1 0 ≡ 0 → b ≡ true
+    by_test true e = refl
+    by_test false e = absurd (let wrong : ⊥ = omega (arith, e) in wrong)
+
+-- a list in the place of an empty one
+pub entries_put : (lists : List (Vec Watcher Global)) (n : ℕ) (list : Vec Watcher Global) → n < length lists → items_of (slice_get lists n) ≡ [] → sum_by (λ v. length v.items) (set lists n list) ≡ sum_by (λ v. length v.items) lists + length list.items
+entries_put lists n list inside empty =
+    let put = sum_by-set (λ v. length v.items) lists n list list inside in
+    let was : length (get_or lists n list).items ≡ 0 = ap length (sym (ap items_of (slice_get-get_or lists n list inside)) ∙ empty) in
+    omega arith
+
+-- one more list is counted
+pub counted_more : (lists : List (Vec Watcher Global)) (n so_far len sum : ℕ) (list : Vec Watcher Global) → n < length lists → list ≡ get_or lists n list → so_far ≡ min (sum_by (λ v. length v.items) (take n lists)) 18446744073709551615 →
+    len ≡ length list.items → sum ≡ min (so_far + len) 18446744073709551615 → sum ≡ min (sum_by (λ v. length v.items) (take (n + 1) lists)) 18446744073709551615
+counted_more lists n so_far len sum list inside is was len_is sum_is =
+    let more = sum_by_more (λ v. length v.items) lists n list inside in
+    let here = ap (λ v. length v.items) is in
+    omega (arith, more, here, was, len_is, sum_is)
+
+pub counted_all : (lists : List (Vec Watcher Global)) (n so_far : ℕ) → length lists ≤ n → so_far ≡ min (sum_by (λ v. length v.items) (take n lists)) 18446744073709551615 → so_far ≡ min (sum_by (λ v. length v.items) lists) 18446744073709551615
+counted_all lists n so_far past is = is ∙ ap (λ xs. min (sum_by (λ v. length v.items) xs) 18446744073709551615) (take_all n lists past)

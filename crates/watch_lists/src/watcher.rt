@@ -1,0 +1,128 @@
+//! The entries of watch lists.
+
+ghost use Rattle.std.specs.Prelude.{◌≡◌, ℕ, ◌+◌, ◌==◌, ◌++◌, ◌∷◌, [], length, if◌then◌else◌};
+ghost use Rattle.std.specs.Prelude.{IsTrue, IfSome, OnOk, OnErr, take, ◌<◌, ◌≤◌};
+ghost use Rattle.cnf_base.specs.Literals.{Clause};
+ghost use Rattle.watch_lists.specs.Lists.{entries_of, foreign_blockers, slot_at};
+
+use cnf_base::{Lit, OutOfMemory};
+
+/// An entry of a watch list: the slot of a clause, and a literal of it. Where that is true, the clause need not be looked at.
+///
+/// It has eight bytes: the lists are what a propagation reads most.
+#[derive(Clone, Copy)]
+pub struct Watcher {
+    pub slot: u32,
+    pub blocking: Lit,
+}
+
+/// How many entries are looked at without a branch, by a processor's wide registers, where a list is long.
+const MANY_AT_ONCE: usize = 64;
+
+/// How many are, where fewer are left.
+const FEW_AT_ONCE: usize = 16;
+
+/// By how many entries a list grows at least.
+const LEAST: usize = 2;
+
+/// How far around a place an entry is looked for.
+const AROUND: usize = 8;
+
+/// Puts an entry at the end of a list. A full one grows by half and not to twice its length, since the lists are much of what
+/// a propagation keeps.
+pub(crate) fn add(list: &mut Vec<Watcher>, watcher: Watcher) -> Result<(), OutOfMemory>
+    ensures ok { OnOk result (list.new.items ≡ list.old.items ++ watcher ∷ []) }
+    ensures err { OnErr result (list.new.items ≡ list.old.items) }
+{
+    if list.len() == list.capacity() {
+        list.reserve_exact(list.len() / 2 + LEAST)?;
+    }
+    list.push_reserved(watcher);
+    Ok(())
+}
+
+/// Whether none of these entries is of the slot.
+fn lacks(list: &[Watcher], slot: u32) -> bool
+    ensures { IsTrue result → entries_of slot list.now ≡ 0 }
+{
+    let mut is_absent = true;
+    for place in 0..list.len() {
+        is_absent &= list[place].slot != slot;
+    }
+    is_absent
+}
+
+/// The place of the entry of a slot in a list that has one, from this place on.
+fn place_from(list: &[Watcher], slot: u32, from: usize) -> usize
+    requires there { 0 < entries_of slot list.now }
+    requires absent { entries_of slot (take from list.now) ≡ 0 }
+    ensures inside { result < length list.now }
+    ensures there { slot_at list.now result ≡ slot }
+{
+    for place in from..list.len() {
+        if list[place].slot == slot {
+            return place;
+        }
+    }
+    0
+}
+
+/// Goes over as many entries at once as long as none is of the slot, from this place on.
+#[inline(always)]
+fn pass_over(list: &[Watcher], slot: u32, from: usize, at_once: usize) -> usize
+    requires some { 0 < at_once }
+    requires inside { from ≤ length list.now }
+    requires absent { entries_of slot (take from list.now) ≡ 0 }
+    ensures inside { result ≤ length list.now }
+    ensures absent { entries_of slot (take result list.now) ≡ 0 }
+{
+    let mut place = from;
+    while list.len() - place >= at_once && lacks(&list[place..place + at_once], slot) {
+        place += at_once;
+    }
+    place
+}
+
+/// The place of an entry of a slot around this place, if one stands there.
+fn place_around(list: &[Watcher], slot: u32, middle: usize) -> Option<usize>
+    ensures inside { IfSome result (λ place. place < length list.now) }
+    ensures there { IfSome result (λ place. slot_at list.now place ≡ slot) }
+{
+    let end = middle.saturating_add(AROUND).min(list.len());
+    for place in middle.saturating_sub(AROUND)..end {
+        if list[place].slot == slot {
+            return Some(place);
+        }
+    }
+    None
+}
+
+/// The place of the entry of a slot in a list that has one. Where the list is long, it is looked for around a place first.
+fn place_in(list: &[Watcher], slot: u32, middle: usize) -> usize
+    requires { 0 < entries_of slot list.now }
+    ensures inside { result < length list.now }
+    ensures there { slot_at list.now result ≡ slot }
+{
+    if list.len() >= MANY_AT_ONCE {
+        if let Some(place) = place_around(list, slot, middle) {
+            return place;
+        }
+    }
+    let far = pass_over(list, slot, 0, MANY_AT_ONCE);
+    let near = pass_over(list, slot, far, FEW_AT_ONCE);
+    place_from(list, slot, near)
+}
+
+/// Takes the entry of a slot out of a list that has one, which may stand around a place, and tells where it stood.
+pub(crate) fn take_off(list: &mut Vec<Watcher>, slot: u32, middle: usize) -> usize
+    requires { 0 < entries_of slot list.old.items }
+    ensures times { (s : ℕ) → entries_of s list.new.items + (if s == slot then 1 else 0) ≡
+        entries_of s list.old.items }
+    ensures foreign_blockers { (s : ℕ) (c : Clause) →
+        foreign_blockers s c list.new.items ≤ foreign_blockers s c list.old.items }
+    ensures len { length list.new.items + 1 ≡ length list.old.items }
+{
+    let place = place_in(list, slot, middle);
+    list.swap_remove(place);
+    place
+}
