@@ -11,6 +11,7 @@ pub mod Entries
 pub mod Closed
 pub mod Kept
 pub mod Arrange
+pub mod Assumed
 pub mod Entered
 pub mod State
 pub mod Reduced

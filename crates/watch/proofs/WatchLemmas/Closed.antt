@@ -1,5 +1,6 @@
 -- Where all is propagated, nothing more follows.
 use Rattle.std.proofs.Common.{◌≡◌, ◌≢◌, ℕ, Bool, true, false, cond, eqb, eq-eqb, ◌||◌, Some, List}
+use Rattle.std.proofs.Common.{Option}
 use Rattle.std.proofs.Common.{[], ◌∷◌, length, refl, sym, ap, ◌∙◌, subst, arith, inl, inr}
 use Rattle.std.specs.Ordering.{nat_cmp}
 use Rattle.std.specs.FinMap as maps
@@ -13,6 +14,10 @@ use Rattle.watch.specs.Code.Order.{in_order, each_in_order}
 use Rattle.watch.specs.Code.Watched.{is_short, short_for, watches, IsMet, HasUnit, IsWatched}
 use Rattle.theory.proofs.PropagationLemmas.Conflicts.{conflict_from}
 use Rattle.watch.proofs.WatchLemmas.Order.{has-in_order, seen_there, there_seen}
+use Rattle.watch.proofs.WatchLemmas.Units.{unit_more}
+use Rattle.trail.proofs.TrailLemmas.Longer.{has_begun}
+use Rattle.propagation.specs.Assumptions.{AssumptionsState}
+use Rattle.watch.specs.Code.Visits.{PropagatesTo}
 use Rattle.cnf_base.proofs.SizeLemmas.{distinct_parts}
 
 -- the unit rule of one clause
@@ -87,3 +92,9 @@ units_carried before after trues same short units s c is =
     by_test true false e = absurd (let wrong : ⊥ = omega (arith, e) in wrong)
     by_test false true e = absurd (let wrong : ⊥ = omega (arith, e) in wrong)
     by_test false false e = refl
+
+-- they are true at the end of a propagation, if they were before it
+pub units_kept : (a b : FinMap nat_cmp Clause) (x y : AssumptionsState) (r t : Literal → Option ℕ) → PropagatesTo a b x y r t →
+    ((s : ℕ) (c : Clause) → maps.get a s ≡ Some c → HasUnit c x.trail.lits) → (s : ℕ) (c : Clause) → maps.get b s ≡ Some c → HasUnit c y.trail.lits
+units_kept a b x y r t carried units =
+    units_carried a b y.trail.lits carried.same carried.short (λ s d is. unit_more d x.trail.lits y.trail.lits (λ l h. has_begun x.trail.lits y.trail.lits l carried.extends.begins h) (units s d is))

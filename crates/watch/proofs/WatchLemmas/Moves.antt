@@ -199,6 +199,14 @@ put_back live slot c d here = same_maps (maps.insert (maps.insert live slot d) s
   | inr ne ↦ others_moved (maps.insert live slot d) slot c q ne ∙ others_moved live slot d q ne
 ])
 
+-- literals of a clause that are exchanged, and back
+pub exchanged_back : (live after back : FinMap nat_cmp Clause) (slot from to : ℕ) (c : Clause) → maps.get live slot ≡ Some c → from < 2 → 2 ≤ to → to < length c →
+    after ≡ maps.insert live slot (swap c from to) → ((d : Clause) → maps.get after slot ≡ Some d → back ≡ maps.insert after slot (swap d to from)) → back ≡ live
+exchanged_back live after back slot from to c here low past inside moved again =
+    let d = swap c from to in
+    again d (ap (λ m. maps.get m slot) moved ∙ at_inserted live slot d) ∙ ap (λ m. maps.insert m slot (swap d to from)) moved
+    ∙ ap (maps.insert (maps.insert live slot d) slot) (swap_back c from to (omega (arith, low, past)) inside) ∙ put_back live slot c d here
+
 module _ (live : FinMap nat_cmp Clause) (slot : ℕ) (c d : Clause) (here : maps.get live slot ≡ Some c) (l m : Literal)
     (entries : (x : Literal) → cond (watches d x) 1 0 + cond {A = ℕ} (eqb x l) 1 0 ≡ cond (watches c x) 1 0 + cond {A = ℕ} (eqb x m) 1 0) where
   at_slot : maps.get (maps.insert live slot d) slot ≡ Some d

@@ -11,8 +11,8 @@ use Rattle.watch.specs.Code.Watched.{IsListed}
 use Rattle.watch_lists.specs.declared.watcher.Watcher.{Watcher}
 use Rattle.watch.proofs.WatchLemmas.Follow.{listed_alike}
 use Rattle.watch_lists.proofs.WatchListsLemmas.Lists.{blockers_left, entries_taken, slot_is}
-use Rattle.watch.proofs.WatchLemmas.Moves.{at_inserted, entries_moved, places_apart, put_back}
-use Rattle.watch.proofs.WatchLemmas.Moves.{blockers_moved, swap_back, times_moved, listed_moved}
+use Rattle.watch.proofs.WatchLemmas.Moves.{at_inserted, blockers_moved, entries_moved}
+use Rattle.watch.proofs.WatchLemmas.Moves.{exchanged_back, listed_moved, places_apart, times_moved}
 use Rattle.watch.proofs.follow.move_watch.Goals as goal
 
 pub swap-requires-in-Err : goal.swap-requires-in-Err
@@ -39,16 +39,9 @@ pub returns-in-Err-clause-err_live : goal.returns-in-Err-clause-err_live
 returns-in-Err-clause-err_live c =
     let w = c.requires.clause in
     let x = c.args.exchange in
-    let live = c.args.store.now.live in
-    let k = c.at-at.result in
     let at_is = c.at-at.ensures ∙ ap (λ e. e.slot) c.index.ensures ∙ sym (slot_is c.args.list.now.items c.args.place _ c.requires.inside) in
-    let here = ap (maps.get live) at_is ∙ w.1 in
-    let low = c.requires.from in
-    let past = c.requires.to in
-    let d = swap w.0 x.from x.to in
-    let moved = c.swap.ensures.live w.0 here in
-    let again = c.swap-in-Err.ensures.live d (ap (λ m. maps.get m k) moved ∙ at_inserted live k d) in
-    again ∙ ap (λ m. maps.insert m k (swap d x.to x.from)) moved ∙ ap (maps.insert (maps.insert live k d) k) (swap_back w.0 x.from x.to (omega (arith, low, past)) w.4) ∙ put_back live k w.0 d here
+    let here = ap (maps.get c.args.store.now.live) at_is ∙ w.1 in
+    exchanged_back c.args.store.now.live _ _ c.at-at.result x.from x.to w.0 here c.requires.from c.requires.to w.4 (c.swap.ensures.live w.0 here) c.swap-in-Err.ensures.live
 
 pub returns-in-Err-clause-listed : goal.returns-in-Err-clause-listed
 returns-in-Err-clause-listed c =
@@ -56,16 +49,9 @@ returns-in-Err-clause-listed c =
     let x = c.args.exchange in
     let live = c.args.store.now.live in
     let list = c.args.list.now.items in
-    let k = c.at-at.result in
-    let at_is = c.at-at.ensures ∙ ap (λ e. e.slot) c.index.ensures ∙ sym (slot_is list c.args.place _ c.requires.inside) in
-    let here = ap (maps.get live) at_is ∙ w.1 in
-    let low = c.requires.from in
-    let past = c.requires.to in
-    let d = swap w.0 x.from x.to in
-    let moved = c.swap.ensures.live w.0 here in
-    let again = c.swap-in-Err.ensures.live d (ap (λ m. maps.get m k) moved ∙ at_inserted live k d) in
-    let same = again ∙ ap (λ m. maps.insert m k (swap d x.to x.from)) moved ∙ ap (maps.insert (maps.insert live k d) k) (swap_back w.0 x.from x.to (omega (arith, low, past)) w.4) ∙ put_back live k w.0 d here in
-    subst (λ m. IsListed (maps.get m) (with_list c.push.new.self c.args.l list)) (sym same)
+    let here = ap (maps.get live) (c.at-at.ensures ∙ ap (λ e. e.slot) c.index.ensures ∙ sym (slot_is list c.args.place _ c.requires.inside)) ∙ w.1 in
+    subst (λ m. IsListed (maps.get m) (with_list c.push.new.self c.args.l list))
+    (sym (exchanged_back live _ _ c.at-at.result x.from x.to w.0 here c.requires.from c.requires.to w.4 (c.swap.ensures.live w.0 here) c.swap-in-Err.ensures.live))
     (listed_alike (maps.get live) (with_list c.args.lists.now c.args.l list) (with_list c.push.new.self c.args.l list) (λ y. ap (cond (eqb y c.args.l) list) (c.in-Err.ensures.err y)) c.requires.listed)
 
 pub returns-in-Ok-clause-hand : goal.returns-in-Ok-clause-hand

@@ -1,16 +1,15 @@
-use Rattle.std.proofs.Common.{◌≡◌, true, false, IfSome, IfNone, sym, subst}
+use Rattle.std.proofs.Common.{◌≡◌, false, IfSome, IfNone, sym, subst}
 use Rattle.std.specs.FinMap as maps
 use Rattle.tables.specs.Table.{at}
 use Rattle.theory.specs.Propagation.{Clash, IsClosed}
-use Rattle.cnf_base.specs.Literals.{Literal, has}
+use Rattle.cnf_base.specs.Literals.{has}
 use Rattle.theory.specs.Sets.{conflicts}
 use Rattle.watch.specs.Code.Order.{each_in_order}
 use Rattle.watch.specs.Code.Roots.{IsFalseAt}
 use Rattle.watch.specs.Code.Watched.{IsWatched}
 use Rattle.trail.proofs.TrailLemmas.Longer.{has_begun}
 use Rattle.watch.proofs.WatchLemmas.PropagatesTo.{clash_from}
-use Rattle.watch.proofs.WatchLemmas.Closed.{all_closed, all_quiet, units_carried}
-use Rattle.watch.proofs.WatchLemmas.Units.{unit_more}
+use Rattle.watch.proofs.WatchLemmas.Closed.{all_closed, all_quiet, units_kept}
 use Rattle.watch.proofs.run.run.Goals as goal
 
 pub returns-in-Some-clause-answer : goal.returns-in-Some-clause-answer
@@ -24,11 +23,10 @@ returns-in-None-clause-answer c = λ clash.
     let after = c.propagate.new.store.live in
     let trues = c.propagate.new.assumptions.trail.lits in
     let e = c.propagate.ensures.propagates in
-    let more : (l : Literal) → has held.trail.lits l ≡ true → has trues l ≡ true = λ l h. has_begun held.trail.lits trues l e.extends.begins h in
-    let units = units_carried c.args.store.now.live after trues e.same e.short (λ s d is. unit_more d held.trail.lits trues more (c.requires.units s d is)) in
+    let units = units_kept c.args.store.now.live after held c.propagate.new.assumptions (at c.args.reasons.now) (at c.propagate.new.reasons) e c.requires.units in
     let watched = subst (λ o. IfNone o (IsWatched (maps.get after) trues trues)) c.in-None.is c.in_ok-found.ensures.watched in
     let quiet = subst (λ o. IfNone o (conflicts trues ≡ false)) c.in-None.is c.in_ok-found.ensures.quiet in
-    all_quiet after trues c.is_sound.ensures.different units watched quiet held.trail.lits more (subst (λ m. Clash (maps.get m) held.trail.lits) (sym e.same) clash)
+    all_quiet after trues c.is_sound.ensures.different units watched quiet held.trail.lits (λ l h. has_begun held.trail.lits trues l e.extends.begins h) (subst (λ m. Clash (maps.get m) held.trail.lits) (sym e.same) clash)
 
 pub returns-in-None-clause-closed : goal.returns-in-None-clause-closed
 returns-in-None-clause-closed c = λ _.
@@ -36,8 +34,7 @@ returns-in-None-clause-closed c = λ _.
     let after = c.propagate.new.store.live in
     let trues = c.propagate.new.assumptions.trail.lits in
     let e = c.propagate.ensures.propagates in
-    let more : (l : Literal) → has held.trail.lits l ≡ true → has trues l ≡ true = λ l h. has_begun held.trail.lits trues l e.extends.begins h in
-    let units = units_carried c.args.store.now.live after trues e.same e.short (λ s d is. unit_more d held.trail.lits trues more (c.requires.units s d is)) in
+    let units = units_kept c.args.store.now.live after held c.propagate.new.assumptions (at c.args.reasons.now) (at c.propagate.new.reasons) e c.requires.units in
     let watched = subst (λ o. IfNone o (IsWatched (maps.get after) trues trues)) c.in-None.is c.in_ok-found.ensures.watched in
     let quiet = subst (λ o. IfNone o (conflicts trues ≡ false)) c.in-None.is c.in_ok-found.ensures.quiet in
     subst (λ m. IsClosed (maps.get m) (λ l. has trues l)) e.same (all_closed after trues c.is_sound.ensures.different units watched quiet)
