@@ -1,3 +1,4 @@
+pub mod Below
 pub mod Closing
 pub mod Counts
 pub mod Exact

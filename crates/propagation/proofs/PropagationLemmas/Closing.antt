@@ -3,7 +3,6 @@ use Rattle.std.proofs.Common.{◌≡◌, ◌≢◌, ℕ, Result, Ok, Err, IfOk, 
 use Rattle.std.proofs.Common.{true, false, not, ◌||◌, Some, None, List, [], ◌∷◌, ◌++◌, map, refl}
 use Rattle.std.proofs.Common.{sym, ap, ◌∙◌, subst, arith, inl, inr}
 use Rattle.std.proofs.lemmas.Bool.{false≢true, true≢false, not-true, not-false, cases_eq}
-use Rattle.std.proofs.lemmas.Option.{none-some, same_Some}
 use Rattle.std.proofs.lemmas.Result.{on_ok_weaker}
 use Rattle.cnf_base.specs.Literals.{Literal, complement, Clause, has}
 use Rattle.cnf_base.proofs.SetLemmas.{has_append_left, has_append_right, has_append_cases}
@@ -22,6 +21,7 @@ use Rattle.theory.proofs.PropagationLemmas.Open.{AreAll, open_has}
 use Rattle.theory.proofs.PropagationLemmas.Unit.{none_left_follow, one_left_follows}
 use Rattle.trail.proofs.TrailLemmas.Left.{nothing_is, one_is, more_differ, settled_at}
 use Rattle.theory.proofs.PropagationLemmas.Lacking.{lacking_le, lacking_falls}
+use Rattle.propagation.proofs.PropagationLemmas.Below.{below_none, below_some}
 
 pub follows_forced : (live : Live) (ls : List Literal) → ((l : Literal) → has ls l ≡ true → Forced live [] l) → (k : ℕ) (c : Clause) → live k ≡ Some c → (l : Literal) → FollowsFrom ls c l → Forced live [] l
 follows_forced live ls sound k c at l (is_old h) = sound l h
@@ -126,25 +126,13 @@ more_is_closed ls c e = settled_at ls c (subst (IsSettled ls) (sym e) tt)
 module _ (live : Live) (before now : List Literal) (n : ℕ) where
   pub over_none : None ≡ live n → (is_new : Bool) → IsPassedOver live before now n is_new → IsPassedOver live before now (n + 1) is_new
   over_none none true h = h
-  over_none none false h = (
-    h.0,
-    λ k c low at. elim (cases_eq k n) [
-      | inl e ↦ absurd (none-some c (none ∙ ap live (sym e) ∙ at))
-      | inr ne ↦ h.1 k c (omega arith) at
-    ],
-  )
+  over_none none false h = (h.0, below_none live (IsClosedAt (has before)) n h.1 none)
 
   module _ (d : Clause) (here : Some d ≡ live n) where
     -- nothing new follows from the clause
     pub over_same : IsClosedAt (has now) d → (is_new : Bool) → IsPassedOver live before now n is_new → IsPassedOver live before now (n + 1) is_new
     over_same closed true h = h
-    over_same closed false h = (
-      h.0,
-      λ k c low at. elim (cases_eq k n) [
-        | inl e ↦ subst (IsClosedAt (has before)) (same_Some d c (here ∙ ap live (sym e) ∙ at)) (subst (λ ls. IsClosedAt (has ls) d) h.0 closed)
-        | inr ne ↦ h.1 k c (omega arith) at
-      ],
-    )
+    over_same closed false h = (h.0, below_some live (IsClosedAt (has before)) n h.1 d here (subst (λ ls. IsClosedAt (has ls) d) h.0 closed))
 
     -- a literal of it is new
     pub over_new : (after : List Literal) → ((l : Literal) → has now l ≡ true → has after l ≡ true) → (m : Literal) → has d m ≡ true → has now m ≡ false → has after m ≡ true → (is_new : Bool) → IsPassedOver live before now n is_new →

@@ -1,8 +1,7 @@
 -- Passes over the clauses: what they keep, and why they end.
 use Rattle.std.proofs.Common.{◌≡◌, ℕ, ◌+◌, ◌/◌, ◌<◌, ◌≤◌, Bool, true, false, not, cond, Some, None}
 use Rattle.std.proofs.Common.{List, [], ◌∷◌, ◌++◌, map, refl, sym, ap, ◌∙◌, subst, inl, inr, arith}
-use Rattle.std.proofs.lemmas.Bool.{false≢true, cases_eq}
-use Rattle.std.proofs.lemmas.Option.{none-some, same_Some}
+use Rattle.std.proofs.lemmas.Bool.{false≢true}
 use Rattle.std.proofs.lemmas.List.Sums.{sum_by-cons}
 use Rattle.cnf_base.specs.Literals.{Literal, complement, Clause, has, variable}
 use Rattle.cnf_base.proofs.SetLemmas.{has_cases, has_append_left, has_append_right, has_head}
@@ -15,6 +14,7 @@ use Rattle.propagation.specs.declared.scan.unit.Pass.{Pass}
 use Rattle.propagation.specs.declared.scan.unit.Pass.TheVariants.{Clash as PassClash, Changed}
 use Rattle.propagation.specs.declared.scan.unit.Pass.TheVariants.{Quiet}
 use Rattle.trail.proofs.TrailLemmas.Truth.{variable_open}
+use Rattle.propagation.proofs.PropagationLemmas.Below.{below_none, below_some}
 
 -- ---- How many variables are open
 
@@ -75,24 +75,13 @@ module _ (live : Live) (before : TrailState) (lits : List Literal) (n : ℕ) whe
   pub passed_none : None ≡ live n → (p : Pass) → IsPassedTo live before lits n p → IsPassedTo live before lits (n + 1) p
   passed_none none PassClash h = h
   passed_none none Changed h = h
-  passed_none none Quiet h = (
-    h.0,
-    λ k c low at. elim (cases_eq k n) [
-      | inl e ↦ absurd (none-some c (none ∙ ap live (sym e) ∙ at))
-      | inr ne ↦ h.1 k c (omega arith) at
-    ],
-  )
+  passed_none none Quiet h = (h.0, below_none live (λ c. IsSettled before.lits (how_many (open_literals before.lits c))) n h.1 none)
 
   pub passed_settled : (d : Clause) → Some d ≡ live n → IsSettled lits (how_many (open_literals lits d)) → (p : Pass) → IsPassedTo live before lits n p → IsPassedTo live before lits (n + 1) p
   passed_settled d here settled PassClash h = h
   passed_settled d here settled Changed h = h
-  passed_settled d here settled Quiet h = (
-    h.0,
-    λ k c low at. elim (cases_eq k n) [
-      | inl e ↦ subst (λ x. IsSettled before.lits (how_many (open_literals before.lits x))) (same_Some d c (here ∙ ap live (sym e) ∙ at)) (subst (λ ls. IsSettled ls (how_many (open_literals ls d))) h.0 settled)
-      | inr ne ↦ h.1 k c (omega arith) at
-    ],
-  )
+  passed_settled d here settled Quiet h =
+      (h.0, below_some live (λ c. IsSettled before.lits (how_many (open_literals before.lits c))) n h.1 d here (subst (λ ls. IsSettled ls (how_many (open_literals ls d))) h.0 settled))
 
   pub passed_unit : (m : Literal) → has lits m ≡ false → has lits (complement m) ≡ false → has before.met (m / 2) ≡ true → (p : Pass) → IsPassedTo live before lits n p → IsPassedTo live before (lits ++ m ∷ []) (n + 1) Changed
   passed_unit m e f member PassClash h = absurd h
