@@ -4,9 +4,9 @@ pub mod Ending
 pub mod Groups
 pub mod Hints
 pub mod Kept
+pub mod LiveClauses
 pub mod Remaining
 pub mod Rooms
 pub mod Sessions
-pub mod Shelf
 pub mod Starts
 pub mod Walks

@@ -2,6 +2,6 @@
 pub mod Candidates
 pub mod DratSession
 pub mod Groups
+pub mod LiveClauses
 pub mod LratSession
-pub mod Shelf
 pub mod Walk

@@ -8,7 +8,7 @@ ghost use Rattle.std.specs.FinMap as maps;
 ghost use Rattle.steps.specs.DratSession.{fresh_drat};
 ghost use Rattle.steps.specs.Code.DratSession.{clauses_of};
 
-use crate::drat::step::{add_copy, take_step};
+use crate::drat::step::{add_copy, apply_step};
 use crate::proof_session::ProofSession;
 use crate::proof_session::progress::Progress;
 use cnf_base::Lit;
@@ -98,7 +98,7 @@ impl<P: Propagate> ProofSession for DratSession<P> {
             self.progress.end();
             return Err(Refusal::Ended);
         }
-        match take_step(&mut self.clauses, self.rules, step) {
+        match apply_step(&mut self.clauses, self.rules, step) {
             Ok(word) => {
                 self.progress.step(word, self.clauses.literals());
                 Ok(word)

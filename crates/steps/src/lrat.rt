@@ -13,7 +13,7 @@ ghost use Rattle.cnf_base.specs.Literals.{complements};
 ghost use Rattle.theory.specs.Lrat.{chain, units_of, groups_of, AnswersChain, AnswersLrat};
 ghost use Rattle.theory.specs.Lrat.{after_lrat, lrat_step, with_clause, SameClauses};
 ghost use Rattle.trail.specs.Trail.{HasRoom};
-ghost use Rattle.steps.specs.Code.Shelf.{shelf_state};
+ghost use Rattle.steps.specs.Code.LiveClauses.{lrat_state};
 ghost use Rattle.steps.specs.LratSession.{fresh_lrat};
 ghost use Rattle.steps.specs.Code.LratSession.{state_of, IsReady};
 ghost use Rattle.theory.specs.Answers.{UnlessOutOfMemory};
@@ -94,10 +94,10 @@ fn take_addition(
     requires addition { step.now.kind ≡ StepKind.Add }
     requires ready { IsReady (maps.get held.old.live) trues.old }
     ensures answers { UnlessOutOfMemory result
-        (AnswersLrat (shelf_state held.old) (lrat_step step.now) result) }
+        (AnswersLrat (lrat_state held.old) (lrat_step step.now) result) }
     ensures live { OnOk result (SameClauses (maps.get held.new.live)
-        (after_lrat (shelf_state held.old) (lrat_step step.now)).live) }
-    ensures top { OnOk result (held.new.top ≡ (after_lrat (shelf_state held.old)
+        (after_lrat (lrat_state held.old) (lrat_step step.now)).live) }
+    ensures top { OnOk result (held.new.top ≡ (after_lrat (lrat_state held.old)
         (lrat_step step.now)).top) }
     ensures ready { OnOk result (IsReady (maps.get held.new.live) trues.new) }
     ensures refused { OnErr result (held.new.stored ≤ held.old.stored) }
@@ -131,7 +131,7 @@ fn add_input(
 }
 
 /// Takes a step on the live clauses.
-fn take_step(
+fn apply_step(
     alloc: Global,
     held: &mut LiveClauses,
     trues: &mut Trail,
@@ -139,10 +139,10 @@ fn take_step(
 ) -> Result<Accepted, Refusal>
     requires ready { IsReady (maps.get held.old.live) trues.old }
     ensures answers { UnlessOutOfMemory result
-        (AnswersLrat (shelf_state held.old) (lrat_step step.now) result) }
+        (AnswersLrat (lrat_state held.old) (lrat_step step.now) result) }
     ensures live { OnOk result (SameClauses (maps.get held.new.live)
-        (after_lrat (shelf_state held.old) (lrat_step step.now)).live) }
-    ensures top { OnOk result (held.new.top ≡ (after_lrat (shelf_state held.old)
+        (after_lrat (lrat_state held.old) (lrat_step step.now)).live) }
+    ensures top { OnOk result (held.new.top ≡ (after_lrat (lrat_state held.old)
         (lrat_step step.now)).top) }
     ensures ready { OnOk result (IsReady (maps.get held.new.live) trues.new) }
     ensures refused { OnErr result (held.new.stored ≤ held.old.stored) }
@@ -206,7 +206,7 @@ impl ProofSession for LratSession {
             self.progress.end();
             return Err(Refusal::Ended);
         }
-        match take_step(self.alloc, &mut self.held, &mut self.trues, step) {
+        match apply_step(self.alloc, &mut self.held, &mut self.trues, step) {
             Ok(word) => {
                 self.progress.step(word, self.held.literals());
                 Ok(word)

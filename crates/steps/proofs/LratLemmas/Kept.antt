@@ -8,8 +8,8 @@ use Rattle.std.specs.FinMap.{FinMap}
 use Rattle.cnf_base.specs.Literals.{Clause, size}
 use Rattle.clause_db.specs.Store.{StoreState, literals_in}
 use Rattle.clause_db.proofs.StoreLemmas.Sums.{sum_remove}
-use Rattle.steps.specs.Code.Shelf.{IsPaired}
-use Rattle.steps.proofs.LratLemmas.Shelf.{freed_is}
+use Rattle.steps.specs.Code.LiveClauses.{IsPaired}
+use Rattle.steps.proofs.LratLemmas.LiveClauses.{freed_is}
 
 module _ (store freed : StoreState) (alone : store.stored ≡ literals_in store.live) (freed_alone : freed.stored ≡ literals_in freed.live) where
   pub kept_fewer : (slot : ℕ) → freed.live ≡ maps.remove store.live slot → IsSome (maps.get store.live slot) → freed.stored ≤ store.stored

@@ -237,7 +237,7 @@ fn parts_of(rules: DratRules, step: &StepBuf) -> (&[Lit], &[Lit])
 }
 
 /// Takes a step on the live clauses.
-pub(crate) fn take_step<P: Propagate>(
+pub(crate) fn apply_step<P: Propagate>(
     clauses: &mut P,
     rules: DratRules,
     step: &StepBuf,

@@ -6,7 +6,7 @@ ghost use Rattle.cnf_base.specs.Literals.{complement, has};
 ghost use Rattle.theory.specs.Lrat.{group_refusal, groups_refusal, units_of, groups_of};
 ghost use Rattle.theory.specs.Sets.{conflicts, SameSet};
 ghost use Rattle.trail.specs.Trail.{HasRoom, HasRoomForAll};
-ghost use Rattle.steps.specs.Code.Shelf.{Holds};
+ghost use Rattle.steps.specs.Code.LiveClauses.{Holds};
 ghost use Rattle.steps.specs.Code.Groups.{named_in, needs_group_at, IsGroupEnd, IsFirstLeftOut};
 
 use crate::lrat::live_clauses::LiveClauses;

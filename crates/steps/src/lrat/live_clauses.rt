@@ -9,7 +9,7 @@ ghost use Rattle.std.specs.FinMap as maps;
 ghost use Rattle.theory.specs.Lrat.{with_clause, without_id, without_ids, deletion_refusal};
 ghost use Rattle.theory.specs.Lrat.{SameClauses};
 ghost use Rattle.theory.specs.Sizes.{total};
-ghost use Rattle.steps.specs.Code.Shelf.{empty_shelf, shelf_state, AllHold};
+ghost use Rattle.steps.specs.Code.LiveClauses.{no_live_clauses, lrat_state, AllHold};
 ghost use Rattle.theory.specs.declared.refusal.Refusal.TheVariants.{UnknownId};
 
 use clause_db::{Ids, NoIndex, Store};
@@ -28,11 +28,12 @@ pub(crate) struct LiveClauses {
 impl Model for LiveClauses {
     ghost use Rattle.std.specs.Prelude.{◌≡◌};
     ghost use Rattle.clause_db.specs.Store.{literals_in};
-    ghost use Rattle.steps.specs.Code.Shelf.{Shelf, shelf_code, joined, held_at, IsPaired, IsTally};
+    ghost use Rattle.steps.specs.Code.LiveClauses.{LiveClausesState, live_clauses_code, joined};
+    ghost use Rattle.steps.specs.Code.LiveClauses.{held_at, IsPaired, IsTally};
 
-    ghost Value = { Shelf };
+    ghost Value = { LiveClausesState };
 
-    ghost coded = { shelf_code };
+    ghost coded = { live_clauses_code };
 
     // Each field has to be named here. Of them the store alone has lists of literals.
     ghost view = { λ record { store = store; ids = ids; top = top }. record {
@@ -48,7 +49,7 @@ impl Model for LiveClauses {
 
 impl LiveClauses {
     pub(crate) fn new(alloc: Global) -> Result<Self, OutOfMemory>
-        ensures { IfOk result (λ live. live ≡ empty_shelf) }
+        ensures { IfOk result (λ live. live ≡ no_live_clauses) }
     {
         let store = Store::without_index(alloc)?;
         let ids = Ids::new(alloc)?;
@@ -98,8 +99,8 @@ impl LiveClauses {
 
     /// The sum of the sizes of the live clauses. It saturates.
     pub(crate) fn literals(&self) -> u64
-        ensures value { result ≡ min (total (shelf_state self.now)) (2 ^ 64 - 1) }
-        ensures live_alone { self.now.stored ≡ total (shelf_state self.now) }
+        ensures value { result ≡ min (total (lrat_state self.now)) (2 ^ 64 - 1) }
+        ensures live_alone { self.now.stored ≡ total (lrat_state self.now) }
     {
         self.store.literals()
     }

@@ -10,7 +10,7 @@ use Rattle.steps.proofs.drat.DratSessionProofSession.step.Goals as goal
 pub returns-in-Ok-clause-keeps_models : goal.returns-in-Ok-clause-keeps_models
 returns-in-Ok-clause-keeps_models g c =
     let old = maps.values (g.P.Propagate.state c.self.inside.clauses).live in
-    let new = maps.values (g.P.Propagate.state c.take_step.new.clauses).live in
+    let new = maps.values (g.P.Propagate.state c.apply_step.new.clauses).live in
     let step = drat_step c.self.inside.rules c.args.step.now in
     let kept : HasModel (slice_get old) → HasModel (slice_get new) =
     λ m. has_model_copies new (after_drat old step c.in-Ok.word) c.in-Ok.ensures.live (drat_keeps c.self.inside.rules old step c.in-Ok.word c.in-Ok.ensures.answers m) in

@@ -1,5 +1,5 @@
 use Rattle.std.proofs.Common.{◌<◌, ap, sym, subst, ◌∙◌}
-use Rattle.steps.proofs.LratLemmas.Shelf.{add_live, add_invariant, undone_invariant}
+use Rattle.steps.proofs.LratLemmas.LiveClauses.{add_live, add_invariant, undone_invariant}
 use Rattle.steps.proofs.LratLemmas.Kept.{kept_back}
 use Rattle.steps.proofs.LratLemmas.Ending.{when_ok, when_err}
 use Rattle.steps.proofs.lrat.live_clauses.LiveClauses.add.Goals as goal

@@ -1,5 +1,5 @@
 use Rattle.std.proofs.Common.{ap}
-use Rattle.steps.proofs.LratLemmas.Shelf.{holding_counts}
+use Rattle.steps.proofs.LratLemmas.LiveClauses.{holding_counts}
 use Rattle.steps.proofs.lrat.live_clauses.LiveClauses.holding.Goals as goal
 
 pub returns : goal.returns

@@ -1,12 +1,12 @@
 use Rattle.std.proofs.Common.{◌-◌, ◌^◌, min, ap, sym, ◌∙◌}
-use Rattle.steps.proofs.LratLemmas.Shelf.{shelf_total}
+use Rattle.steps.proofs.LratLemmas.LiveClauses.{live_total}
 use Rattle.steps.proofs.lrat.live_clauses.LiveClauses.literals.Goals as goal
 
 pub returns-clause-live_alone : goal.returns-clause-live_alone
 returns-clause-live_alone c =
     let s = c.self.inside in
     ap (λ v. v.stored) (sym c.self.view_is) ∙ c.self.invariant.1 ∙ c.self.invariant.0.1.sum_is
-    ∙ shelf_total s.ids s.store.live c.args.self.now (ap (λ v. v.live) c.self.view_is) s.top (ap (λ v. v.top) c.self.view_is)
+    ∙ live_total s.ids s.store.live c.args.self.now (ap (λ v. v.live) c.self.view_is) s.top (ap (λ v. v.top) c.self.view_is)
 
 pub returns-clause-value : goal.returns-clause-value
 returns-clause-value c =

@@ -1,6 +1,6 @@
 use Rattle.std.proofs.Common.{ap}
 use Rattle.propagation.proofs.PropagationLemmas.Scan.{none_alone}
-use Rattle.steps.proofs.LratLemmas.Shelf.{start_invariant, start_view}
+use Rattle.steps.proofs.LratLemmas.LiveClauses.{start_invariant, start_view}
 use Rattle.steps.proofs.lrat.live_clauses.LiveClauses.new.Goals as goal
 
 pub invariant_of-result : goal.invariant_of-result

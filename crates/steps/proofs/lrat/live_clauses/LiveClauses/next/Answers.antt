@@ -1,5 +1,5 @@
 use Rattle.std.proofs.Common.{ap, sym}
-use Rattle.steps.proofs.LratLemmas.Shelf.{got_none, got_some}
+use Rattle.steps.proofs.LratLemmas.LiveClauses.{got_none, got_some}
 use Rattle.steps.proofs.lrat.live_clauses.LiveClauses.next.Goals as goal
 
 pub returns-in-Some-clause-found : goal.returns-in-Some-clause-found

@@ -1,6 +1,6 @@
 use Rattle.std.proofs.Common.{◌≤◌, ap, sym, subst}
-use Rattle.steps.proofs.LratLemmas.Shelf.{removed_invariant, removed_was, removed_live}
-use Rattle.steps.proofs.LratLemmas.Shelf.{absent_invariant, absent_was, absent_live}
+use Rattle.steps.proofs.LratLemmas.LiveClauses.{removed_invariant, removed_was, removed_live}
+use Rattle.steps.proofs.LratLemmas.LiveClauses.{absent_invariant, absent_was, absent_live}
 use Rattle.steps.proofs.LratLemmas.Kept.{kept_fewer}
 use Rattle.steps.proofs.lrat.live_clauses.LiveClauses.remove.Goals as goal
 

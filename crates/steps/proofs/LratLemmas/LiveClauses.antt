@@ -23,8 +23,8 @@ use Rattle.theory.specs.Propagation.{Live}
 use Rattle.theory.specs.Lrat.{with_clause, without_id, SameAt, SameClauses}
 use Rattle.theory.proofs.LratLemmas.LiveSets.{SameClauses-refl}
 use Rattle.theory.specs.Sizes.{size_at, sum_to}
-use Rattle.steps.specs.Code.Shelf.{clause_at, held_at, joined, Shelf, IsPaired, IsTally, Holds}
-use Rattle.steps.specs.Code.Shelf.{AllHold}
+use Rattle.steps.specs.Code.LiveClauses.{clause_at, held_at, joined, LiveClausesState, IsPaired, IsTally, Holds}
+use Rattle.steps.specs.Code.LiveClauses.{AllHold}
 use Rattle.theory.proofs.LratLemmas.Sums.{sum_agree, sum_with, sum_without, with_here, with_other}
 use Rattle.theory.proofs.LratLemmas.Sums.{without_here, without_other}
 
@@ -44,14 +44,14 @@ joined_is ids store k =
     ∙ find_joined store (maps.entries ids) k
     ∙ ap (option_map (clause_at store)) (sym (get-entries ids k))
 
-module _ (ids : FinMap nat_cmp ℕ) (store : FinMap nat_cmp Clause) (shelf : Shelf) (view : joined ids store ≡ shelf.live) where
-  pub shelf_gets : (k : ℕ) → maps.get shelf.live k ≡ held_at ids store k
-  shelf_gets k = ap (λ m. maps.get m k) (sym view) ∙ joined_is ids store k
+module _ (ids : FinMap nat_cmp ℕ) (store : FinMap nat_cmp Clause) (state : LiveClausesState) (view : joined ids store ≡ state.live) where
+  pub live_at : (k : ℕ) → maps.get state.live k ≡ held_at ids store k
+  live_at k = ap (λ m. maps.get m k) (sym view) ∙ joined_is ids store k
 
-  pub shelf_total : (top : ℕ) → top ≡ shelf.top → sum_to top (λ k. size_at (held_at ids store k)) ≡ sum_to shelf.top (λ k. size_at (maps.get shelf.live k))
-  shelf_total top e =
-      sum_agree top (λ k. size_at (held_at ids store k)) (λ k. size_at (maps.get shelf.live k)) (λ k low high. ap size_at (sym (shelf_gets k)))
-      ∙ ap (λ t. sum_to t (λ k. size_at (maps.get shelf.live k))) e
+  pub live_total : (top : ℕ) → top ≡ state.top → sum_to top (λ k. size_at (held_at ids store k)) ≡ sum_to state.top (λ k. size_at (maps.get state.live k))
+  live_total top e =
+      sum_agree top (λ k. size_at (held_at ids store k)) (λ k. size_at (maps.get state.live k)) (λ k low high. ap size_at (sym (live_at k)))
+      ∙ ap (λ t. sum_to t (λ k. size_at (maps.get state.live k))) e
 
 -- ---- Finite maps at one key
 
@@ -256,15 +256,15 @@ same_changed live id c lits same k = by_test (eqb k id)
     by_test true = same
     by_test false = (SameClauses-refl live).at k
 
-module _ (ids after_ids : FinMap nat_cmp ℕ) (store after : FinMap nat_cmp Clause) (id slot : ℕ) (lits : Clause) (shelf : Shelf) (view : joined ids store ≡ shelf.live) (paired : IsPaired ids store) (free : maps.get store slot ≡ None)
+module _ (ids after_ids : FinMap nat_cmp ℕ) (store after : FinMap nat_cmp Clause) (id slot : ℕ) (lits : Clause) (state : LiveClausesState) (view : joined ids store ≡ state.live) (paired : IsPaired ids store) (free : maps.get store slot ≡ None)
     (others : (k : ℕ) → k ≢ slot → maps.get after k ≡ maps.get store k) (stored : (c : Clause) × (maps.get after slot ≡ Some c) × IsTrue (same_clause c lits)) (bound : after_ids ≡ maps.insert ids id slot) where
-  pub add_live : SameClauses (maps.get (joined after_ids after)) (with_clause (maps.get shelf.live) id lits)
+  pub add_live : SameClauses (maps.get (joined after_ids after)) (with_clause (maps.get state.live) id lits)
   add_live =
       let w = stored in
       record {
         at = λ k.
-            subst (λ o. SameAt o (with_clause (maps.get shelf.live) id lits k)) (sym (joined_is after_ids after k ∙ held_with ids store after id slot paired free others w.0 w.1 after_ids bound k))
-            (subst (λ o. SameAt (with_clause (held_at ids store) id w.0 k) (cond (eqb k id) (Some lits) o)) (sym (shelf_gets ids store shelf view k))
+            subst (λ o. SameAt o (with_clause (maps.get state.live) id lits k)) (sym (joined_is after_ids after k ∙ held_with ids store after id slot paired free others w.0 w.1 after_ids bound k))
+            (subst (λ o. SameAt (with_clause (held_at ids store) id w.0 k) (cond (eqb k id) (Some lits) o)) (sym (live_at ids store state view k))
             (same_changed (held_at ids store) id w.0 lits w.2 k));
       }
 
@@ -282,28 +282,28 @@ undone_invariant ids after_ids store after freed id slot top paired free others 
 
 -- ---- What is seen of a look-up and of a removal
 
-module _ (ids : FinMap nat_cmp ℕ) (store : FinMap nat_cmp Clause) (shelf : Shelf) (view : joined ids store ≡ shelf.live) where
-  pub got_none : (id : ℕ) → maps.get ids id ≡ None → maps.get shelf.live id ≡ None
-  got_none id none = shelf_gets ids store shelf view id ∙ ap (option_map (clause_at store)) none
+module _ (ids : FinMap nat_cmp ℕ) (store : FinMap nat_cmp Clause) (state : LiveClausesState) (view : joined ids store ≡ state.live) where
+  pub got_none : (id : ℕ) → maps.get ids id ≡ None → maps.get state.live id ≡ None
+  got_none id none = live_at ids store state view id ∙ ap (option_map (clause_at store)) none
 
-  pub got_some : (id slot : ℕ) → maps.get ids id ≡ Some slot → (c : Clause) → Some c ≡ maps.get store slot → Some c ≡ maps.get shelf.live id
-  got_some id slot bound c at = sym (shelf_gets ids store shelf view id ∙ ap (option_map (clause_at store)) bound ∙ ap (λ o. Some (unwrap_or o [])) (sym at))
+  pub got_some : (id slot : ℕ) → maps.get ids id ≡ Some slot → (c : Clause) → Some c ≡ maps.get store slot → Some c ≡ maps.get state.live id
+  got_some id slot bound c at = sym (live_at ids store state view id ∙ ap (option_map (clause_at store)) bound ∙ ap (λ o. Some (unwrap_or o [])) (sym at))
 
   module _ (after_ids : FinMap nat_cmp ℕ) (id : ℕ) (paired : IsPaired ids store) (unbound : after_ids ≡ maps.remove ids id) where
-    pub removed_live : (slot : ℕ) → Some slot ≡ maps.get ids id → (after : FinMap nat_cmp Clause) → after ≡ maps.remove store slot → (k : ℕ) → maps.get (joined after_ids after) k ≡ without_id (maps.get shelf.live) id k
+    pub removed_live : (slot : ℕ) → Some slot ≡ maps.get ids id → (after : FinMap nat_cmp Clause) → after ≡ maps.remove store slot → (k : ℕ) → maps.get (joined after_ids after) k ≡ without_id (maps.get state.live) id k
     removed_live slot bound after freed k =
         joined_is after_ids after k ∙ held_without ids after_ids store id paired unbound slot (sym bound) after freed k
-        ∙ ap (λ o. cond (eqb k id) None o) (sym (shelf_gets ids store shelf view k))
+        ∙ ap (λ o. cond (eqb k id) None o) (sym (live_at ids store state view k))
 
-    pub absent_live : None ≡ maps.get ids id → (k : ℕ) → maps.get (joined after_ids store) k ≡ without_id (maps.get shelf.live) id k
+    pub absent_live : None ≡ maps.get ids id → (k : ℕ) → maps.get (joined after_ids store) k ≡ without_id (maps.get state.live) id k
     absent_live none k =
         joined_is after_ids store k ∙ none_without ids after_ids store id paired unbound (sym none) k
-        ∙ ap (λ o. cond (eqb k id) None o) (sym (shelf_gets ids store shelf view k))
+        ∙ ap (λ o. cond (eqb k id) None o) (sym (live_at ids store state view k))
 
-  pub removed_was : (id slot : ℕ) → Some slot ≡ maps.get ids id → true ≡ is_some (maps.get shelf.live id)
-  removed_was id slot bound = sym (ap is_some (shelf_gets ids store shelf view id ∙ ap (option_map (clause_at store)) (sym bound)))
+  pub removed_was : (id slot : ℕ) → Some slot ≡ maps.get ids id → true ≡ is_some (maps.get state.live id)
+  removed_was id slot bound = sym (ap is_some (live_at ids store state view id ∙ ap (option_map (clause_at store)) (sym bound)))
 
-  pub absent_was : (id : ℕ) → None ≡ maps.get ids id → false ≡ is_some (maps.get shelf.live id)
+  pub absent_was : (id : ℕ) → None ≡ maps.get ids id → false ≡ is_some (maps.get state.live id)
   absent_was id none = sym (ap is_some (got_none id (sym none)))
 
 module _ (ids after_ids : FinMap nat_cmp ℕ) (store : FinMap nat_cmp Clause) (id : ℕ) (paired : IsPaired ids store) (unbound : after_ids ≡ maps.remove ids id) where
@@ -345,21 +345,21 @@ slots_counted ids l own (k ∷ ks) store different hold =
     let one = weight_of l here.2 here.4 in
     omega (arith, rest, split, one)
 
-pub holding_counts : (ids : FinMap nat_cmp ℕ) (store : FinMap nat_cmp Clause) (shelf : Shelf) → joined ids store ≡ shelf.live → IsPaired ids store → (l : Literal) (count : ℕ) → count ≡ copies_with store l →
-    (ks : List ℕ) → AllHold (maps.get shelf.live) l ks → length ks ≤ count
-holding_counts ids store shelf view paired l count count_is ks hold =
+pub holding_counts : (ids : FinMap nat_cmp ℕ) (store : FinMap nat_cmp Clause) (state : LiveClausesState) → joined ids store ≡ state.live → IsPaired ids store → (l : Literal) (count : ℕ) → count ≡ copies_with store l →
+    (ks : List ℕ) → AllHold (maps.get state.live) l ks → length ks ≤ count
+holding_counts ids store state view paired l count count_is ks hold =
     subst (λ n. length ks ≤ n) (sym count_is) (slots_counted ids l paired.own ks store hold.different (λ k member.
     let h = hold.each k member in
     by_slot k h (maps.get ids k) refl))
   where
-    by_slot : (k : ℕ) → Holds (maps.get shelf.live) l k → (o : Option ℕ) → maps.get ids k ≡ o → (slot : ℕ) × (maps.get ids k ≡ Some slot) × (c : Clause) × (maps.get store slot ≡ Some c) × (has c l ≡ true)
-    by_slot k h None e = absurd (none-some h.clause (sym (sym h.at ∙ got_none ids store shelf view k e)))
+    by_slot : (k : ℕ) → Holds (maps.get state.live) l k → (o : Option ℕ) → maps.get ids k ≡ o → (slot : ℕ) × (maps.get ids k ≡ Some slot) × (c : Clause) × (maps.get store slot ≡ Some c) × (has c l ≡ true)
+    by_slot k h None e = absurd (none-some h.clause (sym (sym h.at ∙ got_none ids store state view k e)))
     by_slot k h (Some slot) e = let w = by_clause (maps.get store slot) refl (paired.filled k slot e) in (slot, e, w.0, w.1, w.2)
       where
         by_clause : (o : Option Clause) → maps.get store slot ≡ o → IsSome (maps.get store slot) → (c : Clause) × (maps.get store slot ≡ Some c) × (has c l ≡ true)
         by_clause None g filled = absurd (none_is_not_some (maps.get store slot) g filled)
         by_clause (Some c) g filled =
-            let same : h.clause ≡ c = same_Some h.clause c (sym h.at ∙ sym (got_some ids store shelf view k slot e c (sym g))) in
+            let same : h.clause ≡ c = same_Some h.clause c (sym h.at ∙ sym (got_some ids store state view k slot e c (sym g))) in
             (c, g, subst (λ d. has d l ≡ true) same h.member)
 
 -- ---- At the start

@@ -25,23 +25,23 @@ joined ids store = maps.from_entries (map (λ e. (e.0, clause_at store e.1)) (ma
 
 -- the live clauses, the greatest identifier so far, and the sum of the lengths of all lists of
 -- literals that are kept
-pub record Shelf : Type 0 where
+pub record LiveClausesState : Type 0 where
   pub live : FinMap nat_cmp Clause
   pub top : ℕ
   pub stored : ℕ
 
-abbrev pub shelf_code : Coded Shelf
-shelf_code =
+abbrev pub live_clauses_code : Coded LiveClausesState
+live_clauses_code =
     code_by (FinMap nat_cmp Clause × (ℕ × ℕ))
     (coded× (maps.code coded_ℕ (coded_list coded_ℕ)) (coded× coded_ℕ coded_ℕ))
     (λ s. (s.live, (s.top, s.stored))) (λ p. record { live = p.0; top = p.1.0; stored = p.1.1 })
     (λ _. refl)
 
-abbrev pub empty_shelf : Shelf
-empty_shelf = record { live = maps.empty; top = 0; stored = 0 }
+abbrev pub no_live_clauses : LiveClausesState
+no_live_clauses = record { live = maps.empty; top = 0; stored = 0 }
 
-abbrev pub shelf_state : Shelf → LratState
-shelf_state s = record { live = maps.get s.live; top = s.top }
+abbrev pub lrat_state : LiveClausesState → LratState
+lrat_state s = record { live = maps.get s.live; top = s.top }
 
 -- each identifier has a slot of its own, with a clause in it
 pub record IsPaired (ids : FinMap nat_cmp ℕ) (store : FinMap nat_cmp Clause) : Type 0 where
