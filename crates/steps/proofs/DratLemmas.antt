@@ -1,4 +1,4 @@
 pub mod Candidates
-pub mod Reduced
 pub mod Slots
 pub mod Steps
+pub mod Witnesses

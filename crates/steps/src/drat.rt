@@ -1,6 +1,7 @@
 //! Sessions that check a DRAT proof.
 
-mod pr;
+mod addition;
+mod candidates;
 mod step;
 
 ghost use Rattle.std.specs.Prelude.{◌≡◌, [], false};

@@ -4,16 +4,16 @@ use Rattle.std.proofs.Common.{◌∷◌, map, slice_get, Less, Equal, Greater, r
 use Rattle.std.proofs.Common.{arith, eqb-true, eq-eqb, T, ◌&&◌, ◌==◌, ◌<◌, ◌↔◌, inl, inr, le-ltb}
 use Rattle.std.proofs.Common.{is_lt}
 use Rattle.std.proofs.lemmas.Option.{none-some}
-use Rattle.std.specs.Ordering.{nat_cmp, eq_by_cmp, is_eq}
+use Rattle.std.specs.Ordering.{nat_cmp, eq_by_cmp}
 use Rattle.std.specs.FinMap as slots
-use Rattle.std.specs.FinMap.{FinMap, is_sorted, find, put, get-entries, entries-insert, get-insert}
-use Rattle.std.specs.FinMap.{get-remove, same_map, nat_cmp-IsAntisymmetric}
-use Rattle.std.specs.FinMap.Entries.{by_order, below_all}
-use Rattle.std.specs.Cmp.{nat_cmp_total, unsigned_tied}
+use Rattle.std.specs.FinMap.{FinMap, is_sorted, find, get-entries}
+use Rattle.std.specs.FinMap.Entries.{below_all}
+use Rattle.std.specs.Cmp.{unsigned_tied}
 use Rattle.std.proofs.lemmas.Bool.{cases_Bool, cases_lt, false_from_ne_true}
 use Rattle.cnf_base.specs.Literals.{Literal, Clause, same_clause}
 use Rattle.theory.specs.Propagation.{Clash, HasRat, HasPr, IsRootReason}
 use Rattle.theory.specs.Drat.{take_off, copies_of, SameLive}
+use Rattle.clause_db.proofs.StoreLemmas.Sums.{sum_insert, sum_remove}
 use Rattle.cnf_base.proofs.SetLemmas.{both_pass, same_itself, same_symm, same_trans}
 use Rattle.theory.proofs.PropagationLemmas.Covers.{Covers, clash_covers, reason_covers}
 use Rattle.theory.proofs.DratLemmas.Copies.{rat_covers, pr_covers, copies-cons, copies-take_off}
@@ -21,26 +21,9 @@ use Rattle.theory.proofs.DratLemmas.Copies.{rat_covers, pr_covers, copies-cons, 
 abbrev clauses_in : List (ℕ × Clause) → List Clause
 clauses_in es = map (λ e. e.1) es
 
-copies-put : (e : Clause) (k : ℕ) (c : Clause) (es : List (ℕ × Clause)) → find nat_cmp k es ≡ None → copies_of e (clauses_in (put nat_cmp k c es)) ≡ cond (same_clause e c) 1 0 + copies_of e (clauses_in es)
-copies-put e k c [] absent = copies-cons e c []
-copies-put e k c (x ∷ es) absent =
-    elim (nat_cmp k x.0) as (λ o. nat_cmp k x.0 ≡ o → copies_of e (clauses_in (by_order o ((k, c) ∷ x ∷ es) ((x.0, c) ∷ es) (x ∷ put nat_cmp k c es))) ≡ cond (same_clause e c) 1 0 + copies_of e (clauses_in (x ∷ es))) [
-      | Less ↦ λ p. copies-cons e c (clauses_in (x ∷ es))
-      | Equal ↦ λ p. absurd (none-some x.1 (sym (sym (ap (λ o. cond (is_eq o) (Some x.1) (find nat_cmp k es)) p) ∙ absent)))
-      | Greater ↦ λ p.
-          let rest : find nat_cmp k es ≡ None = sym (ap (λ o. cond (is_eq o) (Some x.1) (find nat_cmp k es)) p) ∙ absent in
-          copies-cons e x.1 (clauses_in (put nat_cmp k c es)) ∙ omega (arith, copies-put e k c es rest, copies-cons e x.1 (clauses_in es))
-    ] refl
-
 -- a clause at a slot that was free is one copy more
 pub slots-insert : (m : FinMap nat_cmp Clause) (k : ℕ) (c : Clause) → slots.get m k ≡ None → SameLive (slots.values (slots.insert m k c)) (c ∷ slots.values m)
-slots-insert m k c absent =
-    record {
-      copies = λ e.
-          ap (λ es. copies_of e (clauses_in es)) (entries-insert nat_cmp_total m k c)
-          ∙ copies-put e k c (slots.entries m) (sym (get-entries m k) ∙ absent)
-          ∙ sym (copies-cons e c (slots.values m));
-    }
+slots-insert m k c absent = record { copies = λ e. sum_insert (λ d. cond (same_clause e d) 1 0) m k c absent ∙ sym (copies-cons e c (slots.values m)) }
 
 pub tied : {k : ℕ} (q : ℕ) → eq_by_cmp nat_cmp q k ≡ true → q ≡ k
 tied {k} q e = eqb-true q k (sym (unsigned_tied q k) ∙ e)
@@ -53,26 +36,12 @@ pub slots-remove : (m : FinMap nat_cmp Clause) (k : ℕ) (c d : Clause) → slot
 slots-remove m k c d at same =
     record {
       copies = λ e.
+          let left = copies_of e (slots.values (slots.remove m k)) in
           let alike : same_clause e d ≡ same_clause e c = both_pass (same_clause e d) (same_clause e c) (λ h. same_trans e d c h (same_symm c d same)) (λ h. same_trans e c d h same) in
-          let whole : copies_of e (slots.values (slots.insert (slots.remove m k) k d)) ≡ cond (same_clause e d) 1 0 + copies_of e (slots.values (slots.remove m k)) =
-          (slots-insert (slots.remove m k) k d freed).copies e ∙ copies-cons e d (slots.values (slots.remove m k)) in
-          let before : copies_of e (slots.values m) ≡ cond (same_clause e c) 1 0 + copies_of e (slots.values (slots.remove m k)) =
-          ap (λ n. copies_of e (slots.values n)) put_back ∙ whole ∙ ap (λ b. cond b 1 0 + copies_of e (slots.values (slots.remove m k))) alike in
+          let before : cond (same_clause e c) 1 0 + left ≡ copies_of e (slots.values m) =
+          subst (λ b. cond b 1 0 + left ≡ copies_of e (slots.values m)) alike (sum_remove (λ x. cond (same_clause e x) 1 0) m k d at) in
           omega (arith, before, copies-take_off e c (slots.values m));
     }
-  where
-    freed : slots.get (slots.remove m k) k ≡ None
-    freed = get-remove nat_cmp_total m k k ∙ ap (λ b. cond b None (slots.get m k)) (eq_itself k)
-
-    by_test : (q : ℕ) (b : Bool) → eq_by_cmp nat_cmp q k ≡ b → cond b (Some d) (cond b None (slots.get m q)) ≡ slots.get m q
-    by_test q true e = sym (ap (slots.get m) (tied q e) ∙ at)
-    by_test q false e = refl
-
-    put_back : m ≡ slots.insert (slots.remove m k) k d
-    put_back = same_map nat_cmp_total nat_cmp-IsAntisymmetric m (slots.insert (slots.remove m k) k d) (λ q. sym (
-        get-insert nat_cmp_total (slots.remove m k) k d q
-        ∙ ap (cond (eq_by_cmp nat_cmp q k) (Some d)) (get-remove nat_cmp_total m k q)
-        ∙ by_test q (eq_by_cmp nat_cmp q k) refl))
 
 -- ---- Looking a slot up, and standing in the list of values
 

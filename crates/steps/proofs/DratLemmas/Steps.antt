@@ -20,7 +20,7 @@ use Rattle.theory.specs.declared.accepted.Accepted.{Accepted}
 use Rattle.theory.specs.declared.accepted.Accepted.TheVariants.{Rat}
 use Rattle.theory.specs.declared.refusal.Refusal.TheVariants.{NotRup, NeitherRupNorRat}
 use Rattle.theory.specs.Propagation.{Live, Clash, HasRup}
-use Rattle.steps.specs.Code.Candidates.{AllClash, SomeQuiet, SearchedCandidates}
+use Rattle.steps.specs.Code.Candidates.{AllClash, SomeQuiet, Searched}
 use Rattle.theory.specs.Lrat.{AnswersChain, conflict}
 use Rattle.theory.specs.Drat.{AnswersAdd, take_off, copies_of, SameLive}
 use Rattle.theory.proofs.PropagationLemmas.Forced.{forced_assumed, clash_through}
@@ -60,7 +60,7 @@ module _ (live : FinMap nat_cmp Clause) where
   answers_rup (l ∷ c) word is clash = subst (AnswersAdd (maps.values live) (l ∷ c)) (sym is) (rup_listed (l ∷ c) clash)
 
   module _ (pivot : Literal) (rest assumed : List Literal) (same : SameSet assumed (complements (pivot ∷ rest))) (none : ¬ HasRup (maps.get live) (pivot ∷ rest)) where
-    pub answers_rat : AllClash (maps.get live) assumed (complement pivot) → AnswersAdd (maps.values live) (pivot ∷ rest) (Ok Rat)
+    pub answers_rat : AllClash (maps.get live) assumed (λ d. has d (complement pivot)) (λ d. without d (complement pivot)) → AnswersAdd (maps.values live) (pivot ∷ rest) (Ok Rat)
     answers_rat all = (
       no_rup_listed (pivot ∷ rest) none,
       (slots-rat live (pivot ∷ rest) pivot).0 (record {
@@ -69,18 +69,21 @@ module _ (live : FinMap nat_cmp Clause) where
       }),
     )
 
-    pub answers_neither : SomeQuiet (maps.get live) assumed (complement pivot) → AnswersAdd (maps.values live) (pivot ∷ rest) (Err (NeitherRupNorRat pivot))
+    pub answers_neither : SomeQuiet (maps.get live) assumed (λ d. has d (complement pivot)) (λ d. without d (complement pivot)) → AnswersAdd (maps.values live) (pivot ∷ rest) (Err (NeitherRupNorRat pivot))
     answers_neither some = (
       refl,
       no_rup_listed (pivot ∷ rest) none,
       λ rat.
           some.quiet (clash_same (maps.get live) _ _ (back (pivot ∷ rest) assumed same (without some.clause (complement pivot)))
-          (((slots-rat live (pivot ∷ rest) pivot).1 rat).candidates some.slot some.clause some.at some.member)),
+          (((slots-rat live (pivot ∷ rest) pivot).1 rat).candidates some.slot some.clause some.at some.passes)),
     )
+
+abbrev SearchedHolding : Live → List Literal → Literal → Bool → Type 0
+SearchedHolding live assumed l = Searched live assumed (λ d. has d l) (λ d. without d l)
 
 -- the clause begins with the pivot
 answers_at : (live : FinMap nat_cmp Clause) (c : List Literal) (pivot : Literal) (rest assumed : List Literal) → c ≡ pivot ∷ rest → SameSet assumed (complements c) → ¬ HasRup (maps.get live) c →
-    (b : Bool) → SearchedCandidates (maps.get live) assumed (complement pivot) b → AnswersAdd (maps.values live) c (cond b (Ok Rat) (Err (NeitherRupNorRat pivot)))
+    (b : Bool) → SearchedHolding (maps.get live) assumed (complement pivot) b → AnswersAdd (maps.values live) c (cond b (Ok Rat) (Err (NeitherRupNorRat pivot)))
 answers_at live c pivot rest assumed is same none true all =
     subst (λ c. AnswersAdd (maps.values live) c (Ok Rat)) (sym is) (answers_rat live pivot rest assumed (subst (λ c. SameSet assumed (complements c)) is same) (subst (λ c. ¬ HasRup (maps.get live) c) is none) all)
 answers_at live c pivot rest assumed is same none false some =
@@ -92,11 +95,11 @@ answers_none live (l ∷ c) first none = absurd (none-some l first)
 
 -- the clause begins with the pivot, whose candidates were searched
 pub answers_searched : (live : FinMap nat_cmp Clause) (c : List Literal) (pivot : Literal) → Some pivot ≡ slice_get c 0 → (assumed : List Literal) → SameSet assumed (complements c) → ¬ HasRup (maps.get live) c →
-    (opposite : Literal) → opposite ≡ complement pivot → (found b : Bool) → found ≡ b → SearchedCandidates (maps.get live) assumed opposite found → AnswersAdd (maps.values live) c (cond b (Ok Rat) (Err (NeitherRupNorRat pivot)))
+    (opposite : Literal) → opposite ≡ complement pivot → (found b : Bool) → found ≡ b → SearchedHolding (maps.get live) assumed opposite found → AnswersAdd (maps.values live) c (cond b (Ok Rat) (Err (NeitherRupNorRat pivot)))
 answers_searched live c pivot first assumed same none opposite is found b value searched =
     let split = first_is c pivot first in
     answers_at live c pivot split.0 assumed split.1 same none b
-    (subst (SearchedCandidates (maps.get live) assumed (complement pivot)) value (subst (λ l. SearchedCandidates (maps.get live) assumed l found) is searched))
+    (subst (SearchedHolding (maps.get live) assumed (complement pivot)) value (subst (λ l. SearchedHolding (maps.get live) assumed l found) is searched))
 
 pub no_clash : (first second : FinMap nat_cmp Clause) (c assumed : List Literal) → second ≡ first → ¬ Clash (maps.get first) assumed → assumed ≡ complements c → ¬ HasRup (maps.get second) c
 no_clash first second c assumed is none same rup =

@@ -1,42 +1,62 @@
--- Parts of the answer to an addition in DRAT, as the code finds them.
-use Rattle.std.specs.Prelude.{◌≡◌, ℕ, Some, List, ◌++◌, IsTrue, Bool, true, false}
+-- The clauses that an addition in DRAT is tried with, as the code finds them.
+use Rattle.std.specs.FinMap.{FinMap}
+use Rattle.std.specs.Ordering.{nat_cmp}
+use Rattle.std.specs.Prelude.{◌≡◌, ℕ, Option, Some, None, List, [], ◌++◌, ◌≤◌, ◌<◌, ◌⊎◌, IsTrue}
+use Rattle.std.specs.Prelude.{Bool, true, false, if◌then◌else◌}
 use Rattle.cnf_base.specs.Literals.{Literal, Clause, has, complements, without}
+use Rattle.clause_db.specs.Store.{sum_over}
 use Rattle.theory.specs.Propagation.{Live, Clash, open_literals}
 use Rattle.trail.specs.Reduced.{is_reduced}
+use Rattle.steps.specs.declared.drat.candidates.Candidates.TheVariants.{Holding, ReducedBy}
+use Rattle.steps.specs.declared.drat.candidates.Candidates.{Candidates}
 
--- each live clause with the literal clashes, but for it, with what is assumed
-abbrev pub AllClash : Live → List Literal → Literal → Type 0
-AllClash live assumed opposite =
-    (k : ℕ) (d : Clause) → live k ≡ Some d → IsTrue (has d opposite) →
-    Clash live (assumed ++ complements (without d opposite))
+-- whether the clause is one of them
+abbrev pub is_candidate : Candidates → Clause → Bool
+is_candidate (Holding l) c = has c l
+is_candidate (ReducedBy witness) c = is_reduced (has witness.now) c
 
--- some live clause with the literal doesn't
-pub record SomeQuiet (live : Live) (assumed : List Literal) (opposite : Literal) : Type 0 where
+-- what of it is assumed false
+abbrev pub rest_of : Candidates → Clause → Clause
+rest_of (Holding l) c = without c l
+rest_of (ReducedBy witness) c = open_literals witness.now c
+
+-- an addition of the clause lists no witness, or one that has a literal of the clause
+abbrev pub MeetsIfListed : Clause → List Literal → Type 0
+MeetsIfListed clause witness =
+    (witness ≡ []) ⊎ ((l : Literal) × IsTrue (has clause l) × IsTrue (has witness l))
+
+-- the slot has a clause that passes the test
+pub record PassesAt (live : Live) (test : Clause → Bool) (slot : ℕ) : Type 0 where
+  pub clause : Clause
+  pub at : live slot ≡ Some clause
+  pub passes : IsTrue (test clause)
+
+-- the first slot from this one on that has one, or none has
+abbrev pub IsNext : Live → (Clause → Bool) → ℕ → Option ℕ → Type 0
+IsNext live test from None = (s : ℕ) → from ≤ s → ¬ PassesAt live test s
+IsNext live test from (Some slot) =
+    (from ≤ slot) × PassesAt live test slot
+    × ((s : ℕ) → from ≤ s → s < slot → ¬ PassesAt live test s)
+
+-- how many clauses pass
+abbrev pub count_of : (Clause → Bool) → FinMap nat_cmp Clause → ℕ
+count_of test clauses = sum_over (λ c. if test c then 1 else 0) clauses
+
+-- each live clause that passes clashes, as far as its rest goes, with what is assumed
+abbrev pub AllClash : Live → List Literal → (Clause → Bool) → (Clause → Clause) → Type 0
+AllClash live assumed test rest =
+    (k : ℕ) (c : Clause) → live k ≡ Some c → IsTrue (test c) →
+    Clash live (assumed ++ complements (rest c))
+
+-- some live clause that passes doesn't
+pub record SomeQuiet (live : Live) (assumed : List Literal) (test : Clause → Bool)
+    (rest : Clause → Clause) : Type 0 where
   pub slot : ℕ
   pub clause : Clause
   pub at : live slot ≡ Some clause
-  pub member : IsTrue (has clause opposite)
-  pub quiet : ¬ Clash live (assumed ++ complements (without clause opposite))
+  pub passes : IsTrue (test clause)
+  pub quiet : ¬ Clash live (assumed ++ complements (rest clause))
 
-abbrev pub SearchedCandidates : Live → List Literal → Literal → Bool → Type 0
-SearchedCandidates live assumed opposite true = AllClash live assumed opposite
-SearchedCandidates live assumed opposite false = SomeQuiet live assumed opposite
-
--- each live clause that the set reduces clashes, as far as the set does not make it false, with
--- what is assumed
-abbrev pub AllReducedClash : Live → List Literal → List Literal → Type 0
-AllReducedClash live assumed set =
-    (k : ℕ) (d : Clause) → live k ≡ Some d → IsTrue (is_reduced (has set) d) →
-    Clash live (assumed ++ complements (open_literals set d))
-
--- some live clause that the set reduces doesn't
-pub record SomeReducedQuiet (live : Live) (assumed set : List Literal) : Type 0 where
-  pub slot : ℕ
-  pub clause : Clause
-  pub at : live slot ≡ Some clause
-  pub reduced : IsTrue (is_reduced (has set) clause)
-  pub quiet : ¬ Clash live (assumed ++ complements (open_literals set clause))
-
-abbrev pub SearchedReduced : Live → List Literal → List Literal → Bool → Type 0
-SearchedReduced live assumed set true = AllReducedClash live assumed set
-SearchedReduced live assumed set false = SomeReducedQuiet live assumed set
+abbrev pub Searched : Live → List Literal → (Clause → Bool) → (Clause → Clause) → Bool → Type 0
+Searched live assumed test rest true = AllClash live assumed test rest
+Searched live assumed test rest false = SomeQuiet live assumed test rest

@@ -1,4 +1,4 @@
-use Rattle.steps.proofs.DratLemmas.Reduced.{parts_given}
+use Rattle.steps.proofs.DratLemmas.Witnesses.{parts_given}
 use Rattle.steps.proofs.drat.step.parts_of.Goals as goal
 
 pub returns-then-rules-clause-meets : goal.returns-then-rules-clause-meets

@@ -1,7 +1,7 @@
 use Rattle.std.proofs.Common.{true, false}
 use Rattle.propagation.specs.Assumptions.{assumed_by}
 use Rattle.steps.proofs.DratLemmas.Steps.{answers_none, answers_searched}
-use Rattle.steps.proofs.drat.step.judge_rat.Goals as goal
+use Rattle.steps.proofs.drat.addition.judge_rat.Goals as goal
 
 pub returns-in_default-clause-answers : goal.returns-in_default-clause-answers
 returns-in_default-clause-answers g c =

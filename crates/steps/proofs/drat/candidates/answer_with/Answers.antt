@@ -1,6 +1,6 @@
 use Rattle.std.proofs.Common.{◌∙◌}
 use Rattle.steps.proofs.DratLemmas.Candidates.{clause_there}
-use Rattle.steps.proofs.drat.pr.answer_unless.Goals as goal
+use Rattle.steps.proofs.drat.candidates.answer_with.Goals as goal
 
 pub undo-requires : goal.undo-requires
 undo-requires g c =
