@@ -22,6 +22,21 @@ use proofs::{DratBinary, DratText, LratText, StepBuf, StepReader};
 use std::alloc::Global;
 use std::io::Read;
 use std::{env, io};
+use steps::DratRules;
+
+const PLAIN_RULES: DratRules = DratRules {
+    strict: false,
+    pr: false,
+    keep_units: false,
+};
+
+/// What the calls are made with: a clause of two literals, one of many other variables, and a literal of none of these.
+#[derive(Clone, Copy)]
+struct Literals<'a> {
+    few: [Lit; 2],
+    many: &'a [Lit],
+    far: Lit,
+}
 
 /// What comes first, and then one text so many times.
 #[derive(Drop)]
@@ -208,10 +223,15 @@ fn try_call(
     let Some(far) = Lit::new(268435455) else {
         return Ok(None);
     };
-    if let Some(is_done) = quiet::carry_out(alloc, name, few, many.as_slice(), is_called)? {
+    let literals = Literals {
+        few,
+        many: many.as_slice(),
+        far,
+    };
+    if let Some(is_done) = quiet::carry_out(alloc, name, &literals, is_called)? {
         return Ok(Some(if is_done { "done" } else { "not done" }));
     }
-    let told = refused::carry_out(alloc, name, &few, many.as_slice(), far)?;
+    let told = refused::carry_out(alloc, name, &literals)?;
     Ok(told.map(|told| match told {
         refused::Told::Whole => "whole",
         refused::Told::Kept => "kept",

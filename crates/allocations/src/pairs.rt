@@ -74,15 +74,15 @@ pub fn check_pairs(alloc: Global, clause: &[Lit], times: u64) -> Result<u64, Fau
     let mut step = StepBuf::new(alloc);
     count_calls(times, |_| {
         Ok(
-            take_step(&mut session, &mut reader, &mut step)? == Some(Accepted::Rup)
-                && take_step(&mut session, &mut reader, &mut step)? == Some(Accepted::Deleted),
+            read_and_step(&mut session, &mut reader, &mut step)? == Some(Accepted::Rup)
+                && read_and_step(&mut session, &mut reader, &mut step)? == Some(Accepted::Deleted),
         )
     })
 }
 
 /// What the session says of the next step; none where it is refused or there is none.
-fn take_step<R: StepReader>(
-    session: &mut LratSession,
+pub fn read_and_step<S: ProofSession, R: StepReader>(
+    session: &mut S,
     reader: &mut R,
     step: &mut StepBuf,
 ) -> Result<Option<Accepted>, Fault> {
@@ -90,7 +90,7 @@ fn take_step<R: StepReader>(
         return Ok(None);
     }
     match session.step(step) {
-        Ok(word) => Ok(Some(word)),
+        Ok(accepted) => Ok(Some(accepted)),
         Err(Refusal::OutOfMemory) => Err(Fault::OutOfMemory),
         Err(_) => Ok(None),
     }

@@ -3,8 +3,9 @@
 ghost use Rattle.std.specs.Prelude.{◌≡◌, ◌≤◌, [], false};
 ghost use Rattle.std.specs.FinMap as maps;
 
-use crate::open;
+use crate::pairs::read_and_step;
 use crate::refused::bind_new;
+use crate::{Literals, PLAIN_RULES, open};
 use clause_db::{Ids, Slot, Store};
 use cnf_base::{Fault, FromRead, LineOut, Lit, Scanner, ToWrite};
 use dimacs::{ClauseBuf, FormulaReader, read_claim};
@@ -12,17 +13,11 @@ use proofs::{DratBinary, DratText, LratText, StepBuf, StepReader};
 use propagation::{Answer, Propagate, Scan};
 use std::alloc::Global;
 use std::io::{Read, Write};
-use steps::{DratRules, DratSession, LratSession, ProofSession};
+use steps::{DratSession, LratSession, ProofSession};
 use trail::{Trail, Whole};
 use watch::Watch;
 
-const PLAIN_RULES: DratRules = DratRules {
-    strict: false,
-    pr: false,
-    keep_units: false,
-};
-
-fn literals(number: i32) -> bool {
+fn has_next_slot(number: i32) -> bool {
     match Lit::new(number) {
         Some(l) => {
             let _ = (l.neg(), l.var(), l.to_i32(), l.index());
@@ -267,8 +262,8 @@ const SHORT: &[u8] = b"9 2 0 1 2 9 9 9 9 9 9 9 0\n";
 
 const LONG: &[u8] = b"9 2 0 1 1 1 1 1 1 1 1 2 0\n";
 
-/// Takes the first step that the reader gives, after these clauses of the formula.
-fn take_step<S: ProofSession, R: StepReader>(
+/// Whether the session accepts the first step that the reader gives, after these clauses of the formula.
+fn check_first_step<S: ProofSession, R: StepReader>(
     alloc: Global,
     session: &mut S,
     reader: &mut R,
@@ -282,17 +277,11 @@ fn take_step<S: ProofSession, R: StepReader>(
         return Err(Fault::OutOfMemory);
     }
     let mut step = StepBuf::new(alloc);
-    if !reader.next(&mut step)? {
-        return Ok(false);
-    }
-    match session.step(&step) {
-        Ok(_) => Ok(true),
-        Err(_) => Err(Fault::OutOfMemory),
-    }
+    Ok(read_and_step(session, reader, &mut step)?.is_some())
 }
 
-/// Takes the first step of this text.
-fn take_step_of<S: ProofSession>(
+/// Whether it accepts the first step of this text.
+fn check_first_step_of<S: ProofSession>(
     alloc: Global,
     session: &mut S,
     text: &[u8],
@@ -302,14 +291,14 @@ fn take_step_of<S: ProofSession>(
     requires room { 2 ≤ (S.shown session.old).room }
 {
     let mut reader = LratText::new(open(alloc, b"", text, 1)?);
-    take_step(alloc, session, &mut reader, clauses)
+    check_first_step(alloc, session, &mut reader, clauses)
 }
 
 fn walk(alloc: Global, clauses: [[Lit; 2]; 2], is_called: bool) -> Result<bool, Fault> {
     let mut session = LratSession::new(alloc)?;
     let text = if is_called { LONG } else { SHORT };
-    let is_taken = take_step_of(alloc, &mut session, text, clauses)?;
-    Ok(is_taken && is_called)
+    let is_accepted = check_first_step_of(alloc, &mut session, text, clauses)?;
+    Ok(is_accepted && is_called)
 }
 
 fn model(alloc: Global, l: Lit, is_called: bool) -> Result<bool, Fault> {
@@ -323,13 +312,13 @@ fn model(alloc: Global, l: Lit, is_called: bool) -> Result<bool, Fault> {
 pub fn carry_out(
     alloc: Global,
     name: &str,
-    few: [Lit; 2],
-    many: &[Lit],
+    literals: &Literals<'_>,
     is_called: bool,
 ) -> Result<Option<bool>, Fault> {
+    let Literals { few, many, .. } = *literals;
     let [l, other] = few;
     let is_done = match name {
-        "quiet_literals" => is_called && literals(-268435455),
+        "quiet_literals" => is_called && has_next_slot(-268435455),
         "quiet_buffers" => is_called && buffers(alloc),
         "quiet_lines" => is_called && lines(&[b'x'; 200]),
         "quiet_source" => source(alloc, is_called)?,

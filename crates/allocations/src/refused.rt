@@ -3,7 +3,7 @@
 ghost use Rattle.std.specs.Prelude.{◌≡◌, ◌≤◌, [], false};
 ghost use Rattle.std.specs.FinMap as maps;
 
-use crate::open;
+use crate::{Literals, PLAIN_RULES, open};
 use clause_db::{Ids, Slot, Store};
 use cnf_base::{Fault, Lit, OutOfMemory};
 use dimacs::{ClauseBuf, FormulaReader};
@@ -13,12 +13,6 @@ use std::alloc::Global;
 use steps::{DratRules, DratSession, LratSession, ProofSession, Refusal};
 use trail::{Trail, Value, Whole};
 use watch::Watch;
-
-const PLAIN_RULES: DratRules = DratRules {
-    strict: false,
-    pr: false,
-    keep_units: false,
-};
 
 /// How such a call ended.
 #[derive(Clone, Copy, PartialEq, Eq)]
@@ -262,17 +256,12 @@ fn lrat_input(alloc: Global, many: &[Lit]) -> Result<Told, Fault> {
     Ok(input(alloc, &mut session, many))
 }
 
-fn by_store(
-    alloc: Global,
-    name: &str,
-    few: &[Lit],
-    many: &[Lit],
-    far: Lit,
-) -> Result<Option<Told>, Fault> {
+fn by_store(alloc: Global, name: &str, literals: &Literals<'_>) -> Result<Option<Told>, Fault> {
+    let Literals { few, many, far } = *literals;
     let told = match name {
-        "refused_insert" => insert(alloc, few, many),
+        "refused_insert" => insert(alloc, &few, many),
         "refused_bind" => bind(alloc),
-        "refused_reserve" => reserve(alloc, few, far),
+        "refused_reserve" => reserve(alloc, &few, far),
         _ => return Ok(None),
     };
     Ok(Some(told?))
@@ -281,25 +270,26 @@ fn by_store(
 fn by_propagation(
     alloc: Global,
     name: &str,
-    few: &[Lit],
-    many: &[Lit],
+    literals: &Literals<'_>,
 ) -> Result<Option<Told>, Fault> {
+    let Literals { few, many, .. } = *literals;
     let told = match name {
-        "refused_assume_of_scan" => assume(Scan::new(alloc)?, few, many),
-        "refused_assume_of_watch" => assume(Watch::new(alloc)?, few, many),
-        "refused_root_reason_of_scan" => ask_root_reason(Scan::new(alloc)?, few),
-        "refused_root_reason_of_watch" => ask_root_reason(Watch::new(alloc)?, few),
+        "refused_assume_of_scan" => assume(Scan::new(alloc)?, &few, many),
+        "refused_assume_of_watch" => assume(Watch::new(alloc)?, &few, many),
+        "refused_root_reason_of_scan" => ask_root_reason(Scan::new(alloc)?, &few),
+        "refused_root_reason_of_watch" => ask_root_reason(Watch::new(alloc)?, &few),
         _ => return Ok(None),
     };
     Ok(Some(told?))
 }
 
-fn by_session(alloc: Global, name: &str, few: &[Lit], many: &[Lit]) -> Result<Option<Told>, Fault> {
+fn by_session(alloc: Global, name: &str, literals: &Literals<'_>) -> Result<Option<Told>, Fault> {
+    let Literals { few, many, .. } = *literals;
     let told = match name {
-        "refused_step_by_scan" => drat_step(alloc, Scan::new(alloc)?, few),
-        "refused_step_by_watch" => drat_step(alloc, Watch::new(alloc)?, few),
-        "refused_step_with_a_set" => step_with_set(alloc, Watch::new(alloc)?, few),
-        "refused_step_by_hints" => lrat_step(alloc, few),
+        "refused_step_by_scan" => drat_step(alloc, Scan::new(alloc)?, &few),
+        "refused_step_by_watch" => drat_step(alloc, Watch::new(alloc)?, &few),
+        "refused_step_with_a_set" => step_with_set(alloc, Watch::new(alloc)?, &few),
+        "refused_step_by_hints" => lrat_step(alloc, &few),
         "refused_input_of_scan" => Ok(drat_input(alloc, Scan::new(alloc)?, many)),
         "refused_input_by_hints" => lrat_input(alloc, many),
         _ => return Ok(None),
@@ -333,21 +323,19 @@ fn by_reader(alloc: Global, name: &str) -> Result<Option<Told>, Fault> {
     Ok(Some(told?))
 }
 
-/// Carries out what is named, if anything is. `far` is a literal of none of the others' variables.
+/// Carries out what is named, if anything is.
 pub fn carry_out(
     alloc: Global,
     name: &str,
-    few: &[Lit],
-    many: &[Lit],
-    far: Lit,
+    literals: &Literals<'_>,
 ) -> Result<Option<Told>, Fault> {
-    if let Some(told) = by_store(alloc, name, few, many, far)? {
+    if let Some(told) = by_store(alloc, name, literals)? {
         return Ok(Some(told));
     }
-    if let Some(told) = by_propagation(alloc, name, few, many)? {
+    if let Some(told) = by_propagation(alloc, name, literals)? {
         return Ok(Some(told));
     }
-    if let Some(told) = by_session(alloc, name, few, many)? {
+    if let Some(told) = by_session(alloc, name, literals)? {
         return Ok(Some(told));
     }
     by_reader(alloc, name)
