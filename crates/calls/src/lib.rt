@@ -2,12 +2,4 @@
 #![tactic(auto)]
 
 #[cfg(test)]
-mod asserts;
-#[cfg(test)]
-mod propagate;
-#[cfg(test)]
-mod readers;
-#[cfg(test)]
-mod sessions;
-#[cfg(test)]
-mod stores;
+mod tests;

@@ -1,5 +1,0 @@
-use Rattle.std.proofs.Common.{◌≡◌, []}
-use Rattle.calls.proofs.propagate.calls.counts_down.Given as goal
-
-abbrev pub invariant-loop : goal.invariant-loop
-invariant-loop g l = record { nothing_assumed : (g.P.Propagate.state l.clauses).assumptions ≡ [] }

@@ -1,5 +1,0 @@
-use Rattle.std.proofs.Common.{◌≡◌, []}
-use Rattle.calls.proofs.propagate.calls.fill.Given as goal
-
-abbrev pub invariant-loop-row : goal.invariant-loop-row
-invariant-loop-row g l = record { nothing_assumed : (g.P.Propagate.state l.clauses).assumptions ≡ [] }

@@ -1,0 +1,354 @@
+//! Tests of both propagations: the same of each.
+
+ghost use Rattle.std.specs.Prelude.{◌≡◌, ℕ, List, [], ◌∷◌, true, IfOk, OnOk};
+ghost use Rattle.std.specs.FinMap as maps;
+ghost use Rattle.propagation.specs.Assumptions.{LastIsAnswered, MayAssume};
+ghost use Rattle.propagation.specs.declared.answer.Answer.TheVariants.{Quiet};
+
+use crate::tests::asserts::{expect_equal, expect_true};
+use crate::tests::literals::literals;
+use crate::tests::propagate::fresh::Fresh;
+use clause_db::Slot;
+use cnf_base::{Lit, OutOfMemory};
+use propagation::{Answer, Propagate, Scan, Value};
+use std::alloc::Global;
+use std::process::Abort;
+use std::test::Fail;
+use watch::Watch;
+
+/// Inserts the clauses of a formula, in which a unit clause is a row with its literal twice.
+pub(crate) fn fill<P: Propagate>(
+    alloc: Global,
+    clauses: &mut P,
+    rows: &[[i32; 2]],
+) -> Result<(), Fail>
+    requires { (P.state clauses.old).assumptions ≡ [] }
+    ensures { OnOk result ((P.state clauses.new).assumptions ≡ []) }
+{
+    for row in rows {
+        let clause = literals(alloc, row)?;
+        clauses.insert(clause.as_slice())?;
+    }
+    Ok(())
+}
+
+/// Which literals of the variables 1 to 3 are true.
+fn trues<P: Propagate>(alloc: Global, clauses: &P) -> Result<Vec<i32>, Fail>
+    requires { LastIsAnswered Quiet (P.state clauses.now).assumptions }
+{
+    let mut all = Vec::new(alloc);
+    for number in [1, -1, 2, -2, 3, -3] {
+        let l = Lit::new(number).ok_or("no literal")?;
+        if clauses.value(l) == Value::True {
+            all.push(number)?;
+        }
+    }
+    Ok(all)
+}
+
+/// Which literals are true after an assumption; none where it clashes.
+fn assumed<P: Fresh>(
+    alloc: Global,
+    rows: &[[i32; 2]],
+    numbers: &[i32],
+) -> Result<Option<Vec<i32>>, Fail> {
+    let mut clauses = P::fresh(alloc)?;
+    fill(alloc, &mut clauses, rows)?;
+    let clause = literals(alloc, numbers)?;
+    match clauses.assume(clause.as_slice())? {
+        Answer::Clash => Ok(None),
+        Answer::Quiet => Ok(Some(trues(alloc, &clauses)?)),
+    }
+}
+
+const FOUR: [[i32; 2]; 4] = [[1, 2], [-1, 2], [1, -2], [-1, -2]];
+
+const UNIT_AND_BOTH: [[i32; 2]; 3] = [[1, 1], [-1, 2], [-1, -2]];
+
+/// A formula, whose complements are assumed, and what is true then.
+type Propagation<'a> = (&'a [[i32; 2]], &'a [i32], Option<&'a [i32]>);
+
+/// Whether both propagations find what is expected.
+fn both_find(alloc: Global, row: &Propagation<'_>) -> Result<bool, Fail> {
+    let (rows, numbers, expected) = *row;
+    let scanned = assumed::<Scan>(alloc, rows, numbers)?;
+    let watched = assumed::<Watch>(alloc, rows, numbers)?;
+    let scanned = scanned.as_ref().map(|all| all.as_slice());
+    let watched = watched.as_ref().map(|all| all.as_slice());
+    Ok(scanned == expected && watched == expected)
+}
+
+#[test]
+fn propagates(rt: HostRuntime) -> Result<(), Fail> {
+    let rows: [Propagation<'_>; 5] = [
+        (&FOUR, &[2], None),
+        (&FOUR, &[], Some(&[])),
+        (&UNIT_AND_BOTH, &[], None),
+        (&[[-1, 2], [-1, -2]], &[], Some(&[])),
+        (&[[1, 2]], &[-1, 3, 2], Some(&[1, -2, -3])),
+    ];
+    for row in &rows {
+        expect_true(&rt, both_find(rt.alloc(), row)?);
+    }
+    Ok(())
+}
+
+/// How the rest of the clause `row` is answered where nothing else is assumed; none where there is no such clause.
+fn rest_answer<P: Fresh>(
+    alloc: Global,
+    rows: &[[i32; 2]],
+    row: &[i32],
+    left_out: i32,
+) -> Result<Option<Answer>, Fail> {
+    let mut clauses = P::fresh(alloc)?;
+    fill(alloc, &mut clauses, rows)?;
+    let l = Lit::new(left_out).ok_or("no literal")?;
+    let clause = literals(alloc, row)?;
+    match clauses.find(clause.as_slice()) {
+        Some(slot) => Ok(Some(clauses.assume_rest(slot, l)?)),
+        None => Ok(None),
+    }
+}
+
+const QUIET_REST: [[i32; 2]; 2] = [[1, 2], [3, 3]];
+
+const CLASHING_REST: [[i32; 2]; 2] = [[1, 2], [1, -2]];
+
+#[test]
+fn assumes_the_rest(rt: HostRuntime) -> Result<(), Fail> {
+    let alloc = rt.alloc();
+    let scanned = rest_answer::<Scan>(alloc, &QUIET_REST, &[2, 1], 2)?;
+    expect_equal(&rt, scanned, Some(Answer::Quiet));
+    let watched = rest_answer::<Watch>(alloc, &QUIET_REST, &[2, 1], 2)?;
+    expect_equal(&rt, watched, Some(Answer::Quiet));
+    let scanned = rest_answer::<Scan>(alloc, &CLASHING_REST, &[2, 1], 2)?;
+    expect_equal(&rt, scanned, Some(Answer::Clash));
+    let watched = rest_answer::<Watch>(alloc, &CLASHING_REST, &[2, 1], 2)?;
+    expect_equal(&rt, watched, Some(Answer::Clash));
+    Ok(())
+}
+
+/// How a clause is answered but for what the set makes false, where nothing else is assumed; none where there is no such
+/// clause.
+fn unless_answer<P: Fresh>(
+    alloc: Global,
+    rows: &[[i32; 2]],
+    row: &[i32],
+    set: &[i32],
+) -> Result<Option<Answer>, Fail> {
+    let mut clauses = P::fresh(alloc)?;
+    fill(alloc, &mut clauses, rows)?;
+    let clause = literals(alloc, row)?;
+    let set = literals(alloc, set)?;
+    match clauses.find(clause.as_slice()) {
+        Some(slot) => Ok(Some(clauses.assume_unless(slot, set.as_slice())?)),
+        None => Ok(None),
+    }
+}
+
+fn expect_unless(rt: &impl Abort, alloc: Global, set: &[i32], answer: Answer) -> Result<(), Fail> {
+    let scanned = unless_answer::<Scan>(alloc, &QUIET_REST, &[1, 2], set)?;
+    expect_equal(rt, scanned, Some(answer));
+    let watched = unless_answer::<Watch>(alloc, &QUIET_REST, &[1, 2], set)?;
+    expect_equal(rt, watched, Some(answer));
+    Ok(())
+}
+
+#[test]
+fn assumes_unless_the_set_makes_it_false(rt: HostRuntime) -> Result<(), Fail> {
+    let alloc = rt.alloc();
+    let rows: [(&[i32], Answer); 5] = [
+        (&[], Answer::Clash),
+        (&[-1], Answer::Quiet),
+        (&[-2, 3], Answer::Quiet),
+        (&[1, 2, 3], Answer::Clash),
+        (&[-2, -1], Answer::Quiet),
+    ];
+    for (set, expected) in &rows {
+        expect_unless(&rt, alloc, set, *expected)?;
+    }
+    Ok(())
+}
+
+/// Whether a set has a literal with its complement, where there are no clauses.
+fn has_conflict<P: Fresh>(alloc: Global, set: &[i32]) -> Result<bool, Fail> {
+    let mut clauses = P::fresh(alloc)?;
+    let set = literals(alloc, set)?;
+    Ok(clauses.conflicts(set.as_slice())?)
+}
+
+#[test]
+fn finds_conflicts(rt: HostRuntime) -> Result<(), Fail> {
+    let alloc = rt.alloc();
+    let rows: [(&[i32], bool); 5] = [
+        (&[], false),
+        (&[1, 2, 1], false),
+        (&[-2], false),
+        (&[-1, 2, 1], true),
+        (&[268435455, -268435455], true),
+    ];
+    for (set, expected) in &rows {
+        expect_equal(&rt, has_conflict::<Scan>(alloc, set)?, *expected);
+        expect_equal(&rt, has_conflict::<Watch>(alloc, set)?, *expected);
+    }
+    Ok(())
+}
+
+/// Whether the first clause that the set reduces is this row; where the row is empty, whether there is none.
+fn reduces_first<P: Fresh>(alloc: Global, set: &[i32], row: &[i32]) -> Result<bool, Fail> {
+    let mut clauses = P::fresh(alloc)?;
+    fill(alloc, &mut clauses, &[[1, 2], [-1, -2], [-1, 3], [2, 3]])?;
+    let set = literals(alloc, set)?;
+    let clause = literals(alloc, row)?;
+    let expected = clauses.find(clause.as_slice());
+    Ok(clauses.next_reduced(set.as_slice(), Slot::first())? == expected)
+}
+
+fn expect_reduced(rt: &impl Abort, alloc: Global, set: &[i32], row: &[i32]) -> Result<(), Fail> {
+    let scanned = reduces_first::<Scan>(alloc, set, row)?;
+    expect_true(rt, scanned);
+    let watched = reduces_first::<Watch>(alloc, set, row)?;
+    expect_true(rt, watched);
+    Ok(())
+}
+
+#[test]
+fn finds_what_a_set_reduces(rt: HostRuntime) -> Result<(), Fail> {
+    let alloc = rt.alloc();
+    let rows: [(&[i32], &[i32]); 6] = [
+        (&[], &[]),
+        (&[1], &[-1, -2]),
+        (&[1, -2], &[3, -1]),
+        (&[-3, 4], &[-1, 3]),
+        (&[4, -5, 268435455], &[]),
+        (&[-1, 2], &[]),
+    ];
+    for (set, expected) in &rows {
+        expect_reduced(&rt, alloc, set, expected)?;
+    }
+    Ok(())
+}
+
+/// What propagation says of the greatest variable where its clause is left with it alone.
+fn greatest<P: Fresh>(alloc: Global) -> Result<Value, Fail> {
+    let mut clauses = P::fresh(alloc)?;
+    fill(alloc, &mut clauses, &[[1, 268435455]])?;
+    let clause = literals(alloc, &[1])?;
+    let l = Lit::new(268435455).ok_or("no literal")?;
+    match clauses.assume(clause.as_slice())? {
+        Answer::Clash => Ok(Value::Open),
+        Answer::Quiet => Ok(clauses.value(l)),
+    }
+}
+
+/// How many literals the formula has, and whether there is a clause with this one.
+fn looked_up<P: Fresh>(alloc: Global, rows: &[[i32; 2]], number: i32) -> Result<(u64, bool), Fail> {
+    let mut clauses = P::fresh(alloc)?;
+    fill(alloc, &mut clauses, rows)?;
+    let l = Lit::new(number).ok_or("no literal")?;
+    let slot = clauses.next_with(l, Slot::first());
+    Ok((clauses.literals(), slot.is_some()))
+}
+
+fn expect_looked_up(rt: &impl Abort, alloc: Global, number: i32, there: bool) -> Result<(), Fail> {
+    let scanned = looked_up::<Scan>(alloc, &UNIT_AND_BOTH, number)?;
+    expect_equal(rt, scanned, (5, there));
+    let watched = looked_up::<Watch>(alloc, &UNIT_AND_BOTH, number)?;
+    expect_equal(rt, watched, (5, there));
+    Ok(())
+}
+
+#[test]
+fn looks_up(rt: HostRuntime) -> Result<(), Fail> {
+    let alloc = rt.alloc();
+    expect_equal(&rt, greatest::<Scan>(alloc)?, Value::True);
+    expect_equal(&rt, greatest::<Watch>(alloc)?, Value::True);
+    for (number, there) in [(-2, true), (3, false)] {
+        expect_looked_up(&rt, alloc, number, there)?;
+    }
+    Ok(())
+}
+
+/// How many clauses have the literal 2, and whether a slot with it is found, as the clauses `1 2` are taken out one by one.
+fn counts_down<P: Fresh>(alloc: Global, rows: &[[i32; 2]]) -> Result<Vec<(u64, bool)>, Fail> {
+    let mut clauses = P::fresh(alloc)?;
+    fill(alloc, &mut clauses, rows)?;
+    let l = Lit::new(2).ok_or("no literal")?;
+    let clause = literals(alloc, &[1, 2])?;
+    let mut counts = Vec::new(alloc);
+    for _ in 0..3 {
+        let slot = clauses.next_with(l, Slot::first());
+        counts.push((clauses.count_with(l), slot.is_some()))?;
+        if let Some(slot) = clauses.find(clause.as_slice()) {
+            clauses.remove(slot);
+        }
+    }
+    Ok(counts)
+}
+
+const TWO_COPIES: [[i32; 2]; 3] = [[1, 2], [2, 1], [1, -2]];
+
+#[test]
+fn counts_copies(rt: HostRuntime) -> Result<(), Fail> {
+    let alloc = rt.alloc();
+    let expected = [(2, true), (1, true), (0, false)];
+    let scanned = counts_down::<Scan>(alloc, &TWO_COPIES)?;
+    expect_true(&rt, scanned.as_slice() == expected.as_slice());
+    let watched = counts_down::<Watch>(alloc, &TWO_COPIES)?;
+    expect_true(&rt, watched.as_slice() == expected.as_slice());
+    Ok(())
+}
+
+/// Whether an assumption that was refused is refused ever after, and changes nothing.
+fn is_refused_again<P: Fresh>(alloc: Global) -> Result<bool, Fail> {
+    let mut clauses = P::fresh(alloc)?;
+    fill(alloc, &mut clauses, &FOUR)?;
+    let clause = literals(alloc, &[7])?;
+    match clauses.assume(clause.as_slice()) {
+        Ok(answer) => Ok(answer == Answer::Quiet),
+        Err(OutOfMemory) => Ok(clauses.assume(&[]).is_err()),
+    }
+}
+
+#[test]
+fn stays_where_memory_runs_out(rt: HostRuntime) -> Result<(), Fail> {
+    let alloc = rt.alloc();
+    expect_true(&rt, is_refused_again::<Scan>(alloc)?);
+    expect_true(&rt, is_refused_again::<Watch>(alloc)?);
+    Ok(())
+}
+
+/// Whether a clause makes a literal of it hold for good; none where there is no such clause.
+fn root_reason<P: Fresh>(
+    alloc: Global,
+    rows: &[[i32; 2]],
+    row: &[i32],
+) -> Result<Option<bool>, Fail> {
+    let mut clauses = P::fresh(alloc)?;
+    fill(alloc, &mut clauses, rows)?;
+    let clause = literals(alloc, row)?;
+    match clauses.find(clause.as_slice()) {
+        Some(slot) => Ok(Some(clauses.is_root_reason(slot)?)),
+        None => Ok(None),
+    }
+}
+
+#[test]
+fn tells_root_reasons(rt: HostRuntime) -> Result<(), Fail> {
+    let alloc = rt.alloc();
+    let rows: [(&[[i32; 2]], &[i32], Option<bool>); 7] = [
+        (&[[1, 1], [-1, 2], [3, 1]], &[-1, 2], Some(true)),
+        (&[[1, 1], [-1, 2], [3, 1]], &[1], Some(true)),
+        (&[[1, 1], [-1, 2], [3, 1]], &[3, 1], Some(false)),
+        (&FOUR, &[1, 2], Some(false)),
+        (&[[1, 1], [-1, -1], [1, 2]], &[1, 2], Some(true)),
+        (&[[1, 1], [-1, -1], [2, 3]], &[2, 3], Some(false)),
+        (&UNIT_AND_BOTH, &[-1, -2], Some(true)),
+    ];
+    for (rows, row, expected) in &rows {
+        let scanned = root_reason::<Scan>(alloc, rows, row)?;
+        let watched = root_reason::<Watch>(alloc, rows, row)?;
+        expect_true(&rt, scanned == *expected && watched == *expected);
+    }
+    Ok(())
+}

@@ -1,0 +1,95 @@
+//! Tests of what `Watch` keeps of the literals that are true with nothing assumed.
+
+ghost use Rattle.std.specs.Prelude.{◌≡◌, [], OnOk};
+
+use crate::tests::asserts::{expect_equal, expect_true};
+use crate::tests::literals::literals;
+use crate::tests::propagate::calls::fill;
+use propagation::Propagate;
+use std::alloc::Global;
+use std::test::Fail;
+use watch::Watch;
+
+/// Whether what follows with nothing assumed is known, whether it is a clash, and how many literals are kept.
+type Known = (bool, bool, usize);
+
+fn known(watch: &Watch) -> Known {
+    (
+        watch.is_up_to_date(),
+        watch.has_root_clash(),
+        watch.root_literals().len(),
+    )
+}
+
+/// Takes the clause out, if it is there, where nothing is assumed.
+fn take_out(alloc: Global, watch: &mut Watch, numbers: &[i32]) -> Result<Known, Fail>
+    requires { watch.old.propagation.assumptions ≡ [] }
+    ensures { OnOk result (watch.new.propagation.assumptions ≡ []) }
+{
+    let clause = literals(alloc, numbers)?;
+    if let Some(slot) = watch.find(clause.as_slice()) {
+        watch.remove(slot);
+    }
+    Ok(known(watch))
+}
+
+/// What is known after an assumption, after it was taken back, and after two removals: of a clause that is no reason, and of one
+/// that is.
+fn kept(alloc: Global, watch: &mut Watch) -> Result<Vec<Known>, Fail>
+    requires { watch.old.propagation.assumptions ≡ [] }
+{
+    let mut all = Vec::new(alloc);
+    fill(alloc, watch, &[[1, 1], [-1, 2], [3, 4]])?;
+    let _ = watch.assume(&[])?;
+    all.push(known(watch))?;
+    watch.take_back();
+    all.push(known(watch))?;
+    Ok(all)
+}
+
+#[test]
+fn keeps_what_follows(rt: HostRuntime) -> Result<(), Fail> {
+    let mut watch = Watch::new(rt.alloc())?;
+    let all = kept(rt.alloc(), &mut watch)?;
+    let expected = [(true, false, 2), (true, false, 2)];
+    expect_true(&rt, all.as_slice() == expected.as_slice());
+    Ok(())
+}
+
+/// What is known after the removal of a clause, by which the literal 2 follows from the unit clause 1, or doesn't.
+fn removed_from(alloc: Global, watch: &mut Watch, numbers: &[i32]) -> Result<Known, Fail>
+    requires { watch.old.propagation.assumptions ≡ [] }
+{
+    fill(alloc, watch, &[[1, 1], [-1, 2], [3, 4]])?;
+    let _ = watch.assume(&[])?;
+    watch.take_back();
+    take_out(alloc, watch, numbers)
+}
+
+fn removed(alloc: Global, numbers: &[i32]) -> Result<Known, Fail> {
+    let mut watch = Watch::new(alloc)?;
+    removed_from(alloc, &mut watch, numbers)
+}
+
+#[test]
+fn loses_what_rests_on_a_removed_clause(rt: HostRuntime) -> Result<(), Fail> {
+    expect_equal(&rt, removed(rt.alloc(), &[3, 4])?, (true, false, 2));
+    expect_equal(&rt, removed(rt.alloc(), &[-1, 2])?, (false, false, 0));
+    Ok(())
+}
+
+/// What is known where two unit clauses contradict.
+fn contradicted(alloc: Global, watch: &mut Watch) -> Result<(bool, bool), Fail>
+    requires { watch.old.propagation.assumptions ≡ [] }
+{
+    fill(alloc, watch, &[[1, 1], [-1, -1]])?;
+    let _ = watch.assume(&[])?;
+    Ok((watch.is_up_to_date(), watch.has_root_clash()))
+}
+
+#[test]
+fn keeps_a_clash(rt: HostRuntime) -> Result<(), Fail> {
+    let mut watch = Watch::new(rt.alloc())?;
+    expect_equal(&rt, contradicted(rt.alloc(), &mut watch)?, (true, true));
+    Ok(())
+}

@@ -1,0 +1,130 @@
+//! Tests of the trail.
+
+use crate::tests::asserts::{expect_equal, expect_equal_at, expect_true};
+use crate::tests::literals::literal;
+use cnf_base::{Lit, OutOfMemory};
+use std::test::Fail;
+use trail::{Except, Left, Part, Trail, Value, Whole, left_of};
+
+/// Makes room for the literal's variable, and sets it where it is open.
+fn set_open(trail: &mut Trail, l: Lit) -> Result<(), OutOfMemory> {
+    trail.reserve(l.var())?;
+    if trail.value(l) == Value::Open {
+        trail.set(l);
+    }
+    Ok(())
+}
+
+#[test]
+fn sets_and_takes_back(rt: HostRuntime) -> Result<(), Fail> {
+    let [least, greatest, other] = [literal(1)?, literal(-268435455)?, literal(7)?];
+    let mut trail = Trail::new(rt.alloc())?;
+    expect_true(&rt, trail.is_empty());
+    expect_equal(&rt, trail.value(least), Value::Open);
+    for l in [least, greatest, other, other.neg()] {
+        set_open(&mut trail, l)?;
+    }
+    expect_true(&rt, trail.has_room(7));
+    expect_true(&rt, !trail.has_room(8));
+    // A macro, since `undo_to` requires what it says.
+    assert_eq!(rt; trail.len(), 3);
+    expect_equal(&rt, trail.lits(), [least, greatest, other].as_slice());
+    expect_equal(&rt, trail.value(least), Value::True);
+    expect_equal(&rt, trail.value(least.neg()), Value::False);
+    expect_equal(&rt, trail.value(greatest), Value::True);
+    expect_equal(&rt, trail.value(other.neg()), Value::False);
+    trail.undo_to(1);
+    expect_equal(&rt, trail.lits(), [least].as_slice());
+    expect_equal(&rt, trail.value(greatest), Value::Open);
+    set_open(&mut trail, greatest.neg())?;
+    expect_equal(&rt, trail.value(greatest), Value::False);
+    expect_equal(&rt, trail.lits(), [least, greatest.neg()].as_slice());
+    Ok(())
+}
+
+/// Makes room for a clause, and makes a part of it false.
+fn make_false<P: Part>(trail: &mut Trail, clause: &[Lit], part: &P) -> Result<bool, OutOfMemory> {
+    trail.reserve_all(clause)?;
+    Ok(trail.make_false(clause, part))
+}
+
+#[test]
+fn makes_false(rt: HostRuntime) -> Result<(), Fail> {
+    let [one, two, three] = [literal(1)?, literal(2)?, literal(3)?];
+    let clause = [one, two.neg(), three];
+    let mut trail = Trail::new(rt.alloc())?;
+    expect_equal(&rt, trail.left(&clause), Left::More);
+    expect_true(&rt, !make_false(&mut trail, &clause, &Except(three))?);
+    expect_equal(&rt, trail.lits(), [one.neg(), two].as_slice());
+    expect_equal(&rt, trail.left(&clause), Left::One(three));
+    expect_equal(&rt, left_of(&trail, &clause), Left::One(three));
+    expect_equal(&rt, trail.left(&clause[..2]), Left::Nothing);
+    expect_equal(&rt, trail.left(&[two, one]), Left::One(two));
+    expect_true(&rt, make_false(&mut trail, &[three, two], &Whole)?);
+    expect_equal(&rt, trail.value(three), Value::False);
+    expect_equal(&rt, trail.left(&clause), Left::Nothing);
+    Ok(())
+}
+
+#[test]
+fn has_room_for_any_number(rt: HostRuntime) -> Result<(), Fail> {
+    let mut trail = Trail::new(rt.alloc())?;
+    for var in [0, 1, 1, 268435455, 268435456, u32::MAX, 0] {
+        trail.reserve(var)?;
+    }
+    expect_true(&rt, trail.is_empty());
+    Ok(())
+}
+
+#[test]
+fn stays_where_memory_runs_out(rt: HostRuntime) -> Result<(), Fail> {
+    let first = literal(3)?;
+    let mut trail = Trail::new(rt.alloc())?;
+    for var in 1..3000u32 {
+        let Some(l) = Lit::new(-(var as i32)) else {
+            break;
+        };
+        let before = trail.len();
+        if set_open(&mut trail, l).is_err() {
+            expect_equal(&rt, trail.len(), before);
+            expect_equal(&rt, trail.value(l), Value::Open);
+            set_open(&mut trail, l)?;
+        }
+        expect_equal(&rt, trail.len(), var as usize);
+        if before >= 3 {
+            expect_equal_at(&rt, var, trail.value(first), Value::False);
+        }
+    }
+    Ok(())
+}
+
+#[test]
+fn counts_what_is_left(rt: HostRuntime) -> Result<(), Fail> {
+    let [one, two, far] = [literal(1)?, literal(2)?, literal(268435455)?];
+    let mut trail = Trail::new(rt.alloc())?;
+    expect_equal(&rt, trail.unit_left(&[]), Left::Nothing);
+    expect_equal(&rt, trail.unit_left(&[one, far]), Left::More);
+    expect_equal(&rt, trail.unit_left(&[far, far]), Left::One(far));
+    expect_true(&rt, !make_false(&mut trail, &[one, two.neg()], &Whole)?);
+    expect_equal(&rt, trail.unit_left(&[one, far, two.neg()]), Left::One(far));
+    expect_equal(&rt, trail.unit_left(&[one, two]), Left::One(two));
+    expect_equal(&rt, trail.unit_left(&[two.neg(), one]), Left::Nothing);
+    expect_equal(&rt, trail.unit_left(&[two, one, two, far]), Left::More);
+    Ok(())
+}
+
+#[test]
+fn finds_what_is_open(rt: HostRuntime) -> Result<(), Fail> {
+    let [one, two, far] = [literal(1)?, literal(2)?, literal(268435455)?];
+    let mut trail = Trail::new(rt.alloc())?;
+    let clause = [one, two, far, one];
+    expect_equal(&rt, trail.first_open(&clause, 0), Some(0));
+    expect_true(&rt, !make_false(&mut trail, &[one, two.neg()], &Whole)?);
+    expect_equal(&rt, trail.first_open(&clause, 0), Some(1));
+    expect_equal(&rt, trail.first_open(&clause, 2), Some(2));
+    expect_equal(&rt, trail.first_open(&clause, 3), None);
+    expect_equal(&rt, trail.first_open(&clause, 4), None);
+    expect_true(&rt, !make_false(&mut trail, &[far], &Whole)?);
+    expect_equal(&rt, trail.first_open(&clause, 2), None);
+    Ok(())
+}

@@ -1,0 +1,160 @@
+//! What every session that checks a proof has to answer.
+
+ghost use Rattle.std.specs.Prelude.{◌≡◌, ◌⊎◌, ◌+◌, ◌<◌, ◌≤◌, true, false};
+
+use crate::tests::asserts::{expect_equal, expect_true};
+use crate::tests::literals::literals;
+use proofs::{StepBuf, StepReader};
+use std::alloc::Global;
+use std::process::Abort;
+use std::test::Fail;
+use steps::{Accepted, ProofSession, Refusal};
+
+// What a session answers to a step, and after it the greatest sum of sizes, how many literals are kept, and whether it has verified.
+pub type StepAnswer = (Result<Accepted, Refusal>, u64, u64, bool);
+
+fn expect_answer<S: ProofSession>(
+    rt: &impl Abort,
+    session: &mut S,
+    step: &StepBuf,
+    answer: StepAnswer,
+) {
+    let (expected, peak, held, verified) = answer;
+    expect_equal(rt, session.step(step), expected);
+    expect_equal(rt, session.peak(), peak);
+    expect_equal(rt, session.held(), held);
+    expect_equal(rt, session.verified(), verified);
+}
+
+fn expect_answers<S: ProofSession, R: StepReader>(
+    rt: &impl Abort,
+    alloc: Global,
+    session: &mut S,
+    reader: &mut R,
+    answers: &[StepAnswer],
+) -> Result<(), Fail> {
+    let mut step = StepBuf::new(alloc);
+    for answer in answers {
+        expect_equal(rt, reader.next(&mut step), Ok(true));
+        expect_answer(rt, session, &step, *answer);
+    }
+    expect_equal(rt, reader.next(&mut step), Ok(false));
+    Ok(())
+}
+
+// The clauses of a formula.
+#[derive(Clone, Copy)]
+pub enum Formula {
+    // 1 and 2.
+    One,
+    // 1 and 2, 1 twice, and -1 and 2: five literals where each counts once.
+    Three,
+    // 1 twice, and -1.
+    Contradiction,
+}
+
+fn expect_input<S: ProofSession>(
+    rt: &impl Abort,
+    alloc: Global,
+    session: &mut S,
+    numbers: &[i32],
+) -> Result<(), Fail>
+    requires { ((S.shown session.old).is_ended ≡ true) ⊎
+        (((S.shown session.old).has_stepped ≡ false) × (0 < (S.shown session.old).room)) }
+    ensures { ((S.shown session.new).is_ended ≡ true) ⊎
+        (((S.shown session.new).has_stepped ≡ false) ×
+        ((S.shown session.old).room ≤ (S.shown session.new).room + 1)) }
+{
+    let clause = literals(alloc, numbers)?;
+    expect_equal(rt, session.input(clause.as_slice()), Ok(()));
+    Ok(())
+}
+
+// The sum of the sizes, which is the greatest one too.
+fn expect_formula<S: ProofSession>(
+    rt: &impl Abort,
+    alloc: Global,
+    session: &mut S,
+    formula: Formula,
+) -> Result<(), Fail>
+    requires unused { (S.shown session.old).has_stepped ≡ false }
+    requires room { 3 ≤ (S.shown session.old).room }
+{
+    let size = match formula {
+        Formula::One => {
+            expect_input(rt, alloc, session, &[1, 2])?;
+            2
+        }
+        Formula::Three => {
+            expect_input(rt, alloc, session, &[1, 2])?;
+            expect_input(rt, alloc, session, &[1, 1])?;
+            expect_input(rt, alloc, session, &[-1, 2])?;
+            5
+        }
+        Formula::Contradiction => {
+            expect_input(rt, alloc, session, &[1, 1])?;
+            expect_input(rt, alloc, session, &[-1])?;
+            2
+        }
+    };
+    expect_equal(rt, session.peak(), size);
+    expect_equal(rt, session.held(), size);
+    expect_true(rt, !session.verified());
+    Ok(())
+}
+
+// The answers to the steps of a proof.
+pub fn expect_proof<S: ProofSession, R: StepReader>(
+    rt: &impl Abort,
+    alloc: Global,
+    session: &mut S,
+    reader: &mut R,
+    formula: Formula,
+    answers: &[StepAnswer],
+) -> Result<(), Fail>
+    requires unused { (S.shown session.old).has_stepped ≡ false }
+    requires room { 3 ≤ (S.shown session.old).room }
+{
+    expect_formula(rt, alloc, session, formula)?;
+    expect_answers(rt, alloc, session, reader, answers)
+}
+
+// The answers to a step that nothing was read into, each time that it is taken.
+pub fn expect_to_new_step<S: ProofSession>(
+    rt: &impl Abort,
+    alloc: Global,
+    session: &mut S,
+    answers: &[StepAnswer],
+    formula: Formula,
+) -> Result<(), Fail>
+    requires unused { (S.shown session.old).has_stepped ≡ false }
+    requires room { 3 ≤ (S.shown session.old).room }
+{
+    expect_formula(rt, alloc, session, formula)?;
+    let step = StepBuf::new(alloc);
+    for answer in answers {
+        expect_answer(rt, session, &step, *answer);
+    }
+    Ok(())
+}
+
+// The answers to the empty clause after `Formula::Contradiction`, and to a step after it.
+pub const EMPTY_CLAUSE: [StepAnswer; 2] = [
+    (Ok(Accepted::Empty), 2, 2, true),
+    (Err(Refusal::Ended), 2, 2, true),
+];
+
+// A step and a clause after the formula's empty clause.
+pub fn expect_ended<S: ProofSession>(rt: &impl Abort, alloc: Global, session: &mut S)
+    requires unused { (S.shown session.old).has_stepped ≡ false }
+    requires room { 2 ≤ (S.shown session.old).room }
+{
+    expect_equal(rt, session.input(&[]), Ok(()));
+    expect_true(rt, session.verified());
+    let step = StepBuf::new(alloc);
+    expect_equal(rt, session.step(&step), Err(Refusal::Ended));
+    expect_equal(rt, session.input(&[]), Err(Refusal::Ended));
+    expect_true(rt, session.verified());
+    expect_equal(rt, session.peak(), 0);
+    expect_equal(rt, session.held(), 0);
+}
