@@ -14,8 +14,8 @@ fn read(alloc: Global, tool: Tool, line: &str) -> Result<Args, ArgsFault> {
     read_args(alloc, tool, words.as_slice())
 }
 
-/// Lines that are refused.
-const REFUSED: [(Tool, &str); 18] = [
+/// Lines that are refused, or ask for a text: it is shown in both cases.
+const REFUSED: [(Tool, &str); 23] = [
     (Tool::Drat, "drat-forward --core f.cnf"),
     (Tool::Drat, "drat-forward --trace --trace f.cnf"),
     (Tool::Lrat, "lrat-check f.cnf "),
@@ -34,10 +34,7 @@ const REFUSED: [(Tool, &str); 18] = [
     (Tool::Model, "model-check --trace f.cnf"),
     (Tool::Model, "model-check a b c"),
     (Tool::Model, "model-check"),
-];
-
-/// Lines that ask for a text.
-const TEXTS: [(Tool, &str); 5] = [
+    // They ask for a text.
     (Tool::Drat, "drat-forward --help"),
     (Tool::Lrat, "lrat-check -h"),
     (Tool::Drat, "drat-forward --strict -V"),
@@ -62,10 +59,10 @@ fn expect_refused(rt: &impl Abort, alloc: Global, rows: &[(Tool, &str)]) {
 
 /// What a line says: of the flags binary, trace, strict, pr and keep-units whether they stand in it, the formula, and the second
 /// input where one is named.
-type Said<'a> = ([bool; 5], &'a str, Option<&'a str>);
+type Expected<'a> = ([bool; 5], &'a str, Option<&'a str>);
 
-fn expect_said(rt: &impl Abort, args: &Args, said: Said<'_>) {
-    let (flags, formula, second) = said;
+fn expect_args(rt: &impl Abort, args: &Args, expected: Expected<'_>) {
+    let (flags, formula, second) = expected;
     let found = [
         args.binary,
         args.trace,
@@ -86,49 +83,44 @@ fn expect_read(
     alloc: Global,
     tool: Tool,
     line: &str,
-    said: Said<'_>,
+    expected: Expected<'_>,
 ) -> Result<(), Fail> {
     let args = read(alloc, tool, line)?;
-    expect_said(rt, &args, said);
+    expect_args(rt, &args, expected);
     Ok(())
 }
 
 #[test]
 fn drat_reads(rt: HostRuntime) -> Result<(), Fail> {
     let line = "drat-forward --strict f.cnf --binary p.drat --trace";
-    let said = ([true, true, true, false, false], "f.cnf", Some("p.drat"));
-    expect_read(&rt, rt.alloc(), Tool::Drat, line, said)
+    let expected = ([true, true, true, false, false], "f.cnf", Some("p.drat"));
+    expect_read(&rt, rt.alloc(), Tool::Drat, line, expected)
 }
 
 #[test]
 fn drat_reads_rules(rt: HostRuntime) -> Result<(), Fail> {
     let line = "drat-forward f.cnf --keep-units --pr";
-    let said = ([false, false, false, true, true], "f.cnf", None);
-    expect_read(&rt, rt.alloc(), Tool::Drat, line, said)
+    let expected = ([false, false, false, true, true], "f.cnf", None);
+    expect_read(&rt, rt.alloc(), Tool::Drat, line, expected)
 }
 
 #[test]
 fn lrat_reads(rt: HostRuntime) -> Result<(), Fail> {
     let line = "lrat-check --trace f.cnf";
-    let said = ([false, true, false, false, false], "f.cnf", None);
-    expect_read(&rt, rt.alloc(), Tool::Lrat, line, said)
+    let expected = ([false, true, false, false, false], "f.cnf", None);
+    expect_read(&rt, rt.alloc(), Tool::Lrat, line, expected)
 }
 
 #[test]
 fn model_reads(rt: HostRuntime) -> Result<(), Fail> {
     let line = "model-check f.cnf model.txt";
-    let said = ([false; 5], "f.cnf", Some("model.txt"));
-    expect_read(&rt, rt.alloc(), Tool::Model, line, said)
-}
-
-#[test]
-fn refuses(rt: HostRuntime) {
-    expect_refused(&rt, rt.alloc(), &REFUSED);
+    let expected = ([false; 5], "f.cnf", Some("model.txt"));
+    expect_read(&rt, rt.alloc(), Tool::Model, line, expected)
 }
 
 #[test]
 fn shows_texts(rt: HostRuntime) {
-    expect_refused(&rt, rt.alloc(), &TEXTS);
+    expect_refused(&rt, rt.alloc(), &REFUSED);
 }
 
 #[test]

@@ -1,7 +1,7 @@
 //! Proofs of a formula that has models: none is verified.
 
 use crate::support::{
-    Cut, DRAT, Engine, G, LRAT, Pieces, Stop, Tool, Writer, expect_equal, expect_equal_at,
+    Cut, DRAT, Engine, G, LRAT, Pieces, Request, Stop, Writer, expect_equal, expect_equal_at,
     expect_true, has_model,
 };
 use std::alloc::{AllocError, Global};
@@ -63,10 +63,10 @@ fn expect_one(rt: &impl Abort, alloc: Global, engine: Engine, proof: &str) {
 fn expect_unverified(
     rt: &impl Abort,
     alloc: Global,
-    tool: Tool,
+    request: Request,
     proof: &str,
 ) -> Result<(), AllocError> {
-    let engines = tool.engines(alloc)?;
+    let engines = request.engines(alloc)?;
     for engine in engines.as_slice() {
         expect_one(rt, alloc, *engine, proof);
     }
@@ -104,11 +104,11 @@ fn expect_none_verified(
     for first in LITERALS {
         for second in LITERALS {
             for text in texts {
-                let (tool, proof) = match form {
-                    Form::Lrat => (LRAT.tool, lrat_proof(alloc, first, second, text)?),
-                    Form::Drat => (DRAT.tool, drat_proof(alloc, first, second, text)?),
+                let (request, proof) = match form {
+                    Form::Lrat => (LRAT.request, lrat_proof(alloc, first, second, text)?),
+                    Form::Drat => (DRAT.request, drat_proof(alloc, first, second, text)?),
                 };
-                expect_unverified(rt, alloc, tool, proof.as_str())?;
+                expect_unverified(rt, alloc, request, proof.as_str())?;
                 count = count.saturating_add(1);
             }
         }

@@ -73,83 +73,78 @@ fn run(
     }
 }
 
-// The tool, its words, the file, standard input, what is written, and the status of a check or why there was none.
-type Row<'a> = (
-    Tool,
-    &'a str,
-    &'a str,
-    &'a [u8],
-    &'a str,
-    Result<Status, Status>,
-);
+// A run of a program on its words.
+#[derive(Clone, Copy)]
+struct Program<'a> {
+    tool: Tool,
+    words: &'a str,
+    file: &'a str,
+    standard_input: &'a [u8],
+    written: &'a str,
+    // The status of a check, or why there was none.
+    ended: Result<Status, Status>,
+}
 
-fn expect_run(rt: &impl Abort, alloc: Global, row: Row<'_>) -> Result<(), Fail> {
-    let (tool, line, file, standard, lines, ended) = row;
-    let words = words_of(alloc, line)?;
+fn expect_run(rt: &impl Abort, alloc: Global, row: &Program<'_>) -> Result<(), Fail> {
+    let words = words_of(alloc, row.words)?;
     let system = TwoInputs {
         alloc,
-        file: file.as_bytes(),
-        standard,
+        file: row.file.as_bytes(),
+        standard: row.standard_input,
     };
     let mut writer = Writer::new(alloc, usize::MAX, Stop::TakesNone);
     let found = run(
-        tool,
+        row.tool,
         &system,
         words.as_slice(),
         &mut ToWrite::new(&mut writer),
     );
-    expect_equal(rt, found, ended);
-    expect_equal(rt, writer.taken.as_slice(), lines.as_bytes());
+    expect_equal(rt, found, row.ended);
+    expect_equal(rt, writer.taken.as_slice(), row.written.as_bytes());
     Ok(())
 }
 
-#[test]
-fn drat_forward_runs(rt: HostRuntime) -> Result<(), Fail> {
-    let lines =
-        "c formula 2 variables 4 clauses\nc 1 add rup\nc 2 add rup\nc steps 2 peak 9\ns VERIFIED\n";
-    let line = "drat-forward --trace e.cnf";
-    let row = (Tool::Drat, line, E, E_DRAT, lines, Ok(Status::Verified));
-    expect_run(&rt, rt.alloc(), row)
-}
+const ROWS: [Program<'static>; 4] = [
+    Program {
+        tool: Tool::Drat,
+        words: "drat-forward --trace e.cnf",
+        file: E,
+        standard_input: E_DRAT,
+        written: "c formula 2 variables 4 clauses\n\
+            c 1 add rup\nc 2 add rup\nc steps 2 peak 9\ns VERIFIED\n",
+        ended: Ok(Status::Verified),
+    },
+    Program {
+        tool: Tool::Lrat,
+        words: "lrat-check e.cnf",
+        file: E,
+        standard_input: E_PROOF,
+        written: "c formula 2 variables 4 clauses\nc steps 2 peak 9\ns VERIFIED\n",
+        ended: Ok(Status::Verified),
+    },
+    Program {
+        tool: Tool::Model,
+        words: "model-check m.cnf",
+        file: MODELS,
+        standard_input: MODELS_OUTPUT,
+        written: "c clauses 2\ns MODEL VERIFIED\n",
+        ended: Ok(Status::Verified),
+    },
+    // The words of another tool: nothing is read and nothing written.
+    Program {
+        tool: Tool::Lrat,
+        words: "lrat-check --strict e.cnf",
+        file: E,
+        standard_input: E_PROOF,
+        written: "",
+        ended: Err(Status::Usage),
+    },
+];
 
 #[test]
-fn lrat_check_runs(rt: HostRuntime) -> Result<(), Fail> {
-    let lines = "c formula 2 variables 4 clauses\nc steps 2 peak 9\ns VERIFIED\n";
-    let row = (
-        Tool::Lrat,
-        "lrat-check e.cnf",
-        E,
-        E_PROOF,
-        lines,
-        Ok(Status::Verified),
-    );
-    expect_run(&rt, rt.alloc(), row)
-}
-
-#[test]
-fn model_check_runs(rt: HostRuntime) -> Result<(), Fail> {
-    let lines = "c clauses 2\ns MODEL VERIFIED\n";
-    let row = (
-        Tool::Model,
-        "model-check m.cnf",
-        MODELS,
-        MODELS_OUTPUT,
-        lines,
-        Ok(Status::Verified),
-    );
-    expect_run(&rt, rt.alloc(), row)
-}
-
-// The words of another tool: nothing is read and nothing written.
-#[test]
-fn usage_writes_nothing(rt: HostRuntime) -> Result<(), Fail> {
-    let row = (
-        Tool::Lrat,
-        "lrat-check --strict e.cnf",
-        E,
-        E_PROOF,
-        "",
-        Err(Status::Usage),
-    );
-    expect_run(&rt, rt.alloc(), row)
+fn programs_run(rt: HostRuntime) -> Result<(), Fail> {
+    for row in &ROWS {
+        expect_run(&rt, rt.alloc(), row)?;
+    }
+    Ok(())
 }

@@ -1,8 +1,8 @@
 //! Where a refused step ends.
 
 use crate::support::{
-    BY_BINARY_DRAT, Cut, DRAT, DRAT_STRICT, E, E_BINARY, E_DRAT, E_PROOF, G, LRAT, Pieces, SIZES,
-    Stop, Tool, Writer, expect_equal,
+    BY_BINARY_DRAT, Cut, DRAT, DRAT_STRICT, E, E_BINARY, E_DRAT, E_PROOF, G, LRAT, Pieces, Request,
+    SIZES, Stop, Writer, expect_equal,
 };
 use cnf_base::{FromRead, In, Out, Place, ToWrite};
 use proofs::StepEnd;
@@ -11,8 +11,8 @@ use std::alloc::Global;
 use std::process::Abort;
 use std::test::Fail;
 
-// A tool, a formula, a proof, and where the refused step ends.
-type Row<'a> = (Tool, &'a str, &'a [u8], Option<StepEnd>);
+// A request, a formula, a proof, and where the refused step ends.
+type Row<'a> = (Request, &'a str, &'a [u8], Option<StepEnd>);
 
 const fn text(line: u64, col: u64) -> Option<StepEnd> {
     Some(StepEnd::Text(Place { line, col }))
@@ -22,28 +22,33 @@ const fn byte(byte_no: u64) -> Option<StepEnd> {
     Some(StepEnd::Byte(byte_no))
 }
 
-fn check<F: In, P: In, O: Out>(
+fn run_placed<F: In, P: In, O: Out>(
     alloc: Global,
-    tool: Tool,
+    request: Request,
     formula: &mut F,
     proof: &mut P,
     out: &mut O,
 ) -> Checked {
-    match tool {
-        Tool::Lrat(options) => run_lrat_placed(alloc, &options, formula, proof, out),
-        Tool::Drat(options) => run_drat_placed(alloc, &options, formula, proof, out),
-        Tool::Model => Checked {
+    match request {
+        Request::Lrat(options) => run_lrat_placed(alloc, &options, formula, proof, out),
+        Request::Drat(options) => run_drat_placed(alloc, &options, formula, proof, out),
+        Request::Model => Checked {
             status: Status::Usage,
             refused: None,
         },
     }
 }
 
-fn checked(alloc: Global, tool: Tool, formula: Pieces<'_>, proof: Pieces<'_>) -> Checked {
+fn run_on_pieces(
+    alloc: Global,
+    request: Request,
+    formula: Pieces<'_>,
+    proof: Pieces<'_>,
+) -> Checked {
     let mut formula = FromRead::new(formula);
     let mut proof = FromRead::new(proof);
     let mut out = ToWrite::new(Writer::new(alloc, usize::MAX, Stop::TakesNone));
-    check(alloc, tool, &mut formula, &mut proof, &mut out)
+    run_placed(alloc, request, &mut formula, &mut proof, &mut out)
 }
 
 fn expect_ends(
@@ -53,11 +58,11 @@ fn expect_ends(
     cut: Cut,
     status: Status,
 ) -> Result<(), Fail> {
-    for (tool, formula, proof, end) in rows {
+    for (request, formula, proof, end) in rows {
         for size in SIZES {
             let formula = Pieces::new(formula, size, Cut::Ends);
             let proof = Pieces::of_bytes(proof, size, cut);
-            let checked = checked(alloc, *tool, formula, proof);
+            let checked = run_on_pieces(alloc, *request, formula, proof);
             expect_equal(rt, checked.status, status);
             expect_equal(rt, checked.refused, *end);
         }
@@ -69,15 +74,15 @@ fn expect_ends(
 #[test]
 fn refused(rt: HostRuntime) -> Result<(), Fail> {
     let rows = [
-        (DRAT.tool, G, b"-1 3 0\n?\n".as_slice(), text(1, 6)),
-        (DRAT.tool, G, b"3 -1 0 0\n".as_slice(), text(1, 8)),
+        (DRAT.request, G, b"-1 3 0\n?\n".as_slice(), text(1, 6)),
+        (DRAT.request, G, b"3 -1 0 0\n".as_slice(), text(1, 8)),
         (
-            DRAT.tool,
+            DRAT.request,
             G,
             b"c 9 0\r\n\r\n-1\r\nc 0\n\t3\r\n\n 0 7 0\r\n".as_slice(),
             text(7, 2),
         ),
-        (DRAT_STRICT.tool, G, b"d 1 3 0".as_slice(), text(1, 7)),
+        (DRAT_STRICT.request, G, b"d 1 3 0".as_slice(), text(1, 7)),
         (BY_BINARY_DRAT, G, b"a\x03\x06\x00".as_slice(), byte(4)),
         (
             BY_BINARY_DRAT,
@@ -85,9 +90,9 @@ fn refused(rt: HostRuntime) -> Result<(), Fail> {
             b"a\x06\x03\x00a\x00a".as_slice(),
             byte(6),
         ),
-        (LRAT.tool, E, b"5 2 0 1 0\n".as_slice(), text(1, 9)),
+        (LRAT.request, E, b"5 2 0 1 0\n".as_slice(), text(1, 9)),
         (
-            LRAT.tool,
+            LRAT.request,
             E,
             b"5 2 0 1 2 0\n6\n0 5 0\n7 0 0\n".as_slice(),
             text(3, 5),
@@ -96,37 +101,54 @@ fn refused(rt: HostRuntime) -> Result<(), Fail> {
     expect_ends(&rt, rt.alloc(), &rows, Cut::Ends, Status::NotVerified)
 }
 
-#[test]
-fn verified(rt: HostRuntime) -> Result<(), Fail> {
-    let rows = [
-        (DRAT.tool, E, E_DRAT, None),
-        (BY_BINARY_DRAT, E, E_BINARY, None),
-        (LRAT.tool, E, E_PROOF, None),
-        (LRAT.tool, "p cnf 0 1\n0\n", b"?".as_slice(), None),
-    ];
-    expect_ends(&rt, rt.alloc(), &rows, Cut::Ends, Status::Verified)
-}
-
-// No step was refused, though the proof wasn't verified.
-#[test]
-fn no_empty_clause(rt: HostRuntime) -> Result<(), Fail> {
-    let rows = [
-        (DRAT.tool, G, b"3 -1 0\n".as_slice(), None),
-        (BY_BINARY_DRAT, G, b"".as_slice(), None),
-        (LRAT.tool, E, b"5 2 0 1 2 0\n".as_slice(), None),
-    ];
-    expect_ends(&rt, rt.alloc(), &rows, Cut::Ends, Status::NotVerified)
+fn expect_none(
+    rt: &impl Abort,
+    alloc: Global,
+    runs: &[(Request, &str, &[u8])],
+    cut: Cut,
+    status: Status,
+) -> Result<(), Fail> {
+    for (request, formula, proof) in runs {
+        expect_ends(
+            rt,
+            alloc,
+            &[(*request, *formula, *proof, None)],
+            cut,
+            status,
+        )?;
+    }
+    Ok(())
 }
 
 #[test]
-fn faults(rt: HostRuntime) -> Result<(), Fail> {
-    let rows = [
-        (DRAT.tool, G, b"3 -1 0\n-1\n".as_slice(), None),
-        (BY_BINARY_DRAT, G, b"a\x06\x03\x00A".as_slice(), None),
-        (LRAT.tool, E, b"5 2 0 1 2 0\n?\n".as_slice(), None),
-        (DRAT.tool, "p cnf 1 1\n", b"1 0\n".as_slice(), None),
+fn none_is_refused(rt: HostRuntime) -> Result<(), Fail> {
+    let alloc = rt.alloc();
+    let verified: [(Request, &str, &[u8]); 4] = [
+        (DRAT.request, E, E_DRAT),
+        (BY_BINARY_DRAT, E, E_BINARY),
+        (LRAT.request, E, E_PROOF),
+        (LRAT.request, "p cnf 0 1\n0\n", b"?"),
     ];
-    expect_ends(&rt, rt.alloc(), &rows, Cut::Ends, Status::Malformed)?;
-    let rows = [(DRAT.tool, G, b"3 -1 0\n0".as_slice(), None)];
-    expect_ends(&rt, rt.alloc(), &rows, Cut::Fails, Status::ReadFailed)
+    expect_none(&rt, alloc, &verified, Cut::Ends, Status::Verified)?;
+    let without_empty_clause: [(Request, &str, &[u8]); 3] = [
+        (DRAT.request, G, b"3 -1 0\n"),
+        (BY_BINARY_DRAT, G, b""),
+        (LRAT.request, E, b"5 2 0 1 2 0\n"),
+    ];
+    expect_none(
+        &rt,
+        alloc,
+        &without_empty_clause,
+        Cut::Ends,
+        Status::NotVerified,
+    )?;
+    let malformed: [(Request, &str, &[u8]); 4] = [
+        (DRAT.request, G, b"3 -1 0\n-1\n"),
+        (BY_BINARY_DRAT, G, b"a\x06\x03\x00A"),
+        (LRAT.request, E, b"5 2 0 1 2 0\n?\n"),
+        (DRAT.request, "p cnf 1 1\n", b"1 0\n"),
+    ];
+    expect_none(&rt, alloc, &malformed, Cut::Ends, Status::Malformed)?;
+    let unread: [(Request, &str, &[u8]); 1] = [(DRAT.request, G, b"3 -1 0\n0")];
+    expect_none(&rt, alloc, &unread, Cut::Fails, Status::ReadFailed)
 }

@@ -1,7 +1,7 @@
 //! Additions of DRAT.
 
 use crate::support::{
-    DRAT, DRAT_TRACED, E, E_BY_DRAT, E_BY_DRAT_TRACED, EIGHT, G, Row, expect_all,
+    DRAT, DRAT_TRACED, E, E_BY_DRAT, E_BY_DRAT_TRACED, EIGHT, G, Row, UNIT, expect_all,
 };
 use std::test::Fail;
 
@@ -106,7 +106,7 @@ const ROWS: [Row<'static>; 18] = [
     },
     Row {
         name: "the empty clause by propagation",
-        formula: "p cnf 2 3\n1 0\n-1 2 0\n-1 -2 0\n",
+        formula: UNIT,
         second: b"0\n",
         lines: "c formula 2 variables 3 clauses\nc steps 1 peak 5",
         status: 0,

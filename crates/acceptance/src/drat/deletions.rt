@@ -1,12 +1,22 @@
 //! Deletions of DRAT.
 
-use crate::support::{DRAT, DRAT_STRICT, DRAT_TRACED, E, G, Row, expect_all};
+use crate::support::{DRAT, DRAT_STRICT, DRAT_TRACED, E, G, Row, TWO_COPIES, UNIT, expect_all};
 use std::test::Fail;
+
+// Of a clause that is not alive.
+pub(super) const NOT_ALIVE_STRICT: Row<'static> = Row {
+    name: "deletion_ignored, strict",
+    formula: G,
+    second: b"d 1 3 0\n",
+    lines: "c formula 2 variables 1 clauses\nc step 1: clause is not alive",
+    status: 1,
+    ..DRAT_STRICT
+};
 
 const ROWS: [Row<'static>; 15] = [
     Row {
         name: "unit_deleted",
-        formula: "p cnf 2 3\n1 0\n-1 2 0\n-1 -2 0\n",
+        formula: UNIT,
         second: b"d 1 0\n0\n",
         lines: "c formula 2 variables 3 clauses\nc step 2: not RUP",
         status: 1,
@@ -14,7 +24,7 @@ const ROWS: [Row<'static>; 15] = [
     },
     Row {
         name: "one_copy_deleted",
-        formula: "p cnf 1 3\n1 0\n1 0\n-1 0\n",
+        formula: TWO_COPIES,
         second: b"d 1 0\n0\n",
         lines: "c formula 1 variables 3 clauses\nc steps 2 peak 3",
         status: 0,
@@ -22,7 +32,7 @@ const ROWS: [Row<'static>; 15] = [
     },
     Row {
         name: "one_copy_deleted, and the other one",
-        formula: "p cnf 1 3\n1 0\n1 0\n-1 0\n",
+        formula: TWO_COPIES,
         second: b"d 1 0\nd 1 0\n0\n",
         lines: "c formula 1 variables 3 clauses\nc step 3: not RUP",
         status: 1,
@@ -36,14 +46,7 @@ const ROWS: [Row<'static>; 15] = [
         status: 1,
         ..DRAT_TRACED
     },
-    Row {
-        name: "deletion_ignored, strict",
-        formula: G,
-        second: b"d 1 3 0\n",
-        lines: "c formula 2 variables 1 clauses\nc step 1: clause is not alive",
-        status: 1,
-        ..DRAT_STRICT
-    },
+    NOT_ALIVE_STRICT,
     Row {
         name: "a clause is deleted as a set",
         formula: G,

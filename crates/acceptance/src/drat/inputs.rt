@@ -7,7 +7,7 @@ use crate::support::{
 use std::test::Fail;
 
 const EMPTY_CLAUSE_BY_DRAT: Row<'static> = Row {
-    tool: BY_DRAT,
+    request: BY_DRAT,
     ..EMPTY_CLAUSE
 };
 
@@ -46,7 +46,7 @@ const ROWS: [Row<'static>; 15] = [
         ..EMPTY_CLAUSE_BY_DRAT
     },
     Row {
-        tool: BY_DRAT,
+        request: BY_DRAT,
         ..EMPTY_FORMULA
     },
     Row {
@@ -122,7 +122,7 @@ const ROWS: [Row<'static>; 15] = [
         name: "a fault of the formula",
         second: b"xyz",
         second_cut: Cut::Fails,
-        tool: BY_DRAT,
+        request: BY_DRAT,
         ..OUT_OF_RANGE
     },
     Row {

@@ -1,17 +1,11 @@
 //! Deletions of DRAT where clauses that make a literal hold for good are kept.
 
+use crate::drat::deletions::NOT_ALIVE_STRICT;
 use crate::support::{
-    BINARY_KEEP_UNITS, DRAT_KEEP_UNITS, DRAT_KEEP_UNITS_PR, DRAT_KEEP_UNITS_STRICT, DRAT_TRACED, G,
-    Row, expect_all,
+    BINARY_KEEP_UNITS, BY_DRAT_KEEP_UNITS_STRICT, DRAT_KEEP_UNITS, DRAT_KEEP_UNITS_PR,
+    DRAT_KEEP_UNITS_STRICT, DRAT_TRACED, G, IMPLIED, Row, TWO_COPIES, UNIT, expect_all,
 };
 use std::test::Fail;
-
-const UNIT: &str = "p cnf 2 3\n1 0\n-1 2 0\n-1 -2 0\n";
-
-const TWO_COPIES: &str = "p cnf 1 3\n1 0\n1 0\n-1 0\n";
-
-// 1, so 2.
-const IMPLIED: &str = "p cnf 2 2\n1 0\n-1 2 0\n";
 
 const DELETIONS: [Row<'static>; 8] = [
     Row {
@@ -82,12 +76,8 @@ const DELETIONS: [Row<'static>; 8] = [
 
 const WITH_OTHER_OPTIONS: [Row<'static>; 6] = [
     Row {
-        name: "deletion_ignored, strict",
-        formula: G,
-        second: b"d 1 3 0\n",
-        lines: "c formula 2 variables 1 clauses\nc step 1: clause is not alive",
-        status: 1,
-        ..DRAT_KEEP_UNITS_STRICT
+        request: BY_DRAT_KEEP_UNITS_STRICT,
+        ..NOT_ALIVE_STRICT
     },
     Row {
         name: "a kept clause is alive, strict",
@@ -152,15 +142,8 @@ const BINARY: [Row<'static>; 2] = [
 
 #[test]
 fn keeps_units(rt: HostRuntime) -> Result<(), Fail> {
-    expect_all(&rt, rt.alloc(), &DELETIONS)
-}
-
-#[test]
-fn keeps_units_with_other_options(rt: HostRuntime) -> Result<(), Fail> {
-    expect_all(&rt, rt.alloc(), &WITH_OTHER_OPTIONS)
-}
-
-#[test]
-fn keeps_units_in_binary(rt: HostRuntime) -> Result<(), Fail> {
-    expect_all(&rt, rt.alloc(), &BINARY)
+    for rows in [DELETIONS.as_slice(), &WITH_OTHER_OPTIONS, &BINARY] {
+        expect_all(&rt, rt.alloc(), rows)?;
+    }
+    Ok(())
 }

@@ -12,7 +12,7 @@ const E_AND_ONE: &str = "p cnf 4 5\n1 2 0\n-1 2 0\n1 -2 0\n-1 -2 0\n3 4 0\n";
 const E_AND_ONE_LINES: &str =
     "c formula 4 variables 5 clauses\nc 1 add pr\nc 2 add rup\nc 3 add rup\nc steps 3 peak 12";
 
-const ROWS: [Row<'static>; 12] = [
+const ROWS: [Row<'static>; 19] = [
     Row {
         name: "a clause with PR",
         formula: G,
@@ -109,9 +109,7 @@ const ROWS: [Row<'static>; 12] = [
         status: 1,
         ..DRAT_PR
     },
-];
-
-const BINARY_ROWS: [Row<'static>; 7] = [
+    // In the binary form.
     Row {
         name: "a clause with PR",
         formula: G,
@@ -169,11 +167,6 @@ const BINARY_ROWS: [Row<'static>; 7] = [
         ..BINARY_PR
     },
 ];
-
-#[test]
-fn takes_listed_sets_in_the_binary_form(rt: HostRuntime) -> Result<(), Fail> {
-    expect_all(&rt, rt.alloc(), &BINARY_ROWS)
-}
 
 #[test]
 fn takes_listed_sets(rt: HostRuntime) -> Result<(), Fail> {

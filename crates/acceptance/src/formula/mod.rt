@@ -1,5 +1,6 @@
 //! Formulas, as the checkers take them.
 
+mod cuts;
 mod faults;
 mod greatest_numbers;
 mod texts;

@@ -133,43 +133,25 @@ const JUDGED: [(&str, &str, u8); 3] = [
     ("5 9 0 9 0 ", "c step 1: unknown id 9", 1),
 ];
 
-fn expect_lines(
+fn expect_each(
     rt: &impl Abort,
     alloc: Global,
     base: &Row<'_>,
-    proof: &str,
-    lines: &str,
     status: u8,
-) -> Result<(), Fail> {
-    let row = (proof, proof.as_bytes(), lines);
-    expect_after(rt, alloc, base, (E, E_LINE), row, status)
-}
-
-fn expect_faults(
-    rt: &impl Abort,
-    alloc: Global,
-    base: &Row<'_>,
     rows: &[(&str, &str)],
 ) -> Result<(), Fail> {
     for (proof, lines) in rows {
-        expect_lines(rt, alloc, base, proof, lines, 2)?;
+        let row = (*proof, proof.as_bytes(), *lines);
+        expect_after(rt, alloc, base, (E, E_LINE), row, status)?;
     }
     Ok(())
 }
 
 #[test]
-fn tokens(rt: HostRuntime) -> Result<(), Fail> {
-    expect_faults(&rt, rt.alloc(), &LRAT, &TOKENS)
-}
-
-#[test]
-fn unterminated(rt: HostRuntime) -> Result<(), Fail> {
-    expect_faults(&rt, rt.alloc(), &LRAT, &UNTERMINATED)
-}
-
-#[test]
-fn after_an_accepted_step(rt: HostRuntime) -> Result<(), Fail> {
-    expect_faults(&rt, rt.alloc(), &LRAT_TRACED, &LATER)
+fn faults(rt: HostRuntime) -> Result<(), Fail> {
+    expect_each(&rt, rt.alloc(), &LRAT, 2, &TOKENS)?;
+    expect_each(&rt, rt.alloc(), &LRAT, 2, &UNTERMINATED)?;
+    expect_each(&rt, rt.alloc(), &LRAT_TRACED, 2, &LATER)
 }
 
 #[test]
@@ -180,10 +162,10 @@ fn failed_reads(rt: HostRuntime) -> Result<(), Fail> {
         ..LRAT
     };
     for proof in UNREADABLE {
-        expect_lines(&rt, alloc, &base, proof, "c cannot read proof", 3)?;
+        expect_each(&rt, alloc, &base, 3, &[(proof, "c cannot read proof")])?;
     }
-    for (proof, line, status) in JUDGED {
-        expect_lines(&rt, alloc, &base, proof, line, status)?;
+    for (proof, lines, status) in JUDGED {
+        expect_each(&rt, alloc, &base, status, &[(proof, lines)])?;
     }
     Ok(())
 }

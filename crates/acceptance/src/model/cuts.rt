@@ -1,16 +1,13 @@
 //! A solver's output and its formula, cut after each of their bytes, by their end or by a failed read.
 
 use crate::support::{
-    Cutting, HEADER, MODELS, MODELS_MET, MODELS_OUTPUT, Said, UNREAD_FORMULA, expect_equal,
+    Cuts, Cutting, Expected, HEADER, MODELS, MODELS_MET, MODELS_OUTPUT, UNREAD_FORMULA,
+    expect_cuts, expect_equal,
 };
 use std::test::Fail;
 
-const FORMULA: Cutting<'static> = Cutting::Formula(MODELS_MET);
-
-const OUTPUT: Cutting<'static> = Cutting::Second(MODELS_MET, "");
-
 // For the first n bytes of the output, for each n from 0 to 20. The whole one has 22.
-const LINES: [Said<'static>; 21] = [
+const LINES: [Expected<'static>; 21] = [
     ("c output 1:1: no status line", 2),
     // The status line, of 14 bytes.
     ("c output 1:2: bad line", 2),
@@ -37,7 +34,7 @@ const LINES: [Said<'static>; 21] = [
 ];
 
 // For the first n bytes of the formula, for each n from 11 to 19. The whole one has 21, and its header 10.
-const CLAUSES: [Said<'static>; 9] = [
+const CLAUSES: [Expected<'static>; 9] = [
     // The first clause, of 7 bytes.
     ("c formula 2:2: unterminated clause", 2),
     ("c formula 2:3: unterminated clause", 2),
@@ -51,31 +48,23 @@ const CLAUSES: [Said<'static>; 9] = [
     ("c formula 3:3: unterminated clause", 2),
 ];
 
+// Only the end of an input says that nothing follows.
+const OUTPUT: Cuts<'static> = Cuts {
+    input: Cutting::Second(MODELS_MET, ""),
+    ends: &[&LINES],
+    failures: &[(23, ("c cannot read output", 3))],
+};
+
+const FORMULA: Cuts<'static> = Cuts {
+    input: Cutting::Formula(MODELS_MET),
+    ends: &[&HEADER, &CLAUSES],
+    failures: &[(22, UNREAD_FORMULA)],
+};
+
 #[test]
-fn lengths(rt: HostRuntime) -> Result<(), Fail> {
+fn cuts(rt: HostRuntime) -> Result<(), Fail> {
     expect_equal(&rt, MODELS.len(), 21);
     expect_equal(&rt, MODELS_OUTPUT.len(), 22);
-    Ok(())
-}
-
-#[test]
-fn output_ends(rt: HostRuntime) -> Result<(), Fail> {
-    OUTPUT.expect_ends(&rt, rt.alloc(), &[&LINES])
-}
-
-#[test]
-fn formula_ends(rt: HostRuntime) -> Result<(), Fail> {
-    FORMULA.expect_ends(&rt, rt.alloc(), &[&HEADER, &CLAUSES])
-}
-
-// Only the end of an input says that nothing follows.
-#[test]
-fn output_fails(rt: HostRuntime) -> Result<(), Fail> {
-    let said = ("c cannot read output", 3);
-    OUTPUT.expect_failing(&rt, rt.alloc(), 0..23, said)
-}
-
-#[test]
-fn formula_fails(rt: HostRuntime) -> Result<(), Fail> {
-    FORMULA.expect_failing(&rt, rt.alloc(), 0..22, UNREAD_FORMULA)
+    expect_cuts(&rt, rt.alloc(), &OUTPUT)?;
+    expect_cuts(&rt, rt.alloc(), &FORMULA)
 }

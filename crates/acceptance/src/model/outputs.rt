@@ -314,11 +314,7 @@ const VALUES: [Row<'static>; 16] = [
 ];
 
 #[test]
-fn status_lines(rt: HostRuntime) -> Result<(), Fail> {
-    expect_all(&rt, rt.alloc(), &STATUS_LINES)
-}
-
-#[test]
-fn values(rt: HostRuntime) -> Result<(), Fail> {
+fn outputs(rt: HostRuntime) -> Result<(), Fail> {
+    expect_all(&rt, rt.alloc(), &STATUS_LINES)?;
     expect_all(&rt, rt.alloc(), &VALUES)
 }

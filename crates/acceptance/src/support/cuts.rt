@@ -4,7 +4,6 @@ use crate::support::asserts::expect_true_at;
 use crate::support::reports::expect;
 use crate::support::rows::Row;
 use std::alloc::Global;
-use std::ops::Range;
 use std::process::Abort;
 use std::test::Fail;
 use test_inputs::Cut;
@@ -19,10 +18,10 @@ pub enum Cutting<'a> {
 }
 
 // Lines of a report, and the status.
-pub type Said<'a> = (&'a str, u8);
+pub type Expected<'a> = (&'a str, u8);
 
 // The first n bytes of a header with one digit each, for each n from 0 to 10. The line feed is the tenth.
-pub const HEADER: [Said<'static>; 11] = [
+pub const HEADER: [Expected<'static>; 11] = [
     ("c formula 1:1: bad header", 2),
     ("c formula 1:2: bad header", 2),
     ("c formula 1:3: bad header", 2),
@@ -36,46 +35,15 @@ pub const HEADER: [Said<'static>; 11] = [
     ("c formula 2:1: too few clauses", 2),
 ];
 
-// The first n bytes of the formula `E`, for each n from 11 to 36. The whole one has 38, and its header 10.
-pub const E_CLAUSES: [Said<'static>; 26] = [
-    // The first clause, of 6 bytes.
-    ("c formula 2:2: unterminated clause", 2),
-    ("c formula 2:3: unterminated clause", 2),
-    ("c formula 2:4: unterminated clause", 2),
-    ("c formula 2:5: unterminated clause", 2),
-    ("c formula 2:6: too few clauses", 2),
-    ("c formula 3:1: too few clauses", 2),
-    // The second, of 7 bytes.
-    ("c formula 3:1: bad token", 2),
-    ("c formula 3:3: unterminated clause", 2),
-    ("c formula 3:4: unterminated clause", 2),
-    ("c formula 3:5: unterminated clause", 2),
-    ("c formula 3:6: unterminated clause", 2),
-    ("c formula 3:7: too few clauses", 2),
-    ("c formula 4:1: too few clauses", 2),
-    // The third, of 7 bytes.
-    ("c formula 4:2: unterminated clause", 2),
-    ("c formula 4:3: unterminated clause", 2),
-    ("c formula 4:3: bad token", 2),
-    ("c formula 4:5: unterminated clause", 2),
-    ("c formula 4:6: unterminated clause", 2),
-    ("c formula 4:7: too few clauses", 2),
-    ("c formula 5:1: too few clauses", 2),
-    // The fourth, of 8 bytes.
-    ("c formula 5:1: bad token", 2),
-    ("c formula 5:3: unterminated clause", 2),
-    ("c formula 5:4: unterminated clause", 2),
-    ("c formula 5:4: bad token", 2),
-    ("c formula 5:6: unterminated clause", 2),
-    ("c formula 5:7: unterminated clause", 2),
-];
+// What is written before what is said of a proof of `E`.
+pub const E_SHOWN: &str = "c formula 2 variables 4 clauses\n";
 
 // What is said of a proof where a read of it fails, also after one accepted step.
-pub const UNREAD_PROOF: Said<'static> = ("c cannot read proof", 3);
+pub const UNREAD_PROOF: Expected<'static> = ("c cannot read proof", 3);
 
-pub const UNREAD_AFTER_ONE: Said<'static> = ("c 1 add rup\nc cannot read proof", 3);
+pub const UNREAD_AFTER_ONE: Expected<'static> = ("c 1 add rup\nc cannot read proof", 3);
 
-pub const UNREAD_FORMULA: Said<'static> = ("c cannot read formula", 3);
+pub const UNREAD_FORMULA: Expected<'static> = ("c cannot read formula", 3);
 
 impl<'a> Cutting<'a> {
     // The run with whole inputs.
@@ -86,7 +54,7 @@ impl<'a> Cutting<'a> {
     }
 
     // With reads that fail after the last byte of the input that is cut.
-    pub fn failing(self) -> Cutting<'a> {
+    fn failing(self) -> Cutting<'a> {
         match self {
             Cutting::Formula(row) => Cutting::Formula(Row {
                 formula_cut: Cut::Fails,
@@ -105,7 +73,7 @@ impl<'a> Cutting<'a> {
         rt: &impl Abort,
         alloc: Global,
         n: usize,
-        said: Said<'_>,
+        expected: Expected<'_>,
     ) -> Result<(), Fail> {
         let whole = self.whole();
         let (formula, second) = match self {
@@ -117,7 +85,7 @@ impl<'a> Cutting<'a> {
         let second = second.unwrap_or(whole.second);
         let (formula_length, second_length) = (formula.len(), second.len());
         let name = format!(in alloc; "{formula_length} and {second_length} bytes")?;
-        let (lines, status) = said;
+        let (lines, status) = expected;
         let row = Row {
             name: name.as_str(),
             formula,
@@ -130,12 +98,12 @@ impl<'a> Cutting<'a> {
     }
 
     // The first n bytes of the input, for each n from this one on.
-    pub fn expect(
+    fn expect(
         &self,
         rt: &impl Abort,
         alloc: Global,
         first: usize,
-        rows: &[Said<'_>],
+        rows: &[Expected<'_>],
     ) -> Result<(), Fail> {
         let before = match *self {
             Cutting::Formula(_) => "",
@@ -150,27 +118,12 @@ impl<'a> Cutting<'a> {
         Ok(())
     }
 
-    // Of each of these numbers of bytes the same is said, where a read fails after them.
-    pub fn expect_failing(
-        &self,
-        rt: &impl Abort,
-        alloc: Global,
-        lengths: Range<usize>,
-        said: Said<'_>,
-    ) -> Result<(), Fail> {
-        let failing = self.failing();
-        for n in lengths {
-            failing.expect(rt, alloc, n, &[said])?;
-        }
-        Ok(())
-    }
-
     // The tables say what comes of the first n bytes of the input, for each n from 0 on. With more of them all is read.
-    pub fn expect_ends(
+    fn expect_ends(
         &self,
         rt: &impl Abort,
         alloc: Global,
-        tables: &[&[Said<'_>]],
+        tables: &[&[Expected<'_>]],
     ) -> Result<(), Fail> {
         let mut first = 0usize;
         for table in tables {
@@ -180,8 +133,26 @@ impl<'a> Cutting<'a> {
         self.expect_whole(rt, alloc, first)
     }
 
+    // Each row says what comes of fewer bytes than its number, where a read fails after them. With more of them all is read.
+    fn expect_failures(
+        &self,
+        rt: &impl Abort,
+        alloc: Global,
+        rows: &[(usize, Expected<'_>)],
+    ) -> Result<(), Fail> {
+        let failing = self.failing();
+        let mut first = 0;
+        for (end, expected) in rows {
+            for n in first..*end {
+                failing.expect(rt, alloc, n, &[*expected])?;
+            }
+            first = *end;
+        }
+        failing.expect_whole(rt, alloc, first)
+    }
+
     // The first n bytes of the input are enough, for each n from this one on.
-    pub fn expect_whole(&self, rt: &impl Abort, alloc: Global, first: usize) -> Result<(), Fail> {
+    fn expect_whole(&self, rt: &impl Abort, alloc: Global, first: usize) -> Result<(), Fail> {
         let whole = self.whole();
         let length = match self {
             Cutting::Formula(row) => row.formula.len(),
@@ -192,4 +163,22 @@ impl<'a> Cutting<'a> {
         }
         Ok(())
     }
+}
+
+// What comes of an input that is cut after each of its bytes.
+#[derive(Clone, Copy)]
+pub struct Cuts<'a> {
+    pub input: Cutting<'a>,
+    // Where it ends after n bytes, for each n from 0 on, one table after the other. From there on all is read.
+    // Without a table only failed reads are tried.
+    pub ends: &'a [&'a [Expected<'a>]],
+    // Where a read fails after fewer bytes than the number. From the last one on all is read.
+    pub failures: &'a [(usize, Expected<'a>)],
+}
+
+pub fn expect_cuts(rt: &impl Abort, alloc: Global, cuts: &Cuts<'_>) -> Result<(), Fail> {
+    if !cuts.ends.is_empty() {
+        cuts.input.expect_ends(rt, alloc, cuts.ends)?;
+    }
+    cuts.input.expect_failures(rt, alloc, cuts.failures)
 }

@@ -1,6 +1,6 @@
 //! What carries out a row.
 
-use crate::support::rows::Tool;
+use crate::support::rows::Request;
 use cnf_base::{FromRead, In, Out, ToWrite};
 use propagation::Scan;
 use sat_check::{DratOptions, LratOptions, Status, run_drat, run_drat_with, run_lrat, run_model};
@@ -20,7 +20,7 @@ pub enum Propagation {
 // Each row of DRAT is run with each of these.
 const PROPAGATIONS: [Propagation; 3] = [Propagation::Picked, Propagation::Scan, Propagation::Watch];
 
-// A tool with what it is asked to do and, for DRAT, how it propagates.
+// What a run is asked and, for DRAT, how it propagates.
 #[derive(Clone, Copy, Debug, PartialEq, Eq)]
 pub enum Engine {
     Lrat(LratOptions),
@@ -28,18 +28,18 @@ pub enum Engine {
     Model,
 }
 
-impl Tool {
+impl Request {
     // What carries this out: for DRAT, one engine for each propagation.
     pub fn engines(self, alloc: Global) -> Result<Vec<Engine>, AllocError> {
         let mut all = Vec::new(alloc);
         match self {
-            Tool::Lrat(options) => all.push(Engine::Lrat(options))?,
-            Tool::Drat(options) => {
+            Request::Lrat(options) => all.push(Engine::Lrat(options))?,
+            Request::Drat(options) => {
                 for propagation in PROPAGATIONS {
                     all.push(Engine::Drat(options, propagation))?;
                 }
             }
-            Tool::Model => all.push(Engine::Model)?,
+            Request::Model => all.push(Engine::Model)?,
         }
         Ok(all)
     }

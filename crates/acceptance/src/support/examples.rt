@@ -23,6 +23,15 @@ pub const E_BINARY: &[u8] = b"a\x04\x00a\x00";
 pub const EIGHT: &str =
     "p cnf 3 8\n1 2 3 0\n1 2 -3 0\n1 -2 3 0\n1 -2 -3 0\n-1 2 3 0\n-1 2 -3 0\n-1 -2 3 0\n-1 -2 -3 0\n";
 
+// 1, so 2 and -2.
+pub const UNIT: &str = "p cnf 2 3\n1 0\n-1 2 0\n-1 -2 0\n";
+
+// 1, so 2.
+pub const IMPLIED: &str = "p cnf 2 2\n1 0\n-1 2 0\n";
+
+// A unit clause twice, and its complement.
+pub const TWO_COPIES: &str = "p cnf 1 3\n1 0\n1 0\n-1 0\n";
+
 // One clause, which has models.
 pub const G: &str = "p cnf 2 1\n1 2 0\n";
 

@@ -19,7 +19,7 @@ pub fn expect_one_piece_further(
     let bytes = repeated(alloc, row.second, b"1 0\n", MANY, b"")?;
     expect_equal(rt, bytes.len(), length);
     let report = row.report(alloc)?;
-    let engines = row.tool.engines(alloc)?;
+    let engines = row.request.engines(alloc)?;
     for engine in engines.as_slice() {
         let mut formula = Pieces::new(row.formula, 4096, row.formula_cut);
         let mut second = Pieces::of_bytes(bytes.as_slice(), usize::MAX, row.second_cut);

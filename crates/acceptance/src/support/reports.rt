@@ -2,12 +2,29 @@
 
 use crate::support::asserts::expect_equal_at;
 use crate::support::engines::Engine;
-use crate::support::rows::{Row, Tool};
+use crate::support::rows::{Request, Row};
 use crate::support::search::has_model;
 use std::alloc::{AllocError, Global};
+use std::fmt::Debug;
 use std::process::Abort;
 use std::test::Fail;
 use test_inputs::{Pieces, SIZES, Stop, Writer, text};
+
+// What was written, and the status. The first value tells where a failure is.
+pub fn expect_outcome<N: Copy + Debug>(
+    rt: &impl Abort,
+    alloc: Global,
+    at: N,
+    found: &(u8, Vec<u8>),
+    expected: (Option<&str>, u8),
+) -> Result<(), AllocError> {
+    let (code, written) = found;
+    let (report, status) = expected;
+    let written = text(alloc, written.as_slice())?;
+    expect_equal_at(rt, at, Some(written.as_str()), report);
+    expect_equal_at(rt, at, *code, status);
+    Ok(())
+}
 
 // Runs over inputs in pieces of this size, and compares what is written and the status.
 // Where it is given whether the second input is asked for, that is compared too.
@@ -22,17 +39,11 @@ fn expect_run(
     let mut formula = Pieces::new(row.formula, size, row.formula_cut);
     let mut second = Pieces::of_bytes(row.second, size, row.second_cut);
     let writer = Writer::new(alloc, usize::MAX, Stop::TakesNone);
-    let (code, written) = engine.run(alloc, &mut formula, &mut second, writer);
-    let written = text(alloc, written.as_slice())?;
-    let expected = row.report(alloc)?;
+    let found = engine.run(alloc, &mut formula, &mut second, writer);
+    let report = row.report(alloc)?;
     let name = row.name;
-    expect_equal_at(
-        rt,
-        (name, engine, size),
-        written.as_str(),
-        expected.as_str(),
-    );
-    expect_equal_at(rt, (name, engine, size), code, row.status);
+    let expected = (Some(report.as_str()), row.status);
+    expect_outcome(rt, alloc, (name, engine, size), &found, expected)?;
     if let Some(expected) = is_read {
         expect_equal_at(rt, (name, engine), second.reads > 0, expected);
     }
@@ -46,7 +57,7 @@ fn expect_runs(
     size: usize,
     is_read: Option<bool>,
 ) -> Result<(), AllocError> {
-    let engines = row.tool.engines(alloc)?;
+    let engines = row.request.engines(alloc)?;
     for engine in engines.as_slice() {
         expect_run(rt, alloc, *engine, row, size, is_read)?;
     }
@@ -77,7 +88,7 @@ pub fn expect_read(rt: &impl Abort, alloc: Global, row: &Row<'_>) -> Result<(), 
 fn expect_no_contradiction(rt: &impl Abort, alloc: Global, row: &Row<'_>) -> Result<(), Fail> {
     if row.status == 0 {
         let name = row.name;
-        let claimed = row.tool == Tool::Model;
+        let claimed = row.request == Request::Model;
         expect_equal_at(rt, name, has_model(rt, alloc, row.formula)?, claimed);
     }
     Ok(())
@@ -104,11 +115,11 @@ pub fn expect_after(
     alloc: Global,
     base: &Row<'_>,
     formula: (&str, &str),
-    said: (&str, &[u8], &str),
+    case: (&str, &[u8], &str),
     status: u8,
 ) -> Result<(), Fail> {
     let (formula, formula_line) = formula;
-    let (name, second, lines) = said;
+    let (name, second, lines) = case;
     let lines = format!(in alloc; "{formula_line}\n{lines}")?;
     let row = Row {
         name,

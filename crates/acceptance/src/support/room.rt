@@ -1,12 +1,13 @@
 //! Rows are run with writers that have room for a beginning of the report.
 
-use crate::support::asserts::{expect_equal, expect_equal_at};
+use crate::support::asserts::expect_equal;
 use crate::support::engines::Engine;
+use crate::support::reports::expect_outcome;
 use crate::support::rows::Row;
 use std::alloc::{AllocError, Global};
 use std::process::Abort;
 use std::test::Fail;
-use test_inputs::{Pieces, Stop, Writer, text};
+use test_inputs::{Pieces, Stop, Writer};
 
 fn run(alloc: Global, engine: Engine, row: &Row<'_>, writer: Writer) -> (u8, Vec<u8>) {
     let mut formula = Pieces::new(row.formula, 4096, row.formula_cut);
@@ -24,18 +25,10 @@ fn expect_beginning(
     n: usize,
     status: u8,
 ) -> Result<(), AllocError> {
-    let (code, written) = run(alloc, engine, row, writer);
-    let written = text(alloc, written.as_slice())?;
+    let found = run(alloc, engine, row, writer);
     let report = row.report(alloc)?;
-    let name = row.name;
-    expect_equal_at(
-        rt,
-        (name, engine, n),
-        Some(written.as_str()),
-        report.as_str().get(..n),
-    );
-    expect_equal_at(rt, (name, engine, n), code, status);
-    Ok(())
+    let expected = (report.as_str().get(..n), status);
+    expect_outcome(rt, alloc, (row.name, engine, n), &found, expected)
 }
 
 // What room a writer has.
@@ -81,7 +74,7 @@ fn expect_all_room(
     room: Room,
 ) -> Result<(), Fail> {
     for row in rows {
-        let engines = row.tool.engines(alloc)?;
+        let engines = row.request.engines(alloc)?;
         for engine in engines.as_slice() {
             expect_room(rt, alloc, *engine, row, room)?;
         }
@@ -89,17 +82,12 @@ fn expect_all_room(
     Ok(())
 }
 
-// Room for each beginning of the report, after which the writer does this.
-pub fn expect_too_little_room(
-    rt: &impl Abort,
-    alloc: Global,
-    rows: &[Row<'_>],
-    stop: Stop,
-) -> Result<(), Fail> {
-    expect_all_room(rt, alloc, rows, Room::TooLittle(stop))
-}
-
-pub fn expect_enough_room(rt: &impl Abort, alloc: Global, rows: &[Row<'_>]) -> Result<(), Fail> {
+// Room for each beginning of the report, after which the writer does each thing, and for the whole of it. Nothing is written
+// after a failure, even where it would be taken.
+pub fn expect_any_room(rt: &impl Abort, alloc: Global, rows: &[Row<'_>]) -> Result<(), Fail> {
+    for stop in [Stop::TakesNone, Stop::Fails, Stop::FailsOnce] {
+        expect_all_room(rt, alloc, rows, Room::TooLittle(stop))?;
+    }
     expect_all_room(rt, alloc, rows, Room::Enough)
 }
 
@@ -110,7 +98,7 @@ pub fn expect_ten_bytes(
     row: &Row<'_>,
     bytes: &[u8],
 ) -> Result<(), AllocError> {
-    let engines = row.tool.engines(alloc)?;
+    let engines = row.request.engines(alloc)?;
     for engine in engines.as_slice() {
         let (code, written) = run(alloc, *engine, row, Writer::new(alloc, 10, Stop::Fails));
         expect_equal(rt, written.as_slice(), bytes);

@@ -4,9 +4,9 @@ use sat_check::{DratOptions, LratOptions};
 use std::alloc::{AllocError, Global};
 use test_inputs::Cut;
 
-// A tool, and what it is asked to do.
+// What is asked of a run: by which tool, and with which options.
 #[derive(Clone, Copy, Debug, PartialEq, Eq)]
-pub enum Tool {
+pub enum Request {
     Lrat(LratOptions),
     Drat(DratOptions),
     Model,
@@ -15,7 +15,7 @@ pub enum Tool {
 #[derive(Clone, Copy)]
 pub struct Row<'a> {
     pub name: &'a str,
-    pub tool: Tool,
+    pub request: Request,
     pub formula: &'a str,
     pub formula_cut: Cut,
     // A proof, or a solver's output.
@@ -29,9 +29,9 @@ pub struct Row<'a> {
 impl Row<'_> {
     // The last line of the report. No status but 0 goes with a proof or a model that was verified.
     fn verdict(&self) -> &'static str {
-        match (self.tool, self.status) {
-            (Tool::Model, 0) => "s MODEL VERIFIED",
-            (Tool::Model, _) => "s MODEL NOT VERIFIED",
+        match (self.request, self.status) {
+            (Request::Model, 0) => "s MODEL VERIFIED",
+            (Request::Model, _) => "s MODEL NOT VERIFIED",
             (_, 0) => "s VERIFIED",
             (_, _) => "s NOT VERIFIED",
         }
@@ -48,7 +48,7 @@ impl Row<'_> {
 // The tables fill these in. No run has their status.
 pub const LRAT: Row<'static> = Row {
     name: "",
-    tool: Tool::Lrat(LratOptions { trace: false }),
+    request: Request::Lrat(LratOptions { trace: false }),
     formula: "",
     formula_cut: Cut::Ends,
     second: b"",
@@ -58,7 +58,7 @@ pub const LRAT: Row<'static> = Row {
 };
 
 pub const LRAT_TRACED: Row<'static> = Row {
-    tool: Tool::Lrat(LratOptions { trace: true }),
+    request: Request::Lrat(LratOptions { trace: true }),
     ..LRAT
 };
 
@@ -71,118 +71,59 @@ const PLAIN: DratOptions = DratOptions {
     seed: 0,
 };
 
-const TRACED: DratOptions = DratOptions {
-    trace: true,
-    ..PLAIN
-};
+// Macros, since a constant's value calls no function. They name the options that are on.
+macro_rules! drat {
+    ($($option:ident),*) => {
+        Request::Drat(DratOptions {
+            $($option: true,)*
+            ..PLAIN
+        })
+    };
+}
 
-const STRICT: DratOptions = DratOptions {
-    strict: true,
-    ..PLAIN
-};
+macro_rules! drat_row {
+    ($($option:ident),*) => {
+        Row {
+            request: drat!($($option),*),
+            ..LRAT
+        }
+    };
+}
 
-const BINARY: DratOptions = DratOptions {
-    binary: true,
-    ..PLAIN
-};
-
-const KEEP_UNITS: DratOptions = DratOptions {
-    keep_units: true,
-    ..TRACED
-};
-
-pub const BY_DRAT: Tool = Tool::Drat(PLAIN);
+pub const BY_DRAT: Request = drat!();
 
 // What a proof is answered that lists no set and deletes no clause which a literal follows by, as without these rules.
-pub const BY_OTHER_RULES: Tool = Tool::Drat(DratOptions {
-    pr: true,
-    keep_units: true,
-    ..PLAIN
-});
+pub const BY_OTHER_RULES: Request = drat!(pr, keep_units);
 
-pub const BY_BINARY_DRAT: Tool = Tool::Drat(BINARY);
+pub const BY_BINARY_DRAT: Request = drat!(binary);
 
-pub const DRAT: Row<'static> = Row {
-    tool: BY_DRAT,
-    ..LRAT
-};
+pub const BY_DRAT_KEEP_UNITS_STRICT: Request = drat!(trace, strict, keep_units);
 
-pub const DRAT_TRACED: Row<'static> = Row {
-    tool: Tool::Drat(TRACED),
-    ..LRAT
-};
+pub const DRAT: Row<'static> = drat_row!();
 
-pub const DRAT_STRICT: Row<'static> = Row {
-    tool: Tool::Drat(STRICT),
-    ..LRAT
-};
+pub const DRAT_TRACED: Row<'static> = drat_row!(trace);
 
-pub const BY_BINARY: Row<'static> = Row {
-    tool: Tool::Drat(BINARY),
-    ..LRAT
-};
+pub const DRAT_STRICT: Row<'static> = drat_row!(strict);
 
-pub const BINARY_TRACED: Row<'static> = Row {
-    tool: Tool::Drat(DratOptions {
-        trace: true,
-        ..BINARY
-    }),
-    ..LRAT
-};
+pub const DRAT_PR: Row<'static> = drat_row!(trace, pr);
 
-pub const DRAT_PR: Row<'static> = Row {
-    tool: Tool::Drat(DratOptions { pr: true, ..TRACED }),
-    ..LRAT
-};
+pub const DRAT_KEEP_UNITS: Row<'static> = drat_row!(trace, keep_units);
 
-pub const BINARY_PR: Row<'static> = Row {
-    tool: Tool::Drat(DratOptions {
-        binary: true,
-        trace: true,
-        pr: true,
-        ..PLAIN
-    }),
-    ..LRAT
-};
+pub const DRAT_KEEP_UNITS_STRICT: Row<'static> = drat_row!(trace, strict, keep_units);
 
-pub const DRAT_KEEP_UNITS: Row<'static> = Row {
-    tool: Tool::Drat(KEEP_UNITS),
-    ..LRAT
-};
+pub const DRAT_KEEP_UNITS_PR: Row<'static> = drat_row!(trace, pr, keep_units);
 
-pub const DRAT_KEEP_UNITS_STRICT: Row<'static> = Row {
-    tool: Tool::Drat(DratOptions {
-        strict: true,
-        ..KEEP_UNITS
-    }),
-    ..LRAT
-};
+pub const BY_BINARY: Row<'static> = drat_row!(binary);
 
-pub const DRAT_KEEP_UNITS_PR: Row<'static> = Row {
-    tool: Tool::Drat(DratOptions {
-        pr: true,
-        ..KEEP_UNITS
-    }),
-    ..LRAT
-};
+pub const BINARY_TRACED: Row<'static> = drat_row!(binary, trace);
 
-pub const BINARY_KEEP_UNITS: Row<'static> = Row {
-    tool: Tool::Drat(DratOptions {
-        binary: true,
-        ..KEEP_UNITS
-    }),
-    ..LRAT
-};
+pub const BINARY_STRICT: Row<'static> = drat_row!(binary, strict);
 
-pub const BINARY_STRICT: Row<'static> = Row {
-    tool: Tool::Drat(DratOptions {
-        strict: true,
-        ..BINARY
-    }),
-    ..LRAT
-};
+pub const BINARY_PR: Row<'static> = drat_row!(binary, trace, pr);
+
+pub const BINARY_KEEP_UNITS: Row<'static> = drat_row!(binary, trace, keep_units);
 
 pub const MODEL: Row<'static> = Row {
-    tool: Tool::Model,
+    request: Request::Model,
     ..LRAT
 };
