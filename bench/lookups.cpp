@@ -1,4 +1,4 @@
-// The look-ups of crates/lookups in C++: with std::unordered_map, and with plain arrays where keys are dense.
+// The look-ups of crates/bench_lookups in C++: with std::unordered_map, and with plain arrays where keys are dense.
 //
 //     c++ -O2 -std=c++17 -o lookups lookups.cpp
 //     ./lookups ids|ids-array|trail|trail-array|store COUNT

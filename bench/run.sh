@@ -81,12 +81,12 @@ measure "model checked, model-check" 0 "$in/model.out" "$in/model.cnf" -- "$mode
 measure "its formula split into words, words.c" 0 "$in/model.cnf" -- "$out/words" "$in/model.cnf"
 
 # The first line of a pair fills a million entries, the second also looks up ten million times: their difference is the look-ups.
-lookups=${LOOKUPS:-crates/lookups/out/lookups}
+lookups=${LOOKUPS:-crates/bench_lookups/out/bench_lookups}
 if [ -x "$lookups" ]; then
     for row in "ids $lookups" "ids $out/lookups" "ids-array $out/lookups" "trail $lookups" "trail $out/lookups" "trail-array $out/lookups" "store $lookups" "store $out/lookups"; do
         read -r what program <<<"$row"
         kind=lookups.cpp
-        [ "$program" = "$lookups" ] && kind=lookups
+        [ "$program" = "$lookups" ] && kind=bench_lookups
         for times in 0 10000000; do
             measure "$what, $times look-ups, $kind" 0 -- "$program" "$what" "$times"
         done

@@ -8,7 +8,7 @@ identifiers of one form.
 The programs run as they were compiled, with tests/allocations.c before the C library: it refuses the Nth allocation of a
 run. What is counted goes from the least N whose refusal is met inside these calls to the greatest.
 
-DRAT_FORWARD, LRAT_CHECK and ALLOCATIONS name the programs; they are those in bin/ and that of crates/allocations otherwise. CC
+DRAT_FORWARD, LRAT_CHECK and ALLOCATIONS name the programs; they are those in bin/ and that of crates/test_allocations otherwise. CC
 names a C compiler, which is cc otherwise. The last line is "N passed, M failed".
 """
 
@@ -20,10 +20,10 @@ import tempfile
 ROOT = os.path.dirname(os.path.dirname(os.path.abspath(__file__)))
 DRAT_FORWARD = os.environ.get("DRAT_FORWARD") or "bin/drat-forward"
 LRAT_CHECK = os.environ.get("LRAT_CHECK") or "bin/lrat-check"
-ALLOCATIONS = os.environ.get("ALLOCATIONS") or "crates/allocations/out/allocations"
+ALLOCATIONS = os.environ.get("ALLOCATIONS") or "crates/test_allocations/out/test_allocations"
 CC = os.environ.get("CC") or "cc"
 FEW, MANY = 1000, 100000
-# The whole checks, and what crates/allocations does again and again.
+# The whole checks, and what crates/test_allocations does again and again.
 CHECKS = ["run_drat", "run_lrat"]
 CASES = [
     "drat_additions",

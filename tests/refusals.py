@@ -5,13 +5,13 @@ Each program is run on the rows below, with its first allocation refused, with i
 refuse. Each run writes its whole report with its status, or it writes a number of whole lines from the report's beginning, says
 on standard error that it is out of memory, and has status 4. Wrong words have status 6 or 4, and nothing is written.
 
-Below the programs it does the same with calls that may be refused memory, which crates/allocations makes: what they leave is as
+Below the programs it does the same with calls that may be refused memory, which crates/test_allocations makes: what they leave is as
 it has to be. Calls that take no memory are made in a run that asks for as much as one without them.
 
 The programs run as they were compiled, with tests/allocations.c before the C library: it refuses the Nth allocation of a run.
 
 LRAT_CHECK, DRAT_FORWARD and MODEL_CHECK name the programs; they are those in bin/ otherwise. ALLOCATIONS names that of
-crates/allocations. CC names a C compiler, which is cc otherwise. The last line is "N passed, M failed".
+crates/test_allocations. CC names a C compiler, which is cc otherwise. The last line is "N passed, M failed".
 """
 
 import os

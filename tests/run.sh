@@ -49,7 +49,7 @@ done
 
 # The programs first: then the proofs of the tests have the edits beside them. The gate counts all again, so here nothing counts
 # but a failure.
-part tests/prove.py tests/prove.py drat_forward lrat_check model_check lookups allocations || failed=$((failed + 1))
+part tests/prove.py tests/prove.py drat_forward lrat_check model_check bench_lookups test_allocations || failed=$((failed + 1))
 
 part "rt ci" "${RT:-rt}" ci
 ended=$?

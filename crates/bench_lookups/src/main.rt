@@ -1,6 +1,6 @@
 //! Looks up among a million entries, to be measured by `bench/run.sh`.
 //!
-//!     lookups ids|trail|store COUNT
+//!     bench_lookups ids|trail|store COUNT
 //!
 //! It fills identifiers, a trail or a store, does COUNT look-ups in an order that jumps, and prints how many found what is there.
 #![tactic(auto)]
@@ -146,7 +146,7 @@ fn main(rt: HostRuntime) -> anyhow::Result<()> {
     };
     match look_up(rt.alloc(), what, count) {
         Ok(found) => println!(rt; "{found}")?,
-        Err(OutOfMemory) => eprintln!(rt; "lookups: out of memory")?,
+        Err(OutOfMemory) => eprintln!(rt; "bench_lookups: out of memory")?,
     }
     Ok(())
 }

@@ -1,6 +1,6 @@
 //! Makes calls of the readers and of the store again and again. `tests/allocations.py` counts their allocations.
 //!
-//!     allocations CASE COUNT
+//!     test_allocations CASE COUNT
 //!
 //! It reads COUNT steps of one form into one buffer, or as many clauses, or stores and removes as many, or binds as many
 //! identifiers, or checks as many pairs of an addition and its deletion, and prints how many it did, or that memory was refused
