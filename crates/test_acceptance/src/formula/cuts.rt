@@ -40,20 +40,20 @@ const E_CLAUSES: [Expected<'static>; 26] = [
     ("c formula 5:7: unterminated clause", 2),
 ];
 
+const OF_LRAT: Cuts<'static> = Cuts {
+    input: Cutting::Formula(E_BY_LRAT),
+    ends: &[&HEADER, &E_CLAUSES],
+    failures: &[(39, UNREAD_FORMULA)],
+};
+
+const OF_DRAT: Cuts<'static> = Cuts {
+    input: Cutting::Formula(E_BY_DRAT),
+    ..OF_LRAT
+};
+
 #[test]
 fn cuts(rt: HostRuntime) -> Result<(), Fail> {
-    let ends = [HEADER.as_slice(), &E_CLAUSES];
     expect_equal(&rt, E.len(), 38);
-    for row in [E_BY_LRAT, E_BY_DRAT] {
-        expect_cuts(
-            &rt,
-            rt.alloc(),
-            &Cuts {
-                input: Cutting::Formula(row),
-                ends: &ends,
-                failures: &[(39, UNREAD_FORMULA)],
-            },
-        )?;
-    }
-    Ok(())
+    expect_cuts(&rt, rt.alloc(), &OF_LRAT)?;
+    expect_cuts(&rt, rt.alloc(), &OF_DRAT)
 }
