@@ -3,8 +3,6 @@ pub mod Different
 pub mod Ending
 pub mod Groups
 pub mod Hints
-pub mod Kept
-pub mod LiveClauses
 pub mod Remaining
 pub mod Rooms
 pub mod Sessions

@@ -2,6 +2,5 @@
 pub mod Candidates
 pub mod DratSession
 pub mod Groups
-pub mod LiveClauses
 pub mod LratSession
 pub mod Walk

@@ -2,7 +2,7 @@
 
 mod addition;
 mod candidates;
-mod live_clauses;
+mod deletions;
 mod named;
 mod walk;
 
@@ -13,16 +13,17 @@ ghost use Rattle.cnf_base.specs.Literals.{complements};
 ghost use Rattle.theory.specs.Lrat.{chain, units_of, groups_of, AnswersChain, AnswersLrat};
 ghost use Rattle.theory.specs.Lrat.{after_lrat, lrat_step, with_clause, SameClauses};
 ghost use Rattle.trail.specs.Trail.{HasRoom};
-ghost use Rattle.steps.specs.Code.LiveClauses.{lrat_state};
+ghost use Rattle.live_clauses.specs.LiveClauses.{lrat_state};
 ghost use Rattle.steps.specs.LratSession.{fresh_lrat};
 ghost use Rattle.steps.specs.Code.LratSession.{state_of, IsReady};
 ghost use Rattle.theory.specs.Answers.{UnlessOutOfMemory};
 
 use crate::lrat::addition::judge_addition;
-use crate::lrat::live_clauses::{LiveClauses, delete_all};
+use crate::lrat::deletions::delete_all;
 use crate::proof_session::ProofSession;
 use crate::proof_session::progress::Progress;
 use cnf_base::{Lit, OutOfMemory};
+use live_clauses::LiveClauses;
 use proofs::{StepBuf, StepKind};
 use std::alloc::Global;
 use std::marker::Model;

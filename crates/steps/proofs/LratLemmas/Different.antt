@@ -1,32 +1,14 @@
 -- Lists of different numbers.
-use Rattle.std.proofs.Common.{◌≡◌, ℕ, true, false, List, [], ◌∷◌, nat_eq, ap, sym, ◌∙◌, subst, inl}
-use Rattle.std.proofs.Common.{inr, arith, eqb, ◌||◌, Bool, cond, refl}
+use Rattle.std.proofs.Common.{◌≡◌, ℕ, true, false, List, [], ◌∷◌, nat_eq, ap, sym, ◌∙◌, subst}
+use Rattle.std.proofs.Common.{arith, eqb, ◌||◌, Bool, cond, refl}
 use Rattle.std.specs.List.{IsDistinct, AllByRecursion, list_any}
 use Rattle.std.specs.List.Sorted.{IsStrictlySortedBy}
 use Rattle.std.specs.Ordering.{nat_cmp, is_eq, eq_by_cmp}
-use Rattle.std.proofs.lemmas.Bool.{false≢true, true≢false, false_from_ne_true}
+use Rattle.std.proofs.lemmas.Bool.{true≢false, false_from_ne_true}
 use Rattle.std.proofs.lemmas.Bool.Decides.{nat_tests}
 use Rattle.std.proofs.lemmas.Map.Keys.{IsDistinct-from_sorted}
 use Rattle.cnf_base.specs.Literals.{has}
-use Rattle.cnf_base.proofs.SetLemmas.{has_head, has_tail, has_cases}
-
-pub distinct_tail : (k : ℕ) (ks : List ℕ) → IsDistinct nat_eq (k ∷ ks) → IsDistinct nat_eq ks
-unfolding IsDistinct
-distinct_tail k ks h = h.1
-
-pub distinct_head : (k : ℕ) (ks : List ℕ) → IsDistinct nat_eq (k ∷ ks) → has ks k ≡ true → ⊥
-unfolding IsDistinct
-distinct_head k ks h member = none_equal ks h.0 member
-  where
-    none_equal : (ks : List ℕ) → AllByRecursion (λ y. nat_eq k y ≡ false) ks → has ks k ≡ true → ⊥
-    none_equal [] all member = false≢true member
-    none_equal (j ∷ ks) all member = elim (has_cases j ks k member) [
-      | inl e ↦ true≢false (sym (equal j e) ∙ all.0)
-      | inr later ↦ none_equal ks all.1 later
-    ]
-      where
-        equal : (j : ℕ) → j ≡ k → nat_eq k j ≡ true
-        equal j e = grind (arith, nat_tests)
+use Rattle.cnf_base.proofs.SetLemmas.{has_head, has_tail}
 
 pub distinct_more : (k : ℕ) (ks : List ℕ) → has ks k ≡ false → IsDistinct nat_eq ks → IsDistinct nat_eq (k ∷ ks)
 unfolding IsDistinct

@@ -4,9 +4,6 @@ use Rattle.std.proofs.Common.{is_none, Ok, Err, List, [], ◌∷◌, sym, subst,
 use Rattle.std.specs.Prelude.{⊤}
 use Rattle.std.specs.Bool.{then_some, MatchBool}
 use Rattle.std.specs.Option.{option_or}
-use Rattle.std.specs.Result.{is_err, OnOk, OnErr}
-use Rattle.std.specs.declared.result.Result.{Result}
-use Rattle.std.proofs.lemmas.Bool.{true≢false}
 use Rattle.std.proofs.lemmas.Bool.Decides.{nat_tests}
 use Rattle.theory.specs.declared.accepted.Accepted.TheVariants.{Empty, Rup}
 use Rattle.theory.specs.declared.refusal.Refusal.{Refusal}
@@ -108,10 +105,6 @@ unless_map (Err OutOfMemory) f p = tt
 unless_map (Ok word) f p = f p
 unless_map (Err _) f p = f p
 
-pub when_ok : {X Y : Type 0} (r : Result X Y) (P : Type 0) → is_err r ≡ false → OnOk r P → P
-when_ok (Ok x) P h p = p
-when_ok (Err y) P h p = absurd (true≢false h)
-
 -- an addition whose identifier is right
 pub answers_addition : (state : LratState) (live : Live) (step : Step) (id top : ℕ) (c : List Literal) (hints : List ℤ) (answer : StepAnswer) → step.kind ≡ Add → ((k : ℕ) → live k ≡ state.live k) →
     id ≡ step.id → top ≡ state.top → top < id → c ≡ step.lits → hints ≡ step.hints →
@@ -128,7 +121,3 @@ answers_addition state live step id top c hints answer kind_is live_is id_is top
   where
     not_le : (a b : ℕ) → b < a → nat_le a b ≡ false
     not_le a b h = grind (arith, nat_tests)
-
-pub when_err : {X Y : Type 0} (r : Result X Y) (P : Type 0) → is_err r ≡ true → OnErr r P → P
-when_err (Ok x) P e h = absurd (true≢false (sym e))
-when_err (Err y) P e h = h

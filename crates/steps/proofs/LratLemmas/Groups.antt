@@ -24,7 +24,7 @@ use Rattle.theory.specs.Lrat.{ChainEnd, conflict, open_with, unknown, not_unit, 
 use Rattle.theory.specs.Lrat.{Group, with_candidate, chain_refusal, group_refusal, groups_refusal}
 use Rattle.theory.specs.Lrat.{units_of, groups_of, is_unsettled, is_left_out, AnswersGroups}
 use Rattle.theory.specs.Sets.{conflicts, SameSet}
-use Rattle.steps.specs.Code.LiveClauses.{Holds}
+use Rattle.live_clauses.specs.LiveClauses.{Holds}
 use Rattle.steps.specs.Code.Walk.{IsEnd, refusal_at}
 use Rattle.steps.specs.Code.Groups.{named_in, IsGroupEnd, is_unnamed, IsFirstLeftOut}
 use Rattle.theory.proofs.LratLemmas.SameSets.{same_set_more}

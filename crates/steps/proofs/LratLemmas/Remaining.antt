@@ -10,7 +10,7 @@ use Rattle.cnf_base.proofs.SetLemmas.{has_cases}
 use Rattle.theory.specs.Propagation.{Live}
 use Rattle.theory.specs.Lrat.{is_unsettled, with_candidate}
 use Rattle.theory.specs.Sets.{conflicts}
-use Rattle.steps.specs.Code.LiveClauses.{Holds, AllHold}
+use Rattle.live_clauses.specs.LiveClauses.{Holds, AllHold}
 use Rattle.steps.specs.Code.Groups.{is_unnamed, needs_group_at}
 use Rattle.steps.proofs.LratLemmas.Different.{distinct_more}
 

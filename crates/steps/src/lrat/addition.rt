@@ -11,11 +11,11 @@ ghost use Rattle.steps.specs.Code.Walk.{IsEnd};
 ghost use Rattle.theory.specs.Answers.{UnlessOutOfMemory};
 
 use crate::lrat::candidates::{first_left_out, judge_groups};
-use crate::lrat::live_clauses::LiveClauses;
 use crate::lrat::named::Named;
 use crate::lrat::walk::{WalkEnd, walk};
 use crate::word::word_of;
 use cnf_base::Lit;
+use live_clauses::LiveClauses;
 use std::alloc::Global;
 use theory::{Accepted, Refusal};
 use trail::{Trail, Whole};

@@ -6,13 +6,13 @@ ghost use Rattle.cnf_base.specs.Literals.{complement, has};
 ghost use Rattle.theory.specs.Lrat.{group_refusal, groups_refusal, units_of, groups_of};
 ghost use Rattle.theory.specs.Sets.{conflicts, SameSet};
 ghost use Rattle.trail.specs.Trail.{HasRoom, HasRoomForAll};
-ghost use Rattle.steps.specs.Code.LiveClauses.{Holds};
+ghost use Rattle.live_clauses.specs.LiveClauses.{Holds};
 ghost use Rattle.steps.specs.Code.Groups.{named_in, needs_group_at, IsGroupEnd, IsFirstLeftOut};
 
-use crate::lrat::live_clauses::LiveClauses;
 use crate::lrat::named::Named;
 use crate::lrat::walk::{WalkEnd, refusal_of, walk};
 use cnf_base::Lit;
+use live_clauses::LiveClauses;
 use std::alloc::AllocError;
 use theory::Refusal;
 use trail::{Except, Trail};

@@ -9,8 +9,8 @@ ghost use Rattle.theory.specs.Sets.{conflicts, SameSet};
 ghost use Rattle.trail.specs.Trail.{HasRoomForAll};
 ghost use Rattle.steps.specs.Code.Walk.{IsEnd, refusal_at};
 
-use crate::lrat::live_clauses::LiveClauses;
 use cnf_base::Lit;
+use live_clauses::LiveClauses;
 use theory::Refusal;
 use trail::{Left, Trail};
 

@@ -2,7 +2,7 @@ use Rattle.std.proofs.Common.{map, nat_abs, sym, ◌∙◌, subst}
 use Rattle.std.specs.FinMap as maps
 use Rattle.theory.specs.Answers.{StepAnswer, UnlessOutOfMemory}
 use Rattle.theory.specs.Lrat.{AnswersLrat, lrat_step}
-use Rattle.steps.specs.Code.LiveClauses.{lrat_state}
+use Rattle.live_clauses.specs.LiveClauses.{lrat_state}
 use Rattle.steps.proofs.LratLemmas.Ending.{never_ended}
 use Rattle.steps.proofs.LratLemmas.Rooms.{ready_without, deleted_live}
 use Rattle.steps.proofs.lrat.apply_step.Goals as goal

@@ -1,7 +1,7 @@
 use Rattle.std.proofs.Common.{subst}
 use Rattle.std.specs.FinMap as maps
 use Rattle.theory.specs.Lrat.{after_lrat, lrat_step}
-use Rattle.steps.specs.Code.LiveClauses.{lrat_state}
+use Rattle.live_clauses.specs.LiveClauses.{lrat_state}
 use Rattle.steps.specs.Code.LratSession.{state_of}
 use Rattle.theory.specs.Models.{HasModel}
 use Rattle.theory.proofs.LawLemmas.Keeping.{lrat_keeps}

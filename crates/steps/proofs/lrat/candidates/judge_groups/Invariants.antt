@@ -2,7 +2,7 @@ use Rattle.std.proofs.Common.{◌≡◌, ℕ, true, [], take, drop}
 use Rattle.std.specs.FinMap as maps
 use Rattle.cnf_base.specs.Literals.{complement, has}
 use Rattle.theory.specs.Lrat.{groups_refusal, groups_of}
-use Rattle.steps.specs.Code.LiveClauses.{Holds}
+use Rattle.live_clauses.specs.LiveClauses.{Holds}
 use Rattle.steps.specs.Code.Groups.{named_in}
 use Rattle.theory.specs.Sets.{SameSet}
 use Rattle.steps.proofs.lrat.candidates.judge_groups.Given as goal

@@ -1,0 +1,3 @@
+pub mod Distinct
+pub mod Joined
+pub mod Kept

@@ -1,0 +1,385 @@
+-- Identifiers, slots and clauses as one finite map.
+use Rattle.std.proofs.Common.{◌≡◌, ℕ, Bool, true, false, cond, eqb, eq-eqb, ne_eqb, Option, Some}
+use Rattle.std.proofs.Common.{None, option_map, List, [], ◌∷◌, map, ◌+◌, ◌<◌, ◌≤◌, ◌≢◌, is_some}
+use Rattle.std.proofs.Common.{refl, sym, ap, ◌∙◌, subst, arith, nat_cmp, nat_eq, length, inl, inr}
+use Rattle.std.proofs.Common.{◌⊎◌}
+use Rattle.std.proofs.lemmas.Option.{same_Some, none-some}
+use Rattle.std.proofs.lemmas.Option.{}
+use Rattle.std.specs.Ordering.{eq_by_cmp}
+use Rattle.std.specs.Option.{unwrap_or, IsSome}
+use Rattle.std.specs.Cmp.{nat_cmp_total, unsigned_tied}
+use Rattle.std.specs.FinMap as maps
+use Rattle.std.specs.FinMap.{FinMap, find, get-entries, get-insert, get-remove, get-empty}
+use Rattle.std.specs.FinMap.{get-from_entries, same_map, nat_cmp-IsAntisymmetric}
+use Rattle.std.proofs.lemmas.Bool.{cases_eq, false≢true}
+use Rattle.std.specs.Bool.{IsTrue}
+use Rattle.std.specs.List.{IsDistinct}
+use Rattle.cnf_base.specs.Literals.{Literal, Clause, has, same_clause, size}
+use Rattle.cnf_base.proofs.SetLemmas.{has_head, has_tail}
+use Rattle.clause_db.specs.Store.{copies_with, literals_in}
+use Rattle.clause_db.proofs.StoreLemmas.Sums.{same_maps, sum_insert, sum_remove, sum_empty}
+use Rattle.live_clauses.proofs.ClausesLemmas.Distinct.{distinct_head, distinct_tail}
+use Rattle.theory.specs.Propagation.{Live}
+use Rattle.theory.specs.Lrat.{with_clause, without_id, SameAt, SameClauses}
+use Rattle.theory.proofs.LratLemmas.LiveSets.{SameClauses-refl}
+use Rattle.theory.specs.Sizes.{size_at, sum_to}
+use Rattle.live_clauses.specs.Code.LiveClauses.{clause_at, held_at, joined, IsPaired, IsTally}
+use Rattle.live_clauses.specs.LiveClauses.{LiveClausesState, Holds, AllHold}
+use Rattle.theory.proofs.LratLemmas.Sums.{sum_agree, sum_with, sum_without, with_here, with_other}
+use Rattle.theory.proofs.LratLemmas.Sums.{without_here, without_other}
+
+-- ---- The map that is seen
+
+find_joined : (store : FinMap nat_cmp Clause) (es : List (ℕ × ℕ)) (q : ℕ) → find nat_cmp q (map (λ e. (e.0, clause_at store e.1)) es) ≡ option_map (clause_at store) (find nat_cmp q es)
+find_joined store [] q = refl
+find_joined store (e ∷ es) q = by_test (eq_by_cmp nat_cmp q e.0) _ _ (find_joined store es q)
+  where
+    by_test : (b : Bool) (x : Option Clause) (y : Option ℕ) → x ≡ option_map (clause_at store) y → cond b (Some (clause_at store e.1)) x ≡ option_map (clause_at store) (cond b (Some e.1) y)
+    by_test true x y h = refl
+    by_test false x y h = h
+
+pub joined_is : (ids : FinMap nat_cmp ℕ) (store : FinMap nat_cmp Clause) (k : ℕ) → maps.get (joined ids store) k ≡ held_at ids store k
+joined_is ids store k =
+    get-from_entries nat_cmp_total (map (λ e. (e.0, clause_at store e.1)) (maps.entries ids)) k
+    ∙ find_joined store (maps.entries ids) k
+    ∙ ap (option_map (clause_at store)) (sym (get-entries ids k))
+
+module _ (ids : FinMap nat_cmp ℕ) (store : FinMap nat_cmp Clause) (state : LiveClausesState) (view : joined ids store ≡ state.live) where
+  pub live_at : (k : ℕ) → maps.get state.live k ≡ held_at ids store k
+  live_at k = ap (λ m. maps.get m k) (sym view) ∙ joined_is ids store k
+
+  pub live_total : (top : ℕ) → top ≡ state.top → sum_to top (λ k. size_at (held_at ids store k)) ≡ sum_to state.top (λ k. size_at (maps.get state.live k))
+  live_total top e =
+      sum_agree top (λ k. size_at (held_at ids store k)) (λ k. size_at (maps.get state.live k)) (λ k low high. ap size_at (sym (live_at k)))
+      ∙ ap (λ t. sum_to t (λ k. size_at (maps.get state.live k))) e
+
+-- ---- Finite maps at one key
+
+module _ {X : Type 0} (m : FinMap nat_cmp X) (k : ℕ) where
+  pub insert_here : (x : X) → maps.get (maps.insert m k x) k ≡ Some x
+  insert_here x = get-insert nat_cmp_total m k x k ∙ ap (λ b. cond b (Some x) (maps.get m k)) (unsigned_tied k k ∙ eq-eqb k k refl)
+
+  pub insert_other : (x : X) (q : ℕ) → q ≢ k → maps.get (maps.insert m k x) q ≡ maps.get m q
+  insert_other x q apart = get-insert nat_cmp_total m k x q ∙ ap (λ b. cond b (Some x) (maps.get m q)) (unsigned_tied q k ∙ ne_eqb q k apart)
+
+  pub remove_here : maps.get (maps.remove m k) k ≡ None
+  remove_here = get-remove nat_cmp_total m k k ∙ ap (λ b. cond b None (maps.get m k)) (unsigned_tied k k ∙ eq-eqb k k refl)
+
+  pub remove_other : (q : ℕ) → q ≢ k → maps.get (maps.remove m k) q ≡ maps.get m q
+  remove_other q apart = get-remove nat_cmp_total m k q ∙ ap (λ b. cond b None (maps.get m q)) (unsigned_tied q k ∙ ne_eqb q k apart)
+
+some_is_some : {X : Type 0} (o : Option X) (x : X) → o ≡ Some x → IsSome o
+some_is_some o x e = ap is_some e
+
+none_is_not_some : {X : Type 0} (o : Option X) → o ≡ None → IsSome o → ⊥
+none_is_not_some o e h = false≢true (sym (ap is_some e) ∙ h)
+
+-- two maps that agree at the slot of k have the same clause there
+held_agree : (ids after_ids : FinMap nat_cmp ℕ) (store after : FinMap nat_cmp Clause) (k : ℕ) → maps.get after_ids k ≡ maps.get ids k → ((slot : ℕ) → maps.get ids k ≡ Some slot → maps.get after slot ≡ maps.get store slot) → held_at after_ids after k ≡ held_at ids store k
+held_agree ids after_ids store after k same agree = ap (option_map (clause_at after)) same ∙ by_slot (maps.get ids k) agree
+  where
+    by_slot : (o : Option ℕ) → ((slot : ℕ) → o ≡ Some slot → maps.get after slot ≡ maps.get store slot) → option_map (clause_at after) o ≡ option_map (clause_at store) o
+    by_slot None agree = refl
+    by_slot (Some slot) agree = ap (λ o. Some (unwrap_or o [])) (agree slot refl)
+
+-- ---- A clause that is added
+
+module _ (ids : FinMap nat_cmp ℕ) (store after : FinMap nat_cmp Clause) (id slot : ℕ) (paired : IsPaired ids store) (free : maps.get store slot ≡ None)
+    (others : (k : ℕ) → k ≢ slot → maps.get after k ≡ maps.get store k) where
+  -- what is bound has another slot
+  old_slot : (k s : ℕ) → maps.get ids k ≡ Some s → s ≢ slot
+  old_slot k s at e = none_is_not_some (maps.get store slot) free (subst (λ t. IsSome (maps.get store t)) e (paired.filled k s at))
+
+  -- a slot that was filled and freed again
+  pub freed_is : maps.remove after slot ≡ store
+  freed_is = same_maps (maps.remove after slot) store (λ q. elim (cases_eq q slot) [
+    | inl e ↦ ap (maps.get (maps.remove after slot)) e ∙ remove_here after slot ∙ sym (ap (maps.get store) e ∙ free)
+    | inr apart ↦ remove_other after slot q apart ∙ others q apart
+  ])
+
+  module _ (c : Clause) (stored : maps.get after slot ≡ Some c) (after_ids : FinMap nat_cmp ℕ) (bound : after_ids ≡ maps.insert ids id slot) where
+    ids_here : maps.get after_ids id ≡ Some slot
+    ids_here = ap (λ m. maps.get m id) bound ∙ insert_here ids id slot
+
+    ids_other : (k : ℕ) → k ≢ id → maps.get after_ids k ≡ maps.get ids k
+    ids_other k apart = ap (λ m. maps.get m k) bound ∙ insert_other ids id slot k apart
+
+    pub held_with : (k : ℕ) → held_at after_ids after k ≡ with_clause (held_at ids store) id c k
+    held_with k = elim (cases_eq k id) [
+      | inl e ↦
+          ap (held_at after_ids after) e ∙ ap (option_map (clause_at after)) ids_here ∙ ap (λ o. Some (unwrap_or o [])) stored
+          ∙ sym (ap (with_clause (held_at ids store) id c) e ∙ with_here (held_at ids store) id c)
+      | inr apart ↦
+          held_agree ids after_ids store after k (ids_other k apart) (λ s at. others s (old_slot k s at))
+          ∙ sym (with_other (held_at ids store) id c k apart)
+    ]
+
+    -- an identifier that is bound now, and its slot
+    slot_cases : (k s : ℕ) → maps.get after_ids k ≡ Some s → ((k ≡ id) × (s ≡ slot)) ⊎ (maps.get ids k ≡ Some s)
+    slot_cases k s at = elim (cases_eq k id) [
+      | inl e ↦ inl (e, same_Some s slot (sym at ∙ ap (maps.get after_ids) e ∙ ids_here))
+      | inr apart ↦ inr (sym (ids_other k apart) ∙ at)
+    ]
+
+    pub paired_with : IsPaired after_ids after
+    paired_with = record {
+      filled = λ k s at. elim (slot_cases k s at) [
+        | inl w ↦ some_is_some (maps.get after s) c (ap (maps.get after) w.1 ∙ stored)
+        | inr was ↦ subst IsSome (sym (others s (old_slot k s was))) (paired.filled k s was)
+      ];
+      own = λ j k s first second. elim (slot_cases j s first) [
+        | inl v ↦ elim (slot_cases k s second) [ inl w ↦ v.0 ∙ sym w.0 | inr was ↦ absurd (old_slot k s was v.1) ]
+        | inr was ↦ elim (slot_cases k s second) [ inl w ↦ absurd (old_slot j s was w.1) | inr is ↦ paired.own j k s was is ]
+      ];
+    }
+
+    filled_is : after ≡ maps.insert store slot c
+    filled_is = same_maps after (maps.insert store slot c) (λ q. elim (cases_eq q slot) [
+      | inl e ↦ ap (maps.get after) e ∙ stored ∙ sym (ap (maps.get (maps.insert store slot c)) e ∙ insert_here store slot c)
+      | inr apart ↦ others q apart ∙ sym (insert_other store slot c q apart)
+    ])
+
+    pub tally_with : (top : ℕ) → IsTally (held_at ids store) top (literals_in store) → top < id → IsTally (held_at after_ids after) id (literals_in after)
+    tally_with top tally above =
+        let was = tally.sum_is in
+        let grown = ap literals_in filled_is ∙ sum_insert size store slot c free in
+        let now = sum_with (held_at ids store) (held_at after_ids after) top id c above tally.none_above held_with in
+        let zero_apart : 0 ≢ id = λ e. absurd (let h : ⊥ = omega arith in h) in
+        record {
+          sum_is = omega (arith, was, grown, now);
+          none_at_zero = held_with 0 ∙ with_other (held_at ids store) id c 0 zero_apart ∙ tally.none_at_zero;
+          none_above = λ k past. held_with k ∙ with_other (held_at ids store) id c k (λ e. absurd (let h : ⊥ = omega arith in h)) ∙ tally.none_above k (omega arith);
+        }
+
+-- an identifier past the greatest is not bound
+pub not_bound : (ids : FinMap nat_cmp ℕ) (store : FinMap nat_cmp Clause) (k : ℕ) → held_at ids store k ≡ None → maps.get ids k ≡ None
+not_bound ids store k h = by_slot (maps.get ids k) h
+  where
+    by_slot : (o : Option ℕ) → option_map (clause_at store) o ≡ None → o ≡ None
+    by_slot None h = refl
+    by_slot (Some s) h = absurd (none-some (clause_at store s) (sym h))
+
+-- ---- A clause that is taken off
+
+module _ (ids after_ids : FinMap nat_cmp ℕ) (store : FinMap nat_cmp Clause) (id : ℕ) (paired : IsPaired ids store) (unbound : after_ids ≡ maps.remove ids id) where
+  gone_here : maps.get after_ids id ≡ None
+  gone_here = ap (λ m. maps.get m id) unbound ∙ remove_here ids id
+
+  gone_other : (k : ℕ) → k ≢ id → maps.get after_ids k ≡ maps.get ids k
+  gone_other k apart = ap (λ m. maps.get m k) unbound ∙ remove_other ids id k apart
+
+  -- an identifier that is still bound was bound, and is another one
+  still_bound : (k s : ℕ) → maps.get after_ids k ≡ Some s → (k ≢ id) × (maps.get ids k ≡ Some s)
+  still_bound k s at = elim (cases_eq k id) [
+    | inl e ↦ absurd (none-some s (sym (sym at ∙ ap (maps.get after_ids) e ∙ gone_here)))
+    | inr apart ↦ (apart, sym (gone_other k apart) ∙ at)
+  ]
+
+  -- where it was not bound
+  module _ (none : maps.get ids id ≡ None) where
+    same_ids : (k : ℕ) → maps.get after_ids k ≡ maps.get ids k
+    same_ids k = elim (cases_eq k id) [
+      | inl e ↦ ap (maps.get after_ids) e ∙ gone_here ∙ sym (ap (maps.get ids) e ∙ none)
+      | inr apart ↦ gone_other k apart
+    ]
+
+    pub none_held : (k : ℕ) → held_at after_ids store k ≡ held_at ids store k
+    none_held k = held_agree ids after_ids store store k (same_ids k) (λ s at. refl)
+
+    pub none_without : (k : ℕ) → held_at after_ids store k ≡ without_id (held_at ids store) id k
+    none_without k = none_held k ∙ elim (cases_eq k id) [
+      | inl e ↦ ap (held_at ids store) e ∙ ap (option_map (clause_at store)) none ∙ sym (ap (without_id (held_at ids store) id) e ∙ without_here (held_at ids store) id)
+      | inr apart ↦ sym (without_other (held_at ids store) id k apart)
+    ]
+
+    pub none_paired : IsPaired after_ids store
+    none_paired = record {
+      filled = λ k s at. paired.filled k s (still_bound k s at).1;
+      own = λ j k s first second. paired.own j k s (still_bound j s first).1 (still_bound k s second).1;
+    }
+
+  module _ (slot : ℕ) (bound : maps.get ids id ≡ Some slot) (after : FinMap nat_cmp Clause) (freed : after ≡ maps.remove store slot) where
+    other_slot : (k s : ℕ) → k ≢ id → maps.get ids k ≡ Some s → s ≢ slot
+    other_slot k s apart at e = apart (paired.own k id slot (at ∙ ap Some e) bound)
+
+    kept_slot : (k s : ℕ) → k ≢ id → maps.get ids k ≡ Some s → maps.get after s ≡ maps.get store s
+    kept_slot k s apart at = ap (λ m. maps.get m s) freed ∙ remove_other store slot s (other_slot k s apart at)
+
+    pub held_without : (k : ℕ) → held_at after_ids after k ≡ without_id (held_at ids store) id k
+    held_without k = elim (cases_eq k id) [
+      | inl e ↦ ap (held_at after_ids after) e ∙ ap (option_map (clause_at after)) gone_here ∙ sym (ap (without_id (held_at ids store) id) e ∙ without_here (held_at ids store) id)
+      | inr apart ↦ held_agree ids after_ids store after k (gone_other k apart) (λ s at. kept_slot k s apart at) ∙ sym (without_other (held_at ids store) id k apart)
+    ]
+
+    pub paired_without : IsPaired after_ids after
+    paired_without = record {
+      filled = λ k s at. let was = still_bound k s at in subst IsSome (sym (kept_slot k s was.0 was.1)) (paired.filled k s was.1);
+      own = λ j k s first second. paired.own j k s (still_bound j s first).1 (still_bound k s second).1;
+    }
+
+    none_stays : (k : ℕ) → held_at ids store k ≡ None → held_at after_ids after k ≡ None
+    none_stays k h = held_without k ∙ ap (cond (eqb k id) None) h ∙ none_twice (eqb k id)
+      where
+        none_twice : (b : Bool) → (let o : Option Clause = cond b None None in o) ≡ None
+        none_twice true = refl
+        none_twice false = refl
+
+    module _ (c : Clause) (at : maps.get store slot ≡ Some c) (top : ℕ) (tally : IsTally (held_at ids store) top (literals_in store)) where
+      held_here : held_at ids store id ≡ Some c
+      held_here = ap (option_map (clause_at store)) bound ∙ ap (λ o. Some (unwrap_or o [])) at
+
+      pub tally_without : IsTally (held_at after_ids after) top (literals_in after)
+      tally_without =
+          let was = tally.sum_is in
+          let less = ap (λ m. size c + literals_in m) freed ∙ sum_remove size store slot c at in
+          let now = sum_without (held_at ids store) (held_at after_ids after) top id tally.none_at_zero tally.none_above held_without c held_here in
+          record {
+            sum_is = omega (arith, was, less, now);
+            none_at_zero = none_stays 0 tally.none_at_zero;
+            none_above = λ k past. none_stays k (tally.none_above k past);
+          }
+
+-- the same clauses have the same tally
+pub tally_same : (live after : Live) (top sum : ℕ) → ((k : ℕ) → after k ≡ live k) → IsTally live top sum → IsTally after top sum
+tally_same live after top sum same tally = record {
+  sum_is = tally.sum_is ∙ sum_agree top (λ k. size_at (live k)) (λ k. size_at (after k)) (λ k low high. ap size_at (sym (same k)));
+  none_at_zero = same 0 ∙ tally.none_at_zero;
+  none_above = λ k past. same k ∙ tally.none_above k past;
+}
+
+-- ---- What is seen of one change
+
+same_changed : (live : Live) (id : ℕ) (c lits : Clause) → same_clause c lits ≡ true → (k : ℕ) → SameAt (with_clause live id c k) (with_clause live id lits k)
+same_changed live id c lits same k = by_test (eqb k id)
+  where
+    by_test : (b : Bool) → SameAt (cond b (Some c) (live k)) (cond b (Some lits) (live k))
+    by_test true = same
+    by_test false = (SameClauses-refl live).at k
+
+module _ (ids after_ids : FinMap nat_cmp ℕ) (store after : FinMap nat_cmp Clause) (id slot : ℕ) (lits : Clause) (state : LiveClausesState) (view : joined ids store ≡ state.live) (paired : IsPaired ids store) (free : maps.get store slot ≡ None)
+    (others : (k : ℕ) → k ≢ slot → maps.get after k ≡ maps.get store k) (stored : (c : Clause) × (maps.get after slot ≡ Some c) × IsTrue (same_clause c lits)) (bound : after_ids ≡ maps.insert ids id slot) where
+  pub add_live : SameClauses (maps.get (joined after_ids after)) (with_clause (maps.get state.live) id lits)
+  add_live =
+      let w = stored in
+      record {
+        at = λ k.
+            subst (λ o. SameAt o (with_clause (maps.get state.live) id lits k)) (sym (joined_is after_ids after k ∙ held_with ids store after id slot paired free others w.0 w.1 after_ids bound k))
+            (subst (λ o. SameAt (with_clause (held_at ids store) id w.0 k) (cond (eqb k id) (Some lits) o)) (sym (live_at ids store state view k))
+            (same_changed (held_at ids store) id w.0 lits w.2 k));
+      }
+
+  pub add_invariant : (top : ℕ) → IsTally (held_at ids store) top (literals_in store) → top < id → IsPaired after_ids after × IsTally (held_at after_ids after) id (literals_in after)
+  add_invariant top tally above =
+      let w = stored in
+      (paired_with ids store after id slot paired free others w.0 w.1 after_ids bound, tally_with ids store after id slot paired free others w.0 w.1 after_ids bound top tally above)
+
+-- the clause is taken off again where its identifier could not be bound
+pub undone_invariant : (ids after_ids : FinMap nat_cmp ℕ) (store after freed : FinMap nat_cmp Clause) (id slot top : ℕ) → IsPaired ids store → maps.get store slot ≡ None → ((k : ℕ) → k ≢ slot → maps.get after k ≡ maps.get store k) →
+    after_ids ≡ ids → freed ≡ maps.remove after slot → IsTally (held_at ids store) top (literals_in store) → IsPaired after_ids freed × IsTally (held_at after_ids freed) top (literals_in freed)
+undone_invariant ids after_ids store after freed id slot top paired free others ids_are is tally =
+    subst (λ m. IsPaired m freed × IsTally (held_at m freed) top (literals_in freed)) (sym ids_are)
+    (subst (λ s. IsPaired ids s × IsTally (held_at ids s) top (literals_in s)) (sym (is ∙ freed_is ids store after id slot paired free others)) (paired, tally))
+
+-- ---- What is seen of a look-up and of a removal
+
+module _ (ids : FinMap nat_cmp ℕ) (store : FinMap nat_cmp Clause) (state : LiveClausesState) (view : joined ids store ≡ state.live) where
+  pub got_none : (id : ℕ) → maps.get ids id ≡ None → maps.get state.live id ≡ None
+  got_none id none = live_at ids store state view id ∙ ap (option_map (clause_at store)) none
+
+  pub got_some : (id slot : ℕ) → maps.get ids id ≡ Some slot → (c : Clause) → Some c ≡ maps.get store slot → Some c ≡ maps.get state.live id
+  got_some id slot bound c at = sym (live_at ids store state view id ∙ ap (option_map (clause_at store)) bound ∙ ap (λ o. Some (unwrap_or o [])) (sym at))
+
+  module _ (after_ids : FinMap nat_cmp ℕ) (id : ℕ) (paired : IsPaired ids store) (unbound : after_ids ≡ maps.remove ids id) where
+    pub removed_live : (slot : ℕ) → Some slot ≡ maps.get ids id → (after : FinMap nat_cmp Clause) → after ≡ maps.remove store slot → (k : ℕ) → maps.get (joined after_ids after) k ≡ without_id (maps.get state.live) id k
+    removed_live slot bound after freed k =
+        joined_is after_ids after k ∙ held_without ids after_ids store id paired unbound slot (sym bound) after freed k
+        ∙ ap (λ o. cond (eqb k id) None o) (sym (live_at ids store state view k))
+
+    pub absent_live : None ≡ maps.get ids id → (k : ℕ) → maps.get (joined after_ids store) k ≡ without_id (maps.get state.live) id k
+    absent_live none k =
+        joined_is after_ids store k ∙ none_without ids after_ids store id paired unbound (sym none) k
+        ∙ ap (λ o. cond (eqb k id) None o) (sym (live_at ids store state view k))
+
+  pub removed_was : (id slot : ℕ) → Some slot ≡ maps.get ids id → true ≡ is_some (maps.get state.live id)
+  removed_was id slot bound = sym (ap is_some (live_at ids store state view id ∙ ap (option_map (clause_at store)) (sym bound)))
+
+  pub absent_was : (id : ℕ) → None ≡ maps.get ids id → false ≡ is_some (maps.get state.live id)
+  absent_was id none = sym (ap is_some (got_none id (sym none)))
+
+module _ (ids after_ids : FinMap nat_cmp ℕ) (store : FinMap nat_cmp Clause) (id : ℕ) (paired : IsPaired ids store) (unbound : after_ids ≡ maps.remove ids id) where
+  pub absent_invariant : None ≡ maps.get ids id → (top : ℕ) → IsTally (held_at ids store) top (literals_in store) → IsPaired after_ids store × IsTally (held_at after_ids store) top (literals_in store)
+  absent_invariant none top tally =
+      (none_paired ids after_ids store id paired unbound (sym none), tally_same (held_at ids store) (held_at after_ids store) top (literals_in store) (none_held ids after_ids store id paired unbound (sym none)) tally)
+
+  pub removed_invariant : (slot : ℕ) → Some slot ≡ maps.get ids id → (after : FinMap nat_cmp Clause) → after ≡ maps.remove store slot → (top : ℕ) → IsTally (held_at ids store) top (literals_in store) →
+      IsPaired after_ids after × IsTally (held_at after_ids after) top (literals_in after)
+  removed_invariant slot bound after freed top tally =
+      let w = clause_of (maps.get store slot) (paired.filled id slot (sym bound)) in
+      (paired_without ids after_ids store id paired unbound slot (sym bound) after freed, tally_without ids after_ids store id paired unbound slot (sym bound) after freed w.0 w.1 top tally)
+    where
+      clause_of : (o : Option Clause) → IsSome o → (c : Clause) × (o ≡ Some c)
+      clause_of None filled = absurd (false≢true filled)
+      clause_of (Some c) filled = (c, refl)
+
+-- ---- How many clauses hold a literal
+
+weight_of : (l : Literal) (c : Clause) → has c l ≡ true → (let n : ℕ = cond (has c l) 1 0 in n) ≡ 1
+weight_of l c h = ap (λ b. cond b 1 0) h
+
+-- each of the identifiers has a slot, with a clause that holds the literal
+abbrev SlotsHold : FinMap nat_cmp ℕ → FinMap nat_cmp Clause → Literal → List ℕ → Type 0
+SlotsHold ids store l ks = (k : ℕ) → has ks k ≡ true → (slot : ℕ) × (maps.get ids k ≡ Some slot) × (c : Clause) × (maps.get store slot ≡ Some c) × (has c l ≡ true)
+
+-- different identifiers have different slots, so there are no more of them than clauses that hold the literal
+slots_counted : (ids : FinMap nat_cmp ℕ) (l : Literal) → ((j k slot : ℕ) → maps.get ids j ≡ Some slot → maps.get ids k ≡ Some slot → j ≡ k) →
+    (ks : List ℕ) (store : FinMap nat_cmp Clause) → IsDistinct nat_eq ks → SlotsHold ids store l ks → length ks ≤ copies_with store l
+slots_counted ids l own [] store different hold = omega arith
+slots_counted ids l own (k ∷ ks) store different hold =
+    let here = hold k (has_head k ks) in
+    let slot = here.0 in
+    let rest : length ks ≤ copies_with (maps.remove store slot) l = slots_counted ids l own ks (maps.remove store slot) (distinct_tail k ks different) (λ j member.
+    let there = hold j (has_tail k ks j member) in
+    let apart : there.0 ≢ slot = λ e. distinct_head k ks different (subst (λ i. has ks i ≡ true) (own j k slot (there.1 ∙ ap Some e) here.1) member) in
+    (there.0, there.1, there.2, remove_other store slot there.0 apart ∙ there.3, there.4)) in
+    let split : cond (has here.2 l) 1 0 + copies_with (maps.remove store slot) l ≡ copies_with store l = sum_remove (λ c. cond (has c l) 1 0) store slot here.2 here.3 in
+    let one = weight_of l here.2 here.4 in
+    omega (arith, rest, split, one)
+
+pub holding_counts : (ids : FinMap nat_cmp ℕ) (store : FinMap nat_cmp Clause) (state : LiveClausesState) → joined ids store ≡ state.live → IsPaired ids store → (l : Literal) (count : ℕ) → count ≡ copies_with store l →
+    (ks : List ℕ) → AllHold (maps.get state.live) l ks → length ks ≤ count
+holding_counts ids store state view paired l count count_is ks hold =
+    subst (λ n. length ks ≤ n) (sym count_is) (slots_counted ids l paired.own ks store hold.different (λ k member.
+    let h = hold.each k member in
+    by_slot k h (maps.get ids k) refl))
+  where
+    by_slot : (k : ℕ) → Holds (maps.get state.live) l k → (o : Option ℕ) → maps.get ids k ≡ o → (slot : ℕ) × (maps.get ids k ≡ Some slot) × (c : Clause) × (maps.get store slot ≡ Some c) × (has c l ≡ true)
+    by_slot k h None e = absurd (none-some h.clause (sym (sym h.at ∙ got_none ids store state view k e)))
+    by_slot k h (Some slot) e = let w = by_clause (maps.get store slot) refl (paired.filled k slot e) in (slot, e, w.0, w.1, w.2)
+      where
+        by_clause : (o : Option Clause) → maps.get store slot ≡ o → IsSome (maps.get store slot) → (c : Clause) × (maps.get store slot ≡ Some c) × (has c l ≡ true)
+        by_clause None g filled = absurd (none_is_not_some (maps.get store slot) g filled)
+        by_clause (Some c) g filled =
+            let same : h.clause ≡ c = same_Some h.clause c (sym h.at ∙ sym (got_some ids store state view k slot e c (sym g))) in
+            (c, g, subst (λ d. has d l ≡ true) same h.member)
+
+-- ---- At the start
+
+module _ (ids : FinMap nat_cmp ℕ) (store : FinMap nat_cmp Clause) (no_ids : ids ≡ maps.empty) where
+  none_bound : (k : ℕ) → maps.get ids k ≡ None
+  none_bound k = ap (λ m. maps.get m k) no_ids ∙ get-empty nat_cmp k
+
+  pub start_invariant : store ≡ maps.empty → IsPaired ids store × IsTally (held_at ids store) 0 (literals_in store)
+  start_invariant no_clauses = (
+    record {
+      filled = λ k slot at. absurd (none-some slot (sym (sym at ∙ none_bound k)));
+      own = λ j k slot first second. absurd (none-some slot (sym (sym first ∙ none_bound j)));
+    },
+    record {
+      sum_is = ap literals_in no_clauses ∙ sum_empty size;
+      none_at_zero = ap (option_map (clause_at store)) (none_bound 0);
+      none_above = λ k past. ap (option_map (clause_at store)) (none_bound k);
+    },
+  )
+
+  pub start_view : joined ids store ≡ maps.empty
+  start_view = same_map nat_cmp_total nat_cmp-IsAntisymmetric (joined ids store) maps.empty (λ k. joined_is ids store k ∙ ap (option_map (clause_at store)) (none_bound k) ∙ sym (get-empty nat_cmp k))

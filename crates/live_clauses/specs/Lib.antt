@@ -1,0 +1,2 @@
+pub mod LiveClauses
+pub mod Code

@@ -1,0 +1,138 @@
+//! The live clauses, each at its identifier, and the sum of their sizes.
+
+ghost use Rattle.std.specs.Prelude.{◌≡◌, ℕ, ◌-◌, ◌<◌, ◌≤◌, ◌^◌, min, Some, None, is_some};
+ghost use Rattle.std.specs.Prelude.{length, List, OnOk, OnErr, IfOk, IfSome, IfNone};
+ghost use Rattle.std.specs.Option.{option_copied};
+ghost use Rattle.std.specs.FinMap as maps;
+ghost use Rattle.theory.specs.Lrat.{SameClauses, with_clause, without_id};
+ghost use Rattle.theory.specs.Sizes.{total};
+ghost use Rattle.live_clauses.specs.LiveClauses.{no_live_clauses, lrat_state, AllHold};
+
+use clause_db::{Ids, NoIndex, Store};
+use cnf_base::{Lit, OutOfMemory};
+use std::alloc::Global;
+use std::marker::Model;
+
+/// The live clauses. Contracts see them as a finite map, with the greatest identifier so far and what is kept.
+#[derive(Drop)]
+pub struct LiveClauses {
+    store: Store<NoIndex>,
+    ids: Ids,
+    top: u64,
+}
+
+impl Model for LiveClauses {
+    ghost use Rattle.std.specs.Prelude.{◌≡◌};
+    ghost use Rattle.clause_db.specs.Store.{literals_in};
+    ghost use Rattle.live_clauses.specs.LiveClauses.{LiveClausesState};
+    ghost use Rattle.live_clauses.specs.Code.LiveClauses.{live_clauses_code, joined, held_at};
+    ghost use Rattle.live_clauses.specs.Code.LiveClauses.{IsPaired, IsTally};
+
+    ghost Value = { LiveClausesState };
+
+    ghost coded = { live_clauses_code };
+
+    // Each field has to be named here. Of them the store alone has lists of literals.
+    ghost view = { λ record { store = store; ids = ids; top = top }. record {
+      live = joined ids store.live;
+      top = top;
+      stored = store.stored;
+    } };
+
+    ghost invariant = { λ s. (IsPaired s.ids s.store.live ×
+        IsTally (held_at s.ids s.store.live) s.top (literals_in s.store.live)) ×
+        (s.store.stored ≡ literals_in s.store.live) };
+}
+
+impl LiveClauses {
+    pub fn new(alloc: Global) -> Result<Self, OutOfMemory>
+        ensures { IfOk result (λ live. live ≡ no_live_clauses) }
+    {
+        let store = Store::without_index(alloc)?;
+        let ids = Ids::new(alloc)?;
+        Ok(LiveClauses { store, ids, top: 0 })
+    }
+
+    /// The clause that is alive under the identifier.
+    pub fn get(&self, id: u64) -> Option<&[Lit]>
+        ensures { option_copied result ≡ maps.get self.now.live id }
+    {
+        match self.ids.slot_of(id) {
+            Some(slot) => Some(self.store.clause(slot)),
+            None => None,
+        }
+    }
+
+    /// The lowest identifier from this one on under which a clause is alive, and the clause.
+    pub fn next(&self, from: u64) -> Option<(u64, &[Lit])>
+        ensures found { IfSome result (λ e. (from ≤ e.0) ×
+            (maps.get self.now.live e.0 ≡ Some e.1.now)) }
+        ensures passed_over { IfSome result (λ e. (k : ℕ) → from ≤ k → k < e.0 →
+            maps.get self.now.live k ≡ None) }
+        ensures none { IfNone result
+            ((k : ℕ) → from ≤ k → maps.get self.now.live k ≡ None) }
+    {
+        match self.ids.next_bound(from) {
+            Some(bound) => Some((bound.0, self.store.clause(bound.1))),
+            None => None,
+        }
+    }
+
+    /// A number that no list of different identifiers, of clauses that hold the literal, exceeds.
+    pub fn holding(&self, l: Lit) -> u64
+        ensures { (ids : List ℕ) → AllHold (maps.get self.now.live) l ids →
+            length ids ≤ result }
+    {
+        self.store.count_with(l)
+    }
+
+    /// The greatest identifier so far.
+    pub fn top(&self) -> u64
+        ensures top { result ≡ self.now.top }
+        ensures none_above { (k : ℕ) → self.now.top < k → maps.get self.now.live k ≡ None }
+    {
+        self.top
+    }
+
+    /// The sum of the sizes of the live clauses. It saturates.
+    pub fn literals(&self) -> u64
+        ensures value { result ≡ min (total (lrat_state self.now)) (2 ^ 64 - 1) }
+        ensures live_alone { self.now.stored ≡ total (lrat_state self.now) }
+    {
+        self.store.literals()
+    }
+
+    /// Adds the clause under an identifier past all earlier ones.
+    pub fn add(&mut self, id: u64, lits: &[Lit]) -> Result<(), OutOfMemory>
+        requires { self.old.top < id }
+        ensures live { OnOk result (SameClauses (maps.get self.new.live)
+            (with_clause (maps.get self.old.live) id lits.now)) }
+        ensures top { OnOk result (self.new.top ≡ id) }
+        ensures refused { OnErr result (self.new.stored ≡ self.old.stored) }
+    {
+        let slot = self.store.insert(lits)?;
+        if self.ids.bind(id, slot).is_err() {
+            self.store.remove(slot);
+            return Err(OutOfMemory);
+        }
+        self.top = id;
+        Ok(())
+    }
+
+    /// Takes the clause off, and tells whether it was alive.
+    pub fn remove(&mut self, id: u64) -> bool
+        ensures was { result ≡ is_some (maps.get self.old.live id) }
+        ensures live { (k : ℕ) → maps.get self.new.live k ≡ without_id
+            (maps.get self.old.live) id k }
+        ensures top { self.new.top ≡ self.old.top }
+        ensures fewer { self.new.stored ≤ self.old.stored }
+    {
+        match self.ids.unbind(id) {
+            Some(slot) => {
+                self.store.remove(slot);
+                true
+            }
+            None => false,
+        }
+    }
+}

@@ -1,0 +1,6 @@
+//! The live clauses of an LRAT proof, each at its identifier.
+#![tactic(auto)]
+
+mod clauses;
+
+pub use clauses::LiveClauses;
