@@ -8,7 +8,7 @@
 # make uninstall     removes them there
 # make test-solvers  runs real SAT solvers, and the programs on what they wrote
 # make test-package  builds the Debian package, and runs the programs that are in it
-# make test-edits    tries the wrong bodies of tests/edits, which the gate doesn't, and their controls
+# make test-mutants    tries the wrong bodies of tests/mutants, which the gate doesn't, and their controls
 #
 # The first two and the last need the Rattle kit's command rt on the PATH, or named by RT=..
 
@@ -27,7 +27,7 @@ COMPLETIONS := packaging/completions
 SOURCES := crates.txt HANDLES $(shell find crates -name out -prune -o -type f -print)
 
 .DELETE_ON_ERROR:
-.PHONY: all test test-solvers test-package test-edits bench clean install uninstall
+.PHONY: all test test-solvers test-package test-mutants bench clean install uninstall
 
 all: $(PROGRAMS:%=bin/%)
 
@@ -49,8 +49,8 @@ test-solvers:
 test-package:
 	packaging/test-deb.sh
 
-test-edits:
-	@RT="$(RT)" tests/edits.sh
+test-mutants:
+	@RT="$(RT)" tests/mutants.sh
 	@RT="$(RT)" python3 tests/controls.py
 
 bench: bin/lrat-check bin/drat-forward bin/model-check

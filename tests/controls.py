@@ -1,11 +1,11 @@
 #!/usr/bin/env python3
-"""Shows for what the edits tests/edits/*/*_by_models_alone.edit are refused.
+"""Shows for what the mutants tests/mutants/*/*_by_models_alone.edit are refused.
 
-Such an edit takes away the clauses on exact answers, with the lines that prove them; its last pair turns the body. Here
+Such a mutant takes away the clauses on exact answers, with the lines that prove them; its last pair turns the body. Here
 each is tried in two parts. With the clauses gone and the body as it is, the crate has to be proved: so nothing but the
 turned body is refused. With the turned body too, the goal of the clause on models has to stay open.
 
-By hand, with make test-edits: it works on copies, over what earlier checks kept in crates/*/out. RT names the command rt,
+By hand, with make test-mutants: it works on copies, over what earlier checks kept in crates/*/out. RT names the command rt,
 where it isn't on the PATH. The last line is "N passed, M failed".
 """
 
@@ -18,7 +18,7 @@ import subprocess
 import sys
 import tempfile
 
-from edit import edited, pairs_of
+from mutant import mutated, pairs_of
 
 ROOT = os.path.dirname(os.path.dirname(os.path.abspath(__file__)))
 RT = os.environ.get("RT") or "rt"
@@ -34,7 +34,7 @@ def check(room, crate, pairs, jobs=("--jobs", "1")):
         shutil.rmtree(f"{folder}/{part}", ignore_errors=True)
         if os.path.isdir(f"{ROOT}/crates/{crate}/{part}"):
             shutil.copytree(f"{ROOT}/crates/{crate}/{part}", f"{folder}/{part}")
-    texts, why = edited(folder, pairs)
+    texts, why = mutated(folder, pairs)
     if texts is None:
         return None, why
     for file, text in texts.items():
@@ -45,13 +45,13 @@ def check(room, crate, pairs, jobs=("--jobs", "1")):
     return ran.returncode == 0, ran.stdout
 
 
-def tried(base, crate, edits):
-    """What is to be said of each edit: its name, whether it is well, and why not. A crate's edits have a room of their own."""
+def tried(base, crate, mutants):
+    """What is to be said of each mutant: its name, whether it is well, and why not. A crate's mutants have a room of their own."""
     said = []
     with tempfile.TemporaryDirectory() as room:
         shutil.copytree(base, room, symlinks=True, dirs_exist_ok=True)
-        for edit in edits:
-            name, pairs = f"{crate}/{os.path.basename(edit)}", pairs_of(edit)
+        for mutant in mutants:
+            name, pairs = f"{crate}/{os.path.basename(mutant)}", pairs_of(mutant)
             proved, told = check(room, crate, pairs[:-1])
             said.append((f"{name} with the right body", proved is True, "it is not proved\n" + told[-2000:]))
             proved, told = check(room, crate, pairs)
@@ -61,17 +61,17 @@ def tried(base, crate, edits):
 
 
 def main():
-    edits = {}
-    for edit in sorted(glob.glob(f"{ROOT}/tests/edits/*/*_by_models_alone.edit")):
-        edits.setdefault(edit.split("/")[-2], []).append(edit)
+    mutants = {}
+    for mutant in sorted(glob.glob(f"{ROOT}/tests/mutants/*/*_by_models_alone.edit")):
+        mutants.setdefault(mutant.split("/")[-2], []).append(mutant)
     with tempfile.TemporaryDirectory() as base, concurrent.futures.ThreadPoolExecutor() as pool:
         # What stands below these crates is proved once, and both have what that leaves.
         shutil.copytree(f"{ROOT}/crates", f"{base}/crates", symlinks=True)
         for name in ["crates.txt", "HANDLES"]:
             shutil.copy(f"{ROOT}/{name}", base)
-        for crate in edits:
+        for crate in mutants:
             check(base, crate, [], jobs=())
-        rooms = [pool.submit(tried, base, crate, those) for crate, those in edits.items()]
+        rooms = [pool.submit(tried, base, crate, those) for crate, those in mutants.items()]
         said = [it for room in rooms for it in room.result()]
     for name, well, why in said:
         print(f"{name}: {'as it must be' if well else 'FAILED: ' + why}")

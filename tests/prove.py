@@ -3,8 +3,8 @@
 
     tests/prove.py [CRATE..]        all crates where none is named
 
-It runs rt ci on a copy of these crates that has no must-fail edits. What is proved there is kept for the gate, which then
-tries the edits over it. The programs are left in crates/CRATE/out.
+It runs rt ci on a copy of these crates that has no mutants. What is proved there is kept for the gate, which then
+tries the mutants over it. The programs are left in crates/CRATE/out.
 
 RT names the command rt, where it isn't on the PATH. The last line is "N passed, M failed".
 """
@@ -36,7 +36,7 @@ def with_those_below(names, lines):
 
 
 def copy_of(room, names, lines):
-    """Copies the crates into the room, without their edits and what earlier runs left."""
+    """Copies the crates into the room, without their mutants and what earlier runs left."""
     with open(f"{room}/crates.txt", "w", encoding="ascii") as text:
         text.writelines(line for name, line in lines.items() if name in names)
     shutil.copy(f"{ROOT}/HANDLES", room)

@@ -1,16 +1,16 @@
 #!/usr/bin/env python3
-"""Shows that the clause which an edit names is what refuses it.
+"""Shows that the clause which a mutant names is what refuses it.
 
-    tests/refused_by.py LOG [FOLDER]    the edits of crates/*/must-fail, or those of FOLDER/*
+    tests/refused_by.py LOG [FOLDER]    the mutants of crates/*/must-fail, or those of FOLDER/*
 
-An edit says in a line `# refused by: FUNCTION.CLAUSE` which clause its wrong body doesn't meet. A clause without a name, and all
+A mutant says in a line `# refused by: FUNCTION.CLAUSE` which clause its wrong body doesn't meet. A clause without a name, and all
 of a function where one proof has all, is called `ensures`; `loop` is the invariant of a loop whose body is wrong, `invariant`
-that of a type, `requires` the condition of a call that is made wrongly. An edit for a law names a lemma of the law's proof, as
+that of a type, `requires` the condition of a call that is made wrongly. A mutant for a law names a lemma of the law's proof, as
 FILE.LEMMA.
 
 LOG is what rt ci or rt must-fail wrote: of each refusal it tells the first goal that stays open, or that its proof isn't one
-any more. Where it cuts the goal's name short, the clause has to begin as what is left of it. That a proof names what the edit
-took away is no refusal by a clause. An edit that LOG doesn't tell of is left out. One that names no clause fails.
+any more. Where it cuts the goal's name short, the clause has to begin as what is left of it. That a proof names what the mutant
+took away is no refusal by a clause. A mutant that LOG doesn't tell of is left out. One that names no clause fails.
 
 The last line is "N passed, M failed".
 """
@@ -29,15 +29,15 @@ FUNCTION = re.compile(r"\s*(?:pub(?:\(\w+\))? )?(?:const )?fn (\w+)")
 
 
 def told_in(log):
-    """What the log tells of each refusal, by crate and edit."""
+    """What the log tells of each refusal, by crate and mutant."""
     with open(log, encoding="utf-8", errors="replace") as lines:
         found = (TOLD.match(line.rstrip("\n")) for line in lines)
         return {one.group(1): one.group(2) for one in found if one}
 
 
-def said_by(edit):
-    """The clause that the edit names, if it names one."""
-    with open(edit, encoding="utf-8") as lines:
+def said_by(mutant):
+    """The clause that the mutant names, if it names one."""
+    with open(mutant, encoding="utf-8") as lines:
         return next((line.strip().removeprefix(SAYS) for line in lines if line.startswith(SAYS)), "")
 
 
@@ -80,10 +80,10 @@ def refuser(folder, told):
 
 def main(log, folder):
     told = told_in(log)
-    edits = {f"{path.split('/')[-2 if folder else -3]}/{os.path.basename(path)}": path
+    mutants = {f"{path.split('/')[-2 if folder else -3]}/{os.path.basename(path)}": path
              for path in glob.glob(f"{folder}/*/*.edit" if folder else f"{ROOT}/crates/*/must-fail/*.edit")}
     passed = failed = 0
-    for name, path in sorted(edits.items()):
+    for name, path in sorted(mutants.items()):
         if name not in told:
             continue
         said = said_by(path)

@@ -1,7 +1,7 @@
 #!/usr/bin/env bash
-# All tests: whether the edits of tests/edits can still be made, docs/THEOREM.md quotes what is there, and what is promised
+# All tests: whether the mutants of tests/mutants can still be made, docs/THEOREM.md quotes what is there, and what is promised
 # is said by the upper floor of specs/ alone; the proofs of the programs; the gate (the proofs of the tests and what else
-# isn't kept, the must-fail edits, the crates' tests and the programs' stored runs); whether each edit was refused by the
+# isn't kept, the mutants, the crates' tests and the programs' stored runs); whether each mutant was refused by the
 # clause that it names; then the programs as users run them, also on a folder of many proofs, their manual pages, counts of
 # allocations, and runs in which each allocation is refused. At the end stands what each part took. The last line is "N
 # passed, M failed" over all.
@@ -42,12 +42,12 @@ count() {
     fi
 }
 
-for script in tests/edits_apply.py tests/quotes.py tests/floors.py; do
+for script in tests/mutants_apply.py tests/quotes.py tests/floors.py; do
     part "$script" "$script"
     count $?
 done
 
-# The programs first: then the proofs of the tests have the edits beside them. The gate counts all again, so here nothing counts
+# The programs first: then the proofs of the tests have the mutants beside them. The gate counts all again, so here nothing counts
 # but a failure.
 part tests/prove.py tests/prove.py drat_forward lrat_check model_check bench_lookups test_allocations || failed=$((failed + 1))
 

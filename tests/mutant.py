@@ -1,10 +1,10 @@
-"""Edits, as those of wrong bodies: how one is read, and what it makes of a crate's files."""
+"""Mutants, as those of wrong bodies: how one is read, and what it makes of a crate's files."""
 
 
-def pairs_of(edit):
-    """The pairs of an edit: file, old text, new text."""
+def pairs_of(mutant):
+    """The pairs of a mutant: file, old text, new text."""
     pairs, file, old = [], None, None
-    with open(edit, encoding="utf-8") as lines:
+    with open(mutant, encoding="utf-8") as lines:
         for line in lines.read().split("\n"):
             if line.startswith("file: "):
                 file = line[len("file: ") :]
@@ -16,7 +16,7 @@ def pairs_of(edit):
     return pairs
 
 
-def edited(folder, pairs):
+def mutated(folder, pairs):
     """The new text of each file of the folder that the pairs change, or None; and where it is None, why."""
     texts = {}
     for file, old, new in pairs:
