@@ -1,6 +1,6 @@
 //! What every session that checks a proof has to answer.
 
-ghost use Rattle.std.specs.Prelude.{◌≡◌, ◌⊎◌, ◌+◌, ◌<◌, ◌≤◌, true, false};
+ghost use Rattle.std.specs.Prelude.{◌≡◌, ◌≤◌, false};
 
 use crate::tests::asserts::{expect_equal, expect_true};
 use crate::tests::literals::literals;
@@ -53,23 +53,6 @@ pub enum Formula {
     Contradiction,
 }
 
-fn expect_input<S: ProofSession>(
-    rt: &impl Abort,
-    alloc: Global,
-    session: &mut S,
-    numbers: &[i32],
-) -> Result<(), Fail>
-    requires { ((S.shown session.old).is_ended ≡ true) ⊎
-        (((S.shown session.old).has_stepped ≡ false) × (0 < (S.shown session.old).room)) }
-    ensures { ((S.shown session.new).is_ended ≡ true) ⊎
-        (((S.shown session.new).has_stepped ≡ false) ×
-        ((S.shown session.old).room ≤ (S.shown session.new).room + 1)) }
-{
-    let clause = literals(alloc, numbers)?;
-    expect_equal(rt, session.input(clause.as_slice()), Ok(()));
-    Ok(())
-}
-
 // The sum of the sizes, which is the greatest one too.
 fn expect_formula<S: ProofSession>(
     rt: &impl Abort,
@@ -80,20 +63,24 @@ fn expect_formula<S: ProofSession>(
     requires unused { (S.shown session.old).has_stepped ≡ false }
     requires room { 3 ≤ (S.shown session.old).room }
 {
+    let both = literals(alloc, &[1, 2])?;
+    let twice = literals(alloc, &[1, 1])?;
+    let other = literals(alloc, &[-1, 2])?;
+    let single = literals(alloc, &[-1])?;
     let size = match formula {
         Formula::One => {
-            expect_input(rt, alloc, session, &[1, 2])?;
+            expect_equal(rt, session.input(both.as_slice()), Ok(()));
             2
         }
         Formula::Three => {
-            expect_input(rt, alloc, session, &[1, 2])?;
-            expect_input(rt, alloc, session, &[1, 1])?;
-            expect_input(rt, alloc, session, &[-1, 2])?;
+            expect_equal(rt, session.input(both.as_slice()), Ok(()));
+            expect_equal(rt, session.input(twice.as_slice()), Ok(()));
+            expect_equal(rt, session.input(other.as_slice()), Ok(()));
             5
         }
         Formula::Contradiction => {
-            expect_input(rt, alloc, session, &[1, 1])?;
-            expect_input(rt, alloc, session, &[-1])?;
+            expect_equal(rt, session.input(twice.as_slice()), Ok(()));
+            expect_equal(rt, session.input(single.as_slice()), Ok(()));
             2
         }
     };
