@@ -48,29 +48,47 @@ const TRACED_BINARY_STEPS: [Expected<'static>; 5] = [
 ];
 
 // Where a read fails, the first step counts from the byte after its last word on, and in the binary form with its last byte.
+const TEXT: Cuts<'static> = Cuts {
+    input: Cutting::Second(E_BY_DRAT, E_SHOWN),
+    ends: &[&STEPS],
+    failures: &[(4, UNREAD_PROOF), (6, UNREAD_PROOF)],
+};
+
+const OTHER_RULES: Cuts<'static> = Cuts {
+    input: Cutting::Second(E_BY_OTHER_RULES, E_SHOWN),
+    ends: &[&STEPS],
+    failures: &[(4, UNREAD_PROOF), (6, UNREAD_PROOF)],
+};
+
+const TRACED_TEXT: Cuts<'static> = Cuts {
+    input: Cutting::Second(E_BY_DRAT_TRACED, E_SHOWN),
+    ends: &[&TRACED_STEPS],
+    failures: &[(4, UNREAD_PROOF), (6, UNREAD_AFTER_ONE)],
+};
+
+const BINARY: Cuts<'static> = Cuts {
+    input: Cutting::Second(E_BY_BINARY, E_SHOWN),
+    ends: &[&BINARY_STEPS],
+    failures: &[(3, UNREAD_PROOF), (5, UNREAD_PROOF)],
+};
+
+const TRACED_BINARY: Cuts<'static> = Cuts {
+    input: Cutting::Second(E_BY_BINARY_TRACED, E_SHOWN),
+    ends: &[&TRACED_BINARY_STEPS],
+    failures: &[(3, UNREAD_PROOF), (5, UNREAD_AFTER_ONE)],
+};
+
 #[test]
-fn proofs(rt: HostRuntime) -> Result<(), Fail> {
+fn texts(rt: HostRuntime) -> Result<(), Fail> {
     expect_equal(&rt, E_DRAT.len(), 6);
+    expect_cuts(&rt, rt.alloc(), &TEXT)?;
+    expect_cuts(&rt, rt.alloc(), &OTHER_RULES)?;
+    expect_cuts(&rt, rt.alloc(), &TRACED_TEXT)
+}
+
+#[test]
+fn binary(rt: HostRuntime) -> Result<(), Fail> {
     expect_equal(&rt, E_BINARY.len(), 5);
-    for (row, ends, first, whole, after_one) in [
-        (E_BY_DRAT, STEPS, 4, 6, UNREAD_PROOF),
-        (E_BY_OTHER_RULES, STEPS, 4, 6, UNREAD_PROOF),
-        (E_BY_DRAT_TRACED, TRACED_STEPS, 4, 6, UNREAD_AFTER_ONE),
-        (E_BY_BINARY, BINARY_STEPS, 3, 5, UNREAD_PROOF),
-        (
-            E_BY_BINARY_TRACED,
-            TRACED_BINARY_STEPS,
-            3,
-            5,
-            UNREAD_AFTER_ONE,
-        ),
-    ] {
-        let cuts = Cuts {
-            input: Cutting::Second(row, E_SHOWN),
-            ends: &[&ends],
-            failures: &[(first, UNREAD_PROOF), (whole, after_one)],
-        };
-        expect_cuts(&rt, rt.alloc(), &cuts)?;
-    }
-    Ok(())
+    expect_cuts(&rt, rt.alloc(), &BINARY)?;
+    expect_cuts(&rt, rt.alloc(), &TRACED_BINARY)
 }
