@@ -70,7 +70,7 @@ if [ "$ended" -eq 0 ] && [ -x "$LRAT_CHECK" ] && [ -x "$DRAT_FORWARD" ] && [ -x 
     cp "$MODEL_CHECK" bin/model-check
 fi
 
-for script in tests/programs.sh tests/folder.sh tests/manual.sh tests/completions.sh tests/allocations.py tests/refusals.py; do
+for script in tests/programs.sh examples/worked.py tests/folder.sh tests/manual.sh tests/completions.sh tests/allocations.py tests/refusals.py; do
     part "$script" "$script"
     count $?
 done
