@@ -23,8 +23,8 @@ from mutant import mutated, pairs_of
 ROOT = os.path.dirname(os.path.dirname(os.path.abspath(__file__)))
 RT = os.environ.get("RT") or "rt"
 PARTS = ["src", "specs", "proofs"]
-# The clauses on models: of a session's step, and of an engine.
-GOAL = re.compile(r"`returns[^`]*-clause-(keeps_models|checks)`")
+# The clauses on models: of a session's step, and of an engine, whose contract is one record.
+GOAL = re.compile(r"`returns[^`]*-clause-keeps_models`|/run_\w+/Answers\.antt:\d+:\d+: error: `returns`")
 
 
 def check(room, crate, pairs, jobs=("--jobs", "1")):
