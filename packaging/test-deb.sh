@@ -85,22 +85,22 @@ try "the source package can be built" env -C source dpkg-buildpackage -b -us -uc
 cd "$root" || exit 1
 of_package "the package that was built again" "$room/again/${name}_amd64.deb"
 
-# in_chroot NAME COMMAND PACKAGES: runs the command as root in a new chroot with these packages and the folder /work, of which it
-# keeps what the command leaves in /work/kept
+# in_chroot NAME COMMAND PACKAGES: runs the command as root in a new chroot with these packages and the folder /package, of which it
+# keeps what the command leaves in /package/kept
 in_chroot() {
     try "$1" mmdebstrap --variant=apt --include="$3" --hook-dir=/usr/share/mmdebstrap/hooks/merged-usr \
-        --customize-hook="copy-in $room/work /" --customize-hook="chroot \"\$1\" sh -ec 'cd /work; $2'" \
-        --customize-hook="sync-out /work/kept $room/kept" bookworm /dev/null
+        --customize-hook="copy-in $room/package /" --customize-hook="chroot \"\$1\" sh -ec 'cd /package; $2'" \
+        --customize-hook="sync-out /package/kept $room/kept" bookworm /dev/null
 }
 
 if [ "${1:-}" = --clean ]; then
-    mkdir -p "$room/work/kept" "$room/kept"
-    cp "$room/built/$name".* "$room/work"
+    mkdir -p "$room/package/kept" "$room/kept"
+    cp "$room/built/$name".* "$room/package"
     in_chroot "it is built in a clean chroot" \
         "dpkg-source -x $name.dsc source; cd source; apt-get -y build-dep ./; dpkg-buildpackage -b -us -uc; cp ../*.deb ../kept" \
         dpkg-dev || end
     of_package "the package of the clean chroot" "$room/kept/${name}_amd64.deb"
-    cp "$room/kept/${name}_amd64.deb" "$room/work"
+    cp "$room/kept/${name}_amd64.deb" "$room/package"
     in_chroot "it is installed and tested in a clean chroot" \
         "dpkg-source -x $name.dsc source; apt-get -y install ./${name}_amd64.deb; cd source; packaging/installed.sh" \
         dpkg-dev,make,python3 || end
