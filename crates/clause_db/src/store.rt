@@ -205,7 +205,7 @@ impl<I: Indexing> Store<I> {
     }
 
     /// What holds of each store: no clause repeats a literal, and no literals are kept but those of the live clauses.
-    pub fn is_sound(&self)
+    pub fn recall_invariant(&self)
         ensures different { (s : ℕ) (c : Clause) → maps.get self.now.live s ≡ Some c →
             size c ≡ length c }
         ensures live_alone { self.now.stored ≡ literals_in self.now.live }

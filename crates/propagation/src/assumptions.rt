@@ -59,11 +59,11 @@ fn reserve_variables(
     numbers: &mut Table<u64>,
     lits: &[Lit],
 ) -> Result<(), OutOfMemory>
-    requires known { (v : ℕ) → IsTrue (has trail.old.met v) → IsSome (at numbers.old v) }
-    ensures room { OnOk result (HasRoom trail.new.met lits.now) }
-    ensures met { (v : ℕ) → IsTrue (has trail.old.met v) → IsTrue (has trail.new.met v) }
+    requires known { (v : ℕ) → IsTrue (has trail.old.reserved v) → IsSome (at numbers.old v) }
+    ensures room { OnOk result (HasRoom trail.new.reserved lits.now) }
+    ensures reserved { (v : ℕ) → IsTrue (has trail.old.reserved v) → IsTrue (has trail.new.reserved v) }
     ensures lits { trail.new.lits ≡ trail.old.lits }
-    ensures known { (v : ℕ) → IsTrue (has trail.new.met v) → IsSome (at numbers.new v) }
+    ensures known { (v : ℕ) → IsTrue (has trail.new.reserved v) → IsSome (at numbers.new v) }
     ensures numbers { (v : ℕ) → number_at numbers.new v ≡ number_at numbers.old v }
 {
     for l in lits {
@@ -108,7 +108,7 @@ impl Assumptions {
     /// Nothing is assumed, and nothing is true.
     pub fn new(alloc: Global) -> Result<Self, OutOfMemory>
         ensures lits { IfOk result (λ a. a.trail.lits ≡ []) }
-        ensures met { IfOk result (λ a. a.trail.met ≡ []) }
+        ensures reserved { IfOk result (λ a. a.trail.reserved ≡ []) }
         ensures nothing_assumed { IfOk result (λ a. a.assumptions ≡ []) }
     {
         Ok(Assumptions {
@@ -128,9 +128,9 @@ impl Assumptions {
 
     /// Makes room for the variables of a clause.
     pub fn reserve(&mut self, clause: &[Lit]) -> Result<(), OutOfMemory>
-        ensures room { OnOk result (HasRoom self.new.trail.met clause.now) }
-        ensures met { (v : ℕ) → IsTrue (has self.old.trail.met v) →
-            IsTrue (has self.new.trail.met v) }
+        ensures room { OnOk result (HasRoom self.new.trail.reserved clause.now) }
+        ensures reserved { (v : ℕ) → IsTrue (has self.old.trail.reserved v) →
+            IsTrue (has self.new.trail.reserved v) }
         ensures lits { self.new.trail.lits ≡ self.old.trail.lits }
         ensures assumptions { self.new.assumptions ≡ self.old.assumptions }
         ensures starts { self.new.starts ≡ self.old.starts }
@@ -140,13 +140,13 @@ impl Assumptions {
 
     /// Sets a literal that is not false, unless it is true already. Tells whether it was open. It takes no memory.
     pub fn make_true(&mut self, l: Lit) -> bool
-        requires reserved { IsTrue (has self.old.trail.met (l / 2)) }
+        requires reserved { IsTrue (has self.old.trail.reserved (l / 2)) }
         requires not_false { IsFalse (has self.old.trail.lits (complement l)) }
         ensures was_open { result ≡ not (has self.old.trail.lits l) }
         ensures lits { self.new.trail.lits ≡
             (if result then self.old.trail.lits ++ l ∷ [] else self.old.trail.lits) }
         ensures quiet { IsFalse (conflicts self.new.trail.lits) }
-        ensures met { SameSet self.new.trail.met self.old.trail.met }
+        ensures reserved { SameSet self.new.trail.reserved self.old.trail.reserved }
         ensures assumptions { self.new.assumptions ≡ self.old.assumptions }
         ensures starts { self.new.starts ≡ self.old.starts }
     {
@@ -161,7 +161,7 @@ impl Assumptions {
     /// Where the numbers of assumptions are used up, after 2^64 - 1 of them. Nothing is changed then.
     pub fn assume<P: Part>(&mut self, clause: &[Lit], part: &P) -> Result<bool, OutOfMemory>
         requires may { MayAssume self.old.assumptions }
-        requires room { HasRoom self.old.trail.met clause.now }
+        requires room { HasRoom self.old.trail.reserved clause.now }
         ensures conflict { IfOk result (λ is_clash.
             is_clash ≡ conflicts
             (self.old.trail.lits ++ complements (filter (P.keeps part.now) clause.now))) }
@@ -178,7 +178,7 @@ impl Assumptions {
             length self.old.trail.lits ∷ self.old.starts) }
         ensures begins { OnOk result (take (length self.old.trail.lits) self.new.trail.lits ≡
             self.old.trail.lits) }
-        ensures met { SameSet self.new.trail.met self.old.trail.met }
+        ensures reserved { SameSet self.new.trail.reserved self.old.trail.reserved }
         ensures err { OnErr result (self.new ≡ self.old) }
     {
         let Some(number) = self.made.checked_add(1) else {
@@ -228,7 +228,7 @@ impl Assumptions {
     pub fn clear(&mut self)
         requires { self.old.assumptions ≡ [] }
         ensures lits { self.new.trail.lits ≡ [] }
-        ensures met { SameSet self.new.trail.met self.old.trail.met }
+        ensures reserved { SameSet self.new.trail.reserved self.old.trail.reserved }
         ensures assumptions { self.new.assumptions ≡ [] }
         ensures starts { self.new.starts ≡ self.old.starts }
     {
@@ -242,7 +242,7 @@ impl Assumptions {
         ensures starts { self.new.starts ≡ drop 1 self.old.starts }
         ensures lits { self.new.trail.lits ≡
             take (slice_index self.old.starts 0) self.old.trail.lits }
-        ensures met { SameSet self.new.trail.met self.old.trail.met }
+        ensures reserved { SameSet self.new.trail.reserved self.old.trail.reserved }
     {
         match self.levels {
             Levels::Nothing => {}

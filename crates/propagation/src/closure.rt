@@ -62,7 +62,7 @@ pub fn is_root_reason(
     slot: Slot,
 ) -> Result<bool, OutOfMemory>
     requires alive { IsSome (maps.get store.now.live slot) }
-    requires room { HasRoomForAll trail.now.met (maps.get store.now.live) }
+    requires room { HasRoomForAll trail.now.reserved (maps.get store.now.live) }
     requires known { (l : Literal) → IsTrue (has trail.now.lits l) →
         Forced (maps.get store.now.live) [] l }
     ensures yes { IfOk result (λ is_reason. is_reason ≡ true → (c : Clause) →
@@ -81,9 +81,9 @@ fn pass(closure: &mut Closure, store: &Store) -> Result<bool, OutOfMemory>
         Forced (maps.get store.now.live) [] l }
     ensures sound { OnOk result ((l : Literal) → IsTrue (has closure.new l) →
         Forced (maps.get store.now.live) [] l) }
-    ensures fewer { IfOk result (λ is_new. is_new ≡ true → (met : List ℕ) →
-        HasRoomForAll met (maps.get store.now.live) →
-        lacking closure.new (both_of met) < lacking closure.old (both_of met)) }
+    ensures fewer { IfOk result (λ is_new. is_new ≡ true → (reserved : List ℕ) →
+        HasRoomForAll reserved (maps.get store.now.live) →
+        lacking closure.new (both_of reserved) < lacking closure.old (both_of reserved)) }
     ensures closed { IfOk result (λ is_new. is_new ≡ false →
         IsClosed (maps.get store.now.live) (λ l. has closure.new l)) }
 {
@@ -105,7 +105,7 @@ impl Closure {
     ///
     /// Where memory runs out.
     fn of(alloc: Global, store: &Store, trail: &Trail) -> Result<Self, OutOfMemory>
-        requires room { HasRoomForAll trail.now.met (maps.get store.now.live) }
+        requires room { HasRoomForAll trail.now.reserved (maps.get store.now.live) }
         requires known { (l : Literal) → IsTrue (has trail.now.lits l) →
             Forced (maps.get store.now.live) [] l }
         ensures sound { IfOk result (λ c. (l : Literal) → IsTrue (has c l) →

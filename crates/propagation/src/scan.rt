@@ -130,7 +130,7 @@ fn assume_part<P: Part>(
     part: &P,
 ) -> Result<Answer, OutOfMemory>
     requires may { MayAssume assumptions.old.assumptions }
-    requires room { HasRoom assumptions.old.trail.met clause.now }
+    requires room { HasRoom assumptions.old.trail.reserved clause.now }
     requires scan { IsScan store.now.live assumptions.old }
     ensures answer { IfOk result (λ a. IsAnswer (maps.get store.now.live)
         (assumed_by assumptions.old.assumptions ++ complements

@@ -77,7 +77,7 @@ fn judge(
         (groups_of step.now.hints) (chain (maps.get held.now.live) (complements step.now.lits)
         (units_of step.now.hints)) result) }
     ensures ready { IsReady (maps.get held.now.live) trues.new }
-    ensures room { OnOk result (HasRoom trues.new.met step.now.lits) }
+    ensures room { OnOk result (HasRoom trues.new.reserved step.now.lits) }
 {
     trues.reserve_all(step.lits())?;
     let answer = judge_addition(alloc, held, trues, step.lits(), step.hints());

@@ -13,7 +13,7 @@ use Rattle.trail.specs.declared.value.Value.TheVariants.{True, False, Open}
 -- the order means nothing
 pub record TrailState : Type 0 where
   pub lits : List Literal
-  pub met : List ℕ
+  pub reserved : List ℕ
 
 -- whether the number is a literal's variable
 abbrev pub is_variable : ℕ → Bool
@@ -37,8 +37,8 @@ pub record MakesFalse (before : List Literal) (c : Clause) (clashes : Bool) (aft
 
 -- there is room for the clause's variables
 abbrev pub HasRoom : List ℕ → Clause → Type 0
-HasRoom met c = (l : Literal) → IsTrue (has c l) → IsTrue (has met (variable l))
+HasRoom reserved c = (l : Literal) → IsTrue (has c l) → IsTrue (has reserved (variable l))
 
 -- there is room for the variable of each of these literals
-pub record HasRoomForAll (met : List ℕ) (live : Live) : Type 0 where
-  pub each : (k : ℕ) (c : Clause) → live k ≡ Some c → HasRoom met c
+pub record HasRoomForAll (reserved : List ℕ) (live : Live) : Type 0 where
+  pub each : (k : ℕ) (c : Clause) → live k ≡ Some c → HasRoom reserved c

@@ -32,12 +32,12 @@ use tables::{Table, key};
 /// Contracts see a trail as the list of the literals and the set of the variables for which there is room.
 #[derive(Drop)]
 pub struct Trail {
-    /// It has room for one literal of each variable that was met.
+    /// It has room for one literal of each variable that was reserved.
     lits: Vec<Lit>,
-    met: Vec<u32>,
-    /// The variables that were met.
+    reserved: Vec<u32>,
+    /// The variables that were reserved.
     seen: Table<()>,
-    /// By literal, for both literals of each variable that was met.
+    /// By literal, for both literals of each variable that was reserved.
     values: Values,
 }
 
@@ -51,11 +51,11 @@ impl Model for Trail {
 
     ghost view = { λ t. record {
       lits = t.lits.items;
-      met = t.met.items;
+      reserved = t.reserved.items;
     } };
 
     ghost invariant = { λ t.
-        IsTrail t.lits.items t.met.items (vec_capacity t.lits) (at t.seen) (value_at t.values) };
+        IsTrail t.lits.items t.reserved.items (vec_capacity t.lits) (at t.seen) (value_at t.values) };
 }
 
 /// The literal that says that the variable is true; none for 0 and past the greatest variable.
@@ -96,11 +96,11 @@ impl Trail {
     /// An empty trail. It has room for no variable.
     pub fn new(alloc: Global) -> Result<Self, OutOfMemory>
         ensures lits { IfOk result (λ t. t.lits ≡ []) }
-        ensures met { IfOk result (λ t. t.met ≡ []) }
+        ensures reserved { IfOk result (λ t. t.reserved ≡ []) }
     {
         Ok(Trail {
             lits: Vec::new(alloc),
-            met: Vec::new(alloc),
+            reserved: Vec::new(alloc),
             seen: Table::new(alloc),
             values: Values::new(alloc),
         })
@@ -113,8 +113,8 @@ impl Trail {
     /// Where memory runs out. The trail is then as it was.
     #[inline(always)]
     pub fn reserve(&mut self, var: u32) -> Result<(), OutOfMemory>
-        ensures met { OnOk result ((v : ℕ) → has self.new.met v ≡
-            (has self.old.met v || (v == var && is_variable v))) }
+        ensures reserved { OnOk result ((v : ℕ) → has self.new.reserved v ≡
+            (has self.old.reserved v || (v == var && is_variable v))) }
         ensures lits { OnOk result (self.new.lits ≡ self.old.lits) }
         ensures err { OnErr result (self.new ≡ self.old) }
     {
@@ -127,7 +127,7 @@ impl Trail {
     /// Whether there is room for a variable.
     #[inline(always)]
     pub fn has_room(&self, var: u32) -> bool
-        ensures { result ≡ has self.now.met var }
+        ensures { result ≡ has self.now.reserved var }
     {
         self.seen.get(var).is_some()
     }
@@ -136,29 +136,29 @@ impl Trail {
     #[cold]
     #[inline(never)]
     fn reserve_anew(&mut self, var: u32) -> Result<(), OutOfMemory>
-        requires { IsFalse (has self.old.met var) }
-        ensures met { OnOk result ((v : ℕ) → has self.new.met v ≡
-            (has self.old.met v || (v == var && is_variable v))) }
+        requires { IsFalse (has self.old.reserved var) }
+        ensures reserved { OnOk result ((v : ℕ) → has self.new.reserved v ≡
+            (has self.old.reserved v || (v == var && is_variable v))) }
         ensures lits { OnOk result (self.new.lits ≡ self.old.lits) }
         ensures err { OnErr result (self.new ≡ self.old) }
     {
         let Some(lit) = positive(var) else {
             return Ok(());
         };
-        self.lits.reserve(self.met.len() + 1)?;
-        self.met.reserve(1)?;
-        self.values.reserve(lit, self.met.len())?;
+        self.lits.reserve(self.reserved.len() + 1)?;
+        self.reserved.reserve(1)?;
+        self.values.reserve(lit, self.reserved.len())?;
         self.seen.reserve(var, ())?;
-        self.met.push_reserved(var);
+        self.reserved.push_reserved(var);
         Ok(())
     }
 
     /// Sets a literal whose variable has room and is open. It takes no memory.
     pub fn set(&mut self, l: Lit)
-        requires reserved { IsTrue (has self.old.met (l / 2)) }
+        requires reserved { IsTrue (has self.old.reserved (l / 2)) }
         requires open { value_under self.old.lits l ≡ Open }
         ensures lits { self.new.lits ≡ self.old.lits ++ l ∷ [] }
-        ensures met { (v : ℕ) → has self.new.met v ≡ has self.old.met v }
+        ensures reserved { (v : ℕ) → has self.new.reserved v ≡ has self.old.reserved v }
     {
         self.lits.push_reserved(l);
         self.values.set_both(l, Value::True, Value::False);
@@ -177,8 +177,8 @@ impl Trail {
         ensures value { result ≡ length self.now.lits }
         ensures different { HasNoVariableTwice self.now.lits }
         ensures within { (v : ℕ) → IsTrue (has (map variable self.now.lits) v) →
-            IsTrue (has self.now.met v) }
-        ensures fits { length self.now.lits ≤ length self.now.met }
+            IsTrue (has self.now.reserved v) }
+        ensures fits { length self.now.lits ≤ length self.now.reserved }
     {
         self.lits.len()
     }
@@ -194,7 +194,7 @@ impl Trail {
     pub fn undo_to(&mut self, n: usize)
         requires { n ≤ length self.old.lits }
         ensures lits { self.new.lits ≡ take n self.old.lits }
-        ensures met { (v : ℕ) → has self.new.met v ≡ has self.old.met v }
+        ensures reserved { (v : ℕ) → has self.new.reserved v ≡ has self.old.reserved v }
     {
         open_all(&mut self.values, &self.lits[n..]);
         self.lits.truncate(n);
@@ -214,8 +214,8 @@ impl Trail {
     ///
     /// Where memory runs out. Room for some of them may have been made then.
     pub fn reserve_all(&mut self, clause: &[Lit]) -> Result<(), OutOfMemory>
-        ensures room { OnOk result (HasRoom self.new.met clause.now) }
-        ensures met { (v : ℕ) → IsTrue (has self.old.met v) → IsTrue (has self.new.met v) }
+        ensures room { OnOk result (HasRoom self.new.reserved clause.now) }
+        ensures reserved { (v : ℕ) → IsTrue (has self.old.reserved v) → IsTrue (has self.new.reserved v) }
         ensures lits { self.new.lits ≡ self.old.lits }
     {
         for l in clause {
@@ -226,13 +226,13 @@ impl Trail {
 
     /// Sets a literal that is not false, unless it is true already. Tells whether it was open. It takes no memory.
     pub fn make_true(&mut self, l: Lit) -> bool
-        requires reserved { IsTrue (has self.old.met (l / 2)) }
+        requires reserved { IsTrue (has self.old.reserved (l / 2)) }
         requires not_false { IsFalse (has self.old.lits (complement l)) }
         ensures was_open { result ≡ not (has self.old.lits l) }
         ensures lits { self.new.lits ≡
             (if result then self.old.lits ++ l ∷ [] else self.old.lits) }
         ensures quiet { IsFalse (conflicts self.new.lits) }
-        ensures met { SameSet self.new.met self.old.met }
+        ensures reserved { SameSet self.new.reserved self.old.reserved }
     {
         let is_open = self.value(l) == Value::Open;
         if is_open {
@@ -258,12 +258,12 @@ impl Trail {
     /// Makes the literals of a part of a clause false, up to the first that is true. Tells whether there is one, so that a literal and its
     /// complement would be true. It takes no memory.
     pub fn make_false<P: Part>(&mut self, clause: &[Lit], part: &P) -> bool
-        requires { HasRoom self.old.met clause.now }
+        requires { HasRoom self.old.reserved clause.now }
         ensures made { MakesFalse self.old.lits
             (filter (P.keeps part.now) clause.now) result self.new.lits }
         ensures begins { take (length self.old.lits) self.new.lits ≡ self.old.lits }
         ensures longer { length self.old.lits ≤ length self.new.lits }
-        ensures met { SameSet self.new.met self.old.met }
+        ensures reserved { SameSet self.new.reserved self.old.reserved }
     {
         let _different = self.len();
         for l in clause {

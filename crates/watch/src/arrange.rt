@@ -37,11 +37,11 @@ pub(crate) fn arrange(store: &mut Store, trail: &Trail, slot: Slot) -> Left
     ensures live_alone { store.new.stored ≡ literals_in store.new.live }
 {
     if !bring(store, trail, slot, 0) {
-        store.is_sound();
+        store.recall_invariant();
         return Left::Nothing;
     }
     let is_more = bring(store, trail, slot, 1);
-    store.is_sound();
+    store.recall_invariant();
     if is_more {
         Left::More
     } else {

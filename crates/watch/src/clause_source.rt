@@ -36,7 +36,7 @@ pub(crate) fn assume_from<P: Part>(
 ) -> Result<bool, OutOfMemory>
     requires may { MayAssume assumptions.old.assumptions }
     requires alive { IsThere store.now.live source.now }
-    requires room { HasRoom assumptions.old.trail.met (clause_of store.now.live source.now) }
+    requires room { HasRoom assumptions.old.trail.reserved (clause_of store.now.live source.now) }
     ensures conflict { IfOk result (λ is_clash. is_clash ≡ conflicts
         (assumptions.old.trail.lits
         ++ complements (filter (P.keeps part.now) (clause_of store.now.live source.now)))) }
@@ -52,7 +52,7 @@ pub(crate) fn assume_from<P: Part>(
         length assumptions.old.trail.lits ∷ assumptions.old.starts) }
     ensures begins { OnOk result (take (length assumptions.old.trail.lits)
         assumptions.new.trail.lits ≡ assumptions.old.trail.lits) }
-    ensures met { SameSet assumptions.new.trail.met assumptions.old.trail.met }
+    ensures reserved { SameSet assumptions.new.trail.reserved assumptions.old.trail.reserved }
     ensures err { OnErr result (assumptions.new ≡ assumptions.old) }
 {
     match *source {

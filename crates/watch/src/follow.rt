@@ -100,7 +100,7 @@ fn visit(
     requires hand { IsInHand lists.old l }
     requires listed { IsListed (maps.get store.old.live) (with_list lists.old l list.old.items) }
     requires is_false { IsTrue (has assumptions.old.trail.lits (complement l)) }
-    requires room { HasRoomForAll assumptions.old.trail.met
+    requires room { HasRoomForAll assumptions.old.trail.reserved
         (maps.get (each_in_order store.old.live)) }
     requires noted { AreNoted (maps.get (each_in_order store.old.live)) (at reasons.old) }
     ensures further { IfOk result (λ n. n ≡ Further →
@@ -158,7 +158,7 @@ fn visit_all(
     requires hand { IsInHand lists.old l }
     requires listed { IsListed (maps.get store.old.live) (with_list lists.old l list.old.items) }
     requires is_false { IsTrue (has assumptions.old.trail.lits (complement l)) }
-    requires room { HasRoomForAll assumptions.old.trail.met
+    requires room { HasRoomForAll assumptions.old.trail.reserved
         (maps.get (each_in_order store.old.live)) }
     requires noted { AreNoted (maps.get (each_in_order store.old.live)) (at reasons.old) }
     ensures clash { IfOk result (λ found. IfSome found (λ s.
@@ -194,7 +194,7 @@ fn follow(
     requires apart { AreApart lists.old }
     requires listed { IsListed (maps.get store.old.live) (list_at lists.old) }
     requires is_false { IsTrue (has assumptions.old.trail.lits (complement l)) }
-    requires room { HasRoomForAll assumptions.old.trail.met
+    requires room { HasRoomForAll assumptions.old.trail.reserved
         (maps.get (each_in_order store.old.live)) }
     requires noted { AreNoted (maps.get (each_in_order store.old.live)) (at reasons.old) }
     ensures clash { IfOk result (λ found. IfSome found (λ s.
@@ -229,7 +229,7 @@ pub(crate) fn propagate(
     requires listed { IsListed (maps.get store.old.live) (list_at lists.old) }
     requires watched { IsWatched (maps.get store.old.live)
         (take from assumptions.old.trail.lits) assumptions.old.trail.lits }
-    requires room { HasRoomForAll assumptions.old.trail.met
+    requires room { HasRoomForAll assumptions.old.trail.reserved
         (maps.get (each_in_order store.old.live)) }
     requires noted { AreNoted (maps.get (each_in_order store.old.live)) (at reasons.old) }
     ensures clash { IfOk result (λ found. IfSome found (λ s.

@@ -25,7 +25,7 @@ pub(crate) fn is_reason_for_good(
 ) -> Result<bool, OutOfMemory>
     requires alive { IsSome (maps.get store.now.live slot) }
     requires nothing_assumed { assumptions.now.assumptions ≡ [] }
-    requires room { HasRoomForAll assumptions.now.trail.met
+    requires room { HasRoomForAll assumptions.now.trail.reserved
         (maps.get (each_in_order store.now.live)) }
     requires kept { IsKept store.now.live roots.now assumptions.now.trail.lits }
     requires up_to_date { is_up_to_date roots.now.kept ≡ true }
@@ -38,7 +38,7 @@ pub(crate) fn is_reason_for_good(
     if roots.has_clash() {
         return is_root_reason(alloc, store, trail, slot);
     }
-    store.is_sound();
+    store.recall_invariant();
     let _different = trail.len();
     let clause = store.clause(slot);
     Ok(trail.left(clause).is_one_at_most(clause))

@@ -21,12 +21,12 @@ use watch_lists::{SlotList, WatchLists};
 /// Where nothing is kept, keeps the literals of the clauses of one literal, which are yet to be propagated. It takes no memory.
 fn start(store: &Store, short: &SlotList, assumptions: &mut Assumptions, roots: &mut Roots)
     requires listed { IsShortList (maps.get store.now.live) short.now }
-    requires room { HasRoomForAll assumptions.old.trail.met
+    requires room { HasRoomForAll assumptions.old.trail.reserved
         (maps.get (each_in_order store.now.live)) }
     requires kept { IsKept store.now.live roots.old assumptions.old.trail.lits }
     ensures kept { IsKept store.now.live roots.new assumptions.new.trail.lits }
     ensures known { is_lost roots.new.kept ≡ false }
-    ensures met { SameSet assumptions.new.trail.met assumptions.old.trail.met }
+    ensures reserved { SameSet assumptions.new.trail.reserved assumptions.old.trail.reserved }
     ensures assumptions { assumptions.new.assumptions ≡ assumptions.old.assumptions }
     ensures starts { assumptions.new.starts ≡ assumptions.old.starts }
 {
@@ -52,7 +52,7 @@ fn catch_up(
     requires nothing_assumed { assumptions.old.assumptions ≡ [] }
     requires apart { AreApart lists.old }
     requires listed { IsListed (maps.get store.old.live) (list_at lists.old) }
-    requires room { HasRoomForAll assumptions.old.trail.met
+    requires room { HasRoomForAll assumptions.old.trail.reserved
         (maps.get (each_in_order store.old.live)) }
     requires kept { IsKept store.old.live roots.old assumptions.old.trail.lits }
     requires known { is_lost roots.old.kept ≡ false }
@@ -64,7 +64,7 @@ fn catch_up(
     ensures apart { AreApart lists.new }
     ensures listed { IsListed (maps.get store.new.live) (list_at lists.new) }
     ensures entries { entries_in lists.new ≡ entries_in lists.old }
-    ensures met { SameSet assumptions.new.trail.met assumptions.old.trail.met }
+    ensures reserved { SameSet assumptions.new.trail.reserved assumptions.old.trail.reserved }
     ensures assumptions { assumptions.new.assumptions ≡ [] }
     ensures starts { assumptions.new.starts ≡ assumptions.old.starts }
 {
@@ -104,7 +104,7 @@ pub(crate) fn refresh(
     ensures watch { IsWatch store.new.live lists.new short.now roots.new assumptions.new }
     ensures up_to_date { OnOk result (is_up_to_date roots.new.kept ≡ true) }
     ensures same { each_in_order store.new.live ≡ each_in_order store.old.live }
-    ensures met { SameSet assumptions.new.trail.met assumptions.old.trail.met }
+    ensures reserved { SameSet assumptions.new.trail.reserved assumptions.old.trail.reserved }
     ensures assumptions { assumptions.new.assumptions ≡ assumptions.old.assumptions }
 {
     if roots.is_up_to_date() {

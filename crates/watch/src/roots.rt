@@ -46,13 +46,13 @@ pub(crate) fn set_by(
     l: Lit,
     slot: u32,
 ) -> bool
-    requires reserved { IsTrue (has assumptions.old.trail.met (l / 2)) }
+    requires reserved { IsTrue (has assumptions.old.trail.reserved (l / 2)) }
     requires not_false { IsFalse (has assumptions.old.trail.lits (complement l)) }
     requires noted { IsSome (at reasons.old l) }
     ensures was_open { result ≡ not (has assumptions.old.trail.lits l) }
     ensures lits { assumptions.new.trail.lits ≡
         (if result then assumptions.old.trail.lits ++ l ∷ [] else assumptions.old.trail.lits) }
-    ensures met { SameSet assumptions.new.trail.met assumptions.old.trail.met }
+    ensures reserved { SameSet assumptions.new.trail.reserved assumptions.old.trail.reserved }
     ensures assumptions { assumptions.new.assumptions ≡ assumptions.old.assumptions }
     ensures starts { assumptions.new.starts ≡ assumptions.old.starts }
     ensures reasons { (k : Literal) → at reasons.new k ≡
@@ -142,11 +142,11 @@ impl Roots {
         requires reasons { (c : Clause) → maps.get store.now.live slot ≡ Some c →
             HasReasons c (at self.old.reasons) }
         requires room { (c : Clause) → maps.get store.now.live slot ≡ Some c →
-            HasRoom assumptions.old.trail.met c }
+            HasRoom assumptions.old.trail.reserved c }
         requires arranged { (c : Clause) → maps.get store.now.live slot ≡ Some c →
             IsArranged assumptions.old.trail.lits c left }
         ensures kept { IsKept store.now.live self.new assumptions.new.trail.lits }
-        ensures met { SameSet assumptions.new.trail.met assumptions.old.trail.met }
+        ensures reserved { SameSet assumptions.new.trail.reserved assumptions.old.trail.reserved }
         ensures assumptions { assumptions.new.assumptions ≡ assumptions.old.assumptions }
         ensures starts { assumptions.new.starts ≡ assumptions.old.starts }
     {
@@ -188,7 +188,7 @@ impl Roots {
         requires kept { IsKept store.now.live self.old assumptions.old.trail.lits }
         ensures kept { IsKept (maps.remove store.now.live slot) self.new
             assumptions.new.trail.lits }
-        ensures met { SameSet assumptions.new.trail.met assumptions.old.trail.met }
+        ensures reserved { SameSet assumptions.new.trail.reserved assumptions.old.trail.reserved }
         ensures assumptions { assumptions.new.assumptions ≡ [] }
         ensures starts { assumptions.new.starts ≡ assumptions.old.starts }
     {

@@ -35,7 +35,7 @@ pub(crate) fn run(
     requires watched { IsWatched (maps.get store.old.live)
         (take from assumptions.old.trail.lits) assumptions.old.trail.lits }
     requires units { HaveUnits (maps.get store.old.live) assumptions.old.trail.lits }
-    requires room { HasRoomForAll assumptions.old.trail.met
+    requires room { HasRoomForAll assumptions.old.trail.reserved
         (maps.get (each_in_order store.old.live)) }
     requires noted { AreNoted (maps.get (each_in_order store.old.live)) (at reasons.old) }
     ensures answer { IfOk result (λ a. IsAnswer (maps.get (each_in_order store.old.live))
@@ -51,7 +51,7 @@ pub(crate) fn run(
         (at reasons.old) (at reasons.new) }
 {
     let found = propagate(store, lists, assumptions, reasons, from)?;
-    store.is_sound();
+    store.recall_invariant();
     match found {
         Some(_) => Ok(Answer::Clash),
         None => Ok(Answer::Quiet),

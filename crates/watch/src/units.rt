@@ -32,7 +32,7 @@ pub(crate) fn set_units(
     reasons: &mut Table<u32>,
 ) -> Option<u32>
     requires listed { IsShortList (maps.get store.now.live) slots.now }
-    requires room { HasRoomForAll assumptions.old.trail.met
+    requires room { HasRoomForAll assumptions.old.trail.reserved
         (maps.get (each_in_order store.now.live)) }
     requires noted { AreNoted (maps.get (each_in_order store.now.live)) (at reasons.old) }
     ensures clash { IfSome result (λ s.

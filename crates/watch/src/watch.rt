@@ -84,7 +84,7 @@ impl Model for Watch {
       entries = entries_in lists;
       short_entries = length short;
       trues = length assumptions.trail.lits;
-      variables = variables_in assumptions.trail.met;
+      variables = variables_in assumptions.trail.reserved;
       roots = roots_in assumptions.trail.lits assumptions.assumptions assumptions.starts;
       is_up_to_date = is_up_to_date roots.kept;
       has_clash = has_clash roots.kept;
@@ -107,7 +107,7 @@ fn assume_part<P: Part>(
 ) -> Result<Answer, OutOfMemory>
     requires may { MayAssume assumptions.old.assumptions }
     requires alive { IsThere store.old.live source.now }
-    requires room { HasRoom assumptions.old.trail.met (clause_of store.old.live source.now) }
+    requires room { HasRoom assumptions.old.trail.reserved (clause_of store.old.live source.now) }
     requires up_to_date { is_up_to_date roots.old.kept ≡ true }
     requires watch { IsWatch store.old.live lists.old short.now roots.old assumptions.old }
     ensures answer { IfOk result (λ a. IsAnswer (maps.get (each_in_order store.old.live))
@@ -184,7 +184,7 @@ impl Watch {
         self.short.slots().len()
     }
 
-    /// How many literals are true: at most one of each variable that was met.
+    /// How many literals are true: at most one of each variable that was reserved.
     pub fn trail_len(&self) -> usize
         ensures value { result ≡ self.now.trues }
         ensures fits { self.now.trues ≤ self.now.variables }
@@ -207,7 +207,7 @@ impl Watch {
         ensures quiet { self.now.is_up_to_date ≡ true → result ≡ false →
             ¬ Clash (maps.get self.now.propagation.live) [] }
     {
-        self.store.is_sound();
+        self.store.recall_invariant();
         let _different = self.assumptions.trail().len();
         self.roots.has_clash()
     }
@@ -221,7 +221,7 @@ impl Watch {
             (l : Literal) →
             Forced (maps.get self.now.propagation.live) [] l → IsTrue (has result.now l) }
     {
-        self.store.is_sound();
+        self.store.recall_invariant();
         &self.assumptions.trail().lits()[..self.assumptions.root_count()]
     }
 
@@ -241,7 +241,7 @@ impl Watch {
         ensures refused { OnErr result (self.new.propagation.has_refused ≡ true) }
     {
         if self.has_refused {
-            self.store.is_sound();
+            self.store.recall_invariant();
             return Err(OutOfMemory);
         }
         let refreshed = refresh(
@@ -251,7 +251,7 @@ impl Watch {
             &mut self.assumptions,
             &mut self.roots,
         );
-        self.store.is_sound();
+        self.store.recall_invariant();
         self.has_refused = refreshed.is_err();
         refreshed
     }
@@ -334,7 +334,7 @@ impl Propagate for Watch {
             &ClauseSource::Given(lits),
             &Whole,
         );
-        self.store.is_sound();
+        self.store.recall_invariant();
         self.has_refused = assumed.is_err();
         assumed
     }
@@ -350,7 +350,7 @@ impl Propagate for Watch {
             &ClauseSource::Stored(slot),
             &Except(l),
         );
-        self.store.is_sound();
+        self.store.recall_invariant();
         self.has_refused = assumed.is_err();
         assumed
     }
@@ -370,7 +370,7 @@ impl Propagate for Watch {
             &ClauseSource::Stored(slot),
             &Unless(&self.set),
         );
-        self.store.is_sound();
+        self.store.recall_invariant();
         self.has_refused = assumed.is_err();
         assumed
     }
@@ -394,7 +394,7 @@ impl Propagate for Watch {
             &self.roots,
             slot,
         );
-        self.store.is_sound();
+        self.store.recall_invariant();
         self.has_refused = found.is_err();
         found
     }

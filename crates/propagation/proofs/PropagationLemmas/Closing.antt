@@ -27,26 +27,26 @@ pub follows_forced : (live : Live) (ls : List Literal) → ((l : Literal) → ha
 follows_forced live ls sound k c at l (is_old h) = sound l h
 follows_forced live ls sound k c at l (by_unit member others) = forced_unit live [] k c at l member (λ m h ne. sound (complement m) (others m h ne))
 
-mapped : (f : ℕ → ℕ) (met : List ℕ) (v : ℕ) → has met v ≡ true → has (map f met) (f v) ≡ true
+mapped : (f : ℕ → ℕ) (reserved : List ℕ) (v : ℕ) → has reserved v ≡ true → has (map f reserved) (f v) ≡ true
 mapped f [] v h = absurd (false≢true h)
-mapped f (w ∷ met) v h = elim (has_cases w met v h) [
-  | inl e ↦ subst (λ x. has (map f (w ∷ met)) (f x) ≡ true) e (has_head (f w) (map f met))
-  | inr g ↦ has_tail (f w) (map f met) (f v) (mapped f met v g)
+mapped f (w ∷ reserved) v h = elim (has_cases w reserved v h) [
+  | inl e ↦ subst (λ x. has (map f (w ∷ reserved)) (f x) ≡ true) e (has_head (f w) (map f reserved))
+  | inr g ↦ has_tail (f w) (map f reserved) (f v) (mapped f reserved v g)
 ]
 
-pub has-both_of : (met : List ℕ) (m : Literal) → has met (m / 2) ≡ true → has (both_of met) m ≡ true
-has-both_of met m h = elim (cases_eq (2 * (m / 2)) m) [
-  | inl e ↦ has_append_left (map (λ v. 2 * v) met) (map (λ v. 2 * v + 1) met) m (subst (λ x. has (map (λ v. 2 * v) met) x ≡ true) e (mapped (λ v. 2 * v) met (m / 2) h))
+pub has-both_of : (reserved : List ℕ) (m : Literal) → has reserved (m / 2) ≡ true → has (both_of reserved) m ≡ true
+has-both_of reserved m h = elim (cases_eq (2 * (m / 2)) m) [
+  | inl e ↦ has_append_left (map (λ v. 2 * v) reserved) (map (λ v. 2 * v + 1) reserved) m (subst (λ x. has (map (λ v. 2 * v) reserved) x ≡ true) e (mapped (λ v. 2 * v) reserved (m / 2) h))
   | inr ne ↦
       let odd : 2 * (m / 2) + 1 ≡ m = omega arith in
-      has_append_right (map (λ v. 2 * v) met) (map (λ v. 2 * v + 1) met) m (subst (λ x. has (map (λ v. 2 * v + 1) met) x ≡ true) odd (mapped (λ v. 2 * v + 1) met (m / 2) h))
+      has_append_right (map (λ v. 2 * v) reserved) (map (λ v. 2 * v + 1) reserved) m (subst (λ x. has (map (λ v. 2 * v + 1) reserved) x ≡ true) odd (mapped (λ v. 2 * v + 1) reserved (m / 2) h))
 ]
 
 -- ---- A pass over all clauses, up to a slot
 
 -- what a pass keeps: fewer literals are to be found, or the unit rule is kept by the clauses so far
 abbrev pub IsPassedOver : Live → List Literal → List Literal → ℕ → Bool → Type 0
-IsPassedOver live before now n true = (met : List ℕ) → HasRoomForAll met live → lacking now (both_of met) < lacking before (both_of met)
+IsPassedOver live before now n true = (reserved : List ℕ) → HasRoomForAll reserved live → lacking now (both_of reserved) < lacking before (both_of reserved)
 IsPassedOver live before now n false = (now ≡ before) × ((k : ℕ) (c : Clause) → k < n → live k ≡ Some c → IsClosedAt (has before) c)
 
 -- ---- Clauses that make a literal hold for good
@@ -136,12 +136,12 @@ module _ (live : Live) (before now : List Literal) (n : ℕ) where
 
     -- a literal of it is new
     pub over_new : (after : List Literal) → ((l : Literal) → has now l ≡ true → has after l ≡ true) → (m : Literal) → has d m ≡ true → has now m ≡ false → has after m ≡ true → (is_new : Bool) → IsPassedOver live before now n is_new →
-        (met : List ℕ) → HasRoomForAll met live → lacking after (both_of met) < lacking before (both_of met)
-    over_new after grows m member absent new true h met room =
-        omega (arith, h met room, lacking_le now after grows (both_of met))
-    over_new after grows m member absent new false h met room =
-        subst (λ ls. lacking after (both_of met) < lacking ls (both_of met)) h.0
-        (lacking_falls now after grows m absent new (both_of met) (has-both_of met m (room.each n d (sym here) m member)))
+        (reserved : List ℕ) → HasRoomForAll reserved live → lacking after (both_of reserved) < lacking before (both_of reserved)
+    over_new after grows m member absent new true h reserved room =
+        omega (arith, h reserved room, lacking_le now after grows (both_of reserved))
+    over_new after grows m member absent new false h reserved room =
+        subst (λ ls. lacking after (both_of reserved) < lacking ls (both_of reserved)) h.0
+        (lacking_falls now after grows m absent new (both_of reserved) (has-both_of reserved m (room.each n d (sym here) m member)))
 
     pub over_taken : (after : List Literal) → ((l : Literal) → has now l ≡ true → has after l ≡ true) → (b : Bool) →
         (b ≡ true → (l : Literal) × (has d l ≡ true) × (has now l ≡ false) × (has after l ≡ true)) → (b ≡ false → after ≡ now) → (b ≡ false → IsClosedAt (has now) d) →

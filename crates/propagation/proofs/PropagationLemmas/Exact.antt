@@ -63,17 +63,17 @@ pub extends_on : (first second third : AssumptionsState) → Extends first secon
 extends_on first second third so_far more = record {
   begins = begins_on first.trail.lits second.trail.lits third.trail.lits so_far.begins so_far.longer more.begins;
   longer = omega (arith, so_far.longer, more.longer);
-  met = λ v. more.met v ∙ so_far.met v;
+  reserved = λ v. more.reserved v ∙ so_far.reserved v;
   assumptions = more.assumptions ∙ so_far.assumptions;
   starts = more.starts ∙ so_far.starts;
 }
 
 pub extends_made : (before after : AssumptionsState) (m : Literal) (is_open : Bool) → is_open ≡ not (has before.trail.lits m) → after.trail.lits ≡ cond is_open (before.trail.lits ++ m ∷ []) before.trail.lits →
-    SameSet after.trail.met before.trail.met → after.assumptions ≡ before.assumptions → after.starts ≡ before.starts → Extends before after
+    SameSet after.trail.reserved before.trail.reserved → after.assumptions ≡ before.assumptions → after.starts ≡ before.starts → Extends before after
 extends_made before after m is_open was is met_is assumptions_are starts_are = record {
   begins = begins_made before.trail.lits after.trail.lits m is_open was is;
   longer = longer_made before.trail.lits after.trail.lits m is_open was is;
-  met = met_is;
+  reserved = met_is;
   assumptions = assumptions_are;
   starts = starts_are;
 }

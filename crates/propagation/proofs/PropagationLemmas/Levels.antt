@@ -208,9 +208,9 @@ module _ (trail after : TrailState) (numbers noted : Table ℕ) (made number sta
       ∙ ap (λ before. record { answer = Clash; assumed = pushed_assumed (number_at noted) after.lits levels number } ∷ before) stood_are
 
   module _ (added : SameSet after.lits (trail.lits ++ complements rest)) where
-    pub pushed_numbered : ((v : ℕ) → is_some (at noted v) ≡ is_some (at numbers v)) → SameSet after.met trail.met → IsNumbered after noted number (pushed levels clashing)
-    pushed_numbered known met = record {
-      known = λ v h. known v ∙ is.known v (sym (met v) ∙ h);
+    pub pushed_numbered : ((v : ℕ) → is_some (at noted v) ≡ is_some (at numbers v)) → SameSet after.reserved trail.reserved → IsNumbered after noted number (pushed levels clashing)
+    pushed_numbered known reserved = record {
+      known = λ v h. known v ∙ is.known v (sym (reserved v) ∙ h);
       low = pushed_low (number_at numbers) (number_at noted) made trail.lits after.lits rest levels is.low is.levels_are notes_here begins longer clashing number_is start_is number number_is;
       levels_are = subst (λ n. AreLevels (number_at noted) n after.lits (pushed levels clashing)) (sym number_is)
           (pushed_levels (number_at numbers) (number_at noted) made trail.lits after.lits rest is.low begins longer clashing number_is start_is levels may_then is.levels_are notes_here

@@ -68,7 +68,7 @@ module _ (lits : List ℕ) (m : ℕ) where
 
 abbrev pub IsPassedTo : Live → TrailState → List Literal → ℕ → Pass → Type 0
 IsPassedTo live before lits n PassClash = ⊥
-IsPassedTo live before lits n Changed = (vs : List ℕ) → ((v : ℕ) → has before.met v ≡ true → has vs v ≡ true) → unset lits vs < unset before.lits vs
+IsPassedTo live before lits n Changed = (vs : List ℕ) → ((v : ℕ) → has before.reserved v ≡ true → has vs v ≡ true) → unset lits vs < unset before.lits vs
 IsPassedTo live before lits n Quiet = (lits ≡ before.lits) × ((k : ℕ) (c : Clause) → k < n → live k ≡ Some c → IsSettled before.lits (how_many (open_literals before.lits c)))
 
 module _ (live : Live) (before : TrailState) (lits : List Literal) (n : ℕ) where
@@ -83,7 +83,7 @@ module _ (live : Live) (before : TrailState) (lits : List Literal) (n : ℕ) whe
   passed_settled d here settled Quiet h =
       (h.0, below_some live (λ c. IsSettled before.lits (how_many (open_literals before.lits c))) n h.1 d here (subst (λ ls. IsSettled ls (how_many (open_literals ls d))) h.0 settled))
 
-  pub passed_unit : (m : Literal) → has lits m ≡ false → has lits (complement m) ≡ false → has before.met (m / 2) ≡ true → (p : Pass) → IsPassedTo live before lits n p → IsPassedTo live before (lits ++ m ∷ []) (n + 1) Changed
+  pub passed_unit : (m : Literal) → has lits m ≡ false → has lits (complement m) ≡ false → has before.reserved (m / 2) ≡ true → (p : Pass) → IsPassedTo live before lits n p → IsPassedTo live before (lits ++ m ∷ []) (n + 1) Changed
   passed_unit m e f member PassClash h = absurd h
   passed_unit m e f member Changed h = λ vs covers.
       let falls = unset_falls lits m (variable_open lits m e f) vs (covers (m / 2) member) in

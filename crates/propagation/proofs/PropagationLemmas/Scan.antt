@@ -36,24 +36,24 @@ scan_empty live held none unset nothing = record {
 
 -- more room, and else nothing new
 pub held_reserved : (live : FinMap nat_cmp Clause) (Roots : List Literal → Type 0) (before after : AssumptionsState) → after.trail.lits ≡ before.trail.lits → after.assumptions ≡ before.assumptions → after.starts ≡ before.starts →
-    ((v : ℕ) → has before.trail.met v ≡ true → has after.trail.met v ≡ true) → IsHeld live Roots before → IsHeld live Roots after
+    ((v : ℕ) → has before.trail.reserved v ≡ true → has after.trail.reserved v ≡ true) → IsHeld live Roots before → IsHeld live Roots after
 held_reserved live Roots before after lits_are assumptions_are starts_are within held = record {
   room = record { each = λ k c here l member. within (l / 2) (held.room.each k c here l member) };
   exact = exact_same (maps.get live) Roots before after lits_are assumptions_are starts_are held.exact;
 }
 
 -- a clause that is added, for which there is room
-pub room_added : (met : List ℕ) (live after : FinMap nat_cmp Clause) (slot : ℕ) (lits : Clause) → HasRoomForAll met (maps.get live) → HasRoom met lits →
-    (c : Clause) × (maps.get after slot ≡ Some c) × (same_clause c lits ≡ true) → ((s : ℕ) → s ≢ slot → maps.get after s ≡ maps.get live s) → HasRoomForAll met (maps.get after)
-room_added met live after slot lits all room stored others = record {
+pub room_added : (reserved : List ℕ) (live after : FinMap nat_cmp Clause) (slot : ℕ) (lits : Clause) → HasRoomForAll reserved (maps.get live) → HasRoom reserved lits →
+    (c : Clause) × (maps.get after slot ≡ Some c) × (same_clause c lits ≡ true) → ((s : ℕ) → s ≢ slot → maps.get after s ≡ maps.get live s) → HasRoomForAll reserved (maps.get after)
+room_added reserved live after slot lits all room stored others = record {
   each = λ k c here l member. elim (cases_eq k slot) [
     | inl e ↦ room l (same_there stored.0 lits stored.2 l (ap (λ d. has d l) (sym (same_Some c stored.0 (sym here ∙ ap (maps.get after) e ∙ stored.1))) ∙ member))
     | inr ne ↦ all.each k c (sym (others k ne) ∙ here) l member
   ];
 }
 
-pub room_removed : (met : List ℕ) (live after : FinMap nat_cmp Clause) (slot : ℕ) → after ≡ maps.remove live slot → HasRoomForAll met (maps.get live) → HasRoomForAll met (maps.get after)
-room_removed met live after slot is all = record {
+pub room_removed : (reserved : List ℕ) (live after : FinMap nat_cmp Clause) (slot : ℕ) → after ≡ maps.remove live slot → HasRoomForAll reserved (maps.get live) → HasRoomForAll reserved (maps.get after)
+room_removed reserved live after slot is all = record {
   each = λ k c here. all.each k c (by_test k c (eqb k slot) (sym (get_remove live slot k) ∙ sym (ap (λ m. maps.get m k) is) ∙ here));
 }
   where
@@ -62,16 +62,16 @@ room_removed met live after slot is all = record {
     by_test k c false e = e
 
 -- a clause is added or taken out where nothing is assumed
-pub scan_with : (live after : FinMap nat_cmp Clause) (held : AssumptionsState) → held.assumptions ≡ [] → HasRoomForAll held.trail.met (maps.get after) → IsScan live held → IsScan after held
+pub scan_with : (live after : FinMap nat_cmp Clause) (held : AssumptionsState) → held.assumptions ≡ [] → HasRoomForAll held.trail.reserved (maps.get after) → IsScan live held → IsScan after held
 scan_with live after held none room scan = record {
   room = room;
   exact = exact_nothing (maps.get after) held (nothing_true (maps.get live) (λ ls. ls ≡ []) held none scan.exact) none;
 }
 
-pub room_inserted : {E : Type 0} (met : List ℕ) (live after : FinMap nat_cmp Clause) (lits : Clause) (r : Result ℕ E) → HasRoomForAll met (maps.get live) → HasRoom met lits →
-    IfOk r (λ slot. (c : Clause) × (maps.get after slot ≡ Some c) × (same_clause c lits ≡ true)) → IfOk r (λ slot. (s : ℕ) → s ≢ slot → maps.get after s ≡ maps.get live s) → OnErr r (after ≡ live) → HasRoomForAll met (maps.get after)
-room_inserted met live after lits (Ok slot) all room stored others err = room_added met live after slot lits all room stored others
-room_inserted met live after lits (Err e) all room stored others err = subst (λ m. HasRoomForAll met (maps.get m)) (sym err) all
+pub room_inserted : {E : Type 0} (reserved : List ℕ) (live after : FinMap nat_cmp Clause) (lits : Clause) (r : Result ℕ E) → HasRoomForAll reserved (maps.get live) → HasRoom reserved lits →
+    IfOk r (λ slot. (c : Clause) × (maps.get after slot ≡ Some c) × (same_clause c lits ≡ true)) → IfOk r (λ slot. (s : ℕ) → s ≢ slot → maps.get after s ≡ maps.get live s) → OnErr r (after ≡ live) → HasRoomForAll reserved (maps.get after)
+room_inserted reserved live after lits (Ok slot) all room stored others err = room_added reserved live after slot lits all room stored others
+room_inserted reserved live after lits (Err e) all room stored others err = subst (λ m. HasRoomForAll reserved (maps.get m)) (sym err) all
 
 -- what is kept in a store that is left as it was, and in one without clauses
 pub err_live : {X E : Type 0} (r : Result X E) (old new : StoreState) → OnErr r (new ≡ old) → OnErr r (new.live ≡ old.live)
@@ -103,9 +103,9 @@ module _ (live : FinMap nat_cmp Clause) (Roots : List Literal → Type 0) (sound
 
   -- what is true at the end, and what stands
   module _ (last : AssumptionsState) (answer : Answer) (all : List Literal) (stand : last.assumptions ≡ record { answer = answer; assumed = all } ∷ before.assumptions) (starts : last.starts ≡ length before.trail.lits ∷ before.starts)
-      (begins : take (length before.trail.lits) last.trail.lits ≡ before.trail.lits) (met : SameSet last.trail.met before.trail.met) where
-    room_last : HasRoomForAll last.trail.met (maps.get live)
-    room_last = record { each = λ k c here l member. met (l / 2) ∙ scan.room.each k c here l member }
+      (begins : take (length before.trail.lits) last.trail.lits ≡ before.trail.lits) (reserved : SameSet last.trail.reserved before.trail.reserved) where
+    room_last : HasRoomForAll last.trail.reserved (maps.get live)
+    room_last = record { each = λ k c here l member. reserved (l / 2) ∙ scan.room.each k c here l member }
 
     exact_last : (answer ≡ Quiet → IsExact (maps.get live) all last.trail.lits) → AreExact (maps.get live) Roots last.trail.lits last.assumptions last.starts
     exact_last exact =

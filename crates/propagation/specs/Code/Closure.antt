@@ -10,4 +10,4 @@ pub data FollowsFrom (lits : List Literal) (c : Clause) (l : Literal) : Type 0 w
 
 -- both literals of each of these variables
 abbrev pub both_of : List ℕ → List Literal
-both_of met = map (λ v. 2 * v) met ++ map (λ v. 2 * v + 1) met
+both_of reserved = map (λ v. 2 * v) reserved ++ map (λ v. 2 * v + 1) reserved

@@ -35,9 +35,9 @@ assumptions_code =
     ((List ℕ × List ℕ) × (List Assumption × List ℕ))
     (coded× (coded× (coded_list coded_ℕ) (coded_list coded_ℕ))
     (coded× (coded_list assumption_code) (coded_list coded_ℕ)))
-    (λ s. ((s.trail.lits, s.trail.met), (s.assumptions, s.starts)))
+    (λ s. ((s.trail.lits, s.trail.reserved), (s.assumptions, s.starts)))
     (λ p. record {
-      trail = record { lits = p.0.0; met = p.0.1 };
+      trail = record { lits = p.0.0; reserved = p.0.1 };
       assumptions = p.1.0;
       starts = p.1.1;
     })

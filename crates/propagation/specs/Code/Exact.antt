@@ -26,6 +26,6 @@ AreExact live Roots lits (last ∷ rest) (start ∷ starts) =
 pub record Extends (before after : AssumptionsState) : Type 0 where
   pub begins : take (length before.trail.lits) after.trail.lits ≡ before.trail.lits
   pub longer : length before.trail.lits ≤ length after.trail.lits
-  pub met : SameSet after.trail.met before.trail.met
+  pub reserved : SameSet after.trail.reserved before.trail.reserved
   pub assumptions : after.assumptions ≡ before.assumptions
   pub starts : after.starts ≡ before.starts

@@ -90,7 +90,7 @@ AreLevels number_of made lits (Two first second) =
 -- those that stand have theirs
 pub record IsNumbered (trail : TrailState) (numbers : Table ℕ) (made : ℕ) (levels : Levels)
     : Type 0 where
-  pub known : (v : ℕ) → IsTrue (has trail.met v) → IsSome (at numbers v)
+  pub known : (v : ℕ) → IsTrue (has trail.reserved v) → IsSome (at numbers v)
   pub low : (v : ℕ) → number_at numbers v ≤ made
   pub levels_are : AreLevels (number_at numbers) made trail.lits levels
 

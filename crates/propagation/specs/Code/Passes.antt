@@ -11,14 +11,14 @@ use Rattle.propagation.specs.declared.scan.unit.Pass.{Pass}
 
 -- for how many of these variables no literal was set
 abbrev pub unset : List Literal → List ℕ → ℕ
-unset lits met = count_by (λ v. not (has (map variable lits) v)) met
+unset lits reserved = count_by (λ v. not (has (map variable lits) v)) reserved
 
 -- a pass found a clash, made fewer variables open, or found that nothing new follows from any
 -- clause
 abbrev pub IsPassed : Live → TrailState → List Literal → Pass → Type 0
 IsPassed live before lits PassClash = Clash live before.lits
 IsPassed live before lits Changed =
-    (vs : List ℕ) → ((v : ℕ) → IsTrue (has before.met v) → IsTrue (has vs v)) →
+    (vs : List ℕ) → ((v : ℕ) → IsTrue (has before.reserved v) → IsTrue (has vs v)) →
     unset lits vs < unset before.lits vs
 IsPassed live before lits PassQuiet =
     (lits ≡ before.lits) ×

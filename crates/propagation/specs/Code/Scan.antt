@@ -12,7 +12,7 @@ use Rattle.trail.specs.Trail.{HasRoomForAll}
 -- holds of what is true with nothing assumed
 pub record IsHeld (live : FinMap nat_cmp Clause) (Roots : List Literal → Type 0)
     (held : AssumptionsState) : Type 0 where
-  pub room : HasRoomForAll held.trail.met (maps.get live)
+  pub room : HasRoomForAll held.trail.reserved (maps.get live)
   pub exact : AreExact (maps.get live) Roots held.trail.lits held.assumptions held.starts
 
 -- so it is, and nothing is true where nothing is assumed

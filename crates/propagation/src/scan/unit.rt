@@ -28,7 +28,7 @@ enum Pass {
 
 /// One pass over all clauses, which sets what follows from each.
 fn run_pass(store: &Store, assumptions: &mut Assumptions) -> Pass
-    requires { HasRoomForAll assumptions.old.trail.met (maps.get store.now.live) }
+    requires { HasRoomForAll assumptions.old.trail.reserved (maps.get store.now.live) }
     ensures sound { (l : Literal) → IsTrue (has assumptions.new.trail.lits l) →
         Forced (maps.get store.now.live) assumptions.old.trail.lits l }
     ensures pass { IsPassed (maps.get store.now.live)
@@ -54,7 +54,7 @@ fn run_pass(store: &Store, assumptions: &mut Assumptions) -> Pass
 
 /// Sets all that follows from the literals that are true, or stops at a clash.
 pub(crate) fn propagate(store: &Store, assumptions: &mut Assumptions) -> Answer
-    requires { HasRoomForAll assumptions.old.trail.met (maps.get store.now.live) }
+    requires { HasRoomForAll assumptions.old.trail.reserved (maps.get store.now.live) }
     ensures answer { IsAnswer (maps.get store.now.live) assumptions.old.trail.lits result }
     ensures sound { (l : Literal) → IsTrue (has assumptions.new.trail.lits l) →
         Forced (maps.get store.now.live) assumptions.old.trail.lits l }

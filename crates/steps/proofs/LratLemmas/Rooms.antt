@@ -21,21 +21,21 @@ use Rattle.theory.proofs.LratLemmas.LiveSets.{SameClauses-eq}
 
 -- ---- A clause that is added
 
-pub room_with : (met : List ℕ) (live after : Live) (id : ℕ) (c : Clause) → SameClauses after (with_clause live id c) → HasRoomForAll met live → HasRoom met c → HasRoomForAll met after
-room_with met live after id c same all room = record {
+pub room_with : (reserved : List ℕ) (live after : Live) (id : ℕ) (c : Clause) → SameClauses after (with_clause live id c) → HasRoomForAll reserved live → HasRoom reserved c → HasRoomForAll reserved after
+room_with reserved live after id c same all room = record {
   each = λ k d at l member. by_place k d at l member (eqb k id) (live k) refl (subst (λ o. SameAt o (with_clause live id c k)) at (same.at k));
 }
   where
-    by_place : (k : ℕ) (d : Clause) → after k ≡ Some d → (l : Literal) → has d l ≡ true → (b : Bool) (o : Option Clause) → live k ≡ o → SameAt (Some d) (cond b (Some c) o) → has met (l / 2) ≡ true
+    by_place : (k : ℕ) (d : Clause) → after k ≡ Some d → (l : Literal) → has d l ≡ true → (b : Bool) (o : Option Clause) → live k ≡ o → SameAt (Some d) (cond b (Some c) o) → has reserved (l / 2) ≡ true
     by_place k d at l member true o e s = room l (same_there d c s l member)
     by_place k d at l member false (Some f) e s = all.each k f e l (same_there d f s l member)
     by_place k d at l member false None e s = absurd s
 
-pub room_more : (met more : List ℕ) (live : Live) → ((v : ℕ) → has met v ≡ true → has more v ≡ true) → HasRoomForAll met live → HasRoomForAll more live
-room_more met more live within all = record { each = λ k c at l member. within (l / 2) (all.each k c at l member) }
+pub room_more : (reserved more : List ℕ) (live : Live) → ((v : ℕ) → has reserved v ≡ true → has more v ≡ true) → HasRoomForAll reserved live → HasRoomForAll more live
+room_more reserved more live within all = record { each = λ k c at l member. within (l / 2) (all.each k c at l member) }
 
-pub ready_with : (trues : TrailState) (live after : Live) (id : ℕ) (c : Clause) → SameClauses after (with_clause live id c) → IsReady live trues → HasRoom trues.met c → IsReady after trues
-ready_with trues live after id c same ready room = record { none_true = ready.none_true; room = room_with trues.met live after id c same ready.room room }
+pub ready_with : (trues : TrailState) (live after : Live) (id : ℕ) (c : Clause) → SameClauses after (with_clause live id c) → IsReady live trues → HasRoom trues.reserved c → IsReady after trues
+ready_with trues live after id c same ready room = record { none_true = ready.none_true; room = room_with trues.reserved live after id c same ready.room room }
 
 -- ---- Clauses that are taken off
 
@@ -60,8 +60,8 @@ deleted_live state step hints after kind_is hints_are is =
     ∙ ap (λ hs. without_ids state.live (map nat_abs hs) k) hints_are
     ∙ sym (ap (λ kind. (after_lrat state (step_of kind step.id step.lits step.hints)).live k) kind_is))
 
-pub ready_roomed : (before after : TrailState) (live : Live) → after.lits ≡ before.lits → ((v : ℕ) → has before.met v ≡ true → has after.met v ≡ true) → IsReady live before → IsReady live after
-ready_roomed before after live same within ready = record { none_true = same ∙ ready.none_true; room = room_more before.met after.met live within ready.room }
+pub ready_roomed : (before after : TrailState) (live : Live) → after.lits ≡ before.lits → ((v : ℕ) → has before.reserved v ≡ true → has after.reserved v ≡ true) → IsReady live before → IsReady live after
+ready_roomed before after live same within ready = record { none_true = same ∙ ready.none_true; room = room_more before.reserved after.reserved live within ready.room }
 
 pub on_ok : {X Y : Type 0} (r : Result X Y) (P Q : Type 0) → (P → Q) → OnOk r P → OnOk r Q
 on_ok (Ok x) P Q f p = f p

@@ -32,7 +32,7 @@ session_code =
 -- nothing is true, and there is room for all that may become true
 pub record IsReady (live : Live) (trues : TrailState) : Type 0 where
   pub none_true : trues.lits ≡ []
-  pub room : HasRoomForAll trues.met live
+  pub room : HasRoomForAll trues.reserved live
 
 abbrev pub state_of : Session → LratState
 state_of s = record { live = map.get s.live; top = s.top }

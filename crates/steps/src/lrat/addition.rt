@@ -29,13 +29,13 @@ fn judge_candidates(
     hints: &[i64],
 ) -> Result<Accepted, Refusal>
     requires quiet { IsFalse (conflicts trues.old.lits) }
-    requires room { HasRoomForAll trues.old.met (maps.get live.now.live) }
+    requires room { HasRoomForAll trues.old.reserved (maps.get live.now.live) }
     requires none_named { named.old ≡ [] }
     ensures answer { UnlessOutOfMemory result
         (AnswersGroups (maps.get live.now.live) trues.old.lits pivot (groups_of hints.now)
         (groups_refusal (maps.get live.now.live) trues.old.lits pivot [] (groups_of hints.now))
         result) }
-    ensures met { SameSet trues.new.met trues.old.met }
+    ensures reserved { SameSet trues.new.reserved trues.old.reserved }
 {
     match judge_groups(live, trues, pivot, named, hints)? {
         Some(refusal) => Err(refusal),
@@ -55,12 +55,12 @@ fn judge_rat(
     hints: &[i64],
 ) -> Result<Accepted, Refusal>
     requires quiet { IsFalse (conflicts trues.old.lits) }
-    requires room { HasRoomForAll trues.old.met (maps.get live.now.live) }
+    requires room { HasRoomForAll trues.old.reserved (maps.get live.now.live) }
     ensures answer { UnlessOutOfMemory result
         (AnswersGroups (maps.get live.now.live) trues.old.lits pivot (groups_of hints.now)
         (groups_refusal (maps.get live.now.live) trues.old.lits pivot [] (groups_of hints.now))
         result) }
-    ensures met { SameSet trues.new.met trues.old.met }
+    ensures reserved { SameSet trues.new.reserved trues.old.reserved }
 {
     let mut named = Named::new(alloc);
     judge_candidates(live, trues, pivot, &mut named, hints)
@@ -69,12 +69,12 @@ fn judge_rat(
 /// Walks over the unit hints from where the clause is false.
 fn walk_units(live: &LiveClauses, trues: &mut Trail, clause: &[Lit], hints: &[i64]) -> WalkEnd
     requires none_true { trues.old.lits ≡ [] }
-    requires room { HasRoomForAll trues.old.met (maps.get live.now.live) }
-    requires clause_room { HasRoom trues.old.met clause.now }
+    requires room { HasRoomForAll trues.old.reserved (maps.get live.now.live) }
+    requires clause_room { HasRoom trues.old.reserved clause.now }
     ensures end { IsEnd trues.new.lits result (chain (maps.get live.now.live)
         (complements clause.now) (units_of hints.now)) }
     ensures quiet { IsFalse (conflicts trues.new.lits) }
-    ensures met { SameSet trues.new.met trues.old.met }
+    ensures reserved { SameSet trues.new.reserved trues.old.reserved }
 {
     if trues.make_false(clause, &Whole) {
         return WalkEnd::Conflict;
@@ -91,12 +91,12 @@ pub(crate) fn judge_addition(
     hints: &[i64],
 ) -> Result<Accepted, Refusal>
     requires none_true { trues.old.lits ≡ [] }
-    requires room { HasRoomForAll trues.old.met (maps.get live.now.live) }
-    requires clause_room { HasRoom trues.old.met clause.now }
+    requires room { HasRoomForAll trues.old.reserved (maps.get live.now.live) }
+    requires clause_room { HasRoom trues.old.reserved clause.now }
     ensures answer { UnlessOutOfMemory result (AnswersChain (maps.get live.now.live) clause.now
         (groups_of hints.now) (chain (maps.get live.now.live) (complements clause.now)
         (units_of hints.now)) result) }
-    ensures met { SameSet trues.new.met trues.old.met }
+    ensures reserved { SameSet trues.new.reserved trues.old.reserved }
 {
     match walk_units(live, trues, clause, hints) {
         WalkEnd::Conflict => Ok(word_of(clause)),

@@ -26,12 +26,12 @@ fn walk_group(
     hints: &[i64],
 ) -> WalkEnd
     requires quiet { IsFalse (conflicts trues.old.lits) }
-    requires room { HasRoomForAll trues.old.met (maps.get live.now.live) }
-    requires candidate_room { HasRoom trues.old.met candidate.now }
+    requires room { HasRoomForAll trues.old.reserved (maps.get live.now.live) }
+    requires candidate_room { HasRoom trues.old.reserved candidate.now }
     ensures end { IsGroupEnd (maps.get live.now.live) trues.old.lits candidate.now opposite
         (units_of hints.now) result }
     ensures lits { trues.new.lits ≡ trues.old.lits }
-    ensures met { SameSet trues.new.met trues.old.met }
+    ensures reserved { SameSet trues.new.reserved trues.old.reserved }
 {
     let start = trues.len();
     let end = if trues.make_false(candidate, &Except(opposite)) {
@@ -53,7 +53,7 @@ fn judge_group(
     hints: &[i64],
 ) -> Result<Option<Refusal>, AllocError>
     requires quiet { IsFalse (conflicts trues.old.lits) }
-    requires room { HasRoomForAll trues.old.met (maps.get live.now.live) }
+    requires room { HasRoomForAll trues.old.reserved (maps.get live.now.live) }
     ensures refusal { IfOk result (λ refusal. refusal ≡ group_refusal
         (maps.get live.now.live) trues.old.lits pivot named.old
         (record { candidate = candidate; hints = units_of hints.now })
@@ -63,7 +63,7 @@ fn judge_group(
     ensures holds { IfOk result (λ refusal. IfNone refusal
         (Holds (maps.get live.now.live) (complement pivot) candidate)) }
     ensures lits { trues.new.lits ≡ trues.old.lits }
-    ensures met { SameSet trues.new.met trues.old.met }
+    ensures reserved { SameSet trues.new.reserved trues.old.reserved }
 {
     let Some(clause) = live.get(candidate) else {
         return Ok(Some(Refusal::UnknownId(candidate)));
@@ -88,7 +88,7 @@ pub(crate) fn judge_groups(
     hints: &[i64],
 ) -> Result<Option<Refusal>, AllocError>
     requires quiet { IsFalse (conflicts trues.old.lits) }
-    requires room { HasRoomForAll trues.old.met (maps.get live.now.live) }
+    requires room { HasRoomForAll trues.old.reserved (maps.get live.now.live) }
     requires none_named { named.old ≡ [] }
     ensures refusal { IfOk result (λ refusal. refusal ≡ groups_refusal
         (maps.get live.now.live) trues.old.lits pivot [] (groups_of hints.now)) }
@@ -98,7 +98,7 @@ pub(crate) fn judge_groups(
         ((k : ℕ) → IsTrue (has named.new k) →
         Holds (maps.get live.now.live) (complement pivot) k)) }
     ensures lits { trues.new.lits ≡ trues.old.lits }
-    ensures met { SameSet trues.new.met trues.old.met }
+    ensures reserved { SameSet trues.new.reserved trues.old.reserved }
 {
     for (i, hint) in hints.iter().enumerate() {
         if *hint < 0 {
@@ -121,10 +121,10 @@ pub(crate) fn judge_groups(
 /// Whether the clause is a candidate that gives no conflict at once. The true literals stay as they were.
 fn needs_group(trues: &mut Trail, opposite: Lit, clause: &[Lit]) -> bool
     requires quiet { IsFalse (conflicts trues.old.lits) }
-    requires room { HasRoom trues.old.met clause.now }
+    requires room { HasRoom trues.old.reserved clause.now }
     ensures needs { result ≡ needs_group_at trues.old.lits opposite clause.now }
     ensures lits { trues.new.lits ≡ trues.old.lits }
-    ensures met { SameSet trues.new.met trues.old.met }
+    ensures reserved { SameSet trues.new.reserved trues.old.reserved }
 {
     if !clause.contains(&opposite) {
         return false;
@@ -143,12 +143,12 @@ pub(crate) fn first_left_out(
     named: &Named,
 ) -> Option<u64>
     requires quiet { IsFalse (conflicts trues.old.lits) }
-    requires room { HasRoomForAll trues.old.met (maps.get live.now.live) }
+    requires room { HasRoomForAll trues.old.reserved (maps.get live.now.live) }
     requires hold { (k : ℕ) → IsTrue (has named.now k) →
         Holds (maps.get live.now.live) (complement pivot) k }
     ensures first { IsFirstLeftOut (maps.get live.now.live) trues.old.lits pivot named.now result }
     ensures lits { trues.new.lits ≡ trues.old.lits }
-    ensures met { SameSet trues.new.met trues.old.met }
+    ensures reserved { SameSet trues.new.reserved trues.old.reserved }
 {
     let opposite = pivot.neg();
     // Each named clause holds the complement, so these are the others that do.

@@ -53,13 +53,13 @@ fn named_at<'a>(live: &'a LiveClauses, hints: &[i64], place: usize) -> Option<&'
 /// Clauses lie far apart in memory, so each is looked up before the walk over the one before it, which goes on meanwhile.
 pub(crate) fn walk(live: &LiveClauses, trues: &mut Trail, hints: &[i64]) -> WalkEnd
     requires quiet { IsFalse (conflicts trues.old.lits) }
-    requires room { HasRoomForAll trues.old.met (maps.get live.now.live) }
+    requires room { HasRoomForAll trues.old.reserved (maps.get live.now.live) }
     ensures end { IsEnd trues.new.lits result (chain (maps.get live.now.live) trues.old.lits
         (units_of hints.now)) }
     ensures quiet { IsFalse (conflicts trues.new.lits) }
     ensures begins { take (length trues.old.lits) trues.new.lits ≡ trues.old.lits }
     ensures longer { length trues.old.lits ≤ length trues.new.lits }
-    ensures met { SameSet trues.new.met trues.old.met }
+    ensures reserved { SameSet trues.new.reserved trues.old.reserved }
 {
     let mut next = named_at(live, hints, 0);
     for (i, hint) in hints.iter().enumerate() {

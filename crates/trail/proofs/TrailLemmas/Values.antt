@@ -132,23 +132,23 @@ distinct_size (v ∷ vs) apart =
     ])
 
 -- there are at most as many literals as different variables
-pub fits_different : (lits met : List ℕ) → HasNoVariableTwice lits → ((v : ℕ) → has (map variable lits) v ≡ true → has met v ≡ true) → length lits ≤ size met
-fits_different lits met different within =
-    let covered = size_covered (map variable lits) met within in
+pub fits_different : (lits reserved : List ℕ) → HasNoVariableTwice lits → ((v : ℕ) → has (map variable lits) v ≡ true → has reserved v ≡ true) → length lits ≤ size reserved
+fits_different lits reserved different within =
+    let covered = size_covered (map variable lits) reserved within in
     let each = distinct_size (map variable lits) different in
     let long = length-map lits variable in
     omega (arith, covered, each, long)
 
 -- where no variable is there twice, there are at most as many literals as variables
-pub fits_within : (lits met : List ℕ) → HasNoVariableTwice lits → ((v : ℕ) → has (map variable lits) v ≡ true → has met v ≡ true) → length lits ≤ length met
-fits_within lits met different within =
-    let most = length-le_from_is_member nat_eq_equiv (map variable lits) met different (λ v h. sym (has_any met v) ∙ within v (has_any (map variable lits) v ∙ h)) in
+pub fits_within : (lits reserved : List ℕ) → HasNoVariableTwice lits → ((v : ℕ) → has (map variable lits) v ≡ true → has reserved v ≡ true) → length lits ≤ length reserved
+fits_within lits reserved different within =
+    let most = length-le_from_is_member nat_eq_equiv (map variable lits) reserved different (λ v h. sym (has_any reserved v) ∙ within v (has_any (map variable lits) v ∙ h)) in
     let long = length-map lits variable in
     omega (arith, most, long)
 
-pub trail_empty : {T : Type 0} (lits met : List ℕ) (capacity : ℕ) (seen : ℕ → Option T) (value_of : Values) → lits ≡ [] → met ≡ [] → ((v : ℕ) → seen v ≡ None) → ((k : ℕ) → value_of k ≡ None) → IsTrail lits met capacity seen value_of
+pub trail_empty : {T : Type 0} (lits reserved : List ℕ) (capacity : ℕ) (seen : ℕ → Option T) (value_of : Values) → lits ≡ [] → reserved ≡ [] → ((v : ℕ) → seen v ≡ None) → ((k : ℕ) → value_of k ≡ None) → IsTrail lits reserved capacity seen value_of
 unfolding IsDistinct
-trail_empty lits met capacity seen value_of no_lits none_met none_seen none = rw (no_lits, none_met) (record {
+trail_empty lits reserved capacity seen value_of no_lits none_met none_seen none = rw (no_lits, none_met) (record {
   different = tt;
   within = λ v h. h;
   fits = omega arith;
@@ -188,17 +188,17 @@ module _ (l : ℕ) (a b : Value) (value_of first after : Values)
     ]
   ]
 
-within_pushed : (lits met : List ℕ) (l : ℕ) → ((v : ℕ) → has (map variable lits) v ≡ true → has met v ≡ true) → has met (variable l) ≡ true → (v : ℕ) → has (map variable (lits ++ l ∷ [])) v ≡ true → has met v ≡ true
-within_pushed lits met l within here v h =
+within_pushed : (lits reserved : List ℕ) (l : ℕ) → ((v : ℕ) → has (map variable lits) v ≡ true → has reserved v ≡ true) → has reserved (variable l) ≡ true → (v : ℕ) → has (map variable (lits ++ l ∷ [])) v ≡ true → has reserved v ≡ true
+within_pushed lits reserved l within here v h =
     elim (or_cases (has (map variable lits) v) (eqb (variable l) v) (sym (has_push (map variable lits) (variable l) v) ∙ ap (λ vs. has vs v) (sym (map-append variable lits (l ∷ []))) ∙ h)) [
       | inl old ↦ within v old
-      | inr new ↦ subst (λ w. has met w ≡ true) (eqb-true (variable l) v new) here
+      | inr new ↦ subst (λ w. has reserved w ≡ true) (eqb-true (variable l) v new) here
     ]
 
-module _ {T : Type 0} (lits met : List ℕ) (capacity : ℕ) (seen : ℕ → Option T) (value_of : Values) (trail : IsTrail lits met capacity seen value_of) where
+module _ {T : Type 0} (lits reserved : List ℕ) (capacity : ℕ) (seen : ℕ → Option T) (value_of : Values) (trail : IsTrail lits reserved capacity seen value_of) where
   -- there is more room, for literals and for values
   pub trail_wider : (more : ℕ) (seen_too : ℕ → Option T) (after : Values) → capacity ≤ more → ((v : ℕ) → is_some (seen_too v) ≡ is_some (seen v)) →
-      ((k : ℕ) → known_value (after k) ≡ known_value (value_of k)) → ((k : ℕ) → is_some (value_of k) ≡ true → is_some (after k) ≡ true) → IsTrail lits met more seen_too after
+      ((k : ℕ) → known_value (after k) ≡ known_value (value_of k)) → ((k : ℕ) → is_some (value_of k) ≡ true → is_some (after k) ≡ true) → IsTrail lits reserved more seen_too after
   trail_wider more seen_too after wide same_seen same kept = record {
     different = trail.different;
     within = trail.within;
@@ -208,14 +208,14 @@ module _ {T : Type 0} (lits met : List ℕ) (capacity : ℕ) (seen : ℕ → Opt
     values = λ l. same l ∙ trail.values l;
   }
 
-  -- one more variable is met
-  module _ (v : ℕ) (value : T) (seen_too : ℕ → Option T) (puts : (k : ℕ) → seen_too k ≡ cond (eqb k v) (Some value) (seen k)) (room : length met < capacity)
+  -- one more variable is reserved
+  module _ (v : ℕ) (value : T) (seen_too : ℕ → Option T) (puts : (k : ℕ) → seen_too k ≡ cond (eqb k v) (Some value) (seen k)) (room : length reserved < capacity)
       (positive : is_some (value_of (2 * v)) ≡ true) (negative : is_some (value_of (2 * v + 1)) ≡ true) where
     of_v : (l : ℕ) → variable l ≡ v → (l ≡ 2 * v) ⊎ (l ≡ 2 * v + 1)
     of_v l e = grind (arith, nat_tests, e)
 
-    known_both : (l : ℕ) → has (met ++ v ∷ []) (variable l) ≡ true → is_some (value_of l) ≡ true
-    known_both l h = elim (or_cases (has met (variable l)) (eqb v (variable l)) (sym (has_push met v (variable l)) ∙ h)) [
+    known_both : (l : ℕ) → has (reserved ++ v ∷ []) (variable l) ≡ true → is_some (value_of l) ≡ true
+    known_both l h = elim (or_cases (has reserved (variable l)) (eqb v (variable l)) (sym (has_push reserved v (variable l)) ∙ h)) [
       | inl old ↦ trail.known l old
       | inr new ↦ elim (of_v l (sym (eqb-true v (variable l) new))) [
         | inl even ↦ ap (λ k. is_some (value_of k)) even ∙ positive
@@ -223,46 +223,46 @@ module _ {T : Type 0} (lits met : List ℕ) (capacity : ℕ) (seen : ℕ → Opt
       ]
     ]
 
-    noted_too : (w : ℕ) → is_some (seen_too w) ≡ has (met ++ v ∷ []) w
+    noted_too : (w : ℕ) → is_some (seen_too w) ≡ has (reserved ++ v ∷ []) w
     noted_too w = elim (cases_eq w v) [
-      | inl same ↦ ap is_some (puts w ∙ ap (λ b. cond b (Some value) (seen w)) (eq-eqb w v same)) ∙ sym (has_push met v w ∙ or_right (has met w) (eqb v w) (eq-eqb v w (sym same)))
+      | inl same ↦ ap is_some (puts w ∙ ap (λ b. cond b (Some value) (seen w)) (eq-eqb w v same)) ∙ sym (has_push reserved v w ∙ or_right (has reserved w) (eqb v w) (eq-eqb v w (sym same)))
       | inr other ↦
           ap is_some (puts w ∙ ap (λ b. cond b (Some value) (seen w)) (ne_eqb w v other)) ∙ trail.noted w
-          ∙ sym (has_push met v w ∙ ap (λ b. has met w || b) (ne_eqb v w (λ e. other (sym e))) ∙ or_nothing (has met w))
+          ∙ sym (has_push reserved v w ∙ ap (λ b. has reserved w || b) (ne_eqb v w (λ e. other (sym e))) ∙ or_nothing (has reserved w))
     ]
 
-    pub trail_met : IsTrail lits (met ++ v ∷ []) capacity seen_too value_of
-    trail_met = record {
+    pub trail_reserved : IsTrail lits (reserved ++ v ∷ []) capacity seen_too value_of
+    trail_reserved = record {
       different = trail.different;
-      within = λ w h. has_append_left met (v ∷ []) w (trail.within w h);
-      fits = let e = length-append met (v ∷ []) in omega (arith, e, room);
+      within = λ w h. has_append_left reserved (v ∷ []) w (trail.within w h);
+      fits = let e = length-append reserved (v ∷ []) in omega (arith, e, room);
       noted = noted_too;
       known = known_both;
       values = trail.values;
     }
 
-  -- each literal's variable was met, and no variable is there twice, so that there is room for one more where it is open
-  pub room_for : (l : ℕ) → value_under lits l ≡ Open → has met (variable l) ≡ true → length lits < capacity
+  -- each literal's variable was reserved, and no variable is there twice, so that there is room for one more where it is open
+  pub room_for : (l : ℕ) → value_under lits l ≡ Open → has reserved (variable l) ≡ true → length lits < capacity
   room_for l is_open here =
-      let most = fits_within (lits ++ l ∷ []) met (different_pushed lits l is_open trail.different) (within_pushed lits met l trail.within here) in
+      let most = fits_within (lits ++ l ∷ []) reserved (different_pushed lits l is_open trail.different) (within_pushed lits reserved l trail.within here) in
       let fits = trail.fits in
       let more = length-append lits (l ∷ []) in
       omega (arith, most, fits, more)
 
-  -- both literals of a variable that was met have a value
-  pub both_known : (l : ℕ) → has met (variable l) ≡ true → (is_some (value_of l) ≡ true) × (is_some (value_of (complement l)) ≡ true)
-  both_known l here = (trail.known l here, trail.known (complement l) (ap (has met) (variable-complement l) ∙ here))
+  -- both literals of a variable that was reserved have a value
+  pub both_known : (l : ℕ) → has reserved (variable l) ≡ true → (is_some (value_of l) ≡ true) × (is_some (value_of (complement l)) ≡ true)
+  both_known l here = (trail.known l here, trail.known (complement l) (ap (has reserved) (variable-complement l) ∙ here))
 
-  module _ (l : ℕ) (is_open : value_under lits l ≡ Open) (here : has met (variable l) ≡ true) (first after : Values)
+  module _ (l : ℕ) (is_open : value_under lits l ≡ Open) (here : has reserved (variable l) ≡ true) (first after : Values)
       (makes_true : (k : ℕ) → first k ≡ cond (eqb k l) (Some True) (value_of k))
       (makes_false : (k : ℕ) → after k ≡ cond (eqb k (complement l)) (Some False) (first k)) where
-    pub trail_set : IsTrail (lits ++ l ∷ []) met capacity seen after
+    pub trail_set : IsTrail (lits ++ l ∷ []) reserved capacity seen after
     trail_set =
         let known = both_known l here in
         let some = written_some l True False value_of first after makes_true makes_false known.0 known.1 in
         record {
           different = different_pushed lits l is_open trail.different;
-          within = within_pushed lits met l trail.within here;
+          within = within_pushed lits reserved l trail.within here;
           fits = trail.fits;
           noted = trail.noted;
           known = λ k h. some k ∙ trail.known k h;
@@ -272,14 +272,14 @@ module _ {T : Type 0} (lits met : List ℕ) (capacity : ℕ) (seen : ℕ → Opt
               ∙ sym (value_pushed lits l is_open k);
         }
 
-module _ {T : Type 0} (front rest met : List ℕ) (capacity : ℕ) (seen : ℕ → Option T) (value_of : Values) (trail : IsTrail (front ++ rest) met capacity seen value_of) where
+module _ {T : Type 0} (front rest reserved : List ℕ) (capacity : ℕ) (seen : ℕ → Option T) (value_of : Values) (trail : IsTrail (front ++ rest) reserved capacity seen value_of) where
   -- both literals of each variable that was set have a value
   pub last_known : (l : ℕ) → has rest l ≡ true → (is_some (value_of l) ≡ true) × (is_some (value_of (complement l)) ≡ true)
-  last_known l h = both_known (front ++ rest) met capacity seen value_of trail l (trail.within (variable l) (has_mapped (front ++ rest) l (has_append_right front rest l h)))
+  last_known l h = both_known (front ++ rest) reserved capacity seen value_of trail l (trail.within (variable l) (has_mapped (front ++ rest) l (has_append_right front rest l h)))
 
   module _ (after : Values) (known : (k : ℕ) → is_some (after k) ≡ is_some (value_of k))
       (opened : (k : ℕ) → known_value (after k) ≡ cond (has rest k || has rest (complement k)) Open (known_value (value_of k))) where
-    pub trail_taken : IsTrail front met capacity seen after
+    pub trail_taken : IsTrail front reserved capacity seen after
     trail_taken = record {
       different = different_front front rest trail.different;
       within = λ v h. trail.within v (ap (λ vs. has vs v) (map-append variable front rest) ∙ has_append_left (map variable front) (map variable rest) v h);
@@ -290,9 +290,9 @@ module _ {T : Type 0} (front rest met : List ℕ) (capacity : ℕ) (seen : ℕ �
     }
 
 -- the trail as what stays and what is taken back
-pub trail_cut : {T : Type 0} (lits shown met : List ℕ) (capacity : ℕ) (seen : ℕ → Option T) (value_of : Values) → shown ≡ lits → IsTrail lits met capacity seen value_of → (n : ℕ) →
-    IsTrail (take n shown ++ take (length shown - n) (drop n shown)) met capacity seen value_of
-trail_cut lits shown met capacity seen value_of same trail n = subst (λ ls. IsTrail ls met capacity seen value_of) (sym same ∙ front_and_rest shown n) trail
+pub trail_cut : {T : Type 0} (lits shown reserved : List ℕ) (capacity : ℕ) (seen : ℕ → Option T) (value_of : Values) → shown ≡ lits → IsTrail lits reserved capacity seen value_of → (n : ℕ) →
+    IsTrail (take n shown ++ take (length shown - n) (drop n shown)) reserved capacity seen value_of
+trail_cut lits shown reserved capacity seen value_of same trail n = subst (λ ls. IsTrail ls reserved capacity seen value_of) (sym same ∙ front_and_rest shown n) trail
 
 -- ---- Literals made open, one after the other
 

@@ -17,13 +17,13 @@ value_at values l = option_or (slice_get values.dense.items l) (at values.far l)
 abbrev pub known_value : Option Value → Value
 known_value o = unwrap_or o Open
 
--- just the variables that were met are seen, and both literals of each have a value, which is what
+-- just the variables that were reserved are seen, and both literals of each have a value, which is what
 -- the trail says of them; it has no variable twice, and room for one literal of each
-pub record IsTrail {T : Type 0} (lits : List Literal) (met : List ℕ) (capacity : ℕ)
+pub record IsTrail {T : Type 0} (lits : List Literal) (reserved : List ℕ) (capacity : ℕ)
     (seen : ℕ → Option T) (value_of : ℕ → Option Value) : Type 0 where
   pub different : HasNoVariableTwice lits
-  pub within : (v : ℕ) → IsTrue (has (map variable lits) v) → IsTrue (has met v)
-  pub fits : length met ≤ capacity
-  pub noted : (v : ℕ) → is_some (seen v) ≡ has met v
-  pub known : (l : Literal) → IsTrue (has met (variable l)) → IsSome (value_of l)
+  pub within : (v : ℕ) → IsTrue (has (map variable lits) v) → IsTrue (has reserved v)
+  pub fits : length reserved ≤ capacity
+  pub noted : (v : ℕ) → is_some (seen v) ≡ has reserved v
+  pub known : (l : Literal) → IsTrue (has reserved (variable l)) → IsSome (value_of l)
   pub values : (l : Literal) → known_value (value_of l) ≡ value_under lits l

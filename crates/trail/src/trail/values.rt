@@ -157,7 +157,7 @@ impl Values {
         Ok(())
     }
 
-    /// Makes room for both literals of a variable, where so many variables were met.
+    /// Makes room for both literals of a variable, where so many variables were reserved.
     pub(crate) fn reserve(&mut self, l: Lit, count: usize) -> Result<(), OutOfMemory>
         ensures same { (k : ℕ) →
             known_value (value_at self.new k) ≡ known_value (value_at self.old k) }

@@ -23,8 +23,8 @@ module _ (live : FinMap nat_cmp Clause) (slot : ℕ) where
   stored_there shown same alive = sym (alive_alike live slot) ∙ ap (λ m. is_some (maps.get m slot)) same ∙ alive
 
   -- and room for it
-  pub stored_room : (met : List ℕ) → HasRoomForAll met (maps.get (each_in_order live)) → is_some (maps.get live slot) ≡ true → (l : Literal) → has (unwrap_or (maps.get live slot) []) l ≡ true → has met (l / 2) ≡ true
-  stored_room met room alive l member =
+  pub stored_room : (reserved : List ℕ) → HasRoomForAll reserved (maps.get (each_in_order live)) → is_some (maps.get live slot) ≡ true → (l : Literal) → has (unwrap_or (maps.get live slot) []) l ≡ true → has reserved (l / 2) ≡ true
+  stored_room reserved room alive l member =
       let d = alive_clause live slot alive in
       room.each slot (in_order d.0) (seen_there live slot d.0 d.1) l (has-in_order d.0 l ∙ ap (λ o. has (unwrap_or o []) l) (sym d.1) ∙ member)
 

@@ -27,7 +27,7 @@ use Rattle.watch.proofs.WatchLemmas.Reasons.{reasoned_more, reasoned_same}
 use Rattle.clause_db.proofs.StoreLemmas.Swap.{has_swapped}
 
 pub extends_none : (held : AssumptionsState) → Extends held held
-extends_none held = record { begins = take_all (length held.trail.lits) held.trail.lits (omega arith); longer = omega arith; met = λ v. refl; assumptions = refl; starts = refl }
+extends_none held = record { begins = take_all (length held.trail.lits) held.trail.lits (omega arith); longer = omega arith; reserved = λ v. refl; assumptions = refl; starts = refl }
 
 pub propagates_none : (live : FinMap nat_cmp Clause) (held : AssumptionsState) (reason_of : Literal → Option ℕ) → PropagatesTo live live held held reason_of reason_of
 propagates_none live held reason_of = record {
@@ -93,14 +93,14 @@ module _ (live : FinMap nat_cmp Clause) (held : AssumptionsState) (slot : ℕ) (
         (λ k h ne. forced_assumed (maps.get (each_in_order live)) held.trail.lits (complement k) (others k (sym (has-in_order c k) ∙ h) ne))
 
     pub propagates_unit : (after : AssumptionsState) (is_open : Bool) → is_open ≡ not (has held.trail.lits m) → after.trail.lits ≡ cond is_open (held.trail.lits ++ m ∷ []) held.trail.lits →
-        SameSet after.trail.met held.trail.met → after.assumptions ≡ held.assumptions → after.starts ≡ held.starts → (reason_of reason_now : Literal → Option ℕ) →
+        SameSet after.trail.reserved held.trail.reserved → after.assumptions ≡ held.assumptions → after.starts ≡ held.starts → (reason_of reason_now : Literal → Option ℕ) →
         ((k : Literal) → reason_now k ≡ cond (is_open && eqb k m) (Some slot) (reason_of k)) → PropagatesTo live live held after reason_of reason_now
-    propagates_unit after is_open was is met assumptions starts reason_of reason_now reasons = record {
+    propagates_unit after is_open was is reserved assumptions starts reason_of reason_now reasons = record {
       same = refl;
       short = λ s. refl;
       kept = λ done trues p q w. w;
       sound = λ l h. by_open is_open is l h;
-      extends = extends_made held after m is_open was is met assumptions starts;
+      extends = extends_made held after m is_open was is reserved assumptions starts;
       noted = λ l h. ap is_some (reasons l) ∙ noted_set (is_open && eqb l m) (reason_of l) h;
       as_before = λ l h. reasons l ∙ kept_set is_open was l h (eqb l m) refl;
       reasoned = λ are. subst (AreReasoned (maps.get (each_in_order live)) reason_now) (sym is) (reasoned_set is_open was reasons are);

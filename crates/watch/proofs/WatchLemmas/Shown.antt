@@ -24,8 +24,8 @@ module _ (live : FinMap nat_cmp Clause) where
   pub forced_shown : (l : Literal) → Forced (maps.get live) [] l → Forced (maps.get (each_in_order live)) [] l
   forced_shown l = forced_covers (maps.get live) (maps.get (each_in_order live)) covers_shown [] l
 
-  pub room_held : (met : List ℕ) → HasRoomForAll met (maps.get (each_in_order live)) → HasRoomForAll met (maps.get live)
-  room_held met room = record { each = λ k c at l member. room.each k (in_order c) (seen_there live k c at) l (has-in_order c l ∙ member) }
+  pub room_held : (reserved : List ℕ) → HasRoomForAll reserved (maps.get (each_in_order live)) → HasRoomForAll reserved (maps.get live)
+  room_held reserved room = record { each = λ k c at l member. room.each k (in_order c) (seen_there live k c at) l (has-in_order c l ∙ member) }
 
   module _ (slot : ℕ) (d : Clause) (at : maps.get (each_in_order live) slot ≡ Some d) where
     pub reason_shown : ((c : Clause) → maps.get live slot ≡ Some c → IsRootReason (maps.get live) c) → IsRootReason (maps.get (each_in_order live)) d

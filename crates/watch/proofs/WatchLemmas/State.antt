@@ -121,13 +121,13 @@ module _ (live live2 : FinMap nat_cmp Clause) (lists lists2 : WatchLists) (short
 
   -- it is taken back
   pub watch_undone : (last : AssumptionsState) (all : Assumption) → found.assumptions ≡ all ∷ before.assumptions → found.starts ≡ length before.trail.lits ∷ before.starts → last.assumptions ≡ drop 1 found.assumptions →
-      last.starts ≡ drop 1 found.starts → last.trail.lits ≡ take (slice_index found.starts 0) found.trail.lits → SameSet last.trail.met before.trail.met → IsWatch live2 lists2 short roots2 last
-  watch_undone last all stand starts assumptions_are starts_are lits_are met =
+      last.starts ≡ drop 1 found.starts → last.trail.lits ≡ take (slice_index found.starts 0) found.trail.lits → SameSet last.trail.reserved before.trail.reserved → IsWatch live2 lists2 short roots2 last
+  watch_undone last all stand starts assumptions_are starts_are lits_are reserved =
       let same_assumptions = assumptions_are ∙ ap (drop 1) stand in
       let same_starts = starts_are ∙ ap (drop 1) starts in
       let same_lits = lits_are ∙ ap (λ ns. take (slice_index ns 0) found.trail.lits) starts ∙ begins_found in
       watch_with last
-      (held_reserved (each_in_order live) (AreForced (maps.get (each_in_order live))) before last same_lits same_assumptions same_starts (λ v h. met v ∙ h) watch.scan)
+      (held_reserved (each_in_order live) (AreForced (maps.get (each_in_order live))) before last same_lits same_assumptions same_starts (λ v h. reserved v ∙ h) watch.scan)
       (subst (λ ls. AreWatched (maps.get live2) ls last.assumptions last.starts) (sym same_lits)
       (subst (λ xs. AreWatched (maps.get live2) before.trail.lits xs last.starts) (sym same_assumptions)
       (subst (λ ns. AreWatched (maps.get live2) before.trail.lits before.assumptions ns) (sym same_starts) below)))
@@ -137,7 +137,7 @@ module _ (live live2 : FinMap nat_cmp Clause) (lists lists2 : WatchLists) (short
 -- ---- Where nothing changes but room and order
 
 pub watch_reserved : (live : FinMap nat_cmp Clause) (lists : WatchLists) (short : List ℕ) (roots : Roots) (before after : AssumptionsState) → after.trail.lits ≡ before.trail.lits → after.assumptions ≡ before.assumptions → after.starts ≡ before.starts →
-    ((v : ℕ) → has before.trail.met v ≡ true → has after.trail.met v ≡ true) → IsWatch live lists short roots before → IsWatch live lists short roots after
+    ((v : ℕ) → has before.trail.reserved v ≡ true → has after.trail.reserved v ≡ true) → IsWatch live lists short roots before → IsWatch live lists short roots after
 watch_reserved live lists short roots before after lits_are assumptions_are starts_are within watch = record {
   scan = held_reserved (each_in_order live) (AreForced (maps.get (each_in_order live))) before after lits_are assumptions_are starts_are within watch.scan;
   apart = watch.apart;
@@ -190,7 +190,7 @@ watch_same live lists after short roots held apart times fewer entries watch = r
 
 -- ---- Where nothing is assumed
 
-pub watch_alone : (live : FinMap nat_cmp Clause) (lists : WatchLists) (short : List ℕ) (roots : Roots) (held : AssumptionsState) → held.assumptions ≡ [] → HasRoomForAll held.trail.met (maps.get (each_in_order live)) →
+pub watch_alone : (live : FinMap nat_cmp Clause) (lists : WatchLists) (short : List ℕ) (roots : Roots) (held : AssumptionsState) → held.assumptions ≡ [] → HasRoomForAll held.trail.reserved (maps.get (each_in_order live)) →
     AreApart lists → IsListed (maps.get live) (list_at lists) → IsShortList (maps.get live) short → entries_in lists ≡ 2 * long_clauses live → length short ≡ short_clauses live → IsKept live roots held.trail.lits → IsWatch live lists short roots held
 watch_alone live lists short roots held nothing room apart listed rest two_each one_each kept = record {
   scan = record {
@@ -212,11 +212,11 @@ pub alone_kept : (live : FinMap nat_cmp Clause) (lists : WatchLists) (short : Li
 alone_kept live lists short roots held watch nothing = subst (IsKept live roots) (roots_alone held.trail.lits held.assumptions held.starts nothing) watch.kept
 
 -- it is brought up to date
-pub watch_refreshed : (live live2 : FinMap nat_cmp Clause) (lists lists2 : WatchLists) (short : List ℕ) (roots roots2 : Roots) (held held2 : AssumptionsState) → IsWatch live lists short roots held → held2.assumptions ≡ [] → SameSet held2.trail.met held.trail.met →
+pub watch_refreshed : (live live2 : FinMap nat_cmp Clause) (lists lists2 : WatchLists) (short : List ℕ) (roots roots2 : Roots) (held held2 : AssumptionsState) → IsWatch live lists short roots held → held2.assumptions ≡ [] → SameSet held2.trail.reserved held.trail.reserved →
     each_in_order live2 ≡ each_in_order live → ((s : ℕ) → short_for (maps.get live2 s) ≡ short_for (maps.get live s)) → AreApart lists2 → IsListed (maps.get live2) (list_at lists2) → entries_in lists2 ≡ entries_in lists →
     IsKept live2 roots2 held2.trail.lits → IsWatch live2 lists2 short roots2 held2
-watch_refreshed live live2 lists lists2 short roots roots2 held held2 watch nothing met same shorts apart listed entries kept =
-    watch_alone live2 lists2 short roots2 held2 nothing (record { each = λ k c here l member. met (l / 2) ∙ watch.scan.room.each k c (ap (λ m. maps.get m k) (sym same) ∙ here) l member }) apart listed
+watch_refreshed live live2 lists lists2 short roots roots2 held held2 watch nothing reserved same shorts apart listed entries kept =
+    watch_alone live2 lists2 short roots2 held2 nothing (record { each = λ k c here l member. reserved (l / 2) ∙ watch.scan.room.each k c (ap (λ m. maps.get m k) (sym same) ∙ here) l member }) apart listed
     (record { listed = λ s. watch.rest.listed s ∙ sym (shorts s) }) (entries ∙ watch.two_each ∙ ap (λ n. 2 * n) (sym (long_alike live live2 same))) (watch.one_each ∙ sym (short_alike live live2 same)) kept
 
 -- ---- No clauses
@@ -265,7 +265,7 @@ short_weight c different = ap (λ b. cond b 0 1) (long_is c different) ∙ by_te
     by_test false = refl
 
 module _ (live after : FinMap nat_cmp Clause) (lists lists2 : WatchLists) (short short2 : List ℕ) (roots roots2 : Roots) (held held2 : AssumptionsState) (watch : IsWatch live lists short roots held) (nothing : held2.assumptions ≡ [])
-    (slot : ℕ) (c : Clause) (different : size c ≡ length c) (apart : AreApart lists2) (room : HasRoomForAll held2.trail.met (maps.get (each_in_order after))) (kept : IsKept after roots2 held2.trail.lits) where
+    (slot : ℕ) (c : Clause) (different : size c ≡ length c) (apart : AreApart lists2) (room : HasRoomForAll held2.trail.reserved (maps.get (each_in_order after))) (kept : IsKept after roots2 held2.trail.lits) where
   two : entries_in lists2 ≡ 2 * long_clauses after → length short2 ≡ short_clauses after → IsListed (maps.get after) (list_at lists2) → IsShortList (maps.get after) short2 → IsWatch after lists2 short2 roots2 held2
   two two_each one_each listed rest = watch_alone after lists2 short2 roots2 held2 nothing room apart listed rest two_each one_each kept
 

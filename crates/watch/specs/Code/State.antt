@@ -19,7 +19,7 @@ use Rattle.watch.specs.declared.roots.Roots.{Roots}
 
 -- how many different variables there are
 abbrev pub variables_in : List ℕ → ℕ
-variables_in met = size met
+variables_in reserved = size reserved
 
 -- the tuple of its fields
 abbrev pub watch_code : Coded WatchState

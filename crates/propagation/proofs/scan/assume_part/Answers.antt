@@ -36,6 +36,6 @@ returns-clause-scan g c =
     let stand = c.answer.ensures.assumptions _ _ (p.extends.assumptions ∙ e.assumed.1) in
     let begins = begins_on before.trail.lits after.trail.lits found.trail.lits e.begins (longer_from before.trail.lits after.trail.lits e.begins) p.extends.begins in
     scan_after live (λ ls. ls ≡ []) (no_roots (maps.get live)) before after added c.requires.may c.requires.scan last answer all stand (c.answer.ensures.starts ∙ p.extends.starts ∙ e.starts)
-    (ap (λ t. take (length before.trail.lits) t.lits) c.answer.ensures.trail ∙ begins) (λ v. ap (λ t. has t.met v) c.answer.ensures.trail ∙ p.extends.met v ∙ e.met v)
+    (ap (λ t. take (length before.trail.lits) t.lits) c.answer.ensures.trail ∙ begins) (λ v. ap (λ t. has t.reserved v) c.answer.ensures.trail ∙ p.extends.reserved v ∙ e.reserved v)
     (λ quiet. subst (λ t. IsExact (maps.get live) all t.lits) (sym c.answer.ensures.trail)
     (part_exact live (λ ls. ls ≡ []) (no_roots (maps.get live)) before after added c.requires.may c.requires.scan same all found.trail.lits alike p.extends.begins p.sound (p.closed quiet)))

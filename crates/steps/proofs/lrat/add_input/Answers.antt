@@ -10,5 +10,5 @@ returns-clause-ready c =
     let after = maps.get c.add.new.self.live in
     let trues = c.reserve_all.new.self in
     on_ok c.add.result (SameClauses after (with_clause live c.args.id c.args.lits.now)) (IsReady after trues)
-    (λ same. ready_with trues live after c.args.id c.args.lits.now same (ready_roomed c.args.trues.now trues live c.in_ok-reserve_all.ensures.lits c.in_ok-reserve_all.ensures.met c.requires.ready) c.in_ok-reserve_all.ensures.room)
+    (λ same. ready_with trues live after c.args.id c.args.lits.now same (ready_roomed c.args.trues.now trues live c.in_ok-reserve_all.ensures.lits c.in_ok-reserve_all.ensures.reserved c.requires.ready) c.in_ok-reserve_all.ensures.room)
     c.add.ensures.live

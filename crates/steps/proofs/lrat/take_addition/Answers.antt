@@ -8,4 +8,4 @@ pub returns-clause-ready : goal.returns-clause-ready
 returns-clause-ready c =
     let trues = c.judge.new.trues in
     ready_with trues (maps.get c.args.held.now.live) (maps.get c.add.new.self.live) c.id-id.result c.lits.result.now c.in_ok-add.ensures.live c.judge.ensures.ready
-    (subst (HasRoom trues.met) (sym c.lits.ensures) c.in_ok-word.ensures.room)
+    (subst (HasRoom trues.reserved) (sym c.lits.ensures) c.in_ok-word.ensures.room)

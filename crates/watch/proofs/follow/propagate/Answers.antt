@@ -35,10 +35,10 @@ returns-in-Some-clause-propagates c =
 
 pub loop-done-smaller : goal.loop-done-smaller
 loop-done-smaller c =
-    let met = c.args.assumptions.now.trail.met in
+    let reserved = c.args.assumptions.now.trail.reserved in
     let held = c.loop-done.assumptions in
-    let within = subst (λ t. (v : ℕ) → has (map variable t.lits) v ≡ true → has t.met v ≡ true) c.trail.ensures c.len.ensures.within in
-    let fits = fits_within held.trail.lits met (subst (λ t. HasNoVariableTwice t.lits) c.trail.ensures c.len.ensures.different) (λ v h. sym (c.loop-done.invariant.propagates.extends.met v) ∙ within v h) in
+    let within = subst (λ t. (v : ℕ) → has (map variable t.lits) v ≡ true → has t.reserved v ≡ true) c.trail.ensures c.len.ensures.within in
+    let fits = fits_within held.trail.lits reserved (subst (λ t. HasNoVariableTwice t.lits) c.trail.ensures c.len.ensures.different) (λ v h. sym (c.loop-done.invariant.propagates.extends.reserved v) ∙ within v h) in
     let low = c.loop-done-test.true in
     let n = c.len.ensures.value ∙ ap (λ t. length t.lits) c.trail.ensures in
     omega (arith, fits, low, n)

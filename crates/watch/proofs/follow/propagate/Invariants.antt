@@ -17,4 +17,4 @@ invariant-loop-done l = record {
 }
 
 abbrev pub decreases-loop-done : goal.decreases-loop-done
-decreases-loop-done l = length l.fn.assumptions.trail.met - l.done
+decreases-loop-done l = length l.fn.assumptions.trail.reserved - l.done

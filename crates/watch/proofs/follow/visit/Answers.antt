@@ -59,8 +59,8 @@ move_watch-requires-clause-clause c =
     let move = subst (λ t. IsVisit t.lits d c.args.l (Moves c.in-Moves.exchange)) c.trail-2.ensures c.in-Moves.ensures.visit in
     (d, ap live (sym at_is) ∙ sym c.clause.ensures.clause, sym c.clause.ensures.different, move.1, move.3, move.4, move.6)
 
-pub set_by-requires-clause-reserved : goal.set_by-requires-clause-reserved
-set_by-requires-clause-reserved c =
+pub set_by-requires-clause-met : goal.set_by-requires-clause-met
+set_by-requires-clause-met c =
     let live = c.args.store.now.live in
     let d = c.clause.result.now in
     let here = sym c.clause.ensures.clause in
@@ -140,7 +140,7 @@ returns-in-Unit-clause-propagates c =
     let d = c.clause.result.now in
     let unit = subst (λ t. IsVisit t.lits d c.args.l (Unit c.in-Unit.m)) c.trail-2.ensures c.in-Unit.ensures.visit in
     let e = c.set_by.ensures in
-    propagates_unit live c.args.assumptions.now c.at-at.result d (sym c.clause.ensures.clause) c.in-Unit.m unit.0 unit.2 c.set_by.new.assumptions c.set_by.result e.was_open e.lits e.met e.assumptions e.starts (at c.args.reasons.now) (at c.set_by.new.reasons)
+    propagates_unit live c.args.assumptions.now c.at-at.result d (sym c.clause.ensures.clause) c.in-Unit.m unit.0 unit.2 c.set_by.new.assumptions c.set_by.result e.was_open e.lits e.reserved e.assumptions e.starts (at c.args.reasons.now) (at c.set_by.new.reasons)
     (λ k. e.reasons k ∙ ap (λ n. cond (c.set_by.result && eqb k c.in-Unit.m) (Some n) (at c.args.reasons.now k)) (sym c.at-at.ensures))
 
 pub returns-in-Clash-clause-clash : goal.returns-in-Clash-clause-clash

@@ -14,7 +14,7 @@ use Rattle.watch.proofs.reason.is_reason_for_good.Goals as goal
 pub is_root_reason-requires-clause-room : goal.is_root_reason-requires-clause-room
 is_root_reason-requires-clause-room c =
     let live = c.args.store.now.live in
-    subst (λ t. HasRoomForAll t.met (maps.get live)) (sym c.trail-trail.ensures) (room_held live c.args.assumptions.now.trail.met c.requires.room)
+    subst (λ t. HasRoomForAll t.reserved (maps.get live)) (sym c.trail-trail.ensures) (room_held live c.args.assumptions.now.trail.reserved c.requires.room)
 
 pub is_root_reason-requires-clause-known : goal.is_root_reason-requires-clause-known
 is_root_reason-requires-clause-known c l h =
@@ -46,6 +46,6 @@ returns-clause-no c is_none clause at =
     (λ l forced.
     ap (λ t. has t.lits l) c.trail-trail.ensures
     ∙ ap (λ ls. has ls l) (sym alone)
-    ∙ all_forced live c.args.roots.now held.trail.lits held.assumptions held.starts c.is_sound.ensures.different apart
+    ∙ all_forced live c.args.roots.now held.trail.lits held.assumptions held.starts c.recall_invariant.ensures.different apart
     (subst (IsKept live c.args.roots.now) (sym alone) c.requires.kept) c.requires.up_to_date (sym c.has_clash.ensures ∙ c.if-has_clash.false) l (forced_shown live l forced))
     (sym (c.is_one_at_most.ensures ∙ ap (λ left. is_one_at_most left kept) c.left.ensures) ∙ is_none))

@@ -26,7 +26,7 @@ returns-in-None-clause-answer c = λ clash.
     let units = units_kept c.args.store.now.live after held c.propagate.new.assumptions (at c.args.reasons.now) (at c.propagate.new.reasons) e c.requires.units in
     let watched = subst (λ o. IfNone o (IsWatched (maps.get after) trues trues)) c.in-None.is c.in_ok-found.ensures.watched in
     let quiet = subst (λ o. IfNone o (conflicts trues ≡ false)) c.in-None.is c.in_ok-found.ensures.quiet in
-    all_quiet after trues c.is_sound.ensures.different units watched quiet held.trail.lits (λ l h. has_begun held.trail.lits trues l e.extends.begins h) (subst (λ m. Clash (maps.get m) held.trail.lits) (sym e.same) clash)
+    all_quiet after trues c.recall_invariant.ensures.different units watched quiet held.trail.lits (λ l h. has_begun held.trail.lits trues l e.extends.begins h) (subst (λ m. Clash (maps.get m) held.trail.lits) (sym e.same) clash)
 
 pub returns-in-None-clause-closed : goal.returns-in-None-clause-closed
 returns-in-None-clause-closed c = λ _.
@@ -37,4 +37,4 @@ returns-in-None-clause-closed c = λ _.
     let units = units_kept c.args.store.now.live after held c.propagate.new.assumptions (at c.args.reasons.now) (at c.propagate.new.reasons) e c.requires.units in
     let watched = subst (λ o. IfNone o (IsWatched (maps.get after) trues trues)) c.in-None.is c.in_ok-found.ensures.watched in
     let quiet = subst (λ o. IfNone o (conflicts trues ≡ false)) c.in-None.is c.in_ok-found.ensures.quiet in
-    subst (λ m. IsClosed (maps.get m) (λ l. has trues l)) e.same (all_closed after trues c.is_sound.ensures.different units watched quiet)
+    subst (λ m. IsClosed (maps.get m) (λ l. has trues l)) e.same (all_closed after trues c.recall_invariant.ensures.different units watched quiet)

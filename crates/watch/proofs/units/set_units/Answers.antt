@@ -33,7 +33,7 @@ set_by-requires-clause-reserved c =
     let live = c.args.store.now.live in
     let d = c.clause-clause.result.now in
     let member = ap (λ x. has x c.in-Some.l) c.in-Some.ensures.one ∙ has_head c.in-Some.l [] in
-    c.loop-place.invariant.propagates.extends.met _ ∙ c.requires.room.each c.at.result (in_order d) (seen_there live c.at.result d (sym c.clause-clause.ensures.clause)) c.in-Some.l (has-in_order d c.in-Some.l ∙ member)
+    c.loop-place.invariant.propagates.extends.reserved _ ∙ c.requires.room.each c.at.result (in_order d) (seen_there live c.at.result d (sym c.clause-clause.ensures.clause)) c.in-Some.l (has-in_order d c.in-Some.l ∙ member)
 
 pub set_by-requires-clause-noted : goal.set_by-requires-clause-noted
 set_by-requires-clause-noted c =
@@ -53,7 +53,7 @@ loop-place-preserved c =
     let here = sym c.clause-clause.ensures.clause in
     let slot_is = c.at.ensures in
     let member = ap (λ x. has x l) c.in-Some.ensures.one ∙ has_head l [] in
-    let step = propagates_unit live state c.at.result d here l member (λ k h ne. absurd (ne (sym (only_literal d l c.in-Some.ensures.one k h)))) c.set_by.new.assumptions c.set_by.result e.was_open e.lits e.met e.assumptions e.starts
+    let step = propagates_unit live state c.at.result d here l member (λ k h ne. absurd (ne (sym (only_literal d l c.in-Some.ensures.one k h)))) c.set_by.new.assumptions c.set_by.result e.was_open e.lits e.reserved e.assumptions e.starts
     (at c.loop-place.reasons) (at c.set_by.new.reasons) (λ k. e.reasons k ∙ ap (λ n. cond (c.set_by.result && eqb k l) (Some n) (at c.loop-place.reasons k)) (sym c.at.ensures)) in record {
       units = units_more (maps.get live) c.args.slots.now c.loop-place.place state.trail.lits c.set_by.new.assumptions.trail.lits c.loop-place-test.true
           (λ k h. has_begun state.trail.lits c.set_by.new.assumptions.trail.lits k step.extends.begins h) l (ap (maps.get live) (sym slot_is) ∙ here ∙ ap Some c.in-Some.ensures.one) (set_by state.trail.lits c.set_by.new.assumptions.trail.lits l c.set_by.result e.was_open e.lits) so_far.units;

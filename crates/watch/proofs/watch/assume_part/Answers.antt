@@ -49,7 +49,7 @@ returns-in-Ok-clause-watch g c =
     let begins = begins_on before.trail.lits after.trail.lits found.trail.lits e.begins (longer_from before.trail.lits after.trail.lits e.begins) extends.begins in
     watch_answered live c.run.new.store.live c.args.lists.now c.run.new.lists c.args.short.now c.args.roots.now _ before after found c.requires.watch p.propagates refl p.apart p.listed p.entries e.begins c.requires.up_to_date last answer all c.answer.ensures.trail stand starts p.watched
     (scan_after (each_in_order live) (AreForced (maps.get (each_in_order live))) (λ ls forced. forced) before after added c.requires.may c.requires.watch.scan last answer all stand starts
-    (ap (λ t. take (length before.trail.lits) t.lits) c.answer.ensures.trail ∙ begins) (λ v. ap (λ t. has t.met v) c.answer.ensures.trail ∙ extends.met v ∙ e.met v)
+    (ap (λ t. take (length before.trail.lits) t.lits) c.answer.ensures.trail ∙ begins) (λ v. ap (λ t. has t.reserved v) c.answer.ensures.trail ∙ extends.reserved v ∙ e.reserved v)
     (λ quiet. subst (λ t. IsExact (maps.get (each_in_order live)) all t.lits) (sym c.answer.ensures.trail)
     (part_exact (each_in_order live) (AreForced (maps.get (each_in_order live))) (λ ls forced. forced) before after added c.requires.may c.requires.watch.scan same all found.trail.lits alike extends.begins p.propagates.sound (p.closed quiet))))
 
@@ -60,7 +60,7 @@ returns-in-Err-clause-watch g c =
     let extends = p.propagates.extends in
     let u = c.undo.ensures in
     watch_undone c.args.store.now.live c.run.new.store.live c.args.lists.now c.run.new.lists c.args.short.now c.args.roots.now _ c.args.assumptions.now c.assume_from.new.assumptions c.run.new.assumptions c.requires.watch p.propagates refl p.apart p.listed p.entries e.begins
-    c.undo.new.self _ (extends.assumptions ∙ e.assumed.1) (extends.starts ∙ e.starts) u.assumptions u.starts u.lits (λ v. u.met v ∙ extends.met v ∙ e.met v)
+    c.undo.new.self _ (extends.assumptions ∙ e.assumed.1) (extends.starts ∙ e.starts) u.assumptions u.starts u.lits (λ v. u.reserved v ∙ extends.reserved v ∙ e.reserved v)
 
 pub returns-then-has_clash-clause-answer : goal.returns-then-has_clash-clause-answer
 returns-then-has_clash-clause-answer g c =

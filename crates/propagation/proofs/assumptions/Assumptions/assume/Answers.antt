@@ -25,7 +25,7 @@ invariant_of-self-2 g c =
     subst (IsNumbered more noted c.in-Some.number) (sym c.pushed-self-inside.ensures)
     (pushed_numbered s.trail more s.numbers noted s.made c.in-Some.number c.len-start.result s.levels (filter (g.P.Part.keeps c.args.part.now) c.args.clause.now) _ c.self.invariant
     (ap (λ a. a.assumptions) c.self.view_is) c.requires.may number_is c.len-start.ensures.value _ c.first_number-first.ensures c.note_all.ensures.notes c.make_false.ensures.begins c.make_false.ensures.longer
-    c.if-make_false.ensures.made.added c.note_all.ensures.known c.make_false.ensures.met)
+    c.if-make_false.ensures.made.added c.note_all.ensures.known c.make_false.ensures.reserved)
 
 pub returns-clause-assumed : goal.returns-clause-assumed
 returns-clause-assumed g c =

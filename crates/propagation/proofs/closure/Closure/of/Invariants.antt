@@ -10,4 +10,4 @@ abbrev pub invariant-loop-closure : goal.invariant-loop-closure
 invariant-loop-closure l = (k : ℕ) → has l.closure k ≡ true → Forced (maps.get l.store.live) [] k
 
 abbrev pub decreases-loop-closure : goal.decreases-loop-closure
-decreases-loop-closure l = lacking l.closure (both_of l.trail.met)
+decreases-loop-closure l = lacking l.closure (both_of l.trail.reserved)

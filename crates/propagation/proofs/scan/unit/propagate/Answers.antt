@@ -14,7 +14,7 @@ returns-in-Clash-clause-answer c =
     clash_through (maps.get c.args.store.now.live) c.loop-assumptions.assumptions.trail.lits c.args.assumptions.now.trail.lits c.loop-assumptions.invariant.sound c.in-Clash.ensures.pass
 
 pub loop-assumptions-smaller : goal.loop-assumptions-smaller
-loop-assumptions-smaller c = c.in-Changed.ensures.pass c.args.assumptions.now.trail.met (λ v h. sym (c.loop-assumptions.invariant.extends.met v) ∙ h)
+loop-assumptions-smaller c = c.in-Changed.ensures.pass c.args.assumptions.now.trail.reserved (λ v h. sym (c.loop-assumptions.invariant.extends.reserved v) ∙ h)
 
 pub returns-in-Quiet-clause-answer : goal.returns-in-Quiet-clause-answer
 returns-in-Quiet-clause-answer c =

@@ -13,4 +13,4 @@ invariant-loop-assumptions l = record {
 }
 
 abbrev pub decreases-loop-assumptions : goal.decreases-loop-assumptions
-decreases-loop-assumptions l = unset l.assumptions.trail.lits l.fn.assumptions.trail.met
+decreases-loop-assumptions l = unset l.assumptions.trail.lits l.fn.assumptions.trail.reserved

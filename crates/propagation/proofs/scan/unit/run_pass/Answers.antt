@@ -30,8 +30,8 @@ pub make_true-requires-clause-reserved : goal.make_true-requires-clause-reserved
 make_true-requires-clause-reserved c =
     let d = c.in-Some.clause.now in
     let left = subst (λ t. OneLeft c.in-One.l ≡ how_many (open_literals t.lits d)) c.trail.ensures c.in-One.ensures in
-    let room : has c.args.assumptions.now.trail.met (c.in-One.l / 2) ≡ true = c.requires.each c.loop-number.number d (sym c.in-Some.ensures) c.in-One.l (left_open c.loop-number.assumptions.trail.lits d c.in-One.l left).0 in
-    c.loop-number.invariant.extends.met (c.in-One.l / 2) ∙ room
+    let room : has c.args.assumptions.now.trail.reserved (c.in-One.l / 2) ≡ true = c.requires.each c.loop-number.number d (sym c.in-Some.ensures) c.in-One.l (left_open c.loop-number.assumptions.trail.lits d c.in-One.l left).0 in
+    c.loop-number.invariant.extends.reserved (c.in-One.l / 2) ∙ room
 
 pub make_true-requires-clause-not_false : goal.make_true-requires-clause-not_false
 make_true-requires-clause-not_false c =
@@ -55,14 +55,14 @@ loop-number-preserved c =
           let at = sym w.in-Some.ensures in
           let e = w.make_true.ensures in
           let of_clause = left_open lits d m left in
-          let room : has before.trail.met (m / 2) ≡ true = c.requires.each n d at m of_clause.0 in
+          let room : has before.trail.reserved (m / 2) ≡ true = c.requires.each n d at m of_clause.0 in
           let lits_are : w.make_true.new.self.trail.lits ≡ lits ++ m ∷ [] = e.lits ∙ ap (λ b. cond b (lits ++ m ∷ []) lits) w.if-make_true.true in
           let open_m = not-true (has lits m) (sym e.was_open ∙ w.if-make_true.true) in
           let forced = left_is_forced live before.trail.lits lits so_far.sound n d at m (one_is (open_literals lits d) m (sym left)) in
           rw (w.assumptions-is, w.found-is) (record {
             sound = λ k h. pushed_each (Forced live before.trail.lits) lits m so_far.sound forced k (ap (λ ls. has ls k) (sym lits_are) ∙ h);
             passed = subst (λ ls. IsPassedTo live before.trail ls (n + 1) Changed) (sym lits_are) (passed_unit live before.trail lits n m open_m of_clause.1 room c.loop-number.found so_far.passed);
-            extends = extends_on before state w.make_true.new.self so_far.extends (extends_made state w.make_true.new.self m w.make_true.result e.was_open e.lits e.met e.assumptions e.starts);
+            extends = extends_on before state w.make_true.new.self so_far.extends (extends_made state w.make_true.new.self m w.make_true.result e.was_open e.lits e.reserved e.assumptions e.starts);
           })
       | in-Some+in-One+else-make_true w ↦
           let m = w.in-One.l in
@@ -75,7 +75,7 @@ loop-number-preserved c =
           rw (w.assumptions-is, w.found-is) (record {
             sound = λ k h. so_far.sound k (ap (λ ls. has ls k) (sym lits_are) ∙ h);
             passed = subst (λ ls. IsPassedTo live before.trail ls (n + 1) c.loop-number.found) (sym lits_are) (passed_settled live before.trail lits n d w.in-Some.ensures settled c.loop-number.found so_far.passed);
-            extends = extends_on before state w.make_true.new.self so_far.extends (extends_made state w.make_true.new.self m w.make_true.result e.was_open e.lits e.met e.assumptions e.starts);
+            extends = extends_on before state w.make_true.new.self so_far.extends (extends_made state w.make_true.new.self m w.make_true.result e.was_open e.lits e.reserved e.assumptions e.starts);
           })
       | in-Some+in-More w ↦
           let d = w.in-Some.clause.now in

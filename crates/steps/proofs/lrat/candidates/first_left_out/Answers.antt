@@ -36,7 +36,7 @@ loop-left-preserved c =
             passed = passed_one live ls pivot named from inv.passed id c.in_ok-id.ensures.passed_over (settled live ls pivot named id clause at c.neg-opposite.result c.neg-opposite.ensures calm);
             others = others_met live ls pivot named from left inv.others id above apart (record { clause = clause; at = at; member = candidate }) c.if-contains.left (let is = w.left-is in let some = c.loop-left-test.true in omega (arith, is, some));
             lits = ap (λ t. t.lits) w.trues-is ∙ w.needs_group.ensures.lits ∙ inv.lits;
-            met = λ v. ap (λ t. has t.met v) w.trues-is ∙ w.needs_group.ensures.met v ∙ inv.met v;
+            reserved = λ v. ap (λ t. has t.reserved v) w.trues-is ∙ w.needs_group.ensures.reserved v ∙ inv.reserved v;
           }
       | else-contains w ↦
           let here : is_unnamed live ls pivot named id ≡ false = elim w.else-contains.branch [
@@ -47,7 +47,7 @@ loop-left-preserved c =
             passed = passed_one live ls pivot named from inv.passed id c.in_ok-id.ensures.passed_over here;
             others = subst (Others live ls pivot named (id + 1)) (sym w.left-is) (others_passed live ls pivot named from left inv.others (id + 1) (omega (arith, above)));
             lits = ap (λ t. t.lits) w.trues-is ∙ inv.lits;
-            met = λ v. ap (λ t. has t.met v) w.trues-is ∙ inv.met v;
+            reserved = λ v. ap (λ t. has t.reserved v) w.trues-is ∙ inv.reserved v;
           }
     ]
 

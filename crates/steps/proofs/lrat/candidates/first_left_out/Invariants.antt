@@ -10,7 +10,7 @@ invariant-loop-left l = record {
   passed : (k : ℕ) → k < l.from → is_unnamed (maps.get l.live.live) l.fn.trues.lits l.fn.pivot l.named k ≡ false;
   others : Others (maps.get l.live.live) l.fn.trues.lits l.fn.pivot l.named l.from l.left;
   lits : l.trues.lits ≡ l.fn.trues.lits;
-  met : SameSet l.trues.met l.fn.trues.met;
+  reserved : SameSet l.trues.reserved l.fn.trues.reserved;
 }
 
 abbrev pub decreases-loop-left : goal.decreases-loop-left

@@ -30,7 +30,7 @@ loop-i-preserved c =
             named = named_grows hints i inside (search rules) named c.loop-i.invariant.named k w.if-hint-lt0.true w.unsigned_abs.ensures.value after more;
             hold = held_grow live _ named after k more c.loop-i.invariant.hold (when_none refusal _ none w.in_ok-refusal.ensures.holds);
             lits = ap (λ t. t.lits) w.trues-is ∙ w.in_ok-refusal.ensures.lits ∙ c.loop-i.invariant.lits;
-            met = λ v. ap (λ t. has t.met v) w.trues-is ∙ w.in_ok-refusal.ensures.met v ∙ c.loop-i.invariant.met v;
+            reserved = λ v. ap (λ t. has t.reserved v) w.trues-is ∙ w.in_ok-refusal.ensures.reserved v ∙ c.loop-i.invariant.reserved v;
           }
       | else-hint-lt0 w ↦
           record {
@@ -40,7 +40,7 @@ loop-i-preserved c =
             named = λ j. ap (λ n. has n j) w.named-is ∙ named_kept hints i inside (search rules) named c.loop-i.invariant.named w.if-hint-lt0.false j;
             hold = λ k member. c.loop-i.invariant.hold k (subst (λ n. has n k ≡ true) w.named-is member);
             lits = ap (λ t. t.lits) w.trues-is ∙ c.loop-i.invariant.lits;
-            met = λ v. ap (λ t. has t.met v) w.trues-is ∙ c.loop-i.invariant.met v;
+            reserved = λ v. ap (λ t. has t.reserved v) w.trues-is ∙ c.loop-i.invariant.reserved v;
           }
     ]
 

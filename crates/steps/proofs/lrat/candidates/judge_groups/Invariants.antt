@@ -13,5 +13,5 @@ invariant-loop-i l = record {
   named : SameSet l.named (named_in (take l.i l.hints));
   hold : (k : ℕ) → has l.named k ≡ true → Holds (maps.get l.live.live) (complement l.fn.pivot) k;
   lits : l.trues.lits ≡ l.fn.trues.lits;
-  met : SameSet l.trues.met l.fn.trues.met;
+  reserved : SameSet l.trues.reserved l.fn.trues.reserved;
 }

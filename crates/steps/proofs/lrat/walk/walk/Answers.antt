@@ -15,7 +15,7 @@ make_true-requires-clause-not_false c = (left_open c.loop-i.trues.lits c.in-Some
 pub make_true-requires-clause-reserved : goal.make_true-requires-clause-reserved
 make_true-requires-clause-reserved c =
     let member = (left_open c.loop-i.trues.lits c.in-Some.clause.now c.in-One.l c.in-One.ensures).0 in
-    c.loop-i.invariant.met (c.in-One.l / 2) ∙ c.requires.room.each c.unsigned_abs-k.result c.in-Some.clause.now (let hints = c.args.hints.now in let i = c.loop-i.i in ap (λ k. maps.get c.args.live.now.live k) (c.unsigned_abs-k.ensures.value ∙ ap nat_abs (read_is hints i (omega arith) (search rules))) ∙ sym (c.loop-i.invariant.next c.loop-i-test.true) ∙ ap option_copied c.in-Some.is) c.in-One.l member
+    c.loop-i.invariant.reserved (c.in-One.l / 2) ∙ c.requires.room.each c.unsigned_abs-k.result c.in-Some.clause.now (let hints = c.args.hints.now in let i = c.loop-i.i in ap (λ k. maps.get c.args.live.now.live k) (c.unsigned_abs-k.ensures.value ∙ ap nat_abs (read_is hints i (omega arith) (search rules))) ∙ sym (c.loop-i.invariant.next c.loop-i-test.true) ∙ ap option_copied c.in-Some.is) c.in-One.l member
 
 pub loop-i-preserved : goal.loop-i-preserved
 loop-i-preserved c =
@@ -35,7 +35,7 @@ loop-i-preserved c =
       begins = begins_on c.args.trues.now.lits trues after c.loop-i.invariant.begins c.loop-i.invariant.longer (begins_made trues after m is_open was is);
       longer = omega (arith, longer_made trues after m is_open was is, c.loop-i.invariant.longer);
       next = c.named_at-next-in-loop-i.ensures;
-      met = λ v. c.make_true.ensures.met v ∙ c.loop-i.invariant.met v;
+      reserved = λ v. c.make_true.ensures.reserved v ∙ c.loop-i.invariant.reserved v;
     }
 
 pub returns-in_default-clause-end : goal.returns-in_default-clause-end

@@ -14,5 +14,5 @@ invariant-loop-i l = record {
   begins : take (length l.fn.trues.lits) l.trues.lits ≡ l.fn.trues.lits;
   longer : length l.fn.trues.lits ≤ length l.trues.lits;
   next : l.i < length l.hints → option_copied l.next ≡ maps.get l.live.live (nat_abs (slice_index_or l.hints l.i (pos 0)));
-  met : SameSet l.trues.met l.fn.trues.met;
+  reserved : SameSet l.trues.reserved l.fn.trues.reserved;
 }

@@ -5,4 +5,4 @@ use Rattle.trail.proofs.trail.Trail.len.Goals as goal
 pub returns-clause-fits : goal.returns-clause-fits
 returns-clause-fits c =
     let t = c.self.inside in
-    subst (λ s. length s.lits ≤ length s.met) c.self.view_is (fits_within t.lits.items t.met.items c.self.invariant.different c.self.invariant.within)
+    subst (λ s. length s.lits ≤ length s.reserved) c.self.view_is (fits_within t.lits.items t.reserved.items c.self.invariant.different c.self.invariant.within)

@@ -28,7 +28,7 @@ loop-l-init g c =
       quiet = no_conflict lits c.len-different.ensures.different;
       begins = take_all _ lits (omega arith);
       longer = omega arith;
-      met = λ v. refl;
+      reserved = λ v. refl;
     }
 
 pub returns-in-True-clause-made : goal.returns-in-True-clause-made
@@ -46,8 +46,8 @@ returns-in-True-clause-made g c =
 pub set-requires-clause-reserved : goal.set-requires-clause-reserved
 set-requires-clause-reserved g c =
     let x = c.l-item.result in
-    let room : has c.args.self.now.met (x / 2) ≡ true = c.requires x (is_in c.args.clause.now c.loop-l.l-index c.loop-l-test.true x c.l-item.is) in
-    subst (λ v. has c.loop-l.self.met v ≡ true) (sym (ap (λ m. m / 2) c.neg.ensures ∙ variable-complement x)) (c.loop-l.invariant.met (x / 2) ∙ room)
+    let room : has c.args.self.now.reserved (x / 2) ≡ true = c.requires x (is_in c.args.clause.now c.loop-l.l-index c.loop-l-test.true x c.l-item.is) in
+    subst (λ v. has c.loop-l.self.reserved v ≡ true) (sym (ap (λ m. m / 2) c.neg.ensures ∙ variable-complement x)) (c.loop-l.invariant.reserved (x / 2) ∙ room)
 
 pub set-requires-clause-open : goal.set-requires-clause-open
 set-requires-clause-open g c =
@@ -76,7 +76,7 @@ loop-l-preserved g c =
             quiet = so_far.quiet;
             begins = so_far.begins;
             longer = so_far.longer;
-            met = so_far.met;
+            reserved = so_far.reserved;
           })
       | then-keeps_literal+in-Open w ↦
           let kept = sym c.keeps_literal.ensures ∙ w.if-keeps_literal.true in
@@ -91,7 +91,7 @@ loop-l-preserved g c =
             quiet = ap conflicts lits_are ∙ quiet_push lits m so_far.quiet (ap (has lits) (complement-complement x) ∙ tests.0);
             begins = ap (take (length first)) lits_are ∙ begins_push first lits m so_far.begins so_far.longer;
             longer = rw lits_are (omega arith);
-            met = λ v. ap (λ t. has t.met v) w.self-is ∙ w.set.ensures.met v ∙ so_far.met v;
+            reserved = λ v. ap (λ t. has t.reserved v) w.self-is ∙ w.set.ensures.reserved v ∙ so_far.reserved v;
           }
       | else-keeps_literal w ↦
           let same = falsified_same first keeps clause i inside x c.l-item.is (sym c.keeps_literal.ensures ∙ w.if-keeps_literal.false) in
@@ -100,7 +100,7 @@ loop-l-preserved g c =
             quiet = so_far.quiet;
             begins = so_far.begins;
             longer = so_far.longer;
-            met = so_far.met;
+            reserved = so_far.reserved;
           })
     ]
 

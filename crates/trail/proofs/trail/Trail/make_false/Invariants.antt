@@ -9,5 +9,5 @@ invariant-loop-l g l = record {
   quiet : conflicts l.self.lits ≡ false;
   begins : take (length l.fn.self.lits) l.self.lits ≡ l.fn.self.lits;
   longer : length l.fn.self.lits ≤ length l.self.lits;
-  met : SameSet l.self.met l.fn.self.met;
+  reserved : SameSet l.self.reserved l.fn.self.reserved;
 }

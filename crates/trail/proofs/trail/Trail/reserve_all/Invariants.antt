@@ -5,6 +5,6 @@ use Rattle.trail.proofs.trail.Trail.reserve_all.Given as goal
 abbrev pub invariant-loop-l : goal.invariant-loop-l
 invariant-loop-l l = record {
   lits : l.self.lits ≡ l.fn.self.lits;
-  met : (v : ℕ) → has l.fn.self.met v ≡ true → has l.self.met v ≡ true;
-  room : (x : Literal) → has (take l.l-index l.clause) x ≡ true → has l.self.met (x / 2) ≡ true;
+  reserved : (v : ℕ) → has l.fn.self.reserved v ≡ true → has l.self.reserved v ≡ true;
+  room : (x : Literal) → has (take l.l-index l.clause) x ≡ true → has l.self.reserved (x / 2) ≡ true;
 }

@@ -3,7 +3,7 @@ use Rattle.watch.proofs.WatchLemmas.Order.{literals_ordered}
 use Rattle.watch.proofs.watch.Watch.prepare.Goals as goal
 
 pub invariant_of-self : goal.invariant_of-self
-invariant_of-self c = (c.refresh-refreshed.ensures.watch, c.is_sound-2.ensures.live_alone ∙ sym (literals_ordered c.refresh-refreshed.new.store.live))
+invariant_of-self c = (c.refresh-refreshed.ensures.watch, c.recall_invariant-2.ensures.live_alone ∙ sym (literals_ordered c.refresh-refreshed.new.store.live))
 
 pub returns-clause-live_alone : goal.returns-clause-live_alone
-returns-clause-live_alone c = c.is_sound-2.ensures.live_alone ∙ sym (literals_ordered c.refresh-refreshed.new.store.live)
+returns-clause-live_alone c = c.recall_invariant-2.ensures.live_alone ∙ sym (literals_ordered c.refresh-refreshed.new.store.live)

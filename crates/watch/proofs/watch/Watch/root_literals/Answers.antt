@@ -22,5 +22,5 @@ returns-clause-all c up quiet l forced =
     let lits = roots_in held.trail.lits held.assumptions held.starts in
     let shown = c.root_count.ensures.roots ∙ ap (take c.root_count.result) (ap (λ t. t.lits) (sym c.trail.ensures) ∙ sym c.lits.ensures.value) in
     ap (λ ls. has ls l) (sym shown)
-    ∙ all_forced i.store.live i.roots held.trail.lits held.assumptions held.starts c.is_sound.ensures.different (subst (λ t. HasNoVariableTwice t.lits) c.trail.ensures c.lits.ensures.different) c.self.invariant.0.kept
+    ∙ all_forced i.store.live i.roots held.trail.lits held.assumptions held.starts c.recall_invariant.ensures.different (subst (λ t. HasNoVariableTwice t.lits) c.trail.ensures c.lits.ensures.different) c.self.invariant.0.kept
     (ap (λ w. w.is_up_to_date) c.self.view_is ∙ up) (ap (λ w. w.has_clash) c.self.view_is ∙ quiet) l (subst (λ w. Forced (maps.get w.propagation.live) [] l) (sym c.self.view_is) forced)

@@ -5,4 +5,4 @@ use Rattle.watch.proofs.watch.Watch.trail_len.Goals as goal
 
 pub returns-clause-fits : goal.returns-clause-fits
 returns-clause-fits c =
-    subst (λ w. w.trues ≤ w.variables) c.self.view_is (subst (λ t. length t.lits ≤ size t.met) c.trail.ensures (fits_different c.trail.result.now.lits c.trail.result.now.met c.len.ensures.different c.len.ensures.within))
+    subst (λ w. w.trues ≤ w.variables) c.self.view_is (subst (λ t. length t.lits ≤ size t.reserved) c.trail.ensures (fits_different c.trail.result.now.lits c.trail.result.now.reserved c.len.ensures.different c.len.ensures.within))

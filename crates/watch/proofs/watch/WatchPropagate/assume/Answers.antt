@@ -7,7 +7,7 @@ use Rattle.watch.proofs.WatchLemmas.Order.{literals_ordered}
 use Rattle.watch.proofs.watch.WatchPropagate.assume.Goals as goal
 
 pub invariant_of-self-2 : goal.invariant_of-self-2
-invariant_of-self-2 c = (c.assume_part-assumed.ensures.watch, c.is_sound.ensures.live_alone ∙ sym (literals_ordered c.assume_part-assumed.new.store.live))
+invariant_of-self-2 c = (c.assume_part-assumed.ensures.watch, c.recall_invariant.ensures.live_alone ∙ sym (literals_ordered c.assume_part-assumed.new.store.live))
 
 pub returns : goal.returns
 returns c =
@@ -16,4 +16,4 @@ returns c =
     let e = c.assume_part-assumed.ensures in
     assuming_from c.args.self.now.propagation _ (each_in_order c.self.inside.store.live) c.reserve.new.self c.assume_part-assumed.new.assumptions _ (complements c.args.lits.now) c.assume_part-assumed.result
     (ap (λ w. w.propagation.live) view ∙ ready.live) (c.reserve.ensures.assumptions ∙ ap (λ w. w.propagation.assumptions) view ∙ ready.assumptions) (ap complements (whole_is c.args.lits.now)) ready.never_refused
-    e.same (c.is_sound.ensures.live_alone ∙ sym (literals_ordered c.assume_part-assumed.new.store.live)) refl c.is_err-self-inside.ensures.value e.answer e.assumed e.err
+    e.same (c.recall_invariant.ensures.live_alone ∙ sym (literals_ordered c.assume_part-assumed.new.store.live)) refl c.is_err-self-inside.ensures.value e.answer e.assumed e.err

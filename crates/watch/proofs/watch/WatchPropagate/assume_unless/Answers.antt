@@ -16,7 +16,7 @@ assume_part-assumed-requires-clause-room c =
     stored_room live c.args.slot _ c.self.invariant.0.scan.room (stored_there live c.args.slot _ (ap (λ w. w.propagation.live) c.self.view_is ∙ c.in_ok-prepare.ensures.live) c.requires.alive)
 
 pub invariant_of-self-2 : goal.invariant_of-self-2
-invariant_of-self-2 c = (c.assume_part-assumed.ensures.watch, c.is_sound.ensures.live_alone ∙ sym (literals_ordered c.assume_part-assumed.new.store.live))
+invariant_of-self-2 c = (c.assume_part-assumed.ensures.watch, c.recall_invariant.ensures.live_alone ∙ sym (literals_ordered c.assume_part-assumed.new.store.live))
 
 pub returns : goal.returns
 returns c clause here =
@@ -26,4 +26,4 @@ returns c clause here =
     unless_alike c.args.self.now.propagation _ (in_set c.fill.new.self) c.args.set.now clause c.assume_part-assumed.result (unless_refused c.fill.result (sym c.is_err.ensures.value ∙ c.if-is_err.false) c.fill.ensures)
     (assuming_stored c.self.inside.store.live c.args.slot c.args.self.now.propagation _ c.self.inside.assumptions c.assume_part-assumed.new.assumptions (λ (k : ℕ). not (in_set c.fill.new.self (complement k))) clause c.assume_part-assumed.result
     (ap (λ w. w.propagation.live) view ∙ ready.live) here (ap (λ w. w.propagation.assumptions) view ∙ ready.assumptions) ready.never_refused
-    e.same (c.is_sound.ensures.live_alone ∙ sym (literals_ordered c.assume_part-assumed.new.store.live)) refl c.is_err-self-inside.ensures.value e.answer e.assumed e.err)
+    e.same (c.recall_invariant.ensures.live_alone ∙ sym (literals_ordered c.assume_part-assumed.new.store.live)) refl c.is_err-self-inside.ensures.value e.answer e.assumed e.err)

@@ -39,7 +39,7 @@ enter-requires-clause-kept c =
     let i = c.self.inside in
     let live = i.store.live in
     let r = c.reserve.ensures in
-    let watch = watch_noted live i.lists i.short i.roots c.reserve-2.new.self c.reserve.new.self c.reserve-2.ensures.kept c.reserve-2.ensures.old (watch_reserved live i.lists i.short i.roots i.assumptions c.reserve.new.self r.lits r.assumptions r.starts r.met c.self.invariant.0) in
+    let watch = watch_noted live i.lists i.short i.roots c.reserve-2.new.self c.reserve.new.self c.reserve-2.ensures.kept c.reserve-2.ensures.old (watch_reserved live i.lists i.short i.roots i.assumptions c.reserve.new.self r.lits r.assumptions r.starts r.reserved c.self.invariant.0) in
     subst (λ m. IsKept m c.reserve-2.new.self c.reserve.new.self.trail.lits)
     (sym (removed_back live c.arrange-left.new.store.live c.in_ok-slot.slot c.in_ok-slot.ensures.free (λ s ne. c.arrange-left.ensures.others s ne ∙ c.in_ok-slot.ensures.others s ne)))
     (alone_kept live i.lists i.short c.reserve-2.new.self c.reserve.new.self watch (r.assumptions ∙ ap (λ w. w.propagation.assumptions) c.self.view_is ∙ c.requires))
@@ -71,17 +71,17 @@ invariant_of-self-in-Ok c =
     let held = c.reserve.new.self in
     let now = c.enter.new.assumptions in
     let r = c.reserve.ensures in
-    let watch = watch_noted live i.lists i.short i.roots c.reserve-2.new.self held c.reserve-2.ensures.kept c.reserve-2.ensures.old (watch_reserved live i.lists i.short i.roots i.assumptions held r.lits r.assumptions r.starts r.met c.self.invariant.0) in
+    let watch = watch_noted live i.lists i.short i.roots c.reserve-2.new.self held c.reserve-2.ensures.kept c.reserve-2.ensures.old (watch_reserved live i.lists i.short i.roots i.assumptions held r.lits r.assumptions r.starts r.reserved c.self.invariant.0) in
     let d = c.in_ok-slot.ensures.stored in
     let w = c.arrange-left.ensures.arranged d.0 d.1 in
     let e = c.in-Ok.ensures in
     let n = c.enter.ensures in
     let others : (s : ℕ) → s ≢ slot → maps.get after s ≡ maps.get live s = λ s ne. c.arrange-left.ensures.others s ne ∙ c.in_ok-slot.ensures.others s ne in
     let is_same = same_trans (in_order w.0) w.0 c.args.lits.now (same-in_order w.0) (same_trans w.0 d.0 c.args.lits.now (same_from w.0 d.0 (λ l g. sym (w.2 l) ∙ g) (λ l g. w.2 l ∙ g)) d.2) in
-    let room = room_added held.trail.met (each_in_order live) (each_in_order after) slot c.args.lits.now watch.scan.room c.in_ok-reserve.ensures.room
+    let room = room_added held.trail.reserved (each_in_order live) (each_in_order after) slot c.args.lits.now watch.scan.room c.in_ok-reserve.ensures.room
     (in_order w.0, seen_there after slot w.0 w.1, is_same) (λ s ne. get_ordered after s ∙ ap (option_map in_order) (others s ne) ∙ sym (get_ordered live s)) in (
       watch_added live after i.lists c.add_entries.new.lists i.short c.add_entries.new.short c.reserve-2.new.self c.enter.new.self held now watch (n.assumptions ∙ r.assumptions ∙ ap (λ w. w.propagation.assumptions) c.self.view_is ∙ c.requires)
-          slot w.0 (e.different w.0 w.1) e.apart (record { each = λ k x here l member. n.met (l / 2) ∙ room.each k x here l member }) n.kept
+          slot w.0 (e.different w.0 w.1) e.apart (record { each = λ k x here l member. n.reserved (l / 2) ∙ room.each k x here l member }) n.kept
           c.in_ok-slot.ensures.free (inserted_is live after slot w.0 w.1 others) e.low (e.watched w.0 w.1) (e.foreign_blockers w.0 w.1) (e.rest w.0 w.1) (e.more w.0 w.1) (e.longer w.0 w.1),
       c.arrange-left.ensures.live_alone ∙ sym (literals_ordered after),
     )
@@ -93,7 +93,7 @@ invariant_of-self-in-Err c =
     let held = c.reserve.new.self in
     let roots = c.reserve-2.new.self in
     let r = c.reserve.ensures in
-    let watch = watch_noted live i.lists i.short i.roots roots held c.reserve-2.ensures.kept c.reserve-2.ensures.old (watch_reserved live i.lists i.short i.roots i.assumptions held r.lits r.assumptions r.starts r.met c.self.invariant.0) in
+    let watch = watch_noted live i.lists i.short i.roots roots held c.reserve-2.ensures.kept c.reserve-2.ensures.old (watch_reserved live i.lists i.short i.roots i.assumptions held r.lits r.assumptions r.starts r.reserved c.self.invariant.0) in
     let d = c.in_ok-slot.ensures.stored in
     let w = c.arrange-left.ensures.arranged d.0 d.1 in
     let e = c.in-Err.ensures in
@@ -141,7 +141,7 @@ invariant_of-self-in_err-reserve-2 c =
     let i = c.self.inside in
     let r = c.reserve.ensures in (
       watch_noted i.store.live i.lists i.short i.roots c.reserve-2.new.self c.reserve.new.self c.reserve-2.ensures.kept c.reserve-2.ensures.old
-          (watch_reserved i.store.live i.lists i.short i.roots i.assumptions c.reserve.new.self r.lits r.assumptions r.starts r.met c.self.invariant.0),
+          (watch_reserved i.store.live i.lists i.short i.roots i.assumptions c.reserve.new.self r.lits r.assumptions r.starts r.reserved c.self.invariant.0),
       c.self.invariant.1,
     )
 
@@ -150,5 +150,5 @@ invariant_of-self-in_err-slot c =
     let i = c.self.inside in
     let r = c.reserve.ensures in
     let watch = watch_noted i.store.live i.lists i.short i.roots c.reserve-2.new.self c.reserve.new.self c.reserve-2.ensures.kept c.reserve-2.ensures.old
-    (watch_reserved i.store.live i.lists i.short i.roots i.assumptions c.reserve.new.self r.lits r.assumptions r.starts r.met c.self.invariant.0) in
+    (watch_reserved i.store.live i.lists i.short i.roots i.assumptions c.reserve.new.self r.lits r.assumptions r.starts r.reserved c.self.invariant.0) in
     subst (λ s. IsWatch s.live i.lists i.short c.reserve-2.new.self c.reserve.new.self × (s.stored ≡ literals_in (each_in_order s.live))) (sym c.in_err-slot.ensures.err) (watch, c.self.invariant.1)

@@ -37,9 +37,9 @@ invariant_of-self c =
     let e = c.remove_entries.ensures in
     let d = alive_clause live slot (sym (alive_alike live slot) ∙ ap (λ w. is_some (maps.get w.propagation.live slot)) c.self.view_is ∙ c.requires.alive) in
     let gone = ap each_in_order c.remove.ensures.live ∙ ordered_remove live slot in
-    let room = room_removed i.assumptions.trail.met (each_in_order live) (each_in_order after) slot gone watch.scan.room in (
+    let room = room_removed i.assumptions.trail.reserved (each_in_order live) (each_in_order after) slot gone watch.scan.room in (
       watch_removed live after i.lists c.remove_entries.new.lists i.short c.remove_entries.new.short i.roots c.leave.new.self i.assumptions held watch left.assumptions
-          slot d.0 (e.different d.0 d.1) e.apart (record { each = λ k x here l member. left.met (l / 2) ∙ room.each k x here l member })
+          slot d.0 (e.different d.0 d.1) e.apart (record { each = λ k x here l member. left.reserved (l / 2) ∙ room.each k x here l member })
           (subst (λ m. IsKept m c.leave.new.self held.trail.lits) (sym c.remove.ensures.live) left.kept)
           d.1 c.remove.ensures.live (e.watched d.0 d.1) e.foreign_blockers (e.rest d.0 d.1) (e.fewer d.0 d.1) (e.shorter d.0 d.1),
       c.remove.ensures.live_alone ∙ sym (literals_ordered after),
