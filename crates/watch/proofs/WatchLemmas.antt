@@ -10,6 +10,7 @@ pub mod Units
 pub mod Entries
 pub mod Closed
 pub mod Kept
+pub mod Visited
 pub mod Arrange
 pub mod Assumed
 pub mod Entered

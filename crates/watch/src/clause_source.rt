@@ -1,12 +1,13 @@
 //! Where the clause stands of which a part is assumed.
 
-ghost use Rattle.std.specs.Prelude.{◌≡◌, ◌++◌, ◌∷◌, filter, length, take, List, IfOk, OnOk, OnErr};
+ghost use Rattle.std.specs.Prelude.{◌≡◌, ℕ, ◌++◌, ◌∷◌, filter, length, take, List, IsTrue, IfOk};
+ghost use Rattle.std.specs.Prelude.{OnOk, OnErr};
 ghost use Rattle.std.specs.Bool.{OnFalse};
-ghost use Rattle.cnf_base.specs.Literals.{Literal, complements};
+ghost use Rattle.cnf_base.specs.Literals.{Literal, complements, has};
 ghost use Rattle.propagation.specs.Assumptions.{Assumption, MayAssume, assumed_by};
 ghost use Rattle.trail.specs.Trail.{HasRoom};
 ghost use Rattle.theory.specs.Sets.{SameSet, conflicts};
-ghost use Rattle.watch.specs.Code.ClauseSource.{IsThere, clause_of};
+ghost use Rattle.watch.specs.Code.ClauseSource.{HasRoomGiven, IsThere, clause_of};
 ghost use Rattle.propagation.specs.declared.answer.Answer.TheVariants.{Clash};
 
 use clause_db::{Slot, Store};
@@ -21,6 +22,24 @@ pub(crate) enum ClauseSource<'a> {
     Given(&'a [Lit]),
     /// Those of the clause in this slot.
     Stored(Slot),
+}
+
+/// Makes room for the literals that are given. For those of a slot there is room.
+pub(crate) fn reserve_given(
+    assumptions: &mut Assumptions,
+    source: &ClauseSource<'_>,
+) -> Result<(), OutOfMemory>
+    ensures reserved { (v : ℕ) → IsTrue (has assumptions.old.trail.reserved v) →
+        IsTrue (has assumptions.new.trail.reserved v) }
+    ensures lits { assumptions.new.trail.lits ≡ assumptions.old.trail.lits }
+    ensures assumptions { assumptions.new.assumptions ≡ assumptions.old.assumptions }
+    ensures starts { assumptions.new.starts ≡ assumptions.old.starts }
+    ensures room { OnOk result (HasRoomGiven assumptions.new.trail.reserved source.now) }
+{
+    match *source {
+        ClauseSource::Given(lits) => assumptions.reserve(lits),
+        ClauseSource::Stored(_) => Ok(()),
+    }
 }
 
 /// One more assumption, by a part of a clause, as [`Assumptions::assume`] makes it.

@@ -1,12 +1,12 @@
 //! The entries of one clause in the lists.
 
-ghost use Rattle.std.specs.Prelude.{◌≡◌, ◌≢◌, ℕ, ◌+◌, ◌<◌, ◌≤◌, ◌==◌, ◌&&◌, Some, length};
+ghost use Rattle.std.specs.Prelude.{◌≡◌, ℕ, ◌+◌, ◌<◌, ◌==◌, ◌&&◌, Some, length};
 ghost use Rattle.std.specs.Prelude.{if◌then◌else◌, IsTrue, IsFalse, IsSome, OnOk, OnErr};
 ghost use Rattle.std.specs.FinMap as maps;
 ghost use Rattle.cnf_base.specs.Literals.{Clause, has, size};
-ghost use Rattle.watch_lists.specs.Lists.{AreApart, entries_in, entries_of, foreign_blockers};
+ghost use Rattle.watch_lists.specs.Lists.{AreApart, entries_in, entries_of};
 ghost use Rattle.watch_lists.specs.Lists.{list_at, times_in};
-ghost use Rattle.watch.specs.Code.Watched.{IsListed, IsShortList, is_short, watches};
+ghost use Rattle.watch.specs.Code.Watched.{HasEntry, IsListed, IsShortList, NamesOwn, is_short};
 
 use clause_db::{Slot, Store};
 use cnf_base::OutOfMemory;
@@ -23,11 +23,9 @@ pub(crate) fn add_entries(
     requires apart { AreApart lists.old }
     requires absent { IsFalse (has short.old slot) }
     ensures watched { OnOk result ((c : Clause) → maps.get store.now.live slot ≡ Some c →
-        (l s : ℕ) → entries_of s (list_at lists.new l) ≡ entries_of s (list_at lists.old l)
-        + (if watches c l && s == slot then 1 else 0)) }
-    ensures foreign_blockers { (c : Clause) → maps.get store.now.live slot ≡ Some c →
-        (l s : ℕ) (d : Clause) → (s ≡ slot → d ≡ c) →
-        foreign_blockers s d (list_at lists.new l) ≤ foreign_blockers s d (list_at lists.old l) }
+        HasEntry c slot lists.new lists.old) }
+    ensures names_own { (c : Clause) → maps.get store.now.live slot ≡ Some c →
+        NamesOwn c slot lists.old lists.new }
     ensures rest { OnOk result ((c : Clause) → maps.get store.now.live slot ≡ Some c →
         (s : ℕ) → times_in s short.new ≡ times_in s short.old
         + (if is_short c && s == slot then 1 else 0)) }
@@ -67,10 +65,9 @@ pub(crate) fn remove_entries(
     requires listed { IsListed (maps.get store.now.live) (list_at lists.old) }
     requires rest { IsShortList (maps.get store.now.live) short.old }
     ensures watched { (c : Clause) → maps.get store.now.live slot ≡ Some c →
-        (l s : ℕ) → entries_of s (list_at lists.new l)
-        + (if watches c l && s == slot then 1 else 0) ≡ entries_of s (list_at lists.old l) }
-    ensures foreign_blockers { (l s : ℕ) (d : Clause) →
-        foreign_blockers s d (list_at lists.new l) ≤ foreign_blockers s d (list_at lists.old l) }
+        HasEntry c slot lists.old lists.new }
+    ensures names_own { (c : Clause) → maps.get store.now.live slot ≡ Some c →
+        NamesOwn c slot lists.old lists.new }
     ensures rest { (c : Clause) → maps.get store.now.live slot ≡ Some c →
         (s : ℕ) → times_in s short.new + (if is_short c && s == slot then 1 else 0) ≡
         times_in s short.old }

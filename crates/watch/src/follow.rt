@@ -1,19 +1,18 @@
 //! The watch list of a literal that became false.
 
-ghost use Rattle.std.specs.Prelude.{◌≡◌, ◌≢◌, ℕ, ◌+◌, ◌<◌, ◌≤◌, length, slice_index, take, Some};
-ghost use Rattle.std.specs.Prelude.{IsTrue, IsFalse, IfOk, OnOk, OnErr, IfSome, IfNone};
-ghost use Rattle.std.specs.List.{swap};
+ghost use Rattle.std.specs.Prelude.{◌≡◌, ℕ, ◌<◌, ◌≤◌, length, take, List, Option, Some};
+ghost use Rattle.std.specs.Prelude.{IsTrue, IsFalse, IfOk, IfSome, IfNone};
 ghost use Rattle.std.specs.FinMap as maps;
-ghost use Rattle.cnf_base.specs.Literals.{Clause, complement, has, size};
-ghost use Rattle.trail.specs.Trail.{HasRoomForAll};
+ghost use Rattle.cnf_base.specs.Literals.{Clause, Literal, complement, has};
 ghost use Rattle.theory.specs.Sets.{conflicts};
-ghost use Rattle.watch_lists.specs.Lists.{AreApart, entries_in, list_at, slot_at};
+ghost use Rattle.propagation.specs.Assumptions.{AssumptionsState};
+ghost use Rattle.watch_lists.specs.Lists.{slot_at};
 ghost use Rattle.watch.specs.Code.Order.{each_in_order};
-ghost use Rattle.watch.specs.Code.Watched.{IsListed, IsMet, IsWatched};
-ghost use Rattle.watch.specs.Code.Roots.{AreNoted, IsFalseAt};
-ghost use Rattle.watch.specs.Code.Visits.{PropagatesTo, IsInHand, with_list};
+ghost use Rattle.watch.specs.Code.Watched.{IsMet, IsWatched};
+ghost use Rattle.watch.specs.Code.Roots.{IsFalseAt};
+ghost use Rattle.watch.specs.Code.Visits.{CanFollow, CanVisit, Followed, IsExchangeAt, IsInHand};
+ghost use Rattle.watch.specs.Code.Visits.{IsVisited, Visited};
 ghost use Rattle.tables.specs.Table.{at};
-ghost use Rattle.watch.specs.declared.follow.Next.TheVariants.{Further, Here, Nothing};
 
 use crate::roots::set_by;
 use crate::visit::{Exchange, Visit, look};
@@ -32,28 +31,16 @@ fn move_watch(
     place: usize,
     l: Lit,
     exchange: Exchange,
-) -> Result<(), OutOfMemory>
+) -> Result<Next, OutOfMemory>
     requires inside { place < length list.old.items }
-    requires hand { IsInHand lists.old l }
-    requires listed { IsListed (maps.get store.old.live) (with_list lists.old l list.old.items) }
-    requires clause { (c : Clause) ×
-        (maps.get store.old.live (slot_at list.old.items place) ≡ Some c)
-        × (size c ≡ length c) × (slice_index c exchange.from ≡ l) × (exchange.to < length c)
-        × (slice_index c exchange.to ≡ exchange.next) × IsTrue (has c exchange.other) }
-    requires from { exchange.from < 2 }
-    requires to { 2 ≤ exchange.to }
-    ensures moved { OnOk result ((c : Clause) →
-        maps.get store.old.live (slot_at list.old.items place) ≡ Some c →
-        store.new.live ≡ maps.insert store.old.live (slot_at list.old.items place)
-        (swap c exchange.from exchange.to)) }
-    ensures shorter { OnOk result (length list.new.items + 1 ≡ length list.old.items) }
-    ensures front { take place list.new.items ≡ take place list.old.items }
-    ensures err_live { OnErr result (store.new.live ≡ store.old.live) }
-    ensures err_list { OnErr result (list.new.items ≡ list.old.items) }
-    ensures hand { IsInHand lists.new l }
-    ensures listed { IsListed (maps.get store.new.live) (with_list lists.new l list.new.items) }
-    ensures entries { entries_in lists.new + length list.new.items ≡
-        entries_in lists.old + length list.old.items }
+    requires hand { IsInHand store.old.live lists.old list.old.items l }
+    requires exchange { IsExchangeAt store.old.live (slot_at list.old.items place) l exchange }
+    ensures visited { (held : AssumptionsState) (reason_of : Literal → Option ℕ) →
+        IsFalse (has held.trail.lits (complement exchange.next)) →
+        Visited store.old.live store.new.live lists.old lists.new list.old.items list.new.items
+        held held reason_of reason_of l }
+    ensures clause { (trues : List Literal) →
+        IsVisited store.old.live store.new.live list.old.items list.new.items place l trues result }
 {
     let slot = list[place].slot;
     let at = Slot::at(slot as usize);
@@ -66,7 +53,7 @@ fn move_watch(
     match lists.push(exchange.next, watcher) {
         Ok(()) => {
             list.swap_remove(place);
-            Ok(())
+            Ok(Next::Here)
         }
         Err(refused) => {
             store.swap(at, exchange.to, exchange.from);
@@ -97,32 +84,12 @@ fn visit(
     l: Lit,
 ) -> Result<Next, OutOfMemory>
     requires inside { place < length list.old.items }
-    requires hand { IsInHand lists.old l }
-    requires listed { IsListed (maps.get store.old.live) (with_list lists.old l list.old.items) }
-    requires is_false { IsTrue (has assumptions.old.trail.lits (complement l)) }
-    requires room { HasRoomForAll assumptions.old.trail.reserved
-        (maps.get (each_in_order store.old.live)) }
-    requires noted { AreNoted (maps.get (each_in_order store.old.live)) (at reasons.old) }
-    ensures further { IfOk result (λ n. n ≡ Further →
-        length list.new.items ≡ length list.old.items) }
-    ensures same_slot { IfOk result (λ n. n ≡ Further →
-        slot_at list.new.items place ≡ slot_at list.old.items place) }
-    ensures met { IfOk result (λ n. n ≡ Further → (c : Clause) →
-        maps.get store.new.live (slot_at list.old.items place) ≡ Some c →
-        IsMet c l assumptions.new.trail.lits) }
-    ensures shorter { IfOk result (λ n. n ≡ Here →
-        length list.new.items + 1 ≡ length list.old.items) }
-    ensures clash { IfOk result (λ n. (s : ℕ) → n ≡ Nothing s →
-        IsFalseAt (maps.get (each_in_order store.new.live)) s assumptions.new.trail.lits) }
-    ensures front { take place list.new.items ≡ take place list.old.items }
-    ensures others { (s : ℕ) → s ≢ slot_at list.old.items place →
-        maps.get store.new.live s ≡ maps.get store.old.live s }
-    ensures hand { IsInHand lists.new l }
-    ensures listed { IsListed (maps.get store.new.live) (with_list lists.new l list.new.items) }
-    ensures entries { entries_in lists.new + length list.new.items ≡
-        entries_in lists.old + length list.old.items }
-    ensures propagates { PropagatesTo store.old.live store.new.live assumptions.old assumptions.new
-        (at reasons.old) (at reasons.new) }
+    requires can { CanVisit store.old.live lists.old list.old.items assumptions.old
+        (at reasons.old) l }
+    ensures visited { Visited store.old.live store.new.live lists.old lists.new list.old.items
+        list.new.items assumptions.old assumptions.new (at reasons.old) (at reasons.new) l }
+    ensures clause { IsVisited store.old.live store.new.live list.old.items list.new.items place l
+        assumptions.new.trail.lits result }
 {
     if assumptions.trail().is_true(list[place].blocking) {
         return Ok(Next::Further);
@@ -134,10 +101,7 @@ fn visit(
             list[place] = Watcher { slot, blocking };
             Ok(Next::Further)
         }
-        Visit::Moves(exchange) => {
-            move_watch(store, lists, list, place, l, exchange)?;
-            Ok(Next::Here)
-        }
+        Visit::Moves(exchange) => move_watch(store, lists, list, place, l, exchange),
         Visit::Unit(m) => {
             set_by(assumptions, reasons, m, slot);
             Ok(Next::Further)
@@ -155,22 +119,14 @@ fn visit_all(
     list: &mut Vec<Watcher>,
     l: Lit,
 ) -> Result<Option<u32>, OutOfMemory>
-    requires hand { IsInHand lists.old l }
-    requires listed { IsListed (maps.get store.old.live) (with_list lists.old l list.old.items) }
-    requires is_false { IsTrue (has assumptions.old.trail.lits (complement l)) }
-    requires room { HasRoomForAll assumptions.old.trail.reserved
-        (maps.get (each_in_order store.old.live)) }
-    requires noted { AreNoted (maps.get (each_in_order store.old.live)) (at reasons.old) }
+    requires can { CanVisit store.old.live lists.old list.old.items assumptions.old
+        (at reasons.old) l }
     ensures clash { IfOk result (λ found. IfSome found (λ s.
         IsFalseAt (maps.get (each_in_order store.new.live)) s assumptions.new.trail.lits)) }
     ensures met { IfOk result (λ found. IfNone found ((s : ℕ) (c : Clause) →
         maps.get store.new.live s ≡ Some c → IsMet c l assumptions.new.trail.lits)) }
-    ensures hand { IsInHand lists.new l }
-    ensures listed { IsListed (maps.get store.new.live) (with_list lists.new l list.new.items) }
-    ensures entries { entries_in lists.new + length list.new.items ≡
-        entries_in lists.old + length list.old.items }
-    ensures propagates { PropagatesTo store.old.live store.new.live assumptions.old assumptions.new
-        (at reasons.old) (at reasons.new) }
+    ensures visited { Visited store.old.live store.new.live lists.old lists.new list.old.items
+        list.new.items assumptions.old assumptions.new (at reasons.old) (at reasons.new) l }
 {
     let mut place = 0;
     while place < list.len() {
@@ -191,21 +147,14 @@ fn follow(
     reasons: &mut Table<u32>,
     l: Lit,
 ) -> Result<Option<u32>, OutOfMemory>
-    requires apart { AreApart lists.old }
-    requires listed { IsListed (maps.get store.old.live) (list_at lists.old) }
+    requires can { CanFollow store.old.live lists.old assumptions.old (at reasons.old) }
     requires is_false { IsTrue (has assumptions.old.trail.lits (complement l)) }
-    requires room { HasRoomForAll assumptions.old.trail.reserved
-        (maps.get (each_in_order store.old.live)) }
-    requires noted { AreNoted (maps.get (each_in_order store.old.live)) (at reasons.old) }
     ensures clash { IfOk result (λ found. IfSome found (λ s.
         IsFalseAt (maps.get (each_in_order store.new.live)) s assumptions.new.trail.lits)) }
     ensures met { IfOk result (λ found. IfNone found ((s : ℕ) (c : Clause) →
         maps.get store.new.live s ≡ Some c → IsMet c l assumptions.new.trail.lits)) }
-    ensures apart { AreApart lists.new }
-    ensures listed { IsListed (maps.get store.new.live) (list_at lists.new) }
-    ensures entries { entries_in lists.new ≡ entries_in lists.old }
-    ensures propagates { PropagatesTo store.old.live store.new.live assumptions.old assumptions.new
-        (at reasons.old) (at reasons.new) }
+    ensures followed { Followed store.old.live store.new.live lists.old lists.new
+        assumptions.old assumptions.new (at reasons.old) (at reasons.new) }
 {
     if !lists.has_list(l) {
         return Ok(None);
@@ -225,24 +174,17 @@ pub(crate) fn propagate(
     from: usize,
 ) -> Result<Option<u32>, OutOfMemory>
     requires from { from ≤ length assumptions.old.trail.lits }
-    requires apart { AreApart lists.old }
-    requires listed { IsListed (maps.get store.old.live) (list_at lists.old) }
+    requires can { CanFollow store.old.live lists.old assumptions.old (at reasons.old) }
     requires watched { IsWatched (maps.get store.old.live)
         (take from assumptions.old.trail.lits) assumptions.old.trail.lits }
-    requires room { HasRoomForAll assumptions.old.trail.reserved
-        (maps.get (each_in_order store.old.live)) }
-    requires noted { AreNoted (maps.get (each_in_order store.old.live)) (at reasons.old) }
     ensures clash { IfOk result (λ found. IfSome found (λ s.
         IsFalseAt (maps.get (each_in_order store.new.live)) s assumptions.new.trail.lits)) }
     ensures watched { IfOk result (λ found. IfNone found (IsWatched (maps.get store.new.live)
         assumptions.new.trail.lits assumptions.new.trail.lits)) }
     ensures quiet { IfOk result (λ found. IfNone found
         (IsFalse (conflicts assumptions.new.trail.lits))) }
-    ensures apart { AreApart lists.new }
-    ensures listed { IsListed (maps.get store.new.live) (list_at lists.new) }
-    ensures entries { entries_in lists.new ≡ entries_in lists.old }
-    ensures propagates { PropagatesTo store.old.live store.new.live assumptions.old assumptions.new
-        (at reasons.old) (at reasons.new) }
+    ensures followed { Followed store.old.live store.new.live lists.old lists.new
+        assumptions.old assumptions.new (at reasons.old) (at reasons.new) }
 {
     let mut done = from;
     while done < assumptions.trail().len() {

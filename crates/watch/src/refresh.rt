@@ -1,14 +1,15 @@
 //! What follows with nothing assumed, brought up to date.
 
-ghost use Rattle.std.specs.Prelude.{◌≡◌, ℕ, [], true, false, OnOk};
+ghost use Rattle.std.specs.Prelude.{◌≡◌, true, false, OnOk};
 ghost use Rattle.std.specs.FinMap as maps;
 ghost use Rattle.trail.specs.Trail.{HasRoomForAll};
 ghost use Rattle.theory.specs.Sets.{SameSet};
 ghost use Rattle.watch.specs.Code.Order.{each_in_order};
 ghost use Rattle.watch.specs.Code.Roots.{IsKept, is_lost, is_up_to_date};
-ghost use Rattle.watch_lists.specs.Lists.{AreApart, entries_in, list_at};
-ghost use Rattle.watch.specs.Code.Watched.{IsListed, IsShortList, short_for};
+ghost use Rattle.watch.specs.Code.Watched.{IsShortList};
 ghost use Rattle.watch.specs.Code.State.{IsWatch};
+ghost use Rattle.watch.specs.Code.Visits.{CanFollow, Followed};
+ghost use Rattle.tables.specs.Table.{at};
 
 use crate::follow::propagate;
 use crate::roots::{Kept, Roots};
@@ -42,48 +43,32 @@ fn start(store: &Store, short: &SlotList, assumptions: &mut Assumptions, roots: 
 ///
 /// # Errors
 ///
-/// Where memory runs out. Nothing is kept then.
+/// Where memory runs out. Of what is true then nothing is known.
 fn catch_up(
     store: &mut Store,
     lists: &mut WatchLists,
     assumptions: &mut Assumptions,
     roots: &mut Roots,
 ) -> Result<(), OutOfMemory>
-    requires nothing_assumed { assumptions.old.assumptions ≡ [] }
-    requires apart { AreApart lists.old }
-    requires listed { IsListed (maps.get store.old.live) (list_at lists.old) }
-    requires room { HasRoomForAll assumptions.old.trail.reserved
-        (maps.get (each_in_order store.old.live)) }
+    requires can { CanFollow store.old.live lists.old assumptions.old (at roots.old.reasons) }
     requires kept { IsKept store.old.live roots.old assumptions.old.trail.lits }
     requires known { is_lost roots.old.kept ≡ false }
-    ensures kept { IsKept store.new.live roots.new assumptions.new.trail.lits }
+    ensures kept { OnOk result (IsKept store.new.live roots.new assumptions.new.trail.lits) }
     ensures up_to_date { OnOk result (is_up_to_date roots.new.kept ≡ true) }
-    ensures same { each_in_order store.new.live ≡ each_in_order store.old.live }
-    ensures short { (s : ℕ) →
-        short_for (maps.get store.new.live s) ≡ short_for (maps.get store.old.live s) }
-    ensures apart { AreApart lists.new }
-    ensures listed { IsListed (maps.get store.new.live) (list_at lists.new) }
-    ensures entries { entries_in lists.new ≡ entries_in lists.old }
-    ensures reserved { SameSet assumptions.new.trail.reserved assumptions.old.trail.reserved }
-    ensures assumptions { assumptions.new.assumptions ≡ [] }
-    ensures starts { assumptions.new.starts ≡ assumptions.old.starts }
+    ensures followed { Followed store.old.live store.new.live lists.old lists.new assumptions.old
+        assumptions.new (at roots.old.reasons) (at roots.new.reasons) }
 {
     let Kept::Behind(from) = roots.kept else {
         return Ok(());
     };
-    match propagate(store, lists, assumptions, &mut roots.reasons, from) {
-        Ok(Some(slot)) => {
+    match propagate(store, lists, assumptions, &mut roots.reasons, from)? {
+        Some(slot) => {
             roots.kept = Kept::Clash(slot);
             Ok(())
         }
-        Ok(None) => {
+        None => {
             roots.kept = Kept::All;
             Ok(())
-        }
-        Err(refused) => {
-            assumptions.clear();
-            roots.kept = Kept::Lost;
-            Err(refused)
         }
     }
 }
@@ -111,5 +96,11 @@ pub(crate) fn refresh(
         return Ok(());
     }
     start(store, short, assumptions, roots);
-    catch_up(store, lists, assumptions, roots)
+    match catch_up(store, lists, assumptions, roots) {
+        Ok(()) => Ok(()),
+        Err(refused) => {
+            roots.forget(assumptions);
+            Err(refused)
+        }
+    }
 }

@@ -181,6 +181,19 @@ impl Roots {
         }
     }
 
+    /// Keeps nothing any more, where nothing is assumed. It takes no memory.
+    pub(crate) fn forget(&mut self, assumptions: &mut Assumptions)
+        requires { assumptions.old.assumptions ≡ [] }
+        ensures roots { self.new ≡ record self.old { kept = Lost } }
+        ensures lits { assumptions.new.trail.lits ≡ [] }
+        ensures reserved { SameSet assumptions.new.trail.reserved assumptions.old.trail.reserved }
+        ensures assumptions { assumptions.new.assumptions ≡ [] }
+        ensures starts { assumptions.new.starts ≡ assumptions.old.starts }
+    {
+        assumptions.clear();
+        self.kept = Kept::Lost;
+    }
+
     /// Takes note of a clause that is to be removed: nothing is kept any more where that rests on it. It takes no memory.
     pub(crate) fn leave(&mut self, store: &Store, assumptions: &mut Assumptions, slot: Slot)
         requires alive { IsSome (maps.get store.now.live slot) }
@@ -193,8 +206,7 @@ impl Roots {
         ensures starts { assumptions.new.starts ≡ assumptions.old.starts }
     {
         if self.rests_on(assumptions.trail(), store.clause(slot), slot.number()) {
-            assumptions.clear();
-            self.kept = Kept::Lost;
+            self.forget(assumptions);
         }
     }
 }

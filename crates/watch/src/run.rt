@@ -1,16 +1,14 @@
 //! Propagation after an assumption.
 
-ghost use Rattle.std.specs.Prelude.{◌≡◌, ℕ, ◌≤◌, length, take, Some, IfOk};
+ghost use Rattle.std.specs.Prelude.{◌≡◌, ℕ, ◌≤◌, length, take, IfOk};
 ghost use Rattle.std.specs.FinMap as maps;
 ghost use Rattle.cnf_base.specs.Literals.{has};
 ghost use Rattle.tables.specs.Table.{at};
 ghost use Rattle.propagation.specs.Assumptions.{IsAnswer};
-ghost use Rattle.trail.specs.Trail.{HasRoomForAll};
-ghost use Rattle.watch_lists.specs.Lists.{AreApart, entries_in, list_at};
 ghost use Rattle.watch.specs.Code.Order.{each_in_order};
-ghost use Rattle.watch.specs.Code.Roots.{AreNoted, HaveUnits};
-ghost use Rattle.watch.specs.Code.Watched.{IsListed, IsWatched};
-ghost use Rattle.watch.specs.Code.Visits.{PropagatesTo};
+ghost use Rattle.watch.specs.Code.Roots.{HaveUnits};
+ghost use Rattle.watch.specs.Code.Watched.{IsWatched};
+ghost use Rattle.watch.specs.Code.Visits.{CanFollow, Followed};
 ghost use Rattle.theory.specs.Propagation.{IsClosed};
 ghost use Rattle.propagation.specs.declared.answer.Answer.TheVariants.{Quiet};
 
@@ -30,25 +28,18 @@ pub(crate) fn run(
     from: usize,
 ) -> Result<Answer, OutOfMemory>
     requires from { from ≤ length assumptions.old.trail.lits }
-    requires apart { AreApart lists.old }
-    requires listed { IsListed (maps.get store.old.live) (list_at lists.old) }
+    requires can { CanFollow store.old.live lists.old assumptions.old (at reasons.old) }
     requires watched { IsWatched (maps.get store.old.live)
         (take from assumptions.old.trail.lits) assumptions.old.trail.lits }
     requires units { HaveUnits (maps.get store.old.live) assumptions.old.trail.lits }
-    requires room { HasRoomForAll assumptions.old.trail.reserved
-        (maps.get (each_in_order store.old.live)) }
-    requires noted { AreNoted (maps.get (each_in_order store.old.live)) (at reasons.old) }
     ensures answer { IfOk result (λ a. IsAnswer (maps.get (each_in_order store.old.live))
         assumptions.old.trail.lits a) }
     ensures closed { IfOk result (λ a. a ≡ Quiet → IsClosed
         (maps.get (each_in_order store.old.live)) (λ l. has assumptions.new.trail.lits l)) }
     ensures watched { IfOk result (λ a. a ≡ Quiet → IsWatched (maps.get store.new.live)
         assumptions.new.trail.lits assumptions.new.trail.lits) }
-    ensures apart { AreApart lists.new }
-    ensures listed { IsListed (maps.get store.new.live) (list_at lists.new) }
-    ensures entries { entries_in lists.new ≡ entries_in lists.old }
-    ensures propagates { PropagatesTo store.old.live store.new.live assumptions.old assumptions.new
-        (at reasons.old) (at reasons.new) }
+    ensures followed { Followed store.old.live store.new.live lists.old lists.new
+        assumptions.old assumptions.new (at reasons.old) (at reasons.new) }
 {
     let found = propagate(store, lists, assumptions, reasons, from)?;
     store.recall_invariant();

@@ -3,11 +3,10 @@
 ghost use Rattle.std.specs.Prelude.{◌≡◌, ℕ, ◌∷◌, [], Some, IsTrue, IfSome, IfNone};
 ghost use Rattle.std.specs.FinMap as maps;
 ghost use Rattle.tables.specs.Table.{at};
-ghost use Rattle.trail.specs.Trail.{HasRoomForAll};
 ghost use Rattle.watch.specs.Code.Order.{each_in_order};
-ghost use Rattle.watch.specs.Code.Roots.{AreNoted, HaveUnits, IsFalseAt};
+ghost use Rattle.watch.specs.Code.Roots.{HaveUnits, IsFalseAt};
 ghost use Rattle.watch.specs.Code.Watched.{IsShortList, is_short};
-ghost use Rattle.watch.specs.Code.Visits.{PropagatesTo};
+ghost use Rattle.watch.specs.Code.Visits.{CanSet, PropagatesTo};
 
 use crate::roots::set_by;
 use clause_db::{Slot, Store};
@@ -32,9 +31,7 @@ pub(crate) fn set_units(
     reasons: &mut Table<u32>,
 ) -> Option<u32>
     requires listed { IsShortList (maps.get store.now.live) slots.now }
-    requires room { HasRoomForAll assumptions.old.trail.reserved
-        (maps.get (each_in_order store.now.live)) }
-    requires noted { AreNoted (maps.get (each_in_order store.now.live)) (at reasons.old) }
+    requires can { CanSet store.now.live assumptions.old (at reasons.old) }
     ensures clash { IfSome result (λ s.
         IsFalseAt (maps.get (each_in_order store.now.live)) s assumptions.new.trail.lits) }
     ensures units { IfNone result

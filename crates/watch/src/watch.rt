@@ -5,17 +5,17 @@ ghost use Rattle.std.specs.Prelude.{false, IsTrue, IfOk, OnOk, OnErr, IfSome, If
 ghost use Rattle.std.specs.FinMap as maps;
 ghost use Rattle.cnf_base.specs.Literals.{Literal, complements, has};
 ghost use Rattle.theory.specs.Propagation.{Clash, Forced};
-ghost use Rattle.propagation.specs.Assumptions.{Assumes, HasAt, HoldsLiveAlone, IsAnswer};
-ghost use Rattle.propagation.specs.Assumptions.{MayAssume, assumed_by};
+ghost use Rattle.propagation.specs.Assumptions.{HasAt, HoldsLiveAlone, MayAssume};
+ghost use Rattle.propagation.specs.Code.Scan.{AssumesOn};
 ghost use Rattle.trail.specs.Trail.{HasRoom};
 ghost use Rattle.watch.specs.Code.Order.{each_in_order};
 ghost use Rattle.watch.specs.Code.Roots.{is_up_to_date};
-ghost use Rattle.watch.specs.Code.ClauseSource.{IsThere, clause_of};
+ghost use Rattle.watch.specs.Code.ClauseSource.{AssumingFrom, IsThere, clause_of};
 ghost use Rattle.watch.specs.Code.State.{IsWatch};
 ghost use Rattle.watch.specs.Watched.{long_clauses, short_clauses};
 
 use crate::arrange::arrange;
-use crate::clause_source::{ClauseSource, assume_from};
+use crate::clause_source::{ClauseSource, assume_from, reserve_given};
 use crate::entries::{add_entries, remove_entries};
 use crate::reason::is_reason_for_good;
 use crate::refresh::refresh;
@@ -26,6 +26,7 @@ use cnf_base::{Lit, OutOfMemory};
 use propagation::{Answer, Assumptions, Propagate, first_reduced, first_with};
 use std::alloc::Global;
 use std::marker::Model;
+use std::mem;
 use trail::{Except, LiteralSet, Part, Unless, Value, Whole};
 use watch_lists::{SlotList, WatchLists};
 
@@ -105,18 +106,13 @@ fn assume_part<P: Part>(
     source: &ClauseSource<'_>,
     part: &P,
 ) -> Result<Answer, OutOfMemory>
+    requires watch { IsWatch store.old.live lists.old short.now roots.old assumptions.old }
+    requires up_to_date { is_up_to_date roots.old.kept ≡ true }
     requires may { MayAssume assumptions.old.assumptions }
     requires alive { IsThere store.old.live source.now }
     requires room { HasRoom assumptions.old.trail.reserved (clause_of store.old.live source.now) }
-    requires up_to_date { is_up_to_date roots.old.kept ≡ true }
-    requires watch { IsWatch store.old.live lists.old short.now roots.old assumptions.old }
-    ensures answer { IfOk result (λ a. IsAnswer (maps.get (each_in_order store.old.live))
-        (assumed_by assumptions.old.assumptions ++ complements
-        (filter (P.keeps part.now) (clause_of store.old.live source.now))) a) }
-    ensures assumed { IfOk result (λ a. Assumes assumptions.old.assumptions
-        assumptions.new.assumptions a (assumed_by assumptions.old.assumptions ++ complements
-        (filter (P.keeps part.now) (clause_of store.old.live source.now)))) }
-    ensures err { OnErr result (assumptions.new.assumptions ≡ assumptions.old.assumptions) }
+    ensures assumed { AssumesOn (each_in_order store.old.live) assumptions.old assumptions.new
+        (complements (filter (P.keeps part.now) (clause_of store.old.live source.now))) result }
     ensures watch { IsWatch store.new.live lists.new short.now roots.new assumptions.new }
     ensures same { each_in_order store.new.live ≡ each_in_order store.old.live }
 {
@@ -256,6 +252,40 @@ impl Watch {
         refreshed
     }
 
+    /// Assumes the complements of a part of a clause, beside what is assumed, and propagates.
+    ///
+    /// # Errors
+    ///
+    /// Where memory runs out, and ever after. What is assumed is then as it was.
+    fn assume_source<P: Part>(
+        &mut self,
+        source: &ClauseSource<'_>,
+        part: &P,
+    ) -> Result<Answer, OutOfMemory>
+        requires may { MayAssume self.old.propagation.assumptions }
+        requires alive { IsThere self.old.propagation.live source.now }
+        ensures { AssumingFrom self.old.propagation self.new.propagation source.now
+            (P.keeps part.now) result }
+    {
+        self.prepare()?;
+        if reserve_given(&mut self.assumptions, source).is_err() {
+            self.has_refused = true;
+            return Err(OutOfMemory);
+        }
+        let assumed = assume_part(
+            &mut self.store,
+            &mut self.lists,
+            &self.short,
+            &mut self.assumptions,
+            &mut self.roots,
+            source,
+            part,
+        );
+        self.store.recall_invariant();
+        self.has_refused = assumed.is_err();
+        assumed
+    }
+
     /// Takes back the last assumption. What is known with nothing assumed stays. It takes no memory.
     pub fn take_back(&mut self)
         requires { self.old.propagation.assumptions ≢ [] }
@@ -320,58 +350,21 @@ impl Propagate for Watch {
     }
 
     fn assume(&mut self, lits: &[Lit]) -> Result<Answer, OutOfMemory> {
-        self.prepare()?;
-        if self.assumptions.reserve(lits).is_err() {
-            self.has_refused = true;
-            return Err(OutOfMemory);
-        }
-        let assumed = assume_part(
-            &mut self.store,
-            &mut self.lists,
-            &self.short,
-            &mut self.assumptions,
-            &mut self.roots,
-            &ClauseSource::Given(lits),
-            &Whole,
-        );
-        self.store.recall_invariant();
-        self.has_refused = assumed.is_err();
-        assumed
+        self.assume_source(&ClauseSource::Given(lits), &Whole)
     }
 
     fn assume_rest(&mut self, slot: Slot, l: Lit) -> Result<Answer, OutOfMemory> {
-        self.prepare()?;
-        let assumed = assume_part(
-            &mut self.store,
-            &mut self.lists,
-            &self.short,
-            &mut self.assumptions,
-            &mut self.roots,
-            &ClauseSource::Stored(slot),
-            &Except(l),
-        );
-        self.store.recall_invariant();
-        self.has_refused = assumed.is_err();
-        assumed
+        self.assume_source(&ClauseSource::Stored(slot), &Except(l))
     }
 
     fn assume_unless(&mut self, slot: Slot, set: &[Lit]) -> Result<Answer, OutOfMemory> {
-        self.prepare()?;
         if self.set.fill(set).is_err() {
             self.has_refused = true;
             return Err(OutOfMemory);
         }
-        let assumed = assume_part(
-            &mut self.store,
-            &mut self.lists,
-            &self.short,
-            &mut self.assumptions,
-            &mut self.roots,
-            &ClauseSource::Stored(slot),
-            &Unless(&self.set),
-        );
-        self.store.recall_invariant();
-        self.has_refused = assumed.is_err();
+        let filled = mem::replace(&mut self.set, LiteralSet::new(self.alloc));
+        let assumed = self.assume_source(&ClauseSource::Stored(slot), &Unless(&filled));
+        self.set = filled;
         assumed
     }
 

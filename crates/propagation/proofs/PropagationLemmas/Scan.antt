@@ -14,7 +14,7 @@ use Rattle.propagation.specs.Assumptions.{Assumes, Assuming, AssumptionsState, I
 use Rattle.propagation.specs.Assumptions.{Propagation, assumed_by}
 use Rattle.propagation.specs.Code.Exact.{IsExact, AreExact}
 use Rattle.theory.specs.Propagation.{Live, IsClosed, Forced, Clash}
-use Rattle.propagation.specs.Code.Scan.{IsHeld, IsScan}
+use Rattle.propagation.specs.Code.Scan.{AssumesOn, IsHeld, IsScan}
 use Rattle.clause_db.specs.Store.{StoreState, literals_in}
 use Rattle.trail.specs.Trail.{HasRoom, HasRoomForAll}
 use Rattle.theory.specs.Sets.{SameSet, conflicts}
@@ -124,12 +124,12 @@ module _ (live : FinMap nat_cmp Clause) (Roots : List Literal → Type 0) (sound
 -- what an assumption of the given literals does is what one of the added ones does
 pub assuming_from : {E : Type 0} (before after : Propagation) (live : FinMap nat_cmp Clause) (held last : AssumptionsState) (given added : List Literal) (r : Result Answer E) →
     live ≡ before.live → held.assumptions ≡ before.assumptions → given ≡ added → before.has_refused ≡ false → after.live ≡ live → after.stored ≡ literals_in after.live → after.assumptions ≡ last.assumptions → after.has_refused ≡ is_err r →
-    IfOk r (λ a. IsAnswer (maps.get live) (assumed_by held.assumptions ++ given) a) → IfOk r (λ a. Assumes held.assumptions last.assumptions a (assumed_by held.assumptions ++ given)) → OnErr r (last.assumptions ≡ held.assumptions) → Assuming before after added r
-assuming_from before after live held last given added (Ok answer) live_is held_is given_is none same alone after_is refused answers stands stays = record {
+    AssumesOn live held last given r → Assuming before after added r
+assuming_from before after live held last given added (Ok answer) live_is held_is given_is none same alone after_is refused assumed = record {
   answer = subst (λ m. IsAnswer (maps.get m) (assumed_by before.assumptions ++ added) answer) live_is
-      (subst (λ xs. IsAnswer (maps.get live) (assumed_by xs ++ added) answer) held_is (subst (λ ls. IsAnswer (maps.get live) (assumed_by held.assumptions ++ ls) answer) given_is answers));
+      (subst (λ xs. IsAnswer (maps.get live) (assumed_by xs ++ added) answer) held_is (subst (λ ls. IsAnswer (maps.get live) (assumed_by held.assumptions ++ ls) answer) given_is assumed.answer));
   stands = subst (λ xs. Assumes before.assumptions xs answer (assumed_by before.assumptions ++ added)) (sym after_is)
-      (subst (λ xs. Assumes xs last.assumptions answer (assumed_by xs ++ added)) held_is (subst (λ ls. Assumes held.assumptions last.assumptions answer (assumed_by held.assumptions ++ ls)) given_is stands));
+      (subst (λ xs. Assumes xs last.assumptions answer (assumed_by xs ++ added)) held_is (subst (λ ls. Assumes held.assumptions last.assumptions answer (assumed_by held.assumptions ++ ls)) given_is assumed.stands));
   live = same ∙ live_is;
   live_alone = alone;
   never_refused = none;
@@ -137,7 +137,7 @@ assuming_from before after live held last given added (Ok answer) live_is held_i
   refused = tt;
   stays = tt;
 }
-assuming_from before after live held last given added (Err e) live_is held_is given_is none same alone after_is refused answers stands stays = record {
+assuming_from before after live held last given added (Err e) live_is held_is given_is none same alone after_is refused assumed = record {
   answer = tt;
   stands = tt;
   live = same ∙ live_is;
@@ -145,7 +145,7 @@ assuming_from before after live held last given added (Err e) live_is held_is gi
   never_refused = tt;
   not_refused = tt;
   refused = refused;
-  stays = after_is ∙ stays ∙ held_is;
+  stays = after_is ∙ assumed.stays ∙ held_is;
 }
 
 -- the same literals in another order

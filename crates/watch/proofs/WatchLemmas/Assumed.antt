@@ -1,19 +1,24 @@
--- Assumptions of a part of a stored clause.
-use Rattle.std.proofs.Common.{◌≡◌, ℕ, ◌/◌, ◌++◌, Bool, true, false, filter, is_some, unwrap_or}
-use Rattle.std.proofs.Common.{Some, List, [], sym, ap, ◌∙◌}
+-- Assumptions of a part of a clause.
+use Rattle.std.proofs.Common.{◌≡◌, ℕ, ◌/◌, Bool, true, false, filter, is_some, unwrap_or, Some}
+use Rattle.std.proofs.Common.{List, [], refl, sym, ap, ◌∙◌}
 use Rattle.std.specs.Ordering.{nat_cmp}
 use Rattle.std.specs.FinMap as maps
 use Rattle.std.specs.FinMap.{FinMap}
-use Rattle.std.specs.Result.{IfOk, OnErr, is_err}
+use Rattle.std.specs.Result.{is_err}
 use Rattle.std.specs.declared.result.Result.{Result}
+use Rattle.std.specs.declared.result.Result.TheVariants.{Ok, Err}
+use Rattle.std.proofs.lemmas.Bool.{false≢true}
 use Rattle.cnf_base.specs.Literals.{Clause, Literal, complements, has}
 use Rattle.clause_db.specs.Store.{literals_in}
-use Rattle.trail.specs.Trail.{HasRoomForAll}
-use Rattle.propagation.specs.Assumptions.{Assumes, Assuming, AssumptionsState, IsAnswer}
-use Rattle.propagation.specs.Assumptions.{Propagation, assumed_by}
+use Rattle.trail.specs.Trail.{HasRoom, HasRoomForAll}
+use Rattle.propagation.specs.Assumptions.{Assuming, AssumptionsState, Propagation}
+use Rattle.propagation.specs.Code.Scan.{AssumesOn}
 use Rattle.propagation.specs.declared.answer.Answer.{Answer}
 use Rattle.propagation.proofs.PropagationLemmas.Scan.{assuming_alike, assuming_from}
+use Rattle.watch.specs.Code.ClauseSource.{AssumingFrom, HasRoomGiven, IsThere, clause_of}
 use Rattle.watch.specs.Code.Order.{each_in_order, in_order}
+use Rattle.watch.specs.declared.clause_source.ClauseSource.TheVariants.{Given, Stored}
+use Rattle.watch.specs.declared.clause_source.ClauseSource.{ClauseSource}
 use Rattle.watch.proofs.WatchLemmas.Order.{alive_alike, alive_clause, has-in_order, part_alike}
 use Rattle.watch.proofs.WatchLemmas.Order.{seen_there, there_seen}
 
@@ -31,9 +36,42 @@ module _ (live : FinMap nat_cmp Clause) (slot : ℕ) where
   -- what is assumed of it is assumed of the clause that is shown
   pub assuming_stored : {E : Type 0} (before after : Propagation) (held last : AssumptionsState) (keeps : Literal → Bool) (clause : Clause) (r : Result Answer E) →
       each_in_order live ≡ before.live → maps.get before.live slot ≡ Some clause → held.assumptions ≡ before.assumptions → before.has_refused ≡ false → after.live ≡ each_in_order live → after.stored ≡ literals_in after.live → after.assumptions ≡ last.assumptions → after.has_refused ≡ is_err r →
-      IfOk r (λ a. IsAnswer (maps.get (each_in_order live)) (assumed_by held.assumptions ++ complements (filter keeps (unwrap_or (maps.get live slot) []))) a) →
-      IfOk r (λ a. Assumes held.assumptions last.assumptions a (assumed_by held.assumptions ++ complements (filter keeps (unwrap_or (maps.get live slot) [])))) → OnErr r (last.assumptions ≡ held.assumptions) → Assuming before after (complements (filter keeps clause)) r
-  assuming_stored before after held last keeps clause r same here held_is none live_is alone after_is refused answers stands stays =
+      AssumesOn (each_in_order live) held last (complements (filter keeps (unwrap_or (maps.get live slot) []))) r → Assuming before after (complements (filter keeps clause)) r
+  assuming_stored before after held last keeps clause r same here held_is none live_is alone after_is refused assumed =
       let w = there_seen live slot clause (ap (λ m. maps.get m slot) same ∙ here) in
       assuming_alike before after (complements (filter keeps w.0)) (complements (filter keeps clause)) r (part_alike keeps w.0 clause (λ l. sym (w.2 l)))
-      (assuming_from before after (each_in_order live) held last _ (complements (filter keeps w.0)) r same held_is (ap (λ o. complements (filter keeps (unwrap_or o []))) w.1) none live_is alone after_is refused answers stands stays)
+      (assuming_from before after (each_in_order live) held last _ (complements (filter keeps w.0)) r same held_is (ap (λ o. complements (filter keeps (unwrap_or o []))) w.1) none live_is alone after_is refused assumed)
+
+-- ---- A clause that is given or stored
+
+module _ (live : FinMap nat_cmp Clause) where
+  pub source_there : (source : ClauseSource) (shown : FinMap nat_cmp Clause) → each_in_order live ≡ shown → IsThere shown source → IsThere live source
+  source_there (Given lits) shown same there = tt
+  source_there (Stored slot) shown same there = stored_there live slot shown same there
+
+  pub source_room : (source : ClauseSource) (reserved : List ℕ) → HasRoomForAll reserved (maps.get (each_in_order live)) → IsThere live source → HasRoomGiven reserved source → HasRoom reserved (clause_of live source)
+  source_room (Given lits) reserved room there given = given
+  source_room (Stored slot) reserved room there given = stored_room live slot reserved room there
+
+  pub assuming_source : {E : Type 0} (source : ClauseSource) (before after : Propagation) (held last : AssumptionsState) (keeps : Literal → Bool) (r : Result Answer E) →
+      each_in_order live ≡ before.live → held.assumptions ≡ before.assumptions → before.has_refused ≡ false → after.live ≡ each_in_order live → after.stored ≡ literals_in after.live → after.assumptions ≡ last.assumptions → after.has_refused ≡ is_err r →
+      AssumesOn (each_in_order live) held last (complements (filter keeps (clause_of live source))) r → AssumingFrom before after source keeps r
+  assuming_source (Given lits) before after held last keeps r same held_is none live_is alone after_is refused assumed =
+      assuming_from before after (each_in_order live) held last _ (complements (filter keeps lits.now)) r same held_is refl none live_is alone after_is refused assumed
+  assuming_source (Stored slot) before after held last keeps r same held_is none live_is alone after_is refused assumed =
+      λ clause here. assuming_stored live slot before after held last keeps clause r same here held_is none live_is alone after_is refused assumed
+
+-- ---- Where memory was refused
+
+pub assumed_none : {E : Type 0} (live : FinMap nat_cmp Clause) (before after : AssumptionsState) (added : List Literal) (r : Result Answer E) → is_err r ≡ true → after.assumptions ≡ before.assumptions → AssumesOn live before after added r
+assumed_none live before after added (Ok a) refused stays = absurd (false≢true refused)
+assumed_none live before after added (Err e) refused stays = record { answer = tt; stands = tt; stays = stays }
+
+module _ {E : Type 0} (before after : Propagation) (keeps : Literal → Bool) (r : Result Answer E) (is_refused : is_err r ≡ true) (same : after.live ≡ before.live) (alone : after.stored ≡ literals_in after.live) (refused : after.has_refused ≡ true) (stays : after.assumptions ≡ before.assumptions) where
+  assuming_none : (added : List Literal) (q : Result Answer E) → is_err q ≡ true → Assuming before after added q
+  assuming_none added (Ok a) is_refused = absurd (false≢true is_refused)
+  assuming_none added (Err e) is_refused = record { answer = tt; stands = tt; live = same; live_alone = alone; never_refused = tt; not_refused = tt; refused = refused; stays = stays }
+
+  pub refused_source : (source : ClauseSource) → AssumingFrom before after source keeps r
+  refused_source (Given lits) = assuming_none _ r is_refused
+  refused_source (Stored slot) = λ clause here. assuming_none _ r is_refused

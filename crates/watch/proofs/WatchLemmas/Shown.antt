@@ -1,11 +1,14 @@
 -- What follows from the clauses as they are shown follows from them as they are held.
-use Rattle.std.proofs.Common.{◌≡◌, ℕ, Some, List, [], sym, ◌∙◌}
+use Rattle.std.proofs.Common.{◌≡◌, ℕ, Bool, Some, List, [], sym, ap, ◌∙◌, subst}
 use Rattle.std.specs.Ordering.{nat_cmp}
 use Rattle.std.specs.FinMap as maps
 use Rattle.std.specs.FinMap.{FinMap}
+use Rattle.std.specs.Result.{IfOk}
+use Rattle.std.specs.declared.result.Result.{Result}
+use Rattle.std.proofs.lemmas.Result.{IfOk-weaker}
 use Rattle.cnf_base.specs.Literals.{Literal, Clause}
 use Rattle.cnf_base.proofs.SetLemmas.{same_from}
-use Rattle.theory.specs.Propagation.{Forced, IsRootReason}
+use Rattle.theory.specs.Propagation.{Live, Forced, IsRootReason}
 use Rattle.trail.specs.Trail.{HasRoomForAll}
 use Rattle.theory.proofs.PropagationLemmas.Covers.{Covers, forced_covers, reason_covers}
 use Rattle.watch.specs.Code.Order.{in_order, each_in_order}
@@ -37,3 +40,9 @@ module _ (live : FinMap nat_cmp Clause) where
     none_shown held r =
         let w = there_seen live slot d at in
         held w.0 w.1 (reason_covers (maps.get (each_in_order live)) (maps.get live) shown_covers d w.0 (same_from d w.0 (λ l h. sym (w.2 l) ∙ h) (λ l h. w.2 l ∙ h)) r)
+
+-- an answer that says something of the clause in the slot says it of the one that is shown
+pub answer_shown : {E : Type 0} (live shown : FinMap nat_cmp Clause) (slot : ℕ) (r : Result Bool E) (sought : Bool) (Says : Live → Clause → Type 0) → each_in_order live ≡ shown →
+    ((d : Clause) → maps.get (each_in_order live) slot ≡ Some d → ((c : Clause) → maps.get live slot ≡ Some c → Says (maps.get live) c) → Says (maps.get (each_in_order live)) d) →
+    IfOk r (λ b. b ≡ sought → (c : Clause) → maps.get live slot ≡ Some c → Says (maps.get live) c) → IfOk r (λ b. b ≡ sought → (d : Clause) → maps.get shown slot ≡ Some d → Says (maps.get shown) d)
+answer_shown live shown slot r sought Says same through = IfOk-weaker r _ _ (λ b held is d at. subst (λ m. Says (maps.get m) d) same (through d (ap (λ m. maps.get m slot) same ∙ at) (held is)))

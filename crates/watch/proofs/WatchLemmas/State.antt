@@ -21,8 +21,9 @@ use Rattle.watch.specs.Code.Order.{each_in_order}
 use Rattle.watch.specs.Code.Roots.{AreForced, IsKept, IsKnown, IsStanding, is_up_to_date}
 use Rattle.watch.specs.Code.State.{IsWatch}
 use Rattle.watch.specs.Code.Visits.{PropagatesTo, IsPart}
-use Rattle.watch.specs.Code.Watched.{AreWatched, IsListed, IsShortList, IsWatched, watches}
-use Rattle.watch.specs.Code.Watched.{is_short, entries_for, short_for}
+use Rattle.watch.specs.Code.Watched.{AreWatched, HasEntry, IsListed, IsShortList, IsWatched}
+use Rattle.watch.specs.Code.Watched.{NamesOwn}
+use Rattle.watch.specs.Code.Watched.{is_short, entries_for, short_for, watches}
 use Rattle.watch.specs.Watched.{long_clauses, short_clauses}
 use Rattle.propagation.specs.declared.answer.Answer.{Answer}
 use Rattle.propagation.specs.declared.answer.Answer.TheVariants.{Quiet}
@@ -270,8 +271,7 @@ module _ (live after : FinMap nat_cmp Clause) (lists lists2 : WatchLists) (short
   two two_each one_each listed rest = watch_alone after lists2 short2 roots2 held2 nothing room apart listed rest two_each one_each kept
 
   pub watch_added : maps.get live slot ≡ None → after ≡ maps.insert live slot c → slot < 4294967296 →
-      ((l s : ℕ) → entries_of s (list_at lists2 l) ≡ entries_of s (list_at lists l) + cond (watches c l && eqb s slot) 1 0) →
-      ((l s : ℕ) (d : Clause) → (s ≡ slot → d ≡ c) → foreign_blockers s d (list_at lists2 l) ≤ foreign_blockers s d (list_at lists l)) → ((s : ℕ) → times_in s short2 ≡ times_in s short + cond (is_short c && eqb s slot) 1 0) →
+      HasEntry c slot lists2 lists → NamesOwn c slot lists lists2 → ((s : ℕ) → times_in s short2 ≡ times_in s short + cond (is_short c && eqb s slot) 1 0) →
       entries_in lists2 ≡ entries_in lists + cond (is_short c) 0 2 → length short2 ≡ length short + cond (is_short c) 1 0 → IsWatch after lists2 short2 roots2 held2
   watch_added free is low times fewer short_times entries longer =
       let more = ap long_clauses is ∙ sum_insert (λ c. cond (nat_le 2 (size c)) 1 0) live slot c free in
@@ -319,8 +319,7 @@ module _ (live after : FinMap nat_cmp Clause) (lists lists2 : WatchLists) (short
       ]
 
   pub watch_removed : maps.get live slot ≡ Some c → after ≡ maps.remove live slot →
-      ((l s : ℕ) → entries_of s (list_at lists2 l) + cond (watches c l && eqb s slot) 1 0 ≡ entries_of s (list_at lists l)) →
-      ((l s : ℕ) (d : Clause) → foreign_blockers s d (list_at lists2 l) ≤ foreign_blockers s d (list_at lists l)) → ((s : ℕ) → times_in s short2 + cond (is_short c && eqb s slot) 1 0 ≡ times_in s short) →
+      HasEntry c slot lists lists2 → NamesOwn c slot lists lists2 → ((s : ℕ) → times_in s short2 + cond (is_short c && eqb s slot) 1 0 ≡ times_in s short) →
       entries_in lists2 + cond (is_short c) 0 2 ≡ entries_in lists → length short2 + cond (is_short c) 1 0 ≡ length short → IsWatch after lists2 short2 roots2 held2
   watch_removed there is times fewer short_times entries shorter =
       let less = sum_remove (λ c. cond (nat_le 2 (size c)) 1 0) live slot c there in
@@ -333,7 +332,7 @@ module _ (live after : FinMap nat_cmp Clause) (lists lists2 : WatchLists) (short
       let was_short = watch.one_each in
       two (omega (arith, less, as_map, weight, was, entries)) (omega (arith, less_short, as_map_short, weight_short, was_short, shorter))
       (record {
-        watched = λ l s. removed (λ o. entries_for o l) refl (watches c l) refl s (entries_of s (list_at lists2 l)) (times l s ∙ watch.listed.watched l s);
+        watched = λ l s. removed (λ o. entries_for o l) refl (watches c l) refl s (entries_of s (list_at lists2 l)) (sym (times l s) ∙ watch.listed.watched l s);
         low = λ s alive. elim (cases_eq s slot) [
           | inl e ↦ absurd (false≢true (sym (ap is_some (gone s e)) ∙ alive))
           | inr ne ↦ watch.listed.low s (ap is_some (sym (others s ne)) ∙ alive)
@@ -342,7 +341,7 @@ module _ (live after : FinMap nat_cmp Clause) (lists lists2 : WatchLists) (short
           | inl e ↦ absurd (none-some d (sym (gone s e) ∙ is_d))
           | inr ne ↦
               let none = watch.listed.own l s d (sym (others s ne) ∙ is_d) in
-              let left = fewer l s d in
+              let left = fewer l s d (λ e. absurd (ne e)) in
               omega (arith, none, left)
         ];
       }) (record { listed = λ s. removed short_for refl (is_short c) refl s (times_in s short2) (short_times s ∙ watch.rest.listed s) })

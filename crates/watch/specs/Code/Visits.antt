@@ -2,17 +2,22 @@
 use Rattle.std.specs.FinMap as maps
 use Rattle.std.specs.FinMap.{FinMap}
 use Rattle.std.specs.Ordering.{nat_cmp}
-use Rattle.std.specs.Prelude.{List, IsTrue, ◌≡◌, ◌≢◌, ◌<◌, ◌≤◌, length, slice_index, IsFalse, ℕ}
-use Rattle.std.specs.Prelude.{Option, IsSome, [], ◌==◌, if◌then◌else◌}
-use Rattle.cnf_base.specs.Literals.{Literal, has, complement, Clause}
+use Rattle.std.specs.Prelude.{List, IsTrue, ◌≡◌, ◌≢◌, ◌<◌, ◌≤◌, ◌+◌, length, slice_index, take}
+use Rattle.std.specs.Prelude.{IsFalse, ℕ, Option, Some, IsSome, Result, IfOk, [], ◌==◌}
+use Rattle.std.specs.Prelude.{if◌then◌else◌}
+use Rattle.cnf_base.specs.Literals.{Literal, has, complement, Clause, size}
 use Rattle.theory.specs.Propagation.{Forced}
+use Rattle.trail.specs.Trail.{HasRoomForAll}
 use Rattle.propagation.specs.Assumptions.{AssumptionsState}
 use Rattle.propagation.specs.Code.Exact.{Extends}
-use Rattle.watch_lists.specs.Lists.{AreApart, has_list_at, list_at}
+use Rattle.watch_lists.specs.Lists.{AreApart, entries_in, has_list_at, list_at, slot_at}
 use Rattle.watch.specs.Code.Order.{each_in_order}
-use Rattle.watch.specs.Code.Roots.{AreReasoned}
-use Rattle.watch.specs.Code.Watched.{IsWatched, short_for}
+use Rattle.watch.specs.Code.Roots.{AreNoted, AreReasoned, IsFalseAt}
+use Rattle.watch.specs.Code.Watched.{IsListed, IsMet, IsWatched, short_for}
 use Rattle.watch_lists.specs.declared.lists.WatchLists.{WatchLists}
+use Rattle.watch.specs.declared.follow.Next.TheVariants.{Further, Here, Nothing}
+use Rattle.watch.specs.declared.follow.Next.{Next}
+use Rattle.watch.specs.declared.visit.Exchange.{Exchange}
 use Rattle.watch.specs.declared.visit.Visit.TheVariants.{Stays, Moves, Unit, Clash}
 use Rattle.watch.specs.declared.visit.Visit.{Visit}
 use Rattle.watch_lists.specs.declared.watcher.Watcher.{Watcher}
@@ -21,13 +26,30 @@ use Rattle.watch_lists.specs.declared.watcher.Watcher.{Watcher}
 abbrev pub IsPart : List Literal → List Literal → Type 0
 IsPart part whole = (l : Literal) → IsTrue (has part l) → IsTrue (has whole l)
 
+-- the clause can watch the literal `next` in place of `l`
+pub record IsExchange (c : Clause) (l : Literal) (x : Exchange) : Type 0 where
+  -- `l` stands at one of the two places that are watched
+  pub from_low : x.from < 2
+  pub from_is : slice_index c x.from ≡ l
+  -- `next` stands at another place
+  pub to_high : 2 ≤ x.to
+  pub to_inside : x.to < length c
+  pub to_is : slice_index c x.to ≡ x.next
+  -- `other` is a literal of the clause
+  pub has_other : IsTrue (has c x.other)
+
+-- so can the clause in the slot, which has no literal twice
+pub record IsExchangeAt (live : FinMap nat_cmp Clause) (slot : ℕ) (l : Literal) (x : Exchange)
+    : Type 0 where
+  pub clause : Clause
+  pub at : maps.get live slot ≡ Some clause
+  pub different : size clause ≡ length clause
+  pub exchange : IsExchange clause l x
+
 -- what is to be done with a clause that watches a literal which became false
 abbrev pub IsVisit : List Literal → Clause → Literal → Visit → Type 0
 IsVisit trues c l (Stays other) = IsTrue (has c other) × IsTrue (has trues other)
-IsVisit trues c l (Moves x) =
-    (x.from < 2) × (slice_index c x.from ≡ l) × (2 ≤ x.to) × (x.to < length c)
-    × (slice_index c x.to ≡ x.next) × IsFalse (has trues (complement x.next))
-    × IsTrue (has c x.other)
+IsVisit trues c l (Moves x) = IsExchange c l x × IsFalse (has trues (complement x.next))
 IsVisit trues c l (Unit m) =
     IsTrue (has c m) × IsFalse (has trues (complement m))
     × ((k : Literal) → IsTrue (has c k) → k ≢ m → IsTrue (has trues (complement k)))
@@ -50,12 +72,90 @@ pub record PropagatesTo (before after : FinMap nat_cmp Clause) (held now : Assum
   pub reasoned : AreReasoned (maps.get (each_in_order before)) reason_of held.trail.lits →
       AreReasoned (maps.get (each_in_order before)) reason_now now.trail.lits
 
--- the list of the literal is in hand, and an empty one in its place
-pub record IsInHand (lists : WatchLists) (l : Literal) : Type 0 where
-  pub known : IsTrue (has_list_at lists l)
-  pub taken : list_at lists l ≡ []
+-- there is room for all literals of the clauses to become true, and for the reason of each
+pub record CanSet (live : FinMap nat_cmp Clause) (held : AssumptionsState)
+    (reason_of : Literal → Option ℕ) : Type 0 where
+  pub room : HasRoomForAll held.trail.reserved (maps.get (each_in_order live))
+  pub noted : AreNoted (maps.get (each_in_order live)) reason_of
+
+-- ---- All lists
+
+-- what follows from the literals that are true can be sought
+pub record CanFollow (live : FinMap nat_cmp Clause) (lists : WatchLists) (held : AssumptionsState)
+    (reason_of : Literal → Option ℕ) : Type 0 where
+  -- no two literals share a list
   pub apart : AreApart lists
+  -- each clause stands in the lists where it should
+  pub listed : IsListed (maps.get live) (list_at lists)
+  -- more literals can become true
+  pub can_set : CanSet live held reason_of
+
+-- visits moved clauses from list to list and made literals true, and no more
+pub record Followed (before after : FinMap nat_cmp Clause) (lists lists_now : WatchLists)
+    (held now : AssumptionsState) (reason_of reason_now : Literal → Option ℕ) : Type 0 where
+  pub apart : AreApart lists_now
+  pub listed : IsListed (maps.get after) (list_at lists_now)
+  -- there are as many entries as before
+  pub entries : entries_in lists_now ≡ entries_in lists
+  -- what is true now was forced
+  pub propagates : PropagatesTo before after held now reason_of reason_now
+
+-- ---- A list in hand
 
 -- the lists with the one that is in hand
 abbrev pub with_list : WatchLists → Literal → List Watcher → Literal → List Watcher
 with_list lists l list k = if k == l then list else list_at lists k
+
+-- the list of the literal is in hand
+pub record IsInHand (live : FinMap nat_cmp Clause) (lists : WatchLists) (list : List Watcher)
+    (l : Literal) : Type 0 where
+  -- the literal has a list
+  pub known : IsTrue (has_list_at lists l)
+  -- an empty one stands in its place
+  pub taken : list_at lists l ≡ []
+  -- no two literals share a list
+  pub apart : AreApart lists
+  -- with it each clause stands in the lists where it should
+  pub listed : IsListed (maps.get live) (with_list lists l list)
+
+-- the clauses of the list in hand can be visited
+pub record CanVisit (live : FinMap nat_cmp Clause) (lists : WatchLists) (list : List Watcher)
+    (held : AssumptionsState) (reason_of : Literal → Option ℕ) (l : Literal) : Type 0 where
+  pub hand : IsInHand live lists list l
+  -- the literal became false
+  pub is_false : IsTrue (has held.trail.lits (complement l))
+  -- more literals can become true
+  pub can_set : CanSet live held reason_of
+
+-- visits moved clauses from the list in hand to others and made literals true, and no more
+pub record Visited (before after : FinMap nat_cmp Clause) (lists lists_now : WatchLists)
+    (list list_now : List Watcher) (held now : AssumptionsState)
+    (reason_of reason_now : Literal → Option ℕ) (l : Literal) : Type 0 where
+  pub hand : IsInHand after lists_now list_now l
+  -- there are as many entries as before
+  pub entries : entries_in lists_now + length list_now ≡ entries_in lists + length list
+  -- what is true now was forced
+  pub propagates : PropagatesTo before after held now reason_of reason_now
+
+-- the entry at the place still stands there, and its clause has a true literal
+pub record IsFurther (after : FinMap nat_cmp Clause) (list list_now : List Watcher) (place : ℕ)
+    (l : Literal) (trues : List Literal) : Type 0 where
+  pub as_long : length list_now ≡ length list
+  pub same_slot : slot_at list_now place ≡ slot_at list place
+  pub met : (c : Clause) → maps.get after (slot_at list place) ≡ Some c → IsMet c l trues
+
+-- what comes after a visit
+abbrev pub IsNext : FinMap nat_cmp Clause → List Watcher → List Watcher → ℕ → Literal →
+    List Literal → Next → Type 0
+IsNext after list list_now place l trues Further = IsFurther after list list_now place l trues
+IsNext after list list_now place l trues Here = length list_now + 1 ≡ length list
+IsNext after list list_now place l trues (Nothing slot) =
+    IsFalseAt (maps.get (each_in_order after)) slot trues
+
+-- the clause of the entry at the place was visited, and no other
+pub record IsVisited {E : Type 0} (before after : FinMap nat_cmp Clause)
+    (list list_now : List Watcher) (place : ℕ) (l : Literal) (trues : List Literal)
+    (result : Result Next E) : Type 0 where
+  pub next : IfOk result (λ next. IsNext after list list_now place l trues next)
+  pub front : take place list_now ≡ take place list
+  pub others : (s : ℕ) → s ≢ slot_at list place → maps.get after s ≡ maps.get before s

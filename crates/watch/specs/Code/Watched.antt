@@ -1,12 +1,13 @@
 -- Watched literals: the first two of each clause of two literals or more (as solvers and DRAT-trim
 -- have them; our own profile).
-use Rattle.std.specs.Prelude.{◌==◌, ◌||◌, Bool, false, [], ◌∷◌, true, ℕ, Option, Some, None}
-use Rattle.std.specs.Prelude.{if◌then◌else◌, ◌≡◌, ◌<◌, List, IsSome, IsTrue, ⊤, take}
+use Rattle.std.specs.Prelude.{◌==◌, ◌||◌, ◌&&◌, ◌+◌, ◌≤◌, Bool, false, [], ◌∷◌, true, ℕ, Option}
+use Rattle.std.specs.Prelude.{Some, None, if◌then◌else◌, ◌≡◌, ◌<◌, List, IsSome, IsTrue, ⊤, take}
 use Rattle.cnf_base.specs.Literals.{Literal, Clause, has, complement}
 use Rattle.theory.specs.Propagation.{Live}
 use Rattle.propagation.specs.Assumptions.{Assumption}
 use Rattle.propagation.specs.declared.answer.Answer.TheVariants.{Quiet}
-use Rattle.watch_lists.specs.Lists.{entries_of, foreign_blockers, times_in}
+use Rattle.watch_lists.specs.Lists.{entries_of, foreign_blockers, list_at, times_in}
+use Rattle.watch_lists.specs.declared.lists.WatchLists.{WatchLists}
 use Rattle.watch_lists.specs.declared.watcher.Watcher.{Watcher}
 
 -- whether a clause watches a literal
@@ -43,6 +44,19 @@ pub record IsListed (live : Live) (list_of : Literal → List Watcher) : Type 0 
 -- a slot of a short clause stands once in this list, and nothing else does
 pub record IsShortList (live : Live) (short : List ℕ) : Type 0 where
   pub listed : (s : ℕ) → times_in s short ≡ short_for (live s)
+
+-- the lists of the literals that the clause watches have one entry more for the slot, and no other
+-- list has more or fewer
+abbrev pub HasEntry : Clause → ℕ → WatchLists → WatchLists → Type 0
+HasEntry c slot lists lists_without =
+    (l s : ℕ) → entries_of s (list_at lists l) ≡
+    entries_of s (list_at lists_without l) + (if watches c l && s == slot then 1 else 0)
+
+-- no entry has come that names a literal which isn't one of its clause, where the slot has this one
+abbrev pub NamesOwn : Clause → ℕ → WatchLists → WatchLists → Type 0
+NamesOwn c slot before after =
+    (l s : ℕ) (d : Clause) → (s ≡ slot → d ≡ c) →
+    foreign_blockers s d (list_at after l) ≤ foreign_blockers s d (list_at before l)
 
 -- ---- Where literals are false
 

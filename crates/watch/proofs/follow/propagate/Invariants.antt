@@ -1,19 +1,15 @@
-use Rattle.std.proofs.Common.{◌≡◌, ◌-◌, ◌≤◌, length, take}
+use Rattle.std.proofs.Common.{◌-◌, ◌≤◌, length, take}
 use Rattle.std.specs.FinMap as maps
 use Rattle.tables.specs.Table.{at}
-use Rattle.watch_lists.specs.Lists.{AreApart, entries_in, list_at}
-use Rattle.watch.specs.Code.Watched.{IsListed, IsWatched}
-use Rattle.watch.specs.Code.Visits.{PropagatesTo}
+use Rattle.watch.specs.Code.Watched.{IsWatched}
+use Rattle.watch.specs.Code.Visits.{Followed}
 use Rattle.watch.proofs.follow.propagate.Given as goal
 
 abbrev pub invariant-loop-done : goal.invariant-loop-done
 invariant-loop-done l = record {
   inside : l.done ≤ length l.assumptions.trail.lits;
-  apart : AreApart l.lists;
-  listed : IsListed (maps.get l.store.live) (list_at l.lists);
-  entries : entries_in l.lists ≡ entries_in l.fn.lists;
   watched : IsWatched (maps.get l.store.live) (take l.done l.assumptions.trail.lits) l.assumptions.trail.lits;
-  propagates : PropagatesTo l.fn.store.live l.store.live l.fn.assumptions l.assumptions (at l.fn.reasons) (at l.reasons);
+  followed : Followed l.fn.store.live l.store.live l.fn.lists l.lists l.fn.assumptions l.assumptions (at l.fn.reasons) (at l.reasons);
 }
 
 abbrev pub decreases-loop-done : goal.decreases-loop-done

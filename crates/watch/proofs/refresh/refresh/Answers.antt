@@ -1,9 +1,37 @@
-use Rattle.std.proofs.Common.{◌∙◌}
+use Rattle.std.proofs.Common.{◌/◌, sym, ◌∙◌, subst}
+use Rattle.std.specs.FinMap as maps
+use Rattle.tables.specs.Table.{at}
+use Rattle.watch.specs.Code.Order.{each_in_order}
+use Rattle.watch.specs.Code.Roots.{IsKept}
+use Rattle.watch.proofs.WatchLemmas.Kept.{noted_carried, nothing_stands}
+use Rattle.watch.proofs.WatchLemmas.Reasons.{reasoned_none}
 use Rattle.watch.proofs.WatchLemmas.State.{watch_refreshed}
 use Rattle.watch.proofs.refresh.refresh.Goals as goal
 
-pub returns-clause-watch : goal.returns-clause-watch
-returns-clause-watch c =
-    let e = c.catch_up.ensures in
-    watch_refreshed c.args.store.now.live c.catch_up.new.store.live c.args.lists.now c.catch_up.new.lists c.args.short.now c.args.roots.now c.catch_up.new.roots c.args.assumptions.now c.catch_up.new.assumptions c.requires.watch e.assumptions
-    (λ v. e.reserved v ∙ c.start.ensures.reserved v) e.same e.short e.apart e.listed e.entries e.kept
+pub catch_up-requires-clause-can : goal.catch_up-requires-clause-can
+catch_up-requires-clause-can c =
+    let watch = c.requires.watch in
+    record { apart = watch.apart; listed = watch.listed; can_set = record { room = record { each = λ k d here l member. c.start.ensures.reserved (l / 2) ∙ watch.scan.room.each k d here l member }; noted = c.start.ensures.kept.noted } }
+
+pub returns-in-Ok-clause-watch : goal.returns-in-Ok-clause-watch
+returns-in-Ok-clause-watch c =
+    let e = c.catch_up.ensures.followed in
+    let p = e.propagates in
+    watch_refreshed c.args.store.now.live c.catch_up.new.store.live c.args.lists.now c.catch_up.new.lists c.args.short.now c.args.roots.now c.catch_up.new.roots c.args.assumptions.now c.catch_up.new.assumptions c.requires.watch
+    (p.extends.assumptions ∙ c.start.ensures.assumptions ∙ nothing_stands c.args.roots.now.kept c.args.assumptions.now.assumptions c.requires.watch.standing (sym c.is_up_to_date.ensures ∙ c.if-is_up_to_date.false))
+    (λ v. p.extends.reserved v ∙ c.start.ensures.reserved v) p.same p.short e.apart e.listed e.entries c.in-Ok.ensures.kept
+
+pub returns-in-Err-clause-watch : goal.returns-in-Err-clause-watch
+returns-in-Err-clause-watch c =
+    let after = c.catch_up.new.store.live in
+    let roots = c.catch_up.new.roots in
+    let e = c.catch_up.ensures.followed in
+    let p = e.propagates in
+    let none = c.forget.ensures.lits in
+    watch_refreshed c.args.store.now.live after c.args.lists.now c.catch_up.new.lists c.args.short.now c.args.roots.now c.forget.new.self c.args.assumptions.now c.forget.new.assumptions c.requires.watch c.forget.ensures.assumptions
+    (λ v. c.forget.ensures.reserved v ∙ p.extends.reserved v ∙ c.start.ensures.reserved v) p.same p.short e.apart e.listed e.entries
+    (subst (λ r. IsKept after r c.forget.new.assumptions.trail.lits) (sym c.forget.ensures.roots) (record {
+      noted = noted_carried c.args.store.now.live after c.start.new.assumptions c.catch_up.new.assumptions (at c.start.new.roots.reasons) (at roots.reasons) p c.start.ensures.kept.noted;
+      reasoned = reasoned_none (maps.get (each_in_order after)) (at roots.reasons) c.forget.new.assumptions.trail.lits none;
+      known = none;
+    }))

@@ -14,27 +14,22 @@ use Rattle.watch.proofs.run.run.Goals as goal
 
 pub returns-in-Some-clause-answer : goal.returns-in-Some-clause-answer
 returns-in-Some-clause-answer c =
-    clash_from c.args.store.now.live c.propagate.new.store.live c.args.assumptions.now c.propagate.new.assumptions (at c.args.reasons.now) (at c.propagate.new.reasons) c.propagate.ensures.propagates c.in-Some.field-0
+    clash_from c.args.store.now.live c.propagate.new.store.live c.args.assumptions.now c.propagate.new.assumptions (at c.args.reasons.now) (at c.propagate.new.reasons) c.propagate.ensures.followed.propagates c.in-Some.field-0
     (subst (λ o. IfSome o (λ s. IsFalseAt (maps.get (each_in_order c.propagate.new.store.live)) s c.propagate.new.assumptions.trail.lits)) c.in-Some.is c.in_ok-found.ensures.clash)
 
-pub returns-in-None-clause-answer : goal.returns-in-None-clause-answer
-returns-in-None-clause-answer c = λ clash.
+pub returns-in-None : goal.returns-in-None
+returns-in-None c =
     let held = c.args.assumptions.now in
     let after = c.propagate.new.store.live in
     let trues = c.propagate.new.assumptions.trail.lits in
-    let e = c.propagate.ensures.propagates in
+    let f = c.propagate.ensures.followed in
+    let e = f.propagates in
     let units = units_kept c.args.store.now.live after held c.propagate.new.assumptions (at c.args.reasons.now) (at c.propagate.new.reasons) e c.requires.units in
     let watched = subst (λ o. IfNone o (IsWatched (maps.get after) trues trues)) c.in-None.is c.in_ok-found.ensures.watched in
     let quiet = subst (λ o. IfNone o (conflicts trues ≡ false)) c.in-None.is c.in_ok-found.ensures.quiet in
-    all_quiet after trues c.recall_invariant.ensures.different units watched quiet held.trail.lits (λ l h. has_begun held.trail.lits trues l e.extends.begins h) (subst (λ m. Clash (maps.get m) held.trail.lits) (sym e.same) clash)
-
-pub returns-in-None-clause-closed : goal.returns-in-None-clause-closed
-returns-in-None-clause-closed c = λ _.
-    let held = c.args.assumptions.now in
-    let after = c.propagate.new.store.live in
-    let trues = c.propagate.new.assumptions.trail.lits in
-    let e = c.propagate.ensures.propagates in
-    let units = units_kept c.args.store.now.live after held c.propagate.new.assumptions (at c.args.reasons.now) (at c.propagate.new.reasons) e c.requires.units in
-    let watched = subst (λ o. IfNone o (IsWatched (maps.get after) trues trues)) c.in-None.is c.in_ok-found.ensures.watched in
-    let quiet = subst (λ o. IfNone o (conflicts trues ≡ false)) c.in-None.is c.in_ok-found.ensures.quiet in
-    subst (λ m. IsClosed (maps.get m) (λ l. has trues l)) e.same (all_closed after trues c.recall_invariant.ensures.different units watched quiet)
+    let different = c.recall_invariant.ensures.different in record {
+      answer = λ clash. all_quiet after trues different units watched quiet held.trail.lits (λ l h. has_begun held.trail.lits trues l e.extends.begins h) (subst (λ m. Clash (maps.get m) held.trail.lits) (sym e.same) clash);
+      closed = λ _. subst (λ m. IsClosed (maps.get m) (λ l. has trues l)) e.same (all_closed after trues different units watched quiet);
+      watched = λ _. watched;
+      followed = f;
+    }

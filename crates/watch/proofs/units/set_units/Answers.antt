@@ -1,13 +1,14 @@
-use Rattle.std.proofs.Common.{◌≡◌, [], true, ◌&&◌, cond, eqb, Some, is_some, sym, ap, ◌∙◌, subst}
+use Rattle.std.proofs.Common.{rules, ◌≡◌, [], true, ◌&&◌, cond, eqb, Some, is_some, sym, ap, ◌∙◌}
+use Rattle.std.proofs.Common.{subst}
 use Rattle.std.specs.FinMap as maps
 use Rattle.tables.specs.Table.{at}
 use Rattle.cnf_base.specs.Literals.{complement, has}
 use Rattle.cnf_base.proofs.SetLemmas.{has_head}
-use Rattle.watch.specs.Code.Order.{each_in_order, in_order}
+use Rattle.watch.specs.Code.Order.{each_in_order}
 use Rattle.watch.specs.Code.Roots.{IsFalseAt}
 use Rattle.trail.proofs.TrailLemmas.Longer.{has_begun}
 use Rattle.watch.proofs.WatchLemmas.PropagatesTo.{propagates_on, propagates_unit, clashes}
-use Rattle.watch.proofs.WatchLemmas.Order.{has-in_order, seen_there}
+use Rattle.watch.proofs.WatchLemmas.Visited.{can_set_on, room_for}
 use Rattle.watch.proofs.WatchLemmas.Units.{all_units, no_literal, only_literal, short_alive}
 use Rattle.watch.proofs.WatchLemmas.Units.{units_more, set_by}
 use Rattle.watch.proofs.units.set_units.Goals as goal
@@ -28,19 +29,13 @@ returns-then-is_false-clause-clash c =
     (clashes live state c.at.result c.clause-clause.result.now (sym c.clause-clause.ensures.clause)
     (λ k h. subst (λ x. has state.trail.lits (complement x) ≡ true) (only_literal c.clause-clause.result.now c.in-Some.l c.in-Some.ensures.one k h) l_false))
 
-pub set_by-requires-clause-reserved : goal.set_by-requires-clause-reserved
-set_by-requires-clause-reserved c =
-    let live = c.args.store.now.live in
+pub set_by-requires : goal.set_by-requires
+set_by-requires c =
     let d = c.clause-clause.result.now in
-    let member = ap (λ x. has x c.in-Some.l) c.in-Some.ensures.one ∙ has_head c.in-Some.l [] in
-    c.loop-place.invariant.propagates.extends.reserved _ ∙ c.requires.room.each c.at.result (in_order d) (seen_there live c.at.result d (sym c.clause-clause.ensures.clause)) c.in-Some.l (has-in_order d c.in-Some.l ∙ member)
-
-pub set_by-requires-clause-noted : goal.set_by-requires-clause-noted
-set_by-requires-clause-noted c =
-    let live = c.args.store.now.live in
-    let d = c.clause-clause.result.now in
-    let member = ap (λ x. has x c.in-Some.l) c.in-Some.ensures.one ∙ has_head c.in-Some.l [] in
-    c.loop-place.invariant.propagates.noted c.in-Some.l (c.requires.noted.each c.at.result (in_order d) (seen_there live c.at.result d (sym c.clause-clause.ensures.clause)) c.in-Some.l (has-in_order d c.in-Some.l ∙ member))
+    let l = c.in-Some.l in
+    let member = ap (λ x. has x l) c.in-Some.ensures.one ∙ has_head l [] in
+    let room = room_for (can_set_on c.requires.can c.loop-place.invariant.propagates) c.at.result d (sym c.clause-clause.ensures.clause) l member in
+    record { reserved = room.0; not_false = search rules; noted = room.1 }
 
 pub loop-place-preserved : goal.loop-place-preserved
 loop-place-preserved c =

@@ -1,4 +1,5 @@
-use Rattle.std.proofs.Common.{[], refl, ◌++◌, filter, take, length, sym, ◌∙◌, ap, subst}
+use Rattle.std.proofs.Common.{rules, [], refl, ◌++◌, drop, filter, take, length, sym, ◌∙◌, ap}
+use Rattle.std.proofs.Common.{subst}
 use Rattle.std.specs.Bool.{OnFalse}
 use Rattle.std.specs.FinMap as maps
 use Rattle.cnf_base.specs.Literals.{complements, has}
@@ -12,26 +13,43 @@ use Rattle.propagation.proofs.PropagationLemmas.Scan.{part_clashes, part_answer,
 use Rattle.propagation.proofs.PropagationLemmas.Scan.{scan_after}
 use Rattle.propagation.proofs.PropagationLemmas.Exact.{begins_on, longer_from}
 use Rattle.theory.proofs.PropagationLemmas.Forced.{clash_through}
+use Rattle.watch.proofs.WatchLemmas.Assumed.{assumed_none}
 use Rattle.watch.proofs.WatchLemmas.Kept.{kept_clash, kept_forced}
 use Rattle.std.proofs.lemmas.Bool.{false≢true}
 use Rattle.watch.proofs.WatchLemmas.State.{watch_answered, watch_undone}
 use Rattle.watch.proofs.watch.assume_part.Goals as goal
 
-pub returns-then-branch-clause-answer : goal.returns-then-branch-clause-answer
-returns-then-branch-clause-answer g c =
-    part_clashes (each_in_order c.args.store.now.live) (AreForced (maps.get (each_in_order c.args.store.now.live))) (λ ls forced. forced) c.args.assumptions.now c.assume_from.new.assumptions (complements (filter (g.P.Part.keeps c.args.part.now) (clause_of c.args.store.now.live c.args.source.now)))
-    c.requires.may c.requires.watch.scan (sym c.in_ok-assume_from.ensures.conflict ∙ c.if-branch.true)
+pub returns-in_err-assume_from-clause-assumed : goal.returns-in_err-assume_from-clause-assumed
+returns-in_err-assume_from-clause-assumed g c = assumed_none _ c.args.assumptions.now _ _ c.from_residual.result (search rules) (ap (λ h. h.assumptions) c.in_err-assume_from.ensures.err)
 
-pub returns-in-Ok-clause-answer : goal.returns-in-Ok-clause-answer
-returns-in-Ok-clause-answer g c =
-    let added = complements (filter (g.P.Part.keeps c.args.part.now) (clause_of c.args.store.now.live c.args.source.now)) in
-    part_answer (each_in_order c.args.store.now.live) (AreForced (maps.get (each_in_order c.args.store.now.live))) (λ ls forced. forced) c.args.assumptions.now c.assume_from.new.assumptions added c.requires.may c.requires.watch.scan
-    (subst (λ b. OnFalse b (SameSet c.assume_from.new.assumptions.trail.lits (c.args.assumptions.now.trail.lits ++ added))) c.if-branch.false c.in_ok-assume_from.ensures.added)
-    c.in-Ok.answer c.in-Ok.ensures.answer
-
-pub returns-in-Ok-clause-watch : goal.returns-in-Ok-clause-watch
-returns-in-Ok-clause-watch g c =
+pub returns-then-branch-clause-assumed : goal.returns-then-branch-clause-assumed
+returns-then-branch-clause-assumed g c =
     let live = c.args.store.now.live in
+    let held = c.args.assumptions.now in
+    let e = c.in_ok-assume_from.ensures in record {
+      answer = part_clashes (each_in_order live) (AreForced (maps.get (each_in_order live))) (λ ls forced. forced) held c.assume_from.new.assumptions (complements (filter (g.P.Part.keeps c.args.part.now) (clause_of live c.args.source.now)))
+          c.requires.may c.requires.watch.scan (sym e.conflict ∙ c.if-branch.true);
+      stands = record { all = e.assumed.0; stands = e.assumed.1; same = λ quiet. absurd (let wrong : ⊥ = cc in wrong) };
+      stays = tt;
+    }
+
+pub returns-then-has_clash-clause-assumed : goal.returns-then-has_clash-clause-assumed
+returns-then-has_clash-clause-assumed g c =
+    let live = c.args.store.now.live in
+    let held = c.args.assumptions.now in
+    let roots = c.args.roots.now in
+    let lits = roots_in held.trail.lits held.assumptions held.starts in
+    let kept = c.requires.watch.kept in
+    let e = c.in_ok-assume_from.ensures in record {
+      answer = clash_through (maps.get (each_in_order live)) [] _ (λ a h. absurd (false≢true h)) (kept_clash live roots.kept lits (sym c.has_clash.ensures ∙ c.if-has_clash.true) (kept_forced live roots lits kept) kept.known);
+      stands = record { all = e.assumed.0; stands = e.assumed.1; same = λ quiet. absurd (let wrong : ⊥ = cc in wrong) };
+      stays = tt;
+    }
+
+pub returns-in-Ok : goal.returns-in-Ok
+returns-in-Ok g c =
+    let live = c.args.store.now.live in
+    let shown = each_in_order live in
     let before = c.args.assumptions.now in
     let after = c.assume_from.new.assumptions in
     let found = c.run.new.assumptions in
@@ -40,33 +58,37 @@ returns-in-Ok-clause-watch g c =
     let added = complements (filter (g.P.Part.keeps c.args.part.now) (clause_of live c.args.source.now)) in
     let e = c.in_ok-assume_from.ensures in
     let p = c.in-Ok.ensures in
-    let extends = p.propagates.extends in
+    let f = p.followed in
+    let extends = f.propagates.extends in
     let all = e.assumed.0 in
     let same = subst (λ b. OnFalse b (SameSet after.trail.lits (before.trail.lits ++ added))) c.if-branch.false e.added in
     let alike = subst (λ b. OnFalse b (SameSet all (assumed_by before.assumptions ++ added))) c.if-branch.false e.assumed.2 in
     let stand = c.answer.ensures.assumptions _ _ (extends.assumptions ∙ e.assumed.1) in
     let starts = c.answer.ensures.starts ∙ extends.starts ∙ e.starts in
-    let begins = begins_on before.trail.lits after.trail.lits found.trail.lits e.begins (longer_from before.trail.lits after.trail.lits e.begins) extends.begins in
-    watch_answered live c.run.new.store.live c.args.lists.now c.run.new.lists c.args.short.now c.args.roots.now _ before after found c.requires.watch p.propagates refl p.apart p.listed p.entries e.begins c.requires.up_to_date last answer all c.answer.ensures.trail stand starts p.watched
-    (scan_after (each_in_order live) (AreForced (maps.get (each_in_order live))) (λ ls forced. forced) before after added c.requires.may c.requires.watch.scan last answer all stand starts
-    (ap (λ t. take (length before.trail.lits) t.lits) c.answer.ensures.trail ∙ begins) (λ v. ap (λ t. has t.reserved v) c.answer.ensures.trail ∙ extends.reserved v ∙ e.reserved v)
-    (λ quiet. subst (λ t. IsExact (maps.get (each_in_order live)) all t.lits) (sym c.answer.ensures.trail)
-    (part_exact (each_in_order live) (AreForced (maps.get (each_in_order live))) (λ ls forced. forced) before after added c.requires.may c.requires.watch.scan same all found.trail.lits alike extends.begins p.propagates.sound (p.closed quiet))))
+    let begins = begins_on before.trail.lits after.trail.lits found.trail.lits e.begins (longer_from before.trail.lits after.trail.lits e.begins) extends.begins in record {
+      assumed = record {
+        answer = part_answer shown (AreForced (maps.get shown)) (λ ls forced. forced) before after added c.requires.may c.requires.watch.scan same answer p.answer;
+        stands = record { all = all; stands = stand; same = λ quiet. alike };
+        stays = tt;
+      };
+      watch =
+          watch_answered live c.run.new.store.live c.args.lists.now c.run.new.lists c.args.short.now c.args.roots.now _ before after found c.requires.watch f.propagates refl f.apart f.listed f.entries e.begins c.requires.up_to_date last answer all c.answer.ensures.trail stand starts p.watched
+          (scan_after shown (AreForced (maps.get shown)) (λ ls forced. forced) before after added c.requires.may c.requires.watch.scan last answer all stand starts
+          (ap (λ t. take (length before.trail.lits) t.lits) c.answer.ensures.trail ∙ begins) (λ v. ap (λ t. has t.reserved v) c.answer.ensures.trail ∙ extends.reserved v ∙ e.reserved v)
+          (λ quiet. subst (λ t. IsExact (maps.get shown) all t.lits) (sym c.answer.ensures.trail)
+          (part_exact shown (AreForced (maps.get shown)) (λ ls forced. forced) before after added c.requires.may c.requires.watch.scan same all found.trail.lits alike extends.begins f.propagates.sound (p.closed quiet))));
+      same = f.propagates.same;
+    }
 
-pub returns-in-Err-clause-watch : goal.returns-in-Err-clause-watch
-returns-in-Err-clause-watch g c =
+pub returns-in-Err : goal.returns-in-Err
+returns-in-Err g c =
     let e = c.in_ok-assume_from.ensures in
-    let p = c.in-Err.ensures in
-    let extends = p.propagates.extends in
-    let u = c.undo.ensures in
-    watch_undone c.args.store.now.live c.run.new.store.live c.args.lists.now c.run.new.lists c.args.short.now c.args.roots.now _ c.args.assumptions.now c.assume_from.new.assumptions c.run.new.assumptions c.requires.watch p.propagates refl p.apart p.listed p.entries e.begins
-    c.undo.new.self _ (extends.assumptions ∙ e.assumed.1) (extends.starts ∙ e.starts) u.assumptions u.starts u.lits (λ v. u.reserved v ∙ extends.reserved v ∙ e.reserved v)
-
-pub returns-then-has_clash-clause-answer : goal.returns-then-has_clash-clause-answer
-returns-then-has_clash-clause-answer g c =
-    let live = c.args.store.now.live in
-    let held = c.args.assumptions.now in
-    let roots = c.args.roots.now in
-    let lits = roots_in held.trail.lits held.assumptions held.starts in
-    let kept = c.requires.watch.kept in
-    clash_through (maps.get (each_in_order live)) [] _ (λ a h. absurd (false≢true h)) (kept_clash live roots.kept lits (sym c.has_clash.ensures ∙ c.if-has_clash.true) (kept_forced live roots lits kept) kept.known)
+    let f = c.in-Err.ensures.followed in
+    let extends = f.propagates.extends in
+    let u = c.undo.ensures in record {
+      assumed = record { answer = tt; stands = tt; stays = u.assumptions ∙ ap (drop 1) (extends.assumptions ∙ e.assumed.1) };
+      watch =
+          watch_undone c.args.store.now.live c.run.new.store.live c.args.lists.now c.run.new.lists c.args.short.now c.args.roots.now _ c.args.assumptions.now c.assume_from.new.assumptions c.run.new.assumptions c.requires.watch f.propagates refl f.apart f.listed f.entries e.begins
+          c.undo.new.self _ (extends.assumptions ∙ e.assumed.1) (extends.starts ∙ e.starts) u.assumptions u.starts u.lits (λ v. u.reserved v ∙ extends.reserved v ∙ e.reserved v);
+      same = f.propagates.same;
+    }

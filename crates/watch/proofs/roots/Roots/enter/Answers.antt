@@ -71,8 +71,7 @@ returns-else-clause-eq1-clause-kept c =
     let lits = c.args.assumptions.now.trail.lits in
     let m = c.in-One.l in
     let e = c.set_by.ensures in
-    let reasons = c.args.self.now.reasons in
     subst (IsKept c.args.store.now.live _) (sym (e.lits ∙ ap (λ b. cond b (lits ++ m ∷ []) lits) c.if-set_by.false))
     (entered_true c.args.store.now.live c.args.slot w.0 w.1 c.args.self.now lits c.requires.kept (c.requires.reasons w.0 w.1) m (subst (IsArranged lits w.0) c.in-One.is (c.requires.arranged w.0 w.1))
     (not-false (has lits m) (sym e.was_open ∙ c.if-set_by.false)) _ refl
-    (λ k. e.reasons k ∙ ap (λ b. cond (b && eqb k m) (Some c.number-number.result) (at reasons k)) c.if-set_by.false))
+    (λ k. e.reasons k ∙ ap (λ b. cond (b && eqb k m) (Some c.number-number.result) (at c.args.self.now.reasons k)) c.if-set_by.false))

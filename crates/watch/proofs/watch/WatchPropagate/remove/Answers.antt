@@ -41,7 +41,7 @@ invariant_of-self c =
       watch_removed live after i.lists c.remove_entries.new.lists i.short c.remove_entries.new.short i.roots c.leave.new.self i.assumptions held watch left.assumptions
           slot d.0 (e.different d.0 d.1) e.apart (record { each = λ k x here l member. left.reserved (l / 2) ∙ room.each k x here l member })
           (subst (λ m. IsKept m c.leave.new.self held.trail.lits) (sym c.remove.ensures.live) left.kept)
-          d.1 c.remove.ensures.live (e.watched d.0 d.1) e.foreign_blockers (e.rest d.0 d.1) (e.fewer d.0 d.1) (e.shorter d.0 d.1),
+          d.1 c.remove.ensures.live (e.watched d.0 d.1) (e.names_own d.0 d.1) (e.rest d.0 d.1) (e.fewer d.0 d.1) (e.shorter d.0 d.1),
       c.remove.ensures.live_alone ∙ sym (literals_ordered after),
     )
 

@@ -1,0 +1,70 @@
+-- Visits, one after the other.
+use Rattle.std.proofs.Common.{◌≡◌, ℕ, ◌/◌, true, Option, Some, is_some, List, refl, sym}
+use Rattle.std.proofs.Common.{ap, ◌∙◌}
+use Rattle.std.specs.Ordering.{nat_cmp}
+use Rattle.std.specs.FinMap as maps
+use Rattle.std.specs.FinMap.{FinMap}
+use Rattle.cnf_base.specs.Literals.{Literal, Clause, complement, has}
+use Rattle.propagation.specs.Assumptions.{AssumptionsState}
+use Rattle.watch.specs.Code.Order.{in_order}
+use Rattle.watch.specs.Code.Visits.{CanFollow, CanSet, CanVisit, Followed, IsInHand, PropagatesTo}
+use Rattle.watch.specs.Code.Visits.{Visited}
+use Rattle.watch_lists.specs.declared.lists.WatchLists.{WatchLists}
+use Rattle.watch_lists.specs.declared.watcher.Watcher.{Watcher}
+use Rattle.trail.proofs.TrailLemmas.Longer.{has_begun}
+use Rattle.watch.proofs.WatchLemmas.Kept.{noted_carried}
+use Rattle.watch.proofs.WatchLemmas.Order.{has-in_order, seen_there}
+use Rattle.watch.proofs.WatchLemmas.PropagatesTo.{propagates_none, propagates_on}
+
+-- there is room for a literal of a clause, and for its reason
+pub room_for : {live : FinMap nat_cmp Clause} {held : AssumptionsState} {reason_of : Literal → Option ℕ} → CanSet live held reason_of → (slot : ℕ) (c : Clause) → maps.get live slot ≡ Some c → (m : Literal) → has c m ≡ true →
+    (has held.trail.reserved (m / 2) ≡ true) × (is_some (reason_of m) ≡ true)
+room_for {live} can slot c here m member =
+    let shown = seen_there live slot c here in
+    let there = has-in_order c m ∙ member in
+    (can.room.each slot (in_order c) shown m there, can.noted.each slot (in_order c) shown m there)
+
+-- there still is after visits
+pub can_set_on : {a b : FinMap nat_cmp Clause} {x y : AssumptionsState} {r s : Literal → Option ℕ} → CanSet a x r → PropagatesTo a b x y r s → CanSet b y s
+can_set_on {a} {b} {x} {y} {r} {s} can carried = record {
+  room = record { each = λ k c here l member. carried.extends.reserved (l / 2) ∙ can.room.each k c (ap (λ m. maps.get m k) (sym carried.same) ∙ here) l member };
+  noted = noted_carried a b x y r s carried can.noted;
+}
+
+-- ---- All lists
+
+pub followed_none : {a : FinMap nat_cmp Clause} {lists : WatchLists} {x : AssumptionsState} {r : Literal → Option ℕ} → CanFollow a lists x r → Followed a a lists lists x x r r
+followed_none {a} {lists} {x} {r} can = record { apart = can.apart; listed = can.listed; entries = refl; propagates = propagates_none a x r }
+
+module _ {a b : FinMap nat_cmp Clause} {lists lists_b : WatchLists} {x y : AssumptionsState} {r s : Literal → Option ℕ} where
+  pub can_follow_on : CanFollow a lists x r → Followed a b lists lists_b x y r s → CanFollow b lists_b y s
+  can_follow_on can first = record { apart = first.apart; listed = first.listed; can_set = can_set_on can.can_set first.propagates }
+
+  pub followed_on : {c : FinMap nat_cmp Clause} {lists_c : WatchLists} {z : AssumptionsState} {t : Literal → Option ℕ} → Followed a b lists lists_b x y r s → Followed b c lists_b lists_c y z s t → Followed a c lists lists_c x z r t
+  followed_on {c} {lists_c} {z} {t} first second = record {
+    apart = second.apart;
+    listed = second.listed;
+    entries = second.entries ∙ first.entries;
+    propagates = propagates_on a b c x y z r s t first.propagates second.propagates;
+  }
+
+-- ---- The list in hand
+
+pub visited_none : {a : FinMap nat_cmp Clause} {lists : WatchLists} {list : List Watcher} {l : Literal} (x : AssumptionsState) (r : Literal → Option ℕ) → IsInHand a lists list l → Visited a a lists lists list list x x r r l
+visited_none {a} x r hand = record { hand = hand; entries = refl; propagates = propagates_none a x r }
+
+module _ {a b : FinMap nat_cmp Clause} {lists lists_b : WatchLists} {list list_b : List Watcher} {x y : AssumptionsState} {r s : Literal → Option ℕ} {l : Literal} where
+  pub can_visit_on : CanVisit a lists list x r l → Visited a b lists lists_b list list_b x y r s l → CanVisit b lists_b list_b y s l
+  can_visit_on can first = record {
+    hand = first.hand;
+    is_false = has_begun x.trail.lits y.trail.lits (complement l) first.propagates.extends.begins can.is_false;
+    can_set = can_set_on can.can_set first.propagates;
+  }
+
+  pub visited_on : {c : FinMap nat_cmp Clause} {lists_c : WatchLists} {list_c : List Watcher} {z : AssumptionsState} {t : Literal → Option ℕ} → Visited a b lists lists_b list list_b x y r s l → Visited b c lists_b lists_c list_b list_c y z s t l →
+      Visited a c lists lists_c list list_c x z r t l
+  visited_on {c} {lists_c} {list_c} {z} {t} first second = record {
+    hand = second.hand;
+    entries = second.entries ∙ first.entries;
+    propagates = propagates_on a b c x y z r s t first.propagates second.propagates;
+  }
