@@ -1,1 +1,2 @@
+pub mod ListsLemmas
 pub mod TableLemmas

@@ -1,0 +1,159 @@
+-- Lists that are found at once, and the others.
+use Rattle.std.proofs.Common.{◌≡◌, ℕ, ◌+◌, ◌<◌, ◌≤◌, Bool, true, false, ◌||◌, nat_lt, cond, eqb}
+use Rattle.std.proofs.Common.{eq-eqb, ne_eqb, Option, Some, None, List, [], ◌∷◌, ◌++◌, length, get_or}
+use Rattle.std.proofs.Common.{set, take, min, slice_get, Vec, refl, sym, ap, ◌∙◌, subst, arith, inl, inr}
+use Rattle.std.specs.Global.{Global}
+use Rattle.std.proofs.lemmas.Bool.{cases_eq, cases_lt, or_right}
+use Rattle.std.proofs.lemmas.Bool.Decides.{nat_tests}
+use Rattle.std.proofs.lemmas.List.{get_or_append_left, get_or_push, get_or-set_other}
+use Rattle.std.proofs.lemmas.List.{get_or-set_same, length-append, length-set, take_all}
+use Rattle.std.proofs.lemmas.List.Sums.{sum_by-set, sum_by_more}
+use Rattle.std.proofs.lemmas.Option.{same_Some, slice_get-get_or, slice_get_past}
+use Rattle.tables.specs.Lists.{AreNumbered, items_at, items_or, total}
+
+module _ {T : Type 0} where
+  same_place : (xs ys : List (Vec T Global)) (k : ℕ) (d : Vec T Global) → length ys ≡ length xs → get_or ys k d ≡ get_or xs k d → slice_get ys k ≡ slice_get xs k
+  same_place xs ys k d len read = elim (cases_lt k (length xs)) [
+    | inl low ↦ slice_get-get_or ys k d (omega (arith, len, low)) ∙ ap Some read ∙ sym (slice_get-get_or xs k d low)
+    | inr past ↦ slice_get_past ys k (omega (arith, len, past)) ∙ sym (slice_get_past xs k past)
+  ]
+
+  module _ (near : List (Vec T Global)) (l : ℕ) (f : List T → List T) (rest : ℕ → List T) where
+    -- a list that is found at once is written
+    pub near_written : (list : Vec T Global) → l < length near → list.items ≡ f (items_or (slice_get near l) (rest l)) → (k : ℕ) →
+        items_or (slice_get (set near l list) k) (rest k) ≡ cond (eqb k l) (f (items_or (slice_get near k) (rest k))) (items_or (slice_get near k) (rest k))
+    near_written list inside made k = elim (cases_eq k l) [
+      | inl e ↦
+          ap (λ o. items_or o (rest k)) (ap (slice_get (set near l list)) e ∙ slice_get-get_or (set near l list) l list (subst (λ n. l < n) (sym (length-set near l list)) inside) ∙ ap Some (get_or-set_same near l list list inside))
+          ∙ made ∙ ap (λ j. f (items_or (slice_get near j) (rest j))) (sym e) ∙ sym (ap (λ b. cond b (f (items_or (slice_get near k) (rest k))) (items_or (slice_get near k) (rest k))) (eq-eqb k l e))
+      | inr ne ↦
+          ap (λ o. items_or o (rest k)) (same_place near (set near l list) k list (length-set near l list) (get_or-set_other near l k list list ne))
+          ∙ sym (ap (λ b. cond b (f (items_or (slice_get near k) (rest k))) (items_or (slice_get near k) (rest k))) (ne_eqb k l ne))
+    ]
+
+    -- another one is written
+    pub rest_written : (rest2 : ℕ → List T) → length near ≤ l → ((k : ℕ) → rest2 k ≡ cond (eqb k l) (f (rest k)) (rest k)) → (k : ℕ) →
+        items_or (slice_get near k) (rest2 k) ≡ cond (eqb k l) (f (items_or (slice_get near k) (rest k))) (items_or (slice_get near k) (rest k))
+    rest_written rest2 past is k = elim (cases_eq k l) [
+      | inl e ↦
+          let none : slice_get near k ≡ None = slice_get_past near k (subst (λ n. length near ≤ n) (sym e) past) in
+          ap (λ o. items_or o (rest2 k)) none ∙ is k ∙ ap (λ b. cond b (f (rest k)) (rest k)) (eq-eqb k l e) ∙ sym (ap (λ o. f (items_or o (rest k))) none)
+          ∙ sym (ap (λ b. cond b (f (items_or (slice_get near k) (rest k))) (items_or (slice_get near k) (rest k))) (eq-eqb k l e))
+      | inr ne ↦
+          ap (items_or (slice_get near k)) (is k ∙ ap (λ b. cond b (f (rest k)) (rest k)) (ne_eqb k l ne))
+          ∙ sym (ap (λ b. cond b (f (items_or (slice_get near k) (rest k))) (items_or (slice_get near k) (rest k))) (ne_eqb k l ne))
+    ]
+
+  -- one more is found at once
+  pub near_more : (near : List (Vec T Global)) (list : Vec T Global) (rest rest2 : ℕ → List T) → list.items ≡ rest (length near) → ((k : ℕ) → rest2 k ≡ cond (eqb k (length near)) [] (rest k)) → (k : ℕ) →
+      items_or (slice_get (near ++ list ∷ []) k) (rest2 k) ≡ items_or (slice_get near k) (rest k)
+  near_more near list rest rest2 made is k =
+      let len = length-append near (list ∷ []) in
+      elim (cases_lt k (length near)) [
+        | inl low ↦
+            ap (λ o. items_or o (rest2 k)) (slice_get-get_or (near ++ list ∷ []) k list (omega (arith, len, low)) ∙ ap Some (get_or_append_left near (list ∷ []) list k low))
+            ∙ sym (ap (λ o. items_or o (rest k)) (slice_get-get_or near k list low))
+        | inr past ↦ elim (cases_eq k (length near)) [
+          | inl e ↦
+              ap (λ o. items_or o (rest2 k)) (ap (slice_get (near ++ list ∷ [])) e ∙ slice_get-get_or (near ++ list ∷ []) (length near) list (omega (arith, len)) ∙ ap Some (get_or_push near list list (length near) refl))
+              ∙ made ∙ ap rest (sym e) ∙ sym (ap (λ o. items_or o (rest k)) (slice_get_past near k past))
+          | inr ne ↦ elim (cases_lt (length near) k) [
+            | inl high ↦
+                ap (λ o. items_or o (rest2 k)) (slice_get_past (near ++ list ∷ []) k (omega (arith, len, high))) ∙ is k ∙ ap (λ b. cond b [] (rest k)) (ne_eqb k (length near) ne)
+                ∙ sym (ap (λ o. items_or o (rest k)) (slice_get_past near k past))
+            | inr low ↦ absurd (ne (omega (arith, low, past)))
+          ]
+        ]
+      ]
+
+  -- a list that is found by number is written
+  pub far_written : (lists : List (Vec T Global)) (number_of : ℕ → Option ℕ) → AreNumbered number_of (length lists) → (key n : ℕ) (list : Vec T Global) → number_of key ≡ Some n → (k : ℕ) →
+      items_at (set lists n list) (number_of k) ≡ cond (eqb k key) list.items (items_at lists (number_of k))
+  far_written lists number_of apart key n list here k = elim (cases_eq k key) [
+    | inl e ↦
+        ap (items_at (set lists n list)) (ap number_of e ∙ here)
+        ∙ ap (λ o. items_or o []) (slice_get-get_or (set lists n list) n list (subst (λ m. n < m) (sym (length-set lists n list)) (apart.inside key n here)) ∙ ap Some (get_or-set_same lists n list list (apart.inside key n here)))
+        ∙ sym (ap (λ b. cond b list.items (items_at lists (number_of k))) (eq-eqb k key e))
+    | inr ne ↦ by_number (number_of k) (λ there. ne (apart.apart k key n there here)) ∙ sym (ap (λ b. cond b list.items (items_at lists (number_of k))) (ne_eqb k key ne))
+  ]
+    where
+      by_number : (o : Option ℕ) → (o ≡ Some n → ⊥) → items_at (set lists n list) o ≡ items_at lists o
+      by_number None other = refl
+      by_number (Some m) other = ap (λ o. items_or o []) (same_place lists (set lists n list) m list (length-set lists n list) (get_or-set_other lists n m list list (λ e. other (ap Some e))))
+
+  -- an empty list gets the next number
+  module _ (lists : List (Vec T Global)) (list : Vec T Global) (number_of number_of2 : ℕ → Option ℕ) (key : ℕ) (apart : AreNumbered number_of (length lists)) (none : number_of key ≡ None)
+      (is : (k : ℕ) → number_of2 k ≡ cond (eqb k key) (Some (length lists)) (number_of k)) where
+    at_key : (k : ℕ) → k ≡ key → number_of2 k ≡ Some (length lists)
+    at_key k e = is k ∙ ap (λ b. cond b (Some (length lists)) (number_of k)) (eq-eqb k key e)
+
+    elsewhere : (k : ℕ) → (k ≡ key → ⊥) → number_of2 k ≡ number_of k
+    elsewhere k ne = is k ∙ ap (λ b. cond b (Some (length lists)) (number_of k)) (ne_eqb k key ne)
+
+    pub added_lists : list.items ≡ [] → (k : ℕ) → items_at (lists ++ list ∷ []) (number_of2 k) ≡ items_at lists (number_of k)
+    added_lists empty k = elim (cases_eq k key) [
+      | inl e ↦
+          ap (items_at (lists ++ list ∷ [])) (at_key k e)
+          ∙ ap (λ o. items_or o []) (slice_get-get_or (lists ++ list ∷ []) (length lists) list (let len = length-append lists (list ∷ []) in omega (arith, len)) ∙ ap Some (get_or_push lists list list (length lists) refl)) ∙ empty
+          ∙ sym (ap (items_at lists) (ap number_of e ∙ none))
+      | inr ne ↦ ap (items_at (lists ++ list ∷ [])) (elsewhere k ne) ∙ by_number (number_of k) refl
+    ]
+      where
+        by_number : (o : Option ℕ) → number_of k ≡ o → items_at (lists ++ list ∷ []) o ≡ items_at lists o
+        by_number None there = refl
+        by_number (Some n) there =
+            let low = apart.inside k n there in
+            ap (λ o. items_or o [])
+            (slice_get-get_or (lists ++ list ∷ []) n list (let len = length-append lists (list ∷ []) in omega (arith, len, low)) ∙ ap Some (get_or_append_left lists (list ∷ []) list n low) ∙ sym (slice_get-get_or lists n list low))
+
+    pub added_apart : (count : ℕ) → count ≡ length lists + 1 → AreNumbered number_of2 count
+    added_apart count more = record { inside = inside; apart = apart2 }
+      where
+        inside : (k n : ℕ) → number_of2 k ≡ Some n → n < count
+        inside k n there = elim (cases_eq k key) [
+          | inl e ↦ let same = same_Some (length lists) n (sym (at_key k e) ∙ there) in omega (arith, more, same)
+          | inr ne ↦ let low = apart.inside k n (sym (elsewhere k ne) ∙ there) in omega (arith, more, low)
+        ]
+
+        new : (j k n : ℕ) → j ≡ key → (k ≡ key → ⊥) → number_of2 j ≡ Some n → number_of2 k ≡ Some n → ⊥
+        new j k n e ne at_j at_k =
+            let same = same_Some (length lists) n (sym (at_key j e) ∙ at_j) in
+            let low = apart.inside k n (sym (elsewhere k ne) ∙ at_k) in
+            omega (arith, same, low)
+
+        apart2 : (j k n : ℕ) → number_of2 j ≡ Some n → number_of2 k ≡ Some n → j ≡ k
+        apart2 j k n at_j at_k = elim (cases_eq j key) [
+          | inl e ↦ elim (cases_eq k key) [
+            | inl e2 ↦ e ∙ sym e2
+            | inr ne ↦ absurd (new j k n e ne at_j at_k)
+          ]
+          | inr ne ↦ elim (cases_eq k key) [
+            | inl e ↦ absurd (new k j n e ne at_k at_j)
+            | inr ne2 ↦ apart.apart j k n (sym (elsewhere j ne) ∙ at_j) (sym (elsewhere k ne2) ∙ at_k)
+          ]
+        ]
+
+  -- a list in the place of an empty one
+  pub total_put : (lists : List (Vec T Global)) (n : ℕ) (list : Vec T Global) → n < length lists → items_or (slice_get lists n) [] ≡ [] → total (set lists n list) ≡ total lists + length list.items
+  total_put lists n list inside empty =
+      let put = sum_by-set (λ v. length v.items) lists n list list inside in
+      let was : length (get_or lists n list).items ≡ 0 = ap length (sym (ap (λ o. items_or o []) (slice_get-get_or lists n list inside)) ∙ empty) in
+      omega arith
+
+  -- one more list is counted
+  pub counted_more : (lists : List (Vec T Global)) (n so_far len sum : ℕ) (list : Vec T Global) → n < length lists → list ≡ get_or lists n list → so_far ≡ min (total (take n lists)) 18446744073709551615 →
+      len ≡ length list.items → sum ≡ min (so_far + len) 18446744073709551615 → sum ≡ min (total (take (n + 1) lists)) 18446744073709551615
+  counted_more lists n so_far len sum list inside is was len_is sum_is =
+      let more = sum_by_more (λ v. length v.items) lists n list inside in
+      let here = ap (λ v. length v.items) is in
+      omega (arith, more, here, was, len_is, sum_is)
+
+  pub counted_all : (lists : List (Vec T Global)) (n so_far : ℕ) → length lists ≤ n → so_far ≡ min (total (take n lists)) 18446744073709551615 → so_far ≡ min (total lists) 18446744073709551615
+  counted_all lists n so_far past is = is ∙ ap (λ xs. min (total xs) 18446744073709551615) (take_all n lists past)
+
+pub known_more : (key len len2 : ℕ) (some some2 : Bool) → len ≤ len2 → some2 ≡ some → (nat_lt key len || some) ≡ true → (nat_lt key len2 || some2) ≡ true
+known_more key len len2 some some2 longer same known = by_test (nat_lt key len) refl known
+  where
+    by_test : (b : Bool) → nat_lt key len ≡ b → (b || some) ≡ true → (nat_lt key len2 || some2) ≡ true
+    by_test true e h = grind (arith, nat_tests)
+    by_test false e h = ap (λ t. nat_lt key len2 || t) (same ∙ h) ∙ or_right (nat_lt key len2) true refl
