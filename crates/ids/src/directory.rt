@@ -2,8 +2,9 @@
 
 ghost use Rattle.std.specs.Prelude.{◌≡◌, ℕ, ◌<◌, ◌≤◌, ◌==◌, ◌^◌, if◌then◌else◌, IfSome, IfNone};
 ghost use Rattle.std.specs.Prelude.{OnOk, OnErr};
-ghost use Rattle.ids.specs.Code.Ids.{page_at, far_page, IsFirst};
+ghost use Rattle.ids.specs.Code.Ids.{page_at, IsFirst};
 
+use crate::far::{far_number, first_far, put_far, take_far};
 use crate::row::{first_set, lengthen};
 use cnf_base::OutOfMemory;
 use std::alloc::Global;
@@ -22,23 +23,6 @@ pub(crate) struct Directory {
 
 /// The length up to which `near` may always grow.
 const LEAST: usize = 64;
-
-/// The least number from `from` on that has a far page.
-fn first_far(far: &BTreeMap<u64, u32>, from: u64) -> Option<u64>
-    ensures some { IfSome result (λ q. IsFirst (far_page far.now) from (2 ^ 64) q) }
-    ensures none { IfNone result
-        ((k : ℕ) → from ≤ k → k < 2 ^ 64 → far_page far.now k ≡ 0) }
-{
-    let mut start = from;
-    loop {
-        let (number, page) = far.range(start..).next()?;
-        // No page is put in as 0, so the first turn is the last.
-        if *page != 0 {
-            return Some(*number);
-        }
-        start = number.checked_add(1)?;
-    }
-}
 
 #[tactic(auto, unfolding(crate::specs::Code::Ids::page_at))]
 impl Directory {
@@ -65,14 +49,7 @@ impl Directory {
                 return page;
             }
         }
-        self.page_far(number)
-    }
-
-    #[inline(never)]
-    fn page_far(&self, number: u64) -> u32
-        ensures { result ≡ far_page self.now.far number }
-    {
-        self.far.get(&number).copied().unwrap_or(0)
+        far_number(&self.far, number)
     }
 
     /// Puts in the page of a page number.
@@ -90,7 +67,7 @@ impl Directory {
         if place < self.near.len() {
             self.near[place] = page;
         } else {
-            self.far.insert(number, page)?;
+            put_far(&mut self.far, number, page)?;
         }
         self.opened = self.opened.saturating_add(1);
         Ok(())
@@ -105,7 +82,7 @@ impl Directory {
         if place < self.near.len() {
             self.near[place] = 0;
         }
-        self.far.remove(&number);
+        take_far(&mut self.far, number);
     }
 
     /// The least number from `from` on that has a page.

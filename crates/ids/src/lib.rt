@@ -1,7 +1,9 @@
 //! The identifiers of clauses, each with the slot of its clause.
 #![tactic(auto)]
 
+mod credit;
 mod directory;
+mod far;
 mod map;
 mod pages;
 mod row;

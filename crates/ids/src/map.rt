@@ -3,23 +3,31 @@
 ghost use Rattle.std.specs.Prelude.{◌≡◌, ◌≢◌, ℕ, ◌+◌, ◌-◌, ◌*◌, ◌/◌, ◌^◌, ◌<◌, ◌≤◌, slice_index};
 ghost use Rattle.std.specs.Prelude.{Some, None, IfSome, IfNone, IfOk, OnOk, OnErr};
 ghost use Rattle.std.specs.FinMap as maps;
-ghost use Rattle.ids.specs.Code.Ids.{entry_at, page_at, slot_from, IsPaged, IsFirst};
+ghost use Rattle.ids.specs.Code.Ids.{entry_at, entry_for, far_at, page_at, slot_from};
+ghost use Rattle.ids.specs.Code.Ids.{IsPaged, IsFirst};
 
 use crate::Slot;
+use crate::credit::Credit;
 use crate::directory::Directory;
+use crate::far::{far_number, first_far, put_far, take_far};
 use crate::pages::{PAGE, Pages, place_in};
 use crate::row::first_set;
 use cnf_base::OutOfMemory;
 use std::alloc::Global;
+use std::collections::BTreeMap;
 use std::marker::Model;
 
 /// The identifiers of clauses, each with the slot of its clause.
 ///
 /// Contracts see it as a finite map. It is made for identifiers that rise: a page has 1024 in a row, and one in which none is bound is used again.
+/// Those that are far from others stand in a tree. `credit.rt` says which, and what they cost.
 #[derive(Drop)]
 pub struct Ids {
     directory: Directory,
     pages: Pages,
+    /// The entries of identifiers that have none in a page.
+    far: BTreeMap<u64, u32>,
+    credit: Credit,
 }
 
 impl Model for Ids {
@@ -28,15 +36,15 @@ impl Model for Ids {
     ghost use Rattle.std.specs.Coded.{coded_ℕ};
     ghost use Rattle.std.specs.FinMap as maps;
     ghost use Rattle.std.specs.FinMap.{FinMap};
-    ghost use Rattle.ids.specs.Code.Ids.{as_map, IsPaged};
+    ghost use Rattle.ids.specs.Code.Ids.{as_map, entry_for, IsHeld};
 
     ghost Value = { FinMap nat_cmp ℕ };
 
     ghost coded = { maps.code coded_ℕ coded_ℕ };
 
-    ghost view = { λ i. as_map i.directory i.pages };
+    ghost view = { λ i. as_map (entry_for i.directory i.pages i.far) };
 
-    ghost invariant = { λ i. IsPaged i.directory i.pages };
+    ghost invariant = { λ i. IsHeld i.directory i.pages i.far };
 }
 
 /// What a page says of an identifier that is bound to the slot. An entry has four bytes.
@@ -61,9 +69,9 @@ fn slot_in(entry: u32) -> Option<Slot>
     }
 }
 
-/// The entry of an identifier, 0 where it is not bound.
+/// The entry of an identifier in its page, or 0.
 #[inline]
-fn entry(directory: &Directory, pages: &Pages, id: u64) -> u32
+fn paged_entry(directory: &Directory, pages: &Pages, id: u64) -> u32
     requires { IsPaged directory.now pages.now }
     ensures { result ≡ entry_at directory.now pages.now id }
 {
@@ -74,23 +82,53 @@ fn entry(directory: &Directory, pages: &Pages, id: u64) -> u32
     pages.entries[place_in(page, id)]
 }
 
-/// The page of a page number. Where it has none, it gets one in which nothing is bound.
+/// The entry of an identifier, 0 where it is not bound.
+#[inline]
+fn entry(directory: &Directory, pages: &Pages, far: &BTreeMap<u64, u32>, id: u64) -> u32
+    requires { IsPaged directory.now pages.now }
+    ensures { result ≡ entry_for directory.now pages.now far.now id }
+{
+    let entry = paged_entry(directory, pages, id);
+    if entry == 0 {
+        return far_number(far, id);
+    }
+    entry
+}
+
+/// Gives a page number that has no page one in which nothing is bound.
 fn open(directory: &mut Directory, pages: &mut Pages, number: u64) -> Result<u32, OutOfMemory>
     requires paged { IsPaged directory.old pages.old }
     requires number { number < 2 ^ 54 }
+    requires none { page_at directory.old number ≡ 0 }
     ensures paged { IsPaged directory.new pages.new }
     ensures same { (id : ℕ) → entry_at directory.new pages.new id ≡
         entry_at directory.old pages.old id }
-    ensures ok { IfOk result (λ page. (page_at directory.new number ≡ page) × (page ≢ 0)) }
+    ensures ok { IfOk result (λ page. page_at directory.new number ≡ page) }
 {
-    let page = directory.page(number);
-    if page != 0 {
-        return Ok(page);
-    }
     let page = pages.vacant()?;
     directory.put(number, page)?;
     pages.own(page, number);
     Ok(page)
+}
+
+/// The page of a page number. It is 0 where the identifier is not worth one.
+fn page_for(
+    directory: &mut Directory,
+    pages: &mut Pages,
+    credit: &mut Credit,
+    id: u64,
+) -> Result<u32, OutOfMemory>
+    requires { IsPaged directory.old pages.old }
+    ensures paged { IsPaged directory.new pages.new }
+    ensures same { (k : ℕ) → entry_at directory.new pages.new k ≡
+        entry_at directory.old pages.old k }
+    ensures ok { IfOk result (λ page. page_at directory.new (id / 1024) ≡ page) }
+{
+    let page = directory.page(id / PAGE);
+    if page != 0 || !(pages.has_spare() || credit.pay(id)) {
+        return Ok(page);
+    }
+    open(directory, pages, id / PAGE)
 }
 
 /// Takes a page from its page number where nothing is bound in it. It takes no memory.
@@ -109,12 +147,10 @@ fn close(directory: &mut Directory, pages: &mut Pages, number: u64, page: u32)
 }
 
 /// The first identifier of a page from one on that is bound.
-fn first_in(directory: &Directory, pages: &Pages, from: u64) -> Option<(u64, Slot)>
+fn first_in(directory: &Directory, pages: &Pages, from: u64) -> Option<u64>
     requires { IsPaged directory.now pages.now }
-    ensures some { IfSome result (λ p. IsFirst (entry_at directory.now pages.now) from
-        (1024 * (from / 1024) + 1024) p.0) }
-    ensures slot { IfSome result (λ p. slot_from (entry_at directory.now pages.now p.0) ≡
-        Some p.1) }
+    ensures some { IfSome result (λ q. IsFirst (entry_at directory.now pages.now) from
+        (1024 * (from / 1024) + 1024) q) }
     ensures none { IfNone result ((k : ℕ) → from ≤ k → k < 1024 * (from / 1024) + 1024 →
         entry_at directory.now pages.now k ≡ 0) }
 {
@@ -125,8 +161,44 @@ fn first_in(directory: &Directory, pages: &Pages, from: u64) -> Option<(u64, Slo
     let start = place_in(page, from);
     let end = page as usize * PAGE as usize;
     let place = first_set(&pages.entries, start, end)?;
-    let slot = slot_in(pages.entries[place])?;
-    Some((from + (place - start) as u64, slot))
+    Some(from + (place - start) as u64)
+}
+
+/// The least identifier from one on that is bound in a page.
+fn first_paged(directory: &Directory, pages: &Pages, from: u64) -> Option<u64>
+    requires { IsPaged directory.now pages.now }
+    ensures some { IfSome result (λ q. IsFirst (entry_at directory.now pages.now) from
+        (2 ^ 64) q) }
+    ensures none { IfNone result ((k : ℕ) → from ≤ k → k < 2 ^ 64 →
+        entry_at directory.now pages.now k ≡ 0) }
+{
+    let mut start = from;
+    loop {
+        if let Some(found) = first_in(directory, pages, start) {
+            return Some(found);
+        }
+        start = directory.next(start / PAGE + 1)? * PAGE;
+    }
+}
+
+/// The least identifier from one on that is bound.
+fn first_bound(
+    directory: &Directory,
+    pages: &Pages,
+    far: &BTreeMap<u64, u32>,
+    from: u64,
+) -> Option<u64>
+    requires { IsPaged directory.now pages.now }
+    ensures some { IfSome result (λ q. IsFirst (entry_for directory.now pages.now far.now) from
+        (2 ^ 64) q) }
+    ensures none { IfNone result ((k : ℕ) → from ≤ k → k < 2 ^ 64 →
+        entry_for directory.now pages.now far.now k ≡ 0) }
+{
+    match (first_paged(directory, pages, from), first_far(far, from)) {
+        (Some(paged), Some(id)) => Some(paged.min(id)),
+        (Some(paged), None) => Some(paged),
+        (None, far) => far,
+    }
 }
 
 impl Ids {
@@ -137,6 +209,8 @@ impl Ids {
         Ok(Ids {
             directory: Directory::new(alloc),
             pages: Pages::new(alloc),
+            far: BTreeMap::new(alloc),
+            credit: Credit::new(),
         })
     }
 
@@ -151,7 +225,12 @@ impl Ids {
         ensures err { OnErr result (self.new ≡ self.old) }
     {
         let entry = entry_of(slot)?;
-        let page = open(&mut self.directory, &mut self.pages, id / PAGE)?;
+        let page = page_for(&mut self.directory, &mut self.pages, &mut self.credit, id)?;
+        self.credit.earn(id);
+        if page == 0 {
+            put_far(&mut self.far, id, entry)?;
+            return Ok(());
+        }
         self.pages.fill(page, id, entry);
         Ok(())
     }
@@ -161,7 +240,7 @@ impl Ids {
     pub fn slot_of(&self, id: u64) -> Option<Slot>
         ensures { result ≡ maps.get self.now id }
     {
-        slot_in(entry(&self.directory, &self.pages, id))
+        slot_in(entry(&self.directory, &self.pages, &self.far, id))
     }
 
     /// Takes back what an identifier is bound to, and returns its slot. It takes no memory.
@@ -169,9 +248,9 @@ impl Ids {
         ensures was { result ≡ maps.get self.old id }
         ensures ids { self.new ≡ maps.remove self.old id }
     {
-        let entry = entry(&self.directory, &self.pages, id);
+        let entry = paged_entry(&self.directory, &self.pages, id);
         if entry == 0 {
-            return None;
+            return slot_in(take_far(&mut self.far, id));
         }
         let page = self.directory.page(id / PAGE);
         self.pages.clear(page, id);
@@ -189,12 +268,8 @@ impl Ids {
             maps.get self.now k ≡ None) }
         ensures none { IfNone result ((k : ℕ) → from ≤ k → maps.get self.now k ≡ None) }
     {
-        let mut start = from;
-        loop {
-            if let Some(found) = first_in(&self.directory, &self.pages, start) {
-                return Some(found);
-            }
-            start = self.directory.next(start / PAGE + 1)? * PAGE;
-        }
+        let id = first_bound(&self.directory, &self.pages, &self.far, from)?;
+        let slot = slot_in(entry(&self.directory, &self.pages, &self.far, id))?;
+        Some((id, slot))
     }
 }

@@ -2,8 +2,8 @@
 
 ghost use Rattle.std.specs.Prelude.{◌≡◌, ◌≢◌, ℕ, ◌+◌, ◌-◌, ◌*◌, ◌<◌, ◌≤◌, length, slice_index};
 ghost use Rattle.std.specs.Prelude.{slice_set, IsTrue, IfOk};
-ghost use Rattle.ids.specs.Code.Ids.{place, HasPage, IsCounted, IsEmptyPage, IsVacant};
-ghost use Rattle.ids.specs.Code.Ids.{ReadsSame};
+ghost use Rattle.ids.specs.Code.Ids.{place, counted_as, HasPage, IsCounted, IsEmptyPage};
+ghost use Rattle.ids.specs.Code.Ids.{IsVacant, ReadsSame};
 
 use crate::row::lengthen;
 use cnf_base::OutOfMemory;
@@ -11,6 +11,9 @@ use std::alloc::Global;
 
 /// How many identifiers in a row a page has.
 pub(crate) const PAGE: u64 = 1024;
+
+/// How many pages are made for any identifier.
+const FIRST_PAGES: usize = 64;
 
 /// The entries of all pages, one page after another. Pages count from 1, and an entry is 0 where nothing is bound.
 #[derive(Drop)]
@@ -52,6 +55,11 @@ impl Pages {
     {
         let i = page as usize;
         0 < i && i <= self.numbers.len() && self.numbers[i - 1] == 0 && self.live[i - 1] == 0
+    }
+
+    /// Whether a page is free, or is made for any identifier.
+    pub(crate) fn has_spare(&self) -> bool {
+        !self.free.is_empty() || self.numbers.len() < FIRST_PAGES
     }
 
     /// Makes a page and frees it.
@@ -121,6 +129,21 @@ impl Pages {
         self.live[page as usize - 1] == 0
     }
 
+    /// Writes an entry, and how many are then bound in the page.
+    #[inline]
+    fn write(&mut self, page: u32, id: u64, entry: u32, count: u32)
+        requires page { HasPage self.old page }
+        requires count { count + counted_as (slice_index self.old.entries.items (place page id)) ≡
+            slice_index self.old.live.items (page - 1) + counted_as entry }
+        ensures counted { IsCounted self.new }
+        ensures entries { self.new.entries.items ≡
+            slice_set self.old.entries.items (place page id) entry }
+        ensures numbers { self.new.numbers.items ≡ self.old.numbers.items }
+    {
+        self.entries[place_in(page, id)] = entry;
+        self.live[page as usize - 1] = count;
+    }
+
     /// Writes an entry where there is none.
     pub(crate) fn fill(&mut self, page: u32, id: u64, entry: u32)
         requires page { HasPage self.old page }
@@ -131,8 +154,8 @@ impl Pages {
             slice_set self.old.entries.items (place page id) entry }
         ensures numbers { self.new.numbers.items ≡ self.old.numbers.items }
     {
-        self.entries[place_in(page, id)] = entry;
-        self.live[page as usize - 1] += 1;
+        let count = self.live[page as usize - 1] + 1;
+        self.write(page, id, entry, count);
     }
 
     /// Takes out an entry.
@@ -144,7 +167,7 @@ impl Pages {
             slice_set self.old.entries.items (place page id) 0 }
         ensures numbers { self.new.numbers.items ≡ self.old.numbers.items }
     {
-        self.entries[place_in(page, id)] = 0;
-        self.live[page as usize - 1] -= 1;
+        let count = self.live[page as usize - 1] - 1;
+        self.write(page, id, 0, count);
     }
 }

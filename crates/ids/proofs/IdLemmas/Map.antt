@@ -5,6 +5,7 @@ use Rattle.std.proofs.Common.{nat_cmp, refl, sym, ap, ◌∙◌, subst, arith, i
 use Rattle.std.proofs.Common.{get_or-set_other, IfNone}
 use Rattle.std.specs.Ordering.{eq_by_cmp}
 use Rattle.std.specs.Cmp.{nat_cmp_total}
+use Rattle.std.specs.BTreeMap.{BTreeMap}
 use Rattle.std.specs.FinMap as maps
 use Rattle.std.specs.FinMap.{FinMap}
 use Rattle.std.proofs.lemmas.Bool.{cases_eq, cases_lt}
@@ -13,8 +14,8 @@ use Rattle.std.proofs.lemmas.Option.{none-some}
 use Rattle.std.proofs.lemmas.Bool.Decides.{nat_tests}
 use Rattle.ids.specs.declared.directory.Directory.{Directory}
 use Rattle.ids.specs.declared.pages.Pages.{Pages}
-use Rattle.ids.specs.Code.Ids.{page_at, slot_from, place, entry_in, entry_at, with_slot}
-use Rattle.ids.specs.Code.Ids.{map_below, as_map, IsOwned, IsPaged}
+use Rattle.ids.specs.Code.Ids.{page_at, far_at, slot_from, place, entry_in, entry_at}
+use Rattle.ids.specs.Code.Ids.{entry_for, with_slot, map_below, as_map, IsOwned, IsPaged}
 
 -- ---- As a finite map
 
@@ -42,82 +43,67 @@ below_at (suc n) slot q low = elim (cases_eq q n) [
   | inr apart ↦ with_other (map_below n slot) n (slot n) q apart ∙ below_at n slot q (omega arith)
 ]
 
-module _ (directory : Directory) (pages : Pages) where
-  pub get-as_map : (q : ℕ) → q < 2 ^ 64 → maps.get (as_map directory pages) q ≡ slot_from (entry_at directory pages q)
+module _ (entry : ℕ → ℕ) where
+  pub get-as_map : (q : ℕ) → q < 2 ^ 64 → maps.get (as_map entry) q ≡ slot_from (entry q)
   unfolding as_map
-  get-as_map q low = below_at (2 ^ 64) (λ id. slot_from (entry_at directory pages id)) q low
+  get-as_map q low = below_at (2 ^ 64) (λ id. slot_from (entry id)) q low
 
-  pub get-past : (q : ℕ) → 2 ^ 64 ≤ q → maps.get (as_map directory pages) q ≡ None
+  pub get-past : (q : ℕ) → 2 ^ 64 ≤ q → maps.get (as_map entry) q ≡ None
   unfolding as_map
-  get-past q past = below_none (2 ^ 64) (λ id. slot_from (entry_at directory pages id)) q past
+  get-past q past = below_none (2 ^ 64) (λ id. slot_from (entry id)) q past
 
-  pub get-unbound : (q : ℕ) → entry_at directory pages q ≡ 0 → maps.get (as_map directory pages) q ≡ None
+  pub get-unbound : (q : ℕ) → entry q ≡ 0 → maps.get (as_map entry) q ≡ None
   get-unbound q none = elim (cases_lt q (2 ^ 64)) [
     | inl low ↦ get-as_map q low ∙ ap slot_from none
     | inr past ↦ get-past q past
   ]
 
+  pub some_slot : (q slot : ℕ) → entry q ≡ slot + 1 → slot_from (entry q) ≡ Some slot
+  some_slot q slot is =
+      let same : entry q - 1 ≡ slot = omega arith in
+      ap (λ b. cond b None (Some (entry q - 1))) (ne_eqb (entry q) 0 (λ e. absurd (let wrong : ⊥ = omega arith in wrong))) ∙ ap (λ s. Some s) same
+
   -- what has no slot has no entry
-  pub unbound_entry : (q : ℕ) → q < 2 ^ 64 → maps.get (as_map directory pages) q ≡ None → entry_at directory pages q ≡ 0
-  unbound_entry q low none = elim (cases_eq (entry_at directory pages q) 0) [
+  pub unbound_entry : (q : ℕ) → q < 2 ^ 64 → maps.get (as_map entry) q ≡ None → entry q ≡ 0
+  unbound_entry q low none = elim (cases_eq (entry q) 0) [
     | inl is ↦ is
-    | inr some ↦ absurd (none-some (entry_at directory pages q - 1) (sym none ∙ get-as_map q low ∙ ap (λ b. cond b None (Some (entry_at directory pages q - 1))) (ne_eqb (entry_at directory pages q) 0 some)))
+    | inr some ↦ absurd (none-some (entry q - 1) (sym none ∙ get-as_map q low ∙ ap (λ b. cond b None (Some (entry q - 1))) (ne_eqb (entry q) 0 some)))
   ]
 
-  pub as_map-empty : ((k : ℕ) → entry_at directory pages k ≡ 0) → as_map directory pages ≡ maps.empty
+  pub as_map-empty : ((k : ℕ) → entry k ≡ 0) → as_map entry ≡ maps.empty
   as_map-empty none = maps.same_map nat_cmp_total maps.nat_cmp-IsAntisymmetric _ _ (λ q. get-unbound q (none q) ∙ sym (maps.get-empty nat_cmp q))
 
-  module _ (directory_after : Directory) (pages_after : Pages) where
-    pub as_map-same : ((k : ℕ) → entry_at directory_after pages_after k ≡ entry_at directory pages k) → as_map directory_after pages_after ≡ as_map directory pages
-    unfolding as_map
-    as_map-same same = maps.same_map nat_cmp_total maps.nat_cmp-IsAntisymmetric _ _ (λ q. elim (cases_lt q (2 ^ 64)) [
-      | inl low ↦
-          below_at (2 ^ 64) (λ id. slot_from (entry_at directory_after pages_after id)) q low ∙ ap slot_from (same q)
-          ∙ sym (below_at (2 ^ 64) (λ id. slot_from (entry_at directory pages id)) q low)
-      | inr past ↦
-          below_none (2 ^ 64) (λ id. slot_from (entry_at directory_after pages_after id)) q past
-          ∙ sym (below_none (2 ^ 64) (λ id. slot_from (entry_at directory pages id)) q past)
-    ])
+same_at : (entry after : ℕ → ℕ) (q : ℕ) → after q ≡ entry q → maps.get (as_map after) q ≡ maps.get (as_map entry) q
+same_at entry after q same = elim (cases_lt q (2 ^ 64)) [
+  | inl low ↦ get-as_map after q low ∙ ap slot_from same ∙ sym (get-as_map entry q low)
+  | inr past ↦ get-past after q past ∙ sym (get-past entry q past)
+]
+
+pub as_map-same : (entry after : ℕ → ℕ) → ((k : ℕ) → after k ≡ entry k) → as_map after ≡ as_map entry
+as_map-same entry after same = maps.same_map nat_cmp_total maps.nat_cmp-IsAntisymmetric _ _ (λ q. same_at entry after q (same q))
 
 -- a change of one entry
-module _ (directory after : Directory) (pages pages_after : Pages) (id entry : ℕ) (fits : id < 2 ^ 64) (changes : (k : ℕ) → entry_at after pages_after k ≡ cond (eqb k id) entry (entry_at directory pages k)) where
-  changed : (q : ℕ) → maps.get (as_map after pages_after) q ≡ cond (eq_by_cmp nat_cmp q id) (slot_from entry) (maps.get (as_map directory pages) q)
+module _ (entry after : ℕ → ℕ) (id value : ℕ) (fits : id < 2 ^ 64) (changes : (k : ℕ) → after k ≡ cond (eqb k id) value (entry k)) where
+  changed : (q : ℕ) → maps.get (as_map after) q ≡ cond (eq_by_cmp nat_cmp q id) (slot_from value) (maps.get (as_map entry) q)
   changed q = elim (cases_eq q id) [
     | inl is ↦
-        get-as_map after pages_after q (omega arith)
-        ∙ ap slot_from (changes q ∙ ap (λ b. cond b entry (entry_at directory pages q)) (eq-eqb q id is))
-        ∙ ap (λ b. cond b (slot_from entry) (maps.get (as_map directory pages) q)) (sym (tie_is q id ∙ eq-eqb q id is))
+        get-as_map after q (omega arith)
+        ∙ ap slot_from (changes q ∙ ap (λ b. cond b value (entry q)) (eq-eqb q id is))
+        ∙ ap (λ b. cond b (slot_from value) (maps.get (as_map entry) q)) (sym (tie_is q id ∙ eq-eqb q id is))
     | inr apart ↦
-        by_bound q (changes q ∙ ap (λ b. cond b entry (entry_at directory pages q)) (ne_eqb q id apart))
-        ∙ ap (λ b. cond b (slot_from entry) (maps.get (as_map directory pages) q)) (sym (tie_is q id ∙ ne_eqb q id apart))
+        same_at entry after q (changes q ∙ ap (λ b. cond b value (entry q)) (ne_eqb q id apart))
+        ∙ ap (λ b. cond b (slot_from value) (maps.get (as_map entry) q)) (sym (tie_is q id ∙ ne_eqb q id apart))
   ]
-    where
-      by_bound : (q : ℕ) → entry_at after pages_after q ≡ entry_at directory pages q → maps.get (as_map after pages_after) q ≡ maps.get (as_map directory pages) q
-      by_bound q same = elim (cases_lt q (2 ^ 64)) [
-        | inl low ↦ get-as_map after pages_after q low ∙ ap slot_from same ∙ sym (get-as_map directory pages q low)
-        | inr past ↦ get-past after pages_after q past ∙ sym (get-past directory pages q past)
-      ]
 
-  pub as_map-insert : (slot : ℕ) → entry ≡ slot + 1 → as_map after pages_after ≡ maps.insert (as_map directory pages) id slot
+  pub as_map-insert : (slot : ℕ) → value ≡ slot + 1 → as_map after ≡ maps.insert (as_map entry) id slot
   as_map-insert slot is = maps.same_map nat_cmp_total maps.nat_cmp-IsAntisymmetric _ _ (λ q.
-      changed q ∙ ap (λ o. cond (eq_by_cmp nat_cmp q id) o (maps.get (as_map directory pages) q)) some
-      ∙ sym (maps.get-insert nat_cmp_total (as_map directory pages) id slot q))
-    where
-      some : slot_from entry ≡ Some slot
-      some =
-          let same : entry - 1 ≡ slot = omega arith in
-          ap (λ b. cond b None (Some (entry - 1))) (ne_eqb entry 0 (λ e. absurd (let wrong : ⊥ = omega arith in wrong))) ∙ ap (λ s. Some s) same
+      changed q ∙ ap (λ o. cond (eq_by_cmp nat_cmp q id) o (maps.get (as_map entry) q)) (some_slot (λ k. value) q slot is)
+      ∙ sym (maps.get-insert nat_cmp_total (as_map entry) id slot q))
 
-  pub as_map-remove : entry ≡ 0 → as_map after pages_after ≡ maps.remove (as_map directory pages) id
+  pub as_map-remove : value ≡ 0 → as_map after ≡ maps.remove (as_map entry) id
   as_map-remove is = maps.same_map nat_cmp_total maps.nat_cmp-IsAntisymmetric _ _ (λ q.
-      changed q ∙ ap (λ o. cond (eq_by_cmp nat_cmp q id) o (maps.get (as_map directory pages) q)) (ap slot_from is)
-      ∙ sym (maps.get-remove nat_cmp_total (as_map directory pages) id q))
-
-pub remove_unbound : (directory : Directory) (pages : Pages) (id : ℕ) → id < 2 ^ 64 → entry_at directory pages id ≡ 0 → as_map directory pages ≡ maps.remove (as_map directory pages) id
-remove_unbound directory pages id fits none = as_map-remove directory directory pages pages id 0 fits (λ k. elim (cases_eq k id) [
-  | inl is ↦ ap (entry_at directory pages) is ∙ none ∙ ap (λ b. cond b 0 (entry_at directory pages k)) (sym (eq-eqb k id is))
-  | inr apart ↦ ap (λ b. cond b 0 (entry_at directory pages k)) (sym (ne_eqb k id apart))
-]) refl
+      changed q ∙ ap (λ o. cond (eq_by_cmp nat_cmp q id) o (maps.get (as_map entry) q)) (ap slot_from is)
+      ∙ sym (maps.get-remove nat_cmp_total (as_map entry) id q))
 
 -- ---- Pages of page numbers
 
@@ -200,6 +186,46 @@ module _ (page : ℕ → ℕ) (entries : List ℕ) (from start : ℕ) (passed : 
       | inr later ↦ has_no_page page entries k (none (k / 1024) later (omega arith))
     ]
   ]
+
+-- ---- Entries in pages and far ones
+
+pub both_none : (paged far : ℕ) → cond (eqb paged 0) far paged ≡ 0 → (paged ≡ 0) × (far ≡ 0)
+both_none paged far none = elim (cases_eq paged 0) [
+  | inl is ↦ (is, ap (λ b. cond b far paged) (sym (eq-eqb paged 0 is)) ∙ none)
+  | inr some ↦ absurd (some (ap (λ b. cond b far paged) (sym (ne_eqb paged 0 some)) ∙ none))
+]
+
+module _ (directory : Directory) (pages : Pages) (far : BTreeMap ℕ ℕ) where
+  -- the far entry counts where there is none in a page
+  pub entry_for-else : (id : ℕ) → entry_at directory pages id ≡ 0 → entry_for directory pages far id ≡ far_at far id
+  entry_for-else id none = ap (λ e. cond (eqb e 0) (far_at far id) e) none
+
+  pub entry_for-here : (id : ℕ) → entry_at directory pages id ≢ 0 → entry_for directory pages far id ≡ entry_at directory pages id
+  entry_for-here id some = ap (λ b. cond b (far_at far id) (entry_at directory pages id)) (ne_eqb (entry_at directory pages id) 0 some)
+
+  module _ (id value : ℕ) where
+    -- one in a page is written, and none is far
+    pub entry_for-paged : (after : Directory) (pages_after : Pages) → ((k : ℕ) → entry_at after pages_after k ≡ cond (eqb k id) value (entry_at directory pages k)) → far_at far id ≡ 0 → (k : ℕ) →
+        entry_for after pages_after far k ≡ cond (eqb k id) value (entry_for directory pages far k)
+    entry_for-paged after pages_after changes none k = let change = changes k in elim (cases_eq k id) [
+      | inl is ↦ let at = ap (far_at far) is in grind (arith, nat_tests)
+      | inr apart ↦ grind (arith, nat_tests)
+    ]
+
+    pub once-paged : (after : Directory) (pages_after : Pages) → ((k : ℕ) → entry_at after pages_after k ≡ cond (eqb k id) value (entry_at directory pages k)) → far_at far id ≡ 0 → ((k : ℕ) → entry_at directory pages k ≢ 0 → far_at far k ≡ 0) → (k : ℕ) →
+        entry_at after pages_after k ≢ 0 → far_at far k ≡ 0
+    once-paged after pages_after changes none once k some = elim (cases_eq k id) [
+      | inl is ↦ ap (far_at far) is ∙ none
+      | inr apart ↦ once k (λ e. some (changes k ∙ ap (λ b. cond b value (entry_at directory pages k)) (ne_eqb k id apart) ∙ e))
+    ]
+
+    -- a far one is written, where none is in a page
+    pub entry_for-far : (far_after : BTreeMap ℕ ℕ) → ((k : ℕ) → far_at far_after k ≡ cond (eqb k id) value (far_at far k)) → entry_at directory pages id ≡ 0 → (k : ℕ) →
+        entry_for directory pages far_after k ≡ cond (eqb k id) value (entry_for directory pages far k)
+    entry_for-far far_after changes none k = let change = changes k in elim (cases_eq k id) [
+      | inl is ↦ let at = ap (entry_at directory pages) is in grind (arith, nat_tests)
+      | inr apart ↦ grind (arith, nat_tests)
+    ]
 
 -- ---- What is said where nothing is found
 

@@ -1,5 +1,5 @@
 -- How many entries of a page are bound.
-use Rattle.std.proofs.Common.{◌≡◌, ◌≢◌, ℕ, zero, suc, ◌+◌, ◌-◌, ◌*◌, ◌<◌, ◌≤◌, Bool, true, false}
+use Rattle.std.proofs.Common.{◌≡◌, ◌≢◌, ℕ, zero, suc, ◌+◌, ◌*◌, ◌<◌, ◌≤◌, Bool, true, false}
 use Rattle.std.proofs.Common.{cond, eqb, eq-eqb, ne_eqb, List, [], length, get_or, set, refl, sym}
 use Rattle.std.proofs.Common.{ap, ◌∙◌, subst, arith, inl, inr, get_or-set_same, get_or-set_other}
 use Rattle.std.proofs.lemmas.Bool.{cases_eq}
@@ -98,8 +98,8 @@ counts_some entries live counts i k low some = elim (cases_eq (get_or live i 0) 
 ]
 
 module _ (entries live : List ℕ) (counts : Counts entries live) (i k v count : ℕ) (low : k < 1024) (in_live : i < length live) (in_places : 1024 * i + k < length entries) where
-  counts_written : count + counted_as (get_or entries (1024 * i + k) 0) ≡ get_or live i 0 + counted_as v → Counts (set entries (1024 * i + k) v) (set live i count)
-  counts_written moves j = elim (cases_eq j i) [
+  written_here : count + counted_as (get_or entries (1024 * i + k) 0) ≡ get_or live i 0 + counted_as v → Counts (set entries (1024 * i + k) v) (set live i count)
+  written_here moves j = elim (cases_eq j i) [
     | inl is ↦
         let here = get_or-set_same live i count 0 in_live in
         let written = bound_from-set entries (1024 * i) 1024 k v low in_places in
@@ -111,18 +111,8 @@ module _ (entries live : List ℕ) (counts : Counts entries live) (i k v count :
         ∙ sym (bound_from-same (set entries (1024 * i + k) v) entries (1024 * j) 1024 (λ n above below. get_or-set_other entries (1024 * i + k) n v 0 (λ e. apart (omega arith))))
   ]
 
-  pub counts_filled : (at : ℕ) → at ≡ 1024 * i + k → get_or entries (1024 * i + k) 0 ≡ 0 → 0 < v → count ≡ get_or live i 0 + 1 → Counts (set entries at v) (set live i count)
-  counts_filled at is none some more =
-      let a = counted_as-none (get_or entries (1024 * i + k) 0) none in
-      let b = counted_as-some v (λ e. absurd (let wrong : ⊥ = omega arith in wrong)) in
-      subst (λ n. Counts (set entries n v) (set live i count)) (sym is) (counts_written (omega arith))
-
-  pub counts_cleared : (at : ℕ) → at ≡ 1024 * i + k → get_or entries (1024 * i + k) 0 ≢ 0 → v ≡ 0 → count ≡ get_or live i 0 - 1 → Counts (set entries at v) (set live i count)
-  counts_cleared at is some none less =
-      let a = counted_as-some (get_or entries (1024 * i + k) 0) some in
-      let b = counted_as-none v none in
-      let c = counts_some entries live counts i k low some in
-      subst (λ n. Counts (set entries n v) (set live i count)) (sym is) (counts_written (omega arith))
+  pub counts_written : (at : ℕ) → at ≡ 1024 * i + k → count + counted_as (get_or entries (1024 * i + k) 0) ≡ get_or live i 0 + counted_as v → Counts (set entries at v) (set live i count)
+  counts_written at is moves = subst (λ n. Counts (set entries n v) (set live i count)) (sym is) (written_here moves)
 
 pub counts_empty : (entries live : List ℕ) → entries ≡ [] → live ≡ [] → Counts entries live
 counts_empty entries live none none_live i =

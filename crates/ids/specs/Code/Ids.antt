@@ -9,15 +9,16 @@ use Rattle.std.specs.Prelude.{◌<◌}
 use Rattle.ids.specs.declared.directory.Directory.{Directory}
 use Rattle.ids.specs.declared.pages.Pages.{Pages}
 
--- ---- The directory: pages count from 1, and 0 is none
+-- the number at a far key, or 0
+abbrev pub far_at : BTreeMap ℕ ℕ → ℕ → ℕ
+far_at far key = unwrap_or (get nat_cmp far key) 0
 
-abbrev pub far_page : BTreeMap ℕ ℕ → ℕ → ℕ
-far_page far number = unwrap_or (get nat_cmp far number) 0
+-- ---- The directory: pages count from 1, and 0 is none
 
 -- the near page of a page number, or else the far one
 unfoldable pub page_at : Directory → ℕ → ℕ
 page_at directory number =
-    if slice_index directory.near.items number == 0 then far_page directory.far number
+    if slice_index directory.near.items number == 0 then far_at directory.far number
     else slice_index directory.near.items number
 
 -- ---- Entries: a slot's number and 1, or 0 where nothing is bound
@@ -29,13 +30,18 @@ slot_from entry = if entry == 0 then None else Some (entry - 1)
 abbrev pub place : ℕ → ℕ → ℕ
 place page id = 1024 * (page - 1) + id % 1024
 
--- the entry of an identifier, by the pages of the page numbers
+-- the entry of an identifier in its page, by the pages of the page numbers
 abbrev pub entry_in : (ℕ → ℕ) → List ℕ → ℕ → ℕ
 entry_in page entries id =
     if page (id / 1024) == 0 then 0 else slice_index entries (place (page (id / 1024)) id)
 
 abbrev pub entry_at : Directory → Pages → ℕ → ℕ
 entry_at directory pages id = entry_in (page_at directory) pages.entries.items id
+
+-- the entry of an identifier: in its page, or else the far one
+abbrev pub entry_for : Directory → Pages → BTreeMap ℕ ℕ → ℕ → ℕ
+entry_for directory pages far id =
+    if entry_at directory pages id == 0 then far_at far id else entry_at directory pages id
 
 -- 1 where something is bound
 abbrev pub counted_as : ℕ → ℕ
@@ -58,8 +64,9 @@ unfoldable pub map_below : ℕ → (ℕ → Option ℕ) → FinMap nat_cmp ℕ
 map_below zero slot = maps.empty
 map_below (suc n) slot = with_slot (map_below n slot) n (slot n)
 
-unfoldable pub as_map : Directory → Pages → FinMap nat_cmp ℕ
-as_map directory pages = map_below (2 ^ 64) (λ id. slot_from (entry_at directory pages id))
+-- by the entry of each identifier
+unfoldable pub as_map : (ℕ → ℕ) → FinMap nat_cmp ℕ
+as_map entry = map_below (2 ^ 64) (λ id. slot_from (entry id))
 
 -- ---- What always holds
 
@@ -82,6 +89,11 @@ IsOwned page numbers =
 pub record IsPaged (directory : Directory) (pages : Pages) : Type 0 where
   pub counted : IsCounted pages
   pub owned : IsOwned (page_at directory) pages.numbers.items
+
+-- an identifier with an entry in a page has no far one
+pub record IsHeld (directory : Directory) (pages : Pages) (far : BTreeMap ℕ ℕ) : Type 0 where
+  pub paged : IsPaged directory pages
+  pub once : (id : ℕ) → entry_at directory pages id ≢ 0 → far_at far id ≡ 0
 
 -- all entries and page numbers read as before, where 0 is read past the end
 pub record ReadsSame (old new : Pages) : Type 0 where

@@ -1,22 +1,18 @@
-use Rattle.std.proofs.Common.{◌≡◌, ◌-◌, ◌%◌, refl, get_or, arith}
+use Rattle.std.proofs.Common.{◌-◌, ◌%◌, get_or, arith}
 use Rattle.std.proofs.lemmas.Grind.{common_steps}
-use Rattle.ids.proofs.IdLemmas.Pages.{counts_some, counts_cleared}
+use Rattle.ids.specs.Code.Ids.{place}
+use Rattle.ids.proofs.IdLemmas.Pages.{counts_some, counted_as-some}
 use Rattle.ids.proofs.pages.Pages.clear.Goals as goal
 
-pub overflow_sub-index_mut : goal.overflow_sub-index_mut
-overflow_sub-index_mut c =
+pub overflow_sub-count : goal.overflow_sub-count
+overflow_sub-count c =
     let pages = c.args.self.now in
-    let read : c.index_mut-2.result.now ≡ get_or pages.live.items (c.args.page - 1) 0 = grind (arith, common_steps) in
     let some = counts_some pages.entries.items pages.live.items c.requires.page.counted.counts (c.args.page - 1) (c.args.id % 1024) (omega arith) c.requires.bound in
-    omega arith
+    grind (arith, common_steps, some)
 
-pub returns-clause-counted : goal.returns-clause-counted
-returns-clause-counted c = record {
-  room = grind (arith, common_steps);
-  counters = grind (arith, common_steps);
-  counts =
-      let pages = c.args.self.now in
-      let read : c.index_mut-2.result.now ≡ get_or pages.live.items (c.args.page - 1) 0 = grind (arith, common_steps) in
-      let room = c.requires.page.counted.room in
-      counts_cleared pages.entries.items pages.live.items c.requires.page.counted.counts (c.args.page - 1) (c.args.id % 1024) 0 (c.index_mut-2.result.now - 1) (omega arith) (omega arith) (omega arith) c.place_in.result c.place_in.ensures c.requires.bound refl (omega arith);
-}
+pub write-requires-clause-count : goal.write-requires-clause-count
+write-requires-clause-count c =
+    let pages = c.args.self.now in
+    let some = counts_some pages.entries.items pages.live.items c.requires.page.counted.counts (c.args.page - 1) (c.args.id % 1024) (omega arith) c.requires.bound in
+    let one = counted_as-some (get_or pages.entries.items (place c.args.page c.args.id) 0) c.requires.bound in
+    grind (arith, common_steps, some, one)

@@ -1,22 +1,17 @@
-use Rattle.std.proofs.Common.{◌≡◌, ◌+◌, ◌-◌, ◌%◌, get_or, arith}
+use Rattle.std.proofs.Common.{◌-◌, get_or, arith}
 use Rattle.std.proofs.lemmas.Grind.{common_steps}
-use Rattle.ids.proofs.IdLemmas.Pages.{counts_most, counts_filled}
+use Rattle.ids.specs.Code.Ids.{place}
+use Rattle.ids.proofs.IdLemmas.Pages.{counts_most, counted_as-none, counted_as-some}
 use Rattle.ids.proofs.pages.Pages.fill.Goals as goal
 
-pub overflow_add-index_mut : goal.overflow_add-index_mut
-overflow_add-index_mut c =
+pub overflow_add-count : goal.overflow_add-count
+overflow_add-count c =
     let pages = c.args.self.now in
-    let read : c.index_mut-2.result.now ≡ get_or pages.live.items (c.args.page - 1) 0 = grind (arith, common_steps) in
     let most = counts_most pages.entries.items pages.live.items c.requires.page.counted.counts (c.args.page - 1) in
-    omega arith
+    grind (arith, common_steps, most)
 
-pub returns-clause-counted : goal.returns-clause-counted
-returns-clause-counted c = record {
-  room = grind (arith, common_steps);
-  counters = grind (arith, common_steps);
-  counts =
-      let pages = c.args.self.now in
-      let read : c.index_mut-2.result.now ≡ get_or pages.live.items (c.args.page - 1) 0 = grind (arith, common_steps) in
-      let room = c.requires.page.counted.room in
-      counts_filled pages.entries.items pages.live.items c.requires.page.counted.counts (c.args.page - 1) (c.args.id % 1024) c.args.entry (c.index_mut-2.result.now + 1) (omega arith) (omega arith) (omega arith) c.place_in.result c.place_in.ensures c.requires.empty c.requires.bound (omega arith);
-}
+pub write-requires-clause-count : goal.write-requires-clause-count
+write-requires-clause-count c =
+    let none = counted_as-none (get_or c.args.self.now.entries.items (place c.args.page c.args.id) 0) c.requires.empty in
+    let some = counted_as-some c.args.entry (λ e. absurd (let wrong : ⊥ = omega arith in wrong)) in
+    grind (arith, common_steps, none, some)
