@@ -1,13 +1,14 @@
 //! The reader of the words.
 
-ghost use Rattle.std.specs.Prelude.{◌≡◌, ◌≤◌, ◌||◌, Some, codes, false, length, option_map};
+ghost use Rattle.std.specs.Prelude.{◌≡◌, ◌≤◌, ◌||◌, codes, false, length};
 ghost use Rattle.std.specs.Prelude.{string_bytes, true};
 ghost use Rattle.std.specs.Prelude.{IfErr, IfOk};
 ghost use Rattle.std.specs.List.{list_all};
 ghost use Rattle.clap.specs.Words.{app_of, rule_of, kind_of};
+ghost use Rattle.command_line.specs.Asked.{IsAsked};
 ghost use Rattle.command_line.specs.Code.Commands.{command_of, flag_rule, formula_rule};
 ghost use Rattle.command_line.specs.Code.Commands.{new_command, second_rule, with_files};
-ghost use Rattle.command_line.specs.Words.{Accepts, args, end_mark, is_among, is_empty_word};
+ghost use Rattle.command_line.specs.Words.{Accepts, end_mark, is_among, is_empty_word};
 ghost use Rattle.command_line.specs.Words.{is_known, is_some_empty, names, said_by};
 
 use crate::version::VERSION;
@@ -138,20 +139,7 @@ fn is_any_empty(formula: &String, second: &Option<String>) -> bool
 
 /// Reads the words of the tool's command line, which begin with the program's name.
 pub fn read_args(alloc: Global, tool: Tool, words: &[String]) -> Result<Args, ArgsFault>
-    ensures binary { IfOk result (λ a. is_among (said_by words.now) end_mark ≡ false
-        → a.binary ≡ (args tool (said_by words.now)).binary) }
-    ensures trace { IfOk result (λ a. is_among (said_by words.now) end_mark ≡ false
-        → a.trace ≡ (args tool (said_by words.now)).trace) }
-    ensures strict { IfOk result (λ a. is_among (said_by words.now) end_mark ≡ false
-        → a.strict ≡ (args tool (said_by words.now)).strict) }
-    ensures pr { IfOk result (λ a. is_among (said_by words.now) end_mark ≡ false
-        → a.pr ≡ (args tool (said_by words.now)).pr) }
-    ensures keep_units { IfOk result (λ a. is_among (said_by words.now) end_mark ≡ false
-        → a.keep_units ≡ (args tool (said_by words.now)).keep_units) }
-    ensures formula { IfOk result (λ a. is_among (said_by words.now) end_mark ≡ false
-        → Some (string_bytes a.formula) ≡ (args tool (said_by words.now)).formula) }
-    ensures second { IfOk result (λ a. is_among (said_by words.now) end_mark ≡ false
-        → option_map string_bytes a.second ≡ (args tool (said_by words.now)).second) }
+    ensures asked { IfOk result (λ a. IsAsked tool words.now a) }
     ensures names { IfOk result (λ a. is_among (said_by words.now) end_mark ≡ false
         → length (names tool (said_by words.now)) ≤ 2) }
     ensures hyphens { IfOk result (λ a. is_among (said_by words.now) end_mark ≡ false

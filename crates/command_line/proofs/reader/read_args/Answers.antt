@@ -8,7 +8,7 @@ use Rattle.command_line.proofs.CommandLineLemmas.Reading.{fails_for_memory, flag
 use Rattle.command_line.proofs.CommandLineLemmas.Reading.{known_words, knows, reads}
 use Rattle.command_line.proofs.reader.read_args.Goals as goal
 use Rattle.command_line.proofs.reader.read_args.Goals.{in-Some-get_str+in_ok-to_string-in-Some-get_str}
-use Rattle.command_line.proofs.reader.read_args.Goals.{in-None}
+use Rattle.command_line.proofs.reader.read_args.Goals.{in-None, After-is_any_empty}
 
 pub returns-in-Err-clause-accepts : goal.returns-in-Err-clause-accepts
 returns-in-Err-clause-accepts c accepts =
@@ -22,38 +22,32 @@ returns-in_default-clause-accepts c accepts =
     let none : first_value (found_of c.in-Ok.matches) (codes "formula") ≡ None = sym c.in_default.ensures in
     absurd (has_formula c.args.tool (said_by c.args.words.now) accepts (sym read.formula ∙ (sym (first_value-rows (found_of c.in-Ok.matches) (codes "formula")) ∙ none)))
 
-pub returns-clause-binary : goal.returns-clause-binary
-returns-clause-binary c free = flag_given c.args.tool (app_of c.in_ok-command.command) c.in_ok-command.ensures c.args.words.now c.in-Ok.matches c.in-Ok.ensures.matches c.in-Ok.ensures.kinds free (codes "binary") (λ read. read.binary) c.get_flag.result c.get_flag.ensures.none c.get_flag.ensures.value c.get_flag.ensures.other
+-- the second name that was found
+second_found : (c : After-is_any_empty) → option_map string_bytes c.match-get_str-2.second ≡ first_value (found_of c.in-Ok.matches) (codes "second")
+second_found c = elim c.match-get_str-2.branch [
+  | in-Some-get_str+in_ok-to_string-in-Some-get_str w ↦ ap (option_map string_bytes) w.second-is
+      ∙ (ap (λ l. Some l) w.in_ok-to_string-in-Some-get_str.ensures.ok ∙ w.in-Some-get_str.ensures)
+  | in-None w ↦ ap (option_map string_bytes) w.second-is ∙ w.in-None.ensures
+]
 
-pub returns-clause-trace : goal.returns-clause-trace
-returns-clause-trace c free = flag_given c.args.tool (app_of c.in_ok-command.command) c.in_ok-command.ensures c.args.words.now c.in-Ok.matches c.in-Ok.ensures.matches c.in-Ok.ensures.kinds free (codes "trace") (λ read. read.trace) c.get_flag-2.result c.get_flag-2.ensures.none c.get_flag-2.ensures.value c.get_flag-2.ensures.other
+-- the first one
+formula_found : (c : After-is_any_empty) → Some (string_bytes c.in_ok-formula.formula) ≡ first_value (found_of c.in-Ok.matches) (codes "formula")
+formula_found c = ap (λ l. Some l) c.in_ok-formula.ensures.ok ∙ c.in-Some.ensures
 
-pub returns-clause-strict : goal.returns-clause-strict
-returns-clause-strict c free = flag_given c.args.tool (app_of c.in_ok-command.command) c.in_ok-command.ensures c.args.words.now c.in-Ok.matches c.in-Ok.ensures.matches c.in-Ok.ensures.kinds free (codes "strict") (λ read. read.strict) c.get_flag-3.result c.get_flag-3.ensures.none c.get_flag-3.ensures.value c.get_flag-3.ensures.other
-
-pub returns-clause-pr : goal.returns-clause-pr
-returns-clause-pr c free = flag_given c.args.tool (app_of c.in_ok-command.command) c.in_ok-command.ensures c.args.words.now c.in-Ok.matches c.in-Ok.ensures.matches c.in-Ok.ensures.kinds free (codes "pr") (λ read. read.pr) c.get_flag-4.result c.get_flag-4.ensures.none c.get_flag-4.ensures.value c.get_flag-4.ensures.other
-
-pub returns-clause-keep_units : goal.returns-clause-keep_units
-returns-clause-keep_units c free = flag_given c.args.tool (app_of c.in_ok-command.command) c.in_ok-command.ensures c.args.words.now c.in-Ok.matches c.in-Ok.ensures.matches c.in-Ok.ensures.kinds free (codes "keep-units") (λ read. read.keep_units) c.get_flag-5.result c.get_flag-5.ensures.none c.get_flag-5.ensures.value c.get_flag-5.ensures.other
-
-pub returns-clause-formula : goal.returns-clause-formula
-returns-clause-formula c free =
-    let read = reads c.args.tool (app_of c.in_ok-command.command) c.in_ok-command.ensures c.args.words.now c.in-Ok.matches c.in-Ok.ensures.matches c.in-Ok.ensures.kinds free in
-    let got : Some c.in-Some.formula.now ≡ first_value (found_of c.in-Ok.matches) (codes "formula") = c.in-Some.ensures in
-    let same : string_bytes c.in_ok-formula.formula ≡ c.in-Some.formula.now = c.in_ok-formula.ensures.ok in
-    ap (λ l. Some l) same ∙ (got ∙ (first_value-rows (found_of c.in-Ok.matches) (codes "formula") ∙ read.formula))
-
-pub returns-clause-second : goal.returns-clause-second
-returns-clause-second c free =
-    let read = reads c.args.tool (app_of c.in_ok-command.command) c.in_ok-command.ensures c.args.words.now c.in-Ok.matches c.in-Ok.ensures.matches c.in-Ok.ensures.kinds free in
-    let got : option_map string_bytes c.match-get_str-2.second ≡ first_value (found_of c.in-Ok.matches) (codes "second") =
-    elim c.match-get_str-2.branch [
-      | in-Some-get_str+in_ok-to_string-in-Some-get_str w ↦ ap (option_map string_bytes) w.second-is
-          ∙ (ap (λ l. Some l) w.in_ok-to_string-in-Some-get_str.ensures.ok ∙ w.in-Some-get_str.ensures)
-      | in-None w ↦ ap (option_map string_bytes) w.second-is ∙ w.in-None.ensures
-    ] in
-    got ∙ (first_value-rows (found_of c.in-Ok.matches) (codes "second") ∙ read.second)
+pub returns-clause-asked : goal.returns-clause-asked
+returns-clause-asked c free =
+    let app = app_of c.in_ok-command.command in
+    let found = found_of c.in-Ok.matches in
+    let read = reads c.args.tool app c.in_ok-command.ensures c.args.words.now c.in-Ok.matches c.in-Ok.ensures.matches c.in-Ok.ensures.kinds free in
+    let flag = flag_given c.args.tool app c.in_ok-command.ensures c.args.words.now c.in-Ok.matches c.in-Ok.ensures.matches c.in-Ok.ensures.kinds free in
+    let binary = flag (codes "binary") (λ read. read.binary) c.get_flag.result c.get_flag.ensures.none c.get_flag.ensures.value c.get_flag.ensures.other in
+    let trace = flag (codes "trace") (λ read. read.trace) c.get_flag-2.result c.get_flag-2.ensures.none c.get_flag-2.ensures.value c.get_flag-2.ensures.other in
+    let strict = flag (codes "strict") (λ read. read.strict) c.get_flag-3.result c.get_flag-3.ensures.none c.get_flag-3.ensures.value c.get_flag-3.ensures.other in
+    let pr = flag (codes "pr") (λ read. read.pr) c.get_flag-4.result c.get_flag-4.ensures.none c.get_flag-4.ensures.value c.get_flag-4.ensures.other in
+    let keep_units = flag (codes "keep-units") (λ read. read.keep_units) c.get_flag-5.result c.get_flag-5.ensures.none c.get_flag-5.ensures.value c.get_flag-5.ensures.other in
+    let formula = formula_found (goal.at.returns-clause-asked c).After-is_any_empty ∙ (first_value-rows found (codes "formula") ∙ read.formula) in
+    let second = second_found (goal.at.returns-clause-asked c).After-is_any_empty ∙ (first_value-rows found (codes "second") ∙ read.second) in
+    λ i. record { binary = binary i; trace = trace i; strict = strict i; pr = pr i; keep_units = keep_units i; formula = formula i; second = second i }
 
 pub returns-clause-names : goal.returns-clause-names
 returns-clause-names c free =
@@ -67,15 +61,8 @@ returns-then-is_any_empty-clause-accepts c accepts =
     let words = said_by c.args.words.now in
     let read = reads c.args.tool (app_of c.in_ok-command.command) c.in_ok-command.ensures c.args.words.now c.in-Ok.matches c.in-Ok.ensures.matches c.in-Ok.ensures.kinds
     (known_words c.args.tool words accepts) in
-    let formula : Some c.in-Some.formula.now ≡ first_value (found_of c.in-Ok.matches) (codes "formula") = c.in-Some.ensures in
-    let same : string_bytes c.in_ok-formula.formula ≡ c.in-Some.formula.now = c.in_ok-formula.ensures.ok in
-    let second : option_map string_bytes c.match-get_str-2.second ≡ first_value (found_of c.in-Ok.matches) (codes "second") =
-    elim c.match-get_str-2.branch [
-      | in-Some-get_str+in_ok-to_string-in-Some-get_str w ↦ ap (option_map string_bytes) w.second-is
-          ∙ (ap (λ l. Some l) w.in_ok-to_string-in-Some-get_str.ensures.ok ∙ w.in-Some-get_str.ensures)
-      | in-None w ↦ ap (option_map string_bytes) w.second-is ∙ w.in-None.ensures
-    ] in
+    let path = (goal.at.returns-then-is_any_empty-clause-accepts c).After-is_any_empty in
     let full = names_full c.args.tool words (string_bytes c.in_ok-formula.formula) c.match-get_str-2.second accepts
-    (ap (λ l. Some l) same ∙ (formula ∙ (first_value-rows (found_of c.in-Ok.matches) (codes "formula") ∙ read.formula)))
-    (second ∙ (first_value-rows (found_of c.in-Ok.matches) (codes "second") ∙ read.second)) in
+    (formula_found path ∙ (first_value-rows (found_of c.in-Ok.matches) (codes "formula") ∙ read.formula))
+    (second_found path ∙ (first_value-rows (found_of c.in-Ok.matches) (codes "second") ∙ read.second)) in
     absurd (true≢false (sym c.if-is_any_empty.true ∙ c.is_any_empty.ensures ∙ full))
