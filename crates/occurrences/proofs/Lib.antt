@@ -1,0 +1,3 @@
+pub mod EntryLemmas
+pub mod ResultLemmas
+pub mod TestLemmas

@@ -1,0 +1,30 @@
+use Rattle.std.proofs.Common.{◌&&◌, not, eq-eqb, ne_eqb, sym, ap, ◌∙◌, inl, inr}
+use Rattle.std.proofs.lemmas.Bool.{cases_eq}
+use Rattle.occurrences.specs.Entries.{list_at}
+use Rattle.occurrences.specs.Code.Known.{is_known}
+use Rattle.occurrences.specs.Occurrences.{occurs}
+use Rattle.occurrences.proofs.TestLemmas.{and_true, and_false, all_weaker}
+use Rattle.occurrences.proofs.EntryLemmas.{reserved, reserved_known, reserved_occurs}
+use Rattle.occurrences.proofs.by_literal.Occurrences.add.Goals as goal
+
+pub invariant_of-self : goal.invariant_of-self
+invariant_of-self c =
+    let old = c.args.self.now in
+    let same = reserved old.births c.reserve.new.self c.args.slot c.reserve.result c.reserve.ensures.ok c.reserve.ensures.err in
+    record { known = λ l. all_weaker (is_known old.births) (is_known c.reserve.new.self) (reserved_known old.births c.reserve.new.self same) (list_at old.lists l) (old.known l) }
+
+pub returns-in-Err-clause-err : goal.returns-in-Err-clause-err
+unfolding occurs
+returns-in-Err-clause-err c l s =
+    let old = c.args.self.now in
+    let slot = c.args.slot in
+    let refused = c.push_all.new.self in
+    elim (cases_eq s slot) [
+      | inl e ↦
+          c.forget.ensures l s ∙ ap (λ b. occurs refused l s && not b) (eq-eqb s slot e) ∙ and_false (occurs refused l s)
+          ∙ sym (ap (occurs old l) e ∙ c.requires.absent l)
+      | inr ne ↦
+          let same = reserved old.births c.reserve.new.self slot c.reserve.result c.reserve.ensures.ok c.reserve.ensures.err in
+          c.forget.ensures l s ∙ ap (λ b. occurs refused l s && not b) (ne_eqb s slot ne) ∙ and_true (occurs refused l s)
+          ∙ c.in-Err.ensures.others l s ne ∙ reserved_occurs old.births c.reserve.new.self same (list_at old.lists l) s
+    ]
