@@ -2,6 +2,7 @@ pub mod Entries
 pub mod Fields
 pub mod Index
 pub mod Indexed
+pub mod Kept
 pub mod Marks
 pub mod Options
 pub mod Search

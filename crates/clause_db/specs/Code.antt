@@ -5,4 +5,5 @@ pub mod Fields
 pub mod Hashes
 pub mod Index
 pub mod Indexed
+pub mod Kept
 pub mod LiteralMarks

@@ -2,7 +2,8 @@
 use Rattle.std.specs.FinMap as maps
 use Rattle.std.specs.FinMap.{FinMap}
 use Rattle.std.specs.Ordering.{nat_cmp}
-use Rattle.std.specs.Prelude.{ℕ, sum_by, if◌then◌else◌}
+use Rattle.std.specs.List.{list_any}
+use Rattle.std.specs.Prelude.{◌≡◌, ℕ, List, Some, IsTrue, sum_by, if◌then◌else◌}
 use Rattle.cnf_base.specs.Literals.{Clause, size, Literal, has}
 
 -- a store, as its callers see it
@@ -23,3 +24,9 @@ literals_in clauses = sum_over size clauses
 -- how many of the clauses have the literal
 abbrev pub copies_with : FinMap nat_cmp Clause → Literal → ℕ
 copies_with clauses l = sum_over (λ c. if has c l then 1 else 0) clauses
+
+-- the clause in the slot has one of the literals
+pub record HasAnyAt (live : FinMap nat_cmp Clause) (lits : List Literal) (slot : ℕ) : Type 0 where
+  pub clause : Clause
+  pub at : maps.get live slot ≡ Some clause
+  pub member : IsTrue (list_any (has clause) lits)

@@ -3,6 +3,7 @@
 mod buckets;
 mod entry;
 pub(crate) mod index;
+mod kept;
 mod mark;
 mod marks;
 mod search;
@@ -11,20 +12,27 @@ ghost use Rattle.std.specs.Prelude.{◌≡◌, ◌≢◌, ℕ, ◌+◌, ◌-◌,
 ghost use Rattle.std.specs.Prelude.{true, false, Some, None, option_map, length, if◌then◌else◌};
 ghost use Rattle.std.specs.Prelude.{IsTrue, IsSome, IfSome, IfNone, IfOk, OnOk, OnErr};
 ghost use Rattle.std.specs.List.{swap};
+ghost use Rattle.std.specs.List.Sorted.{IsStrictlyIncreasing};
+ghost use Rattle.std.specs.Ordering.{nat_cmp};
 ghost use Rattle.std.specs.FinMap as maps;
+ghost use Rattle.std.specs.FinMap.{FinMap};
 ghost use Rattle.cnf_base.specs.Literals.{Clause, has, same_clause, size};
 ghost use Rattle.slab.specs.Slab.{slab_len, HasRoomFor};
-ghost use Rattle.clause_db.specs.Store.{literals_in, copies_with};
+ghost use Rattle.clause_db.specs.Store.{literals_in, copies_with, HasAnyAt};
+ghost use Rattle.clause_db.specs.Code.Entries.{clauses_in};
+ghost use Rattle.clause_db.specs.Code.Kept.{AreKept};
 ghost use Rattle.clause_db.specs.Code.LiteralMarks.{is_marked, mark_count};
 ghost use Rattle.tables.specs.Table.{at};
 
 use crate::store::entry::{Entry, swap_literals};
 use crate::store::index::{Index, Indexing, NoIndex};
+use crate::store::kept::{find_slots, forget, note};
 use crate::store::mark::Mark;
 use crate::store::marks::{all_known, count_all, gather, mark_all, mark_new, release, unmark_all};
 use crate::store::search::find_marked;
 use cnf_base::{Lit, OutOfMemory};
 use ids::Slot;
+use occurrences::Occurrences;
 use slab::Slab;
 use smallvec::SmallVec;
 use std::alloc::Global;
@@ -43,6 +51,8 @@ pub struct Store<I: Indexing = Index> {
     index: I,
     marks: Table<Mark>,
     sum: u128,
+    /// By literal the slots of the clauses that have it, from when they are first asked for.
+    occurrences: Option<Occurrences>,
 }
 
 impl<I: Indexing> Model for Store<I> {
@@ -50,6 +60,7 @@ impl<I: Indexing> Model for Store<I> {
     ghost use Rattle.clause_db.specs.Code.Fields.{store_code};
     ghost use Rattle.clause_db.specs.Code.Entries.{clauses_in, literals_kept};
     ghost use Rattle.clause_db.specs.Code.Fields.{IsStore};
+    ghost use Rattle.clause_db.specs.Code.Kept.{AreKept};
 
     ghost Value = { StoreState };
 
@@ -62,13 +73,15 @@ impl<I: Indexing> Model for Store<I> {
       index = _;
       marks = _;
       sum = _;
+      occurrences = _;
     }. record {
       live = clauses_in entries;
       stored = literals_kept entries;
     } };
 
     ghost invariant = { λ s.
-        IsStore s.entries s.marks s.sum × I.indexes s.index (clauses_in s.entries) };
+        IsStore s.entries s.marks s.sum × I.indexes s.index (clauses_in s.entries)
+        × AreKept s.occurrences (clauses_in s.entries) };
 }
 
 /// A store with more clauses would take far more memory than there is. Counts and places have four bytes.
@@ -141,6 +154,36 @@ fn give_back(marks: &mut Table<Mark>, entry: Entry)
     release(marks, entry.lits.as_slice());
 }
 
+/// Adds the slot of a clause to what finds it again.
+fn list_up<I: Indexing>(
+    index: &mut I,
+    kept: &mut Option<Occurrences>,
+    slot: usize,
+    lits: &[Lit],
+) -> Result<(), OutOfMemory>
+    requires different { size lits.now ≡ length lits.now }
+    requires free { (live : FinMap nat_cmp Clause) × AreKept kept.old live
+        × (maps.get live slot ≡ None) }
+    ensures index { OnOk result ((live : FinMap nat_cmp Clause) →
+        I.indexes index.old live → maps.get live slot ≡ None →
+        I.indexes index.new (maps.insert live slot lits.now)) }
+    ensures kept { OnOk result ((live : FinMap nat_cmp Clause) → AreKept kept.old live →
+        maps.get live slot ≡ None → AreKept kept.new (maps.insert live slot lits.now)) }
+    ensures same_index { OnErr result ((live : FinMap nat_cmp Clause) →
+        I.indexes index.old live → I.indexes index.new live) }
+    ensures same_kept { OnErr result ((live : FinMap nat_cmp Clause) → AreKept kept.old live →
+        maps.get live slot ≡ None → AreKept kept.new live) }
+{
+    note(kept, slot, lits)?;
+    match index.add(slot, lits) {
+        Ok(()) => Ok(()),
+        Err(refused) => {
+            forget(kept, slot);
+            Err(refused)
+        }
+    }
+}
+
 impl<I: Indexing> Store<I> {
     fn empty(alloc: Global, seed: u64) -> Self
         ensures { result ≡ record { live = maps.empty; stored = 0 } }
@@ -151,6 +194,7 @@ impl<I: Indexing> Store<I> {
             index: I::new(alloc, seed),
             marks: Table::new(alloc),
             sum: 0,
+            occurrences: None,
         }
     }
 
@@ -165,10 +209,9 @@ impl<I: Indexing> Store<I> {
         ensures err { OnErr result (self.new ≡ self.old) }
     {
         let entry = take_in(self.alloc, &mut self.entries, &mut self.marks, lits)?;
-        match self
-            .index
-            .add(self.entries.vacant_key(), entry.lits.as_slice())
-        {
+        let free = self.entries.vacant_key();
+        let kept = entry.lits.as_slice();
+        match list_up(&mut self.index, &mut self.occurrences, free, kept) {
             Ok(()) => {
                 self.sum += entry.lits.len() as u128;
                 let slot = self.entries.insert_reserved(entry);
@@ -192,6 +235,7 @@ impl<I: Indexing> Store<I> {
         release(&mut self.marks, lits);
         self.sum -= lits.len() as u128;
         self.index.remove(slot.number(), lits);
+        forget(&mut self.occurrences, slot.number());
     }
 
     /// The literals of the clause in the slot, in the order of the store.
@@ -236,6 +280,25 @@ impl<I: Indexing> Store<I> {
         ensures live_alone { self.now.stored ≡ literals_in self.now.live }
     {
         self.sum.min(18446744073709551615) as u64
+    }
+
+    /// Gathers the slots of the clauses that have one of the literals, in ascending order. `into` is emptied first.
+    ///
+    /// The first call goes over all clauses, and notes where each literal occurs. From then on this is kept, and a call takes as
+    /// long as the lists of these literals are, and as sorting what is found.
+    ///
+    /// # Errors
+    ///
+    /// Where memory runs out.
+    pub fn slots_with_any(&mut self, lits: &[Lit], into: &mut Vec<u32>) -> Result<(), OutOfMemory>
+        ensures ascending { OnOk result (IsStrictlyIncreasing into.new.items) }
+        ensures each { OnOk result ((s : ℕ) → IsTrue (has into.new.items s) →
+            HasAnyAt self.old.live lits.now s) }
+        ensures all { OnOk result ((s : ℕ) → HasAnyAt self.old.live lits.now s →
+            IsTrue (has into.new.items s)) }
+        ensures same { self.new ≡ self.old }
+    {
+        find_slots(&mut self.occurrences, self.alloc, &self.entries, lits, into)
     }
 
     /// How many of the clauses have the literal.

@@ -1,3 +1,2 @@
 pub mod EntryLemmas
-pub mod ResultLemmas
 pub mod TestLemmas

@@ -1,5 +1,5 @@
 -- Two literals of a clause in each other's place.
-use Rattle.std.proofs.Common.{◌≡◌, ℕ, ◌<◌, Some, eqb, List, length, sym, ap, ◌∙◌, subst}
+use Rattle.std.proofs.Common.{◌≡◌, ℕ, ◌<◌, Option, Some, eqb, List, length, sym, ap, ◌∙◌, subst}
 use Rattle.std.specs.List.{swap}
 use Rattle.std.specs.Ordering.{nat_cmp}
 use Rattle.std.specs.FinMap as maps
@@ -11,12 +11,15 @@ use Rattle.cnf_base.specs.Literals.{Clause, has}
 use Rattle.clause_db.specs.Code.Entries.{clauses_in}
 use Rattle.clause_db.specs.Code.Fields.{IsStore}
 use Rattle.clause_db.specs.Code.Index.{IsIndex}
+use Rattle.clause_db.specs.Code.Kept.{AreKept}
+use Rattle.occurrences.specs.declared.by_literal.Occurrences.{Occurrences}
 use Rattle.tables.specs.declared.table.Table.{Table}
 use Rattle.clause_db.specs.declared.store.entry.Entry.{Entry}
 use Rattle.clause_db.specs.declared.store.mark.Mark.{Mark}
 use Rattle.clause_db.proofs.StoreLemmas.Entries.{clause_of, get_stored, wrote_entry, other_entry}
 use Rattle.clause_db.proofs.StoreLemmas.Fields.{map_replaced, sound_replaced}
 use Rattle.clause_db.proofs.StoreLemmas.Index.{index_replaced}
+use Rattle.clause_db.proofs.StoreLemmas.Kept.{kept_replaced}
 use Rattle.clause_db.proofs.StoreLemmas.Marks.{hash_same}
 
 pub has_swapped : (c d : Clause) (a b : ℕ) → a < length c → b < length c → d ≡ swap c a b → (l : ℕ) → has d l ≡ has c l
@@ -43,3 +46,6 @@ module _ (entries : Slab Entry) (marks : Table Mark) (sum : ℕ) (sound : IsStor
       subst (IsIndex seed buckets place_of) (sym map_swapped)
       (index_replaced seed buckets place_of (clauses_in entries) index k e.lits.items f.lits.items (get_stored entries k ∙ ap clause_of here)
       (hash_same seed f.lits.items e.lits.items (λ l h. sym (alike l) ∙ h) (λ l h. alike l ∙ h)))
+
+  pub kept_swapped : (kept : Option Occurrences) → AreKept kept (clauses_in entries) → AreKept kept (clauses_in (with_value entries k f))
+  kept_swapped kept are = subst (AreKept kept) (sym map_swapped) (kept_replaced kept (clauses_in entries) k e.lits.items f.lits.items (get_stored entries k ∙ ap clause_of here) alike are)

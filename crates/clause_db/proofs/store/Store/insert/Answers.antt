@@ -5,6 +5,7 @@ use Rattle.slab.specs.Slab.{get, slab_len}
 use Rattle.cnf_base.specs.Literals.{has, size}
 use Rattle.cnf_base.proofs.SetLemmas.{both_pass, same_there, same_back}
 use Rattle.clause_db.specs.Code.Entries.{clauses_in}
+use Rattle.clause_db.specs.Code.Kept.{AreKept}
 use Rattle.clause_db.specs.Code.LiteralMarks.{mark_count}
 use Rattle.tables.specs.Table.{at}
 use Rattle.cnf_base.proofs.SizeLemmas.{IsWithin}
@@ -26,6 +27,7 @@ invariant_of-self g c =
     let slots = c.take_in.ensures.slots in (
       sound_same i.entries c.take_in.new.entries i.marks c.take_in.new.marks i.sum c.self.invariant.0 slots c.in_err-entry.ensures.refused c.take_in.ensures.clear,
       subst (g.I.Indexing.indexes i.index) (sym (stored_same i.entries c.take_in.new.entries slots)) c.self.invariant.1,
+      subst (AreKept i.occurrences) (sym (stored_same i.entries c.take_in.new.entries slots)) c.self.invariant.2,
     )
 
 pub returns-in_err-entry-clause-live_alone : goal.returns-in_err-entry-clause-live_alone
@@ -44,6 +46,13 @@ overflow_add-self g c =
     let len_is = c.len.ensures.value in
     omega arith
 
+pub list_up-requires-clause-free : goal.list_up-requires-clause-free
+list_up-requires-clause-free g c =
+    let i = c.self.inside in
+    let k = c.vacant_key-free.result in
+    let vacant = ap (λ xs. get_or xs k None) (sym c.take_in.ensures.slots) ∙ c.vacant_key-free.ensures.vacant in
+    (clauses_in i.entries, c.self.invariant.2, get_stored i.entries k ∙ ap clause_of vacant)
+
 pub invariant_of-self-in-Ok : goal.invariant_of-self-in-Ok
 invariant_of-self-in-Ok g c =
     let i = c.self.inside in
@@ -59,15 +68,17 @@ invariant_of-self-in-Ok g c =
     let alike = λ (l : ℕ). both_pass (has lits l) (has kept l) (back l) (there l) in
     let len_is : c.len.result ≡ size kept = c.len.ensures.value ∙ sym made.different in
     let key_is : i.entries.vacant_key ≡ k = sym (c.insert_reserved-slot.ensures.key ∙ c.take_in.ensures.key) in
-    let slot_is : c.vacant_key.result ≡ k = c.vacant_key.ensures.value ∙ sym c.insert_reserved-slot.ensures.key in
+    let slot_is : c.vacant_key-free.result ≡ k = c.vacant_key-free.ensures.value ∙ sym c.insert_reserved-slot.ensures.key in
     let vacant = ap (λ xs. get_or xs k None) (sym slots) ∙ c.insert_reserved-slot.ensures.was_vacant in
     let others = λ (s : ℕ) (apart : s ≢ k). c.insert_reserved-slot.ensures.updates.others s apart ∙ ap (λ xs. get_or xs s None) slots in
     let counts = λ (l : ℕ). made.counts l ∙ ap (λ b. mark_count (at i.marks l) + cond b 1 0) (alike l) in
     let was = stored_with i.entries c.insert_reserved-slot.new.self k entry c.insert_reserved-slot.ensures.updates.changed others in
     let none = get_stored i.entries k ∙ ap clause_of vacant in
-    let found = c.in-Ok.ensures.ok live c.self.invariant.1 (ap (maps.get live) slot_is ∙ none) in (
+    let free = ap (maps.get live) slot_is ∙ none in
+    let made_is = ap (λ s. maps.insert live s c.as_slice-kept.result.now) slot_is ∙ ap (λ d. maps.insert live k d) c.as_slice-kept.ensures ∙ sym was in (
       sound_with i.entries c.insert_reserved-slot.new.self i.marks c.take_in.new.marks i.sum c.self.invariant.0 k entry vacant c.insert_reserved-slot.ensures.updates.changed others made.different made.short counts c.take_in.ensures.clear c.len.result len_is,
-      subst (g.I.Indexing.indexes c.add.new.self) (ap (λ s. maps.insert live s c.as_slice.result.now) slot_is ∙ ap (λ d. maps.insert live k d) c.as_slice.ensures ∙ sym was) found,
+      subst (g.I.Indexing.indexes c.list_up.new.index) made_is (c.in-Ok.ensures.index live c.self.invariant.1 free),
+      subst (AreKept c.list_up.new.kept) made_is (c.in-Ok.ensures.kept live c.self.invariant.2 free),
     )
 
 pub give_back-requires-clause-counted : goal.give_back-requires-clause-counted
@@ -85,6 +96,8 @@ invariant_of-self-in-Err g c =
     let kept = c.in_ok-entry.entry.lits.items in
     let made = c.in_ok-entry.ensures in
     let slots = c.take_in.ensures.slots in
+    let free = c.vacant_key-free.result in
+    let vacant = ap (λ xs. get_or xs free None) (sym slots) ∙ c.vacant_key-free.ensures.vacant in
     let counts = λ (l : ℕ).
     let more = made.counts l in
     let less = c.give_back.ensures.counts l in
@@ -92,7 +105,8 @@ invariant_of-self-in-Err g c =
     let same : mark_count (at c.give_back.new.marks l) ≡ mark_count (at i.marks l) = omega arith in
     same in (
       sound_same i.entries c.take_in.new.entries i.marks c.give_back.new.marks i.sum c.self.invariant.0 slots counts (λ l. c.give_back.ensures.marked l ∙ c.take_in.ensures.clear l),
-      subst (g.I.Indexing.indexes c.add.new.self) (sym (stored_same i.entries c.take_in.new.entries slots)) (c.in-Err.ensures.err (clauses_in i.entries) c.self.invariant.1),
+      subst (g.I.Indexing.indexes c.list_up.new.index) (sym (stored_same i.entries c.take_in.new.entries slots)) (c.in-Err.ensures.same_index (clauses_in i.entries) c.self.invariant.1),
+      subst (AreKept c.list_up.new.kept) (sym (stored_same i.entries c.take_in.new.entries slots)) (c.in-Err.ensures.same_kept (clauses_in i.entries) c.self.invariant.2 (get_stored i.entries free ∙ ap clause_of vacant)),
     )
 
 pub returns-in-Ok-clause-free : goal.returns-in-Ok-clause-free

@@ -2,6 +2,7 @@ use Rattle.std.proofs.Common.{ℕ, ◌+◌, ◌-◌, ◌≤◌, Some, is_some, l
 use Rattle.std.specs.FinMap as maps
 use Rattle.cnf_base.specs.Literals.{has}
 use Rattle.clause_db.specs.Code.Entries.{clauses_in}
+use Rattle.clause_db.specs.Code.Kept.{AreKept}
 use Rattle.clause_db.specs.Code.LiteralMarks.{mark_count}
 use Rattle.clause_db.specs.Code.Fields.{IsStore}
 use Rattle.tables.specs.Table.{at}
@@ -41,6 +42,13 @@ remove-requires-clause-there g c =
     let slot_is = c.number-2.ensures ∙ sym c.number.ensures in
     (clauses_in i.entries, c.self.invariant.1, ap (maps.get (clauses_in i.entries)) slot_is ∙ here ∙ ap Some (sym c.as_slice-lits.ensures))
 
+pub forget-requires : goal.forget-requires
+forget-requires g c =
+    let i = c.self.inside in
+    let here = clause_here i.entries i.marks i.sum c.self.invariant.0 c.number.result c.remove-entry.result c.remove-entry.ensures.value in
+    let slot_is = c.number-3.ensures ∙ sym c.number.ensures in
+    (clauses_in i.entries, c.self.invariant.2, ap (λ s. is_some (maps.get (clauses_in i.entries) s)) slot_is ∙ ap is_some here)
+
 pub invariant_of-self : goal.invariant_of-self
 invariant_of-self g c =
     let i = c.self.inside in
@@ -57,6 +65,7 @@ invariant_of-self g c =
       subst (λ n. IsStore c.remove-entry.new.self c.release.new.marks (i.sum - n)) (ap length (sym c.as_slice-lits.ensures))
           (sound_without i.entries c.remove-entry.new.self i.marks c.release.new.marks i.sum c.self.invariant.0 k e was gone rest counts c.release.ensures.marked),
       subst (g.I.Indexing.indexes c.remove.new.self) (ap (maps.remove (clauses_in i.entries)) slot_is ∙ sym without) (c.remove.ensures (clauses_in i.entries) c.self.invariant.1 there),
+      subst (AreKept c.forget.new.kept) (ap (maps.remove (clauses_in i.entries)) (c.number-3.ensures ∙ sym c.number.ensures) ∙ sym without) (c.forget.ensures (clauses_in i.entries) c.self.invariant.2),
     )
 
 pub returns-clause-live : goal.returns-clause-live

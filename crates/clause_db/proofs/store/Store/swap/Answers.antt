@@ -7,6 +7,7 @@ use Rattle.std.proofs.lemmas.Option.{same_Some}
 use Rattle.clause_db.proofs.StoreLemmas.Entries.{live_entry}
 use Rattle.clause_db.proofs.StoreLemmas.Fields.{live_kept}
 use Rattle.clause_db.proofs.StoreLemmas.Swap.{entry_is, map_swapped, sound_swapped, index_swapped}
+use Rattle.clause_db.proofs.StoreLemmas.Swap.{kept_swapped}
 use Rattle.clause_db.proofs.store.Store.swap.Goals as goal
 
 pub index_mut-requires : goal.index_mut-requires
@@ -33,6 +34,7 @@ invariant_of-self c =
     let is = c.swap_literals.ensures in (
       sound_swapped i.entries i.marks i.sum c.self.invariant.0 k e f c.args.a c.args.b c.index_mut.ensures.value first second is.swapped is.len,
       index_swapped i.entries i.marks i.sum c.self.invariant.0 k e f c.args.a c.args.b c.index_mut.ensures.value first second is.swapped is.len i.index.seed (under i.index) (noted_place i.index) c.self.invariant.1,
+      kept_swapped i.entries i.marks i.sum c.self.invariant.0 k e f c.args.a c.args.b c.index_mut.ensures.value first second is.swapped is.len i.occurrences c.self.invariant.2,
     )
 
 pub returns-clause-live : goal.returns-clause-live

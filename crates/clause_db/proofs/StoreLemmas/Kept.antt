@@ -1,0 +1,157 @@
+-- The occurrences of literals in the clauses, through a change.
+use Rattle.std.proofs.Common.{◌≡◌, ◌≢◌, ℕ, ◌<◌, ◌≤◌, nat_lt, Bool, true, false, ◌&&◌, ◌||◌, not, cond, eqb}
+use Rattle.std.proofs.Common.{eq-eqb, ne_eqb, Option, Some, None, is_some, List, [], ◌∷◌, refl, sym}
+use Rattle.std.proofs.Common.{ap, ◌∙◌, subst, arith, inl, inr, length}
+use Rattle.std.specs.List.{list_any}
+use Rattle.std.specs.Ordering.{nat_cmp}
+use Rattle.std.specs.FinMap as maps
+use Rattle.std.specs.FinMap.{FinMap}
+use Rattle.std.proofs.lemmas.Bool.{cases_eq, cases_lt, false≢true, lt-ltb}
+use Rattle.std.proofs.lemmas.List.{get_or_past}
+use Rattle.slab.specs.Slab.{Slab, get}
+use Rattle.cnf_base.specs.Literals.{Literal, Clause, has}
+use Rattle.occurrences.specs.Occurrences.{occurs}
+use Rattle.occurrences.specs.declared.by_literal.Occurrences.{Occurrences}
+use Rattle.clause_db.specs.Store.{HasAnyAt}
+use Rattle.clause_db.specs.Code.Entries.{clauses_in}
+use Rattle.clause_db.specs.Code.Kept.{has_in, AreOf, AreKept}
+use Rattle.clause_db.specs.declared.store.entry.Entry.{Entry}
+use Rattle.clause_db.proofs.StoreLemmas.Entries.{clause_of, get_stored}
+use Rattle.clause_db.proofs.StoreLemmas.Sums.{get_insert, get_remove, same_maps}
+
+-- ---- Look-ups in a changed map
+
+pub insert_here : (live : FinMap nat_cmp Clause) (k s : ℕ) (c : Clause) → s ≡ k → maps.get (maps.insert live k c) s ≡ Some c
+insert_here live k s c e = get_insert live k c s ∙ ap (λ b. cond b (Some c) (maps.get live s)) (eq-eqb s k e)
+
+insert_other : (live : FinMap nat_cmp Clause) (k s : ℕ) (c : Clause) → s ≢ k → maps.get (maps.insert live k c) s ≡ maps.get live s
+insert_other live k s c ne = get_insert live k c s ∙ ap (λ b. cond b (Some c) (maps.get live s)) (ne_eqb s k ne)
+
+remove_here : (live : FinMap nat_cmp Clause) (k s : ℕ) → s ≡ k → maps.get (maps.remove live k) s ≡ None
+remove_here live k s e = get_remove live k s ∙ ap (λ b. cond b None (maps.get live s)) (eq-eqb s k e)
+
+remove_other : (live : FinMap nat_cmp Clause) (k s : ℕ) → s ≢ k → maps.get (maps.remove live k) s ≡ maps.get live s
+remove_other live k s ne = get_remove live k s ∙ ap (λ b. cond b None (maps.get live s)) (ne_eqb s k ne)
+
+pub insert_undone : (live : FinMap nat_cmp Clause) (k : ℕ) (c : Clause) → maps.get live k ≡ None → maps.remove (maps.insert live k c) k ≡ live
+insert_undone live k c none = same_maps (maps.remove (maps.insert live k c) k) live (λ s. elim (cases_eq s k) [
+  | inl e ↦ remove_here (maps.insert live k c) k s e ∙ sym none ∙ ap (maps.get live) (sym e)
+  | inr ne ↦ remove_other (maps.insert live k c) k s ne ∙ insert_other live k s c ne
+])
+
+-- ---- Occurrences
+
+and_true : (b : Bool) → (b && true) ≡ b
+and_true true = refl
+and_true false = refl
+
+and_false : (b : Bool) → (b && false) ≡ false
+and_false true = refl
+and_false false = refl
+
+or_false : (b : Bool) → (b || false) ≡ b
+or_false true = refl
+or_false false = refl
+
+pub of_with : (old new : Occurrences) (live : FinMap nat_cmp Clause) (k : ℕ) (c : Clause) → AreOf old live → maps.get live k ≡ None → k < 4294967296 →
+    ((l s : ℕ) → occurs new l s ≡ (occurs old l s || (has c l && eqb s k))) → AreOf new (maps.insert live k c)
+of_with old new live k c are none low is = record {
+  exact = λ l s. elim (cases_eq s k) [
+    | inl e ↦
+        is l s ∙ ap (λ b. b || (has c l && eqb s k)) (are.exact l s ∙ ap (λ o. has_in o l) (ap (maps.get live) e ∙ none))
+        ∙ ap (λ b. has c l && b) (eq-eqb s k e) ∙ and_true (has c l) ∙ ap (λ o. has_in o l) (sym (insert_here live k s c e))
+    | inr ne ↦
+        is l s ∙ ap (λ b. occurs old l s || (has c l && b)) (ne_eqb s k ne) ∙ ap (λ b. occurs old l s || b) (and_false (has c l)) ∙ or_false (occurs old l s)
+        ∙ are.exact l s ∙ ap (λ o. has_in o l) (sym (insert_other live k s c ne))
+  ];
+  low = λ s some. elim (cases_eq s k) [
+    | inl e ↦ subst (λ n. n < 4294967296) (sym e) low
+    | inr ne ↦ are.low s (ap is_some (sym (insert_other live k s c ne)) ∙ some)
+  ];
+}
+
+pub of_without : (old new : Occurrences) (live : FinMap nat_cmp Clause) (k : ℕ) → AreOf old live →
+    ((l s : ℕ) → occurs new l s ≡ (occurs old l s && not (eqb s k))) → AreOf new (maps.remove live k)
+of_without old new live k are is = record {
+  exact = λ l s. elim (cases_eq s k) [
+    | inl e ↦
+        is l s ∙ ap (λ b. occurs old l s && not b) (eq-eqb s k e) ∙ and_false (occurs old l s) ∙ ap (λ o. has_in o l) (sym (remove_here live k s e))
+    | inr ne ↦
+        is l s ∙ ap (λ b. occurs old l s && not b) (ne_eqb s k ne) ∙ and_true (occurs old l s) ∙ are.exact l s
+        ∙ ap (λ o. has_in o l) (sym (remove_other live k s ne))
+  ];
+  low = λ s some. elim (cases_eq s k) [
+    | inl e ↦ absurd (false≢true (sym (ap is_some (remove_here live k s e)) ∙ some))
+    | inr ne ↦ are.low s (ap is_some (sym (remove_other live k s ne)) ∙ some)
+  ];
+}
+
+pub of_same : (old new : Occurrences) (live : FinMap nat_cmp Clause) → AreOf old live → ((l s : ℕ) → occurs new l s ≡ occurs old l s) → AreOf new live
+of_same old new live are is = record { exact = λ l s. is l s ∙ are.exact l s; low = are.low }
+
+-- a clause in the place of one with the same literals
+pub kept_replaced : (kept : Option Occurrences) (live : FinMap nat_cmp Clause) (k : ℕ) (c d : Clause) → maps.get live k ≡ Some c → ((l : ℕ) → has d l ≡ has c l) →
+    AreKept kept live → AreKept kept (maps.insert live k d)
+kept_replaced None live k c d here alike are = tt
+kept_replaced (Some o) live k c d here alike are = record {
+  exact = λ l s. elim (cases_eq s k) [
+    | inl e ↦ are.exact l s ∙ ap (λ o. has_in o l) (ap (maps.get live) e ∙ here) ∙ sym (alike l) ∙ ap (λ o. has_in o l) (sym (insert_here live k s d e))
+    | inr ne ↦ are.exact l s ∙ ap (λ o. has_in o l) (sym (insert_other live k s d ne))
+  ];
+  low = λ s some. elim (cases_eq s k) [
+    | inl e ↦ are.low s (ap is_some (ap (maps.get live) e ∙ here))
+    | inr ne ↦ are.low s (ap is_some (sym (insert_other live k s d ne)) ∙ some)
+  ];
+}
+
+-- ---- Notes of all clauses
+
+module _ (entries : Slab Entry) (slot : ℕ) where
+  pub noted_some : (e : Entry) → get entries slot ≡ Some e → (before : Bool) (l s : ℕ) → (before || (has e.lits.items l && eqb s slot)) ≡ (before || (eqb s slot && has_in (maps.get (clauses_in entries) s) l))
+  noted_some e here before l s = ap (λ b. before || b) (elim (cases_eq s slot) [
+    | inl same ↦
+        ap (λ b. has e.lits.items l && b) (eq-eqb s slot same) ∙ and_true (has e.lits.items l)
+        ∙ ap (λ o. has_in o l) (sym (get_stored entries s ∙ ap clause_of (ap (get entries) same ∙ here))) ∙ ap (λ b. b && has_in (maps.get (clauses_in entries) s) l) (sym (eq-eqb s slot same))
+    | inr apart ↦
+        ap (λ b. has e.lits.items l && b) (ne_eqb s slot apart) ∙ and_false (has e.lits.items l)
+        ∙ ap (λ b. b && has_in (maps.get (clauses_in entries) s) l) (sym (ne_eqb s slot apart))
+  ])
+
+  pub noted_none : get entries slot ≡ None → (before : Bool) (l s : ℕ) → before ≡ (before || (eqb s slot && has_in (maps.get (clauses_in entries) s) l))
+  noted_none none before l s = sym (or_false before) ∙ ap (λ b. before || b) (elim (cases_eq s slot) [
+    | inl same ↦
+        sym (and_false (eqb s slot)) ∙ ap (λ o. eqb s slot && has_in o l) (sym (get_stored entries s ∙ ap clause_of (ap (get entries) same ∙ none)))
+    | inr apart ↦ ap (λ b. b && has_in (maps.get (clauses_in entries) s) l) (sym (ne_eqb s slot apart))
+  ])
+
+pub all_noted : (entries : Slab Entry) (n : ℕ) (o : Occurrences) → length entries.slots ≤ n → ((l s : ℕ) → occurs o l s ≡ (nat_lt s n && has_in (maps.get (clauses_in entries) s) l)) →
+    ((s : ℕ) → s < n → is_some (maps.get (clauses_in entries) s) ≡ true → s < 4294967296) → AreOf o (clauses_in entries)
+all_noted entries n o all is low = record {
+  exact = λ l s. is l s ∙ elim (cases_lt s n) [
+    | inl before ↦ ap (λ b. b && has_in (maps.get (clauses_in entries) s) l) (lt-ltb s n before)
+    | inr past ↦ ap (λ c. nat_lt s n && has_in c l) (none_past s past) ∙ and_false (nat_lt s n) ∙ ap (λ c. has_in c l) (sym (none_past s past))
+  ];
+  low = λ s some. elim (cases_lt s n) [
+    | inl before ↦ low s before some
+    | inr past ↦ absurd (false≢true (sym (ap is_some (none_past s past)) ∙ some))
+  ];
+}
+  where
+    none_past : (s : ℕ) → n ≤ s → maps.get (clauses_in entries) s ≡ None
+    none_past s past = get_stored entries s ∙ ap clause_of (get_or_past entries.slots s None (omega (arith, all, past)))
+
+-- ---- A slot whose clause has one of the literals
+
+none_has : (lits : List Literal) → list_any (λ l. has_in None l) lits ≡ false
+none_has [] = refl
+none_has (l ∷ lits) = none_has lits
+
+pub has_any_from : (live : FinMap nat_cmp Clause) (lits : List Literal) (s : ℕ) → list_any (λ l. has_in (maps.get live s) l) lits ≡ true → HasAnyAt live lits s
+has_any_from live lits s h = by_clause (maps.get live s) refl h
+  where
+    by_clause : (o : Option Clause) → maps.get live s ≡ o → list_any (λ l. has_in o l) lits ≡ true → HasAnyAt live lits s
+    by_clause None is any = absurd (false≢true (sym (none_has lits) ∙ any))
+    by_clause (Some c) is any = record { clause = c; at = is; member = any }
+
+pub from_has_any : (live : FinMap nat_cmp Clause) (lits : List Literal) (s : ℕ) → HasAnyAt live lits s → list_any (λ l. has_in (maps.get live s) l) lits ≡ true
+from_has_any live lits s w = ap (λ o. list_any (λ l. has_in o l) lits) w.at ∙ w.member

@@ -1,0 +1,115 @@
+//! The occurrences of literals in the clauses, which are kept from when they are first asked for.
+
+ghost use Rattle.std.specs.Prelude.{◌≡◌, ℕ, ◌<◌, ◌==◌, ◌&&◌, ◌||◌, Some, None, IfOk, OnOk, OnErr};
+ghost use Rattle.std.specs.Prelude.{IsSome, false};
+ghost use Rattle.std.specs.List.{list_any};
+ghost use Rattle.std.specs.List.Sorted.{IsStrictlyIncreasing};
+ghost use Rattle.std.specs.Ordering.{nat_cmp};
+ghost use Rattle.std.specs.FinMap as maps;
+ghost use Rattle.std.specs.FinMap.{FinMap};
+ghost use Rattle.cnf_base.specs.Literals.{Clause, has};
+ghost use Rattle.occurrences.specs.Occurrences.{occurs};
+ghost use Rattle.clause_db.specs.Code.Entries.{clauses_in};
+ghost use Rattle.clause_db.specs.Code.Kept.{AreKept, AreOf, has_in};
+
+use crate::store::entry::Entry;
+use cnf_base::{Lit, OutOfMemory};
+use occurrences::Occurrences;
+use slab::Slab;
+use std::alloc::Global;
+
+/// Notes the clause of a slot, if there is one.
+fn note_entry(
+    occurrences: &mut Occurrences,
+    entries: &Slab<Entry>,
+    slot: usize,
+) -> Result<(), OutOfMemory>
+    requires { (l : ℕ) → occurs occurrences.old l slot ≡ false }
+    ensures noted { OnOk result ((l s : ℕ) → occurs occurrences.new l s ≡
+        (occurs occurrences.old l s ||
+        (s == slot && has_in (maps.get (clauses_in entries.now) s) l))) }
+    ensures low { OnOk result (IsSome (maps.get (clauses_in entries.now) slot) →
+        slot < 4294967296) }
+{
+    match entries.get(slot) {
+        Some(entry) => {
+            let Ok(number) = u32::try_from(slot) else {
+                return Err(OutOfMemory);
+            };
+            occurrences.add(number, entry.lits.as_slice())
+        }
+        None => Ok(()),
+    }
+}
+
+/// The occurrences in the clauses.
+fn occurrences_in(alloc: Global, entries: &Slab<Entry>) -> Result<Occurrences, OutOfMemory>
+    ensures { IfOk result (λ o. AreOf o (clauses_in entries.now)) }
+{
+    let mut occurrences = Occurrences::new(alloc);
+    for slot in 0..entries.capacity() {
+        note_entry(&mut occurrences, entries, slot)?;
+    }
+    Ok(occurrences)
+}
+
+/// Gathers the slots of the clauses that have one of the literals, in ascending order.
+pub(crate) fn find_slots(
+    kept: &mut Option<Occurrences>,
+    alloc: Global,
+    entries: &Slab<Entry>,
+    lits: &[Lit],
+    into: &mut Vec<u32>,
+) -> Result<(), OutOfMemory>
+    requires { AreKept kept.old (clauses_in entries.now) }
+    ensures ascending { OnOk result (IsStrictlyIncreasing into.new.items) }
+    ensures slots { OnOk result ((s : ℕ) → has into.new.items s ≡
+        list_any (λ l. has_in (maps.get (clauses_in entries.now) s) l) lits.now) }
+    ensures kept { AreKept kept.new (clauses_in entries.now) }
+{
+    match kept {
+        Some(occurrences) => occurrences.slots_with_any(lits, into),
+        None => {
+            let mut made = occurrences_in(alloc, entries)?;
+            let gathered = made.slots_with_any(lits, into);
+            *kept = Some(made);
+            gathered
+        }
+    }
+}
+
+/// Notes a further clause, where the occurrences are kept.
+pub(crate) fn note(
+    kept: &mut Option<Occurrences>,
+    slot: usize,
+    lits: &[Lit],
+) -> Result<(), OutOfMemory>
+    requires { (live : FinMap nat_cmp Clause) × AreKept kept.old live
+        × (maps.get live slot ≡ None) }
+    ensures ok { OnOk result ((live : FinMap nat_cmp Clause) → AreKept kept.old live →
+        maps.get live slot ≡ None → AreKept kept.new (maps.insert live slot lits.now)) }
+    ensures err { OnErr result ((live : FinMap nat_cmp Clause) → AreKept kept.old live →
+        AreKept kept.new live) }
+{
+    match kept {
+        Some(occurrences) => {
+            let Ok(number) = u32::try_from(slot) else {
+                return Err(OutOfMemory);
+            };
+            occurrences.add(number, lits)
+        }
+        None => Ok(()),
+    }
+}
+
+/// Forgets the slot of a clause, where the occurrences are kept. It takes no memory.
+pub(crate) fn forget(kept: &mut Option<Occurrences>, slot: usize)
+    requires { (live : FinMap nat_cmp Clause) × AreKept kept.old live
+        × IsSome (maps.get live slot) }
+    ensures { (live : FinMap nat_cmp Clause) → AreKept kept.old live →
+        AreKept kept.new (maps.remove live slot) }
+{
+    if let Some(occurrences) = kept {
+        occurrences.forget(slot as u32);
+    }
+}
