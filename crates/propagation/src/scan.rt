@@ -2,14 +2,14 @@
 
 mod unit;
 
-ghost use Rattle.std.specs.Prelude.{◌≡◌, ℕ, [], ◌≤◌, ◌<◌, ◌++◌, filter, true, false, IfOk, OnErr};
-ghost use Rattle.std.specs.Prelude.{IfSome, IfNone, IsSome, IsTrue, IsFalse};
+ghost use Rattle.std.specs.Prelude.{◌≡◌, ℕ, [], ◌≤◌, ◌<◌, filter, true, false, IfOk, IfSome};
+ghost use Rattle.std.specs.Prelude.{IfNone, IsSome, IsTrue, IsFalse};
 ghost use Rattle.std.specs.FinMap as maps;
 ghost use Rattle.cnf_base.specs.Literals.{complements};
-ghost use Rattle.propagation.specs.Assumptions.{Assumes, HasAt, IsAnswer, MayAssume, assumed_by};
+ghost use Rattle.propagation.specs.Assumptions.{HasAt, MayAssume};
 ghost use Rattle.trail.specs.LiteralSet.{in_set};
 ghost use Rattle.trail.specs.Reduced.{reduced_there};
-ghost use Rattle.propagation.specs.Code.Scan.{IsScan};
+ghost use Rattle.propagation.specs.Code.Scan.{AssumesOn, IsScan};
 ghost use Rattle.trail.specs.Trail.{HasRoom};
 
 use crate::assumptions::Assumptions;
@@ -132,13 +132,8 @@ fn assume_part<P: Part>(
     requires may { MayAssume assumptions.old.assumptions }
     requires room { HasRoom assumptions.old.trail.reserved clause.now }
     requires scan { IsScan store.now.live assumptions.old }
-    ensures answer { IfOk result (λ a. IsAnswer (maps.get store.now.live)
-        (assumed_by assumptions.old.assumptions ++ complements
-        (filter (P.keeps part.now) clause.now)) a) }
-    ensures assumed { IfOk result (λ a. Assumes assumptions.old.assumptions
-        assumptions.new.assumptions a (assumed_by assumptions.old.assumptions ++ complements
-        (filter (P.keeps part.now) clause.now))) }
-    ensures err { OnErr result (assumptions.new ≡ assumptions.old) }
+    ensures assumed { AssumesOn store.now.live assumptions.old assumptions.new
+        (complements (filter (P.keeps part.now) clause.now)) result }
     ensures scan { IsScan store.now.live assumptions.new }
 {
     if assumptions.assume(clause, part)? {

@@ -148,6 +148,11 @@ assuming_from before after live held last given added (Err e) live_is held_is gi
   stays = after_is ∙ assumed.stays ∙ held_is;
 }
 
+-- memory was refused
+pub assumed_none : {E : Type 0} (live : FinMap nat_cmp Clause) (before after : AssumptionsState) (added : List Literal) (r : Result Answer E) → is_err r ≡ true → after.assumptions ≡ before.assumptions → AssumesOn live before after added r
+assumed_none live before after added (Ok a) refused stays = absurd (false≢true refused)
+assumed_none live before after added (Err e) refused stays = record { answer = tt; stands = tt; stays = stays }
+
 -- the same literals in another order
 pub assuming_alike : {E : Type 0} (before after : Propagation) (first second : List Literal) (r : Result Answer E) → SameSet first second → Assuming before after first r → Assuming before after second r
 assuming_alike before after first second (Ok answer) same assuming = record {

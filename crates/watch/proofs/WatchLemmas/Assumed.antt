@@ -63,10 +63,6 @@ module _ (live : FinMap nat_cmp Clause) where
 
 -- ---- Where memory was refused
 
-pub assumed_none : {E : Type 0} (live : FinMap nat_cmp Clause) (before after : AssumptionsState) (added : List Literal) (r : Result Answer E) → is_err r ≡ true → after.assumptions ≡ before.assumptions → AssumesOn live before after added r
-assumed_none live before after added (Ok a) refused stays = absurd (false≢true refused)
-assumed_none live before after added (Err e) refused stays = record { answer = tt; stands = tt; stays = stays }
-
 module _ {E : Type 0} (before after : Propagation) (keeps : Literal → Bool) (r : Result Answer E) (is_refused : is_err r ≡ true) (same : after.live ≡ before.live) (alone : after.stored ≡ literals_in after.live) (refused : after.has_refused ≡ true) (stays : after.assumptions ≡ before.assumptions) where
   assuming_none : (added : List Literal) (q : Result Answer E) → is_err q ≡ true → Assuming before after added q
   assuming_none added (Ok a) is_refused = absurd (false≢true is_refused)

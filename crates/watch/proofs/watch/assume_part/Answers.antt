@@ -9,11 +9,10 @@ use Rattle.theory.specs.Sets.{SameSet}
 use Rattle.watch.specs.Code.Order.{each_in_order}
 use Rattle.watch.specs.Code.Roots.{AreForced}
 use Rattle.watch.specs.Code.ClauseSource.{clause_of}
-use Rattle.propagation.proofs.PropagationLemmas.Scan.{part_clashes, part_answer, part_exact}
-use Rattle.propagation.proofs.PropagationLemmas.Scan.{scan_after}
+use Rattle.propagation.proofs.PropagationLemmas.Scan.{assumed_none, part_clashes, part_answer}
+use Rattle.propagation.proofs.PropagationLemmas.Scan.{part_exact, scan_after}
 use Rattle.propagation.proofs.PropagationLemmas.Exact.{begins_on, longer_from}
 use Rattle.theory.proofs.PropagationLemmas.Forced.{clash_through}
-use Rattle.watch.proofs.WatchLemmas.Assumed.{assumed_none}
 use Rattle.watch.proofs.WatchLemmas.Kept.{kept_clash, kept_forced}
 use Rattle.std.proofs.lemmas.Bool.{false≢true}
 use Rattle.watch.proofs.WatchLemmas.State.{watch_answered, watch_undone}

@@ -2,7 +2,6 @@ use Rattle.std.proofs.Common.{refl, sym, ap, ◌∙◌}
 use Rattle.cnf_base.specs.Literals.{complements}
 use Rattle.trail.proofs.TrailLemmas.MakesFalse.{whole_is}
 use Rattle.propagation.proofs.PropagationLemmas.Scan.{assuming_from}
-use Rattle.clause_db.proofs.StoreLemmas.Options.{on_err_then}
 use Rattle.propagation.proofs.scan.ScanPropagate.assume.Goals as goal
 
 pub returns : goal.returns
@@ -11,4 +10,4 @@ returns c =
     let e = c.assume_part-assumed.ensures in
     assuming_from c.args.self.now _ c.self.inside.store.live c.reserve.new.self c.assume_part-assumed.new.assumptions _ (complements c.args.lits.now) c.assume_part-assumed.result
     (ap (λ p. p.live) view) (c.reserve.ensures.assumptions ∙ ap (λ p. p.assumptions) view) (ap complements (whole_is c.args.lits.now)) (ap (λ p. p.has_refused) (sym view) ∙ c.if-self.false)
-    refl c.self.invariant.1 refl c.is_err-self-inside.ensures.value (record { answer = e.answer; stands = e.assumed; stays = on_err_then c.assume_part-assumed.result (ap (λ h. h.assumptions)) e.err })
+    refl c.self.invariant.1 refl c.is_err-self-inside.ensures.value e.assumed
