@@ -111,7 +111,7 @@ fn open(directory: &mut Directory, pages: &mut Pages, number: u64) -> Result<u32
     Ok(page)
 }
 
-/// The page of a page number. It is 0 where the identifier is not worth one.
+/// The page that an identifier goes to, 0 where it goes to none. One is made where there is credit for it.
 fn page_for(
     directory: &mut Directory,
     pages: &mut Pages,
