@@ -2,9 +2,10 @@
 // C library (glibc):
 //     cc -shared -fPIC -o allocations.so allocations.c
 //     LD_PRELOAD=./allocations.so COUNT_INTO=FILE [REFUSED=N] PROGRAM
-// At the end the number is written into FILE. The Nth one is refused.
+// At the end the number is written into FILE, and on a second line the most bytes that were held at once. The Nth one is refused.
 #include <errno.h>
 #include <fcntl.h>
+#include <malloc.h>
 #include <stddef.h>
 #include <stdio.h>
 #include <stdlib.h>
@@ -14,9 +15,12 @@ void *__libc_malloc(size_t size);
 void *__libc_calloc(size_t count, size_t size);
 void *__libc_realloc(void *old, size_t size);
 void *__libc_memalign(size_t alignment, size_t size);
+void __libc_free(void *block);
 
 static unsigned long long count;
 static unsigned long long refused;
+static unsigned long long held;
+static unsigned long long most_held;
 
 static int is_refused(void) {
     count++;
@@ -25,20 +29,39 @@ static int is_refused(void) {
     return 1;
 }
 
-void *malloc(size_t size) { return is_refused() ? NULL : __libc_malloc(size); }
+// A block that is handed out. The allocator may give more bytes than were asked for.
+static void *hold(void *block) {
+    held += malloc_usable_size(block);
+    if (held > most_held) most_held = held;
+    return block;
+}
 
-void *calloc(size_t times, size_t size) { return is_refused() ? NULL : __libc_calloc(times, size); }
+void *malloc(size_t size) { return is_refused() ? NULL : hold(__libc_malloc(size)); }
 
-void *realloc(void *old, size_t size) { return is_refused() ? NULL : __libc_realloc(old, size); }
+void *calloc(size_t times, size_t size) { return is_refused() ? NULL : hold(__libc_calloc(times, size)); }
+
+void *realloc(void *old, size_t size) {
+    if (is_refused()) return NULL;
+    size_t before = malloc_usable_size(old);
+    void *block = __libc_realloc(old, size);
+    if (block == NULL && size > 0) return NULL;
+    held -= before;
+    return hold(block);
+}
 
 void *aligned_alloc(size_t alignment, size_t size) {
-    return is_refused() ? NULL : __libc_memalign(alignment, size);
+    return is_refused() ? NULL : hold(__libc_memalign(alignment, size));
 }
 
 int posix_memalign(void **result, size_t alignment, size_t size) {
     if (is_refused()) return ENOMEM;
-    *result = __libc_memalign(alignment, size);
+    *result = hold(__libc_memalign(alignment, size));
     return *result == NULL ? ENOMEM : 0;
+}
+
+void free(void *block) {
+    held -= malloc_usable_size(block);
+    __libc_free(block);
 }
 
 // What was asked for before the program began is not counted.
@@ -49,10 +72,10 @@ __attribute__((constructor)) static void begin(void) {
 }
 
 __attribute__((destructor)) static void end(void) {
-    unsigned long long counted = count;
+    unsigned long long counted = count, most = most_held;
     const char *name = getenv("COUNT_INTO");
     int file = name == NULL ? -1 : open(name, O_WRONLY | O_CREAT | O_TRUNC, 0600);
     if (file < 0) return;
-    dprintf(file, "%llu\n", counted);
+    dprintf(file, "%llu\n%llu\n", counted, most);
     close(file);
 }

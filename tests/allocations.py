@@ -3,10 +3,11 @@
 
 The number of allocations inside a whole check of DRAT and of LRAT, and inside the calls of the readers, of the store, of the
 identifiers and of a session of LRAT, is the same for 1000 as for 100000 pairs of steps, steps, clauses, insertions or
-identifiers of one form.
+identifiers of one form. And shows that identifiers, however far apart, take at most 64 bytes each.
 
 The programs run as they were compiled, with tests/allocations.c before the C library: it refuses the Nth allocation of a
-run. What is counted goes from the least N whose refusal is met inside these calls to the greatest.
+run. What is counted goes from the least N whose refusal is met inside these calls to the greatest. It also tells the most bytes
+that a run held at once.
 
 DRAT_FORWARD, LRAT_CHECK and ALLOCATIONS name the programs; they are those in bin/ and that of crates/test_allocations otherwise. CC
 names a C compiler, which is cc otherwise. The last line is "N passed, M failed".
@@ -38,6 +39,17 @@ CASES = [
     "identifiers",
     "lrat_session",
 ]
+# Identifiers that stay bound, and how many bytes each may take. Lists have room for up to twice what they hold.
+HELD = {
+    "held_side_by_side": 9,
+    "held_2_apart": 17,
+    "held_4_apart": 33,
+    "held_8_apart": 64,
+    "held_64_apart": 64,
+    "held_1024_apart": 64,
+    "held_in_pairs": 64,
+    "held_by_turns": 64,
+}
 
 
 class Run:
@@ -51,7 +63,7 @@ class Run:
         self.last_line = last_line
 
     def answer(self, room, refused=0):
-        """The status and what was written, where this allocation is refused, and the number of all."""
+        """The status and what was written, where this allocation is refused, and the number of all and the most bytes held."""
         counted = f"{room}/count"
         settings = {
             "LD_PRELOAD": f"{room}/allocations.so",
@@ -67,20 +79,25 @@ class Run:
             timeout=60,
         )
         with open(counted, encoding="ascii") as text:
-            total = int(text.read())
+            total, held = [int(line) for line in text]
         os.remove(counted)
-        return (ended.returncode, ended.stdout.decode("latin-1")), total
+        return (ended.returncode, ended.stdout.decode("latin-1")), total, held
 
     def is_met(self, room, refused):
         """Whether the calls say that memory was refused, where this allocation is."""
-        (status, written), _ = self.answer(room, refused)
+        (status, written), _, _ = self.answer(room, refused)
         return status == self.status and written.endswith(self.last_line)
+
+    def checked(self, room):
+        """The number of all allocations and the most bytes held at once, where the answer is as wanted."""
+        answer, total, held = self.answer(room)
+        if answer != self.wanted:
+            raise ValueError(f"the answer is {answer}, and not {self.wanted}")
+        return total, held
 
     def allocations(self, room):
         """The number of allocations inside the calls."""
-        answer, total = self.answer(room)
-        if answer != self.wanted:
-            raise ValueError(f"the answer is {answer}, and not {self.wanted}")
+        total, _ = self.checked(room)
         greatest = total
         while greatest > 0 and not self.is_met(room, greatest):
             greatest -= 1
@@ -124,6 +141,32 @@ def run_of(name, room, times):
     return check_of_pairs(name, room, times) if name in CHECKS else calls(name, times)
 
 
+def as_many(name, room):
+    """That there are as many allocations for few as for many."""
+    few = run_of(name, room, FEW).allocations(room)
+    many = run_of(name, room, MANY).allocations(room)
+    if few != many:
+        raise ValueError(f"{few} allocations for {FEW}, and {many} for {MANY}")
+    return f"{few} allocations for {FEW} and for {MANY}"
+
+
+def within_bytes(name, room):
+    """That identifiers which stay bound take no more bytes than they may."""
+    _, held = calls(name, MANY).checked(room)
+    told = f"{held / MANY:.1f} bytes for each of {MANY}"
+    if held > HELD[name] * MANY:
+        raise ValueError(f"{told}, and {HELD[name]} are allowed")
+    return told
+
+
+def judges(room):
+    """The name of each case, and what judges it."""
+    for name in [*CHECKS, *CASES]:
+        yield name, lambda name=name: as_many(name, room)
+    for name in HELD:
+        yield name, lambda name=name: within_bytes(name, room)
+
+
 def compile_shim(room):
     shim = f"{room}/allocations.so"
     words = [CC, "-O2", "-shared", "-fPIC", "-o", shim, "tests/allocations.c"]
@@ -140,19 +183,12 @@ def main():
             print(f"FAILED: tests/allocations.c is not compiled: {error}")
             print("0 passed, 1 failed")
             return 1
-        for name in [*CHECKS, *CASES]:
+        for name, judge in judges(room):
             try:
-                few = run_of(name, room, FEW).allocations(room)
-                many = run_of(name, room, MANY).allocations(room)
+                print(f"{name}: {judge()}")
+                passed += 1
             except (OSError, ValueError, subprocess.SubprocessError) as error:
                 print(f"FAILED: {name}: {error}")
-                failed += 1
-                continue
-            if few == many:
-                print(f"{name}: {few} allocations for {FEW} and for {MANY}")
-                passed += 1
-            else:
-                print(f"FAILED: {name}: {few} allocations for {FEW}, and {many} for {MANY}")
                 failed += 1
     print(f"{passed} passed, {failed} failed")
     return 0 if failed == 0 else 1

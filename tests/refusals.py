@@ -99,6 +99,7 @@ WRONG_WORDS = {
 CALLS = [
     "refused_insert",
     "refused_bind",
+    "refused_bind_far",
     "refused_reserve",
     "refused_assume_of_scan",
     "refused_assume_of_watch",
@@ -127,6 +128,7 @@ QUIET = [
     "trail",
     "store",
     "ids",
+    "far_ids",
     "scan",
     "watch",
     "assumption",
@@ -153,7 +155,7 @@ def run(room, words, refused):
     ran = subprocess.run(words, env={**os.environ, **settings}, stdin=subprocess.DEVNULL, stdout=subprocess.PIPE,
                          stderr=subprocess.PIPE, timeout=60, check=False)
     with open(counted, encoding="ascii") as text:
-        asked = int(text.read())
+        asked = int(text.readline())
     os.remove(counted)
     return Ended(ran, asked)
 

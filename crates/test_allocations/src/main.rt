@@ -4,11 +4,14 @@
 //!
 //! It reads COUNT steps of one form into one buffer, or as many clauses, or stores and removes as many, or binds as many
 //! identifiers, or checks as many pairs of an addition and its deletion, and prints how many it did, or that memory was refused
-//! there. What is read is handed out with no memory of its own.
+//! there. What is read is handed out with no memory of its own. Where identifiers are held, they stay bound, and the test looks at
+//! the bytes that they take.
 //!
 //! For `tests/refusals.py` it makes a call that memory may be refused to, and says whether the call was refused and left what it
 //! should; or calls that take no memory, where COUNT is not 0.
 #![tactic(auto)]
+
+ghost use Rattle.std.specs.Prelude.{◌<◌};
 
 mod pairs;
 mod quiet;
@@ -155,6 +158,46 @@ fn store_many_and_remove(alloc: Global, times: u64) -> Result<u64, Fault> {
     Ok(count)
 }
 
+/// Binds so many identifiers, which all stay bound: rows of some side by side, of which each begins so far past the one before.
+fn bind_rows(alloc: Global, row: u64, apart: u64, times: u64) -> Result<u64, Fault>
+    requires { 0 < row }
+{
+    let mut ids = Ids::new(alloc)?;
+    for number in 0..times {
+        let first = (number / row).wrapping_mul(apart);
+        bind_new(&mut ids, first.wrapping_add(number % row), Slot::first())?;
+    }
+    Ok(count_bound(&ids, times))
+}
+
+/// Does so with identifiers side by side and far ones by turns.
+fn bind_by_turns(alloc: Global, times: u64) -> Result<u64, Fault> {
+    let mut ids = Ids::new(alloc)?;
+    for number in 0..times {
+        let id = if number % 2 == 0 {
+            number / 2
+        } else {
+            number.wrapping_mul(1024).wrapping_add(1 << 40)
+        };
+        bind_new(&mut ids, id, Slot::first())?;
+    }
+    Ok(count_bound(&ids, times))
+}
+
+/// How many identifiers are bound, of so many at most.
+fn count_bound(ids: &Ids, most: u64) -> u64 {
+    let mut count = 0u64;
+    let mut start = 0u64;
+    for _ in 0..most {
+        let Some((id, _)) = ids.next_bound(start) else {
+            return count;
+        };
+        count = count.wrapping_add(1);
+        start = id.wrapping_add(1);
+    }
+    count
+}
+
 /// Binds so many identifiers, and takes each back 64 calls later. They go round through 64 pages.
 fn bind_and_unbind(alloc: Global, times: u64) -> Result<u64, Fault> {
     let mut ids = Ids::new(alloc)?;
@@ -187,6 +230,14 @@ fn make_calls(
         "store_of_many" => store_many_and_remove(alloc, times),
         "identifiers" => bind_and_unbind(alloc, times),
         "lrat_session" => pairs::check_pairs(alloc, lits, times),
+        "held_side_by_side" => bind_rows(alloc, 1024, 1024, times),
+        "held_2_apart" => bind_rows(alloc, 1, 2, times),
+        "held_4_apart" => bind_rows(alloc, 1, 4, times),
+        "held_8_apart" => bind_rows(alloc, 1, 8, times),
+        "held_64_apart" => bind_rows(alloc, 1, 64, times),
+        "held_1024_apart" => bind_rows(alloc, 1, 1024, times),
+        "held_in_pairs" => bind_rows(alloc, 2, 1024, times),
+        "held_by_turns" => bind_by_turns(alloc, times),
         _ => Ok(0),
     }
 }

@@ -4,9 +4,9 @@ ghost use Rattle.std.specs.Prelude.{◌≡◌, ◌≤◌, [], false};
 ghost use Rattle.std.specs.FinMap as maps;
 
 use crate::pairs::read_and_step;
-use crate::refused::bind_new;
+use crate::refused::{PAGES, bind_in_pages, bind_new};
 use crate::{Literals, PLAIN_RULES, open};
-use clause_db::{Ids, Slot, Store};
+use clause_db::{Slot, Store};
 use cnf_base::{Fault, FromRead, LineOut, Lit, Scanner, ToWrite};
 use dimacs::{ClauseBuf, FormulaReader, read_claim};
 use proofs::{DratBinary, DratText, LratText, StepBuf, StepReader};
@@ -154,16 +154,20 @@ fn store(alloc: Global, few: &[Lit], many: &[Lit], is_called: bool) -> Result<bo
     Ok(store.literals() == 0)
 }
 
-fn ids(alloc: Global, is_called: bool) -> Result<bool, Fault> {
-    let mut ids = Ids::new(alloc)?;
+/// Of which one is far and the others are in so many pages.
+fn ids(alloc: Global, pages: u64, is_called: bool) -> Result<bool, Fault> {
+    let mut ids = bind_in_pages(alloc, pages)?;
     let far = 9223372036854775807;
-    bind_new(&mut ids, 7, Slot::first())?;
     bind_new(&mut ids, far, Slot::first())?;
     if !is_called {
         return Ok(false);
     }
     let is_found = ids.next_bound(8).is_some() && ids.slot_of(7).is_some();
-    let is_taken = ids.unbind(far).is_some() && ids.unbind(7).is_some();
+    let mut is_taken = ids.slot_of(far).is_some() && ids.unbind(far).is_some();
+    for page in 0..pages {
+        let id = page.wrapping_mul(1024).wrapping_add(7);
+        is_taken = ids.unbind(id).is_some() && is_taken;
+    }
     Ok(is_found && is_taken && ids.next_bound(0).is_none())
 }
 
@@ -326,7 +330,8 @@ pub fn carry_out(
         "quiet_readers" => readers(alloc, is_called)?,
         "quiet_trail" => trail(alloc, many, is_called)?,
         "quiet_store" => store(alloc, &few, many, is_called)?,
-        "quiet_ids" => ids(alloc, is_called)?,
+        "quiet_ids" => ids(alloc, 1, is_called)?,
+        "quiet_far_ids" => ids(alloc, PAGES, is_called)?,
         "quiet_scan" => clauses(Scan::new(alloc)?, &few, many, l, is_called)?,
         "quiet_watch" => clauses(Watch::new(alloc)?, &few, many, l, is_called)?,
         "quiet_assumption" => assumption(Scan::new(alloc)?, &few, many, is_called)?,

@@ -51,18 +51,33 @@ pub fn bind_new(ids: &mut Ids, id: u64, slot: Slot) -> Result<(), OutOfMemory> {
     ids.bind(id, slot)
 }
 
-/// The same identifiers are bound, and the new one can be later.
-fn bind(alloc: Global) -> Result<Told, Fault> {
-    let slot = Slot::first();
+/// Identifiers of which one is bound in each of so many pages.
+pub fn bind_in_pages(alloc: Global, pages: u64) -> Result<Ids, OutOfMemory> {
     let mut ids = Ids::new(alloc)?;
-    bind_new(&mut ids, 7, slot)?;
+    for page in 0..pages {
+        bind_new(
+            &mut ids,
+            page.wrapping_mul(1024).wrapping_add(7),
+            Slot::first(),
+        )?;
+    }
+    Ok(ids)
+}
+
+/// So many pages are made for any identifier. A far one has none after them.
+pub const PAGES: u64 = 64;
+
+/// The same identifiers are bound, and the new one can be later.
+fn bind(alloc: Global, pages: u64) -> Result<Told, Fault> {
+    let slot = Slot::first();
+    let mut ids = bind_in_pages(alloc, pages)?;
     let far = 9223372036854775807;
     if bind_new(&mut ids, far, slot).is_ok() {
         return Ok(Told::Whole);
     }
     let is_same = ids.slot_of(7) == Some(slot)
         && ids.slot_of(far).is_none()
-        && ids.next_bound(8).is_none();
+        && ids.next_bound(pages.wrapping_mul(1024)).is_none();
     let is_bound = bind_new(&mut ids, far, slot).is_ok() && ids.slot_of(far) == Some(slot);
     Ok(judged(is_same && is_bound))
 }
@@ -260,7 +275,8 @@ fn by_store(alloc: Global, name: &str, literals: &Literals<'_>) -> Result<Option
     let Literals { few, many, far } = *literals;
     let told = match name {
         "refused_insert" => insert(alloc, &few, many),
-        "refused_bind" => bind(alloc),
+        "refused_bind" => bind(alloc, 1),
+        "refused_bind_far" => bind(alloc, PAGES),
         "refused_reserve" => reserve(alloc, &few, far),
         _ => return Ok(None),
     };
