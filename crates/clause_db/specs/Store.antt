@@ -4,7 +4,7 @@ use Rattle.std.specs.FinMap.{FinMap}
 use Rattle.std.specs.Ordering.{nat_cmp}
 use Rattle.std.specs.List.{list_any}
 use Rattle.std.specs.Prelude.{◌≡◌, ℕ, List, Some, IsTrue, sum_by, if◌then◌else◌}
-use Rattle.cnf_base.specs.Literals.{Clause, size, Literal, has}
+use Rattle.cnf_base.specs.Literals.{Clause, Literal, complement, has, size}
 
 -- a store, as its callers see it
 pub record StoreState : Type 0 where
@@ -25,8 +25,8 @@ literals_in clauses = sum_over size clauses
 abbrev pub copies_with : FinMap nat_cmp Clause → Literal → ℕ
 copies_with clauses l = sum_over (λ c. if has c l then 1 else 0) clauses
 
--- the clause in the slot has one of the literals
-pub record HasAnyAt (live : FinMap nat_cmp Clause) (lits : List Literal) (slot : ℕ) : Type 0 where
+-- the literals touch the clause in the slot: it has the complement of one of them
+pub record IsTouchedAt (live : FinMap nat_cmp Clause) (lits : List Literal) (slot : ℕ) : Type 0 where
   pub clause : Clause
   pub at : maps.get live slot ≡ Some clause
-  pub member : IsTrue (list_any (has clause) lits)
+  pub touched : IsTrue (list_any (λ l. has clause (complement l)) lits)

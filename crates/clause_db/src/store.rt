@@ -18,7 +18,7 @@ ghost use Rattle.std.specs.FinMap as maps;
 ghost use Rattle.std.specs.FinMap.{FinMap};
 ghost use Rattle.cnf_base.specs.Literals.{Clause, has, same_clause, size};
 ghost use Rattle.slab.specs.Slab.{slab_len, HasRoomFor};
-ghost use Rattle.clause_db.specs.Store.{literals_in, copies_with, HasAnyAt};
+ghost use Rattle.clause_db.specs.Store.{literals_in, copies_with, IsTouchedAt};
 ghost use Rattle.clause_db.specs.Code.Entries.{clauses_in};
 ghost use Rattle.clause_db.specs.Code.Kept.{AreKept};
 ghost use Rattle.clause_db.specs.Code.LiteralMarks.{is_marked, mark_count};
@@ -282,7 +282,8 @@ impl<I: Indexing> Store<I> {
         self.sum.min(18446744073709551615) as u64
     }
 
-    /// Gathers the slots of the clauses that have one of the literals, in ascending order. `into` is emptied first.
+    /// Gathers the slots of the clauses that the literals touch, in ascending order: that have the complement of one of them. `into` is
+    /// emptied first.
     ///
     /// The first call goes over all clauses, and notes where each literal occurs. From then on this is kept, and a call takes as
     /// long as the lists of these literals are, and as sorting what is found.
@@ -290,11 +291,11 @@ impl<I: Indexing> Store<I> {
     /// # Errors
     ///
     /// Where memory runs out.
-    pub fn slots_with_any(&mut self, lits: &[Lit], into: &mut Vec<u32>) -> Result<(), OutOfMemory>
+    pub fn slots_touched(&mut self, lits: &[Lit], into: &mut Vec<u32>) -> Result<(), OutOfMemory>
         ensures ascending { OnOk result (IsStrictlyIncreasing into.new.items) }
         ensures each { OnOk result ((s : ℕ) → IsTrue (has into.new.items s) →
-            HasAnyAt self.old.live lits.now s) }
-        ensures all { OnOk result ((s : ℕ) → HasAnyAt self.old.live lits.now s →
+            IsTouchedAt self.old.live lits.now s) }
+        ensures all { OnOk result ((s : ℕ) → IsTouchedAt self.old.live lits.now s →
             IsTrue (has into.new.items s)) }
         ensures same { self.new ≡ self.old }
     {

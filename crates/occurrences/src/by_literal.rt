@@ -4,7 +4,7 @@ ghost use Rattle.std.specs.Prelude.{◌≡◌, ℕ, ◌==◌, ◌&&◌, ◌||◌
 ghost use Rattle.std.specs.Prelude.{IsSome, ◌≢◌, filter, map};
 ghost use Rattle.std.specs.List.{list_any, list_all};
 ghost use Rattle.std.specs.List.Sorted.{IsStrictlyIncreasing};
-ghost use Rattle.cnf_base.specs.Literals.{has};
+ghost use Rattle.cnf_base.specs.Literals.{complement, has};
 ghost use Rattle.tables.specs.Table.{at};
 ghost use Rattle.occurrences.specs.Entries.{counts, list_at};
 ghost use Rattle.occurrences.specs.Code.Known.{is_known};
@@ -141,20 +141,20 @@ impl Occurrences {
         push_slots(self.lists.get(key(l)), into)
     }
 
-    /// Gathers the slots that occur with one of the literals, in ascending order. `into` is emptied first, and keeps its room.
+    /// Gathers the slots that occur with the complement of one of the literals, in ascending order. `into` is emptied first, and keeps its room.
     ///
     /// # Errors
     ///
     /// Where memory runs out.
-    pub fn slots_with_any(&mut self, lits: &[Lit], into: &mut Vec<u32>) -> Result<(), OutOfMemory>
+    pub fn slots_touched(&mut self, lits: &[Lit], into: &mut Vec<u32>) -> Result<(), OutOfMemory>
         ensures ascending { OnOk result (IsStrictlyIncreasing into.new.items) }
         ensures slots { OnOk result ((s : ℕ) → has into.new.items s ≡
-            list_any (λ l. occurs self.old l s) lits.now) }
+            list_any (λ l. occurs self.old (complement l) s) lits.now) }
         ensures same { (l s : ℕ) → occurs self.new l s ≡ occurs self.old l s }
     {
         into.clear();
         for l in lits {
-            self.gather(*l, into)?;
+            self.gather(l.neg(), into)?;
         }
         order(into);
         Ok(())

@@ -2,7 +2,6 @@
 use Rattle.std.specs.Prelude.{◌≡◌, ℕ, Bool, true, false, List, [], ◌∷◌, ◌++◌, filter, Some, Result}
 use Rattle.std.specs.Prelude.{IfOk, OnOk, OnErr, ⊤, take, IsTrue}
 use Rattle.std.specs.Ordering.{nat_cmp}
-use Rattle.trail.specs.Reduced.{is_reduced}
 use Rattle.std.specs.FinMap as maps
 use Rattle.std.specs.FinMap.{FinMap}
 use Rattle.cnf_base.specs.Literals.{Literal, Clause, has, complement, complements}
@@ -113,9 +112,3 @@ abbrev pub roots_in : List Literal → List Assumption → List ℕ → List Lit
 roots_in lits [] starts = lits
 roots_in lits (last ∷ rest) [] = []
 roots_in lits (last ∷ rest) (start ∷ starts) = roots_in (take start lits) rest starts
-
--- the set reduces the clause in the slot
-pub record IsReducedAt (live : Live) (set : List Literal) (slot : ℕ) : Type 0 where
-  pub clause : Clause
-  pub at : live slot ≡ Some clause
-  pub reduced : IsTrue (is_reduced (has set) clause)

@@ -12,5 +12,5 @@ pub use answer::Answer;
 pub use assumptions::Assumptions;
 pub use closure::is_root_reason;
 pub use propagate::Propagate;
-pub use scan::{Scan, first_reduced, first_with};
+pub use scan::{Scan, first_with};
 pub use trail::Value;

@@ -3,20 +3,22 @@
 ghost use Rattle.std.specs.Prelude.{◌≡◌, ◌≢◌, [], ◌≤◌, ◌<◌, ◌∷◌, ℕ, min, not, true, false, ◌==◌};
 ghost use Rattle.std.specs.Prelude.{length, Some, None, List, IsTrue, IsSome, IfSome, IfNone, IfOk};
 ghost use Rattle.std.specs.Prelude.{OnOk, OnErr};
+ghost use Rattle.std.specs.List.Sorted.{IsStrictlyIncreasing};
 ghost use Rattle.std.specs.FinMap as maps;
 ghost use Rattle.cnf_base.specs.Literals.{Clause, has, same_clause, complement, complements, size};
-ghost use Rattle.clause_db.specs.Store.{copies_with};
+ghost use Rattle.clause_db.specs.Store.{IsTouchedAt, copies_with};
 ghost use Rattle.propagation.specs.Assumptions.{Propagation, Assumption, Assuming, AssumingPart};
-ghost use Rattle.propagation.specs.Assumptions.{HoldsLiveAlone, HasAt, IsReducedAt, LastIsAnswered};
+ghost use Rattle.propagation.specs.Assumptions.{HoldsLiveAlone, HasAt, LastIsAnswered};
 ghost use Rattle.propagation.specs.Assumptions.{IsValue, MayAssume, assumed_by};
 ghost use Rattle.theory.specs.Propagation.{IsRootReason};
-ghost use Rattle.theory.specs.Sets.{conflicts};
+ghost use Rattle.trail.specs.LiteralSet.{in_set};
 ghost use Rattle.propagation.specs.declared.answer.Answer.TheVariants.{Quiet};
 
 use crate::Answer;
 use clause_db::Slot;
 use cnf_base::{Lit, OutOfMemory};
-use trail::Value;
+use std::alloc::Global;
+use trail::{LiteralSet, Value};
 
 /// Live clauses, each in a slot, and unit propagation from literals that are assumed.
 ///
@@ -24,6 +26,9 @@ use trail::Value;
 pub trait Propagate {
     /// The live clauses, the assumptions that stand, how many literals are kept, and whether an assumption was refused.
     ghost state: { Self → Propagation };
+
+    /// The allocator that its memory comes from.
+    fn alloc(&self) -> Global;
 
     /// Stores a clause in a slot that is free, where nothing is assumed. It fails only where memory is refused.
     fn insert(&mut self, lits: &[Lit]) -> Result<Slot, OutOfMemory>
@@ -87,6 +92,20 @@ pub trait Propagate {
             ¬ HasAt (maps.get (state self.now).live) l s }
         ensures some { result ≢ 0 → (s : ℕ) × HasAt (maps.get (state self.now).live) l s };
 
+    /// The slots of the live clauses that the literals touch: that have the complement of one of them. It costs
+    /// what these clauses cost, however many others are alive, but for the first call.
+    ///
+    /// # Errors
+    ///
+    /// Where memory runs out. It is open then what `slots` has.
+    fn touched(&mut self, lits: &[Lit], slots: &mut Vec<u32>) -> Result<(), OutOfMemory>
+        ensures ascending { OnOk result (IsStrictlyIncreasing slots.new.items) }
+        ensures each { OnOk result ((s : ℕ) → IsTrue (has slots.new.items s) →
+            IsTouchedAt (state self.old).live lits.now s) }
+        ensures all { OnOk result ((s : ℕ) → IsTouchedAt (state self.old).live lits.now s →
+            IsTrue (has slots.new.items s)) }
+        ensures same { state self.new ≡ state self.old };
+
     /// Assumes the complements of the literals, beside what is assumed, and propagates.
     ///
     /// # Errors
@@ -118,32 +137,16 @@ pub trait Propagate {
         ensures { AssumingPart (state self.old) (state self.new) slot
             (λ k. not (has set.now (complement k))) result };
 
-    /// Whether the set has a literal and its complement.
+    /// The same as `assume_unless`, with a set that was filled before. Each look-up in the set costs the same, however large it is.
     ///
     /// # Errors
     ///
-    /// Where memory runs out.
-    fn conflicts(&mut self, set: &[Lit]) -> Result<bool, OutOfMemory>
-        ensures found { IfOk result (λ found. found ≡ conflicts set.now) }
-        ensures same { state self.new ≡ state self.old };
-
-    /// The first slot from this one on whose clause the set reduces, if there is one: the clause has the complement of a
-    /// literal of the set, and no literal of the set. Each look-up in the set costs the same, however large it is.
-    ///
-    /// # Errors
-    ///
-    /// Where memory runs out.
-    fn next_reduced(&mut self, set: &[Lit], from: Slot) -> Result<Option<Slot>, OutOfMemory>
-        ensures found { IfOk result (λ next. IfSome next (λ slot. (from ≤ slot) ×
-            IsReducedAt (maps.get (state self.old).live) set.now slot)) }
-        ensures passed_over { IfOk result
-            (λ next. IfSome next (λ slot. (s : ℕ) → from ≤ s → s < slot →
-            ¬ IsReducedAt (maps.get (state self.old).live) set.now s)) }
-        ensures none { IfOk result (λ next. IfNone next ((s : ℕ) → from ≤ s →
-            ¬ IsReducedAt (maps.get (state self.old).live) set.now s)) }
-        ensures slots { OnOk result ((s : ℕ) → IsSome (maps.get (state self.old).live s) →
-            s ≤ 18446744073709551615) }
-        ensures same { state self.new ≡ state self.old };
+    /// Where memory runs out, and ever after. What is assumed is then as it was.
+    fn assume_reduced(&mut self, slot: Slot, set: &LiteralSet) -> Result<Answer, OutOfMemory>
+        requires may { MayAssume (state self.old).assumptions }
+        requires alive { IsSome (maps.get (state self.old).live slot) }
+        ensures { AssumingPart (state self.old) (state self.new) slot
+            (λ k. not (in_set set.now (complement k))) result };
 
     /// Whether the clause in the slot makes a literal of it hold for good, where nothing is assumed: that literal follows, and so do
     /// the complements of all its others. It is asked of the whole least set, past a clash too.

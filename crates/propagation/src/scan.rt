@@ -3,12 +3,10 @@
 mod unit;
 
 ghost use Rattle.std.specs.Prelude.{◌≡◌, ℕ, [], ◌≤◌, ◌<◌, filter, true, false, IfOk, IfSome};
-ghost use Rattle.std.specs.Prelude.{IfNone, IsSome, IsTrue, IsFalse};
+ghost use Rattle.std.specs.Prelude.{IfNone, IsSome};
 ghost use Rattle.std.specs.FinMap as maps;
 ghost use Rattle.cnf_base.specs.Literals.{complements};
-ghost use Rattle.propagation.specs.Assumptions.{HasAt, MayAssume};
-ghost use Rattle.trail.specs.LiteralSet.{in_set};
-ghost use Rattle.trail.specs.Reduced.{reduced_there};
+ghost use Rattle.propagation.specs.Assumptions.{AssumingPart, HasAt, MayAssume};
 ghost use Rattle.propagation.specs.Code.Scan.{AssumesOn, IsScan};
 ghost use Rattle.trail.specs.Trail.{HasRoom};
 
@@ -20,6 +18,7 @@ use clause_db::{Slot, Store};
 use cnf_base::{Lit, OutOfMemory};
 use std::alloc::Global;
 use std::marker::Model;
+use std::mem;
 use trail::{Except, LiteralSet, Part, Unless, Value, Whole};
 
 /// Live clauses, and unit propagation by plain passes over all of them: slow, and in little memory.
@@ -93,35 +92,6 @@ pub fn first_with(store: &Store, l: Lit, from: Slot) -> Option<Slot>
     None
 }
 
-/// Whether there is a clause in the slot with this number, and the set reduces it.
-fn is_reduced_at(store: &Store, number: usize, set: &LiteralSet) -> bool
-    ensures { result ≡ reduced_there (in_set set.now) (maps.get store.now.live number) }
-{
-    match store.at(number) {
-        Some(clause) => set.reduces(clause),
-        None => false,
-    }
-}
-
-/// The first slot from this one on whose clause the set reduces.
-pub fn first_reduced(store: &Store, set: &LiteralSet, from: Slot) -> Option<Slot>
-    ensures found { IfSome result (λ slot. (from ≤ slot) ×
-        IsTrue (reduced_there (in_set set.now) (maps.get store.now.live slot))) }
-    ensures passed_over { IfSome result (λ slot. (s : ℕ) → from ≤ s → s < slot →
-        IsFalse (reduced_there (in_set set.now) (maps.get store.now.live s))) }
-    ensures none { IfNone result ((s : ℕ) → from ≤ s →
-        IsFalse (reduced_there (in_set set.now) (maps.get store.now.live s))) }
-    ensures slots { (s : ℕ) → IsSome (maps.get store.now.live s) →
-        s ≤ 18446744073709551615 }
-{
-    for number in from.number()..store.end() {
-        if is_reduced_at(store, number, set) {
-            return Some(Slot::at(number));
-        }
-    }
-    None
-}
-
 /// Assumes the complements of a part of a clause, beside what is assumed, and propagates.
 fn assume_part<P: Part>(
     store: &Store,
@@ -159,10 +129,33 @@ impl Scan {
             has_refused: false,
         })
     }
+
+    /// Assumes the complements of a part of a live clause, beside what is assumed, and propagates.
+    ///
+    /// # Errors
+    ///
+    /// Where memory runs out, and ever after. What is assumed is then as it was.
+    fn assume_stored<P: Part>(&mut self, slot: Slot, part: &P) -> Result<Answer, OutOfMemory>
+        requires may { MayAssume self.old.assumptions }
+        requires alive { IsSome (maps.get self.old.live slot) }
+        ensures { AssumingPart self.old self.new slot (P.keeps part.now) result }
+    {
+        if self.has_refused {
+            return Err(OutOfMemory);
+        }
+        let clause = self.store.clause(slot);
+        let assumed = assume_part(&self.store, &mut self.assumptions, clause, part);
+        self.has_refused = assumed.is_err();
+        assumed
+    }
 }
 
 impl Propagate for Scan {
     ghost state = { λ s. s };
+
+    fn alloc(&self) -> Global {
+        self.alloc
+    }
 
     fn insert(&mut self, lits: &[Lit]) -> Result<Slot, OutOfMemory> {
         self.assumptions.reserve(lits)?;
@@ -193,6 +186,10 @@ impl Propagate for Scan {
         self.store.count_with(l)
     }
 
+    fn touched(&mut self, lits: &[Lit], slots: &mut Vec<u32>) -> Result<(), OutOfMemory> {
+        self.store.slots_touched(lits, slots)
+    }
+
     fn assume(&mut self, lits: &[Lit]) -> Result<Answer, OutOfMemory> {
         if self.has_refused || self.assumptions.reserve(lits).is_err() {
             self.has_refused = true;
@@ -204,35 +201,22 @@ impl Propagate for Scan {
     }
 
     fn assume_rest(&mut self, slot: Slot, l: Lit) -> Result<Answer, OutOfMemory> {
-        if self.has_refused {
-            return Err(OutOfMemory);
-        }
-        let clause = self.store.clause(slot);
-        let assumed = assume_part(&self.store, &mut self.assumptions, clause, &Except(l));
-        self.has_refused = assumed.is_err();
-        assumed
+        self.assume_stored(slot, &Except(l))
+    }
+
+    fn assume_reduced(&mut self, slot: Slot, set: &LiteralSet) -> Result<Answer, OutOfMemory> {
+        self.assume_stored(slot, &Unless(set))
     }
 
     fn assume_unless(&mut self, slot: Slot, set: &[Lit]) -> Result<Answer, OutOfMemory> {
-        if self.has_refused || self.set.fill(set).is_err() {
+        if self.set.fill(set).is_err() {
             self.has_refused = true;
             return Err(OutOfMemory);
         }
-        let clause = self.store.clause(slot);
-        let part = Unless(&self.set);
-        let assumed = assume_part(&self.store, &mut self.assumptions, clause, &part);
-        self.has_refused = assumed.is_err();
+        let filled = mem::replace(&mut self.set, LiteralSet::new(self.alloc));
+        let assumed = self.assume_reduced(slot, &filled);
+        self.set = filled;
         assumed
-    }
-
-    fn conflicts(&mut self, set: &[Lit]) -> Result<bool, OutOfMemory> {
-        self.set.fill(set)?;
-        Ok(self.set.falsifies(set))
-    }
-
-    fn next_reduced(&mut self, set: &[Lit], from: Slot) -> Result<Option<Slot>, OutOfMemory> {
-        self.set.fill(set)?;
-        Ok(first_reduced(&self.store, &self.set, from))
     }
 
     fn is_root_reason(&mut self, slot: Slot) -> Result<bool, OutOfMemory> {

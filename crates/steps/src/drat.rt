@@ -9,6 +9,7 @@ ghost use Rattle.std.specs.FinMap as maps;
 ghost use Rattle.steps.specs.DratSession.{fresh_drat};
 ghost use Rattle.steps.specs.Code.DratSession.{clauses_of};
 
+use crate::drat::candidates::SearchRoom;
 use crate::drat::step::{add_copy, apply_step};
 use crate::proof_session::ProofSession;
 use crate::proof_session::progress::Progress;
@@ -17,6 +18,7 @@ use proofs::StepBuf;
 use propagation::Propagate;
 use std::marker::Model;
 use theory::{Accepted, DratRules, Refusal};
+use trail::LiteralSet;
 
 /// A check of a DRAT proof: the clauses of the formula are input first, and then the steps are taken in order.
 #[derive(Drop)]
@@ -24,6 +26,7 @@ pub struct DratSession<P: Propagate> {
     clauses: P,
     rules: DratRules,
     progress: Progress,
+    room: SearchRoom,
 }
 
 impl<P: Propagate> Model for DratSession<P> {
@@ -37,7 +40,12 @@ impl<P: Propagate> Model for DratSession<P> {
     ghost coded = { drat_code };
 
     // Each field has to be named here. Of them the clauses alone have lists of literals.
-    ghost view = { λ record { clauses = clauses; rules = rules; progress = progress }. record {
+    ghost view = { λ record {
+      clauses = clauses;
+      rules = rules;
+      progress = progress;
+      room = _;
+    }. record {
       live = (P.state clauses).live;
       rules = rules;
       has_stepped = progress.has_stepped;
@@ -59,11 +67,16 @@ impl<P: Propagate> DratSession<P> {
         requires none_refused { (P.state clauses).has_refused ≡ false }
         ensures { result ≡ fresh_drat rules }
     {
+        let alloc = clauses.alloc();
         let progress = Progress::new(clauses.literals());
         DratSession {
             clauses,
             rules,
             progress,
+            room: SearchRoom {
+                slots: Vec::new(alloc),
+                witness: LiteralSet::new(alloc),
+            },
         }
     }
 }
@@ -99,7 +112,7 @@ impl<P: Propagate> ProofSession for DratSession<P> {
             self.progress.end();
             return Err(Refusal::Ended);
         }
-        match apply_step(&mut self.clauses, self.rules, step) {
+        match apply_step(&mut self.clauses, &mut self.room, self.rules, step) {
             Ok(word) => {
                 self.progress.step(word, self.clauses.literals());
                 Ok(word)

@@ -1,5 +1,5 @@
 -- Clauses that a set of literals reduces, as DPR proofs have it.
-use Rattle.std.specs.Prelude.{◌&&◌, Bool, not, false, Option, Some, None}
+use Rattle.std.specs.Prelude.{◌&&◌, Bool, not}
 use Rattle.std.specs.List.{list_any}
 use Rattle.cnf_base.specs.Literals.{Literal, Clause, complement}
 
@@ -7,8 +7,3 @@ use Rattle.cnf_base.specs.Literals.{Literal, Clause, complement}
 -- DPR proofs have it
 abbrev pub is_reduced : (Literal → Bool) → Clause → Bool
 is_reduced in_set c = list_any (λ l. in_set (complement l)) c && not (list_any in_set c)
-
--- whether there is a clause, and the set reduces it
-abbrev pub reduced_there : (Literal → Bool) → Option Clause → Bool
-reduced_there in_set None = false
-reduced_there in_set (Some c) = is_reduced in_set c

@@ -15,4 +15,3 @@ pub mod Arrange
 pub mod Assumed
 pub mod Entered
 pub mod State
-pub mod Reduced

@@ -5,7 +5,7 @@ ghost use Rattle.std.specs.Prelude.{false, IsTrue, IfOk, OnOk, OnErr, IfSome, If
 ghost use Rattle.std.specs.FinMap as maps;
 ghost use Rattle.cnf_base.specs.Literals.{Literal, complements, has};
 ghost use Rattle.theory.specs.Propagation.{Clash, Forced};
-ghost use Rattle.propagation.specs.Assumptions.{HasAt, HoldsLiveAlone, MayAssume};
+ghost use Rattle.propagation.specs.Assumptions.{AssumingPart, HasAt, HoldsLiveAlone, MayAssume};
 ghost use Rattle.propagation.specs.Code.Scan.{AssumesOn};
 ghost use Rattle.trail.specs.Trail.{HasRoom};
 ghost use Rattle.watch.specs.Code.Order.{each_in_order};
@@ -23,7 +23,7 @@ use crate::roots::Roots;
 use crate::run::run;
 use clause_db::{Slot, Store};
 use cnf_base::{Lit, OutOfMemory};
-use propagation::{Answer, Assumptions, Propagate, first_reduced, first_with};
+use propagation::{Answer, Assumptions, Propagate, first_with};
 use std::alloc::Global;
 use std::marker::Model;
 use std::mem;
@@ -286,6 +286,16 @@ impl Watch {
         assumed
     }
 
+    /// The same with a part of a live clause.
+    fn assume_stored<P: Part>(&mut self, slot: Slot, part: &P) -> Result<Answer, OutOfMemory>
+        requires may { MayAssume self.old.propagation.assumptions }
+        requires alive { IsSome (maps.get self.old.propagation.live slot) }
+        ensures { AssumingPart self.old.propagation self.new.propagation slot
+            (P.keeps part.now) result }
+    {
+        self.assume_source(&ClauseSource::Stored(slot), part)
+    }
+
     /// Takes back the last assumption. What is known with nothing assumed stays. It takes no memory.
     pub fn take_back(&mut self)
         requires { self.old.propagation.assumptions ≢ [] }
@@ -304,6 +314,10 @@ impl Watch {
 
 impl Propagate for Watch {
     ghost state = { λ w. w.propagation };
+
+    fn alloc(&self) -> Global {
+        self.alloc
+    }
 
     fn insert(&mut self, lits: &[Lit]) -> Result<Slot, OutOfMemory> {
         self.assumptions.reserve(lits)?;
@@ -349,12 +363,20 @@ impl Propagate for Watch {
         self.store.count_with(l)
     }
 
+    fn touched(&mut self, lits: &[Lit], slots: &mut Vec<u32>) -> Result<(), OutOfMemory> {
+        self.store.slots_touched(lits, slots)
+    }
+
     fn assume(&mut self, lits: &[Lit]) -> Result<Answer, OutOfMemory> {
         self.assume_source(&ClauseSource::Given(lits), &Whole)
     }
 
     fn assume_rest(&mut self, slot: Slot, l: Lit) -> Result<Answer, OutOfMemory> {
-        self.assume_source(&ClauseSource::Stored(slot), &Except(l))
+        self.assume_stored(slot, &Except(l))
+    }
+
+    fn assume_reduced(&mut self, slot: Slot, set: &LiteralSet) -> Result<Answer, OutOfMemory> {
+        self.assume_stored(slot, &Unless(set))
     }
 
     fn assume_unless(&mut self, slot: Slot, set: &[Lit]) -> Result<Answer, OutOfMemory> {
@@ -363,19 +385,9 @@ impl Propagate for Watch {
             return Err(OutOfMemory);
         }
         let filled = mem::replace(&mut self.set, LiteralSet::new(self.alloc));
-        let assumed = self.assume_source(&ClauseSource::Stored(slot), &Unless(&filled));
+        let assumed = self.assume_reduced(slot, &filled);
         self.set = filled;
         assumed
-    }
-
-    fn conflicts(&mut self, set: &[Lit]) -> Result<bool, OutOfMemory> {
-        self.set.fill(set)?;
-        Ok(self.set.falsifies(set))
-    }
-
-    fn next_reduced(&mut self, set: &[Lit], from: Slot) -> Result<Option<Slot>, OutOfMemory> {
-        self.set.fill(set)?;
-        Ok(first_reduced(&self.store, &self.set, from))
     }
 
     fn is_root_reason(&mut self, slot: Slot) -> Result<bool, OutOfMemory> {

@@ -9,10 +9,10 @@ use Rattle.std.specs.FinMap.{FinMap}
 use Rattle.std.proofs.lemmas.Bool.{cases_eq, cases_lt, false≢true, lt-ltb}
 use Rattle.std.proofs.lemmas.List.{get_or_past}
 use Rattle.slab.specs.Slab.{Slab, get}
-use Rattle.cnf_base.specs.Literals.{Literal, Clause, has}
+use Rattle.cnf_base.specs.Literals.{Literal, Clause, complement, has}
 use Rattle.occurrences.specs.Occurrences.{occurs}
 use Rattle.occurrences.specs.declared.by_literal.Occurrences.{Occurrences}
-use Rattle.clause_db.specs.Store.{HasAnyAt}
+use Rattle.clause_db.specs.Store.{IsTouchedAt}
 use Rattle.clause_db.specs.Code.Entries.{clauses_in}
 use Rattle.clause_db.specs.Code.Kept.{has_in, AreOf, AreKept}
 use Rattle.clause_db.specs.declared.store.entry.Entry.{Entry}
@@ -146,12 +146,12 @@ none_has : (lits : List Literal) → list_any (λ l. has_in None l) lits ≡ fal
 none_has [] = refl
 none_has (l ∷ lits) = none_has lits
 
-pub has_any_from : (live : FinMap nat_cmp Clause) (lits : List Literal) (s : ℕ) → list_any (λ l. has_in (maps.get live s) l) lits ≡ true → HasAnyAt live lits s
-has_any_from live lits s h = by_clause (maps.get live s) refl h
+pub touched_from : (live : FinMap nat_cmp Clause) (lits : List Literal) (s : ℕ) → list_any (λ l. has_in (maps.get live s) (complement l)) lits ≡ true → IsTouchedAt live lits s
+touched_from live lits s h = by_clause (maps.get live s) refl h
   where
-    by_clause : (o : Option Clause) → maps.get live s ≡ o → list_any (λ l. has_in o l) lits ≡ true → HasAnyAt live lits s
+    by_clause : (o : Option Clause) → maps.get live s ≡ o → list_any (λ l. has_in o (complement l)) lits ≡ true → IsTouchedAt live lits s
     by_clause None is any = absurd (false≢true (sym (none_has lits) ∙ any))
-    by_clause (Some c) is any = record { clause = c; at = is; member = any }
+    by_clause (Some c) is any = record { clause = c; at = is; touched = any }
 
-pub from_has_any : (live : FinMap nat_cmp Clause) (lits : List Literal) (s : ℕ) → HasAnyAt live lits s → list_any (λ l. has_in (maps.get live s) l) lits ≡ true
-from_has_any live lits s w = ap (λ o. list_any (λ l. has_in o l) lits) w.at ∙ w.member
+pub from_touched : (live : FinMap nat_cmp Clause) (lits : List Literal) (s : ℕ) → IsTouchedAt live lits s → list_any (λ l. has_in (maps.get live s) (complement l)) lits ≡ true
+from_touched live lits s w = ap (λ o. list_any (λ l. has_in o (complement l)) lits) w.at ∙ w.touched

@@ -7,7 +7,7 @@ ghost use Rattle.std.specs.List.Sorted.{IsStrictlyIncreasing};
 ghost use Rattle.std.specs.Ordering.{nat_cmp};
 ghost use Rattle.std.specs.FinMap as maps;
 ghost use Rattle.std.specs.FinMap.{FinMap};
-ghost use Rattle.cnf_base.specs.Literals.{Clause, has};
+ghost use Rattle.cnf_base.specs.Literals.{Clause, complement, has};
 ghost use Rattle.occurrences.specs.Occurrences.{occurs};
 ghost use Rattle.clause_db.specs.Code.Entries.{clauses_in};
 ghost use Rattle.clause_db.specs.Code.Kept.{AreKept, AreOf, has_in};
@@ -53,7 +53,7 @@ fn occurrences_in(alloc: Global, entries: &Slab<Entry>) -> Result<Occurrences, O
     Ok(occurrences)
 }
 
-/// Gathers the slots of the clauses that have one of the literals, in ascending order.
+/// Gathers the slots of the clauses that the literals touch, in ascending order.
 pub(crate) fn find_slots(
     kept: &mut Option<Occurrences>,
     alloc: Global,
@@ -64,14 +64,14 @@ pub(crate) fn find_slots(
     requires { AreKept kept.old (clauses_in entries.now) }
     ensures ascending { OnOk result (IsStrictlyIncreasing into.new.items) }
     ensures slots { OnOk result ((s : ℕ) → has into.new.items s ≡
-        list_any (λ l. has_in (maps.get (clauses_in entries.now) s) l) lits.now) }
+        list_any (λ l. has_in (maps.get (clauses_in entries.now) s) (complement l)) lits.now) }
     ensures kept { AreKept kept.new (clauses_in entries.now) }
 {
     match kept {
-        Some(occurrences) => occurrences.slots_with_any(lits, into),
+        Some(occurrences) => occurrences.slots_touched(lits, into),
         None => {
             let mut made = occurrences_in(alloc, entries)?;
-            let gathered = made.slots_with_any(lits, into);
+            let gathered = made.slots_touched(lits, into);
             *kept = Some(made);
             gathered
         }

@@ -1,8 +1,8 @@
 -- The answers to an addition that lists a witness.
 use Rattle.std.proofs.Common.{◌≡◌, ℕ, suc, ◌+◌, ◌&&◌, ◌⊎◌, not, Bool, true, false, cond}
 use Rattle.std.proofs.Common.{Some, None, Ok, Err, List, [], ◌∷◌}
-use Rattle.std.proofs.Common.{◌++◌, ◌||◌, drop, eqb, length, take, take_while, refl, sym, ap, ◌∙◌}
-use Rattle.std.proofs.Common.{subst, arith, inl, inr}
+use Rattle.std.proofs.Common.{◌++◌, ◌||◌, drop, eqb, filter, length, take, take_while, refl, sym}
+use Rattle.std.proofs.Common.{ap, ◌∙◌, subst, arith, inl, inr}
 use Rattle.std.specs.List.{list_any}
 use Rattle.std.specs.Ordering.{nat_cmp}
 use Rattle.std.specs.FinMap as maps
@@ -12,14 +12,15 @@ use Rattle.cnf_base.specs.Literals.{Literal, Clause, complement, complements, ha
 use Rattle.cnf_base.proofs.LiteralLemmas.{complement-complement}
 use Rattle.cnf_base.proofs.SetLemmas.{any_from, any_none, any_some, has-complements, has-filter}
 use Rattle.cnf_base.proofs.SetLemmas.{has_append_right, has_head}
-use Rattle.propagation.specs.Assumptions.{HasAt}
+use Rattle.trail.specs.LiteralSet.{in_set}
+use Rattle.trail.specs.declared.literal_set.LiteralSet.{LiteralSet}
 use Rattle.trail.specs.Reduced.{is_reduced}
 use Rattle.theory.specs.Sets.{SameSet, conflicts}
 use Rattle.theory.proofs.PropagationLemmas.Forced.{clash_by_false, forced_assumed}
 use Rattle.theory.proofs.PropagationLemmas.Conflicts.{not_both}
 use Rattle.theory.specs.declared.accepted.Accepted.{Accepted}
 use Rattle.theory.specs.declared.accepted.Accepted.TheVariants.{Pr}
-use Rattle.theory.specs.declared.refusal.Refusal.TheVariants.{NeitherRupNorPr}
+use Rattle.theory.specs.declared.refusal.Refusal.TheVariants.{InconsistentSet, NeitherRupNorPr}
 use Rattle.theory.specs.Propagation.{Live, Clash, HasPr, HasRup, open_literals}
 use Rattle.proofs.specs.Steps.{clause_part, witness_part}
 use Rattle.theory.specs.Lrat.{AnswersChain, conflict}
@@ -29,15 +30,27 @@ use Rattle.steps.proofs.DratLemmas.Slots.{slots-pr}
 use Rattle.steps.proofs.DratLemmas.Steps.{answers_rup, back, clash_same, no_rup_listed}
 use Rattle.steps.proofs.DratLemmas.Steps.{rup_listed, there}
 
--- where no clause has the complement of a literal of the witness, it reduces none
-pub untouched_clash : (live : Live) (assumed witness : List Literal) → ((l : Literal) → has witness l ≡ true → (s : ℕ) → ¬ HasAt live (complement l) s) → AllClash live assumed (is_reduced (has witness)) (open_literals witness)
-untouched_clash live assumed witness none k d at reduced =
-    let w = any_some (λ l. has witness (complement l)) d (first_of (list_any (λ l. has witness (complement l)) d) _ reduced) in
-    absurd (none (complement w.0) w.2 k (record { clause = d; at = at; member = ap (has d) (complement-complement w.0) ∙ w.1 }))
-  where
-    first_of : (a b : Bool) → (a && b) ≡ true → a ≡ true
-    first_of true b e = refl
-    first_of false b e = e
+-- ---- The set that was filled with the witness
+
+module _ (set : LiteralSet) (witness : List Literal) (filled : (l : Literal) → in_set set l ≡ has witness l) where
+  pub touched_if_reduced : (d : Clause) → is_reduced (in_set set) d ≡ true → list_any (λ l. has d (complement l)) witness ≡ true
+  touched_if_reduced d reduced =
+      let w = any_some (λ l. in_set set (complement l)) d (first_of (list_any (λ l. in_set set (complement l)) d) _ reduced) in
+      any_from (λ l. has d (complement l)) witness (complement w.0) (sym (filled (complement w.0)) ∙ w.2) (ap (has d) (complement-complement w.0) ∙ w.1)
+    where
+      first_of : (a b : Bool) → (a && b) ≡ true → a ≡ true
+      first_of true b e = refl
+      first_of false b e = e
+
+  searched_filled : (live : Live) (assumed : List Literal) (found : Bool) → Searched live assumed (is_reduced (in_set set)) (λ c. filter (λ l. not (in_set set (complement l))) c) found → Searched live assumed (is_reduced (has witness)) (open_literals witness) found
+  searched_filled live assumed found h = subst (λ (f : Literal → Bool). Searched live assumed (is_reduced f) (λ c. filter (λ l. not (f (complement l))) c) found) (λ i l. filled l i) h
+
+  pub conflicts_filled : list_any (λ l. in_set set (complement l)) witness ≡ conflicts witness
+  conflicts_filled = ap (λ (f : Literal → Bool). list_any (λ l. f (complement l)) witness) (λ i l. filled l i)
+
+pub listed_inconsistent : (live : List Clause) (c witness : List Literal) → conflicts witness ≡ true → AnswersListed live c witness (Err InconsistentSet)
+listed_inconsistent live c [] wrong = absurd (true≢false (sym wrong))
+listed_inconsistent live c (l ∷ witness) wrong = wrong
 
 -- ---- What an addition lists
 
@@ -96,11 +109,15 @@ module _ (live : FinMap nat_cmp Clause) (c witness assumed : List Literal) (same
     )
 
     -- the clauses that the witness reduces were searched
-    pub answers_reduced : (found b : Bool) → found ≡ b → Searched (maps.get live) assumed (is_reduced (has witness)) (open_literals witness) found → AnswersWithSet (maps.values live) c witness (cond b (Ok Pr) (Err NeitherRupNorPr))
+    answers_reduced : (found b : Bool) → found ≡ b → Searched (maps.get live) assumed (is_reduced (has witness)) (open_literals witness) found → AnswersWithSet (maps.values live) c witness (cond b (Ok Pr) (Err NeitherRupNorPr))
     answers_reduced true true value all = answers_pr all
     answers_reduced false false value some = (consistent, no_rup_listed live c none, λ pr. some_not_pr some ((slots-pr live c witness).1 pr))
     answers_reduced true false value all = absurd (true≢false value)
     answers_reduced false true value some = absurd (true≢false (sym value))
+
+    pub answers_filled : (set : LiteralSet) → ((l : Literal) → in_set set l ≡ has witness l) → (found b : Bool) → found ≡ b →
+        Searched (maps.get live) assumed (is_reduced (in_set set)) (λ d. filter (λ l. not (in_set set (complement l))) d) found → AnswersWithSet (maps.values live) c witness (cond b (Ok Pr) (Err NeitherRupNorPr))
+    answers_filled set filled found b value searched = answers_reduced found b value (searched_filled set witness filled (maps.get live) assumed found searched)
 
 pub parts_given : (lits c witness : List Literal) → c ≡ clause_part lits → witness ≡ witness_part lits → (witness ≡ []) ⊎ ((l : Literal) × (has c l ≡ true) × (has witness l ≡ true))
 parts_given lits c witness c_is set_is =

@@ -12,6 +12,7 @@ ghost use Rattle.steps.specs.Code.Candidates.{MeetsIfListed};
 ghost use Rattle.theory.specs.Answers.{UnlessOutOfMemory};
 
 use crate::drat::addition::judge;
+use crate::drat::candidates::SearchRoom;
 use clause_db::Slot;
 use cnf_base::{Lit, OutOfMemory};
 use proofs::{StepBuf, StepKind};
@@ -32,7 +33,12 @@ pub(crate) fn add_copy<P: Propagate>(clauses: &mut P, lits: &[Lit]) -> Result<()
 }
 
 /// Judges an addition, and adds the clause where it is accepted. The witness is not added.
-fn add<P: Propagate>(clauses: &mut P, lits: &[Lit], witness: &[Lit]) -> Result<Accepted, Refusal>
+fn add<P: Propagate>(
+    clauses: &mut P,
+    room: &mut SearchRoom,
+    lits: &[Lit],
+    witness: &[Lit],
+) -> Result<Accepted, Refusal>
     requires nothing_assumed { (P.state clauses.old).assumptions ≡ [] }
     requires live_alone { HoldsLiveAlone (P.state clauses.old) }
     requires meets { MeetsIfListed lits.now witness.now }
@@ -44,7 +50,7 @@ fn add<P: Propagate>(clauses: &mut P, lits: &[Lit], witness: &[Lit]) -> Result<A
     ensures live_alone { HoldsLiveAlone (P.state clauses.new) }
     ensures refused { OnErr result ((P.state clauses.new).live ≡ (P.state clauses.old).live) }
 {
-    let word = judge(clauses, lits, witness)?;
+    let word = judge(clauses, room, lits, witness)?;
     add_copy(clauses, lits)?;
     Ok(word)
 }
@@ -119,6 +125,7 @@ fn parts_of(rules: DratRules, step: &StepBuf) -> (&[Lit], &[Lit])
 /// Takes a step on the live clauses.
 pub(crate) fn apply_step<P: Propagate>(
     clauses: &mut P,
+    room: &mut SearchRoom,
     rules: DratRules,
     step: &StepBuf,
 ) -> Result<Accepted, Refusal>
@@ -135,7 +142,7 @@ pub(crate) fn apply_step<P: Propagate>(
     match step.kind() {
         StepKind::Add => {
             let (clause, witness) = parts_of(rules, step);
-            add(clauses, clause, witness)
+            add(clauses, room, clause, witness)
         }
         StepKind::Delete => delete(clauses, rules, step.lits()),
     }

@@ -18,7 +18,7 @@ use Rattle.cnf_base.proofs.LiteralLemmas.{complement-complement}
 use Rattle.cnf_base.proofs.SetLemmas.{both_pass, complements_has, filter_has, has-complements}
 use Rattle.cnf_base.proofs.SetLemmas.{has-filter, same_from}
 use Rattle.propagation.specs.Assumptions.{HasAt}
-use Rattle.clause_db.specs.Store.{sum_over, literals_in, copies_with}
+use Rattle.clause_db.specs.Store.{IsTouchedAt, sum_over, literals_in, copies_with}
 use Rattle.watch.specs.Code.Order.{set_of, in_order, each_in_order}
 use Rattle.cnf_base.proofs.SizeLemmas.{size_same}
 use Rattle.clause_db.proofs.StoreLemmas.Sums.{get_insert, get_remove, same_maps}
@@ -175,6 +175,16 @@ has_at_seen live l s h = record { clause = in_order h.clause; at = seen_there li
 
 pub seen_has_at : (live : FinMap nat_cmp Clause) (l : Literal) (s : ℕ) → HasAt (maps.get (each_in_order live)) l s → HasAt (maps.get live) l s
 seen_has_at live l s h = let w = there_seen live s h.clause h.at in record { clause = w.0; at = w.1; member = sym (w.2 l) ∙ h.member }
+
+-- what literals touch, in order and as it stands
+abbrev touches : (lits : List Literal) → (Literal → Bool) → Bool
+touches lits member = list_any (λ l. member (complement l)) lits
+
+pub touched_seen : (live : FinMap nat_cmp Clause) (lits : List Literal) (s : ℕ) → IsTouchedAt live lits s → IsTouchedAt (each_in_order live) lits s
+touched_seen live lits s h = record { clause = in_order h.clause; at = seen_there live s h.clause h.at; touched = ap (touches lits) (λ i l. has-in_order h.clause l i) ∙ h.touched }
+
+pub seen_touched : (live : FinMap nat_cmp Clause) (lits : List Literal) (s : ℕ) → IsTouchedAt (each_in_order live) lits s → IsTouchedAt live lits s
+seen_touched live lits s h = let w = there_seen live s h.clause h.at in record { clause = w.0; at = w.1; touched = sym (ap (touches lits) (λ i l. w.2 l i)) ∙ h.touched }
 
 -- a clause in a slot that was free, and is free again
 pub inserted_is : (live after : FinMap nat_cmp Clause) (slot : ℕ) (c : Clause) → maps.get after slot ≡ Some c → ((s : ℕ) → s ≢ slot → maps.get after s ≡ maps.get live s) → after ≡ maps.insert live slot c

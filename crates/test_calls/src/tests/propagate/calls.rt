@@ -14,6 +14,7 @@ use propagation::{Answer, Propagate, Scan, Value};
 use std::alloc::Global;
 use std::process::Abort;
 use std::test::Fail;
+use trail::LiteralSet;
 use watch::Watch;
 
 /// Inserts the clauses of a formula, in which a unit clause is a row with its literal twice.
@@ -146,10 +147,33 @@ fn unless_answer<P: Fresh>(
     }
 }
 
+/// The same with a set that was filled before.
+fn reduced_answer<P: Fresh>(
+    alloc: Global,
+    rows: &[[i32; 2]],
+    row: &[i32],
+    set: &[i32],
+) -> Result<Option<Answer>, Fail> {
+    let mut clauses = P::fresh(alloc)?;
+    fill(alloc, &mut clauses, rows)?;
+    let clause = literals(alloc, row)?;
+    let set = literals(alloc, set)?;
+    let mut filled = LiteralSet::new(clauses.alloc());
+    filled.fill(set.as_slice())?;
+    match clauses.find(clause.as_slice()) {
+        Some(slot) => Ok(Some(clauses.assume_reduced(slot, &filled)?)),
+        None => Ok(None),
+    }
+}
+
 fn expect_unless(rt: &impl Abort, alloc: Global, set: &[i32], answer: Answer) -> Result<(), Fail> {
     let scanned = unless_answer::<Scan>(alloc, &QUIET_REST, &[1, 2], set)?;
     expect_equal(rt, scanned, Some(answer));
     let watched = unless_answer::<Watch>(alloc, &QUIET_REST, &[1, 2], set)?;
+    expect_equal(rt, watched, Some(answer));
+    let scanned = reduced_answer::<Scan>(alloc, &QUIET_REST, &[1, 2], set)?;
+    expect_equal(rt, scanned, Some(answer));
+    let watched = reduced_answer::<Watch>(alloc, &QUIET_REST, &[1, 2], set)?;
     expect_equal(rt, watched, Some(answer));
     Ok(())
 }
@@ -170,11 +194,12 @@ fn assumes_unless_the_set_makes_it_false(rt: HostRuntime) -> Result<(), Fail> {
     Ok(())
 }
 
-/// Whether a set has a literal with its complement, where there are no clauses.
-fn has_conflict<P: Fresh>(alloc: Global, set: &[i32]) -> Result<bool, Fail> {
-    let mut clauses = P::fresh(alloc)?;
+/// Whether a set has a literal with its complement.
+fn has_conflict(alloc: Global, set: &[i32]) -> Result<bool, Fail> {
     let set = literals(alloc, set)?;
-    Ok(clauses.conflicts(set.as_slice())?)
+    let mut filled = LiteralSet::new(alloc);
+    filled.fill(set.as_slice())?;
+    Ok(filled.falsifies(set.as_slice()))
 }
 
 #[test]
@@ -188,44 +213,86 @@ fn finds_conflicts(rt: HostRuntime) -> Result<(), Fail> {
         (&[268435455, -268435455], true),
     ];
     for (set, expected) in &rows {
-        expect_equal(&rt, has_conflict::<Scan>(alloc, set)?, *expected);
-        expect_equal(&rt, has_conflict::<Watch>(alloc, set)?, *expected);
+        expect_equal(&rt, has_conflict(alloc, set)?, *expected);
     }
     Ok(())
 }
 
-/// Whether the first clause that the set reduces is this row; where the row is empty, whether there is none.
-fn reduces_first<P: Fresh>(alloc: Global, set: &[i32], row: &[i32]) -> Result<bool, Fail> {
+/// How many clauses the literals touch, and whether the first of them is this row; where the row is empty, whether none is.
+fn touched_first<P: Fresh>(
+    alloc: Global,
+    lits: &[i32],
+    row: &[i32],
+) -> Result<(usize, bool), Fail> {
     let mut clauses = P::fresh(alloc)?;
     fill(alloc, &mut clauses, &[[1, 2], [-1, -2], [-1, 3], [2, 3]])?;
-    let set = literals(alloc, set)?;
+    let lits = literals(alloc, lits)?;
     let clause = literals(alloc, row)?;
-    let expected = clauses.find(clause.as_slice());
-    Ok(clauses.next_reduced(set.as_slice(), Slot::first())? == expected)
+    let mut slots = Vec::new(alloc);
+    clauses.touched(lits.as_slice(), &mut slots)?;
+    let first = match slots.as_slice().first() {
+        Some(slot) => Some(Slot::at(*slot as usize)),
+        None => None,
+    };
+    Ok((slots.len(), first == clauses.find(clause.as_slice())))
 }
 
-fn expect_reduced(rt: &impl Abort, alloc: Global, set: &[i32], row: &[i32]) -> Result<(), Fail> {
-    let scanned = reduces_first::<Scan>(alloc, set, row)?;
-    expect_true(rt, scanned);
-    let watched = reduces_first::<Watch>(alloc, set, row)?;
-    expect_true(rt, watched);
+fn expect_touched(
+    rt: &impl Abort,
+    alloc: Global,
+    lits: &[i32],
+    row: &[i32],
+    count: usize,
+) -> Result<(), Fail> {
+    let scanned = touched_first::<Scan>(alloc, lits, row)?;
+    expect_equal(rt, scanned, (count, true));
+    let watched = touched_first::<Watch>(alloc, lits, row)?;
+    expect_equal(rt, watched, (count, true));
     Ok(())
 }
 
 #[test]
-fn finds_what_a_set_reduces(rt: HostRuntime) -> Result<(), Fail> {
+fn finds_what_literals_touch(rt: HostRuntime) -> Result<(), Fail> {
     let alloc = rt.alloc();
-    let rows: [(&[i32], &[i32]); 6] = [
-        (&[], &[]),
-        (&[1], &[-1, -2]),
-        (&[1, -2], &[3, -1]),
-        (&[-3, 4], &[-1, 3]),
-        (&[4, -5, 268435455], &[]),
-        (&[-1, 2], &[]),
+    let rows: [(&[i32], &[i32], usize); 6] = [
+        (&[], &[], 0),
+        (&[1], &[-1, -2], 2),
+        (&[1, -2], &[2, 1], 4),
+        (&[-3, 4], &[-1, 3], 2),
+        (&[4, -5, 268435455], &[], 0),
+        (&[-1, 2], &[1, 2], 2),
     ];
-    for (set, expected) in &rows {
-        expect_reduced(&rt, alloc, set, expected)?;
+    for (lits, row, count) in &rows {
+        expect_touched(&rt, alloc, lits, row, *count)?;
     }
+    Ok(())
+}
+
+/// How many clauses the literal 1 touches at first, once one of them is taken out, and once another has come.
+fn touched_along<P: Fresh>(alloc: Global) -> Result<(usize, usize, usize), Fail> {
+    let mut clauses = P::fresh(alloc)?;
+    fill(alloc, &mut clauses, &[[1, 2], [-1, -2], [-1, 3]])?;
+    let lits = literals(alloc, &[1])?;
+    let mut slots = Vec::new(alloc);
+    clauses.touched(lits.as_slice(), &mut slots)?;
+    let first = slots.len();
+    let clause = literals(alloc, &[-1, 3])?;
+    if let Some(slot) = clauses.find(clause.as_slice()) {
+        clauses.remove(slot);
+    }
+    clauses.touched(lits.as_slice(), &mut slots)?;
+    let fewer = slots.len();
+    let clause = literals(alloc, &[4, -1])?;
+    clauses.insert(clause.as_slice())?;
+    clauses.touched(lits.as_slice(), &mut slots)?;
+    Ok((first, fewer, slots.len()))
+}
+
+#[test]
+fn touched_clauses_come_and_go(rt: HostRuntime) -> Result<(), Fail> {
+    let alloc = rt.alloc();
+    expect_equal(&rt, touched_along::<Scan>(alloc)?, (2, 1, 2));
+    expect_equal(&rt, touched_along::<Watch>(alloc)?, (2, 1, 2));
     Ok(())
 }
 

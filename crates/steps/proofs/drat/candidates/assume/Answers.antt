@@ -14,5 +14,5 @@ returns-in-Holding g c =
 pub returns-in-ReducedBy : goal.returns-in-ReducedBy
 returns-in-ReducedBy g c =
     let old = g.P.Propagate.state c.args.clauses.now in
-    let new = g.P.Propagate.state c.assume_unless.new.self in
-    subst (λ them. (d : Clause) → maps.get old.live c.args.slot ≡ Some d → Assuming old new (complements (rest_of them d)) c.assume_unless.result) (sym c.in-ReducedBy.is) c.assume_unless.ensures
+    let new = g.P.Propagate.state c.assume_reduced.new.self in
+    subst (λ them. (d : Clause) → maps.get old.live c.args.slot ≡ Some d → Assuming old new (complements (rest_of them d)) c.assume_reduced.result) (sym c.in-ReducedBy.is) c.assume_reduced.ensures

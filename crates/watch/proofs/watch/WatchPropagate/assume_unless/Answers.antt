@@ -9,7 +9,7 @@ use Rattle.watch.proofs.watch.WatchPropagate.assume_unless.Goals as goal
 pub returns : goal.returns
 returns c clause here =
     let before = c.args.self.now.propagation in
-    let assumed = c.assume_source-assumed in
+    let assumed = c.assume_reduced-assumed in
     let in_filled = in_set c.replace-filled.result in
     let added = complements (filter (λ (k : ℕ). not (in_filled (complement k))) clause) in
     let alike = subst (λ s. (l : ℕ) → in_set s l ≡ has c.args.set.now l) (sym c.replace-filled.ensures.value) (unless_refused c.fill.result (sym c.is_err.ensures.value ∙ c.if-is_err.false) c.fill.ensures) in

@@ -5,11 +5,11 @@ use Rattle.std.proofs.lemmas.List.{take_all}
 use Rattle.cnf_base.specs.Literals.{complement, has}
 use Rattle.propagation.specs.Assumptions.{HasAt}
 use Rattle.cnf_base.proofs.WalkLemmas.{has_more}
-use Rattle.steps.proofs.drat.addition.none_touched.Goals as goal
+use Rattle.steps.proofs.drat.candidates.none_touched.Goals as goal
 
 pub loop-l-preserved : goal.loop-l-preserved
 loop-l-preserved g c x h s there =
-    let set = c.args.witness.now in
+    let set = c.args.lits.now in
     let i = c.loop-l.l-index in
     let item = c.l-item.result in
     let live = maps.get (g.P.Propagate.state c.args.clauses.now).live in
@@ -19,4 +19,4 @@ loop-l-preserved g c x h s there =
     ]
 
 pub returns : goal.returns
-returns g c = λ _ l h s there. c.loop-l.invariant l (ap (λ ls. has ls l) (take_all c.loop-l.l-index c.args.witness.now c.loop-l-test.false) ∙ h) s there
+returns g c = λ _ l h s there. c.loop-l.invariant l (ap (λ ls. has ls l) (take_all c.loop-l.l-index c.args.lits.now c.loop-l-test.false) ∙ h) s there

@@ -1,11 +1,11 @@
 use Rattle.std.proofs.Common.{◌≡◌, ℕ, take}
 use Rattle.std.specs.List.{list_any}
-use Rattle.cnf_base.specs.Literals.{has}
+use Rattle.cnf_base.specs.Literals.{complement, has}
 use Rattle.occurrences.specs.Occurrences.{occurs}
-use Rattle.occurrences.proofs.by_literal.Occurrences.slots_with_any.Given as goal
+use Rattle.occurrences.proofs.by_literal.Occurrences.slots_touched.Given as goal
 
 abbrev pub invariant-loop-l : goal.invariant-loop-l
 invariant-loop-l l = record {
-  slots : (s : ℕ) → has l.into.items s ≡ list_any (λ k. occurs l.fn.self k s) (take l.l-index l.lits);
+  slots : (s : ℕ) → has l.into.items s ≡ list_any (λ k. occurs l.fn.self (complement k) s) (take l.l-index l.lits);
   same : (k s : ℕ) → occurs l.self k s ≡ occurs l.fn.self k s;
 }
