@@ -3,8 +3,8 @@
 # is said by the upper floor of specs/ alone; the proofs of the programs; the gate (the proofs of the tests and what else
 # isn't kept, the mutants, the crates' tests and the programs' stored runs); whether each mutant was refused by the
 # clause that it names; then the programs as users run them, also on a folder of many proofs, their manual pages, counts of
-# allocations, and runs in which each allocation is refused. At the end stands what each part took. The last line is "N
-# passed, M failed" over all.
+# allocations, runs in which each allocation is refused, and instructions on inputs that were made to be dear. At the end
+# stands what each part took. The last line is "N passed, M failed" over all.
 #
 # RT names the command rt, where it isn't on the PATH.
 set -uo pipefail
@@ -74,6 +74,9 @@ for script in tests/programs.sh examples/worked.py tests/folder.sh tests/manual.
     part "$script" "$script"
     count $?
 done
+
+part bench/hostile.py bench/hostile.py --count
+count $?
 
 printf '\n%-22s %9s %9s\n%s\n' part clock processor "$taken"
 echo "$passed passed, $failed failed"
