@@ -3,10 +3,11 @@ use Rattle.std.proofs.Common.{◌≡◌, ◌≢◌, ℕ, ◌+◌, ◌≤◌, Boo
 use Rattle.std.proofs.Common.{eq-eqb, ne_eqb, eqb-true, nat_le, is_some, unwrap_or, Option, Some}
 use Rattle.std.proofs.Common.{None, List, [], ◌++◌, filter, map, Result, Ok, Err, OnOk, OnErr}
 use Rattle.std.proofs.Common.{refl, sym, ap, ◌∙◌, subst, arith, inl, inr}
-use Rattle.std.proofs.lemmas.Bool.{false≢true, true≢false, and_parts, and_from, cases_eq, not-true}
+use Rattle.std.proofs.Common.{◌∷◌, ◌<◌}
+use Rattle.std.proofs.lemmas.Bool.{false≢true, true≢false, and_parts, and_from, cases_eq, cases_lt, not-true}
 use Rattle.std.proofs.lemmas.Bool.Decides.{nat_tests}
 use Rattle.std.proofs.lemmas.Grind.{get_or_default_zero}
-use Rattle.std.proofs.lemmas.List.Folds.{list_any-append, list_any_at}
+use Rattle.std.proofs.lemmas.List.Folds.{list_any-append, list_all-append, list_any_at}
 use Rattle.std.proofs.lemmas.List.Kept.{Contains-dedup_nat, Contains-from_dedup}
 use Rattle.std.specs.List.{list_any, list_all, Contains, dedup}
 use Rattle.cnf_base.specs.Literals.{has}
@@ -36,6 +37,49 @@ alike_cleaned births xs = record {
     twice true true = refl
     twice true false = refl
     twice false b = refl
+
+-- with one entry more
+pub alike_push : (births : Table ℕ) (xs ys : List Occurrence) (e : Occurrence) → AreAlike births xs ys → AreAlike births (xs ++ e ∷ []) (ys ++ e ∷ [])
+alike_push births xs ys e alike = record {
+  occurs = λ s. list_any-append (is_of births s) ys (e ∷ []) ∙ ap (λ b. b || list_any (is_of births s) (e ∷ [])) (alike.occurs s) ∙ sym (list_any-append (is_of births s) xs (e ∷ []));
+  known = λ all.
+      let parts = and_parts (list_all (is_known births) xs) (list_all (is_known births) (e ∷ [])) (sym (list_all-append (is_known births) xs (e ∷ [])) ∙ all) in
+      list_all-append (is_known births) ys (e ∷ []) ∙ and_from (list_all (is_known births) ys) (list_all (is_known births) (e ∷ [])) (alike.known parts.0) parts.1;
+}
+
+-- a list in the place of another
+pub put_over : (before taken after : ℕ → List Occurrence) (key : ℕ) (list : List Occurrence) →
+    ((k : ℕ) → taken k ≡ cond (eqb k key) [] (before k)) → ((k : ℕ) → after k ≡ cond (eqb k key) list (taken k)) → (k : ℕ) → after k ≡ cond (eqb k key) list (before k)
+put_over before taken after key list took put k = put k ∙ ap (cond (eqb k key) list) (took k) ∙ by_test (eqb k key)
+  where
+    by_test : (b : Bool) → cond b list (cond b [] (before k)) ≡ cond b list (before k)
+    by_test true = refl
+    by_test false = refl
+
+-- keys that lie beyond all others still have no list
+pub put_beyond : (before after : ℕ → List Occurrence) (key most : ℕ) (list : List Occurrence) → key < most → ((k : ℕ) → after k ≡ cond (eqb k key) list (before k)) →
+    ((k : ℕ) → most ≤ k → before k ≡ []) → (k : ℕ) → most ≤ k → after k ≡ []
+put_beyond before after key most list low put none k past =
+    put k ∙ ap (λ b. cond b list (before k)) (ne_eqb k key (λ same. absurd (let wrong : ⊥ = omega (arith, low, past, same) in wrong))) ∙ none k past
+
+-- one entry more at a key
+pub push_occurs : (births : Table ℕ) (before after : ℕ → List Occurrence) (key slot : ℕ) (e : Occurrence) → e.slot ≡ slot → counts births e ≡ true → AreAlike births (before key ++ e ∷ []) (after key) →
+    ((k : ℕ) → k ≢ key → after k ≡ before k) → (k s : ℕ) → list_any (is_of births s) (after k) ≡ (list_any (is_of births s) (before k) || (eqb k key && eqb s slot))
+push_occurs births before after key slot e slot_is alive alike others k s = elim (cases_eq k key) [
+  | inl same ↦
+      ap (λ j. list_any (is_of births s) (after j)) same ∙ alike.occurs s ∙ list_any-append (is_of births s) (before key) (e ∷ [])
+      ∙ ap (λ b. list_any (is_of births s) (before key) || b) (or_false (is_of births s e) ∙ ap (λ b. eqb e.slot s && b) alive ∙ and_true (eqb e.slot s) ∙ ap (λ n. eqb n s) slot_is ∙ turned slot s ∙ ap (λ b. b && eqb s slot) (sym (eq-eqb k key same)))
+      ∙ ap (λ j. list_any (is_of births s) (before j) || (eqb k key && eqb s slot)) (sym same)
+  | inr apart ↦
+      ap (list_any (is_of births s)) (others k apart) ∙ sym (or_false (list_any (is_of births s) (before k))) ∙ ap (λ b. list_any (is_of births s) (before k) || (b && eqb s slot)) (sym (ne_eqb k key apart))
+]
+  where
+    or_false : (b : Bool) → (b || false) ≡ b
+    or_false true = refl
+    or_false false = refl
+
+    turned : (a b : ℕ) → eqb a b ≡ eqb b a
+    turned a b = grind (arith, nat_tests)
 
 -- a list in the place of one that is alike
 pub put_alike : (births : Table ℕ) (before taken after : ℕ → List Occurrence) (key : ℕ) (list : List Occurrence) →
@@ -106,6 +150,14 @@ module _ (old new : Table ℕ) (slot : ℕ) (others : (k : ℕ) → k ≢ slot �
   rid_known xs all =
       all_left (is_known old) (λ e. not (eqb e.slot slot)) (is_known new)
       (λ e known left. other_known e (λ same. true≢false (sym (eq-eqb e.slot slot same) ∙ not-true (eqb e.slot slot) left)) known) xs all
+
+-- they are taken out of all lists
+pub rid_lists : (before after : ℕ → List Occurrence) (slot most : ℕ) → ((k : ℕ) → k < most → after k ≡ filter (λ e. not (eqb e.slot slot)) (before k)) → ((k : ℕ) → most ≤ k → after k ≡ before k) →
+    ((k : ℕ) → most ≤ k → before k ≡ []) → (k : ℕ) → after k ≡ filter (λ e. not (eqb e.slot slot)) (before k)
+rid_lists before after slot most done left none k = elim (cases_lt k most) [
+  | inl low ↦ done k low
+  | inr past ↦ left k past ∙ none k past ∙ ap (filter (λ (e : Occurrence). not (eqb e.slot slot))) (sym (none k past))
+]
 
 -- one number more is noted
 module _ (old new : Table ℕ) (slot n m : ℕ) (was : at old slot ≡ Some n) (more : m ≡ n + 1) (is : (k : ℕ) → at new k ≡ cond (eqb k slot) (Some m) (at old k)) where

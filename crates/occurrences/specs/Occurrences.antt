@@ -2,7 +2,8 @@
 use Rattle.std.specs.List.{list_any}
 use Rattle.std.specs.Prelude.{ℕ, Bool}
 use Rattle.cnf_base.specs.Literals.{Literal}
-use Rattle.occurrences.specs.Entries.{is_of, list_at}
+use Rattle.tables.specs.Lists.{list_at}
+use Rattle.occurrences.specs.Entries.{is_of}
 use Rattle.occurrences.specs.declared.by_literal.Occurrences.{Occurrences}
 
 -- whether the list of the literal has an entry of the slot that counts

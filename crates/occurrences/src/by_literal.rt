@@ -1,19 +1,18 @@
 //! By literal the slots of the clauses that have it.
 
-ghost use Rattle.std.specs.Prelude.{◌≡◌, ℕ, ◌==◌, ◌&&◌, ◌||◌, ◌++◌, not, true, false, OnOk, OnErr};
-ghost use Rattle.std.specs.Prelude.{IsSome, ◌≢◌, filter, map};
+ghost use Rattle.std.specs.Prelude.{◌≡◌, ℕ, ◌==◌, ◌&&◌, ◌||◌, ◌++◌, ◌≤◌, [], not, true, false, OnOk, OnErr};
+ghost use Rattle.std.specs.Prelude.{IsSome, ◌≢◌, map};
 ghost use Rattle.std.specs.List.{list_any, list_all};
 ghost use Rattle.std.specs.List.Sorted.{IsStrictlyIncreasing};
 ghost use Rattle.cnf_base.specs.Literals.{complement, has};
+ghost use Rattle.tables.specs.Lists.{AreApart, list_at};
 ghost use Rattle.tables.specs.Table.{at};
-ghost use Rattle.occurrences.specs.Entries.{counts, list_at};
-ghost use Rattle.occurrences.specs.Code.Known.{is_known};
+ghost use Rattle.occurrences.specs.Code.Known.{AreApart-prop, is_known};
 
-use crate::lists::Lists;
-use crate::occurrence::{Occurrence, births_at, clean, make_room};
+use crate::occurrence::{Occurrence, add, births_at, clean, rid_all};
 use cnf_base::{Lit, OutOfMemory};
 use std::alloc::Global;
-use tables::{Table, key};
+use tables::{Lists, Table, key};
 
 /// By literal the slots of the clauses that have it.
 ///
@@ -22,7 +21,9 @@ use tables::{Table, key};
 pub struct Occurrences {
     /// By slot how often it was forgotten.
     births: Table<u32>,
-    lists: Lists,
+    lists: Lists<Occurrence>,
+    ghost apart: { AreApart lists } by { AreApart-prop lists },
+    ghost low: { (l : ℕ) → 4294967296 ≤ l → list_at lists l ≡ [] },
     ghost known: { (l : ℕ) → list_all (is_known births) (list_at lists l) ≡ true },
 }
 
@@ -40,18 +41,6 @@ impl Occurrences {
         }
     }
 
-    /// Makes room in the list of a key, which is full.
-    fn make_room_for(&mut self, key: u32) -> Result<(), OutOfMemory>
-        requires { IsSome (at self.old.lists.numbers key) }
-        ensures occurs { (l s : ℕ) → occurs self.new l s ≡ occurs self.old l s }
-        ensures births { self.new.births ≡ self.old.births }
-    {
-        let mut list = self.lists.take_out(key);
-        let made = make_room(&mut list, &self.births);
-        self.lists.put_back(key, list);
-        made
-    }
-
     /// Notes that the clause in the slot has the literal.
     fn push(&mut self, l: Lit, slot: u32) -> Result<(), OutOfMemory>
         requires { IsSome (at self.old.births slot) }
@@ -61,11 +50,15 @@ impl Occurrences {
         ensures births { self.new.births ≡ self.old.births }
     {
         let key = key(l);
-        if self.lists.is_full(key) {
-            self.make_room_for(key)?;
-        }
         let birth = births_at(&self.births, slot);
-        self.lists.push(key, Occurrence { slot, birth })
+        let entry = Occurrence { slot, birth };
+        if !self.lists.has_list(key) {
+            return self.lists.push(key, entry);
+        }
+        let mut list = self.lists.take_out(key);
+        let added = add(&mut list, &self.births, entry);
+        self.lists.put_back(key, list);
+        added
     }
 
     /// Notes that the clause in the slot has the literals, or else some of them.
@@ -111,23 +104,10 @@ impl Occurrences {
             match births.checked_add(1) {
                 Some(more) => self.births.set(slot, more),
                 None => {
-                    self.lists.rid_all(slot);
+                    rid_all(&mut self.lists, slot);
                     self.births.set(slot, 0);
                 }
             }
-        }
-    }
-
-    /// Takes the entries that no longer count out of the list of a key.
-    fn clean_list(&mut self, key: u32)
-        ensures occurs { (l s : ℕ) → occurs self.new l s ≡ occurs self.old l s }
-        ensures clean { list_at self.new.lists key ≡
-            filter (counts self.old.births) (list_at self.old.lists key) }
-    {
-        if self.lists.has_list(key) {
-            let mut list = self.lists.take_out(key);
-            clean(&mut list, &self.births);
-            self.lists.put_back(key, list);
         }
     }
 
@@ -137,8 +117,15 @@ impl Occurrences {
         ensures slots { OnOk result ((s : ℕ) → has into.new.items s ≡
             (has into.old.items s || occurs self.old l s)) }
     {
-        self.clean_list(key(l));
-        push_slots(self.lists.get(key(l)), into)
+        let key = key(l);
+        if !self.lists.has_list(key) {
+            return Ok(());
+        }
+        let mut list = self.lists.take_out(key);
+        clean(&mut list, &self.births);
+        let pushed = push_slots(list.as_slice(), into);
+        self.lists.put_back(key, list);
+        pushed
     }
 
     /// Gathers the slots that occur with the complement of one of the literals, in ascending order. `into` is emptied first, and keeps its room.

@@ -1,11 +1,13 @@
 //! The entries of the lists.
 
-ghost use Rattle.std.specs.Prelude.{◌≡◌, ℕ, ◌==◌, ◌<◌, filter, not, slice_get, vec_len, vec_capacity};
-ghost use Rattle.occurrences.specs.Entries.{births_of, counts, items_of};
+ghost use Rattle.std.specs.Prelude.{◌≡◌, ℕ, ◌==◌, ◌<◌, ◌≤◌, ◌++◌, ◌∷◌, [], filter, not, OnOk, OnErr};
+ghost use Rattle.std.specs.Prelude.{vec_len, vec_capacity, if◌then◌else◌};
+ghost use Rattle.tables.specs.Lists.{AreApart, list_at};
+ghost use Rattle.occurrences.specs.Entries.{births_of, counts};
 ghost use Rattle.occurrences.specs.Code.Known.{AreAlike};
 
 use cnf_base::OutOfMemory;
-use tables::Table;
+use tables::{Lists, Table};
 
 /// An entry in the list of a literal: a slot whose clause has it, where the slot is still as it was when the entry was made.
 ///
@@ -42,31 +44,74 @@ pub(crate) fn clean(list: &mut Vec<Occurrence>, births: &Table<u32>)
     list.retain(|entry| is_alive(births, entry));
 }
 
-/// Makes room in a full list. It grows only where half of its entries or more still count.
-pub(crate) fn make_room(list: &mut Vec<Occurrence>, births: &Table<u32>) -> Result<(), OutOfMemory>
-    ensures { AreAlike births.now list.old.items list.new.items }
+/// Lengthens a list that is cleaned, where half of its room or more is taken.
+fn grow(list: &mut Vec<Occurrence>) -> Result<(), OutOfMemory>
+    ensures items { list.new.items ≡ list.old.items }
+    ensures room { OnOk result (vec_len list.new < vec_capacity list.new) }
 {
-    clean(list, births);
     if list.len() >= list.capacity() / 2 {
         list.reserve_exact(list.len() / 2 + LEAST)?;
     }
     Ok(())
 }
 
+/// Makes room in a list. A full one is cleaned first, and grows only where half of its entries or more still count.
+fn make_room(list: &mut Vec<Occurrence>, births: &Table<u32>) -> Result<(), OutOfMemory>
+    ensures alike { AreAlike births.now list.old.items list.new.items }
+    ensures room { OnOk result (vec_len list.new < vec_capacity list.new) }
+{
+    if list.len() < list.capacity() {
+        return Ok(());
+    }
+    clean(list, births);
+    grow(list)
+}
+
+/// Puts an entry at the end of a list.
+pub(crate) fn add(
+    list: &mut Vec<Occurrence>,
+    births: &Table<u32>,
+    entry: Occurrence,
+) -> Result<(), OutOfMemory>
+    ensures ok { OnOk result (AreAlike births.now (list.old.items ++ entry ∷ []) list.new.items) }
+    ensures err { OnErr result (AreAlike births.now list.old.items list.new.items) }
+{
+    make_room(list, births)?;
+    list.push_reserved(entry);
+    Ok(())
+}
+
 /// Takes out the entries of a slot.
-pub(crate) fn rid(list: &mut Vec<Occurrence>, slot: u32)
+fn rid(list: &mut Vec<Occurrence>, slot: u32)
     ensures { list.new.items ≡ filter (λ e. not (e.slot == slot)) list.old.items }
 {
     list.retain(|entry| entry.slot != slot);
 }
 
-/// Takes the entries of a slot out of each list.
-pub(crate) fn rid_each(lists: &mut Vec<Vec<Occurrence>>, slot: u32)
-    ensures len { vec_len lists.new ≡ vec_len lists.old }
-    ensures lists { (n : ℕ) → items_of (slice_get lists.new.items n) ≡
-        filter (λ e. not (e.slot == slot)) (items_of (slice_get lists.old.items n)) }
+/// Takes the entries of a slot out of the list of a key.
+fn rid_at(lists: &mut Lists<Occurrence>, key: u32, slot: u32)
+    requires { AreApart lists.old }
+    ensures lists { (k : ℕ) → list_at lists.new k ≡
+        (if k == key then filter (λ e. not (e.slot == slot)) (list_at lists.old k)
+        else list_at lists.old k) }
+    ensures apart { AreApart lists.new }
 {
-    for number in 0..lists.len() {
-        rid(&mut lists[number], slot);
+    if lists.has_list(key) {
+        let mut list = lists.take_out(key);
+        rid(&mut list, slot);
+        lists.put_back(key, list);
+    }
+}
+
+/// Takes the entries of a slot out of all lists.
+pub(crate) fn rid_all(lists: &mut Lists<Occurrence>, slot: u32)
+    requires { AreApart lists.old }
+    ensures lists { (k : ℕ) → k < 4294967296 → list_at lists.new k ≡
+        filter (λ e. not (e.slot == slot)) (list_at lists.old k) }
+    ensures beyond { (k : ℕ) → 4294967296 ≤ k → list_at lists.new k ≡ list_at lists.old k }
+    ensures apart { AreApart lists.new }
+{
+    for key in 0..4294967296u64 {
+        rid_at(lists, key as u32, slot);
     }
 }

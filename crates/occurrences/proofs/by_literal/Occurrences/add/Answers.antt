@@ -1,6 +1,6 @@
 use Rattle.std.proofs.Common.{◌&&◌, not, eq-eqb, ne_eqb, sym, ap, ◌∙◌, inl, inr}
 use Rattle.std.proofs.lemmas.Bool.{cases_eq}
-use Rattle.occurrences.specs.Entries.{list_at}
+use Rattle.tables.specs.Lists.{list_at}
 use Rattle.occurrences.specs.Code.Known.{is_known}
 use Rattle.occurrences.specs.Occurrences.{occurs}
 use Rattle.occurrences.proofs.TestLemmas.{and_true, and_false, all_weaker}
@@ -11,7 +11,7 @@ pub invariant_of-self : goal.invariant_of-self
 invariant_of-self c =
     let old = c.args.self.now in
     let same = reserved old.births c.reserve.new.self c.args.slot c.reserve.result c.reserve.ensures.ok c.reserve.ensures.err in
-    record { known = λ l. all_weaker (is_known old.births) (is_known c.reserve.new.self) (reserved_known old.births c.reserve.new.self same) (list_at old.lists l) (old.known l) }
+    record { apart = old.apart; low = old.low; known = λ l. all_weaker (is_known old.births) (is_known c.reserve.new.self) (reserved_known old.births c.reserve.new.self same) (list_at old.lists l) (old.known l) }
 
 pub returns-in-Err-clause-err : goal.returns-in-Err-clause-err
 unfolding occurs

@@ -1,17 +1,20 @@
 use Rattle.std.proofs.Common.{◌≡◌, true, refl, sym, ap, ◌∙◌, subst}
 use Rattle.std.specs.List.{list_any, list_all}
-use Rattle.occurrences.specs.Entries.{is_of, list_at}
+use Rattle.tables.specs.Lists.{list_at}
+use Rattle.occurrences.specs.Entries.{is_of}
 use Rattle.occurrences.specs.Code.Known.{is_known}
 use Rattle.occurrences.specs.Occurrences.{occurs}
 use Rattle.occurrences.proofs.TestLemmas.{all_weaker}
 use Rattle.occurrences.proofs.EntryLemmas.{forgotten, rid_of, rid_known, noted_others, noted_known}
-use Rattle.occurrences.proofs.EntryLemmas.{noted_never, none_never, written_others}
+use Rattle.occurrences.proofs.EntryLemmas.{noted_never, none_never, rid_lists, written_others}
 use Rattle.occurrences.proofs.by_literal.Occurrences.forget.Goals as goal
 
 pub invariant_of-self : goal.invariant_of-self
 invariant_of-self c =
     let old = c.args.self.now in
     record {
+      apart = old.apart;
+      low = old.low;
       known = λ l. all_weaker (is_known old.births) (is_known c.set.new.self)
           (noted_known old.births c.set.new.self c.args.slot c.in-Some.births c.in-Some-checked_add.more (sym c.get.ensures ∙ c.in-Some.is) c.in-Some-checked_add.ensures.1 c.set.ensures)
           (list_at old.lists l) (old.known l);
@@ -20,8 +23,11 @@ invariant_of-self c =
 pub invariant_of-self-in-None : goal.invariant_of-self-in-None
 invariant_of-self-in-None c =
     let old = c.args.self.now in
+    let left = rid_lists (list_at old.lists) (list_at c.rid_all.new.lists) c.args.slot 4294967296 c.rid_all.ensures.lists c.rid_all.ensures.beyond old.low in
     record {
-      known = λ l. subst (λ xs. list_all (is_known c.set-in-None.new.self) xs ≡ true) (sym (c.rid_all.ensures l))
+      apart = c.rid_all.ensures.apart;
+      low = λ l past. c.rid_all.ensures.beyond l past ∙ old.low l past;
+      known = λ l. subst (λ xs. list_all (is_known c.set-in-None.new.self) xs ≡ true) (sym (left l))
           (rid_known old.births c.set-in-None.new.self c.args.slot (written_others old.births c.set-in-None.new.self c.args.slot 0 c.set-in-None.ensures) (list_at old.lists l) (old.known l));
     }
 
@@ -40,7 +46,8 @@ pub returns-in-None : goal.returns-in-None
 unfolding occurs
 returns-in-None c l s =
     let old = c.args.self.now in
-    ap (list_any (is_of c.set-in-None.new.self s)) (c.rid_all.ensures l)
+    let left = rid_lists (list_at old.lists) (list_at c.rid_all.new.lists) c.args.slot 4294967296 c.rid_all.ensures.lists c.rid_all.ensures.beyond old.low in
+    ap (list_any (is_of c.set-in-None.new.self s)) (left l)
     ∙ rid_of old.births c.set-in-None.new.self c.args.slot (written_others old.births c.set-in-None.new.self c.args.slot 0 c.set-in-None.ensures) (list_at old.lists l) s
 
 pub returns-in_default : goal.returns-in_default

@@ -1,14 +1,38 @@
-use Rattle.std.proofs.Common.{sym, ap, ◌∙◌, filter}
+use Rattle.std.proofs.Common.{◌<◌, arith, filter, sym, ap, ◌∙◌, subst}
 use Rattle.std.proofs.lemmas.Result.{on_ok_weaker}
-use Rattle.occurrences.specs.Entries.{counts, list_at}
+use Rattle.tables.specs.Lists.{list_at}
+use Rattle.occurrences.specs.Entries.{counts}
+use Rattle.occurrences.specs.Code.Known.{AreAlike}
 use Rattle.occurrences.specs.Occurrences.{occurs}
-use Rattle.occurrences.proofs.EntryLemmas.{gathered}
+use Rattle.occurrences.proofs.EntryLemmas.{alike_cleaned, gathered, put_alike, put_beyond, put_over}
 use Rattle.occurrences.proofs.by_literal.Occurrences.gather.Goals as goal
+
+pub invariant_of-self : goal.invariant_of-self
+invariant_of-self c =
+    let old = c.args.self.now in
+    let key = c.key-key.result in
+    let list = c.clean.new.list.items in
+    let took = c.take_out-list.ensures.others in
+    let put = c.put_back.ensures.lists in
+    let low : key < 4294967296 = omega arith in
+    let cleaned = subst (AreAlike old.births (list_at old.lists key)) (sym (c.clean.ensures.items ∙ ap (λ xs. filter (counts old.births) xs) c.take_out-list.ensures.list)) (alike_cleaned old.births (list_at old.lists key)) in
+    record {
+      apart = c.put_back.ensures.apart;
+      low = put_beyond (list_at old.lists) (list_at c.put_back.new.self) key 4294967296 list low (put_over (list_at old.lists) (list_at c.take_out-list.new.self) (list_at c.put_back.new.self) key list took put) old.low;
+      known = λ l. (put_alike old.births (list_at old.lists) (list_at c.take_out-list.new.self) (list_at c.put_back.new.self) key list took put cleaned l).known (old.known l);
+    }
+
+pub returns-clause-occurs : goal.returns-clause-occurs
+unfolding occurs
+returns-clause-occurs c l s =
+    let old = c.args.self.now in
+    let key = c.key-key.result in
+    let cleaned = subst (AreAlike old.births (list_at old.lists key)) (sym (c.clean.ensures.items ∙ ap (λ xs. filter (counts old.births) xs) c.take_out-list.ensures.list)) (alike_cleaned old.births (list_at old.lists key)) in
+    (put_alike old.births (list_at old.lists) (list_at c.take_out-list.new.self) (list_at c.put_back.new.self) key c.clean.new.list.items c.take_out-list.ensures.others c.put_back.ensures.lists cleaned l).occurs s
 
 pub returns-clause-slots : goal.returns-clause-slots
 unfolding occurs
-returns-clause-slots c = on_ok_weaker c.push_slots.result (λ pushed s.
+returns-clause-slots c = on_ok_weaker c.push_slots-pushed.result (λ pushed s.
     let old = c.args.self.now in
-    let keys = c.key-2.ensures ∙ sym c.key.ensures in
-    let cleaned = c.get.ensures ∙ ap (list_at c.clean_list.new.self.lists) keys ∙ c.clean_list.ensures.clean ∙ ap (λ k. filter (counts old.births) (list_at old.lists k)) c.key.ensures in
-    gathered old.births (list_at old.lists c.args.l) c.get.result.now cleaned c.args.into.now.items c.push_slots.new.into.items pushed s) c.push_slots.ensures
+    let read = c.as_slice.ensures.value ∙ c.clean.ensures.items ∙ ap (λ xs. filter (counts old.births) xs) (c.take_out-list.ensures.list ∙ ap (list_at old.lists) c.key-key.ensures) in
+    gathered old.births (list_at old.lists c.args.l) c.as_slice.result.now read c.args.into.now.items c.push_slots-pushed.new.into.items pushed s) c.push_slots-pushed.ensures
