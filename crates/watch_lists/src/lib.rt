@@ -1,12 +1,10 @@
 //! Watch lists: by literal the entries of the clauses that watch it.
 #![tactic(auto)]
 
-mod far_lists;
 mod lists;
 mod slot_list;
 mod watcher;
 
-pub use far_lists::FarLists;
 pub use lists::WatchLists;
 pub use slot_list::SlotList;
 pub use watcher::Watcher;

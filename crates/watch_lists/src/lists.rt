@@ -6,37 +6,22 @@ ghost use Rattle.cnf_base.specs.Literals.{Literal, Clause, has};
 ghost use Rattle.watch_lists.specs.Lists.{AreApart, entries_in, entries_of, foreign_blockers};
 ghost use Rattle.watch_lists.specs.Lists.{has_list_at, list_at};
 
-use crate::far_lists::FarLists;
-use crate::watcher::{Watcher, add, take_off};
+use crate::watcher::{Watcher, take_off};
 use cnf_base::{Lit, OutOfMemory};
 use std::alloc::Global;
-use std::mem;
-use tables::key;
+use tables::{Lists, key};
 
 /// By literal a list of entries.
-///
-/// The literals whose keys are below `near.len()` have their lists in `near`, all others in `far`: an entry comes to a list
-/// among dense literals by one look-up.
 #[derive(Drop)]
 pub struct WatchLists {
-    alloc: Global,
-    near: Vec<Vec<Watcher>>,
-    far: FarLists,
-    /// How often room was made for a literal that had no list.
-    count: usize,
+    lists: Lists<Watcher>,
     /// Where in its list the entry stood that was taken out last, by the last bits of the literal's key. Clauses that are deleted
     /// one after the other often stand side by side.
     places: [usize; PLACES],
 }
 
-/// The length from which `near` grows.
-const LEAST: usize = 1024;
-
 /// How many places are noted.
 const PLACES: usize = 64;
-
-/// The key past the greatest one.
-const MOST: usize = 536870912;
 
 impl WatchLists {
     /// No lists.
@@ -46,10 +31,7 @@ impl WatchLists {
         ensures apart { AreApart result }
     {
         WatchLists {
-            alloc,
-            near: Vec::new(alloc),
-            far: FarLists::new(alloc),
-            count: 0,
+            lists: Lists::new(alloc),
             places: [0; PLACES],
         }
     }
@@ -58,72 +40,7 @@ impl WatchLists {
     pub fn entries(&self) -> u64
         ensures { result ≡ min (entries_in self.now) 18446744073709551615 }
     {
-        let mut entries: u64 = 0;
-        for key in 0..self.near.len() {
-            entries = entries.saturating_add(self.near[key].len() as u64);
-        }
-        entries.saturating_add(self.far.entries())
-    }
-
-    /// Lengthens `near`, with the lists that `far` has there.
-    fn widen(&mut self, len: usize) -> Result<(), OutOfMemory>
-        requires len { len ≤ 536870912 }
-        requires apart { AreApart self.old }
-        ensures lists { (k : Literal) → list_at self.new k ≡ list_at self.old k }
-        ensures entries { entries_in self.new ≡ entries_in self.old }
-        ensures known { (k : Literal) → IsTrue (has_list_at self.old k) →
-            IsTrue (has_list_at self.new k) }
-        ensures apart { AreApart self.new }
-    {
-        for key in self.near.len()..len {
-            self.near.reserve(1)?;
-            let list = self.far.take_out(key as u32);
-            self.near.push_reserved(list);
-        }
-        Ok(())
-    }
-
-    /// Makes room in `near` for a literal that has no list, unless it is far from those that have one.
-    fn make_room(&mut self, l: Lit) -> Result<(), OutOfMemory>
-        requires { AreApart self.old }
-        ensures lists { (k : Literal) → list_at self.new k ≡ list_at self.old k }
-        ensures entries { entries_in self.new ≡ entries_in self.old }
-        ensures known { (k : Literal) → IsTrue (has_list_at self.old k) →
-            IsTrue (has_list_at self.new k) }
-        ensures apart { AreApart self.new }
-    {
-        if self.has_list(l) {
-            return Ok(());
-        }
-        self.count = self.count.saturating_add(1);
-        let limit = self.count.saturating_mul(4).saturating_add(LEAST);
-        if l.index() < limit {
-            self.widen(limit.min(MOST))?;
-        }
-        Ok(())
-    }
-
-    /// The same as `push`, where the literal has no list yet, or a full one.
-    #[cold]
-    #[inline(never)]
-    fn push_anew(&mut self, l: Lit, watcher: Watcher) -> Result<(), OutOfMemory>
-        requires { AreApart self.old }
-        ensures ok { OnOk result ((k : Literal) → list_at self.new k ≡
-            (if k == l then list_at self.old k ++ watcher ∷ [] else list_at self.old k)) }
-        ensures more { OnOk result (entries_in self.new ≡ entries_in self.old + 1) }
-        ensures err { OnErr result ((k : Literal) → list_at self.new k ≡ list_at self.old k) }
-        ensures as_many { OnErr result (entries_in self.new ≡ entries_in self.old) }
-        ensures known { (k : Literal) → IsTrue (has_list_at self.old k) →
-            IsTrue (has_list_at self.new k) }
-        ensures apart { AreApart self.new }
-    {
-        self.make_room(l)?;
-        if l.index() < self.near.len() {
-            add(&mut self.near[l.index()], watcher)?;
-            Ok(())
-        } else {
-            self.far.push(key(l), watcher)
-        }
+        self.lists.entries()
     }
 
     /// Puts an entry at the end of the list of a literal.
@@ -139,14 +56,7 @@ impl WatchLists {
             IsTrue (has_list_at self.new k) }
         ensures apart { AreApart self.new }
     {
-        if l.index() < self.near.len() {
-            let list = &mut self.near[l.index()];
-            if list.len() < list.capacity() {
-                list.push_reserved(watcher);
-                return Ok(());
-            }
-        }
-        self.push_anew(l, watcher)
+        self.lists.push(key(l), watcher)
     }
 
     /// Whether the literal has a list.
@@ -155,7 +65,7 @@ impl WatchLists {
         ensures yes { result ≡ true → IsTrue (has_list_at self.now l) }
         ensures no { result ≡ false → list_at self.now l ≡ [] }
     {
-        l.index() < self.near.len() || self.far.has_list(key(l))
+        self.lists.has_list(key(l))
     }
 
     /// Takes the list of a literal out, and leaves an empty one in its place.
@@ -170,11 +80,7 @@ impl WatchLists {
         ensures known { (k : Literal) → has_list_at self.new k ≡ has_list_at self.old k }
         ensures apart { AreApart self.new }
     {
-        if l.index() < self.near.len() {
-            mem::replace(&mut self.near[l.index()], Vec::new(self.alloc))
-        } else {
-            self.far.take_out(key(l))
-        }
+        self.lists.take_out(key(l))
     }
 
     /// Puts a list in the place of the empty one of a literal.
@@ -189,11 +95,7 @@ impl WatchLists {
         ensures known { (k : Literal) → has_list_at self.new k ≡ has_list_at self.old k }
         ensures apart { AreApart self.new }
     {
-        if l.index() < self.near.len() {
-            self.near[l.index()] = list;
-        } else {
-            self.far.put_back(key(l), list);
-        }
+        self.lists.put_back(key(l), list);
     }
 
     /// Takes the entry of a slot out of the list of a literal, which has one. It takes no memory.
@@ -208,12 +110,10 @@ impl WatchLists {
         ensures entries { entries_in self.new + 1 ≡ entries_in self.old }
         ensures apart { AreApart self.new }
     {
-        if l.index() < self.near.len() {
-            let middle = self.places[l.index() % PLACES];
-            self.places[l.index() % PLACES] = take_off(&mut self.near[l.index()], slot, middle);
-        } else {
-            self.far.take_off(key(l), slot);
-        }
+        let noted = l.index() % PLACES;
+        let mut watchers = self.lists.take_out(key(l));
+        self.places[noted] = take_off(&mut watchers, slot, self.places[noted]);
+        self.lists.put_back(key(l), watchers);
     }
 
     /// Puts the slot of a clause into the lists of two literals of it, or into none where memory is refused.

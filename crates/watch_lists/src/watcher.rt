@@ -1,11 +1,11 @@
 //! The entries of watch lists.
 
-ghost use Rattle.std.specs.Prelude.{◌≡◌, ℕ, ◌+◌, ◌==◌, ◌++◌, ◌∷◌, [], length, if◌then◌else◌};
-ghost use Rattle.std.specs.Prelude.{IsTrue, IfSome, OnOk, OnErr, take, ◌<◌, ◌≤◌};
+ghost use Rattle.std.specs.Prelude.{◌≡◌, ℕ, ◌+◌, ◌==◌, length, if◌then◌else◌, IsTrue, IfSome, take};
+ghost use Rattle.std.specs.Prelude.{◌<◌, ◌≤◌};
 ghost use Rattle.cnf_base.specs.Literals.{Clause};
 ghost use Rattle.watch_lists.specs.Lists.{entries_of, foreign_blockers, slot_at};
 
-use cnf_base::{Lit, OutOfMemory};
+use cnf_base::Lit;
 
 /// An entry of a watch list: the slot of a clause, and a literal of it. Where that is true, the clause need not be looked at.
 ///
@@ -22,24 +22,8 @@ const MANY_AT_ONCE: usize = 64;
 /// How many are, where fewer are left.
 const FEW_AT_ONCE: usize = 16;
 
-/// By how many entries a list grows at least.
-const LEAST: usize = 2;
-
 /// How far around a place an entry is looked for.
 const AROUND: usize = 8;
-
-/// Puts an entry at the end of a list. A full one grows by half and not to twice its length, since the lists are much of what
-/// a propagation keeps.
-pub(crate) fn add(list: &mut Vec<Watcher>, watcher: Watcher) -> Result<(), OutOfMemory>
-    ensures ok { OnOk result (list.new.items ≡ list.old.items ++ watcher ∷ []) }
-    ensures err { OnErr result (list.new.items ≡ list.old.items) }
-{
-    if list.len() == list.capacity() {
-        list.reserve_exact(list.len() / 2 + LEAST)?;
-    }
-    list.push_reserved(watcher);
-    Ok(())
-}
 
 /// Whether none of these entries is of the slot.
 fn lacks(list: &[Watcher], slot: u32) -> bool

@@ -1,18 +1,17 @@
 -- Entries in lists.
 use Rattle.std.proofs.Common.{◌≡◌, ℕ, ◌+◌, ◌-◌, ◌<◌, ◌≤◌, ◌&&◌, not, true, false, Bool, cond, eqb}
-use Rattle.std.proofs.Common.{eq-eqb, ne_eqb, List, length, get_or, drop, take, set, slice_get}
-use Rattle.std.proofs.Common.{swap_remove, Vec, sum_by, min, [], ◌∷◌, ◌++◌, refl, sym, ap, ◌∙◌}
+use Rattle.std.proofs.Common.{eq-eqb, ne_eqb, List, length, get_or, drop, take}
+use Rattle.std.proofs.Common.{swap_remove, sum_by, [], ◌∷◌, ◌++◌, refl, sym, ap, ◌∙◌}
 use Rattle.std.proofs.Common.{arith, inl, inr}
-use Rattle.std.specs.Global.{Global}
 use Rattle.std.proofs.lemmas.Bool.{cases_eq}
 use Rattle.std.proofs.lemmas.Bool.Decides.{nat_tests}
 use Rattle.std.proofs.lemmas.Grind.{get_or_default_zero}
 use Rattle.std.proofs.lemmas.List.{drop-take, take-append-drop, take-take, take_all}
 use Rattle.std.proofs.lemmas.Option.{slice_get-get_or}
 use Rattle.std.proofs.lemmas.List.Sums.{get_or-le-sum_by, sum_by-append, sum_by-le-sum_by}
-use Rattle.std.proofs.lemmas.List.Sums.{sum_by-set, sum_by-swap_remove, sum_by_more, sum_by_push}
+use Rattle.std.proofs.lemmas.List.Sums.{sum_by-swap_remove, sum_by_more, sum_by_push}
 use Rattle.cnf_base.specs.Literals.{Clause, has}
-use Rattle.watch_lists.specs.Lists.{entries_of, foreign_blockers, items_of, slot_at, slot_of}
+use Rattle.watch_lists.specs.Lists.{entries_of, foreign_blockers, slot_at, slot_of}
 use Rattle.watch_lists.specs.Lists.{times_in}
 use Rattle.watch_lists.specs.declared.watcher.Watcher.{Watcher}
 
@@ -100,21 +99,3 @@ blocking_own xs i w c inside is none =
     by_test : (b : Bool) → cond {A = ℕ} (not b) 1 0 ≡ 0 → b ≡ true
     by_test true e = refl
     by_test false e = absurd (let wrong : ⊥ = omega (arith, e) in wrong)
-
--- a list in the place of an empty one
-pub entries_put : (lists : List (Vec Watcher Global)) (n : ℕ) (list : Vec Watcher Global) → n < length lists → items_of (slice_get lists n) ≡ [] → sum_by (λ v. length v.items) (set lists n list) ≡ sum_by (λ v. length v.items) lists + length list.items
-entries_put lists n list inside empty =
-    let put = sum_by-set (λ v. length v.items) lists n list list inside in
-    let was : length (get_or lists n list).items ≡ 0 = ap length (sym (ap items_of (slice_get-get_or lists n list inside)) ∙ empty) in
-    omega arith
-
--- one more list is counted
-pub counted_more : (lists : List (Vec Watcher Global)) (n so_far len sum : ℕ) (list : Vec Watcher Global) → n < length lists → list ≡ get_or lists n list → so_far ≡ min (sum_by (λ v. length v.items) (take n lists)) 18446744073709551615 →
-    len ≡ length list.items → sum ≡ min (so_far + len) 18446744073709551615 → sum ≡ min (sum_by (λ v. length v.items) (take (n + 1) lists)) 18446744073709551615
-counted_more lists n so_far len sum list inside is was len_is sum_is =
-    let more = sum_by_more (λ v. length v.items) lists n list inside in
-    let here = ap (λ v. length v.items) is in
-    omega (arith, more, here, was, len_is, sum_is)
-
-pub counted_all : (lists : List (Vec Watcher Global)) (n so_far : ℕ) → length lists ≤ n → so_far ≡ min (sum_by (λ v. length v.items) (take n lists)) 18446744073709551615 → so_far ≡ min (sum_by (λ v. length v.items) lists) 18446744073709551615
-counted_all lists n so_far past is = is ∙ ap (λ xs. min (sum_by (λ v. length v.items) xs) 18446744073709551615) (take_all n lists past)
