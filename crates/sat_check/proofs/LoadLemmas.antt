@@ -1,11 +1,11 @@
 -- Clauses go into a session one by one.
-use Rattle.std.proofs.Common.{◌≡◌, ℕ, ◌+◌, ◌≤◌, max, ◌-◌, Bool, true, false, ◌||◌, List, [], ◌∷◌}
-use Rattle.std.proofs.Common.{◌++◌, length, Some, refl, sym, ap, ◌∙◌, subst, arith, cond}
+use Rattle.std.proofs.Common.{◌≡◌, ℕ, zero, suc, ◌+◌, ◌≤◌, max, Bool, true, false, ◌||◌, List, []}
+use Rattle.std.proofs.Common.{◌∷◌, ◌++◌, length, Some, refl, sym, ap, ◌∙◌, subst, arith, cond}
 use Rattle.std.specs.Prelude.{Result, Ok, Err}
 use Rattle.std.specs.List.{list_any}
 use Rattle.std.specs.Ordering.{nat_cmp}
 use Rattle.std.specs.FinMap as maps
-use Rattle.std.specs.FinMap.{FinMap, get-empty}
+use Rattle.std.specs.FinMap.{get-empty}
 use Rattle.std.proofs.lemmas.Option.{none-some}
 use Rattle.std.proofs.lemmas.List.Folds.{list_any-append}
 use Rattle.std.proofs.lemmas.List.Sums.{sum_by-append}
@@ -18,12 +18,9 @@ use Rattle.cnf_base.proofs.StreamLemmas.{Along-then, Along-map}
 use Rattle.dimacs.specs.Formula.{Body, Formula, formula_at, formula_of, clause_offsets_at}
 use Rattle.dimacs.specs.declared.header.Header.{Header}
 use Rattle.dimacs.specs.Reading.{FormulaReading, clauses_to_come, offsets_to_come, opened, unopened}
-use Rattle.steps.specs.DratSession.{DratState, fresh_drat}
-use Rattle.steps.specs.Code.DratSession.{clauses_of}
-use Rattle.steps.specs.LratSession.{Session, fresh_lrat}
-use Rattle.steps.specs.Code.LratSession.{state_of}
+use Rattle.steps.specs.Session.{SessionState, fresh, view_of}
 use Rattle.theory.specs.Rules.{Rule, lrat, drat, State, by_ids, by_copies, start, with_input}
-use Rattle.theory.specs.Rules.{sum_of, Same}
+use Rattle.theory.specs.Rules.{sum_of, Same, rule_of}
 use Rattle.theory.specs.Lrat.{with_clause, numbered, lrat_start}
 use Rattle.theory.proofs.LawLemmas.Existence.{numbered_above}
 use Rattle.theory.specs.Sizes.{total, size_at, sum_to}
@@ -36,13 +33,11 @@ use Rattle.theory.proofs.LratLemmas.LiveSets.{SameClauses-trans, SameClauses-eq}
 use Rattle.theory.proofs.LawLemmas.Rules.{same_trans, sum_same}
 use Rattle.theory.proofs.LratLemmas.SameSets.{with_same}
 use Rattle.theory.proofs.LratLemmas.States.{numbered_push}
-use Rattle.steps.proofs.LratLemmas.Sessions.{fresh_is_numbered}
 use Rattle.theory.proofs.LratLemmas.Sums.{sum_with}
 use Rattle.sat_check.specs.Code.Checking.{IsLoaded, LoadsBody, Loads}
 use Rattle.sat_check.proofs.ReadLemmas.{length_push, seen_nothing, seen_run, Reads, Gave}
 use Rattle.sat_check.proofs.ReadLemmas.{FaultAfter, Reads-start, Reads-clause, Reads-done}
 use Rattle.sat_check.proofs.ReadLemmas.{Reads-fault}
-use Rattle.theory.specs.declared.drat_rules.DratRules.{DratRules}
 
 -- no clause has a number past the last
 -- one clause more, and its size more
@@ -109,32 +104,33 @@ loaded_more rule old new cs c l state verified peak unstepped sound room = recor
         (same_trans _ (with_input (start rule cs) c) _ (input_same old.state (start rule cs) c l.state) (start_push rule cs c))
 
 -- a session that is new
-pub lrat_unused : (s : Session) → s ≡ fresh_lrat → IsLoaded lrat (record { state = by_ids (state_of s); has_stepped = s.has_stepped; is_verified = s.is_verified; is_ended = s.is_ended; peak = s.peak; stored = s.stored; room = 4294967295 - s.top }) []
-lrat_unused s is =
-    let P : Session → Type 0 = λ s. IsLoaded lrat (record { state = by_ids (state_of s); has_stepped = s.has_stepped; is_verified = s.is_verified; is_ended = s.is_ended; peak = s.peak; stored = s.stored; room = 4294967295 - s.top }) [] in
-    subst P (sym is) (record {
-      state = (SameClauses-eq (state_of fresh_lrat).live (numbered []) fresh_is_numbered, refl);
+pub unused : (rule : Rule) (s : SessionState) → s ≡ fresh rule → IsLoaded (rule_of (view_of s).state) (view_of s) []
+unused rule s is = let P : SessionState → Type 0 = λ s. IsLoaded (rule_of (view_of s).state) (view_of s) [] in subst P (sym is) (by rule)
+  where
+    none_numbered : (k : ℕ) → maps.get (fresh lrat).held.live k ≡ numbered [] k
+    none_numbered zero = get-empty nat_cmp zero
+    none_numbered (suc k) = get-empty nat_cmp (suc k)
+
+    none_there : (e : Clause) (k : ℕ) (c : Clause) → maps.get (fresh lrat).held.live k ≡ Some c → same_clause c e ≡ true → ⊥
+    none_there e k c at same = absurd (none-some c (sym (get-empty nat_cmp k) ∙ at))
+
+    by : (rule : Rule) → IsLoaded (rule_of (view_of (fresh rule)).state) (view_of (fresh rule)) []
+    by lrat = record {
+      state = (SameClauses-eq (maps.get (fresh lrat).held.live) (numbered []) none_numbered, refl);
       verified = refl;
       sound = refl;
       unstepped = refl;
       peak = refl;
       room = omega arith;
-    })
-
-none_there : (live : FinMap nat_cmp Clause) → live ≡ maps.empty → (e : Clause) (k : ℕ) (c : Clause) → maps.get live k ≡ Some c → same_clause c e ≡ true → ⊥
-none_there live is e k c at same = absurd (none-some c (sym (ap (λ m. maps.get m k) is ∙ get-empty nat_cmp k) ∙ at))
-
-pub drat_unused : (rules : DratRules) (s : DratState) → s ≡ fresh_drat rules → IsLoaded (drat s.rules) (record { state = by_copies s.rules (clauses_of s); has_stepped = s.has_stepped; is_verified = s.is_verified; is_ended = s.is_ended; peak = s.peak; stored = s.stored; room = 4294967295 }) []
-drat_unused rules s is =
-    let P : DratState → Type 0 = λ s. IsLoaded (drat s.rules) (record { state = by_copies s.rules (clauses_of s); has_stepped = s.has_stepped; is_verified = s.is_verified; is_ended = s.is_ended; peak = s.peak; stored = s.stored; room = 4294967295 }) [] in
-    subst P (sym is) (record {
-      state = (refl, record { copies = λ e. none_alive e (clauses_of (fresh_drat rules)) (none_listed (fresh_drat rules).live e (none_there (fresh_drat rules).live refl e)) });
+    }
+    by (drat rules) = record {
+      state = (refl, record { copies = λ e. none_alive e (maps.values (fresh lrat).held.live) (none_listed (fresh lrat).held.live e (none_there e)) });
       verified = refl;
       sound = refl;
       unstepped = refl;
       peak = refl;
       room = omega arith;
-    })
+    }
 
 -- ---- A formula's clauses
 

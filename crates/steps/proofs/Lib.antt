@@ -1,2 +1,3 @@
 pub mod DratLemmas
 pub mod LratLemmas
+pub mod SessionLemmas

@@ -5,6 +5,5 @@ pub mod Groups
 pub mod Hints
 pub mod Remaining
 pub mod Rooms
-pub mod Sessions
 pub mod Starts
 pub mod Walks

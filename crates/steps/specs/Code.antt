@@ -1,6 +1,6 @@
 -- How the parts of the code fit together. No public contract speaks of it.
 pub mod Candidates
-pub mod DratSession
 pub mod Groups
-pub mod LratSession
+pub mod Ready
+pub mod Session
 pub mod Walk

@@ -1,4 +1,3 @@
 pub mod ProofSession
-pub mod DratSession
-pub mod LratSession
+pub mod Session
 pub mod Code

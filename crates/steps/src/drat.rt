@@ -6,133 +6,76 @@ mod step;
 
 ghost use Rattle.std.specs.Prelude.{◌≡◌, [], false};
 ghost use Rattle.std.specs.FinMap as maps;
-ghost use Rattle.steps.specs.DratSession.{fresh_drat};
-ghost use Rattle.steps.specs.Code.DratSession.{clauses_of};
+ghost use Rattle.theory.specs.Rules.{drat};
+ghost use Rattle.steps.specs.Session.{fresh};
 
 use crate::drat::candidates::SearchRoom;
-use crate::drat::step::{add_copy, apply_step};
-use crate::proof_session::ProofSession;
-use crate::proof_session::progress::Progress;
-use cnf_base::Lit;
-use proofs::StepBuf;
+use crate::drat::step::{add, add_copy, delete, parts_of};
+use crate::judge::Judge;
+use crate::session::Session;
+use cnf_base::{Lit, OutOfMemory};
+use proofs::{StepBuf, StepKind};
 use propagation::Propagate;
-use std::marker::Model;
 use theory::{Accepted, DratRules, Refusal};
-use trail::LiteralSet;
 
-/// A check of a DRAT proof: the clauses of the formula are input first, and then the steps are taken in order.
+/// A check of a DRAT proof over any clauses that propagate.
+pub type DratSession<P> = Session<DratJudge<P>>;
+
+/// The live clauses of a DRAT proof, and its rules.
 #[derive(Drop)]
-pub struct DratSession<P: Propagate> {
+pub struct DratJudge<P: Propagate> {
     clauses: P,
     rules: DratRules,
-    progress: Progress,
     room: SearchRoom,
 }
 
-impl<P: Propagate> Model for DratSession<P> {
-    ghost use Rattle.std.specs.Prelude.{◌≡◌, [], false};
-    ghost use Rattle.propagation.specs.Assumptions.{HoldsLiveAlone};
-    ghost use Rattle.steps.specs.DratSession.{DratState};
-    ghost use Rattle.steps.specs.Code.DratSession.{drat_code};
-
-    ghost Value = { DratState };
-
-    ghost coded = { drat_code };
-
-    // Each field has to be named here. Of them the clauses alone have lists of literals.
-    ghost view = { λ record {
-      clauses = clauses;
-      rules = rules;
-      progress = progress;
-      room = _;
-    }. record {
-      live = (P.state clauses).live;
-      rules = rules;
-      has_stepped = progress.has_stepped;
-      is_verified = progress.is_verified;
-      is_ended = progress.is_ended;
-      peak = progress.peak;
-      stored = (P.state clauses).stored;
-    } };
-
-    ghost invariant = { λ s. HoldsLiveAlone (P.state s.clauses)
-        × (s.progress.is_ended ≡ false → (P.state s.clauses).assumptions ≡ []) };
-}
-
-impl<P: Propagate> DratSession<P> {
+impl<P: Propagate> Session<DratJudge<P>> {
     /// A session without clauses, under these rules.
     pub fn new(clauses: P, rules: DratRules) -> Self
         requires empty { (P.state clauses).live ≡ maps.empty }
         requires nothing_assumed { (P.state clauses).assumptions ≡ [] }
         requires none_refused { (P.state clauses).has_refused ≡ false }
-        ensures { result ≡ fresh_drat rules }
+        ensures { result ≡ fresh (drat rules) }
     {
-        let alloc = clauses.alloc();
-        let progress = Progress::new(clauses.literals());
-        DratSession {
+        // so it is known that no literals are kept
+        let _ = clauses.literals();
+        let room = SearchRoom::new(clauses.alloc());
+        Session::over(DratJudge {
             clauses,
             rules,
-            progress,
-            room: SearchRoom {
-                slots: Vec::new(alloc),
-                witness: LiteralSet::new(alloc),
-            },
-        }
+            room,
+        })
     }
 }
 
-impl<P: Propagate> ProofSession for DratSession<P> {
-    ghost use Rattle.theory.specs.Rules.{by_copies};
+impl<P: Propagate> Judge for DratJudge<P> {
+    ghost use Rattle.theory.specs.Rules.{drat};
+    ghost use Rattle.steps.specs.Code.Ready.{IsIdle};
 
-    ghost shown = { λ s. record {
-      state = by_copies s.rules (clauses_of s);
-      has_stepped = s.has_stepped;
-      is_verified = s.is_verified;
-      is_ended = s.is_ended;
-      peak = s.peak;
-      stored = s.stored;
-      room = 4294967295;
+    ghost held = { λ s. record {
+      rule = drat s.rules;
+      live = (P.state s.clauses).live;
+      top = 0;
+      stored = (P.state s.clauses).stored;
     } };
 
-    fn input(&mut self, lits: &[Lit]) -> Result<(), Refusal> {
-        if self.progress.is_ended {
-            return Err(Refusal::Ended);
-        }
-        if add_copy(&mut self.clauses, lits).is_err() {
-            self.progress.end();
-            return Err(Refusal::OutOfMemory);
-        }
-        self.progress
-            .input(lits.is_empty(), self.clauses.literals());
-        Ok(())
+    ghost is_ready = { λ s. IsIdle (P.state s.clauses) };
+
+    fn input(&mut self, lits: &[Lit]) -> Result<(), OutOfMemory> {
+        add_copy(&mut self.clauses, lits)
     }
 
     fn step(&mut self, step: &StepBuf) -> Result<Accepted, Refusal> {
-        if self.progress.is_over() {
-            self.progress.end();
-            return Err(Refusal::Ended);
-        }
-        match apply_step(&mut self.clauses, &mut self.room, self.rules, step) {
-            Ok(word) => {
-                self.progress.step(word, self.clauses.literals());
-                Ok(word)
+        match step.kind() {
+            StepKind::Add => {
+                let (clause, witness) = parts_of(self.rules, step);
+                add(&mut self.clauses, &mut self.room, clause, witness)
             }
-            Err(refusal) => {
-                self.progress.end();
-                Err(refusal)
-            }
+            StepKind::Delete => delete(&mut self.clauses, self.rules, step.lits()),
         }
     }
 
-    fn verified(&self) -> bool {
-        self.progress.is_verified
-    }
-
-    fn held(&self) -> u64 {
+    fn literals(&self) -> u64 {
         self.clauses.literals()
-    }
-
-    fn peak(&self) -> u64 {
-        self.progress.peak
     }
 }

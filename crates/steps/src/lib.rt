@@ -2,8 +2,10 @@
 #![tactic(auto)]
 
 mod drat;
+mod judge;
 mod lrat;
 mod proof_session;
+mod session;
 mod word;
 
 pub use drat::DratSession;

@@ -1,6 +1,6 @@
 -- The rule itself never answers that the session had ended.
 use Rattle.std.proofs.Common.{◌≡◌, ◌<◌, ℕ, Bool, true, false, not, nat_le, Option, Some, None}
-use Rattle.std.proofs.Common.{is_none, Ok, Err, List, [], ◌∷◌, sym, subst, arith, ℤ}
+use Rattle.std.proofs.Common.{Ok, Err, List, [], ◌∷◌, sym, subst, arith, ℤ}
 use Rattle.std.specs.Prelude.{⊤}
 use Rattle.std.specs.Bool.{then_some, MatchBool}
 use Rattle.std.specs.Option.{option_or}
@@ -17,10 +17,9 @@ use Rattle.cnf_base.specs.Literals.{Literal, complement, Clause, has, complement
 use Rattle.theory.specs.Propagation.{Live}
 use Rattle.theory.specs.Answers.{StepAnswer, UnlessOutOfMemory}
 use Rattle.theory.specs.Lrat.{ChainEnd, conflict, open_with, unknown, not_unit, chain, Group}
-use Rattle.theory.specs.Lrat.{LratStep, add, delete, step_of, lrat_step, LratState, with_candidate}
+use Rattle.theory.specs.Lrat.{step_of, lrat_step, LratState, with_candidate}
 use Rattle.theory.specs.Lrat.{chain_refusal, group_refusal, groups_refusal, units_of, groups_of}
-use Rattle.theory.specs.Lrat.{AnswersGroups, AnswersChain, AnswersLrat, without_id}
-use Rattle.theory.specs.Lrat.{deletion_refusal, answer_of}
+use Rattle.theory.specs.Lrat.{AnswersGroups, AnswersChain, AnswersLrat}
 
 -- a cause other than that
 abbrev IsRuled : Option Refusal → Type 0
@@ -54,19 +53,10 @@ module _ (live : Live) (ls : List Literal) (pivot : Literal) where
   ruled_groups (group ∷ groups) earlier =
       ruled_or (group_refusal live ls pivot earlier group (live group.candidate)) _ (ruled_group earlier group (live group.candidate)) (ruled_groups groups (group.candidate ∷ earlier))
 
-ruled_deletion : (ids : List ℕ) (live : Live) → IsRuled (deletion_refusal live ids)
-ruled_deletion [] live = tt
-ruled_deletion (id ∷ ids) live =
-    ruled_or (then_some (is_none (live id)) (UnknownId id)) _ (ruled_then (is_none (live id)) (UnknownId id) tt) (ruled_deletion ids (without_id live id))
-
 -- what an answer refuses by
 abbrev cause_of : StepAnswer → Option Refusal
 cause_of (Ok word) = None
 cause_of (Err r) = Some r
-
-ruled_answer : (o : Option Refusal) → IsRuled o → IsRuled (cause_of (answer_of o))
-ruled_answer None h = tt
-ruled_answer (Some r) h = h
 
 not_ruled : (answer : StepAnswer) → Err Ended ≡ answer → IsRuled (cause_of answer) → ⊥
 not_ruled answer e h = subst (λ a. IsRuled (cause_of a)) (sym e) h
@@ -75,7 +65,7 @@ groups_never : (live : Live) (ls : List Literal) (pivot : Literal) (groups : Lis
 groups_never live ls pivot groups None h a = a
 groups_never live ls pivot groups (Some r) h a = not_ruled (Err r) a h
 
-chain_never : (live : Live) (c : List Literal) (groups : List Group) (end : ChainEnd) → AnswersChain live c groups end (Err Ended) → ⊥
+pub chain_never : (live : Live) (c : List Literal) (groups : List Group) (end : ChainEnd) → AnswersChain live c groups end (Err Ended) → ⊥
 chain_never live [] groups conflict a = not_ruled (Ok Empty) a tt
 chain_never live (l ∷ c) groups conflict a = not_ruled (Ok Rup) a tt
 chain_never live [] groups (unknown k) a = not_ruled (Err (UnknownId k)) a tt
@@ -84,14 +74,6 @@ chain_never live [] groups (not_unit k) a = not_ruled (Err (NotUnit k)) a tt
 chain_never live (l ∷ c) groups (not_unit k) a = not_ruled (Err (NotUnit k)) a tt
 chain_never live [] groups (open_with ls) a = not_ruled (Err NoConflict) a tt
 chain_never live (pivot ∷ c) groups (open_with ls) a = groups_never live ls pivot groups (groups_refusal live ls pivot [] groups) (ruled_groups live ls pivot groups []) a
-
-pub never_ended : (state : LratState) (step : LratStep) → AnswersLrat state step (Err Ended) → ⊥
-never_ended state (add id c units groups) a = by_order (nat_le id state.top) a
-  where
-    by_order : (late : Bool) → MatchBool late (◌≡◌ {A = StepAnswer} (Err Ended) (Err IdOutOfOrder)) (AnswersChain state.live c groups (chain state.live (complements c) units) (Err Ended)) → ⊥
-    by_order true e = not_ruled (Err IdOutOfOrder) e tt
-    by_order false a = chain_never state.live c groups (chain state.live (complements c) units) a
-never_ended state (delete ids) a = not_ruled (answer_of (deletion_refusal state.live ids)) a (ruled_answer (deletion_refusal state.live ids) (ruled_deletion ids state.live))
 
 -- ---- Answers of the code
 

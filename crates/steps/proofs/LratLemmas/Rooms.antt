@@ -15,7 +15,7 @@ use Rattle.proofs.specs.Steps.{Step}
 use Rattle.theory.specs.Propagation.{Live}
 use Rattle.theory.specs.Lrat.{with_clause, without_id, without_ids, step_of, lrat_step, LratState}
 use Rattle.theory.specs.Lrat.{after_lrat, SameAt, SameClauses}
-use Rattle.steps.specs.Code.LratSession.{IsReady}
+use Rattle.steps.specs.Code.Ready.{IsReady}
 use Rattle.cnf_base.proofs.SetLemmas.{same_there}
 use Rattle.theory.proofs.LratLemmas.LiveSets.{SameClauses-eq}
 
@@ -53,12 +53,15 @@ ready_without trues live after ids is ready = record {
   room = record { each = λ k c at l member. ready.room.each k c (without_stays ids live k c (sym (is k) ∙ at)) l member };
 }
 
-pub deleted_live : (state : LratState) (step : Step) (hints : List ℤ) (after : Live) → step.kind ≡ Delete → hints ≡ step.hints → ((k : ℕ) → after k ≡ without_ids state.live (map nat_abs hints) k) → SameClauses after (after_lrat state (lrat_step step)).live
-deleted_live state step hints after kind_is hints_are is =
-    SameClauses-eq after (after_lrat state (lrat_step step)).live (λ k.
-    is k
-    ∙ ap (λ hs. without_ids state.live (map nat_abs hs) k) hints_are
-    ∙ sym (ap (λ kind. (after_lrat state (step_of kind step.id step.lits step.hints)).live k) kind_is))
+pub deleted_same : (state : LratState) (step : Step) (hints : List ℤ) (after : Live) (top : ℕ) → step.kind ≡ Delete → hints ≡ step.hints → ((k : ℕ) → after k ≡ without_ids state.live (map nat_abs hints) k) → top ≡ state.top →
+    SameClauses after (after_lrat state (lrat_step step)).live × (top ≡ (after_lrat state (lrat_step step)).top)
+deleted_same state step hints after top kind_is hints_are is top_is = (
+  SameClauses-eq after (after_lrat state (lrat_step step)).live (λ k.
+      is k
+      ∙ ap (λ hs. without_ids state.live (map nat_abs hs) k) hints_are
+      ∙ sym (ap (λ kind. (after_lrat state (step_of kind step.id step.lits step.hints)).live k) kind_is)),
+  top_is ∙ sym (ap (λ kind. (after_lrat state (step_of kind step.id step.lits step.hints)).top) kind_is),
+)
 
 pub ready_roomed : (before after : TrailState) (live : Live) → after.lits ≡ before.lits → ((v : ℕ) → has before.reserved v ≡ true → has after.reserved v ≡ true) → IsReady live before → IsReady live after
 ready_roomed before after live same within ready = record { none_true = same ∙ ready.none_true; room = room_more before.reserved after.reserved live within ready.room }

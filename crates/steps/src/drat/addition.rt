@@ -1,13 +1,12 @@
 //! The answers to additions, with or without a witness, over any store of clauses that propagates.
 
-ghost use Rattle.std.specs.Prelude.{◌≡◌, [], IsTrue, IsFalse};
+ghost use Rattle.std.specs.Prelude.{◌≡◌, IsTrue, IsFalse};
 ghost use Rattle.std.specs.FinMap as maps;
-ghost use Rattle.cnf_base.specs.Literals.{Literal, complements, has};
-ghost use Rattle.propagation.specs.Assumptions.{HoldsLiveAlone, MayAssume, assumed_by};
-ghost use Rattle.theory.specs.Sets.{SameSet, conflicts};
-ghost use Rattle.theory.specs.Propagation.{HasRup};
+ghost use Rattle.cnf_base.specs.Literals.{Literal, has};
+ghost use Rattle.theory.specs.Sets.{conflicts};
 ghost use Rattle.theory.specs.Drat.{AnswersAdd, AnswersListed, AnswersWithSet};
 ghost use Rattle.steps.specs.Code.Candidates.{IsFilled, MeetsIfListed};
+ghost use Rattle.steps.specs.Code.Ready.{IsIdle, IsAssumed, IsAsBefore};
 ghost use Rattle.theory.specs.Answers.{UnlessOutOfMemory};
 
 use crate::drat::candidates::{Candidates, SearchRoom, all_clash};
@@ -22,14 +21,10 @@ fn judge_rat<P: Propagate>(
     room: &mut SearchRoom,
     lits: &[Lit],
 ) -> Result<Accepted, Refusal>
-    requires room { MayAssume (P.state clauses.old).assumptions }
-    requires assumed { SameSet (assumed_by (P.state clauses.old).assumptions)
-        (complements lits.now) }
-    requires no_rup { ¬ HasRup (maps.get (P.state clauses.old).live) lits.now }
+    requires { IsAssumed (P.state clauses.old) lits.now }
     ensures answers { UnlessOutOfMemory result
         (AnswersAdd (maps.values (P.state clauses.old).live) lits.now result) }
-    ensures live { (P.state clauses.new).live ≡ (P.state clauses.old).live }
-    ensures assumptions { (P.state clauses.new).assumptions ≡ (P.state clauses.old).assumptions }
+    ensures same { IsAsBefore (P.state clauses.old) (P.state clauses.new) }
 {
     let Some(pivot) = lits.first() else {
         return Err(Refusal::NotRup);
@@ -49,17 +44,13 @@ fn judge_pr<P: Propagate>(
     lits: &[Lit],
     witness: &[Lit],
 ) -> Result<Accepted, Refusal>
-    requires room { MayAssume (P.state clauses.old).assumptions }
-    requires assumed { SameSet (assumed_by (P.state clauses.old).assumptions)
-        (complements lits.now) }
-    requires no_rup { ¬ HasRup (maps.get (P.state clauses.old).live) lits.now }
+    requires assumed { IsAssumed (P.state clauses.old) lits.now }
     requires consistent { IsFalse (conflicts witness.now) }
     requires meets { (l : Literal) × IsTrue (has lits.now l) × IsTrue (has witness.now l) }
     requires filled { IsFilled room.old.witness witness.now }
     ensures answers { UnlessOutOfMemory result
         (AnswersWithSet (maps.values (P.state clauses.old).live) lits.now witness.now result) }
-    ensures live { (P.state clauses.new).live ≡ (P.state clauses.old).live }
-    ensures assumptions { (P.state clauses.new).assumptions ≡ (P.state clauses.old).assumptions }
+    ensures same { IsAsBefore (P.state clauses.old) (P.state clauses.new) }
 {
     let candidates = Candidates::ReducedBy(&room.witness);
     match all_clash(clauses, &candidates, witness, &mut room.slots) {
@@ -76,17 +67,13 @@ fn judge_without_rup<P: Propagate>(
     lits: &[Lit],
     witness: &[Lit],
 ) -> Result<Accepted, Refusal>
-    requires room { MayAssume (P.state clauses.old).assumptions }
-    requires assumed { SameSet (assumed_by (P.state clauses.old).assumptions)
-        (complements lits.now) }
-    requires no_rup { ¬ HasRup (maps.get (P.state clauses.old).live) lits.now }
+    requires assumed { IsAssumed (P.state clauses.old) lits.now }
     requires consistent { IsFalse (conflicts witness.now) }
     requires meets { MeetsIfListed lits.now witness.now }
     requires filled { IsFilled room.old.witness witness.now }
     ensures answers { UnlessOutOfMemory result
         (AnswersListed (maps.values (P.state clauses.old).live) lits.now witness.now result) }
-    ensures live { (P.state clauses.new).live ≡ (P.state clauses.old).live }
-    ensures assumptions { (P.state clauses.new).assumptions ≡ (P.state clauses.old).assumptions }
+    ensures same { IsAsBefore (P.state clauses.old) (P.state clauses.new) }
 {
     if witness.is_empty() {
         judge_rat(clauses, room, lits)
@@ -102,15 +89,14 @@ fn judge_consistent<P: Propagate>(
     lits: &[Lit],
     witness: &[Lit],
 ) -> Result<Accepted, Refusal>
-    requires nothing_assumed { (P.state clauses.old).assumptions ≡ [] }
+    requires idle { IsIdle (P.state clauses.old) }
     requires consistent { IsFalse (conflicts witness.now) }
     requires meets { MeetsIfListed lits.now witness.now }
     requires filled { IsFilled room.old.witness witness.now }
     ensures answers { UnlessOutOfMemory result
         (AnswersListed (maps.values (P.state clauses.old).live) lits.now witness.now result) }
     ensures live { (P.state clauses.new).live ≡ (P.state clauses.old).live }
-    ensures nothing_assumed { (P.state clauses.new).assumptions ≡ [] }
-    ensures live_alone { HoldsLiveAlone (P.state clauses.new) }
+    ensures idle { IsIdle (P.state clauses.new) }
 {
     match clauses.assume(lits) {
         Ok(Answer::Clash) => {
@@ -133,14 +119,12 @@ pub(crate) fn judge<P: Propagate>(
     lits: &[Lit],
     witness: &[Lit],
 ) -> Result<Accepted, Refusal>
-    requires nothing_assumed { (P.state clauses.old).assumptions ≡ [] }
-    requires live_alone { HoldsLiveAlone (P.state clauses.old) }
+    requires idle { IsIdle (P.state clauses.old) }
     requires meets { MeetsIfListed lits.now witness.now }
     ensures answers { UnlessOutOfMemory result
         (AnswersListed (maps.values (P.state clauses.old).live) lits.now witness.now result) }
     ensures live { (P.state clauses.new).live ≡ (P.state clauses.old).live }
-    ensures nothing_assumed { (P.state clauses.new).assumptions ≡ [] }
-    ensures live_alone { HoldsLiveAlone (P.state clauses.new) }
+    ensures idle { IsIdle (P.state clauses.new) }
 {
     room.witness.fill(witness)?;
     if room.witness.falsifies(witness) {

@@ -10,6 +10,7 @@ ghost use Rattle.steps.specs.Code.Candidates.{PassesAt, Searched, is_candidate, 
 use clause_db::Slot;
 use cnf_base::{Lit, OutOfMemory};
 use propagation::{Answer, Propagate};
+use std::alloc::Global;
 use trail::LiteralSet;
 
 /// What a search needs room for, which is kept from step to step.
@@ -18,6 +19,16 @@ pub(crate) struct SearchRoom {
     /// The slots of the clauses that are touched.
     pub(crate) slots: Vec<u32>,
     pub(crate) witness: LiteralSet,
+}
+
+impl SearchRoom {
+    /// Room for nothing yet. It takes no memory.
+    pub(crate) fn new(alloc: Global) -> Self {
+        SearchRoom {
+            slots: Vec::new(alloc),
+            witness: LiteralSet::new(alloc),
+        }
+    }
 }
 
 /// Which live clauses an addition is tried with.

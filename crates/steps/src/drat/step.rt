@@ -1,31 +1,31 @@
 //! One step of a DRAT proof, over any store of clauses that propagates.
 
-ghost use Rattle.std.specs.Prelude.{◌≡◌, ◌∷◌, [], true, false, Some, IsSome, IsTrue, IfOk, OnOk, OnErr};
+ghost use Rattle.std.specs.Prelude.{◌≡◌, ◌∷◌, true, false, Some, IsSome, IsTrue};
+ghost use Rattle.std.specs.Prelude.{IfOk, OnOk, OnErr};
 ghost use Rattle.std.specs.FinMap as maps;
 ghost use Rattle.cnf_base.specs.Literals.{Clause};
-ghost use Rattle.propagation.specs.Assumptions.{HoldsLiveAlone};
 ghost use Rattle.theory.specs.Propagation.{IsRootReason};
-ghost use Rattle.theory.specs.Drat.{AnswersDelete, AnswersDrat, AnswersListed, addition_of};
-ghost use Rattle.theory.specs.Drat.{after_drat, drat_step, SameLive};
+ghost use Rattle.theory.specs.Drat.{AnswersDelete, AnswersListed, addition_of};
+ghost use Rattle.theory.specs.Drat.{after_drat, SameLive};
 ghost use Rattle.theory.specs.Drat as drat;
 ghost use Rattle.steps.specs.Code.Candidates.{MeetsIfListed};
+ghost use Rattle.steps.specs.Code.Ready.{IsIdle};
 ghost use Rattle.theory.specs.Answers.{UnlessOutOfMemory};
 
 use crate::drat::addition::judge;
 use crate::drat::candidates::SearchRoom;
 use clause_db::Slot;
 use cnf_base::{Lit, OutOfMemory};
-use proofs::{StepBuf, StepKind};
+use proofs::StepBuf;
 use propagation::Propagate;
 use theory::{Accepted, DratRules, Refusal};
 
 /// Adds one copy of the clause.
 pub(crate) fn add_copy<P: Propagate>(clauses: &mut P, lits: &[Lit]) -> Result<(), OutOfMemory>
-    requires { (P.state clauses.old).assumptions ≡ [] }
+    requires { IsIdle (P.state clauses.old) }
     ensures live { OnOk result (SameLive (maps.values (P.state clauses.new).live)
         (lits.now ∷ maps.values (P.state clauses.old).live)) }
-    ensures nothing_assumed { (P.state clauses.new).assumptions ≡ [] }
-    ensures live_alone { HoldsLiveAlone (P.state clauses.new) }
+    ensures idle { IsIdle (P.state clauses.new) }
     ensures refused { OnErr result ((P.state clauses.new).live ≡ (P.state clauses.old).live) }
 {
     let _ = clauses.insert(lits)?;
@@ -33,21 +33,19 @@ pub(crate) fn add_copy<P: Propagate>(clauses: &mut P, lits: &[Lit]) -> Result<()
 }
 
 /// Judges an addition, and adds the clause where it is accepted. The witness is not added.
-fn add<P: Propagate>(
+pub(crate) fn add<P: Propagate>(
     clauses: &mut P,
     room: &mut SearchRoom,
     lits: &[Lit],
     witness: &[Lit],
 ) -> Result<Accepted, Refusal>
-    requires nothing_assumed { (P.state clauses.old).assumptions ≡ [] }
-    requires live_alone { HoldsLiveAlone (P.state clauses.old) }
+    requires idle { IsIdle (P.state clauses.old) }
     requires meets { MeetsIfListed lits.now witness.now }
     ensures answers { UnlessOutOfMemory result
         (AnswersListed (maps.values (P.state clauses.old).live) lits.now witness.now result) }
     ensures live { OnOk result (SameLive (maps.values (P.state clauses.new).live)
         (lits.now ∷ maps.values (P.state clauses.old).live)) }
-    ensures nothing_assumed { (P.state clauses.new).assumptions ≡ [] }
-    ensures live_alone { HoldsLiveAlone (P.state clauses.new) }
+    ensures idle { IsIdle (P.state clauses.new) }
     ensures refused { OnErr result ((P.state clauses.new).live ≡ (P.state clauses.old).live) }
 {
     let word = judge(clauses, room, lits, witness)?;
@@ -58,8 +56,7 @@ fn add<P: Propagate>(
 /// Whether the rules keep the clause in the slot, since it makes a literal of it hold for good.
 fn is_kept<P: Propagate>(clauses: &mut P, rules: DratRules, slot: Slot) -> Result<bool, OutOfMemory>
     requires alive { IsSome (maps.get (P.state clauses.old).live slot) }
-    requires nothing_assumed { (P.state clauses.old).assumptions ≡ [] }
-    requires live_alone { HoldsLiveAlone (P.state clauses.old) }
+    requires idle { IsIdle (P.state clauses.old) }
     ensures yes { IfOk result (λ is_kept. is_kept ≡ true → (c : Clause) →
         maps.get (P.state clauses.old).live slot ≡ Some c →
         IsTrue rules.keep_units × IsRootReason (maps.get (P.state clauses.old).live) c) }
@@ -67,8 +64,7 @@ fn is_kept<P: Propagate>(clauses: &mut P, rules: DratRules, slot: Slot) -> Resul
         maps.get (P.state clauses.old).live slot ≡ Some c →
         ¬ (IsTrue rules.keep_units × IsRootReason (maps.get (P.state clauses.old).live) c)) }
     ensures live { (P.state clauses.new).live ≡ (P.state clauses.old).live }
-    ensures nothing_assumed { (P.state clauses.new).assumptions ≡ [] }
-    ensures live_alone { HoldsLiveAlone (P.state clauses.new) }
+    ensures idle { IsIdle (P.state clauses.new) }
 {
     if rules.keep_units {
         clauses.is_root_reason(slot)
@@ -78,19 +74,17 @@ fn is_kept<P: Propagate>(clauses: &mut P, rules: DratRules, slot: Slot) -> Resul
 }
 
 /// Takes one copy of the clause off, unless the rules keep it.
-fn delete<P: Propagate>(
+pub(crate) fn delete<P: Propagate>(
     clauses: &mut P,
     rules: DratRules,
     lits: &[Lit],
 ) -> Result<Accepted, Refusal>
-    requires nothing_assumed { (P.state clauses.old).assumptions ≡ [] }
-    requires live_alone { HoldsLiveAlone (P.state clauses.old) }
+    requires { IsIdle (P.state clauses.old) }
     ensures answers { UnlessOutOfMemory result
         (AnswersDelete rules (maps.values (P.state clauses.old).live) lits.now result) }
     ensures live { IfOk result (λ word. SameLive (maps.values (P.state clauses.new).live)
         (after_drat (maps.values (P.state clauses.old).live) (drat.delete lits.now) word)) }
-    ensures nothing_assumed { (P.state clauses.new).assumptions ≡ [] }
-    ensures live_alone { HoldsLiveAlone (P.state clauses.new) }
+    ensures idle { IsIdle (P.state clauses.new) }
     ensures refused { OnErr result ((P.state clauses.new).live ≡ (P.state clauses.old).live) }
 {
     let Some(slot) = clauses.find(lits) else {
@@ -111,7 +105,7 @@ fn delete<P: Propagate>(
 }
 
 /// The clause of an addition, and the witness that it lists where the rules have PR.
-fn parts_of(rules: DratRules, step: &StepBuf) -> (&[Lit], &[Lit])
+pub(crate) fn parts_of(rules: DratRules, step: &StepBuf) -> (&[Lit], &[Lit])
     ensures parts { addition_of rules.pr step.now.lits ≡ drat.add result.0.now result.1.now }
     ensures meets { MeetsIfListed result.0.now result.1.now }
 {
@@ -119,31 +113,5 @@ fn parts_of(rules: DratRules, step: &StepBuf) -> (&[Lit], &[Lit])
         step.parts()
     } else {
         (step.lits(), &[])
-    }
-}
-
-/// Takes a step on the live clauses.
-pub(crate) fn apply_step<P: Propagate>(
-    clauses: &mut P,
-    room: &mut SearchRoom,
-    rules: DratRules,
-    step: &StepBuf,
-) -> Result<Accepted, Refusal>
-    requires nothing_assumed { (P.state clauses.old).assumptions ≡ [] }
-    requires live_alone { HoldsLiveAlone (P.state clauses.old) }
-    ensures answers { UnlessOutOfMemory result
-        (AnswersDrat rules (maps.values (P.state clauses.old).live) (drat_step rules step.now) result) }
-    ensures live { IfOk result (λ word. SameLive (maps.values (P.state clauses.new).live)
-        (after_drat (maps.values (P.state clauses.old).live) (drat_step rules step.now) word)) }
-    ensures nothing_assumed { (P.state clauses.new).assumptions ≡ [] }
-    ensures live_alone { HoldsLiveAlone (P.state clauses.new) }
-    ensures refused { OnErr result ((P.state clauses.new).live ≡ (P.state clauses.old).live) }
-{
-    match step.kind() {
-        StepKind::Add => {
-            let (clause, witness) = parts_of(rules, step);
-            add(clauses, room, clause, witness)
-        }
-        StepKind::Delete => delete(clauses, rules, step.lits()),
     }
 }

@@ -1,10 +1,11 @@
 -- Want of memory, or the check.
-use Rattle.std.proofs.Common.{refl, rules}
+use Rattle.std.proofs.Common.{refl, ap, rules}
 use Rattle.proofs.specs.Lrat.{lrat_steps}
 use Rattle.proofs.specs.Code.Lrat.{lrat_to_come}
-use Rattle.theory.specs.Rules.{lrat}
-use Rattle.sat_check.proofs.LoadLemmas.{lrat_unused}
-use Rattle.sat_check.proofs.CheckLemmas.{runs_nothing, reports_run}
+use Rattle.theory.specs.Rules.{lrat, rule_of}
+use Rattle.steps.specs.Session.{view_of}
+use Rattle.sat_check.proofs.LoadLemmas.{unused}
+use Rattle.sat_check.proofs.CheckLemmas.{runs_nothing, reports_run, reports_as}
 use Rattle.sat_check.proofs.lrat.check_lrat.Goals as goal
 
 pub returns-in_default : goal.returns-in_default
@@ -18,13 +19,16 @@ returns-in_default-new g c =
     (rw (c.without_step-in_default-new.ensures, c.give_up-in_default-new.ensures.status) refl) c.give_up-in_default-new.ensures.outcome c.give_up-in_default-new.ensures.writer
 
 pub check-checked-requires-clause-unused : goal.check-checked-requires-clause-unused
-check-checked-requires-clause-unused g c = lrat_unused c.in-Ok.session c.in-Ok.ensures
+check-checked-requires-clause-unused g c = unused lrat c.in-Ok.session c.in-Ok.ensures
 
 pub returns : goal.returns
-returns g c = record {
-  report = reports_run lrat c.args.trace lrat_to_come lrat_steps _ _ _ _ c.over.result _ _ c.check-checked.result c.args.lines.now c.check-checked.new.lines c.over.ensures (search rules) (λ j. refl)
-      c.new-reader.result c.new-reader.ensures c.check-checked.ensures.report.0 c.check-checked.ensures.report.1;
-  read_failed = search rules;
-  write_failed = c.check-checked.ensures.write_failed;
-  writer = c.check-checked.ensures.writer;
-}
+returns g c =
+    let rule = rule_of (view_of c.in-Ok.session).state in
+    record {
+      report = reports_as rule lrat c.args.trace lrat_steps lrat_steps _ _ _ _ c.check-checked.result c.args.lines.now c.check-checked.new.lines (ap (λ s. rule_of (view_of s).state) c.in-Ok.ensures) (λ j. refl)
+          (reports_run rule c.args.trace lrat_to_come lrat_steps _ _ _ _ c.over.result _ _ c.check-checked.result c.args.lines.now c.check-checked.new.lines c.over.ensures (search rules) (λ j. refl)
+          c.new-reader.result c.new-reader.ensures c.check-checked.ensures.report.0 c.check-checked.ensures.report.1);
+      read_failed = search rules;
+      write_failed = c.check-checked.ensures.write_failed;
+      writer = c.check-checked.ensures.writer;
+    }

@@ -10,10 +10,10 @@ pub returns-in-Ok-true-clause-answers : goal.returns-in-Ok-true-clause-answers
 returns-in-Ok-true-clause-answers g c =
     let now = g.P.Propagate.state c.args.clauses.now in
     let r = c.requires in
-    answers_filled now.live c.args.lits.now c.args.witness.now (assumed_by now.assumptions) r.assumed r.consistent r.meets r.no_rup c.args.room.now.witness r.filled _ true c.in-Ok-true.field-0-test c.in-Ok-true.ensures.searched
+    answers_filled now.live c.args.lits.now c.args.witness.now (assumed_by now.assumptions) r.assumed.assumed r.consistent r.meets r.assumed.no_rup c.args.room.now.witness r.filled _ true c.in-Ok-true.field-0-test c.in-Ok-true.ensures.searched
 
 pub returns-in-Ok-false-clause-answers : goal.returns-in-Ok-false-clause-answers
 returns-in-Ok-false-clause-answers g c =
     let now = g.P.Propagate.state c.args.clauses.now in
     let r = c.requires in
-    answers_filled now.live c.args.lits.now c.args.witness.now (assumed_by now.assumptions) r.assumed r.consistent r.meets r.no_rup c.args.room.now.witness r.filled _ false c.in-Ok-false.field-0-test c.in-Ok-false.ensures.searched
+    answers_filled now.live c.args.lits.now c.args.witness.now (assumed_by now.assumptions) r.assumed.assumed r.consistent r.meets r.assumed.no_rup c.args.room.now.witness r.filled _ false c.in-Ok-false.field-0-test c.in-Ok-false.ensures.searched
