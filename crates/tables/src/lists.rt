@@ -34,6 +34,9 @@ const MOST: usize = 4294967296;
 /// By how many entries a list grows at least.
 const LEAST_GROWTH: usize = 2;
 
+/// For how many entries a list keeps room, however few it has.
+const LEAST_KEPT: usize = 8;
+
 /// How many entries these lists have in all; `2^64 - 1` where they are more.
 fn total_len<T: Copy + Drop>(lists: &Vec<Vec<T>>) -> u64
     ensures { result ≡ min (total lists.now.items) 18446744073709551615 }
@@ -56,6 +59,26 @@ fn add<T: Copy + Drop>(list: &mut Vec<T>, entry: T) -> Result<(), OutOfMemory>
     }
     list.push_reserved(entry);
     Ok(())
+}
+
+/// Takes room from a list that has more than it needs. It keeps room for twice as many entries as it has, so that it isn't moved
+/// again at once. Where that is refused, it keeps all.
+#[cold]
+#[inline(never)]
+fn shrink<T: Copy + Drop>(list: &mut Vec<T>)
+    ensures { list.new.items ≡ list.old.items }
+{
+    list.shrink_to(list.len().saturating_mul(2));
+}
+
+/// Takes room from a list that has fallen below a quarter of it.
+#[inline(always)]
+fn give_back<T: Copy + Drop>(list: &mut Vec<T>)
+    ensures { list.new.items ≡ list.old.items }
+{
+    if list.capacity() > LEAST_KEPT && list.len() < list.capacity() / 4 {
+        shrink(list);
+    }
 }
 
 impl<T: Copy + Drop> Lists<T> {
@@ -108,9 +131,9 @@ impl<T: Copy + Drop> Lists<T> {
         }
     }
 
-    /// Puts a list in the place of the empty one of a key.
+    /// Puts a list in the place of the empty one of a key. It gives room back where it is far shorter than it was.
     #[inline]
-    pub fn put_back(&mut self, key: u32, list: Vec<T>)
+    pub fn put_back(&mut self, key: u32, mut list: Vec<T>)
         requires apart { AreApart self.old }
         requires known { IsTrue (has_list_at self.old key) }
         requires taken { list_at self.old key ≡ [] }
@@ -120,6 +143,7 @@ impl<T: Copy + Drop> Lists<T> {
         ensures known { (k : ℕ) → has_list_at self.new k ≡ has_list_at self.old k }
         ensures apart { AreApart self.new }
     {
+        give_back(&mut list);
         if (key as usize) < self.near.len() {
             self.near[key as usize] = list;
         } else if let Some(number) = self.numbers.get(key) {
