@@ -2,4 +2,5 @@
 
 mod clauses;
 mod identifiers;
+mod lists;
 mod table;
