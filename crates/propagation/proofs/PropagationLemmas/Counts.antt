@@ -26,10 +26,10 @@ none_with live l none s h = let more = copies_without live l s h in let wrong : 
 
 -- ---- One that is counted is there
 
-tied : {k : ℕ} (q : ℕ) → eq_by_cmp nat_cmp q k ≡ true → q ≡ k
+pub tied : {k : ℕ} (q : ℕ) → eq_by_cmp nat_cmp q k ≡ true → q ≡ k
 tied {k} q e = eqb-true q k (sym (unsigned_tied q k) ∙ e)
 
-above : (x k : ℕ) → T (is_lt (nat_cmp x k)) → x < k
+pub above : (x k : ℕ) → T (is_lt (nat_cmp x k)) → x < k
 above x k h =
     elim (cases_lt x k) [
       | inl lt ↦ lt
@@ -40,11 +40,11 @@ above x k h =
     not_less true t = t
     not_less false t = t
 
-both : (a b : Bool) → T (a && b) → T a × T b
+pub both : (a b : Bool) → T (a && b) → T a × T b
 both true b t = (tt, t)
 both false b t = absurd t
 
-below_found : (x : ℕ) (es : List (ℕ × Clause)) (k : ℕ) (c : Clause) → T (below_all nat_cmp x es) → find nat_cmp k es ≡ Some c → x < k
+pub below_found : (x : ℕ) (es : List (ℕ × Clause)) (k : ℕ) (c : Clause) → T (below_all nat_cmp x es) → find nat_cmp k es ≡ Some c → x < k
 below_found x [] k c below at = absurd (none-some c at)
 below_found x (e ∷ es) k c below at =
     let parts = both (is_lt (nat_cmp x e.0)) (below_all nat_cmp x es) below in

@@ -15,6 +15,7 @@ use Rattle.theory.specs.Propagation.{Clash, HasRat, HasPr, IsRootReason}
 use Rattle.theory.specs.Drat.{take_off, copies_of, SameLive}
 use Rattle.clause_db.proofs.StoreLemmas.Sums.{sum_insert, sum_remove}
 use Rattle.cnf_base.proofs.SetLemmas.{both_pass, same_itself, same_symm, same_trans}
+use Rattle.propagation.proofs.PropagationLemmas.Counts.{below_found, both, tied}
 use Rattle.theory.proofs.PropagationLemmas.Covers.{Covers, clash_covers, reason_covers}
 use Rattle.theory.proofs.DratLemmas.Copies.{rat_covers, pr_covers, copies-cons, copies-take_off}
 
@@ -24,9 +25,6 @@ clauses_in es = map (λ e. e.1) es
 -- a clause at a slot that was free is one copy more
 pub slots-insert : (m : FinMap nat_cmp Clause) (k : ℕ) (c : Clause) → slots.get m k ≡ None → SameLive (slots.values (slots.insert m k c)) (c ∷ slots.values m)
 slots-insert m k c absent = record { copies = λ e. sum_insert (λ d. cond (same_clause e d) 1 0) m k c absent ∙ sym (copies-cons e c (slots.values m)) }
-
-pub tied : {k : ℕ} (q : ℕ) → eq_by_cmp nat_cmp q k ≡ true → q ≡ k
-tied {k} q e = eqb-true q k (sym (unsigned_tied q k) ∙ e)
 
 eq_itself : (k : ℕ) → eq_by_cmp nat_cmp k k ≡ true
 eq_itself k = unsigned_tied k k ∙ eq-eqb k k refl
@@ -53,39 +51,12 @@ find_listed (x ∷ es) k c at =
       | inr e ↦ let w = find_listed es k c (sym (ap (λ b. cond b (Some x.1) (find nat_cmp k es)) e) ∙ at) in (suc w.0, w.1)
     ]
 
-above : (x k : ℕ) → T (is_lt (nat_cmp x k)) → x < k
-above x k h =
-    elim (cases_lt x k) [
-      | inl lt ↦ lt
-      | inr le ↦ absurd (not_less (x == k) (subst (λ b. T (is_lt (cond b Less (cond (x == k) Equal Greater)))) (le-ltb x k le) h))
-    ]
-  where
-    not_less : (b : Bool) → T (is_lt (cond b Equal Greater)) → ⊥
-    not_less true t = t
-    not_less false t = t
-
-first_of_both : (a b : Bool) → T (a && b) → T a
-first_of_both true b t = tt
-first_of_both false b t = t
-
-second_of_both : (a b : Bool) → T (a && b) → T b
-second_of_both true b t = t
-second_of_both false b t = absurd t
-
-below_found : (x : ℕ) (es : List (ℕ × Clause)) (k : ℕ) (c : Clause) → T (below_all nat_cmp x es) → find nat_cmp k es ≡ Some c → x < k
-below_found x [] k c below at = absurd (none-some c at)
-below_found x (e ∷ es) k c below at =
-    elim (cases_Bool (eq_by_cmp nat_cmp k e.0)) [
-      | inl same ↦ subst (λ n. x < n) (sym (tied k same)) (above x e.0 (first_of_both (is_lt (nat_cmp x e.0)) (below_all nat_cmp x es) below))
-      | inr other ↦ below_found x es k c (second_of_both (is_lt (nat_cmp x e.0)) (below_all nat_cmp x es) below) (sym (ap (λ b. cond b (Some e.1) (find nat_cmp k es)) other) ∙ at)
-    ]
-
 listed_found : (es : List (ℕ × Clause)) → T (is_sorted nat_cmp es) → (j : ℕ) (c : Clause) → slice_get (clauses_in es) j ≡ Some c → (k : ℕ) × (find nat_cmp k es ≡ Some c)
 listed_found [] sorted j c at = absurd (none-some c at)
 listed_found (x ∷ es) sorted zero c at = (x.0, ap (λ b. cond b (Some x.1) (find nat_cmp x.0 es)) (eq_itself x.0) ∙ at)
 listed_found (x ∷ es) sorted (suc j) c at =
-    let w = listed_found es (second_of_both (below_all nat_cmp x.0 es) (is_sorted nat_cmp es) sorted) j c at in
-    let apart : x.0 < w.0 = below_found x.0 es w.0 c (first_of_both (below_all nat_cmp x.0 es) (is_sorted nat_cmp es) sorted) w.1 in
+    let w = listed_found es ((both (below_all nat_cmp x.0 es) (is_sorted nat_cmp es) sorted).1) j c at in
+    let apart : x.0 < w.0 = below_found x.0 es w.0 c ((both (below_all nat_cmp x.0 es) (is_sorted nat_cmp es) sorted).0) w.1 in
     (w.0, ap (λ b. cond b (Some x.1) (find nat_cmp w.0 es)) (false_from_ne_true _ (λ e. absurd (omega (arith, apart, tied w.0 e)))) ∙ w.1)
 
 pub slots_covered : (m : FinMap nat_cmp Clause) → Covers (slots.get m) (slice_get (slots.values m))

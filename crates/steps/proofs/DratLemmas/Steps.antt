@@ -26,7 +26,8 @@ use Rattle.theory.specs.Drat.{AnswersAdd, take_off, copies_of, SameLive}
 use Rattle.theory.proofs.PropagationLemmas.Forced.{forced_assumed, clash_through}
 use Rattle.theory.proofs.DratLemmas.Copies.{copies-cons, alive_at}
 use Rattle.steps.proofs.LratLemmas.Starts.{first_is}
-use Rattle.steps.proofs.DratLemmas.Slots.{tied, slots-insert, slots-remove, slots-clash, slots-rat}
+use Rattle.propagation.proofs.PropagationLemmas.Counts.{tied}
+use Rattle.steps.proofs.DratLemmas.Slots.{slots-insert, slots-remove, slots-clash, slots-rat}
 use Rattle.steps.proofs.DratLemmas.Slots.{slots_covered, covered_by_slots}
 
 -- ---- RUP and RAT

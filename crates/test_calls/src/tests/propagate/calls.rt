@@ -130,51 +130,37 @@ fn assumes_the_rest(rt: HostRuntime) -> Result<(), Fail> {
 }
 
 /// How a clause is answered but for what the set makes false, where nothing else is assumed; none where there is no such
-/// clause.
+/// clause. The set is given as literals, or filled before.
 fn unless_answer<P: Fresh>(
     alloc: Global,
-    rows: &[[i32; 2]],
     row: &[i32],
     set: &[i32],
+    is_filled: bool,
 ) -> Result<Option<Answer>, Fail> {
     let mut clauses = P::fresh(alloc)?;
-    fill(alloc, &mut clauses, rows)?;
-    let clause = literals(alloc, row)?;
-    let set = literals(alloc, set)?;
-    match clauses.find(clause.as_slice()) {
-        Some(slot) => Ok(Some(clauses.assume_unless(slot, set.as_slice())?)),
-        None => Ok(None),
-    }
-}
-
-/// The same with a set that was filled before.
-fn reduced_answer<P: Fresh>(
-    alloc: Global,
-    rows: &[[i32; 2]],
-    row: &[i32],
-    set: &[i32],
-) -> Result<Option<Answer>, Fail> {
-    let mut clauses = P::fresh(alloc)?;
-    fill(alloc, &mut clauses, rows)?;
+    fill(alloc, &mut clauses, &QUIET_REST)?;
     let clause = literals(alloc, row)?;
     let set = literals(alloc, set)?;
     let mut filled = LiteralSet::new(clauses.alloc());
     filled.fill(set.as_slice())?;
-    match clauses.find(clause.as_slice()) {
-        Some(slot) => Ok(Some(clauses.assume_reduced(slot, &filled)?)),
-        None => Ok(None),
-    }
+    let Some(slot) = clauses.find(clause.as_slice()) else {
+        return Ok(None);
+    };
+    let answer = if is_filled {
+        clauses.assume_reduced(slot, &filled)?
+    } else {
+        clauses.assume_unless(slot, set.as_slice())?
+    };
+    Ok(Some(answer))
 }
 
 fn expect_unless(rt: &impl Abort, alloc: Global, set: &[i32], answer: Answer) -> Result<(), Fail> {
-    let scanned = unless_answer::<Scan>(alloc, &QUIET_REST, &[1, 2], set)?;
-    expect_equal(rt, scanned, Some(answer));
-    let watched = unless_answer::<Watch>(alloc, &QUIET_REST, &[1, 2], set)?;
-    expect_equal(rt, watched, Some(answer));
-    let scanned = reduced_answer::<Scan>(alloc, &QUIET_REST, &[1, 2], set)?;
-    expect_equal(rt, scanned, Some(answer));
-    let watched = reduced_answer::<Watch>(alloc, &QUIET_REST, &[1, 2], set)?;
-    expect_equal(rt, watched, Some(answer));
+    for is_filled in [false, true] {
+        let scanned = unless_answer::<Scan>(alloc, &[1, 2], set, is_filled)?;
+        expect_equal(rt, scanned, Some(answer));
+        let watched = unless_answer::<Watch>(alloc, &[1, 2], set, is_filled)?;
+        expect_equal(rt, watched, Some(answer));
+    }
     Ok(())
 }
 
