@@ -45,6 +45,16 @@ row() {
     judge "$name" "$status" "$ended"
 }
 
+# in_little_stack NAME STATUS WORD..: the same with 64 kB of stack
+in_little_stack() {
+    local name=$1 status=$2 ended
+    shift 2
+    cat > "$room/wanted"
+    (ulimit -s 64 && exec "$checker" "$@") > "$room/out" 2> "$room/err" < /dev/null
+    ended=$?
+    judge "$name" "$status" "$ended"
+}
+
 # told NAME: standard error of the run before has the lines of standard input
 told() {
     cat > "$room/wanted"
@@ -768,6 +778,27 @@ of_every_tool model model-check $x/models.cnf $x/models.out
 usage model_flag_of_another_tool $x/models.cnf --trace
 usage model_pr --pr $x/models.cnf $x/models.out
 usage model_keep_units --keep-units $x/models.cnf $x/models.out
+
+in_little_stack model_in_little_stack 0 $x/models.cnf $x/models.out <<'LINES'
+c clauses 2
+s MODEL VERIFIED
+LINES
+
+checker=$drat_forward
+bench/hostile.py --write far_variables 2000 "$room/far.cnf" "$room/far.drat"
+in_little_stack drat_in_little_stack 1 "$room/far.cnf" "$room/far.drat" <<'LINES'
+c formula 67108000 variables 3998 clauses
+c end: no empty clause
+s NOT VERIFIED
+LINES
+
+checker=$lrat_check
+bench/hostile.py --write far_identifiers 2000 "$room/far.cnf" "$room/far.lrat"
+in_little_stack lrat_in_little_stack 1 "$room/far.cnf" "$room/far.lrat" <<'LINES'
+c formula 1 variables 1 clauses
+c end: no empty clause
+s NOT VERIFIED
+LINES
 
 echo "$passed passed, $failed failed"
 [ "$failed" -eq 0 ]
