@@ -1,14 +1,18 @@
 //! The live clauses, each at its identifier, and the sum of their sizes.
 
-ghost use Rattle.std.specs.Prelude.{◌≡◌, ℕ, ◌-◌, ◌<◌, ◌≤◌, ◌^◌, min, Some, None, is_some};
-ghost use Rattle.std.specs.Prelude.{length, List, OnOk, OnErr, IfOk, IfSome, IfNone};
+ghost use Rattle.std.specs.Prelude.{◌≡◌, ◌≢◌, ℕ, ◌-◌, ◌<◌, ◌≤◌, ◌^◌, min, Some, None, is_some};
+ghost use Rattle.std.specs.Prelude.{length, List, OnOk, OnErr, IfOk, IfSome, IfNone, IsTrue};
+ghost use Rattle.std.specs.List.Sorted.{IsStrictlyIncreasing};
 ghost use Rattle.std.specs.Option.{option_copied};
 ghost use Rattle.std.specs.FinMap as maps;
+ghost use Rattle.cnf_base.specs.Literals.{complement, has};
 ghost use Rattle.theory.specs.Lrat.{SameClauses, with_clause, without_id};
 ghost use Rattle.theory.specs.Sizes.{total};
-ghost use Rattle.live_clauses.specs.LiveClauses.{no_live_clauses, lrat_state, AllHold};
+ghost use Rattle.live_clauses.specs.LiveClauses.{no_live_clauses, lrat_state, Holds, AllHold};
+ghost use Rattle.live_clauses.specs.Code.LiveClauses.{AreOwners};
 
-use clause_db::{Ids, NoIndex, Store};
+use crate::owners::Owners;
+use clause_db::{Ids, NoIndex, Slot, Store};
 use cnf_base::{Lit, OutOfMemory};
 use std::alloc::Global;
 use std::marker::Model;
@@ -19,6 +23,9 @@ pub struct LiveClauses {
     store: Store<NoIndex>,
     ids: Ids,
     top: u64,
+    owners: Owners,
+    /// The slots found last, whose room is kept.
+    slots: Vec<u32>,
 }
 
 impl Model for LiveClauses {
@@ -26,14 +33,20 @@ impl Model for LiveClauses {
     ghost use Rattle.clause_db.specs.Store.{literals_in};
     ghost use Rattle.live_clauses.specs.LiveClauses.{LiveClausesState};
     ghost use Rattle.live_clauses.specs.Code.LiveClauses.{live_clauses_code, joined, held_at};
-    ghost use Rattle.live_clauses.specs.Code.LiveClauses.{IsPaired, IsTally};
+    ghost use Rattle.live_clauses.specs.Code.LiveClauses.{IsPaired, IsTally, AreOwners};
 
     ghost Value = { LiveClausesState };
 
     ghost coded = { live_clauses_code };
 
     // Each field has to be named here. Of them the store alone has lists of literals.
-    ghost view = { λ record { store = store; ids = ids; top = top }. record {
+    ghost view = { λ record {
+      store = store;
+      ids = ids;
+      top = top;
+      owners = _;
+      slots = _;
+    }. record {
       live = joined ids store.live;
       top = top;
       stored = store.stored;
@@ -41,7 +54,19 @@ impl Model for LiveClauses {
 
     ghost invariant = { λ s. (IsPaired s.ids s.store.live ×
         IsTally (held_at s.ids s.store.live) s.top (literals_in s.store.live)) ×
-        (s.store.stored ≡ literals_in s.store.live) };
+        (s.store.stored ≡ literals_in s.store.live) × AreOwners s.owners s.ids };
+}
+
+/// Binds an identifier to a slot that is free, and notes it as the slot's.
+fn bind(ids: &mut Ids, owners: &mut Owners, id: u64, slot: Slot) -> Result<(), OutOfMemory>
+    requires unbound { maps.get ids.old id ≡ None }
+    requires free { (k s : ℕ) → maps.get ids.old k ≡ Some s → s ≢ slot }
+    ensures ok { OnOk result (ids.new ≡ maps.insert ids.old id slot) }
+    ensures err { OnErr result (ids.new ≡ ids.old) }
+    ensures owners { AreOwners owners.old ids.old → AreOwners owners.new ids.new }
+{
+    owners.note(slot, id)?;
+    ids.bind(id, slot)
 }
 
 impl LiveClauses {
@@ -50,7 +75,13 @@ impl LiveClauses {
     {
         let store = Store::without_index(alloc)?;
         let ids = Ids::new(alloc)?;
-        Ok(LiveClauses { store, ids, top: 0 })
+        Ok(LiveClauses {
+            store,
+            ids,
+            top: 0,
+            owners: Owners::new(alloc),
+            slots: Vec::new(alloc),
+        })
     }
 
     /// The clause that is alive under the identifier.
@@ -86,6 +117,28 @@ impl LiveClauses {
         self.store.count_with(l)
     }
 
+    /// Gathers the identifiers of the clauses that the literal touches, in ascending order: that have its complement. `into` is emptied
+    /// first, and keeps its room.
+    ///
+    /// The first call goes over all clauses. What it notes of them is kept from then on, and a call takes as long as sorting what is
+    /// found.
+    ///
+    /// # Errors
+    ///
+    /// Where memory runs out.
+    pub fn touched(&mut self, l: Lit, into: &mut Vec<u64>) -> Result<(), OutOfMemory>
+        ensures ascending { OnOk result (IsStrictlyIncreasing into.new.items) }
+        ensures each { OnOk result ((k : ℕ) → IsTrue (has into.new.items k) →
+            Holds (maps.get self.old.live) (complement l) k) }
+        ensures all { OnOk result ((k : ℕ) → Holds (maps.get self.old.live) (complement l) k →
+            IsTrue (has into.new.items k)) }
+        ensures same { self.new ≡ self.old }
+    {
+        self.owners.keep(&self.ids, self.top)?;
+        self.store.slots_touched(&[l], &mut self.slots)?;
+        self.owners.identify(self.slots.as_slice(), into)
+    }
+
     /// The greatest identifier so far.
     pub fn top(&self) -> u64
         ensures top { result ≡ self.now.top }
@@ -111,7 +164,7 @@ impl LiveClauses {
         ensures refused { OnErr result (self.new.stored ≡ self.old.stored) }
     {
         let slot = self.store.insert(lits)?;
-        if self.ids.bind(id, slot).is_err() {
+        if bind(&mut self.ids, &mut self.owners, id, slot).is_err() {
             self.store.remove(slot);
             return Err(OutOfMemory);
         }

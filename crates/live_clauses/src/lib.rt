@@ -2,5 +2,6 @@
 #![tactic(auto)]
 
 mod clauses;
+mod owners;
 
 pub use clauses::LiveClauses;

@@ -24,6 +24,8 @@ use Rattle.theory.specs.Lrat.{with_clause, without_id, SameAt, SameClauses}
 use Rattle.theory.proofs.LratLemmas.LiveSets.{SameClauses-refl}
 use Rattle.theory.specs.Sizes.{size_at, sum_to}
 use Rattle.live_clauses.specs.Code.LiveClauses.{clause_at, held_at, joined, IsPaired, IsTally}
+use Rattle.live_clauses.specs.Code.LiveClauses.{AreOwners}
+use Rattle.live_clauses.specs.declared.owners.Owners.{Owners}
 use Rattle.live_clauses.specs.LiveClauses.{LiveClausesState, Holds, AllHold}
 use Rattle.theory.proofs.LratLemmas.Sums.{sum_agree, sum_with, sum_without, with_here, with_other}
 use Rattle.theory.proofs.LratLemmas.Sums.{without_here, without_other}
@@ -68,7 +70,7 @@ module _ {X : Type 0} (m : FinMap nat_cmp X) (k : ℕ) where
   pub remove_other : (q : ℕ) → q ≢ k → maps.get (maps.remove m k) q ≡ maps.get m q
   remove_other q apart = get-remove nat_cmp_total m k q ∙ ap (λ b. cond b None (maps.get m q)) (unsigned_tied q k ∙ ne_eqb q k apart)
 
-some_is_some : {X : Type 0} (o : Option X) (x : X) → o ≡ Some x → IsSome o
+pub some_is_some : {X : Type 0} (o : Option X) (x : X) → o ≡ Some x → IsSome o
 some_is_some o x e = ap is_some e
 
 none_is_not_some : {X : Type 0} (o : Option X) → o ≡ None → IsSome o → ⊥
@@ -87,7 +89,7 @@ held_agree ids after_ids store after k same agree = ap (option_map (clause_at af
 module _ (ids : FinMap nat_cmp ℕ) (store after : FinMap nat_cmp Clause) (id slot : ℕ) (paired : IsPaired ids store) (free : maps.get store slot ≡ None)
     (others : (k : ℕ) → k ≢ slot → maps.get after k ≡ maps.get store k) where
   -- what is bound has another slot
-  old_slot : (k s : ℕ) → maps.get ids k ≡ Some s → s ≢ slot
+  pub old_slot : (k s : ℕ) → maps.get ids k ≡ Some s → s ≢ slot
   old_slot k s at e = none_is_not_some (maps.get store slot) free (subst (λ t. IsSome (maps.get store t)) e (paired.filled k s at))
 
   -- a slot that was filled and freed again
@@ -121,8 +123,8 @@ module _ (ids : FinMap nat_cmp ℕ) (store after : FinMap nat_cmp Clause) (id sl
       | inr apart ↦ inr (sym (ids_other k apart) ∙ at)
     ]
 
-    pub paired_with : IsPaired after_ids after
-    paired_with = record {
+    pub paired_with : maps.get ids id ≡ None → IsPaired after_ids after
+    paired_with unbound = record {
       filled = λ k s at. elim (slot_cases k s at) [
         | inl w ↦ some_is_some (maps.get after s) c (ap (maps.get after) w.1 ∙ stored)
         | inr was ↦ subst IsSome (sym (others s (old_slot k s was))) (paired.filled k s was)
@@ -130,6 +132,13 @@ module _ (ids : FinMap nat_cmp ℕ) (store after : FinMap nat_cmp Clause) (id sl
       own = λ j k s first second. elim (slot_cases j s first) [
         | inl v ↦ elim (slot_cases k s second) [ inl w ↦ v.0 ∙ sym w.0 | inr was ↦ absurd (old_slot k s was v.1) ]
         | inr was ↦ elim (slot_cases k s second) [ inl w ↦ absurd (old_slot j s was w.1) | inr is ↦ paired.own j k s was is ]
+      ];
+      used = λ s some. elim (cases_eq s slot) [
+        | inl e ↦ (id, ids_here ∙ ap Some (sym e))
+        | inr apart ↦
+            let was = paired.used s (subst IsSome (others s apart) some) in
+            let old : was.0 ≢ id = λ e. absurd (none-some s (sym unbound ∙ ap (maps.get ids) (sym e) ∙ was.1)) in
+            (was.0, ids_other was.0 old ∙ was.1)
       ];
     }
 
@@ -175,6 +184,9 @@ module _ (ids after_ids : FinMap nat_cmp ℕ) (store : FinMap nat_cmp Clause) (i
     | inr apart ↦ (apart, sym (gone_other k apart) ∙ at)
   ]
 
+  pub owners_without : (owners : Owners) → AreOwners owners ids → AreOwners owners after_ids
+  owners_without owners are kept k s at = are kept k s (still_bound k s at).1
+
   -- where it was not bound
   module _ (none : maps.get ids id ≡ None) where
     same_ids : (k : ℕ) → maps.get after_ids k ≡ maps.get ids k
@@ -196,6 +208,7 @@ module _ (ids after_ids : FinMap nat_cmp ℕ) (store : FinMap nat_cmp Clause) (i
     none_paired = record {
       filled = λ k s at. paired.filled k s (still_bound k s at).1;
       own = λ j k s first second. paired.own j k s (still_bound j s first).1 (still_bound k s second).1;
+      used = λ s some. let was = paired.used s some in (was.0, same_ids was.0 ∙ was.1);
     }
 
   module _ (slot : ℕ) (bound : maps.get ids id ≡ Some slot) (after : FinMap nat_cmp Clause) (freed : after ≡ maps.remove store slot) where
@@ -215,6 +228,13 @@ module _ (ids after_ids : FinMap nat_cmp ℕ) (store : FinMap nat_cmp Clause) (i
     paired_without = record {
       filled = λ k s at. let was = still_bound k s at in subst IsSome (sym (kept_slot k s was.0 was.1)) (paired.filled k s was.1);
       own = λ j k s first second. paired.own j k s (still_bound j s first).1 (still_bound k s second).1;
+      used = λ s some. elim (cases_eq s slot) [
+        | inl e ↦ absurd (none_is_not_some (maps.get after s) (ap (λ m. maps.get m s) freed ∙ ap (maps.get (maps.remove store slot)) e ∙ remove_here store slot) some)
+        | inr apart ↦
+            let was = paired.used s (subst IsSome (ap (λ m. maps.get m s) freed ∙ remove_other store slot s apart) some) in
+            let other : was.0 ≢ id = λ e. apart (same_Some s slot (sym was.1 ∙ ap (maps.get ids) e ∙ bound)) in
+            (was.0, gone_other was.0 other ∙ was.1)
+      ];
     }
 
     none_stays : (k : ℕ) → held_at ids store k ≡ None → held_at after_ids after k ≡ None
@@ -271,7 +291,7 @@ module _ (ids after_ids : FinMap nat_cmp ℕ) (store after : FinMap nat_cmp Clau
   pub add_invariant : (top : ℕ) → IsTally (held_at ids store) top (literals_in store) → top < id → IsPaired after_ids after × IsTally (held_at after_ids after) id (literals_in after)
   add_invariant top tally above =
       let w = stored in
-      (paired_with ids store after id slot paired free others w.0 w.1 after_ids bound, tally_with ids store after id slot paired free others w.0 w.1 after_ids bound top tally above)
+      (paired_with ids store after id slot paired free others w.0 w.1 after_ids bound (not_bound ids store id (tally.none_above id above)), tally_with ids store after id slot paired free others w.0 w.1 after_ids bound top tally above)
 
 -- the clause is taken off again where its identifier could not be bound
 pub undone_invariant : (ids after_ids : FinMap nat_cmp ℕ) (store after freed : FinMap nat_cmp Clause) (id slot top : ℕ) → IsPaired ids store → maps.get store slot ≡ None → ((k : ℕ) → k ≢ slot → maps.get after k ≡ maps.get store k) →
@@ -345,22 +365,25 @@ slots_counted ids l own (k ∷ ks) store different hold =
     let one = weight_of l here.2 here.4 in
     omega (arith, rest, split, one)
 
-pub holding_counts : (ids : FinMap nat_cmp ℕ) (store : FinMap nat_cmp Clause) (state : LiveClausesState) → joined ids store ≡ state.live → IsPaired ids store → (l : Literal) (count : ℕ) → count ≡ copies_with store l →
-    (ks : List ℕ) → AllHold (maps.get state.live) l ks → length ks ≤ count
-holding_counts ids store state view paired l count count_is ks hold =
-    subst (λ n. length ks ≤ n) (sym count_is) (slots_counted ids l paired.own ks store hold.different (λ k member.
-    let h = hold.each k member in
-    by_slot k h (maps.get ids k) refl))
+-- the slot of an identifier whose clause holds the literal, and the clause in it
+pub holder : (ids : FinMap nat_cmp ℕ) (store : FinMap nat_cmp Clause) (state : LiveClausesState) → joined ids store ≡ state.live → IsPaired ids store → (l : Literal) (k : ℕ) → Holds (maps.get state.live) l k →
+    (slot : ℕ) × (maps.get ids k ≡ Some slot) × (c : Clause) × (maps.get store slot ≡ Some c) × (has c l ≡ true)
+holder ids store state view paired l k h = by_slot (maps.get ids k) refl
   where
-    by_slot : (k : ℕ) → Holds (maps.get state.live) l k → (o : Option ℕ) → maps.get ids k ≡ o → (slot : ℕ) × (maps.get ids k ≡ Some slot) × (c : Clause) × (maps.get store slot ≡ Some c) × (has c l ≡ true)
-    by_slot k h None e = absurd (none-some h.clause (sym (sym h.at ∙ got_none ids store state view k e)))
-    by_slot k h (Some slot) e = let w = by_clause (maps.get store slot) refl (paired.filled k slot e) in (slot, e, w.0, w.1, w.2)
+    by_slot : (o : Option ℕ) → maps.get ids k ≡ o → (slot : ℕ) × (maps.get ids k ≡ Some slot) × (c : Clause) × (maps.get store slot ≡ Some c) × (has c l ≡ true)
+    by_slot None e = absurd (none-some h.clause (sym (sym h.at ∙ got_none ids store state view k e)))
+    by_slot (Some slot) e = let w = by_clause (maps.get store slot) refl (paired.filled k slot e) in (slot, e, w.0, w.1, w.2)
       where
         by_clause : (o : Option Clause) → maps.get store slot ≡ o → IsSome (maps.get store slot) → (c : Clause) × (maps.get store slot ≡ Some c) × (has c l ≡ true)
         by_clause None g filled = absurd (none_is_not_some (maps.get store slot) g filled)
         by_clause (Some c) g filled =
             let same : h.clause ≡ c = same_Some h.clause c (sym h.at ∙ sym (got_some ids store state view k slot e c (sym g))) in
             (c, g, subst (λ d. has d l ≡ true) same h.member)
+
+pub holding_counts : (ids : FinMap nat_cmp ℕ) (store : FinMap nat_cmp Clause) (state : LiveClausesState) → joined ids store ≡ state.live → IsPaired ids store → (l : Literal) (count : ℕ) → count ≡ copies_with store l →
+    (ks : List ℕ) → AllHold (maps.get state.live) l ks → length ks ≤ count
+holding_counts ids store state view paired l count count_is ks hold =
+    subst (λ n. length ks ≤ n) (sym count_is) (slots_counted ids l paired.own ks store hold.different (λ k member. holder ids store state view paired l k (hold.each k member)))
 
 -- ---- At the start
 
@@ -373,6 +396,7 @@ module _ (ids : FinMap nat_cmp ℕ) (store : FinMap nat_cmp Clause) (no_ids : id
     record {
       filled = λ k slot at. absurd (none-some slot (sym (sym at ∙ none_bound k)));
       own = λ j k slot first second. absurd (none-some slot (sym (sym first ∙ none_bound j)));
+      used = λ slot some. absurd (none_is_not_some (maps.get store slot) (ap (λ m. maps.get m slot) no_clauses ∙ get-empty nat_cmp slot) some);
     },
     record {
       sum_is = ap literals_in no_clauses ∙ sum_empty size;

@@ -44,3 +44,7 @@ when_ok (Err y) P h p = absurd (true≢false h)
 pub when_err : {X Y : Type 0} (r : Result X Y) (P : Type 0) → is_err r ≡ true → OnErr r P → P
 when_err (Ok x) P e h = absurd (true≢false (sym e))
 when_err (Err y) P e h = h
+
+pub when_both : {X Y : Type 0} (r : Result X Y) {P Q R : Type 0} → (P → Q → R) → OnOk r P → OnOk r Q → OnOk r R
+when_both (Ok x) f p q = f p q
+when_both (Err y) f p q = tt

@@ -4,9 +4,11 @@ use Rattle.std.specs.FinMap as maps
 use Rattle.std.specs.FinMap.{FinMap}
 use Rattle.std.specs.Option.{unwrap_or}
 use Rattle.std.specs.Ordering.{nat_cmp}
-use Rattle.std.specs.Prelude.{ℕ, [], option_map, map, refl, ◌≡◌, Some, IsSome, ◌<◌, None}
+use Rattle.std.specs.Prelude.{ℕ, [], option_map, map, refl, ◌≡◌, Some, IsSome, ◌<◌, None, true}
+use Rattle.std.specs.Prelude.{List, slice_index}
 use Rattle.cnf_base.specs.Literals.{Clause}
 use Rattle.live_clauses.specs.LiveClauses.{LiveClausesState}
+use Rattle.live_clauses.specs.declared.owners.Owners.{Owners}
 use Rattle.theory.specs.Propagation.{Live}
 use Rattle.theory.specs.Sizes.{total}
 
@@ -28,10 +30,23 @@ live_clauses_code =
     (λ s. (s.live, (s.top, s.stored))) (λ p. record { live = p.0; top = p.1.0; stored = p.1.1 })
     (λ _. refl)
 
--- each identifier has a slot of its own, with a clause in it
+-- each identifier has a slot of its own, and those are the slots with a clause in them
 pub record IsPaired (ids : FinMap nat_cmp ℕ) (store : FinMap nat_cmp Clause) : Type 0 where
   pub filled : (k slot : ℕ) → maps.get ids k ≡ Some slot → IsSome (maps.get store slot)
   pub own : (j k slot : ℕ) → maps.get ids j ≡ Some slot → maps.get ids k ≡ Some slot → j ≡ k
+  pub used : (slot : ℕ) → IsSome (maps.get store slot) → (k : ℕ) × (maps.get ids k ≡ Some slot)
+
+-- the list has each identifier at its slot
+abbrev pub AreNoted : List ℕ → FinMap nat_cmp ℕ → Type 0
+AreNoted by_slot ids = (k slot : ℕ) → maps.get ids k ≡ Some slot → slice_index by_slot slot ≡ k
+
+-- the identifier noted for the slot, 0 where there is none
+abbrev pub owner_at : Owners → ℕ → ℕ
+owner_at owners slot = slice_index owners.by_slot.items slot
+
+-- where they are kept, each identifier is noted for its slot
+abbrev pub AreOwners : Owners → FinMap nat_cmp ℕ → Type 0
+AreOwners owners ids = owners.is_kept ≡ true → AreNoted owners.by_slot.items ids
 
 -- the sum is that of the sizes, and no identifier is past the greatest
 pub record IsTally (live : Live) (top sum : ℕ) : Type 0 where

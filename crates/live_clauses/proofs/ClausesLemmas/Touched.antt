@@ -1,0 +1,53 @@
+-- The clauses that a literal touches, by their slots and by their identifiers.
+use Rattle.std.proofs.Common.{◌≡◌, ℕ, Bool, true, false, ◌||◌, eqb, Some, List, [], ◌∷◌, map, refl}
+use Rattle.std.proofs.Common.{sym, ap, ◌∙◌, subst, slice_index}
+use Rattle.std.specs.Ordering.{nat_cmp}
+use Rattle.std.specs.FinMap as maps
+use Rattle.std.specs.FinMap.{FinMap}
+use Rattle.std.specs.List.Sorted.{IsStrictlyIncreasing, IsPermutation, IsSorted}
+use Rattle.std.proofs.lemmas.Bool.{or_left}
+use Rattle.std.proofs.lemmas.List.Sorted.{list_any-IsPermutation}
+use Rattle.std.proofs.lemmas.Option.{same_Some}
+use Rattle.cnf_base.specs.Literals.{Literal, Clause, complement, has}
+use Rattle.clause_db.specs.Store.{IsTouchedAt}
+use Rattle.live_clauses.specs.LiveClauses.{LiveClausesState, Holds}
+use Rattle.live_clauses.specs.Code.LiveClauses.{joined, IsPaired, AreNoted}
+use Rattle.live_clauses.proofs.ClausesLemmas.Distinct.{mapped_has, mapped_from, rising_mapped}
+use Rattle.live_clauses.proofs.ClausesLemmas.Joined.{got_some, holder, some_is_some}
+
+module _ (ids : FinMap nat_cmp ℕ) (store : FinMap nat_cmp Clause) (state : LiveClausesState) (view : joined ids store ≡ state.live) (paired : IsPaired ids store)
+    (by_slot : List ℕ) (noted : AreNoted by_slot ids) (l : Literal) (slots found : List ℕ)
+    (each : (s : ℕ) → has slots s ≡ true → IsTouchedAt store (l ∷ []) s) (all : (s : ℕ) → IsTouchedAt store (l ∷ []) s → has slots s ≡ true)
+    (moved : IsPermutation (map (λ s. slice_index by_slot s) slots) found) where
+  owner_of : (s : ℕ) → has slots s ≡ true → (k : ℕ) × (maps.get ids k ≡ Some s)
+  owner_of s member = let t = each s member in paired.used s (some_is_some (maps.get store s) t.clause t.at)
+
+  found_has : (k : ℕ) → has (map (λ s. slice_index by_slot s) slots) k ≡ has found k
+  found_has k = list_any-IsPermutation (λ j. eqb j k) _ _ moved
+
+  one_alone : (b : Bool) → (b || false) ≡ true → b ≡ true
+  one_alone true h = refl
+  one_alone false h = h
+
+  pub touched_each : (k : ℕ) → has found k ≡ true → Holds (maps.get state.live) (complement l) k
+  touched_each k member =
+      let w = mapped_from (λ s. slice_index by_slot s) slots k (found_has k ∙ member) in
+      let t = each w.0 w.1 in
+      let owner = owner_of w.0 w.1 in
+      subst (Holds (maps.get state.live) (complement l)) (sym (noted owner.0 w.0 owner.1) ∙ w.2)
+      (record { clause = t.clause; at = sym (got_some ids store state view owner.0 w.0 owner.1 t.clause (sym t.at)); member = one_alone (has t.clause (complement l)) t.touched })
+
+  pub touched_all : (k : ℕ) → Holds (maps.get state.live) (complement l) k → has found k ≡ true
+  touched_all k holds =
+      let w = holder ids store state view paired (complement l) k holds in
+      let member = all w.0 (record { clause = w.2; at = w.3; touched = or_left (has w.2 (complement l)) false w.4 }) in
+      sym (found_has k) ∙ subst (λ j. has (map (λ s. slice_index by_slot s) slots) j ≡ true) (noted k w.0 w.1) (mapped_has (λ s. slice_index by_slot s) slots w.0 member)
+
+  pub touched_rise : IsStrictlyIncreasing slots → IsSorted nat_cmp found → IsStrictlyIncreasing found
+  touched_rise rising sorted = rising_mapped (λ s. slice_index by_slot s) slots found one_to_one rising moved sorted
+    where
+      one_to_one : (r s : ℕ) → has slots r ≡ true → has slots s ≡ true → slice_index by_slot r ≡ slice_index by_slot s → r ≡ s
+      one_to_one r s left right same =
+          let first = owner_of r left in
+          let second = owner_of s right in
+          same_Some r s (sym first.1 ∙ ap (maps.get ids) (sym (noted first.0 r first.1) ∙ same ∙ noted second.0 s second.1) ∙ second.1)
