@@ -115,7 +115,7 @@ def wide_witness(n):
     return touched + [(top, top + 2), (top, -top - 2)], [clause(1, 1, *range(2, n + 2))]
 
 
-@kind(LRAT, 2000, is_linear=False)
+@kind(LRAT, 2000)
 def unnamed(n):
     """Again and again a clause whose one candidate no hint names, the last of n clauses. It is false at once."""
     clauses = [(i, i + 1) for i in range(3, n + 3)] + [(-1, 2)]
@@ -126,7 +126,7 @@ def unnamed(n):
     return clauses, proof
 
 
-@kind(LRAT, 1000, is_linear=False)
+@kind(LRAT, 1000)
 def unnamed_far(n):
     """The same with identifiers that are far from each other."""
     proof = [f"{PAGE * (i + 1)} 5 6 0 1 0" for i in range(n)]

@@ -1,8 +1,8 @@
 pub mod Deletions
-pub mod Different
 pub mod Ending
 pub mod Groups
 pub mod Hints
+pub mod Keys
 pub mod Remaining
 pub mod Rooms
 pub mod Starts

@@ -20,6 +20,7 @@ ghost use Rattle.theory.specs.Answers.{UnlessOutOfMemory};
 
 use crate::judge::Judge;
 use crate::lrat::addition::judge_addition;
+use crate::lrat::candidates::SearchRoom;
 use crate::lrat::deletions::delete_all;
 use crate::session::Session;
 use cnf_base::{Lit, OutOfMemory};
@@ -35,7 +36,7 @@ pub type LratSession = Session<LratJudge>;
 /// The live clauses of an LRAT proof, each at its identifier.
 #[derive(Drop)]
 pub struct LratJudge {
-    alloc: Global,
+    room: SearchRoom,
     held: LiveClauses,
     // empty between steps, with room for the variables of all live clauses
     trues: Trail,
@@ -43,27 +44,28 @@ pub struct LratJudge {
 
 /// Judges an addition whose identifier is right. The walk over its hints takes no memory.
 fn judge(
-    alloc: Global,
-    held: &LiveClauses,
+    room: &mut SearchRoom,
+    held: &mut LiveClauses,
     trues: &mut Trail,
     step: &StepBuf,
 ) -> Result<Accepted, Refusal>
-    requires ready { IsReady (maps.get held.now.live) trues.old }
-    ensures answer { UnlessOutOfMemory result (AnswersChain (maps.get held.now.live) step.now.lits
-        (groups_of step.now.hints) (chain (maps.get held.now.live) (complements step.now.lits)
+    requires ready { IsReady (maps.get held.old.live) trues.old }
+    ensures answer { UnlessOutOfMemory result (AnswersChain (maps.get held.old.live) step.now.lits
+        (groups_of step.now.hints) (chain (maps.get held.old.live) (complements step.now.lits)
         (units_of step.now.hints)) result) }
-    ensures ready { IsReady (maps.get held.now.live) trues.new }
+    ensures ready { IsReady (maps.get held.old.live) trues.new }
     ensures room { OnOk result (HasRoom trues.new.reserved step.now.lits) }
+    ensures same { held.new ≡ held.old }
 {
     trues.reserve_all(step.lits())?;
-    let answer = judge_addition(alloc, held, trues, step.lits(), step.hints());
+    let answer = judge_addition(room, held, trues, step.lits(), step.hints());
     trues.undo_to(0);
     answer
 }
 
 /// Judges an addition, and adds the clause where it is accepted.
 fn take_addition(
-    alloc: Global,
+    room: &mut SearchRoom,
     held: &mut LiveClauses,
     trues: &mut Trail,
     step: &StepBuf,
@@ -84,7 +86,7 @@ fn take_addition(
     if id <= held.top() {
         return Err(Refusal::IdOutOfOrder);
     }
-    let word = judge(alloc, held, trues, step)?;
+    let word = judge(room, held, trues, step)?;
     held.add(id, step.lits())?;
     Ok(word)
 }
@@ -96,7 +98,8 @@ impl Session<LratJudge> {
     {
         let held = LiveClauses::new(alloc)?;
         let trues = Trail::new(alloc)?;
-        Ok(Session::over(LratJudge { alloc, held, trues }))
+        let room = SearchRoom::new(alloc);
+        Ok(Session::over(LratJudge { room, held, trues }))
     }
 }
 
@@ -122,7 +125,7 @@ impl Judge for LratJudge {
 
     fn step(&mut self, step: &StepBuf) -> Result<Accepted, Refusal> {
         match step.kind() {
-            StepKind::Add => take_addition(self.alloc, &mut self.held, &mut self.trues, step),
+            StepKind::Add => take_addition(&mut self.room, &mut self.held, &mut self.trues, step),
             StepKind::Delete => match delete_all(&mut self.held, step.hints()) {
                 Some(id) => Err(Refusal::UnknownId(id)),
                 None => Ok(Accepted::Deleted),

@@ -1,103 +1,104 @@
--- Candidates without a group: those that are passed over, and how many are left.
-use Rattle.std.proofs.Common.{◌≡◌, ℕ, ◌+◌, ◌<◌, ◌≤◌, Bool, true, false, not, ◌&&◌, Option, Some}
-use Rattle.std.proofs.Common.{None, List, ◌∷◌, length, refl, ap, sym, ◌∙◌, subst, arith, nat_eq}
-use Rattle.std.proofs.Common.{inl, inr}
+-- Candidates without a group: whether there are any, and those that are passed over.
+use Rattle.std.proofs.Common.{◌≡◌, ℕ, ◌+◌, ◌<◌, ◌≤◌, Bool, true, false, not, ◌&&◌, ◌||◌, eqb, Option}
+use Rattle.std.proofs.Common.{Some, None, List, ◌∷◌, length, take, get_or, refl, ap, sym, ◌∙◌, subst}
+use Rattle.std.proofs.Common.{arith, nat_eq, eqb-true, inl, inr}
 use Rattle.std.specs.List.{IsDistinct}
+use Rattle.std.specs.List.Sorted.{IsStrictlyIncreasing}
+use Rattle.std.specs.Ordering.{nat_cmp}
+use Rattle.std.specs.declared.cmp.Ordering.TheVariants.{Less}
 use Rattle.std.proofs.lemmas.Bool.{false≢true, true≢false, false_from_ne_true, and_parts, not-true}
-use Rattle.std.proofs.lemmas.Bool.{cases_lt}
+use Rattle.std.proofs.lemmas.Bool.{cases_lt, cases_eq, or_cases}
+use Rattle.std.proofs.lemmas.Bool.Decides.{nat_tests}
+use Rattle.std.proofs.lemmas.Grind.{get_or_default_zero}
+use Rattle.std.proofs.lemmas.List.{take_all}
+use Rattle.std.proofs.lemmas.Map.Keys.{Less-from_sorted, sorted_from_strictly_increasing}
 use Rattle.cnf_base.specs.Literals.{Literal, complement, Clause, has}
+use Rattle.cnf_base.proofs.MemberLemmas.{place_of, has_front}
 use Rattle.cnf_base.proofs.SetLemmas.{has_cases}
+use Rattle.cnf_base.proofs.WalkLemmas.{has_more}
 use Rattle.theory.specs.Propagation.{Live}
-use Rattle.theory.specs.Lrat.{is_unsettled, with_candidate}
-use Rattle.theory.specs.Sets.{conflicts}
+use Rattle.theory.specs.Lrat.{is_unsettled}
 use Rattle.live_clauses.specs.LiveClauses.{Holds, AllHold}
-use Rattle.steps.specs.Code.Groups.{is_unnamed, needs_group_at}
-use Rattle.steps.proofs.LratLemmas.Different.{distinct_more}
+use Rattle.live_clauses.proofs.ClausesLemmas.Distinct.{distinct_more}
+use Rattle.steps.specs.Code.Groups.{is_unnamed, needs_group_at, IsFirstLeftOut}
 
 both_false : (b : Bool) → b && false ≡ false
 both_false true = refl
 both_false false = refl
 
+-- of numbers that rise, those below one stand before it
+in_front : (ids : List ℕ) → IsStrictlyIncreasing ids → (i x j : ℕ) → i < length ids → x ≡ get_or ids i x → j < x → has ids j ≡ true → has (take i ids) j ≡ true
+in_front ids rising i x j inside is below member =
+    let place = place_of ids j member in
+    let m = place.0 in
+    elim (cases_lt m i) [
+      | inl before ↦ subst (λ k. has (take i ids) k ≡ true) place.2 (has_front ids i m before place.1)
+      | inr from_on ↦ elim (cases_eq i m) [
+        | inl e ↦ let same : x ≡ j = is ∙ get_or_default_zero ids i x inside ∙ ap (λ n. get_or ids n 0) e ∙ place.2 in let wrong : ⊥ = omega (arith, below, same) in absurd wrong
+        | inr apart ↦
+            let later : i < m = omega (arith, from_on, apart) in
+            let rise = from_less (get_or ids i 0) (get_or ids m 0) (Less-from_sorted nat_cmp ids i m 0 (sorted_from_strictly_increasing ids rising) later place.1) in
+            let here : x ≡ get_or ids i 0 = is ∙ get_or_default_zero ids i x inside in
+            let wrong : ⊥ = omega (arith, below, rise, here, place.2) in
+            absurd wrong
+      ]
+    ]
+  where
+    from_less : (a b : ℕ) → nat_cmp a b ≡ Less → a < b
+    from_less a b e = grind (arith, nat_tests)
+
 module _ (live : Live) (ls : List Literal) (pivot : Literal) (named : List ℕ) where
-  unsettled_holds : (k : ℕ) → is_unsettled ls pivot (live k) ≡ true → Holds live (complement pivot) k
-  unsettled_holds k h = by_clause (live k) refl h
+  unnamed_holds : (k : ℕ) → is_unnamed live ls pivot named k ≡ true → Holds live (complement pivot) k
+  unnamed_holds k h = by_clause (live k) refl (and_parts _ _ h).1
     where
       by_clause : (o : Option Clause) → live k ≡ o → is_unsettled ls pivot o ≡ true → Holds live (complement pivot) k
       by_clause None e h = absurd (false≢true h)
       by_clause (Some c) e h = record { clause = c; at = e; member = (and_parts _ _ h).0 }
 
-  -- different clauses with the complement, that are named or not passed yet, are no more than those named and so many
-  abbrev pub Others : ℕ → ℕ → Type 0
-  Others from left =
-      (ids : List ℕ) → AllHold live (complement pivot) ids → ((k : ℕ) → has ids k ≡ true → has named k ≡ false → from ≤ k) → length ids ≤ left + length named
-
-  pub others_first : (count : ℕ) → ((ids : List ℕ) → AllHold live (complement pivot) ids → length ids ≤ count) → (left : ℕ) → count ≤ left + length named → Others 0 left
-  others_first count most left enough ids all low = let one = most ids all in omega (arith, one, enough)
-
-  pub others_passed : (from left : ℕ) → Others from left → (next : ℕ) → from ≤ next → Others next left
-  others_passed from left others next past ids all low = others ids all (λ k member apart. let l = low k member apart in omega (arith, l, past))
-
-  -- one of them is met
-  pub others_met : (from left : ℕ) → Others from left → (id : ℕ) → from ≤ id → has named id ≡ false → Holds live (complement pivot) id → (fewer : ℕ) → fewer + 1 ≡ left → Others (id + 1) fewer
-  others_met from left others id above apart holds fewer fewer_is ids all low =
-      let absent : has ids id ≡ false = false_from_ne_true (has ids id) (λ member. let l = low id member apart in let wrong : ⊥ = omega (arith, l) in wrong) in
-      let one_more = others (id ∷ ids) (record {
-        different = distinct_more id ids absent all.different;
-        each = λ j member. elim (has_cases id ids j member) [
-          | inl e ↦ subst (Holds live (complement pivot)) e holds
-          | inr later ↦ all.each j later
-        ];
-      }) (λ j member other. elim (has_cases id ids j member) [
-        | inl e ↦ omega (arith, e, above)
-        | inr later ↦ let l = low j later other in omega (arith, l, above)
-      ]) in
-      omega (arith, one_more, fewer_is)
-
-  -- none of them is left
-  pub others_none : ((k : ℕ) → has named k ≡ true → Holds live (complement pivot) k) → IsDistinct nat_eq named → (from left : ℕ) → Others from left → left ≡ 0 → (k : ℕ) → from ≤ k → is_unnamed live ls pivot named k ≡ false
-  others_none hold different from left others left_is k above =
+  -- where no more clauses have the complement than are named, none is left out
+  pub none_left : ((k : ℕ) → has named k ≡ true → Holds live (complement pivot) k) → IsDistinct nat_eq named →
+      (count : ℕ) → ((ids : List ℕ) → AllHold live (complement pivot) ids → length ids ≤ count) → count ≤ length named → IsFirstLeftOut live ls pivot named None
+  none_left hold different count most few k =
       false_from_ne_true (is_unnamed live ls pivot named k) (λ h.
-      let parts = and_parts _ _ h in
-      let one_more = others (k ∷ named) (record {
-        different = distinct_more k named (not-true (has named k) parts.0) different;
+      let one_more = most (k ∷ named) (record {
+        different = distinct_more k named (not-true (has named k) (and_parts _ _ h).0) different;
         each = λ j member. elim (has_cases k named j member) [
-          | inl e ↦ subst (Holds live (complement pivot)) e (unsettled_holds k parts.1)
+          | inl e ↦ subst (Holds live (complement pivot)) e (unnamed_holds k h)
           | inr known ↦ hold j known
         ];
-      }) (λ j member other. elim (has_cases k named j member) [
-        | inl e ↦ omega (arith, e, above)
-        | inr known ↦ absurd (true≢false (sym known ∙ other))
-      ]) in
-      let wrong : ⊥ = omega (arith, one_more, left_is) in
+      }) in
+      let wrong : ⊥ = omega (arith, one_more, few) in
       wrong)
 
-  -- where nothing is alive
+  -- ---- Whether one of them is left out
+
   pub not_alive : (k : ℕ) → live k ≡ None → is_unnamed live ls pivot named k ≡ false
   not_alive k e = ap (λ o. not (has named k) && is_unsettled ls pivot o) e ∙ both_false (not (has named k))
 
-  -- what is met is no candidate without a group, or gives a conflict at once
-  pub known_named : (id : ℕ) → has named id ≡ true → is_unnamed live ls pivot named id ≡ false
-  known_named id known = ap (λ b. not b && is_unsettled ls pivot (live id)) known
+  pub known_named : (k : ℕ) → has named k ≡ true → is_unnamed live ls pivot named k ≡ false
+  known_named k known = ap (λ b. not b && is_unsettled ls pivot (live k)) known
 
-  module _ (id : ℕ) (c : Clause) (at : live id ≡ Some c) where
-    pub no_candidate : has c (complement pivot) ≡ false → is_unnamed live ls pivot named id ≡ false
-    no_candidate absent =
-        ap (λ o. not (has named id) && is_unsettled ls pivot o) at
-        ∙ ap (λ b. not (has named id) && (b && not (conflicts (with_candidate ls c pivot)))) absent ∙ both_false (not (has named id))
+  pub unnamed_at : (k : ℕ) (c : Clause) → live k ≡ Some c → has named k ≡ false → (opposite : Literal) → opposite ≡ complement pivot → is_unnamed live ls pivot named k ≡ needs_group_at ls opposite c
+  unnamed_at k c at apart opposite is =
+      ap (λ b. not b && is_unsettled ls pivot (live k)) apart ∙ ap (is_unsettled ls pivot) at ∙ ap (λ l. needs_group_at ls l c) (sym is)
 
-    pub settled : (opposite : Literal) → opposite ≡ complement pivot → needs_group_at ls opposite c ≡ false → is_unnamed live ls pivot named id ≡ false
-    settled opposite is calm =
-        ap (λ o. not (has named id) && is_unsettled ls pivot o) at
-        ∙ ap (λ b. not (has named id) && b) (subst (λ l. needs_group_at ls l c ≡ false) is calm) ∙ both_false (not (has named id))
+  -- ---- The walk over all that have the complement
 
-  -- one step of the walk
-  pub passed_one : (from : ℕ) → ((k : ℕ) → k < from → is_unnamed live ls pivot named k ≡ false) → (id : ℕ) → ((k : ℕ) → from ≤ k → k < id → live k ≡ None) → is_unnamed live ls pivot named id ≡ false →
-      (k : ℕ) → k < id + 1 → is_unnamed live ls pivot named k ≡ false
-  passed_one from passed id over here k lt =
-      elim (cases_lt k from) [
-        | inl before ↦ passed k before
-        | inr from_on ↦ elim (cases_lt k id) [
-          | inl between ↦ not_alive k (over k from_on between)
-          | inr last ↦ let same : id ≡ k = omega (arith, lt, last) in subst (λ n. is_unnamed live ls pivot named n ≡ false) same here
-        ]
-      ]
+  module _ (ids : List ℕ) where
+    -- none of the first is left out
+    abbrev pub Passed : ℕ → Type 0
+    Passed i = (k : ℕ) → has (take i ids) k ≡ true → is_unnamed live ls pivot named k ≡ false
+
+    pub passed_more : (i x : ℕ) → i < length ids → x ≡ get_or ids i x → Passed i → is_unnamed live ls pivot named x ≡ false → Passed (i + 1)
+    passed_more i x inside is passed here k member = elim (or_cases (has (take i ids) k) (eqb x k) (sym (has_more ids i inside x is k) ∙ member)) [
+      | inl before ↦ passed k before
+      | inr same ↦ subst (λ n. is_unnamed live ls pivot named n ≡ false) (eqb-true x k same) here
+    ]
+
+    module _ (all : (k : ℕ) → Holds live (complement pivot) k → has ids k ≡ true) where
+      pub first_found : IsStrictlyIncreasing ids → (i x : ℕ) → i < length ids → x ≡ get_or ids i x → Passed i → is_unnamed live ls pivot named x ≡ true → IsFirstLeftOut live ls pivot named (Some x)
+      first_found rising i x inside is passed here =
+          (here, λ j below. false_from_ne_true (is_unnamed live ls pivot named j) (λ h. true≢false (sym h ∙ passed j (in_front ids rising i x j inside is below (all j (unnamed_holds j h))))))
+
+      pub none_found : (i : ℕ) → length ids ≤ i → Passed i → IsFirstLeftOut live ls pivot named None
+      none_found i past passed k = false_from_ne_true (is_unnamed live ls pivot named k) (λ h. true≢false (sym h ∙ passed k (ap (λ l. has l k) (take_all i ids past) ∙ all k (unnamed_holds k h))))

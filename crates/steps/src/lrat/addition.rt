@@ -10,60 +10,63 @@ ghost use Rattle.trail.specs.Trail.{HasRoom, HasRoomForAll};
 ghost use Rattle.steps.specs.Code.Walk.{IsEnd};
 ghost use Rattle.theory.specs.Answers.{UnlessOutOfMemory};
 
-use crate::lrat::candidates::{first_left_out, judge_groups};
+use crate::lrat::candidates::{SearchRoom, first_left_out, judge_groups};
 use crate::lrat::named::Named;
 use crate::lrat::walk::{WalkEnd, walk};
 use crate::word::word_of;
 use cnf_base::Lit;
 use live_clauses::LiveClauses;
-use std::alloc::Global;
 use theory::{Accepted, Refusal};
 use trail::{Trail, Whole};
 
 /// The answer where the unit hints gave no conflict: the groups in their order, and then the candidates without one.
 fn judge_candidates(
-    live: &LiveClauses,
+    live: &mut LiveClauses,
     trues: &mut Trail,
     pivot: Lit,
     named: &mut Named,
     hints: &[i64],
+    ids: &mut Vec<u64>,
 ) -> Result<Accepted, Refusal>
     requires quiet { IsFalse (conflicts trues.old.lits) }
-    requires room { HasRoomForAll trues.old.reserved (maps.get live.now.live) }
+    requires room { HasRoomForAll trues.old.reserved (maps.get live.old.live) }
     requires none_named { named.old ≡ [] }
     ensures answer { UnlessOutOfMemory result
-        (AnswersGroups (maps.get live.now.live) trues.old.lits pivot (groups_of hints.now)
-        (groups_refusal (maps.get live.now.live) trues.old.lits pivot [] (groups_of hints.now))
+        (AnswersGroups (maps.get live.old.live) trues.old.lits pivot (groups_of hints.now)
+        (groups_refusal (maps.get live.old.live) trues.old.lits pivot [] (groups_of hints.now))
         result) }
     ensures reserved { SameSet trues.new.reserved trues.old.reserved }
+    ensures same { live.new ≡ live.old }
 {
     match judge_groups(live, trues, pivot, named, hints)? {
         Some(refusal) => Err(refusal),
-        None => match first_left_out(live, trues, pivot, named) {
+        None => match first_left_out(live, trues, pivot, named, ids)? {
             Some(id) => Err(Refusal::Unnamed(id)),
             None => Ok(Accepted::Rat),
         },
     }
 }
 
-/// The answer where the unit hints gave no conflict. Only the set of the candidates that groups name takes memory.
+/// The answer where the unit hints gave no conflict. Only the set of the candidates that groups name takes memory, and the search for
+/// others.
 fn judge_rat(
-    alloc: Global,
-    live: &LiveClauses,
+    room: &mut SearchRoom,
+    live: &mut LiveClauses,
     trues: &mut Trail,
     pivot: Lit,
     hints: &[i64],
 ) -> Result<Accepted, Refusal>
     requires quiet { IsFalse (conflicts trues.old.lits) }
-    requires room { HasRoomForAll trues.old.reserved (maps.get live.now.live) }
+    requires room { HasRoomForAll trues.old.reserved (maps.get live.old.live) }
     ensures answer { UnlessOutOfMemory result
-        (AnswersGroups (maps.get live.now.live) trues.old.lits pivot (groups_of hints.now)
-        (groups_refusal (maps.get live.now.live) trues.old.lits pivot [] (groups_of hints.now))
+        (AnswersGroups (maps.get live.old.live) trues.old.lits pivot (groups_of hints.now)
+        (groups_refusal (maps.get live.old.live) trues.old.lits pivot [] (groups_of hints.now))
         result) }
     ensures reserved { SameSet trues.new.reserved trues.old.reserved }
+    ensures same { live.new ≡ live.old }
 {
-    let mut named = Named::new(alloc);
-    judge_candidates(live, trues, pivot, &mut named, hints)
+    let mut named = Named::new(room.alloc);
+    judge_candidates(live, trues, pivot, &mut named, hints, &mut room.ids)
 }
 
 /// Walks over the unit hints from where the clause is false.
@@ -84,26 +87,27 @@ fn walk_units(live: &LiveClauses, trues: &mut Trail, clause: &[Lit], hints: &[i6
 
 /// The answer to an addition whose identifier is right. It takes memory only where the unit hints give no conflict.
 pub(crate) fn judge_addition(
-    alloc: Global,
-    live: &LiveClauses,
+    room: &mut SearchRoom,
+    live: &mut LiveClauses,
     trues: &mut Trail,
     clause: &[Lit],
     hints: &[i64],
 ) -> Result<Accepted, Refusal>
     requires none_true { trues.old.lits ≡ [] }
-    requires room { HasRoomForAll trues.old.reserved (maps.get live.now.live) }
+    requires room { HasRoomForAll trues.old.reserved (maps.get live.old.live) }
     requires clause_room { HasRoom trues.old.reserved clause.now }
-    ensures answer { UnlessOutOfMemory result (AnswersChain (maps.get live.now.live) clause.now
-        (groups_of hints.now) (chain (maps.get live.now.live) (complements clause.now)
+    ensures answer { UnlessOutOfMemory result (AnswersChain (maps.get live.old.live) clause.now
+        (groups_of hints.now) (chain (maps.get live.old.live) (complements clause.now)
         (units_of hints.now)) result) }
     ensures reserved { SameSet trues.new.reserved trues.old.reserved }
+    ensures same { live.new ≡ live.old }
 {
     match walk_units(live, trues, clause, hints) {
         WalkEnd::Conflict => Ok(word_of(clause)),
         WalkEnd::UnknownId(k) => Err(Refusal::UnknownId(k)),
         WalkEnd::NotUnit(k) => Err(Refusal::NotUnit(k)),
         WalkEnd::Open => match clause.first() {
-            Some(pivot) => judge_rat(alloc, live, trues, *pivot, hints),
+            Some(pivot) => judge_rat(room, live, trues, *pivot, hints),
             None => Err(Refusal::NoConflict),
         },
     }

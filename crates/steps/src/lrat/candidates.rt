@@ -1,6 +1,7 @@
 //! The clauses that hold the complement of the pivot: those that groups of hints name, and the others.
 
 ghost use Rattle.std.specs.Prelude.{◌≡◌, ◌==◌, ◌||◌, ℕ, Some, [], IfOk, IfNone, IsTrue, IsFalse};
+ghost use Rattle.std.specs.List.Sorted.{IsStrictlyIncreasing};
 ghost use Rattle.std.specs.FinMap as maps;
 ghost use Rattle.cnf_base.specs.Literals.{complement, has};
 ghost use Rattle.theory.specs.Lrat.{group_refusal, groups_refusal, units_of, groups_of};
@@ -8,14 +9,33 @@ ghost use Rattle.theory.specs.Sets.{conflicts, SameSet};
 ghost use Rattle.trail.specs.Trail.{HasRoom, HasRoomForAll};
 ghost use Rattle.live_clauses.specs.LiveClauses.{Holds};
 ghost use Rattle.steps.specs.Code.Groups.{named_in, needs_group_at, IsGroupEnd, IsFirstLeftOut};
+ghost use Rattle.steps.specs.Code.Groups.{is_unnamed};
 
 use crate::lrat::named::Named;
 use crate::lrat::walk::{WalkEnd, refusal_of, walk};
-use cnf_base::Lit;
+use cnf_base::{Lit, OutOfMemory};
 use live_clauses::LiveClauses;
-use std::alloc::AllocError;
+use std::alloc::{AllocError, Global};
 use theory::Refusal;
 use trail::{Except, Trail};
+
+/// What the tests of a step take memory from, and room that they keep from step to step.
+#[derive(Drop)]
+pub(crate) struct SearchRoom {
+    pub(crate) alloc: Global,
+    /// The identifiers of the candidates.
+    pub(crate) ids: Vec<u64>,
+}
+
+impl SearchRoom {
+    /// It takes no memory.
+    pub(crate) fn new(alloc: Global) -> Self {
+        SearchRoom {
+            alloc,
+            ids: Vec::new(alloc),
+        }
+    }
+}
 
 /// Walks over a group's hints from where what is left of its candidate is false. The true literals stay as they were.
 fn walk_group(
@@ -135,38 +155,72 @@ fn needs_group(trues: &mut Trail, opposite: Lit, clause: &[Lit]) -> bool
     !is_settled
 }
 
-/// The lowest identifier of a candidate that no group names and that gives no conflict at once.
-pub(crate) fn first_left_out(
+/// Whether the clause is a candidate that no group names and that gives no conflict at once.
+fn is_left_out(live: &LiveClauses, trues: &mut Trail, pivot: Lit, named: &Named, id: u64) -> bool
+    requires quiet { IsFalse (conflicts trues.old.lits) }
+    requires room { HasRoomForAll trues.old.reserved (maps.get live.now.live) }
+    ensures unnamed { result ≡
+        is_unnamed (maps.get live.now.live) trues.old.lits pivot named.now id }
+    ensures lits { trues.new.lits ≡ trues.old.lits }
+    ensures reserved { SameSet trues.new.reserved trues.old.reserved }
+{
+    if named.contains(id) {
+        return false;
+    }
+    match live.get(id) {
+        Some(clause) => needs_group(trues, pivot.neg(), clause),
+        None => false,
+    }
+}
+
+/// The first of these identifiers whose clause is a candidate that no group names and that gives no conflict at once.
+fn first_unnamed(
     live: &LiveClauses,
     trues: &mut Trail,
     pivot: Lit,
     named: &Named,
+    ids: &[u64],
 ) -> Option<u64>
     requires quiet { IsFalse (conflicts trues.old.lits) }
     requires room { HasRoomForAll trues.old.reserved (maps.get live.now.live) }
-    requires hold { (k : ℕ) → IsTrue (has named.now k) →
-        Holds (maps.get live.now.live) (complement pivot) k }
+    requires ascending { IsStrictlyIncreasing ids.now }
+    requires all { (k : ℕ) → Holds (maps.get live.now.live) (complement pivot) k →
+        IsTrue (has ids.now k) }
     ensures first { IsFirstLeftOut (maps.get live.now.live) trues.old.lits pivot named.now result }
     ensures lits { trues.new.lits ≡ trues.old.lits }
     ensures reserved { SameSet trues.new.reserved trues.old.reserved }
 {
-    let opposite = pivot.neg();
-    // Each named clause holds the complement, so these are the others that do.
-    let mut left = live.holding(opposite).saturating_sub(named.len() as u64);
-    let top = live.top();
-    let mut from = 0;
-    while left > 0 {
-        let (id, clause) = live.next(from)?;
-        if clause.contains(&opposite) && !named.contains(id) {
-            if needs_group(trues, opposite, clause) {
-                return Some(id);
-            }
-            left -= 1;
+    for id in ids {
+        if is_left_out(live, trues, pivot, named, *id) {
+            return Some(*id);
         }
-        if id >= top {
-            return None;
-        }
-        from = id + 1;
     }
     None
+}
+
+/// The lowest identifier of a candidate that no group names and that gives no conflict at once. It takes memory only where some
+/// candidate is not named.
+pub(crate) fn first_left_out(
+    live: &mut LiveClauses,
+    trues: &mut Trail,
+    pivot: Lit,
+    named: &Named,
+    ids: &mut Vec<u64>,
+) -> Result<Option<u64>, OutOfMemory>
+    requires quiet { IsFalse (conflicts trues.old.lits) }
+    requires room { HasRoomForAll trues.old.reserved (maps.get live.old.live) }
+    requires hold { (k : ℕ) → IsTrue (has named.now k) →
+        Holds (maps.get live.old.live) (complement pivot) k }
+    ensures first { IfOk result
+        (IsFirstLeftOut (maps.get live.old.live) trues.old.lits pivot named.now) }
+    ensures lits { trues.new.lits ≡ trues.old.lits }
+    ensures reserved { SameSet trues.new.reserved trues.old.reserved }
+    ensures same { live.new ≡ live.old }
+{
+    // Each named clause holds the complement, so that no other does where these are as many.
+    if live.holding(pivot.neg()) <= named.len() as u64 {
+        return Ok(None);
+    }
+    live.touched(pivot, ids)?;
+    Ok(first_unnamed(live, trues, pivot, named, ids.as_slice()))
 }

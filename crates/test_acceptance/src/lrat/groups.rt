@@ -116,7 +116,7 @@ const ON_G: [(&str, &str, &str); 3] = [
     ),
 ];
 
-const ROWS: [Row<'static>; 3] = [
+const ROWS: [Row<'static>; 4] = [
     Row {
         name: "definition_by_groups, verified",
         formula: E,
@@ -140,6 +140,17 @@ const ROWS: [Row<'static>; 3] = [
         second: b"3 -1 -2 0 0\n",
         lines: "c formula 3 variables 2 clauses\n\
             c step 1: clause 2 holds the complement and is not named",
+        status: 1,
+        ..LRAT_TRACED
+    },
+    // The second step leaves 2 unnamed. Then clause 1 makes room for clause 4, and clause 5 is added after it.
+    Row {
+        name: "a candidate that isn't named, in the place of a deleted clause",
+        formula: G,
+        second: b"2 3 -1 0 0\n3 -3 1 0 0\n3 d 1 0\n4 4 5 0 0\n5 6 0 0\n6 -4 0 0\n",
+        lines: "c formula 2 variables 1 clauses\n\
+            c 1 add rat\nc 2 add rat\nc 3 delete\nc 4 add rat\nc 5 add rat\n\
+            c step 6: clause 4 holds the complement and is not named",
         status: 1,
         ..LRAT_TRACED
     },

@@ -4,6 +4,7 @@ use Rattle.cnf_base.specs.Literals.{complements}
 use Rattle.theory.specs.Answers.{StepAnswer, UnlessOutOfMemory}
 use Rattle.theory.specs.Lrat.{AnswersChain, chain, groups_of, units_of}
 use Rattle.trail.specs.Trail.{HasRoom}
+use Rattle.steps.specs.Code.Ready.{IsReady}
 use Rattle.steps.proofs.LratLemmas.Ending.{chain_never}
 use Rattle.steps.proofs.LratLemmas.Rooms.{ready_with}
 use Rattle.steps.proofs.lrat.take_addition.Goals as goal
@@ -11,7 +12,9 @@ use Rattle.steps.proofs.lrat.take_addition.Goals as goal
 pub returns-clause-ready : goal.returns-clause-ready
 returns-clause-ready c =
     let trues = c.judge.new.trues in
-    ready_with trues (maps.get c.args.held.now.live) (maps.get c.add.new.self.live) c.id-id.result c.lits.result.now c.in_ok-add.ensures.live c.judge.ensures.ready
+    let held = c.judge.new.held in
+    ready_with trues (maps.get held.live) (maps.get c.add.new.self.live) c.id-id.result c.lits.result.now c.in_ok-add.ensures.live
+    (subst (λ held. IsReady (maps.get held.live) trues) (sym c.judge.ensures.same) c.judge.ensures.ready)
     (subst (HasRoom trues.reserved) (sym c.lits.ensures) c.in_ok-word.ensures.room)
 
 pub returns-in_err-word-clause-never_ended : goal.returns-in_err-word-clause-never_ended

@@ -1,4 +1,4 @@
-use Rattle.steps.proofs.LratLemmas.Different.{inserted}
+use Rattle.steps.proofs.LratLemmas.Keys.{inserted}
 use Rattle.steps.proofs.lrat.named.Named.insert.Goals as goal
 
 pub returns-clause-ids : goal.returns-clause-ids

@@ -1,6 +1,6 @@
 use Rattle.std.proofs.Common.{nat_eq, subst}
 use Rattle.std.specs.List.{IsDistinct}
-use Rattle.steps.proofs.LratLemmas.Different.{distinct_from_sorted}
+use Rattle.live_clauses.proofs.ClausesLemmas.Distinct.{distinct_from_sorted}
 use Rattle.steps.proofs.lrat.named.Named.len.Goals as goal
 
 pub returns-clause-different : goal.returns-clause-different
