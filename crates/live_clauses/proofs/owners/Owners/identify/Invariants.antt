@@ -1,4 +1,4 @@
-use Rattle.std.proofs.Common.{◌≡◌, ◌+◌, ◌-◌, ◌≤◌, ◌++◌, length, map, take, vec_len, vec_capacity}
+use Rattle.std.proofs.Common.{◌≡◌, ◌+◌, ◌-◌, ◌≤◌, length, map, take, vec_len, vec_capacity}
 use Rattle.live_clauses.specs.Code.LiveClauses.{owner_at}
 use Rattle.live_clauses.proofs.owners.Owners.identify.Given as goal
 

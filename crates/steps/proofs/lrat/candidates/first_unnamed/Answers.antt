@@ -1,4 +1,4 @@
-use Rattle.std.proofs.Common.{◌≡◌, false, true, slice_index, sym, ap, ◌∙◌}
+use Rattle.std.proofs.Common.{slice_index, sym, ap, ◌∙◌}
 use Rattle.std.specs.FinMap as maps
 use Rattle.std.proofs.lemmas.Grind.{get_or_default_zero}
 use Rattle.steps.specs.Code.Groups.{is_unnamed}
