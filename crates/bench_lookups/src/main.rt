@@ -2,7 +2,8 @@
 //!
 //!     bench_lookups ids|trail|store COUNT
 //!
-//! It fills identifiers, a trail or a store, does COUNT look-ups in an order that jumps, and prints how many found what is there.
+//! It fills identifiers, a trail or a store, does COUNT look-ups in an order that jumps, and prints
+//! how many found what is there.
 #![tactic(auto)]
 
 ghost use Rattle.std.specs.Prelude.{◌<◌};

@@ -41,9 +41,10 @@ use tables::{Table, key};
 
 /// The live clauses of a proof checker, each in a slot that the store picks.
 ///
-/// Contracts see it as a finite map from the numbers of the slots to the clauses, and the number of literals that it keeps.
-/// A clause is the set of its literals: the store keeps each literal once, in an order that it picks. One with
-/// [`NoIndex`](crate::NoIndex) finds no clause by its literals, and takes less memory.
+/// Contracts see it as a finite map from the numbers of the slots to the clauses, and the number of
+/// literals that it keeps. A clause is the set of its literals: the store keeps each literal once,
+/// in an order that it picks. One with [`NoIndex`](crate::NoIndex) finds no clause by its literals,
+/// and takes less memory.
 #[derive(Drop)]
 pub struct Store<I: Indexing = Index> {
     alloc: Global,
@@ -84,7 +85,8 @@ impl<I: Indexing> Model for Store<I> {
         × AreKept s.occurrences (clauses_in s.entries) };
 }
 
-/// A store with more clauses would take far more memory than there is. Counts and places have four bytes.
+/// A store with more clauses would take far more memory than there is. Counts and places have four
+/// bytes.
 const MOST: usize = 4294967295;
 
 /// Makes room for one more clause.
@@ -101,7 +103,8 @@ fn make_room(entries: &mut Slab<Entry>) -> Result<(), OutOfMemory>
     Ok(())
 }
 
-/// Makes room for a clause with these literals, and counts each of them. Where memory is refused, nothing is counted.
+/// Makes room for a clause with these literals, and counts each of them. Where memory is refused,
+/// nothing is counted.
 fn take_in(
     alloc: Global,
     entries: &mut Slab<Entry>,
@@ -198,7 +201,8 @@ impl<I: Indexing> Store<I> {
         }
     }
 
-    /// Stores a clause in a slot that is free, and fails only where memory is refused. A repeated literal is kept once.
+    /// Stores a clause in a slot that is free, and fails only where memory is refused. A repeated
+    /// literal is kept once.
     pub fn insert(&mut self, lits: &[Lit]) -> Result<Slot, OutOfMemory>
         ensures free { IfOk result (λ slot. maps.get self.old.live slot ≡ None) }
         ensures stored { IfOk result (λ slot. (c : Clause) ×
@@ -248,7 +252,8 @@ impl<I: Indexing> Store<I> {
         entry.lits.as_slice()
     }
 
-    /// What holds of each store: no clause repeats a literal, and no literals are kept but those of the live clauses.
+    /// What holds of each store: no clause repeats a literal, and no literals are kept but those of
+    /// the live clauses.
     pub fn recall_invariant(&self)
         ensures different { (s : ℕ) (c : Clause) → maps.get self.now.live s ≡ Some c →
             size c ≡ length c }
@@ -274,7 +279,8 @@ impl<I: Indexing> Store<I> {
         }
     }
 
-    /// The sum of the lengths of the lists of literals that it keeps, which is that of the sizes of the clauses; `2^64 - 1` where it is greater.
+    /// The sum of the lengths of the lists of literals that it keeps, which is that of the sizes of
+    /// the clauses; `2^64 - 1` where it is greater.
     pub fn literals(&self) -> u64
         ensures value { result ≡ min self.now.stored 18446744073709551615 }
         ensures live_alone { self.now.stored ≡ literals_in self.now.live }
@@ -282,11 +288,12 @@ impl<I: Indexing> Store<I> {
         self.sum.min(18446744073709551615) as u64
     }
 
-    /// Gathers the slots of the clauses that the literals touch, in ascending order: that have the complement of one of them. `into` is
-    /// emptied first.
+    /// Gathers the slots of the clauses that the literals touch, in ascending order: that have the
+    /// complement of one of them. `into` is emptied first.
     ///
-    /// The first call goes over all clauses, and notes where each literal occurs. From then on this is kept, and a call takes as
-    /// long as the lists of these literals are, and as sorting what is found.
+    /// The first call goes over all clauses, and notes where each literal occurs. From then on this
+    /// is kept, and a call takes as long as the lists of these literals are, and as sorting what is
+    /// found.
     ///
     /// # Errors
     ///
@@ -324,14 +331,16 @@ impl Store<NoIndex> {
 }
 
 impl Store {
-    /// No clauses. Whoever chooses them can choose some with one hash, which makes the searches long: see [`Store::seeded`].
+    /// No clauses. Whoever chooses them can choose some with one hash, which makes the searches
+    /// long: see [`Store::seeded`].
     pub fn new(alloc: Global) -> Result<Self, OutOfMemory>
         ensures { IfOk result (λ s. s ≡ record { live = maps.empty; stored = 0 }) }
     {
         Store::seeded(alloc, 0)
     }
 
-    /// No clauses. They will be hashed by the seed, a number that whoever chooses them shouldn't know. No answer depends on it.
+    /// No clauses. They will be hashed by the seed, a number that whoever chooses them shouldn't
+    /// know. No answer depends on it.
     pub fn seeded(alloc: Global, seed: u64) -> Result<Self, OutOfMemory>
         ensures { IfOk result (λ s. s ≡ record { live = maps.empty; stored = 0 }) }
     {

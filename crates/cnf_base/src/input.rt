@@ -22,15 +22,16 @@ pub struct ReadFailed;
 
 /// A reader of bytes.
 pub trait In {
-    /// The bytes that it has left, where they are known, its end or its failure, where it has given that, and how many
-    /// bytes may still be read of it at most, so that a loop to the end ends.
+    /// The bytes that it has left, where they are known, its end or its failure, where it has given
+    /// that, and how many bytes may still be read of it at most, so that a loop to the end ends.
     ghost shown: { Self → Reader };
 
     /// The borrows that it goes through, so that a reader is known again.
     ghost borrows: { Self → List ℕ } = { λ _. [] };
 
-    /// Puts bytes to the front of the buffer, and answers how many; none is the end, where the buffer isn't empty. Once it
-    /// gave its end or an error, it answers that again, and stays as it is.
+    /// Puts bytes to the front of the buffer, and answers how many; none is the end, where the
+    /// buffer isn't empty. Once it gave its end or an error, it answers that again, and stays as it
+    /// is.
     fn read(&mut self, buf: &mut [u8]) -> io::Result<usize>
         ensures bound { ReadsAtMost result buf.new }
         ensures bytes { ReadConsumes (shown self.old).left (shown self.new).left result buf.new }
@@ -53,8 +54,8 @@ impl<R: In> In for &mut R {
     }
 }
 
-/// A reader of the standard library, which keeps its end or its first error. A read that might go past the first `u64::MAX`
-/// bytes fails.
+/// A reader of the standard library, which keeps its end or its first error. A read that might go
+/// past the first `u64::MAX` bytes fails.
 #[derive(Drop)]
 pub struct FromRead<R: Read> {
     inner: R,

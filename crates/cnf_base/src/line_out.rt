@@ -10,7 +10,8 @@ use std::marker::Model;
 
 const ROOM: usize = 128;
 
-/// Writes lines, up to the first failure. A line of fewer than 128 bytes goes to the writer in one call with its line feed.
+/// Writes lines, up to the first failure. A line of fewer than 128 bytes goes to the writer in one
+/// call with its line feed.
 #[derive(Drop)]
 pub struct LineOut<W: Out> {
     writer: W,

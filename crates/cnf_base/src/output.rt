@@ -62,8 +62,8 @@ impl<W: Out> Out for &mut W {
     }
 }
 
-/// A writer of the standard library, which remembers whether a write or a flush has failed, and whether a flush has
-/// succeeded since the last write.
+/// A writer of the standard library, which remembers whether a write or a flush has failed, and
+/// whether a flush has succeeded since the last write.
 #[derive(Drop)]
 pub struct ToWrite<W> {
     inner: W,

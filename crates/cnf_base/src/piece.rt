@@ -7,7 +7,8 @@ use std::alloc::Global;
 
 const SIZE: usize = 65536;
 
-/// The room of a source, 65536 bytes. It is made before there is a source, so that the source itself takes no memory.
+/// The room of a source, 65536 bytes. It is made before there is a source, so that the source
+/// itself takes no memory.
 #[derive(Drop)]
 pub struct Piece {
     pub(crate) bytes: Vec<u8>,

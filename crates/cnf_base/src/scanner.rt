@@ -60,8 +60,8 @@ impl<R: In> Scanner<R> {
     }
 }
 
-// The next token, where it is a number that stands whole after one space, as most tokens of a proof are. The place in the piece
-// is written once for both, since the next token waits for it.
+// The next token, where it is a number that stands whole after one space, as most tokens of a proof
+// are. The place in the piece is written once for both, since the next token waits for it.
 #[inline(always)]
 fn spaced_number<R: In>(source: &mut Source<R>) -> Option<Token>
     ensures tokens { IfSome result (λ token. Along source.old source.new (λ i j.

@@ -142,7 +142,8 @@ impl<R: In> Source<R> {
         }
     }
 
-    // Takes the byte that was shown, where it is no line feed: one comparison less for each byte of a token.
+    // Takes the byte that was shown, where it is no line feed: one comparison less for each byte of
+    // a token.
     #[inline(always)]
     pub(crate) fn bump_in_line(&mut self)
         requires ahead { 0 < length self.old.ahead }

@@ -17,7 +17,8 @@ pub struct Args {
     pub strict: bool,
     /// `--pr`: an addition may list a set after its clause.
     pub pr: bool,
-    /// `--keep-units`: a deletion of a live clause that makes a literal of it hold for good is ignored.
+    /// `--keep-units`: a deletion of a live clause that makes a literal of it hold for good is
+    /// ignored.
     pub keep_units: bool,
     /// The name of the file with the formula.
     pub formula: String,

@@ -117,7 +117,8 @@ fn refusal(text: Result<String, AllocError>) -> ArgsFault {
     }
 }
 
-/// What to show of an error of `clap`: its text, which is the help or the version where that was asked for.
+/// What to show of an error of `clap`: its text, which is the help or the version where that was
+/// asked for.
 fn fault_from(alloc: Global, error: &Error) -> ArgsFault
     ensures { kind_of error.now ≡ ErrorKind.OutOfMemory → result ≡ ArgsFault.OutOfMemory }
 {

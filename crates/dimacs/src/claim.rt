@@ -10,8 +10,8 @@ use crate::said::Said;
 use cnf_base::{Fault, In, ReadFailed, Scanner, Source, Token};
 use std::alloc::Global;
 
-/// Reads a solver's output whole, in the form of the SAT Competition: the model that it claims, or the first fault. The reader
-/// is handed back in every case.
+/// Reads a solver's output whole, in the form of the SAT Competition: the model that it claims, or
+/// the first fault. The reader is handed back in every case.
 pub fn read_claim<R: In>(alloc: Global, source: Source<R>) -> (Result<Model, Fault>, R)
     // The claim of the output is this, whatever may follow a fault.
     ensures claim { (last : Stream) × IsLeft last (R.shown result.1) (R.borrows result.1)

@@ -7,7 +7,8 @@ use cnf_base::{Lit, OutOfMemory};
 use std::alloc::Global;
 use std::marker::Model;
 
-/// The literals of a clause in written order. A reader fills it again and again, and it keeps its room.
+/// The literals of a clause in written order. A reader fills it again and again, and it keeps its
+/// room.
 #[derive(Drop)]
 pub struct ClauseBuf {
     lits: Vec<Lit>,

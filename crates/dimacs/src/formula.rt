@@ -111,9 +111,9 @@ impl<R: In> FormulaReader<R> {
         self.header.clauses
     }
 
-    /// Puts the next clause into the buffer. After the last one it answers false, at every call; after a fault, that
-    /// fault. After a fault or false the buffer's content is open. No more than the clause is taken of the input, also
-    /// where memory is refused.
+    /// Puts the next clause into the buffer. After the last one it answers false, at every call;
+    /// after a fault, that fault. After a fault or false the buffer's content is open. No more than
+    /// the clause is taken of the input, also where memory is refused.
     pub fn next(&mut self, clause: &mut ClauseBuf) -> Result<bool, Fault>
         ensures clause { Along self.old.stream self.new.stream
             (λ i j. GivesClause result clause.new (clauses_to_come self.old i)

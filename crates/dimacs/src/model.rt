@@ -9,7 +9,8 @@ use std::alloc::Global;
 use std::marker;
 use tables::{Table, key};
 
-/// The literals that a solver's output lists as true. No other literal is true, and none is listed with its complement.
+/// The literals that a solver's output lists as true. No other literal is true, and none is listed
+/// with its complement.
 ///
 /// Contracts see it as the list of these literals, in some order.
 #[derive(Drop)]
@@ -34,7 +35,8 @@ impl marker::Model for Model {
 }
 
 impl Model {
-    /// Whether the literal is listed, in constant time where the listed ones are dense, and else in a logarithm of their number.
+    /// Whether the literal is listed, in constant time where the listed ones are dense, and else in
+    /// a logarithm of their number.
     #[inline(always)]
     pub fn holds(&self, lit: Lit) -> bool
         ensures { result ≡ has self.now lit }

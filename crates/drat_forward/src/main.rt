@@ -1,4 +1,5 @@
-//! `drat-forward [--binary] [--trace] [--strict] [--pr] [--keep-units] FORMULA [PROOF]`: checks a proof in DRAT of a formula in DIMACS CNF.
+//! `drat-forward [--binary] [--trace] [--strict] [--pr] [--keep-units] FORMULA [PROOF]`: checks a
+//! proof in DRAT of a formula in DIMACS CNF.
 #![tactic(auto)]
 
 ghost use Rattle.std.specs.Prelude.{◌≡◌, ◌⊎◌, IfErr};

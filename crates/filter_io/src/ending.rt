@@ -7,7 +7,8 @@ ghost use Rattle.sat_check.specs.Status.{code_of};
 use sat_check::Status;
 use std::process::ExitCode;
 
-/// Tells standard error of want of memory or a failed write, and gives the exit status: that of the check, or why there was none.
+/// Tells standard error of want of memory or a failed write, and gives the exit status: that of the
+/// check, or why there was none.
 pub fn exit_code(rt: &HostRuntime, name: &str, ended: Result<Status, Status>) -> ExitCode
     ensures checked { IfOk ended (λ status. exit_status result ≡ code_of status) }
     ensures unchecked { IfErr ended (λ status. exit_status result ≡ code_of status) }

@@ -28,7 +28,8 @@ impl<'a> Host<'a> {
     }
 }
 
-// What can't be opened is an input whose first read fails, for the same reason; only want of memory is an error.
+// What can't be opened is an input whose first read fails, for the same reason; only want of memory
+// is an error.
 fn unopened(error: Error) -> Result<Input, Status>
     ensures { IfErr result (λ status. status ≡ Status.OutOfMemory) }
 {

@@ -5,8 +5,8 @@ ghost use Rattle.std.specs.Prelude.{◌≡◌, Some, IfOk, IfErr, option_map, st
 use crate::system::System;
 use sat_check::{Args, Checked, Status};
 
-/// The formula and the second input, before a byte of either is read. The second is opened first: a closed standard input is
-/// seen for as long as no file has taken its number.
+/// The formula and the second input, before a byte of either is read. The second is opened first: a
+/// closed standard input is seen for as long as no file has taken its number.
 pub(crate) fn open_both<S: System>(system: &S, args: &Args) -> Result<(S::Input, S::Input), Status>
     ensures formula { IfOk result (λ inputs. S.Input.shown inputs.0 ≡
         S.holds system.now (Some (string_bytes args.now.formula))) }
@@ -22,7 +22,8 @@ pub(crate) fn open_both<S: System>(system: &S, args: &Args) -> Result<(S::Input,
     Ok((formula, second))
 }
 
-/// Explains why a read failed, where the check ended for that: once, by the name that the command line gave.
+/// Explains why a read failed, where the check ended for that: once, by the name that the command
+/// line gave.
 pub(crate) fn explain_failures<S: System>(
     system: &S,
     args: &Args,

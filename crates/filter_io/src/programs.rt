@@ -12,7 +12,8 @@ use sat_check::{
     Args, ArgsFault, Checked, Status, Tool, drat_forward, lrat_check, read_args, run_model,
 };
 
-/// The program `drat-forward`. Where there is no check, the status says why, and nothing is written.
+/// The program `drat-forward`. Where there is no check, the status says why, and nothing is
+/// written.
 pub fn run_drat_forward<S: System, O: Out>(
     system: &S,
     words: &[String],
@@ -105,7 +106,8 @@ fn check<S: System, O: Out>(
     }
 }
 
-// What the words ask of the tool. Where they ask for nothing right, or for help or the version, the text is told.
+// What the words ask of the tool. Where they ask for nothing right, or for help or the version, the
+// text is told.
 fn asked<S: System>(system: &S, tool: Tool, words: &[String]) -> Result<Args, Status>
     ensures asked { IfOk result (λ args. IsAsked tool words.now args) }
     ensures no_check { IfErr result (MakesNoCheck tool words.now) }

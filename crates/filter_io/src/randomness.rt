@@ -2,7 +2,8 @@
 
 use std::random::RandomSource;
 
-/// A number of the machine's choice, or 0 where it gives none. Whoever writes the inputs doesn't know it.
+/// A number of the machine's choice, or 0 where it gives none. Whoever writes the inputs doesn't
+/// know it.
 pub fn seed(source: &impl RandomSource) -> u64 {
     let mut bytes = [0; 8];
     match source.fill_bytes(&mut bytes) {

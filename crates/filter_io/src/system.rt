@@ -13,7 +13,8 @@ pub trait System {
     /// What an input is read by.
     type Input: In + Drop;
 
-    /// What an input gives, before a byte of it is read: that of a name, or standard input where there is none.
+    /// What an input gives, before a byte of it is read: that of a name, or standard input where
+    /// there is none.
     ghost holds: { Self → Option (List ℕ) → Reader };
 
     /// Opens the file of this name. One that can't be opened is an input whose first read fails.

@@ -7,8 +7,8 @@ use std::alloc::AllocError;
 use std::env;
 use std::io::ErrorKind;
 
-/// The words of the command line, which begin with the program's name. Words that aren't text are no usage, and this is told
-/// by the name.
+/// The words of the command line, which begin with the program's name. Words that aren't text are
+/// no usage, and this is told by the name.
 pub fn words_of(rt: &HostRuntime, name: &str) -> Result<Vec<String>, Status>
     // No word alone gives a verdict.
     ensures { IfErr result

@@ -19,8 +19,9 @@ use std::marker::Model;
 
 /// The identifiers of clauses, each with the slot of its clause.
 ///
-/// Contracts see it as a finite map. It is made for identifiers that rise: a page has 1024 in a row, and one in which none is bound is used again.
-/// Those that are far from others stand in a tree. `credit.rt` says which, and what they cost.
+/// Contracts see it as a finite map. It is made for identifiers that rise: a page has 1024 in a
+/// row, and one in which none is bound is used again. Those that are far from others stand in a
+/// tree. `credit.rt` says which, and what they cost.
 #[derive(Drop)]
 pub struct Ids {
     directory: Directory,
@@ -111,7 +112,8 @@ fn open(directory: &mut Directory, pages: &mut Pages, number: u64) -> Result<u32
     Ok(page)
 }
 
-/// The page that an identifier goes to, 0 where it goes to none. One is made where there is credit for it.
+/// The page that an identifier goes to, 0 where it goes to none. One is made where there is credit
+/// for it.
 fn page_for(
     directory: &mut Directory,
     pages: &mut Pages,
@@ -235,7 +237,8 @@ impl Ids {
         Ok(())
     }
 
-    /// The slot of an identifier, in constant time where identifiers are dense, and else in a logarithm of their number.
+    /// The slot of an identifier, in constant time where identifiers are dense, and else in a
+    /// logarithm of their number.
     #[inline]
     pub fn slot_of(&self, id: u64) -> Option<Slot>
         ensures { result ≡ maps.get self.now id }
@@ -260,7 +263,8 @@ impl Ids {
 
     /// The least bound identifier that is not below `from`, with its slot. It takes no memory.
     ///
-    /// To walk over all, go on from one past the last: a call that starts lower may pass many identifiers that are bound no more.
+    /// To walk over all, go on from one past the last: a call that starts lower may pass many
+    /// identifiers that are bound no more.
     pub fn next_bound(&self, from: u64) -> Option<(u64, Slot)>
         ensures above { IfSome result (λ p. from ≤ p.0) }
         ensures bound { IfSome result (λ p. maps.get self.now p.0 ≡ Some p.1) }

@@ -15,7 +15,8 @@ pub(crate) const PAGE: u64 = 1024;
 /// How many pages are made for any identifier.
 const FIRST_PAGES: usize = 64;
 
-/// The entries of all pages, one page after another. Pages count from 1, and an entry is 0 where nothing is bound.
+/// The entries of all pages, one page after another. Pages count from 1, and an entry is 0 where
+/// nothing is bound.
 #[derive(Drop)]
 pub(crate) struct Pages {
     pub(crate) entries: Vec<u32>,

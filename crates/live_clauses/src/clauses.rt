@@ -17,7 +17,8 @@ use cnf_base::{Lit, OutOfMemory};
 use std::alloc::Global;
 use std::marker::Model;
 
-/// The live clauses. Contracts see them as a finite map, with the greatest identifier so far and what is kept.
+/// The live clauses. Contracts see them as a finite map, with the greatest identifier so far and
+/// what is kept.
 #[derive(Drop)]
 pub struct LiveClauses {
     store: Store<NoIndex>,
@@ -117,11 +118,11 @@ impl LiveClauses {
         self.store.count_with(l)
     }
 
-    /// Gathers the identifiers of the clauses that the literal touches, in ascending order: that have its complement. `into` is emptied
-    /// first, and keeps its room.
+    /// Gathers the identifiers of the clauses that the literal touches, in ascending order: that
+    /// have its complement. `into` is emptied first, and keeps its room.
     ///
-    /// The first call goes over all clauses. What it notes of them is kept from then on, and a call takes as long as sorting what is
-    /// found.
+    /// The first call goes over all clauses. What it notes of them is kept from then on, and a call
+    /// takes as long as sorting what is found.
     ///
     /// # Errors
     ///

@@ -1,6 +1,7 @@
 //! By slot the identifiers of the clauses.
 
-ghost use Rattle.std.specs.Prelude.{◌≡◌, ℕ, ◌<◌, ◌==◌, if◌then◌else◌, map, slice_index, OnOk, OnErr};
+ghost use Rattle.std.specs.Prelude.{◌≡◌, ℕ, ◌<◌, ◌==◌, if◌then◌else◌, map};
+ghost use Rattle.std.specs.Prelude.{slice_index, OnOk, OnErr};
 ghost use Rattle.std.specs.Prelude.{Some, None, true};
 ghost use Rattle.std.specs.List.Sorted.{IsPermutation, IsSorted};
 ghost use Rattle.std.specs.Ordering.{nat_cmp};
@@ -99,7 +100,8 @@ impl Owners {
         self.by_slot.get(slot as usize).copied().unwrap_or(0)
     }
 
-    /// The identifiers noted for these slots, in ascending order. `into` is emptied first, and keeps its room.
+    /// The identifiers noted for these slots, in ascending order. `into` is emptied first, and
+    /// keeps its room.
     pub(crate) fn identify(&self, slots: &[u32], into: &mut Vec<u64>) -> Result<(), OutOfMemory>
         ensures sorted { OnOk result (IsSorted nat_cmp into.new.items) }
         ensures same { OnOk result

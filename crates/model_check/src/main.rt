@@ -1,4 +1,5 @@
-//! `model-check FORMULA [OUTPUT]`: checks the model in a solver's output against a formula in DIMACS CNF.
+//! `model-check FORMULA [OUTPUT]`: checks the model in a solver's output against a formula in
+//! DIMACS CNF.
 #![tactic(auto)]
 
 ghost use Rattle.std.specs.Prelude.{◌≡◌, ◌⊎◌, IfErr};

@@ -1,6 +1,7 @@
 //! By literal the slots of the clauses that have it.
 
-ghost use Rattle.std.specs.Prelude.{◌≡◌, ℕ, ◌==◌, ◌&&◌, ◌||◌, ◌++◌, ◌≤◌, [], not, true, false, OnOk, OnErr};
+ghost use Rattle.std.specs.Prelude.{◌≡◌, ℕ, ◌==◌, ◌&&◌, ◌||◌, ◌++◌, ◌≤◌, []};
+ghost use Rattle.std.specs.Prelude.{not, true, false, OnOk, OnErr};
 ghost use Rattle.std.specs.Prelude.{IsSome, ◌≢◌, map};
 ghost use Rattle.std.specs.List.{list_any, list_all};
 ghost use Rattle.std.specs.List.Sorted.{IsStrictlyIncreasing};
@@ -16,7 +17,8 @@ use tables::{Lists, Table, key};
 
 /// By literal the slots of the clauses that have it.
 ///
-/// A slot is forgotten at once: entries that no longer count are taken out where a list is full or read.
+/// A slot is forgotten at once: entries that no longer count are taken out where a list is full or
+/// read.
 #[derive(Drop)]
 pub struct Occurrences {
     /// By slot how often it was forgotten.
@@ -128,7 +130,8 @@ impl Occurrences {
         pushed
     }
 
-    /// Gathers the slots that occur with the complement of one of the literals, in ascending order. `into` is emptied first, and keeps its room.
+    /// Gathers the slots that occur with the complement of one of the literals, in ascending order.
+    /// `into` is emptied first, and keeps its room.
     ///
     /// # Errors
     ///

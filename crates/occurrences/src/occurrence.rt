@@ -1,6 +1,7 @@
 //! The entries of the lists.
 
-ghost use Rattle.std.specs.Prelude.{◌≡◌, ℕ, ◌==◌, ◌<◌, ◌≤◌, ◌++◌, ◌∷◌, [], filter, not, OnOk, OnErr};
+ghost use Rattle.std.specs.Prelude.{◌≡◌, ℕ, ◌==◌, ◌<◌, ◌≤◌, ◌++◌, ◌∷◌, []};
+ghost use Rattle.std.specs.Prelude.{filter, not, OnOk, OnErr};
 ghost use Rattle.std.specs.Prelude.{vec_len, vec_capacity, if◌then◌else◌};
 ghost use Rattle.tables.specs.Lists.{AreApart, list_at};
 ghost use Rattle.occurrences.specs.Entries.{births_of, counts};
@@ -9,7 +10,8 @@ ghost use Rattle.occurrences.specs.Code.Known.{AreAlike};
 use cnf_base::OutOfMemory;
 use tables::{Lists, Table};
 
-/// An entry in the list of a literal: a slot whose clause has it, where the slot is still as it was when the entry was made.
+/// An entry in the list of a literal: a slot whose clause has it, where the slot is still as it was
+/// when the entry was made.
 ///
 /// It has eight bytes: the lists are as long as all clauses.
 #[derive(Clone, Copy)]
@@ -55,7 +57,8 @@ fn grow(list: &mut Vec<Occurrence>) -> Result<(), OutOfMemory>
     Ok(())
 }
 
-/// Makes room in a list. A full one is cleaned first, and grows only where half of its entries or more still count.
+/// Makes room in a list. A full one is cleaned first, and grows only where half of its entries or
+/// more still count.
 fn make_room(list: &mut Vec<Occurrence>, births: &Table<u32>) -> Result<(), OutOfMemory>
     ensures alike { AreAlike births.now list.old.items list.new.items }
     ensures room { OnOk result (vec_len list.new < vec_capacity list.new) }

@@ -23,7 +23,8 @@ use part::BinaryPart;
 use std::marker::Model;
 use stopped::Stopped;
 
-/// A proof in binary DRAT. It holds no more than the literals of one step, in the buffer that the caller lends.
+/// A proof in binary DRAT. It holds no more than the literals of one step, in the buffer that the
+/// caller lends.
 #[derive(Drop)]
 pub struct DratBinary<R: In> {
     source: Source<R>,

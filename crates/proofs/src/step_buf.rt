@@ -45,7 +45,8 @@ impl Model for StepBuf {
         (IsTrue (is_small s.id)) × (IsTrue (list_all (is_hint s.kind) s.hints.items)) };
 }
 
-/// How many literals stand before the first one stands a second time: all of them where it does not.
+/// How many literals stand before the first one stands a second time: all of them where it does
+/// not.
 fn clause_len(lits: &[Lit]) -> usize
     ensures { result ≡ length (clause_part lits.now) }
 {
@@ -97,8 +98,9 @@ impl StepBuf {
         self.lits.as_slice()
     }
 
-    /// The clause and the set that the literals list: the clause ends before its first literal stands a second time, and the
-    /// set begins there. No literal is copied, and it takes no memory.
+    /// The clause and the set that the literals list: the clause ends before its first literal
+    /// stands a second time, and the set begins there. No literal is copied, and it takes no
+    /// memory.
     pub fn parts(&self) -> (&[Lit], &[Lit])
         ensures clause { result.0.now ≡ clause_part self.now.lits }
         ensures set { result.1.now ≡ witness_part self.now.lits }

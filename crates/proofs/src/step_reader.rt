@@ -21,16 +21,16 @@ pub trait StepReader {
     /// Where the step ends that it gave last. It is open after a fault or a clean end.
     ghost end: { Self → Option StepEnd };
 
-    /// How many literals and hints it keeps of what it has read: the sum of the lengths of all lists
-    /// of literals or hints in its own fields.
+    /// How many literals and hints it keeps of what it has read: the sum of the lengths of all
+    /// lists of literals or hints in its own fields.
     ghost stored: { Self → ℕ };
 
     /// What is still to come of an input: steps, and how they end.
     ghost to_come: { Self → Suffix → Proof };
 
-    /// Puts the next step into the buffer. At a clean end it answers false, at every call; after a fault, that fault.
-    /// After a fault or false the buffer's content is open, and so is where the last step ended. No more than the step is
-    /// taken of the input, also where memory is refused.
+    /// Puts the next step into the buffer. At a clean end it answers false, at every call; after a
+    /// fault, that fault. After a fault or false the buffer's content is open, and so is where the
+    /// last step ended. No more than the step is taken of the input, also where memory is refused.
     fn next(&mut self, step: &mut StepBuf) -> Result<bool, Fault>
         ensures step { Along (stream self.old) (stream self.new)
             (λ i j. GivesStep result (end self.new) step.new

@@ -17,7 +17,8 @@ use crate::{StepBuf, StepEnd, StepReader};
 use cnf_base::{Fault, In, Number, Place, ReadFailed, Scanner, Source, TextFault, Token, Word};
 use std::marker::{Model, PhantomData};
 
-/// Where a word of a step stands, in a format that is text. A format says what a number and a `d` do in each part.
+/// Where a word of a step stands, in a format that is text. A format says what a number and a `d`
+/// do in each part.
 pub trait TextPart: Copy {
     /// Where a word may stand, as the format says it.
     ghost Spot: { Type 0 };
@@ -54,8 +55,8 @@ pub trait TextPart: Copy {
         ensures fits { FitsMoved fits result step.new };
 }
 
-/// A proof as text, over any number of lines, in the format whose parts these are. It holds no more than the words of one
-/// step, in the buffer that the caller lends.
+/// A proof as text, over any number of lines, in the format whose parts these are. It holds no more
+/// than the words of one step, in the buffer that the caller lends.
 #[derive(Drop)]
 pub struct TextReader<R: In, P: TextPart> {
     scanner: Scanner<R>,

@@ -21,13 +21,16 @@ use std::marker::Model;
 use tables::Table;
 use trail::{Part, Trail};
 
-/// At most two assumptions that stand, the second on the first, and the literals that are true: what each propagation has in common.
+/// At most two assumptions that stand, the second on the first, and the literals that are true:
+/// what each propagation has in common.
 ///
-/// Contracts see the trail, the assumptions with their answers, and how many literals were true before each.
+/// Contracts see the trail, the assumptions with their answers, and how many literals were true
+/// before each.
 #[derive(Drop)]
 pub struct Assumptions {
     trail: Trail,
-    /// By variable the number of the last assumption that has a literal of it. Those of assumptions that are taken back stay, and say nothing.
+    /// By variable the number of the last assumption that has a literal of it. Those of assumptions
+    /// that are taken back stay, and say nothing.
     numbers: Table<u64>,
     /// How many assumptions were made, which is the number of the last one.
     made: u64,
@@ -61,7 +64,8 @@ fn reserve_variables(
 ) -> Result<(), OutOfMemory>
     requires known { (v : ℕ) → IsTrue (has trail.old.reserved v) → IsSome (at numbers.old v) }
     ensures room { OnOk result (HasRoom trail.new.reserved lits.now) }
-    ensures reserved { (v : ℕ) → IsTrue (has trail.old.reserved v) → IsTrue (has trail.new.reserved v) }
+    ensures reserved { (v : ℕ) → IsTrue (has trail.old.reserved v) →
+        IsTrue (has trail.new.reserved v) }
     ensures lits { trail.new.lits ≡ trail.old.lits }
     ensures known { (v : ℕ) → IsTrue (has trail.new.reserved v) → IsSome (at numbers.new v) }
     ensures numbers { (v : ℕ) → number_at numbers.new v ≡ number_at numbers.old v }
@@ -89,7 +93,8 @@ fn note(numbers: &mut Table<u64>, var: u32, first: u64, number: u64)
     }
 }
 
-/// Notes the variables of a part of a clause with the number, but for those that the first assumption noted.
+/// Notes the variables of a part of a clause with the number, but for those that the first
+/// assumption noted.
 fn note_all<P: Part>(numbers: &mut Table<u64>, clause: &[Lit], part: &P, first: u64, number: u64)
     requires known { (l : Literal) → IsTrue (has clause.now l) →
         IsSome (at numbers.old (l / 2)) }
@@ -138,7 +143,8 @@ impl Assumptions {
         reserve_variables(&mut self.trail, &mut self.numbers, clause)
     }
 
-    /// Sets a literal that is not false, unless it is true already. Tells whether it was open. It takes no memory.
+    /// Sets a literal that is not false, unless it is true already. Tells whether it was open. It
+    /// takes no memory.
     pub fn make_true(&mut self, l: Lit) -> bool
         requires reserved { IsTrue (has self.old.trail.reserved (l / 2)) }
         requires not_false { IsFalse (has self.old.trail.lits (complement l)) }
@@ -153,12 +159,14 @@ impl Assumptions {
         self.trail.make_true(l)
     }
 
-    /// One more assumption: makes a part of a clause false, up to the first literal of it that is true. Tells whether there is one. Until it is
-    /// answered, it counts as a clash. It takes no memory.
+    /// One more assumption: makes a part of a clause false, up to the first literal of it that is
+    /// true. Tells whether there is one. Until it is answered, it counts as a clash. It takes no
+    /// memory.
     ///
     /// # Errors
     ///
-    /// Where the numbers of assumptions are used up, after 2^64 - 1 of them. Nothing is changed then.
+    /// Where the numbers of assumptions are used up, after 2^64 - 1 of them. Nothing is changed
+    /// then.
     pub fn assume<P: Part>(&mut self, clause: &[Lit], part: &P) -> Result<bool, OutOfMemory>
         requires may { MayAssume self.old.assumptions }
         requires room { HasRoom self.old.trail.reserved clause.now }

@@ -18,8 +18,8 @@ use std::marker::Model;
 use tables::{Table, key};
 use trail::{Left, Trail, Truths, left_of};
 
-/// The literals that follow from live clauses with nothing assumed: the whole least set. Past a clash both literals of a
-/// variable may be in it, which a trail cannot hold.
+/// The literals that follow from live clauses with nothing assumed: the whole least set. Past a
+/// clash both literals of a variable may be in it, which a trail cannot hold.
 ///
 /// Contracts see it as the list of its literals.
 #[derive(Drop)]
@@ -49,8 +49,9 @@ impl Truths for Closure {
     }
 }
 
-/// Whether the clause in the slot makes a literal of it hold for good: that literal follows with nothing assumed, and so do the
-/// complements of all its others. The literals of the trail are known to follow. It goes over all clauses, past a clash too.
+/// Whether the clause in the slot makes a literal of it hold for good: that literal follows with
+/// nothing assumed, and so do the complements of all its others. The literals of the trail are
+/// known to follow. It goes over all clauses, past a clash too.
 ///
 /// # Errors
 ///
@@ -97,7 +98,8 @@ fn pass(closure: &mut Closure, store: &Store) -> Result<bool, OutOfMemory>
 }
 
 impl Closure {
-    /// All that follows from the clauses with nothing assumed, where the literals of the trail are known to.
+    /// All that follows from the clauses with nothing assumed, where the literals of the trail are
+    /// known to.
     ///
     /// It goes over all clauses until nothing new follows.
     ///
@@ -167,8 +169,8 @@ impl Closure {
         Ok(is_new)
     }
 
-    /// Adds what follows from a clause: all its literals where their complements are there, or the one whose complement is not.
-    /// Tells whether anything is new.
+    /// Adds what follows from a clause: all its literals where their complements are there, or the
+    /// one whose complement is not. Tells whether anything is new.
     fn take(&mut self, clause: &[Lit]) -> Result<bool, OutOfMemory>
         ensures follows { OnOk result ((l : Literal) → IsTrue (has self.new l) →
             FollowsFrom self.old clause.now l) }

@@ -5,7 +5,8 @@ ghost use Rattle.propagation.specs.Code.Levels.{answered, first_number, pushed};
 
 use crate::Answer;
 
-/// An assumption that stands: its number, how many literals were true before it, and how it was answered.
+/// An assumption that stands: its number, how many literals were true before it, and how it was
+/// answered.
 #[derive(Clone, Copy)]
 pub(crate) struct Level {
     pub(crate) number: u64,

@@ -24,13 +24,15 @@ use trail::{LiteralSet, Value};
 ///
 /// At most two assumptions stand, the second on the first. One that adds no literal stands too.
 pub trait Propagate {
-    /// The live clauses, the assumptions that stand, how many literals are kept, and whether an assumption was refused.
+    /// The live clauses, the assumptions that stand, how many literals are kept, and whether an
+    /// assumption was refused.
     ghost state: { Self → Propagation };
 
     /// The allocator that its memory comes from.
     fn alloc(&self) -> Global;
 
-    /// Stores a clause in a slot that is free, where nothing is assumed. It fails only where memory is refused.
+    /// Stores a clause in a slot that is free, where nothing is assumed. It fails only where memory
+    /// is refused.
     fn insert(&mut self, lits: &[Lit]) -> Result<Slot, OutOfMemory>
         requires { (state self.old).assumptions ≡ [] }
         ensures free { IfOk result (λ slot. maps.get (state self.old).live slot ≡ None) }
@@ -43,7 +45,8 @@ pub trait Propagate {
         ensures refused { (state self.new).has_refused ≡ (state self.old).has_refused }
         ensures err { OnErr result (state self.new ≡ state self.old) };
 
-    /// Takes the clause out of its slot, where nothing is assumed. Other copies of it stay. It takes no memory.
+    /// Takes the clause out of its slot, where nothing is assumed. Other copies of it stay. It
+    /// takes no memory.
     fn remove(&mut self, slot: Slot)
         requires alive { IsSome (maps.get (state self.old).live slot) }
         requires nothing_assumed { (state self.old).assumptions ≡ [] }
@@ -68,13 +71,14 @@ pub trait Propagate {
             IsTrue (same_clause c result.now) }
         ensures different { length result.now ≡ size result.now };
 
-    /// The sum of the lengths of the lists of literals that it keeps, which is that of the sizes of the clauses; `2^64 - 1` where it is
-    /// greater. It takes no memory.
+    /// The sum of the lengths of the lists of literals that it keeps, which is that of the sizes of
+    /// the clauses; `2^64 - 1` where it is greater. It takes no memory.
     fn literals(&self) -> u64
         ensures value { result ≡ min (state self.now).stored 18446744073709551615 }
         ensures live_alone { HoldsLiveAlone (state self.now) };
 
-    /// The first slot from this one on whose clause has the literal, if there is one. It takes no memory.
+    /// The first slot from this one on whose clause has the literal, if there is one. It takes no
+    /// memory.
     fn next_with(&self, l: Lit, from: Slot) -> Option<Slot>
         ensures found { IfSome result (λ slot. (from ≤ slot) ×
             HasAt (maps.get (state self.now).live) l slot) }
@@ -92,8 +96,9 @@ pub trait Propagate {
             ¬ HasAt (maps.get (state self.now).live) l s }
         ensures some { result ≢ 0 → (s : ℕ) × HasAt (maps.get (state self.now).live) l s };
 
-    /// The slots of the live clauses that the literals touch: that have the complement of one of them. It costs
-    /// what these clauses cost, however many others are alive, but for the first call.
+    /// The slots of the live clauses that the literals touch: that have the complement of one of
+    /// them. It costs what these clauses cost, however many others are alive, but for the first
+    /// call.
     ///
     /// # Errors
     ///
@@ -115,7 +120,8 @@ pub trait Propagate {
         requires { MayAssume (state self.old).assumptions }
         ensures { Assuming (state self.old) (state self.new) (complements lits.now) result };
 
-    /// Assumes the complements of the literals of a live clause but for one, beside what is assumed, and propagates.
+    /// Assumes the complements of the literals of a live clause but for one, beside what is
+    /// assumed, and propagates.
     ///
     /// # Errors
     ///
@@ -125,8 +131,8 @@ pub trait Propagate {
         requires alive { IsSome (maps.get (state self.old).live slot) }
         ensures { AssumingPart (state self.old) (state self.new) slot (λ k. not (k == l)) result };
 
-    /// Assumes the complements of the literals of a live clause but for those whose complement is in the set, beside what is
-    /// assumed, and propagates.
+    /// Assumes the complements of the literals of a live clause but for those whose complement is
+    /// in the set, beside what is assumed, and propagates.
     ///
     /// # Errors
     ///
@@ -137,7 +143,8 @@ pub trait Propagate {
         ensures { AssumingPart (state self.old) (state self.new) slot
             (λ k. not (has set.now (complement k))) result };
 
-    /// The same as `assume_unless`, with a set that was filled before. Each look-up in the set costs the same, however large it is.
+    /// The same as `assume_unless`, with a set that was filled before. Each look-up in the set
+    /// costs the same, however large it is.
     ///
     /// # Errors
     ///
@@ -148,8 +155,9 @@ pub trait Propagate {
         ensures { AssumingPart (state self.old) (state self.new) slot
             (λ k. not (in_set set.now (complement k))) result };
 
-    /// Whether the clause in the slot makes a literal of it hold for good, where nothing is assumed: that literal follows, and so do
-    /// the complements of all its others. It is asked of the whole least set, past a clash too.
+    /// Whether the clause in the slot makes a literal of it hold for good, where nothing is
+    /// assumed: that literal follows, and so do the complements of all its others. It is asked of
+    /// the whole least set, past a clash too.
     ///
     /// # Errors
     ///

@@ -16,7 +16,8 @@ use proofs::{StepBuf, StepReader};
 use std::alloc::Global;
 use steps::ProofSession;
 
-/// Takes steps up to the one that decides, or to the proof's end, and writes the rest of the report.
+/// Takes steps up to the one that decides, or to the proof's end, and writes the rest of the
+/// report.
 pub fn check_proof<S: ProofSession, R: StepReader, O: Out>(
     alloc: Global,
     trace: bool,

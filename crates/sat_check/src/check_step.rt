@@ -21,8 +21,8 @@ use proofs::StepBuf;
 use std::alloc::Global;
 use steps::{Accepted, ProofSession, Refusal};
 
-/// Checks the step of this number, and writes its line where a trace is asked for. Where the check ends with it, the
-/// verdict is written, and the status answered.
+/// Checks the step of this number, and writes its line where a trace is asked for. Where the check
+/// ends with it, the verdict is written, and the status answered.
 pub fn check_step<S: ProofSession, O: Out>(
     alloc: Global,
     trace: bool,

@@ -17,10 +17,11 @@ use std::alloc::Global;
 use steps::DratSession;
 use watch::Watch;
 
-/// Reads a formula in DIMACS CNF whole, then checks a proof of it in DRAT, and writes the report, flushed.
+/// Reads a formula in DIMACS CNF whole, then checks a proof of it in DRAT, and writes the report,
+/// flushed.
 ///
-/// The proof isn't read where the formula has a fault or an empty clause. Past the step that decides nothing is looked
-/// at, and no more than a piece of 65536 bytes was read.
+/// The proof isn't read where the formula has a fault or an empty clause. Past the step that
+/// decides nothing is looked at, and no more than a piece of 65536 bytes was read.
 pub fn run_drat<F: In, P: In, O: Out>(
     alloc: Global,
     options: &DratOptions,

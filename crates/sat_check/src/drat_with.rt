@@ -12,8 +12,8 @@ use cnf_base::{In, LineOut, Out};
 use propagation::Propagate;
 use std::alloc::Global;
 
-/// As [`run_drat`](crate::run_drat), with a propagation of the caller's choice: it has no clause, nothing is assumed, and no
-/// memory was refused to it.
+/// As [`run_drat`](crate::run_drat), with a propagation of the caller's choice: it has no clause,
+/// nothing is assumed, and no memory was refused to it.
 pub fn run_drat_with<C: Propagate + Drop, F: In, P: In, O: Out>(
     alloc: Global,
     options: &DratOptions,

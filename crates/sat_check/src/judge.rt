@@ -13,7 +13,8 @@ use cnf_base::{Fault, In, Piece, Source};
 use dimacs::{ClauseBuf, FormulaReader, Model};
 use std::alloc::Global;
 
-/// Reads a formula up to the first clause that the model doesn't meet. It stores no clause but that at hand.
+/// Reads a formula up to the first clause that the model doesn't meet. It stores no clause but that
+/// at hand.
 pub fn judge<F: In>(alloc: Global, formula: &mut F, model: &Model) -> Result<Judgement, Fault>
     ensures judges { OfSeen (F.shown formula.old) (F.shown formula.new) (λ i.
         Judges model.now result (formula_of i).clauses (formula_of i).fault

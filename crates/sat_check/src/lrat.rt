@@ -14,10 +14,11 @@ use proofs::LratText;
 use std::alloc::Global;
 use steps::LratSession;
 
-/// Reads a formula in DIMACS CNF whole, then checks a proof of it in LRAT, and writes the report, flushed.
+/// Reads a formula in DIMACS CNF whole, then checks a proof of it in LRAT, and writes the report,
+/// flushed.
 ///
-/// The proof isn't read where the formula has a fault or an empty clause. Past the step that decides nothing is looked
-/// at, and no more than a piece of 65536 bytes was read.
+/// The proof isn't read where the formula has a fault or an empty clause. Past the step that
+/// decides nothing is looked at, and no more than a piece of 65536 bytes was read.
 pub fn run_lrat<F: In, P: In, O: Out>(
     alloc: Global,
     options: &LratOptions,

@@ -23,11 +23,11 @@ use cnf_base::{Fault, In, LineOut, Out, Piece, Source};
 use dimacs::{Model, read_claim};
 use std::alloc::Global;
 
-/// Reads a solver's output whole, then checks the model that it claims against a formula in DIMACS CNF, clause by clause, and
-/// writes the report, flushed.
+/// Reads a solver's output whole, then checks the model that it claims against a formula in DIMACS
+/// CNF, clause by clause, and writes the report, flushed.
 ///
-/// The formula isn't read where the output has a fault. Past the first clause that isn't satisfied nothing is looked at,
-/// and no more than a piece of 65536 bytes was read.
+/// The formula isn't read where the output has a fault. Past the first clause that isn't satisfied
+/// nothing is looked at, and no more than a piece of 65536 bytes was read.
 pub fn run_model<F: In, M: In, O: Out>(
     alloc: Global,
     formula: &mut F,

@@ -10,7 +10,8 @@ use crate::{Args, Checked, DratOptions, LratOptions, run_drat_placed, run_lrat_p
 use cnf_base::{In, Out};
 use std::alloc::Global;
 
-/// What `drat-forward` does with its inputs: [`run_drat_placed`] by the options that the words ask for.
+/// What `drat-forward` does with its inputs: [`run_drat_placed`] by the options that the words ask
+/// for.
 pub fn drat_forward<F: In, P: In, O: Out>(
     alloc: Global,
     args: &Args,
@@ -27,7 +28,8 @@ pub fn drat_forward<F: In, P: In, O: Out>(
     run_drat_placed(alloc, &DratOptions::of(args, seed), formula, proof, out)
 }
 
-/// What `lrat-check` does with its inputs: [`run_lrat_placed`] by the options that the words ask for.
+/// What `lrat-check` does with its inputs: [`run_lrat_placed`] by the options that the words ask
+/// for.
 pub fn lrat_check<F: In, P: In, O: Out>(
     alloc: Global,
     args: &Args,

@@ -43,7 +43,8 @@ pub trait Judge {
         ensures refused { OnErr result ((held self.new).stored ≤ (held self.old).stored) }
         ensures rule_stays { (held self.new).rule ≡ (held self.old).rule };
 
-    /// The sum of the sizes of the live clauses, which is that of all lists of literals that it keeps. It saturates.
+    /// The sum of the sizes of the live clauses, which is that of all lists of literals that it
+    /// keeps. It saturates.
     fn literals(&self) -> u64
         ensures value { result ≡ sum_of (state_of (held self.now)) }
         ensures live_alone { (held self.now).stored ≡ literals_of (state_of (held self.now)) };

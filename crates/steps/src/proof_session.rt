@@ -14,7 +14,8 @@ use cnf_base::Lit;
 use proofs::StepBuf;
 use theory::{Accepted, Refusal};
 
-/// A check of a proof: the clauses of the formula are input first, and then the steps are taken in order.
+/// A check of a proof: the clauses of the formula are input first, and then the steps are taken in
+/// order.
 pub trait ProofSession {
     /// The live clauses under the rule of the session, and how far it has come.
     ghost shown: { Self → View };
@@ -35,7 +36,8 @@ pub trait ProofSession {
             ((shown self.old).is_verified || is_empty lits.now)) }
         ensures peak { OnOk result ((shown self.new).peak ≡ max (shown self.old).peak
             (sum_of (shown self.new).state)) }
-        // What it keeps is the live clauses, and after a refusal no more than before it and the clause.
+        // What it keeps is the live clauses, and after a refusal no more than before it and the
+        // clause.
         ensures held { OnOk result ((shown self.new).stored ≡
             literals_of (shown self.new).state) }
         ensures held_at_most { OnErr result ((shown self.new).stored ≤
@@ -49,7 +51,8 @@ pub trait ProofSession {
         ensures refused { OnErr result (IsCutOff (shown self.old) (shown self.new)) }
         ensures rule_stays { rule_of (shown self.new).state ≡ rule_of (shown self.old).state };
 
-    /// Judges a step and, where it is accepted, takes it. After a refusal, and after the accepted empty clause, the session is ended.
+    /// Judges a step and, where it is accepted, takes it. After a refusal, and after the accepted
+    /// empty clause, the session is ended.
     fn step(&mut self, step: &StepBuf) -> Result<Accepted, Refusal>
         // No step is taken once the session is ended, or once an empty clause was input.
         ensures ended { (result ≡ Err Refusal.Ended) ↔ IsTrue (is_over (shown self.old)) }
@@ -65,7 +68,8 @@ pub trait ProofSession {
         ensures ends { IfOk result (λ word. (shown self.new).is_ended ≡ is_last word) }
         ensures peak { OnOk result ((shown self.new).peak ≡ max (shown self.old).peak
             (sum_of (shown self.new).state)) }
-        // What it keeps is the live clauses, and after a refusal no more than before it and the step.
+        // What it keeps is the live clauses, and after a refusal no more than before it and the
+        // step.
         ensures held { OnOk result ((shown self.new).stored ≡
             literals_of (shown self.new).state) }
         ensures held_at_most { OnErr result ((shown self.new).stored ≤
@@ -82,12 +86,14 @@ pub trait ProofSession {
     fn verified(&self) -> bool
         ensures { result ≡ (shown self.now).is_verified };
 
-    /// How many literals it keeps: the sum of the lengths of all lists of literals of clauses or of steps in it; `2^64 - 1` where it
-    /// is greater. After an accepted call that is the sum of the sizes of the live clauses. It takes no memory.
+    /// How many literals it keeps: the sum of the lengths of all lists of literals of clauses or of
+    /// steps in it; `2^64 - 1` where it is greater. After an accepted call that is the sum of the
+    /// sizes of the live clauses. It takes no memory.
     fn held(&self) -> u64
         ensures { result ≡ min (shown self.now).stored (2 ^ 64 - 1) };
 
-    /// The greatest sum of the sizes of the live clauses, after each clause that was input and each accepted step. It saturates.
+    /// The greatest sum of the sizes of the live clauses, after each clause that was input and each
+    /// accepted step. It saturates.
     fn peak(&self) -> u64
         ensures { result ≡ (shown self.now).peak };
 }

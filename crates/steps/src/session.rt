@@ -12,7 +12,8 @@ use proofs::StepBuf;
 use std::marker::Model;
 use theory::{Accepted, Refusal};
 
-/// A check of a proof: the clauses of the formula are input first, and then the steps are taken in order.
+/// A check of a proof: the clauses of the formula are input first, and then the steps are taken in
+/// order.
 #[derive(Drop)]
 pub struct Session<J: Judge> {
     judge: J,

@@ -12,8 +12,8 @@ use std::mem;
 
 /// By key a list of entries.
 ///
-/// The keys below `near.len()` have their lists in `near`, all others in `far`, where no choice of keys makes a look-up long: an
-/// entry comes to a list among dense keys by one look-up.
+/// The keys below `near.len()` have their lists in `near`, all others in `far`, where no choice of
+/// keys makes a look-up long: an entry comes to a list among dense keys by one look-up.
 #[derive(Drop)]
 pub struct Lists<T> {
     alloc: Global,
@@ -48,8 +48,8 @@ fn total_len<T: Copy + Drop>(lists: &Vec<Vec<T>>) -> u64
     entries
 }
 
-/// Puts an entry at the end of a list. A full one grows by half and not to twice its length, since the lists are much of what
-/// a program keeps.
+/// Puts an entry at the end of a list. A full one grows by half and not to twice its length, since
+/// the lists are much of what a program keeps.
 fn add<T: Copy + Drop>(list: &mut Vec<T>, entry: T) -> Result<(), OutOfMemory>
     ensures ok { OnOk result (list.new.items ≡ list.old.items ++ entry ∷ []) }
     ensures err { OnErr result (list.new.items ≡ list.old.items) }
@@ -61,8 +61,8 @@ fn add<T: Copy + Drop>(list: &mut Vec<T>, entry: T) -> Result<(), OutOfMemory>
     Ok(())
 }
 
-/// Takes room from a list that has more than it needs. It keeps room for twice as many entries as it has, so that it isn't moved
-/// again at once. Where that is refused, it keeps all.
+/// Takes room from a list that has more than it needs. It keeps room for twice as many entries as
+/// it has, so that it isn't moved again at once. Where that is refused, it keeps all.
 #[cold]
 #[inline(never)]
 fn shrink<T: Copy + Drop>(list: &mut Vec<T>)
@@ -113,7 +113,8 @@ impl<T: Copy + Drop> Lists<T> {
         (key as usize) < self.near.len() || self.numbers.get(key).is_some()
     }
 
-    /// Takes the list of a key out, and leaves an empty one in its place, or none where there was none.
+    /// Takes the list of a key out, and leaves an empty one in its place, or none where there was
+    /// none.
     #[inline]
     pub fn take_out(&mut self, key: u32) -> Vec<T>
         requires { AreApart self.old }
@@ -131,8 +132,9 @@ impl<T: Copy + Drop> Lists<T> {
         }
     }
 
-    /// Puts a list in the place of the empty one of a key. It gives room back where it is far shorter than it was.
-    #[inline]
+    /// Puts a list in the place of the empty one of a key. It gives room back where it is far
+    /// shorter than it was.
+    #[inline(always)]
     pub fn put_back(&mut self, key: u32, mut list: Vec<T>)
         requires apart { AreApart self.old }
         requires known { IsTrue (has_list_at self.old key) }

@@ -13,8 +13,8 @@ use std::collections::BTreeMap;
 
 /// Values by keys, with room for the keys that were reserved.
 ///
-/// The keys below `dense.len()` have a place in `dense`, all others in `sparse`, where no choice of keys makes a look-up
-/// long. A value in `dense` hides one in `sparse`.
+/// The keys below `dense.len()` have a place in `dense`, all others in `sparse`, where no choice of
+/// keys makes a look-up long. A value in `dense` hides one in `sparse`.
 #[derive(Drop)]
 pub struct Table<T> {
     alloc: Global,

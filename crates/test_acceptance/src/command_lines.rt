@@ -57,8 +57,8 @@ fn expect_refused(rt: &impl Abort, alloc: Global, rows: &[(Tool, &str)]) {
     }
 }
 
-/// What a line says: of the flags binary, trace, strict, pr and keep-units whether they stand in it, the formula, and the second
-/// input where one is named.
+/// What a line says: of the flags binary, trace, strict, pr and keep-units whether they stand in
+/// it, the formula, and the second input where one is named.
 type Expected<'a> = ([bool; 5], &'a str, Option<&'a str>);
 
 fn expect_args(rt: &impl Abort, args: &Args, expected: Expected<'_>) {

@@ -70,7 +70,8 @@ fn expect_ends(
     Ok(())
 }
 
-// The place is that of the step's last `0`, also where comments and blank lines stand before it or in it.
+// The place is that of the step's last `0`, also where comments and blank lines stand before it or
+// in it.
 #[test]
 fn refused(rt: HostRuntime) -> Result<(), Fail> {
     let rows = [

@@ -1,14 +1,16 @@
-//! Makes calls of the readers and of the store again and again. `tests/allocations.py` counts their allocations.
+//! Makes calls of the readers and of the store again and again. `tests/allocations.py` counts their
+//! allocations.
 //!
 //!     test_allocations CASE COUNT
 //!
-//! It reads COUNT steps of one form into one buffer, or as many clauses, or stores and removes as many, or binds as many
-//! identifiers, or checks as many pairs of an addition and its deletion, and prints how many it did, or that memory was refused
-//! there. What is read is handed out with no memory of its own. Where identifiers are held, they stay bound, and the test looks at
-//! the bytes that they take.
+//! It reads COUNT steps of one form into one buffer, or as many clauses, or stores and removes as
+//! many, or binds as many identifiers, or checks as many pairs of an addition and its deletion, and
+//! prints how many it did, or that memory was refused there. What is read is handed out with no
+//! memory of its own. Where identifiers are held, they stay bound, and the test looks at the bytes
+//! that they take.
 //!
-//! For `tests/refusals.py` it makes a call that memory may be refused to, and says whether the call was refused and left what it
-//! should; or calls that take no memory, where COUNT is not 0.
+//! For `tests/refusals.py` it makes a call that memory may be refused to, and says whether the call
+//! was refused and left what it should; or calls that take no memory, where COUNT is not 0.
 #![tactic(auto)]
 
 ghost use Rattle.std.specs.Prelude.{◌<◌};
@@ -33,7 +35,8 @@ const PLAIN_RULES: DratRules = DratRules {
     keep_units: false,
 };
 
-/// What the calls are made with: a clause of two literals, one of many other variables, and a literal of none of these.
+/// What the calls are made with: a clause of two literals, one of many other variables, and a
+/// literal of none of these.
 #[derive(Clone, Copy)]
 struct Literals<'a> {
     few: [Lit; 2],
@@ -158,7 +161,8 @@ fn store_many_and_remove(alloc: Global, times: u64) -> Result<u64, Fault> {
     Ok(count)
 }
 
-/// Binds so many identifiers, which all stay bound: rows of some side by side, of which each begins so far past the one before.
+/// Binds so many identifiers, which all stay bound: rows of some side by side, of which each begins
+/// so far past the one before.
 fn bind_rows(alloc: Global, row: u64, apart: u64, times: u64) -> Result<u64, Fault>
     requires { 0 < row }
 {
@@ -262,8 +266,8 @@ fn literals_of(alloc: Global, least: i32, most: i32) -> Result<Vec<Lit>, OutOfMe
     Ok(all)
 }
 
-/// What is to be printed of a call that memory may be refused to, or of calls that take none, which are made where they are
-/// called for; none where no such call is named.
+/// What is to be printed of a call that memory may be refused to, or of calls that take none, which
+/// are made where they are called for; none where no such call is named.
 fn try_call(
     alloc: Global,
     name: &str,

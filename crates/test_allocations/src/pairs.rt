@@ -1,4 +1,5 @@
-//! A proof in LRAT that adds a clause and deletes it, again and again, and a session that checks it.
+//! A proof in LRAT that adds a clause and deletes it, again and again, and a session that checks
+//! it.
 
 use crate::count_calls;
 use cnf_base::{Fault, FromRead, Lit, OutOfMemory, Source};

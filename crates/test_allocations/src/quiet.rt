@@ -1,4 +1,5 @@
-//! Calls that take no memory. What comes before them is made in any case, so that a run with them asks for as much as one without.
+//! Calls that take no memory. What comes before them is made in any case, so that a run with them
+//! asks for as much as one without.
 
 ghost use Rattle.std.specs.Prelude.{◌≡◌, ◌≤◌, [], false};
 ghost use Rattle.std.specs.FinMap as maps;
@@ -261,12 +262,14 @@ fn sessions(alloc: Global, few: &[Lit], is_called: bool) -> Result<bool, Fault> 
     Ok(is_right_by_scan && is_right_by_watch && is_right_by_hints)
 }
 
-// 1 2; -1 2. Both steps have nine hints. In the first the second is a conflict; in the second the walk is long.
+// 1 2; -1 2. Both steps have nine hints. In the first the second is a conflict; in the second the
+// walk is long.
 const SHORT: &[u8] = b"9 2 0 1 2 9 9 9 9 9 9 9 0\n";
 
 const LONG: &[u8] = b"9 2 0 1 1 1 1 1 1 1 1 2 0\n";
 
-/// Whether the session accepts the first step that the reader gives, after these clauses of the formula.
+/// Whether the session accepts the first step that the reader gives, after these clauses of the
+/// formula.
 fn check_first_step<S: ProofSession, R: StepReader>(
     alloc: Global,
     session: &mut S,
@@ -311,8 +314,8 @@ fn model(alloc: Global, l: Lit, is_called: bool) -> Result<bool, Fault> {
     Ok(is_called && model.holds(l))
 }
 
-/// Carries out what is named, if anything is, and tells whether the calls came to what they should. Those that take no memory
-/// are made only where they are called for.
+/// Carries out what is named, if anything is, and tells whether the calls came to what they should.
+/// Those that take no memory are made only where they are called for.
 pub fn carry_out(
     alloc: Global,
     name: &str,

@@ -111,7 +111,8 @@ fn assume<P: Propagate + Drop>(mut clauses: P, few: &[Lit], many: &[Lit]) -> Res
     Ok(judged(is_same && is_refused))
 }
 
-/// Every later such question and every later assumption is refused, and the clauses stay. It is asked past a clash.
+/// Every later such question and every later assumption is refused, and the clauses stay. It is
+/// asked past a clash.
 fn ask_root_reason<P: Propagate + Drop>(mut clauses: P, few: &[Lit]) -> Result<Told, Fault>
     requires { (P.state clauses).assumptions ≡ [] }
 {

@@ -2,7 +2,8 @@
 
 use std::alloc::{AllocError, Global};
 
-/// How often the long inputs have what they repeat: it makes more than a piece that is read at once.
+/// How often the long inputs have what they repeat: it makes more than a piece that is read at
+/// once.
 pub const MANY: usize = 100000;
 
 /// These bytes so many times, with others before and after them.

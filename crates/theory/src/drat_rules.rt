@@ -5,7 +5,8 @@
 pub struct DratRules {
     /// Whether a deletion of a clause that is not alive is refused, and not ignored.
     pub strict: bool,
-    /// Whether an addition may list a set after its clause, by which it may be propagation redundant (PR).
+    /// Whether an addition may list a set after its clause, by which it may be propagation
+    /// redundant (PR).
     pub pr: bool,
     /// Whether a deletion of a live clause that makes a literal of it hold for good is ignored.
     pub keep_units: bool,

@@ -47,7 +47,8 @@ pub fn is_sound()
     ensures { IsSoundVerdict }
 {}
 
-/// Where the rules keep units, what follows with nothing assumed follows after every later accepted step.
+/// Where the rules keep units, what follows with nothing assumed follows after every later accepted
+/// step.
 pub fn units_are_kept()
     ensures { UnitsAreKept }
 {}

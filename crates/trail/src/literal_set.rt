@@ -13,7 +13,8 @@ use tables::{Table, key};
 
 /// A set of literals. It is filled again and again, and keeps its room.
 ///
-/// By literal it notes the number of the last filling that has it, so that emptying it takes no walk.
+/// By literal it notes the number of the last filling that has it, so that emptying it takes no
+/// walk.
 #[derive(Drop)]
 pub struct LiteralSet {
     numbers: Table<u64>,
@@ -63,7 +64,8 @@ impl LiteralSet {
     ///
     /// # Errors
     ///
-    /// Where memory runs out, or the numbers of fillings, after 2^64 - 2 of them. It is open then what it has.
+    /// Where memory runs out, or the numbers of fillings, after 2^64 - 2 of them. It is open then
+    /// what it has.
     #[tactic(auto, unfolding(crate::specs::LiteralSet::in_set))]
     pub fn fill(&mut self, lits: &[Lit]) -> Result<(), OutOfMemory>
         ensures { OnOk result ((l : ℕ) → in_set self.new l ≡ has lits.now l) }

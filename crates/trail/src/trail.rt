@@ -27,9 +27,11 @@ use tables::{Table, key};
 
 /// The literals that are true, in the order in which they were set. No two are of one variable.
 ///
-/// Room is made for a variable with [`Trail::reserve`]. From then on no other call takes memory for it.
+/// Room is made for a variable with [`Trail::reserve`]. From then on no other call takes memory for
+/// it.
 ///
-/// Contracts see a trail as the list of the literals and the set of the variables for which there is room.
+/// Contracts see a trail as the list of the literals and the set of the variables for which there
+/// is room.
 #[derive(Drop)]
 pub struct Trail {
     /// It has room for one literal of each variable that was reserved.
@@ -55,7 +57,8 @@ impl Model for Trail {
     } };
 
     ghost invariant = { λ t.
-        IsTrail t.lits.items t.reserved.items (vec_capacity t.lits) (at t.seen) (value_at t.values) };
+        IsTrail t.lits.items t.reserved.items (vec_capacity t.lits) (at t.seen)
+            (value_at t.values) };
 }
 
 /// The literal that says that the variable is true; none for 0 and past the greatest variable.
@@ -106,7 +109,8 @@ impl Trail {
         })
     }
 
-    /// Makes room for a variable. The room stays until the end of the trail. A number that is no literal's variable needs none.
+    /// Makes room for a variable. The room stays until the end of the trail. A number that is no
+    /// literal's variable needs none.
     ///
     /// # Errors
     ///
@@ -172,7 +176,8 @@ impl Trail {
         self.values.value(key(l))
     }
 
-    /// How many literals were set. They are at most as many as the variables for which there is room.
+    /// How many literals were set. They are at most as many as the variables for which there is
+    /// room.
     pub fn len(&self) -> usize
         ensures value { result ≡ length self.now.lits }
         ensures different { HasNoVariableTwice self.now.lits }
@@ -215,7 +220,8 @@ impl Trail {
     /// Where memory runs out. Room for some of them may have been made then.
     pub fn reserve_all(&mut self, clause: &[Lit]) -> Result<(), OutOfMemory>
         ensures room { OnOk result (HasRoom self.new.reserved clause.now) }
-        ensures reserved { (v : ℕ) → IsTrue (has self.old.reserved v) → IsTrue (has self.new.reserved v) }
+        ensures reserved { (v : ℕ) → IsTrue (has self.old.reserved v) →
+            IsTrue (has self.new.reserved v) }
         ensures lits { self.new.lits ≡ self.old.lits }
     {
         for l in clause {
@@ -224,7 +230,8 @@ impl Trail {
         Ok(())
     }
 
-    /// Sets a literal that is not false, unless it is true already. Tells whether it was open. It takes no memory.
+    /// Sets a literal that is not false, unless it is true already. Tells whether it was open. It
+    /// takes no memory.
     pub fn make_true(&mut self, l: Lit) -> bool
         requires reserved { IsTrue (has self.old.reserved (l / 2)) }
         requires not_false { IsFalse (has self.old.lits (complement l)) }
@@ -255,8 +262,8 @@ impl Trail {
         matches!(self.value(l), Value::False)
     }
 
-    /// Makes the literals of a part of a clause false, up to the first that is true. Tells whether there is one, so that a literal and its
-    /// complement would be true. It takes no memory.
+    /// Makes the literals of a part of a clause false, up to the first that is true. Tells whether
+    /// there is one, so that a literal and its complement would be true. It takes no memory.
     pub fn make_false<P: Part>(&mut self, clause: &[Lit], part: &P) -> bool
         requires { HasRoom self.old.reserved clause.now }
         ensures made { MakesFalse self.old.lits
@@ -278,7 +285,8 @@ impl Trail {
         false
     }
 
-    /// How many literals of a clause are not false, where each counts as often as it is repeated, and the last of them.
+    /// How many literals of a clause are not false, where each counts as often as it is repeated,
+    /// and the last of them.
     #[inline(always)]
     fn open_in(&self, clause: &[Lit]) -> (usize, Lit)
         ensures { IsCount (open_literals self.now.lits clause.now) result.0 result.1 }
@@ -289,8 +297,8 @@ impl Trail {
         }
     }
 
-    /// The same as `open_in`, where the values of all literals lie near. A call in the loop would have the place of the values read
-    /// again for each literal.
+    /// The same as `open_in`, where the values of all literals lie near. A call in the loop would
+    /// have the place of the values read again for each literal.
     #[inline(always)]
     fn open_near(&self, clause: &[Lit]) -> Option<(usize, Lit)>
         ensures { IfSome result (λ r.
@@ -372,7 +380,8 @@ impl Trail {
 
     /// What is left of a clause, as [`Trail::left`] says it. It takes no memory.
     ///
-    /// It is made for clauses of which at most one literal is left: it looks at all literals, with no branch for each.
+    /// It is made for clauses of which at most one literal is left: it looks at all literals, with
+    /// no branch for each.
     pub fn unit_left(&self, clause: &[Lit]) -> Left
         ensures { result ≡ how_many (open_literals self.now.lits clause.now) }
     {

@@ -9,7 +9,8 @@ ghost use Rattle.watch.specs.Code.Roots.{IsArranged, IsBrought};
 use clause_db::{Slot, Store};
 use trail::{Left, Trail};
 
-/// Brings a literal that is not false to this place, if there is one from it on. Tells whether there is.
+/// Brings a literal that is not false to this place, if there is one from it on. Tells whether
+/// there is.
 fn bring(store: &mut Store, trail: &Trail, slot: Slot, place: usize) -> bool
     requires alive { IsSome (maps.get store.old.live slot) }
     ensures others { (s : ℕ) → s ≢ slot →
@@ -26,7 +27,8 @@ fn bring(store: &mut Store, trail: &Trail, slot: Slot, place: usize) -> bool
     }
 }
 
-/// Puts literals of a clause that are not false first, two if there are, and tells what is left of it. It takes no memory.
+/// Puts literals of a clause that are not false first, two if there are, and tells what is left of
+/// it. It takes no memory.
 pub(crate) fn arrange(store: &mut Store, trail: &Trail, slot: Slot) -> Left
     requires alive { IsSome (maps.get store.old.live slot) }
     ensures others { (s : ℕ) → s ≢ slot →

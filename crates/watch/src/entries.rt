@@ -12,7 +12,8 @@ use clause_db::{Slot, Store};
 use cnf_base::OutOfMemory;
 use watch_lists::{SlotList, WatchLists};
 
-/// Puts the slot of a clause into the lists of its first two literals, or into that of the short clauses.
+/// Puts the slot of a clause into the lists of its first two literals, or into that of the short
+/// clauses.
 pub(crate) fn add_entries(
     store: &Store,
     lists: &mut WatchLists,

@@ -22,7 +22,8 @@ use propagation::Assumptions;
 use tables::Table;
 use watch_lists::{WatchLists, Watcher};
 
-/// Lets the clause of an entry watch another literal instead of `l`, whose list is in hand and loses the entry.
+/// Lets the clause of an entry watch another literal instead of `l`, whose list is in hand and
+/// loses the entry.
 #[inline(always)]
 fn move_watch(
     store: &mut Store,
@@ -73,7 +74,8 @@ enum Next {
     Nothing(u32),
 }
 
-/// Visits the clause of an entry in the list of a literal that became false, if it is not known to have a true literal.
+/// Visits the clause of an entry in the list of a literal that became false, if it is not known to
+/// have a true literal.
 fn visit(
     store: &mut Store,
     lists: &mut WatchLists,
@@ -110,7 +112,8 @@ fn visit(
     }
 }
 
-/// Visits the clauses in the list of a literal that became false, up to one that is false: its slot.
+/// Visits the clauses in the list of a literal that became false, up to one that is false: its
+/// slot.
 fn visit_all(
     store: &mut Store,
     lists: &mut WatchLists,
@@ -165,7 +168,8 @@ fn follow(
     found
 }
 
-/// Propagates the literals that are true from this place on, up to a clause that is false: its slot.
+/// Propagates the literals that are true from this place on, up to a clause that is false: its
+/// slot.
 pub(crate) fn propagate(
     store: &mut Store,
     lists: &mut WatchLists,

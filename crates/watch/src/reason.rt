@@ -14,8 +14,9 @@ use cnf_base::OutOfMemory;
 use propagation::{Assumptions, is_root_reason};
 use std::alloc::Global;
 
-/// Whether the clause in the slot makes a literal of it hold for good: by the literals that are kept, which are all that
-/// follows with nothing assumed, or, where a clash is known, by a search of its own over all clauses.
+/// Whether the clause in the slot makes a literal of it hold for good: by the literals that are
+/// kept, which are all that follows with nothing assumed, or, where a clash is known, by a search
+/// of its own over all clauses.
 pub(crate) fn is_reason_for_good(
     alloc: Global,
     store: &Store,

@@ -19,7 +19,8 @@ use cnf_base::OutOfMemory;
 use propagation::Assumptions;
 use watch_lists::{SlotList, WatchLists};
 
-/// Where nothing is kept, keeps the literals of the clauses of one literal, which are yet to be propagated. It takes no memory.
+/// Where nothing is kept, keeps the literals of the clauses of one literal, which are yet to be
+/// propagated. It takes no memory.
 fn start(store: &Store, short: &SlotList, assumptions: &mut Assumptions, roots: &mut Roots)
     requires listed { IsShortList (maps.get store.now.live) short.now }
     requires room { HasRoomForAll assumptions.old.trail.reserved

@@ -31,7 +31,8 @@ pub(crate) enum Kept {
     Clash(u32),
 }
 
-/// What is known of the literals that are true with nothing assumed, and of each the clause that makes it true, its reason.
+/// What is known of the literals that are true with nothing assumed, and of each the clause that
+/// makes it true, its reason.
 #[derive(Drop)]
 pub(crate) struct Roots {
     pub(crate) kept: Kept,
@@ -39,7 +40,8 @@ pub(crate) struct Roots {
     pub(crate) reasons: Table<u32>,
 }
 
-/// Sets a literal that is not false by the clause in a slot, unless it is true already. Tells whether it was open. It takes no memory.
+/// Sets a literal that is not false by the clause in a slot, unless it is true already. Tells
+/// whether it was open. It takes no memory.
 pub(crate) fn set_by(
     assumptions: &mut Assumptions,
     reasons: &mut Table<u32>,
@@ -127,7 +129,8 @@ impl Roots {
         Ok(())
     }
 
-    /// Takes note of a clause that was added, of which this is left and stands first. It takes no memory.
+    /// Takes note of a clause that was added, of which this is left and stands first. It takes no
+    /// memory.
     pub(crate) fn enter(
         &mut self,
         store: &Store,
@@ -194,7 +197,8 @@ impl Roots {
         self.kept = Kept::Lost;
     }
 
-    /// Takes note of a clause that is to be removed: nothing is kept any more where that rests on it. It takes no memory.
+    /// Takes note of a clause that is to be removed: nothing is kept any more where that rests on
+    /// it. It takes no memory.
     pub(crate) fn leave(&mut self, store: &Store, assumptions: &mut Assumptions, slot: Slot)
         requires alive { IsSome (maps.get store.now.live slot) }
         requires nothing_assumed { assumptions.old.assumptions ≡ [] }

@@ -19,7 +19,8 @@ use propagation::{Answer, Assumptions};
 use tables::Table;
 use watch_lists::WatchLists;
 
-/// Sets all that follows from the literals that are true, or stops at a clash. Those before the place `from` are propagated.
+/// Sets all that follows from the literals that are true, or stops at a clash. Those before the
+/// place `from` are propagated.
 pub(crate) fn run(
     store: &mut Store,
     lists: &mut WatchLists,

@@ -23,7 +23,8 @@ fn literal_of(clause: &[Lit]) -> Option<Lit>
     clause.first().copied()
 }
 
-/// Makes the literals of the clauses in these slots true, each of which has one or none, up to one that is false: its slot.
+/// Makes the literals of the clauses in these slots true, each of which has one or none, up to one
+/// that is false: its slot.
 pub(crate) fn set_units(
     store: &Store,
     slots: &[u32],

@@ -30,8 +30,8 @@ use std::mem;
 use trail::{Except, LiteralSet, Part, Unless, Value, Whole};
 use watch_lists::{SlotList, WatchLists};
 
-/// Live clauses, and unit propagation with two watched literals a clause: what follows from an assumption is found without a
-/// look at the clauses that have nothing to do with it.
+/// Live clauses, and unit propagation with two watched literals a clause: what follows from an
+/// assumption is found without a look at the clauses that have nothing to do with it.
 ///
 /// Contracts see what they see of any propagation, and how many entries its lists have.
 #[derive(Drop)]
@@ -64,8 +64,8 @@ impl Model for Watch {
 
     ghost coded = { watch_code };
 
-    // The order of a clause's literals changes with each move, so it is not shown. Each field has to be named here. Of
-    // them the store alone has lists of literals of clauses.
+    // The order of a clause's literals changes with each move, so it is not shown. Each field has
+    // to be named here. Of them the store alone has lists of literals of clauses.
     ghost view = { λ record {
       alloc = _;
       store = store;
@@ -145,8 +145,9 @@ impl Watch {
         Watch::seeded(alloc, 0)
     }
 
-    /// No clauses, and nothing is assumed. Clauses will be hashed by the seed, a number that whoever chooses them shouldn't
-    /// know, so that none are chosen that are slow to find. No answer depends on it.
+    /// No clauses, and nothing is assumed. Clauses will be hashed by the seed, a number that
+    /// whoever chooses them shouldn't know, so that none are chosen that are slow to find. No
+    /// answer depends on it.
     pub fn seeded(alloc: Global, seed: u64) -> Result<Self, OutOfMemory>
         ensures live { IfOk result (λ w. w.propagation.live ≡ maps.empty) }
         ensures nothing_assumed { IfOk result (λ w. w.propagation.assumptions ≡ []) }
@@ -164,7 +165,8 @@ impl Watch {
         })
     }
 
-    /// How many entries all watch lists have, two for each clause of two literals or more; `2^64 - 1` where they are more.
+    /// How many entries all watch lists have, two for each clause of two literals or more; `2^64 -
+    /// 1` where they are more.
     pub fn watch_entries(&self) -> u64
         ensures value { result ≡ min self.now.entries 18446744073709551615 }
         ensures two_each { self.now.entries ≡ 2 * long_clauses self.now.propagation.live }
@@ -188,7 +190,8 @@ impl Watch {
         self.assumptions.trail().len()
     }
 
-    /// Whether what follows with nothing assumed is known: all of it, or a clash. It is while an assumption stands.
+    /// Whether what follows with nothing assumed is known: all of it, or a clash. It is while an
+    /// assumption stands.
     pub fn is_up_to_date(&self) -> bool
         ensures value { result ≡ self.now.is_up_to_date }
         ensures standing { self.now.propagation.assumptions ≢ [] → result ≡ true }
@@ -208,7 +211,8 @@ impl Watch {
         self.roots.has_clash()
     }
 
-    /// The literals that are kept as true with nothing assumed. Where that is up to date and no clash, they are all that follows.
+    /// The literals that are kept as true with nothing assumed. Where that is up to date and no
+    /// clash, they are all that follows.
     pub fn root_literals(&self) -> &[Lit]
         ensures value { result.now ≡ self.now.roots }
         ensures sound { (l : Literal) → IsTrue (has result.now l) →
@@ -221,7 +225,8 @@ impl Watch {
         &self.assumptions.trail().lits()[..self.assumptions.root_count()]
     }
 
-    /// Brings what follows with nothing assumed up to date, before an assumption or a question of it.
+    /// Brings what follows with nothing assumed up to date, before an assumption or a question of
+    /// it.
     ///
     /// # Errors
     ///
@@ -296,7 +301,8 @@ impl Watch {
         self.assume_source(&ClauseSource::Stored(slot), part)
     }
 
-    /// Takes back the last assumption. What is known with nothing assumed stays. It takes no memory.
+    /// Takes back the last assumption. What is known with nothing assumed stays. It takes no
+    /// memory.
     pub fn take_back(&mut self)
         requires { self.old.propagation.assumptions ≢ [] }
         ensures assumptions { self.new.propagation.assumptions ≡

@@ -15,8 +15,8 @@ use tables::{Lists, key};
 #[derive(Drop)]
 pub struct WatchLists {
     lists: Lists<Watcher>,
-    /// Where in its list the entry stood that was taken out last, by the last bits of the literal's key. Clauses that are deleted
-    /// one after the other often stand side by side.
+    /// Where in its list the entry stood that was taken out last, by the last bits of the literal's
+    /// key. Clauses that are deleted one after the other often stand side by side.
     places: [usize; PLACES],
 }
 
@@ -84,7 +84,7 @@ impl WatchLists {
     }
 
     /// Puts a list in the place of the empty one of a literal.
-    #[inline]
+    #[inline(always)]
     pub fn put_back(&mut self, l: Lit, list: Vec<Watcher>)
         requires apart { AreApart self.old }
         requires known { IsTrue (has_list_at self.old l) }
@@ -116,7 +116,8 @@ impl WatchLists {
         self.lists.put_back(key(l), watchers);
     }
 
-    /// Puts the slot of a clause into the lists of two literals of it, or into none where memory is refused.
+    /// Puts the slot of a clause into the lists of two literals of it, or into none where memory is
+    /// refused.
     pub fn watch(&mut self, first: Lit, second: Lit, slot: u32) -> Result<(), OutOfMemory>
         requires { AreApart self.old }
         ensures ok { OnOk result ((k s : ℕ) → entries_of s (list_at self.new k) ≡

@@ -7,7 +7,8 @@ ghost use Rattle.watch_lists.specs.Lists.{entries_of, foreign_blockers, slot_at}
 
 use cnf_base::Lit;
 
-/// An entry of a watch list: the slot of a clause, and a literal of it. Where that is true, the clause need not be looked at.
+/// An entry of a watch list: the slot of a clause, and a literal of it. Where that is true, the
+/// clause need not be looked at.
 ///
 /// It has eight bytes: the lists are what a propagation reads most.
 #[derive(Clone, Copy)]
@@ -16,7 +17,8 @@ pub struct Watcher {
     pub blocking: Lit,
 }
 
-/// How many entries are looked at without a branch, by a processor's wide registers, where a list is long.
+/// How many entries are looked at without a branch, by a processor's wide registers, where a list
+/// is long.
 const MANY_AT_ONCE: usize = 64;
 
 /// How many are, where fewer are left.
@@ -81,7 +83,8 @@ fn place_around(list: &[Watcher], slot: u32, middle: usize) -> Option<usize>
     None
 }
 
-/// The place of the entry of a slot in a list that has one. Where the list is long, it is looked for around a place first.
+/// The place of the entry of a slot in a list that has one. Where the list is long, it is looked
+/// for around a place first.
 fn place_in(list: &[Watcher], slot: u32, middle: usize) -> usize
     requires { 0 < entries_of slot list.now }
     ensures inside { result < length list.now }
@@ -97,7 +100,8 @@ fn place_in(list: &[Watcher], slot: u32, middle: usize) -> usize
     place_from(list, slot, near)
 }
 
-/// Takes the entry of a slot out of a list that has one, which may stand around a place, and tells where it stood.
+/// Takes the entry of a slot out of a list that has one, which may stand around a place, and tells
+/// where it stood.
 pub(crate) fn take_off(list: &mut Vec<Watcher>, slot: u32, middle: usize) -> usize
     requires { 0 < entries_of slot list.old.items }
     ensures times { (s : ℕ) → entries_of s list.new.items + (if s == slot then 1 else 0) ≡

@@ -17,7 +17,8 @@ use std::slice;
 #[derive(Drop)]
 pub(crate) struct Buckets {
     alloc: Global,
-    /// By hash the one slot of a bucket that `many` has not. Where `many` has it, this says nothing.
+    /// By hash the one slot of a bucket that `many` has not. Where `many` has it, this says
+    /// nothing.
     single: HashMap<u32, u32>,
     /// The buckets that had two slots or more since they were empty.
     many: HashMap<u32, Vec<u32>>,
@@ -85,7 +86,8 @@ impl Buckets {
         }
     }
 
-    /// Takes the slot at a place out of the bucket of a hash. The last slot takes that place, and is the result.
+    /// Takes the slot at a place out of the bucket of a hash. The last slot takes that place, and
+    /// is the result.
     pub(crate) fn take(&mut self, hash: u32, place: usize) -> u32
         requires { place < length (bucket_at self.old hash) }
         ensures last { result ≡ slice_index (bucket_at self.old hash)

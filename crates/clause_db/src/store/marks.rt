@@ -22,7 +22,8 @@ pub(crate) struct Digest {
     pub(crate) hash: u32,
 }
 
-/// Makes room in the table for the literals and marks them, where none is marked, and counts the different ones.
+/// Makes room in the table for the literals and marks them, where none is marked, and counts the
+/// different ones.
 pub(crate) fn mark_new(marks: &mut Table<Mark>, lits: &[Lit]) -> Result<usize, OutOfMemory>
     requires { (l : ℕ) → is_marked (at marks.old l) ≡ false }
     ensures len { IfOk result (λ len. len ≡ size lits.now) }

@@ -1,4 +1,5 @@
-//! Numbers that stand whole in what was read at once: they are read with no look at the source for each byte.
+//! Numbers that stand whole in what was read at once: they are read with no look at the source for
+//! each byte.
 ghost use Rattle.std.specs.Prelude.{◌≡◌, ◌+◌, ◌*◌, ◌<◌, ◌≤◌, true, length, take, IfSome};
 ghost use Rattle.std.specs.List.{list_all};
 ghost use Rattle.cnf_base.specs.Words.{is_digit, decimal_after};
@@ -65,8 +66,9 @@ fn go_on(bytes: &[u8], number: u64) -> Option<(usize, u64)>
     go_on_long(bytes, number)
 }
 
-// How many of a few bytes go on with the number, and what it is with them. How many digits a number has can't be foretold, so
-// that a branch for each would often be guessed wrong: all bytes are taken as digits, and the value at the count is picked.
+// How many of a few bytes go on with the number, and what it is with them. How many digits a number
+// has can't be foretold, so that a branch for each would often be guessed wrong: all bytes are
+// taken as digits, and the value at the count is picked.
 #[inline(always)]
 fn few_more(bytes: &[u8], number: u64) -> (usize, u64)
     requires few { length bytes.now ≤ 5 }

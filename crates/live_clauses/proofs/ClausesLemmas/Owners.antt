@@ -1,5 +1,6 @@
 -- The identifiers that are noted for slots, through a change.
-use Rattle.std.proofs.Common.{◌≡◌, ◌≢◌, ℕ, ◌<◌, ◌+◌, true, cond, eqb, eq-eqb, ne_eqb, Some, List, None}
+use Rattle.std.proofs.Common.{◌≡◌, ◌≢◌, ℕ, ◌<◌, ◌+◌, true, cond, eqb, eq-eqb, ne_eqb, Some, List}
+use Rattle.std.proofs.Common.{None}
 use Rattle.std.proofs.Common.{◌≤◌, slice_index, sym, ap, ◌∙◌, arith, inl, inr}
 use Rattle.std.specs.Ordering.{nat_cmp}
 use Rattle.std.specs.FinMap as maps

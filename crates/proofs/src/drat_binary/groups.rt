@@ -3,8 +3,8 @@
 ghost use Rattle.std.specs.Prelude.{◌≡◌, ℕ, List, [], ◌∷◌, ◌++◌};
 ghost use Rattle.proofs.specs.Code.BinaryMoves.{KeepsGroups};
 
-/// What is kept of a number's bytes so far: the number of the first one, the sum of the groups, and what one in the next
-/// group counts. The sum and the weight go up to `u64::MAX`.
+/// What is kept of a number's bytes so far: the number of the first one, the sum of the groups, and
+/// what one in the next group counts. The sum and the weight go up to `u64::MAX`.
 #[derive(Clone, Copy)]
 pub struct Groups {
     pub first: u64,

@@ -15,7 +15,8 @@ use cnf_base::Lit;
 use propagation::{Answer, Propagate};
 use theory::{Accepted, Refusal};
 
-/// The answer to an addition that lists no witness and lacks RUP, where the complements of its literals are assumed.
+/// The answer to an addition that lists no witness and lacks RUP, where the complements of its
+/// literals are assumed.
 fn judge_rat<P: Propagate>(
     clauses: &mut P,
     room: &mut SearchRoom,
@@ -37,7 +38,8 @@ fn judge_rat<P: Propagate>(
     }
 }
 
-/// The answer to an addition that lists a witness and lacks RUP, where the complements of its literals are assumed.
+/// The answer to an addition that lists a witness and lacks RUP, where the complements of its
+/// literals are assumed.
 fn judge_pr<P: Propagate>(
     clauses: &mut P,
     room: &mut SearchRoom,
@@ -112,7 +114,8 @@ fn judge_consistent<P: Propagate>(
     }
 }
 
-/// The answer to an addition, whether it lists a witness or not, over the clauses that are alive before it.
+/// The answer to an addition, whether it lists a witness or not, over the clauses that are alive
+/// before it.
 pub(crate) fn judge<P: Propagate>(
     clauses: &mut P,
     room: &mut SearchRoom,

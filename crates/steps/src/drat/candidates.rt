@@ -1,4 +1,5 @@
-//! The search over the clauses that an addition is tried with where it lacks RUP, over any store of clauses that propagates.
+//! The search over the clauses that an addition is tried with where it lacks RUP, over any store of
+//! clauses that propagates.
 
 ghost use Rattle.std.specs.Prelude.{◌≡◌, ◌++◌, ℕ, Some, IsSome, IsTrue, IfOk, true};
 ghost use Rattle.std.specs.List.{list_any};
@@ -122,7 +123,8 @@ fn all_pass<P: Propagate>(
     requires listed { (s : ℕ) (c : Clause) → maps.get (P.state clauses.old).live s ≡ Some c →
         IsTrue (is_candidate candidates.now c) → IsTrue (has slots.now s) }
     ensures searched { IfOk result (Searched (maps.get (P.state clauses.old).live)
-        (assumed_by (P.state clauses.old).assumptions) (is_candidate candidates.now) (rest_of candidates.now)) }
+        (assumed_by (P.state clauses.old).assumptions) (is_candidate candidates.now)
+        (rest_of candidates.now)) }
     ensures live { (P.state clauses.new).live ≡ (P.state clauses.old).live }
     ensures assumptions { (P.state clauses.new).assumptions ≡ (P.state clauses.old).assumptions }
 {
@@ -147,7 +149,8 @@ fn none_touched<P: Propagate>(clauses: &P, lits: &[Lit]) -> bool
     true
 }
 
-/// Whether each candidate clashes with what is assumed, where the literals touch all that can be one.
+/// Whether each candidate clashes with what is assumed, where the literals touch all that can be
+/// one.
 pub(crate) fn all_clash<P: Propagate>(
     clauses: &mut P,
     candidates: &Candidates<'_>,
@@ -158,7 +161,8 @@ pub(crate) fn all_clash<P: Propagate>(
     requires touched { (c : Clause) → IsTrue (is_candidate candidates.now c) →
         IsTrue (list_any (λ l. has c (complement l)) lits.now) }
     ensures searched { IfOk result (Searched (maps.get (P.state clauses.old).live)
-        (assumed_by (P.state clauses.old).assumptions) (is_candidate candidates.now) (rest_of candidates.now)) }
+        (assumed_by (P.state clauses.old).assumptions) (is_candidate candidates.now)
+        (rest_of candidates.now)) }
     ensures live { (P.state clauses.new).live ≡ (P.state clauses.old).live }
     ensures assumptions { (P.state clauses.new).assumptions ≡ (P.state clauses.old).assumptions }
 {

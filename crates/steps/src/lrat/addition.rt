@@ -19,7 +19,8 @@ use live_clauses::LiveClauses;
 use theory::{Accepted, Refusal};
 use trail::{Trail, Whole};
 
-/// The answer where the unit hints gave no conflict: the groups in their order, and then the candidates without one.
+/// The answer where the unit hints gave no conflict: the groups in their order, and then the
+/// candidates without one.
 fn judge_candidates(
     live: &mut LiveClauses,
     trues: &mut Trail,
@@ -47,8 +48,8 @@ fn judge_candidates(
     }
 }
 
-/// The answer where the unit hints gave no conflict. Only the set of the candidates that groups name takes memory, and the search for
-/// others.
+/// The answer where the unit hints gave no conflict. Only the set of the candidates that groups
+/// name takes memory, and the search for others.
 fn judge_rat(
     room: &mut SearchRoom,
     live: &mut LiveClauses,
@@ -85,7 +86,8 @@ fn walk_units(live: &LiveClauses, trues: &mut Trail, clause: &[Lit], hints: &[i6
     walk(live, trues, hints)
 }
 
-/// The answer to an addition whose identifier is right. It takes memory only where the unit hints give no conflict.
+/// The answer to an addition whose identifier is right. It takes memory only where the unit hints
+/// give no conflict.
 pub(crate) fn judge_addition(
     room: &mut SearchRoom,
     live: &mut LiveClauses,

@@ -1,4 +1,5 @@
-//! The clauses that hold the complement of the pivot: those that groups of hints name, and the others.
+//! The clauses that hold the complement of the pivot: those that groups of hints name, and the
+//! others.
 
 ghost use Rattle.std.specs.Prelude.{◌≡◌, ◌==◌, ◌||◌, ℕ, Some, [], IfOk, IfNone, IsTrue, IsFalse};
 ghost use Rattle.std.specs.List.Sorted.{IsStrictlyIncreasing};
@@ -37,7 +38,8 @@ impl SearchRoom {
     }
 }
 
-/// Walks over a group's hints from where what is left of its candidate is false. The true literals stay as they were.
+/// Walks over a group's hints from where what is left of its candidate is false. The true literals
+/// stay as they were.
 fn walk_group(
     live: &LiveClauses,
     trues: &mut Trail,
@@ -63,7 +65,8 @@ fn walk_group(
     end
 }
 
-/// Why the group of `-candidate` is refused, where `named` are the candidates before it and `hints` what follows.
+/// Why the group of `-candidate` is refused, where `named` are the candidates before it and `hints`
+/// what follows.
 fn judge_group(
     live: &LiveClauses,
     trues: &mut Trail,
@@ -138,7 +141,8 @@ pub(crate) fn judge_groups(
     Ok(None)
 }
 
-/// Whether the clause is a candidate that gives no conflict at once. The true literals stay as they were.
+/// Whether the clause is a candidate that gives no conflict at once. The true literals stay as they
+/// were.
 fn needs_group(trues: &mut Trail, opposite: Lit, clause: &[Lit]) -> bool
     requires quiet { IsFalse (conflicts trues.old.lits) }
     requires room { HasRoom trues.old.reserved clause.now }
@@ -173,7 +177,8 @@ fn is_left_out(live: &LiveClauses, trues: &mut Trail, pivot: Lit, named: &Named,
     }
 }
 
-/// The first of these identifiers whose clause is a candidate that no group names and that gives no conflict at once.
+/// The first of these identifiers whose clause is a candidate that no group names and that gives no
+/// conflict at once.
 fn first_unnamed(
     live: &LiveClauses,
     trues: &mut Trail,
@@ -198,8 +203,8 @@ fn first_unnamed(
     None
 }
 
-/// The lowest identifier of a candidate that no group names and that gives no conflict at once. It takes memory only where some
-/// candidate is not named.
+/// The lowest identifier of a candidate that no group names and that gives no conflict at once. It
+/// takes memory only where some candidate is not named.
 pub(crate) fn first_left_out(
     live: &mut LiveClauses,
     trues: &mut Trail,

@@ -7,7 +7,8 @@ ghost use Rattle.theory.specs.declared.refusal.Refusal.TheVariants.{UnknownId};
 
 use live_clauses::LiveClauses;
 
-/// Takes the clauses off in order, up to the first identifier that is not alive at its turn, which is the result.
+/// Takes the clauses off in order, up to the first identifier that is not alive at its turn, which
+/// is the result.
 pub(crate) fn delete_all(live: &mut LiveClauses, ids: &[i64]) -> Option<u64>
     ensures missing { option_map UnknownId result ≡ deletion_refusal (maps.get live.old.live)
         (map nat_abs ids.now) }

@@ -47,10 +47,11 @@ fn named_at<'a>(live: &'a LiveClauses, hints: &[i64], place: usize) -> Option<&'
     }
 }
 
-/// Walks over the hints before the first negative one, from literals without a conflict, and makes true what each of their
-/// clauses gives. It takes no memory: the room was made before.
+/// Walks over the hints before the first negative one, from literals without a conflict, and makes
+/// true what each of their clauses gives. It takes no memory: the room was made before.
 ///
-/// Clauses lie far apart in memory, so each is looked up before the walk over the one before it, which goes on meanwhile.
+/// Clauses lie far apart in memory, so each is looked up before the walk over the one before it,
+/// which goes on meanwhile.
 pub(crate) fn walk(live: &LiveClauses, trues: &mut Trail, hints: &[i64]) -> WalkEnd
     requires quiet { IsFalse (conflicts trues.old.lits) }
     requires room { HasRoomForAll trues.old.reserved (maps.get live.now.live) }

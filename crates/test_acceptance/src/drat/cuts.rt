@@ -47,7 +47,8 @@ const TRACED_BINARY_STEPS: [Expected<'static>; 5] = [
     ("c 1 add rup\nc proof byte 5: unterminated step", 2),
 ];
 
-// Where a read fails, the first step counts from the byte after its last word on, and in the binary form with its last byte.
+// Where a read fails, the first step counts from the byte after its last word on, and in the binary
+// form with its last byte.
 const TEXT: Cuts<'static> = Cuts {
     input: Cutting::Second(E_BY_DRAT, E_SHOWN),
     ends: &[&STEPS],

@@ -6,7 +6,8 @@ use std::test::Fail;
 // 1, so 2, so 3 and -3.
 const CHAIN: &str = "p cnf 3 4\n1 0\n-1 2 0\n-2 3 0\n-2 -3 0\n";
 
-// The same without the clash: 1, so 2, so 3. No clause has -3, so the clause 3 has RAT where it has no RUP.
+// The same without the clash: 1, so 2, so 3. No clause has -3, so the clause 3 has RAT where it has
+// no RUP.
 const QUIET_CHAIN: &str = "p cnf 4 3\n1 0\n-1 2 0\n-2 3 0\n";
 
 const ROWS: [Row<'static>; 6] = [

@@ -1,4 +1,5 @@
-//! Formulas of checks of proofs that are cut after each of their bytes, by their end or by a failed read.
+//! Formulas of checks of proofs that are cut after each of their bytes, by their end or by a failed
+//! read.
 
 use crate::support::{
     Cuts, Cutting, E, E_BY_DRAT, E_BY_LRAT, Expected, HEADER, UNREAD_FORMULA, expect_cuts,
@@ -6,7 +7,8 @@ use crate::support::{
 };
 use std::test::Fail;
 
-// The first n bytes of the formula `E`, for each n from 11 to 36. The whole one has 38, and its header 10.
+// The first n bytes of the formula `E`, for each n from 11 to 36. The whole one has 38, and its
+// header 10.
 const E_CLAUSES: [Expected<'static>; 26] = [
     // The first clause, of 6 bytes.
     ("c formula 2:2: unterminated clause", 2),

@@ -1,4 +1,5 @@
-//! The greatest numbers of a header and of a clause through whole checks of DRAT and of models. No list is made by a header's.
+//! The greatest numbers of a header and of a clause through whole checks of DRAT and of models. No
+//! list is made by a header's.
 
 use crate::support::{DRAT, E, MODEL, MODELS_OUTPUT, Row, expect_all};
 use std::test::Fail;

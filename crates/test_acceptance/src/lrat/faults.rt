@@ -5,7 +5,8 @@ use std::alloc::Global;
 use std::process::Abort;
 use std::test::Fail;
 
-// By where the token stands: the identifier, just after it, the literals, the hints, the identifiers of a deletion.
+// By where the token stands: the identifier, just after it, the literals, the hints, the
+// identifiers of a deletion.
 const TOKENS: [(&str, &str); 46] = [
     ("0 2 0 1 2 0\n", "c proof 1:1: bad token"),
     ("-5 2 0 1 2 0\n", "c proof 1:1: bad token"),

@@ -5,7 +5,8 @@ use std::alloc::Global;
 use std::process::Abort;
 use std::test::Fail;
 
-// A definition of 3 by groups, on one clause with 1 and 2. The line of the first step, which is accepted, is not here.
+// A definition of 3 by groups, on one clause with 1 and 2. The line of the first step, which is
+// accepted, is not here.
 const AFTER_DEFINITION: [(&str, &str, &str); 8] = [
     (
         "definition_by_groups",
@@ -143,7 +144,8 @@ const ROWS: [Row<'static>; 4] = [
         status: 1,
         ..LRAT_TRACED
     },
-    // The second step leaves 2 unnamed. Then clause 1 makes room for clause 4, and clause 5 is added after it.
+    // The second step leaves 2 unnamed. Then clause 1 makes room for clause 4, and clause 5 is
+    // added after it.
     Row {
         name: "a candidate that isn't named, in the place of a deleted clause",
         formula: G,

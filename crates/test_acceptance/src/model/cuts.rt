@@ -1,4 +1,5 @@
-//! A solver's output and its formula, cut after each of their bytes, by their end or by a failed read.
+//! A solver's output and its formula, cut after each of their bytes, by their end or by a failed
+//! read.
 
 use crate::support::{
     Cuts, Cutting, Expected, HEADER, MODELS, MODELS_MET, MODELS_OUTPUT, UNREAD_FORMULA,
@@ -33,7 +34,8 @@ const LINES: [Expected<'static>; 21] = [
     ("c output 2:7: unterminated model", 2),
 ];
 
-// For the first n bytes of the formula, for each n from 11 to 19. The whole one has 21, and its header 10.
+// For the first n bytes of the formula, for each n from 11 to 19. The whole one has 21, and its
+// header 10.
 const CLAUSES: [Expected<'static>; 9] = [
     // The first clause, of 7 bytes.
     ("c formula 2:2: unterminated clause", 2),

@@ -6,7 +6,8 @@ use crate::support::{
 };
 use std::test::Fail;
 
-// The formula isn't read where the output has a fault, and not past the line feed after the `0` of a clause that isn't met.
+// The formula isn't read where the output has a fault, and not past the line feed after the `0` of
+// a clause that isn't met.
 #[test]
 fn reads_no_further(rt: HostRuntime) -> Result<(), Fail> {
     let alloc = rt.alloc();

@@ -1,4 +1,5 @@
-//! Which fault counts. The output's comes before the formula's, and a clause before a fault that follows it.
+//! Which fault counts. The output's comes before the formula's, and a clause before a fault that
+//! follows it.
 
 use crate::support::{MODEL, Row, expect_all};
 use std::test::Fail;

@@ -20,7 +20,8 @@ pub enum Cutting<'a> {
 // Lines of a report, and the status.
 pub type Expected<'a> = (&'a str, u8);
 
-// The first n bytes of a header with one digit each, for each n from 0 to 10. The line feed is the tenth.
+// The first n bytes of a header with one digit each, for each n from 0 to 10. The line feed is the
+// tenth.
 pub const HEADER: [Expected<'static>; 11] = [
     ("c formula 1:1: bad header", 2),
     ("c formula 1:2: bad header", 2),
@@ -118,7 +119,8 @@ impl<'a> Cutting<'a> {
         Ok(())
     }
 
-    // The tables say what comes of the first n bytes of the input, for each n from 0 on. With more of them all is read.
+    // The tables say what comes of the first n bytes of the input, for each n from 0 on. With more
+    // of them all is read.
     fn expect_ends(
         &self,
         rt: &impl Abort,
@@ -133,7 +135,8 @@ impl<'a> Cutting<'a> {
         self.expect_whole(rt, alloc, first)
     }
 
-    // Each row says what comes of fewer bytes than its number, where a read fails after them. With more of them all is read.
+    // Each row says what comes of fewer bytes than its number, where a read fails after them. With
+    // more of them all is read.
     fn expect_failures(
         &self,
         rt: &impl Abort,
@@ -169,8 +172,8 @@ impl<'a> Cutting<'a> {
 #[derive(Clone, Copy)]
 pub struct Cuts<'a> {
     pub input: Cutting<'a>,
-    // Where it ends after n bytes, for each n from 0 on, one table after the other. From there on all is read.
-    // Without a table only failed reads are tried.
+    // Where it ends after n bytes, for each n from 0 on, one table after the other. From there on
+    // all is read. Without a table only failed reads are tried.
     pub ends: &'a [&'a [Expected<'a>]],
     // Where a read fails after fewer bytes than the number. From the last one on all is read.
     pub failures: &'a [(usize, Expected<'a>)],

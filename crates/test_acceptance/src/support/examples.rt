@@ -99,7 +99,8 @@ pub const E_BY_BINARY_TRACED: Row<'static> = Row {
     ..BINARY_TRACED
 };
 
-// What is written with a trace where a clause is added, one is deleted, and the empty clause is added.
+// What is written with a trace where a clause is added, one is deleted, and the empty clause is
+// added.
 pub const E_WITH_DELETION: &str =
     "c formula 2 variables 4 clauses\nc 1 add rup\nc 2 delete\nc 3 add rup\nc steps 3 peak 9";
 

@@ -7,8 +7,9 @@ use std::process::Abort;
 use std::test::Fail;
 use test_inputs::{MANY, Pieces, Stop, Writer, repeated};
 
-// After the second input come 400000 bytes more, which makes so many. They are handed out in pieces as large as one
-// likes. No more than one piece is read past the step that decides: at least so many bytes are left.
+// After the second input come 400000 bytes more, which makes so many. They are handed out in pieces
+// as large as one likes. No more than one piece is read past the step that decides: at least so
+// many bytes are left.
 pub fn expect_one_piece_further(
     rt: &impl Abort,
     alloc: Global,

@@ -84,7 +84,8 @@ pub fn expect_read(rt: &impl Abort, alloc: Global, row: &Row<'_>) -> Result<(), 
     expect_runs(rt, alloc, row, 7, Some(true))
 }
 
-// A formula of which a proof was verified has no model, and one of which a model was verified has one.
+// A formula of which a proof was verified has no model, and one of which a model was verified has
+// one.
 fn expect_no_contradiction(rt: &impl Abort, alloc: Global, row: &Row<'_>) -> Result<(), Fail> {
     if row.status == 0 {
         let name = row.name;
@@ -109,7 +110,8 @@ pub fn expect_all(rt: &impl Abort, alloc: Global, rows: &[Row<'_>]) -> Result<()
     Ok(())
 }
 
-// A formula and the line of it, with a name, a second input and the lines that come after that of the formula.
+// A formula and the line of it, with a name, a second input and the lines that come after that of
+// the formula.
 pub fn expect_after(
     rt: &impl Abort,
     alloc: Global,

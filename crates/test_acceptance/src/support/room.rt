@@ -82,8 +82,8 @@ fn expect_all_room(
     Ok(())
 }
 
-// Room for each beginning of the report, after which the writer does each thing, and for the whole of it. Nothing is written
-// after a failure, even where it would be taken.
+// Room for each beginning of the report, after which the writer does each thing, and for the whole
+// of it. Nothing is written after a failure, even where it would be taken.
 pub fn expect_any_room(rt: &impl Abort, alloc: Global, rows: &[Row<'_>]) -> Result<(), Fail> {
     for stop in [Stop::TakesNone, Stop::Fails, Stop::FailsOnce] {
         expect_all_room(rt, alloc, rows, Room::TooLittle(stop))?;

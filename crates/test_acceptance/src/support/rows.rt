@@ -21,7 +21,8 @@ pub struct Row<'a> {
     // A proof, or a solver's output.
     pub second: &'a [u8],
     pub second_cut: Cut,
-    // The report but for its last line, which the status decides. The last line feed is left out too.
+    // The report but for its last line, which the status decides. The last line feed is left out
+    // too.
     pub lines: &'a str,
     pub status: u8,
 }
@@ -92,7 +93,8 @@ macro_rules! drat_row {
 
 pub const BY_DRAT: Request = drat!();
 
-// What a proof is answered that lists no set and deletes no clause which a literal follows by, as without these rules.
+// What a proof is answered that lists no set and deletes no clause which a literal follows by, as
+// without these rules.
 pub const BY_OTHER_RULES: Request = drat!(pr, keep_units);
 
 pub const BY_BINARY_DRAT: Request = drat!(binary);

@@ -13,7 +13,8 @@ use tables::{Table, key};
 
 /// A value by literal, for both literals of each variable that was reserved.
 ///
-/// The keys below `dense.len()` have their values in `dense`, all others in `far`: a look-up among dense keys reads one byte.
+/// The keys below `dense.len()` have their values in `dense`, all others in `far`: a look-up among
+/// dense keys reads one byte.
 #[derive(Drop)]
 pub(crate) struct Values {
     dense: Vec<Value>,

@@ -94,7 +94,8 @@ fn propagates(rt: HostRuntime) -> Result<(), Fail> {
     Ok(())
 }
 
-/// How the rest of the clause `row` is answered where nothing else is assumed; none where there is no such clause.
+/// How the rest of the clause `row` is answered where nothing else is assumed; none where there is
+/// no such clause.
 fn rest_answer<P: Fresh>(
     alloc: Global,
     rows: &[[i32; 2]],
@@ -129,8 +130,8 @@ fn assumes_the_rest(rt: HostRuntime) -> Result<(), Fail> {
     Ok(())
 }
 
-/// How a clause is answered but for what the set makes false, where nothing else is assumed; none where there is no such
-/// clause. The set is given as literals, or filled before.
+/// How a clause is answered but for what the set makes false, where nothing else is assumed; none
+/// where there is no such clause. The set is given as literals, or filled before.
 fn unless_answer<P: Fresh>(
     alloc: Global,
     row: &[i32],
@@ -204,7 +205,8 @@ fn finds_conflicts(rt: HostRuntime) -> Result<(), Fail> {
     Ok(())
 }
 
-/// How many clauses the literals touch, and whether the first of them is this row; where the row is empty, whether none is.
+/// How many clauses the literals touch, and whether the first of them is this row; where the row is
+/// empty, whether none is.
 fn touched_first<P: Fresh>(
     alloc: Global,
     lits: &[i32],
@@ -254,7 +256,8 @@ fn finds_what_literals_touch(rt: HostRuntime) -> Result<(), Fail> {
     Ok(())
 }
 
-/// How many clauses the literal 1 touches at first, once one of them is taken out, and once another has come.
+/// How many clauses the literal 1 touches at first, once one of them is taken out, and once another
+/// has come.
 fn touched_along<P: Fresh>(alloc: Global) -> Result<(usize, usize, usize), Fail> {
     let mut clauses = P::fresh(alloc)?;
     fill(alloc, &mut clauses, &[[1, 2], [-1, -2], [-1, 3]])?;
@@ -322,7 +325,8 @@ fn looks_up(rt: HostRuntime) -> Result<(), Fail> {
     Ok(())
 }
 
-/// How many clauses have the literal 2, and whether a slot with it is found, as the clauses `1 2` are taken out one by one.
+/// How many clauses have the literal 2, and whether a slot with it is found, as the clauses `1 2`
+/// are taken out one by one.
 fn counts_down<P: Fresh>(alloc: Global, rows: &[[i32; 2]]) -> Result<Vec<(u64, bool)>, Fail> {
     let mut clauses = P::fresh(alloc)?;
     fill(alloc, &mut clauses, rows)?;

@@ -9,7 +9,8 @@ use watch::Watch;
 
 /// A propagation that can be made from nothing.
 ///
-/// A test that holds one behind a type parameter is proved many times faster than one that holds `Scan` or `Watch`.
+/// A test that holds one behind a type parameter is proved many times faster than one that holds
+/// `Scan` or `Watch`.
 pub(crate) trait Fresh: Propagate + Drop {
     /// One with nothing assumed.
     fn fresh(alloc: Global) -> Result<Self, Fail>

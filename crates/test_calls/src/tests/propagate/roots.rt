@@ -10,7 +10,8 @@ use std::alloc::Global;
 use std::test::Fail;
 use watch::Watch;
 
-/// Whether what follows with nothing assumed is known, whether it is a clash, and how many literals are kept.
+/// Whether what follows with nothing assumed is known, whether it is a clash, and how many literals
+/// are kept.
 type Known = (bool, bool, usize);
 
 fn known(watch: &Watch) -> Known {
@@ -33,8 +34,8 @@ fn take_out(alloc: Global, watch: &mut Watch, numbers: &[i32]) -> Result<Known, 
     Ok(known(watch))
 }
 
-/// What is known after an assumption, after it was taken back, and after two removals: of a clause that is no reason, and of one
-/// that is.
+/// What is known after an assumption, after it was taken back, and after two removals: of a clause
+/// that is no reason, and of one that is.
 fn kept(alloc: Global, watch: &mut Watch) -> Result<Vec<Known>, Fail>
     requires { watch.old.propagation.assumptions ≡ [] }
 {
@@ -56,7 +57,8 @@ fn keeps_what_follows(rt: HostRuntime) -> Result<(), Fail> {
     Ok(())
 }
 
-/// What is known after the removal of a clause, by which the literal 2 follows from the unit clause 1, or doesn't.
+/// What is known after the removal of a clause, by which the literal 2 follows from the unit clause
+/// 1, or doesn't.
 fn removed_from(alloc: Global, watch: &mut Watch, numbers: &[i32]) -> Result<Known, Fail>
     requires { watch.old.propagation.assumptions ≡ [] }
 {

@@ -1,4 +1,5 @@
-//! Made-up sequences of insertions, removals, assumptions and undos: both propagations answer alike.
+//! Made-up sequences of insertions, removals, assumptions and undos: both propagations answer
+//! alike.
 
 ghost use Rattle.std.specs.Prelude.{◌≡◌, ◌<◌, ℕ, List, [], ◌∷◌, IfOk, OnOk};
 ghost use Rattle.propagation.specs.Assumptions.{LastIsAnswered};
@@ -133,7 +134,8 @@ fn take_out<P: Propagate>(clauses: &mut P, lits: &[Lit], log: &mut Vec<u8>) -> R
     Ok(())
 }
 
-/// Inserts a clause of one to four literals, takes out one of one or two if it is there, and assumes one clause and on it another.
+/// Inserts a clause of one to four literals, takes out one of one or two if it is there, and
+/// assumes one clause and on it another.
 fn change<P: Propagate>(
     alloc: Global,
     clauses: &mut P,

@@ -141,7 +141,8 @@ fn lines(rt: HostRuntime) -> Result<(), Fail> {
     Ok(())
 }
 
-// The bytes of a line, and how often the writer is given some of it, where it takes all that it is given.
+// The bytes of a line, and how often the writer is given some of it, where it takes all that it is
+// given.
 const WRITES: [(usize, usize); 5] = [(0, 1), (1, 1), (127, 1), (128, 2), (200, 2)];
 
 // A line of ordinary length is handed over together with its line feed.

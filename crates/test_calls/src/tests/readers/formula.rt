@@ -112,7 +112,8 @@ fn whole(rt: HostRuntime) -> Result<(), Fail> {
     expect_formula(&rt, alloc, "p cnf 3 0", Cut::Ends, header, &[], Ok(false))
 }
 
-// What comes after the first clause of three of 1 and 2, and the fault. It is given again at each call.
+// What comes after the first clause of three of 1 and 2, and the fault. It is given again at each
+// call.
 const FAULTS: [(&str, TextFault, u64, u64); 4] = [
     ("1 3 0\n2 0\n", TextFault::LiteralOutOfRange, 3, 3),
     ("? 2 0\n", TextFault::BadToken, 3, 1),

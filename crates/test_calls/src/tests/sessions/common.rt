@@ -10,7 +10,8 @@ use std::process::Abort;
 use std::test::Fail;
 use steps::{Accepted, ProofSession, Refusal};
 
-// What a session answers to a step, and after it the greatest sum of sizes, how many literals are kept, and whether it has verified.
+// What a session answers to a step, and after it the greatest sum of sizes, how many literals are
+// kept, and whether it has verified.
 pub type StepAnswer = (Result<Accepted, Refusal>, u64, u64, bool);
 
 fn expect_answer<S: ProofSession>(

@@ -40,13 +40,15 @@ fn kept_len(store: &mut Store, lits: &[Lit]) -> Option<usize> {
     }
 }
 
-/// What can be seen of a store: how many literals it has, in how many clauses this one is, and whether the clause is there.
+/// What can be seen of a store: how many literals it has, in how many clauses this one is, and
+/// whether the clause is there.
 fn seen(store: &mut Store, lits: &[Lit], l: Lit) -> (u64, u64, bool) {
     let is_there = store.find(lits).is_some();
     (store.literals(), store.count_with(l), is_there)
 }
 
-/// Inserts the clause. Where memory is refused, it sees that nothing has changed, and tries once more.
+/// Inserts the clause. Where memory is refused, it sees that nothing has changed, and tries once
+/// more.
 fn insert_again(rt: &impl Abort, store: &mut Store, lits: &[Lit], l: Lit) -> Result<Slot, Fail> {
     let before = seen(store, lits, l);
     match store.insert(lits) {

@@ -169,7 +169,8 @@ fn uses_pages_again(rt: HostRuntime) -> Result<(), Fail> {
     Ok(())
 }
 
-/// Page numbers near 2^53 can't have a place in a list that begins with page 0: it would be too long.
+/// Page numbers near 2^53 can't have a place in a list that begins with page 0: it would be too
+/// long.
 #[test]
 fn keeps_far_identifiers(rt: HostRuntime) -> Result<(), Fail> {
     let far = 1u64 << 63;

@@ -1,6 +1,7 @@
 use Rattle.std.proofs.Common.{◌≤◌, ap, sym, subst}
 use Rattle.live_clauses.proofs.ClausesLemmas.Joined.{removed_invariant, removed_was, removed_live}
-use Rattle.live_clauses.proofs.ClausesLemmas.Joined.{absent_invariant, absent_was, absent_live, owners_without}
+use Rattle.live_clauses.proofs.ClausesLemmas.Joined.{absent_invariant, absent_was, absent_live}
+use Rattle.live_clauses.proofs.ClausesLemmas.Joined.{owners_without}
 use Rattle.live_clauses.proofs.ClausesLemmas.Kept.{kept_fewer}
 use Rattle.live_clauses.proofs.clauses.LiveClauses.remove.Goals as goal
 

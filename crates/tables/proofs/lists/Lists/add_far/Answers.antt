@@ -1,4 +1,5 @@
-use Rattle.std.proofs.Common.{◌≡◌, ℕ, None, cond, eqb, unwrap_or, Some, length, ◌∷◌, ◌++◌, [], rules, arith, ap, ◌∙◌, slice_get}
+use Rattle.std.proofs.Common.{◌≡◌, ℕ, None, cond, eqb, unwrap_or, Some, length, ◌∷◌, ◌++◌, []}
+use Rattle.std.proofs.Common.{rules, arith, ap, ◌∙◌, slice_get}
 use Rattle.std.proofs.lemmas.Grind.{common_steps}
 use Rattle.std.proofs.lemmas.List.{length-append}
 use Rattle.tables.specs.Table.{at}
