@@ -27,7 +27,7 @@ copies_with clauses l = sum_over (λ c. if has c l then 1 else 0) clauses
 
 -- the literals touch the clause in the slot: it has the complement of one of them
 pub record IsTouchedAt (live : FinMap nat_cmp Clause) (lits : List Literal) (slot : ℕ) :
-  Type 0 where
+    Type 0 where
   pub clause : Clause
   pub at : maps.get live slot ≡ Some clause
   pub touched : IsTrue (list_any (λ l. has clause (complement l)) lits)

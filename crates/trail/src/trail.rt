@@ -58,7 +58,7 @@ impl Model for Trail {
 
     ghost invariant = { λ t.
         IsTrail t.lits.items t.reserved.items (vec_capacity t.lits) (at t.seen)
-            (value_at t.values) };
+        (value_at t.values) };
 }
 
 /// The literal that says that the variable is true; none for 0 and past the greatest variable.

@@ -51,7 +51,7 @@ PassesAt live assumed candidates slot true =
 PassesAt live assumed candidates slot false =
     (c : Clause) → live slot ≡ Some c →
     IsTrue (is_candidate candidates c)
-      × ¬ Clash live (assumed ++ complements (rest_of candidates c))
+    × ¬ Clash live (assumed ++ complements (rest_of candidates c))
 
 -- the set has been filled with these literals
 abbrev pub IsFilled : LiteralSet → List Literal → Type 0

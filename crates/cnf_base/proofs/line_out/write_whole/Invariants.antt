@@ -9,7 +9,7 @@ invariant-loop-at g l =
       within : l.at ≤ length l.bytes;
       part : Appends (g.W.Out.held l.fn.writer) (g.W.Out.held l.writer) (take l.at l.bytes);
       mark : g.W.Out.has_failed l.writer ≡ g.W.Out.has_failed l.fn.writer;
-      same_writer : g.W.Out.borrows l.writer ≡ g.W.Out.borrows l.fn.writer
+      same_writer : g.W.Out.borrows l.writer ≡ g.W.Out.borrows l.fn.writer;
     }
 
 abbrev pub decreases-loop-at : goal.decreases-loop-at

@@ -6,8 +6,8 @@ use Rattle.proofs.proofs.text.read_step.Given as goal
 
 abbrev pub invariant-loop-place : goal.invariant-loop-place
 invariant-loop-place g l =
-  Between g.P.TextPart.format l.fn.scanner l.scanner (g.P.TextPart.spot l.part) l.step
-  × IsTrue (g.P.TextPart.fits l.part l.step)
+    Between g.P.TextPart.format l.fn.scanner l.scanner (g.P.TextPart.spot l.part) l.step
+    × IsTrue (g.P.TextPart.fits l.part l.step)
 
 abbrev pub decreases-loop-place : goal.decreases-loop-place
 decreases-loop-place g l = most_to_come l.scanner

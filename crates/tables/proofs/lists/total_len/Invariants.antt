@@ -4,4 +4,4 @@ use Rattle.tables.proofs.lists.total_len.Given as goal
 
 abbrev pub invariant-loop-number : goal.invariant-loop-number
 invariant-loop-number g l =
-  record { counted : l.entries ≡ min (total (take l.number l.lists.items)) 18446744073709551615 }
+    record { counted : l.entries ≡ min (total (take l.number l.lists.items)) 18446744073709551615 }

@@ -7,5 +7,5 @@ use Rattle.tables.proofs.table.is_covered.Given as goal
 abbrev pub invariant-loop-key : goal.invariant-loop-key
 invariant-loop-key g l =
     (k : ℕ) → IsSome (lookup (λ j. is_eq (nat_cmp k j)) l.sparse.entries) →
-      lookup (λ j. is_eq (nat_cmp k j)) l.key-iterator ≡ None →
-      IsSome (slice_index_or l.dense.items k None)
+    lookup (λ j. is_eq (nat_cmp k j)) l.key-iterator ≡ None →
+    IsSome (slice_index_or l.dense.items k None)

@@ -7,6 +7,6 @@ use Rattle.trail.proofs.literal_set.number_literals.Given as goal
 abbrev pub invariant-loop-l : goal.invariant-loop-l
 invariant-loop-l l = record {
   numbers : (x : ℕ) → number_at l.numbers x
-    ≡ cond (has (take l.l-index l.lits) x) l.number (number_at l.fn.numbers x);
+      ≡ cond (has (take l.l-index l.lits) x) l.number (number_at l.fn.numbers x);
   known : (x : ℕ) → has l.lits x ≡ true → IsSome (at l.numbers x);
 }

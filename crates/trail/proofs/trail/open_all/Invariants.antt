@@ -8,6 +8,6 @@ abbrev pub invariant-loop-l : goal.invariant-loop-l
 invariant-loop-l l = record {
   known : (k : ℕ) → is_some (value_at l.values k) ≡ is_some (value_at l.fn.values k);
   opened : (k : ℕ) → known_value (value_at l.values k)
-    ≡ cond (has (take l.l-index l.lits) k || has (take l.l-index l.lits) (complement k)) Open
-    (known_value (value_at l.fn.values k));
+      ≡ cond (has (take l.l-index l.lits) k || has (take l.l-index l.lits) (complement k)) Open
+      (known_value (value_at l.fn.values k));
 }

@@ -5,4 +5,4 @@ use Rattle.trail.proofs.truths.left_of.Given as goal
 
 abbrev pub invariant-loop-l : goal.invariant-loop-l
 invariant-loop-l g l = l.left
-  ≡ how_many (open_literals (g.T.Truths.trues l.truths) (take l.l-index l.clause))
+    ≡ how_many (open_literals (g.T.Truths.trues l.truths) (take l.l-index l.clause))

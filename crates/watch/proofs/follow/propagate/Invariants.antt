@@ -9,11 +9,11 @@ abbrev pub invariant-loop-done : goal.invariant-loop-done
 invariant-loop-done l = record {
   inside : l.done ≤ length l.assumptions.trail.lits;
   watched :
-    IsWatched (maps.get l.store.live)
-    (take l.done l.assumptions.trail.lits) l.assumptions.trail.lits;
+      IsWatched (maps.get l.store.live)
+      (take l.done l.assumptions.trail.lits) l.assumptions.trail.lits;
   followed :
-    Followed l.fn.store.live l.store.live l.fn.lists l.lists l.fn.assumptions l.assumptions
-    (at l.fn.reasons) (at l.reasons);
+      Followed l.fn.store.live l.store.live l.fn.lists l.lists l.fn.assumptions l.assumptions
+      (at l.fn.reasons) (at l.reasons);
 }
 
 abbrev pub decreases-loop-done : goal.decreases-loop-done

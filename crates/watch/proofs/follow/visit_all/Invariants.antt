@@ -10,10 +10,10 @@ use Rattle.watch.proofs.follow.visit_all.Given as goal
 abbrev pub invariant-loop-place : goal.invariant-loop-place
 invariant-loop-place l = record {
   visited :
-    Visited l.fn.store.live l.store.live l.fn.lists l.lists l.fn.list.items l.list.items
-    l.fn.assumptions l.assumptions (at l.fn.reasons) (at l.reasons) l.l;
+      Visited l.fn.store.live l.store.live l.fn.lists l.lists l.fn.list.items l.list.items
+      l.fn.assumptions l.assumptions (at l.fn.reasons) (at l.reasons) l.l;
   met : (s : ℕ) → 0 < entries_of s (take l.place l.list.items) → (c : Clause) →
-    maps.get l.store.live s ≡ Some c → IsMet c l.l l.assumptions.trail.lits;
+      maps.get l.store.live s ≡ Some c → IsMet c l.l l.assumptions.trail.lits;
 }
 
 abbrev pub decreases-loop-place : goal.decreases-loop-place

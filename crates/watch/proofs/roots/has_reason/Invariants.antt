@@ -5,6 +5,7 @@ use Rattle.watch.proofs.roots.has_reason.Given as goal
 
 abbrev pub invariant-loop-l : goal.invariant-loop-l
 invariant-loop-l l =
-  record {
-    none : (x : Literal) → has (take l.l-index l.clause) x ≡ true →
-      has l.trail.lits x ≡ true → at l.reasons x ≢ Some l.slot }
+    record {
+      none : (x : Literal) → has (take l.l-index l.clause) x ≡ true →
+          has l.trail.lits x ≡ true → at l.reasons x ≢ Some l.slot;
+    }

@@ -9,8 +9,8 @@ use Rattle.watch.proofs.units.set_units.Given as goal
 abbrev pub invariant-loop-place : goal.invariant-loop-place
 invariant-loop-place l = record {
   units : (s : ℕ) → has (take l.place l.slots) s ≡ true → (c : Clause) →
-    maps.get l.store.live s ≡ Some c → HasUnit c l.assumptions.trail.lits;
+      maps.get l.store.live s ≡ Some c → HasUnit c l.assumptions.trail.lits;
   propagates :
-    PropagatesTo l.store.live l.store.live l.fn.assumptions l.assumptions (at l.fn.reasons)
-    (at l.reasons);
+      PropagatesTo l.store.live l.store.live l.fn.assumptions l.assumptions (at l.fn.reasons)
+      (at l.reasons);
 }

@@ -4,4 +4,4 @@ use Rattle.watch_lists.proofs.watcher.lacks.Given as goal
 
 abbrev pub invariant-loop-place : goal.invariant-loop-place
 invariant-loop-place l =
-  record { none : l.is_absent ≡ true → entries_of l.slot (take l.place l.list) ≡ 0 }
+    record { none : l.is_absent ≡ true → entries_of l.slot (take l.place l.list) ≡ 0 }

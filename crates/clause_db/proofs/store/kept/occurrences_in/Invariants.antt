@@ -8,6 +8,6 @@ use Rattle.clause_db.proofs.store.kept.occurrences_in.Given as goal
 abbrev pub invariant-loop-slot : goal.invariant-loop-slot
 invariant-loop-slot l = record {
   exact : (k s : ℕ) → occurs l.occurrences k s
-    ≡ (nat_lt s l.slot && has_in (maps.get (clauses_in l.entries) s) k);
+      ≡ (nat_lt s l.slot && has_in (maps.get (clauses_in l.entries) s) k);
   low : (s : ℕ) → s < l.slot → is_some (maps.get (clauses_in l.entries) s) ≡ true → s < 4294967296;
 }

@@ -7,8 +7,8 @@ use Rattle.clause_db.proofs.store.marks.count_all.Given as goal
 abbrev pub invariant-loop-l : goal.invariant-loop-l
 invariant-loop-l l = record {
   marked : (k : ℕ) → is_marked (at l.marks k)
-    ≡ (has l.lits k && not (has (take l.l-index l.lits) k));
+      ≡ (has l.lits k && not (has (take l.l-index l.lits) k));
   counts : (k : ℕ) → mark_count (at l.marks k)
-    ≡ mark_count (at l.fn.marks k) + cond (has (take l.l-index l.lits) k) 1 0;
+      ≡ mark_count (at l.fn.marks k) + cond (has (take l.l-index l.lits) k) 1 0;
   known : (k : ℕ) → is_some (at l.marks k) ≡ is_some (at l.fn.marks k);
 }

@@ -9,9 +9,9 @@ invariant-loop-l l = record {
   items : (k : ℕ) → has l.kept.items k ≡ has (take l.l-index l.lits) k;
   different : size l.kept.items ≡ length l.kept.items;
   marked : (k : ℕ) → is_marked (at l.marks k)
-    ≡ (has l.lits k && not (has (take l.l-index l.lits) k));
+      ≡ (has l.lits k && not (has (take l.l-index l.lits) k));
   counts : (k : ℕ) → mark_count (at l.marks k)
-    ≡ mark_count (at l.fn.marks k) + cond (has (take l.l-index l.lits) k) 1 0;
+      ≡ mark_count (at l.fn.marks k) + cond (has (take l.l-index l.lits) k) 1 0;
   known : (k : ℕ) → is_some (at l.marks k) ≡ is_some (at l.fn.marks k);
   room : l.kept.capacity ≡ l.fn.kept.capacity;
 }

@@ -8,5 +8,5 @@ abbrev pub invariant-loop-l : goal.invariant-loop-l
 invariant-loop-l l = record {
   marked : (k : ℕ) → is_marked (at l.marks k) ≡ is_marked (at l.fn.marks k);
   counts : (k : ℕ) → mark_count (at l.marks k) + cond (has (take l.l-index l.lits) k) 1 0
-    ≡ mark_count (at l.fn.marks k);
+      ≡ mark_count (at l.fn.marks k);
 }

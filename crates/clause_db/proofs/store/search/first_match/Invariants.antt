@@ -7,4 +7,4 @@ use Rattle.clause_db.proofs.store.search.first_match.Given as goal
 
 abbrev pub invariant-loop-i : goal.invariant-loop-i
 invariant-loop-i l = (k s : ℕ) → k < l.i → slice_get l.bucket k ≡ Some s →
-  is_match (λ m. is_marked (at l.marks m)) l.len (get l.entries s) ≡ false
+    is_match (λ m. is_marked (at l.marks m)) l.len (get l.entries s) ≡ false

@@ -9,7 +9,7 @@ use Rattle.propagation.proofs.scan.unit.propagate.Given as goal
 abbrev pub invariant-loop-assumptions : goal.invariant-loop-assumptions
 invariant-loop-assumptions l = record {
   sound : (k : Literal) → has l.assumptions.trail.lits k ≡ true →
-    Forced (maps.get l.store.live) l.fn.assumptions.trail.lits k;
+      Forced (maps.get l.store.live) l.fn.assumptions.trail.lits k;
   extends : Extends l.fn.assumptions l.assumptions;
 }
 

@@ -7,5 +7,5 @@ invariant-loop-slot g l = record {
   passed : Passed (g.P.Propagate.state l.fn.clauses) l.candidates (take l.slot-index l.slots);
   live : (g.P.Propagate.state l.clauses).live ≡ (g.P.Propagate.state l.fn.clauses).live;
   assumptions : (g.P.Propagate.state l.clauses).assumptions
-    ≡ (g.P.Propagate.state l.fn.clauses).assumptions;
+      ≡ (g.P.Propagate.state l.fn.clauses).assumptions;
 }

@@ -7,4 +7,4 @@ use Rattle.steps.proofs.drat.candidates.none_touched.Given as goal
 abbrev pub invariant-loop-l : goal.invariant-loop-l
 invariant-loop-l g l =
     (x : ℕ) → has (take l.l-index l.lits) x ≡ true → (s : ℕ) →
-      HasAt (maps.get (g.P.Propagate.state l.clauses).live) (complement x) s → ⊥
+    HasAt (maps.get (g.P.Propagate.state l.clauses).live) (complement x) s → ⊥

@@ -10,9 +10,9 @@ use Rattle.steps.proofs.lrat.candidates.judge_groups.Given as goal
 abbrev pub invariant-loop-i : goal.invariant-loop-i
 invariant-loop-i l = record {
   refusal :
-    groups_refusal (maps.get l.live.live) l.fn.trues.lits l.fn.pivot l.named
-    (groups_of (drop l.i l.hints))
-    ≡ groups_refusal (maps.get l.live.live) l.fn.trues.lits l.fn.pivot [] (groups_of l.hints);
+      groups_refusal (maps.get l.live.live) l.fn.trues.lits l.fn.pivot l.named
+      (groups_of (drop l.i l.hints))
+      ≡ groups_refusal (maps.get l.live.live) l.fn.trues.lits l.fn.pivot [] (groups_of l.hints);
   named : SameSet l.named (named_in (take l.i l.hints));
   hold : (k : ℕ) → has l.named k ≡ true → Holds (maps.get l.live.live) (complement l.fn.pivot) k;
   lits : l.trues.lits ≡ l.fn.trues.lits;

@@ -10,12 +10,12 @@ use Rattle.steps.proofs.lrat.walk.walk.Given as goal
 abbrev pub invariant-loop-i : goal.invariant-loop-i
 invariant-loop-i l = record {
   so_far :
-    Gives (chain (maps.get l.live.live) l.trues.lits (units_of (drop l.i l.hints)))
-    (chain (maps.get l.live.live) l.fn.trues.lits (units_of l.hints));
+      Gives (chain (maps.get l.live.live) l.trues.lits (units_of (drop l.i l.hints)))
+      (chain (maps.get l.live.live) l.fn.trues.lits (units_of l.hints));
   quiet : conflicts l.trues.lits ≡ false;
   begins : take (length l.fn.trues.lits) l.trues.lits ≡ l.fn.trues.lits;
   longer : length l.fn.trues.lits ≤ length l.trues.lits;
   next : l.i < length l.hints → option_copied l.next
-    ≡ maps.get l.live.live (nat_abs (slice_index_or l.hints l.i (pos 0)));
+      ≡ maps.get l.live.live (nat_abs (slice_index_or l.hints l.i (pos 0)));
   reserved : SameSet l.trues.reserved l.fn.trues.reserved;
 }

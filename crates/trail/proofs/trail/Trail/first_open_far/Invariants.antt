@@ -4,6 +4,7 @@ use Rattle.trail.proofs.trail.Trail.first_open_far.Given as goal
 
 abbrev pub invariant-loop-place : goal.invariant-loop-place
 invariant-loop-place l =
-  record {
-    false_before : (k : ℕ) → l.from ≤ k → k < l.place →
-      has l.self.lits (complement (slice_index l.clause k)) ≡ true }
+    record {
+      false_before : (k : ℕ) → l.from ≤ k → k < l.place →
+          has l.self.lits (complement (slice_index l.clause k)) ≡ true;
+    }

@@ -7,5 +7,5 @@ invariant-loop-l l = record {
   lits : l.self.lits ≡ l.fn.self.lits;
   reserved : (v : ℕ) → has l.fn.self.reserved v ≡ true → has l.self.reserved v ≡ true;
   room : (x : Literal) → has (take l.l-index l.clause) x ≡ true →
-    has l.self.reserved (x / 2) ≡ true;
+      has l.self.reserved (x / 2) ≡ true;
 }

@@ -7,6 +7,6 @@ abbrev pub invariant-loop-l : goal.invariant-loop-l
 invariant-loop-l l = record {
   kept : l.self.kept ≡ l.fn.self.kept;
   old : (x : Literal) → IsSome (at l.fn.self.reasons x) →
-    at l.self.reasons x ≡ at l.fn.self.reasons x;
+      at l.self.reasons x ≡ at l.fn.self.reasons x;
   room : (x : Literal) → has (take l.l-index l.clause) x ≡ true → IsSome (at l.self.reasons x);
 }
