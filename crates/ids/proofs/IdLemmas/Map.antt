@@ -227,6 +227,20 @@ module _ (directory : Directory) (pages : Pages) (far : BTreeMap ℕ ℕ) where
       | inr apart ↦ grind (arith, nat_tests)
     ]
 
+-- ---- An unbound identifier comes into its page, which was found or made before
+
+module _ (directory : Directory) (pages : Pages) (far : BTreeMap ℕ ℕ) (id : ℕ) (none : entry_for directory pages far id ≡ 0) (wider : Directory) (more : Pages) (paged : IsPaged wider more)
+    (same : (k : ℕ) → entry_at wider more k ≡ entry_at directory pages k) (page : ℕ) (its : page_at wider (id / 1024) ≡ page) (some : page ≢ 0) where
+  pub page_empty : get_or more.entries.items (place page id) 0 ≡ 0
+  page_empty =
+      ap (λ p. get_or more.entries.items (place p id) 0) (sym its) ∙ sym (entry_is wider more paged id (λ e. some (sym its ∙ e))) ∙ same id
+      ∙ (both_none (entry_at directory pages id) (far_at far id) none).0
+
+  pub page_filled : (after : Pages) (entry : ℕ) → after.entries.items ≡ set more.entries.items (place page id) entry → (k : ℕ) → entry_at wider after k ≡ cond (eqb k id) entry (entry_at directory pages k)
+  page_filled after entry written k =
+      entry_at-written wider more paged after id entry (λ e. some (sym its ∙ e)) (written ∙ ap (λ p. set more.entries.items (place p id) entry) (sym its)) k
+      ∙ ap (cond (eqb k id) entry) (same k)
+
 -- ---- What is said where nothing is found
 
 pub if_none_always : {T : Type 0} (o : Option T) {P : Type 0} → P → IfNone o P
