@@ -1,9 +1,10 @@
 -- A solver's output, as the grammar of a claimed model has it.
 use Rattle.std.proofs.Common.{◌≡◌, ℕ, ◌≤◌, ◌==◌, nat_le, cond, Bool, true, false, List, [], ◌∷◌}
 use Rattle.std.proofs.Common.{◌++◌, map, reverse, Option, None, Some, Result, Ok, Err, refl, sym}
-use Rattle.std.proofs.Common.{ap, ap₂, subst, ◌∙◌, append_assoc, arith}
+use Rattle.std.proofs.Common.{ap, ap₂, subst, ◌∙◌, append_assoc, arith, inl, inr, ◌⊎◌}
 use Rattle.std.specs.Prelude.{◌&&◌, if◌then◌else◌, codes}
 use Rattle.std.specs.List.{list_all}
+use Rattle.std.proofs.lemmas.Bool.{true≢false}
 use Rattle.std.proofs.lemmas.Bool.Decides.{nat_tests}
 use Rattle.std.proofs.lemmas.List.{reverse-append, reverse-reverse}
 use Rattle.std.proofs.lemmas.List.Sorted.{IsPermutation-reverse, list_any-IsPermutation}
@@ -196,22 +197,45 @@ module _ (h : Bool) where
       by None next = refl
       by (Some x) next = next x
 
--- values of a line and of others
-record AreValues (h e : Bool) (ls : List Literal) (ws : List (List ℕ)) (lines : Lines)
-    (r : List Literal) : Type 0 where
+-- the first line has values, and other lines follow
+record IsValueLine (h e : Bool) (ls : List Literal) (w : List ℕ) (ws : List (List ℕ))
+    (lines : Lines) (r : List Literal) : Type 0 where
+  pub first : w ≡ codes "v"
   pub ended : Bool
   pub listed : List Literal
   pub line : values_in e ls ws ≡ Some (ended, listed)
   pub later : claim_says (at at_line_start h ended listed) (said_by lines) ≡ Some r
 
-line_values : (h e : Bool) (ls : List Literal) (ws : List (List ℕ)) (lines : Lines)
+-- the first line begins with an `s`, there was no status line, and other lines follow
+record IsStatusLine (h e : Bool) (ls : List Literal) (w : List ℕ) (ws : List (List ℕ))
+    (lines : Lines) (r : List Literal) : Type 0 where
+  pub none_yet : h ≡ false
+  pub first : w ≡ codes "s"
+  pub later : claim_says (at after_s false e ls) (line_then ws (said_by lines)) ≡ Some r
+
+line_read : (h e : Bool) (ls : List Literal) (w : List ℕ) (ws : List (List ℕ)) (lines : Lines)
     (r : List Literal)
-    → claim_says (at in_values h e ls) (line_then ws (said_by lines)) ≡ Some r
-    → AreValues h e ls ws lines r
-line_values h e ls ws lines r is =
-    let x = went_on (values_in e ls ws) (λ x. claim_says (at at_line_start h x.0 x.1) (said_by lines)) r
-    (sym (values_said h ws e ls (said_by lines)) ∙ is) in
-    record { ended = x.0.0; listed = x.0.1; line = x.1; later = x.2 }
+    → claim_says (at at_line_start h e ls) (said_by ((w ∷ ws) ∷ lines)) ≡ Some r
+    → IsValueLine h e ls w ws lines r ⊎ IsStatusLine h e ls w ws lines r
+line_read h e ls w ws lines r is = by (word_of w) refl is
+  where
+    status : (h : Bool) → word_of w ≡ words.S
+        → and_so (known (on_first (at at_line_start h e ls) words.S))
+        (λ s. claim_says s (line_then ws (said_by lines))) ≡ Some r
+        → IsStatusLine h e ls w ws lines r
+    status true v is = absurd (let bad : None ≡ Some r = is in cc)
+    status false v is = record { none_yet = refl; first = s_spelled w v; later = is }
+
+    by : (v : Word) → word_of w ≡ v
+        → and_so (known (on_first (at at_line_start h e ls) v))
+        (λ s. claim_says s (line_then ws (said_by lines))) ≡ Some r
+        → IsValueLine h e ls w ws lines r ⊎ IsStatusLine h e ls w ws lines r
+    by words.V v is =
+        let x = went_on (values_in e ls ws) (λ x. claim_says (at at_line_start h x.0 x.1) (said_by lines)) r
+        (sym (values_said h ws e ls (said_by lines)) ∙ is) in
+        inl (record { first = v_spelled w v; ended = x.0.0; listed = x.0.1; line = x.1; later = x.2 })
+    by words.S v is = inr (status h v is)
+    by _ v is = absurd (let bad : None ≡ Some r = is in cc)
 
 values_before : (e : Bool) (ls : List Literal) (ws us : List (List ℕ)) (x : HeardSo) (r : HeardSo)
     → values_in e ls ws ≡ Some x → values_in x.0 x.1 us ≡ Some r
@@ -235,25 +259,16 @@ rest_read [] false ls r is = absurd (let bad : None ≡ Some r = is in cc)
 rest_read ([] ∷ lines) e ls r is =
     let x = rest_read lines e ls r is in
     record { after = x.after; lines_are = x.lines_are; values = x.values }
-rest_read ((w ∷ ws) ∷ lines) e ls r is = by (word_of w) refl is (λ e ls. rest_read lines e ls r)
-  where
-    by : (v : Word) → word_of w ≡ v
-        → and_so (known (on_first (at at_line_start true e ls) v))
-        (λ s. claim_says s (line_then ws (said_by lines))) ≡ Some r
-        → ((e : Bool) (ls : List Literal) → claim_says (at at_line_start true e ls) (said_by lines)
-        ≡ Some r → IsRest lines e ls r)
-        → IsRest ((w ∷ ws) ∷ lines) e ls r
-    by words.V v is next =
-        let x = line_values true e ls ws lines r is in
-        let y = next x.ended x.listed x.later in
-        record {
-          after = ws ∷ y.after;
-          lines_are = ap₂ (λ w more. (w ∷ ws) ∷ more) (v_spelled w v) y.lines_are;
-          values = values_before e ls ws (all_words y.after) (x.ended, x.listed)
-              (true, r) x.line y.values;
-        }
-    by words.S v is next = absurd (let bad : None ≡ Some r = is in cc)
-    by _ v is next = absurd (let bad : None ≡ Some r = is in cc)
+rest_read ((w ∷ ws) ∷ lines) e ls r is = elim (line_read true e ls w ws lines r is) [
+  | inl x ↦
+      let y = rest_read lines x.ended x.listed r x.later in
+      record {
+        after = ws ∷ y.after;
+        lines_are = ap₂ (λ w more. (w ∷ ws) ∷ more) x.first y.lines_are;
+        values = values_before e ls ws (all_words y.after) (x.ended, x.listed) (true, r) x.line y.values;
+      }
+  | inr x ↦ absurd (true≢false x.none_yet)
+]
 
 rest_taken : (lines after : Lines) (e : Bool) (ls r : List Literal)
     → filled_lines lines ≡ map value_words after → values_in e ls (all_words after) ≡ Some (true, r)
@@ -319,35 +334,26 @@ lines_read [] e ls r is = absurd (let bad : None ≡ Some r = is in cc)
 lines_read ([] ∷ lines) e ls r is =
     let x = lines_read lines e ls r is in
     record { before = x.before; after = x.after; lines_are = x.lines_are; values = x.values }
-lines_read ((w ∷ ws) ∷ lines) e ls r is = by (word_of w) refl is (λ e ls. lines_read lines e ls r)
-  where
-    by : (v : Word) → word_of w ≡ v
-        → and_so (known (on_first (at at_line_start false e ls) v))
-        (λ s. claim_says s (line_then ws (said_by lines))) ≡ Some r
-        → ((e : Bool) (ls : List Literal) → claim_says (at at_line_start false e ls) (said_by lines)
-        ≡ Some r → IsOutput lines e ls r)
-        → IsOutput ((w ∷ ws) ∷ lines) e ls r
-    by words.V v is next =
-        let x = line_values false e ls ws lines r is in
-        let y = next x.ended x.listed x.later in
-        record {
-          before = ws ∷ y.before;
-          after = y.after;
-          lines_are = ap₂ (λ w more. (w ∷ ws) ∷ more) (v_spelled w v) y.lines_are;
-          values = values_before e ls ws (all_words (y.before ++ y.after)) (x.ended, x.listed)
-              (true, r) x.line y.values;
-        }
-    by words.S v is next =
-        let x = status_read e ls ws (said_by lines) r is in
-        let y = rest_read lines e ls r x.later_says in
-        record {
-          before = [];
-          after = y.after;
-          lines_are = ap (λ more. (w ∷ ws) ∷ more) y.lines_are
-              ∙ ap₂ (λ w ws. (w ∷ ws) ∷ map value_words y.after) (s_spelled w v) x.words;
-          values = y.values;
-        }
-    by _ v is next = absurd (let bad : None ≡ Some r = is in cc)
+lines_read ((w ∷ ws) ∷ lines) e ls r is = elim (line_read false e ls w ws lines r is) [
+  | inl x ↦
+      let y = lines_read lines x.ended x.listed r x.later in
+      record {
+        before = ws ∷ y.before;
+        after = y.after;
+        lines_are = ap₂ (λ w more. (w ∷ ws) ∷ more) x.first y.lines_are;
+        values = values_before e ls ws (all_words (y.before ++ y.after)) (x.ended, x.listed) (true, r) x.line y.values;
+      }
+  | inr s ↦
+      let x = status_read e ls ws (said_by lines) r s.later in
+      let y = rest_read lines e ls r x.later_says in
+      record {
+        before = [];
+        after = y.after;
+        lines_are = ap (λ more. (w ∷ ws) ∷ more) y.lines_are
+            ∙ ap₂ (λ w ws. (w ∷ ws) ∷ map value_words y.after) s.first x.words;
+        values = y.values;
+      }
+]
 
 lines_taken : (lines before after : Lines) (e : Bool) (ls r : List Literal)
     → filled_lines lines ≡ map value_words before ++ status_words ∷ map value_words after
