@@ -12,7 +12,7 @@ ghost use Rattle.trail.specs.Code.Left.{IsCount};
 ghost use Rattle.trail.specs.Trail.{value_under, is_variable, HasNoVariableTwice, HasRoom};
 ghost use Rattle.trail.specs.Trail.{MakesFalse};
 ghost use Rattle.theory.specs.Sets.{SameSet, conflicts};
-ghost use Rattle.trail.specs.Code.Values.{value_at, known_value};
+ghost use Rattle.trail.specs.Code.Values.{AreNear, value_at, known_value};
 ghost use Rattle.trail.specs.declared.value.Value.TheVariants.{Open};
 
 use self::values::Values;
@@ -285,54 +285,43 @@ impl Trail {
         false
     }
 
-    /// How many literals of a clause are not false, where each counts as often as it is repeated,
-    /// and the last of them.
+    /// The values that lie near. A loop asks for them once: else it would have their place read
+    /// again for each literal.
     #[inline(always)]
-    fn open_in(&self, clause: &[Lit]) -> (usize, Lit)
-        ensures { IsCount (open_literals self.now.lits clause.now) result.0 result.1 }
+    fn near(&self) -> &[Value]
+        ensures { AreNear self.now.lits result.now }
     {
-        match self.open_near(clause) {
-            Some(found) => found,
-            None => self.open_far(clause),
-        }
+        self.values.near()
     }
 
-    /// The same as `open_in`, where the values of all literals lie near. A call in the loop would
-    /// have the place of the values read again for each literal.
+    /// Whether the literal is false, where its value is one of these near ones.
+    #[inline(always)]
+    fn is_false_near(&self, near: &[Value], l: Lit) -> Option<bool>
+        requires { AreNear self.now.lits near.now }
+        ensures { IfSome result (λ r. r ≡ has self.now.lits (complement l)) }
+    {
+        let value = near.get(l.index())?;
+        Some(matches!(value, Value::False))
+    }
+
+    /// How many literals of a clause are not false, where each counts as often as it is repeated,
+    /// and the last of them, where the values of all literals lie near.
     #[inline(always)]
     fn open_near(&self, clause: &[Lit]) -> Option<(usize, Lit)>
         ensures { IfSome result (λ r.
             IsCount (open_literals self.now.lits clause.now) r.0 r.1) }
     {
-        let near = self.values.near();
-        let mut count = 0;
-        let mut open = Lit::default();
-        for l in clause {
-            let value = near.get(l.index())?;
-            if !matches!(value, Value::False) {
-                count += 1;
-                open = *l;
-            }
-        }
-        Some((count, open))
-    }
-
-    /// The same as `open_in`, wherever the values lie.
-    #[cold]
-    #[inline(never)]
-    fn open_far(&self, clause: &[Lit]) -> (usize, Lit)
-        ensures { IsCount (open_literals self.now.lits clause.now) result.0 result.1 }
-    {
+        let near = self.near();
         let mut count = 0;
         let mut last = Lit::default();
         for l in clause {
-            let is_left = !self.is_false(*l);
-            if is_left {
+            let is_false = self.is_false_near(near, *l)?;
+            if !is_false {
                 count += 1;
                 last = *l;
             }
         }
-        (count, last)
+        Some((count, last))
     }
 
     /// The same as `first_open`, where the values of all literals that it looks at lie near.
@@ -341,10 +330,10 @@ impl Trail {
         ensures found { IfSome result (λ r. IfSome r (IsOpenAt self.now.lits clause.now from)) }
         ensures none { IfSome result (λ r. IfNone r (AreFalseFrom self.now.lits clause.now from)) }
     {
-        let near = self.values.near();
+        let near = self.near();
         for place in from..clause.len() {
-            let value = near.get(clause[place].index())?;
-            if !matches!(value, Value::False) {
+            let is_false = self.is_false_near(near, clause[place])?;
+            if !is_false {
                 return Some(Some(place));
             }
         }
@@ -385,10 +374,9 @@ impl Trail {
     pub fn unit_left(&self, clause: &[Lit]) -> Left
         ensures { result ≡ how_many (open_literals self.now.lits clause.now) }
     {
-        let (count, last) = self.open_in(clause);
-        match count {
-            0 => Left::Nothing,
-            1 => Left::One(last),
+        match self.open_near(clause) {
+            Some((0, _)) => Left::Nothing,
+            Some((1, last)) => Left::One(last),
             _ => self.left(clause),
         }
     }

@@ -5,9 +5,6 @@ use Rattle.std.proofs.Common.{map, take, drop, get_or, length, nat_eq, length-ap
 use Rattle.std.proofs.Common.{sym, ◌∙◌, inl, inr, ◌⊎◌, refl, subst}
 use Rattle.std.specs.List.{AllByRecursion, IsDistinct}
 use Rattle.std.specs.Cmp.{nat_eq_equiv}
-use Rattle.std.specs.Option.{option_or}
-use Rattle.std.specs.Prelude.{slice_get}
-use Rattle.std.proofs.lemmas.Option.{slice_get_read}
 use Rattle.std.proofs.lemmas.Bool.{false≢true, false_from_ne_true, or_cases, or_left, or_right}
 use Rattle.std.proofs.lemmas.Bool.{cases_eq, ne_eqb}
 use Rattle.std.proofs.lemmas.Bool.Decides.{nat_tests}
@@ -321,27 +318,3 @@ module _ (c : List ℕ) (i : ℕ) (inside : i < length c) (x : ℕ) (is : x ≡ 
     where
       more : (l : ℕ) → has (take (i + 1) c) l ≡ (has (take i c) l || eqb x l)
       more = has_more c i inside x is
-
--- ---- A value that was looked up
-
--- the trail says the same of a literal whose value lies near
-pub near_value : (near : List Value) (far : Values) (lits : List ℕ) → ((l : ℕ) → known_value (option_or (slice_get near l) (far l)) ≡ value_under lits l) →
-    (l i : ℕ) (v : Value) → i ≡ l → i < length near → v ≡ get_or near i v → v ≡ value_under lits l
-near_value near far lits says l i v same inside is =
-    let found : slice_get near l ≡ Some v = ap (slice_get near) (sym same) ∙ slice_get_read near (length near) i v refl inside is in
-    sym (ap (λ o. known_value (option_or o (far l))) found) ∙ says l
-
--- the complement of a literal that is false is true
-pub value_false : (lits : List ℕ) (l : ℕ) (v : Value) → v ≡ value_under lits l → v ≡ False → has lits (complement l) ≡ true
-value_false lits l v is false_is = by_tests (has lits l) (has lits (complement l)) refl refl
-  where
-    not_true : True ≡ False → ⊥
-    not_true e = cc
-
-    not_open : Open ≡ False → ⊥
-    not_open e = cc
-
-    by_tests : (a b : Bool) → has lits l ≡ a → has lits (complement l) ≡ b → has lits (complement l) ≡ true
-    by_tests true b e f = absurd (not_true (sym (is ∙ value_by_tests lits l true b e f) ∙ false_is))
-    by_tests false true e f = f
-    by_tests false false e f = absurd (not_open (sym (is ∙ value_by_tests lits l false false e f) ∙ false_is))

@@ -5,6 +5,6 @@ use Rattle.trail.proofs.trail.Trail.open_near.Given as goal
 
 abbrev pub invariant-loop-l : goal.invariant-loop-l
 invariant-loop-l l = record {
-  counted : IsCount (open_literals l.self.lits (take l.l-index l.clause)) l.count l.open;
+  counted : IsCount (open_literals l.self.lits (take l.l-index l.clause)) l.count l.last;
   few : l.count ≤ l.l-index;
 }
