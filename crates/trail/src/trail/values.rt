@@ -116,19 +116,8 @@ impl Values {
         if (key as usize) < self.dense.len() {
             self.set_near(key, value);
         } else {
-            self.set_far(key, value);
+            self.far.set(key, value);
         }
-    }
-
-    #[cold]
-    #[inline(never)]
-    fn set_far(&mut self, key: u32, value: Value)
-        requires far { vec_len self.old.dense ≤ key }
-        requires reserved { IsSome (value_at self.old key) }
-        ensures { (k : ℕ) → value_at self.new k ≡
-            (if k == key then Some value else value_at self.old k) }
-    {
-        self.far.set(key, value);
     }
 
     /// Lengthens `dense`, with what `far` has there.
