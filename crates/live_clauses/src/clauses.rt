@@ -41,13 +41,7 @@ impl Model for LiveClauses {
     ghost coded = { live_clauses_code };
 
     // Each field has to be named here. Of them the store alone has lists of literals.
-    ghost view = { λ record {
-      store = store;
-      ids = ids;
-      top = top;
-      owners = _;
-      slots = _;
-    }. record {
+    ghost view = { λ record { store = store; ids = ids; top = top; owners = _; slots = _ }. record {
       live = joined ids store.live;
       top = top;
       stored = store.stored;

@@ -10,10 +10,17 @@ use Rattle.std.proofs.lemmas.List.Sorted.{list_any-IsPermutation}
 use Rattle.std.proofs.lemmas.Option.{same_Some}
 use Rattle.cnf_base.specs.Literals.{Literal, Clause, complement, has}
 use Rattle.clause_db.specs.Store.{IsTouchedAt}
+use Rattle.theory.specs.Propagation.{Live}
 use Rattle.live_clauses.specs.LiveClauses.{LiveClausesState, Holds}
 use Rattle.live_clauses.specs.Code.LiveClauses.{joined, IsPaired, AreNoted}
 use Rattle.live_clauses.proofs.ClausesLemmas.Distinct.{mapped_has, mapped_from, rising_mapped}
 use Rattle.live_clauses.proofs.ClausesLemmas.Joined.{got_some, holder, some_is_some}
+
+-- those of the clauses that the literal touches, in ascending order
+pub record AreTouched (live : Live) (l : Literal) (found : List ℕ) : Type 0 where
+  pub ascending : IsStrictlyIncreasing found
+  pub each : (k : ℕ) → has found k ≡ true → Holds live (complement l) k
+  pub all : (k : ℕ) → Holds live (complement l) k → has found k ≡ true
 
 module _ (ids : FinMap nat_cmp ℕ) (store : FinMap nat_cmp Clause) (state : LiveClausesState) (view : joined ids store ≡ state.live) (paired : IsPaired ids store)
     (by_slot : List ℕ) (noted : AreNoted by_slot ids) (l : Literal) (slots found : List ℕ)
@@ -29,7 +36,7 @@ module _ (ids : FinMap nat_cmp ℕ) (store : FinMap nat_cmp Clause) (state : Liv
   one_alone true h = refl
   one_alone false h = h
 
-  pub touched_each : (k : ℕ) → has found k ≡ true → Holds (maps.get state.live) (complement l) k
+  touched_each : (k : ℕ) → has found k ≡ true → Holds (maps.get state.live) (complement l) k
   touched_each k member =
       let w = mapped_from (λ s. slice_index by_slot s) slots k (found_has k ∙ member) in
       let t = each w.0 w.1 in
@@ -37,13 +44,13 @@ module _ (ids : FinMap nat_cmp ℕ) (store : FinMap nat_cmp Clause) (state : Liv
       subst (Holds (maps.get state.live) (complement l)) (sym (noted owner.0 w.0 owner.1) ∙ w.2)
       (record { clause = t.clause; at = sym (got_some ids store state view owner.0 w.0 owner.1 t.clause (sym t.at)); member = one_alone (has t.clause (complement l)) t.touched })
 
-  pub touched_all : (k : ℕ) → Holds (maps.get state.live) (complement l) k → has found k ≡ true
+  touched_all : (k : ℕ) → Holds (maps.get state.live) (complement l) k → has found k ≡ true
   touched_all k holds =
       let w = holder ids store state view paired (complement l) k holds in
       let member = all w.0 (record { clause = w.2; at = w.3; touched = or_left (has w.2 (complement l)) false w.4 }) in
       sym (found_has k) ∙ subst (λ j. has (map (λ s. slice_index by_slot s) slots) j ≡ true) (noted k w.0 w.1) (mapped_has (λ s. slice_index by_slot s) slots w.0 member)
 
-  pub touched_rise : IsStrictlyIncreasing slots → IsSorted nat_cmp found → IsStrictlyIncreasing found
+  touched_rise : IsStrictlyIncreasing slots → IsSorted nat_cmp found → IsStrictlyIncreasing found
   touched_rise rising sorted = rising_mapped (λ s. slice_index by_slot s) slots found one_to_one rising moved sorted
     where
       one_to_one : (r s : ℕ) → has slots r ≡ true → has slots s ≡ true → slice_index by_slot r ≡ slice_index by_slot s → r ≡ s
@@ -51,3 +58,6 @@ module _ (ids : FinMap nat_cmp ℕ) (store : FinMap nat_cmp Clause) (state : Liv
           let first = owner_of r left in
           let second = owner_of s right in
           same_Some r s (sym first.1 ∙ ap (maps.get ids) (sym (noted first.0 r first.1) ∙ same ∙ noted second.0 s second.1) ∙ second.1)
+
+  pub are_touched : IsStrictlyIncreasing slots → IsSorted nat_cmp found → AreTouched (maps.get state.live) l found
+  are_touched rising sorted = record { ascending = touched_rise rising sorted; each = touched_each; all = touched_all }

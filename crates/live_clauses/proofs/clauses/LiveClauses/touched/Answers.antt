@@ -1,31 +1,26 @@
 use Rattle.std.proofs.Common.{OnOk, ap, map, subst}
+use Rattle.std.specs.FinMap as maps
 use Rattle.std.specs.List.Sorted.{IsPermutation}
 use Rattle.std.proofs.lemmas.Result.{on_ok_weaker}
 use Rattle.live_clauses.specs.Code.LiveClauses.{owner_at}
 use Rattle.live_clauses.proofs.ClausesLemmas.Kept.{when_both}
-use Rattle.live_clauses.proofs.ClausesLemmas.Touched.{touched_each, touched_all, touched_rise}
+use Rattle.live_clauses.proofs.ClausesLemmas.Touched.{AreTouched, are_touched}
 use Rattle.live_clauses.proofs.clauses.LiveClauses.touched.Goals as goal
+use Rattle.live_clauses.proofs.clauses.LiveClauses.touched.Goals.{After-identify}
+
+found : (c : After-identify) → OnOk c.identify.result (AreTouched (maps.get c.args.self.now.live) c.args.l c.identify.new.into.items)
+found c =
+    let s = c.self.inside in
+    let noted = c.keep.ensures.owners c.self.invariant.2 c.in_ok-keep.ensures.kept in
+    let slots = c.slots_touched.new.into.items in
+    let moved = subst (λ ls. OnOk c.identify.result (IsPermutation (map (owner_at c.keep.new.self) ls) c.identify.new.into.items)) c.as_slice.ensures.value c.identify.ensures.same in
+    when_both c.identify.result (λ moved. are_touched s.ids s.store.live c.args.self.now (ap (λ v. v.live) c.self.view_is) c.self.invariant.0.0 c.keep.new.self.by_slot.items noted c.args.l slots c.identify.new.into.items c.in_ok-slots_touched.ensures.each c.in_ok-slots_touched.ensures.all moved c.in_ok-slots_touched.ensures.ascending) moved c.identify.ensures.sorted
 
 pub returns-clause-ascending : goal.returns-clause-ascending
-returns-clause-ascending c =
-    let s = c.self.inside in
-    let noted = c.keep.ensures.owners c.self.invariant.2 c.in_ok-keep.ensures.kept in
-    let slots = c.slots_touched.new.into.items in
-    let moved = subst (λ ls. OnOk c.identify.result (IsPermutation (map (owner_at c.keep.new.self) ls) c.identify.new.into.items)) c.as_slice.ensures.value c.identify.ensures.same in
-    when_both c.identify.result (λ moved sorted. touched_rise s.ids s.store.live c.args.self.now (ap (λ v. v.live) c.self.view_is) c.self.invariant.0.0 c.keep.new.self.by_slot.items noted c.args.l slots c.identify.new.into.items c.in_ok-slots_touched.ensures.each c.in_ok-slots_touched.ensures.all moved c.in_ok-slots_touched.ensures.ascending sorted) moved c.identify.ensures.sorted
+returns-clause-ascending c = on_ok_weaker c.identify.result (λ (t : AreTouched _ _ _). t.ascending) (found c)
 
 pub returns-clause-each : goal.returns-clause-each
-returns-clause-each c =
-    let s = c.self.inside in
-    let noted = c.keep.ensures.owners c.self.invariant.2 c.in_ok-keep.ensures.kept in
-    let slots = c.slots_touched.new.into.items in
-    let moved = subst (λ ls. OnOk c.identify.result (IsPermutation (map (owner_at c.keep.new.self) ls) c.identify.new.into.items)) c.as_slice.ensures.value c.identify.ensures.same in
-    on_ok_weaker c.identify.result (λ moved. touched_each s.ids s.store.live c.args.self.now (ap (λ v. v.live) c.self.view_is) c.self.invariant.0.0 c.keep.new.self.by_slot.items noted c.args.l slots c.identify.new.into.items c.in_ok-slots_touched.ensures.each c.in_ok-slots_touched.ensures.all moved) moved
+returns-clause-each c = on_ok_weaker c.identify.result (λ (t : AreTouched _ _ _). t.each) (found c)
 
 pub returns-clause-all : goal.returns-clause-all
-returns-clause-all c =
-    let s = c.self.inside in
-    let noted = c.keep.ensures.owners c.self.invariant.2 c.in_ok-keep.ensures.kept in
-    let slots = c.slots_touched.new.into.items in
-    let moved = subst (λ ls. OnOk c.identify.result (IsPermutation (map (owner_at c.keep.new.self) ls) c.identify.new.into.items)) c.as_slice.ensures.value c.identify.ensures.same in
-    on_ok_weaker c.identify.result (λ moved. touched_all s.ids s.store.live c.args.self.now (ap (λ v. v.live) c.self.view_is) c.self.invariant.0.0 c.keep.new.self.by_slot.items noted c.args.l slots c.identify.new.into.items c.in_ok-slots_touched.ensures.each c.in_ok-slots_touched.ensures.all moved) moved
+returns-clause-all c = on_ok_weaker c.identify.result (λ (t : AreTouched _ _ _). t.all) (found c)
