@@ -9,8 +9,8 @@ ghost use Rattle.std.specs.FinMap as maps;
 ghost use Rattle.theory.specs.Rules.{drat};
 ghost use Rattle.steps.specs.Session.{fresh};
 
-use crate::drat::candidates::SearchRoom;
-use crate::drat::step::{add, add_copy, delete, parts_of};
+use crate::drat::addition::Examiner;
+use crate::drat::step::{add_copy, delete, parts_of};
 use crate::judge::Judge;
 use crate::session::Session;
 use cnf_base::{Lit, OutOfMemory};
@@ -24,9 +24,8 @@ pub type DratSession<P> = Session<DratJudge<P>>;
 /// The live clauses of a DRAT proof, and its rules.
 #[derive(Drop)]
 pub struct DratJudge<P: Propagate> {
-    clauses: P,
+    examiner: Examiner<P>,
     rules: DratRules,
-    room: SearchRoom,
 }
 
 impl<P: Propagate> Session<DratJudge<P>> {
@@ -39,12 +38,8 @@ impl<P: Propagate> Session<DratJudge<P>> {
     {
         // so it is known that no literals are kept
         let _ = clauses.literals();
-        let room = SearchRoom::new(clauses.alloc());
-        Session::over(DratJudge {
-            clauses,
-            rules,
-            room,
-        })
+        let examiner = Examiner::new(clauses);
+        Session::over(DratJudge { examiner, rules })
     }
 }
 
@@ -54,28 +49,28 @@ impl<P: Propagate> Judge for DratJudge<P> {
 
     ghost held = { λ s. record {
       rule = drat s.rules;
-      live = (P.state s.clauses).live;
+      live = (P.state s.examiner.clauses).live;
       top = 0;
-      stored = (P.state s.clauses).stored;
+      stored = (P.state s.examiner.clauses).stored;
     } };
 
-    ghost is_ready = { λ s. IsIdle (P.state s.clauses) };
+    ghost is_ready = { λ s. IsIdle (P.state s.examiner.clauses) };
 
     fn input(&mut self, lits: &[Lit]) -> Result<(), OutOfMemory> {
-        add_copy(&mut self.clauses, lits)
+        add_copy(&mut self.examiner.clauses, lits)
     }
 
     fn step(&mut self, step: &StepBuf) -> Result<Accepted, Refusal> {
         match step.kind() {
             StepKind::Add => {
                 let (clause, witness) = parts_of(self.rules, step);
-                add(&mut self.clauses, &mut self.room, clause, witness)
+                self.examiner.add(clause, witness)
             }
-            StepKind::Delete => delete(&mut self.clauses, self.rules, step.lits()),
+            StepKind::Delete => delete(&mut self.examiner.clauses, self.rules, step.lits()),
         }
     }
 
     fn literals(&self) -> u64 {
-        self.clauses.literals()
+        self.examiner.clauses.literals()
     }
 }

@@ -20,7 +20,7 @@ ghost use Rattle.theory.specs.Answers.{UnlessOutOfMemory};
 
 use crate::judge::Judge;
 use crate::lrat::addition::judge_addition;
-use crate::lrat::candidates::SearchRoom;
+use crate::lrat::candidates::HintsRoom;
 use crate::lrat::deletions::delete_all;
 use crate::session::Session;
 use cnf_base::{Lit, OutOfMemory};
@@ -36,7 +36,7 @@ pub type LratSession = Session<LratJudge>;
 /// The live clauses of an LRAT proof, each at its identifier.
 #[derive(Drop)]
 pub struct LratJudge {
-    room: SearchRoom,
+    room: HintsRoom,
     held: LiveClauses,
     // empty between steps, with room for the variables of all live clauses
     trues: Trail,
@@ -44,7 +44,7 @@ pub struct LratJudge {
 
 /// Judges an addition whose identifier is right. The walk over its hints takes no memory.
 fn judge(
-    room: &mut SearchRoom,
+    room: &mut HintsRoom,
     held: &mut LiveClauses,
     trues: &mut Trail,
     step: &StepBuf,
@@ -65,7 +65,7 @@ fn judge(
 
 /// Judges an addition, and adds the clause where it is accepted.
 fn take_addition(
-    room: &mut SearchRoom,
+    room: &mut HintsRoom,
     held: &mut LiveClauses,
     trues: &mut Trail,
     step: &StepBuf,
@@ -98,7 +98,7 @@ impl Session<LratJudge> {
     {
         let held = LiveClauses::new(alloc)?;
         let trues = Trail::new(alloc)?;
-        let room = SearchRoom::new(alloc);
+        let room = HintsRoom::new(alloc);
         Ok(Session::over(LratJudge { room, held, trues }))
     }
 }

@@ -21,9 +21,9 @@ pub struct Session<J: Judge> {
 }
 
 impl<J: Judge> Model for Session<J> {
-    ghost use Rattle.std.specs.Prelude.{◌≡◌, false};
     ghost use Rattle.steps.specs.Session.{SessionState};
     ghost use Rattle.steps.specs.Code.Session.{session_code};
+    ghost use Rattle.std.specs.Prelude.{◌≡◌, false};
 
     ghost Value = { SessionState };
 

@@ -1,15 +1,14 @@
 -- A map from slots to clauses, whose values are the live clauses.
-use Rattle.std.proofs.Common.{◌≡◌, ℕ, zero, suc, ◌+◌, Bool, true, false, cond, Some, None, List, []}
-use Rattle.std.proofs.Common.{◌∷◌, map, slice_get, Less, Equal, Greater, refl, sym, ap, ◌∙◌, subst}
-use Rattle.std.proofs.Common.{arith, eqb-true, eq-eqb, T, ◌&&◌, ◌==◌, ◌<◌, ◌↔◌, inl, inr, le-ltb}
-use Rattle.std.proofs.Common.{is_lt}
+use Rattle.std.proofs.Common.{◌≡◌, ℕ, zero, suc, ◌+◌, true, cond, Some, None, List, []}
+use Rattle.std.proofs.Common.{◌∷◌, map, slice_get, refl, sym, ap, ◌∙◌, subst}
+use Rattle.std.proofs.Common.{arith, eq-eqb, T, ◌<◌, ◌↔◌, inl, inr}
 use Rattle.std.proofs.lemmas.Option.{none-some}
 use Rattle.std.specs.Ordering.{nat_cmp, eq_by_cmp}
 use Rattle.std.specs.FinMap as slots
 use Rattle.std.specs.FinMap.{FinMap, is_sorted, find, get-entries}
 use Rattle.std.specs.FinMap.Entries.{below_all}
 use Rattle.std.specs.Cmp.{unsigned_tied}
-use Rattle.std.proofs.lemmas.Bool.{cases_Bool, cases_lt, false_from_ne_true}
+use Rattle.std.proofs.lemmas.Bool.{cases_Bool, false_from_ne_true}
 use Rattle.cnf_base.specs.Literals.{Literal, Clause, same_clause}
 use Rattle.theory.specs.Propagation.{Clash, HasRat, HasPr, IsRootReason}
 use Rattle.theory.specs.Drat.{take_off, copies_of, SameLive}

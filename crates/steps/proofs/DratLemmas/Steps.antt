@@ -17,18 +17,21 @@ use Rattle.cnf_base.proofs.SetLemmas.{has_append_left, has_append_right, has_app
 use Rattle.cnf_base.proofs.SetLemmas.{both_pass, same_symm, same_trans}
 use Rattle.theory.specs.Sets.{SameSet}
 use Rattle.theory.specs.declared.accepted.Accepted.{Accepted}
-use Rattle.theory.specs.declared.accepted.Accepted.TheVariants.{Rat}
+use Rattle.theory.specs.declared.accepted.Accepted.TheVariants.{Rat, Deleted, Ignored}
+use Rattle.theory.specs.declared.drat_rules.DratRules.{DratRules}
 use Rattle.theory.specs.declared.refusal.Refusal.TheVariants.{NotRup, NeitherRupNorRat}
-use Rattle.theory.specs.Propagation.{Live, Clash, HasRup}
+use Rattle.propagation.specs.Assumptions.{Propagation}
+use Rattle.theory.specs.Propagation.{Live, Clash, HasRup, IsRootReason}
 use Rattle.steps.specs.Code.Candidates.{AllClash, SomeQuiet, Searched}
 use Rattle.theory.specs.Lrat.{AnswersChain, conflict}
-use Rattle.theory.specs.Drat.{AnswersAdd, take_off, copies_of, SameLive}
+use Rattle.theory.specs.Drat.{AnswersAdd, AnswersDelete, take_off, copies_of, SameLive}
 use Rattle.theory.proofs.PropagationLemmas.Forced.{forced_assumed, clash_through}
 use Rattle.theory.proofs.DratLemmas.Copies.{copies-cons, alive_at}
 use Rattle.steps.proofs.LratLemmas.Starts.{first_is}
 use Rattle.propagation.proofs.PropagationLemmas.Counts.{tied}
 use Rattle.steps.proofs.DratLemmas.Slots.{slots-insert, slots-remove, slots-clash, slots-rat}
-use Rattle.steps.proofs.DratLemmas.Slots.{slots_covered, covered_by_slots}
+use Rattle.steps.proofs.DratLemmas.Slots.{slots_covered, covered_by_slots, slots-reason}
+use Rattle.steps.proofs.DratLemmas.Slots.{reason-slots}
 
 -- ---- RUP and RAT
 
@@ -131,7 +134,7 @@ module _ (old new : FinMap nat_cmp Clause) (slot : ℕ) (c lits : Clause) (free 
 -- ---- Deletions
 
 module _ (live : FinMap nat_cmp Clause) (lits : Clause) where
-  pub alive_listed : (slot : ℕ) (c : Clause) → maps.get live slot ≡ Some c → same_clause c lits ≡ true → list_any (same_clause lits) (maps.values live) ≡ true
+  alive_listed : (slot : ℕ) (c : Clause) → maps.get live slot ≡ Some c → same_clause c lits ≡ true → list_any (same_clause lits) (maps.values live) ≡ true
   alive_listed slot c at same =
       let w = slots_covered live slot c at in
       found (maps.values live) w.0 w.1 w.2 (same_trans lits c w.1 (same_symm c lits same) w.3)
@@ -147,3 +150,18 @@ module _ (live : FinMap nat_cmp Clause) (lits : Clause) where
 
   pub taken_off : (slot : ℕ) (c : Clause) (new : FinMap nat_cmp Clause) → maps.get live slot ≡ Some c → same_clause c lits ≡ true → new ≡ maps.remove live slot → SameLive (maps.values new) (take_off lits (maps.values live))
   taken_off slot c new at same is = subst (λ m. SameLive (maps.values m) (take_off lits (maps.values live))) (sym is) (slots-remove live slot lits c at (same_symm c lits same))
+
+-- the clause was found, and whether its unit is kept is asked of the state after, which is the same
+module _ (before after : Propagation) (same : after ≡ before) (rules : DratRules) (lits : Clause) (slot : ℕ) (found : (c : Clause) × (maps.get before.live slot ≡ Some c) × (same_clause c lits ≡ true)) where
+  pub kept_ignored : ((c : Clause) → maps.get after.live slot ≡ Some c → (rules.keep_units ≡ true) × IsRootReason (maps.get after.live) c) → AnswersDelete rules (maps.values before.live) lits (Ok Ignored)
+  kept_ignored keeps =
+      let kept = subst (λ s. (c : Clause) → maps.get s.live slot ≡ Some c → (rules.keep_units ≡ true) × IsRootReason (maps.get s.live) c) same keeps found.0 found.1 in
+      inl (alive_listed before.live lits slot found.0 found.1 found.2, (kept.0, slots-reason before.live found.0 lits found.2 kept.1))
+
+  pub not_kept_deleted : ((c : Clause) → maps.get after.live slot ≡ Some c → ¬ ((rules.keep_units ≡ true) × IsRootReason (maps.get after.live) c)) → AnswersDelete rules (maps.values before.live) lits (Ok Deleted)
+  not_kept_deleted leaves = (
+    alive_listed before.live lits slot found.0 found.1 found.2,
+    λ kept.
+        subst (λ s. (c : Clause) → maps.get s.live slot ≡ Some c → ¬ ((rules.keep_units ≡ true) × IsRootReason (maps.get s.live) c)) same leaves found.0 found.1
+        (kept.0, reason-slots before.live lits found.0 (same_symm found.0 lits found.2) kept.1),
+  )

@@ -169,15 +169,20 @@ held_grow live l named after k more hold new j member = elim (or_cases (has name
 pub unnamed_is : (live : Live) (ls : List Literal) (pivot : Literal) (named : List ℕ) (hints : List ℤ) → SameSet named (named_in hints) → (k : ℕ) → is_unnamed live ls pivot named k ≡ is_left_out live ls pivot (groups_of hints) k
 unnamed_is live ls pivot named hints same k = ap (λ b. not b && is_unsettled ls pivot (live k)) (same k ∙ any_named k (groups_of hints))
 
--- the answer after the groups
-module _ (live : Live) (ls : List Literal) (pivot : Literal) (named : List ℕ) (hints : List ℤ) (same : SameSet named (named_in hints)) (refusal : Option Refusal) (none : None ≡ refusal) where
-  pub answers_unnamed : (id : ℕ) → IsFirstLeftOut live ls pivot named (Some id) → AnswersGroups live ls pivot (groups_of hints) refusal (Err (Unnamed id))
-  answers_unnamed id first =
-      subst (λ r. AnswersGroups live ls pivot (groups_of hints) r (Err (Unnamed id))) none
-      (sym (unnamed_is live ls pivot named hints same id) ∙ first.0, λ j below. sym (unnamed_is live ls pivot named hints same j) ∙ first.1 j below)
+-- the answer after the groups, where the true literals are as they were
+module _ (live : Live) (ls : List Literal) (pivot : Literal) (named : List ℕ) (hints : List ℤ) (same : SameSet named (named_in hints)) (refusal : Option Refusal) (none : None ≡ refusal)
+    (now : List Literal) (stay : now ≡ ls) (found : Option ℕ) (first : IsFirstLeftOut live now pivot named found) where
+  left_out : (o : Option ℕ) → found ≡ o → IsFirstLeftOut live ls pivot named o
+  left_out o is = subst (IsFirstLeftOut live ls pivot named) is (subst (λ ls. IsFirstLeftOut live ls pivot named found) stay first)
 
-  pub answers_rat : IsFirstLeftOut live ls pivot named None → AnswersGroups live ls pivot (groups_of hints) refusal (Ok Rat)
-  answers_rat all = subst (λ r. AnswersGroups live ls pivot (groups_of hints) r (Ok Rat)) none (λ k. sym (unnamed_is live ls pivot named hints same k) ∙ all k)
+  pub answers_unnamed : (id : ℕ) → found ≡ Some id → AnswersGroups live ls pivot (groups_of hints) refusal (Err (Unnamed id))
+  answers_unnamed id is =
+      let it = left_out (Some id) is in
+      subst (λ r. AnswersGroups live ls pivot (groups_of hints) r (Err (Unnamed id))) none
+      (sym (unnamed_is live ls pivot named hints same id) ∙ it.0, λ j below. sym (unnamed_is live ls pivot named hints same j) ∙ it.1 j below)
+
+  pub answers_rat : found ≡ None → AnswersGroups live ls pivot (groups_of hints) refusal (Ok Rat)
+  answers_rat is = subst (λ r. AnswersGroups live ls pivot (groups_of hints) r (Ok Rat)) none (λ k. sym (unnamed_is live ls pivot named hints same k) ∙ left_out None is k)
 
 pub if_none : {X : Type 0} (o : Option X) (P : Type 0) → o ≡ None → IfNone o P → P
 if_none {X} o P e h = subst (λ (o : Option X). IfNone o P) e h

@@ -1,7 +1,7 @@
 -- Candidates without a group: whether there are any, and those that are passed over.
 use Rattle.std.proofs.Common.{◌≡◌, ℕ, ◌+◌, ◌<◌, ◌≤◌, Bool, true, false, not, ◌&&◌, eqb, Option}
 use Rattle.std.proofs.Common.{Some, None, List, ◌∷◌, length, take, get_or, refl, ap, sym, ◌∙◌}
-use Rattle.std.proofs.Common.{subst}
+use Rattle.std.proofs.Common.{subst, slice_index}
 use Rattle.std.proofs.Common.{arith, nat_eq, eqb-true, inl, inr}
 use Rattle.std.specs.List.{IsDistinct}
 use Rattle.std.specs.List.Sorted.{IsStrictlyIncreasing}
@@ -83,6 +83,10 @@ module _ (live : Live) (ls : List Literal) (pivot : Literal) (named : List ℕ) 
   unnamed_at k c at apart opposite is =
       ap (λ b. not b && is_unsettled ls pivot (live k)) apart ∙ ap (is_unsettled ls pivot) at ∙ ap (λ l. needs_group_at ls l c) (sym is)
 
+  -- it was asked while other literals were written down as true, which are the same
+  pub asked : (now : List Literal) → now ≡ ls → (k : ℕ) (answer b : Bool) → answer ≡ is_unnamed live now pivot named k → answer ≡ b → is_unnamed live ls pivot named k ≡ b
+  asked now same k answer b is value = ap (λ ls. is_unnamed live ls pivot named k) (sym same) ∙ sym is ∙ value
+
   -- ---- The walk over all that have the complement
 
   module _ (ids : List ℕ) where
@@ -90,16 +94,19 @@ module _ (live : Live) (ls : List Literal) (pivot : Literal) (named : List ℕ) 
     abbrev pub Passed : ℕ → Type 0
     Passed i = (k : ℕ) → has (take i ids) k ≡ true → is_unnamed live ls pivot named k ≡ false
 
-    pub passed_more : (i x : ℕ) → i < length ids → x ≡ get_or ids i x → Passed i → is_unnamed live ls pivot named x ≡ false → Passed (i + 1)
-    passed_more i x inside is passed here k member = elim (or_cases (has (take i ids) k) (eqb x k) (sym (has_more ids i inside x is k) ∙ member)) [
-      | inl before ↦ passed k before
-      | inr same ↦ subst (λ n. is_unnamed live ls pivot named n ≡ false) (eqb-true x k same) here
-    ]
+    module _ (i : ℕ) (inside : i < length ids) (passed : Passed i) where
+      item : slice_index ids i ≡ get_or ids i (slice_index ids i)
+      item = sym (get_or_default_zero ids i (slice_index ids i) inside)
 
-    module _ (all : (k : ℕ) → Holds live (complement pivot) k → has ids k ≡ true) where
-      pub first_found : IsStrictlyIncreasing ids → (i x : ℕ) → i < length ids → x ≡ get_or ids i x → Passed i → is_unnamed live ls pivot named x ≡ true → IsFirstLeftOut live ls pivot named (Some x)
-      first_found rising i x inside is passed here =
-          (here, λ j below. false_from_ne_true (is_unnamed live ls pivot named j) (λ h. true≢false (sym h ∙ passed j (in_front ids rising i x j inside is below (all j (unnamed_holds j h))))))
+      pub passed_more : is_unnamed live ls pivot named (slice_index ids i) ≡ false → Passed (i + 1)
+      passed_more here k member = elim (or_cases (has (take i ids) k) (eqb (slice_index ids i) k) (sym (has_more ids i inside (slice_index ids i) item k) ∙ member)) [
+        | inl before ↦ passed k before
+        | inr same ↦ subst (λ n. is_unnamed live ls pivot named n ≡ false) (eqb-true (slice_index ids i) k same) here
+      ]
 
-      pub none_found : (i : ℕ) → length ids ≤ i → Passed i → IsFirstLeftOut live ls pivot named None
-      none_found i past passed k = false_from_ne_true (is_unnamed live ls pivot named k) (λ h. true≢false (sym h ∙ passed k (ap (λ l. has l k) (take_all i ids past) ∙ all k (unnamed_holds k h))))
+      pub first_found : IsStrictlyIncreasing ids → ((k : ℕ) → Holds live (complement pivot) k → has ids k ≡ true) → is_unnamed live ls pivot named (slice_index ids i) ≡ true → IsFirstLeftOut live ls pivot named (Some (slice_index ids i))
+      first_found rising all here =
+          (here, λ j below. false_from_ne_true (is_unnamed live ls pivot named j) (λ h. true≢false (sym h ∙ passed j (in_front ids rising i (slice_index ids i) j inside item below (all j (unnamed_holds j h))))))
+
+    pub none_found : ((k : ℕ) → Holds live (complement pivot) k → has ids k ≡ true) → (i : ℕ) → length ids ≤ i → Passed i → IsFirstLeftOut live ls pivot named None
+    none_found all i past passed k = false_from_ne_true (is_unnamed live ls pivot named k) (λ h. true≢false (sym h ∙ passed k (ap (λ l. has l k) (take_all i ids past) ∙ all k (unnamed_holds k h))))

@@ -1,8 +1,11 @@
 -- The clauses that an addition in DRAT is tried with, as the code finds them.
+use Rattle.std.specs.FinMap as maps
 use Rattle.std.specs.Prelude.{◌≡◌, ℕ, Some, List, [], ◌++◌, ◌⊎◌, IsTrue, Bool, true, false, not}
-use Rattle.std.specs.Prelude.{filter}
+use Rattle.std.specs.Prelude.{filter, IsFalse, IsSome}
 use Rattle.cnf_base.specs.Literals.{Literal, Clause, complement, complements, has, without}
+use Rattle.propagation.specs.Assumptions.{Propagation, MayAssume}
 use Rattle.theory.specs.Propagation.{Live, Clash}
+use Rattle.theory.specs.Sets.{conflicts}
 use Rattle.trail.specs.LiteralSet.{in_set}
 use Rattle.trail.specs.Reduced.{is_reduced}
 use Rattle.trail.specs.declared.literal_set.LiteralSet.{LiteralSet}
@@ -53,6 +56,14 @@ PassesAt live assumed candidates slot false =
     IsTrue (is_candidate candidates c)
     × ¬ Clash live (assumed ++ complements (rest_of candidates c))
 
--- the set has been filled with these literals
-abbrev pub IsFilled : LiteralSet → List Literal → Type 0
-IsFilled set witness = (l : Literal) → in_set set l ≡ has witness l
+-- a further assumption can stand, and the slot has a clause
+pub record CanTry (clauses : Propagation) (slot : ℕ) : Type 0 where
+  pub room : MayAssume clauses.assumptions
+  pub alive : IsSome (maps.get clauses.live slot)
+
+-- what an addition of the clause lists is no witness or a consistent one, and the set is filled
+-- with it
+pub record IsListed (set : LiteralSet) (clause witness : List Literal) : Type 0 where
+  pub consistent : IsFalse (conflicts witness)
+  pub meets : MeetsIfListed clause witness
+  pub filled : (l : Literal) → in_set set l ≡ has witness l

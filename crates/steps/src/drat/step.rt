@@ -12,8 +12,7 @@ ghost use Rattle.steps.specs.Code.Candidates.{MeetsIfListed};
 ghost use Rattle.steps.specs.Code.Ready.{IsIdle};
 ghost use Rattle.theory.specs.Answers.{UnlessOutOfMemory};
 
-use crate::drat::addition::judge;
-use crate::drat::candidates::SearchRoom;
+use crate::drat::addition::Examiner;
 use clause_db::Slot;
 use cnf_base::{Lit, OutOfMemory};
 use proofs::StepBuf;
@@ -32,25 +31,23 @@ pub(crate) fn add_copy<P: Propagate>(clauses: &mut P, lits: &[Lit]) -> Result<()
     Ok(())
 }
 
-/// Judges an addition, and adds the clause where it is accepted. The witness is not added.
-pub(crate) fn add<P: Propagate>(
-    clauses: &mut P,
-    room: &mut SearchRoom,
-    lits: &[Lit],
-    witness: &[Lit],
-) -> Result<Accepted, Refusal>
-    requires idle { IsIdle (P.state clauses.old) }
-    requires meets { MeetsIfListed lits.now witness.now }
-    ensures answers { UnlessOutOfMemory result
-        (AnswersListed (maps.values (P.state clauses.old).live) lits.now witness.now result) }
-    ensures live { OnOk result (SameLive (maps.values (P.state clauses.new).live)
-        (lits.now ∷ maps.values (P.state clauses.old).live)) }
-    ensures idle { IsIdle (P.state clauses.new) }
-    ensures refused { OnErr result ((P.state clauses.new).live ≡ (P.state clauses.old).live) }
-{
-    let word = judge(clauses, room, lits, witness)?;
-    add_copy(clauses, lits)?;
-    Ok(word)
+impl<P: Propagate> Examiner<P> {
+    /// Judges an addition, and adds the clause where it is accepted. The witness is not added.
+    pub(crate) fn add(&mut self, lits: &[Lit], witness: &[Lit]) -> Result<Accepted, Refusal>
+        requires idle { IsIdle (P.state self.old.clauses) }
+        requires meets { MeetsIfListed lits.now witness.now }
+        ensures answers { UnlessOutOfMemory result (AnswersListed
+            (maps.values (P.state self.old.clauses).live) lits.now witness.now result) }
+        ensures live { OnOk result (SameLive (maps.values (P.state self.new.clauses).live)
+            (lits.now ∷ maps.values (P.state self.old.clauses).live)) }
+        ensures idle { IsIdle (P.state self.new.clauses) }
+        ensures refused { OnErr result
+            ((P.state self.new.clauses).live ≡ (P.state self.old.clauses).live) }
+    {
+        let word = self.judge(lits, witness)?;
+        add_copy(&mut self.clauses, lits)?;
+        Ok(word)
+    }
 }
 
 /// Whether the rules keep the clause in the slot, since it makes a literal of it hold for good.

@@ -10,7 +10,7 @@ ghost use Rattle.trail.specs.Trail.{HasRoom, HasRoomForAll};
 ghost use Rattle.steps.specs.Code.Walk.{IsEnd};
 ghost use Rattle.theory.specs.Answers.{UnlessOutOfMemory};
 
-use crate::lrat::candidates::{SearchRoom, first_left_out, judge_groups};
+use crate::lrat::candidates::{HintsRoom, first_left_out, judge_groups};
 use crate::lrat::named::Named;
 use crate::lrat::walk::{WalkEnd, walk};
 use crate::word::word_of;
@@ -20,38 +20,10 @@ use theory::{Accepted, Refusal};
 use trail::{Trail, Whole};
 
 /// The answer where the unit hints gave no conflict: the groups in their order, and then the
-/// candidates without one.
-fn judge_candidates(
-    live: &mut LiveClauses,
-    trues: &mut Trail,
-    pivot: Lit,
-    named: &mut Named,
-    hints: &[i64],
-    ids: &mut Vec<u64>,
-) -> Result<Accepted, Refusal>
-    requires quiet { IsFalse (conflicts trues.old.lits) }
-    requires room { HasRoomForAll trues.old.reserved (maps.get live.old.live) }
-    requires none_named { named.old ≡ [] }
-    ensures answer { UnlessOutOfMemory result
-        (AnswersGroups (maps.get live.old.live) trues.old.lits pivot (groups_of hints.now)
-        (groups_refusal (maps.get live.old.live) trues.old.lits pivot [] (groups_of hints.now))
-        result) }
-    ensures reserved { SameSet trues.new.reserved trues.old.reserved }
-    ensures same { live.new ≡ live.old }
-{
-    match judge_groups(live, trues, pivot, named, hints)? {
-        Some(refusal) => Err(refusal),
-        None => match first_left_out(live, trues, pivot, named, ids)? {
-            Some(id) => Err(Refusal::Unnamed(id)),
-            None => Ok(Accepted::Rat),
-        },
-    }
-}
-
-/// The answer where the unit hints gave no conflict. Only the set of the candidates that groups
-/// name takes memory, and the search for others.
+/// candidates without one. Only the set of the candidates that groups name takes memory, and the
+/// search for others.
 fn judge_rat(
-    room: &mut SearchRoom,
+    room: &mut HintsRoom,
     live: &mut LiveClauses,
     trues: &mut Trail,
     pivot: Lit,
@@ -67,7 +39,13 @@ fn judge_rat(
     ensures same { live.new ≡ live.old }
 {
     let mut named = Named::new(room.alloc);
-    judge_candidates(live, trues, pivot, &mut named, hints, &mut room.ids)
+    match judge_groups(live, trues, pivot, &mut named, hints)? {
+        Some(refusal) => Err(refusal),
+        None => match first_left_out(live, trues, pivot, &named, &mut room.ids)? {
+            Some(id) => Err(Refusal::Unnamed(id)),
+            None => Ok(Accepted::Rat),
+        },
+    }
 }
 
 /// Walks over the unit hints from where the clause is false.
@@ -89,7 +67,7 @@ fn walk_units(live: &LiveClauses, trues: &mut Trail, clause: &[Lit], hints: &[i6
 /// The answer to an addition whose identifier is right. It takes memory only where the unit hints
 /// give no conflict.
 pub(crate) fn judge_addition(
-    room: &mut SearchRoom,
+    room: &mut HintsRoom,
     live: &mut LiveClauses,
     trues: &mut Trail,
     clause: &[Lit],

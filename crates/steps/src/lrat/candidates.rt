@@ -22,16 +22,16 @@ use trail::{Except, Trail};
 
 /// What the tests of a step take memory from, and room that they keep from step to step.
 #[derive(Drop)]
-pub(crate) struct SearchRoom {
+pub(crate) struct HintsRoom {
     pub(crate) alloc: Global,
     /// The identifiers of the candidates.
     pub(crate) ids: Vec<u64>,
 }
 
-impl SearchRoom {
+impl HintsRoom {
     /// It takes no memory.
     pub(crate) fn new(alloc: Global) -> Self {
-        SearchRoom {
+        HintsRoom {
             alloc,
             ids: Vec::new(alloc),
         }

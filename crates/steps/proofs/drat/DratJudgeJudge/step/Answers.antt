@@ -7,9 +7,9 @@ use Rattle.steps.proofs.drat.DratJudgeJudge.step.Goals as goal
 pub returns-in-Add-clause-keeps_models : goal.returns-in-Add-clause-keeps_models
 returns-in-Add-clause-keeps_models g c =
     let state = λ (p : g.row.P.Denot). by_copies c.args.self.now.rules (maps.values (g.P.Propagate.state p).live) in
-    keeps_taken (state c.args.self.now.clauses) (state c.add.new.clauses) c.args.step.now c.add.result (search rules) (search rules)
+    keeps_taken (state c.args.self.now.examiner.clauses) (state c.add.new.self.clauses) c.args.step.now c.add.result (search rules) (search rules)
 
 pub returns-in-Delete-clause-keeps_models : goal.returns-in-Delete-clause-keeps_models
 returns-in-Delete-clause-keeps_models g c =
     let state = λ (p : g.row.P.Denot). by_copies c.args.self.now.rules (maps.values (g.P.Propagate.state p).live) in
-    keeps_taken (state c.args.self.now.clauses) (state c.delete.new.clauses) c.args.step.now c.delete.result (search rules) (search rules)
+    keeps_taken (state c.args.self.now.examiner.clauses) (state c.delete.new.clauses) c.args.step.now c.delete.result (search rules) (search rules)

@@ -15,12 +15,12 @@ loop-i-preserved c =
     let live = maps.get c.args.live.now.live in
     let hints = c.args.hints.now in
     let i = c.loop-i.i in
-    let named = c.loop-i.named in
-    let after = c.if-hint-lt0.named in
     let inside : i < length hints = omega arith in
+    let named = c.loop-i.named in
     elim c.if-hint-lt0.branch [
       | then-hint-lt0+in_ok-refusal+else-is_some w ↦
           let k = w.unsigned_abs.result in
+          let after = c.if-hint-lt0.named in
           let refusal = w.in_ok-refusal.refusal in
           let none = sym w.is_some.ensures ∙ w.if-is_some.false in
           let more : (j : ℕ) → has after j ≡ has named j || eqb k j = λ j. ap (λ n. has n j) w.named-is ∙ when_none refusal _ none w.in_ok-refusal.ensures.named j in

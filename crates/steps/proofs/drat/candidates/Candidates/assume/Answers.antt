@@ -3,7 +3,7 @@ use Rattle.std.specs.FinMap as maps
 use Rattle.cnf_base.specs.Literals.{Clause, complements}
 use Rattle.propagation.specs.Assumptions.{Assuming}
 use Rattle.steps.specs.Code.Candidates.{rest_of}
-use Rattle.steps.proofs.drat.candidates.assume.Goals as goal
+use Rattle.steps.proofs.drat.candidates.Candidates.assume.Goals as goal
 
 pub returns-in-Holding : goal.returns-in-Holding
 returns-in-Holding g c =

@@ -1,6 +1,6 @@
-use Rattle.std.proofs.Common.{true, sym, ◌∙◌}
+use Rattle.std.proofs.Common.{sym, ◌∙◌}
 use Rattle.steps.proofs.DratLemmas.Witnesses.{conflicts_filled, listed_inconsistent}
-use Rattle.steps.proofs.drat.addition.judge.Goals as goal
+use Rattle.steps.proofs.drat.addition.Examiner.judge.Goals as goal
 
 pub returns-then-falsifies-clause-answers : goal.returns-then-falsifies-clause-answers
 returns-then-falsifies-clause-answers g c =

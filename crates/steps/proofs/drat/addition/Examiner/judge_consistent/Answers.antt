@@ -5,11 +5,11 @@ use Rattle.propagation.specs.Assumptions.{IsAnswer, assumed_by}
 use Rattle.theory.specs.Propagation.{Clash}
 use Rattle.steps.proofs.DratLemmas.Steps.{no_clash}
 use Rattle.steps.proofs.DratLemmas.Witnesses.{listed_rup}
-use Rattle.steps.proofs.drat.addition.judge_consistent.Goals as goal
+use Rattle.steps.proofs.drat.addition.Examiner.judge_consistent.Goals as goal
 
 pub judge_without_rup-judged-requires-clause-assumed : goal.judge_without_rup-judged-requires-clause-assumed
 judge_without_rup-judged-requires-clause-assumed g c =
-    let old = g.P.Propagate.state c.args.clauses.now in
+    let old = g.P.Propagate.state c.args.self.now.clauses in
     let lits = c.args.lits.now in
     let assumed = assumed_by old.assumptions ++ complements lits in record {
       room = search rules;
@@ -21,8 +21,8 @@ judge_without_rup-judged-requires-clause-assumed g c =
 
 pub returns-in-Ok-Clash-clause-answers : goal.returns-in-Ok-Clash-clause-answers
 returns-in-Ok-Clash-clause-answers g c =
-    let old = g.P.Propagate.state c.args.clauses.now in
+    let old = g.P.Propagate.state c.args.self.now.clauses in
     let lits = c.args.lits.now in
-    listed_rup old.live lits c.args.witness.now c.word_of.result c.word_of.ensures c.requires.consistent c.requires.meets
+    listed_rup old.live lits c.args.witness.now c.word_of.result c.word_of.ensures c.requires.listed.consistent c.requires.listed.meets
     (subst (Clash (maps.get old.live)) (ap (λ them. assumed_by them ++ complements lits) c.requires.idle.nothing_assumed)
     (subst (IsAnswer (maps.get old.live) (assumed_by old.assumptions ++ complements lits)) c.in-Ok-Clash.field-0-is c.in-Ok-Clash.ensures.answer))
