@@ -3,8 +3,8 @@
 -- profile: RUP is asked first, a deletion of a unit clause is done as written, and one of a clause
 -- that is not alive is ignored, or refused where the rules are strict. Where they keep units, the
 -- deletion of a clause that makes a literal hold for good is ignored, as DRAT-trim ignores most of
--- these. Additions that list a set after their clause are those of DPR proofs; that they are tried
--- by RUP and PR alone is our own.
+-- these. Additions that list a witness after their clause are those of DPR proofs; that they are
+-- tried by RUP and PR alone is our own.
 use Rattle.std.specs.Prelude.{◌≡◌, ℕ, Bool, true, false, ◌⊎◌, List, [], ◌∷◌, Ok}
 use Rattle.std.specs.Prelude.{Err, count_by, slice_get, IsTrue, IsFalse, if◌then◌else◌}
 use Rattle.std.specs.List.{list_any}
@@ -23,12 +23,12 @@ use Rattle.proofs.specs.declared.step_buf.StepKind.{StepKind}
 use Rattle.proofs.specs.declared.step_buf.StepKind.TheVariants.{Add, Delete}
 
 -- a step, with its literals in the order in which they were written: an addition of a clause with
--- the set that it lists, or a deletion
+-- the witness that it lists, or a deletion
 pub data DratStep : Type 0 where
   add : List Literal → List Literal → DratStep
   delete : List Literal → DratStep
 
--- an addition lists a set only where the rules have PR
+-- an addition lists a witness only where the rules have PR
 abbrev pub addition_of : Bool → List Literal → DratStep
 addition_of true lits = add (clause_part lits) (witness_part lits)
 addition_of false lits = add lits []
@@ -55,21 +55,22 @@ AnswersAdd live (pivot ∷ rest) (Err (NeitherRupNorRat l)) =
     × ¬ HasRat (slice_get live) (pivot ∷ rest) pivot
 AnswersAdd live c _ = ⊥
 
--- What an addition may be answered that lists a set. A set with a literal and its complement is
+-- What an addition may be answered that lists a witness. One with a literal and its complement is
 -- refused before all else, and RAT is not asked.
-abbrev pub AnswersWithSet : List Clause → List Literal → List Literal → StepAnswer → Type 0
-AnswersWithSet live c set (Err InconsistentSet) = IsTrue (conflicts set)
-AnswersWithSet live c set (Ok Rup) = IsFalse (conflicts set) × HasRup (slice_get live) c
-AnswersWithSet live c set (Ok Pr) =
-    IsFalse (conflicts set) × ¬ HasRup (slice_get live) c × HasPr (slice_get live) c set
-AnswersWithSet live c set (Err NeitherRupNorPr) =
-    IsFalse (conflicts set) × ¬ HasRup (slice_get live) c × ¬ HasPr (slice_get live) c set
-AnswersWithSet live c set _ = ⊥
+abbrev pub AnswersWithWitness : List Clause → List Literal → List Literal → StepAnswer → Type 0
+AnswersWithWitness live c witness (Err InconsistentSet) = IsTrue (conflicts witness)
+AnswersWithWitness live c witness (Ok Rup) =
+    IsFalse (conflicts witness) × HasRup (slice_get live) c
+AnswersWithWitness live c witness (Ok Pr) =
+    IsFalse (conflicts witness) × ¬ HasRup (slice_get live) c × HasPr (slice_get live) c witness
+AnswersWithWitness live c witness (Err NeitherRupNorPr) =
+    IsFalse (conflicts witness) × ¬ HasRup (slice_get live) c × ¬ HasPr (slice_get live) c witness
+AnswersWithWitness live c witness _ = ⊥
 
--- What an addition may be answered, whether it lists a set or not.
+-- What an addition may be answered, whether it lists a witness or not.
 abbrev pub AnswersListed : List Clause → List Literal → List Literal → StepAnswer → Type 0
 AnswersListed live c [] answer = AnswersAdd live c answer
-AnswersListed live c (l ∷ set) answer = AnswersWithSet live c (l ∷ set) answer
+AnswersListed live c (l ∷ witness) answer = AnswersWithWitness live c (l ∷ witness) answer
 
 -- the rules keep units, and the clause makes a literal of it hold for good
 abbrev pub IsKeptUnit : DratRules → List Clause → Clause → Type 0
@@ -89,7 +90,7 @@ AnswersDelete rules live c _ = ⊥
 
 -- what a step may be answered, over the live clauses before it
 abbrev pub AnswersDrat : DratRules → List Clause → DratStep → StepAnswer → Type 0
-AnswersDrat rules live (add c set) answer = AnswersListed live c set answer
+AnswersDrat rules live (add c witness) answer = AnswersListed live c witness answer
 AnswersDrat rules live (delete c) answer = AnswersDelete rules live c answer
 
 -- without one copy of the clause, if there is one
@@ -99,7 +100,7 @@ take_off c (d ∷ live) = if same_clause c d then live else d ∷ take_off c liv
 
 -- What is alive after a step that was accepted with this word. An ignored deletion changes nothing.
 abbrev pub after_drat : List Clause → DratStep → Accepted → List Clause
-after_drat live (add c set) word = c ∷ live
+after_drat live (add c witness) word = c ∷ live
 after_drat live (delete c) Ignored = live
 after_drat live (delete c) word = take_off c live
 

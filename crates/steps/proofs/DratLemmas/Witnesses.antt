@@ -24,7 +24,7 @@ use Rattle.theory.specs.declared.refusal.Refusal.TheVariants.{InconsistentSet, N
 use Rattle.theory.specs.Propagation.{Live, Clash, HasPr, HasRup, open_literals}
 use Rattle.proofs.specs.Steps.{clause_part, witness_part}
 use Rattle.theory.specs.Lrat.{AnswersChain, conflict}
-use Rattle.theory.specs.Drat.{AnswersListed, AnswersWithSet}
+use Rattle.theory.specs.Drat.{AnswersListed, AnswersWithWitness}
 use Rattle.steps.specs.Code.Candidates.{AllClash, SomeQuiet, Searched}
 use Rattle.steps.proofs.DratLemmas.Slots.{slots-pr}
 use Rattle.steps.proofs.DratLemmas.Steps.{answers_rup, back, clash_same, no_rup_listed}
@@ -101,7 +101,7 @@ module _ (live : FinMap nat_cmp Clause) (c witness assumed : List Literal) (same
   ]
 
   module _ (consistent : conflicts witness ≡ false) (meets : (l : Literal) × (has c l ≡ true) × (has witness l ≡ true)) (none : ¬ HasRup (maps.get live) c) where
-    pub answers_pr : AllClash (maps.get live) assumed (is_reduced (has witness)) (open_literals witness) → AnswersWithSet (maps.values live) c witness (Ok Pr)
+    pub answers_pr : AllClash (maps.get live) assumed (is_reduced (has witness)) (open_literals witness) → AnswersWithWitness (maps.values live) c witness (Ok Pr)
     answers_pr all = (
       consistent,
       no_rup_listed live c none,
@@ -109,14 +109,14 @@ module _ (live : FinMap nat_cmp Clause) (c witness assumed : List Literal) (same
     )
 
     -- the clauses that the witness reduces were searched
-    answers_reduced : (found b : Bool) → found ≡ b → Searched (maps.get live) assumed (is_reduced (has witness)) (open_literals witness) found → AnswersWithSet (maps.values live) c witness (cond b (Ok Pr) (Err NeitherRupNorPr))
+    answers_reduced : (found b : Bool) → found ≡ b → Searched (maps.get live) assumed (is_reduced (has witness)) (open_literals witness) found → AnswersWithWitness (maps.values live) c witness (cond b (Ok Pr) (Err NeitherRupNorPr))
     answers_reduced true true value all = answers_pr all
     answers_reduced false false value some = (consistent, no_rup_listed live c none, λ pr. some_not_pr some ((slots-pr live c witness).1 pr))
     answers_reduced true false value all = absurd (true≢false value)
     answers_reduced false true value some = absurd (true≢false (sym value))
 
     pub answers_filled : (set : LiteralSet) → ((l : Literal) → in_set set l ≡ has witness l) → (found b : Bool) → found ≡ b →
-        Searched (maps.get live) assumed (is_reduced (in_set set)) (λ d. filter (λ l. not (in_set set (complement l))) d) found → AnswersWithSet (maps.values live) c witness (cond b (Ok Pr) (Err NeitherRupNorPr))
+        Searched (maps.get live) assumed (is_reduced (in_set set)) (λ d. filter (λ l. not (in_set set (complement l))) d) found → AnswersWithWitness (maps.values live) c witness (cond b (Ok Pr) (Err NeitherRupNorPr))
     answers_filled set filled found b value searched = answers_reduced found b value (searched_filled set witness filled (maps.get live) assumed found searched)
 
 pub parts_given : (lits c witness : List Literal) → c ≡ clause_part lits → witness ≡ witness_part lits → (witness ≡ []) ⊎ ((l : Literal) × (has c l ≡ true) × (has witness l ≡ true))
@@ -131,4 +131,4 @@ listed_rup live c [] word is consistent meets clash = answers_rup live c word is
 listed_rup live [] (w ∷ witness) word is consistent (inl none) clash = absurd (true≢false (sym (has_head w witness) ∙ ap (λ ls. has ls w) none))
 listed_rup live [] (w ∷ witness) word is consistent (inr met) clash = absurd (true≢false (sym met.1))
 listed_rup live (l ∷ c) (w ∷ witness) word is consistent meets clash =
-    subst (AnswersWithSet (maps.values live) (l ∷ c) (w ∷ witness)) (sym is) (consistent, rup_listed live (l ∷ c) clash)
+    subst (AnswersWithWitness (maps.values live) (l ∷ c) (w ∷ witness)) (sym is) (consistent, rup_listed live (l ∷ c) clash)

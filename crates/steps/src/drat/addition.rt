@@ -3,7 +3,7 @@
 ghost use Rattle.std.specs.Prelude.{◌≡◌, IsTrue};
 ghost use Rattle.std.specs.FinMap as maps;
 ghost use Rattle.cnf_base.specs.Literals.{Literal, has};
-ghost use Rattle.theory.specs.Drat.{AnswersAdd, AnswersListed, AnswersWithSet};
+ghost use Rattle.theory.specs.Drat.{AnswersAdd, AnswersListed, AnswersWithWitness};
 ghost use Rattle.steps.specs.Code.Candidates.{IsListed, MeetsIfListed};
 ghost use Rattle.steps.specs.Code.Ready.{IsIdle, IsAssumed, IsAsBefore};
 ghost use Rattle.theory.specs.Answers.{UnlessOutOfMemory};
@@ -64,7 +64,7 @@ impl<P: Propagate> Examiner<P> {
         requires assumed { IsAssumed (P.state self.old.clauses) lits.now }
         requires listed { IsListed self.old.witness lits.now witness.now }
         requires meets { (l : Literal) × IsTrue (has lits.now l) × IsTrue (has witness.now l) }
-        ensures answers { UnlessOutOfMemory result (AnswersWithSet
+        ensures answers { UnlessOutOfMemory result (AnswersWithWitness
             (maps.values (P.state self.old.clauses).live) lits.now witness.now result) }
         ensures same { IsAsBefore (P.state self.old.clauses) (P.state self.new.clauses) }
     {

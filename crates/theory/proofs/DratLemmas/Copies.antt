@@ -18,7 +18,7 @@ use Rattle.cnf_base.specs.Literals.{same_clause}
 use Rattle.theory.specs.Propagation.{Live, HasRup, HasRat, HasPr, open_literals}
 use Rattle.theory.specs.Answers.{StepAnswer}
 use Rattle.theory.specs.Drat.{DratStep, add, delete, AnswersAdd, AnswersDelete, AnswersDrat}
-use Rattle.theory.specs.Drat.{AnswersWithSet, IsKeptUnit, take_off, after_drat, copies_of, SameLive}
+use Rattle.theory.specs.Drat.{AnswersWithWitness, IsKeptUnit, take_off, after_drat, copies_of, SameLive}
 use Rattle.cnf_base.proofs.SetLemmas.{same_there, same_back, same_itself, same_symm, same_trans}
 use Rattle.cnf_base.proofs.SetLemmas.{both_pass, has_append_left, has_append_right}
 use Rattle.cnf_base.proofs.SetLemmas.{has_append_cases, has-complements, complements_has}
@@ -177,19 +177,19 @@ add_same first second [] (Err _) same a = absurd a
 add_same first second (l ∷ c) (Ok _) same a = absurd a
 add_same first second (l ∷ c) (Err _) same a = absurd a
 
-set_same : (first second : List Clause) (c set : List Literal) (answer : StepAnswer) → SameLive first second → AnswersWithSet first c set answer → AnswersWithSet second c set answer
-set_same first second c set (Err InconsistentSet) same a = a
-set_same first second c set (Ok Rup) same a = (a.0, clash_covers _ _ (covers_of first second same) _ a.1)
-set_same first second c set (Ok Pr) same a =
+witness_same : (first second : List Clause) (c set : List Literal) (answer : StepAnswer) → SameLive first second → AnswersWithWitness first c set answer → AnswersWithWitness second c set answer
+witness_same first second c set (Err InconsistentSet) same a = a
+witness_same first second c set (Ok Rup) same a = (a.0, clash_covers _ _ (covers_of first second same) _ a.1)
+witness_same first second c set (Ok Pr) same a =
     let there = covers_of first second same in
     let back = covers_of second first (same_live_symm first second same) in
     (a.0, λ b. a.1 (clash_covers _ _ back _ b), pr_covers _ _ there back c set a.2)
-set_same first second c set (Err NeitherRupNorPr) same a =
+witness_same first second c set (Err NeitherRupNorPr) same a =
     let there = covers_of first second same in
     let back = covers_of second first (same_live_symm first second same) in
     (a.0, λ b. a.1 (clash_covers _ _ back _ b), λ r. a.2 (pr_covers _ _ back there c set r))
-set_same first second c set (Ok _) same a = absurd a
-set_same first second c set (Err _) same a = absurd a
+witness_same first second c set (Ok _) same a = absurd a
+witness_same first second c set (Err _) same a = absurd a
 
 kept_same : (rules : DratRules) (first second : List Clause) (c : Clause) → SameLive first second → IsKeptUnit rules first c → IsKeptUnit rules second c
 kept_same rules first second c same kept = (kept.0, reason_covers _ _ (covers_of first second same) c c (same_itself c) kept.1)
@@ -207,5 +207,5 @@ delete_same rules first second c (Err _) same a = absurd a
 
 pub drat_same : (rules : DratRules) (first second : List Clause) (step : DratStep) (answer : StepAnswer) → SameLive first second → AnswersDrat rules first step answer → AnswersDrat rules second step answer
 drat_same rules first second (add c []) answer same a = add_same first second c answer same a
-drat_same rules first second (add c (l ∷ set)) answer same a = set_same first second c (l ∷ set) answer same a
+drat_same rules first second (add c (l ∷ set)) answer same a = witness_same first second c (l ∷ set) answer same a
 drat_same rules first second (delete c) answer same a = delete_same rules first second c answer same a

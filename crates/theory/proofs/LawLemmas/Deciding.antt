@@ -14,7 +14,7 @@ use Rattle.cnf_base.specs.Literals.{same_clause}
 use Rattle.theory.specs.Propagation.{Clash, HasRup, HasRat, HasPr, open_literals}
 use Rattle.theory.specs.Answers.{StepAnswer}
 use Rattle.theory.specs.Drat.{DratStep, add, delete, AnswersAdd, AnswersDelete, AnswersDrat}
-use Rattle.theory.specs.Drat.{AnswersWithSet, IsKeptUnit}
+use Rattle.theory.specs.Drat.{AnswersWithWitness, IsKeptUnit}
 use Rattle.theory.specs.Sets.{conflicts}
 use Rattle.theory.specs.Code.Sets.{lacking}
 use Rattle.cnf_base.proofs.SetLemmas.{any_from, any_some}
@@ -130,8 +130,8 @@ module _ (live : List Clause) (c set : List Literal) where
 
 -- ---- Answers
 
-set_answer : (live : List Clause) (c set : List Literal) → (answer : StepAnswer) × AnswersWithSet live c set answer
-set_answer live c set = elim (cases_Bool (conflicts set)) [
+witness_answer : (live : List Clause) (c set : List Literal) → (answer : StepAnswer) × AnswersWithWitness live c set answer
+witness_answer live c set = elim (cases_Bool (conflicts set)) [
   | inl both ↦ (Err InconsistentSet, both)
   | inr consistent ↦ elim (clash_decided live (complements c)) [
     | inl clash ↦ (Ok Rup, (consistent, clash))
@@ -178,5 +178,5 @@ delete_answer rules live c = elim (cases_Bool (list_any (same_clause c) live)) [
 
 pub drat_answer : (rules : DratRules) (live : List Clause) (step : DratStep) → (answer : StepAnswer) × AnswersDrat rules live step answer
 drat_answer rules live (add c []) = add_answer live c
-drat_answer rules live (add c (l ∷ set)) = set_answer live c (l ∷ set)
+drat_answer rules live (add c (l ∷ set)) = witness_answer live c (l ∷ set)
 drat_answer rules live (delete c) = delete_answer rules live c

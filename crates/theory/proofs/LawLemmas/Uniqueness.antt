@@ -15,7 +15,7 @@ use Rattle.cnf_base.specs.Literals.{Literal, Clause, complements, same_clause}
 use Rattle.theory.specs.Propagation.{Live, HasRup, HasRat, HasPr}
 use Rattle.theory.specs.Answers.{StepAnswer}
 use Rattle.theory.specs.Drat.{DratStep, add, delete, AnswersAdd, AnswersDelete, AnswersDrat}
-use Rattle.theory.specs.Drat.{AnswersWithSet, IsKeptUnit}
+use Rattle.theory.specs.Drat.{AnswersWithWitness, IsKeptUnit}
 use Rattle.theory.specs.Sets.{conflicts}
 use Rattle.theory.specs.Lrat.{LratState, LratStep, add as add_lrat, delete as delete_lrat, Group}
 use Rattle.theory.specs.Lrat.{ChainEnd, conflict, open_with, unknown, not_unit, chain}
@@ -105,42 +105,42 @@ delete_unique rules live c first second (not_alive e p q) (ignored f r s) = absu
 delete_unique rules live c first second (not_alive e p q) (not_alive f r s) = e ∙ sym f
 
 -- the four answers to an addition that lists a set
-data SetCases (live : Live) (c set : List Literal) (answer : StepAnswer) : Type 0 where
-  inconsistent : answer ≡ Err InconsistentSet → conflicts set ≡ true → SetCases live c set answer
-  rup : answer ≡ Ok Rup → conflicts set ≡ false → HasRup live c → SetCases live c set answer
-  pr : answer ≡ Ok Pr → conflicts set ≡ false → ¬ HasRup live c → HasPr live c set → SetCases live c set answer
-  neither : answer ≡ Err NeitherRupNorPr → conflicts set ≡ false → ¬ HasRup live c → ¬ HasPr live c set → SetCases live c set answer
+data WitnessCases (live : Live) (c set : List Literal) (answer : StepAnswer) : Type 0 where
+  inconsistent : answer ≡ Err InconsistentSet → conflicts set ≡ true → WitnessCases live c set answer
+  rup : answer ≡ Ok Rup → conflicts set ≡ false → HasRup live c → WitnessCases live c set answer
+  pr : answer ≡ Ok Pr → conflicts set ≡ false → ¬ HasRup live c → HasPr live c set → WitnessCases live c set answer
+  neither : answer ≡ Err NeitherRupNorPr → conflicts set ≡ false → ¬ HasRup live c → ¬ HasPr live c set → WitnessCases live c set answer
 
-set_cases : (live : List Clause) (c set : List Literal) (answer : StepAnswer) → AnswersWithSet live c set answer → SetCases (slice_get live) c set answer
-set_cases live c set (Err InconsistentSet) a = inconsistent refl a
-set_cases live c set (Ok Rup) a = rup refl a.0 a.1
-set_cases live c set (Ok Pr) a = pr refl a.0 a.1 a.2
-set_cases live c set (Err NeitherRupNorPr) a = neither refl a.0 a.1 a.2
-set_cases live c set (Ok _) a = absurd a
-set_cases live c set (Err _) a = absurd a
+witness_cases : (live : List Clause) (c set : List Literal) (answer : StepAnswer) → AnswersWithWitness live c set answer → WitnessCases (slice_get live) c set answer
+witness_cases live c set (Err InconsistentSet) a = inconsistent refl a
+witness_cases live c set (Ok Rup) a = rup refl a.0 a.1
+witness_cases live c set (Ok Pr) a = pr refl a.0 a.1 a.2
+witness_cases live c set (Err NeitherRupNorPr) a = neither refl a.0 a.1 a.2
+witness_cases live c set (Ok _) a = absurd a
+witness_cases live c set (Err _) a = absurd a
 
-set_unique : (live : Live) (c set : List Literal) (first second : StepAnswer) → SetCases live c set first → SetCases live c set second → first ≡ second
-set_unique live c set first second (inconsistent e p) (inconsistent f q) = e ∙ sym f
-set_unique live c set first second (inconsistent e p) (rup f q r) = absurd (true≢false (sym p ∙ q))
-set_unique live c set first second (inconsistent e p) (pr f q r s) = absurd (true≢false (sym p ∙ q))
-set_unique live c set first second (inconsistent e p) (neither f q r s) = absurd (true≢false (sym p ∙ q))
-set_unique live c set first second (rup e p h) (inconsistent f q) = absurd (true≢false (sym q ∙ p))
-set_unique live c set first second (rup e p h) (rup f q r) = e ∙ sym f
-set_unique live c set first second (rup e p h) (pr f q r s) = absurd (r h)
-set_unique live c set first second (rup e p h) (neither f q r s) = absurd (r h)
-set_unique live c set first second (pr e p h k) (inconsistent f q) = absurd (true≢false (sym q ∙ p))
-set_unique live c set first second (pr e p h k) (rup f q r) = absurd (h r)
-set_unique live c set first second (pr e p h k) (pr f q r s) = e ∙ sym f
-set_unique live c set first second (pr e p h k) (neither f q r s) = absurd (s k)
-set_unique live c set first second (neither e p h k) (inconsistent f q) = absurd (true≢false (sym q ∙ p))
-set_unique live c set first second (neither e p h k) (rup f q r) = absurd (h r)
-set_unique live c set first second (neither e p h k) (pr f q r s) = absurd (k s)
-set_unique live c set first second (neither e p h k) (neither f q r s) = e ∙ sym f
+witness_unique : (live : Live) (c set : List Literal) (first second : StepAnswer) → WitnessCases live c set first → WitnessCases live c set second → first ≡ second
+witness_unique live c set first second (inconsistent e p) (inconsistent f q) = e ∙ sym f
+witness_unique live c set first second (inconsistent e p) (rup f q r) = absurd (true≢false (sym p ∙ q))
+witness_unique live c set first second (inconsistent e p) (pr f q r s) = absurd (true≢false (sym p ∙ q))
+witness_unique live c set first second (inconsistent e p) (neither f q r s) = absurd (true≢false (sym p ∙ q))
+witness_unique live c set first second (rup e p h) (inconsistent f q) = absurd (true≢false (sym q ∙ p))
+witness_unique live c set first second (rup e p h) (rup f q r) = e ∙ sym f
+witness_unique live c set first second (rup e p h) (pr f q r s) = absurd (r h)
+witness_unique live c set first second (rup e p h) (neither f q r s) = absurd (r h)
+witness_unique live c set first second (pr e p h k) (inconsistent f q) = absurd (true≢false (sym q ∙ p))
+witness_unique live c set first second (pr e p h k) (rup f q r) = absurd (h r)
+witness_unique live c set first second (pr e p h k) (pr f q r s) = e ∙ sym f
+witness_unique live c set first second (pr e p h k) (neither f q r s) = absurd (s k)
+witness_unique live c set first second (neither e p h k) (inconsistent f q) = absurd (true≢false (sym q ∙ p))
+witness_unique live c set first second (neither e p h k) (rup f q r) = absurd (h r)
+witness_unique live c set first second (neither e p h k) (pr f q r s) = absurd (k s)
+witness_unique live c set first second (neither e p h k) (neither f q r s) = e ∙ sym f
 
 pub drat_unique : (rules : DratRules) (live : List Clause) (step : DratStep) (first second : StepAnswer) → AnswersDrat rules live step first → AnswersDrat rules live step second → first ≡ second
 drat_unique rules live (add [] []) first second a b = empty_unique (slice_get live) first second (empty_cases live first a) (empty_cases live second b)
 drat_unique rules live (add (pivot ∷ rest) []) first second a b = add_unique (slice_get live) pivot rest first second (add_cases live pivot rest first a) (add_cases live pivot rest second b)
-drat_unique rules live (add c (l ∷ set)) first second a b = set_unique (slice_get live) c (l ∷ set) first second (set_cases live c (l ∷ set) first a) (set_cases live c (l ∷ set) second b)
+drat_unique rules live (add c (l ∷ set)) first second a b = witness_unique (slice_get live) c (l ∷ set) first second (witness_cases live c (l ∷ set) first a) (witness_cases live c (l ∷ set) second b)
 drat_unique rules live (delete c) first second a b = delete_unique rules live c first second (delete_cases rules live c first a) (delete_cases rules live c second b)
 
 -- ---- LRAT
