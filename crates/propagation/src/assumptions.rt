@@ -232,15 +232,17 @@ impl Assumptions {
         }
     }
 
-    /// No literal is true any more, where nothing is assumed. It takes no memory.
-    pub fn clear(&mut self)
-        requires { self.old.assumptions ≡ [] }
-        ensures lits { self.new.trail.lits ≡ [] }
+    /// Keeps the first `n` literals true and no others, where nothing is assumed. It takes no
+    /// memory.
+    pub fn cut(&mut self, n: usize)
+        requires nothing_assumed { self.old.assumptions ≡ [] }
+        requires inside { n ≤ length self.old.trail.lits }
+        ensures lits { self.new.trail.lits ≡ take n self.old.trail.lits }
         ensures reserved { SameSet self.new.trail.reserved self.old.trail.reserved }
         ensures assumptions { self.new.assumptions ≡ [] }
         ensures starts { self.new.starts ≡ self.old.starts }
     {
-        self.trail.undo_to(0);
+        self.trail.undo_to(n);
     }
 
     /// Takes back the last assumption, in constant time and with no memory.

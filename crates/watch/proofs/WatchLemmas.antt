@@ -6,10 +6,12 @@ pub mod Moves
 pub mod Reasons
 pub mod PropagatesTo
 pub mod Follow
+pub mod History
 pub mod Units
 pub mod Entries
 pub mod Closed
 pub mod Kept
+pub mod CatchUp
 pub mod Visited
 pub mod Arrange
 pub mod Assumed

@@ -143,7 +143,7 @@ fn visit_all(
 }
 
 /// Visits all clauses that watch a literal which became false, up to one that is false: its slot.
-fn follow(
+pub(crate) fn follow(
     store: &mut Store,
     lists: &mut WatchLists,
     assumptions: &mut Assumptions,

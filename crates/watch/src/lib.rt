@@ -5,6 +5,7 @@ mod arrange;
 mod clause_source;
 mod entries;
 mod follow;
+mod history;
 mod reason;
 mod refresh;
 mod roots;

@@ -5,13 +5,13 @@ ghost use Rattle.std.specs.FinMap as maps;
 ghost use Rattle.trail.specs.Trail.{HasRoomForAll};
 ghost use Rattle.theory.specs.Sets.{SameSet};
 ghost use Rattle.watch.specs.Code.Order.{each_in_order};
-ghost use Rattle.watch.specs.Code.Roots.{IsKept, is_lost, is_up_to_date};
+ghost use Rattle.watch.specs.Code.Roots.{IsKept, is_cut, is_up_to_date};
 ghost use Rattle.watch.specs.Code.Watched.{IsShortList};
 ghost use Rattle.watch.specs.Code.State.{IsWatch};
 ghost use Rattle.watch.specs.Code.Visits.{CanFollow, Followed};
 ghost use Rattle.tables.specs.Table.{at};
 
-use crate::follow::propagate;
+use crate::follow::follow;
 use crate::roots::{Kept, Roots};
 use crate::units::set_units;
 use clause_db::Store;
@@ -19,28 +19,30 @@ use cnf_base::OutOfMemory;
 use propagation::Assumptions;
 use watch_lists::{SlotList, WatchLists};
 
-/// Where nothing is kept, keeps the literals of the clauses of one literal, which are yet to be
-/// propagated. It takes no memory.
+/// Keeps the literals of the clauses of one literal too, where some may be missing. It takes no
+/// memory.
 fn start(store: &Store, short: &SlotList, assumptions: &mut Assumptions, roots: &mut Roots)
     requires listed { IsShortList (maps.get store.now.live) short.now }
     requires room { HasRoomForAll assumptions.old.trail.reserved
         (maps.get (each_in_order store.now.live)) }
     requires kept { IsKept store.now.live roots.old assumptions.old.trail.lits }
     ensures kept { IsKept store.now.live roots.new assumptions.new.trail.lits }
-    ensures known { is_lost roots.new.kept ≡ false }
+    ensures known { is_cut roots.new.kept ≡ false }
     ensures reserved { SameSet assumptions.new.trail.reserved assumptions.old.trail.reserved }
     ensures assumptions { assumptions.new.assumptions ≡ assumptions.old.assumptions }
     ensures starts { assumptions.new.starts ≡ assumptions.old.starts }
 {
-    if let Kept::Lost = roots.kept {
-        roots.kept = match set_units(store, short.slots(), assumptions, &mut roots.reasons) {
-            Some(slot) => Kept::Clash(slot),
-            None => Kept::Behind(0),
-        };
+    if let Kept::Cut = roots.kept {
+        match set_units(store, short.slots(), assumptions, &mut roots.reasons) {
+            Some(slot) => roots.kept = Kept::Clash(slot),
+            None => roots.kept = Kept::Behind,
+        }
     }
 }
 
-/// Propagates the literals that are kept and were not propagated yet.
+/// Propagates the literals that are kept and were not propagated yet, up to a clash. It notes how
+/// many literals were true when each visit began: a cut goes back to the last one that began with
+/// no more than it keeps.
 ///
 /// # Errors
 ///
@@ -53,25 +55,29 @@ fn catch_up(
 ) -> Result<(), OutOfMemory>
     requires can { CanFollow store.old.live lists.old assumptions.old (at roots.old.reasons) }
     requires kept { IsKept store.old.live roots.old assumptions.old.trail.lits }
-    requires known { is_lost roots.old.kept ≡ false }
+    requires known { is_cut roots.old.kept ≡ false }
     ensures kept { OnOk result (IsKept store.new.live roots.new assumptions.new.trail.lits) }
     ensures up_to_date { OnOk result (is_up_to_date roots.new.kept ≡ true) }
     ensures followed { Followed store.old.live store.new.live lists.old lists.new assumptions.old
         assumptions.new (at roots.old.reasons) (at roots.new.reasons) }
 {
-    let Kept::Behind(from) = roots.kept else {
+    let Kept::Behind = roots.kept else {
         return Ok(());
     };
-    match propagate(store, lists, assumptions, &mut roots.reasons, from)? {
-        Some(slot) => {
-            roots.kept = Kept::Clash(slot);
-            Ok(())
-        }
-        None => {
-            roots.kept = Kept::All;
-            Ok(())
+    let mut done = roots.history.len();
+    while done < assumptions.trail().len() {
+        let l = assumptions.trail().lits()[done].neg();
+        roots.history.begin(assumptions.trail().len())?;
+        match follow(store, lists, assumptions, &mut roots.reasons, l)? {
+            Some(slot) => {
+                roots.kept = Kept::Clash(slot);
+                return Ok(());
+            }
+            None => done += 1,
         }
     }
+    roots.kept = Kept::All;
+    Ok(())
 }
 
 /// Brings the literals that are true with nothing assumed up to date.
@@ -100,7 +106,7 @@ pub(crate) fn refresh(
     match catch_up(store, lists, assumptions, roots) {
         Ok(()) => Ok(()),
         Err(refused) => {
-            roots.forget(assumptions);
+            roots.cut(assumptions, 0);
             Err(refused)
         }
     }

@@ -1,16 +1,20 @@
 //! The literals that are true with nothing assumed, each with the clause that makes it so.
 
-ghost use Rattle.std.specs.Prelude.{◌≡◌, ◌≢◌, ℕ, ◌<◌, ◌/◌, ◌==◌, ◌&&◌, ◌++◌, ◌∷◌, [], not, true};
-ghost use Rattle.std.specs.Prelude.{false, length, if◌then◌else◌, Some, IsTrue, IsFalse, IsSome};
-ghost use Rattle.std.specs.Prelude.{OnOk};
+ghost use Rattle.std.specs.Prelude.{◌≡◌, ◌≢◌, ℕ, ◌<◌, ◌≤◌, ◌/◌, ◌==◌, ◌&&◌, ◌++◌, ◌∷◌, [], not};
+ghost use Rattle.std.specs.Prelude.{true, false, length, take, slice_index, if◌then◌else◌, Some};
+ghost use Rattle.std.specs.Prelude.{IsTrue, IsFalse, IsSome, IfSome, IfNone, OnOk};
 ghost use Rattle.std.specs.FinMap as maps;
 ghost use Rattle.cnf_base.specs.Literals.{Literal, Clause, complement, has};
 ghost use Rattle.tables.specs.Table.{at};
 ghost use Rattle.trail.specs.Trail.{HasRoom};
 ghost use Rattle.theory.specs.Sets.{SameSet, conflicts};
-ghost use Rattle.watch.specs.Code.Roots.{HasReasons, IsArranged, IsKept, has_clash, is_up_to_date};
-ghost use Rattle.watch.specs.declared.roots.Kept.TheVariants.{Clash, Lost};
+ghost use Rattle.watch.specs.Code.History.{IsRewound};
+ghost use Rattle.watch.specs.Code.Roots.{HasReasons, IsArranged, IsKept, has_clash, is_cut};
+ghost use Rattle.watch.specs.Code.Roots.{is_up_to_date};
+ghost use Rattle.trail.specs.declared.left.Left.TheVariants.{More};
+ghost use Rattle.watch.specs.declared.roots.Kept.TheVariants.{Behind, Clash, Cut};
 
+use crate::history::History;
 use clause_db::{Slot, Store};
 use cnf_base::{Lit, OutOfMemory};
 use propagation::Assumptions;
@@ -21,14 +25,26 @@ use trail::{Left, Trail};
 /// What is known of the literals that are true with nothing assumed.
 #[derive(Clone, Copy)]
 pub(crate) enum Kept {
-    /// Nothing, and none is kept.
-    Lost,
-    /// Some are kept. Those before this place were propagated.
-    Behind(usize),
+    /// Some are kept, and those that were visited are propagated.
+    Cut,
+    /// The same, and those of unit clauses are all among them.
+    Behind,
     /// All are kept.
     All,
     /// All literals of the clause in this slot are false.
     Clash(u32),
+}
+
+impl Kept {
+    /// With one more literal that is kept, where no clash is.
+    fn with_more(self) -> Self
+        ensures { result ≡ (if is_cut self then Cut else Behind) }
+    {
+        match self {
+            Kept::Cut => Kept::Cut,
+            _ => Kept::Behind,
+        }
+    }
 }
 
 /// What is known of the literals that are true with nothing assumed, and of each the clause that
@@ -36,6 +52,8 @@ pub(crate) enum Kept {
 #[derive(Drop)]
 pub(crate) struct Roots {
     pub(crate) kept: Kept,
+    /// When they were propagated.
+    pub(crate) history: History,
     /// By literal the slot of its reason.
     pub(crate) reasons: Table<u32>,
 }
@@ -78,26 +96,56 @@ fn is_reason(reasons: &Table<u32>, l: Lit, slot: usize) -> bool
     }
 }
 
-/// Whether the clause in the slot, which has these literals, is the reason of one that is true.
-fn has_reason(reasons: &Table<u32>, trail: &Trail, clause: &[Lit], slot: usize) -> bool
-    ensures no { IsFalse result → (l : Literal) → IsTrue (has clause.now l) →
-        IsTrue (has trail.now.lits l) → at reasons.now l ≢ Some slot }
+/// The literal that is true by the clause in the slot, which has these literals.
+fn made_true_by(reasons: &Table<u32>, trail: &Trail, clause: &[Lit], slot: usize) -> Option<Lit>
+    ensures is_true { IfSome result (λ l. IsTrue (has trail.now.lits l)) }
+    ensures reason { IfSome result (λ l. at reasons.now l ≡ Some slot) }
+    ensures none { IfNone result ((l : Literal) → IsTrue (has clause.now l) →
+        IsTrue (has trail.now.lits l) → at reasons.now l ≢ Some slot) }
 {
     for l in clause {
         if trail.is_true(*l) && is_reason(reasons, *l, slot) {
-            return true;
+            return Some(*l);
         }
     }
-    false
+    None
+}
+
+/// The place of a literal, sought from the end.
+fn place_of(lits: &[Lit], l: Lit) -> usize
+    requires { IsTrue (has lits.now l) }
+    ensures inside { result < length lits.now }
+    ensures literal { slice_index lits.now result ≡ l }
+{
+    let mut place = lits.len();
+    while place > 0 {
+        place -= 1;
+        if lits[place] == l {
+            return place;
+        }
+    }
+    0
+}
+
+/// Whether a clause of which this is left watches a literal that is false.
+fn watches_false(clause: &[Lit], left: &Left) -> bool
+    ensures { IsFalse result → left.now ≢ More → length clause.now < 2 }
+{
+    match left {
+        Left::More => false,
+        _ => clause.len() > 1,
+    }
 }
 
 impl Roots {
     /// Nothing is known.
     pub(crate) fn new(alloc: Global) -> Self
-        ensures { result.kept ≡ Lost }
+        ensures kept { result.kept ≡ Cut }
+        ensures visited { result.history.visited.items ≡ [] }
     {
         Roots {
-            kept: Kept::Lost,
+            kept: Kept::Cut,
+            history: History::new(alloc),
             reasons: Table::new(alloc),
         }
     }
@@ -121,7 +169,7 @@ impl Roots {
         ensures room { OnOk result (HasReasons clause.now (at self.new.reasons)) }
         ensures old { (l : Literal) → IsSome (at self.old.reasons l) →
             at self.new.reasons l ≡ at self.old.reasons l }
-        ensures kept { self.new.kept ≡ self.old.kept }
+        ensures kept { self.new ≡ record self.old { reasons = self.new.reasons } }
     {
         for l in clause {
             self.reasons.reserve(key(*l), 0)?;
@@ -153,52 +201,65 @@ impl Roots {
         ensures assumptions { assumptions.new.assumptions ≡ assumptions.old.assumptions }
         ensures starts { assumptions.new.starts ≡ assumptions.old.starts }
     {
-        let from = match self.kept {
-            Kept::Lost | Kept::Clash(_) => return,
-            Kept::Behind(from) => from,
-            Kept::All => assumptions.trail().len(),
-        };
+        let clause = store.clause(slot);
+        let is_doubtful = watches_false(clause, &left);
+        self.history.enter(is_doubtful, assumptions.trail().len());
+        if self.has_clash() {
+            return;
+        }
         let number = slot.number() as u32;
         match left {
             Left::More => {}
             Left::Nothing => self.kept = Kept::Clash(number),
             Left::One(l) => {
                 if set_by(assumptions, &mut self.reasons, l, number) {
-                    self.kept = Kept::Behind(from);
-                } else if store.clause(slot).len() == 1 {
+                    self.kept = self.kept.with_more();
+                } else if clause.len() == 1 {
                     self.reasons.set(key(l), number);
                 }
             }
         }
     }
 
-    /// Whether what is kept rests on the clause in the slot, which has these literals.
-    fn rests_on(&self, trail: &Trail, clause: &[Lit], slot: usize) -> bool
-        ensures clash { IsFalse result → self.now.kept ≢ Clash slot }
-        ensures reasons { IsFalse result → (l : Literal) → IsTrue (has clause.now l) →
-            IsTrue (has trail.now.lits l) → at self.now.reasons l ≢ Some slot }
+    /// From which literal on what is kept rests on the clause in the slot, which has these
+    /// literals; none where nothing does.
+    fn rests_from(&self, trail: &Trail, clause: &[Lit], slot: usize) -> Option<usize>
+        ensures inside { IfSome result (λ place. place ≤ length trail.now.lits) }
+        ensures fewer { IfSome result (λ place. has_clash self.now.kept ≡ false →
+            place < length trail.now.lits) }
+        ensures clash { IfNone result (self.now.kept ≢ Clash slot) }
+        ensures reasons { IfNone result ((l : Literal) → IsTrue (has clause.now l) →
+            IsTrue (has trail.now.lits l) → at self.now.reasons l ≢ Some slot) }
     {
         match self.kept {
-            Kept::Clash(number) if number as usize == slot => true,
-            _ => has_reason(&self.reasons, trail, clause, slot),
+            Kept::Clash(number) if number as usize == slot => Some(trail.len()),
+            _ => {
+                let l = made_true_by(&self.reasons, trail, clause, slot)?;
+                Some(place_of(trail.lits(), l))
+            }
         }
     }
 
-    /// Keeps nothing any more, where nothing is assumed. It takes no memory.
-    pub(crate) fn forget(&mut self, assumptions: &mut Assumptions)
-        requires { assumptions.old.assumptions ≡ [] }
-        ensures roots { self.new ≡ record self.old { kept = Lost } }
-        ensures lits { assumptions.new.trail.lits ≡ [] }
+    /// Keeps the first so many literals and no others, where nothing is assumed. It takes no
+    /// memory.
+    pub(crate) fn cut(&mut self, assumptions: &mut Assumptions, place: usize)
+        requires nothing_assumed { assumptions.old.assumptions ≡ [] }
+        requires inside { place ≤ length assumptions.old.trail.lits }
+        ensures kept { self.new.kept ≡ Cut }
+        ensures history { IsRewound self.old.history self.new.history place }
+        ensures reasons { self.new.reasons ≡ self.old.reasons }
+        ensures lits { assumptions.new.trail.lits ≡ take place assumptions.old.trail.lits }
         ensures reserved { SameSet assumptions.new.trail.reserved assumptions.old.trail.reserved }
         ensures assumptions { assumptions.new.assumptions ≡ [] }
         ensures starts { assumptions.new.starts ≡ assumptions.old.starts }
     {
-        assumptions.clear();
-        self.kept = Kept::Lost;
+        assumptions.cut(place);
+        self.history.rewind(place);
+        self.kept = Kept::Cut;
     }
 
-    /// Takes note of a clause that is to be removed: nothing is kept any more where that rests on
-    /// it. It takes no memory.
+    /// Takes note of a clause that is to be removed: cuts what is kept back to the place from which
+    /// on it rests on it. It takes no memory.
     pub(crate) fn leave(&mut self, store: &Store, assumptions: &mut Assumptions, slot: Slot)
         requires alive { IsSome (maps.get store.now.live slot) }
         requires nothing_assumed { assumptions.old.assumptions ≡ [] }
@@ -209,8 +270,9 @@ impl Roots {
         ensures assumptions { assumptions.new.assumptions ≡ [] }
         ensures starts { assumptions.new.starts ≡ assumptions.old.starts }
     {
-        if self.rests_on(assumptions.trail(), store.clause(slot), slot.number()) {
-            self.forget(assumptions);
+        let clause = store.clause(slot);
+        while let Some(place) = self.rests_from(assumptions.trail(), clause, slot.number()) {
+            self.cut(assumptions, place);
         }
     }
 }

@@ -1,7 +1,7 @@
 -- What is kept where a clause was added.
-use Rattle.std.proofs.Common.{◌≡◌, ◌≢◌, ℕ, ◌≤◌, Bool, true, false, cond, eqb, eq-eqb, ne_eqb}
+use Rattle.std.proofs.Common.{◌≡◌, ◌≢◌, ℕ, ◌+◌, ◌<◌, Bool, true, false, cond, eqb, eq-eqb, ne_eqb}
 use Rattle.std.proofs.Common.{Option, Some, is_some, List, [], ◌∷◌, ◌++◌, length, take, refl, sym}
-use Rattle.std.proofs.Common.{ap, ◌∙◌, subst, arith, inl, inr, ◌⊎◌}
+use Rattle.std.proofs.Common.{ap, ◌∙◌, subst, arith, inl, inr}
 use Rattle.std.specs.Ordering.{nat_cmp}
 use Rattle.std.specs.FinMap as maps
 use Rattle.std.specs.FinMap.{FinMap}
@@ -10,29 +10,26 @@ use Rattle.std.proofs.lemmas.List.{length-append, take_all, take-append-le}
 use Rattle.cnf_base.specs.Literals.{Literal, complement, Clause, has}
 use Rattle.cnf_base.proofs.SetLemmas.{has_append_left, has_append_right, has_cases, has_head}
 use Rattle.tables.specs.Table.{at}
+use Rattle.watch.specs.Code.History.{IsHistory, visits}
 use Rattle.watch.specs.Code.Order.{in_order, each_in_order}
 use Rattle.watch.specs.Code.Roots.{AreNoted, AreReasoned, HasReasons, HaveUnits, IsArranged, IsKept}
-use Rattle.watch.specs.Code.Roots.{IsKnown}
+use Rattle.watch.specs.Code.Roots.{IsKnown, has_clash, is_cut}
 use Rattle.watch.specs.Code.Visits.{IsPart}
 use Rattle.watch.specs.Code.Watched.{IsMet, HasUnit, IsWatched}
+use Rattle.trail.specs.declared.left.Left.{Left}
 use Rattle.trail.specs.declared.left.Left.TheVariants.{Nothing, One, More}
+use Rattle.watch.specs.declared.history.History.{History}
 use Rattle.watch.specs.declared.roots.Kept.{Kept}
-use Rattle.watch.specs.declared.roots.Kept.TheVariants.{Lost, Behind, All, Clash}
+use Rattle.watch.specs.declared.roots.Kept.TheVariants.{Cut, Behind, All, Clash}
 use Rattle.watch.specs.declared.roots.Roots.{Roots}
 use Rattle.watch.proofs.WatchLemmas.Follow.{front_part, watched_grown}
+use Rattle.watch.proofs.WatchLemmas.History.{history_above, history_longer, history_noted}
 use Rattle.watch.proofs.WatchLemmas.Kept.{elsewhere, false_added, gone, noted_added, met_alone}
 use Rattle.watch.proofs.WatchLemmas.Kept.{met_open, reasoned_added, unit_alone, unit_open}
 use Rattle.watch.proofs.WatchLemmas.Kept.{units_added, watched_added}
 use Rattle.watch.proofs.WatchLemmas.Order.{has-in_order, seen_there}
 use Rattle.watch.proofs.WatchLemmas.Reasons.{reasoned_more, reasoned_same, reasoned_taken}
 use Rattle.watch.proofs.WatchLemmas.Units.{unit_more}
-
--- whether what is known says nothing of clauses that are added
-abbrev pub is_idle : Kept → Bool
-is_idle Lost = true
-is_idle (Behind from) = false
-is_idle All = false
-is_idle (Clash slot) = true
 
 only_one : (c : Clause) (m : Literal) → length c ≡ 1 → has c m ≡ true → (k : Literal) → has c k ≡ true → k ≡ m
 only_one [] m one there k h = absurd (false≢true h)
@@ -43,7 +40,25 @@ only_one (a ∷ []) m one there k h =
     ]
 only_one (a ∷ b ∷ c) m one there k h = absurd (let wrong : ⊥ = omega (arith, one) in wrong)
 
-module _ (after : FinMap nat_cmp Clause) (slot : ℕ) (c : Clause) (here : maps.get after slot ≡ Some c) (roots : Roots) (lits : List Literal) (kept : IsKept (maps.remove after slot) roots lits) (reasons : HasReasons c (at roots.reasons)) where
+abbrev is_more : Left → Bool
+is_more Nothing = false
+is_more (One l) = false
+is_more More = true
+
+met_short : (c : Clause) → length c < 2 → (l : Literal) (trues : List Literal) → IsMet c l trues
+met_short [] small l trues there = absurd (false≢true there)
+met_short (a ∷ []) small l trues there = absurd (false≢true there)
+met_short (a ∷ b ∷ c) small l trues there = absurd (let wrong : ⊥ = omega (arith, small) in wrong)
+
+-- what a clause watches is met at any place, unless it watches a literal that is false
+met_sure : (lits : List Literal) (c : Clause) (left : Left) → IsArranged lits c left → (left ≢ More → length c < 2) → (done more : List Literal) → IsPart done lits → (l : Literal) → has done (complement l) ≡ true → IsMet c l more
+met_sure lits c More first small done more part l h = met_open c lits done more part first l h
+met_sure lits c Nothing first small done more part l h = met_short c (small (λ e. false≢true (ap is_more e))) l more
+met_sure lits c (One m) first small done more part l h = met_short c (small (λ e. false≢true (ap is_more e))) l more
+
+module _ (after : FinMap nat_cmp Clause) (slot : ℕ) (c : Clause) (here : maps.get after slot ≡ Some c) (roots : Roots) (lits : List Literal) (kept : IsKept (maps.remove after slot) roots lits) (reasons : HasReasons c (at roots.reasons))
+    (left : Left) (arranged : IsArranged lits c left) (is_doubtful : Bool) (small : is_doubtful ≡ false → left ≢ More → length c < 2)
+    (later : History) (visited_is : later.visited ≡ roots.history.visited) (floor_is : later.floor ≡ cond is_doubtful (length lits) roots.history.floor) where
   noted : AreNoted (maps.get (each_in_order after)) (at roots.reasons)
   noted = noted_added (maps.remove after slot) after slot c (gone after slot slot refl) here (λ s ne. sym (elsewhere after slot s ne)) (at roots.reasons) kept.noted reasons
 
@@ -56,30 +71,64 @@ module _ (after : FinMap nat_cmp Clause) (slot : ℕ) (c : Clause) (here : maps.
   units : (trues : List Literal) → HaveUnits (maps.get (maps.remove after slot)) trues → HasUnit c trues → HaveUnits (maps.get after) trues
   units = units_added (maps.remove after slot) after slot c (gone after slot slot refl) here (λ s ne. sym (elsewhere after slot s ne))
 
-  idle : (k : Kept) → is_idle k ≡ true → IsKnown (maps.remove after slot) k lits → IsKnown after k lits
-  idle Lost is known = known
-  idle (Behind from) is known = absurd (false≢true is)
+  sure : is_doubtful ≡ false → (done trues : List Literal) → IsPart done lits → IsWatched (maps.get (maps.remove after slot)) done trues → IsWatched (maps.get after) done trues
+  sure is done trues part was = watched done trues was (met_sure lits c left arranged (small is) done trues part)
+
+  history : IsHistory (maps.get after) later lits
+  history =
+      history_noted (maps.get (maps.remove after slot)) (maps.get after) roots.history later lits is_doubtful visited_is floor_is
+      (λ is d p. sure is (take d lits) (take p lits) (front_part d lits)) kept.history
+
+  -- what was visited
+  so_far : has_clash roots.kept ≡ false → IsWatched (maps.get (maps.remove after slot)) (take (visits later) lits) lits
+  so_far quiet = subst (λ v. IsWatched (maps.get (maps.remove after slot)) (take (length v.items) lits) lits) (sym visited_is) (kept.visited quiet)
+
+  idle : (k : Kept) → has_clash k ≡ true → IsKnown (maps.remove after slot) k lits → IsKnown after k lits
+  idle Cut is known = absurd (false≢true is)
+  idle Behind is known = absurd (false≢true is)
   idle All is known = absurd (false≢true is)
   idle (Clash s) is known = false_added (maps.remove after slot) after slot c (gone after slot slot refl) here (λ s ne. sym (elsewhere after slot s ne)) s lits known
 
+  pub entered_idle : has_clash roots.kept ≡ true → (now : Roots) → now.kept ≡ roots.kept → now.history ≡ later → now.reasons ≡ roots.reasons → IsKept after now lits
+  entered_idle is now kept_is history_is reasons_are = record {
+    noted = subst (λ t. AreNoted (maps.get (each_in_order after)) (at t)) (sym reasons_are) noted;
+    reasoned = subst (λ t. AreReasoned (maps.get (each_in_order after)) (at t) lits) (sym reasons_are) reasoned;
+    known = subst (λ k. IsKnown after k lits) (sym kept_is) (idle roots.kept is kept.known);
+    history = subst (λ h. IsHistory (maps.get after) h lits) (sym history_is) history;
+    visited = λ quiet. absurd (true≢false (sym is ∙ ap has_clash (sym kept_is) ∙ quiet));
+  }
+
   -- nothing new follows from it
   settled : ((done : List Literal) → IsPart done lits → (l : Literal) → has done (complement l) ≡ true → IsMet c l lits) → HasUnit c lits → (k : Kept) → IsKnown (maps.remove after slot) k lits → IsKnown after k lits
-  settled met unit Lost known = known
-  settled met unit (Behind from) known = (known.0, watched (take from lits) lits known.1 (met (take from lits) (front_part from lits)), units lits known.2 unit)
+  settled met unit Cut known = known
+  settled met unit Behind known = units lits known unit
   settled met unit All known = (watched lits lits known.0 (met lits (λ l h. h)), units lits known.1 unit)
   settled met unit (Clash s) known = idle (Clash s) refl known
 
-  pub entered_idle : is_idle roots.kept ≡ true → IsKept after roots lits
-  entered_idle is = record { noted = noted; reasoned = reasoned; known = idle roots.kept is kept.known }
+  entered_settled : ((done : List Literal) → IsPart done lits → (l : Literal) → has done (complement l) ≡ true → IsMet c l lits) → HasUnit c lits → (now : Roots) → now.kept ≡ roots.kept → now.history ≡ later →
+      AreNoted (maps.get (each_in_order after)) (at now.reasons) → AreReasoned (maps.get (each_in_order after)) (at now.reasons) lits → IsKept after now lits
+  entered_settled met unit now kept_is history_is now_noted now_reasoned = record {
+    noted = now_noted;
+    reasoned = now_reasoned;
+    known = subst (λ k. IsKnown after k lits) (sym kept_is) (settled met unit roots.kept kept.known);
+    history = subst (λ h. IsHistory (maps.get after) h lits) (sym history_is) history;
+    visited = λ quiet.
+        subst (λ h. IsWatched (maps.get after) (take (visits h) lits) lits) (sym history_is)
+        (watched (take (visits later) lits) lits (so_far (ap has_clash (sym kept_is) ∙ quiet)) (met (take (visits later) lits) (front_part (visits later) lits)));
+  }
 
-  pub entered_more : IsArranged lits c More → IsKept after roots lits
-  entered_more first = record { noted = noted; reasoned = reasoned; known = settled (λ done part. met_open c lits done lits part first) (unit_open c lits lits first) roots.kept kept.known }
+  pub entered_more : IsArranged lits c More → (now : Roots) → now.kept ≡ roots.kept → now.history ≡ later → now.reasons ≡ roots.reasons → IsKept after now lits
+  entered_more first now kept_is history_is reasons_are =
+      entered_settled (λ done part. met_open c lits done lits part first) (unit_open c lits lits first) now kept_is history_is (subst (λ t. AreNoted (maps.get (each_in_order after)) (at t)) (sym reasons_are) noted)
+      (subst (λ t. AreReasoned (maps.get (each_in_order after)) (at t) lits) (sym reasons_are) reasoned)
 
-  pub entered_false : IsArranged lits c Nothing → (now : Roots) (number : ℕ) → number ≡ slot → now.kept ≡ Clash number → now.reasons ≡ roots.reasons → IsKept after now lits
-  entered_false falses now number is kept_is reasons_are = record {
+  pub entered_false : IsArranged lits c Nothing → (now : Roots) (number : ℕ) → number ≡ slot → now.kept ≡ Clash number → now.history ≡ later → now.reasons ≡ roots.reasons → IsKept after now lits
+  entered_false falses now number is kept_is history_is reasons_are = record {
     noted = subst (λ t. AreNoted (maps.get (each_in_order after)) (at t)) (sym reasons_are) noted;
     reasoned = subst (λ t. AreReasoned (maps.get (each_in_order after)) (at t) lits) (sym reasons_are) reasoned;
     known = subst (λ k. IsKnown after k lits) (sym (kept_is ∙ ap Clash is)) (record { clause = in_order c; at = seen_there after slot c here; falses = λ k h. falses k (sym (has-in_order c k) ∙ h) });
+    history = subst (λ h. IsHistory (maps.get after) h lits) (sym history_is) history;
+    visited = λ quiet. absurd (true≢false (ap has_clash (sym kept_is) ∙ quiet));
   }
 
   module _ (m : Literal) (first : IsArranged lits c (One m)) where
@@ -97,60 +146,66 @@ module _ (after : FinMap nat_cmp Clause) (slot : ℕ) (c : Clause) (here : maps.
     set_other now set l ne = set l ∙ ap (λ b. cond b (Some slot) (at roots.reasons l)) (ne_eqb l m ne)
 
     -- the literal is true already
-    pub entered_true : has lits m ≡ true → (now : Roots) → now.kept ≡ roots.kept → ((k : Literal) → at now.reasons k ≡ at roots.reasons k) → IsKept after now lits
-    entered_true is_true now kept_is same = record {
-      noted = record { each = λ s d is l member. ap is_some (same l) ∙ noted.each s d is l member };
-      reasoned = reasoned_same (maps.get (each_in_order after)) (at roots.reasons) lits reasoned (at now.reasons) (λ l h. same l);
-      known = subst (λ k. IsKnown after k lits) (sym kept_is) (settled (λ done part l h. met_alone lits lits m is_true c first l) (unit_alone lits lits m is_true c first) roots.kept kept.known);
-    }
+    pub entered_true : has lits m ≡ true → (now : Roots) → now.kept ≡ roots.kept → now.history ≡ later → ((k : Literal) → at now.reasons k ≡ at roots.reasons k) → IsKept after now lits
+    entered_true is_true now kept_is history_is same =
+        entered_settled (λ done part l h. met_alone lits lits m is_true c first l) (unit_alone lits lits m is_true c first) now kept_is history_is (record { each = λ s d is l member. ap is_some (same l) ∙ noted.each s d is l member })
+        (reasoned_same (maps.get (each_in_order after)) (at roots.reasons) lits reasoned (at now.reasons) (λ l h. same l))
 
     -- and the clause has no other
-    pub entered_taken : has lits m ≡ true → length c ≡ 1 → (now : Roots) → now.kept ≡ roots.kept → ((k : Literal) → at now.reasons k ≡ cond (eqb k m) (Some slot) (at roots.reasons k)) → IsKept after now lits
-    entered_taken is_true one now kept_is set = record {
-      noted = set_noted now set;
-      reasoned = reasoned_taken (maps.get (each_in_order after)) (at roots.reasons) lits reasoned (at now.reasons) m slot (in_order c) (seen_there after slot c here) (has-in_order c m ∙ first.0) (set_here now set)
-          (λ k h. only_one c m one first.0 k (sym (has-in_order c k) ∙ h)) (set_other now set) is_true;
-      known = subst (λ k. IsKnown after k lits) (sym kept_is) (settled (λ done part l h. met_alone lits lits m is_true c first l) (unit_alone lits lits m is_true c first) roots.kept kept.known);
-    }
+    pub entered_taken : has lits m ≡ true → length c ≡ 1 → (now : Roots) → now.kept ≡ roots.kept → now.history ≡ later → ((k : Literal) → at now.reasons k ≡ cond (eqb k m) (Some slot) (at roots.reasons k)) → IsKept after now lits
+    entered_taken is_true one now kept_is history_is set =
+        entered_settled (λ done part l h. met_alone lits lits m is_true c first l) (unit_alone lits lits m is_true c first) now kept_is history_is (set_noted now set)
+        (reasoned_taken (maps.get (each_in_order after)) (at roots.reasons) lits reasoned (at now.reasons) m slot (in_order c) (seen_there after slot c here) (has-in_order c m ∙ first.0) (set_here now set)
+        (λ k h. only_one c m one first.0 k (sym (has-in_order c k) ∙ h)) (set_other now set) is_true)
 
     -- the literal becomes true
-    pub entered_set : (from : ℕ) → (roots.kept ≡ Behind from) ⊎ ((roots.kept ≡ All) × (from ≡ length lits)) → has lits m ≡ false → (now : Roots) (more : List Literal) → now.kept ≡ Behind from → more ≡ lits ++ m ∷ [] →
+    pub entered_set : has_clash roots.kept ≡ false → has lits m ≡ false → (now : Roots) (more : List Literal) → now.kept ≡ cond (is_cut roots.kept) Cut Behind → now.history ≡ later → more ≡ lits ++ m ∷ [] →
         ((k : Literal) → at now.reasons k ≡ cond (eqb k m) (Some slot) (at roots.reasons k)) → IsKept after now more
-    entered_set from was is_open now more kept_is is set = record {
+    entered_set quiet is_open now more kept_is history_is is set = record {
       noted = set_noted now set;
       reasoned = subst (AreReasoned (maps.get (each_in_order after)) (at now.reasons)) (sym is)
           (reasoned_more (maps.get (each_in_order after)) (at roots.reasons) lits reasoned (at now.reasons) m slot (in_order c) (seen_there after slot c here) (has-in_order c m ∙ first.0) (set_here now set)
           (λ k h ne. first.3 k (sym (has-in_order c k) ∙ h) ne) (λ l h. set_other now set l (λ e. true≢false (sym h ∙ ap (has lits) e ∙ is_open))));
-      known = subst (λ k. IsKnown after k more) (sym kept_is) (longer, subst (λ ls. IsWatched (maps.get after) (take from ls) ls) (sym is) grown_watched, subst (HaveUnits (maps.get after)) (sym is) grown_units);
+      known = subst (λ k. IsKnown after k more) (sym kept_is) (subst (IsKnown after (cond (is_cut roots.kept) Cut Behind)) (sym is) (grown_known roots.kept quiet kept.known));
+      history = subst (λ h. IsHistory (maps.get after) h more) (sym history_is) (subst (IsHistory (maps.get after) later) (sym is) (grown_history is_doubtful refl));
+      visited = λ _. subst (λ h. IsWatched (maps.get after) (take (visits h) more) more) (sym history_is) (subst (λ ls. IsWatched (maps.get after) (take (visits later) ls) ls) (sym is) grown_watched);
     }
       where
-        so_far : (from ≤ length lits) × IsWatched (maps.get (maps.remove after slot)) (take from lits) lits × HaveUnits (maps.get (maps.remove after slot)) lits
-        so_far = elim was [
-          | inl e ↦ subst (λ k. IsKnown (maps.remove after slot) k lits) e kept.known
-          | inr e ↦
-              let known = subst (λ k. IsKnown (maps.remove after slot) k lits) e.0 kept.known in
-              let n = e.1 in
-              let fits : length lits ≤ from = omega (arith, n) in
-              (omega (arith, n), subst (λ ls. IsWatched (maps.get (maps.remove after slot)) ls lits) (sym (take_all from lits fits)) known.0, known.1)
-        ]
+        longer : length (lits ++ m ∷ []) ≡ length lits + 1
+        longer = length-append lits (m ∷ [])
 
         m_true : has (lits ++ m ∷ []) m ≡ true
         m_true = has_append_right lits (m ∷ []) m (has_head m [])
 
-        longer : from ≤ length more
-        longer = let n = ap length is ∙ length-append lits (m ∷ []) in let low = so_far.0 in omega (arith, n, low)
+        begins : take (length lits) (lits ++ m ∷ []) ≡ lits
+        begins = take-append-le (length lits) lits (m ∷ []) (omega arith) ∙ take_all (length lits) lits (omega arith)
 
-        front : take from (lits ++ m ∷ []) ≡ take from lits
-        front = take-append-le from lits (m ∷ []) so_far.0
+        front : take (visits later) (lits ++ m ∷ []) ≡ take (visits later) lits
+        front = take-append-le (visits later) lits (m ∷ []) history.inside
 
-        grown_watched : IsWatched (maps.get after) (take from (lits ++ m ∷ [])) (lits ++ m ∷ [])
+        grown_watched : IsWatched (maps.get after) (take (visits later) (lits ++ m ∷ [])) (lits ++ m ∷ [])
         grown_watched =
             subst (λ ls. IsWatched (maps.get after) ls (lits ++ m ∷ [])) (sym front)
-            (watched (take from lits) (lits ++ m ∷ [])
-            (watched_grown (maps.get (maps.remove after slot)) (take from lits) lits (lits ++ m ∷ []) (λ l h. has_append_left lits (m ∷ []) l h) so_far.1)
+            (watched (take (visits later) lits) (lits ++ m ∷ [])
+            (watched_grown (maps.get (maps.remove after slot)) (take (visits later) lits) lits (lits ++ m ∷ []) (λ l h. has_append_left lits (m ∷ []) l h) (so_far quiet))
             (λ l h. met_alone lits (lits ++ m ∷ []) m m_true c first l))
 
-        grown_units : HaveUnits (maps.get after) (lits ++ m ∷ [])
-        grown_units =
-            units (lits ++ m ∷ []) (λ s d is. unit_more d lits (lits ++ m ∷ []) (λ l h. has_append_left lits (m ∷ []) l h) (so_far.2 s d is))
+        grown_units : HaveUnits (maps.get (maps.remove after slot)) lits → HaveUnits (maps.get after) (lits ++ m ∷ [])
+        grown_units known =
+            units (lits ++ m ∷ []) (λ s d is. unit_more d lits (lits ++ m ∷ []) (λ l h. has_append_left lits (m ∷ []) l h) (known s d is))
             (unit_alone lits (lits ++ m ∷ []) m m_true c first)
+
+        grown_known : (k : Kept) → has_clash k ≡ false → IsKnown (maps.remove after slot) k lits → IsKnown after (cond (is_cut k) Cut Behind) (lits ++ m ∷ [])
+        grown_known Cut quiet known = tt
+        grown_known Behind quiet known = grown_units known
+        grown_known All quiet known = grown_units known.1
+        grown_known (Clash s) quiet known = absurd (true≢false quiet)
+
+        grown_history : (b : Bool) → is_doubtful ≡ b → IsHistory (maps.get after) later (lits ++ m ∷ [])
+        grown_history true is =
+            let high = floor_is ∙ ap (λ b. cond b (length lits) roots.history.floor) is in
+            let inside = history.inside in
+            history_above (maps.get after) later (lits ++ m ∷ []) (omega (arith, inside, longer)) history.began (omega (arith, high, longer)) grown_watched
+        grown_history false is =
+            history_longer (maps.get after) later lits (lits ++ m ∷ []) (visits later) begins (omega (arith, longer)) (omega arith)
+            (sure is (take (visits later) lits) lits (front_part (visits later) lits) (so_far quiet)) history

@@ -1,7 +1,7 @@
 -- What is kept of the literals that are true with nothing assumed.
 use Rattle.std.proofs.Common.{◌≡◌, ◌≢◌, ℕ, Bool, true, false, ◌||◌, cond, eqb, eqb-true, eq-eqb}
 use Rattle.std.proofs.Common.{ne_eqb, Option, Some, None, is_some, option_map, List, [], ◌∷◌}
-use Rattle.std.proofs.Common.{length, take, refl, sym, ap, ◌∙◌, subst, arith, inl, inr, ◌⊎◌}
+use Rattle.std.proofs.Common.{length, take, ◌≤◌, refl, sym, ap, ◌∙◌, subst, arith, inl, inr, ◌⊎◌}
 use Rattle.std.specs.Ordering.{nat_cmp}
 use Rattle.std.specs.FinMap as maps
 use Rattle.std.specs.FinMap.{FinMap}
@@ -11,6 +11,7 @@ use Rattle.cnf_base.specs.Literals.{Literal, complement, Clause, has, size}
 use Rattle.tables.specs.Table.{at}
 use Rattle.theory.specs.Propagation.{Clash, Forced}
 use Rattle.propagation.specs.Assumptions.{Assumption, AssumptionsState, roots_in}
+use Rattle.watch.specs.Code.History.{IsHistory, IsRewound, visits}
 use Rattle.watch.specs.Code.Order.{in_order, each_in_order}
 use Rattle.watch.specs.Code.Roots.{AreForced, AreNoted, AreReasoned, HasReasons, HaveUnits}
 use Rattle.watch.specs.Code.Roots.{IsArranged, IsFalseAt, IsKept, IsKnown, IsStanding}
@@ -18,8 +19,9 @@ use Rattle.watch.specs.Code.Roots.{is_up_to_date, has_clash}
 use Rattle.watch.specs.Code.Visits.{PropagatesTo, IsPart}
 use Rattle.watch.specs.Code.Watched.{IsMet, HasUnit, IsWatched}
 use Rattle.trail.specs.declared.left.Left.TheVariants.{One, More}
+use Rattle.watch.specs.declared.history.History.{History}
 use Rattle.watch.specs.declared.roots.Kept.{Kept}
-use Rattle.watch.specs.declared.roots.Kept.TheVariants.{Lost, Behind, All, Clash as KeptClash}
+use Rattle.watch.specs.declared.roots.Kept.TheVariants.{Cut, Behind, All, Clash as KeptClash}
 use Rattle.watch.specs.declared.roots.Roots.{Roots}
 use Rattle.trail.specs.Trail.{HasNoVariableTwice}
 use Rattle.theory.specs.Sets.{conflicts}
@@ -31,8 +33,10 @@ use Rattle.watch.proofs.WatchLemmas.Follow.{front_part}
 use Rattle.watch.proofs.WatchLemmas.Order.{get_ordered, has-in_order, seen_there}
 use Rattle.clause_db.proofs.StoreLemmas.Sums.{get_remove}
 use Rattle.cnf_base.proofs.SetLemmas.{has_head}
-use Rattle.watch.proofs.WatchLemmas.Reasons.{reasoned_among, reasoned_forced, reasoned_none}
-use Rattle.watch.proofs.WatchLemmas.Reasons.{reasoned_same}
+use Rattle.watch.proofs.WatchLemmas.History.{history_among, history_cut, history_none}
+use Rattle.watch.proofs.WatchLemmas.History.{watched_cut, watched_none}
+use Rattle.watch.proofs.WatchLemmas.Reasons.{reasoned_among, reasoned_cut, reasoned_forced}
+use Rattle.watch.proofs.WatchLemmas.Reasons.{reasoned_none, reasoned_same}
 
 pub kept_forced : (live : FinMap nat_cmp Clause) (roots : Roots) (lits : List Literal) → IsKept live roots lits → AreForced (maps.get (each_in_order live)) lits
 kept_forced live roots lits kept = reasoned_forced (maps.get (each_in_order live)) (at roots.reasons) lits kept.reasoned
@@ -41,15 +45,15 @@ kept_forced live roots lits kept = reasoned_forced (maps.get (each_in_order live
 
 -- all that is kept is propagated where it is up to date and no clash
 pub all_known : (live : FinMap nat_cmp Clause) (kept : Kept) (lits : List Literal) → is_up_to_date kept ≡ true → has_clash kept ≡ false → IsKnown live kept lits → IsWatched (maps.get live) lits lits × HaveUnits (maps.get live) lits
-all_known live Lost lits up quiet known = absurd (false≢true up)
-all_known live (Behind from) lits up quiet known = absurd (false≢true up)
+all_known live Cut lits up quiet known = absurd (false≢true up)
+all_known live Behind lits up quiet known = absurd (false≢true up)
 all_known live All lits up quiet known = known
 all_known live (KeptClash slot) lits up quiet known = absurd (true≢false quiet)
 
 -- a clash is one
 pub kept_clash : (live : FinMap nat_cmp Clause) (kept : Kept) (lits : List Literal) → has_clash kept ≡ true → AreForced (maps.get (each_in_order live)) lits → IsKnown live kept lits → Clash (maps.get (each_in_order live)) []
-kept_clash live Lost lits clash forced known = absurd (false≢true clash)
-kept_clash live (Behind from) lits clash forced known = absurd (false≢true clash)
+kept_clash live Cut lits clash forced known = absurd (false≢true clash)
+kept_clash live Behind lits clash forced known = absurd (false≢true clash)
 kept_clash live All lits clash forced known = absurd (false≢true clash)
 kept_clash live (KeptClash slot) lits clash forced known =
     clash_by_false (maps.get (each_in_order live)) [] slot known.clause known.at (λ k h. forced (complement k) (known.falses k h))
@@ -91,19 +95,28 @@ module _ (a b : FinMap nat_cmp Clause) (x y : AssumptionsState) (r s : Literal �
   noted_carried noted = record { each = λ k c is l member. carried.noted l (noted.each k c (ap (λ m. maps.get m k) (sym carried.same) ∙ is) l member) }
 
   pub known_carried : (kept : Kept) (lits : List Literal) → IsPart lits x.trail.lits → IsKnown a kept lits → IsKnown b kept lits
-  known_carried Lost lits part known = known
-  known_carried (Behind from) lits part known =
-      (known.0, carried.kept (take from lits) lits (λ l h. part l (front_part from lits l h)) part known.1, units_carried a b lits carried.same carried.short known.2)
+  known_carried Cut lits part known = known
+  known_carried Behind lits part known = units_carried a b lits carried.same carried.short known
   known_carried All lits part known = (carried.kept lits lits part part known.0, units_carried a b lits carried.same carried.short known.1)
   known_carried (KeptClash slot) lits part known = record { clause = known.clause; at = ap (λ m. maps.get m slot) carried.same ∙ known.at; falses = known.falses }
+
+  -- what is watched still is
+  pub front_carried : (lits : List Literal) → IsPart lits x.trail.lits → (d p : ℕ) → IsWatched (maps.get a) (take d lits) (take p lits) → IsWatched (maps.get b) (take d lits) (take p lits)
+  front_carried lits part d p = carried.kept (take d lits) (take p lits) (λ l h. part l (front_part d lits l h)) (λ l h. part l (front_part p lits l h))
+
+  pub history_carried : (history : History) (lits : List Literal) → IsPart lits x.trail.lits → IsHistory (maps.get a) history lits → IsHistory (maps.get b) history lits
+  history_carried history lits part = history_among (maps.get a) (maps.get b) history lits (λ d p _ _ _. front_carried lits part d p)
+
+  pub visited_carried : (n : ℕ) (lits : List Literal) → IsPart lits x.trail.lits → IsWatched (maps.get a) (take n lits) lits → IsWatched (maps.get b) (take n lits) lits
+  visited_carried n lits part = carried.kept (take n lits) lits (λ l h. part l (front_part n lits l h)) part
 
   pub reasoned_carried : (lits : List Literal) → IsPart lits x.trail.lits → AreReasoned (maps.get (each_in_order a)) r lits → AreReasoned (maps.get (each_in_order b)) s lits
   reasoned_carried lits part are =
       subst (λ m. AreReasoned (maps.get m) s lits) (sym carried.same) (reasoned_same (maps.get (each_in_order a)) r lits are s (λ l h. carried.as_before l (part l h)))
 
   -- the same literals are kept, by the same reasons
-  pub kept_carried : (roots after : Roots) (lits : List Literal) → after.kept ≡ roots.kept → ((l : Literal) → at roots.reasons l ≡ r l) → ((l : Literal) → at after.reasons l ≡ s l) → IsPart lits x.trail.lits → IsKept a roots lits → IsKept b after lits
-  kept_carried roots after lits kept_is before_is after_is part kept = record {
+  pub kept_carried : (roots after : Roots) (lits : List Literal) → after.kept ≡ roots.kept → after.history ≡ roots.history → ((l : Literal) → at roots.reasons l ≡ r l) → ((l : Literal) → at after.reasons l ≡ s l) → IsPart lits x.trail.lits → IsKept a roots lits → IsKept b after lits
+  kept_carried roots after lits kept_is history_is before_is after_is part kept = record {
     noted = record {
       each = λ k c is l member.
           ap is_some (after_is l)
@@ -113,6 +126,10 @@ module _ (a b : FinMap nat_cmp Clause) (x y : AssumptionsState) (r s : Literal �
         reasoned_same (maps.get (each_in_order b)) s lits
         (reasoned_carried lits part (reasoned_same (maps.get (each_in_order a)) (at roots.reasons) lits kept.reasoned r (λ l h. sym (before_is l)))) (at after.reasons) (λ l h. after_is l);
     known = subst (λ k. IsKnown b k lits) (sym kept_is) (known_carried roots.kept lits part kept.known);
+    history = subst (λ h. IsHistory (maps.get b) h lits) (sym history_is) (history_carried roots.history lits part kept.history);
+    visited = λ quiet.
+        subst (λ h. IsWatched (maps.get b) (take (visits h) lits) lits) (sym history_is)
+        (visited_carried (visits roots.history) lits part (kept.visited (ap has_clash (sym kept_is) ∙ quiet)));
   }
 
 -- ---- One clause more
@@ -186,6 +203,29 @@ module _ (trues more : List Literal) (m : Literal) (set : has more m ≡ true) w
   unit_alone (a ∷ []) first = ap (has more) first.1 ∙ set
   unit_alone (a ∷ b ∷ c) first = tt
 
+-- ---- Fewer literals
+
+pub kept_cut : (live : FinMap nat_cmp Clause) (roots after : Roots) (lits now : List Literal) (place : ℕ) → IsKept live roots lits → place ≤ length lits → after.kept ≡ Cut → IsRewound roots.history after.history place → after.reasons ≡ roots.reasons → now ≡ take place lits →
+    IsKept live after now
+kept_cut live roots after lits now place kept inside cut rewound reasons is = record {
+  noted = subst (λ t. AreNoted (maps.get (each_in_order live)) (at t)) (sym reasons) kept.noted;
+  reasoned = subst (λ t. AreReasoned (maps.get (each_in_order live)) (at t) now) (sym reasons)
+      (subst (AreReasoned (maps.get (each_in_order live)) (at roots.reasons)) (sym is) (reasoned_cut (maps.get (each_in_order live)) (at roots.reasons) lits kept.reasoned place));
+  known = subst (λ k. IsKnown live k now) (sym cut) tt;
+  history = subst (IsHistory (maps.get live) after.history) (sym is) (history_cut (maps.get live) roots.history after.history lits place kept.history rewound inside);
+  visited = λ quiet. subst (λ ls. IsWatched (maps.get live) (take (visits after.history) ls) ls) (sym is) (watched_cut (maps.get live) roots.history after.history lits place kept.history rewound inside);
+}
+
+-- nothing is kept any more
+pub kept_nothing : (live : FinMap nat_cmp Clause) (roots : Roots) (lits : List Literal) → AreNoted (maps.get (each_in_order live)) (at roots.reasons) → roots.kept ≡ Cut → visits roots.history ≡ 0 → lits ≡ [] → IsKept live roots lits
+kept_nothing live roots lits noted cut unseen none = record {
+  noted = noted;
+  reasoned = reasoned_none (maps.get (each_in_order live)) (at roots.reasons) lits none;
+  known = subst (λ k. IsKnown live k lits) (sym cut) tt;
+  history = history_none (maps.get live) roots.history lits unseen;
+  visited = λ quiet. watched_none (maps.get live) roots.history lits unseen;
+}
+
 -- ---- One clause fewer
 
 module _ (live : FinMap nat_cmp Clause) (slot : ℕ) where
@@ -213,21 +253,16 @@ module _ (live : FinMap nat_cmp Clause) (slot : ℕ) where
   noted_left : (reason_of : Literal → Option ℕ) → AreNoted (maps.get (each_in_order live)) reason_of → AreNoted (maps.get (each_in_order (maps.remove live slot))) reason_of
   noted_left reason_of noted = record { each = λ s d is. noted.each s d (was_seen s d is) }
 
-  -- nothing is kept any more
-  pub kept_nothing : (roots after : Roots) (lits now : List Literal) → IsKept live roots lits → after.kept ≡ Lost → after.reasons ≡ roots.reasons → now ≡ [] → IsKept (maps.remove live slot) after now
-  kept_nothing roots after lits now kept lost reasons none = record {
-    noted = subst (λ t. AreNoted (maps.get (each_in_order (maps.remove live slot))) (at t)) (sym reasons) (noted_left (at roots.reasons) kept.noted);
-    reasoned = reasoned_none (maps.get (each_in_order (maps.remove live slot))) (at after.reasons) now none;
-    known = subst (λ k. IsKnown (maps.remove live slot) k now) (sym lost) none;
-  }
+  watched_left : (done trues : List Literal) → IsWatched (maps.get live) done trues → IsWatched (maps.get (maps.remove live slot)) done trues
+  watched_left done trues watched = record { each = λ s d at_s. watched.each s d (was_there s d at_s) }
 
   -- nothing that is kept rests on it
   module _ (roots : Roots) (lits : List Literal) (kept : IsKept live roots lits) (c : Clause) (here : maps.get live slot ≡ Some c) (no_clash : roots.kept ≢ KeptClash slot)
       (no_reason : (l : Literal) → has c l ≡ true → has lits l ≡ true → at roots.reasons l ≢ Some slot) where
     still_known : (k : Kept) → roots.kept ≡ k → IsKnown live k lits → IsKnown (maps.remove live slot) k lits
-    still_known Lost is known = known
-    still_known (Behind from) is known = (known.0, record { each = λ s d at_s. known.1.each s d (was_there s d at_s) }, λ s d at_s. known.2 s d (was_there s d at_s))
-    still_known All is known = (record { each = λ s d at_s. known.0.each s d (was_there s d at_s) }, λ s d at_s. known.1 s d (was_there s d at_s))
+    still_known Cut is known = known
+    still_known Behind is known = λ s d at_s. known s d (was_there s d at_s)
+    still_known All is known = (watched_left lits lits known.0, λ s d at_s. known.1 s d (was_there s d at_s))
     still_known (KeptClash s) is known = record { clause = known.clause; at = still_seen s (λ e. no_clash (is ∙ ap KeptClash e)) known.clause known.at; falses = known.falses }
 
     pub kept_left : IsKept (maps.remove live slot) roots lits
@@ -239,4 +274,6 @@ module _ (live : FinMap nat_cmp Clause) (slot : ℕ) where
           let same = same_Some (in_order c) w.clause (sym (seen_there live slot c here) ∙ ap (maps.get (each_in_order live)) (sym e) ∙ w.at) in
           no_reason l (sym (has-in_order c l) ∙ ap (λ x. has x l) same ∙ w.member) member (is ∙ ap Some e)) d at_s);
       known = still_known roots.kept refl kept.known;
+      history = history_among (maps.get live) (maps.get (maps.remove live slot)) roots.history lits (λ d p _ _ _. watched_left (take d lits) (take p lits)) kept.history;
+      visited = λ quiet. watched_left (take (visits roots.history) lits) lits (kept.visited quiet);
     }

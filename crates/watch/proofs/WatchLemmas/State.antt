@@ -17,8 +17,10 @@ use Rattle.theory.specs.Sets.{SameSet}
 use Rattle.trail.specs.Trail.{HasRoomForAll}
 use Rattle.watch_lists.specs.Lists.{AreApart, entries_in, entries_of, foreign_blockers, list_at}
 use Rattle.watch_lists.specs.Lists.{times_in}
+use Rattle.watch.specs.Code.History.{IsHistory, visits}
 use Rattle.watch.specs.Code.Order.{each_in_order}
-use Rattle.watch.specs.Code.Roots.{AreForced, IsKept, IsKnown, IsStanding, is_up_to_date}
+use Rattle.watch.specs.Code.Roots.{AreForced, IsKept, IsKnown, IsStanding, has_clash}
+use Rattle.watch.specs.Code.Roots.{is_up_to_date}
 use Rattle.watch.specs.Code.State.{IsWatch}
 use Rattle.watch.specs.Code.Visits.{PropagatesTo, IsPart}
 use Rattle.watch.specs.Code.Watched.{AreWatched, HasEntry, IsListed, IsShortList, IsWatched}
@@ -28,7 +30,7 @@ use Rattle.watch.specs.Watched.{long_clauses, short_clauses}
 use Rattle.propagation.specs.declared.answer.Answer.{Answer}
 use Rattle.propagation.specs.declared.answer.Answer.TheVariants.{Quiet}
 use Rattle.watch_lists.specs.declared.lists.WatchLists.{WatchLists}
-use Rattle.watch.specs.declared.roots.Kept.TheVariants.{Lost}
+use Rattle.watch.specs.declared.roots.Kept.TheVariants.{Cut}
 use Rattle.watch.specs.declared.roots.Roots.{Roots}
 use Rattle.tables.specs.Table.{at}
 use Rattle.propagation.proofs.PropagationLemmas.Exact.{begins_on, longer_from}
@@ -36,10 +38,11 @@ use Rattle.trail.proofs.TrailLemmas.Longer.{has_begun}
 use Rattle.propagation.proofs.PropagationLemmas.Scan.{held_reserved}
 use Rattle.watch.proofs.WatchLemmas.Follow.{front_part}
 use Rattle.watch_lists.proofs.WatchListsLemmas.Lists.{blockers_none}
-use Rattle.watch.proofs.WatchLemmas.Kept.{kept_carried, kept_forced, roots_alone, roots_part}
+use Rattle.watch.proofs.WatchLemmas.Kept.{kept_carried, kept_forced, kept_nothing, roots_alone}
+use Rattle.watch.proofs.WatchLemmas.Kept.{roots_part}
 use Rattle.watch.proofs.WatchLemmas.Moves.{and_false, and_true}
 use Rattle.watch.proofs.WatchLemmas.Order.{ordered_empty, size-in_order, sum_ordered}
-use Rattle.watch.proofs.WatchLemmas.Reasons.{reasoned_none, reasoned_same, reasoned_some}
+use Rattle.watch.proofs.WatchLemmas.Reasons.{reasoned_same, reasoned_some}
 use Rattle.clause_db.proofs.StoreLemmas.Sums.{get_insert, get_remove, sum_insert, sum_remove}
 use Rattle.clause_db.proofs.StoreLemmas.Sums.{sum_empty}
 
@@ -77,8 +80,11 @@ same_roots before after lits_are assumptions_are starts_are =
 -- ---- One more assumption
 
 module _ (live live2 : FinMap nat_cmp Clause) (lists lists2 : WatchLists) (short : List ℕ) (roots roots2 : Roots) (before after found : AssumptionsState) (watch : IsWatch live lists short roots before)
-    (carried : PropagatesTo live live2 after found (at roots.reasons) (at roots2.reasons)) (as_known : roots2.kept ≡ roots.kept) (apart : AreApart lists2) (listed : IsListed (maps.get live2) (list_at lists2)) (entries : entries_in lists2 ≡ entries_in lists)
+    (carried : PropagatesTo live live2 after found (at roots.reasons) (at roots2.reasons)) (as_before : roots2 ≡ record roots { reasons = roots2.reasons }) (apart : AreApart lists2) (listed : IsListed (maps.get live2) (list_at lists2)) (entries : entries_in lists2 ≡ entries_in lists)
     (begins : take (length before.trail.lits) after.trail.lits ≡ before.trail.lits) where
+  as_known : roots2.kept ≡ roots.kept
+  as_known = ap (λ r. r.kept) as_before
+
   begins_found : take (length before.trail.lits) found.trail.lits ≡ before.trail.lits
   begins_found = begins_on before.trail.lits after.trail.lits found.trail.lits begins (longer_from before.trail.lits after.trail.lits begins) carried.extends.begins
 
@@ -87,7 +93,7 @@ module _ (live live2 : FinMap nat_cmp Clause) (lists lists2 : WatchLists) (short
 
   roots_below : IsKept live2 roots2 (roots_in before.trail.lits before.assumptions before.starts)
   roots_below =
-      kept_carried live live2 after found (at roots.reasons) (at roots2.reasons) carried roots roots2 (roots_in before.trail.lits before.assumptions before.starts) as_known (λ l. refl) (λ l. refl)
+      kept_carried live live2 after found (at roots.reasons) (at roots2.reasons) carried roots roots2 (roots_in before.trail.lits before.assumptions before.starts) as_known (ap (λ r. r.history) as_before) (λ l. refl) (λ l. refl)
       (λ l h. has_begun before.trail.lits after.trail.lits l begins (roots_part before.trail.lits before.assumptions before.starts l h)) watch.kept
 
   watch_with : (last : AssumptionsState) → IsHeld (each_in_order live) (AreForced (maps.get (each_in_order live))) last → AreWatched (maps.get live2) last.trail.lits last.assumptions last.starts →
@@ -155,9 +161,9 @@ watch_reserved live lists short roots before after lits_are assumptions_are star
 }
 
 -- more room for reasons
-pub watch_noted : (live : FinMap nat_cmp Clause) (lists : WatchLists) (short : List ℕ) (roots after : Roots) (held : AssumptionsState) → after.kept ≡ roots.kept →
+pub watch_noted : (live : FinMap nat_cmp Clause) (lists : WatchLists) (short : List ℕ) (roots after : Roots) (held : AssumptionsState) → after ≡ record roots { reasons = after.reasons } →
     ((l : Literal) → is_some (at roots.reasons l) ≡ true → at after.reasons l ≡ at roots.reasons l) → IsWatch live lists short roots held → IsWatch live lists short after held
-watch_noted live lists short roots after held as_known old watch = record {
+watch_noted live lists short roots after held as_before old watch = record {
   scan = watch.scan;
   apart = watch.apart;
   listed = watch.listed;
@@ -170,9 +176,13 @@ watch_noted live lists short roots after held as_known old watch = record {
     reasoned = let lits = roots_in held.trail.lits held.assumptions held.starts in
         let live_shown = maps.get (each_in_order live) in
         reasoned_same live_shown (at roots.reasons) lits watch.kept.reasoned (at after.reasons) (λ l h. old l (reasoned_some live_shown (at roots.reasons) lits watch.kept.reasoned l h));
-    known = subst (λ k. IsKnown live k (roots_in held.trail.lits held.assumptions held.starts)) (sym as_known) watch.kept.known;
+    known = subst (λ k. IsKnown live k (roots_in held.trail.lits held.assumptions held.starts)) (sym (ap (λ r. r.kept) as_before)) watch.kept.known;
+    history = subst (λ h. IsHistory (maps.get live) h (roots_in held.trail.lits held.assumptions held.starts)) (sym (ap (λ r. r.history) as_before)) watch.kept.history;
+    visited = λ quiet.
+        subst (λ h. IsWatched (maps.get live) (take (visits h) (roots_in held.trail.lits held.assumptions held.starts)) (roots_in held.trail.lits held.assumptions held.starts)) (sym (ap (λ r. r.history) as_before))
+        (watch.kept.visited (ap (λ r. has_clash r.kept) (sym as_before) ∙ quiet));
   };
-  standing = subst (λ k. IsStanding k held.assumptions) (sym as_known) watch.standing;
+  standing = subst (λ k. IsStanding k held.assumptions) (sym (ap (λ r. r.kept) as_before)) watch.standing;
 }
 
 pub watch_same : (live : FinMap nat_cmp Clause) (lists after : WatchLists) (short : List ℕ) (roots : Roots) (held : AssumptionsState) → AreApart after → ((l s : ℕ) → entries_of s (list_at after l) ≡ entries_of s (list_at lists l)) →
@@ -223,8 +233,8 @@ watch_refreshed live live2 lists lists2 short roots roots2 held held2 watch noth
 -- ---- No clauses
 
 pub watch_empty : (live : FinMap nat_cmp Clause) (lists : WatchLists) (short : List ℕ) (roots : Roots) (held : AssumptionsState) → live ≡ maps.empty → ((l : Literal) → list_at lists l ≡ []) → entries_in lists ≡ 0 → AreApart lists → short ≡ [] →
-    roots.kept ≡ Lost → held.trail.lits ≡ [] → held.assumptions ≡ [] → IsWatch live lists short roots held
-watch_empty live lists short roots held none empty no_entries apart no_short lost unset nothing =
+    roots.kept ≡ Cut → roots.history.visited.items ≡ [] → held.trail.lits ≡ [] → held.assumptions ≡ [] → IsWatch live lists short roots held
+watch_empty live lists short roots held none empty no_entries apart no_short cut unseen unset nothing =
     let gone = λ (s : ℕ). ap (λ m. maps.get m s) none ∙ maps.get-empty nat_cmp s in
     let gone_shown = λ (s : ℕ). ap (λ m. maps.get m s) (ap each_in_order none ∙ ordered_empty) ∙ maps.get-empty nat_cmp s in
     watch_alone live lists short roots held nothing (record { each = λ k c here. absurd (none-some c (sym (gone_shown k) ∙ here)) }) apart
@@ -235,11 +245,7 @@ watch_empty live lists short roots held none empty no_entries apart no_short los
     })
     (record { listed = λ s. ap (times_in s) no_short ∙ sym (ap short_for (gone s)) }) (no_entries ∙ sym (ap (λ n. 2 * n) (ap long_clauses none ∙ sum_empty (λ c. cond (nat_le 2 (size c)) 1 0))))
     (ap length no_short ∙ sym (ap short_clauses none ∙ sum_empty (λ c. cond (nat_le 2 (size c)) 0 1)))
-    (record {
-      noted = record { each = λ s c here. absurd (none-some c (sym (gone_shown s) ∙ here)) };
-      reasoned = reasoned_none (maps.get (each_in_order live)) (at roots.reasons) held.trail.lits unset;
-      known = subst (λ k. IsKnown live k held.trail.lits) (sym lost) unset;
-    })
+    (kept_nothing live roots held.trail.lits (record { each = λ s c here. absurd (none-some c (sym (gone_shown s) ∙ here)) }) cut (ap length unseen) unset)
 
 -- ---- One clause more or less, where nothing is assumed
 

@@ -11,9 +11,10 @@ use Rattle.theory.specs.Propagation.{Live, Forced}
 use Rattle.trail.specs.declared.left.Left.TheVariants.{Nothing, One, More}
 use Rattle.trail.specs.declared.left.Left.{Left}
 use Rattle.propagation.specs.Assumptions.{HasAt, Assumption}
+use Rattle.watch.specs.Code.History.{IsHistory, visits}
 use Rattle.watch.specs.Code.Order.{each_in_order}
 use Rattle.watch.specs.Code.Watched.{HasUnit, IsWatched}
-use Rattle.watch.specs.declared.roots.Kept.TheVariants.{Lost, Behind, All, Clash}
+use Rattle.watch.specs.declared.roots.Kept.TheVariants.{Cut, Behind, All, Clash}
 use Rattle.watch.specs.declared.roots.Kept.{Kept}
 use Rattle.watch.specs.declared.roots.Roots.{Roots}
 
@@ -26,12 +27,14 @@ FollowsReasons live reason_of lits passes =
     live s ≡ Some c →
     ((k : Literal) → IsTrue (has c k) → k ≢ l → IsTrue (passes (complement k))) → IsTrue (passes l)
 
--- the literals follow from their reasons alone, of which each has its literal
+-- the literals follow from their reasons alone, and the first of them do without the others; each
+-- reason has its literal
 pub record AreReasoned (live : Live) (reason_of : Literal → Option ℕ) (lits : List Literal)
     : Type 0 where
   pub has_it : (l : Literal) (s : ℕ) → IsTrue (has lits l) → reason_of l ≡ Some s → HasAt live l s
-  pub in_each : (passes : Literal → Bool) → FollowsReasons live reason_of lits passes →
-      (l : Literal) → IsTrue (has lits l) → IsTrue (passes l)
+  pub in_each : (n : ℕ) (passes : Literal → Bool) →
+      FollowsReasons live reason_of (take n lits) passes →
+      (l : Literal) → IsTrue (has (take n lits) l) → IsTrue (passes l)
 
 -- there is room for the reasons of the clause's literals
 abbrev pub HasReasons : Clause → (Literal → Option ℕ) → Type 0
@@ -54,40 +57,42 @@ HaveUnits live trues = (s : ℕ) (c : Clause) → live s ≡ Some c → HasUnit 
 
 -- what is said of the literals that are kept is so
 abbrev pub IsKnown : FinMap nat_cmp Clause → Kept → List Literal → Type 0
-IsKnown live Lost roots = roots ≡ []
-IsKnown live (Behind from) roots =
-    (from ≤ length roots) × IsWatched (maps.get live) (take from roots) roots
-    × HaveUnits (maps.get live) roots
+IsKnown live Cut roots = ⊤
+IsKnown live Behind roots = HaveUnits (maps.get live) roots
 IsKnown live All roots = IsWatched (maps.get live) roots roots × HaveUnits (maps.get live) roots
 IsKnown live (Clash slot) roots = IsFalseAt (maps.get (each_in_order live)) slot roots
 
 -- whether all that follows with nothing assumed is kept, or a clash
 abbrev pub is_up_to_date : Kept → Bool
-is_up_to_date Lost = false
-is_up_to_date (Behind from) = false
+is_up_to_date Cut = false
+is_up_to_date Behind = false
 is_up_to_date All = true
 is_up_to_date (Clash slot) = true
 
 -- whether a clash is kept
 abbrev pub has_clash : Kept → Bool
-has_clash Lost = false
-has_clash (Behind from) = false
+has_clash Cut = false
+has_clash Behind = false
 has_clash All = false
 has_clash (Clash slot) = true
 
--- whether anything is kept
-abbrev pub is_lost : Kept → Bool
-is_lost Lost = true
-is_lost (Behind from) = false
-is_lost All = false
-is_lost (Clash slot) = false
+-- whether literals of unit clauses may be missing
+abbrev pub is_cut : Kept → Bool
+is_cut Cut = true
+is_cut Behind = false
+is_cut All = false
+is_cut (Clash slot) = false
 
--- the kept literals follow from their reasons, and what is said of them is so
+-- the kept literals follow from their reasons, what is said of them is so, and those that were
+-- visited are propagated, unless a clash was found
 pub record IsKept (live : FinMap nat_cmp Clause) (roots : Roots) (lits : List Literal)
     : Type 0 where
   pub noted : AreNoted (maps.get (each_in_order live)) (at roots.reasons)
   pub reasoned : AreReasoned (maps.get (each_in_order live)) (at roots.reasons) lits
   pub known : IsKnown live roots.kept lits
+  pub history : IsHistory (maps.get live) roots.history lits
+  pub visited : has_clash roots.kept ≡ false →
+      IsWatched (maps.get live) (take (visits roots.history) lits) lits
 
 -- all of them follow with nothing assumed
 abbrev pub AreForced : Live → List Literal → Type 0

@@ -2,9 +2,9 @@ use Rattle.std.proofs.Common.{◌/◌, sym, ◌∙◌, subst}
 use Rattle.std.specs.FinMap as maps
 use Rattle.tables.specs.Table.{at}
 use Rattle.watch.specs.Code.Order.{each_in_order}
-use Rattle.watch.specs.Code.Roots.{IsKept}
-use Rattle.watch.proofs.WatchLemmas.Kept.{noted_carried, nothing_stands}
-use Rattle.watch.proofs.WatchLemmas.Reasons.{reasoned_none}
+use Rattle.watch.specs.Code.Roots.{AreNoted}
+use Rattle.watch.proofs.WatchLemmas.History.{rewound_none}
+use Rattle.watch.proofs.WatchLemmas.Kept.{kept_nothing, noted_carried, nothing_stands}
 use Rattle.watch.proofs.WatchLemmas.State.{watch_refreshed}
 use Rattle.watch.proofs.refresh.refresh.Goals as goal
 
@@ -27,11 +27,9 @@ returns-in-Err-clause-watch c =
     let roots = c.catch_up.new.roots in
     let e = c.catch_up.ensures.followed in
     let p = e.propagates in
-    let none = c.forget.ensures.lits in
-    watch_refreshed c.args.store.now.live after c.args.lists.now c.catch_up.new.lists c.args.short.now c.args.roots.now c.forget.new.self c.args.assumptions.now c.forget.new.assumptions c.requires.watch c.forget.ensures.assumptions
-    (λ v. c.forget.ensures.reserved v ∙ p.extends.reserved v ∙ c.start.ensures.reserved v) p.same p.short e.apart e.listed e.entries
-    (subst (λ r. IsKept after r c.forget.new.assumptions.trail.lits) (sym c.forget.ensures.roots) (record {
-      noted = noted_carried c.args.store.now.live after c.start.new.assumptions c.catch_up.new.assumptions (at c.start.new.roots.reasons) (at roots.reasons) p c.start.ensures.kept.noted;
-      reasoned = reasoned_none (maps.get (each_in_order after)) (at roots.reasons) c.forget.new.assumptions.trail.lits none;
-      known = none;
-    }))
+    let u = c.cut.ensures in
+    watch_refreshed c.args.store.now.live after c.args.lists.now c.catch_up.new.lists c.args.short.now c.args.roots.now c.cut.new.self c.args.assumptions.now c.cut.new.assumptions c.requires.watch u.assumptions
+    (λ v. u.reserved v ∙ p.extends.reserved v ∙ c.start.ensures.reserved v) p.same p.short e.apart e.listed e.entries
+    (kept_nothing after c.cut.new.self c.cut.new.assumptions.trail.lits
+    (subst (λ t. AreNoted (maps.get (each_in_order after)) (at t)) (sym u.reasons)
+    (noted_carried c.args.store.now.live after c.start.new.assumptions c.catch_up.new.assumptions (at c.start.new.roots.reasons) (at roots.reasons) p c.start.ensures.kept.noted)) u.kept (rewound_none u.history) u.lits)

@@ -1,15 +1,24 @@
-use Rattle.std.proofs.Common.{Some, sym, ap, ◌∙◌}
+use Rattle.std.proofs.Common.{Some, ◌≤◌}
+use Rattle.std.proofs.Common.{length}
+use Rattle.std.proofs.Common.{sym, ap, ◌∙◌, subst}
 use Rattle.cnf_base.specs.Literals.{has}
 use Rattle.watch.specs.declared.roots.Kept.TheVariants.{Clash}
-use Rattle.watch.proofs.WatchLemmas.Kept.{kept_left, kept_nothing}
+use Rattle.watch.proofs.WatchLemmas.Kept.{kept_cut, kept_left}
 use Rattle.watch.proofs.roots.Roots.leave.Goals as goal
 
-pub returns-then-rests_on-clause-kept : goal.returns-then-rests_on-clause-kept
-returns-then-rests_on-clause-kept c =
-    kept_nothing c.args.store.now.live c.args.slot c.args.self.now c.forget.new.self c.args.assumptions.now.trail.lits c.forget.new.assumptions.trail.lits c.requires.kept (ap (λ r. r.kept) c.forget.ensures.roots) (ap (λ r. r.reasons) c.forget.ensures.roots) c.forget.ensures.lits
+pub loop-place-preserved : goal.loop-place-preserved
+loop-place-preserved c =
+    let so_far = c.loop-place.invariant in
+    let e = c.cut.ensures in
+    record {
+      kept = kept_cut c.args.store.now.live c.loop-place.self c.cut.new.self c.loop-place.assumptions.trail.lits c.cut.new.assumptions.trail.lits c.in-Some.place so_far.kept (subst (λ t. c.in-Some.place ≤ length t.lits) c.trail.ensures c.in-Some.ensures.inside) e.kept e.history e.reasons e.lits;
+      reserved = λ v. e.reserved v ∙ so_far.reserved v;
+      assumptions = e.assumptions;
+      starts = e.starts ∙ so_far.starts;
+    }
 
-pub returns-else-rests_on-clause-kept : goal.returns-else-rests_on-clause-kept
-returns-else-rests_on-clause-kept c =
-    kept_left c.args.store.now.live c.args.slot c.args.self.now c.args.assumptions.now.trail.lits c.requires.kept c.clause.result.now (sym c.clause.ensures.clause)
-    (λ e. c.rests_on.ensures.clash c.if-rests_on.false (e ∙ ap Clash (sym c.number.ensures)))
-    (λ l there member e. c.rests_on.ensures.reasons c.if-rests_on.false l there (ap (λ t. has t.lits l) c.trail.ensures ∙ member) (e ∙ ap Some (sym c.number.ensures)))
+pub returns-clause-kept : goal.returns-clause-kept
+returns-clause-kept c =
+    kept_left c.args.store.now.live c.args.slot c.loop-place.self c.loop-place.assumptions.trail.lits c.loop-place.invariant.kept c.clause-clause.result.now (sym c.clause-clause.ensures.clause)
+    (λ e. c.in_default.ensures.clash (e ∙ ap Clash (sym c.number.ensures)))
+    (λ l there member e. c.in_default.ensures.reasons l there (ap (λ t. has t.lits l) c.trail.ensures ∙ member) (e ∙ ap Some (sym c.number.ensures)))

@@ -5,7 +5,7 @@ use Rattle.watch.proofs.roots.Roots.reserve.Given as goal
 
 abbrev pub invariant-loop-l : goal.invariant-loop-l
 invariant-loop-l l = record {
-  kept : l.self.kept ≡ l.fn.self.kept;
+  kept : l.self ≡ record l.fn.self { reasons = l.self.reasons };
   old : (x : Literal) → IsSome (at l.fn.self.reasons x) →
       at l.self.reasons x ≡ at l.fn.self.reasons x;
   room : (x : Literal) → has (take l.l-index l.clause) x ≡ true → IsSome (at l.self.reasons x);

@@ -1,7 +1,7 @@
 use Rattle.std.proofs.Common.{◌≡◌, ◌≢◌, true, Some, take}
 use Rattle.cnf_base.specs.Literals.{Literal, has}
 use Rattle.tables.specs.Table.{at}
-use Rattle.watch.proofs.roots.has_reason.Given as goal
+use Rattle.watch.proofs.roots.made_true_by.Given as goal
 
 abbrev pub invariant-loop-l : goal.invariant-loop-l
 invariant-loop-l l =

@@ -1,0 +1,65 @@
+-- What is kept where more follows.
+use Rattle.std.proofs.Common.{◌≡◌, ℕ, ◌+◌, ◌<◌, ◌≤◌, false, Option, Some, ◌∷◌, ◌++◌, []}
+use Rattle.std.proofs.Common.{length, take, get_or, sym, ap, ◌∙◌, subst, arith}
+use Rattle.std.specs.Ordering.{nat_cmp}
+use Rattle.std.specs.FinMap as maps
+use Rattle.std.specs.FinMap.{FinMap}
+use Rattle.std.proofs.lemmas.List.{take-take, take_more}
+use Rattle.cnf_base.specs.Literals.{Literal, complement, Clause, has}
+use Rattle.tables.specs.Table.{at}
+use Rattle.propagation.specs.Assumptions.{AssumptionsState}
+use Rattle.watch.specs.Code.History.{IsHistory, visits}
+use Rattle.watch.specs.Code.Roots.{AreReasoned, IsKept, IsKnown, has_clash}
+use Rattle.watch.specs.Code.Visits.{PropagatesTo, IsPart}
+use Rattle.watch.specs.Code.Watched.{IsMet, IsWatched}
+use Rattle.watch.specs.declared.history.History.{History}
+use Rattle.watch.specs.declared.roots.Roots.{Roots}
+use Rattle.trail.proofs.TrailLemmas.Longer.{has_begun}
+use Rattle.watch.proofs.WatchLemmas.Follow.{watched_done, watched_grown, watched_more}
+use Rattle.watch.proofs.WatchLemmas.History.{history_longer, watched_part}
+use Rattle.watch.proofs.WatchLemmas.Kept.{history_carried, noted_carried, visited_carried}
+
+module _ (a b : FinMap nat_cmp Clause) (x y : AssumptionsState) (r s : Literal → Option ℕ) (carried : PropagatesTo a b x y r s) where
+  more : IsPart x.trail.lits y.trail.lits
+  more l h = has_begun x.trail.lits y.trail.lits l carried.extends.begins h
+
+  front : (n : ℕ) → n ≤ length x.trail.lits → take n y.trail.lits ≡ take n x.trail.lits
+  front n low = sym (take-take n (length x.trail.lits) y.trail.lits low) ∙ ap (take n) carried.extends.begins
+
+  pub visited_grown : (n : ℕ) → n ≤ length x.trail.lits → IsWatched (maps.get a) (take n x.trail.lits) x.trail.lits → IsWatched (maps.get b) (take n y.trail.lits) y.trail.lits
+  visited_grown n low watched =
+      watched_part (maps.get b) (take n x.trail.lits) (take n y.trail.lits) x.trail.lits y.trail.lits (λ l h. ap (λ ls. has ls l) (sym (front n low)) ∙ h) more
+      (visited_carried a b x y r s carried n x.trail.lits (λ l h. h) watched)
+
+  pub history_grown : (history : History) (n : ℕ) → visits history ≤ n + 1 → IsWatched (maps.get a) (take n x.trail.lits) x.trail.lits → IsHistory (maps.get a) history x.trail.lits → IsHistory (maps.get b) history y.trail.lits
+  history_grown history n all watched is =
+      history_longer (maps.get b) history x.trail.lits y.trail.lits n carried.extends.begins carried.extends.longer all (visited_carried a b x y r s carried n x.trail.lits (λ l h. h) watched)
+      (history_carried a b x y r s carried history x.trail.lits (λ l h. h) is)
+
+  -- one more literal was visited
+  pub visited_more : (done : ℕ) → done < length x.trail.lits → IsWatched (maps.get a) (take done x.trail.lits) x.trail.lits →
+      ((k : ℕ) (c : Clause) → maps.get b k ≡ Some c → IsMet c (complement (get_or x.trail.lits done 0)) y.trail.lits) → IsWatched (maps.get b) (take (done + 1) y.trail.lits) y.trail.lits
+  visited_more done inside watched met =
+      watched_done (maps.get b) (take done x.trail.lits ++ get_or x.trail.lits done 0 ∷ []) (take (done + 1) y.trail.lits) y.trail.lits (front (done + 1) (omega (arith, inside)) ∙ take_more x.trail.lits done 0 inside)
+      (watched_more (maps.get b) (take done x.trail.lits) y.trail.lits (get_or x.trail.lits done 0)
+      (watched_grown (maps.get b) (take done x.trail.lits) x.trail.lits y.trail.lits more (visited_carried a b x y r s carried done x.trail.lits (λ l h. h) watched)) met)
+
+-- what was kept still is, and what follows from it, where the rest is so
+pub kept_grown : (a b : FinMap nat_cmp Clause) (x y : AssumptionsState) (roots now : Roots) → PropagatesTo a b x y (at roots.reasons) (at now.reasons) → IsKept a roots x.trail.lits → IsKnown b now.kept y.trail.lits →
+    IsHistory (maps.get b) now.history y.trail.lits → (has_clash now.kept ≡ false → IsWatched (maps.get b) (take (visits now.history) y.trail.lits) y.trail.lits) → IsKept b now y.trail.lits
+kept_grown a b x y roots now carried kept known history visited = record {
+  noted = noted_carried a b x y (at roots.reasons) (at now.reasons) carried kept.noted;
+  reasoned = subst (λ m. AreReasoned (maps.get m) (at now.reasons) y.trail.lits) (sym carried.same) (carried.reasoned kept.reasoned);
+  known = known;
+  history = history;
+  visited = visited;
+}
+
+-- the literals of unit clauses are kept too, or a clash of theirs
+pub kept_started : (live : FinMap nat_cmp Clause) (x y : AssumptionsState) (roots now : Roots) → PropagatesTo live live x y (at roots.reasons) (at now.reasons) → IsKept live roots x.trail.lits → has_clash roots.kept ≡ false → now.history ≡ roots.history →
+    IsKnown live now.kept y.trail.lits → IsKept live now y.trail.lits
+kept_started live x y roots now carried kept quiet same known =
+    let watched = kept.visited quiet in
+    kept_grown live live x y roots now carried kept known
+    (subst (λ h. IsHistory (maps.get live) h y.trail.lits) (sym same) (history_grown live live x y (at roots.reasons) (at now.reasons) carried roots.history (visits roots.history) (omega arith) watched kept.history))
+    (λ _. subst (λ h. IsWatched (maps.get live) (take (visits h) y.trail.lits) y.trail.lits) (sym same) (visited_grown live live x y (at roots.reasons) (at now.reasons) carried (visits roots.history) kept.history.inside watched))

@@ -1,0 +1,22 @@
+use Rattle.std.proofs.Common.{◌≡◌, ◌-◌, length, take}
+use Rattle.std.specs.FinMap as maps
+use Rattle.tables.specs.Table.{at}
+use Rattle.watch.specs.Code.History.{IsHistory, visits}
+use Rattle.watch.specs.Code.Visits.{Followed}
+use Rattle.watch.specs.Code.Watched.{IsWatched}
+use Rattle.watch.proofs.refresh.catch_up.Given as goal
+
+abbrev pub invariant-loop-done : goal.invariant-loop-done
+invariant-loop-done l = record {
+  count : visits l.roots.history ≡ l.done;
+  history : IsHistory (maps.get l.store.live) l.roots.history l.assumptions.trail.lits;
+  watched :
+      IsWatched (maps.get l.store.live)
+      (take l.done l.assumptions.trail.lits) l.assumptions.trail.lits;
+  followed :
+      Followed l.fn.store.live l.store.live l.fn.lists l.lists l.fn.assumptions l.assumptions
+      (at l.fn.roots.reasons) (at l.roots.reasons);
+}
+
+abbrev pub decreases-loop-done : goal.decreases-loop-done
+decreases-loop-done l = length l.fn.assumptions.trail.reserved - l.done

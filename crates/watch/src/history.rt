@@ -1,0 +1,75 @@
+//! When the literals that are true with nothing assumed were propagated.
+
+ghost use Rattle.std.specs.Prelude.{◌≡◌, ◌++◌, ◌∷◌, [], true, OnOk, if◌then◌else◌};
+ghost use Rattle.watch.specs.Code.History.{IsRewound, visits};
+
+use cnf_base::OutOfMemory;
+use std::alloc::Global;
+
+/// The visits of the literals that are kept, in the order of these. Without it, a lost literal
+/// would take all with it: those before it stay true, but a clause that was visited after it was
+/// set can watch literals that were not false only with it.
+#[derive(Drop)]
+pub(crate) struct History {
+    /// For each visit how many literals were true when it began.
+    pub(crate) visited: Vec<usize>,
+    /// Of a cut to so many literals, or to fewer, it says nothing.
+    pub(crate) floor: usize,
+}
+
+impl History {
+    /// No visit was made.
+    pub(crate) fn new(alloc: Global) -> Self
+        ensures { result.visited.items ≡ [] }
+    {
+        History {
+            visited: Vec::new(alloc),
+            floor: 0,
+        }
+    }
+
+    /// How many visits were made.
+    pub(crate) fn len(&self) -> usize
+        ensures { result ≡ visits self.now }
+    {
+        self.visited.len()
+    }
+
+    /// The next visit begins, where so many literals are true.
+    pub(crate) fn begin(&mut self, trues: usize) -> Result<(), OutOfMemory>
+        ensures visited { OnOk result (self.new.visited.items ≡
+            self.old.visited.items ++ trues ∷ []) }
+        ensures floor { OnOk result (self.new.floor ≡ self.old.floor) }
+    {
+        self.visited.push(trues)?;
+        Ok(())
+    }
+
+    /// A clause was added where so many literals were true, all but one of it false at least. If it
+    /// watches, then what it watches may have become false at any place.
+    pub(crate) fn enter(&mut self, is_long: bool, trues: usize)
+        ensures visited { self.new.visited ≡ self.old.visited }
+        ensures floor { self.new.floor ≡ (if is_long then trues else self.old.floor) }
+    {
+        if is_long {
+            self.floor = trues;
+        }
+    }
+
+    /// So many literals are kept. The last visit that began with no more of them was still under
+    /// way when the next was set: it and all after it are to be made again. It takes no memory.
+    pub(crate) fn rewind(&mut self, place: usize)
+        ensures { IsRewound self.old self.new place }
+    {
+        if place <= self.floor {
+            self.visited.clear();
+            self.floor = 0;
+            return;
+        }
+        while let Some(trues) = self.visited.pop() {
+            if trues <= place {
+                return;
+            }
+        }
+    }
+}
