@@ -1,4 +1,5 @@
 -- Watch lists.
+pub mod Cursor
 pub mod Lists
 pub mod Results
 pub mod SlotList

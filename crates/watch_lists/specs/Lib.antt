@@ -1,2 +1,3 @@
+pub mod Cursor
 pub mod Lists
 pub mod Code

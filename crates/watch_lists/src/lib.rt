@@ -1,10 +1,12 @@
 //! Watch lists: by literal the entries of the clauses that watch it.
 #![tactic(auto)]
 
+mod cursor;
 mod lists;
 mod slot_list;
 mod watcher;
 
+pub use cursor::Cursor;
 pub use lists::WatchLists;
 pub use slot_list::SlotList;
 pub use watcher::Watcher;
