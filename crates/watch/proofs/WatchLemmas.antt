@@ -10,6 +10,7 @@ pub mod History
 pub mod Units
 pub mod Entries
 pub mod Closed
+pub mod Cursor
 pub mod Kept
 pub mod CatchUp
 pub mod Visited

@@ -1,17 +1,17 @@
 //! The watch list of a literal that became false.
 
-ghost use Rattle.std.specs.Prelude.{◌≡◌, ℕ, ◌<◌, ◌≤◌, length, take, List, Option, Some};
-ghost use Rattle.std.specs.Prelude.{IsTrue, IsFalse, IfOk, IfSome, IfNone};
+ghost use Rattle.std.specs.Prelude.{◌≡◌, ◌≢◌, ℕ, ◌+◌, ◌≤◌, length, take, slice_get, Option, Some};
+ghost use Rattle.std.specs.Prelude.{IsTrue, IsFalse, IfOk, IfSome, IfNone, OnOk};
+ghost use Rattle.std.specs.List.{remove};
 ghost use Rattle.std.specs.FinMap as maps;
 ghost use Rattle.cnf_base.specs.Literals.{Clause, Literal, complement, has};
 ghost use Rattle.theory.specs.Sets.{conflicts};
 ghost use Rattle.propagation.specs.Assumptions.{AssumptionsState};
-ghost use Rattle.watch_lists.specs.Lists.{slot_at};
 ghost use Rattle.watch.specs.Code.Order.{each_in_order};
 ghost use Rattle.watch.specs.Code.Watched.{IsMet, IsWatched};
 ghost use Rattle.watch.specs.Code.Roots.{IsFalseAt};
-ghost use Rattle.watch.specs.Code.Visits.{CanFollow, CanVisit, Followed, IsExchangeAt, IsInHand};
-ghost use Rattle.watch.specs.Code.Visits.{IsVisited, Visited};
+ghost use Rattle.watch.specs.Code.Visits.{AreMet, CanFollow, CanVisit, Followed, IsExchangeAt};
+ghost use Rattle.watch.specs.Code.Visits.{IsInHand, IsNextSlot, Visited, entries_left};
 ghost use Rattle.tables.specs.Table.{at};
 
 use crate::roots::set_by;
@@ -20,30 +20,32 @@ use clause_db::{Slot, Store};
 use cnf_base::{Lit, OutOfMemory};
 use propagation::Assumptions;
 use tables::Table;
-use watch_lists::{WatchLists, Watcher};
+use watch_lists::{Cursor, WatchLists, Watcher};
 
-/// Lets the clause of an entry watch another literal instead of `l`, whose list is in hand and
-/// loses the entry.
+/// Lets the clause of the next entry watch another literal instead of `l`, whose list is in hand
+/// and loses the entry.
 #[inline(always)]
 fn move_watch(
     store: &mut Store,
     lists: &mut WatchLists,
-    list: &mut Vec<Watcher>,
-    place: usize,
+    cursor: &mut Cursor,
+    slot: u32,
     l: Lit,
     exchange: Exchange,
-) -> Result<Next, OutOfMemory>
-    requires inside { place < length list.old.items }
-    requires hand { IsInHand store.old.live lists.old list.old.items l }
-    requires exchange { IsExchangeAt store.old.live (slot_at list.old.items place) l exchange }
+) -> Result<(), OutOfMemory>
+    requires next { IsNextSlot cursor.old slot }
+    requires hand { IsInHand store.old.live lists.old cursor.old.entries l }
+    requires exchange { IsExchangeAt store.old.live slot l exchange }
     ensures visited { (held : AssumptionsState) (reason_of : Literal → Option ℕ) →
         IsFalse (has held.trail.lits (complement exchange.next)) →
-        Visited store.old.live store.new.live lists.old lists.new list.old.items list.new.items
-        held held reason_of reason_of l }
-    ensures clause { (trues : List Literal) →
-        IsVisited store.old.live store.new.live list.old.items list.new.items place l trues result }
+        Visited store.old.live store.new.live lists.old lists.new cursor.old.entries
+        cursor.new.entries held held reason_of reason_of l }
+    ensures taken { OnOk result (cursor.new ≡ record cursor.old {
+      entries = remove cursor.old.entries cursor.old.visited;
+    }) }
+    ensures others { (s : ℕ) → s ≢ slot →
+        maps.get store.new.live s ≡ maps.get store.old.live s }
 {
-    let slot = list[place].slot;
     let at = Slot::at(slot as usize);
     // Before anything else is written, what was read of the clause need not be read again.
     store.swap(at, exchange.from, exchange.to);
@@ -53,8 +55,8 @@ fn move_watch(
     };
     match lists.push(exchange.next, watcher) {
         Ok(()) => {
-            list.swap_remove(place);
-            Ok(Next::Here)
+            cursor.take_out();
+            Ok(())
         }
         Err(refused) => {
             store.swap(at, exchange.to, exchange.from);
@@ -63,52 +65,51 @@ fn move_watch(
     }
 }
 
-/// What comes after a visit.
-#[derive(Clone, Copy)]
-enum Next {
-    /// The place after it.
-    Further,
-    /// The same place, at which another entry stands.
-    Here,
-    /// Nothing: all literals of the clause in this slot are false.
-    Nothing(u32),
-}
-
-/// Visits the clause of an entry in the list of a literal that became false, if it is not known to
-/// have a true literal.
+/// Visits the clause of the next entry in the list of a literal that became false. Its slot is the
+/// result where all its literals are false.
+#[inline(always)]
 fn visit(
     store: &mut Store,
     lists: &mut WatchLists,
     assumptions: &mut Assumptions,
     reasons: &mut Table<u32>,
-    list: &mut Vec<Watcher>,
-    place: usize,
+    cursor: &mut Cursor,
+    entry: Watcher,
     l: Lit,
-) -> Result<Next, OutOfMemory>
-    requires inside { place < length list.old.items }
-    requires can { CanVisit store.old.live lists.old list.old.items assumptions.old
+) -> Result<Option<u32>, OutOfMemory>
+    requires next { slice_get cursor.old.entries cursor.old.visited ≡ Some entry }
+    requires can { CanVisit store.old.live lists.old cursor.old.entries assumptions.old
         (at reasons.old) l }
-    ensures visited { Visited store.old.live store.new.live lists.old lists.new list.old.items
-        list.new.items assumptions.old assumptions.new (at reasons.old) (at reasons.new) l }
-    ensures clause { IsVisited store.old.live store.new.live list.old.items list.new.items place l
-        assumptions.new.trail.lits result }
+    requires met { AreMet store.old.live cursor.old l assumptions.old.trail.lits }
+    ensures visited { Visited store.old.live store.new.live lists.old lists.new
+        cursor.old.entries cursor.new.entries assumptions.old assumptions.new
+        (at reasons.old) (at reasons.new) l }
+    ensures clash { IfOk result (λ found. IfSome found (λ s.
+        IsFalseAt (maps.get (each_in_order store.new.live)) s assumptions.new.trail.lits)) }
+    ensures met { IfOk result (λ found. IfNone found
+        (AreMet store.new.live cursor.new l assumptions.new.trail.lits)) }
+    ensures fewer { IfOk result (λ found. IfNone found
+        (entries_left cursor.new + 1 ≡ entries_left cursor.old)) }
 {
-    if assumptions.trail().is_true(list[place].blocking) {
-        return Ok(Next::Further);
-    }
-    let slot = list[place].slot;
-    let at = Slot::at(slot as usize);
+    let at = Slot::at(entry.slot as usize);
     match look(assumptions.trail(), store.clause(at), l) {
         Visit::Stays(blocking) => {
-            list[place] = Watcher { slot, blocking };
-            Ok(Next::Further)
+            cursor.keep(Watcher {
+                slot: entry.slot,
+                blocking,
+            });
+            Ok(None)
         }
-        Visit::Moves(exchange) => move_watch(store, lists, list, place, l, exchange),
+        Visit::Moves(exchange) => {
+            move_watch(store, lists, cursor, entry.slot, l, exchange)?;
+            Ok(None)
+        }
         Visit::Unit(m) => {
-            set_by(assumptions, reasons, m, slot);
-            Ok(Next::Further)
+            set_by(assumptions, reasons, m, entry.slot);
+            cursor.keep(entry);
+            Ok(None)
         }
-        Visit::Clash => Ok(Next::Nothing(slot)),
+        Visit::Clash => Ok(Some(entry.slot)),
     }
 }
 
@@ -119,24 +120,23 @@ fn visit_all(
     lists: &mut WatchLists,
     assumptions: &mut Assumptions,
     reasons: &mut Table<u32>,
-    list: &mut Vec<Watcher>,
+    cursor: &mut Cursor,
     l: Lit,
 ) -> Result<Option<u32>, OutOfMemory>
-    requires can { CanVisit store.old.live lists.old list.old.items assumptions.old
+    requires front { cursor.old.visited ≡ 0 }
+    requires can { CanVisit store.old.live lists.old cursor.old.entries assumptions.old
         (at reasons.old) l }
     ensures clash { IfOk result (λ found. IfSome found (λ s.
         IsFalseAt (maps.get (each_in_order store.new.live)) s assumptions.new.trail.lits)) }
     ensures met { IfOk result (λ found. IfNone found ((s : ℕ) (c : Clause) →
         maps.get store.new.live s ≡ Some c → IsMet c l assumptions.new.trail.lits)) }
-    ensures visited { Visited store.old.live store.new.live lists.old lists.new list.old.items
-        list.new.items assumptions.old assumptions.new (at reasons.old) (at reasons.new) l }
+    ensures visited { Visited store.old.live store.new.live lists.old lists.new
+        cursor.old.entries cursor.new.entries assumptions.old assumptions.new
+        (at reasons.old) (at reasons.new) l }
 {
-    let mut place = 0;
-    while place < list.len() {
-        match visit(store, lists, assumptions, reasons, list, place, l)? {
-            Next::Further => place += 1,
-            Next::Here => {}
-            Next::Nothing(slot) => return Ok(Some(slot)),
+    while let Some(entry) = cursor.next(assumptions.trail()) {
+        if let Some(slot) = visit(store, lists, assumptions, reasons, cursor, entry, l)? {
+            return Ok(Some(slot));
         }
     }
     Ok(None)
@@ -162,9 +162,9 @@ pub(crate) fn follow(
     if !lists.has_list(l) {
         return Ok(None);
     }
-    let mut list = lists.take_out(l);
-    let found = visit_all(store, lists, assumptions, reasons, &mut list, l);
-    lists.put_back(l, list);
+    let mut cursor = Cursor::over(lists.take_out(l));
+    let found = visit_all(store, lists, assumptions, reasons, &mut cursor, l);
+    lists.put_back(l, cursor.into_list());
     found
 }
 

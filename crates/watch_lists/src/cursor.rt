@@ -58,6 +58,7 @@ impl Cursor {
         ensures passed { (place : ℕ) (w : Watcher) → self.old.visited ≤ place →
             place < self.new.visited → slice_get self.new.entries place ≡ Some w →
             IsTrue (has trail.now.lits w.blocking) }
+        ensures inside { self.new.visited ≤ length self.new.entries }
         ensures next { result ≡ slice_get self.new.entries self.new.visited }
     {
         while self.next < self.list.len() {
@@ -90,7 +91,7 @@ impl Cursor {
         ensures entries { self.new.entries ≡ remove self.old.entries self.old.visited }
         ensures visited { self.new.visited ≡ self.old.visited }
     {
-        self.next += 1;
+        self.next += 1; // into_list closes the gap
     }
 
     /// The list.

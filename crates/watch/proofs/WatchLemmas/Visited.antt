@@ -1,6 +1,6 @@
 -- Visits, one after the other.
 use Rattle.std.proofs.Common.{◌≡◌, ℕ, ◌/◌, true, Option, Some, is_some, List, refl, sym}
-use Rattle.std.proofs.Common.{ap, ◌∙◌}
+use Rattle.std.proofs.Common.{ap, ◌∙◌, subst}
 use Rattle.std.specs.Ordering.{nat_cmp}
 use Rattle.std.specs.FinMap as maps
 use Rattle.std.specs.FinMap.{FinMap}
@@ -68,3 +68,6 @@ module _ {a b : FinMap nat_cmp Clause} {lists lists_b : WatchLists} {list list_b
     entries = second.entries ∙ first.entries;
     propagates = propagates_on a b c x y z r s t first.propagates second.propagates;
   }
+
+  pub visited_with : {list_c : List Watcher} → list_c ≡ list_b → Visited a b lists lists_b list list_b x y r s l → Visited a b lists lists_b list list_c x y r s l
+  visited_with {list_c} same first = subst (λ xs. Visited a b lists lists_b list xs x y r s l) (sym same) first

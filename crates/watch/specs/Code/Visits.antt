@@ -2,21 +2,20 @@
 use Rattle.std.specs.FinMap as maps
 use Rattle.std.specs.FinMap.{FinMap}
 use Rattle.std.specs.Ordering.{nat_cmp}
-use Rattle.std.specs.Prelude.{List, IsTrue, ◌≡◌, ◌≢◌, ◌<◌, ◌≤◌, ◌+◌, length, slice_index, take}
-use Rattle.std.specs.Prelude.{IsFalse, ℕ, Option, Some, IsSome, Result, IfOk, [], ◌==◌}
+use Rattle.std.specs.Prelude.{List, IsTrue, ◌≡◌, ◌≢◌, ◌<◌, ◌≤◌, ◌+◌, ◌-◌, length, slice_index, take}
+use Rattle.std.specs.Prelude.{IsFalse, ℕ, Option, Some, IsSome, [], ◌==◌}
 use Rattle.std.specs.Prelude.{if◌then◌else◌}
 use Rattle.cnf_base.specs.Literals.{Literal, has, complement, Clause, size}
 use Rattle.theory.specs.Propagation.{Forced}
 use Rattle.trail.specs.Trail.{HasRoomForAll}
 use Rattle.propagation.specs.Assumptions.{AssumptionsState}
 use Rattle.propagation.specs.Code.Exact.{Extends}
-use Rattle.watch_lists.specs.Lists.{AreApart, entries_in, has_list_at, list_at, slot_at}
+use Rattle.watch_lists.specs.Cursor.{CursorState}
+use Rattle.watch_lists.specs.Lists.{AreApart, entries_in, entries_of, has_list_at, list_at, slot_at}
 use Rattle.watch.specs.Code.Order.{each_in_order}
-use Rattle.watch.specs.Code.Roots.{AreNoted, AreReasoned, IsFalseAt}
+use Rattle.watch.specs.Code.Roots.{AreNoted, AreReasoned}
 use Rattle.watch.specs.Code.Watched.{IsListed, IsMet, IsWatched, short_for}
 use Rattle.watch_lists.specs.declared.lists.WatchLists.{WatchLists}
-use Rattle.watch.specs.declared.follow.Next.TheVariants.{Further, Here, Nothing}
-use Rattle.watch.specs.declared.follow.Next.{Next}
 use Rattle.watch.specs.declared.visit.Exchange.{Exchange}
 use Rattle.watch.specs.declared.visit.Visit.TheVariants.{Stays, Moves, Unit, Clash}
 use Rattle.watch.specs.declared.visit.Visit.{Visit}
@@ -137,25 +136,17 @@ pub record Visited (before after : FinMap nat_cmp Clause) (lists lists_now : Wat
   -- what is true now was forced
   pub propagates : PropagatesTo before after held now reason_of reason_now
 
--- the entry at the place still stands there, and its clause has a true literal
-pub record IsFurther (after : FinMap nat_cmp Clause) (list list_now : List Watcher) (place : ℕ)
-    (l : Literal) (trues : List Literal) : Type 0 where
-  pub as_long : length list_now ≡ length list
-  pub same_slot : slot_at list_now place ≡ slot_at list place
-  pub met : (c : Clause) → maps.get after (slot_at list place) ≡ Some c → IsMet c l trues
+-- the next entry is of the slot
+abbrev pub IsNextSlot : CursorState → ℕ → Type 0
+IsNextSlot cursor slot =
+    (cursor.visited < length cursor.entries) × (slot_at cursor.entries cursor.visited ≡ slot)
 
--- what comes after a visit
-abbrev pub IsNext : FinMap nat_cmp Clause → List Watcher → List Watcher → ℕ → Literal →
-    List Literal → Next → Type 0
-IsNext after list list_now place l trues Further = IsFurther after list list_now place l trues
-IsNext after list list_now place l trues Here = length list_now + 1 ≡ length list
-IsNext after list list_now place l trues (Nothing slot) =
-    IsFalseAt (maps.get (each_in_order after)) slot trues
+-- how many entries are yet to be visited
+abbrev pub entries_left : CursorState → ℕ
+entries_left cursor = length cursor.entries - cursor.visited
 
--- the clause of the entry at the place was visited, and no other
-pub record IsVisited {E : Type 0} (before after : FinMap nat_cmp Clause)
-    (list list_now : List Watcher) (place : ℕ) (l : Literal) (trues : List Literal)
-    (result : Result Next E) : Type 0 where
-  pub next : IfOk result (λ next. IsNext after list list_now place l trues next)
-  pub front : take place list_now ≡ take place list
-  pub others : (s : ℕ) → s ≢ slot_at list place → maps.get after s ≡ maps.get before s
+-- the clauses of the entries that were visited and kept have a true literal
+abbrev pub AreMet : FinMap nat_cmp Clause → CursorState → Literal → List Literal → Type 0
+AreMet live cursor l trues =
+    (s : ℕ) → 0 < entries_of s (take cursor.visited cursor.entries) →
+    (c : Clause) → maps.get live s ≡ Some c → IsMet c l trues

@@ -2,14 +2,15 @@
 use Rattle.std.proofs.Common.{◌≡◌, ℕ, ◌+◌, ◌-◌, ◌<◌, ◌≤◌, ◌&&◌, not, true, false, Bool, cond, eqb}
 use Rattle.std.proofs.Common.{eq-eqb, ne_eqb, List, length, get_or, drop, take}
 use Rattle.std.proofs.Common.{swap_remove, sum_by, [], ◌∷◌, ◌++◌, refl, sym, ap, ◌∙◌}
-use Rattle.std.proofs.Common.{arith, inl, inr}
+use Rattle.std.proofs.Common.{arith, inl, inr, slice_get, Some, None, subst}
 use Rattle.std.proofs.lemmas.Bool.{cases_eq}
 use Rattle.std.proofs.lemmas.Bool.Decides.{nat_tests}
 use Rattle.std.proofs.lemmas.Grind.{get_or_default_zero}
 use Rattle.std.proofs.lemmas.List.{drop-take, take-append-drop, take-take, take_all}
-use Rattle.std.proofs.lemmas.Option.{slice_get-get_or}
+use Rattle.std.proofs.lemmas.Option.{none-some, same_Some, slice_get-get_or, slice_get_cases}
 use Rattle.std.proofs.lemmas.List.Sums.{get_or-le-sum_by, sum_by-append, sum_by-le-sum_by}
-use Rattle.std.proofs.lemmas.List.Sums.{sum_by-swap_remove, sum_by_more, sum_by_push}
+use Rattle.std.proofs.lemmas.List.Sums.{sum_by-remove, sum_by-swap_remove, sum_by_more, sum_by_push}
+use Rattle.std.specs.List.{remove}
 use Rattle.cnf_base.specs.Literals.{Clause, has}
 use Rattle.watch_lists.specs.Lists.{entries_of, foreign_blockers, slot_at, slot_of}
 use Rattle.watch_lists.specs.Lists.{times_in}
@@ -30,6 +31,18 @@ times_taken xs i s x inside read is k =
 pub slot_is : (xs : List Watcher) (i : ℕ) (d : Watcher) → i < length xs → slot_at xs i ≡ (get_or xs i d).slot
 slot_is xs i d inside = ap slot_of (slice_get-get_or xs i d inside)
 
+pub entry_at : (xs : List Watcher) (i : ℕ) (w : Watcher) → slice_get xs i ≡ Some w → (i < length xs) × (w ≡ get_or xs i w)
+entry_at xs i w is = elim (slice_get_cases xs i).1 [
+  | inl there ↦ (there.1, subst (λ x. x ≡ get_or xs i x) (same_Some there.0 w (sym there.2 ∙ is)) (sym there.3))
+  | inr past ↦ absurd (none-some w (sym past.1 ∙ is))
+]
+
+pub entry_past : (xs : List Watcher) (i : ℕ) → slice_get xs i ≡ None → length xs ≤ i
+entry_past xs i none = elim (slice_get_cases xs i).1 [
+  | inl there ↦ absurd (none-some there.0 (sym none ∙ there.2))
+  | inr past ↦ past.0
+]
+
 -- an entry that is taken out
 pub entries_taken : (xs : List Watcher) (i s : ℕ) (d : Watcher) → i < length xs → slot_at xs i ≡ s → (k : ℕ) → entries_of k (swap_remove xs i d) + cond (eqb k s) 1 0 ≡ entries_of k xs
 entries_taken xs i s d inside read k =
@@ -40,6 +53,17 @@ entries_taken xs i s d inside read k =
 
 pub blockers_left : (xs : List Watcher) (i : ℕ) (d : Watcher) → i < length xs → (s : ℕ) (c : Clause) → foreign_blockers s c (swap_remove xs i d) ≤ foreign_blockers s c xs
 blockers_left xs i d inside s c = let taken = sum_by-swap_remove (λ w. cond (eqb w.slot s && not (has c w.blocking)) 1 0) xs i d inside in omega (arith, taken)
+
+-- the same where the others keep their order
+pub entries_removed : (xs : List Watcher) (i s : ℕ) (d : Watcher) → i < length xs → slot_at xs i ≡ s → (k : ℕ) → entries_of k (remove xs i) + cond (eqb k s) 1 0 ≡ entries_of k xs
+entries_removed xs i s d inside read k =
+    let taken = sum_by-remove (λ w. cond (eqb w.slot k) 1 0) xs i d inside in
+    let same : (get_or xs i d).slot ≡ s = sym (slot_is xs i d inside) ∙ read in
+    let here : cond {A = ℕ} (eqb (get_or xs i d).slot k) 1 0 ≡ cond (eqb k s) 1 0 = ap (λ y. cond {A = ℕ} (eqb y k) 1 0) same ∙ ap (λ b. cond {A = ℕ} b 1 0) (eqb_turned s k) in
+    omega (arith, taken, here)
+
+pub blockers_removed : (xs : List Watcher) (i : ℕ) (d : Watcher) → i < length xs → (s : ℕ) (c : Clause) → foreign_blockers s c (remove xs i) ≤ foreign_blockers s c xs
+blockers_removed xs i d inside s c = let taken = sum_by-remove (λ w. cond (eqb w.slot s && not (has c w.blocking)) 1 0) xs i d inside in omega (arith, taken)
 
 -- an entry that isn't the next one
 pub entries_next : (xs : List Watcher) (i s : ℕ) (d : Watcher) → i < length xs → ((get_or xs i d).slot ≡ s → ⊥) → entries_of s (take i xs) ≡ 0 → entries_of s (take (i + 1) xs) ≡ 0

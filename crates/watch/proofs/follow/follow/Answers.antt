@@ -1,7 +1,9 @@
-use Rattle.std.proofs.Common.{[], cond, eq-eqb, refl, ap, ◌∙◌}
+use Rattle.std.proofs.Common.{[], cond, eq-eqb, length, ◌+◌, refl, sym, ap, ◌∙◌, subst}
 use Rattle.std.specs.FinMap as maps
-use Rattle.watch_lists.specs.Lists.{list_at}
-use Rattle.watch.specs.Code.Visits.{with_list}
+use Rattle.tables.specs.Table.{at}
+use Rattle.watch_lists.specs.Lists.{entries_in, list_at}
+use Rattle.watch.specs.Code.Visits.{CanVisit, with_list}
+use Rattle.watch.specs.Code.Watched.{IsListed}
 use Rattle.watch.proofs.WatchLemmas.Follow.{none_met, hand_taken, listed_alike}
 use Rattle.watch.proofs.WatchLemmas.Visited.{followed_none}
 use Rattle.watch.proofs.follow.follow.Goals as goal
@@ -10,11 +12,12 @@ pub visit_all-found-requires : goal.visit_all-found-requires
 visit_all-found-requires c =
     let l = c.args.l in
     let lists = list_at c.args.lists.now in
-    let taken = c.take_out-list.new.self in
-    let list = c.take_out-list.result.items in
-    let e = c.take_out-list.ensures in
+    let taken = c.take_out.new.self in
+    let list = c.take_out.result.items in
+    let e = c.take_out.ensures in
     record {
-      can = record {
+      front = c.over-cursor.ensures.visited;
+      can = subst (λ xs. CanVisit c.args.store.now.live taken xs c.args.assumptions.now (at c.args.reasons.now) l) (sym c.over-cursor.ensures.entries) (record {
         hand = record {
           known = e.known l ∙ c.has_list.ensures.yes c.if-not-has_list.false;
           taken = e.others l ∙ ap (λ b. cond b [] (lists l)) (eq-eqb l l refl);
@@ -23,7 +26,7 @@ visit_all-found-requires c =
         };
         is_false = c.requires.is_false;
         can_set = c.requires.can.can_set;
-      };
+      });
     }
 
 pub returns-then-not-has_list-clause-met : goal.returns-then-not-has_list-clause-met
@@ -35,11 +38,14 @@ returns-then-not-has_list-clause-followed c = followed_none c.requires.can
 
 pub returns-clause-followed : goal.returns-clause-followed
 returns-clause-followed c =
-    let visited = c.visit_all-found.ensures.visited in record {
+    let visited = c.visit_all-found.ensures.visited in
+    let l = c.args.l in
+    let list = c.into_list.result.items in
+    let same = c.into_list.ensures in record {
       apart = c.put_back.ensures.apart;
       listed =
-          listed_alike (maps.get c.visit_all-found.new.store.live) (with_list c.visit_all-found.new.lists c.args.l c.visit_all-found.new.list.items) (list_at c.put_back.new.self)
-          c.put_back.ensures.lists visited.hand.listed;
-      entries = c.put_back.ensures.entries ∙ visited.entries ∙ c.take_out-list.ensures.entries;
+          listed_alike (maps.get c.visit_all-found.new.store.live) (with_list c.visit_all-found.new.lists l list) (list_at c.put_back.new.self)
+          c.put_back.ensures.lists (subst (λ xs. IsListed (maps.get c.visit_all-found.new.store.live) (with_list c.visit_all-found.new.lists l xs)) (sym same) visited.hand.listed);
+      entries = c.put_back.ensures.entries ∙ ap (λ xs. entries_in c.visit_all-found.new.lists + length xs) same ∙ visited.entries ∙ ap (λ xs. entries_in c.take_out.new.self + length xs) c.over-cursor.ensures.entries ∙ c.take_out.ensures.entries;
       propagates = visited.propagates;
     }

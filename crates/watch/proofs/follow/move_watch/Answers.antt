@@ -1,52 +1,42 @@
-use Rattle.std.proofs.Common.{◌≡◌, ℕ, ◌+◌, ◌≤◌, ◌++◌, ◌∷◌, [], cond, eqb, ne_eqb, refl, sym, ap}
-use Rattle.std.proofs.Common.{◌∙◌, ◌-◌, ◌<◌, List, length, take, subst, arith}
-use Rattle.std.specs.List.{swap, swap_remove}
+use Rattle.std.proofs.Common.{◌+◌, ◌++◌, ◌∷◌, [], cond, eqb, ne_eqb, refl, sym, ap}
+use Rattle.std.proofs.Common.{◌∙◌, length, subst, arith}
+use Rattle.std.specs.List.{remove, swap}
 use Rattle.std.specs.FinMap as maps
-use Rattle.std.proofs.lemmas.Grind.{common_steps}
-use Rattle.std.proofs.lemmas.List.{take-set, take-take}
-use Rattle.std.proofs.lemmas.List.Edits.{length-swap}
+use Rattle.std.proofs.lemmas.List.Edits.{length-remove, length-swap}
 use Rattle.clause_db.proofs.StoreLemmas.Swap.{has_swapped}
-use Rattle.cnf_base.specs.Literals.{Clause}
-use Rattle.watch_lists.specs.Lists.{entries_of, foreign_blockers, list_at}
+use Rattle.watch_lists.specs.Lists.{list_at}
 use Rattle.watch.specs.Code.Visits.{IsInHand, PropagatesTo, with_list}
 use Rattle.watch.specs.Code.Watched.{IsListed}
 use Rattle.watch_lists.specs.declared.watcher.Watcher.{Watcher}
+use Rattle.watch.proofs.WatchLemmas.Cursor.{same_cursor}
 use Rattle.watch.proofs.WatchLemmas.Follow.{listed_alike}
-use Rattle.watch_lists.proofs.WatchListsLemmas.Lists.{blockers_left, entries_taken, slot_is}
+use Rattle.watch_lists.proofs.WatchListsLemmas.Lists.{blockers_removed, entries_removed}
 use Rattle.watch.proofs.WatchLemmas.Moves.{at_inserted, blockers_moved, entries_moved}
 use Rattle.watch.proofs.WatchLemmas.Moves.{exchanged_back, listed_moved, others_moved, places_apart}
 use Rattle.watch.proofs.WatchLemmas.Moves.{times_moved}
 use Rattle.watch.proofs.WatchLemmas.PropagatesTo.{propagates_moved, propagates_none}
 use Rattle.watch.proofs.follow.move_watch.Goals as goal
 
-left_length : (xs : List Watcher) (i : ℕ) (d : Watcher) → i < length xs → length (swap_remove xs i d) + 1 ≡ length xs
-left_length xs i d inside = grind (arith, common_steps)
-
-left_front : (xs : List Watcher) (i : ℕ) (d : Watcher) → i < length xs → take i (swap_remove xs i d) ≡ take i xs
-left_front xs i d inside = take-take i (length xs - 1) _ (omega (arith, inside)) ∙ take-set xs i _
-
 pub swap-requires : goal.swap-requires
 swap-requires c =
     let w = c.requires.exchange in
     let x = w.exchange in
-    let at_is = c.at-at.ensures ∙ ap (λ e. e.slot) c.index.ensures ∙ sym (slot_is c.args.list.now.items c.args.place _ c.requires.inside) in
     let low = x.from_low in
     let past = x.to_high in
     let inside = x.to_inside in
-    (w.clause, ap (maps.get c.args.store.now.live) at_is ∙ w.at, omega (arith, low, past, inside), inside)
+    (w.clause, ap (maps.get c.args.store.now.live) c.at-at.ensures ∙ w.at, omega (arith, low, past, inside), inside)
 
 pub swap-requires-in-Err : goal.swap-requires-in-Err
 swap-requires-in-Err c =
     let w = c.requires.exchange in
     let x = c.args.exchange in
     let live = c.args.store.now.live in
-    let at_is = c.at-at.ensures ∙ ap (λ e. e.slot) c.index.ensures ∙ sym (slot_is c.args.list.now.items c.args.place _ c.requires.inside) in
     let low = w.exchange.from_low in
     let past = w.exchange.to_high in
     let inside = w.exchange.to_inside in
     let d = swap w.clause x.from x.to in
     let len = length-swap w.clause x.from x.to in
-    (d, ap (λ m. maps.get m c.at-at.result) (c.swap.ensures.live w.clause (ap (maps.get live) at_is ∙ w.at)) ∙ at_inserted live c.at-at.result d, omega (arith, len, inside), omega (arith, len, low, past, inside))
+    (d, ap (λ m. maps.get m c.at-at.result) (c.swap.ensures.live w.clause (ap (maps.get live) c.at-at.ensures ∙ w.at)) ∙ at_inserted live c.at-at.result d, omega (arith, len, inside), omega (arith, len, low, past, inside))
 
 pub returns-in-Ok : goal.returns-in-Ok
 returns-in-Ok c =
@@ -56,53 +46,50 @@ returns-in-Ok c =
     let live = c.args.store.now.live in
     let lists = list_at c.args.lists.now in
     let pushed = list_at c.push.new.self in
-    let list = c.args.list.now.items in
-    let left = c.swap_remove.new.self.items in
-    let slot = c.index.result.now.slot in
+    let list = c.args.cursor.now.entries in
+    let place = c.args.cursor.now.visited in
+    let left = remove list place in
+    let slot = c.args.slot in
     let entry : Watcher = record { slot = slot; blocking = x.other } in
-    let read = ap (λ e. e.slot) c.index.ensures ∙ sym (slot_is list c.args.place _ c.requires.inside) in
+    let inside = c.requires.next.0 in
     let low = w.exchange.from_low in
     let past = w.exchange.to_high in
-    let inside = w.exchange.to_inside in
-    let other = places_apart w.clause x.from x.to l x.next w.different (omega (arith, low, past)) inside w.exchange.from_is w.exchange.to_is in
-    let here = ap (maps.get live) read ∙ w.at in
+    let within = w.exchange.to_inside in
+    let other = places_apart w.clause x.from x.to l x.next w.different (omega (arith, low, past)) within w.exchange.from_is w.exchange.to_is in
     let d = swap w.clause x.from x.to in
-    let moved = c.swap.ensures.live w.clause (ap (maps.get live) c.at-at.ensures ∙ here) ∙ ap (λ s. maps.insert live s d) c.at-at.ensures in
-    let taken = λ (s : ℕ). ap (λ xs. entries_of s xs + cond (eqb s slot) 1 0) c.swap_remove.ensures.items ∙ entries_taken list c.args.place slot _ c.requires.inside (sym read) s in
-    let fewer = λ (s : ℕ) (e : Clause). subst (λ xs. foreign_blockers s e xs ≤ foreign_blockers s e list) (sym c.swap_remove.ensures.items) (blockers_left list c.args.place _ c.requires.inside s e) in
+    let moved = c.swap.ensures.live w.clause (ap (maps.get live) c.at-at.ensures ∙ w.at) ∙ ap (λ s. maps.insert live s d) c.at-at.ensures in
+    let taken = entries_removed list place slot entry inside c.requires.next.1 in
+    let fewer = blockers_removed list place entry inside in
     let hand : IsInHand c.swap.new.self.live c.push.new.self left l = record {
       known = c.push.ensures.known l c.requires.hand.known;
       taken = c.in-Ok.ensures.ok l ∙ ap (λ b. cond b (lists l ++ entry ∷ []) (lists l)) (ne_eqb l x.next other) ∙ c.requires.hand.taken;
       apart = c.push.ensures.apart;
       listed = subst (λ m. IsListed (maps.get m) (with_list c.push.new.self l left)) (sym moved)
-          (listed_moved live slot w.clause d here l x.next (entries_moved l x.next w.clause x.from x.to w.different low w.exchange.from_is past inside w.exchange.to_is)
+          (listed_moved live slot w.clause d w.at l x.next (entries_moved l x.next w.clause x.from x.to w.different low w.exchange.from_is past within w.exchange.to_is)
           (with_list c.args.lists.now l list) (with_list c.push.new.self l left) c.requires.hand.listed
           (times_moved lists pushed l x.next entry other c.in-Ok.ensures.ok list left taken)
-          (has_swapped w.clause d x.from x.to (omega (arith, low, past, inside)) inside refl)
+          (has_swapped w.clause d x.from x.to (omega (arith, low, past, within)) within refl)
           (blockers_moved lists pushed l x.next entry other c.in-Ok.ensures.ok list left taken w.clause w.exchange.has_other fewer));
     } in
-    let shorter = ap (λ xs. length xs + 1) c.swap_remove.ensures.items ∙ left_length list c.args.place _ c.requires.inside in record {
+    let shorter = length-remove list place inside in record {
       visited = λ held reason_of is_open. record {
-        hand = hand;
-        entries = let more = c.in-Ok.ensures.more in omega (arith, more, shorter);
+        hand = subst (λ xs. IsInHand c.swap.new.self.live c.push.new.self xs l) (sym c.take_out.ensures.entries) hand;
+        entries = let more = c.in-Ok.ensures.more in let len = ap length c.take_out.ensures.entries in omega (arith, more, shorter, len);
         propagates = subst (λ m. PropagatesTo live m held held reason_of reason_of) (sym moved)
-            (propagates_moved live held slot w.clause here x.from x.to l x.next w.different low w.exchange.from_is past inside w.exchange.to_is is_open reason_of);
+            (propagates_moved live held slot w.clause w.at x.from x.to l x.next w.different low w.exchange.from_is past within w.exchange.to_is is_open reason_of);
       };
-      clause = λ trues. record {
-        next = shorter;
-        front = ap (take c.args.place) c.swap_remove.ensures.items ∙ left_front list c.args.place _ c.requires.inside;
-        others = λ s ne. ap (λ m. maps.get m s) moved ∙ others_moved live slot d s (λ e. ne (e ∙ read));
-      };
+      taken = same_cursor c.take_out.new.self (remove list place) place c.take_out.ensures.entries c.take_out.ensures.visited;
+      others = λ s ne. ap (λ m. maps.get m s) moved ∙ others_moved live slot d s ne;
     }
 
 pub returns-in-Err : goal.returns-in-Err
 returns-in-Err c =
-    let list = c.args.list.now.items in
+    let list = c.args.cursor.now.entries in
     let live = c.args.store.now.live in
     let l = c.args.l in
     let w = c.requires.exchange in
     let x = c.args.exchange in
-    let here = ap (maps.get live) (c.at-at.ensures ∙ ap (λ e. e.slot) c.index.ensures ∙ sym (slot_is list c.args.place _ c.requires.inside)) ∙ w.at in
+    let here = ap (maps.get live) c.at-at.ensures ∙ w.at in
     let back = exchanged_back live _ _ c.at-at.result x.from x.to w.clause here w.exchange.from_low w.exchange.to_high w.exchange.to_inside (c.swap.ensures.live w.clause here) c.swap-in-Err.ensures.live in record {
       visited = λ held reason_of is_open. record {
         hand = record {
@@ -115,5 +102,6 @@ returns-in-Err c =
         entries = ap (λ n. n + length list) c.in-Err.ensures.as_many;
         propagates = subst (λ m. PropagatesTo live m held held reason_of reason_of) (sym back) (propagates_none live held reason_of);
       };
-      clause = λ trues. record { next = tt; front = refl; others = λ s ne. ap (λ m. maps.get m s) back };
+      taken = tt;
+      others = λ s ne. ap (λ m. maps.get m s) back;
     }

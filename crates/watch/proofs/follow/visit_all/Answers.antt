@@ -1,69 +1,65 @@
-use Rattle.std.proofs.Common.{◌<◌, ◌≤◌, length, sym, ◌∙◌, subst, arith}
+use Rattle.std.proofs.Common.{◌≡◌, ℕ, ◌-◌, ◌<◌, ◌≤◌, Some, IfNone, length, slice_get, take, sym, ap, ◌∙◌}
+use Rattle.std.proofs.Common.{arith, subst}
 use Rattle.std.specs.FinMap as maps
+use Rattle.cnf_base.specs.Literals.{Clause, has}
 use Rattle.tables.specs.Table.{at}
-use Rattle.watch_lists.specs.Lists.{list_at, slot_at}
-use Rattle.watch_lists.specs.declared.watcher.Watcher.{Watcher}
-use Rattle.watch_lists.proofs.WatchListsLemmas.Lists.{slot_is}
-use Rattle.trail.proofs.TrailLemmas.Longer.{has_begun}
-use Rattle.watch.specs.Code.Visits.{IsNext}
-use Rattle.watch.proofs.WatchLemmas.Follow.{all_met, front_apart, visited_further, visited_here}
-use Rattle.watch.proofs.WatchLemmas.Visited.{can_visit_on, visited_none, visited_on}
+use Rattle.watch_lists.specs.Lists.{entries_of, list_at}
+use Rattle.watch.specs.Code.Visits.{AreMet}
+use Rattle.watch.specs.Code.Watched.{IsMet}
+use Rattle.watch.proofs.WatchLemmas.Follow.{all_met, met_passed, none_before}
+use Rattle.watch.proofs.WatchLemmas.Visited.{can_visit_on, visited_none, visited_on, visited_with}
+use Rattle.watch_lists.proofs.WatchListsLemmas.Lists.{entry_past}
 use Rattle.watch.proofs.follow.visit_all.Goals as goal
 
-pub loop-place-init : goal.loop-place-init
-loop-place-init c = record { visited = visited_none c.args.assumptions.now (at c.args.reasons.now) c.requires.can.hand; met = λ s some. absurd (omega (arith, some)) }
+pub loop-entry-init : goal.loop-entry-init
+loop-entry-init c = record {
+  visited = visited_none c.args.assumptions.now (at c.args.reasons.now) c.requires.can.hand;
+  met = λ s some. absurd (none_before c.args.cursor.now.entries c.args.cursor.now.visited s c.requires.front some);
+}
 
 pub visit-requires-clause-can : goal.visit-requires-clause-can
-visit-requires-clause-can c = can_visit_on c.requires.can c.loop-place.invariant.visited
+visit-requires-clause-can c = can_visit_on c.requires.can (visited_with c.next.ensures.entries c.loop-entry.invariant.visited)
 
-pub returns-in_err-visit-clause-visited : goal.returns-in_err-visit-clause-visited
-returns-in_err-visit-clause-visited c = visited_on c.loop-place.invariant.visited c.visit.ensures.visited
+pub visit-requires-clause-met : goal.visit-requires-clause-met
+visit-requires-clause-met c =
+    let before = c.loop-entry in
+    let after = c.next.new.self in
+    let e = c.next.ensures in
+    let further = e.further in
+    subst (λ xs. (s : ℕ) → 0 < entries_of s (take after.visited xs) → (d : Clause) → maps.get before.store.live s ≡ Some d → IsMet d c.args.l before.assumptions.trail.lits) (sym e.entries)
+    (met_passed (maps.get before.store.live) (list_at before.lists) c.args.l before.cursor.entries before.invariant.visited.hand.listed before.assumptions.trail.lits before.cursor.visited (after.visited - before.cursor.visited) after.visited (omega (arith, further))
+    (subst (λ xs. after.visited ≤ length xs) e.entries e.inside)
+    (λ place w from below is. ap (λ t. has t.lits w.blocking) (sym c.trail.ensures) ∙ e.passed place w from below (ap (λ xs. slice_get xs place) e.entries ∙ is))
+    before.invariant.met)
 
-pub loop-place-preserved-in-Further : goal.loop-place-preserved-in-Further
-loop-place-preserved-in-Further c =
-    let before = c.loop-place in
-    let list = before.list.items in
-    let trues = before.assumptions.trail.lits in
-    let after = c.visit.new.list.items in
-    let now = c.visit.new.assumptions.trail.lits in
-    let e = c.visit.ensures.visited in
-    let v = c.in_ok-visit.ensures.clause in
-    let next = subst (IsNext c.visit.new.store.live list after before.place c.args.l now) c.in-Further.is v.next in
-    let inside : before.place < length list = let low = c.loop-place-test.true in let n = c.len.ensures in let fits = before.list.ok in omega arith in
-    let as_long = next.as_long in
-    let still : before.place < length after = omega (arith, inside, as_long) in
-    let d : Watcher = record { slot = 0; blocking = 0 } in record {
-      visited = visited_on before.invariant.visited e;
-      met =
-          visited_further (maps.get before.store.live) (maps.get c.visit.new.store.live) c.args.l trues now (λ l h. has_begun trues now l e.propagates.extends.begins h) list before.place (slot_at list before.place) before.invariant.met v.others after v.front
-          d still (sym (slot_is after before.place d still) ∙ next.same_slot) next.met;
-    }
+pub returns-in_err-slot-clause-visited : goal.returns-in_err-slot-clause-visited
+returns-in_err-slot-clause-visited c = visited_on (visited_with c.next.ensures.entries c.loop-entry.invariant.visited) c.visit.ensures.visited
 
-pub loop-place-preserved : goal.loop-place-preserved
-loop-place-preserved c =
-    let before = c.loop-place in
-    let list = before.list.items in
-    let trues = before.assumptions.trail.lits in
-    let now = c.visit.new.assumptions.trail.lits in
-    let e = c.visit.ensures.visited in
-    let v = c.in_ok-visit.ensures.clause in
-    let inside : before.place < length list = let low = c.loop-place-test.true in let n = c.len.ensures in let fits = before.list.ok in omega arith in
-    let d : Watcher = record { slot = 0; blocking = 0 } in record {
-      visited = visited_on before.invariant.visited e;
-      met =
-          visited_here (maps.get before.store.live) (maps.get c.visit.new.store.live) c.args.l trues now (λ l h. has_begun trues now l e.propagates.extends.begins h) list before.place (slot_at list before.place) before.invariant.met v.others
-          c.visit.new.list.items v.front
-          (λ s there same. front_apart (maps.get before.store.live) (list_at before.lists) c.args.l list before.invariant.visited.hand.listed before.place s d inside there (same ∙ slot_is list before.place d inside));
-    }
+pub returns-in-Some-2-clause-visited : goal.returns-in-Some-2-clause-visited
+returns-in-Some-2-clause-visited c = visited_on (visited_with c.next.ensures.entries c.loop-entry.invariant.visited) c.visit.ensures.visited
 
-pub returns-in-Nothing-clause-visited : goal.returns-in-Nothing-clause-visited
-returns-in-Nothing-clause-visited c = visited_on c.loop-place.invariant.visited c.visit.ensures.visited
+pub loop-entry-preserved : goal.loop-entry-preserved
+loop-entry-preserved c = record {
+  visited = visited_on (visited_with c.next.ensures.entries c.loop-entry.invariant.visited) c.visit.ensures.visited;
+  met = subst (λ o. IfNone o (AreMet c.visit.new.store.live c.visit.new.cursor c.args.l c.visit.new.assumptions.trail.lits)) c.in_default-2.is c.in_ok-slot.ensures.met;
+}
 
 pub returns-clause-visited : goal.returns-clause-visited
-returns-clause-visited c = c.loop-place.invariant.visited
+returns-clause-visited c = visited_with c.next.ensures.entries c.loop-entry.invariant.visited
 
 pub returns-clause-met : goal.returns-clause-met
 returns-clause-met c =
-    let now = c.loop-place in
-    let past : length now.list.items ≤ now.place = let high = c.loop-place-test.false in let n = c.len.ensures in let fits = now.list.ok in omega arith in
-    all_met (maps.get now.store.live) (list_at now.lists) c.args.l now.list.items now.invariant.visited.hand.listed now.assumptions.trail.lits now.place past now.invariant.met
+    let before = c.loop-entry in
+    let after = c.next.new.self in
+    let e = c.next.ensures in
+    let further = e.further in
+    let list = before.cursor.entries in
+    let past = subst (λ xs. length xs ≤ after.visited) e.entries (entry_past after.entries after.visited (sym e.next ∙ c.in_default.is)) in
+    let live = maps.get before.store.live in
+    let trues = before.assumptions.trail.lits in
+    let listed = before.invariant.visited.hand.listed in
+    all_met live (list_at before.lists) c.args.l list listed trues after.visited past
+    (met_passed live (list_at before.lists) c.args.l list listed trues before.cursor.visited (after.visited - before.cursor.visited) after.visited (omega (arith, further))
+    (subst (λ xs. after.visited ≤ length xs) e.entries e.inside)
+    (λ place w from below is. ap (λ t. has t.lits w.blocking) (sym c.trail.ensures) ∙ e.passed place w from below (ap (λ xs. slice_get xs place) e.entries ∙ is))
+    before.invariant.met)
