@@ -17,8 +17,8 @@ value_at values l = option_or (slice_get values.dense.items l) (at values.far l)
 abbrev pub known_value : Option Value → Value
 known_value o = unwrap_or o Open
 
--- just the variables that were reserved are seen, and both literals of each have a value, which is what
--- the trail says of them; it has no variable twice, and room for one literal of each
+-- just the variables that were reserved are seen, and both literals of each have a value, which is
+-- what the trail says of them; it has no variable twice, and room for one literal of each
 pub record IsTrail {T : Type 0} (lits : List Literal) (reserved : List ℕ) (capacity : ℕ)
     (seen : ℕ → Option T) (value_of : ℕ → Option Value) : Type 0 where
   pub different : HasNoVariableTwice lits
