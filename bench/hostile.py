@@ -205,11 +205,30 @@ def first_reasons(n):
     return with_reasons(n, 1), deletions_of_reasons(n, 1, (1,))
 
 
-@kind(DRAT, 1000, is_linear=False)
+def deletions(clauses, step):
+    """Deletes the clauses one after the other, with a step after each."""
+    return [line for c in clauses for line in ("d " + clause(*c), step)]
+
+
+@kind(DRAT, 1000)
 def chain_from_behind(n):
     """The implications of a chain are deleted from its end, with a step after each."""
     chain = implications(1, n)
-    return [(1,), *chain], [line for c in chain[::-1] for line in ("d " + clause(*c), clause(1, n + 1))]
+    return [(1,), *chain], deletions(chain[::-1], clause(1, n + 1))
+
+
+@kind(DRAT, 1000)
+def chain_from_front(n):
+    """The implications of a chain are deleted from its beginning, with a step after each."""
+    chain = implications(1, n)
+    return [(1,), *chain], deletions(chain, clause(1, n + 1))
+
+
+@kind(DRAT, 1000, is_linear=False)
+def units_from_behind(n):
+    """Unit clauses are deleted from the last, with a step after each, which looks at all that are left."""
+    units = [(i,) for i in range(1, n + 1)]
+    return units, deletions(units[:0:-1], clause(1, n + 1))
 
 
 def written(made, formula, proof):
