@@ -6,12 +6,14 @@ ghost use Rattle.watch.specs.Code.History.{IsRewound, visits};
 use cnf_base::OutOfMemory;
 use std::alloc::Global;
 
-/// The visits of the literals that are kept, in the order of these. Without it, a lost literal
-/// would take all with it: those before it stay true, but a clause that was visited after it was
-/// set can watch literals that were not false only with it.
+/// The visits of the literals that are kept, in the order of these.
+///
+/// Where a literal is lost those before it stay true. But a clause that was visited while it was
+/// true may have been let alone because of it, or of one after it: so for each visit it is noted
+/// how many literals were true when it began.
 #[derive(Drop)]
 pub(crate) struct History {
-    /// For each visit how many literals were true when it began.
+    /// For each visit how many literals were true then.
     pub(crate) visited: Vec<usize>,
     /// Of a cut to so many literals, or to fewer, it says nothing.
     pub(crate) floor: usize,
@@ -45,13 +47,13 @@ impl History {
         Ok(())
     }
 
-    /// A clause was added where so many literals were true, all but one of it false at least. If it
-    /// watches, then what it watches may have become false at any place.
-    pub(crate) fn enter(&mut self, is_long: bool, trues: usize)
+    /// A clause was added where so many literals were true. It is doubtful where it watches a
+    /// literal that is false, since that may have become so at any place.
+    pub(crate) fn enter(&mut self, is_doubtful: bool, trues: usize)
         ensures visited { self.new.visited ≡ self.old.visited }
-        ensures floor { self.new.floor ≡ (if is_long then trues else self.old.floor) }
+        ensures floor { self.new.floor ≡ (if is_doubtful then trues else self.old.floor) }
     {
-        if is_long {
+        if is_doubtful {
             self.floor = trues;
         }
     }
