@@ -1,2 +1,3 @@
 pub mod Assumptions
+pub mod Closure
 pub mod Code

@@ -1,191 +1,188 @@
-//! All that follows with nothing assumed, past a clash too.
+//! All that follows with nothing assumed, past a clash too, kept while clauses come and go.
 
-ghost use Rattle.std.specs.Prelude.{◌≡◌, ℕ, ◌<◌, ◌++◌, ◌∷◌, ◌||◌, [], not, true, false, List, Some};
-ghost use Rattle.std.specs.Prelude.{if◌then◌else◌, IsTrue, IsFalse, IsSome, IfOk, OnOk};
+mod found;
+
+ghost use Rattle.std.specs.Prelude.{◌≡◌, ℕ, true, false, None, Some, length, take};
+ghost use Rattle.std.specs.Prelude.{[], IsTrue, IsSome, IfOk, OnOk};
 ghost use Rattle.std.specs.FinMap as maps;
-ghost use Rattle.cnf_base.specs.Literals.{Clause, Literal, has};
-ghost use Rattle.propagation.specs.Code.Closure.{FollowsFrom, both_of};
-ghost use Rattle.theory.specs.Code.Propagation.{IsClosedAt};
-ghost use Rattle.theory.specs.Propagation.{Forced, IsClosed, IsRootReason, open_literals};
-ghost use Rattle.theory.specs.Code.Sets.{lacking};
-ghost use Rattle.trail.specs.Left.{how_many};
-ghost use Rattle.trail.specs.Trail.{HasRoomForAll};
+ghost use Rattle.cnf_base.specs.Literals.{Clause, has};
+ghost use Rattle.propagation.specs.Closure.{IsClosure, IsWhole};
+ghost use Rattle.propagation.specs.Code.Closure.{AreForced, IsFollowed, TakesIn};
+ghost use Rattle.theory.specs.Propagation.{IsRootReason};
 
+use crate::closure::found::Found;
 use clause_db::{Slot, Store};
-use cnf_base::{Lit, OutOfMemory};
+use cnf_base::OutOfMemory;
 use std::alloc::Global;
 use std::marker::Model;
-use tables::{Table, key};
-use trail::{Left, Trail, Truths, left_of};
 
-/// The literals that follow from live clauses with nothing assumed: the whole least set. Past a
-/// clash both literals of a variable may be in it, which a trail cannot hold.
+/// The literals that follow from live clauses with nothing assumed: the whole least set, past a
+/// clash too. They are sought when they are first asked for, and then kept: a clause that is added
+/// adds what follows by it, and one that is removed leaves them as they are, but for a reason
+/// clause of one of them. After that they are sought anew.
 ///
-/// Contracts see it as the list of its literals.
+/// Contracts see the list of them, where it is kept.
 #[derive(Drop)]
-struct Closure {
-    lits: Vec<Lit>,
-    /// By literal whether it is among them.
-    marks: Table<()>,
+pub struct Closure {
+    alloc: Global,
+    found: Found,
+    /// Whether all that follow were found.
+    is_whole: bool,
+    /// The slots of the clauses to be looked at again, in a room that is used again.
+    slots: Vec<u32>,
 }
 
 impl Model for Closure {
-    ghost use Rattle.std.specs.Prelude.{◌≡◌, ℕ, List, is_some};
-    ghost use Rattle.cnf_base.specs.Literals.{has};
-    ghost use Rattle.tables.specs.Table.{at};
+    ghost use Rattle.std.specs.Prelude.{ℕ, List, Option, Some, None, if◌then◌else◌};
 
-    ghost Value = { List ℕ };
+    ghost Value = { Option (List ℕ) };
 
-    ghost view = { λ c. c.lits.items };
-
-    ghost invariant = { λ c. (l : ℕ) → is_some (at c.marks l) ≡ has c.lits.items l };
+    ghost view = { λ c. if c.is_whole then Some c.found else None };
 }
 
-impl Truths for Closure {
-    ghost trues = { λ c. c };
-
-    fn falsifies(&self, l: Lit) -> bool {
-        self.has(l.neg())
-    }
-}
-
-/// Whether the clause in the slot makes a literal of it hold for good: that literal follows with
-/// nothing assumed, and so do the complements of all its others. The literals of the trail are
-/// known to follow. It goes over all clauses, past a clash too.
-///
-/// # Errors
-///
-/// Where memory runs out.
-pub fn is_root_reason(
-    alloc: Global,
-    store: &Store,
-    trail: &Trail,
-    slot: Slot,
-) -> Result<bool, OutOfMemory>
-    requires alive { IsSome (maps.get store.now.live slot) }
-    requires room { HasRoomForAll trail.now.reserved (maps.get store.now.live) }
-    requires known { (l : Literal) → IsTrue (has trail.now.lits l) →
-        Forced (maps.get store.now.live) [] l }
-    ensures yes { IfOk result (λ is_reason. is_reason ≡ true → (c : Clause) →
-        maps.get store.now.live slot ≡ Some c → IsRootReason (maps.get store.now.live) c) }
-    ensures no { IfOk result (λ is_reason. is_reason ≡ false → (c : Clause) →
-        maps.get store.now.live slot ≡ Some c → ¬ IsRootReason (maps.get store.now.live) c) }
+/// Adds what follows from each clause.
+fn take_all(found: &mut Found, store: &Store) -> Result<(), OutOfMemory>
+    requires sound { AreForced (maps.get store.now.live) found.old }
+    ensures sound { OnOk result (AreForced (maps.get store.now.live) found.new) }
+    ensures takes { OnOk result ((k : ℕ) (c : Clause) → maps.get store.now.live k ≡ Some c →
+        TakesIn found.old found.new c) }
 {
-    let closure = Closure::of(alloc, store, trail)?;
-    let clause = store.clause(slot);
-    Ok(closure.left(clause).is_one_at_most(clause))
-}
-
-/// One pass over all clauses, which adds what follows from each. Tells whether anything is new.
-fn pass(closure: &mut Closure, store: &Store) -> Result<bool, OutOfMemory>
-    requires { (l : Literal) → IsTrue (has closure.old l) →
-        Forced (maps.get store.now.live) [] l }
-    ensures sound { OnOk result ((l : Literal) → IsTrue (has closure.new l) →
-        Forced (maps.get store.now.live) [] l) }
-    ensures fewer { IfOk result (λ is_new. is_new ≡ true → (reserved : List ℕ) →
-        HasRoomForAll reserved (maps.get store.now.live) →
-        lacking closure.new (both_of reserved) < lacking closure.old (both_of reserved)) }
-    ensures closed { IfOk result (λ is_new. is_new ≡ false →
-        IsClosed (maps.get store.now.live) (λ l. has closure.new l)) }
-{
-    let mut is_new = false;
     for number in 0..store.end() {
         if let Some(clause) = store.at(number) {
-            is_new |= closure.take(clause)?;
+            found.take(clause)?;
         }
     }
-    Ok(is_new)
+    Ok(())
+}
+
+/// Adds what follows from each of the clauses in these slots.
+fn take_each(found: &mut Found, store: &Store, slots: &[u32]) -> Result<(), OutOfMemory>
+    requires alive { (s : ℕ) → IsTrue (has slots.now s) → IsSome (maps.get store.now.live s) }
+    requires sound { AreForced (maps.get store.now.live) found.old }
+    ensures sound { OnOk result (AreForced (maps.get store.now.live) found.new) }
+    ensures begins { OnOk result (take (length found.old) found.new ≡ found.old) }
+    ensures takes { OnOk result ((s : ℕ) (c : Clause) → IsTrue (has slots.now s) →
+        maps.get store.now.live s ≡ Some c → TakesIn found.old found.new c) }
+{
+    for slot in slots {
+        found.take(store.clause(Slot::at(*slot as usize)))?;
+    }
+    Ok(())
+}
+
+/// Adds all that follows, where nothing more follows from those before the place `from`. It looks
+/// at the clauses in which a further literal is false, once for each.
+fn follow(
+    found: &mut Found,
+    store: &mut Store,
+    slots: &mut Vec<u32>,
+    from: usize,
+) -> Result<(), OutOfMemory>
+    requires { IsFollowed (maps.get store.old.live) from found.old }
+    ensures whole { OnOk result (IsWhole (maps.get store.old.live) found.new) }
+    ensures same { store.new ≡ store.old }
+{
+    let mut done = from;
+    while done < found.lits().len() {
+        let l = found.lits()[done];
+        store.slots_touched(&[l], slots)?;
+        take_each(found, store, slots)?;
+        done += 1;
+    }
+    Ok(())
 }
 
 impl Closure {
-    /// All that follows from the clauses with nothing assumed, where the literals of the trail are
-    /// known to.
+    /// Nothing was asked for. It takes no memory.
+    pub fn new(alloc: Global) -> Self
+        ensures { result ≡ None }
+    {
+        Closure {
+            alloc,
+            found: Found::new(alloc),
+            is_whole: false,
+            slots: Vec::new(alloc),
+        }
+    }
+
+    /// Seeks all that follows, where it is not kept.
+    fn make(&mut self, store: &mut Store) -> Result<(), OutOfMemory>
+        requires { IsClosure (maps.get store.old.live) self.old }
+        ensures made { OnOk result (IsSome self.new) }
+        ensures closure { IsClosure (maps.get store.old.live) self.new }
+        ensures same { store.new ≡ store.old }
+    {
+        if self.is_whole {
+            return Ok(());
+        }
+        self.found = Found::new(self.alloc);
+        take_all(&mut self.found, store)?;
+        follow(&mut self.found, store, &mut self.slots, 0)?;
+        self.is_whole = true;
+        Ok(())
+    }
+
+    /// Whether the clause in the slot makes a literal of it hold for good: that literal follows
+    /// with nothing assumed, and so do the complements of all its others.
     ///
-    /// It goes over all clauses until nothing new follows.
+    /// The first call goes over all clauses. Later ones cost what this clause costs, until a
+    /// reason clause is removed.
     ///
     /// # Errors
     ///
     /// Where memory runs out.
-    fn of(alloc: Global, store: &Store, trail: &Trail) -> Result<Self, OutOfMemory>
-        requires room { HasRoomForAll trail.now.reserved (maps.get store.now.live) }
-        requires known { (l : Literal) → IsTrue (has trail.now.lits l) →
-            Forced (maps.get store.now.live) [] l }
-        ensures sound { IfOk result (λ c. (l : Literal) → IsTrue (has c l) →
-            Forced (maps.get store.now.live) [] l) }
-        ensures all { IfOk result (λ c. (l : Literal) →
-            Forced (maps.get store.now.live) [] l → IsTrue (has c l)) }
+    pub fn is_root_reason(&mut self, store: &mut Store, slot: Slot) -> Result<bool, OutOfMemory>
+        requires alive { IsSome (maps.get store.old.live slot) }
+        requires closure { IsClosure (maps.get store.old.live) self.old }
+        ensures yes { IfOk result (λ is_reason. is_reason ≡ true → (c : Clause) →
+            maps.get store.old.live slot ≡ Some c → IsRootReason (maps.get store.old.live) c) }
+        ensures no { IfOk result (λ is_reason. is_reason ≡ false → (c : Clause) →
+            maps.get store.old.live slot ≡ Some c →
+            ¬ IsRootReason (maps.get store.old.live) c) }
+        ensures closure { IsClosure (maps.get store.old.live) self.new }
+        ensures same { store.new ≡ store.old }
     {
-        let mut closure = Closure {
-            lits: Vec::new(alloc),
-            marks: Table::new(alloc),
-        };
-        closure.add_all(trail.lits())?;
-        while pass(&mut closure, store)? {}
-        Ok(closure)
+        self.make(store)?;
+        let clause = store.clause(slot);
+        Ok(self.found.left(clause).is_one_at_most(clause))
     }
 
-    /// Whether it has the literal. It takes no memory.
-    fn has(&self, l: Lit) -> bool
-        ensures { result ≡ has self.now l }
+    /// Takes note of a clause that was added: adds what follows by it, where what follows without
+    /// it is kept.
+    ///
+    /// # Errors
+    ///
+    /// Where memory runs out. Nothing is kept then.
+    pub fn enter(&mut self, store: &mut Store, slot: Slot) -> Result<(), OutOfMemory>
+        requires alive { IsSome (maps.get store.old.live slot) }
+        requires closure { IsClosure (maps.get (maps.remove store.old.live slot)) self.old }
+        ensures closure { IsClosure (maps.get store.old.live) self.new }
+        ensures same { store.new ≡ store.old }
     {
-        self.marks.get(key(l)).is_some()
-    }
-
-    /// What is left of a clause where its literals are true. It takes no memory.
-    fn left(&self, clause: &[Lit]) -> Left
-        ensures { result ≡ how_many (open_literals self.now clause.now) }
-    {
-        left_of(self, clause)
-    }
-
-    /// Adds a literal. Tells whether it is new.
-    fn add(&mut self, l: Lit) -> Result<bool, OutOfMemory>
-        ensures new { IfOk result (λ is_new. is_new ≡ not (has self.old l)) }
-        ensures lits { OnOk result ((k : Literal) → has self.new k ≡
-            has (self.old ++ l ∷ []) k) }
-        ensures same { IfOk result (λ is_new. is_new ≡ false → self.new ≡ self.old) }
-    {
-        if self.has(l) {
-            return Ok(false);
+        if !self.is_whole {
+            return Ok(());
         }
-        self.lits.reserve(1)?;
-        self.marks.reserve(key(l), ())?;
-        self.lits.push_reserved(l);
-        Ok(true)
+        let known = self.found.lits().len();
+        self.is_whole = false;
+        self.found.take(store.clause(slot))?;
+        follow(&mut self.found, store, &mut self.slots, known)?;
+        self.is_whole = true;
+        Ok(())
     }
 
-    /// Adds the literals of a clause. Tells whether one is new.
-    fn add_all(&mut self, clause: &[Lit]) -> Result<bool, OutOfMemory>
-        ensures lits { OnOk result ((k : Literal) → has self.new k ≡
-            has (self.old ++ clause.now) k) }
-        ensures new { IfOk result (λ is_new. is_new ≡ true → (l : Literal) ×
-            IsTrue (has clause.now l) × IsFalse (has self.old l)) }
-        ensures same { IfOk result (λ is_new. is_new ≡ false → self.new ≡ self.old) }
+    /// Takes note of a clause that is to be removed: nothing is kept any more where it is a reason
+    /// clause of a literal that follows. It takes no memory.
+    pub fn leave(&mut self, store: &Store, slot: Slot)
+        requires alive { IsSome (maps.get store.now.live slot) }
+        requires closure { IsClosure (maps.get store.now.live) self.old }
+        ensures closure { IsClosure (maps.get (maps.remove store.now.live slot)) self.new }
     {
-        let mut is_new = false;
-        for l in clause {
-            is_new |= self.add(*l)?;
+        if !self.is_whole {
+            return;
         }
-        Ok(is_new)
-    }
-
-    /// Adds what follows from a clause: all its literals where their complements are there, or the
-    /// one whose complement is not. Tells whether anything is new.
-    fn take(&mut self, clause: &[Lit]) -> Result<bool, OutOfMemory>
-        ensures follows { OnOk result ((l : Literal) → IsTrue (has self.new l) →
-            FollowsFrom self.old clause.now l) }
-        ensures grows { OnOk result ((l : Literal) → IsTrue (has self.old l) →
-            IsTrue (has self.new l)) }
-        ensures new { IfOk result (λ is_new. is_new ≡ true → (l : Literal) ×
-            IsTrue (has clause.now l) × IsFalse (has self.old l) × IsTrue (has self.new l)) }
-        ensures same { IfOk result (λ is_new. is_new ≡ false → self.new ≡ self.old) }
-        ensures closed { IfOk result (λ is_new. is_new ≡ false →
-            IsClosedAt (has self.old) clause.now) }
-    {
-        match self.left(clause) {
-            Left::Nothing => self.add_all(clause),
-            Left::One(l) => self.add(l),
-            Left::More => Ok(false),
+        let clause = store.clause(slot);
+        if self.found.left(clause).is_one_at_most(clause) {
+            self.is_whole = false;
         }
     }
 }

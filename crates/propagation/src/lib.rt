@@ -10,7 +10,7 @@ mod scan;
 
 pub use answer::Answer;
 pub use assumptions::Assumptions;
-pub use closure::is_root_reason;
+pub use closure::Closure;
 pub use propagate::Propagate;
 pub use scan::{Scan, first_with};
 pub use trail::Value;

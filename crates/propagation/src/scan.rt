@@ -11,9 +11,8 @@ ghost use Rattle.propagation.specs.Code.Scan.{AssumesOn, IsScan};
 ghost use Rattle.trail.specs.Trail.{HasRoom};
 
 use crate::assumptions::Assumptions;
-use crate::closure::is_root_reason;
 use crate::scan::unit::propagate;
-use crate::{Answer, Propagate};
+use crate::{Answer, Closure, Propagate};
 use clause_db::{Slot, Store};
 use cnf_base::{Lit, OutOfMemory};
 use std::alloc::Global;
@@ -223,8 +222,8 @@ impl Propagate for Scan {
         if self.has_refused {
             return Err(OutOfMemory);
         }
-        let trail = self.assumptions.trail();
-        let found = is_root_reason(self.alloc, &self.store, trail, slot);
+        let mut closure = Closure::new(self.alloc);
+        let found = closure.is_root_reason(&mut self.store, slot);
         self.has_refused = found.is_err();
         found
     }

@@ -1,53 +1,41 @@
 -- All that follows with nothing assumed, and the clauses that make a literal hold for good.
-use Rattle.std.proofs.Common.{◌≡◌, ◌≢◌, ℕ, Result, Ok, Err, IfOk, OnOk, ◌+◌, ◌*◌, ◌/◌, ◌<◌, Bool}
-use Rattle.std.proofs.Common.{true, false, not, ◌||◌, Some, None, List, [], ◌∷◌, ◌++◌, map, refl}
-use Rattle.std.proofs.Common.{sym, ap, ◌∙◌, subst, arith, inl, inr}
-use Rattle.std.proofs.lemmas.Bool.{false≢true, true≢false, not-true, not-false, cases_eq}
+use Rattle.std.proofs.Common.{◌≡◌, ◌≢◌, ℕ, Result, OnOk, ◌+◌, ◌<◌, ◌≤◌, Bool, true, false, ◌&&◌}
+use Rattle.std.proofs.Common.{cond, eqb, eqb-true, Option, Some, None, is_some, List, [], ◌∷◌, ◌++◌, take}
+use Rattle.std.proofs.Common.{length, get_or, refl, sym, ap, ◌∙◌, subst, arith, inl, inr}
+use Rattle.std.specs.Ordering.{nat_cmp}
+use Rattle.std.specs.FinMap as maps
+use Rattle.std.specs.FinMap.{FinMap}
+use Rattle.std.proofs.lemmas.Bool.{false≢true, true≢false, cases_Bool, cases_eq, or_cases, or_left}
+use Rattle.std.proofs.lemmas.Bool.{and_parts, false_from_ne_true}
+use Rattle.std.proofs.lemmas.List.{take-take, take_all}
+use Rattle.std.proofs.lemmas.Option.{none-some, same_Some}
 use Rattle.std.proofs.lemmas.Result.{on_ok_weaker}
 use Rattle.cnf_base.specs.Literals.{Literal, complement, Clause, has}
-use Rattle.cnf_base.proofs.SetLemmas.{has_append_left, has_append_right, has_append_cases}
-use Rattle.cnf_base.proofs.SetLemmas.{has_cases, has_head, has_tail}
-use Rattle.propagation.specs.Code.Closure.{FollowsFrom, is_old, by_unit, both_of}
+use Rattle.cnf_base.proofs.LiteralLemmas.{complement-complement}
+use Rattle.cnf_base.proofs.SetLemmas.{has_append_right, has_append_cases}
+use Rattle.cnf_base.proofs.SetLemmas.{has_cases, has_head}
+use Rattle.cnf_base.proofs.WalkLemmas.{has_more, has_take}
+use Rattle.clause_db.proofs.StoreLemmas.Sums.{get_remove}
+use Rattle.clause_db.specs.Store.{IsTouchedAt}
+use Rattle.propagation.specs.Closure.{IsClosure, IsWhole}
+use Rattle.propagation.specs.Code.Closure.{AreForced, FollowsFrom, IsFollowed, TakesIn}
+use Rattle.propagation.specs.Code.Closure.{is_old, by_unit}
 use Rattle.theory.specs.Code.Propagation.{IsClosedAt, OthersFail}
-use Rattle.theory.specs.Propagation.{Live, Forced, IsRootReason, open_literals}
-use Rattle.theory.specs.Code.Sets.{lacking}
+use Rattle.theory.specs.Propagation.{Live, IsClosed, Forced, IsRootReason, open_literals}
 use Rattle.trail.specs.Left.{how_many, is_one_at_most}
 use Rattle.trail.specs.Code.Left.{IsSettled}
-use Rattle.trail.specs.Trail.{HasRoomForAll}
 use Rattle.trail.specs.declared.left.Left.{Left}
 use Rattle.trail.specs.declared.left.Left.TheVariants.{Nothing, One, More}
 use Rattle.theory.proofs.PropagationLemmas.Forced.{forced_unit}
 use Rattle.theory.proofs.PropagationLemmas.Open.{AreAll, open_has}
 use Rattle.theory.proofs.PropagationLemmas.Unit.{none_left_follow, one_left_follows}
 use Rattle.trail.proofs.TrailLemmas.Left.{nothing_is, one_is, more_differ, settled_at}
-use Rattle.theory.proofs.PropagationLemmas.Lacking.{lacking_le, lacking_falls}
+use Rattle.trail.proofs.TrailLemmas.Longer.{has_begun}
 use Rattle.propagation.proofs.PropagationLemmas.Below.{below_none, below_some}
 
-pub follows_forced : (live : Live) (ls : List Literal) → ((l : Literal) → has ls l ≡ true → Forced live [] l) → (k : ℕ) (c : Clause) → live k ≡ Some c → (l : Literal) → FollowsFrom ls c l → Forced live [] l
+pub follows_forced : (live : Live) (ls : List Literal) → AreForced live ls → (k : ℕ) (c : Clause) → live k ≡ Some c → (l : Literal) → FollowsFrom ls c l → Forced live [] l
 follows_forced live ls sound k c at l (is_old h) = sound l h
 follows_forced live ls sound k c at l (by_unit member others) = forced_unit live [] k c at l member (λ m h ne. sound (complement m) (others m h ne))
-
-mapped : (f : ℕ → ℕ) (reserved : List ℕ) (v : ℕ) → has reserved v ≡ true → has (map f reserved) (f v) ≡ true
-mapped f [] v h = absurd (false≢true h)
-mapped f (w ∷ reserved) v h = elim (has_cases w reserved v h) [
-  | inl e ↦ subst (λ x. has (map f (w ∷ reserved)) (f x) ≡ true) e (has_head (f w) (map f reserved))
-  | inr g ↦ has_tail (f w) (map f reserved) (f v) (mapped f reserved v g)
-]
-
-pub has-both_of : (reserved : List ℕ) (m : Literal) → has reserved (m / 2) ≡ true → has (both_of reserved) m ≡ true
-has-both_of reserved m h = elim (cases_eq (2 * (m / 2)) m) [
-  | inl e ↦ has_append_left (map (λ v. 2 * v) reserved) (map (λ v. 2 * v + 1) reserved) m (subst (λ x. has (map (λ v. 2 * v) reserved) x ≡ true) e (mapped (λ v. 2 * v) reserved (m / 2) h))
-  | inr ne ↦
-      let odd : 2 * (m / 2) + 1 ≡ m = omega arith in
-      has_append_right (map (λ v. 2 * v) reserved) (map (λ v. 2 * v + 1) reserved) m (subst (λ x. has (map (λ v. 2 * v + 1) reserved) x ≡ true) odd (mapped (λ v. 2 * v + 1) reserved (m / 2) h))
-]
-
--- ---- A pass over all clauses, up to a slot
-
--- what a pass keeps: fewer literals are to be found, or the unit rule is kept by the clauses so far
-abbrev pub IsPassedOver : Live → List Literal → List Literal → ℕ → Bool → Type 0
-IsPassedOver live before now n true = (reserved : List ℕ) → HasRoomForAll reserved live → lacking now (both_of reserved) < lacking before (both_of reserved)
-IsPassedOver live before now n false = (now ≡ before) × ((k : ℕ) (c : Clause) → k < n → live k ≡ Some c → IsClosedAt (has before) c)
 
 -- ---- Clauses that make a literal hold for good
 
@@ -89,7 +77,7 @@ module _ (live : Live) (trues : List Literal) (k : ℕ) (c : Clause) (at : live 
 
 -- ---- What a clause adds
 
-module _ {E : Type 0} (ls now : List Literal) (c : Clause) (r : Result Bool E) where
+module _ {E : Type 0} (ls now : List Literal) (c : Clause) (r : Result Unit E) where
   -- where none of its literals is left, all are added
   pub all_follow : how_many (open_literals ls c) ≡ Nothing → OnOk r ((l : Literal) → has now l ≡ has (ls ++ c) l) → OnOk r ((l : Literal) → has now l ≡ true → FollowsFrom ls c l)
   all_follow e = on_ok_weaker r (λ lits l h. elim (has_append_cases ls c l (sym (lits l) ∙ h)) [
@@ -108,55 +96,170 @@ module _ {E : Type 0} (ls now : List Literal) (c : Clause) (r : Result Bool E) w
       ]
     ])
 
-pub one_is_new : {E : Type 0} (ls now : List Literal) (c : Clause) (m : Literal) → how_many (open_literals ls c) ≡ One m → (r : Result Bool E) → IfOk r (λ is_new. is_new ≡ not (has ls m)) → OnOk r ((l : Literal) → has now l ≡ has (ls ++ m ∷ []) l) →
-    IfOk r (λ is_new. is_new ≡ true → (l : Literal) × (has c l ≡ true) × (has ls l ≡ false) × (has now l ≡ true))
-one_is_new ls now c m e (Ok is_new) was lits = λ new.
-    (m, (one_left_follows ls c m (one_is (open_literals ls c) m e)).0, not-true (has ls m) (sym was ∙ new), lits m ∙ has_append_right ls (m ∷ []) m (has_head m []))
-one_is_new ls now c m e (Err refused) was lits = tt
+    -- where one is left, what follows by them is that one
+    pub one_takes : OnOk r ((l : Literal) → has now l ≡ has (ls ++ m ∷ []) l) → OnOk r (TakesIn ls now c)
+    one_takes = on_ok_weaker r (λ lits k member others.
+        let w = open_has ls c m (one_is (open_literals ls c) m e).0 in
+        elim (cases_eq m k) [
+          | inl same ↦ lits k ∙ has_append_right ls (m ∷ []) k (subst (λ x. has (m ∷ []) x ≡ true) same (has_head m []))
+          | inr ne ↦ absurd (true≢false (sym (others m w.0 ne) ∙ w.1))
+        ])
 
-pub one_is_closed : {E : Type 0} (ls : List Literal) (c : Clause) (m : Literal) → how_many (open_literals ls c) ≡ One m → (r : Result Bool E) → IfOk r (λ is_new. is_new ≡ not (has ls m)) → IfOk r (λ is_new. is_new ≡ false → IsClosedAt (has ls) c)
-one_is_closed ls c m e (Ok is_new) was = λ old. settled_at ls c (subst (IsSettled ls) (sym e) (not-false (has ls m) (sym was ∙ old)))
-one_is_closed ls c m e (Err refused) was = tt
+  -- where all are added, what follows is
+  pub all_take : OnOk r ((l : Literal) → has now l ≡ has (ls ++ c) l) → OnOk r (TakesIn ls now c)
+  all_take = on_ok_weaker r (λ lits m member others. lits m ∙ has_append_right ls c m member)
 
 pub more_is_closed : (ls : List Literal) (c : Clause) → how_many (open_literals ls c) ≡ More → IsClosedAt (has ls) c
 more_is_closed ls c e = settled_at ls c (subst (IsSettled ls) (sym e) tt)
 
--- ---- One more slot of a pass
+-- ---- More clauses are taken
 
-module _ (live : Live) (before now : List Literal) (n : ℕ) where
-  pub over_none : None ≡ live n → (is_new : Bool) → IsPassedOver live before now n is_new → IsPassedOver live before now (n + 1) is_new
-  over_none none true h = h
-  over_none none false h = (h.0, below_none live (IsClosedAt (has before)) n h.1 none)
+-- what a clause gave by fewer literals stands among more
+pub taken_in : (first ls now later : List Literal) (c : Clause) → ((l : Literal) → has first l ≡ true → has ls l ≡ true) → ((l : Literal) → has now l ≡ true → has later l ≡ true) → TakesIn ls now c → TakesIn first later c
+taken_in first ls now later c within grows takes m member others = grows m (takes m member (λ l h ne. within (complement l) (others l h ne)))
 
-  module _ (d : Clause) (here : Some d ≡ live n) where
-    -- nothing new follows from the clause
-    pub over_same : IsClosedAt (has now) d → (is_new : Bool) → IsPassedOver live before now n is_new → IsPassedOver live before now (n + 1) is_new
-    over_same closed true h = h
-    over_same closed false h = (h.0, below_some live (IsClosedAt (has before)) n h.1 d here (subst (λ ls. IsClosedAt (has ls) d) h.0 closed))
+module _ (live : Live) (before now : List Literal) (n : ℕ) (so_far : (k : ℕ) (c : Clause) → k < n → live k ≡ Some c → TakesIn before now c) where
+  pub all_none : None ≡ live n → (k : ℕ) (c : Clause) → k < n + 1 → live k ≡ Some c → TakesIn before now c
+  all_none none = below_none live (TakesIn before now) n so_far none
 
-    -- a literal of it is new
-    pub over_new : (after : List Literal) → ((l : Literal) → has now l ≡ true → has after l ≡ true) → (m : Literal) → has d m ≡ true → has now m ≡ false → has after m ≡ true → (is_new : Bool) → IsPassedOver live before now n is_new →
-        (reserved : List ℕ) → HasRoomForAll reserved live → lacking after (both_of reserved) < lacking before (both_of reserved)
-    over_new after grows m member absent new true h reserved room =
-        omega (arith, h reserved room, lacking_le now after grows (both_of reserved))
-    over_new after grows m member absent new false h reserved room =
-        subst (λ ls. lacking after (both_of reserved) < lacking ls (both_of reserved)) h.0
-        (lacking_falls now after grows m absent new (both_of reserved) (has-both_of reserved m (room.each n d (sym here) m member)))
+  pub all_taken : (after : List Literal) → take (length before) now ≡ before → take (length now) after ≡ now → (d : Clause) → Some d ≡ live n → TakesIn now after d → (k : ℕ) (c : Clause) → k < n + 1 → live k ≡ Some c → TakesIn before after c
+  all_taken after begins more d here takes =
+      below_some live (TakesIn before after) n (λ k c low at. taken_in before before now after c (λ l h. h) (λ l. has_begun now after l more) (so_far k c low at))
+      d here (taken_in before now after after d (λ l. has_begun before now l begins) (λ l h. h) takes)
 
-    pub over_taken : (after : List Literal) → ((l : Literal) → has now l ≡ true → has after l ≡ true) → (b : Bool) →
-        (b ≡ true → (l : Literal) × (has d l ≡ true) × (has now l ≡ false) × (has after l ≡ true)) → (b ≡ false → after ≡ now) → (b ≡ false → IsClosedAt (has now) d) →
-        (is_new : Bool) → IsPassedOver live before now n is_new → IsPassedOver live before after (n + 1) (is_new || b)
-    over_taken after grows true some same closed is_new h =
-        let m = some refl in
-        subst (IsPassedOver live before after (n + 1)) (sym (or_true is_new)) (over_new after grows m.0 m.1 m.2 m.3 is_new h)
-      where
-        or_true : (b : Bool) → (b || true) ≡ true
-        or_true true = refl
-        or_true false = refl
-    over_taken after grows false some same closed is_new h =
-        subst (IsPassedOver live before after (n + 1)) (sym (or_false is_new))
-        (subst (λ ls. IsPassedOver live before ls (n + 1) is_new) (sym (same refl)) (over_same (closed refl) is_new h))
-      where
-        or_false : (b : Bool) → (b || false) ≡ b
-        or_false true = refl
-        or_false false = refl
+module _ (live : Live) (before now after : List Literal) (begins : take (length before) now ≡ before) (more : take (length now) after ≡ now) (slots : List ℕ) (i : ℕ) (inside : i < length slots) (x : ℕ) (is : x ≡ get_or slots i x) where
+  pub each_taken : ((s : ℕ) (c : Clause) → has (take i slots) s ≡ true → live s ≡ Some c → TakesIn before now c) → (d : Clause) → Some d ≡ live x → TakesIn now after d → (s : ℕ) (c : Clause) → has (take (i + 1) slots) s ≡ true → live s ≡ Some c → TakesIn before after c
+  each_taken so_far d here takes s c h at = elim (or_cases (has (take i slots) s) (eqb x s) (sym (has_more slots i inside x is s) ∙ h)) [
+    | inl old ↦ taken_in before before now after c (λ l h. h) (λ l. has_begun now after l more) (so_far s c old at)
+    | inr e ↦ subst (TakesIn before after) (same_Some d c (here ∙ ap live (eqb-true x s e) ∙ at)) (taken_in before now after after d (λ l. has_begun before now l begins) (λ l h. h) takes)
+  ]
+
+-- ---- The clauses in which a literal is false were taken
+
+module _ (live : FinMap nat_cmp Clause) (lits after : List Literal) (done : ℕ) (inside : done < length lits) (m : Literal) (is : m ≡ get_or lits done m) (begins : take (length lits) after ≡ lits) where
+  grows : (l : Literal) → has lits l ≡ true → has after l ≡ true
+  grows l = has_begun lits after l begins
+
+  front_is : take (done + 1) after ≡ take (done + 1) lits
+  front_is = sym (take-take (done + 1) (length lits) after (omega (arith, inside))) ∙ ap (take (done + 1)) begins
+
+  done_is : (l : Literal) → has (take (done + 1) after) l ≡ true → has (take (done + 1) lits) l ≡ true
+  done_is l h = ap (λ ls. has ls l) (sym front_is) ∙ h
+
+  module _ (c : Clause) (so_far : TakesIn (take done lits) lits c) where
+    taken_here : TakesIn lits after c → TakesIn (take (done + 1) after) after c
+    taken_here = taken_in (take (done + 1) after) lits after after c (λ l h. has_take lits (done + 1) l (done_is l h)) (λ l h. h)
+
+    taken_apart : has c (complement m) ≡ false → TakesIn (take (done + 1) after) after c
+    taken_apart absent k member others = grows k (so_far k member (λ l h ne.
+        elim (or_cases (has (take done lits) (complement l)) (eqb m (complement l)) (sym (has_more lits done inside m is (complement l)) ∙ done_is (complement l) (others l h ne))) [
+          | inl old ↦ old
+          | inr e ↦ absurd (true≢false (sym (ap (has c) (ap complement (eqb-true m (complement l) e) ∙ complement-complement l) ∙ h) ∙ absent))
+        ]))
+
+  module _ (so_far : IsFollowed (maps.get live) done lits) (slots : List ℕ) where
+    -- nothing more follows from one literal further
+    pub followed_more : AreForced (maps.get live) after → ((s : ℕ) → IsTouchedAt live (m ∷ []) s → has slots s ≡ true) → ((s : ℕ) (c : Clause) → has slots s ≡ true → maps.get live s ≡ Some c → TakesIn lits after c) → IsFollowed (maps.get live) (done + 1) after
+    followed_more sound all takes = record {
+      sound = sound;
+      takes = λ k c at. elim (cases_Bool (has c (complement m))) [
+        | inl here ↦ taken_here c (so_far.takes k c at) (takes k c (all k (record { clause = c; at = at; touched = or_left (has c (complement m)) false here })) at)
+        | inr apart ↦ taken_apart c (so_far.takes k c at) apart
+      ];
+    }
+
+pub followed_start : (live : Live) (lits : List Literal) → AreForced live lits → ((k : ℕ) (c : Clause) → live k ≡ Some c → TakesIn [] lits c) → IsFollowed live 0 lits
+followed_start live lits sound takes = record { sound = sound; takes = takes }
+
+pub none_forced : (live : Live) → AreForced live []
+none_forced live l h = absurd (false≢true h)
+
+-- nothing more follows from any of them
+pub followed_whole : (live : Live) (done : ℕ) (lits : List Literal) → IsFollowed live done lits → length lits ≤ done → IsWhole live lits
+followed_whole live done lits followed over = record { sound = followed.sound; all = λ l forced. forced.in_each (has lits) closed (λ a h. absurd (false≢true h)) }
+  where
+    closed : IsClosed live (has lits)
+    closed = record { unit = λ k c at m member others. followed.takes k c at m member (λ l h ne. ap (λ ls. has ls (complement l)) (take_all done lits over) ∙ others l h ne) }
+
+-- ---- Clauses come and go
+
+-- what is kept is the whole least set where it is known to be
+pub kept_whole : (live : Live) (is_whole : Bool) (lits : List Literal) (o : Option (List Literal)) → cond is_whole (Some lits) None ≡ o → is_whole ≡ true → IsClosure live o → IsWhole live lits
+kept_whole live true lits o is known closure = subst (IsClosure live) (sym is) closure
+kept_whole live false lits o is known closure = absurd (false≢true known)
+
+-- so it is where something is known to be kept
+pub some_whole : (live : Live) (is_whole : Bool) (lits : List Literal) (o : Option (List Literal)) → cond is_whole (Some lits) None ≡ o → is_some o ≡ true → IsClosure live o → IsWhole live lits
+some_whole live true lits o is some closure = subst (IsClosure live) (sym is) closure
+some_whole live false lits o is some closure = absurd (false≢true (ap is_some is ∙ some))
+
+pub whole_kept : (live : Live) (is_whole : Bool) (lits : List Literal) (o : Option (List Literal)) → cond is_whole (Some lits) None ≡ o → is_whole ≡ true → IsWhole live lits → IsClosure live o
+whole_kept live true lits o is known whole = subst (IsClosure live) is whole
+whole_kept live false lits o is known whole = absurd (false≢true known)
+
+module _ (live : FinMap nat_cmp Clause) (slot : ℕ) where
+  still_there : (k : ℕ) (c : Clause) → maps.get (maps.remove live slot) k ≡ Some c → maps.get live k ≡ Some c
+  still_there k c at = by_test (eqb k slot) (sym (get_remove live slot k) ∙ at)
+    where
+      by_test : (b : Bool) → cond b None (maps.get live k) ≡ Some c → maps.get live k ≡ Some c
+      by_test true e = absurd (none-some c e)
+      by_test false e = e
+
+  not_removed : (k : ℕ) → k ≢ slot → maps.get (maps.remove live slot) k ≡ maps.get live k
+  not_removed k ne = get_remove live slot k ∙ ap (λ b. cond b None (maps.get live k)) (false_from_ne_true (eqb k slot) (λ e. ne (eqb-true k slot e)))
+
+  fewer_closed : (passes : Literal → Bool) → IsClosed (maps.get live) passes → IsClosed (maps.get (maps.remove live slot)) passes
+  fewer_closed passes closed = record { unit = λ k c at. closed.unit k c (still_there k c at) }
+
+  forced_grows : (l : Literal) → Forced (maps.get (maps.remove live slot)) [] l → Forced (maps.get live) [] l
+  forced_grows l forced = record { in_each = λ passes closed start. forced.in_each passes (fewer_closed passes closed) start }
+
+  module _ (c : Clause) (at : maps.get live slot ≡ Some c) (lits : List Literal) where
+    -- a clause is added, and what follows by it
+    module _ (whole : IsWhole (maps.get (maps.remove live slot)) lits) where
+      pub added_forced : AreForced (maps.get live) lits
+      added_forced l h = forced_grows l (whole.sound l h)
+
+      pub added_followed : (next : List Literal) → ((l : Literal) → has next l ≡ true → FollowsFrom lits c l) → TakesIn lits next c → take (length lits) next ≡ lits → IsFollowed (maps.get live) (length lits) next
+      added_followed next follows takes begins = record {
+        sound = λ l h. follows_forced (maps.get live) lits added_forced slot c at l (follows l h);
+        takes = λ k d here m member others.
+            let known = λ (l : Literal) (h : has d l ≡ true) (ne : l ≢ m). ap (λ ls. has ls (complement l)) (sym begins) ∙ others l h ne in
+            elim (cases_eq k slot) [
+              | inl e ↦
+                  let same = same_Some d c (sym here ∙ ap (maps.get live) e ∙ at) in
+                  takes m (ap (λ x. has x m) (sym same) ∙ member) (λ l h ne. known l (ap (λ x. has x l) same ∙ h) ne)
+              | inr ne ↦
+                  has_begun lits next m begins
+                  (whole.all m (forced_unit (maps.get (maps.remove live slot)) [] k d (not_removed k ne ∙ here) m member (λ l h apart. whole.sound (complement l) (known l h apart))))
+            ];
+      }
+
+    -- a clause is removed that is no reason clause
+    module _ (whole : IsWhole (maps.get live) lits) (no_reason : ¬ IsRootReason (maps.get live) c) where
+      within_closed : (passes : Literal → Bool) → IsClosed (maps.get (maps.remove live slot)) passes → IsClosed (maps.get live) (λ x. has lits x && passes x)
+      within_closed passes closed = record {
+        unit = λ k d here m member others.
+            let known = λ (l : Literal) (h : has d l ≡ true) (ne : l ≢ m). and_parts (has lits (complement l)) (passes (complement l)) (others l h ne) in
+            let follows : has lits m ≡ true = whole.all m (forced_unit (maps.get live) [] k d here m member (λ l h ne. whole.sound (complement l) (known l h ne).0)) in
+            elim (cases_eq k slot) [
+              | inl e ↦
+                  let same = same_Some d c (sym here ∙ ap (maps.get live) e ∙ at) in
+                  absurd (no_reason (record {
+                    literal = m;
+                    member = ap (λ x. has x m) (sym same) ∙ member;
+                    forced = whole.sound m follows;
+                    others = λ l h ne. whole.sound (complement l) (known l (ap (λ x. has x l) same ∙ h) ne).0;
+                  }))
+              | inr ne ↦ ap (λ b. b && passes m) follows ∙ closed.unit k d (not_removed k ne ∙ here) m member (λ l h apart. (known l h apart).1)
+            ];
+      }
+
+      pub removed_whole : IsWhole (maps.get (maps.remove live slot)) lits
+      removed_whole = record {
+        sound = λ l h. record {
+          in_each = λ passes closed start.
+              (and_parts (has lits l) (passes l) ((whole.sound l h).in_each (λ x. has lits x && passes x) (within_closed passes closed) (λ a none. absurd (false≢true none)))).1;
+        };
+        all = λ l forced. whole.all l (forced_grows l forced);
+      }

@@ -1,0 +1,13 @@
+use Rattle.std.proofs.Common.{◌≡◌, ℕ, true, Some, length, take}
+use Rattle.std.specs.FinMap as maps
+use Rattle.cnf_base.specs.Literals.{Clause, has}
+use Rattle.propagation.specs.Code.Closure.{AreForced, TakesIn}
+use Rattle.propagation.proofs.closure.take_each.Given as goal
+
+abbrev pub invariant-loop-slot : goal.invariant-loop-slot
+invariant-loop-slot l = record {
+  sound : AreForced (maps.get l.store.live) l.found;
+  begins : take (length l.fn.found) l.found ≡ l.fn.found;
+  takes : (s : ℕ) (c : Clause) → has (take l.slot-index l.slots) s ≡ true →
+      maps.get l.store.live s ≡ Some c → TakesIn l.fn.found l.found c;
+}
