@@ -160,21 +160,27 @@ def past_a_clash(n, more):
     return [(top,), (-top,), (1,), *more]
 
 
-@kind(DRAT, 100, "--keep-units", is_linear=False)
+@kind(DRAT, 2000, "--keep-units")
 def kept_reversed(n):
     """Past a clash, n clauses that are kept are deleted, of a chain that stands in reversed order."""
     chain = implications(1, n)[::-1]
     return past_a_clash(n, chain), ["d " + clause(*c) for c in chain]
 
 
-@kind(DRAT, 1000, "--keep-units", is_linear=False)
+@kind(DRAT, 2000, "--keep-units")
 def kept_again(n):
     """Past a clash, one clause that is kept is deleted again and again."""
     chain = implications(1, n)
     return past_a_clash(n, chain), ["d " + clause(*chain[-1])] * n
 
 
-@kind(DRAT, 1000, "--keep-units", is_linear=False)
+@kind(DRAT, 2000, "--keep-units")
+def kept_as_it_grows(n):
+    """Past a clash, a chain of implications is added, and each is deleted, but kept, as soon as it is there."""
+    return past_a_clash(n, []), [line for c in implications(1, n) for line in (clause(*c), "d " + clause(*c))]
+
+
+@kind(DRAT, 2000, "--keep-units")
 def not_kept(n):
     """Past a clash, a clause that isn't kept is added and deleted again and again."""
     open_one = clause(n + 3, n + 4)

@@ -3,6 +3,7 @@
 
 mod arrange;
 mod clause_source;
+mod clauses;
 mod entries;
 mod follow;
 mod history;

@@ -3,43 +3,43 @@
 ghost use Rattle.std.specs.Prelude.{◌≡◌, [], true, false, Some, IsSome, IfOk};
 ghost use Rattle.std.specs.FinMap as maps;
 ghost use Rattle.cnf_base.specs.Literals.{Clause};
+ghost use Rattle.propagation.specs.Closure.{IsClosure};
 ghost use Rattle.theory.specs.Propagation.{IsRootReason};
-ghost use Rattle.trail.specs.Trail.{HasRoomForAll};
 ghost use Rattle.watch.specs.Code.Order.{each_in_order};
 ghost use Rattle.watch.specs.Code.Roots.{IsKept, is_up_to_date};
 
 use crate::roots::Roots;
 use clause_db::{Slot, Store};
 use cnf_base::OutOfMemory;
-use propagation::{Assumptions, is_root_reason};
-use std::alloc::Global;
+use propagation::{Assumptions, Closure};
 
 /// Whether the clause in the slot makes a literal of it hold for good: by the literals that are
-/// kept, which are all that follows with nothing assumed, or, where a clash is known, by a search
-/// of its own over all clauses.
+/// kept, which are all that follows with nothing assumed, or, where a clash is known, by the whole
+/// least set.
 pub(crate) fn is_reason_for_good(
-    alloc: Global,
-    store: &Store,
+    store: &mut Store,
+    closure: &mut Closure,
     assumptions: &Assumptions,
     roots: &Roots,
     slot: Slot,
 ) -> Result<bool, OutOfMemory>
-    requires alive { IsSome (maps.get store.now.live slot) }
+    requires alive { IsSome (maps.get store.old.live slot) }
     requires nothing_assumed { assumptions.now.assumptions ≡ [] }
-    requires room { HasRoomForAll assumptions.now.trail.reserved
-        (maps.get (each_in_order store.now.live)) }
-    requires kept { IsKept store.now.live roots.now assumptions.now.trail.lits }
+    requires kept { IsKept store.old.live roots.now assumptions.now.trail.lits }
     requires up_to_date { is_up_to_date roots.now.kept ≡ true }
+    requires closure { IsClosure (maps.get (each_in_order store.old.live)) closure.old }
     ensures yes { IfOk result (λ is_reason. is_reason ≡ true → (c : Clause) →
-        maps.get store.now.live slot ≡ Some c → IsRootReason (maps.get store.now.live) c) }
+        maps.get store.old.live slot ≡ Some c → IsRootReason (maps.get store.old.live) c) }
     ensures no { IfOk result (λ is_reason. is_reason ≡ false → (c : Clause) →
-        maps.get store.now.live slot ≡ Some c → ¬ IsRootReason (maps.get store.now.live) c) }
+        maps.get store.old.live slot ≡ Some c → ¬ IsRootReason (maps.get store.old.live) c) }
+    ensures closure { IsClosure (maps.get (each_in_order store.old.live)) closure.new }
+    ensures same { store.new ≡ store.old }
 {
-    let trail = assumptions.trail();
     if roots.has_clash() {
-        return is_root_reason(alloc, store, trail, slot);
+        return closure.is_root_reason(store, slot);
     }
     store.recall_invariant();
+    let trail = assumptions.trail();
     let _different = trail.len();
     let clause = store.clause(slot);
     Ok(trail.left(clause).is_one_at_most(clause))

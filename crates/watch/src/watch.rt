@@ -16,6 +16,7 @@ ghost use Rattle.watch.specs.Watched.{long_clauses, short_clauses};
 
 use crate::arrange::arrange;
 use crate::clause_source::{ClauseSource, assume_from, reserve_given};
+use crate::clauses::{insert_clause, remove_clause};
 use crate::entries::{add_entries, remove_entries};
 use crate::reason::is_reason_for_good;
 use crate::refresh::refresh;
@@ -23,7 +24,7 @@ use crate::roots::Roots;
 use crate::run::run;
 use clause_db::{Slot, Store};
 use cnf_base::{Lit, OutOfMemory};
-use propagation::{Answer, Assumptions, Propagate, first_with};
+use propagation::{Answer, Assumptions, Closure, Propagate, first_with};
 use std::alloc::Global;
 use std::marker::Model;
 use std::mem;
@@ -45,6 +46,8 @@ pub struct Watch {
     assumptions: Assumptions,
     /// What is known of the literals that are true with nothing assumed.
     roots: Roots,
+    /// All that follows with nothing assumed, from when it is first asked for past a clash.
+    closure: Closure,
     /// The set that the last call was given, if it was given one.
     set: LiteralSet,
     has_refused: bool,
@@ -56,6 +59,8 @@ impl Model for Watch {
     ghost use Rattle.watch_lists.specs.Lists.{entries_in};
     ghost use Rattle.watch.specs.Code.Order.{each_in_order};
     ghost use Rattle.propagation.specs.Assumptions.{roots_in};
+    ghost use Rattle.propagation.specs.Closure.{IsClosure};
+    ghost use Rattle.std.specs.FinMap as maps;
     ghost use Rattle.watch.specs.Code.Roots.{has_clash, is_up_to_date};
     ghost use Rattle.watch.specs.Code.State.{IsWatch, variables_in, watch_code};
     ghost use Rattle.watch.specs.State.{WatchState};
@@ -73,6 +78,7 @@ impl Model for Watch {
       short = short;
       assumptions = assumptions;
       roots = roots;
+      closure = _;
       set = _;
       has_refused = has_refused;
     }. record {
@@ -93,7 +99,8 @@ impl Model for Watch {
 
     ghost invariant = { λ w.
         IsWatch w.store.live w.lists w.short w.roots w.assumptions
-        × (w.store.stored ≡ literals_in (each_in_order w.store.live)) };
+        × (w.store.stored ≡ literals_in (each_in_order w.store.live))
+        × IsClosure (maps.get (each_in_order w.store.live)) w.closure };
 }
 
 /// Assumes the complements of a part of a clause, beside what is assumed, and propagates.
@@ -160,6 +167,7 @@ impl Watch {
             short: SlotList::new(alloc),
             assumptions: Assumptions::new(alloc)?,
             roots: Roots::new(alloc),
+            closure: Closure::new(alloc),
             set: LiteralSet::new(alloc),
             has_refused: false,
         })
@@ -328,7 +336,7 @@ impl Propagate for Watch {
     fn insert(&mut self, lits: &[Lit]) -> Result<Slot, OutOfMemory> {
         self.assumptions.reserve(lits)?;
         self.roots.reserve(lits)?;
-        let slot = self.store.insert(lits)?;
+        let slot = insert_clause(&mut self.store, &mut self.closure, lits)?;
         let left = arrange(&mut self.store, self.assumptions.trail(), slot);
         match add_entries(&self.store, &mut self.lists, &mut self.short, slot) {
             Ok(()) => {
@@ -337,7 +345,7 @@ impl Propagate for Watch {
                 Ok(slot)
             }
             Err(refused) => {
-                self.store.remove(slot);
+                remove_clause(&mut self.store, &mut self.closure, slot);
                 Err(refused)
             }
         }
@@ -346,7 +354,7 @@ impl Propagate for Watch {
     fn remove(&mut self, slot: Slot) {
         self.roots.leave(&self.store, &mut self.assumptions, slot);
         remove_entries(&self.store, &mut self.lists, &mut self.short, slot);
-        self.store.remove(slot);
+        remove_clause(&mut self.store, &mut self.closure, slot);
     }
 
     fn find(&mut self, lits: &[Lit]) -> Option<Slot> {
@@ -399,8 +407,8 @@ impl Propagate for Watch {
     fn is_root_reason(&mut self, slot: Slot) -> Result<bool, OutOfMemory> {
         self.prepare()?;
         let found = is_reason_for_good(
-            self.alloc,
-            &self.store,
+            &mut self.store,
+            &mut self.closure,
             &self.assumptions,
             &self.roots,
             slot,

@@ -194,6 +194,10 @@ inserted_is live after slot c here others = same_maps _ _ (λ s. by_test s (eqb 
     by_test s true e = ap (maps.get after) (eqb-true s slot e) ∙ here
     by_test s false e = others s (λ same. true≢false (sym (eq-eqb s slot same) ∙ e))
 
+-- the literals of the clause in a slot were put in another order
+pub ordered_alike : (live after : FinMap nat_cmp Clause) (slot : ℕ) (c d : Clause) → maps.get live slot ≡ Some c → maps.get after slot ≡ Some d → ((l : Literal) → has d l ≡ has c l) → ((s : ℕ) → s ≢ slot → maps.get after s ≡ maps.get live s) → each_in_order after ≡ each_in_order live
+ordered_alike live after slot c d here there alike others = ap each_in_order (inserted_is live after slot d there others) ∙ ordered_same live slot c d here alike
+
 pub removed_back : (live after : FinMap nat_cmp Clause) (slot : ℕ) → maps.get live slot ≡ None → ((s : ℕ) → s ≢ slot → maps.get after s ≡ maps.get live s) → maps.remove after slot ≡ live
 removed_back live after slot free others = same_maps _ _ (λ s. get_remove after slot s ∙ by_test s (eqb s slot) refl)
   where

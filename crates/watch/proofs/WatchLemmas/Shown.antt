@@ -1,5 +1,5 @@
 -- What follows from the clauses as they are shown follows from them as they are held.
-use Rattle.std.proofs.Common.{◌≡◌, ℕ, Bool, Some, List, [], sym, ap, ◌∙◌, subst}
+use Rattle.std.proofs.Common.{◌≡◌, ℕ, Bool, Option, Some, None, List, [], sym, ap, ◌∙◌, subst}
 use Rattle.std.specs.Ordering.{nat_cmp}
 use Rattle.std.specs.FinMap as maps
 use Rattle.std.specs.FinMap.{FinMap}
@@ -9,7 +9,7 @@ use Rattle.std.proofs.lemmas.Result.{IfOk-weaker}
 use Rattle.cnf_base.specs.Literals.{Literal, Clause}
 use Rattle.cnf_base.proofs.SetLemmas.{same_from}
 use Rattle.theory.specs.Propagation.{Live, Forced, IsRootReason}
-use Rattle.trail.specs.Trail.{HasRoomForAll}
+use Rattle.propagation.specs.Closure.{IsClosure}
 use Rattle.theory.proofs.PropagationLemmas.Covers.{Covers, forced_covers, reason_covers}
 use Rattle.watch.specs.Code.Order.{in_order, each_in_order}
 use Rattle.watch.proofs.WatchLemmas.Order.{has-in_order, seen_there, there_seen}
@@ -27,8 +27,14 @@ module _ (live : FinMap nat_cmp Clause) where
   pub forced_shown : (l : Literal) → Forced (maps.get live) [] l → Forced (maps.get (each_in_order live)) [] l
   forced_shown l = forced_covers (maps.get live) (maps.get (each_in_order live)) covers_shown [] l
 
-  pub room_held : (reserved : List ℕ) → HasRoomForAll reserved (maps.get (each_in_order live)) → HasRoomForAll reserved (maps.get live)
-  room_held reserved room = record { each = λ k c at l member. room.each k (in_order c) (seen_there live k c at) l (has-in_order c l ∙ member) }
+  -- all that follows from the ones follows from the others
+  pub closure_held : (kept : Option (List Literal)) → IsClosure (maps.get (each_in_order live)) kept → IsClosure (maps.get live) kept
+  closure_held None h = tt
+  closure_held (Some lits) h = record { sound = λ l member. forced_held l (h.sound l member); all = λ l forced. h.all l (forced_shown l forced) }
+
+  pub closure_shown : (kept : Option (List Literal)) → IsClosure (maps.get live) kept → IsClosure (maps.get (each_in_order live)) kept
+  closure_shown None h = tt
+  closure_shown (Some lits) h = record { sound = λ l member. forced_shown l (h.sound l member); all = λ l forced. h.all l (forced_held l forced) }
 
   module _ (slot : ℕ) (d : Clause) (at : maps.get (each_in_order live) slot ≡ Some d) where
     pub reason_shown : ((c : Clause) → maps.get live slot ≡ Some c → IsRootReason (maps.get live) c) → IsRootReason (maps.get (each_in_order live)) d

@@ -4,23 +4,19 @@ use Rattle.std.proofs.lemmas.Option.{same_Some}
 use Rattle.cnf_base.specs.Literals.{has}
 use Rattle.theory.specs.Propagation.{IsRootReason}
 use Rattle.trail.specs.Left.{is_one_at_most}
-use Rattle.trail.specs.Trail.{HasNoVariableTwice, HasRoomForAll}
+use Rattle.trail.specs.Trail.{HasNoVariableTwice}
 use Rattle.propagation.proofs.PropagationLemmas.Closing.{no_reason_left, reason_left}
 use Rattle.watch.specs.Code.Roots.{IsKept}
 use Rattle.watch.proofs.WatchLemmas.Kept.{all_forced, kept_forced, roots_alone}
-use Rattle.watch.proofs.WatchLemmas.Shown.{forced_held, forced_shown, room_held}
+use Rattle.watch.proofs.WatchLemmas.Shown.{closure_held, closure_shown, forced_held}
+use Rattle.watch.proofs.WatchLemmas.Shown.{forced_shown}
 use Rattle.watch.proofs.reason.is_reason_for_good.Goals as goal
 
-pub is_root_reason-requires-clause-room : goal.is_root_reason-requires-clause-room
-is_root_reason-requires-clause-room c =
-    let live = c.args.store.now.live in
-    subst (λ t. HasRoomForAll t.reserved (maps.get live)) (sym c.trail-trail.ensures) (room_held live c.args.assumptions.now.trail.reserved c.requires.room)
+pub is_root_reason-requires-clause-closure : goal.is_root_reason-requires-clause-closure
+is_root_reason-requires-clause-closure c = closure_held c.args.store.now.live c.args.closure.now c.requires.closure
 
-pub is_root_reason-requires-clause-known : goal.is_root_reason-requires-clause-known
-is_root_reason-requires-clause-known c l h =
-    let live = c.args.store.now.live in
-    let lits = c.args.assumptions.now.trail.lits in
-    forced_held live l (kept_forced live c.args.roots.now lits c.requires.kept l (ap (λ t. has t.lits l) (sym c.trail-trail.ensures) ∙ h))
+pub returns-then-has_clash-clause-closure : goal.returns-then-has_clash-clause-closure
+returns-then-has_clash-clause-closure c = closure_shown c.args.store.now.live c.is_root_reason.new.self c.is_root_reason.ensures.closure
 
 pub returns-clause-yes : goal.returns-clause-yes
 returns-clause-yes c is_reason clause at =

@@ -1,4 +1,6 @@
-use Rattle.std.proofs.Common.{rules, refl, sym, ap, ◌∙◌}
+use Rattle.std.proofs.Common.{rules, refl, sym, ap, ◌∙◌, subst}
+use Rattle.std.specs.FinMap as maps
+use Rattle.propagation.specs.Closure.{IsClosure}
 use Rattle.propagation.proofs.PropagationLemmas.Reduced.{unless_refused}
 use Rattle.watch.proofs.WatchLemmas.Assumed.{assuming_source, refused_source, source_room}
 use Rattle.watch.proofs.WatchLemmas.Assumed.{source_there}
@@ -17,7 +19,11 @@ assume_part-assumed-requires-clause-room g c =
     (source_there live source _ (ap (λ w. w.propagation.live) c.self.view_is ∙ c.in_ok-prepare.ensures.live) c.requires.alive) (unless_refused c.reserve_given.result (sym c.is_err.ensures.value ∙ c.if-is_err.false) c.reserve_given.ensures.room)
 
 pub invariant_of-self-2 : goal.invariant_of-self-2
-invariant_of-self-2 g c = (c.assume_part-assumed.ensures.watch, c.recall_invariant.ensures.live_alone ∙ sym (literals_ordered c.assume_part-assumed.new.store.live))
+invariant_of-self-2 g c = (
+  c.assume_part-assumed.ensures.watch,
+  c.recall_invariant.ensures.live_alone ∙ sym (literals_ordered c.assume_part-assumed.new.store.live),
+  subst (λ m. IsClosure (maps.get m) c.self.inside.closure) (sym c.assume_part-assumed.ensures.same) c.self.invariant.2,
+)
 
 pub returns-in_err-prepare : goal.returns-in_err-prepare
 returns-in_err-prepare g c =

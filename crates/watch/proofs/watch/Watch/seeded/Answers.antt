@@ -1,4 +1,6 @@
-use Rattle.std.proofs.Common.{ap, sym, ◌∙◌}
+use Rattle.std.proofs.Common.{ap, sym, ◌∙◌, subst}
+use Rattle.std.specs.FinMap as maps
+use Rattle.propagation.specs.Closure.{IsClosure}
 use Rattle.watch.specs.Code.Order.{each_in_order}
 use Rattle.propagation.proofs.PropagationLemmas.Scan.{none_alone}
 use Rattle.watch.proofs.WatchLemmas.Order.{literals_ordered, ordered_empty}
@@ -11,6 +13,7 @@ invariant_of-result c =
     let held = c.in_ok-new.field-0 in (
       watch_empty store.live c.new.result c.new-2.result c.new-4.result held (ap (λ s. s.live) c.in_ok-seeded.ensures) c.new.ensures.lists c.new.ensures.entries c.new.ensures.apart c.new-2.ensures c.new-4.ensures.kept c.new-4.ensures.visited c.in_ok-new.ensures.lits c.in_ok-new.ensures.nothing_assumed,
       none_alone store c.in_ok-seeded.ensures ∙ sym (literals_ordered store.live),
+      subst (IsClosure (maps.get (each_in_order store.live))) (sym c.new-5.ensures) tt,
     )
 
 pub returns-clause-live : goal.returns-clause-live

@@ -11,9 +11,10 @@ use Rattle.std.proofs.lemmas.Option.{none-some, same_Some}
 use Rattle.watch.specs.Code.Watched.{short_for}
 use Rattle.clause_db.specs.Store.{literals_in}
 use Rattle.propagation.proofs.PropagationLemmas.Scan.{room_added}
+use Rattle.propagation.specs.Closure.{IsClosure}
 use Rattle.watch.proofs.WatchLemmas.Follow.{times_has}
-use Rattle.watch.proofs.WatchLemmas.Order.{get_ordered, inserted_is, literals_ordered, removed_back}
-use Rattle.watch.proofs.WatchLemmas.Order.{same-in_order, seen_there}
+use Rattle.watch.proofs.WatchLemmas.Order.{get_ordered, inserted_is, literals_ordered, ordered_alike}
+use Rattle.watch.proofs.WatchLemmas.Order.{removed_back, same-in_order, seen_there}
 use Rattle.watch.proofs.WatchLemmas.State.{alone_kept, same_state, watch_added, watch_noted}
 use Rattle.watch.proofs.WatchLemmas.State.{watch_reserved, watch_same}
 use Rattle.watch.proofs.watch.WatchPropagate.insert.Goals as goal
@@ -84,7 +85,14 @@ invariant_of-self-in-Ok c =
           slot w.0 (e.different w.0 w.1) e.apart (record { each = λ k x here l member. n.reserved (l / 2) ∙ room.each k x here l member }) n.kept
           c.in_ok-slot.ensures.free (inserted_is live after slot w.0 w.1 others) e.low (e.watched w.0 w.1) (e.names_own w.0 w.1) (e.rest w.0 w.1) (e.more w.0 w.1) (e.longer w.0 w.1),
       c.arrange-left.ensures.live_alone ∙ sym (literals_ordered after),
+      subst (λ m. IsClosure (maps.get m) c.insert_clause.new.closure) (sym (ordered_alike c.insert_clause.new.store.live after slot d.0 w.0 d.1 w.1 w.2 c.arrange-left.ensures.others)) c.insert_clause.ensures.closure,
     )
+
+pub remove_clause-requires-clause-closure : goal.remove_clause-requires-clause-closure
+remove_clause-requires-clause-closure c =
+    let d = c.in_ok-slot.ensures.stored in
+    let w = c.arrange-left.ensures.arranged d.0 d.1 in
+    subst (λ m. IsClosure (maps.get m) c.insert_clause.new.closure) (sym (ordered_alike c.insert_clause.new.store.live c.arrange-left.new.store.live c.in_ok-slot.slot d.0 w.0 d.1 w.1 w.2 c.arrange-left.ensures.others)) c.insert_clause.ensures.closure
 
 pub invariant_of-self-in-Err : goal.invariant_of-self-in-Err
 invariant_of-self-in-Err c =
@@ -98,10 +106,11 @@ invariant_of-self-in-Err c =
     let w = c.arrange-left.ensures.arranged d.0 d.1 in
     let e = c.in-Err.ensures in
     let fewer = λ (l s : ℕ) (x : Clause) (is : maps.get live s ≡ Some x). e.names_own w.0 w.1 l s x (λ same. absurd (none-some x (sym (ap (maps.get live) same ∙ c.in_ok-slot.ensures.free) ∙ is))) in
-    let back = c.remove.ensures.live ∙ removed_back live c.arrange-left.new.store.live c.in_ok-slot.slot c.in_ok-slot.ensures.free (λ s ne. c.arrange-left.ensures.others s ne ∙ c.in_ok-slot.ensures.others s ne) in (
+    let back = c.remove_clause.ensures.live ∙ removed_back live c.arrange-left.new.store.live c.in_ok-slot.slot c.in_ok-slot.ensures.free (λ s ne. c.arrange-left.ensures.others s ne ∙ c.in_ok-slot.ensures.others s ne) in (
       subst (λ m. IsWatch m c.add_entries.new.lists c.add_entries.new.short roots held) (sym back)
           (subst (λ xs. IsWatch live c.add_entries.new.lists xs roots held) (sym e.err_rest) (watch_same live i.lists c.add_entries.new.lists i.short roots held e.apart e.err_watched fewer e.err_entries watch)),
-      c.remove.ensures.live_alone ∙ sym (literals_ordered c.remove.new.self.live),
+      c.remove_clause.ensures.live_alone ∙ sym (literals_ordered c.remove_clause.new.store.live),
+      c.remove_clause.ensures.closure,
     )
 
 pub returns-in-Ok-clause-free : goal.returns-in-Ok-clause-free
@@ -126,15 +135,15 @@ pub returns-in-Ok-clause-live_alone : goal.returns-in-Ok-clause-live_alone
 returns-in-Ok-clause-live_alone c = c.arrange-left.ensures.live_alone ∙ sym (literals_ordered c.arrange-left.new.store.live)
 
 pub returns-in-Err-clause-live_alone : goal.returns-in-Err-clause-live_alone
-returns-in-Err-clause-live_alone c = c.remove.ensures.live_alone ∙ sym (literals_ordered c.remove.new.self.live)
+returns-in-Err-clause-live_alone c = c.remove_clause.ensures.live_alone ∙ sym (literals_ordered c.remove_clause.new.store.live)
 
 pub returns-in-Err-clause-err : goal.returns-in-Err-clause-err
 returns-in-Err-clause-err c =
     let i = c.self.inside in
     let live = i.store.live in
-    let back = c.remove.ensures.live ∙ removed_back live c.arrange-left.new.store.live c.in_ok-slot.slot c.in_ok-slot.ensures.free (λ s ne. c.arrange-left.ensures.others s ne ∙ c.in_ok-slot.ensures.others s ne) in
-    let stored = c.remove.ensures.live_alone ∙ ap literals_in back ∙ sym (literals_ordered live) ∙ sym c.self.invariant.1 in
-    same_state (each_in_order c.remove.new.self.live) (each_in_order live) _ _ _ _ i.has_refused (ap each_in_order back) c.reserve.ensures.assumptions stored ∙ ap (λ w. w.propagation) c.self.view_is
+    let back = c.remove_clause.ensures.live ∙ removed_back live c.arrange-left.new.store.live c.in_ok-slot.slot c.in_ok-slot.ensures.free (λ s ne. c.arrange-left.ensures.others s ne ∙ c.in_ok-slot.ensures.others s ne) in
+    let stored = c.remove_clause.ensures.live_alone ∙ ap literals_in back ∙ sym (literals_ordered live) ∙ sym c.self.invariant.1 in
+    same_state (each_in_order c.remove_clause.new.store.live) (each_in_order live) _ _ _ _ i.has_refused (ap each_in_order back) c.reserve.ensures.assumptions stored ∙ ap (λ w. w.propagation) c.self.view_is
 
 pub invariant_of-self-in_err-reserve-2 : goal.invariant_of-self-in_err-reserve-2
 invariant_of-self-in_err-reserve-2 c =
@@ -143,6 +152,7 @@ invariant_of-self-in_err-reserve-2 c =
       watch_noted i.store.live i.lists i.short i.roots c.reserve-2.new.self c.reserve.new.self c.reserve-2.ensures.kept c.reserve-2.ensures.old
           (watch_reserved i.store.live i.lists i.short i.roots i.assumptions c.reserve.new.self r.lits r.assumptions r.starts r.reserved c.self.invariant.0),
       c.self.invariant.1,
+      c.self.invariant.2,
     )
 
 pub invariant_of-self-in_err-slot : goal.invariant_of-self-in_err-slot
@@ -151,4 +161,8 @@ invariant_of-self-in_err-slot c =
     let r = c.reserve.ensures in
     let watch = watch_noted i.store.live i.lists i.short i.roots c.reserve-2.new.self c.reserve.new.self c.reserve-2.ensures.kept c.reserve-2.ensures.old
     (watch_reserved i.store.live i.lists i.short i.roots i.assumptions c.reserve.new.self r.lits r.assumptions r.starts r.reserved c.self.invariant.0) in
-    subst (λ s. IsWatch s.live i.lists i.short c.reserve-2.new.self c.reserve.new.self × (s.stored ≡ literals_in (each_in_order s.live))) (sym c.in_err-slot.ensures.err) (watch, c.self.invariant.1)
+    let same = sym c.in_err-slot.ensures.err in (
+      subst (λ s. IsWatch s.live i.lists i.short c.reserve-2.new.self c.reserve.new.self) same watch,
+      subst (λ s. s.stored ≡ literals_in (each_in_order s.live)) same c.self.invariant.1,
+      c.insert_clause.ensures.closure,
+    )

@@ -12,8 +12,8 @@ pub remove_entries-requires-clause-alive : goal.remove_entries-requires-clause-a
 remove_entries-requires-clause-alive c =
     sym (alive_alike c.self.inside.store.live c.args.slot) ∙ ap (λ w. is_some (maps.get w.propagation.live c.args.slot)) c.self.view_is ∙ c.requires.alive
 
-pub remove-requires : goal.remove-requires
-remove-requires c =
+pub remove_clause-requires-clause-alive : goal.remove_clause-requires-clause-alive
+remove_clause-requires-clause-alive c =
     sym (alive_alike c.self.inside.store.live c.args.slot) ∙ ap (λ w. is_some (maps.get w.propagation.live c.args.slot)) c.self.view_is ∙ c.requires.alive
 
 pub leave-requires-clause-alive : goal.leave-requires-clause-alive
@@ -29,25 +29,26 @@ pub invariant_of-self : goal.invariant_of-self
 invariant_of-self c =
     let i = c.self.inside in
     let live = i.store.live in
-    let after = c.remove.new.self.live in
+    let after = c.remove_clause.new.store.live in
     let slot = c.args.slot in
     let watch = c.self.invariant.0 in
     let left = c.leave.ensures in
     let held = c.leave.new.assumptions in
     let e = c.remove_entries.ensures in
     let d = alive_clause live slot (sym (alive_alike live slot) ∙ ap (λ w. is_some (maps.get w.propagation.live slot)) c.self.view_is ∙ c.requires.alive) in
-    let gone = ap each_in_order c.remove.ensures.live ∙ ordered_remove live slot in
+    let gone = ap each_in_order c.remove_clause.ensures.live ∙ ordered_remove live slot in
     let room = room_removed i.assumptions.trail.reserved (each_in_order live) (each_in_order after) slot gone watch.scan.room in (
       watch_removed live after i.lists c.remove_entries.new.lists i.short c.remove_entries.new.short i.roots c.leave.new.self i.assumptions held watch left.assumptions
           slot d.0 (e.different d.0 d.1) e.apart (record { each = λ k x here l member. left.reserved (l / 2) ∙ room.each k x here l member })
-          (subst (λ m. IsKept m c.leave.new.self held.trail.lits) (sym c.remove.ensures.live) left.kept)
-          d.1 c.remove.ensures.live (e.watched d.0 d.1) (e.names_own d.0 d.1) (e.rest d.0 d.1) (e.fewer d.0 d.1) (e.shorter d.0 d.1),
-      c.remove.ensures.live_alone ∙ sym (literals_ordered after),
+          (subst (λ m. IsKept m c.leave.new.self held.trail.lits) (sym c.remove_clause.ensures.live) left.kept)
+          d.1 c.remove_clause.ensures.live (e.watched d.0 d.1) (e.names_own d.0 d.1) (e.rest d.0 d.1) (e.fewer d.0 d.1) (e.shorter d.0 d.1),
+      c.remove_clause.ensures.live_alone ∙ sym (literals_ordered after),
+      c.remove_clause.ensures.closure,
     )
 
 pub returns-clause-live : goal.returns-clause-live
 returns-clause-live c =
-    ap each_in_order c.remove.ensures.live ∙ ordered_remove c.self.inside.store.live c.args.slot ∙ ap (λ w. maps.remove w.propagation.live c.args.slot) c.self.view_is
+    ap each_in_order c.remove_clause.ensures.live ∙ ordered_remove c.self.inside.store.live c.args.slot ∙ ap (λ w. maps.remove w.propagation.live c.args.slot) c.self.view_is
 
 pub returns-clause-live_alone : goal.returns-clause-live_alone
-returns-clause-live_alone c = c.remove.ensures.live_alone ∙ sym (literals_ordered c.remove.new.self.live)
+returns-clause-live_alone c = c.remove_clause.ensures.live_alone ∙ sym (literals_ordered c.remove_clause.new.store.live)
