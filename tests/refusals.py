@@ -65,6 +65,17 @@ KEPT_LINES = [
     "s VERIFIED",
 ]
 
+GROWN = b"d 1 2 0\n-2 3 0\nd -2 3 0\n0\n"
+GROWN_LINES = [
+    "c formula 2 variables 3 clauses",
+    "c 1 ignored",
+    "c 2 add rup",
+    "c 3 ignored",
+    "c 4 add rup",
+    "c steps 4 peak 6",
+    "s VERIFIED",
+]
+
 # The tool with its flags, the formula, the second input, the report and the status.
 ROWS = {
     "two clauses are added": ("drat-forward", [], E, b"2 0\n0\n", E_LINES, 0),
@@ -75,6 +86,7 @@ ROWS = {
     "a model is met": ("model-check", [], MODELS, b"s SATISFIABLE\nv 1 2 0\n", ["c clauses 2", "s MODEL VERIFIED"], 0),
     "a clause is added by a set": ("drat-forward", ["--trace", "--pr"], G, b"-1 -1 2 0\n", SET_LINES, 1),
     "a reason past a clash is kept": ("drat-forward", ["--trace", "--keep-units"], CLASH, b"d 1 2 0\n0\n", KEPT_LINES, 0),
+    "more follows past a clash": ("drat-forward", ["--trace", "--keep-units"], CLASH, GROWN, GROWN_LINES, 0),
     "a clause is deleted": ("drat-forward", ["--trace"], EIGHT, b"1 2 0\n1 0\nd 1 2 0\n2 0\n0\n", EIGHT_LINES, 0),
 }
 
