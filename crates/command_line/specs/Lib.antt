@@ -1,3 +1,4 @@
 pub mod Asked
+pub mod Texts
 pub mod Words
 pub mod Code

@@ -1,6 +1,6 @@
 -- What the words of a command line say. `words` are those after the program's name.
 use Rattle.std.specs.Prelude.{◌≡◌, ◌≤◌, ◌||◌, ◌&&◌, ◌==◌, ℕ, Bool, true, false, not, List, [], ◌∷◌}
-use Rattle.std.specs.Prelude.{Option, None, Some, codes}
+use Rattle.std.specs.Prelude.{Option, None, Some, codes, if◌then◌else◌}
 use Rattle.std.specs.Prelude.{String, string_bytes, map, drop, length, slice_get, filter}
 use Rattle.std.specs.List.{list_all, list_any}
 use Rattle.std.specs.Str.{bytes_eq}
@@ -60,10 +60,6 @@ abbrev pub begins_with_hyphen : List ℕ → Bool
 begins_with_hyphen [] = false
 begins_with_hyphen (b ∷ bs) = b == 45
 
--- the words that do not begin with a hyphen
-abbrev pub plain : List (List ℕ) → List (List ℕ)
-plain words = filter (λ word. not (begins_with_hyphen word)) words
-
 -- how often the word is among the words
 abbrev pub times : List ℕ → List (List ℕ) → ℕ
 times word words = length (filter (bytes_eq word) words)
@@ -77,19 +73,34 @@ abbrev pub is_some_empty : {Z : Type 0} → Option (String Z) → Bool
 is_some_empty None = false
 is_some_empty (Some name) = is_empty_word (string_bytes name)
 
--- no word is empty; one or two do not begin with a hyphen; each other word is a flag that the tool
--- has, and no flag is there twice
-pub record Accepts (tool : Tool) (words : List (List ℕ)) : Type 0 where
-  pub full : list_any is_empty_word words ≡ false
-  pub least : 1 ≤ length (plain words)
-  pub most : length (plain words) ≤ 2
-  pub known : list_all (λ word. not (begins_with_hyphen word) || is_flag tool word) words ≡ true
-  pub once : (flag : List ℕ) → is_flag tool flag ≡ true → times flag words ≤ 1
-
 -- the word is a flag of the tool, or begins with no hyphen, or is the hyphen alone
 abbrev pub is_known : Tool → List ℕ → Bool
 is_known tool word =
     is_flag tool word || (not (begins_with_hyphen word) || bytes_eq word (codes "-"))
+
+-- what stands for standard input: `-`, or no name
+abbrev pub is_standard : Option (List ℕ) → Bool
+is_standard None = true
+is_standard (Some name) = bytes_eq name (codes "-")
+
+-- the name by which a system is asked for an input: none for standard input
+abbrev pub asked_by : Option (List ℕ) → Option (List ℕ)
+asked_by name = if is_standard name then None else name
+
+-- both inputs would be standard input, by the names of the formula and of the second one
+abbrev pub is_read_twice : (formula second : Option (List ℕ)) → Bool
+is_read_twice formula second = is_standard second && is_standard formula
+
+-- no word is empty; each is known, and no flag is there twice; one or two words are names, and not
+-- both inputs are standard input
+pub record Accepts (tool : Tool) (words : List (List ℕ)) : Type 0 where
+  pub full : list_any is_empty_word words ≡ false
+  pub least : 1 ≤ length (names tool words)
+  pub most : length (names tool words) ≤ 2
+  pub known : list_all (is_known tool) words ≡ true
+  pub once : (flag : List ℕ) → is_flag tool flag ≡ true → times flag words ≤ 1
+  pub apart : is_read_twice (slice_get (names tool words) 0) (slice_get (names tool words) 1)
+      ≡ false
 
 -- the word `--`
 abbrev pub end_mark : List ℕ

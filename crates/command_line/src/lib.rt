@@ -3,6 +3,7 @@
 
 mod args;
 mod reader;
+mod texts;
 mod tool;
 mod version;
 

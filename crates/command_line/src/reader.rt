@@ -2,19 +2,20 @@
 
 ghost use Rattle.std.specs.Prelude.{◌≡◌, ◌≤◌, ◌||◌, codes, false, length};
 ghost use Rattle.std.specs.Prelude.{string_bytes, true};
-ghost use Rattle.std.specs.Prelude.{IfErr, IfOk};
+ghost use Rattle.std.specs.Prelude.{IfErr, IfOk, Some, option_map};
 ghost use Rattle.std.specs.List.{list_all};
-ghost use Rattle.clap.specs.Words.{app_of, rule_of, kind_of};
+ghost use Rattle.clap.specs.Words.{app_of, rule_of};
 ghost use Rattle.command_line.specs.Asked.{IsAsked};
 ghost use Rattle.command_line.specs.Code.Commands.{command_of, flag_rule, formula_rule};
 ghost use Rattle.command_line.specs.Code.Commands.{new_command, second_rule, with_files};
 ghost use Rattle.command_line.specs.Words.{Accepts, end_mark, is_among, is_empty_word};
-ghost use Rattle.command_line.specs.Words.{is_known, is_some_empty, names, said_by};
+ghost use Rattle.command_line.specs.Words.{is_known, is_read_twice, is_some_empty, names};
+ghost use Rattle.command_line.specs.Words.{said_by};
 
+use crate::texts::{DRAT_PURPOSE, LRAT_PURPOSE, MODEL_PURPOSE, fault_from, wrong_words};
 use crate::version::VERSION;
 use crate::{Args, ArgsFault, Tool};
-use clap::error::ErrorKind;
-use clap::{Arg, ArgAction, Command, Error};
+use clap::{Arg, ArgAction, Command};
 use std::alloc::{AllocError, Global};
 
 /// What is shown of a proof that may be named.
@@ -64,11 +65,12 @@ fn second<'a>(alloc: Global, name: &'a str, help: &'a str) -> Arg<'a>
         .help(help)
 }
 
-/// A command without arguments, which shows its version where that is asked for.
-fn new_command<'a>(alloc: Global, name: &'a str) -> Command<'a>
+/// A command without arguments, which shows its version where that is asked for, and in its help
+/// what it is for.
+fn new_command<'a>(alloc: Global, name: &'a str, purpose: &'a str) -> Command<'a>
     ensures { app_of result ≡ new_command name.entry.now }
 {
-    Command::new(alloc, name).version(VERSION)
+    Command::new(alloc, name).version(VERSION).about(purpose)
 }
 
 /// The command with the file that must be named and the one that may be.
@@ -93,7 +95,7 @@ fn command<'a>(alloc: Global, tool: Tool) -> Result<Command<'a>, AllocError>
             let strict = "Refuse a deletion of a clause that is not alive";
             let pr = "Take additions that list a set, by propagation redundancy";
             let keep_units = "Ignore deletions of clauses that make a literal hold for good";
-            let drat = new_command(alloc, "drat-forward")
+            let drat = new_command(alloc, "drat-forward", DRAT_PURPOSE)
                 .arg(binary)?
                 .arg(trace(alloc))?
                 .arg(flag(alloc, "strict", strict))?
@@ -102,29 +104,13 @@ fn command<'a>(alloc: Global, tool: Tool) -> Result<Command<'a>, AllocError>
             with_files(alloc, drat, "PROOF", PROOF)
         }
         Tool::Lrat => {
-            let lrat = new_command(alloc, "lrat-check").arg(trace(alloc))?;
+            let lrat = new_command(alloc, "lrat-check", LRAT_PURPOSE).arg(trace(alloc))?;
             with_files(alloc, lrat, "PROOF", PROOF)
         }
-        Tool::Model => with_files(alloc, new_command(alloc, "model-check"), "OUTPUT", OUTPUT),
-    }
-}
-
-/// The refusal that shows the text.
-fn refusal(text: Result<String, AllocError>) -> ArgsFault {
-    match text {
-        Ok(text) => ArgsFault::Words(text),
-        Err(_) => ArgsFault::OutOfMemory,
-    }
-}
-
-/// What to show of an error of `clap`: its text, which is the help or the version where that was
-/// asked for.
-fn fault_from(alloc: Global, error: &Error) -> ArgsFault
-    ensures { kind_of error.now ≡ ErrorKind.OutOfMemory → result ≡ ArgsFault.OutOfMemory }
-{
-    match error.kind() {
-        ErrorKind::OutOfMemory => ArgsFault::OutOfMemory,
-        _ => refusal(format!(in alloc; "{error}")),
+        Tool::Model => {
+            let model = new_command(alloc, "model-check", MODEL_PURPOSE);
+            with_files(alloc, model, "OUTPUT", OUTPUT)
+        }
     }
 }
 
@@ -138,6 +124,17 @@ fn is_any_empty(formula: &String, second: &Option<String>) -> bool
     }
 }
 
+/// Whether both inputs would be standard input.
+fn is_read_twice(formula: &String, second: &Option<String>) -> bool
+    ensures { result ≡ is_read_twice (Some (string_bytes formula.now))
+        (option_map string_bytes second.now) }
+{
+    match second {
+        Some(name) => name.as_str() == "-" && formula.as_str() == "-",
+        None => formula.as_str() == "-",
+    }
+}
+
 /// Reads the words of the tool's command line, which begin with the program's name.
 pub fn read_args(alloc: Global, tool: Tool, words: &[String]) -> Result<Args, ArgsFault>
     ensures asked { IfOk result (λ a. IsAsked tool words.now a) }
@@ -147,16 +144,18 @@ pub fn read_args(alloc: Global, tool: Tool, words: &[String]) -> Result<Args, Ar
         → list_all (is_known tool) (said_by words.now) ≡ true) }
     ensures full { IfOk result (λ a.
         (is_empty_word (string_bytes a.formula) || is_some_empty a.second) ≡ false) }
+    ensures apart { IfOk result (λ a. is_read_twice (Some (string_bytes a.formula))
+        (option_map string_bytes a.second) ≡ false) }
     ensures accepts { IfErr result (λ e. Accepts tool (said_by words.now)
         → e ≡ ArgsFault.OutOfMemory) }
 {
     let command = command(alloc, tool)?;
     let matches = match command.try_get_matches_from(words) {
         Ok(matches) => matches,
-        Err(error) => return Err(fault_from(alloc, &error)),
+        Err(error) => return Err(fault_from(alloc, tool, &error)),
     };
     let Some(formula) = matches.get_str("formula") else {
-        return Err(refusal("error: the formula is not named\n".to_string(alloc)));
+        return Err(wrong_words(alloc, tool, "no formula is named"));
     };
     let formula = formula.to_string(alloc)?;
     let second = match matches.get_str("second") {
@@ -164,7 +163,10 @@ pub fn read_args(alloc: Global, tool: Tool, words: &[String]) -> Result<Args, Ar
         None => None,
     };
     if is_any_empty(&formula, &second) {
-        return Err(refusal("error: a name is empty\n".to_string(alloc)));
+        return Err(wrong_words(alloc, tool, "a name is empty"));
+    }
+    if is_read_twice(&formula, &second) {
+        return Err(wrong_words(alloc, tool, "both inputs are standard input"));
     }
     Ok(Args {
         binary: matches.get_flag("binary"),

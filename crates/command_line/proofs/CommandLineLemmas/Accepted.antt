@@ -19,15 +19,16 @@ use Rattle.clap.specs.Walk.{Held, Row, Text, Walk, finished, has_row, nothing_he
 use Rattle.clap.specs.Walk.{settled_rows, walk, walked, with_default}
 use Rattle.clap.specs.declared.error.kind.ErrorKind.TheVariants as kind
 use Rattle.command_line.specs.Code.Commands.{command_of}
-use Rattle.command_line.specs.Words.{Accepts, begins_with_hyphen, is_among, is_empty_word, is_flag}
-use Rattle.command_line.specs.Words.{is_some_empty, names, plain, times}
+use Rattle.command_line.specs.Words.{Accepts, is_among, is_empty_word, is_flag, is_known}
+use Rattle.command_line.specs.Words.{is_read_twice, is_some_empty, names, times}
 use Rattle.command_line.proofs.CommandLineLemmas.Rules.{fault_is, files_and_texts, flag_full}
 use Rattle.command_line.proofs.CommandLineLemmas.Rules.{formula_full, help_full, rules_of}
 use Rattle.command_line.proofs.CommandLineLemmas.Rules.{second_full, top_of}
 use Rattle.command_line.proofs.CommandLineLemmas.Rows.{names_added, names_kept}
 use Rattle.command_line.proofs.CommandLineLemmas.Turns.{at}
 use Rattle.command_line.proofs.CommandLineLemmas.Steps.{After, Shows, end_mark, flag_passes}
-use Rattle.command_line.proofs.CommandLineLemmas.Steps.{name_passes, start_after, step_after}
+use Rattle.command_line.proofs.CommandLineLemmas.Steps.{hyphen_passes, name_passes, start_after}
+use Rattle.command_line.proofs.CommandLineLemmas.Steps.{step_after}
 use Rattle.command_line.proofs.CommandLineLemmas.Steps.{tail_free, words_after}
 use Rattle.command_line.proofs.CommandLineLemmas.Ends.{formula_row_end, row_at_end}
 use Rattle.command_line.specs.declared.tool.Tool.{Tool}
@@ -97,9 +98,6 @@ rest_passes tool words w a some =
 
 -- ---- the words
 
-abbrev is_accepted : Tool → Text → Bool
-is_accepted tool word = not (begins_with_hyphen word) || is_flag tool word
-
 both : (a b : Bool) → (a && b) ≡ true → (a ≡ true) × (b ≡ true)
 both true b e = (refl, e)
 both false b e = absurd (true≢false (sym e))
@@ -108,51 +106,19 @@ neither : (a b : Bool) → (a || b) ≡ false → (a ≡ false) × (b ≡ false)
 neither true b e = absurd (true≢false e)
 neither false b e = (refl, e)
 
--- no flag begins without a hyphen
-flag_has_hyphen : (tool : Tool) (word : Text) → is_flag tool word ≡ true → begins_with_hyphen word ≡ true
-flag_has_hyphen tool [] flag = absurd (true≢false (sym flag ∙ none tool))
-  where
-    none : (tool : Tool) → is_flag tool [] ≡ false
-    none Drat = refl
-    none Lrat = refl
-    none Model = refl
-flag_has_hyphen tool (x ∷ xs) flag = go (x == 45) refl
-  where
-    none : (tool : Tool) → (x == 45) ≡ false → is_flag tool (x ∷ xs) ≡ false
-    none Drat e = rw e refl
-    none Lrat e = rw e refl
-    none Model e = refl
-
-    go : (b : Bool) → (x == 45) ≡ b → (x == 45) ≡ true
-    go true e = e
-    go false e = absurd (true≢false (sym flag ∙ none tool e))
-
--- of known words, those that are no flag are those with no hyphen before them
-names_count : (tool : Tool) (words : List Text) → list_all (is_accepted tool) words ≡ true → length (names tool words) ≡ length (plain words)
-names_count tool [] known = refl
-names_count tool (word ∷ words) known =
-    go (begins_with_hyphen word) (is_flag tool word) refl refl (both _ _ known).0 (names_count tool words (both _ _ known).1)
-  where
-    go : (h f : Bool) → begins_with_hyphen word ≡ h → is_flag tool word ≡ f → is_accepted tool word ≡ true → length (names tool words) ≡ length (plain words)
-        → length (names tool (word ∷ words)) ≡ length (plain (word ∷ words))
-    go true true eh ef k rest = rw (eh, ef) rest
-    go false false eh ef k rest = rw (eh, ef) (ap suc rest)
-    go true false eh ef k rest = absurd (true≢false (sym k ∙ rw (eh, ef) refl))
-    go false true eh ef k rest = absurd (true≢false (sym (flag_has_hyphen tool word ef) ∙ eh))
-
-end_mark_unknown : (tool : Tool) → is_accepted tool end_mark ≡ false
+end_mark_unknown : (tool : Tool) → is_known tool end_mark ≡ false
 end_mark_unknown Drat = refl
 end_mark_unknown Lrat = refl
 end_mark_unknown Model = refl
 
-pub known_free : (tool : Tool) (words : List Text) → list_all (is_accepted tool) words ≡ true → is_among words end_mark ≡ false
+pub known_free : (tool : Tool) (words : List Text) → list_all (is_known tool) words ≡ true → is_among words end_mark ≡ false
 known_free tool [] known = refl
 known_free tool (word ∷ words) known = go (bytes_eq end_mark word) refl (known_free tool words (both _ _ known).1)
   where
     go : (b : Bool) → bytes_eq end_mark word ≡ b → is_among words end_mark ≡ false → (b || is_among words end_mark) ≡ false
     go false e rest = rest
     go true e rest =
-        absurd (true≢false (sym (both _ _ known).0 ∙ (ap (is_accepted tool) (sym ((bytes_eq-Decides end_mark word).0 e)) ∙ end_mark_unknown tool)))
+        absurd (true≢false (sym (both _ _ known).0 ∙ (ap (is_known tool) (sym ((bytes_eq-Decides end_mark word).0 e)) ∙ end_mark_unknown tool)))
 
 times_more : (f word : Text) (done : List Text) → times f (done ++ word ∷ []) ≡ times f done + length (filter (bytes_eq f) (word ∷ []))
 times_more f word done = ap length (filter-append (bytes_eq f) done (word ∷ [])) ∙ length-append (filter (bytes_eq f) done) (filter (bytes_eq f) (word ∷ []))
@@ -170,7 +136,7 @@ never_among f (x ∷ done) none = go (bytes_eq f x) none (never_among f done)
 record Fits (tool : Tool) (done words : List Text) : Type 0 where
   full : list_any is_empty_word words ≡ false
   most : length (names tool done) + length (names tool words) ≤ 2
-  known : list_all (is_accepted tool) words ≡ true
+  known : list_all (is_known tool) words ≡ true
   once : (f : Text) → is_flag tool f ≡ true → times f done + times f words ≤ 1
 
 module _ (tool : Tool) (done : List Text) (word : Text) (words : List Text) (fits : Fits tool done (word ∷ words)) where
@@ -217,14 +183,15 @@ turn_passes : (tool : Tool) (done : List Text) (word : Text) (words : List Text)
     → turn_fault (top_of tool) [] w word ≡ []
 turn_passes tool done word words fits w a = go (is_flag tool word) refl
   where
-    plain_word : (word : Text) → is_empty_word word ≡ false → is_accepted tool word ≡ true → is_flag tool word ≡ false → length (names tool done) < 2
+    plain_word : (word : Text) → is_empty_word word ≡ false → is_known tool word ≡ true → is_flag tool word ≡ false → length (names tool done) < 2
         → turn_fault (top_of tool) [] w word ≡ []
     plain_word [] full known flag few = absurd (true≢false full)
-    plain_word (x ∷ xs) full known flag few = name_passes tool done w a x xs flag (at_start (x == 45) (sym (ap (λ b. not (x == 45) || b) flag) ∙ known)) few
+    plain_word (x ∷ xs) full known flag few =
+        by_first (x == 45) refl (sym (ap (λ b. b || (not (x == 45) || bytes_eq (x ∷ xs) (codes "-"))) flag) ∙ known)
       where
-        at_start : (b : Bool) → (not b || false) ≡ true → b ≡ false
-        at_start true e = sym e
-        at_start false e = refl
+        by_first : (b : Bool) → (x == 45) ≡ b → (not b || bytes_eq (x ∷ xs) (codes "-")) ≡ true → turn_fault (top_of tool) [] w (x ∷ xs) ≡ []
+        by_first false e k = name_passes tool done w a x xs flag e few
+        by_first true e k = subst (λ l. turn_fault (top_of tool) [] w l ≡ []) (sym ((bytes_eq-Decides (x ∷ xs) (codes "-")).0 k)) (hyphen_passes tool done w a few)
 
     go : (b : Bool) → is_flag tool word ≡ b → turn_fault (top_of tool) [] w word ≡ []
     go true flag = flag_passes tool done w a word flag (fits_flag tool done word words fits flag)
@@ -243,12 +210,10 @@ walk_passes tool (word ∷ words) done w a fits =
 pub no_fault : (tool : Tool) (words : List Text) → Accepts tool (drop 1 words) → fault_of (command_of tool) words ≡ []
 no_fault tool words accepts =
     let said = drop 1 words in
-    let count = names_count tool said accepts.known in
-    let least = accepts.least in
     let most = accepts.most in
     let fits : Fits tool [] said = record {
       full = accepts.full;
-      most = omega (arith, count, most);
+      most = omega (arith, most);
       known = accepts.known;
       once = λ f flag. let low = accepts.once f flag in omega (arith, low);
     } in
@@ -256,15 +221,15 @@ no_fault tool words accepts =
     let after = words_after tool said [] (at [] None 1) (start_after tool) (known_free tool said accepts.known) passes in
     fault_is tool words
     ∙ nils (walk_fault (top_of tool) [] (at [] None 1) said) (rest_fault tool (walk (rules_of tool) [] nothing_held said).held) passes
-    (rest_passes tool said (walk (rules_of tool) [] nothing_held said) after (omega (arith, count, least)))
+    (rest_passes tool said (walk (rules_of tool) [] nothing_held said) after accepts.least)
 
 -- accepted words name the formula
 pub has_formula : (tool : Tool) (words : List Text) → Accepts tool words → slice_get (names tool words) 0 ≡ None → ⊥
-has_formula tool words accepts none = go (names tool words) (names_count tool words accepts.known) none
+has_formula tool words accepts none = go (names tool words) accepts.least none
   where
-    go : (ns : List Text) → length ns ≡ length (plain words) → slice_get ns 0 ≡ None → ⊥
-    go [] e none = let least = accepts.least in omega (arith, e, least)
-    go (a ∷ ns) e none = true≢false (ap is_some none)
+    go : (ns : List Text) → 1 ≤ length ns → slice_get ns 0 ≡ None → ⊥
+    go [] least none = omega (arith, least)
+    go (a ∷ ns) least none = true≢false (ap is_some none)
 
 -- what is left of words none of which passes a test
 none_left : (p t : Text → Bool) (words : List Text) → list_any t words ≡ false → list_any t (filter p words) ≡ false
@@ -302,3 +267,9 @@ names_full {Z} tool words formula second accepts first then_second =
     by : (s : Option (String Z)) → option_map string_bytes s ≡ slice_get (names tool words) 1 → is_some_empty s ≡ false
     by None is = refl
     by (Some name) is = at_none is_empty_word (names tool words) 1 (string_bytes name) full is
+
+-- not both names of accepted words are standard input
+pub names_apart : {Z : Type 0} (tool : Tool) (words : List Text) (formula : Text) (second : Option (String Z)) → Accepts tool words
+    → Some formula ≡ slice_get (names tool words) 0 → option_map string_bytes second ≡ slice_get (names tool words) 1
+    → is_read_twice (Some formula) (option_map string_bytes second) ≡ false
+names_apart tool words formula second accepts first then_second = ap₂ is_read_twice first then_second ∙ accepts.apart

@@ -19,8 +19,8 @@ use Rattle.command_line.proofs.CommandLineLemmas.Rules.{second_full, top_of}
 use Rattle.command_line.proofs.CommandLineLemmas.Rows.{among_added, among_kept, has_row-row_for}
 use Rattle.command_line.proofs.CommandLineLemmas.Rows.{names_added, names_kept, new_row, row_added}
 use Rattle.command_line.proofs.CommandLineLemmas.Rows.{row_for, row_kept, used_first}
-use Rattle.command_line.proofs.CommandLineLemmas.Turns.{at, cons_not_nil, holding, name_met}
-use Rattle.command_line.proofs.CommandLineLemmas.Turns.{or_nil, plain_taken}
+use Rattle.command_line.proofs.CommandLineLemmas.Turns.{at, cons_not_nil, holding, hyphen_taken}
+use Rattle.command_line.proofs.CommandLineLemmas.Turns.{name_met, or_nil, plain_taken}
 use Rattle.command_line.specs.Words.{is_among, is_flag, is_set, names}
 use Rattle.command_line.specs.declared.tool.Tool.{Tool}
 use Rattle.command_line.specs.declared.tool.Tool.TheVariants.{Drat, Lrat, Model}
@@ -387,6 +387,19 @@ name_passes tool done w a x xs flag plain few =
     ap (λ v. turn_fault (top_of tool) [] v (x ∷ xs)) a.is
     ∙ ((plain_taken (rules_of tool) (name_of tool) a.rows a.pending (suc (length a.ns)) x xs plain).0
     ∙ (file_met tool done a.rows a.pending a.settles (x ∷ xs) flag a.ns a.shows).fine room)
+
+-- so is a hyphen alone
+pub hyphen_passes : (tool : Tool) (done : List Text) (w : Walk) → After tool done w → length (names tool done) < 2 → turn_fault (top_of tool) [] w (45 ∷ []) ≡ []
+hyphen_passes tool done w a few =
+    let room : length a.ns < 2 = subst (λ (l : List Text). length l < 2) a.shows.said few in
+    ap (λ v. turn_fault (top_of tool) [] v (45 ∷ [])) a.is
+    ∙ ((hyphen_taken (rules_of tool) (name_of tool) a.rows a.pending (suc (length a.ns))).0
+    ∙ (file_met tool done a.rows a.pending a.settles (45 ∷ []) (no_flag tool) a.ns a.shows).fine room)
+  where
+    no_flag : (tool : Tool) → is_flag tool (45 ∷ []) ≡ false
+    no_flag Drat = refl
+    no_flag Lrat = refl
+    no_flag Model = refl
 
 -- ---- all the words
 

@@ -3,7 +3,7 @@ use Rattle.clap.specs.Words.{app_of, first_value, found_of}
 use Rattle.clap.proofs.WalkLemmas.{first_value-rows}
 use Rattle.command_line.specs.Words.{said_by}
 use Rattle.std.proofs.lemmas.Bool.{true≢false}
-use Rattle.command_line.proofs.CommandLineLemmas.Accepted.{has_formula, names_full}
+use Rattle.command_line.proofs.CommandLineLemmas.Accepted.{has_formula, names_apart, names_full}
 use Rattle.command_line.proofs.CommandLineLemmas.Reading.{fails_for_memory, flag_given}
 use Rattle.command_line.proofs.CommandLineLemmas.Reading.{known_words, knows, reads}
 use Rattle.command_line.proofs.reader.read_args.Goals as goal
@@ -66,3 +66,14 @@ returns-then-is_any_empty-clause-accepts c accepts =
     (formula_found path ∙ (first_value-rows (found_of c.in-Ok.matches) (codes "formula") ∙ read.formula))
     (second_found path ∙ (first_value-rows (found_of c.in-Ok.matches) (codes "second") ∙ read.second)) in
     absurd (true≢false (sym c.if-is_any_empty.true ∙ c.is_any_empty.ensures ∙ full))
+
+pub returns-then-is_read_twice-clause-accepts : goal.returns-then-is_read_twice-clause-accepts
+returns-then-is_read_twice-clause-accepts c accepts =
+    let words = said_by c.args.words.now in
+    let read = reads c.args.tool (app_of c.in_ok-command.command) c.in_ok-command.ensures c.args.words.now c.in-Ok.matches c.in-Ok.ensures.matches c.in-Ok.ensures.kinds
+    (known_words c.args.tool words accepts) in
+    let path = (goal.at.returns-then-is_read_twice-clause-accepts c).After-is_any_empty in
+    let apart = names_apart c.args.tool words (string_bytes c.in_ok-formula.formula) c.match-get_str-2.second accepts
+    (formula_found path ∙ (first_value-rows (found_of c.in-Ok.matches) (codes "formula") ∙ read.formula))
+    (second_found path ∙ (first_value-rows (found_of c.in-Ok.matches) (codes "second") ∙ read.second)) in
+    absurd (true≢false (sym c.if-is_read_twice.true ∙ c.is_read_twice.ensures ∙ apart))
