@@ -75,6 +75,78 @@ usage() {
     fi
 }
 
+# usage_of PROGRAM: the words that may follow its name
+usage_of() {
+    case $1 in
+        drat-forward) echo '[--binary] [--trace] [--strict] [--pr] [--keep-units] FORMULA [PROOF]' ;;
+        lrat-check) echo '[--trace] FORMULA [PROOF]' ;;
+        model-check) echo 'FORMULA [OUTPUT]' ;;
+    esac
+}
+
+# purpose_of PROGRAM: what it is for
+purpose_of() {
+    case $1 in
+        drat-forward) echo 'Checks a DRAT proof that a formula is unsatisfiable' ;;
+        lrat-check) echo 'Checks an LRAT proof that a formula is unsatisfiable' ;;
+        model-check) echo 'Checks the model that a SAT solver claims of a formula' ;;
+    esac
+}
+
+# wrong NAME PROGRAM MESSAGE WORD..: as usage, and standard error has the message and how the program is used. How a file is named
+# that begins with a hyphen is told where the word that is wrong does.
+wrong() {
+    local name=$1 program=$2 message=$3
+    shift 3
+    usage "$name" "$@"
+    {
+        echo "$program: $message"
+        case $message in
+            "unexpected argument '-"*) echo "A file whose name begins with '-' is given as './-name'." ;;
+        esac
+        echo "Usage: $program $(usage_of "$program")"
+        echo "Try '$program --help'."
+    } > "$room/message"
+    told "$name" < "$room/message"
+}
+
+# help NAME PROGRAM WORD..: as usage, and standard error begins with what the program is for, and ends with the statuses and the
+# manual page
+help() {
+    local name=$1 program=$2
+    shift 2
+    usage "$name" "$@"
+    { head -n 1 "$room/err"; sed -n '/^Exit status:/,$p' "$room/err"; } > "$room/ends"
+    cp "$room/ends" "$room/err"
+    told "$name" <<LINES
+$(purpose_of "$program")
+Exit status:
+  0  verified
+  1  not verified
+  2  an input is malformed
+  3  a file could not be opened, or a read failed
+  4  out of memory
+  5  a write failed
+  6  the command line is wrong, or asks for help or the version
+
+Manual page: man $program
+LINES
+}
+
+# malformed NAME PROGRAM PLACE HINT FILE WORD..: runs the program $checker with these words: status 2, and standard error has what is
+# wrong with the file and where, and this hint or, where it is empty, none
+malformed() {
+    local name=$1 program=$2 place=$3 hint=$4 file=$5 ended
+    shift 5
+    "$checker" "$@" > "$room/report" 2> "$room/out" < "${on_stdin:-/dev/null}"
+    ended=$?
+    echo "$program: $file: $place" > "$room/wanted"
+    if [ -n "$hint" ]; then
+        echo "$program: $file: hint: $hint" >> "$room/wanted"
+    fi
+    judge "$name" 2 "$ended"
+}
+
 # write_failed NAME PROGRAM STATUS: compares the status with 5, and $room/out with the line of standard error
 write_failed() {
     echo "$2: write failed" > "$room/wanted"
@@ -118,26 +190,84 @@ without_stdin() {
     judge "$name" "$status" $?
 }
 
-# of_every_tool PREFIX PROGRAM FORMULA SECOND: what each tool does alike, with two right inputs
+# of_every_tool PREFIX PROGRAM FORMULA SECOND KIND ANY: what each tool does alike, with two right inputs, with what is told where the
+# second one begins with another byte, and with a second one that fits every formula
 of_every_tool() {
     if [ -w /dev/full ]; then
         "$checker" "$3" "$4" > /dev/full 2> "$room/out"
         write_failed "$1_full_device" "$2" $?
     fi
 
-    usage "$1_no_words"
-    usage "$1_help" --help
-    usage "$1_short_help" -h
+    wrong "$1_no_words" "$2" 'no formula is named'
+    help "$1_help" "$2" --help
+    help "$1_short_help" "$2" -h
     version "$1_version" "$2" --version
     version "$1_short_version" "$2" -V
     version "$1_version_beside_the_names" "$2" "$3" --version "$4"
-    usage "$1_empty_word" ""
-    usage "$1_unknown_flag" --fast "$3" "$4"
-    usage "$1_unknown_flag_after_the_names" "$3" "$4" --fast
+    wrong "$1_empty_word" "$2" 'a name is empty' ""
+    wrong "$1_unknown_flag" "$2" "unexpected argument '--fast' found" --fast "$3" "$4"
+    wrong "$1_unknown_flag_after_the_names" "$2" "unexpected argument '--fast' found" "$3" "$4" --fast
     usage "$1_flag_with_a_value" --trace=1 "$3" "$4"
-    usage "$1_shortened_flag" --tra "$3" "$4"
-    usage "$1_name_with_a_hyphen" -1 "$4"
-    usage "$1_three_names" "$3" "$4" "$4"
+    wrong "$1_shortened_flag" "$2" "unexpected argument '--tra' found" --tra "$3" "$4"
+    wrong "$1_name_with_a_hyphen" "$2" "unexpected argument '-1' found" -1 "$4"
+    wrong "$1_three_names" "$2" "unexpected argument '$4' found" "$3" "$4" "$4"
+    wrong "$1_standard_input_twice" "$2" 'both inputs are standard input' - -
+    wrong "$1_standard_input_alone" "$2" 'both inputs are standard input' -
+
+    # a hyphen alone is standard input, and a file of that name is named by its folder
+    "$checker" "$3" "$4" > "$room/named" 2> "$room/err"
+    on_stdin=$3 row "$1_formula_on_standard_input" 0 - "$4" < "$room/named"
+    on_stdin=$4 row "$1_hyphen_as_the_second_name" 0 "$3" - < "$room/named"
+    cp "$3" "$room/-"
+    row "$1_file_named_by_a_hyphen" 0 "$room/-" "$4" < "$room/named"
+
+    # a file that is opened first gets the number of a closed standard input
+    without_stdin "$1_closed_standard_input_as_formula" 3 - "$4" < <(
+        echo 'c cannot read formula'
+        tail -n 1 "$room/named" | sed 's/VERIFIED/NOT VERIFIED/'
+    )
+    told "$1_closed_standard_input_as_formula" <<< "$2: standard input: Bad file descriptor (os error 9)"
+
+    # what the inputs look like that are malformed, and others that look alike and are not it
+    local gz="this is compressed by gzip: pipe it through zcat, and name it '-'"
+    gzip -c "$3" > "$room/formula.gz"
+    gzip -c "$4" > "$room/second.gz"
+    malformed "$1_formula_by_gzip" "$2" 'line 1, column 1: bad header' "$gz" "$room/formula.gz" "$room/formula.gz" "$4"
+    malformed "$1_second_input_by_gzip" "$2" "line 1, column 1: $5" "$gz" "$room/second.gz" "$3" "$room/second.gz"
+    on_stdin=$room/second.gz malformed "$1_standard_input_by_gzip" "$2" "line 1, column 1: $5" "$gz" 'standard input' "$3"
+    printf '\x1f1 2 0\n' > "$room/no_gzip"
+    malformed "$1_no_gzip" "$2" "line 1, column 1: $5" '' "$room/no_gzip" "$3" "$room/no_gzip"
+    printf '\xfd7zXZ\0\0' > "$room/second.xz"
+    malformed "$1_by_xz" "$2" "line 1, column 1: $5" "this is compressed by xz: pipe it through xzcat, and name it '-'" \
+        "$room/second.xz" "$3" "$room/second.xz"
+    printf '\xfd7zX \0\0' > "$room/no_xz"
+    malformed "$1_no_xz" "$2" "line 1, column 1: $5" '' "$room/no_xz" "$3" "$room/no_xz"
+    printf 'BZh91AY' > "$room/second.bz2"
+    malformed "$1_by_bzip2" "$2" "line 1, column 1: $5" "this is compressed by bzip2: pipe it through bzcat, and name it '-'" \
+        "$room/second.bz2" "$3" "$room/second.bz2"
+    printf 'BZ 91AY' > "$room/no_bz2"
+    malformed "$1_no_bzip2" "$2" "line 1, column 1: $5" '' "$room/no_bz2" "$3" "$room/no_bz2"
+    printf '\x28\xb5\x2f\xfd\0' > "$room/second.zst"
+    malformed "$1_by_zstd" "$2" "line 1, column 1: $5" "this is compressed by zstd: pipe it through zstdcat, and name it '-'" \
+        "$room/second.zst" "$3" "$room/second.zst"
+    printf '\x28\xb5\x2f \0' > "$room/no_zst"
+    malformed "$1_no_zstd" "$2" "line 1, column 1: $5" '' "$room/no_zst" "$3" "$room/no_zst"
+
+    local first="the formula, which begins with 'p cnf', is named first"
+    malformed "$1_formula_twice" "$2" "line 1, column 1: $5" "$first" "$3" "$3" "$3"
+    malformed "$1_second_input_twice" "$2" 'line 1, column 1: bad header' "$first" "$4" "$4" "$4"
+    printf 'p dnf 1 1\n1 0\n' > "$room/no_header"
+    malformed "$1_no_formula_second" "$2" "line 1, column 1: $5" '' "$room/no_header" "$3" "$room/no_header"
+    malformed "$1_no_header" "$2" 'line 1, column 3: bad header' '' "$room/no_header" "$room/no_header" "$4"
+
+    # the end of SATLIB's files, a `%` elsewhere, and that end where another place is wrong
+    printf 'p cnf 2 1\n1 2 0\n%%\n0\n\n' > "$room/satlib.cnf"
+    printf 'p cnf 2 2\n1 2 0\n%%\n2 0\n' > "$room/percent.cnf"
+    printf 'p cnf 2 1\n1 3 0\n%%\n0\n\n' > "$room/range.cnf"
+    malformed "$1_satlib" "$2" 'line 3, column 1: bad token' "cut the end off by sed '/^%/,\$d', and name the formula '-'" \
+        "$room/satlib.cnf" "$room/satlib.cnf" "$6"
+    malformed "$1_percent" "$2" 'line 3, column 1: bad token' '' "$room/percent.cnf" "$room/percent.cnf" "$6"
+    malformed "$1_satlib_out_of_range" "$2" 'line 2, column 3: literal out of range' '' "$room/range.cnf" "$room/range.cnf" "$6"
 }
 
 # of_a_proof_checker PREFIX PROGRAM PROOF: what both proof checkers do alike, with a proof of examples/e.cnf
@@ -166,7 +296,7 @@ LINES
 c formula 2:3: literal out of range
 s NOT VERIFIED
 LINES
-    told "$1_fault_before_a_missing_proof" < /dev/null
+    told "$1_fault_before_a_missing_proof" <<< "$2: $x/literal_out_of_range.cnf: line 2, column 3: literal out of range"
 
     # a folder can be opened, and then its first read fails
     row "$1_folder_as_formula" 3 $x "$3" <<'LINES'
@@ -203,8 +333,8 @@ c steps 2 peak 9|
 s VERIFIED|
 LINES
 
-    of_every_tool "$1" "$2" $x/e.cnf "$3"
-    usage "$1_repeated_flag" --trace --trace $x/e.cnf "$3"
+    of_every_tool "$1" "$2" $x/e.cnf "$3" 'bad token' "$3"
+    wrong "$1_repeated_flag" "$2" "the argument '--trace' cannot be used multiple times" --trace --trace $x/e.cnf "$3"
 }
 
 # ==== lrat-check
@@ -365,7 +495,17 @@ c formula 2 variables 4 clauses
 c proof 3:1: unterminated step
 s NOT VERIFIED
 LINES
-told unterminated_step < /dev/null
+told unterminated_step <<LINES
+lrat-check: $x/unterminated_step.lrat: line 3, column 1: unterminated step
+lrat-check: $x/unterminated_step.lrat: hint: the proof ends inside a step, so it may have been cut short
+LINES
+
+# the binary form, and a text that begins alike
+printf 'a\x0c\x04\0\x02\x04\0' > "$room/binary.lrat"
+malformed binary_lrat lrat-check 'line 1, column 1: bad token' 'LRAT in the binary form is not read, only text' \
+    "$room/binary.lrat" $x/e.cnf "$room/binary.lrat"
+printf 'a 5 2 0 1 2 0\n' > "$room/no_binary.lrat"
+malformed no_binary_lrat lrat-check 'line 1, column 1: bad token' '' "$room/no_binary.lrat" $x/e.cnf "$room/no_binary.lrat"
 
 row literal_out_of_range 2 $x/literal_out_of_range.cnf $x/e.lrat <<'LINES'
 c formula 2:3: literal out of range
@@ -373,10 +513,10 @@ s NOT VERIFIED
 LINES
 
 of_a_proof_checker lrat lrat-check $x/e.lrat
-usage lrat_flag_of_another_tool --binary $x/e.cnf $x/e.lrat
+wrong lrat_flag_of_another_tool lrat-check "unexpected argument '--binary' found" --binary $x/e.cnf $x/e.lrat
 usage lrat_pr --pr $x/e.cnf $x/e.lrat
 usage lrat_keep_units --keep-units $x/e.cnf $x/e.lrat
-usage lrat_flag_alone --trace
+wrong lrat_flag_alone lrat-check 'no formula is named' --trace
 
 # ==== drat-forward
 
@@ -672,7 +812,35 @@ c formula 2 variables 4 clauses
 c proof 2:3: unterminated step
 s NOT VERIFIED
 LINES
-told drat_unterminated_step < /dev/null
+told drat_unterminated_step <<LINES
+drat-forward: $x/unterminated_step.drat: line 2, column 3: unterminated step
+drat-forward: $x/unterminated_step.drat: hint: the proof ends inside a step, so it may have been cut short
+LINES
+
+printf 'a\x04' > "$room/cut.bin"
+malformed drat_unterminated_in_binary drat-forward 'byte 3: unterminated step' \
+    'the proof ends inside a step, so it may have been cut short' "$room/cut.bin" --binary $x/e.cnf "$room/cut.bin"
+
+# the binary form as text and a text in the binary form, and others that look alike
+malformed binary_as_text drat-forward 'line 1, column 1: bad token' 'a proof in the binary form is read with --binary' \
+    $x/e.bin $x/e.cnf $x/e.bin
+printf 'd 1 x 0\n' > "$room/deletion.drat"
+malformed deletion_as_text drat-forward 'line 1, column 5: bad token' '' "$room/deletion.drat" $x/e.cnf "$room/deletion.drat"
+printf 'a 1 2 0\n' > "$room/addition.drat"
+malformed addition_as_text drat-forward 'line 1, column 1: bad token' '' "$room/addition.drat" $x/e.cnf "$room/addition.drat"
+malformed text_in_binary drat-forward 'byte 1: bad tag' 'a proof that is text is read without --binary' \
+    $x/e.drat --binary $x/e.cnf $x/e.drat
+printf 'a\x04\x00x' > "$room/tag.bin"
+malformed bad_tag_in_binary drat-forward 'byte 4: bad tag' '' "$room/tag.bin" --binary $x/e.cnf "$room/tag.bin"
+malformed empty_group_in_binary drat-forward 'byte 2: bad number' '' $x/empty_last_group.bin --binary $x/e.cnf $x/empty_last_group.bin
+
+# FRAT, and a word that begins alike
+printf 'o 1 1 2 0\na 5 2 0\nf 5 2 0\n' > "$room/e.frat"
+malformed frat drat-forward 'line 1, column 1: bad token' \
+    "FRAT is read once it is made DRAT by sed -n 's/ l .*//; s/^a [0-9]* //p; s/^d [0-9]* /d /p'" \
+    "$room/e.frat" $x/e.cnf "$room/e.frat"
+printf 'o1 1 2 0\n' > "$room/no.frat"
+malformed no_frat drat-forward 'line 1, column 1: bad token' '' "$room/no.frat" $x/e.cnf "$room/no.frat"
 
 row drat_literal_out_of_range 2 $x/literal_out_of_range.cnf $x/e.drat <<'LINES'
 c formula 2:3: literal out of range
@@ -680,9 +848,10 @@ s NOT VERIFIED
 LINES
 
 of_a_proof_checker drat drat-forward $x/e.drat
-usage drat_strict_with_a_value --strict=1 $x/e.cnf $x/e.drat
+wrong drat_strict_with_a_value drat-forward "unexpected value '1' for '--strict' found; no more were expected" \
+    --strict=1 $x/e.cnf $x/e.drat
 usage drat_shortened_strict --stri $x/e.cnf $x/e.drat
-usage drat_flags_alone --trace --strict
+wrong drat_flags_alone drat-forward 'no formula is named' --trace --strict
 
 # ==== model-check
 
@@ -713,21 +882,25 @@ row no_model_claimed 1 $x/e.cnf $x/unsatisfiable.out <<'LINES'
 c output 1:3: no model claimed
 s MODEL NOT VERIFIED
 LINES
+told no_model_claimed < /dev/null
 
 row no_output 2 $x/models.cnf /dev/null <<'LINES'
 c output 1:1: no status line
 s MODEL NOT VERIFIED
 LINES
+told no_output <<< "model-check: /dev/null: line 1, column 1: no status line"
 
 row proof_as_output 2 $x/e.cnf $x/e.lrat <<'LINES'
 c output 1:1: bad line
 s MODEL NOT VERIFIED
 LINES
+told proof_as_output <<< "model-check: $x/e.lrat: line 1, column 1: bad line"
 
 row model_literal_out_of_range 2 $x/literal_out_of_range.cnf $x/models.out <<'LINES'
 c formula 2:3: literal out of range
 s MODEL NOT VERIFIED
 LINES
+told model_literal_out_of_range <<< "model-check: $x/literal_out_of_range.cnf: line 2, column 3: literal out of range"
 
 row missing_output 3 $x/models.cnf $x/there_is_no_such_file <<'LINES'
 c cannot read output
@@ -774,8 +947,9 @@ c clauses 2|
 s MODEL VERIFIED|
 LINES
 
-of_every_tool model model-check $x/models.cnf $x/models.out
-usage model_flag_of_another_tool $x/models.cnf --trace
+printf 's SATISFIABLE\nv 1 2 0\n' > "$room/any.out"
+of_every_tool model model-check $x/models.cnf $x/models.out 'bad line' "$room/any.out"
+wrong model_flag_of_another_tool model-check "unexpected argument '--trace' found" $x/models.cnf --trace
 usage model_pr --pr $x/models.cnf $x/models.out
 usage model_keep_units --keep-units $x/models.cnf $x/models.out
 

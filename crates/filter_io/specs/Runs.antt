@@ -6,7 +6,7 @@ use Rattle.proofs.specs.Lrat.{lrat_steps}
 use Rattle.theory.specs.Rules.{drat, lrat}
 use Rattle.sat_check.specs.Options.{drat_rules}
 use Rattle.command_line.specs.Asked.{IsAsked}
-use Rattle.command_line.specs.Words.{Accepts, said_by}
+use Rattle.command_line.specs.Words.{Accepts, asked_by, said_by}
 use Rattle.sat_check.specs.ModelReport.{ChecksModel}
 use Rattle.sat_check.specs.Report.{ChecksProof, drat_proof}
 use Rattle.sat_check.specs.Runs.{Runs}
@@ -27,7 +27,7 @@ ToolChecks Model args old new status i j = ChecksModel i j old new status
 
 -- The words ask for these arguments, and the inputs of the names that these have were checked, the
 -- formula and the second one, each read up to some point. `holds` is what an input gives, by its
--- name; none is standard input.
+-- name; none is standard input, for which the name `-` stands too.
 pub record RunsTool {Z : Type 0} (tool : Tool) (words : List (String Z))
     (holds : Option (List ℕ) → Reader) (old new : Option (List ℕ))
     (had_failed has_failed is_flushed : Bool) (status : Status) : Type 0 where
@@ -35,8 +35,9 @@ pub record RunsTool {Z : Type 0} (tool : Tool) (words : List (String Z))
   pub asked : IsAsked tool words args
   pub formula : Reader
   pub second : Reader
-  pub runs : Runs (holds (Some (string_bytes args.formula))) formula
-      (holds (option_map string_bytes args.second)) second had_failed has_failed is_flushed status
+  pub runs : Runs (holds (asked_by (Some (string_bytes args.formula)))) formula
+      (holds (asked_by (option_map string_bytes args.second))) second had_failed has_failed
+      is_flushed status
       (ToolChecks tool args old new status)
 
 -- Why there is no check: the words ask for none, or memory ran out, and only that where the tool

@@ -3,12 +3,15 @@
 ghost use Rattle.std.specs.Prelude.{◌≡◌, ◌-◌, ◌^◌, None, IfErr};
 ghost use Rattle.cnf_base.specs.Stream.{Reader};
 
+use crate::hints::hint_of;
 use crate::input::Input;
+use crate::inputs::faulty_name;
 use crate::randomness::seed;
+use crate::sampled::Sampled;
 use crate::system::System;
-use cnf_base::FromRead;
+use cnf_base::{Fault, FromRead, Place};
 use proofs::StepEnd;
-use sat_check::Status;
+use sat_check::{Args, InputFault, Status, Tool, binary_kind, text_kind};
 use std::alloc::Global;
 use std::fs;
 use std::io::{Error, ErrorKind};
@@ -40,26 +43,26 @@ fn unopened(error: Error) -> Result<Input, Status>
 }
 
 impl System for Host<'_> {
-    type Input = FromRead<Input>;
+    type Input = Sampled<FromRead<Input>>;
 
     ghost holds = { λ _ _. record { left = None; over = None; most_left = 2 ^ 64 - 1 } };
 
-    fn open(&self, name: &str) -> Result<FromRead<Input>, Status> {
+    fn open(&self, name: &str) -> Result<Sampled<FromRead<Input>>, Status> {
         let input = match fs::open(self.rt, name) {
             Ok(file) => Input::File(file),
             Err(error) => unopened(error)?,
         };
-        Ok(FromRead::new(input))
+        Ok(Sampled::new(FromRead::new(input)))
     }
 
     // A descriptor that is closed has no second one.
-    fn standard_input(&self) -> Result<FromRead<Input>, Status> {
+    fn standard_input(&self) -> Result<Sampled<FromRead<Input>>, Status> {
         let stdin = self.rt.stdin();
         let input = match stdin.as_fd().try_clone_to_owned() {
             Ok(_) => Input::Standard(stdin),
             Err(error) => unopened(error)?,
         };
-        Ok(FromRead::new(input))
+        Ok(Sampled::new(FromRead::new(input)))
     }
 
     fn alloc(&self) -> Global {
@@ -74,8 +77,8 @@ impl System for Host<'_> {
         let _ = eprint!(self.rt; "{text}");
     }
 
-    fn tell_failure(&self, name: &str, input: &FromRead<Input>) {
-        if let Some(error) = input.failure() {
+    fn tell_failure(&self, name: &str, input: &Sampled<FromRead<Input>>) {
+        if let Some(error) = input.inner().failure() {
             let _ = eprintln!(self.rt; "{}: {name}: {error}", self.program);
         }
     }
@@ -95,6 +98,33 @@ impl System for Host<'_> {
                     self.program
                 );
             }
+        }
+    }
+
+    fn tell_fault(
+        &self,
+        tool: Tool,
+        args: &Args,
+        fault: InputFault,
+        input: &Sampled<FromRead<Input>>,
+    ) {
+        let (program, name) = (self.program, faulty_name(args, fault));
+        let (InputFault::Formula(malformed) | InputFault::Second(malformed)) = fault;
+        match malformed {
+            Fault::Text(kind, Place { line, col }) => {
+                let kind = text_kind(kind);
+                let _ = eprintln!(self.rt; "{program}: {name}: line {line}, column {col}: {kind}");
+            }
+            Fault::Binary(kind, byte_no) => {
+                let kind = binary_kind(kind);
+                let _ = eprintln!(self.rt; "{program}: {name}: byte {byte_no}: {kind}");
+            }
+            Fault::ReadFailed | Fault::OutOfMemory => return,
+        }
+        let sample = input.sample();
+        if let Some(hint) = hint_of(tool, fault, sample.first(), sample.last()) {
+            let text = hint.text();
+            let _ = eprintln!(self.rt; "{program}: {name}: hint: {text}");
         }
     }
 }

@@ -2,16 +2,22 @@
 #![tactic(auto)]
 
 mod ending;
+mod hint;
+mod hints;
 mod host;
 mod input;
 mod inputs;
 mod output;
 mod programs;
 mod randomness;
+mod sample;
+mod sampled;
 mod system;
 mod words;
 
 pub use ending::exit_code;
+pub use hint::Hint;
+pub use hints::hint_of;
 pub use host::Host;
 pub use input::Input;
 pub use output::standard_output;

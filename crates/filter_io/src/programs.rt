@@ -5,11 +5,11 @@ ghost use Rattle.command_line.specs.Asked.{IsAsked};
 ghost use Rattle.filter_io.specs.Runs.{MakesNoCheck, RunsTool, ToolChecks};
 ghost use Rattle.sat_check.specs.Runs.{Runs};
 
-use crate::inputs::{explain_failures, explain_refusal, open_both};
+use crate::inputs::{explain_failures, explain_fault, explain_refusal, open_both};
 use crate::system::System;
 use cnf_base::Out;
 use sat_check::{
-    Args, ArgsFault, Checked, Status, Tool, drat_forward, lrat_check, read_args, run_model,
+    Args, ArgsFault, Checked, Status, Tool, drat_forward, lrat_check, read_args, run_model_placed,
 };
 
 /// The program `drat-forward`. Where there is no check, the status says why, and nothing is
@@ -78,6 +78,7 @@ fn run_tool<S: System, O: Out>(
     let checked = check(system, tool, &args, &mut formula, &mut second, out);
     explain_failures(system, &args, (&formula, &second), checked.status);
     explain_refusal(system, &args, checked);
+    explain_fault(system, tool, &args, (&formula, &second), checked);
     Ok(checked.status)
 }
 
@@ -99,10 +100,7 @@ fn check<S: System, O: Out>(
     match tool {
         Tool::Drat => drat_forward(alloc, args, system.seed(), formula, second, out),
         Tool::Lrat => lrat_check(alloc, args, formula, second, out),
-        Tool::Model => Checked {
-            status: run_model(alloc, formula, second, out),
-            refused: None,
-        },
+        Tool::Model => run_model_placed(alloc, formula, second, out),
     }
 }
 

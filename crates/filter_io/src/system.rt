@@ -5,7 +5,7 @@ ghost use Rattle.cnf_base.specs.Stream.{Reader};
 
 use cnf_base::In;
 use proofs::StepEnd;
-use sat_check::Status;
+use sat_check::{Args, InputFault, Status, Tool};
 use std::alloc::Global;
 
 /// The system that a program runs on: its inputs, by name, and what is told beside the report.
@@ -42,4 +42,7 @@ pub trait System {
 
     /// Tells where the step of the proof of this name ends that was refused.
     fn tell_refusal(&self, name: &str, end: StepEnd);
+
+    /// Tells what is wrong with this input of a tool, and where, and what may help.
+    fn tell_fault(&self, tool: Tool, args: &Args, fault: InputFault, input: &Self::Input);
 }

@@ -20,18 +20,20 @@ use Rattle.proofs.specs.Reading.{GivesStep, PassesNoEnd}
 use Rattle.steps.specs.ProofSession.{View, is_over}
 use Rattle.theory.specs.Rules.{Rule, after, sum_of, IsFinite}
 use Rattle.sat_check.specs.Code.Reach.{IsVerdict}
-use Rattle.sat_check.specs.Reach.{ReadsNoFurther, TellsRefused}
+use Rattle.sat_check.specs.Reach.{ReadsNoFurther, TellsFault, TellsWhy}
 use Rattle.sat_check.specs.Report.{Report, Outcome, Reports, text_of, with_lines, end_report}
 use Rattle.sat_check.specs.Code.Checking.{Standing, Rest, GoesOn, Stops, IsRefused, LeavesRest}
 use Rattle.sat_check.specs.Code.Checking.{LeavesProof, AllReports, RunsInto, counted, traced}
 use Rattle.sat_check.specs.Code.Writer.{LeavesWriter}
 use Rattle.sat_check.proofs.ShownLemmas.{traced_same}
 use Rattle.sat_check.specs.declared.checked.Checked.{Checked}
+use Rattle.sat_check.specs.declared.input_fault.InputFault.TheVariants as of
 use Rattle.sat_check.specs.declared.status.Status.TheVariants.{NotVerified, Malformed}
 use Rattle.sat_check.specs.declared.status.Status.TheVariants.{OutOfMemory as NoMemory, WriteFailed}
 use Rattle.sat_check.specs.declared.status.Status.TheVariants.{ReadFailed as NoRead}
 use Rattle.sat_check.proofs.OutcomeLemmas.{Outcome-after, Writes-all, Writes-still, text_of-append}
 use Rattle.sat_check.proofs.ReachLemmas.{no_verdict, LeavesRest-none, LeavesRest-broken}
+use Rattle.sat_check.proofs.ReachLemmas.{TellsFault-none}
 use Rattle.sat_check.proofs.ReachLemmas.{LeavesRest-decided, LeavesRest-step}
 use Rattle.sat_check.proofs.ReportLemmas.{some_report}
 use Rattle.sat_check.proofs.RestLemmas.{Rest-clean, Rest-fault, Rest-some, Rest-step}
@@ -127,8 +129,9 @@ module _ (trace : Bool) (start now new : Standing) (first session : View) (accep
     pub Checking-stop : (checked : Checked) (last : Sink) → Stops trace number session step lines last checked.status
         → (checked.status ≡ NotVerified → IsRefused session.state step)
         → (checked.status ≡ NotVerified → checked.refused ≡ end) → ((checked.status ≡ NotVerified → ⊥) → checked.refused ≡ None)
+        → checked.fault ≡ None → (checked.status ≡ Malformed → ⊥)
         → Along start.stream new.stream (λ i j. Ended checked last i j)
-    Checking-stop checked last stops refuses told only = Along-then _ _ _ _ _ _ so_far.run gives (λ i j k m p q.
+    Checking-stop checked last stops refuses told only none not = Along-then _ _ _ _ _ _ so_far.run gives (λ i j k m p q.
         let s = stops so_far.count k.offset q.0.0 (new.to_come k) counts so_far.least so_far.finite in
         let Q : Proof → Type 0 = λ x. Rest trace session.state so_far.count session.peak x s.0 in
         let R : Proof → Type 0 = λ x. LeavesRest session.state x k checked in
@@ -136,7 +139,7 @@ module _ (trace : Bool) (start now new : Standing) (first session : View) (accep
           with_lines so_far.written s.0,
           p.0 s.0 (subst Q (sym q.0.2) s.1),
           Outcome-after checked.status was.held lines.held last.held so_far.written s.0 (Writes-all was lines (text_of so_far.written) so_far.wrote so_far.whole) s.2,
-          p.1 k checked (subst R (sym q.0.2) (LeavesRest-decided session.state step q.0.0 k.offset (new.to_come k) k checked refuses (λ v. told v ∙ q.0.1) only (subst S q.0.2 q.1))),
+          p.1 k checked (subst R (sym q.0.2) (LeavesRest-decided session.state step q.0.0 k.offset (new.to_come k) k checked refuses (λ v. told v ∙ q.0.1) only (TellsFault-none None (new.to_come k).fault checked none not) (subst S q.0.2 q.1))),
         ))
 
   -- what is known so far of the report, and of the step that decides
@@ -156,35 +159,41 @@ module _ (trace : Bool) (start now new : Standing) (first session : View) (accep
 
   module _ (step : Step) (checked : Checked) (none : checked.refused ≡ None) (last : Sink) where
     pub Checking-end : Along now.stream new.stream (Gave (Ok false) None step)
-        → Outcome checked.status lines.held last.held (end_report None) → Along start.stream new.stream (λ i j. Ended checked last i j)
-    Checking-end gives o = Along-then _ _ _ _ _ _ so_far.run gives (λ i j k m p q.
+        → Outcome checked.status lines.held last.held (end_report None) → TellsFault None None checked → Along start.stream new.stream (λ i j. Ended checked last i j)
+    Checking-end gives o tells = Along-then _ _ _ _ _ _ so_far.run gives (λ i j k m p q.
         let Q : Proof → Type 0 = λ x. Rest trace session.state so_far.count session.peak x (end_report None) in
         let R : Proof → Type 0 = λ x. LeavesRest session.state x k checked in
         ended checked last i j k (end_report None) p (subst Q (sym q.0.1) (Rest-clean trace session.state so_far.count session.peak)) o
-        (subst R (sym q.0.1) (LeavesRest-none session.state None k checked none)))
+        (subst R (sym q.0.1) (LeavesRest-none session.state None k checked none tells)))
+
+    -- what is told where the proof has this fault
+    abbrev TellsOf : Fault → Type 0
+    TellsOf f = (checked.status ≡ Malformed → checked.fault ≡ Some (of.Second f)) × ((checked.status ≡ Malformed → ⊥) → checked.fault ≡ None)
+        × (f ≡ OutOfMemory → checked.status ≡ Malformed → ⊥)
 
     pub Checking-fault : (end : Option StepEnd) (f : Fault) → Along now.stream new.stream (Gave (Err f) end step)
         → (f ≡ OutOfMemory → (r : Report) → Outcome checked.status lines.held last.held r) → ((f ≡ OutOfMemory → ⊥) → Outcome checked.status lines.held last.held (end_report (Some f)))
-        → Along start.stream new.stream (λ i j. Ended checked last i j)
-    Checking-fault end f gives refused other = by f gives refused other
+        → TellsOf f → Along start.stream new.stream (λ i j. Ended checked last i j)
+    Checking-fault end f gives refused other tells = by f gives refused other tells
       where
-        met : (f : Fault) (i j k : Suffix) → SoFar i j → now.to_come j ≡ faulty_proof f → Outcome checked.status lines.held last.held (end_report (Some f)) → Ended checked last i k
-        met f i j k p e o =
+        met : (f : Fault) (i j k : Suffix) → SoFar i j → now.to_come j ≡ faulty_proof f → Outcome checked.status lines.held last.held (end_report (Some f)) → TellsOf f → Ended checked last i k
+        met f i j k p e o tells =
             let Q : Proof → Type 0 = λ x. Rest trace session.state so_far.count session.peak x (end_report (Some f)) in
             let R : Proof → Type 0 = λ x. LeavesRest session.state x k checked in
             ended checked last i j k (end_report (Some f)) p (subst Q (sym e) (Rest-fault trace session.state so_far.count session.peak f)) o
-            (subst R (sym e) (LeavesRest-none session.state (Some f) k checked none))
+            (subst R (sym e) (LeavesRest-none session.state (Some f) k checked none (record { malformed = tells.0; only = tells.1 })))
 
         by : (f : Fault) → Along now.stream new.stream (Gave (Err f) end step)
             → (f ≡ OutOfMemory → (r : Report) → Outcome checked.status lines.held last.held r) → ((f ≡ OutOfMemory → ⊥) → Outcome checked.status lines.held last.held (end_report (Some f)))
-            → Along start.stream new.stream (λ i j. Ended checked last i j)
-        by (Text k x) gives refused other = Along-then _ _ _ _ _ _ so_far.run gives (λ i j n m p q. met (Text k x) i j n p q.0.1 (other (λ e. cc)))
-        by (Binary k x) gives refused other = Along-then _ _ _ _ _ _ so_far.run gives (λ i j n m p q. met (Binary k x) i j n p q.0.1 (other (λ e. cc)))
-        by ReadFailed gives refused other = Along-then _ _ _ _ _ _ so_far.run gives (λ i j n m p q. met ReadFailed i j n p q.0.1 (other (λ e. cc)))
-        by OutOfMemory gives refused other = Along-then _ _ _ _ _ _ so_far.run gives (λ i j n m p q.
+            → TellsOf f → Along start.stream new.stream (λ i j. Ended checked last i j)
+        by (Text k x) gives refused other tells = Along-then _ _ _ _ _ _ so_far.run gives (λ i j n m p q. met (Text k x) i j n p q.0.1 (other (λ e. cc)) tells)
+        by (Binary k x) gives refused other tells = Along-then _ _ _ _ _ _ so_far.run gives (λ i j n m p q. met (Binary k x) i j n p q.0.1 (other (λ e. cc)) tells)
+        by ReadFailed gives refused other tells = Along-then _ _ _ _ _ _ so_far.run gives (λ i j n m p q. met ReadFailed i j n p q.0.1 (other (λ e. cc)) tells)
+        by OutOfMemory gives refused other tells = Along-then _ _ _ _ _ _ so_far.run gives (λ i j n m p q.
             let some = Rest-some trace session.state so_far.count session.peak so_far.finite (now.to_come j) in
             ended checked last i j n some.0 p some.1 (refused refl some.0)
-            (LeavesRest-broken session.state (now.to_come j) n checked none (no_verdict checked.status lines.held last.held [] (refused refl (record { lines = []; status = Malformed }))) q.1))
+            (LeavesRest-broken session.state (now.to_come j) n checked none (no_verdict checked.status lines.held last.held [] (refused refl (record { lines = []; status = Malformed })))
+            (record { malformed = λ m. absurd (tells.2 refl m); only = tells.1 }) q.1))
 
 -- what a call gave, by its answer's pattern
 pub step_told : (now new : Standing) (result answer : Result Bool Fault) (end : Option StepEnd) (s : Step)
@@ -198,8 +207,8 @@ step_told now new result answer end s gives is =
 
 -- neither was read
 reports_nothing : (rule : Rule) (trace : Bool) (steps : Input → Proof) (formula proof new : Reader) (checked : Checked) (was now : Sink) → proof ≡ new
-    → checked.refused ≡ None → ((r : Report) → Outcome checked.status was.held now.held r) → AllReports rule trace steps formula formula proof new checked was.held now.held
-reports_nothing rule trace steps formula proof new checked was now same none o =
+    → checked.refused ≡ None → ((r : Report) → Outcome checked.status was.held now.held r) → checked.fault ≡ None → (checked.status ≡ Malformed → ⊥) → AllReports rule trace steps formula formula proof new checked was.held now.held
+reports_nothing rule trace steps formula proof new checked was now same none o sound not =
     let P : Reader → Type 0 = λ r. AllReports rule trace steps formula formula proof r checked was.held now.held in
     subst P same (record {
       first = Seen-nothing formula;
@@ -208,7 +217,7 @@ reports_nothing rule trace steps formula proof new checked was now same none o =
           let some = some_report rule trace i (steps j) in (
             record { report = some.0; reports = some.1; outcome = o some.0 },
             record { unread = λ n. refl; past = λ words ending last whole e d. omega arith },
-            record { unread = λ n. none; refused = λ words ending whole is e. absurd (broken (inr is)); only = λ _. none },
+            record { unread = λ n. none; refused = λ words ending whole is e. absurd (broken (inr is)); only = λ _. none; malformed = TellsFault-none (formula_of i).fault (steps j).fault checked sound not },
           );
     })
   where
@@ -217,13 +226,13 @@ reports_nothing rule trace steps formula proof new checked was now same none o =
 
 -- memory ran out before either was read
 pub runs_nothing : (rule : Rule) (trace : Bool) (steps : Input → Proof) (formula proof new : Reader) (checked : Checked) (was now : Sink) → proof ≡ new
-    → checked ≡ record { status = NoMemory; refused = None } → ((r : Report) → Outcome NoMemory was.held now.held r) → LeavesWriter NoMemory was now
+    → checked ≡ record { status = NoMemory; refused = None; fault = None } → ((r : Report) → Outcome NoMemory was.held now.held r) → LeavesWriter NoMemory was now
     → RunsInto rule trace steps formula formula proof new was now checked
 runs_nothing rule trace steps formula proof new checked was now same is o writer =
-    let gone : Checked = record { status = NoMemory; refused = None } in
+    let gone : Checked = record { status = NoMemory; refused = None; fault = None } in
     let P : Checked → Type 0 = λ c. RunsInto rule trace steps formula formula proof new was now c in
     subst P (sym is) (record {
-      report = reports_nothing rule trace steps formula proof new gone was now same refl o;
+      report = reports_nothing rule trace steps formula proof new gone was now same refl o refl (λ e. let bad : NoMemory ≡ Malformed = e in cc);
       read_failed = λ e. absurd (let bad : NoMemory ≡ NoRead = e in cc);
       write_failed = λ e. absurd (let bad : NoMemory ≡ WriteFailed = e in cc);
       writer = writer;
@@ -268,7 +277,7 @@ module _ (rule : Rule) (trace : Bool) (to_come : ProofReading → Suffix → Pro
         second = Seen-run proof borrows last Q within;
         fact = λ i j s t.
             let S : Proof → Type 0 = λ p. Reports rule trace i p was.held now.held checked.status
-            × ReadsNoFurther rule (formula_of i) p proof last.reader × TellsRefused rule (formula_of i).fault (formula_of i).clauses p checked in
+            × ReadsNoFurther rule (formula_of i) p proof last.reader × TellsWhy rule (formula_of i).fault (formula_of i).clauses p checked in
             let seen = Seen-fact proof borrows last Q within j t in
             let did = seen.2.0 i s in
             subst S (all j) (did.0, reads_no_further rule i seen.0 (to_come fresh (from_start j)) proof last.reader checked did.1 seen.2.1, did.1.told);
@@ -282,7 +291,7 @@ reports_as rule other trace steps others formula formula_new proof new checked w
   second = reports.second;
   fact = λ i j s t.
       let P : Rule → Proof → Type 0 = λ q p. Reports q trace i p was.held now.held checked.status
-      × ReadsNoFurther q (formula_of i) p proof new × TellsRefused q (formula_of i).fault (formula_of i).clauses p checked in
+      × ReadsNoFurther q (formula_of i) p proof new × TellsWhy q (formula_of i).fault (formula_of i).clauses p checked in
       let Q : Rule → Type 0 = λ q. P q (steps j) in
       subst (P other) (all j) (subst Q is (reports.fact i j s t));
 }

@@ -20,12 +20,15 @@ use Rattle.sat_check.specs.Lines.{a_model, fault_line, fault_status}
 use Rattle.sat_check.specs.Report.{Outcome, Report, concluded}
 use Rattle.sat_check.specs.ModelReport.{meets, first_unmet, met_report, clauses_report}
 use Rattle.sat_check.specs.ModelReport.{claim_report, model_report, Satisfies, ChecksModel}
-use Rattle.sat_check.specs.ModelReport.{ReadsFormulaNoFurther}
+use Rattle.sat_check.specs.ModelReport.{ReadsFormulaNoFurther, TellsModelFault, first_model_fault}
+use Rattle.sat_check.specs.Reach.{TellsFault, first_fault}
+use Rattle.sat_check.specs.declared.checked.Checked.{Checked}
+use Rattle.sat_check.specs.declared.input_fault.InputFault.TheVariants as of
 use Rattle.sat_check.specs.Code.Judging.{Judges, ReadsToUnmet, judged_report}
 use Rattle.sat_check.specs.declared.judgement.Judgement.{Judgement}
 use Rattle.sat_check.specs.declared.judgement.Judgement.TheVariants.{Met, Unmet}
 use Rattle.sat_check.specs.declared.status.Status.{Status}
-use Rattle.sat_check.specs.declared.status.Status.TheVariants.{Verified, NotVerified}
+use Rattle.sat_check.specs.declared.status.Status.TheVariants.{Verified, NotVerified, Malformed}
 use Rattle.sat_check.proofs.JudgeLemmas.{unread_unmet}
 use Rattle.sat_check.proofs.OutcomeLemmas.{both_told}
 use Rattle.sat_check.proofs.SoundLemmas.{fault_is_no_verdict, outcome_verified, outcome_complete}
@@ -61,13 +64,13 @@ judged_as listed (Met n) f j =
 judged_as listed (Unmet k) f j = ap (λ u. clauses_report u f) (sym j)
 
 -- a fault's lines, or want of memory
-abbrev pub TellsFault : List ℕ → Fault → Status → Sink → Sink → Type 0
-TellsFault name f status was now = (f ≡ OutOfMemory → (r : Report) → Outcome status was.held now.held r)
+abbrev pub WritesFault : List ℕ → Fault → Status → Sink → Sink → Type 0
+WritesFault name f status was now = (f ≡ OutOfMemory → (r : Report) → Outcome status was.held now.held r)
     × ((f ≡ OutOfMemory → ⊥) → Outcome status was.held now.held (concluded a_model (fault_line name f) (fault_status f)))
 
 module _ (status : Status) (was now : Sink) where
   -- the formula's fault
-  pub formula_fault : (listed : List Literal) (e : Fault) (f : Formula) → Judges listed (Err e) f.clauses f.fault → TellsFault (codes "formula") e status was now
+  pub formula_fault : (listed : List Literal) (e : Fault) (f : Formula) → Judges listed (Err e) f.clauses f.fault → WritesFault (codes "formula") e status was now
       → Outcome status was.held now.held (claim_report (Ok listed) f)
   formula_fault listed e f j told = by e j told
     where
@@ -77,14 +80,14 @@ module _ (status : Status) (was now : Sink) where
           let P : Report → Type 0 = Outcome status was.held now.held in
           subst P (ap (met_report (length f.clauses)) (sym j.1) ∙ ap (λ u. clauses_report u f) (sym j.0)) o
 
-      by : (e : Fault) → Judges listed (Err e) f.clauses f.fault → TellsFault (codes "formula") e status was now → Outcome status was.held now.held (claim_report (Ok listed) f)
+      by : (e : Fault) → Judges listed (Err e) f.clauses f.fault → WritesFault (codes "formula") e status was now → Outcome status was.held now.held (claim_report (Ok listed) f)
       by (Text k p) j told = other (Text k p) j (told.1 (λ e. cc))
       by (Binary k n) j told = other (Binary k n) j (told.1 (λ e. cc))
       by ReadFailed j told = other ReadFailed j (told.1 (λ e. cc))
       by OutOfMemory j told = told.0 refl _
 
   -- the output's
-  pub output_fault : (e : Fault) (claim : Result (List Literal) Fault) (f : Formula) → IsClaim (Err e) claim → TellsFault (codes "output") e status was now
+  pub output_fault : (e : Fault) (claim : Result (List Literal) Fault) (f : Formula) → IsClaim (Err e) claim → WritesFault (codes "output") e status was now
       → Outcome status was.held now.held (claim_report claim f)
   output_fault e claim f is told = by e is told
     where
@@ -92,20 +95,20 @@ module _ (status : Status) (was now : Sink) where
           → Outcome status was.held now.held (claim_report claim f)
       other e is o = let P : Result (List Literal) Fault → Type 0 = λ r. Outcome status was.held now.held (claim_report r f) in subst P (sym is) o
 
-      by : (e : Fault) → IsClaim (Err e) claim → TellsFault (codes "output") e status was now → Outcome status was.held now.held (claim_report claim f)
+      by : (e : Fault) → IsClaim (Err e) claim → WritesFault (codes "output") e status was now → Outcome status was.held now.held (claim_report claim f)
       by (Text k p) is told = other (Text k p) is (told.1 (λ e. cc))
       by (Binary k n) is told = other (Binary k n) is (told.1 (λ e. cc))
       by ReadFailed is told = other ReadFailed is (told.1 (λ e. cc))
       by OutOfMemory is told = told.0 refl _
 
   -- no fault ends in a positive verdict
-  pub fault_unverified : (name : List ℕ) (e : Fault) → TellsFault name e status was now → status ≡ Verified → ⊥
+  pub fault_unverified : (name : List ℕ) (e : Fault) → WritesFault name e status was now → status ≡ Verified → ⊥
   fault_unverified name e told is = by e told
     where
       other : (e : Fault) → Outcome status was.held now.held (concluded a_model (fault_line name e) (fault_status e)) → ⊥
       other e o = fault_is_no_verdict e (outcome_verified status was.held now.held _ is o)
 
-      by : (e : Fault) → TellsFault name e status was now → ⊥
+      by : (e : Fault) → WritesFault name e status was now → ⊥
       by (Text k p) told = other (Text k p) (told.1 (λ e. cc))
       by (Binary k n) told = other (Binary k n) (told.1 (λ e. cc))
       by ReadFailed told = other ReadFailed (told.1 (λ e. cc))
@@ -194,19 +197,56 @@ checks_model i j old new status o consistent = record {
     said : status ≡ Verified → Satisfies (claim_of j) (formula_of i).clauses × ((formula_of i).fault ≡ None)
     said is = verified_satisfied (claim_of j) (formula_of i) (outcome_verified status old new (model_report i j) is o) (consistent is)
 
--- what a run made of the inputs that it saw
-abbrev pub Made : Reader → Reader → Status → Option (List ℕ) → Option (List ℕ) → Input → Input → Type 0
-Made formula formula_new status old new i j = Outcome status old new (model_report i j) × (status ≡ Verified → IfOk (claim_of j) IsConsistent)
-    × ReadsFormulaNoFurther (claim_of j) i formula formula_new
+-- what a run made of the inputs that it saw, and what it told of them
+abbrev pub Made : Reader → Reader → (Input → Input → Type 0) → Status → Option (List ℕ) → Option (List ℕ) → Input → Input → Type 0
+Made formula formula_new Told status old new i j = Outcome status old new (model_report i j) × (status ≡ Verified → IfOk (claim_of j) IsConsistent)
+    × ReadsFormulaNoFurther (claim_of j) i formula formula_new × Told i j
 
 -- and by all that was seen of the formula and of the output
-pub both_check_model : (formula formula_new output output_new : Reader) (status : Status) (old new first last : Option (List ℕ)) → old ≡ first → new ≡ last
-    → OfBothSeen formula formula_new output output_new (Made formula formula_new status old new)
-    → OfBothSeen formula formula_new output output_new (λ i j. ChecksModel i j first last status × ReadsFormulaNoFurther (claim_of j) i formula formula_new)
-both_check_model formula formula_new output output_new status old new first last before after =
-    both_told formula formula_new output output_new (Made formula formula_new status)
-    (λ i j. ChecksModel i j first last status × ReadsFormulaNoFurther (claim_of j) i formula formula_new)
-    old new first last before after (λ i j x. (checks_model i j first last status x.0 x.1, x.2))
+pub both_check_model : (formula formula_new output output_new : Reader) (Told : Input → Input → Type 0) (status : Status) (old new first last : Option (List ℕ)) → old ≡ first → new ≡ last
+    → OfBothSeen formula formula_new output output_new (Made formula formula_new Told status old new)
+    → OfBothSeen formula formula_new output output_new (λ i j. ChecksModel i j first last status × ReadsFormulaNoFurther (claim_of j) i formula formula_new × Told i j)
+both_check_model formula formula_new output output_new Told status old new first last before after =
+    both_told formula formula_new output output_new (Made formula formula_new Told status)
+    (λ i j. ChecksModel i j first last status × ReadsFormulaNoFurther (claim_of j) i formula formula_new × Told i j)
+    old new first last before after (λ i j x. (checks_model i j first last status x.0 x.1, x.2, x.3))
+
+-- ---- What is told of a fault
+
+-- a claim without a fault leaves the formula's
+pub claimed_tells : (model : List Literal) (claim : Result (List Literal) Fault) (f : Formula) (checked : Checked) → IsClaim (Ok model) claim → TellsFault f.fault None checked
+    → TellsModelFault claim f checked
+claimed_tells model (Ok listed) f checked same tells = record { malformed = tells.malformed; only = tells.only }
+claimed_tells model (Err e) f checked none tells = absurd none
+
+module _ (f : Formula) (checked : Checked) (only : (checked.status ≡ Malformed → ⊥) → checked.fault ≡ None) where
+  -- the output has this fault
+  pub output_tells : (e : Fault) (claim : Result (List Literal) Fault) → IsClaim (Err e) claim → (e ≡ OutOfMemory → checked.status ≡ Malformed → ⊥)
+      → (checked.status ≡ Malformed → checked.fault ≡ Some (of.Second e)) → TellsModelFault claim f checked
+  output_tells e claim is memory told = by e is memory told
+    where
+      other : (e : Fault) → claim ≡ Err e → (checked.status ≡ Malformed → checked.fault ≡ Some (of.Second e)) → TellsModelFault claim f checked
+      other e is told = record { malformed = λ m. told m ∙ sym (ap (λ x. first_model_fault x f) is); only = only }
+
+      by : (e : Fault) → IsClaim (Err e) claim → (e ≡ OutOfMemory → checked.status ≡ Malformed → ⊥) → (checked.status ≡ Malformed → checked.fault ≡ Some (of.Second e)) → TellsModelFault claim f checked
+      by (Text k p) is memory told = other (Text k p) is told
+      by (Binary k n) is memory told = other (Binary k n) is told
+      by ReadFailed is memory told = other ReadFailed is told
+      by OutOfMemory is memory told = record { malformed = λ m. absurd (memory refl m); only = only }
+
+  -- the formula has it
+  pub formula_tells : (listed : List Literal) (e : Fault) → Judges listed (Err e) f.clauses f.fault → (e ≡ OutOfMemory → checked.status ≡ Malformed → ⊥)
+      → (checked.status ≡ Malformed → checked.fault ≡ Some (of.Formula e)) → TellsFault f.fault None checked
+  formula_tells listed e j memory told = by e j memory told
+    where
+      other : (e : Fault) → f.fault ≡ Some e → (checked.status ≡ Malformed → checked.fault ≡ Some (of.Formula e)) → TellsFault f.fault None checked
+      other e is told = record { malformed = λ m. told m ∙ sym (ap (λ x. first_fault x None) is); only = only }
+
+      by : (e : Fault) → Judges listed (Err e) f.clauses f.fault → (e ≡ OutOfMemory → checked.status ≡ Malformed → ⊥) → (checked.status ≡ Malformed → checked.fault ≡ Some (of.Formula e)) → TellsFault f.fault None checked
+      by (Text k p) j memory told = other (Text k p) j.1 told
+      by (Binary k n) j memory told = other (Binary k n) j.1 told
+      by ReadFailed j memory told = other ReadFailed j.1 told
+      by OutOfMemory j memory told = record { malformed = λ m. absurd (memory refl m); only = only }
 
 -- ---- How far the formula was read
 

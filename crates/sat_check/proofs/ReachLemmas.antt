@@ -1,10 +1,11 @@
 -- How far a proof is read, step by step.
 use Rattle.std.proofs.Common.{◌≡◌, ℕ, ◌≤◌, true, false, Option, None, Some, List, [], ◌∷◌, length}
-use Rattle.std.proofs.Common.{refl, sym, ap, ◌∙◌, subst, inl, inr, Ok, Err}
+use Rattle.std.proofs.Common.{refl, sym, ap, ◌∙◌, subst, inl, inr, ◌⊎◌, Ok, Err}
 use Rattle.std.specs.Prelude.{slice_get}
 use Rattle.std.specs.List.{list_any}
 use Rattle.std.proofs.lemmas.Bool.{false≢true, MatchBool-at_true, MatchBool-at_false}
 use Rattle.std.proofs.lemmas.Option.{none-some}
+use Rattle.cnf_base.specs.Lines.{Sink}
 use Rattle.cnf_base.specs.Literals.{Clause}
 use Rattle.cnf_base.specs.Stream.{Input, Suffix, Reader}
 use Rattle.cnf_base.specs.declared.fault.Fault.{Fault}
@@ -22,13 +23,16 @@ use Rattle.theory.proofs.LratLemmas.LiveSets.{SameClauses-sym}
 use Rattle.theory.proofs.LratLemmas.Steps.{ok_is, ok_err}
 use Rattle.theory.proofs.LawLemmas.Rules.{answer_unique}
 use Rattle.theory.proofs.LawLemmas.Verdicts.{ends_same}
-use Rattle.sat_check.specs.Reach.{deciding_step, refused_end, NeedsNoProof}
+use Rattle.sat_check.specs.Reach.{deciding_step, refused_end, NeedsNoProof, TellsFault, first_fault}
 use Rattle.sat_check.specs.Code.Reach.{IsVerdict}
-use Rattle.sat_check.specs.Report.{Outcome, bare_steps}
-use Rattle.sat_check.specs.Code.Checking.{IsLoaded, Loads, IsRefused, LeavesRest, LeavesProof}
+use Rattle.sat_check.specs.Report.{Outcome, bare_steps, is_cut_short}
+use Rattle.sat_check.specs.Code.Checking.{IsLoaded, Loads, IsRefused, IsTold, LeavesRest}
+use Rattle.sat_check.specs.Code.Checking.{LeavesProof}
 use Rattle.sat_check.specs.declared.checked.Checked.{Checked}
 use Rattle.sat_check.specs.declared.status.Status.{Status}
+use Rattle.sat_check.specs.declared.input_fault.InputFault.TheVariants as of
 use Rattle.sat_check.specs.declared.status.Status.TheVariants.{Verified, NotVerified, Malformed}
+use Rattle.sat_check.specs.declared.status.Status.TheVariants.{OutOfMemory as NoMemory, WriteFailed}
 
 same_sym : (s t : State) → Same s t → Same t s
 same_sym (by_ids s) (by_ids t) same = (SameClauses-sym _ _ same.0, sym same.1)
@@ -71,12 +75,29 @@ not_passed p rest reach words ending last d =
     let at = deciding_among p.steps words ending last d in
     reach at.0 last at.1
 
+-- no fault is told where no input is malformed
+pub TellsFault-none : (formula second : Option Fault) (checked : Checked) → checked.fault ≡ None → (checked.status ≡ Malformed → ⊥) → TellsFault formula second checked
+TellsFault-none formula second checked none not = record { malformed = λ m. absurd (not m); only = λ _. none }
+
+-- no input is malformed where a run was cut short, or a verdict was written
+pub cut_short_not : (s : Status) → is_cut_short s ≡ true → s ≡ Malformed → ⊥
+cut_short_not s cut m = false≢true (sym (ap is_cut_short m) ∙ cut)
+
+pub concluded_not : (given result : Status) (X : Type 0) → (result ≡ given) ⊎ (result ≡ NoMemory) ⊎ ((result ≡ WriteFailed) × X) → (given ≡ Malformed → ⊥) → result ≡ Malformed → ⊥
+concluded_not given result X (inl e) not m = not (sym e ∙ m)
+concluded_not given result X (inr (inl e)) not m = let bad : NoMemory ≡ Malformed = sym e ∙ m in cc
+concluded_not given result X (inr (inr e)) not m = let bad : WriteFailed ≡ Malformed = sym e.0 ∙ m in cc
+
+pub told_not : (s : Status) (now : Sink) → IsTold s now → s ≡ Malformed → ⊥
+told_not s now told m = let P : Status → Type 0 = λ x. IsTold x now in subst P m told
+
 -- no step decides where none is to come
-pub LeavesRest-none : (s : State) (fault : Option Fault) (rest : Suffix) (checked : Checked) → checked.refused ≡ None → LeavesRest s (record { steps = []; fault = fault }) rest checked
-LeavesRest-none s fault rest checked none = record {
+pub LeavesRest-none : (s : State) (fault : Option Fault) (rest : Suffix) (checked : Checked) → checked.refused ≡ None → TellsFault None fault checked → LeavesRest s (record { steps = []; fault = fault }) rest checked
+LeavesRest-none s fault rest checked none tells = record {
   past = λ words ending last e d. by words ending last e d;
   refused = λ words ending is e. none ∙ no_end words ending e;
   only = λ _. none;
+  malformed = tells;
 }
   where
     by : (words : List Accepted) (ending : Ending) (last : PlacedStep) → Ends s [] words ending → deciding_step [] words ending ≡ Some last → rest.offset ≤ last.offset
@@ -92,12 +113,13 @@ LeavesRest-none s fault rest checked none = record {
     no_end (w ∷ ws) ending e = absurd e
 
 -- no verdict was answered
-pub LeavesRest-broken : (s : State) (p : Proof) (rest : Suffix) (checked : Checked) → checked.refused ≡ None → (IsVerdict checked.status → ⊥) → PassesNoEnd p rest
+pub LeavesRest-broken : (s : State) (p : Proof) (rest : Suffix) (checked : Checked) → checked.refused ≡ None → (IsVerdict checked.status → ⊥) → TellsFault None p.fault checked → PassesNoEnd p rest
     → LeavesRest s p rest checked
-LeavesRest-broken s p rest checked none broken reach = record {
+LeavesRest-broken s p rest checked none broken tells reach = record {
   past = λ words ending last e d. not_passed p rest reach words ending last d;
   refused = λ words ending is e. absurd (broken (inr is));
   only = λ _. none;
+  malformed = tells;
 }
 
 module _ (s : State) (step : Step) (end : StepEnd) (offset : ℕ) (p : Proof) (rest : Suffix) (checked : Checked) where
@@ -106,12 +128,13 @@ module _ (s : State) (step : Step) (end : StepEnd) (offset : ℕ) (p : Proof) (r
 
   -- the check ended with this step, which was refused or not
   pub LeavesRest-decided : (checked.status ≡ NotVerified → IsRefused s step)
-      → (checked.status ≡ NotVerified → checked.refused ≡ Some end) → ((checked.status ≡ NotVerified → ⊥) → checked.refused ≡ None)
+      → (checked.status ≡ NotVerified → checked.refused ≡ Some end) → ((checked.status ≡ NotVerified → ⊥) → checked.refused ≡ None) → TellsFault None p.fault checked
       → PassesNoEnd (with_step step end offset p) rest → LeavesRest s (with_step step end offset p) rest checked
-  LeavesRest-decided refuses told only reach = record {
+  LeavesRest-decided refuses told only tells reach = record {
     past = λ words ending last e d. not_passed (with_step step end offset p) rest reach words ending last d;
     refused = λ words ending v e. told v ∙ ended (refuses v) words ending e;
     only = only;
+    malformed = tells;
   }
     where
       ended : IsRefused s step → (words : List Accepted) (ending : Ending) → Ends s (step ∷ bare_steps p) words ending
@@ -126,6 +149,7 @@ module _ (s : State) (step : Step) (end : StepEnd) (offset : ℕ) (p : Proof) (r
     past = λ words ending last e d. by words ending last e d;
     refused = λ words ending v e. ended words ending v e;
     only = later.only;
+    malformed = later.malformed;
   }
     where
       -- the same step decides among the later ones
@@ -164,13 +188,13 @@ module _ (s : State) (step : Step) (end : StepEnd) (offset : ℕ) (p : Proof) (r
 
 -- ---- A whole proof
 
-module _ (rule : Rule) (fault : Option Fault) (clauses : List Clause) (p : Proof) (reader : Reader) (rest : Suffix) (checked : Checked) (none : checked.refused ≡ None) where
+module _ (rule : Rule) (fault : Option Fault) (clauses : List Clause) (p : Proof) (reader : Reader) (rest : Suffix) (checked : Checked) (none : checked.refused ≡ None) (tells : TellsFault fault p.fault checked) where
   -- no verdict was answered, and nothing was read
   pub LeavesProof-broken : (IsVerdict checked.status → ⊥) → LeavesProof rule fault clauses p reader reader rest checked
   LeavesProof-broken broken = record {
     unread = λ n. refl;
     past = λ words ending last whole e d. inl refl;
-    told = record { unread = λ n. none; refused = λ words ending whole is e. absurd (broken (inr is)); only = λ _. none };
+    told = record { unread = λ n. none; refused = λ words ending whole is e. absurd (broken (inr is)); only = λ _. none; malformed = tells };
   }
 
   -- some clause is empty
@@ -184,6 +208,7 @@ module _ (rule : Rule) (fault : Option Fault) (clauses : List Clause) (p : Proof
           let q = MatchBool-at_true _ _ empty e in
           none ∙ sym (ap (refused_end p.steps words) q.1);
       only = λ _. none;
+      malformed = tells;
     };
   }
 
@@ -197,6 +222,7 @@ LeavesProof-checked rule s clauses l p old new rest checked unverified leaves = 
     unread = λ n. absurd (needed n);
     refused = λ words ending whole v e. leaves.refused words ending v (ends words ending e);
     only = leaves.only;
+    malformed = leaves.malformed;
   };
 }
   where
@@ -212,20 +238,30 @@ LeavesProof-checked rule s clauses l p old new rest checked unverified leaves = 
 
 -- the formula has a fault, or memory ran out
 pub LeavesProof-fault : (rule : Rule) (s : View) (f : Fault) (i : Input) (p : Proof) (reader : Reader) (rest : Suffix) (checked : Checked) → checked.refused ≡ None
-    → Loads rule s (Err f) (formula_of i) → (f ≡ OutOfMemory → IsVerdict checked.status → ⊥)
+    → Loads rule s (Err f) (formula_of i) → (f ≡ OutOfMemory → (IsVerdict checked.status → ⊥) × (checked.status ≡ Malformed → ⊥))
+    → (checked.status ≡ Malformed → checked.fault ≡ Some (of.Formula f)) → ((checked.status ≡ Malformed → ⊥) → checked.fault ≡ None)
     → LeavesProof rule (formula_of i).fault (formula_of i).clauses p reader reader rest checked
-LeavesProof-fault rule s f i p reader rest checked none loads broken = by f loads broken
+LeavesProof-fault rule s f i p reader rest checked none loads broken malformed only = by f loads broken malformed
   where
-    faulty : (f : Fault) → (formula_of i).fault ≡ Some f → LeavesProof rule (formula_of i).fault (formula_of i).clauses p reader reader rest checked
-    faulty f is = record {
+    faulty : (f : Fault) → (formula_of i).fault ≡ Some f → (checked.status ≡ Malformed → checked.fault ≡ Some (of.Formula f))
+        → LeavesProof rule (formula_of i).fault (formula_of i).clauses p reader reader rest checked
+    faulty f is malformed = record {
       unread = λ n. refl;
       past = λ words ending last whole e d. inl refl;
-      told = record { unread = λ n. none; refused = λ words ending whole v e. absurd (none-some f (sym whole ∙ is)); only = λ _. none };
+      told = record {
+        unread = λ n. none;
+        refused = λ words ending whole v e. absurd (none-some f (sym whole ∙ is));
+        only = λ _. none;
+        malformed = record { malformed = λ m. malformed m ∙ sym (ap (λ o. first_fault o p.fault) is); only = only };
+      };
     }
 
-    by : (f : Fault) → Loads rule s (Err f) (formula_of i) → (f ≡ OutOfMemory → IsVerdict checked.status → ⊥)
+    by : (f : Fault) → Loads rule s (Err f) (formula_of i) → (f ≡ OutOfMemory → (IsVerdict checked.status → ⊥) × (checked.status ≡ Malformed → ⊥))
+        → (checked.status ≡ Malformed → checked.fault ≡ Some (of.Formula f))
         → LeavesProof rule (formula_of i).fault (formula_of i).clauses p reader reader rest checked
-    by (Text k x) loads broken = faulty (Text k x) loads
-    by (Binary k x) loads broken = faulty (Binary k x) loads
-    by ReadFailed loads broken = faulty ReadFailed loads
-    by OutOfMemory loads broken = LeavesProof-broken rule (formula_of i).fault (formula_of i).clauses p reader rest checked none (broken refl)
+    by (Text k x) loads broken malformed = faulty (Text k x) loads malformed
+    by (Binary k x) loads broken malformed = faulty (Binary k x) loads malformed
+    by ReadFailed loads broken malformed = faulty ReadFailed loads malformed
+    by OutOfMemory loads broken malformed =
+        LeavesProof-broken rule (formula_of i).fault (formula_of i).clauses p reader rest checked none
+        (record { malformed = λ m. absurd ((broken refl).1 m); only = only }) (broken refl).0

@@ -10,9 +10,13 @@ use Rattle.dimacs.specs.Claim.{claim_of, IsConsistent}
 use Rattle.dimacs.specs.Formula.{Formula, formula_of, clause_offsets}
 use Rattle.sat_check.specs.Lines.{a_model, unmet_line, clauses_line, fault_line, fault_status}
 use Rattle.sat_check.specs.Report.{Report, Outcome, IsUnlessBroken, concluded}
+use Rattle.sat_check.specs.Reach.{first_fault}
 use Rattle.theory.specs.Models.{HasModel}
+use Rattle.sat_check.specs.declared.checked.Checked.{Checked}
+use Rattle.sat_check.specs.declared.input_fault.InputFault.{InputFault}
+use Rattle.sat_check.specs.declared.input_fault.InputFault.TheVariants.{Second}
 use Rattle.sat_check.specs.declared.status.Status.{Status}
-use Rattle.sat_check.specs.declared.status.Status.TheVariants.{Verified, NotVerified}
+use Rattle.sat_check.specs.declared.status.Status.TheVariants.{Verified, NotVerified, Malformed}
 
 -- some literal of the clause is listed
 abbrev pub meets : List Literal → Clause → Bool
@@ -60,6 +64,18 @@ pub record ReadsFormulaNoFurther (claim : Result (List Literal) Fault) (formula 
       first_unmet 1 listed (formula_of formula).clauses ≡ Some k
       → (offset : ℕ) × (slice_get (clause_offsets formula) (k - 1) ≡ Some offset)
       × (bytes_read old new ≤ offset + 65536)
+
+-- what is wrong with an input, by the claim of an output and the formula: the output's fault comes
+-- first
+abbrev pub first_model_fault : Result (List Literal) Fault → Formula → Option InputFault
+first_model_fault (Err f) formula = Some (Second f)
+first_model_fault (Ok listed) formula = first_fault formula.fault None
+
+-- A check of a model tells what is wrong with an input: exactly where the status is `Malformed`.
+pub record TellsModelFault (claim : Result (List Literal) Fault) (formula : Formula)
+    (checked : Checked) : Type 0 where
+  pub malformed : checked.status ≡ Malformed → checked.fault ≡ first_model_fault claim formula
+  pub only : (checked.status ≡ Malformed → ⊥) → checked.fault ≡ None
 
 -- A run checked the model that this output claims of this formula: what it wrote and its status are
 -- those of the report. Status 0 is answered exactly where the formula has no fault and the claim

@@ -1,4 +1,4 @@
--- How far a proof is read, and where the step ends that is refused.
+-- How far a proof is read, where the step ends that is refused, and what is wrong with an input.
 use Rattle.std.specs.List.{list_any}
 use Rattle.std.specs.Prelude.{List, [], ◌∷◌, length, slice_get, Option, None, Some, ◌≡◌, ◌⊎◌, true}
 use Rattle.std.specs.Prelude.{◌+◌, ◌≤◌}
@@ -13,7 +13,9 @@ use Rattle.theory.specs.Verdicts.{Ending, verified, refused, no_empty_clause, is
 use Rattle.theory.specs.declared.accepted.Accepted.{Accepted}
 use Rattle.sat_check.specs.Report.{bare_steps}
 use Rattle.sat_check.specs.declared.checked.Checked.{Checked}
-use Rattle.sat_check.specs.declared.status.Status.TheVariants.{NotVerified}
+use Rattle.sat_check.specs.declared.input_fault.InputFault.{InputFault}
+use Rattle.sat_check.specs.declared.input_fault.InputFault.TheVariants as of
+use Rattle.sat_check.specs.declared.status.Status.TheVariants.{NotVerified, Malformed}
 
 -- the step that decides: the accepted empty clause, or the step that is refused; none where a
 -- clause of the formula decides, or no step does
@@ -48,9 +50,21 @@ pub record ReadsNoFurther (rule : Rule) (f : Formula) (p : Proof) (old new : Rea
       deciding_step p.steps words ending ≡ Some last
       → bytes_read old new ≤ last.offset + 65536
 
--- A check tells where the refused step ends: exactly where the status is `NotVerified` since a step
--- of the proof was refused.
-pub record TellsRefused (rule : Rule) (fault : Option Fault) (clauses : List Clause) (p : Proof)
+-- what is wrong with an input, by the faults of the formula and of the second one: the formula's
+-- comes first
+abbrev pub first_fault : (formula second : Option Fault) → Option InputFault
+first_fault (Some f) second = Some (of.Formula f)
+first_fault None (Some f) = Some (of.Second f)
+first_fault None None = None
+
+-- A check tells what is wrong with an input: exactly where the status is `Malformed`.
+pub record TellsFault (formula second : Option Fault) (checked : Checked) : Type 0 where
+  pub malformed : checked.status ≡ Malformed → checked.fault ≡ first_fault formula second
+  pub only : (checked.status ≡ Malformed → ⊥) → checked.fault ≡ None
+
+-- A check tells why it ended so: where the refused step ends, exactly where the status is
+-- `NotVerified` since a step of the proof was refused; and what is wrong with an input.
+pub record TellsWhy (rule : Rule) (fault : Option Fault) (clauses : List Clause) (p : Proof)
     (checked : Checked) : Type 0 where
   pub unread : NeedsNoProof fault clauses → checked.refused ≡ None
   pub refused : (words : List Accepted) (ending : Ending) → fault ≡ None →
@@ -58,3 +72,4 @@ pub record TellsRefused (rule : Rule) (fault : Option Fault) (clauses : List Cla
       → Verdict rule clauses (bare_steps p) words ending →
       checked.refused ≡ refused_end p.steps words ending
   pub only : (checked.status ≡ NotVerified → ⊥) → checked.refused ≡ None
+  pub malformed : TellsFault fault p.fault checked

@@ -5,7 +5,7 @@ use Rattle.cnf_base.specs.Stream.{Input, Reader}
 use Rattle.dimacs.specs.Formula.{formula_of}
 use Rattle.proofs.specs.Reading.{Proof}
 use Rattle.theory.specs.Rules.{Rule}
-use Rattle.sat_check.specs.Reach.{ReadsNoFurther, TellsRefused}
+use Rattle.sat_check.specs.Reach.{ReadsNoFurther, TellsWhy}
 use Rattle.sat_check.specs.Report.{ChecksProof, is_cut_short}
 use Rattle.sat_check.specs.declared.checked.Checked.{Checked}
 use Rattle.sat_check.specs.declared.status.Status.{Status}
@@ -34,7 +34,7 @@ RunsProof rule trace steps formula formula_new proof proof_new old new had_faile
     (λ i j. ChecksProof rule trace i (steps j) old new status
     × ReadsNoFurther rule (formula_of i) (steps j) proof proof_new)
 
--- The same, and of the same inputs it tells where the refused step ends.
+-- The same, and of the same inputs it tells where the refused step ends, or what is wrong with one.
 abbrev pub RunsPlaced : Rule → (trace : Bool) → (steps : Input → Proof) →
     (formula formula_new proof proof_new : Reader) → (old new : Option (List ℕ)) →
     (had_failed has_failed is_flushed : Bool) → Checked → Type 0
@@ -43,4 +43,4 @@ RunsPlaced rule trace steps formula formula_new proof proof_new old new had_fail
     Runs formula formula_new proof proof_new had_failed has_failed is_flushed checked.status
     (λ i j. ChecksProof rule trace i (steps j) old new checked.status
     × ReadsNoFurther rule (formula_of i) (steps j) proof proof_new
-    × TellsRefused rule (formula_of i).fault (formula_of i).clauses (steps j) checked)
+    × TellsWhy rule (formula_of i).fault (formula_of i).clauses (steps j) checked)

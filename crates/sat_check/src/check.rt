@@ -15,7 +15,7 @@ use crate::conclude::{break_off, conclude, write_line};
 use crate::load::load;
 use crate::report::{formula_line, steps_line};
 use crate::subject::Subject;
-use crate::{Checked, Status};
+use crate::{Checked, InputFault, Status};
 use cnf_base::{In, LineOut, Out};
 use dimacs::Header;
 use proofs::StepReader;
@@ -49,7 +49,7 @@ pub fn check<F: In, S: ProofSession, R: StepReader, O: Out>(
         Ok(header) => check_loaded(alloc, trace, header, session, reader, lines),
         Err(fault) => {
             let status = break_off(alloc, lines, Subject::Proof, b"formula", fault);
-            Checked::without_step(status)
+            Checked::by_fault(status, InputFault::Formula(fault))
         }
     }
 }

@@ -10,7 +10,7 @@ use crate::check_step::check_step;
 use crate::conclude::{break_off, conclude};
 use crate::report::end_line;
 use crate::subject::Subject;
-use crate::{Checked, Status};
+use crate::{Checked, InputFault, Status};
 use cnf_base::{LineOut, Out};
 use proofs::{StepBuf, StepReader};
 use std::alloc::Global;
@@ -53,7 +53,7 @@ pub fn check_proof<S: ProofSession, R: StepReader, O: Out>(
             }
             Err(fault) => {
                 let status = break_off(alloc, lines, Subject::Proof, b"proof", fault);
-                return Checked::without_step(status);
+                return Checked::by_fault(status, InputFault::Second(fault));
             }
         }
     }

@@ -56,6 +56,7 @@ pub fn break_off<O: Out>(
     ensures told { (fault ≡ Fault.OutOfMemory → ⊥) →
         Outcome result lines.old.held lines.new.held
         (concluded (certificate_of subject) (fault_line name.now fault) (fault_status fault)) }
+    ensures gave_up { fault ≡ Fault.OutOfMemory → result ≡ Status.OutOfMemory }
     ensures read_failed { result ≡ Status.ReadFailed → fault ≡ Fault.ReadFailed }
     ensures write_failed { result ≡ Status.WriteFailed → lines.new.has_failed ≡ true }
     ensures writer { LeavesWriter result lines.old lines.new }

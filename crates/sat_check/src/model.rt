@@ -1,6 +1,6 @@
 //! A check of a model, from bytes to bytes.
 
-ghost use Rattle.std.specs.Prelude.{◌≡◌, true, Ok, IfOk, IfErr};
+ghost use Rattle.std.specs.Prelude.{◌≡◌, true, Ok, None, IfOk, IfErr};
 ghost use Rattle.cnf_base.specs.Stream.{tells_failure};
 ghost use Rattle.cnf_base.specs.Code.Seen.{OfSeen};
 ghost use Rattle.cnf_base.specs.Seen.{OfBothSeen, OneHasFailed};
@@ -10,15 +10,17 @@ ghost use Rattle.sat_check.specs.Report.{Outcome};
 ghost use Rattle.sat_check.specs.Code.Writer.{LeavesWriter};
 ghost use Rattle.sat_check.specs.ModelReport.{claim_report, model_report};
 ghost use Rattle.sat_check.specs.ModelReport.{ChecksModel, ReadsFormulaNoFurther};
+ghost use Rattle.sat_check.specs.ModelReport.{TellsModelFault};
+ghost use Rattle.sat_check.specs.Reach.{TellsFault};
 ghost use Rattle.sat_check.specs.Runs.{Runs};
 ghost use Rattle.sat_check.specs.Code.Judging.{judged_report, ReadsToUnmet};
 
-use crate::Status;
 use crate::conclude::{break_off, conclude};
 use crate::judge::judge;
 use crate::judgement::Judgement;
 use crate::report::{clauses_line, unmet_line};
 use crate::subject::Subject;
+use crate::{Checked, InputFault, Status};
 use cnf_base::{Fault, In, LineOut, Out, Piece, Source};
 use dimacs::{Model, read_claim};
 use std::alloc::Global;
@@ -41,11 +43,28 @@ pub fn run_model<F: In, M: In, O: Out>(
         ChecksModel i j (O.held out.old) (O.held out.new) result
         × ReadsFormulaNoFurther (claim_of j) i (F.shown formula.old) (F.shown formula.new)) }
 {
+    run_model_placed(alloc, formula, output, out).status
+}
+
+/// As [`run_model`], and tells what is wrong with an input.
+pub fn run_model_placed<F: In, M: In, O: Out>(
+    alloc: Global,
+    formula: &mut F,
+    output: &mut M,
+    out: &mut O,
+) -> Checked
+    ensures { Runs (F.shown formula.old) (F.shown formula.new)
+        (M.shown output.old) (M.shown output.new)
+        (O.has_failed out.old) (O.has_failed out.new) (O.is_flushed out.new) result.status (λ i j.
+        ChecksModel i j (O.held out.old) (O.held out.new) result.status
+        × ReadsFormulaNoFurther (claim_of j) i (F.shown formula.old) (F.shown formula.new)
+        × TellsModelFault (claim_of j) (formula_of i) result) }
+{
     let mut lines = LineOut::new(&mut *out);
-    let status = check_model(alloc, formula, output, &mut lines);
+    let checked = check_model(alloc, formula, output, &mut lines);
     let writer = lines.release();
     let _ = &*writer;
-    status
+    checked
 }
 
 fn check_model<F: In, M: In, O: Out>(
@@ -53,21 +72,25 @@ fn check_model<F: In, M: In, O: Out>(
     formula: &mut F,
     output: &mut M,
     lines: &mut LineOut<O>,
-) -> Status
+) -> Checked
     // The claim of a verified model holds no complements.
     ensures report { OfBothSeen (F.shown formula.old) (F.shown formula.new)
         (M.shown output.old) (M.shown output.new) (λ i j.
-        Outcome result lines.old.held lines.new.held (model_report i j)
-        × (result ≡ Status.Verified → IfOk (claim_of j) IsConsistent)
-        × ReadsFormulaNoFurther (claim_of j) i (F.shown formula.old) (F.shown formula.new)) }
-    ensures read_failed { result ≡ Status.ReadFailed →
+        Outcome result.status lines.old.held lines.new.held (model_report i j)
+        × (result.status ≡ Status.Verified → IfOk (claim_of j) IsConsistent)
+        × ReadsFormulaNoFurther (claim_of j) i (F.shown formula.old) (F.shown formula.new)
+        × TellsModelFault (claim_of j) (formula_of i) result) }
+    ensures read_failed { result.status ≡ Status.ReadFailed →
         OneHasFailed (F.shown formula.new) (M.shown output.new) }
-    ensures write_failed { result ≡ Status.WriteFailed → lines.new.has_failed ≡ true }
-    ensures writer { LeavesWriter result lines.old lines.new }
+    ensures write_failed { result.status ≡ Status.WriteFailed → lines.new.has_failed ≡ true }
+    ensures writer { LeavesWriter result.status lines.old lines.new }
 {
     match claimed(alloc, output) {
         Ok(model) => check_formula(alloc, &model, formula, lines),
-        Err(fault) => break_off(alloc, lines, Subject::Model, b"output", fault),
+        Err(fault) => {
+            let status = break_off(alloc, lines, Subject::Model, b"output", fault);
+            Checked::by_fault(status, InputFault::Second(fault))
+        }
     }
 }
 
@@ -91,24 +114,33 @@ fn check_formula<F: In, O: Out>(
     model: &Model,
     formula: &mut F,
     lines: &mut LineOut<O>,
-) -> Status
+) -> Checked
     ensures report { OfSeen (F.shown formula.old) (F.shown formula.new) (λ i.
-        Outcome result lines.old.held lines.new.held (claim_report (Ok model.now) (formula_of i))
-        × ReadsToUnmet model.now i (F.shown formula.old) (F.shown formula.new)) }
-    ensures read_failed { result ≡ Status.ReadFailed →
+        Outcome result.status lines.old.held lines.new.held
+        (claim_report (Ok model.now) (formula_of i))
+        × ReadsToUnmet model.now i (F.shown formula.old) (F.shown formula.new)
+        × TellsFault (formula_of i).fault None result) }
+    ensures read_failed { result.status ≡ Status.ReadFailed →
         tells_failure (F.shown formula.new) ≡ true }
-    ensures write_failed { result ≡ Status.WriteFailed → lines.new.has_failed ≡ true }
-    ensures writer { LeavesWriter result lines.old lines.new }
+    ensures write_failed { result.status ≡ Status.WriteFailed → lines.new.has_failed ≡ true }
+    ensures writer { LeavesWriter result.status lines.old lines.new }
 {
     match judge(alloc, formula, model) {
-        Ok(judgement) => conclude_judgement(alloc, judgement, lines),
-        Err(fault) => break_off(alloc, lines, Subject::Model, b"formula", fault),
+        Ok(judgement) => {
+            let status = conclude_judgement(alloc, judgement, lines);
+            Checked::without_step(status)
+        }
+        Err(fault) => {
+            let status = break_off(alloc, lines, Subject::Model, b"formula", fault);
+            Checked::by_fault(status, InputFault::Formula(fault))
+        }
     }
 }
 
 fn conclude_judgement<O: Out>(alloc: Global, judgement: Judgement, lines: &mut LineOut<O>) -> Status
     ensures outcome { Outcome result lines.old.held lines.new.held (judged_report judgement) }
     ensures read { result ≡ Status.ReadFailed → ⊥ }
+    ensures well_formed { result ≡ Status.Malformed → ⊥ }
     ensures write_failed { result ≡ Status.WriteFailed → lines.new.has_failed ≡ true }
     ensures writer { LeavesWriter result lines.old lines.new }
 {

@@ -1,16 +1,17 @@
 //! The lines of a report.
 
 ghost use Rattle.std.specs.Prelude.{◌≡◌, ◌++◌, ◌/◌, codes, decimal, IfOk};
-ghost use Rattle.sat_check.specs.Lines.{formula_line, kind_text, binary_text, fault_line};
+ghost use Rattle.sat_check.specs.Lines.{formula_line, fault_line};
 ghost use Rattle.sat_check.specs.Lines.{fault_status, text_status, word_text, trace_line};
 ghost use Rattle.sat_check.specs.Lines.{sign_text, with_cause, refusal_line, steps_line, end_line};
 ghost use Rattle.sat_check.specs.Lines.{unmet_line, clauses_line, sentence};
 ghost use Rattle.sat_check.specs.Code.Subjects.{certificate_of};
 
 use crate::Status;
+use crate::kinds::{binary_kind, text_kind};
 use crate::line::Line;
 use crate::subject::Subject;
-use cnf_base::{BinaryFault, Fault, Lit, OutOfMemory, TextFault};
+use cnf_base::{Fault, Lit, OutOfMemory, TextFault};
 use dimacs::Header;
 use std::alloc::Global;
 use steps::{Accepted, Refusal};
@@ -40,14 +41,14 @@ pub fn fault_line(alloc: Global, name: &[u8], fault: Fault) -> Result<Line, OutO
             .text(b":")?
             .number(place.col)?
             .text(b": ")?
-            .text(kind_text(kind)),
+            .text(text_kind(kind).as_bytes()),
         Fault::Binary(kind, byte) => Line::new(alloc)
             .text(b"c ")?
             .text(name)?
             .text(b" byte ")?
             .number(byte)?
             .text(b": ")?
-            .text(binary_text(kind)),
+            .text(binary_kind(kind).as_bytes()),
         Fault::ReadFailed => Line::new(alloc).text(b"c cannot read ")?.text(name),
         Fault::OutOfMemory => Ok(Line::new(alloc)),
     }
@@ -239,40 +240,5 @@ fn text_status(kind: TextFault) -> Status
         | TextFault::LiteralTooLarge
         | TextFault::IdTooLarge
         | TextFault::UnterminatedStep => Status::Malformed,
-    }
-}
-
-fn kind_text(kind: TextFault) -> &'static [u8]
-    ensures { result.now ≡ kind_text kind }
-{
-    match kind {
-        TextFault::BadHeader => b"bad header",
-        TextFault::NumberTooLarge => b"number too large",
-        TextFault::BadToken => b"bad token",
-        TextFault::LiteralOutOfRange => b"literal out of range",
-        TextFault::TooManyClauses => b"too many clauses",
-        TextFault::TooFewClauses => b"too few clauses",
-        TextFault::UnterminatedClause => b"unterminated clause",
-        TextFault::BadLine => b"bad line",
-        TextFault::SecondStatus => b"second status line",
-        TextFault::NoStatus => b"no status line",
-        TextFault::NotClaimed => b"no model claimed",
-        TextFault::AfterEnd => b"token after the end of the model",
-        TextFault::UnterminatedModel => b"unterminated model",
-        TextFault::Complement => b"literal and its complement",
-        TextFault::LiteralTooLarge => b"literal too large",
-        TextFault::IdTooLarge => b"identifier too large",
-        TextFault::UnterminatedStep => b"unterminated step",
-    }
-}
-
-fn binary_text(kind: BinaryFault) -> &'static [u8]
-    ensures { result.now ≡ binary_text kind }
-{
-    match kind {
-        BinaryFault::LiteralTooLarge => b"literal too large",
-        BinaryFault::UnterminatedStep => b"unterminated step",
-        BinaryFault::BadTag => b"bad tag",
-        BinaryFault::BadNumber => b"bad number",
     }
 }

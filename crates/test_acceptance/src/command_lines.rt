@@ -15,7 +15,7 @@ fn read(alloc: Global, tool: Tool, line: &str) -> Result<Args, ArgsFault> {
 }
 
 /// Lines that are refused, or ask for a text: it is shown in both cases.
-const REFUSED: [(Tool, &str); 23] = [
+const REFUSED: [(Tool, &str); 26] = [
     (Tool::Drat, "drat-forward --core f.cnf"),
     (Tool::Drat, "drat-forward --trace --trace f.cnf"),
     (Tool::Lrat, "lrat-check f.cnf "),
@@ -34,6 +34,10 @@ const REFUSED: [(Tool, &str); 23] = [
     (Tool::Model, "model-check --trace f.cnf"),
     (Tool::Model, "model-check a b c"),
     (Tool::Model, "model-check"),
+    // Both inputs would be standard input.
+    (Tool::Drat, "drat-forward - --trace -"),
+    (Tool::Lrat, "lrat-check -"),
+    (Tool::Model, "model-check - -"),
     // They ask for a text.
     (Tool::Drat, "drat-forward --help"),
     (Tool::Lrat, "lrat-check -h"),
@@ -115,6 +119,20 @@ fn lrat_reads(rt: HostRuntime) -> Result<(), Fail> {
 fn model_reads(rt: HostRuntime) -> Result<(), Fail> {
     let line = "model-check f.cnf model.txt";
     let expected = ([false; 5], "f.cnf", Some("model.txt"));
+    expect_read(&rt, rt.alloc(), Tool::Model, line, expected)
+}
+
+#[test]
+fn drat_reads_a_formula_from_standard_input(rt: HostRuntime) -> Result<(), Fail> {
+    let line = "drat-forward - p.drat";
+    let expected = ([false; 5], "-", Some("p.drat"));
+    expect_read(&rt, rt.alloc(), Tool::Drat, line, expected)
+}
+
+#[test]
+fn model_reads_an_output_from_standard_input(rt: HostRuntime) -> Result<(), Fail> {
+    let line = "model-check f.cnf -";
+    let expected = ([false; 5], "f.cnf", Some("-"));
     expect_read(&rt, rt.alloc(), Tool::Model, line, expected)
 }
 

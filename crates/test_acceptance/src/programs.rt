@@ -6,7 +6,7 @@ use crate::support::{E, E_DRAT, E_PROOF, MODELS, MODELS_OUTPUT, expect_equal};
 use cnf_base::{FromRead, ToWrite};
 use filter_io::{System, run_drat_forward, run_lrat_check, run_model_check};
 use proofs::StepEnd;
-use sat_check::{Status, Tool};
+use sat_check::{Args, InputFault, Status, Tool};
 use std::alloc::Global;
 use std::process::Abort;
 use std::test::Fail;
@@ -50,6 +50,14 @@ impl<'a> System for TwoInputs<'a> {
     fn tell_failure(&self, _name: &str, _input: &FromRead<&'a [u8]>) {}
 
     fn tell_refusal(&self, _name: &str, _end: StepEnd) {}
+
+    fn tell_fault(
+        &self,
+        _tool: Tool,
+        _args: &Args,
+        _fault: InputFault,
+        _input: &FromRead<&'a [u8]>,
+    ) {}
 }
 
 fn words_of(alloc: Global, line: &str) -> Result<Vec<String>, Fail> {

@@ -21,13 +21,14 @@ use Rattle.theory.specs.declared.refusal.Refusal.{Refusal}
 use Rattle.steps.specs.ProofSession.{View, is_over}
 use Rattle.sat_check.specs.Code.Writer.{LeavesWriter}
 use Rattle.sat_check.specs.Lines.{trace_line}
-use Rattle.sat_check.specs.Reach.{deciding_step, refused_end, NeedsNoProof, TellsRefused}
-use Rattle.sat_check.specs.Reach.{ReadsNoFurther}
+use Rattle.sat_check.specs.Reach.{deciding_step, refused_end, NeedsNoProof, TellsWhy}
+use Rattle.sat_check.specs.Reach.{ReadsNoFurther, TellsFault}
 use Rattle.sat_check.specs.Report.{Report, bare_steps, peak_of, proof_report, Reports, text_of}
 use Rattle.sat_check.specs.Report.{Outcome}
 use Rattle.sat_check.specs.declared.checked.Checked.{Checked}
 use Rattle.sat_check.specs.declared.status.Status.TheVariants.{NotVerified, OutOfMemory as NoMemory}
 use Rattle.sat_check.specs.declared.status.Status.TheVariants.{WriteFailed, ReadFailed}
+use Rattle.sat_check.specs.declared.status.Status.TheVariants.{Malformed}
 use Rattle.sat_check.specs.declared.status.Status.{Status}
 
 -- where a reader stands, and what is still to come of an input
@@ -72,7 +73,7 @@ pub record Rest (trace : Bool) (state : State) (n : ℕ) (peak : ℕ) (proof : P
       (max peak (peak_of state (bare_steps proof) words)) words ending proof.fault
 
 -- What is left of the steps of a proof from a state on: all that follows the step that decides,
--- whatever the status; and where that ends, if it was refused.
+-- whatever the status; and where that ends, if it was refused, or what is wrong with the proof.
 pub record LeavesRest (state : State) (p : Proof) (rest : Suffix) (checked : Checked) : Type 0 where
   pub past : (words : List Accepted) (ending : Ending) (last : PlacedStep) →
       Ends state (bare_steps p) words ending
@@ -81,26 +82,27 @@ pub record LeavesRest (state : State) (p : Proof) (rest : Suffix) (checked : Che
       Ends state (bare_steps p) words ending
       → checked.refused ≡ refused_end p.steps words ending
   pub only : (checked.status ≡ NotVerified → ⊥) → checked.refused ≡ None
+  pub malformed : TellsFault None p.fault checked
 
 -- What is left of a proof: all of it where the formula decides alone, and else all of it, or all
--- that follows the step that decides; and where the refused step ends.
+-- that follows the step that decides; and why the check ended so.
 pub record LeavesProof (rule : Rule) (fault : Option Fault) (clauses : List Clause) (p : Proof)
     (old new : Reader) (rest : Suffix) (checked : Checked) : Type 0 where
   pub unread : NeedsNoProof fault clauses → new ≡ old
   pub past : (words : List Accepted) (ending : Ending) (last : PlacedStep) → fault ≡ None
       → Verdict rule clauses (bare_steps p) words ending →
       deciding_step p.steps words ending ≡ Some last → (new ≡ old) ⊎ (rest.offset ≤ last.offset)
-  pub told : TellsRefused rule fault clauses p checked
+  pub told : TellsWhy rule fault clauses p checked
 
 -- what was written, by all that was seen of the formula and of the proof, how far this was read,
--- and where the refused step ends
+-- and why the check ended so
 abbrev pub AllReports : Rule → Bool → (Input → Proof) → Reader → Reader → Reader → Reader →
     Checked → Option (List ℕ) → Option (List ℕ) → Type 0
 AllReports rule trace steps formula formula_new proof proof_new checked old new =
     OfBothSeen formula formula_new proof proof_new
     (λ i j. Reports rule trace i (steps j) old new checked.status
     × ReadsNoFurther rule (formula_of i) (steps j) proof proof_new
-    × TellsRefused rule (formula_of i).fault (formula_of i).clauses (steps j) checked)
+    × TellsWhy rule (formula_of i).fault (formula_of i).clauses (steps j) checked)
 
 -- A run from readers to the writer of the lines: what was written, and which of them failed.
 pub record RunsInto (rule : Rule) (trace : Bool) (steps : Input → Proof)
@@ -157,8 +159,9 @@ IsBreak NoMemory now = Unit {0}
 IsBreak WriteFailed now = now.has_failed ≡ true
 IsBreak _ now = ⊥
 
--- neither a failed read, nor a failed write that the writer doesn't tell of
+-- neither a malformed input or a failed read, nor a failed write that the writer doesn't tell of
 abbrev pub IsTold : Status → Sink → Type 0
+IsTold Malformed now = ⊥
 IsTold ReadFailed now = ⊥
 IsTold WriteFailed now = now.has_failed ≡ true
 IsTold _ now = Unit {0}

@@ -10,4 +10,4 @@ pub returns-in-Lrat : goal.returns-in-Lrat
 returns-in-Lrat g c = of_tool c.args.tool Lrat c.args.args.now _ _ _ _ _ _ _ _ _ _ _ c.in-Lrat.is c.lrat_check.ensures (λ i j x. x.0)
 
 pub returns-in-Model : goal.returns-in-Model
-returns-in-Model g c = of_tool c.args.tool Model c.args.args.now _ _ _ _ _ _ _ _ _ _ _ c.in-Model.is c.run_model.ensures (λ i j x. x.0)
+returns-in-Model g c = of_tool c.args.tool Model c.args.args.now _ _ _ _ _ _ _ _ _ _ _ c.in-Model.is c.run_model_placed.ensures (λ i j x. x.0)

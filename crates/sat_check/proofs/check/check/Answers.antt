@@ -1,5 +1,5 @@
 -- The formula was loaded, or it has a fault.
-use Rattle.std.proofs.Common.{Option, [], sym, subst, rules}
+use Rattle.std.proofs.Common.{◌≡◌, ◌∙◌, Option, [], sym, subst}
 use Rattle.cnf_base.specs.declared.fault.Fault.{Fault}
 use Rattle.cnf_base.proofs.StreamLemmas.{Along-map, Along-none}
 use Rattle.cnf_base.proofs.SeenLemmas.{seen_is_some}
@@ -7,6 +7,7 @@ use Rattle.dimacs.specs.Formula.{formula_of}
 use Rattle.theory.specs.Rules.{rule_of}
 use Rattle.sat_check.specs.Code.Checking.{LeavesProof}
 use Rattle.sat_check.specs.declared.status.Status.TheVariants.{Malformed}
+use Rattle.sat_check.specs.declared.status.Status.TheVariants.{OutOfMemory as NoMemory}
 use Rattle.sat_check.proofs.ReachLemmas.{no_verdict, LeavesProof-fault}
 use Rattle.sat_check.proofs.ReportLemmas.{reports_checked, err_report}
 use Rattle.sat_check.proofs.check.check.Goals as goal
@@ -35,8 +36,13 @@ returns-in-Err-clause-report g c =
     let rule = rule_of (g.S.ProofSession.shown c.args.session.now).state in (
       c.in-Err.ensures.loads.seen,
       Along-map _ _ _ _ (Along-none _) (λ j k m e i s. (
-        rw c.without_step.ensures (err_report rule (g.S.ProofSession.shown c.load.new.session) c.args.trace c.in-Err.fault i _ c.break_off-status.result c.args.lines.now c.break_off-status.new.lines (c.in-Err.ensures.loads.fact i s) c.break_off-status.ensures.memory c.break_off-status.ensures.told),
-        LeavesProof-fault rule (g.S.ProofSession.shown c.load.new.session) c.in-Err.fault i _ _ k c.without_step.result (search rules) (c.in-Err.ensures.loads.fact i s)
-            (rw c.without_step.ensures (λ is. no_verdict c.break_off-status.result c.args.lines.now.held c.break_off-status.new.lines.held [] (c.break_off-status.ensures.memory is (record { lines = []; status = Malformed })))),
+        rw c.by_fault.ensures.status (err_report rule (g.S.ProofSession.shown c.load.new.session) c.args.trace c.in-Err.fault i _ c.break_off-status.result c.args.lines.now c.break_off-status.new.lines (c.in-Err.ensures.loads.fact i s) c.break_off-status.ensures.memory c.break_off-status.ensures.told),
+        LeavesProof-fault rule (g.S.ProofSession.shown c.load.new.session) c.in-Err.fault i _ _ k c.by_fault.result c.by_fault.ensures.refused (c.in-Err.ensures.loads.fact i s)
+            (λ is. (
+              rw c.by_fault.ensures.status (no_verdict c.break_off-status.result c.args.lines.now.held c.break_off-status.new.lines.held [] (c.break_off-status.ensures.memory is (record { lines = []; status = Malformed }))),
+              λ m. let bad : NoMemory ≡ Malformed = sym (c.break_off-status.ensures.gave_up is) ∙ (sym c.by_fault.ensures.status ∙ m) in cc,
+            ))
+            (λ m. c.by_fault.ensures.malformed (sym c.by_fault.ensures.status ∙ m))
+            (λ not. c.by_fault.ensures.only (λ m. not (c.by_fault.ensures.status ∙ m))),
       )),
     )

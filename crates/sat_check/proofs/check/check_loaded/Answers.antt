@@ -1,11 +1,13 @@
 -- The formula's line broke off, a clause is empty, or the proof is checked.
-use Rattle.std.proofs.Common.{None, [], sym, ◌∙◌, rules}
+use Rattle.std.proofs.Common.{◌≡◌, None, [], ap, sym, ◌∙◌, rules}
 use Rattle.cnf_base.proofs.StreamLemmas.{Along-map, Along-none}
+use Rattle.sat_check.specs.declared.checked.Checked.{Checked}
 use Rattle.sat_check.specs.Lines.{formula_line, steps_line}
-use Rattle.sat_check.specs.declared.status.Status.TheVariants.{Malformed}
+use Rattle.sat_check.specs.declared.status.Status.TheVariants.{Malformed, Verified}
 use Rattle.sat_check.proofs.OutcomeLemmas.{Outcome-line}
 use Rattle.sat_check.proofs.ReachLemmas.{no_verdict, LeavesProof-broken, LeavesProof-empty}
-use Rattle.sat_check.proofs.ReachLemmas.{LeavesProof-checked}
+use Rattle.sat_check.proofs.ReachLemmas.{LeavesProof-checked, TellsFault-none, concluded_not}
+use Rattle.sat_check.proofs.ReachLemmas.{cut_short_not}
 use Rattle.sat_check.proofs.ReportLemmas.{loaded_finite, loaded_least, checks_some, checks_rest}
 use Rattle.sat_check.proofs.ReportLemmas.{verified_report}
 use Rattle.sat_check.proofs.check.check_loaded.Goals as goal
@@ -18,7 +20,9 @@ returns-in-Err-clause-report g c =
       _,
       some.1,
       rw c.without_step.ensures (stopped some.0 c.formula_line.ensures),
-      LeavesProof-broken rule None clauses _ _ k c.without_step.result (search rules) (rw c.without_step.ensures (no_verdict _ _ _ _ (stopped (record { lines = []; status = Malformed }) c.formula_line.ensures))),
+      LeavesProof-broken rule None clauses _ _ k c.without_step.result (search rules)
+          (TellsFault-none None _ c.without_step.result (search rules) (λ m. cut_short_not _ c.in-Err.ensures.cut_short (sym (ap (λ (x : Checked). x.status) c.without_step.ensures) ∙ m)))
+          (rw c.without_step.ensures (no_verdict _ _ _ _ (stopped (record { lines = []; status = Malformed }) c.formula_line.ensures))),
     ))
 
 pub returns-then-verified-clause-report : goal.returns-then-verified-clause-report
@@ -26,8 +30,15 @@ returns-then-verified-clause-report g c =
     Along-map _ _ _ _ (Along-none _) (λ j k m e rule clauses l.
     let done = verified_report rule (g.S.ProofSession.shown c.args.session.now) clauses l c.args.trace c.args.header _ c.conclude-status.result c.args.lines.now c.write_line.new.lines c.conclude-status.new.lines _ (search rules) c.peak.ensures
     (c.in_default.ensures.written (formula_line c.args.header) c.formula_line.ensures) c.in_default.ensures.ok.0
-    (c.conclude-status.ensures.outcome (steps_line 0 c.peak.result) c.steps_line-line.ensures) in
-    (done.0, done.1, rw c.without_step-then-verified.ensures done.2, LeavesProof-empty rule None clauses _ _ k c.without_step-then-verified.result (search rules) (sym l.verified ∙ search rules)))
+    (c.conclude-status.ensures.outcome (steps_line 0 c.peak.result) c.steps_line-line.ensures) in (
+      done.0,
+      done.1,
+      rw c.without_step-then-verified.ensures done.2,
+      LeavesProof-empty rule None clauses _ _ k c.without_step-then-verified.result (search rules)
+          (TellsFault-none None _ c.without_step-then-verified.result (search rules)
+          (λ m. concluded_not Verified _ _ c.conclude-status.ensures.status (λ e. let bad : Verified ≡ Malformed = e in cc) (sym (ap (λ (x : Checked). x.status) c.without_step-then-verified.ensures) ∙ m)))
+          (sym l.verified ∙ search rules),
+    ))
 
 pub check_proof-requires-clause-open : goal.check_proof-requires-clause-open
 check_proof-requires-clause-open g c =

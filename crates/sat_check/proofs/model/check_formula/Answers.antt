@@ -1,17 +1,39 @@
 -- The formula was judged, or it has a fault.
-use Rattle.std.proofs.Common.{subst}
+use Rattle.std.proofs.Common.{◌≡◌, ◌∙◌, None, ap, rules, subst, sym}
 use Rattle.sat_check.specs.Report.{Report, Outcome}
 use Rattle.dimacs.specs.Formula.{formula_of}
-use Rattle.sat_check.proofs.ModelLemmas.{judged_as, formula_fault}
+use Rattle.sat_check.specs.declared.checked.Checked.{Checked}
+use Rattle.sat_check.specs.declared.status.Status.TheVariants.{Malformed}
+use Rattle.sat_check.specs.declared.status.Status.TheVariants.{OutOfMemory as NoMemory}
+use Rattle.sat_check.proofs.ModelLemmas.{judged_as, formula_fault, formula_tells}
+use Rattle.sat_check.proofs.ReachLemmas.{TellsFault-none}
 use Rattle.sat_check.proofs.model.check_formula.Goals as goal
 
 pub returns-in-Ok-clause-report : goal.returns-in-Ok-clause-report
 returns-in-Ok-clause-report g c =
     let judges = c.in-Ok.ensures.judges in
-    let P : Report → Type 0 = Outcome c.conclude_judgement.result c.args.lines.now.held c.conclude_judgement.new.lines.held in
-    record { seen = judges.seen; fact = λ i seen. (subst P (judged_as c.args.model.now c.in-Ok.judgement (formula_of i) (judges.fact i seen).0) c.conclude_judgement.ensures.outcome, (judges.fact i seen).1) }
+    let P : Report → Type 0 = Outcome c.conclude_judgement-status.result c.args.lines.now.held c.conclude_judgement-status.new.lines.held in
+    record {
+      seen = judges.seen;
+      fact = λ i seen. (
+        rw c.without_step.ensures (subst P (judged_as c.args.model.now c.in-Ok.judgement (formula_of i) (judges.fact i seen).0) c.conclude_judgement-status.ensures.outcome),
+        (judges.fact i seen).1,
+        TellsFault-none (formula_of i).fault None c.without_step.result (search rules)
+            (λ m. c.conclude_judgement-status.ensures.well_formed (sym (ap (λ (x : Checked). x.status) c.without_step.ensures) ∙ m)),
+      );
+    }
 
 pub returns-in-Err-clause-report : goal.returns-in-Err-clause-report
 returns-in-Err-clause-report g c =
     let judges = c.in-Err.ensures.judges in
-    record { seen = judges.seen; fact = λ i seen. (formula_fault c.break_off.result c.args.lines.now c.break_off.new.lines c.args.model.now c.in-Err.fault (formula_of i) (judges.fact i seen).0 (c.break_off.ensures.memory, c.break_off.ensures.told), (judges.fact i seen).1) }
+    let status = c.by_fault.ensures.status in
+    record {
+      seen = judges.seen;
+      fact = λ i seen. (
+        rw status (formula_fault c.break_off-status.result c.args.lines.now c.break_off-status.new.lines c.args.model.now c.in-Err.fault (formula_of i) (judges.fact i seen).0 (c.break_off-status.ensures.memory, c.break_off-status.ensures.told)),
+        (judges.fact i seen).1,
+        formula_tells (formula_of i) c.by_fault.result (λ not. c.by_fault.ensures.only (λ m. not (status ∙ m))) c.args.model.now c.in-Err.fault (judges.fact i seen).0
+            (λ is m. let bad : NoMemory ≡ Malformed = sym (c.break_off-status.ensures.gave_up is) ∙ (sym status ∙ m) in cc)
+            (λ m. c.by_fault.ensures.malformed (sym status ∙ m)),
+      );
+    }

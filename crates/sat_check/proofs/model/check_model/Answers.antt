@@ -1,18 +1,21 @@
 -- The formula is checked, or the output has a fault.
-use Rattle.std.proofs.Common.{subst, codes}
+use Rattle.std.proofs.Common.{◌≡◌, ◌∙◌, subst, sym, codes}
 use Rattle.cnf_base.proofs.SeenLemmas.{Seen-nothing}
 use Rattle.dimacs.specs.Claim.{claim_of}
 use Rattle.dimacs.specs.Formula.{formula_of}
 use Rattle.sat_check.specs.Report.{Report, Outcome}
 use Rattle.sat_check.proofs.ModelLemmas.{claimed_report, claimed_consistent, formula_left}
 use Rattle.sat_check.proofs.ModelLemmas.{formula_needed, output_fault, fault_unverified}
+use Rattle.sat_check.proofs.ModelLemmas.{claimed_tells, output_tells}
+use Rattle.sat_check.specs.declared.status.Status.TheVariants.{Malformed}
+use Rattle.sat_check.specs.declared.status.Status.TheVariants.{OutOfMemory as NoMemory}
 use Rattle.sat_check.proofs.model.check_model.Goals as goal
 
 pub returns-in-Ok-clause-report : goal.returns-in-Ok-clause-report
 returns-in-Ok-clause-report g c =
     let checked = c.check_formula.ensures.report in
     let claims = c.in-Ok.ensures.claims in
-    let P : Report → Type 0 = Outcome c.check_formula.result c.args.lines.now.held c.check_formula.new.lines.held in
+    let P : Report → Type 0 = Outcome c.check_formula.result.status c.args.lines.now.held c.check_formula.new.lines.held in
     record {
       first = checked.seen;
       second = claims.seen;
@@ -20,18 +23,23 @@ returns-in-Ok-clause-report g c =
         subst P (claimed_report c.in-Ok.model (claim_of j) (formula_of i) (claims.fact j t)) (checked.fact i s).0,
         λ is. claimed_consistent c.in-Ok.model (claim_of j) (claims.fact j t) c.in-Ok.ensures.consistent,
         formula_needed c.in-Ok.model (claim_of j) i _ _ (claims.fact j t) (checked.fact i s).1,
+        claimed_tells c.in-Ok.model (claim_of j) (formula_of i) c.check_formula.result (claims.fact j t) (checked.fact i s).2,
       );
     }
 
 pub returns-in-Err-clause-report : goal.returns-in-Err-clause-report
 returns-in-Err-clause-report g c =
     let claims = c.in-Err.ensures.claims in
+    let status = c.by_fault.ensures.status in
     record {
       first = Seen-nothing _;
       second = claims.seen;
       fact = λ i j s t. (
-        output_fault c.break_off.result c.args.lines.now c.break_off.new.lines c.in-Err.fault (claim_of j) (formula_of i) (claims.fact j t) (c.break_off.ensures.memory, c.break_off.ensures.told),
-        λ is. absurd (fault_unverified c.break_off.result c.args.lines.now c.break_off.new.lines (codes "output") c.in-Err.fault (c.break_off.ensures.memory, c.break_off.ensures.told) is),
+        rw status (output_fault c.break_off-status.result c.args.lines.now c.break_off-status.new.lines c.in-Err.fault (claim_of j) (formula_of i) (claims.fact j t) (c.break_off-status.ensures.memory, c.break_off-status.ensures.told)),
+        λ is. absurd (fault_unverified c.break_off-status.result c.args.lines.now c.break_off-status.new.lines (codes "output") c.in-Err.fault (c.break_off-status.ensures.memory, c.break_off-status.ensures.told) (sym status ∙ is)),
         formula_left (claim_of j) i _,
+        output_tells (formula_of i) c.by_fault.result (λ not. c.by_fault.ensures.only (λ m. not (status ∙ m))) c.in-Err.fault (claim_of j) (claims.fact j t)
+            (λ is m. let bad : NoMemory ≡ Malformed = sym (c.break_off-status.ensures.gave_up is) ∙ (sym status ∙ m) in cc)
+            (λ m. c.by_fault.ensures.malformed (sym status ∙ m)),
       );
     }

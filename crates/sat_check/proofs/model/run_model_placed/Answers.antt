@@ -1,0 +1,18 @@
+-- What the lines hold is what the writer holds.
+use Rattle.std.proofs.Common.{rules}
+use Rattle.dimacs.specs.Claim.{claim_of}
+use Rattle.dimacs.specs.Formula.{formula_of}
+use Rattle.sat_check.specs.ModelReport.{TellsModelFault}
+use Rattle.sat_check.proofs.ModelLemmas.{both_check_model}
+use Rattle.sat_check.proofs.model.run_model_placed.Goals as goal
+
+pub returns : goal.returns
+returns g c = record {
+  checks =
+      both_check_model _ _ _ _ (λ i j. TellsModelFault (claim_of j) (formula_of i) c.check_model-checked.result) c.check_model-checked.result.status
+      _ _ _ _ (search rules) (search rules) c.check_model-checked.ensures.report;
+  read_failed = search rules;
+  write_failed = search rules;
+  no_failure = search rules;
+  flushed = search rules;
+}
