@@ -1,0 +1,230 @@
+#!/usr/bin/env python3
+"""Measures proof checkers side by side, on formulas of formulas.py and examples/pigeonhole.py. bench/field.sh says how to call
+it, and has the tools.
+
+Each checker of a table checks the same proof, as text. They run by turns, three times; the least user seconds count, and the
+peak of memory (resident set). The solver ran once. The last row has geometric means over all proofs that both verify: the
+seconds of the first checker, where each took a twentieth or more, and its memory, over those of the other. Formulas and proofs
+are kept in bench/out/field/, and proofs are made again where the solver's version changes. The status is 0 only where our
+checkers verify all proofs.
+"""
+
+import math
+import os
+import re
+import resource
+import subprocess
+import sys
+
+HERE = os.path.dirname(os.path.abspath(__file__))
+OUT = os.path.join(HERE, "out")
+MADE = os.path.join(OUT, "field")
+ROUNDS, LIMIT, LEAST = 3, 600, 0.05
+
+# what the table calls it, the words that make it, and those that make a small one
+FORMULAS = [
+    ("ten pigeons in nine holes", "pigeonhole 9", "pigeonhole 6"),
+    ("an order of 60 elements without a least one", "order 60", "order 20"),
+    ("250 variables at random, 1125 clauses", "random 250 1125 1", "random 120 540 1"),
+    ("sums of three numbers of 256 bits", "sums 256", "sums 32"),
+    ("products of two numbers of 7 bits", "products 7", "products 5"),
+    ("sorting networks for 24 bits", "sorters 24", "sorters 12"),
+    ("parity of 32 bits in two orders", "parity 32 1", "parity 16 1"),
+    ("a token in a ring of 20, 32 steps", "ring 20 32", "ring 8 8"),
+    ("dominoes on 12 times 12 squares", "dominoes 12", "dominoes 8"),
+    ("77 numbers in two colours, progressions of 3 and 9", "waerden 3 9 77", "waerden 3 6 32"),
+    ("pigeons hidden in 250000 clauses", "hidden 100000 250000 1 8", "hidden 1000 2500 1 5"),
+]
+
+
+def tool(variable):
+    return os.environ[variable]
+
+
+def reference(name):
+    return os.path.join(OUT, name)
+
+
+class Contest:
+    """A table: whose proofs of which form, and the checkers, ours first: name, program, and the options after both files."""
+
+    def __init__(self, solver, form, solve, checkers):
+        self.solver = solver
+        self.form = form
+        self.solve = solve
+        self.checkers = checkers
+
+
+def contests():
+    drat = [
+        ("`drat-forward`", tool("DRAT_FORWARD"), []),
+        ("`reference_drat.cpp`", reference("reference_drat"), []),
+        ("DRAT-trim", tool("DRAT_TRIM"), ["-w"]),
+        ("DRAT-trim, forward", tool("DRAT_TRIM"), ["-f", "-w"]),
+    ]
+    lrat = [
+        ("`lrat-check`", tool("LRAT_CHECK"), []),
+        ("`reference.cpp`", reference("reference"), []),
+        ("DRAT-trim's `lrat-check`", tool("DRAT_TRIM_LRAT_CHECK"), []),
+    ]
+    text = ["-q", "-n", "--no-binary"]
+    return [
+        Contest("CaDiCaL", "DRAT", [tool("CADICAL"), *text], drat),
+        Contest("Kissat", "DRAT", [tool("KISSAT"), *text], drat),
+        Contest("CaDiCaL", "LRAT", [tool("CADICAL"), *text, "--lrat"], lrat),
+    ]
+
+
+def version_of(program):
+    return subprocess.run([program, "--version"], stdout=subprocess.PIPE, text=True, check=True).stdout.strip()
+
+
+def limited():
+    """Ends what runs for longer, in seconds of a processor."""
+    resource.setrlimit(resource.RLIMIT_CPU, (LIMIT, LIMIT))
+
+
+class Run:
+    """One run of a command."""
+
+    def __init__(self, command):
+        words = [os.path.join(OUT, "measure"), "--once", *command]
+        ran = subprocess.run(words, stdin=subprocess.DEVNULL, capture_output=True, preexec_fn=limited, check=True)
+        status, seconds, kilobytes = ran.stderr.split(b"\n")[-2].split()
+        self.status = int(status)
+        self.seconds = float(seconds)
+        self.megabytes = int(kilobytes) * 1024 / 1e6
+        self.is_verified = bool(re.search(rb"^[sc] VERIFIED$", ran.stdout.replace(b"\r", b"\n"), re.MULTILINE))
+
+
+def formula_of(words):
+    """The path of a formula without its ending, which is made where it isn't there."""
+    path = os.path.join(MADE, words.replace(" ", "-"))
+    if not os.path.exists(f"{path}.cnf"):
+        kind, *numbers = words.split()
+        script = [os.path.join(HERE, "formulas.py"), kind, *numbers, f"{path}.cnf.part"]
+        if kind == "pigeonhole":
+            script = [os.path.join(HERE, "..", "examples", "pigeonhole.py"), *numbers, f"{path}.cnf.part", os.devnull]
+        subprocess.run([sys.executable, *script], check=True)
+        os.rename(f"{path}.cnf.part", f"{path}.cnf")
+    return path
+
+
+def proof_of(contest, path):
+    """The solver's proof of a formula, and the seconds that it took; made where it isn't there."""
+    proof = f"{path}.{contest.solver}.{contest.form}".lower()
+    note = f"{contest.solver} {version_of(contest.solve[0])}"
+    noted = []
+    if os.path.exists(f"{proof}.made"):
+        with open(f"{proof}.made", encoding="utf-8") as lines:
+            noted = lines.read().split("\n")
+    if noted[:1] != [note]:
+        ran = Run([*contest.solve, f"{path}.cnf", proof])
+        if ran.status != 20:
+            sys.exit(f"field.py: {note} ended with status {ran.status} on {path}.cnf")
+        noted = [note, str(ran.seconds)]
+        with open(f"{proof}.made", "w", encoding="utf-8") as lines:
+            lines.write("\n".join(noted) + "\n")
+    return proof, float(noted[1])
+
+
+def least_of(checkers, formula, proof, rounds):
+    """The least of each checker's runs, by turns, with the greatest peak. It verifies only what it verified each time."""
+    best = {}
+    for _ in range(rounds):
+        for name, program, options in checkers:
+            run = Run([program, formula, proof, *options])
+            before = best.setdefault(name, run)
+            run.megabytes = before.megabytes = max(run.megabytes, before.megabytes)
+            run.is_verified = before.is_verified = run.is_verified and before.is_verified
+            if run.seconds < before.seconds:
+                best[name] = run
+    return best
+
+
+def cell(run):
+    if run.is_verified:
+        return f"{run.seconds:.2f} s, {run.megabytes:.0f} MB"
+    return f"not verified: status {run.status}"
+
+
+def mean_of_its(word, pairs):
+    """The geometric mean of our values over the other's."""
+    if not pairs:
+        return ""
+    mean = math.exp(sum(math.log(ours / other) for ours, other in pairs) / len(pairs))
+    return f"{mean:.2f} of its {word}"
+
+
+def means(ours, others):
+    """What the last row says of one other checker."""
+    both = [(a, b) for a, b in zip(ours, others, strict=True) if a.is_verified and b.is_verified]
+    seconds = [(a.seconds, b.seconds) for a, b in both if min(a.seconds, b.seconds) >= LEAST]
+    parts = mean_of_its("time", seconds), mean_of_its("memory", [(a.megabytes, b.megabytes) for a, b in both])
+    return ", ".join(filter(None, parts))
+
+
+def table_of(contest, formulas, rounds):
+    """The rows of a table, and whether our checker verified all."""
+    names = [name for name, *_ in contest.checkers]
+    rows, solved, runs = [["Formula", contest.form, contest.solver, *names]], [], {it: [] for it in names}
+    for label, words in formulas:
+        print(f"{contest.solver}, {contest.form}: {label}", file=sys.stderr, flush=True)
+        path = formula_of(words)
+        proof, seconds = proof_of(contest, path)
+        best = least_of(contest.checkers, f"{path}.cnf", proof, rounds)
+        solved.append(seconds)
+        for name in names:
+            runs[name].append(best[name])
+        size = os.path.getsize(proof) / 1e6
+        rows.append([label, f"{size:.1f} MB", f"{seconds:.2f} s", *(cell(best[it]) for it in names)])
+    ours, *others = names
+    taken = [(it.seconds, seconds) for it, seconds in zip(runs[ours], solved, strict=True) if min(it.seconds, seconds) >= LEAST]
+    rows.append(["geometric mean", "", mean_of_its("time", taken), "", *(means(runs[ours], runs[it]) for it in others)])
+    return rows, all(it.is_verified for it in runs[ours])
+
+
+def shown(rows, is_markdown):
+    if is_markdown:
+        rows = [rows[0], ["---"] * len(rows[0]), *rows[1:]]
+        return "\n".join("| " + " | ".join(row) + " |" for row in rows)
+    rows = [[it.replace("`", "") for it in row] for row in rows]
+    widths = [max(map(len, column)) for column in zip(*rows)]
+    return "\n".join("  ".join(it.ljust(width) for it, width in zip(row, widths)).rstrip() for row in rows)
+
+
+def first_of(path, pattern, otherwise):
+    with open(path, encoding="utf-8") as lines:
+        found = re.search(pattern, lines.read(), re.MULTILINE)
+    return found[1] if found else otherwise
+
+
+def machine():
+    """What the figures depend on: processors, system, versions, and what else is at work."""
+    processor = first_of("/proc/cpuinfo", r"^model name\s*: (.*)$", os.uname().machine)
+    system = first_of("/etc/os-release", r'^PRETTY_NAME="?(.*?)"?$', os.uname().sysname)
+    solvers = f"CaDiCaL {version_of(tool('CADICAL'))}, Kissat {version_of(tool('KISSAT'))}"
+    trim = f"DRAT-trim {os.environ.get('DRAT_TRIM_VERSION') or 'of an unknown version'}"
+    load = f"load average {os.getloadavg()[0]:.1f} before the first run"
+    return f"{processor}, {os.cpu_count()} processors, {system}; {solvers}, {trim}; {load}."
+
+
+def main(words):
+    is_markdown, is_small = "--markdown" in words, "small" in words
+    kinds = set(words) - {"--markdown", "small"}
+    if kinds - {row[1].split()[0] for row in FORMULAS}:
+        sys.exit("usage: bench/field.sh [--markdown] [small] [KIND..] | --tools, with kinds of bench/formulas.py or pigeonhole")
+    chosen = [it for it in FORMULAS if not kinds or it[1].split()[0] in kinds]
+    formulas = [(small, small) if is_small else (label, large) for label, large, small in chosen]
+    os.makedirs(MADE, exist_ok=True)
+    print(machine(), flush=True)
+    passed = True
+    for contest in contests():
+        rows, is_verified = table_of(contest, formulas, 1 if is_small else ROUNDS)
+        passed &= is_verified
+        print(f"\n{shown(rows, is_markdown)}", flush=True)
+    return 0 if passed else 1
+
+
+if __name__ == "__main__":
+    sys.exit(main(sys.argv[1:]))
