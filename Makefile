@@ -6,7 +6,7 @@
 # make install       copies the programs in bin/, their manual pages and completions for bash, zsh and fish to PREFIX, under DESTDIR
 #                    where that is set
 # make uninstall     removes them there
-# make test-solvers  runs real SAT solvers, and the programs on what they wrote
+# make test-solvers  runs real SAT solvers, and the programs on what they wrote; also those in SOLVERS=FOLDER
 # make test-package  builds the Debian package, and runs the programs that are in it
 # make test-mutants    tries the wrong bodies of tests/mutants, which the gate doesn't, and their controls
 #

@@ -2,7 +2,11 @@
 # Runs real SAT solvers as README shows, and the checkers on what these wrote. By hand, with make test-solvers: the gate needs
 # no solver. A solver that isn't installed is skipped, and said. The last line is "N passed, M failed".
 #
-# Debian: apt-get install cadical cryptominisat picosat minisat clasp sat4j berkeley-abc gdb, and from Debian 13 on drat-trim
+# Debian 12: apt-get install cadical cryptominisat picosat minisat clasp sat4j z3 berkeley-abc gdb
+# Debian 13: kissat and drat-trim too, and its cadical writes LRAT
+#
+# SOLVERS names a folder whose programs are taken before those of the PATH: bench/field.sh --tools prints one that has
+# Debian 13's CaDiCaL, Kissat and DRAT-trim.
 #
 # Each command is taken only if README has it, so that README shows nothing that was not run; but Glucose's proofs are made by
 # examples/make-glucose-proof.sh. DRAT_FORWARD, LRAT_CHECK and MODEL_CHECK name the programs; they are those in bin/ otherwise.
@@ -26,6 +30,16 @@ for program in drat-forward lrat-check model-check; do
     fi
     ln -s "$path" "$room/bin/$program"
 done
+if [ -n "${SOLVERS:-}" ]; then
+    if ! [ -d "$SOLVERS" ]; then
+        echo "FAILED: there is no folder $SOLVERS"
+        echo "0 passed, 1 failed"
+        exit 1
+    fi
+    SOLVERS=$(realpath "$SOLVERS")
+    PATH=$SOLVERS:$PATH
+fi
+# ours first: DRAT-trim has an lrat-check too
 PATH=$room/bin:$PATH
 
 # ---- Formulas. Of each without a model a weakened one, which has one, is made by leaving out the clause that says that one
@@ -143,6 +157,28 @@ of_model() {
     refuses "$1's model without a queen" "s MODEL NOT VERIFIED" model-check forbidden.cnf output
 }
 
+# of_binary_proof NAME LINE: for each formula without a model, the solver's line makes proof.bin, in the binary form
+of_binary_proof() {
+    local which
+    for which in $unsatisfiable; do
+        cp "$which.cnf" formula.cnf
+        rm -f proof.bin
+        runs "$1 on $which" 20 "$2"
+        checks "$1's proof of $which, binary" 0 "s VERIFIED" "drat-forward --binary formula.cnf proof.bin"
+        refuses "$1's proof of $which, binary, weakened" "s NOT VERIFIED" drat-forward --binary "$which-weak.cnf" proof.bin
+    done
+}
+
+# of_lrat NAME FORMULA STATUS LINE: the line makes proof.lrat of the formula
+of_lrat() {
+    local name=$1 which=$2
+    cp "$which.cnf" formula.cnf
+    rm -f proof.lrat
+    runs "$name on $which" "$3" "$4"
+    checks "$name's LRAT of $which" 0 "s VERIFIED" "lrat-check formula.cnf proof.lrat"
+    refuses "$name's LRAT of $which, weakened" "s NOT VERIFIED" lrat-check "$which-weak.cnf" proof.lrat
+}
+
 # of_competition_output NAME WORD..: a solver that writes the lines of the SAT Competition, with its statuses 10 and 20
 of_competition_output() {
     local name=$1 ended
@@ -167,18 +203,22 @@ has() {
 }
 
 # the versions, where the system can tell
-dpkg-query -W -f '${Package} ${Version}\n' cadical cryptominisat picosat minisat clasp sat4j berkeley-abc gdb drat-trim \
-    2> /dev/null
+dpkg-query -W -f '${Package} ${Version}\n' cadical cryptominisat picosat minisat clasp sat4j z3 berkeley-abc gdb \
+    drat-trim kissat 2> /dev/null
+for program in cadical kissat drat-trim; do
+    if [ -n "${SOLVERS:-}" ] && [ -x "$SOLVERS/$program" ]; then
+        echo "$program of $SOLVERS $([ "$program" = drat-trim ] || "$SOLVERS/$program" --version)"
+    fi
+done
 
 # ---- CaDiCaL
 
 if has cadical; then
     of_competition_output CaDiCaL cadical
+    of_binary_proof CaDiCaL "cadical formula.cnf proof.bin"
     for which in $unsatisfiable; do
         cp "$which.cnf" formula.cnf
-        runs "CaDiCaL on $which" 20 "cadical formula.cnf proof.bin"
-        checks "CaDiCaL's proof of $which" 0 "s VERIFIED" "drat-forward --binary formula.cnf proof.bin"
-        refuses "CaDiCaL's proof of $which, weakened" "s NOT VERIFIED" drat-forward --binary "$which-weak.cnf" proof.bin
+        cadical -q formula.cnf proof.bin > /dev/null
         gzip -c proof.bin > proof.bin.gz
         checks "CaDiCaL's proof of $which, compressed" 0 "s VERIFIED" \
             "zcat proof.bin.gz | drat-forward --binary formula.cnf"
@@ -204,14 +244,19 @@ if has cadical; then
 
     if cadical --help | grep -q -e '--lrat'; then
         for which in $unsatisfiable; do
-            cp "$which.cnf" formula.cnf
-            runs "CaDiCaL's LRAT of $which" 20 "cadical --lrat --no-binary formula.cnf proof.lrat"
-            checks "CaDiCaL's LRAT of $which" 0 "s VERIFIED" "lrat-check formula.cnf proof.lrat"
-            refuses "CaDiCaL's LRAT of $which, weakened" "s NOT VERIFIED" lrat-check "$which-weak.cnf" proof.lrat
+            of_lrat CaDiCaL "$which" 20 "cadical --lrat --no-binary formula.cnf proof.lrat"
         done
     else
         echo "skipped: this cadical has no --lrat"
     fi
+fi
+
+# ---- Kissat
+
+if has kissat; then
+    of_competition_output Kissat kissat
+    of_binary_proof Kissat "kissat formula.cnf proof.bin"
+    of_proof Kissat 20 "kissat --no-binary formula.cnf proof.drat"
 fi
 
 # ---- CryptoMiniSat
@@ -251,11 +296,36 @@ if has clasp; then
     of_competition_output clasp clasp
 fi
 
-# ---- Sat4j: a jar, which not every system starts by itself
+# ---- z3: its status is 0 whatever its answer, and before some version its model has no last 0
+
+if has z3; then
+    turned="sed '/ 0\$/!s/^v.*/& 0/' result > output"
+    cp queens-8.cnf formula.cnf
+    runs "z3 on queens-8" 0 "z3 -dimacs formula.cnf > result"
+    model-check formula.cnf result > out 2> err
+    if grep -q -e ': unterminated model$' -e '^s MODEL VERIFIED$' out; then pass; else fail "z3's model as it is"; fi
+    runs "z3's model" 0 "$turned"
+    of_model z3
+    cp queens-3.cnf formula.cnf
+    runs "z3 on queens-3" 0 "z3 -dimacs formula.cnf > result"
+    runs "z3's answer" 0 "$turned"
+    refuses "z3's answer that there is no model" "s MODEL NOT VERIFIED" model-check queens-3.cnf output
+fi
+
+# ---- Sat4j: a jar, which not every system starts by itself. It writes no proof where it meets the clash while it reads the
+# formula.
 
 if has sat4j; then
+    line='java -DUNSATPROOF=yes -jar "$(command -v sat4j)" formula.cnf'
+    moved="echo 0 > proof.drat; mv formula.cnf.rupproof proof.drat"
     of_competition_output Sat4j java -jar "$(command -v sat4j)"
-    of_proof Sat4j 20 'java -DUNSATPROOF=yes -jar "$(command -v sat4j)" formula.cnf' "mv formula.cnf.rupproof proof.drat"
+    of_proof Sat4j 20 "$line" "$moved"
+    with_clause one.cnf -1 > formula.cnf
+    runs "Sat4j on a clash of units" 20 "$line"
+    if [ -e formula.cnf.rupproof ]; then fail "Sat4j writes a proof of a clash of units"; else pass; fi
+    runs "Sat4j's missing proof" 1 "$moved"
+    checks "Sat4j's missing proof" 0 "s VERIFIED" "drat-forward formula.cnf proof.drat"
+    refuses "Sat4j's missing proof, weakened" "s NOT VERIFIED" drat-forward one.cnf proof.drat
 fi
 
 # ---- Glucose, as it stands in berkeley-abc. It deletes clauses that a literal follows by, and does not write the literal:
@@ -274,17 +344,12 @@ if has berkeley-abc && has gdb; then
     refuses "Glucose's proof of pigeonhole-5, as written" "s NOT VERIFIED" drat-forward formula.cnf proof.drat
 fi
 
-# ---- DRAT-trim
+# ---- DRAT-trim, on CaDiCaL's proofs
 
-if has drat-trim; then
+if has drat-trim && has cadical; then
     for which in $unsatisfiable; do
-        cp "$which.cnf" formula.cnf
-        if has cadical; then
-            cadical -q --no-binary formula.cnf proof.drat > /dev/null
-            runs "DRAT-trim on $which" 0 "drat-trim formula.cnf proof.drat -L proof.lrat"
-            checks "DRAT-trim's LRAT of $which" 0 "s VERIFIED" "lrat-check formula.cnf proof.lrat"
-            refuses "DRAT-trim's LRAT of $which, weakened" "s NOT VERIFIED" lrat-check "$which-weak.cnf" proof.lrat
-        fi
+        cadical -q --no-binary "$which.cnf" proof.drat > /dev/null
+        of_lrat DRAT-trim "$which" 0 "drat-trim formula.cnf proof.drat -L proof.lrat"
     done
 fi
 
