@@ -186,8 +186,8 @@ def table_of(contest, formulas, rounds):
 
 def shown(rows, is_markdown):
     if is_markdown:
-        rows = [rows[0], ["---"] * len(rows[0]), *rows[1:]]
-        return "\n".join("| " + " | ".join(row) + " |" for row in rows)
+        lines = ["| " + " | ".join(row) + " |" for row in rows]
+        return "\n".join([lines[0], "|" + "---|" * len(rows[0]), *lines[1:]])
     rows = [[it.replace("`", "") for it in row] for row in rows]
     widths = [max(map(len, column)) for column in zip(*rows)]
     return "\n".join("  ".join(it.ljust(width) for it, width in zip(row, widths)).rstrip() for row in rows)
