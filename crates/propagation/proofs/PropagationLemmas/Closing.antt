@@ -1,6 +1,7 @@
 -- All that follows with nothing assumed, and the clauses that make a literal hold for good.
 use Rattle.std.proofs.Common.{◌≡◌, ◌≢◌, ℕ, Result, OnOk, ◌+◌, ◌<◌, ◌≤◌, Bool, true, false, ◌&&◌}
-use Rattle.std.proofs.Common.{cond, eqb, eqb-true, Option, Some, None, is_some, List, [], ◌∷◌, ◌++◌, take}
+use Rattle.std.proofs.Common.{cond, eqb, eqb-true, Option, Some, None, is_some, List, [], ◌∷◌, ◌++◌}
+use Rattle.std.proofs.Common.{take}
 use Rattle.std.proofs.Common.{length, get_or, refl, sym, ap, ◌∙◌, subst, arith, inl, inr}
 use Rattle.std.specs.Ordering.{nat_cmp}
 use Rattle.std.specs.FinMap as maps

@@ -18,7 +18,8 @@ use Rattle.cnf_base.specs.Literals.{same_clause}
 use Rattle.theory.specs.Propagation.{Live, HasRup, HasRat, HasPr, open_literals}
 use Rattle.theory.specs.Answers.{StepAnswer}
 use Rattle.theory.specs.Drat.{DratStep, add, delete, AnswersAdd, AnswersDelete, AnswersDrat}
-use Rattle.theory.specs.Drat.{AnswersWithWitness, IsKeptUnit, take_off, after_drat, copies_of, SameLive}
+use Rattle.theory.specs.Drat.{AnswersWithWitness, IsKeptUnit, take_off, after_drat, copies_of}
+use Rattle.theory.specs.Drat.{SameLive}
 use Rattle.cnf_base.proofs.SetLemmas.{same_there, same_back, same_itself, same_symm, same_trans}
 use Rattle.cnf_base.proofs.SetLemmas.{both_pass, has_append_left, has_append_right}
 use Rattle.cnf_base.proofs.SetLemmas.{has_append_cases, has-complements, complements_has}

@@ -5,7 +5,8 @@ use Rattle.std.specs.List.{remove}
 use Rattle.std.specs.Ordering.{nat_cmp}
 use Rattle.std.specs.FinMap as maps
 use Rattle.std.specs.FinMap.{FinMap}
-use Rattle.std.proofs.lemmas.List.{get_or-set_same, length-set, length-take-le, set-get_or, take-append-le}
+use Rattle.std.proofs.lemmas.List.{get_or-set_same, length-set, length-take-le, set-get_or}
+use Rattle.std.proofs.lemmas.List.{take-append-le}
 use Rattle.std.proofs.lemmas.List.{take-set, take-take}
 use Rattle.std.proofs.lemmas.List.Edits.{length-remove}
 use Rattle.cnf_base.specs.Literals.{Literal, Clause}

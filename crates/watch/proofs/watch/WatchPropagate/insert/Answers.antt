@@ -13,7 +13,8 @@ use Rattle.clause_db.specs.Store.{literals_in}
 use Rattle.propagation.proofs.PropagationLemmas.Scan.{room_added}
 use Rattle.propagation.specs.Closure.{IsClosure}
 use Rattle.watch.proofs.WatchLemmas.Follow.{times_has}
-use Rattle.watch.proofs.WatchLemmas.Order.{get_ordered, inserted_is, literals_ordered, ordered_alike}
+use Rattle.watch.proofs.WatchLemmas.Order.{get_ordered, inserted_is, literals_ordered}
+use Rattle.watch.proofs.WatchLemmas.Order.{ordered_alike}
 use Rattle.watch.proofs.WatchLemmas.Order.{removed_back, same-in_order, seen_there}
 use Rattle.watch.proofs.WatchLemmas.State.{alone_kept, same_state, watch_added, watch_noted}
 use Rattle.watch.proofs.WatchLemmas.State.{watch_reserved, watch_same}
