@@ -7,6 +7,7 @@ pub mod LineLemmas
 pub mod StreamLemmas
 pub mod TextLemmas
 pub mod WordLemmas
+pub mod EightLemmas
 pub mod WholeLemmas
 pub mod RunLemmas
 pub mod TokenLemmas

@@ -1,23 +1,23 @@
 -- Numbers that stand whole among bytes.
-use Rattle.std.proofs.Common.{◌≡◌, ℕ, zero, suc, ◌+◌, ◌-◌, ◌*◌, ◌^◌, ◌<◌, ◌≤◌, ◌==◌, ◌≢◌, not, true}
-use Rattle.std.proofs.Common.{false, List, [], ◌∷◌, ◌++◌, length, take, inl, inr, ◌⊎◌, refl, sym}
+use Rattle.std.proofs.Common.{◌≡◌, ℕ, zero, suc, ◌+◌, ◌-◌, ◌*◌, ◌^◌, ◌<◌, ◌≤◌, ◌==◌, not, Bool, true}
+use Rattle.std.proofs.Common.{false, List, [], ◌∷◌, ◌++◌, length, take, drop, refl, sym}
 use Rattle.std.proofs.Common.{ap, ◌∙◌, subst, arith, add-one}
-use Rattle.std.specs.Prelude.{slice_index, slice_index_or, slice_set, slice_range}
-use Rattle.std.proofs.Math.Seq.{take-length}
+use Rattle.std.specs.Prelude.{slice_index, slice_range}
+use Rattle.std.proofs.Math.Seq.{take-length, take-add}
+use Rattle.std.specs.Int.{from_bool}
 use Rattle.std.specs.List.{list_all}
-use Rattle.std.proofs.lemmas.Bool.{and_parts}
-use Rattle.std.proofs.lemmas.List.{take_more, get_or-set_same, get_or-set_other, length-set}
+use Rattle.std.proofs.lemmas.Bool.{and_parts, eqb-true}
+use Rattle.std.proofs.lemmas.List.{get_or-drop, length-drop}
 use Rattle.std.proofs.lemmas.List.Folds.{list_all-append}
 use Rattle.std.proofs.lemmas.List.Sums.{fold-append}
 use Rattle.std.proofs.lemmas.Bool.Decides.{nat_tests}
 use Rattle.std.proofs.lemmas.Grind.{common_steps}
 use Rattle.cnf_base.specs.Text.{is_separator}
-use Rattle.cnf_base.specs.Words.{is_digit, is_counting, decimal_after, decimal_value, size_of}
-use Rattle.cnf_base.specs.Words.{word_of}
+use Rattle.cnf_base.specs.Words.{is_digit, decimal_after, number, word_of}
 use Rattle.cnf_base.specs.Code.Digits.{digits_word, AreDigits}
-use Rattle.cnf_base.specs.Code.Whole.{is_inner, IsEnded, IsWholeNumber, AreWholeDigits, GoOn}
+use Rattle.cnf_base.specs.Code.Whole.{is_inner, IsEnded, IsWholeNumber, GoOn}
 use Rattle.cnf_base.specs.declared.scanner.digits.Digits.{Digits}
-use Rattle.cnf_base.specs.declared.scanner.digits.Digits.TheVariants.{Counting}
+use Rattle.cnf_base.specs.declared.scanner.digits.Digits.TheVariants.{Counting, Zero}
 use Rattle.cnf_base.specs.declared.word.Number.{Number}
 use Rattle.cnf_base.specs.declared.word.Word.TheVariants as words
 use Rattle.cnf_base.proofs.WordLemmas.{negative_word, positive_word}
@@ -38,115 +38,59 @@ tail b bs =
     let size : length (b ∷ bs) - 1 ≡ length bs = omega arith in
     ap (λ k. take k bs) size ∙ take-length bs
 
--- no less than a number and so many bytes after it, each taken as a digit
-pub most : ℕ → ℕ
-most zero = 9
-most (suc n) = 10 * most n + 255
+-- so many bytes are digits
+record AreWholeDigits (bytes : List ℕ) (count : ℕ) (digits : Digits) : Type 0 where
+  some : 0 < count
+  ended : IsEnded bytes count
+  each : list_all is_digit (take count bytes) ≡ true
+  says : AreDigits digits (take count bytes)
 
-pub most_first : most 0 ≡ 9
-unfolding most
-most_first = refl
+-- all bytes from one on
+after : (count : ℕ) (bytes : List ℕ) → slice_range bytes count (length bytes) ≡ drop count bytes
+after count bytes = ap (λ k. take k (drop count bytes)) (sym (length-drop count bytes)) ∙ take-length (drop count bytes)
 
-pub most_next : (n : ℕ) → most (n + 1) ≡ 10 * most n + 255
-unfolding most
-most_next n = ap most (add-one n)
-
-most_small : (n : ℕ) → n ≤ 4 → most n ≤ 999999
-unfolding most
-most_small zero h = omega arith
-most_small (suc zero) h = omega arith
-most_small (suc (suc zero)) h = omega arith
-most_small (suc (suc (suc zero))) h = omega arith
-most_small (suc (suc (suc (suc zero)))) h = omega arith
-most_small (suc (suc (suc (suc (suc n))))) h = absurd (omega arith)
-
--- so many of the first i bytes are digits that go on with the number, and more is 1 where these are all of them: then the value is
--- the number with them. The values have the number with the digits at their count.
-pub record IsFew (bytes : List ℕ) (number i : ℕ) (values : List ℕ) (count value more : ℕ) : Type 0 where
-  pub each : list_all is_digit (take count bytes) ≡ true
-  pub says : slice_index_or values count 0 ≡ decimal_after number (take count bytes)
-  pub turns : ((more ≡ 1) × (count ≡ i)) ⊎ ((more ≡ 0) × (count ≤ i))
-  pub last : more ≡ 1 → value ≡ decimal_after number (take i bytes)
-  pub small : value ≤ most i
-  pub room : length values ≡ 6
-
--- one more digit of such a value doesn't overflow
-pub few_small : (bytes : List ℕ) (number i : ℕ) (values : List ℕ) (count value more : ℕ) → IsFew bytes number i values count value more → i ≤ 4 → value ≤ 999999
-few_small bytes number i values count value more so_far few = let most = most_small i few in let small = so_far.small in omega arith
-
-module _ (bytes : List ℕ) (number i : ℕ) (values : List ℕ) (count value more after next digit : ℕ) (so_far : IsFew bytes number i values count value more)
-    (few : i ≤ 4) (next_is : next ≡ value * 10 + digit) (byte : digit ≤ 255) where
-  low : count ≤ i
-  low = elim so_far.turns [ inl t ↦ omega (arith, t.1) | inr t ↦ t.1 ]
-
-  greater : next ≤ most (i + 1)
-  greater = let more_is = most_next i in let small = so_far.small in omega arith
-
-  roomy : length (slice_set values (i + 1) next) ≡ 6
-  roomy = length-set values (i + 1) next ∙ so_far.room
-
-  pub IsFew-ended : after ≡ 0 → IsFew bytes number (i + 1) (slice_set values (i + 1) next) (count + after) next after
-  IsFew-ended none =
-      let below = low in
-      let stays : count + after ≡ count = omega arith in
-      let apart : count ≢ i + 1 = λ e. absurd (omega arith) in
-      record {
-        each = ap (λ n. list_all is_digit (take n bytes)) stays ∙ so_far.each;
-        says = ap (λ n. slice_index_or (slice_set values (i + 1) next) n 0) stays ∙ get_or-set_other values (i + 1) count next 0 apart ∙ so_far.says ∙ ap (λ n. decimal_after number (take n bytes)) (sym stays);
-        turns = inr (none, omega arith);
-        last = λ one. absurd (omega arith);
-        small = greater;
-        room = roomy;
-      }
-
-  pub IsFew-digit : i < length bytes → more ≡ 1 → after ≡ 1 → digit ≤ 9 → digit + 48 ≡ slice_index bytes i
-      → IsFew bytes number (i + 1) (slice_set values (i + 1) next) (count + after) next after
-  IsFew-digit inside one still nine is_byte =
-      let all : count ≡ i = elim so_far.turns [ inl t ↦ t.1 | inr t ↦ absurd (omega (arith, t.0)) ] in
-      let longer : count + after ≡ i + 1 = omega arith in
-      let front : take (i + 1) bytes ≡ take i bytes ++ slice_index bytes i ∷ [] = take_more bytes i 0 inside in
-      let ten : is_digit (slice_index bytes i) ≡ true = grind (arith, nat_tests) in
-      let before : list_all is_digit (take i bytes) ≡ true = ap (λ n. list_all is_digit (take n bytes)) (sym all) ∙ so_far.each in
-      let is_digit_of : digit ≡ slice_index bytes i - 48 = omega arith in
-      let within : i + 1 < length values = let room = so_far.room in omega arith in
-      let now : next ≡ decimal_after number (take (i + 1) bytes) =
-      next_is ∙ ap (λ v. v * 10 + digit) (so_far.last one) ∙ ap (λ d. decimal_after number (take i bytes) * 10 + d) is_digit_of
-      ∙ sym (ap (decimal_after number) front ∙ fold-append (λ n d. n * 10 + (d - 48)) number (take i bytes) (slice_index bytes i ∷ [])) in
-      record {
-        each = ap (λ n. list_all is_digit (take n bytes)) longer ∙ ap (list_all is_digit) front ∙ list_all-append is_digit (take i bytes) (slice_index bytes i ∷ []) ∙ rw (before, ten) refl;
-        says = ap (λ n. slice_index_or (slice_set values (i + 1) next) n 0) longer ∙ get_or-set_same values (i + 1) next 0 within ∙ now ∙ ap (λ n. decimal_after number (take n bytes)) (sym longer);
-        turns = inl (still, longer);
-        last = λ one. now;
-        small = greater;
-        room = roomy;
-      }
-
--- digits after a first one that isn't 0
-pub GoOn-counting : (bytes : List ℕ) (first more size : ℕ) → 0 < length bytes → first + 48 ≡ slice_index bytes 0
-    → 0 < first → first ≤ 9 → size < 2 ^ 64 → GoOn first (slice_range bytes 1 (length bytes)) more size
-    → AreWholeDigits bytes (more + 1) (Counting size)
-GoOn-counting [] first more size front is some most fits m = absurd (omega arith)
-GoOn-counting (b ∷ bs) first more size front is some most fits m = record {
-  some = omega arith;
-  ended = IsEnded-front more b bs rest.ended;
-  each = ap (list_all is_digit) (take-front more b bs) ∙ rw (digit, rest.each) refl;
-  says = let P : List ℕ → Type 0 = λ ds. AreDigits (Counting size) ds in subst P (sym (take-front more b bs)) (counting, is_size);
+-- digits, and more of them
+pub GoOn-more : (bytes : List ℕ) (count size more whole : ℕ) → list_all is_digit (take count bytes) ≡ true
+    → size ≡ decimal_after 0 (take count bytes) → GoOn size (slice_range bytes count (length bytes)) more whole
+    → GoOn 0 bytes (count + more) whole
+GoOn-more bytes count size more whole each says m = record {
+  ended = record {
+    within = let inside = rest.ended.within in let long = length-drop count bytes in omega (arith, inside, long);
+    separator = ap is_separator (sym (get_or-drop count bytes more 0)) ∙ rest.ended.separator;
+  };
+  each = ap (list_all is_digit) (take-add count more bytes) ∙ list_all-append is_digit (take count bytes) (take more (drop count bytes)) ∙ rw (each, rest.each) refl;
+  says = rest.says ∙ ap (λ n. decimal_after n (take more (drop count bytes))) says
+      ∙ sym (ap (decimal_after 0) (take-add count more bytes) ∙ fold-append (λ n d. n * 10 + (d - 48)) 0 (take count bytes) (take more (drop count bytes)));
 }
   where
-    rest : GoOn first bs more size
-    rest = let P : List ℕ → Type 0 = λ xs. GoOn first xs more size in subst P (tail b bs) m
+    rest : GoOn size (drop count bytes) more whole
+    rest = let P : List ℕ → Type 0 = λ xs. GoOn size xs more whole in subst P (after count bytes) m
 
-    digit : is_digit b ≡ true
-    digit = grind (arith, nat_tests)
+-- digits of which the first is no 0
+counting : (bytes : List ℕ) (count size : ℕ) → GoOn 0 bytes count size → 0 < count → size < 2 ^ 64
+    → (slice_index bytes 0 == 48) ≡ false → AreWholeDigits bytes count (Counting size)
+counting bytes zero size m some low other = absurd (omega (arith, some))
+counting [] (suc n) size m some low other = absurd (let inside = m.ended.within in omega (arith, inside))
+counting (b ∷ bs) (suc n) size m some low other = record {
+  some = some;
+  ended = m.ended;
+  each = m.each;
+  says = (let both = and_parts (is_digit b) (list_all is_digit (take n bs)) m.each in rw (both.0, other, both.1) refl, let is = m.says in omega (arith, is, low));
+}
 
-    counting : is_counting (b ∷ take more bs) ≡ true
-    counting = let other : (b == 48) ≡ false = grind (arith, nat_tests) in rw (digit, other, rest.each) refl
+-- a 0 alone
+zero_alone : (bytes : List ℕ) (size : ℕ) → GoOn 0 bytes 1 size → slice_index bytes 0 ≡ 48 → AreWholeDigits bytes 1 Zero
+zero_alone [] size m is = absurd (let inside = m.ended.within in omega (arith, inside))
+zero_alone (b ∷ bs) size m is = record {
+  some = omega arith;
+  ended = m.ended;
+  each = m.each;
+  says = ap (λ x. x ∷ []) is;
+}
 
-    is_size : size ≡ size_of (b ∷ take more bs)
-    is_size =
-        let same : 0 * 10 + (b - 48) ≡ first = omega arith in
-        let value : decimal_value (b ∷ take more bs) ≡ decimal_after first (take more bs) = ap (λ n. decimal_after n (take more bs)) same in
-        omega (arith, value, rest.says)
+zero_size : (bytes : List ℕ) (size : ℕ) → GoOn 0 bytes 1 size → slice_index bytes 0 ≡ 48 → size ≡ 0
+zero_size [] size m is = absurd (let inside = m.ended.within in omega (arith, inside))
+zero_size (b ∷ bs) size m is = let says = m.says in omega (arith, says, is)
 
 digits-inner : (ds : List ℕ) → list_all is_digit ds ≡ true → list_all is_inner ds ≡ true
 digits-inner [] h = refl
@@ -160,7 +104,7 @@ digits-inner (d ∷ ds) h =
         ap not other
 
 -- digits after a `-`
-pub IsWholeNumber-negative : (bytes : List ℕ) (count : ℕ) (digits : Digits) (number : Number) → 0 < length bytes → slice_index bytes 0 ≡ 45
+IsWholeNumber-negative : (bytes : List ℕ) (count : ℕ) (digits : Digits) (number : Number) → 0 < length bytes → slice_index bytes 0 ≡ 45
     → AreWholeDigits (slice_range bytes 1 (length bytes)) count digits → digits_word true digits ≡ words.Number number → IsWholeNumber bytes (count + 1) number
 IsWholeNumber-negative [] count digits number front minus d says = absurd (omega arith)
 IsWholeNumber-negative (b ∷ bs) count digits number front minus d says = record {
@@ -177,7 +121,7 @@ IsWholeNumber-negative (b ∷ bs) count digits number front minus d says = recor
     run = take-front count b bs ∙ ap (λ x. x ∷ take count bs) minus
 
 -- digits alone
-pub IsWholeNumber-positive : (bytes : List ℕ) (count : ℕ) (digits : Digits) (number : Number)
+IsWholeNumber-positive : (bytes : List ℕ) (count : ℕ) (digits : Digits) (number : Number)
     → AreWholeDigits bytes count digits → digits_word false digits ≡ words.Number number → IsWholeNumber bytes count number
 IsWholeNumber-positive bytes count digits number d says = record {
   some = d.some;
@@ -192,3 +136,59 @@ IsWholeNumber-positive bytes count digits number d says = record {
     by : (run : List ℕ) → 0 < length run → list_all is_digit run ≡ true → AreDigits digits run → word_of run ≡ digits_word false digits
     by [] some each is = absurd (omega arith)
     by (b ∷ bs) some each is = let both = and_parts _ _ each in positive_word digits b bs both.0 is
+
+-- digits after an optional `-`
+pub IsWholeNumber-signed : (bytes : List ℕ) (is_negative : Bool) (minus count size : ℕ) → 0 < length bytes
+    → is_negative ≡ (slice_index bytes 0 == 45) → minus ≡ from_bool is_negative
+    → GoOn 0 (slice_range bytes minus (length bytes)) count size → 0 < count → size < 2 ^ 64
+    → (slice_index bytes minus ≡ 48 → count + minus ≤ 1)
+    → IsWholeNumber bytes (count + minus) (record { is_negative = is_negative; size = size })
+IsWholeNumber-signed [] is_negative minus count size front sign is m some low alone = absurd (omega (arith, front))
+IsWholeNumber-signed (b ∷ bs) true minus count size front sign is m some low alone =
+    subst (λ k. IsWholeNumber (b ∷ bs) (count + k) (number true size)) (sym is)
+    (IsWholeNumber-negative (b ∷ bs) count (Counting size) (number true size) front (eqb-true b 45 (sym sign)) digits refl)
+  where
+    m' : GoOn 0 (slice_range (b ∷ bs) 1 (length (b ∷ bs))) count size
+    m' = let P : ℕ → Type 0 = λ k. GoOn 0 (slice_range (b ∷ bs) k (length (b ∷ bs))) count size in subst P is m
+
+    alone' : slice_index bs 0 ≡ 48 → count + 1 ≤ 1
+    alone' = let P : ℕ → Type 0 = λ k. slice_index (b ∷ bs) k ≡ 48 → count + k ≤ 1 in subst P is alone
+
+    by : (v : Bool) → (slice_index bs 0 == 48) ≡ v → (slice_index bs 0 == 48) ≡ false
+    by true e = absurd (let few = alone' (eqb-true (slice_index bs 0) 48 e) in omega (arith, few, some))
+    by false e = e
+
+    other : (slice_index (slice_range (b ∷ bs) 1 (length (b ∷ bs))) 0 == 48) ≡ false
+    other = ap (λ xs. slice_index xs 0 == 48) (tail b bs) ∙ by (slice_index bs 0 == 48) refl
+
+    digits : AreWholeDigits (slice_range (b ∷ bs) 1 (length (b ∷ bs))) count (Counting size)
+    digits = counting (slice_range (b ∷ bs) 1 (length (b ∷ bs))) count size m' some low other
+IsWholeNumber-signed (b ∷ bs) false minus count size front sign is m some low alone =
+    by (b == 48) refl
+  where
+    m' : GoOn 0 (b ∷ bs) count size
+    m' =
+        let P : ℕ → Type 0 = λ k. GoOn 0 (slice_range (b ∷ bs) k (length (b ∷ bs))) count size in
+        let Q : List ℕ → Type 0 = λ xs. GoOn 0 xs count size in
+        subst Q (after 0 (b ∷ bs)) (subst P is m)
+
+    alone' : b ≡ 48 → count + 0 ≤ 1
+    alone' = let P : ℕ → Type 0 = λ k. slice_index (b ∷ bs) k ≡ 48 → count + k ≤ 1 in subst P is alone
+
+    same : count + minus ≡ count
+    same = omega (arith, is)
+
+    by : (v : Bool) → (b == 48) ≡ v → IsWholeNumber (b ∷ bs) (count + minus) (number false size)
+    by true e =
+        let first : b ≡ 48 = eqb-true b 48 e in
+        let one : count ≡ 1 = let few = alone' first in omega (arith, few, some) in
+        let P : ℕ → Type 0 = λ k. GoOn 0 (b ∷ bs) k size in
+        let alone : GoOn 0 (b ∷ bs) 1 size = subst P one m' in
+        let nought : size ≡ 0 = zero_size (b ∷ bs) size alone first in
+        let whole : IsWholeNumber (b ∷ bs) 1 (number false 0) = IsWholeNumber-positive (b ∷ bs) 1 Zero (number false 0) (zero_alone (b ∷ bs) size alone first) refl in
+        let R : ℕ → Type 0 = λ k. IsWholeNumber (b ∷ bs) 1 (number false k) in
+        let S : ℕ → Type 0 = λ k. IsWholeNumber (b ∷ bs) k (number false size) in
+        subst S (sym (same ∙ one)) (subst R (sym nought) whole)
+    by false e =
+        let S : ℕ → Type 0 = λ k. IsWholeNumber (b ∷ bs) k (number false size) in
+        subst S (sym same) (IsWholeNumber-positive (b ∷ bs) count (Counting size) (number false size) (counting (b ∷ bs) count size m' some low e) refl)

@@ -6,6 +6,7 @@ ghost use Rattle.cnf_base.specs.Text.{Gives, is_separator, listing_at, MovesOn};
 ghost use Rattle.cnf_base.specs.Code.Text.{BeginsRun, TakesWord, FailsAt, comment_at};
 
 mod digits;
+mod eight;
 mod name;
 mod run;
 mod whole;

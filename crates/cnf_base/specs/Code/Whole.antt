@@ -1,10 +1,8 @@
 -- Numbers that stand whole at the front of bytes: a separator follows.
 use Rattle.std.specs.List.{list_all}
 use Rattle.std.specs.Prelude.{ℕ, not, Bool, ◌≡◌, ◌<◌, true, List, length, slice_index, take}
-use Rattle.cnf_base.specs.Code.Digits.{AreDigits}
 use Rattle.cnf_base.specs.Text.{is_separator}
 use Rattle.cnf_base.specs.Words.{word_of, is_digit, decimal_after}
-use Rattle.cnf_base.specs.declared.scanner.digits.Digits.{Digits}
 use Rattle.cnf_base.specs.declared.word.Number.{Number}
 use Rattle.cnf_base.specs.declared.word.Word.TheVariants as words
 
@@ -23,13 +21,6 @@ pub record IsWholeNumber (bytes : List ℕ) (count : ℕ) (number : Number) : Ty
   pub ended : IsEnded bytes count
   pub inner : list_all is_inner (take count bytes) ≡ true
   pub says : word_of (take count bytes) ≡ words.Number number
-
--- so many bytes are digits
-pub record AreWholeDigits (bytes : List ℕ) (count : ℕ) (digits : Digits) : Type 0 where
-  pub some : 0 < count
-  pub ended : IsEnded bytes count
-  pub each : list_all is_digit (take count bytes) ≡ true
-  pub says : AreDigits digits (take count bytes)
 
 -- so many bytes are digits after those of a number
 pub record GoOn (number : ℕ) (bytes : List ℕ) (count size : ℕ) : Type 0 where

@@ -1,8 +1,8 @@
--- The first digit is no 0.
-use Rattle.std.proofs.Common.{rules, arith}
-use Rattle.cnf_base.proofs.WholeLemmas.{GoOn-counting}
+-- More digits go on with the first ones.
+use Rattle.cnf_base.proofs.WholeLemmas.{GoOn-more}
 use Rattle.cnf_base.proofs.scanner.whole.whole_digits.Goals as goal
 
-pub returns-then-first-gt0 : goal.returns-then-first-gt0
-returns-then-first-gt0 c =
-    GoOn-counting _ _ _ _ (search rules) (search rules) (omega arith) (search rules) (omega arith) c.in_ok-more.ensures
+pub returns-clause-digits : goal.returns-clause-digits
+returns-clause-digits c =
+    let front = c.in_ok-count in
+    GoOn-more c.args.bytes.now front.count front.size c.in_ok-more.more c.in_ok-more.size front.ensures.each front.ensures.says c.in_ok-more.ensures
