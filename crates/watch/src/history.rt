@@ -1,6 +1,6 @@
 //! When the literals that are true with nothing assumed were propagated.
 
-ghost use Rattle.std.specs.Prelude.{◌≡◌, ◌++◌, ◌∷◌, [], true, OnOk, if◌then◌else◌};
+ghost use Rattle.std.specs.Prelude.{◌≡◌, ◌≤◌, ◌++◌, ◌∷◌, [], true, OnOk, if◌then◌else◌};
 ghost use Rattle.watch.specs.Code.History.{IsRewound, visits};
 
 use cnf_base::OutOfMemory;
@@ -58,20 +58,24 @@ impl History {
         }
     }
 
-    /// So many literals are kept. The last visit that began with no more of them was still under
-    /// way when the next was set: it and all after it are to be made again. It takes no memory.
-    pub(crate) fn rewind(&mut self, place: usize)
-        ensures { IsRewound self.old self.new place }
+    /// At most so many literals are kept: so many, or none where no visit is left, so that visits
+    /// begin again with few that are true. The last visit that began with no more of them was
+    /// still under way when the next was set: it and all after it are to be made again. It takes
+    /// no memory.
+    pub(crate) fn rewind(&mut self, place: usize) -> usize
+        ensures inside { result ≤ place }
+        ensures rewound { IsRewound self.old self.new result }
     {
         if place <= self.floor {
             self.visited.clear();
             self.floor = 0;
-            return;
+            return 0;
         }
         while let Some(trues) = self.visited.pop() {
-            if trues <= place {
-                return;
+            if trues <= place && !self.visited.is_empty() {
+                return place;
             }
         }
+        0
     }
 }

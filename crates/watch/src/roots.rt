@@ -240,21 +240,24 @@ impl Roots {
         }
     }
 
-    /// Keeps the first so many literals and no others, where nothing is assumed. It takes no
-    /// memory.
+    /// Keeps no more than the first so many literals, where nothing is assumed, and visits that are
+    /// as if no others had been true. It takes no memory.
     pub(crate) fn cut(&mut self, assumptions: &mut Assumptions, place: usize)
         requires nothing_assumed { assumptions.old.assumptions ≡ [] }
         requires inside { place ≤ length assumptions.old.trail.lits }
         ensures kept { self.new.kept ≡ Cut }
-        ensures history { IsRewound self.old.history self.new.history place }
+        ensures history { IsRewound self.old.history self.new.history
+            (length assumptions.new.trail.lits) }
         ensures reasons { self.new.reasons ≡ self.old.reasons }
-        ensures lits { assumptions.new.trail.lits ≡ take place assumptions.old.trail.lits }
+        ensures lits { assumptions.new.trail.lits ≡
+            take (length assumptions.new.trail.lits) assumptions.old.trail.lits }
+        ensures fewer { length assumptions.new.trail.lits ≤ place }
         ensures reserved { SameSet assumptions.new.trail.reserved assumptions.old.trail.reserved }
         ensures assumptions { assumptions.new.assumptions ≡ [] }
         ensures starts { assumptions.new.starts ≡ assumptions.old.starts }
     {
-        assumptions.cut(place);
-        self.history.rewind(place);
+        let left = self.history.rewind(place);
+        assumptions.cut(left);
         self.kept = Kept::Cut;
     }
 

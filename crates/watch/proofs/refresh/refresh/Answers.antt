@@ -1,6 +1,7 @@
-use Rattle.std.proofs.Common.{◌/◌, sym, ◌∙◌, subst}
+use Rattle.std.proofs.Common.{◌≡◌, ◌/◌, length, take, sym, ap, ◌∙◌, subst, arith}
 use Rattle.std.specs.FinMap as maps
 use Rattle.tables.specs.Table.{at}
+use Rattle.watch.specs.Code.History.{IsRewound}
 use Rattle.watch.specs.Code.Order.{each_in_order}
 use Rattle.watch.specs.Code.Roots.{AreNoted}
 use Rattle.watch.proofs.WatchLemmas.History.{rewound_none}
@@ -28,8 +29,10 @@ returns-in-Err-clause-watch c =
     let e = c.catch_up.ensures.followed in
     let p = e.propagates in
     let u = c.cut.ensures in
+    let fewer = u.fewer in
+    let zero : length c.cut.new.assumptions.trail.lits ≡ 0 = omega (arith, fewer) in
     watch_refreshed c.args.store.now.live after c.args.lists.now c.catch_up.new.lists c.args.short.now c.args.roots.now c.cut.new.self c.args.assumptions.now c.cut.new.assumptions c.requires.watch u.assumptions
     (λ v. u.reserved v ∙ p.extends.reserved v ∙ c.start.ensures.reserved v) p.same p.short e.apart e.listed e.entries
     (kept_nothing after c.cut.new.self c.cut.new.assumptions.trail.lits
     (subst (λ t. AreNoted (maps.get (each_in_order after)) (at t)) (sym u.reasons)
-    (noted_carried c.args.store.now.live after c.start.new.assumptions c.catch_up.new.assumptions (at c.start.new.roots.reasons) (at roots.reasons) p c.start.ensures.kept.noted)) u.kept (rewound_none u.history) u.lits)
+    (noted_carried c.args.store.now.live after c.start.new.assumptions c.catch_up.new.assumptions (at c.start.new.roots.reasons) (at roots.reasons) p c.start.ensures.kept.noted)) u.kept (rewound_none (subst (IsRewound roots.history c.cut.new.self.history) zero u.history)) (u.lits ∙ ap (λ n. take n c.catch_up.new.assumptions.trail.lits) zero))

@@ -1,6 +1,6 @@
 use Rattle.std.proofs.Common.{Some, ◌≤◌}
 use Rattle.std.proofs.Common.{length}
-use Rattle.std.proofs.Common.{sym, ap, ◌∙◌, subst}
+use Rattle.std.proofs.Common.{sym, ap, ◌∙◌, subst, arith}
 use Rattle.cnf_base.specs.Literals.{has}
 use Rattle.watch.specs.declared.roots.Kept.TheVariants.{Clash}
 use Rattle.watch.proofs.WatchLemmas.Kept.{kept_cut, kept_left}
@@ -10,8 +10,9 @@ pub loop-place-preserved : goal.loop-place-preserved
 loop-place-preserved c =
     let so_far = c.loop-place.invariant in
     let e = c.cut.ensures in
-    record {
-      kept = kept_cut c.args.store.now.live c.loop-place.self c.cut.new.self c.loop-place.assumptions.trail.lits c.cut.new.assumptions.trail.lits c.in-Some.place so_far.kept (subst (λ t. c.in-Some.place ≤ length t.lits) c.trail.ensures c.in-Some.ensures.inside) e.kept e.history e.reasons e.lits;
+    let below = subst (λ t. c.in-Some.place ≤ length t.lits) c.trail.ensures c.in-Some.ensures.inside in
+    let fewer = e.fewer in record {
+      kept = kept_cut c.args.store.now.live c.loop-place.self c.cut.new.self c.loop-place.assumptions.trail.lits c.cut.new.assumptions.trail.lits (length c.cut.new.assumptions.trail.lits) so_far.kept (omega (arith, below, fewer)) e.kept e.history e.reasons e.lits;
       reserved = λ v. e.reserved v ∙ so_far.reserved v;
       assumptions = e.assumptions;
       starts = e.starts ∙ so_far.starts;
