@@ -80,6 +80,56 @@ fn loses_what_rests_on_a_removed_clause(rt: HostRuntime) -> Result<(), Fail> {
     Ok(())
 }
 
+/// What is known after the removal of a clause of a chain, and what is found again.
+fn found_again(alloc: Global, watch: &mut Watch, numbers: &[i32]) -> Result<(Known, Known), Fail>
+    requires { watch.old.propagation.assumptions ≡ [] }
+{
+    fill(alloc, watch, &[[-1, 2], [-2, 3], [-3, 4], [-1, 3], [1, 1]])?;
+    let _ = watch.assume(&[])?;
+    watch.take_back();
+    let lost = take_out(alloc, watch, numbers)?;
+    let _ = watch.assume(&[])?;
+    Ok((lost, known(watch)))
+}
+
+fn cut_back(alloc: Global, numbers: &[i32]) -> Result<(Known, Known), Fail> {
+    let mut watch = Watch::new(alloc)?;
+    found_again(alloc, &mut watch, numbers)
+}
+
+#[test]
+fn cuts_back_to_the_lost_literal(rt: HostRuntime) -> Result<(), Fail> {
+    let last = cut_back(rt.alloc(), &[-3, 4])?;
+    expect_equal(&rt, last, ((false, false, 3), (true, false, 3)));
+    let middle = cut_back(rt.alloc(), &[-1, 3])?;
+    expect_equal(&rt, middle, ((false, false, 0), (true, false, 4)));
+    let first = cut_back(rt.alloc(), &[-1, 2])?;
+    expect_equal(&rt, first, ((false, false, 0), (true, false, 3)));
+    Ok(())
+}
+
+/// How many literals are true with the literal 3 assumed, after it was lost: a clause that was
+/// added where it was true makes 4 true too.
+fn assumed_again(alloc: Global, watch: &mut Watch) -> Result<usize, Fail>
+    requires { watch.old.propagation.assumptions ≡ [] }
+{
+    fill(alloc, watch, &[[1, 1], [-1, 2], [-2, 3]])?;
+    let _ = watch.assume(&[])?;
+    watch.take_back();
+    fill(alloc, watch, &[[-3, 4]])?;
+    let _ = take_out(alloc, watch, &[-2, 3])?;
+    let clause = literals(alloc, &[-3])?;
+    let _ = watch.assume(clause.as_slice())?;
+    Ok(watch.trail_len())
+}
+
+#[test]
+fn propagates_what_was_added_above_a_cut(rt: HostRuntime) -> Result<(), Fail> {
+    let mut watch = Watch::new(rt.alloc())?;
+    expect_equal(&rt, assumed_again(rt.alloc(), &mut watch)?, 4);
+    Ok(())
+}
+
 /// What is known where two unit clauses contradict.
 fn contradicted(alloc: Global, watch: &mut Watch) -> Result<(bool, bool), Fail>
     requires { watch.old.propagation.assumptions ≡ [] }
