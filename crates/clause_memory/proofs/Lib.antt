@@ -1,0 +1,6 @@
+pub mod BlockLemmas
+pub mod FieldLemmas
+pub mod MoveLemmas
+pub mod SlotLemmas
+pub mod SumLemmas
+pub mod WordLemmas

@@ -1,0 +1,42 @@
+use Rattle.std.proofs.Common.{◌≡◌, ◌+◌, ◌-◌, ◌≤◌, Some, length, arith, sym, ap, ◌∙◌}
+use Rattle.std.specs.FinMap as maps
+use Rattle.clause_memory.specs.Memory.{MemoryState}
+use Rattle.clause_memory.proofs.BlockLemmas.{live_is}
+use Rattle.clause_memory.proofs.FieldLemmas.{clause_read, len_there, place_there, spot_there}
+use Rattle.clause_memory.proofs.memory.ClauseMemory.clause.Goals as goal
+
+pub index-requires : goal.index-requires
+index-requires c =
+    let i = c.self.inside in
+    let s = spot_there i.places i.words.items c.args.self.now c.self.view_is c.self.invariant.laid c.requires.0 c.args.place c.requires.1 in
+    let fits = s.fits in
+    omega arith
+
+pub overflow_sub-len : goal.overflow_sub-len
+overflow_sub-len c =
+    let i = c.self.inside in
+    let s = spot_there i.places i.words.items c.args.self.now c.self.view_is c.self.invariant.laid c.requires.0 c.args.place c.requires.1 in
+    let fits = s.fits in
+    let len = len_there i.words.items c.requires.0 c.args.place s c.index.result.now c.number-len.result c.index.ensures c.number-len.ensures.code in
+    omega arith
+
+pub slice_bounds-result-end : goal.slice_bounds-result-end
+slice_bounds-result-end c =
+    let i = c.self.inside in
+    let s = spot_there i.places i.words.items c.args.self.now c.self.view_is c.self.invariant.laid c.requires.0 c.args.place c.requires.1 in
+    let fits = s.fits in
+    let len = len_there i.words.items c.requires.0 c.args.place s c.index.result.now c.number-len.result c.index.ensures c.number-len.ensures.code in
+    let long = ap length c.deref.ensures.value in
+    let inside : c.args.place + 2 + (c.number-len.result - 1) ≤ length c.deref.result.now = omega arith in
+    inside
+
+pub returns : goal.returns
+returns c slot here =
+    let i = c.self.inside in
+    let place = c.args.place in
+    let at = place_there i.places i.words.items c.args.self.now c.self.view_is slot place here in
+    let s = spot_there i.places i.words.items c.args.self.now c.self.view_is c.self.invariant.laid slot place here in
+    let len = len_there i.words.items slot place s c.index.result.now c.number-len.result c.index.ensures c.number-len.ensures.code in
+    let count : place + 2 + (c.number-len.result - 1) - (place + 2) ≡ length s.clause = omega arith in
+    ap (λ (v : MemoryState). maps.get v.live slot) (sym c.self.view_is) ∙ live_is i.places i.words.items slot place s.clause at s.here
+    ∙ ap Some (sym (clause_read i.words.items slot place s c.deref.result.now _ c.deref.ensures.value count))

@@ -1,0 +1,5 @@
+-- How the parts of the code fit together. No public contract speaks of it.
+pub mod Fields
+pub mod Moves
+pub mod Slots
+pub mod Words
