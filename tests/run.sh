@@ -1,10 +1,10 @@
 #!/usr/bin/env bash
-# All tests: whether the mutants of tests/mutants can still be made, docs/THEOREM.md quotes what is there, and what is promised
-# is said by the upper floor of specs/ alone; the proofs of the programs; the gate (the proofs of the tests and what else
-# isn't kept, the mutants, the crates' tests and the programs' stored runs); whether each mutant was refused by the
-# clause that it names; then the programs as users run them, also on a folder of many proofs, pictures of runs, their manual pages,
-# counts of allocations, runs in which each allocation is refused, and instructions on inputs that were made to be dear. At the end
-# stands what each part took. The last line is "N passed, M failed" over all.
+# All tests: whether the mutants of tests/mutants can still be made, docs/THEOREM.md quotes what is there, the pages are short and
+# spelled right, and what is promised is said by the upper floor of specs/ alone; the proofs of the programs; the gate (the
+# proofs of the tests and what else isn't kept, the mutants, the crates' tests and the programs' stored runs); whether each
+# mutant was refused by the clause that it names; then the programs as users run them, also on a folder of many proofs, pictures
+# of runs, their manual pages, counts of allocations, runs in which each allocation is refused, and instructions on inputs that
+# were made to be dear. At the end stands what each part took. The last line is "N passed, M failed" over all.
 #
 # RT names the command rt, where it isn't on the PATH.
 set -uo pipefail
@@ -42,7 +42,7 @@ count() {
     fi
 }
 
-for script in tests/mutants_apply.py tests/quotes.py tests/floors.py; do
+for script in tests/mutants_apply.py tests/quotes.py tests/words.py tests/floors.py; do
     part "$script" "$script"
     count $?
 done
