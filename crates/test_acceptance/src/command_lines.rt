@@ -82,58 +82,47 @@ fn expect_args(rt: &impl Abort, args: &Args, expected: Expected<'_>) {
     }
 }
 
-fn expect_read(
-    rt: &impl Abort,
-    alloc: Global,
-    tool: Tool,
-    line: &str,
-    expected: Expected<'_>,
-) -> Result<(), Fail> {
-    let args = read(alloc, tool, line)?;
-    expect_args(rt, &args, expected);
+/// Lines that are read, each with what it says.
+const READ: [(Tool, &str, Expected<'static>); 6] = [
+    (
+        Tool::Drat,
+        "drat-forward --strict f.cnf --binary p.drat --trace",
+        ([true, true, true, false, false], "f.cnf", Some("p.drat")),
+    ),
+    (
+        Tool::Drat,
+        "drat-forward f.cnf --keep-units --pr",
+        ([false, false, false, true, true], "f.cnf", None),
+    ),
+    (
+        Tool::Lrat,
+        "lrat-check --trace f.cnf",
+        ([false, true, false, false, false], "f.cnf", None),
+    ),
+    (
+        Tool::Model,
+        "model-check f.cnf model.txt",
+        ([false; 5], "f.cnf", Some("model.txt")),
+    ),
+    (
+        Tool::Drat,
+        "drat-forward - p.drat",
+        ([false; 5], "-", Some("p.drat")),
+    ),
+    (
+        Tool::Model,
+        "model-check f.cnf -",
+        ([false; 5], "f.cnf", Some("-")),
+    ),
+];
+
+#[test]
+fn reads_what_lines_say(rt: HostRuntime) -> Result<(), Fail> {
+    for (tool, line, expected) in &READ {
+        let args = read(rt.alloc(), *tool, line)?;
+        expect_args(&rt, &args, *expected);
+    }
     Ok(())
-}
-
-#[test]
-fn drat_reads(rt: HostRuntime) -> Result<(), Fail> {
-    let line = "drat-forward --strict f.cnf --binary p.drat --trace";
-    let expected = ([true, true, true, false, false], "f.cnf", Some("p.drat"));
-    expect_read(&rt, rt.alloc(), Tool::Drat, line, expected)
-}
-
-#[test]
-fn drat_reads_rules(rt: HostRuntime) -> Result<(), Fail> {
-    let line = "drat-forward f.cnf --keep-units --pr";
-    let expected = ([false, false, false, true, true], "f.cnf", None);
-    expect_read(&rt, rt.alloc(), Tool::Drat, line, expected)
-}
-
-#[test]
-fn lrat_reads(rt: HostRuntime) -> Result<(), Fail> {
-    let line = "lrat-check --trace f.cnf";
-    let expected = ([false, true, false, false, false], "f.cnf", None);
-    expect_read(&rt, rt.alloc(), Tool::Lrat, line, expected)
-}
-
-#[test]
-fn model_reads(rt: HostRuntime) -> Result<(), Fail> {
-    let line = "model-check f.cnf model.txt";
-    let expected = ([false; 5], "f.cnf", Some("model.txt"));
-    expect_read(&rt, rt.alloc(), Tool::Model, line, expected)
-}
-
-#[test]
-fn drat_reads_a_formula_from_standard_input(rt: HostRuntime) -> Result<(), Fail> {
-    let line = "drat-forward - p.drat";
-    let expected = ([false; 5], "-", Some("p.drat"));
-    expect_read(&rt, rt.alloc(), Tool::Drat, line, expected)
-}
-
-#[test]
-fn model_reads_an_output_from_standard_input(rt: HostRuntime) -> Result<(), Fail> {
-    let line = "model-check f.cnf -";
-    let expected = ([false; 5], "f.cnf", Some("-"));
-    expect_read(&rt, rt.alloc(), Tool::Model, line, expected)
 }
 
 #[test]
