@@ -115,6 +115,7 @@ fn visit(
 
 /// Visits the clauses in the list of a literal that became false, up to one that is false: its
 /// slot.
+#[inline(always)]
 fn visit_all(
     store: &mut Store,
     lists: &mut WatchLists,
@@ -143,6 +144,7 @@ fn visit_all(
 }
 
 /// Visits all clauses that watch a literal which became false, up to one that is false: its slot.
+#[inline(always)]
 pub(crate) fn follow(
     store: &mut Store,
     lists: &mut WatchLists,
