@@ -6,6 +6,7 @@ use Rattle.command_line.specs.declared.tool.Tool.{Tool}
 use Rattle.filter_io.specs.Runs.{ToolChecks}
 use Rattle.sat_check.specs.Runs.{Runs}
 use Rattle.sat_check.specs.declared.status.Status.{Status}
+use Rattle.sat_check.proofs.RunLemmas.{weakened}
 
 pub of_inputs : (status : Status) (P : Input → Input → Type 0)
     (formula formula_new second second_new held also_held : Reader)
@@ -33,14 +34,5 @@ of_tool tool known args old new status P formula formula_new second second_new h
     let Does : Tool → Type 0 =
     λ t. Runs formula formula_new second second_new had_failed has_failed is_flushed status
     (ToolChecks t args old new status) in
-    subst Does (sym is) (record {
-      checks = record {
-        first = run.checks.first;
-        second = run.checks.second;
-        fact = λ i j seen also_seen. implies i j (run.checks.fact i j seen also_seen);
-      };
-      read_failed = run.read_failed;
-      write_failed = run.write_failed;
-      no_failure = run.no_failure;
-      flushed = run.flushed;
-    })
+    subst Does (sym is) (weakened status P (ToolChecks known args old new status) formula
+    formula_new second second_new had_failed has_failed is_flushed run implies)

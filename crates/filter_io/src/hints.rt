@@ -56,21 +56,7 @@ fn formula_kind_hint(kind: TextFault, first: &[u8], last: &[u8]) -> Option<Hint>
     match kind {
         TextFault::BadHeader => only_if(is_second(first), Hint::FormulaFirst),
         TextFault::BadToken => only_if(is_satlib_end(last), Hint::Satlib),
-        TextFault::NumberTooLarge
-        | TextFault::LiteralOutOfRange
-        | TextFault::TooManyClauses
-        | TextFault::TooFewClauses
-        | TextFault::UnterminatedClause
-        | TextFault::BadLine
-        | TextFault::SecondStatus
-        | TextFault::NoStatus
-        | TextFault::NotClaimed
-        | TextFault::AfterEnd
-        | TextFault::UnterminatedModel
-        | TextFault::Complement
-        | TextFault::LiteralTooLarge
-        | TextFault::IdTooLarge
-        | TextFault::UnterminatedStep => None,
+        _ => None,
     }
 }
 
@@ -118,22 +104,7 @@ fn text_hint(kind: TextFault, first: &[u8], told: Hint) -> Option<Hint>
 {
     match kind {
         TextFault::UnterminatedStep => Some(Hint::CutShort),
-        TextFault::BadHeader
-        | TextFault::NumberTooLarge
-        | TextFault::BadToken
-        | TextFault::LiteralOutOfRange
-        | TextFault::TooManyClauses
-        | TextFault::TooFewClauses
-        | TextFault::UnterminatedClause
-        | TextFault::BadLine
-        | TextFault::SecondStatus
-        | TextFault::NoStatus
-        | TextFault::NotClaimed
-        | TextFault::AfterEnd
-        | TextFault::UnterminatedModel
-        | TextFault::Complement
-        | TextFault::LiteralTooLarge
-        | TextFault::IdTooLarge => only_if(is_binary(first), told),
+        _ => only_if(is_binary(first), told),
     }
 }
 

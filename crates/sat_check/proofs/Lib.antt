@@ -8,6 +8,7 @@ pub mod ReadLemmas
 pub mod ReportLemmas
 pub mod RestLemmas
 pub mod ShownLemmas
+pub mod RunLemmas
 pub mod SoundLemmas
 pub mod StepLemmas
 pub mod UniqueLemmas

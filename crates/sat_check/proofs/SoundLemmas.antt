@@ -20,7 +20,7 @@ use Rattle.sat_check.specs.Lines.{fault_status, text_status}
 use Rattle.sat_check.specs.Reach.{ReadsNoFurther, TellsWhy}
 use Rattle.sat_check.specs.Report.{Report, Outcome, ReportsFormula, ProofReport, Verifies, Reports}
 use Rattle.sat_check.specs.Report.{ChecksProof, IsUnlessBroken, bare_steps, peak_of, verdict_report}
-use Rattle.sat_check.specs.Runs.{RunsPlaced, RunsProof}
+use Rattle.sat_check.specs.Runs.{RunsPlaced}
 use Rattle.sat_check.specs.declared.checked.Checked.{Checked}
 use Rattle.sat_check.specs.declared.status.Status.{Status}
 use Rattle.sat_check.specs.declared.status.Status.TheVariants.{Verified, NotVerified, Malformed}
@@ -129,20 +129,4 @@ runs_placed rule trace steps formula formula_new proof proof_new checked was now
   write_failed = λ is. sym has ∙ runs.write_failed is;
   no_failure = λ is. sym has ∙ (runs.writer.no_failure is ∙ had);
   flushed = λ is. sym flushed ∙ runs.writer.flushed is;
-}
-
--- without where the refused step ends
-pub unplaced : (rule : Rule) (trace : Bool) (steps : Input → Proof) (formula formula_new proof proof_new : Reader) (checked : Checked) (old new : Option (List ℕ)) (had_failed has_failed is_flushed : Bool)
-    → RunsPlaced rule trace steps formula formula_new proof proof_new old new had_failed has_failed is_flushed checked
-    → RunsProof rule trace steps formula formula_new proof proof_new old new had_failed has_failed is_flushed checked.status
-unplaced rule trace steps formula formula_new proof proof_new checked old new had_failed has_failed is_flushed placed = record {
-  checks = record {
-    first = placed.checks.first;
-    second = placed.checks.second;
-    fact = λ i j s t. let x = placed.checks.fact i j s t in (x.0, x.1);
-  };
-  read_failed = placed.read_failed;
-  write_failed = placed.write_failed;
-  no_failure = placed.no_failure;
-  flushed = placed.flushed;
 }

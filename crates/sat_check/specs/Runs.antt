@@ -3,11 +3,15 @@ use Rattle.std.specs.Prelude.{◌≡◌, ℕ, Bool, true, false, List, Option}
 use Rattle.cnf_base.specs.Seen.{OfBothSeen, OneHasFailed}
 use Rattle.cnf_base.specs.Stream.{Input, Reader}
 use Rattle.dimacs.specs.Formula.{formula_of}
+use Rattle.dimacs.specs.Claim.{claim_of}
+use Rattle.proofs.specs.Lrat.{lrat_steps}
 use Rattle.proofs.specs.Reading.{Proof}
-use Rattle.theory.specs.Rules.{Rule}
+use Rattle.theory.specs.Rules.{Rule, drat, lrat}
+use Rattle.sat_check.specs.ModelReport.{ChecksModel, ReadsFormulaNoFurther, TellsModelFault}
 use Rattle.sat_check.specs.Reach.{ReadsNoFurther, TellsWhy}
-use Rattle.sat_check.specs.Report.{ChecksProof, is_cut_short}
+use Rattle.sat_check.specs.Report.{ChecksProof, drat_proof, is_cut_short, rules_of}
 use Rattle.sat_check.specs.declared.checked.Checked.{Checked}
+use Rattle.sat_check.specs.declared.options.DratOptions.{DratOptions}
 use Rattle.sat_check.specs.declared.status.Status.{Status}
 use Rattle.sat_check.specs.declared.status.Status.TheVariants.{ReadFailed, WriteFailed}
 
@@ -44,3 +48,24 @@ RunsPlaced rule trace steps formula formula_new proof proof_new old new had_fail
     (λ i j. ChecksProof rule trace i (steps j) old new checked.status
     × ReadsNoFurther rule (formula_of i) (steps j) proof proof_new
     × TellsWhy rule (formula_of i).fault (formula_of i).clauses (steps j) checked)
+
+-- of a proof in DRAT, by the options
+abbrev pub RunsDrat : DratOptions → (formula formula_new proof proof_new : Reader) →
+    (old new : Option (List ℕ)) → (had_failed has_failed is_flushed : Bool) → Checked → Type 0
+RunsDrat options =
+    RunsPlaced (drat (rules_of options)) options.trace (drat_proof options.binary)
+
+-- of one in LRAT
+abbrev pub RunsLrat : (trace : Bool) → (formula formula_new proof proof_new : Reader) →
+    (old new : Option (List ℕ)) → (had_failed has_failed is_flushed : Bool) → Checked → Type 0
+RunsLrat trace = RunsPlaced lrat trace lrat_steps
+
+-- A run checked the model that an output claims, read no more of the formula than that takes, and
+-- of the same inputs it tells what is wrong with one.
+abbrev pub RunsModel : (formula formula_new output output_new : Reader) →
+    (old new : Option (List ℕ)) → (had_failed has_failed is_flushed : Bool) → Checked → Type 0
+RunsModel formula formula_new output output_new old new had_failed has_failed is_flushed checked =
+    Runs formula formula_new output output_new had_failed has_failed is_flushed checked.status
+    (λ i j. ChecksModel i j old new checked.status
+    × ReadsFormulaNoFurther (claim_of j) i formula formula_new
+    × TellsModelFault (claim_of j) (formula_of i) checked)

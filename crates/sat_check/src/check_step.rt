@@ -106,9 +106,5 @@ fn refuse<O: Out>(alloc: Global, number: u64, refusal: Refusal, lines: &mut Line
 fn is_last(word: Accepted) -> bool
     ensures { result ≡ is_last word }
 {
-    match word {
-        Accepted::Empty => true,
-        Accepted::Rup | Accepted::Rat | Accepted::Pr | Accepted::Deleted | Accepted::Ignored =>
-            false,
-    }
+    matches!(word, Accepted::Empty)
 }

@@ -5,7 +5,7 @@ ghost use Rattle.std.specs.FinMap as maps;
 ghost use Rattle.theory.specs.Rules.{drat};
 ghost use Rattle.sat_check.specs.Code.Checking.{RunsInto};
 ghost use Rattle.sat_check.specs.Report.{drat_proof, rules_of};
-ghost use Rattle.sat_check.specs.Runs.{RunsPlaced, RunsProof};
+ghost use Rattle.sat_check.specs.Runs.{RunsDrat, RunsProof};
 
 use crate::check::check;
 use crate::conclude::give_up;
@@ -45,34 +45,18 @@ pub fn run_drat_placed<F: In, P: In, O: Out>(
     proof: &mut P,
     out: &mut O,
 ) -> Checked
-    ensures { RunsPlaced (drat (rules_of options.now)) options.now.trace
-        (drat_proof options.now.binary) (F.shown formula.old) (F.shown formula.new)
+    ensures { RunsDrat options.now (F.shown formula.old) (F.shown formula.new)
         (P.shown proof.old) (P.shown proof.new) (O.held out.old) (O.held out.new)
         (O.has_failed out.old) (O.has_failed out.new) (O.is_flushed out.new) result }
 {
     let mut lines = LineOut::new(&mut *out);
-    let checked = check_drat(alloc, *options, formula, proof, &mut lines);
+    let checked = match Watch::seeded(alloc, options.seed) {
+        Ok(clauses) => check_with(alloc, *options, clauses, formula, proof, &mut lines),
+        Err(_) => Checked::without_step(give_up(&mut lines)),
+    };
     let writer = lines.release();
     let _ = &*writer;
     checked
-}
-
-fn check_drat<F: In, P: In, O: Out>(
-    alloc: Global,
-    options: DratOptions,
-    formula: &mut F,
-    proof: &mut P,
-    lines: &mut LineOut<O>,
-) -> Checked
-    requires { lines.old.is_broken ≡ false }
-    ensures { RunsInto (drat (rules_of options)) options.trace (drat_proof options.binary)
-        (F.shown formula.old) (F.shown formula.new) (P.shown proof.old) (P.shown proof.new)
-        lines.old lines.new result }
-{
-    let Ok(clauses) = Watch::seeded(alloc, options.seed) else {
-        return Checked::without_step(give_up(lines));
-    };
-    check_with(alloc, options, clauses, formula, proof, lines)
 }
 
 // The check by a propagation without clauses, in the form that was asked for.

@@ -35,8 +35,8 @@ pub fn binary_kind(kind: BinaryFault) -> &'static str
     ensures { result.now ≡ binary_text kind }
 {
     match kind {
-        BinaryFault::LiteralTooLarge => "literal too large",
-        BinaryFault::UnterminatedStep => "unterminated step",
+        BinaryFault::LiteralTooLarge => text_kind(TextFault::LiteralTooLarge),
+        BinaryFault::UnterminatedStep => text_kind(TextFault::UnterminatedStep),
         BinaryFault::BadTag => "bad tag",
         BinaryFault::BadNumber => "bad number",
     }

@@ -4,7 +4,7 @@ ghost use Rattle.std.specs.Prelude.{◌≡◌, false};
 ghost use Rattle.proofs.specs.Lrat.{lrat_steps};
 ghost use Rattle.theory.specs.Rules.{lrat};
 ghost use Rattle.sat_check.specs.Code.Checking.{RunsInto};
-ghost use Rattle.sat_check.specs.Runs.{RunsPlaced, RunsProof};
+ghost use Rattle.sat_check.specs.Runs.{RunsLrat, RunsProof};
 
 use crate::check::check;
 use crate::conclude::give_up;
@@ -42,10 +42,9 @@ pub fn run_lrat_placed<F: In, P: In, O: Out>(
     proof: &mut P,
     out: &mut O,
 ) -> Checked
-    ensures { RunsPlaced lrat options.now.trace lrat_steps
-        (F.shown formula.old) (F.shown formula.new) (P.shown proof.old) (P.shown proof.new)
-        (O.held out.old) (O.held out.new) (O.has_failed out.old) (O.has_failed out.new)
-        (O.is_flushed out.new) result }
+    ensures { RunsLrat options.now.trace (F.shown formula.old) (F.shown formula.new)
+        (P.shown proof.old) (P.shown proof.new) (O.held out.old) (O.held out.new)
+        (O.has_failed out.old) (O.has_failed out.new) (O.is_flushed out.new) result }
 {
     let mut lines = LineOut::new(&mut *out);
     let checked = check_lrat(alloc, options.trace, formula, proof, &mut lines);

@@ -12,7 +12,7 @@ ghost use Rattle.sat_check.specs.ModelReport.{claim_report, model_report};
 ghost use Rattle.sat_check.specs.ModelReport.{ChecksModel, ReadsFormulaNoFurther};
 ghost use Rattle.sat_check.specs.ModelReport.{TellsModelFault};
 ghost use Rattle.sat_check.specs.Reach.{TellsFault};
-ghost use Rattle.sat_check.specs.Runs.{Runs};
+ghost use Rattle.sat_check.specs.Runs.{Runs, RunsModel};
 ghost use Rattle.sat_check.specs.Code.Judging.{judged_report, ReadsToUnmet};
 
 use crate::conclude::{break_off, conclude};
@@ -53,12 +53,9 @@ pub fn run_model_placed<F: In, M: In, O: Out>(
     output: &mut M,
     out: &mut O,
 ) -> Checked
-    ensures { Runs (F.shown formula.old) (F.shown formula.new)
-        (M.shown output.old) (M.shown output.new)
-        (O.has_failed out.old) (O.has_failed out.new) (O.is_flushed out.new) result.status (λ i j.
-        ChecksModel i j (O.held out.old) (O.held out.new) result.status
-        × ReadsFormulaNoFurther (claim_of j) i (F.shown formula.old) (F.shown formula.new)
-        × TellsModelFault (claim_of j) (formula_of i) result) }
+    ensures { RunsModel (F.shown formula.old) (F.shown formula.new)
+        (M.shown output.old) (M.shown output.new) (O.held out.old) (O.held out.new)
+        (O.has_failed out.old) (O.has_failed out.new) (O.is_flushed out.new) result }
 {
     let mut lines = LineOut::new(&mut *out);
     let checked = check_model(alloc, formula, output, &mut lines);

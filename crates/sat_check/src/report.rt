@@ -128,12 +128,7 @@ pub fn sentence(subject: Subject, status: Status) -> &'static [u8]
 {
     match status {
         Status::Verified => verified_sentence(subject),
-        Status::NotVerified
-        | Status::Malformed
-        | Status::ReadFailed
-        | Status::OutOfMemory
-        | Status::WriteFailed
-        | Status::Usage => unverified_sentence(subject),
+        _ => unverified_sentence(subject),
     }
 }
 
@@ -225,20 +220,6 @@ fn text_status(kind: TextFault) -> Status
 {
     match kind {
         TextFault::NotClaimed | TextFault::Complement => Status::NotVerified,
-        TextFault::BadHeader
-        | TextFault::NumberTooLarge
-        | TextFault::BadToken
-        | TextFault::LiteralOutOfRange
-        | TextFault::TooManyClauses
-        | TextFault::TooFewClauses
-        | TextFault::UnterminatedClause
-        | TextFault::BadLine
-        | TextFault::SecondStatus
-        | TextFault::NoStatus
-        | TextFault::AfterEnd
-        | TextFault::UnterminatedModel
-        | TextFault::LiteralTooLarge
-        | TextFault::IdTooLarge
-        | TextFault::UnterminatedStep => Status::Malformed,
+        _ => Status::Malformed,
     }
 }

@@ -1,10 +1,7 @@
 //! Each tool, as the words of its command line ask for it.
 
-ghost use Rattle.proofs.specs.Lrat.{lrat_steps};
-ghost use Rattle.theory.specs.Rules.{drat, lrat};
-ghost use Rattle.sat_check.specs.Options.{drat_rules};
-ghost use Rattle.sat_check.specs.Report.{drat_proof};
-ghost use Rattle.sat_check.specs.Runs.{RunsPlaced};
+ghost use Rattle.sat_check.specs.Options.{drat_options, lrat_options};
+ghost use Rattle.sat_check.specs.Runs.{RunsDrat, RunsLrat};
 
 use crate::{Args, Checked, DratOptions, LratOptions, run_drat_placed, run_lrat_placed};
 use cnf_base::{In, Out};
@@ -20,8 +17,7 @@ pub fn drat_forward<F: In, P: In, O: Out>(
     proof: &mut P,
     out: &mut O,
 ) -> Checked
-    ensures { RunsPlaced (drat (drat_rules args.now)) args.now.trace
-        (drat_proof args.now.binary) (F.shown formula.old) (F.shown formula.new)
+    ensures { RunsDrat (drat_options args.now seed) (F.shown formula.old) (F.shown formula.new)
         (P.shown proof.old) (P.shown proof.new) (O.held out.old) (O.held out.new)
         (O.has_failed out.old) (O.has_failed out.new) (O.is_flushed out.new) result }
 {
@@ -37,10 +33,9 @@ pub fn lrat_check<F: In, P: In, O: Out>(
     proof: &mut P,
     out: &mut O,
 ) -> Checked
-    ensures { RunsPlaced lrat args.now.trace lrat_steps
-        (F.shown formula.old) (F.shown formula.new) (P.shown proof.old) (P.shown proof.new)
-        (O.held out.old) (O.held out.new) (O.has_failed out.old) (O.has_failed out.new)
-        (O.is_flushed out.new) result }
+    ensures { RunsLrat (lrat_options args.now).trace (F.shown formula.old) (F.shown formula.new)
+        (P.shown proof.old) (P.shown proof.new) (O.held out.old) (O.held out.new)
+        (O.has_failed out.old) (O.has_failed out.new) (O.is_flushed out.new) result }
 {
     run_lrat_placed(alloc, &LratOptions::of(args), formula, proof, out)
 }
