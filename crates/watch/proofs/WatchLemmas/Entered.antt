@@ -56,44 +56,53 @@ met_sure lits c More first small done more part l h = met_open c lits done more 
 met_sure lits c Nothing first small done more part l h = met_short c (small (λ e. false≢true (ap is_more e))) l more
 met_sure lits c (One m) first small done more part l h = met_short c (small (λ e. false≢true (ap is_more e))) l more
 
-module _ (after : FinMap nat_cmp Clause) (slot : ℕ) (c : Clause) (here : maps.get after slot ≡ Some c) (roots : Roots) (lits : List Literal) (kept : IsKept (maps.remove after slot) roots lits) (reasons : HasReasons c (at roots.reasons))
-    (left : Left) (arranged : IsArranged lits c left) (is_doubtful : Bool) (small : is_doubtful ≡ false → left ≢ More → length c < 2)
-    (later : History) (visited_is : later.visited ≡ roots.history.visited) (floor_is : later.floor ≡ cond is_doubtful (length lits) roots.history.floor) where
+-- a clause is entered into the slot, of which this is left, where the others are kept
+pub record Entering (after : FinMap nat_cmp Clause) (slot : ℕ) (c : Clause) (roots : Roots) (lits : List Literal) (left : Left) (later : History) : Type 0 where
+  pub here : maps.get after slot ≡ Some c
+  pub kept : IsKept (maps.remove after slot) roots lits
+  pub reasons : HasReasons c (at roots.reasons)
+  pub arranged : IsArranged lits c left
+  pub is_doubtful : Bool
+  pub small : is_doubtful ≡ false → left ≢ More → length c < 2
+  pub visited_is : later.visited ≡ roots.history.visited
+  pub floor_is : later.floor ≡ cond is_doubtful (length lits) roots.history.floor
+
+module _ {after : FinMap nat_cmp Clause} {slot : ℕ} {c : Clause} {roots : Roots} {lits : List Literal} {left : Left} {later : History} (given : Entering after slot c roots lits left later) where
   noted : AreNoted (maps.get (each_in_order after)) (at roots.reasons)
-  noted = noted_added (maps.remove after slot) after slot c (gone after slot slot refl) here (λ s ne. sym (elsewhere after slot s ne)) (at roots.reasons) kept.noted reasons
+  noted = noted_added (maps.remove after slot) after slot c (gone after slot slot refl) given.here (λ s ne. sym (elsewhere after slot s ne)) (at roots.reasons) given.kept.noted given.reasons
 
   reasoned : AreReasoned (maps.get (each_in_order after)) (at roots.reasons) lits
-  reasoned = reasoned_added (maps.remove after slot) after slot c (gone after slot slot refl) here (λ s ne. sym (elsewhere after slot s ne)) (at roots.reasons) lits kept.reasoned
+  reasoned = reasoned_added (maps.remove after slot) after slot c (gone after slot slot refl) given.here (λ s ne. sym (elsewhere after slot s ne)) (at roots.reasons) lits given.kept.reasoned
 
   watched : (done trues : List Literal) → IsWatched (maps.get (maps.remove after slot)) done trues → ((l : Literal) → has done (complement l) ≡ true → IsMet c l trues) → IsWatched (maps.get after) done trues
-  watched = watched_added (maps.remove after slot) after slot c (gone after slot slot refl) here (λ s ne. sym (elsewhere after slot s ne))
+  watched = watched_added (maps.remove after slot) after slot c (gone after slot slot refl) given.here (λ s ne. sym (elsewhere after slot s ne))
 
   units : (trues : List Literal) → HaveUnits (maps.get (maps.remove after slot)) trues → HasUnit c trues → HaveUnits (maps.get after) trues
-  units = units_added (maps.remove after slot) after slot c (gone after slot slot refl) here (λ s ne. sym (elsewhere after slot s ne))
+  units = units_added (maps.remove after slot) after slot c (gone after slot slot refl) given.here (λ s ne. sym (elsewhere after slot s ne))
 
-  sure : is_doubtful ≡ false → (done trues : List Literal) → IsPart done lits → IsWatched (maps.get (maps.remove after slot)) done trues → IsWatched (maps.get after) done trues
-  sure is done trues part was = watched done trues was (met_sure lits c left arranged (small is) done trues part)
+  sure : given.is_doubtful ≡ false → (done trues : List Literal) → IsPart done lits → IsWatched (maps.get (maps.remove after slot)) done trues → IsWatched (maps.get after) done trues
+  sure is done trues part was = watched done trues was (met_sure lits c left given.arranged (given.small is) done trues part)
 
   history : IsHistory (maps.get after) later lits
   history =
-      history_noted (maps.get (maps.remove after slot)) (maps.get after) roots.history later lits is_doubtful visited_is floor_is
-      (λ is d p. sure is (take d lits) (take p lits) (front_part d lits)) kept.history
+      history_noted (maps.get (maps.remove after slot)) (maps.get after) roots.history later lits given.is_doubtful given.visited_is given.floor_is
+      (λ is d p. sure is (take d lits) (take p lits) (front_part d lits)) given.kept.history
 
   -- what was visited
   so_far : has_clash roots.kept ≡ false → IsWatched (maps.get (maps.remove after slot)) (take (visits later) lits) lits
-  so_far quiet = subst (λ v. IsWatched (maps.get (maps.remove after slot)) (take (length v.items) lits) lits) (sym visited_is) (kept.visited quiet)
+  so_far quiet = subst (λ v. IsWatched (maps.get (maps.remove after slot)) (take (length v.items) lits) lits) (sym given.visited_is) (given.kept.visited quiet)
 
   idle : (k : Kept) → has_clash k ≡ true → IsKnown (maps.remove after slot) k lits → IsKnown after k lits
   idle Cut is known = absurd (false≢true is)
   idle Behind is known = absurd (false≢true is)
   idle All is known = absurd (false≢true is)
-  idle (Clash s) is known = false_added (maps.remove after slot) after slot c (gone after slot slot refl) here (λ s ne. sym (elsewhere after slot s ne)) s lits known
+  idle (Clash s) is known = false_added (maps.remove after slot) after slot c (gone after slot slot refl) given.here (λ s ne. sym (elsewhere after slot s ne)) s lits known
 
   pub entered_idle : has_clash roots.kept ≡ true → (now : Roots) → now.kept ≡ roots.kept → now.history ≡ later → now.reasons ≡ roots.reasons → IsKept after now lits
   entered_idle is now kept_is history_is reasons_are = record {
     noted = subst (λ t. AreNoted (maps.get (each_in_order after)) (at t)) (sym reasons_are) noted;
     reasoned = subst (λ t. AreReasoned (maps.get (each_in_order after)) (at t) lits) (sym reasons_are) reasoned;
-    known = subst (λ k. IsKnown after k lits) (sym kept_is) (idle roots.kept is kept.known);
+    known = subst (λ k. IsKnown after k lits) (sym kept_is) (idle roots.kept is given.kept.known);
     history = subst (λ h. IsHistory (maps.get after) h lits) (sym history_is) history;
     visited = λ quiet. absurd (true≢false (sym is ∙ ap has_clash (sym kept_is) ∙ quiet));
   }
@@ -110,7 +119,7 @@ module _ (after : FinMap nat_cmp Clause) (slot : ℕ) (c : Clause) (here : maps.
   entered_settled met unit now kept_is history_is now_noted now_reasoned = record {
     noted = now_noted;
     reasoned = now_reasoned;
-    known = subst (λ k. IsKnown after k lits) (sym kept_is) (settled met unit roots.kept kept.known);
+    known = subst (λ k. IsKnown after k lits) (sym kept_is) (settled met unit roots.kept given.kept.known);
     history = subst (λ h. IsHistory (maps.get after) h lits) (sym history_is) history;
     visited = λ quiet.
         subst (λ h. IsWatched (maps.get after) (take (visits h) lits) lits) (sym history_is)
@@ -126,7 +135,7 @@ module _ (after : FinMap nat_cmp Clause) (slot : ℕ) (c : Clause) (here : maps.
   entered_false falses now number is kept_is history_is reasons_are = record {
     noted = subst (λ t. AreNoted (maps.get (each_in_order after)) (at t)) (sym reasons_are) noted;
     reasoned = subst (λ t. AreReasoned (maps.get (each_in_order after)) (at t) lits) (sym reasons_are) reasoned;
-    known = subst (λ k. IsKnown after k lits) (sym (kept_is ∙ ap Clash is)) (record { clause = in_order c; at = seen_there after slot c here; falses = λ k h. falses k (sym (has-in_order c k) ∙ h) });
+    known = subst (λ k. IsKnown after k lits) (sym (kept_is ∙ ap Clash is)) (record { clause = in_order c; at = seen_there after slot c given.here; falses = λ k h. falses k (sym (has-in_order c k) ∙ h) });
     history = subst (λ h. IsHistory (maps.get after) h lits) (sym history_is) history;
     visited = λ quiet. absurd (true≢false (ap has_clash (sym kept_is) ∙ quiet));
   }
@@ -155,7 +164,7 @@ module _ (after : FinMap nat_cmp Clause) (slot : ℕ) (c : Clause) (here : maps.
     pub entered_taken : has lits m ≡ true → length c ≡ 1 → (now : Roots) → now.kept ≡ roots.kept → now.history ≡ later → ((k : Literal) → at now.reasons k ≡ cond (eqb k m) (Some slot) (at roots.reasons k)) → IsKept after now lits
     entered_taken is_true one now kept_is history_is set =
         entered_settled (λ done part l h. met_alone lits lits m is_true c first l) (unit_alone lits lits m is_true c first) now kept_is history_is (set_noted now set)
-        (reasoned_taken (maps.get (each_in_order after)) (at roots.reasons) lits reasoned (at now.reasons) m slot (in_order c) (seen_there after slot c here) (has-in_order c m ∙ first.0) (set_here now set)
+        (reasoned_taken (maps.get (each_in_order after)) (at roots.reasons) lits reasoned (at now.reasons) m slot (in_order c) (seen_there after slot c given.here) (has-in_order c m ∙ first.0) (set_here now set)
         (λ k h. only_one c m one first.0 k (sym (has-in_order c k) ∙ h)) (set_other now set) is_true)
 
     -- the literal becomes true
@@ -164,10 +173,10 @@ module _ (after : FinMap nat_cmp Clause) (slot : ℕ) (c : Clause) (here : maps.
     entered_set quiet is_open now more kept_is history_is is set = record {
       noted = set_noted now set;
       reasoned = subst (AreReasoned (maps.get (each_in_order after)) (at now.reasons)) (sym is)
-          (reasoned_more (maps.get (each_in_order after)) (at roots.reasons) lits reasoned (at now.reasons) m slot (in_order c) (seen_there after slot c here) (has-in_order c m ∙ first.0) (set_here now set)
+          (reasoned_more (maps.get (each_in_order after)) (at roots.reasons) lits reasoned (at now.reasons) m slot (in_order c) (seen_there after slot c given.here) (has-in_order c m ∙ first.0) (set_here now set)
           (λ k h ne. first.3 k (sym (has-in_order c k) ∙ h) ne) (λ l h. set_other now set l (λ e. true≢false (sym h ∙ ap (has lits) e ∙ is_open))));
-      known = subst (λ k. IsKnown after k more) (sym kept_is) (subst (IsKnown after (cond (is_cut roots.kept) Cut Behind)) (sym is) (grown_known roots.kept quiet kept.known));
-      history = subst (λ h. IsHistory (maps.get after) h more) (sym history_is) (subst (IsHistory (maps.get after) later) (sym is) (grown_history is_doubtful refl));
+      known = subst (λ k. IsKnown after k more) (sym kept_is) (subst (IsKnown after (cond (is_cut roots.kept) Cut Behind)) (sym is) (grown_known roots.kept quiet given.kept.known));
+      history = subst (λ h. IsHistory (maps.get after) h more) (sym history_is) (subst (IsHistory (maps.get after) later) (sym is) (grown_history given.is_doubtful refl));
       visited = λ _. subst (λ h. IsWatched (maps.get after) (take (visits h) more) more) (sym history_is) (subst (λ ls. IsWatched (maps.get after) (take (visits later) ls) ls) (sym is) grown_watched);
     }
       where
@@ -201,9 +210,9 @@ module _ (after : FinMap nat_cmp Clause) (slot : ℕ) (c : Clause) (here : maps.
         grown_known All quiet known = grown_units known.1
         grown_known (Clash s) quiet known = absurd (true≢false quiet)
 
-        grown_history : (b : Bool) → is_doubtful ≡ b → IsHistory (maps.get after) later (lits ++ m ∷ [])
+        grown_history : (b : Bool) → given.is_doubtful ≡ b → IsHistory (maps.get after) later (lits ++ m ∷ [])
         grown_history true is =
-            let high = floor_is ∙ ap (λ b. cond b (length lits) roots.history.floor) is in
+            let high = given.floor_is ∙ ap (λ b. cond b (length lits) roots.history.floor) is in
             let inside = history.inside in
             history_above (maps.get after) later (lits ++ m ∷ []) (omega (arith, inside, longer)) history.began (omega (arith, high, longer)) grown_watched
         grown_history false is =
