@@ -5,7 +5,7 @@
 #   bench/field.sh              proofs of 1 to 50 MB; a quarter of an hour
 #   bench/field.sh KIND..       of these kinds of formulas alone (sums, order, ..)
 #   bench/field.sh small        short proofs, to see that it runs
-#   bench/field.sh --markdown   tables as those of bench/README.md; also with the words above
+#   bench/field.sh --markdown   tables as those of bench/TABLES.md; also with the words above
 #   bench/field.sh --tools      only gets the tools, and prints the folder that has them
 #
 # The tools are those on the PATH, where all four are there. Otherwise Debian 13's are unpacked to bench/out/tools/ (not
