@@ -1,17 +1,22 @@
 -- Visits, one after the other.
-use Rattle.std.proofs.Common.{◌≡◌, ℕ, ◌/◌, true, Option, Some, is_some, List, refl, sym}
-use Rattle.std.proofs.Common.{ap, ◌∙◌, subst}
+use Rattle.std.proofs.Common.{◌≡◌, ℕ, ◌/◌, ◌<◌, ◌≤◌, true, Option, Some, is_some, List, refl, sym}
+use Rattle.std.proofs.Common.{ap, ◌∙◌, subst, length, get_or, map}
 use Rattle.std.specs.Ordering.{nat_cmp}
 use Rattle.std.specs.FinMap as maps
 use Rattle.std.specs.FinMap.{FinMap}
-use Rattle.cnf_base.specs.Literals.{Literal, Clause, complement, has}
+use Rattle.std.proofs.lemmas.Grind.{get_or_default_zero}
+use Rattle.cnf_base.specs.Literals.{Literal, Clause, complement, has, variable}
+use Rattle.cnf_base.proofs.LiteralLemmas.{complement-complement}
+use Rattle.cnf_base.proofs.MemberLemmas.{has_place}
 use Rattle.propagation.specs.Assumptions.{AssumptionsState}
 use Rattle.watch.specs.Code.Order.{in_order}
 use Rattle.watch.specs.Code.Visits.{CanFollow, CanSet, CanVisit, Followed, IsInHand, PropagatesTo}
 use Rattle.watch.specs.Code.Visits.{Visited}
 use Rattle.watch_lists.specs.declared.lists.WatchLists.{WatchLists}
 use Rattle.watch_lists.specs.declared.watcher.Watcher.{Watcher}
+use Rattle.trail.specs.Trail.{HasNoVariableTwice, TrailState}
 use Rattle.trail.proofs.TrailLemmas.Longer.{has_begun}
+use Rattle.trail.proofs.TrailLemmas.Values.{fits_within}
 use Rattle.watch.proofs.WatchLemmas.Kept.{noted_carried}
 use Rattle.watch.proofs.WatchLemmas.Order.{has-in_order, seen_there}
 use Rattle.watch.proofs.WatchLemmas.PropagatesTo.{propagates_none, propagates_on}
@@ -30,6 +35,24 @@ can_set_on {a} {b} {x} {y} {r} {s} can carried = record {
   room = record { each = λ k c here l member. carried.extends.reserved (l / 2) ∙ can.room.each k c (ap (λ m. maps.get m k) (sym carried.same) ∙ here) l member };
   noted = noted_carried a b x y r s carried can.noted;
 }
+
+-- they make no more literals true than there was room for
+pub fits_on : {a b : FinMap nat_cmp Clause} {x y : AssumptionsState} {r s : Literal → Option ℕ} → PropagatesTo a b x y r s → {t : TrailState} → t ≡ y.trail → HasNoVariableTwice t.lits →
+    ((v : ℕ) → has (map variable t.lits) v ≡ true → has t.reserved v ≡ true) → length y.trail.lits ≤ length x.trail.reserved
+fits_on {a} {b} {x} {y} carried is different within =
+    fits_within y.trail.lits x.trail.reserved (subst (λ u. HasNoVariableTwice u.lits) is different)
+    (λ v h. sym (carried.extends.reserved v) ∙ subst (λ u. (v : ℕ) → has (map variable u.lits) v ≡ true → has u.reserved v ≡ true) is within v h)
+
+-- ---- The literals that are true, one after the other
+
+-- the one at a place
+pub read_at : (trues : List Literal) {shown : List Literal} {place p : ℕ} → place < length trues → shown ≡ trues → p ≡ get_or shown place p → p ≡ get_or trues place 0
+read_at trues {shown} {place} {p} inside is read = read ∙ ap (λ ls. get_or ls place p) is ∙ get_or_default_zero trues place p inside
+
+-- its complement is false
+pub false_at : (trues : List Literal) {shown : List Literal} {place p l : ℕ} → place < length trues → shown ≡ trues → p ≡ get_or shown place p → l ≡ complement p → has trues (complement l) ≡ true
+false_at trues {shown} {place} {p} inside same read is =
+    ap (λ k. has trues (complement k)) is ∙ ap (has trues) (complement-complement p ∙ read_at trues inside same read) ∙ has_place trues place inside
 
 -- ---- All lists
 
