@@ -28,10 +28,10 @@ is_ready() (
 # wrap NAME PROGRAM: a command for a program of the unpacked folder, by that folder's own C library
 wrap() {
     local loader
-    loader=$(echo "$out"/tools/root/usr/lib/*/ld-linux*.so.*)
+    loader=$(echo "$out"/tools/debian/usr/lib/*/ld-linux*.so.*)
     {
         echo '#!/bin/sh'
-        echo "exec '$loader' --library-path '${loader%/*}' '$out/tools/root/usr/bin/$2' \"\$@\""
+        echo "exec '$loader' --library-path '${loader%/*}' '$out/tools/debian/usr/bin/$2' \"\$@\""
     } > "$out/tools/bin/$1"
     chmod +x "$out/tools/bin/$1"
 }
@@ -40,9 +40,9 @@ unpack() {
     command -v mmdebstrap > /dev/null || { echo "field.sh: install ${packages[*]} or mmdebstrap" >&2; exit 1; }
     echo "unpacking Debian 13's ${packages[*]}" >&2
     rm -rf "$out/tools"
-    mkdir -p "$out/tools/root" "$out/tools/bin"
+    mkdir -p "$out/tools/debian" "$out/tools/bin"
     mmdebstrap --quiet --variant=extract --include="$(IFS=,; echo "${packages[*]}")" trixie - |
-        tar -x -C "$out/tools/root" ./usr
+        tar -x -C "$out/tools/debian" ./usr
     wrap cadical cadical
     wrap kissat kissat
     wrap drat-trim drat-trim
@@ -58,7 +58,7 @@ else
     [ -f "$out/tools/made" ] || unpack
     bin=$out/tools/bin
     CADICAL=$bin/cadical KISSAT=$bin/kissat DRAT_TRIM=$bin/drat-trim DRAT_TRIM_LRAT_CHECK=$bin/drat-trim-lrat-check
-    documents=$out/tools/root/usr/share/doc
+    documents=$out/tools/debian/usr/share/doc
 fi
 if [ "${1:-}" = --tools ]; then
     dirname "$DRAT_TRIM"
