@@ -1,24 +1,31 @@
 -- Clauses that are put in, taken out and changed.
 use Rattle.std.proofs.Common.{◌≡◌, ◌≢◌, ℕ, ◌+◌, ◌-◌, ◌<◌, ◌≤◌, Bool, true, false, cond, eqb}
-use Rattle.std.proofs.Common.{Option, Some, None, is_some, List, [], ◌∷◌, ◌++◌, length, take, drop, get_or, refl, sym, ap, ◌∙◌}
+use Rattle.std.proofs.Common.{Option, Some, None, is_some, List, [], ◌∷◌, ◌++◌, length, take, drop}
+use Rattle.std.proofs.Common.{get_or, refl, sym, ap, ◌∙◌}
 use Rattle.std.proofs.Common.{subst, arith, inl, inr, length-append}
 use Rattle.std.proofs.Math.ListN.{set}
 use Rattle.std.specs.FinMap as maps
 use Rattle.std.specs.List.{swap}
 use Rattle.std.proofs.lemmas.Bool.{cases_eq}
-use Rattle.std.proofs.lemmas.List.{append_assoc, drop-drop, drop_at, get_or-append-add, get_or-drop, get_or_append_left}
-use Rattle.std.proofs.lemmas.List.{get_or_default, length-replicate, length-set, set-append_left, set-append_right, take_at}
+use Rattle.std.proofs.lemmas.List.{append_assoc, drop-drop, drop_at, get_or-append-add, get_or-drop}
+use Rattle.std.proofs.lemmas.List.{get_or_append_left}
+use Rattle.std.proofs.lemmas.List.{get_or_default, length-replicate, length-set, set-append_left}
+use Rattle.std.proofs.lemmas.List.{set-append_right, take_at}
 use Rattle.slab.specs.Slab.{Slab, get}
 use Rattle.cnf_base.specs.Literals.{Clause}
 use Rattle.clause_memory.specs.Code.Fields.{IsLaid}
 use Rattle.clause_memory.specs.Code.Slots.{Agree, clause_of, clauses_in, places_in}
-use Rattle.clause_memory.specs.Code.Words.{Block, IsWhole, blanks, block, block_count, block_words, found_at, left, literal_words}
+use Rattle.clause_memory.specs.Code.Words.{Block, IsWhole, blanks, block, block_count, block_words}
+use Rattle.clause_memory.specs.Code.Words.{found_at, left, literal_words}
 use Rattle.clause_memory.proofs.MoveLemmas.{agree_as, seen_as_before}
-use Rattle.clause_memory.proofs.SlotLemmas.{agree_cut, agree_set, cut, cut_other, cut_same, get_clause, get_place, seen}
+use Rattle.clause_memory.proofs.SlotLemmas.{agree_cut, agree_set, cut, cut_other, cut_same}
+use Rattle.clause_memory.proofs.SlotLemmas.{get_clause, get_place, seen}
 use Rattle.clause_memory.proofs.SlotLemmas.{seen_cut, seen_set, set_other, set_same, set_to}
 use Rattle.clause_memory.proofs.SumLemmas.{get_insert, get_remove, same_maps}
-use Rattle.clause_memory.proofs.WordLemmas.{Split, added, added_count, added_literals, added_whole, blanked, blanked_count}
-use Rattle.clause_memory.proofs.WordLemmas.{blanked_literals, blanked_whole, filled, filled_whole, nothing_past, split_at}
+use Rattle.clause_memory.proofs.WordLemmas.{Split, added, added_count, added_literals, added_whole}
+use Rattle.clause_memory.proofs.WordLemmas.{blanked, blanked_count}
+use Rattle.clause_memory.proofs.WordLemmas.{blanked_literals, blanked_whole, filled, filled_whole}
+use Rattle.clause_memory.proofs.WordLemmas.{nothing_past, split_at}
 
 -- ---- The block of a slot
 

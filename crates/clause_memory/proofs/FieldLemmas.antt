@@ -1,6 +1,7 @@
 -- What is so of the fields of a memory before and after its calls.
 use Rattle.std.proofs.Common.{◌≡◌, ℕ, ◌+◌, ◌-◌, ◌*◌, ◌≤◌, Some, None, List, [], length, get_or}
-use Rattle.std.proofs.Common.{refl, sym, ap, ◌∙◌, subst, arith, true, false, is_some, take, drop, nat_lt, Result, Ok, Err, OnErr}
+use Rattle.std.proofs.Common.{refl, sym, ap, ◌∙◌, subst, arith, true, false, is_some, take, drop}
+use Rattle.std.proofs.Common.{nat_lt, Result, Ok, Err, OnErr}
 use Rattle.std.specs.FinMap as maps
 use Rattle.std.specs.FinMap.{FinMap}
 use Rattle.std.specs.Ordering.{nat_cmp}
@@ -14,10 +15,12 @@ use Rattle.clause_memory.specs.Code.Fields.{IsLaid, IsMemory, seen_as}
 use Rattle.clause_memory.specs.Code.Moves.{AreSame}
 use Rattle.clause_memory.specs.Code.Slots.{clauses_in, places_in}
 use Rattle.clause_memory.specs.Code.Words.{Block, block, block_count, literal_words}
-use Rattle.clause_memory.proofs.BlockLemmas.{Spot, live_is, live_some, same_laid, same_places, same_slots, spot}
+use Rattle.clause_memory.proofs.BlockLemmas.{Spot, live_is, live_some, same_laid, same_places}
+use Rattle.clause_memory.proofs.BlockLemmas.{same_slots, spot}
 use Rattle.clause_memory.proofs.SlotLemmas.{get_place}
 use Rattle.clause_memory.proofs.SumLemmas.{sum_empty, sum_insert, sum_remove, sum_replace}
-use Rattle.clause_memory.proofs.WordLemmas.{count_bound, fewer_literals, found_nothing, no_literals, no_words}
+use Rattle.clause_memory.proofs.WordLemmas.{count_bound, fewer_literals, found_nothing, no_literals}
+use Rattle.clause_memory.proofs.WordLemmas.{no_words}
 
 -- ---- No clauses
 

@@ -1,11 +1,14 @@
 -- Blocks that are moved together.
 use Rattle.std.proofs.Common.{◌≡◌, ◌≢◌, ℕ, ◌+◌, ◌-◌, ◌<◌, ◌≤◌, cond, eqb, Option, Some, None}
-use Rattle.std.proofs.Common.{List, [], ◌∷◌, ◌++◌, length, take, drop, get_or, refl, sym, ap, ◌∙◌, subst, arith, inl, inr}
+use Rattle.std.proofs.Common.{List, [], ◌∷◌, ◌++◌, length, take, drop, get_or, refl, sym, ap, ◌∙◌}
+use Rattle.std.proofs.Common.{subst, arith, inl, inr}
 use Rattle.std.proofs.Common.{length-append, length-drop, get_or-set_same, get_or-set_other}
 use Rattle.std.proofs.Math.Path.{fun_ext}
 use Rattle.std.proofs.lemmas.Bool.{cases_eq, cases_lt}
-use Rattle.std.proofs.lemmas.List.{append_assoc, append-nil, length-replicate, length-take-le, drop-drop, drop_all}
-use Rattle.std.proofs.lemmas.List.{take_at, drop_at, drop_more, get_or-drop, get_or_read, get_or_past, replicate_more}
+use Rattle.std.proofs.lemmas.List.{append_assoc, append-nil, length-replicate, length-take-le}
+use Rattle.std.proofs.lemmas.List.{drop-drop, drop_all}
+use Rattle.std.proofs.lemmas.List.{take_at, drop_at, drop_more, get_or-drop, get_or_read}
+use Rattle.std.proofs.lemmas.List.{get_or_past, replicate_more}
 use Rattle.std.proofs.lemmas.List.{replicate-append-replicate}
 use Rattle.std.proofs.lemmas.Option.{none-some}
 use Rattle.slab.specs.Slab.{Slab, get, with_value}
@@ -13,13 +16,18 @@ use Rattle.cnf_base.specs.Literals.{Clause}
 use Rattle.clause_memory.specs.Code.Fields.{IsLaid}
 use Rattle.clause_memory.specs.Code.Moves.{AreSame, IsMoving, without_rest}
 use Rattle.clause_memory.specs.Code.Slots.{Agree, clause_of, clauses_in}
-use Rattle.clause_memory.specs.Code.Words.{Block, IsWhole, blanks, block, block_at, block_count, block_words, found_at, left, literal_words}
-use Rattle.clause_memory.proofs.SlotLemmas.{agree_cut, agree_set, cut, cut_other, cut_same, get_clause, seen, seen_cut, seen_set}
+use Rattle.clause_memory.specs.Code.Words.{Block, IsWhole, blanks, block, block_at, block_count}
+use Rattle.clause_memory.specs.Code.Words.{block_words, found_at, left, literal_words}
+use Rattle.clause_memory.proofs.SlotLemmas.{agree_cut, agree_set, cut, cut_other, cut_same}
+use Rattle.clause_memory.proofs.SlotLemmas.{get_clause, seen, seen_cut, seen_set}
 use Rattle.clause_memory.proofs.SlotLemmas.{set_other, set_same, set_to}
 use Rattle.clause_memory.proofs.SumLemmas.{same_maps}
-use Rattle.clause_memory.proofs.WordLemmas.{Split, added_count, added_whole, begins, blanked, blanked_count, blanked_literals}
-use Rattle.clause_memory.proofs.WordLemmas.{blank_there, count_bound, filled, filled_whole, found_behind, left-append, no_words}
-use Rattle.clause_memory.proofs.WordLemmas.{padded_whole, split, trimmed, trimmed_count, trimmed_literals, whole_blanks}
+use Rattle.clause_memory.proofs.WordLemmas.{Split, added_count, added_whole, begins, blanked}
+use Rattle.clause_memory.proofs.WordLemmas.{blanked_count, blanked_literals}
+use Rattle.clause_memory.proofs.WordLemmas.{blank_there, count_bound, filled, filled_whole}
+use Rattle.clause_memory.proofs.WordLemmas.{found_behind, left-append, no_words}
+use Rattle.clause_memory.proofs.WordLemmas.{padded_whole, split, trimmed, trimmed_count}
+use Rattle.clause_memory.proofs.WordLemmas.{trimmed_literals, whole_blanks}
 
 -- ---- Look-ups that agree
 

@@ -1,15 +1,19 @@
 -- Walks over the words of a memory.
-use Rattle.std.proofs.Common.{◌≡◌, ◌≢◌, ◌⊎◌, ℕ, zero, suc, ◌+◌, ◌-◌, ◌<◌, ◌≤◌, cond, eqb, eq-eqb, ne_eqb}
+use Rattle.std.proofs.Common.{◌≡◌, ◌≢◌, ◌⊎◌, ℕ, zero, suc, ◌+◌, ◌-◌, ◌<◌, ◌≤◌, cond, eqb, eq-eqb}
+use Rattle.std.proofs.Common.{ne_eqb}
 use Rattle.std.proofs.Common.{Some, None, List, [], ◌∷◌, ◌++◌, length, take, drop, get_or}
 use Rattle.std.proofs.Common.{refl, sym, ap, ◌∙◌, subst, arith, inl, inr, length-append}
 use Rattle.std.proofs.Math.ListN.{set}
 use Rattle.std.proofs.lemmas.Bool.{cases_eq, cases_lt}
 use Rattle.std.proofs.lemmas.List.{take-append-le, take_all, take-append-drop, length-take-le}
-use Rattle.std.proofs.lemmas.List.{length-replicate, append_assoc, drop_more, replicate_more, set_at}
+use Rattle.std.proofs.lemmas.List.{length-replicate, append_assoc, drop_more, replicate_more}
+use Rattle.std.proofs.lemmas.List.{set_at}
 use Rattle.std.proofs.lemmas.Option.{none-some, same_Some}
 use Rattle.cnf_base.specs.Literals.{Clause}
-use Rattle.clause_memory.specs.Code.Words.{Block, block, block_words, blanks, left, block_of, block_at}
-use Rattle.clause_memory.specs.Code.Words.{weigh, total, found_at, literal_words, block_count, IsWhole}
+use Rattle.clause_memory.specs.Code.Words.{Block, block, block_words, blanks, left, block_of}
+use Rattle.clause_memory.specs.Code.Words.{block_at}
+use Rattle.clause_memory.specs.Code.Words.{weigh, total, found_at, literal_words, block_count}
+use Rattle.clause_memory.specs.Code.Words.{IsWhole}
 
 -- ---- Walks
 

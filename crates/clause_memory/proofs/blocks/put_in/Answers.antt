@@ -1,9 +1,11 @@
-use Rattle.std.proofs.Common.{◌≡◌, ◌≢◌, ℕ, ◌+◌, ◌≤◌, ◌++◌, None, length, get_or, arith, sym, ap, ◌∙◌}
+use Rattle.std.proofs.Common.{◌≡◌, ◌≢◌, ℕ, ◌+◌, ◌≤◌, ◌++◌, None, length, get_or, arith, sym, ap}
+use Rattle.std.proofs.Common.{◌∙◌}
 use Rattle.std.specs.FinMap as maps
 use Rattle.slab.specs.Slab.{Slab, get}
 use Rattle.clause_memory.specs.Code.Slots.{places_in}
 use Rattle.clause_memory.specs.Code.Words.{block_words}
-use Rattle.clause_memory.proofs.BlockLemmas.{clauses_with, count_with, laid_with, literals_with, places_with}
+use Rattle.clause_memory.proofs.BlockLemmas.{clauses_with, count_with, laid_with, literals_with}
+use Rattle.clause_memory.proofs.BlockLemmas.{places_with}
 use Rattle.clause_memory.proofs.blocks.put_in.Goals as goal
 
 pub returns-clause-laid : goal.returns-clause-laid

@@ -1,5 +1,6 @@
 use Rattle.std.proofs.Common.{◌≡◌, ◌-◌, length, arith}
-use Rattle.clause_memory.proofs.BlockLemmas.{clauses_without, count_without, laid_without, literals_without, live_is, places_without}
+use Rattle.clause_memory.proofs.BlockLemmas.{clauses_without, count_without, laid_without}
+use Rattle.clause_memory.proofs.BlockLemmas.{literals_without, live_is, places_without}
 use Rattle.clause_memory.proofs.BlockLemmas.{spot, wiped_length}
 use Rattle.clause_memory.proofs.FieldLemmas.{len_there}
 use Rattle.clause_memory.proofs.blocks.take_out.Goals as goal

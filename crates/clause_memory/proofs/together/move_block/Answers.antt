@@ -1,7 +1,8 @@
 use Rattle.std.proofs.Common.{◌+◌, is_some, arith, sym, ap, ◌∙◌, subst}
 use Rattle.slab.specs.Slab.{get, with_value}
 use Rattle.clause_memory.specs.Code.Moves.{AreSame, IsMoving, without_rest}
-use Rattle.clause_memory.proofs.MoveLemmas.{block_moved, block_same, front_read, len_read, slot_read}
+use Rattle.clause_memory.proofs.MoveLemmas.{block_moved, block_same, front_read, len_read}
+use Rattle.clause_memory.proofs.MoveLemmas.{slot_read}
 use Rattle.clause_memory.proofs.together.move_block.Goals as goal
 
 pub slide-requires-clause-inside : goal.slide-requires-clause-inside

@@ -1,7 +1,8 @@
 use Rattle.std.proofs.Common.{arith, sym, subst}
 use Rattle.clause_memory.specs.Code.Fields.{IsLaid}
 use Rattle.clause_memory.specs.Code.Moves.{AreSame, without_rest}
-use Rattle.clause_memory.proofs.MoveLemmas.{end_laid, end_same, moves_begin, nothing_moved, same_through}
+use Rattle.clause_memory.proofs.MoveLemmas.{end_laid, end_same, moves_begin, nothing_moved}
+use Rattle.clause_memory.proofs.MoveLemmas.{same_through}
 use Rattle.clause_memory.proofs.together.move_together.Goals as goal
 
 pub loop-gap-init : goal.loop-gap-init

@@ -2,7 +2,8 @@ use Rattle.std.proofs.Common.{arith, sym, ap, ◌∙◌}
 use Rattle.std.specs.FinMap as maps
 use Rattle.clause_memory.specs.Memory.{MemoryState}
 use Rattle.clause_memory.proofs.BlockLemmas.{live_none}
-use Rattle.clause_memory.proofs.FieldLemmas.{bound_is, literals_fit, memory_same, memory_with, on_err_from, seen_same, words_fit}
+use Rattle.clause_memory.proofs.FieldLemmas.{bound_is, literals_fit, memory_same, memory_with}
+use Rattle.clause_memory.proofs.FieldLemmas.{on_err_from, seen_same, words_fit}
 use Rattle.clause_memory.proofs.memory.ClauseMemory.insert.Goals as goal
 
 pub invariant_of-self : goal.invariant_of-self

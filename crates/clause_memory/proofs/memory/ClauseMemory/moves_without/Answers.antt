@@ -3,7 +3,8 @@ use Rattle.std.specs.FinMap as maps
 use Rattle.clause_memory.specs.Memory.{MemoryState, is_loose, words_in}
 use Rattle.clause_memory.specs.Code.Slots.{clauses_in}
 use Rattle.clause_memory.proofs.BlockLemmas.{live_is, spot}
-use Rattle.clause_memory.proofs.FieldLemmas.{len_there, live_there, words_fit, words_in_all, words_without}
+use Rattle.clause_memory.proofs.FieldLemmas.{len_there, live_there, words_fit, words_in_all}
+use Rattle.clause_memory.proofs.FieldLemmas.{words_without}
 use Rattle.clause_memory.proofs.memory.ClauseMemory.moves_without.Goals as goal
 
 pub index-requires : goal.index-requires

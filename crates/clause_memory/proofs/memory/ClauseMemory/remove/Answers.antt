@@ -3,7 +3,8 @@ use Rattle.std.specs.FinMap as maps
 use Rattle.clause_memory.specs.Memory.{MemoryState, is_loose, words_in}
 use Rattle.clause_memory.specs.Code.Slots.{clauses_in}
 use Rattle.clause_memory.proofs.BlockLemmas.{same_places}
-use Rattle.clause_memory.proofs.FieldLemmas.{bound_is, live_there, memory_without, not_less, words_without}
+use Rattle.clause_memory.proofs.FieldLemmas.{bound_is, live_there, memory_without, not_less}
+use Rattle.clause_memory.proofs.FieldLemmas.{words_without}
 use Rattle.clause_memory.proofs.memory.ClauseMemory.remove.Goals as goal
 
 pub take_out-len-requires-clause-alive : goal.take_out-len-requires-clause-alive

@@ -2,8 +2,10 @@ use Rattle.std.proofs.Common.{◌<◌, length, arith, sym, ap, ◌∙◌, subst}
 use Rattle.std.specs.FinMap as maps
 use Rattle.std.specs.List.{swap}
 use Rattle.clause_memory.specs.Memory.{MemoryState}
-use Rattle.clause_memory.proofs.BlockLemmas.{clauses_swapped, count_swapped, laid_swapped, literals_swapped, live_is, swap_length, swapped_length}
-use Rattle.clause_memory.proofs.FieldLemmas.{clause_there, memory_swapped, one_clause, place_there, spot_there}
+use Rattle.clause_memory.proofs.BlockLemmas.{clauses_swapped, count_swapped, laid_swapped}
+use Rattle.clause_memory.proofs.BlockLemmas.{literals_swapped, live_is, swap_length, swapped_length}
+use Rattle.clause_memory.proofs.FieldLemmas.{clause_there, memory_swapped, one_clause, place_there}
+use Rattle.clause_memory.proofs.FieldLemmas.{spot_there}
 use Rattle.clause_memory.proofs.memory.ClauseMemory.swap.Goals as goal
 
 pub overflow_add-from-2 : goal.overflow_add-from-2
