@@ -1,5 +1,5 @@
 -- What is so of the fields of a memory before and after its calls.
-use Rattle.std.proofs.Common.{◌≡◌, ℕ, ◌+◌, ◌-◌, ◌*◌, ◌≤◌, Some, None, List, [], length, get_or}
+use Rattle.std.proofs.Common.{◌≡◌, ℕ, ◌+◌, ◌-◌, ◌*◌, ◌<◌, ◌≤◌, Some, None, List, [], length, get_or}
 use Rattle.std.proofs.Common.{refl, sym, ap, ◌∙◌, subst, arith, true, false, is_some, take, drop}
 use Rattle.std.proofs.Common.{nat_lt, Result, Ok, Err, OnErr}
 use Rattle.std.specs.FinMap as maps
@@ -93,23 +93,14 @@ module _ (places : Slab ℕ) (words : List ℕ) (literals taken : ℕ) (m : IsMe
   pub memory_with : (new : Slab ℕ) (longer : List ℕ) → IsLaid new longer → maps.get (clauses_in places words) slot ≡ None → clauses_in new longer ≡ maps.insert (clauses_in places words) slot c →
       literal_words longer ≡ literal_words words + length c → block_count longer ≡ block_count words + (length c + 2) → length longer ≡ length words + (length c + 2) →
       IsMemory new longer (literals + length c) (taken + (length c + 2))
-  memory_with new longer laid free clauses lits blocks long =
-      let a = sum_insert length (clauses_in places words) slot c free in
-      let b = sum_insert (λ d. length d + 2) (clauses_in places words) slot c free in
-      let d = ap literals_in clauses in
-      let e = ap words_in clauses in
-      let f = m.literals_are in
-      let g = m.taken_is in
-      let h = m.stored_is in
-      let i = m.words_are in
-      let j = m.tight in record {
-        laid = laid;
-        literals_are = omega arith;
-        taken_is = omega arith;
-        stored_is = omega arith;
-        words_are = omega arith;
-        tight = omega arith;
-      }
+  memory_with new longer laid free clauses lits blocks long = record {
+    laid = laid;
+    literals_are = ap (λ n. n + length c) m.literals_are ∙ sym lits;
+    taken_is = ap (λ n. n + (length c + 2)) m.taken_is ∙ sym blocks;
+    stored_is = (let more = sum_insert length (clauses_in places words) slot c free in let was = m.stored_is in let is : literal_words longer ≡ literals_in (maps.insert (clauses_in places words) slot c) = omega arith in is) ∙ ap literals_in (sym clauses);
+    words_are = (let more = sum_insert (λ d. length d + 2) (clauses_in places words) slot c free in let were = m.words_are in let are : block_count longer ≡ words_in (maps.insert (clauses_in places words) slot c) = omega arith in are) ∙ ap words_in (sym clauses);
+    tight = (let tight = m.tight in omega arith);
+  }
 
 module _ (places : Slab ℕ) (words : List ℕ) (literals taken : ℕ) (m : IsMemory places words literals taken) (slot : ℕ) (c : Clause) (here : maps.get (clauses_in places words) slot ≡ Some c) where
   pub literals_in_all : length c ≤ literals
@@ -200,6 +191,15 @@ module _ (places : Slab ℕ) (words : List ℕ) (v : MemoryState) (view : seen_a
   pub clause_there : (slot place : ℕ) (c : Clause) → maps.get v.places slot ≡ Some place → maps.get v.live slot ≡ Some c → (s : Spot words slot place) → c ≡ s.clause
   clause_there slot place c at live s =
       same_Some c s.clause (sym live ∙ ap (λ (x : MemoryState). maps.get x.live slot) (sym view) ∙ live_is places words slot place s.clause (place_there slot place at) s.here)
+
+  -- two literals of a clause are words, and the place of each has four bytes
+  pub both_inside : IsLaid places words → (slot place : ℕ) (c : Clause) (a b : ℕ) → maps.get v.places slot ≡ Some place → maps.get v.live slot ≡ Some c → a < length c → b < length c →
+      (place + 2 + a < length words) × (place + 2 + b < length words) × (length words ≤ 4294967296)
+  both_inside laid slot place c a b at live first second =
+      let s = spot_there laid slot place at in
+      let long = ap length (clause_there slot place c at live s) in
+      let fits = s.fits in
+      (omega arith, omega arith, laid.short)
 
 -- ---- What is read of a block
 

@@ -176,34 +176,26 @@ split_here (suc n) w (o ∷ ws) b is e h =
       rest = ap (λ k. left k (drop n ws)) (sym (left_through n (take n ws) long)) ∙ sym (left-append n (take n ws) (drop n ws)) ∙ rest;
     }
 
+-- one word more before it, of a block or blank
+one_before : {k j w : ℕ} {ws : List ℕ} {p : ℕ} {b : Block} → ((vs : List ℕ) → left k (w ∷ vs) ≡ left j vs) → Split j ws p b → Split k (w ∷ ws) (suc p) b
+one_before {w = w} same s = record {
+  before = w ∷ s.before;
+  owner = s.owner;
+  clause = s.clause;
+  after = s.after;
+  are = ap (λ vs. w ∷ vs) s.are;
+  is = s.is;
+  long = ap suc s.long;
+  whole = same s.before ∙ s.whole;
+  rest = s.rest;
+}
+
 pub split : (k : ℕ) (ws : List ℕ) (p : ℕ) (b : Block) → left k ws ≡ 0 → block_at k ws p ≡ Some b → Split k ws p b
 split k [] p b e h = absurd (none-some b h)
 split zero (w ∷ ws) zero b e h = split_here (w - 2) w ws b refl e h
-split zero (w ∷ ws) (suc p) b e h =
-    let s = split (w - 2) ws p b e h in record {
-      before = w ∷ s.before;
-      owner = s.owner;
-      clause = s.clause;
-      after = s.after;
-      are = ap (λ vs. w ∷ vs) s.are;
-      is = s.is;
-      long = ap suc s.long;
-      whole = s.whole;
-      rest = s.rest;
-    }
+split zero (w ∷ ws) (suc p) b e h = one_before (λ vs. refl) (split (w - 2) ws p b e h)
 split (suc k) (w ∷ ws) zero b e h = absurd (none-some b h)
-split (suc k) (w ∷ ws) (suc p) b e h =
-    let s = split k ws p b e h in record {
-      before = w ∷ s.before;
-      owner = s.owner;
-      clause = s.clause;
-      after = s.after;
-      are = ap (λ vs. w ∷ vs) s.are;
-      is = s.is;
-      long = ap suc s.long;
-      whole = s.whole;
-      rest = s.rest;
-    }
+split (suc k) (w ∷ ws) (suc p) b e h = one_before (λ vs. refl) (split k ws p b e h)
 
 -- ---- Words in the place of others
 

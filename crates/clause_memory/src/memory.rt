@@ -50,12 +50,8 @@ impl Model for ClauseMemory {
     ghost coded = { memory_code };
 
     // Each field has to be named here. Of them the words alone hold literals.
-    ghost view = { λ record {
-      places = places;
-      words = words;
-      literals = _;
-      taken = _;
-    }. seen_as places words.items };
+    ghost view = { λ record { places = places; words = words; literals = _; taken = _ }.
+        seen_as places words.items };
 
     ghost invariant = { λ m. IsMemory m.places m.words.items m.literals m.taken };
 }

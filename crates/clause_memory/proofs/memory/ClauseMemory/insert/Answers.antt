@@ -24,17 +24,11 @@ returns-in_err-slot-clause-err c =
 
 pub overflow_add-self : goal.overflow_add-self
 overflow_add-self c =
-    let fit = literals_fit c.put_in.new.places c.put_in.new.words.items c.put_in.ensures.laid in
-    let more = c.in_ok-slot.ensures.literals in
-    let are = c.self.invariant.literals_are in
-    omega arith
+    omega (arith, literals_fit c.put_in.new.places c.put_in.new.words.items c.put_in.ensures.laid, c.in_ok-slot.ensures.literals, c.self.invariant.literals_are)
 
 pub overflow_add-self-3 : goal.overflow_add-self-3
 overflow_add-self-3 c =
-    let fit = words_fit c.put_in.new.places c.put_in.new.words.items c.put_in.ensures.laid in
-    let more = c.in_ok-slot.ensures.taken in
-    let is = c.self.invariant.taken_is in
-    omega arith
+    omega (arith, words_fit c.put_in.new.places c.put_in.new.words.items c.put_in.ensures.laid, c.in_ok-slot.ensures.taken, c.self.invariant.taken_is)
 
 pub invariant_of-self-2 : goal.invariant_of-self-2
 invariant_of-self-2 c =
