@@ -1,4 +1,6 @@
-//! Laws of the definitions. The functions do nothing: their contracts are the theorems.
+//! Laws of what a run saw of a reader: some input is that, and the reader might have given it.
+//!
+//! The functions do nothing: their contracts are the theorems.
 
 ghost use Rattle.cnf_base.specs.Seen.{SeenMayBeGiven, SeenIsSome};
 

@@ -1,4 +1,4 @@
-//! What bytes are written to.
+//! Writers of bytes: the trait `Out`, and writers of the standard library that meet it.
 ghost use Rattle.std.specs.Prelude.{◌≡◌, ℕ, Bool, true, false, List, [], ◌∷◌, Option, OnOk, OnErr};
 ghost use Rattle.std.specs.Io.{WritesAtMost};
 ghost use Rattle.std.specs.Io.KnownBytes.{Keeps, WriteAppends};

@@ -1,4 +1,4 @@
-//! An input's bytes, one at a time.
+//! The source of an input: its bytes one at a time, with their places, read by the piece.
 ghost use Rattle.std.specs.Prelude.{◌≡◌, ◌≢◌, ◌+◌, ◌<◌, ◌≤◌, ◌==◌, true, false, [], length};
 ghost use Rattle.std.specs.Prelude.{slice_index, take, Some, IsSome, IfSome, IfNone, IfOk, IfErr};
 ghost use Rattle.std.specs.Prelude.{OnOk, OnErr};

@@ -1,4 +1,6 @@
-//! Laws of the definitions. The functions do nothing: their contracts are the theorems.
+//! Laws of reading formulas and models: printed ones are read back, and grammars say what is read.
+//!
+//! The functions do nothing: their contracts are the theorems.
 
 ghost use Rattle.dimacs.specs.Grammar.{FormulaIsGrammar, ModelIsGrammar};
 ghost use Rattle.dimacs.specs.Printing.{FormulaIsReadBack, ModelIsReadBack, FormulasLookSo};

@@ -1,4 +1,4 @@
-//! The model that a solver claims.
+//! The model that a solver claims: the literals that it lists, and a table to look each up.
 
 ghost use Rattle.std.specs.Prelude.{◌≡◌, false, [], ◌∷◌, OnOk};
 ghost use Rattle.cnf_base.specs.Literals.{Literal, complement, has};

@@ -1,4 +1,4 @@
-//! How a program ends.
+//! The exit status of a program, and what it tells of want of memory or a failed write.
 
 ghost use Rattle.std.specs.Prelude.{◌≡◌, IfOk, IfErr};
 ghost use Rattle.std.specs.Process.{exit_status};

@@ -1,4 +1,6 @@
-//! Laws of the definitions. The functions do nothing: their contracts are the theorems.
+//! Laws of reading proofs: printed ones are read back, and grammars say what is read.
+//!
+//! The functions do nothing: their contracts are the theorems.
 
 ghost use Rattle.proofs.specs.Grammar.{DratIsGrammar, LratIsGrammar, BinaryIsGrammar};
 ghost use Rattle.proofs.specs.Printing.{DratIsReadBack, BinaryIsReadBack, LratIsReadBack};

@@ -1,4 +1,4 @@
-//! What ends a step early.
+//! What ends a step of a proof as text early: a fault, or want of memory.
 
 ghost use Rattle.std.specs.Prelude.{◌≡◌};
 ghost use Rattle.proofs.specs.declared.stopped.Stopped.TheVariants.{OutOfMemory as Refused};

@@ -1,4 +1,6 @@
-//! Laws of the definitions. The functions do nothing: their contracts are the theorems.
+//! The law that a formula and a proof have at most one report.
+//!
+//! The function does nothing: its contract is the theorem.
 
 ghost use Rattle.sat_check.specs.Report.{ReportsAreUnique};
 

@@ -1,4 +1,4 @@
-//! Whether a clause makes a literal of it hold for good.
+//! Whether a clause is the reason clause of a root-level literal, past a clash too.
 
 ghost use Rattle.std.specs.Prelude.{◌≡◌, [], true, false, Some, IsSome, IfOk};
 ghost use Rattle.std.specs.FinMap as maps;

@@ -1,4 +1,4 @@
-//! The groups of a number.
+//! A number of binary DRAT while it is read: its groups of 7 bits, the lowest first.
 
 ghost use Rattle.std.specs.Prelude.{◌≡◌, ℕ, List, [], ◌∷◌, ◌++◌};
 ghost use Rattle.proofs.specs.Code.BinaryMoves.{KeepsGroups};

@@ -1,4 +1,4 @@
-//! What a byte does to a step.
+//! What each byte does to a step of binary DRAT: tags, the groups of numbers, the end.
 
 ghost use Rattle.std.specs.Prelude.{◌≡◌, ℕ, ◌<◌, List, [], ◌∷◌, ◌++◌};
 ghost use Rattle.proofs.specs.Binary.{BinarySpot, binary_move_of, tag_move, group_move};

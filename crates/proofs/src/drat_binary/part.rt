@@ -1,4 +1,4 @@
-//! The parts of a step.
+//! Where a byte of a binary DRAT step stands: at the tag, before a number, or inside one.
 
 use super::groups::Groups;
 

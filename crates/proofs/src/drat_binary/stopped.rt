@@ -1,4 +1,4 @@
-//! What ends a step early.
+//! What ends a step of binary DRAT early: a fault at a byte, or want of memory.
 
 use cnf_base::BinaryFault;
 

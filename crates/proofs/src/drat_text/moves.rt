@@ -1,4 +1,4 @@
-//! What a word does to a step.
+//! What each word does to a step of DRAT as text: `d`, literals, the last `0`.
 
 ghost use Rattle.std.specs.Prelude.{true};
 ghost use Rattle.proofs.specs.Drat.{DratSpot, drat};

@@ -1,4 +1,4 @@
-//! What a word does to a step.
+//! What each word does to a step of LRAT: identifiers, `d`, literals, hints, a `0`.
 
 ghost use Rattle.std.specs.Prelude.{◌≡◌, ◌≤◌, IsTrue};
 ghost use Rattle.proofs.specs.Lrat.{LratSpot, lrat, identifier, literal, hint, deleted, signed};

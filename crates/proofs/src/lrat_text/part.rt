@@ -1,4 +1,4 @@
-//! The parts of a step.
+//! Where a word of an LRAT step stands: identifier, literals, hints or deleted identifiers.
 
 /// Where a word of a step stands.
 #[derive(Clone, Copy)]
