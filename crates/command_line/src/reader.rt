@@ -94,7 +94,7 @@ fn command<'a>(alloc: Global, tool: Tool) -> Result<Command<'a>, AllocError>
             let binary = flag(alloc, "binary", "Read the proof in the binary form");
             let strict = "Refuse a deletion of a clause that is not alive";
             let pr = "Take additions that list a set, by propagation redundancy";
-            let keep_units = "Ignore deletions of clauses that make a literal hold for good";
+            let keep_units = "Ignore deletions of reason clauses of root-level literals";
             let drat = new_command(alloc, "drat-forward", DRAT_PURPOSE)
                 .arg(binary)?
                 .arg(trace(alloc))?
