@@ -1,4 +1,7 @@
-//! Why a step is accepted.
+//! Why a step is accepted: the word of its answer.
+//!
+//! What a step leaves depends on its word alone: an ignored deletion leaves the clauses as they
+//! are. So `--keep-units` changes what may be answered, and nothing else.
 
 /// Why a step was accepted.
 #[derive(Clone, Copy, Debug, PartialEq, Eq)]
@@ -11,7 +14,7 @@ pub enum Accepted {
     Pr,
     /// A deletion of clauses that were alive.
     Deleted,
-    /// A deletion of a clause that was not alive.
+    /// A deletion of a clause that was not alive, or that the rules keep.
     Ignored,
     /// The empty clause, by reverse unit propagation.
     Empty,
