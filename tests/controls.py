@@ -1,9 +1,10 @@
 #!/usr/bin/env python3
 """Shows for what the mutants tests/mutants/*/*_by_models_alone.edit are refused.
 
-Such a mutant takes away the clauses on exact answers, with the lines that prove them; its last pair turns the body. Here
-each is tried in two parts. With the clauses gone and the body as it is, the crate has to be proved: so nothing but the
-turned body is refused. With the turned body too, the goal of the clause on models has to stay open.
+Such a mutant takes away the clauses on exact answers, with the lines that prove them; its last pair turns the body. A body
+that breaks soundness breaks those clauses too, and would be refused for them. Here each is tried in two parts. With the
+clauses gone and the body as it is, the crate has to be proved: so nothing but the turned body is refused. With the turned
+body too, the goal of the clause on models has to stay open.
 
 By hand, with make test-mutants: it works on copies, over what earlier checks kept in crates/*/out. RT names the command rt,
 where it isn't on the PATH. The last line is "N passed, M failed".

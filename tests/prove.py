@@ -4,7 +4,8 @@
     tests/prove.py [CRATE..]        all crates where none is named
 
 It runs rt ci on a copy of these crates that has no mutants. What is proved there is kept for the gate, which then
-tries the mutants over it. The programs are left in crates/CRATE/out.
+tries the mutants over it. Side by side with the proofs, mutants would leave one processor to a crate of the longest
+chain, which the gate waits for. The programs are left in crates/CRATE/out.
 
 RT names the command rt, where it isn't on the PATH. The last line is "N passed, M failed".
 """

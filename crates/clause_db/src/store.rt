@@ -1,4 +1,11 @@
 //! The live clauses of a proof checker, each in its slot.
+//!
+//! A clause is stored once, without repeated literals. So its length is its size, and the sum of
+//! the lengths is what the peak is made of. The order of its literals is left open, so that a
+//! propagation may put its watched literals first.
+//!
+//! What is kept (`stored`) is counted over the fields, not over the clauses: that it is the sum of
+//! the live sizes then has to be proved, and a clause that is only marked as deleted breaks it.
 
 mod buckets;
 mod entry;

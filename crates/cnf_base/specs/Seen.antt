@@ -1,4 +1,5 @@
--- What a run saw of a reader.
+-- What a run saw of a reader: the bytes that it handed out, and its end or its failure. To say that
+-- the reader might have given some input would show nothing of a run: it may always fail at once.
 use Rattle.std.specs.Io.KnownBytes.{Consumes, IsAtEnd}
 use Rattle.std.specs.Prelude.{◌≡◌, ℕ, ◌+◌, ◌||◌, List, length, Option, Some, ◌⊎◌, true}
 use Rattle.cnf_base.specs.Stream.{Reader, IsSilent, is_failure, tells_failure, Input, MayFollow}

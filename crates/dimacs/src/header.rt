@@ -1,4 +1,6 @@
-//! The header of a formula.
+//! The header of a formula: `p cnf VARIABLES CLAUSES`.
+//!
+//! Its numbers reserve no memory: they are limits that the clauses are held to.
 
 ghost use Rattle.std.specs.Prelude.{◌≡◌, ◌≢◌, ◌≤◌, if◌then◌else◌, IfOk};
 ghost use Rattle.cnf_base.specs.Stream.{Along, most_to_come};

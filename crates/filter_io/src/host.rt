@@ -1,4 +1,7 @@
-//! The machine that a program runs on.
+//! The machine that a program runs on: the `System` of files, standard input and standard error.
+//!
+//! It says of every name that nothing is known, since no contract can name what a file holds. That
+//! it opens the file of that name is tested.
 
 ghost use Rattle.std.specs.Prelude.{◌≡◌, ◌-◌, ◌^◌, None, IfErr};
 ghost use Rattle.cnf_base.specs.Stream.{Reader};

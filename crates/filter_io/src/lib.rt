@@ -1,4 +1,7 @@
 //! What the programs have in common: their words, their files, and how they end.
+//!
+//! What a program does from its words to its status is one function a tool (`programs.rt`), over
+//! any `System`. `main` has the program's name and that call, and hands the answer to `exit_code`.
 #![tactic(auto)]
 
 mod ending;

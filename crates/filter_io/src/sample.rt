@@ -1,4 +1,6 @@
-//! A few of the bytes of an input.
+//! The first six and the last five bytes that were read of an input: what a hint is chosen by.
+//!
+//! A reader keeps them on the way, since an input that is a pipe can't be read twice.
 
 /// How many of the first bytes are kept.
 const FIRST: usize = 6;

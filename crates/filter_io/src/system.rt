@@ -1,4 +1,8 @@
-//! What a program has of the system that it runs on.
+//! The trait `System`: what a program has of the system that it runs on.
+//!
+//! It opens inputs by name, and says of each name what the input gives. So the contract of a
+//! program can say which input is the formula, and that the status is the report's, of every
+//! system; and a test can stand in for the machine.
 
 ghost use Rattle.std.specs.Prelude.{◌≡◌, ℕ, List, Option, None, Some, IfOk, IfErr};
 ghost use Rattle.cnf_base.specs.Stream.{Reader};

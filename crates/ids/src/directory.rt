@@ -1,4 +1,8 @@
-//! The pages of page numbers.
+//! The directory: for each row of 1024 identifiers, the page that has their entries.
+//!
+//! It is an array, of four bytes for each 1024 identifiers that were met. A row that would make it
+//! longer than about twice the pages that were opened stands in a tree: so identifiers near 2^63
+//! cost the memory that small ones do.
 
 ghost use Rattle.std.specs.Prelude.{◌≡◌, ℕ, ◌<◌, ◌≤◌, ◌==◌, ◌^◌, if◌then◌else◌, IfSome, IfNone};
 ghost use Rattle.std.specs.Prelude.{OnOk, OnErr};

@@ -1,4 +1,8 @@
-//! Identifiers of clauses.
+//! The map from LRAT's identifiers to slots: pages for identifiers in a row, a tree for far ones.
+//!
+//! Identifiers rise, and those that are alive are near each other. So a look-up is two loads: the
+//! directory names the page of each 1024 identifiers, and the page has an entry of four bytes for
+//! each. An identifier far from all others would take a whole page; those stand in the tree.
 
 ghost use Rattle.std.specs.Prelude.{◌≡◌, ◌≢◌, ℕ, ◌+◌, ◌-◌, ◌*◌, ◌/◌, ◌^◌, ◌<◌, ◌≤◌, slice_index};
 ghost use Rattle.std.specs.Prelude.{Some, None, IfSome, IfNone, IfOk, OnOk, OnErr};

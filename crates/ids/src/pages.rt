@@ -1,4 +1,6 @@
-//! Pages of entries.
+//! Pages: each has the slots of 1024 identifiers in a row, as entries of four bytes.
+//!
+//! A page in which no identifier is bound is used again, so memory follows what is bound.
 
 ghost use Rattle.std.specs.Prelude.{◌≡◌, ◌≢◌, ℕ, ◌+◌, ◌-◌, ◌*◌, ◌<◌, ◌≤◌, length, slice_index};
 ghost use Rattle.std.specs.Prelude.{slice_set, IsTrue, IfOk};

@@ -1,4 +1,8 @@
-//! What every reader of proofs does.
+//! The trait of all readers of proofs, `StepReader`: one step at a time, into the caller's buffer.
+//!
+//! So a proof of any size is read in the room of its longest step. The contract names no format:
+//! each reader says what is still to come of an input, so that a session or an engine serves them
+//! all. A reader keeps the answer that ended it, so that no want of memory can follow a clean end.
 
 ghost use Rattle.std.specs.Prelude.{◌≡◌, ℕ, Bool, Option, Result};
 ghost use Rattle.cnf_base.specs.Stream.{Suffix, Stream, Along};

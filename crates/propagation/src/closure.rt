@@ -1,4 +1,11 @@
 //! All that follows with nothing assumed, past a clash too, kept while clauses come and go.
+//!
+//! Past a clash both literals of a variable may follow, and a trail holds one of them. So this is a
+//! list of its own, in which each literal is followed once, by the store's occurrences. Where there
+//! is no clash, `Watch` answers from the literals that it keeps, and makes no such list.
+//!
+//! What follows without a reason clause follows without all others too. So only the removal of a
+//! reason clause loses the list, and with `--keep-units` none is removed.
 
 mod found;
 

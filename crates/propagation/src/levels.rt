@@ -1,4 +1,7 @@
-//! The assumptions that stand, one on the other.
+//! The assumptions that stand, at most two, the second on the first.
+//!
+//! RAT asks the same clause with each candidate. What the clause alone gives stays, and only the
+//! candidate is assumed on it and taken back.
 
 ghost use Rattle.std.specs.Prelude.{◌≡◌};
 ghost use Rattle.propagation.specs.Code.Levels.{answered, first_number, pushed};

@@ -1,4 +1,11 @@
-//! What every store of live clauses does that propagates.
+//! The trait `Propagate`: live clauses in slots, and unit propagation over them.
+//!
+//! - Assumed literals are known up to their order, and not at all after a clash. So propagation may
+//!   stop at the first conflict, and keeps no list of them: they are read off the trail.
+//! - A clause is shown as a set, so that its watched literals may be moved.
+//! - An assumption that memory was refused to ends all later ones: what it had begun to mark need
+//!   not be known, and a session is over then anyhow.
+//! - `next_with` takes no memory, and so goes over all slots. Sessions use `touched`.
 
 ghost use Rattle.std.specs.Prelude.{◌≡◌, ◌≢◌, [], ◌≤◌, ◌<◌, ◌∷◌, ℕ, min, not, true, false, ◌==◌};
 ghost use Rattle.std.specs.Prelude.{length, Some, None, List, IsTrue, IsSome, IfSome, IfNone, IfOk};

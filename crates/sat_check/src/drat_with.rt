@@ -1,4 +1,4 @@
-//! A check of a DRAT proof by a propagation of the caller's choice.
+//! A check of a DRAT proof by a propagation of the caller's choice, so that some can be compared.
 
 ghost use Rattle.std.specs.Prelude.{◌≡◌, [], false};
 ghost use Rattle.std.specs.FinMap as maps;

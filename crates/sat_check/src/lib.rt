@@ -1,4 +1,8 @@
 //! Whole checks, from bytes to bytes.
+//!
+//! An engine's contract has one clause on its inputs, since two, each with a pair of inputs of its
+//! own, might be true of different pairs. So the report, the verdict in both directions and what it
+//! means stand in one record of one pair: `ChecksProof` or `ChecksModel`.
 #![tactic(auto)]
 
 mod check;

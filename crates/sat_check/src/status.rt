@@ -1,4 +1,7 @@
-//! How a program ends.
+//! The status of a run: a verdict, or why there is none.
+//!
+//! A program ends with one type of status, whoever found it. So a wrong command line is one too
+//! (`Usage`), which no engine answers.
 
 ghost use Rattle.std.specs.Prelude.{◌≡◌};
 ghost use Rattle.sat_check.specs.Status.{code_of};

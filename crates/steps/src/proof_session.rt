@@ -1,4 +1,8 @@
-//! What every session does that checks a proof.
+//! The trait `ProofSession`: what every session does that checks a proof.
+//!
+//! It alone has the contract of a session. A `Rule` and a `State` of the definitions have a case
+//! for DRAT and one for LRAT, and so has all that is said of a session; callers of one read the
+//! contract with its case. So the engine is written once, for all sessions and readers.
 
 pub(crate) mod progress;
 

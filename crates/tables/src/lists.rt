@@ -1,4 +1,8 @@
 //! Lists by small numbers, in memory of the order of the keys that were met.
+//!
+//! Dense keys have their lists in an array, since most visits of a watch list put an entry into
+//! another one: a look-up of the list's number would come on top. Lists of far keys have numbers,
+//! and come to the array when it grows past them.
 
 ghost use Rattle.std.specs.Prelude.{◌≡◌, ℕ, ◌+◌, ◌==◌, ◌++◌, ◌∷◌, [], length, min, vec_len};
 ghost use Rattle.std.specs.Prelude.{if◌then◌else◌, IsTrue, IsFalse, OnOk, OnErr, false, ◌≤◌};

@@ -1,4 +1,12 @@
 //! Values by small numbers, in memory of the order of the keys that were met.
+//!
+//! Dense keys have their values in an array, far keys in a balanced tree. So variable 268435455
+//! takes the memory that variable 1 takes, and a look-up among dense keys costs one comparison more
+//! than an array's. The array is at most sixteen times as long as the keys that were met, and a few
+//! thousand.
+//!
+//! No key is hashed, since whoever writes an input chooses the keys. `HashMap` has the same
+//! constants in each run: keys that all collide would make a few megabytes take minutes.
 
 ghost use Rattle.std.specs.Prelude.{◌≡◌, ℕ, ◌==◌, ◌<◌, ◌≤◌, if◌then◌else◌, unwrap_or, IsSome};
 ghost use Rattle.std.specs.Prelude.{IsTrue, OnOk, OnErr, vec_len, slice_index_or};

@@ -1,4 +1,7 @@
 //! Whole runs on worked rows. What has to come out was worked out by hand.
+//!
+//! It is one large crate since what its tables share can't be a library: there the gate refuses a
+//! function that may end the process, as each that asserts does.
 #![tactic(auto)]
 
 #[cfg(test)]

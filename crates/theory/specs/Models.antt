@@ -1,4 +1,6 @@
 -- Assignments, and which clauses they satisfy, as in DIMACS CNF: a clause needs one true literal.
+-- They are tests on all variables, not finite sets of them: that none satisfies a formula says at
+-- least as much.
 use Rattle.std.specs.Prelude.{◌≡◌, ℕ, ◌/◌, ◌%◌, Bool, not, ◌==◌, Some, IsTrue}
 use Rattle.std.specs.Prelude.{if◌then◌else◌}
 use Rattle.std.specs.List.{list_any}

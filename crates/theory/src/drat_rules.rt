@@ -1,4 +1,7 @@
-//! What the rule of DRAT leaves open.
+//! What the rule of DRAT leaves open, as one value.
+//!
+//! It goes from the options through the session to the definition of a step, so that a further rule
+//! is one more field.
 
 /// Which rules a DRAT proof is checked by, where tools differ.
 #[derive(Clone, Copy, Debug, PartialEq, Eq)]

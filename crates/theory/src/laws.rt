@@ -1,4 +1,8 @@
-//! Laws of the definitions. The functions do nothing: their contracts are the theorems.
+//! The laws of the rules: soundness, one answer to each step, and one verdict on each proof.
+//!
+//! The functions do nothing: their contracts are the theorems. By `answers_exist` and
+//! `verdicts_exist` each proof has a report. So where memory or the writer fails, what was written
+//! begins the report of the whole proof, with the steps that were not reached.
 
 ghost use Rattle.theory.specs.Laws.{ForcedIsTrue, RupIsImplied, RatKeepsModels, PrKeepsModels};
 ghost use Rattle.theory.specs.Laws.{ChainShowsClash, LratShowsRedundant, KeepsModels};

@@ -1,4 +1,7 @@
 //! Parts of clauses: all literals, all but one, or all but those that a set makes false.
+//!
+//! A part is a test on literals: RUP leaves out none, RAT one, and PR those that a witness makes
+//! false. A rule that leaves out others is one more type.
 
 ghost use Rattle.std.specs.Prelude.{◌≡◌, ◌==◌, Bool, not, true};
 ghost use Rattle.cnf_base.specs.Literals.{Literal, complement};

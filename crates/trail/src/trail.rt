@@ -1,4 +1,10 @@
-//! The trail: the literals that are true.
+//! The trail: the literals that are true, in the order in which they were set.
+//!
+//! They are of different variables that were all reserved, so there is room for each.
+//!
+//! Of a hint's clause mostly one literal is left. At which place can't be foretold, and a branch
+//! for each literal would cost more than the look-ups. So `unit_left` counts what is left, and
+//! calls `left`, which stops at the second literal, only where more than one is.
 
 mod values;
 

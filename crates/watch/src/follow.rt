@@ -1,4 +1,7 @@
-//! The watch list of a literal that became false.
+//! The watch list of a literal that became false: visits of its clauses, and moves to other lists.
+//!
+//! A clause is written before the list that it goes to, so that what was just read of it need not
+//! be found again. Where memory for the list is refused, the clause is put back as it was.
 
 ghost use Rattle.std.specs.Prelude.{◌≡◌, ◌≢◌, ℕ, ◌+◌, ◌≤◌, length, take, slice_get, Option, Some};
 ghost use Rattle.std.specs.Prelude.{IsTrue, IsFalse, IfOk, IfSome, IfNone, OnOk};

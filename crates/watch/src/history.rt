@@ -1,4 +1,9 @@
-//! When the literals that are true with nothing assumed were propagated.
+//! The visits of root-level literals, each with how many literals were true when it began.
+//!
+//! A clause that was visited when more literals were true may have been left alone because of one
+//! that is true no more. So after a cut the visits are made again, from the last that began with no
+//! more literals than are left. Where there is none, nothing is kept and all is found again: visits
+//! that began while all of these literals were true would tell nothing of the next cut either.
 
 ghost use Rattle.std.specs.Prelude.{◌≡◌, ◌≤◌, ◌++◌, ◌∷◌, [], true, OnOk, if◌then◌else◌};
 ghost use Rattle.watch.specs.Code.History.{IsRewound, visits};

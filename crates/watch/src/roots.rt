@@ -1,4 +1,13 @@
-//! The literals that are true with nothing assumed, each with the clause that makes it so.
+//! The root-level literals that are kept, each with its reason, the clause that made it true.
+//!
+//! The removal of a clause that is no reason, nor the clause of a kept clash, changes nothing. That
+//! of a reason cuts the kept literals back to the place of its own: those before it have reasons of
+//! literals before them alone. What still follows is found again at the next assumption. So a
+//! deletion costs what was cut, and a look at each unit clause.
+//!
+//! A unit clause that is added becomes the reason of its literal even where that is true already:
+//! solvers add one, and then delete the clauses that it satisfies. A reason stays in the table when
+//! its literal is taken back, and says nothing until the next clause that makes it true.
 
 ghost use Rattle.std.specs.Prelude.{◌≡◌, ◌≢◌, ℕ, ◌<◌, ◌≤◌, ◌/◌, ◌==◌, ◌&&◌, ◌++◌, ◌∷◌, [], not};
 ghost use Rattle.std.specs.Prelude.{true, false, length, take, slice_index, if◌then◌else◌, Some};

@@ -1,4 +1,7 @@
-//! Propagation with two watched literals a clause.
+//! Propagation with two watched literals a clause, which stand first in the stored clause.
+//!
+//! So a visit reads one place of memory for a clause and its watched literals, and a move exchanges
+//! two literals of it. Contracts see each clause by rising literals: no move is seen there.
 
 ghost use Rattle.std.specs.Prelude.{◌≡◌, ◌≢◌, ℕ, [], ◌*◌, ◌≤◌, ◌<◌, ◌++◌, drop, filter, min, true};
 ghost use Rattle.std.specs.Prelude.{false, IsTrue, IfOk, OnOk, OnErr, IfSome, IfNone, IsSome};

@@ -1,4 +1,9 @@
 //! Watch lists: by literal the entries of the clauses that watch it.
+//!
+//! To remove a clause takes no memory: its two lists are searched for its entries. Solvers delete
+//! clauses in the order in which they have them, or in the opposite one, so a long list is first
+//! searched around the place where its last entry was taken out. There are 64 such places, by the
+//! last bits of the literal's key: two long lists that share one only cost a search.
 
 ghost use Rattle.std.specs.Prelude.{◌≡◌, ℕ, ◌+◌, ◌==◌, ◌&&◌, ◌++◌, ◌∷◌, [], length, min};
 ghost use Rattle.std.specs.Prelude.{if◌then◌else◌, IsTrue, OnOk, OnErr, true, false, ◌≢◌, ◌<◌, ◌≤◌};

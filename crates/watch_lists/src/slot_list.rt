@@ -1,4 +1,6 @@
-//! Slots, each with its place.
+//! The slots of the clauses of one literal and of none, which no watch list has.
+//!
+//! Each has its place noted, so that one is taken out without a walk: a formula may have a million.
 
 ghost use Rattle.std.specs.Prelude.{◌≡◌, ℕ, ◌+◌, ◌==◌, ◌++◌, ◌∷◌, [], length, if◌then◌else◌};
 ghost use Rattle.std.specs.Prelude.{IsTrue, IsFalse, OnOk, OnErr};

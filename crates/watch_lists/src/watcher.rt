@@ -1,4 +1,12 @@
-//! The entries of watch lists.
+//! The entries of watch lists: the slot of a clause, and a blocking literal of it.
+//!
+//! Where that literal is true the clause isn't looked at. Clauses lie elsewhere in memory, behind a
+//! tag for the slot and one for the literals, so a look costs far more than four bytes. The literal
+//! is the other watched one when the entry is written, and again where a look finds that one true.
+//! So a clause that is passed over has a true literal, whichever it is.
+//!
+//! A removal searches a list for an entry: 64 entries at once, then 16, then one by one. The more
+//! at once, the fewer instructions an entry, up to what a processor's registers allow.
 
 ghost use Rattle.std.specs.Prelude.{◌≡◌, ℕ, ◌+◌, ◌==◌, length, if◌then◌else◌, IsTrue, IfSome, take};
 ghost use Rattle.std.specs.Prelude.{◌<◌, ◌≤◌};

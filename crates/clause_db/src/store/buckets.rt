@@ -1,4 +1,8 @@
-//! Slots by the hashes of their clauses.
+//! Slots by the hashes of their clauses: a bucket of slots for each hash.
+//!
+//! Most buckets have one slot. It stands in a map of its own, from a hash to four bytes, where a
+//! list would take sixteen. The maps hash the hashes once more, by constants. They need no seed,
+//! since nobody can foresee the hashes.
 
 ghost use Rattle.std.specs.Prelude.{◌≡◌, ◌≢◌, ℕ, None, nat_eq, ◌==◌, ◌-◌, ◌<◌, [], ◌∷◌, ◌++◌};
 ghost use Rattle.std.specs.Prelude.{length, swap_remove, slice_index, if◌then◌else◌, IfOk, OnOk};

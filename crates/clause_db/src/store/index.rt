@@ -1,4 +1,11 @@
-//! What finds a clause again.
+//! The index of a store, which finds the slots of a clause by the clause's hash.
+//!
+//! LRAT names clauses by identifiers and never searches for one, so its store has none (`NoIndex`):
+//! a third less memory for clauses of three literals.
+//!
+//! Copies of a clause stand in one bucket. The place of a slot there is noted, unless it is the
+//! first and always was, so that one of many copies is removed in constant time. A formula without
+//! copies, as nearly each is, has few places to note.
 
 ghost use Rattle.std.specs.Prelude.{◌≡◌, ℕ, ◌==◌, ◌<◌, length, if◌then◌else◌, Some, None, ⊤, OnOk};
 ghost use Rattle.std.specs.Prelude.{OnErr};

@@ -1,4 +1,7 @@
 //! The occurrences of literals in the clauses, which are kept from when they are first asked for.
+//!
+//! They are what RAT and PR find their candidates by. A proof without such a step pays nothing for
+//! them; else a step costs what its candidates cost, however many other clauses are alive.
 
 ghost use Rattle.std.specs.Prelude.{◌≡◌, ℕ, ◌<◌, ◌==◌, ◌&&◌, ◌||◌, Some, None, IfOk, OnOk, OnErr};
 ghost use Rattle.std.specs.Prelude.{IsSome, false};

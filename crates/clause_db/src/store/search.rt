@@ -1,4 +1,8 @@
 //! The search for a clause that is marked.
+//!
+//! The literals that are sought are marked in a table first, and clauses are compared by the marks.
+//! So a search is linear in the clause, whatever is repeated, and takes no memory. `find` marks and
+//! unmarks literals, and so takes `&mut self`.
 
 ghost use Rattle.std.specs.Prelude.{◌≡◌, ℕ, false, true, Some, slice_get, IfSome, IfNone};
 ghost use Rattle.clause_db.specs.Code.Entries.{is_match};

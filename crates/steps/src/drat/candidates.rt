@@ -1,5 +1,7 @@
-//! The search over the clauses that an addition is tried with where it lacks RUP, over any store of
-//! clauses that propagates.
+//! The candidates of a DRAT addition that lacks RUP: the clauses that it is tried with.
+//!
+//! They are counted first, by the store's count of the clauses with each literal. Where there is
+//! none, none is looked for: so a definition, whose pivot is a new variable, costs what it is long.
 
 ghost use Rattle.std.specs.Prelude.{◌≡◌, ◌++◌, ℕ, Some, IsSome, IsTrue, IfOk, true};
 ghost use Rattle.std.specs.List.{list_any};

@@ -1,4 +1,7 @@
 //! The candidates that groups of hints have named.
+//!
+//! They take memory only where a step has groups. The hints are numbers of the proof's choice, so
+//! they stand in a tree and are not hashed.
 
 ghost use Rattle.std.specs.Prelude.{◌≡◌, ℕ, ◌||◌, ◌==◌, not, length, [], IfOk, OnOk};
 ghost use Rattle.std.specs.Prelude.{nat_eq};

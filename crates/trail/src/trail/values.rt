@@ -1,4 +1,7 @@
-//! What is known of each literal.
+//! The value of each literal: true, false or open.
+//!
+//! A value is looked up far more often than set. So each literal has its own, written when it or
+//! its complement is set or taken back: among dense literals a look-up is one load.
 
 ghost use Rattle.std.specs.Prelude.{◌≡◌, ℕ, ◌==◌, ◌≤◌, ◌<◌, ◌+◌, ◌*◌, if◌then◌else◌, Some, None};
 ghost use Rattle.std.specs.Prelude.{IsSome, IsTrue, is_some, OnOk, vec_len};
