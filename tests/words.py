@@ -13,7 +13,6 @@ import subprocess
 import sys
 
 ROOT = os.path.dirname(os.path.dirname(os.path.abspath(__file__)))
-# docs/DECISIONS.md is not here yet: it is to have 1500, and is still far longer.
 WORDS = {
     "README.md": 1000,
     "docs/FORMATS.md": 1500,
@@ -22,6 +21,7 @@ WORDS = {
     "docs/THEOREM.md": 1500,
     "docs/PROMISES.md": 1500,
     "docs/ARCHITECTURE.md": 1400,
+    "docs/DECISIONS.md": 1500,
     "docs/PERFORMANCE.md": 800,
     "man/drat-forward.1": 700,
     "man/lrat-check.1": 700,
