@@ -1,8 +1,6 @@
 //! The error of a growth that was refused: `OutOfMemory`.
 //!
-//! A call whose signature has no answer for it takes no memory. That it comes only where an
-//! allocation was refused is tested (`tests/refusals.py`): the language has no contract that says
-//! so.
+//! A call whose signature has no answer for it takes no memory.
 
 use std::alloc::{AllocError, AllocFailed};
 

@@ -1,8 +1,8 @@
 //! A check of a DRAT proof, from bytes to bytes.
 //!
-//! `run_drat` is the status of `run_drat_placed`: who asks for the verdict alone reads a contract
-//! without places. Each engine opens its reader itself, in lines that are alike but for the
-//! reader's type. A trait for that would have to name the type of a reader over a borrow of
+//! `run_drat` is the status of `run_drat_placed`: a caller who needs the verdict alone reads a
+//! contract without places. Each engine opens its reader itself, in lines that are alike but for
+//! the reader's type. A trait for that would have to name the type of a reader over a borrow of
 //! whatever is read, which the language does not have.
 
 ghost use Rattle.std.specs.Prelude.{◌≡◌, [], false};
