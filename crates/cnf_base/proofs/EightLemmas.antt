@@ -1,5 +1,6 @@
 -- Eight bytes as one number: what is done to the number at once is done to each byte.
-use Rattle.std.proofs.Common.{◌≡◌, ℕ, zero, suc, ◌+◌, ◌-◌, ◌*◌, ◌/◌, ◌%◌, ◌^◌, ◌<◌, ◌≤◌, ◌==◌, ◌&&◌, Bool, true}
+use Rattle.std.proofs.Common.{◌≡◌, ℕ, zero, suc, ◌+◌, ◌-◌, ◌*◌, ◌/◌, ◌%◌, ◌^◌, ◌<◌, ◌≤◌, ◌==◌, ◌&&◌}
+use Rattle.std.proofs.Common.{Bool, true}
 use Rattle.std.proofs.Common.{false, cond, List, [], ◌∷◌, ◌++◌, length, take, drop, map, refl, sym}
 use Rattle.std.proofs.Common.{ap, ◌∙◌, subst, arith, length-append}
 use Rattle.std.specs.Prelude.{fold, slice_index, replicate}
@@ -13,9 +14,11 @@ use Rattle.std.proofs.lemmas.Bool.{and_parts, eqb-true}
 use Rattle.std.proofs.lemmas.Bool.Decides.{nat_tests}
 use Rattle.std.proofs.lemmas.List.{length-map, length-take-le, length-replicate}
 use Rattle.std.proofs.lemmas.List.Sums.{prefix_len-le-length}
-use Rattle.std.proofs.lemmas.Nat.{and_block, or_block, xor_block, and_le_r, and_mask, or_lt, xor_lt, mod_low, shr_high}
+use Rattle.std.proofs.lemmas.Nat.{and_block, or_block, xor_block, and_le_r, and_mask, or_lt, xor_lt}
+use Rattle.std.proofs.lemmas.Nat.{mod_low, shr_high}
 use Rattle.cnf_base.specs.Words.{is_digit, decimal_after, decimal_value}
-use Rattle.cnf_base.specs.Code.Eight.{packed, eight, from_zero, AreBelow, AreEight, AreFront, decimal}
+use Rattle.cnf_base.specs.Code.Eight.{packed, eight, from_zero, AreBelow, AreEight, AreFront}
+use Rattle.cnf_base.specs.Code.Eight.{decimal}
 
 -- an operation that works on each byte alone
 record Bytewise (op : ℕ → ℕ → ℕ) : Type 0 where
