@@ -53,7 +53,7 @@ done
 if [ "$ended" -ne 0 ] && [ "$failed" -eq 0 ]; then
     failed=1
 fi
-said=$("$root/tests/refused_by.py" "$log" "$root/tests/mutants" | tee /dev/stderr | tail -n 1) || failed=$((failed + 1))
+said=$("$root/tests/refused_by.py" "$log" "$root/tests/mutants" | tee >(cat >&2) | tail -n 1) || failed=$((failed + 1))
 echo "by the clause that they name: $said"
 echo "$passed passed, $failed failed"
 [ "$failed" -eq 0 ]
