@@ -2,4 +2,4 @@
 
 /// What `--version` shows after the program's name. The file `VERSION` has the same, as
 /// `tests/manual.sh` finds.
-pub const VERSION: &str = "0.1.0";
+pub const VERSION: &str = "0.2.0";
