@@ -47,9 +47,18 @@ for script in tests/mutants_apply.py tests/quotes.py tests/words.py tests/floors
     count $?
 done
 
+# Whether the gate proves only what earlier runs have not, as some kits do.
+keeps_proofs() {
+    local said
+    said=$("${RT:-rt}" --help 2>&1 | sed -n '/^ *rt ci /,/^ *rt must-fail /p')
+    [[ $said != *"from nothing"* ]]
+}
+
 # The programs first: then the proofs of the tests have the mutants beside them. The gate counts all again, so here nothing counts
 # but a failure.
-part tests/prove.py tests/prove.py drat_forward lrat_check model_check bench_lookups test_allocations || failed=$((failed + 1))
+if keeps_proofs; then
+    part tests/prove.py tests/prove.py drat_forward lrat_check model_check bench_lookups test_allocations || failed=$((failed + 1))
+fi
 
 part "rt ci" "${RT:-rt}" ci
 ended=$?
