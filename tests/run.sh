@@ -3,8 +3,9 @@
 # spelled right, and what is promised is said by the upper floor of specs/ alone; the proofs of the programs; the gate (the
 # proofs of the tests and what else isn't kept, the mutants, the crates' tests and the programs' stored runs); whether each
 # mutant was refused by the clause that it names; then the programs as users run them, also on a folder of many proofs, pictures
-# of runs, their manual pages, counts of allocations, runs in which each allocation is refused, and instructions on inputs that
-# were made to be dear. At the end stands what each part took. The last line is "N passed, M failed" over all.
+# of runs, their manual pages, what they tell on a terminal, counts of allocations, runs in which each allocation is refused, and
+# instructions on inputs that were made to be dear. At the end stands what each part took. The last line is "N passed, M failed"
+# over all.
 #
 # RT names the command rt, where it isn't on the PATH.
 set -uo pipefail
@@ -79,7 +80,7 @@ if [ "$ended" -eq 0 ] && [ -x "$LRAT_CHECK" ] && [ -x "$DRAT_FORWARD" ] && [ -x 
     cp "$MODEL_CHECK" bin/model-check
 fi
 
-for script in tests/programs.sh examples/worked.py tests/folder.sh tests/plot.sh tests/manual.sh tests/completions.sh tests/allocations.py tests/refusals.py; do
+for script in tests/programs.sh examples/worked.py tests/folder.sh tests/plot.sh tests/manual.sh tests/completions.sh tests/terminal.py tests/allocations.py tests/refusals.py; do
     part "$script" "$script"
     count $?
 done

@@ -9,9 +9,12 @@ ghost use Rattle.cnf_base.specs.Stream.{Reader};
 use crate::hints::hint_of;
 use crate::input::Input;
 use crate::inputs::faulty_name;
+use crate::metered::Metered;
+use crate::progress::Progress;
 use crate::randomness::seed;
 use crate::sampled::Sampled;
 use crate::system::System;
+use crate::terminal::is_terminal;
 use cnf_base::{Fault, FromRead, Place};
 use proofs::StepEnd;
 use sat_check::{Args, InputFault, Status, Tool, binary_kind, text_kind};
@@ -25,12 +28,17 @@ use std::os::fd::AsFd;
 pub struct Host<'a> {
     rt: &'a HostRuntime,
     program: &'a str,
+    progress: &'a Progress<'a>,
 }
 
 impl<'a> Host<'a> {
-    /// The machine for a program of this name.
-    pub fn new(rt: &'a HostRuntime, program: &'a str) -> Self {
-        Host { rt, program }
+    /// The machine for a program of this name, which tells there how far it is.
+    pub fn new(rt: &'a HostRuntime, program: &'a str, progress: &'a Progress<'a>) -> Self {
+        Host {
+            rt,
+            program,
+            progress,
+        }
     }
 }
 
@@ -45,27 +53,35 @@ fn unopened(error: Error) -> Result<Input, Status>
     Ok(Input::Unopened(error))
 }
 
-impl System for Host<'_> {
-    type Input = Sampled<FromRead<Input>>;
+impl<'a> System for Host<'a> {
+    type Input = Sampled<FromRead<Metered<'a>>>;
 
     ghost holds = { λ _ _. record { left = None; over = None; most_left = 2 ^ 64 - 1 } };
 
-    fn open(&self, name: &str) -> Result<Sampled<FromRead<Input>>, Status> {
+    fn open(&self, name: &str) -> Result<Sampled<FromRead<Metered<'a>>>, Status> {
         let input = match fs::open(self.rt, name) {
             Ok(file) => Input::File(file),
             Err(error) => unopened(error)?,
         };
-        Ok(Sampled::new(FromRead::new(input)))
+        let metered = Metered::new(input, self.progress);
+        Ok(Sampled::new(FromRead::new(metered)))
     }
 
     // A descriptor that is closed has no second one.
-    fn standard_input(&self) -> Result<Sampled<FromRead<Input>>, Status> {
+    fn standard_input(&self) -> Result<Sampled<FromRead<Metered<'a>>>, Status> {
         let stdin = self.rt.stdin();
+        if is_terminal(self.rt, "/dev/stdin") {
+            let _ = eprintln!(self.rt;
+                "{}: reads from the terminal, up to Ctrl-D at the start of a line",
+                self.program
+            );
+        }
         let input = match stdin.as_fd().try_clone_to_owned() {
             Ok(_) => Input::Standard(stdin),
             Err(error) => unopened(error)?,
         };
-        Ok(Sampled::new(FromRead::new(input)))
+        let metered = Metered::new(input, self.progress);
+        Ok(Sampled::new(FromRead::new(metered)))
     }
 
     fn alloc(&self) -> Global {
@@ -80,7 +96,7 @@ impl System for Host<'_> {
         let _ = eprint!(self.rt; "{text}");
     }
 
-    fn tell_failure(&self, name: &str, input: &Sampled<FromRead<Input>>) {
+    fn tell_failure(&self, name: &str, input: &Sampled<FromRead<Metered<'a>>>) {
         if let Some(error) = input.inner().failure() {
             let _ = eprintln!(self.rt; "{}: {name}: {error}", self.program);
         }
@@ -109,7 +125,7 @@ impl System for Host<'_> {
         tool: Tool,
         args: &Args,
         fault: InputFault,
-        input: &Sampled<FromRead<Input>>,
+        input: &Sampled<FromRead<Metered<'a>>>,
     ) {
         let (program, name) = (self.program, faulty_name(args, fault));
         let (InputFault::Formula(malformed) | InputFault::Second(malformed)) = fault;

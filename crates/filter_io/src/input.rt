@@ -12,6 +12,19 @@ pub enum Input {
     Unopened(Error),
 }
 
+impl Input {
+    /// How many bytes a file has; none where the input is no plain file.
+    pub(crate) fn size(&self) -> Option<u64> {
+        match self {
+            Input::File(file) => match file.metadata() {
+                Ok(data) if data.is_file() => Some(data.len()),
+                _ => None,
+            },
+            Input::Standard(_) | Input::Unopened(_) => None,
+        }
+    }
+}
+
 impl Read for Input {
     fn read(&mut self, buf: &mut [u8]) -> io::Result<usize> {
         match self {
