@@ -7,6 +7,8 @@ mod clauses;
 mod entries;
 mod follow;
 mod history;
+mod other_reason;
+mod places;
 mod reason;
 mod refresh;
 mod roots;

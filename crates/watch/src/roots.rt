@@ -20,16 +20,21 @@ ghost use Rattle.theory.specs.Sets.{SameSet, conflicts};
 ghost use Rattle.watch.specs.Code.History.{IsRewound};
 ghost use Rattle.watch.specs.Code.Roots.{HasReasons, IsArranged, IsKept, has_clash, is_cut};
 ghost use Rattle.watch.specs.Code.Roots.{is_up_to_date};
+ghost use Rattle.watch.specs.Code.Watched.{AreUnchanged};
+ghost use Rattle.watch_lists.specs.Lists.{AreApart};
 ghost use Rattle.trail.specs.declared.left.Left.TheVariants.{More};
 ghost use Rattle.watch.specs.declared.roots.Kept.TheVariants.{Behind, Clash, Cut};
 
 use crate::history::History;
+use crate::other_reason::other_reason;
+use crate::places::Places;
 use clause_db::{Slot, Store};
 use cnf_base::{Lit, OutOfMemory};
 use propagation::Assumptions;
 use std::alloc::Global;
 use tables::{Table, key};
 use trail::{Left, Trail};
+use watch_lists::WatchLists;
 
 /// What is known of the literals that are true with nothing assumed.
 #[derive(Clone, Copy)]
@@ -65,6 +70,7 @@ pub(crate) struct Roots {
     pub(crate) history: History,
     /// By literal the slot of its reason.
     pub(crate) reasons: Table<u32>,
+    places: Places,
 }
 
 /// Sets a literal that is not false by the clause in a slot, unless it is true already. Tells
@@ -156,6 +162,7 @@ impl Roots {
             kept: Kept::Cut,
             history: History::new(alloc),
             reasons: Table::new(alloc),
+            places: Places::new(alloc),
         }
     }
 
@@ -173,17 +180,18 @@ impl Roots {
         matches!(self.kept, Kept::Clash(_))
     }
 
-    /// Makes room for the reasons of the literals of a clause.
+    /// Makes room for the reasons and the places of the literals of a clause.
     pub(crate) fn reserve(&mut self, clause: &[Lit]) -> Result<(), OutOfMemory>
         ensures room { OnOk result (HasReasons clause.now (at self.new.reasons)) }
         ensures old { (l : Literal) → IsSome (at self.old.reasons l) →
             at self.new.reasons l ≡ at self.old.reasons l }
-        ensures kept { self.new ≡ record self.old { reasons = self.new.reasons } }
+        ensures kept { self.new ≡
+            record self.old { reasons = self.new.reasons; places = self.new.places } }
     {
         for l in clause {
             self.reasons.reserve(key(*l), 0)?;
         }
-        Ok(())
+        self.places.reserve(clause)
     }
 
     /// Takes note of a clause that was added, of which this is left and stands first. It takes no
@@ -267,21 +275,56 @@ impl Roots {
     {
         let left = self.history.rewind(place);
         assumptions.cut(left);
+        self.places.cut(left);
         self.kept = Kept::Cut;
     }
 
-    /// Takes note of a clause that is to be removed: cuts what is kept back to the place from which
-    /// on it rests on it. It takes no memory.
-    pub(crate) fn leave(&mut self, store: &Store, assumptions: &mut Assumptions, slot: Slot)
+    /// Gives the literal that is true by the clause in the slot another reason, where one is found.
+    /// It takes no memory.
+    fn change_reason(&mut self, store: &Store, lists: &mut WatchLists, trail: &Trail, slot: Slot)
         requires alive { IsSome (maps.get store.now.live slot) }
+        requires apart { AreApart lists.old }
+        requires kept { IsKept store.now.live self.old trail.now.lits }
+        ensures kept { IsKept store.now.live self.new trail.now.lits }
+        ensures lists { AreUnchanged lists.old lists.new }
+    {
+        let Some(l) = made_true_by(&self.reasons, trail, store.clause(slot), slot.number()) else {
+            return;
+        };
+        if !lists.has_list(l) {
+            return;
+        }
+        let lits = trail.lits();
+        self.places.note(lits);
+        let list = lists.take_out(l);
+        let found = other_reason(store, &self.places, &list, lits, l, slot.number());
+        lists.put_back(l, list);
+        if let Some(other) = found {
+            self.reasons.set(key(l), other);
+        }
+    }
+
+    /// Takes note of a clause that is to be removed: what is kept by it is kept by another clause,
+    /// or is cut back to the place from which on it rests on it. It takes no memory.
+    pub(crate) fn leave(
+        &mut self,
+        store: &Store,
+        lists: &mut WatchLists,
+        assumptions: &mut Assumptions,
+        slot: Slot,
+    )
+        requires alive { IsSome (maps.get store.now.live slot) }
+        requires apart { AreApart lists.old }
         requires nothing_assumed { assumptions.old.assumptions ≡ [] }
         requires kept { IsKept store.now.live self.old assumptions.old.trail.lits }
         ensures kept { IsKept (maps.remove store.now.live slot) self.new
             assumptions.new.trail.lits }
+        ensures lists { AreUnchanged lists.old lists.new }
         ensures reserved { SameSet assumptions.new.trail.reserved assumptions.old.trail.reserved }
         ensures assumptions { assumptions.new.assumptions ≡ [] }
         ensures starts { assumptions.new.starts ≡ assumptions.old.starts }
     {
+        self.change_reason(store, lists, assumptions.trail(), slot);
         let clause = store.clause(slot);
         while let Some(place) = self.rests_from(assumptions.trail(), clause, slot.number()) {
             self.cut(assumptions, place);

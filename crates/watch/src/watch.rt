@@ -355,7 +355,8 @@ impl Propagate for Watch {
     }
 
     fn remove(&mut self, slot: Slot) {
-        self.roots.leave(&self.store, &mut self.assumptions, slot);
+        self.roots
+            .leave(&self.store, &mut self.lists, &mut self.assumptions, slot);
         remove_entries(&self.store, &mut self.lists, &mut self.short, slot);
         remove_clause(&mut self.store, &mut self.closure, slot);
     }

@@ -15,7 +15,7 @@ use Rattle.watch.specs.Code.History.{IsHistory, IsRewound, visits}
 use Rattle.watch.specs.Code.Order.{in_order, each_in_order}
 use Rattle.watch.specs.Code.Roots.{AreForced, AreNoted, AreReasoned, HasReasons, HaveUnits}
 use Rattle.watch.specs.Code.Roots.{IsArranged, IsFalseAt, IsKept, IsKnown, IsStanding}
-use Rattle.watch.specs.Code.Roots.{is_up_to_date, has_clash}
+use Rattle.watch.specs.Code.Roots.{IsReasonAt, is_up_to_date, has_clash}
 use Rattle.watch.specs.Code.Visits.{PropagatesTo, IsPart}
 use Rattle.watch.specs.Code.Watched.{IsMet, HasUnit, IsWatched}
 use Rattle.trail.specs.declared.left.Left.TheVariants.{One, More}
@@ -36,7 +36,7 @@ use Rattle.cnf_base.proofs.SetLemmas.{has_head}
 use Rattle.watch.proofs.WatchLemmas.History.{history_among, history_cut, history_none}
 use Rattle.watch.proofs.WatchLemmas.History.{watched_cut, watched_none}
 use Rattle.watch.proofs.WatchLemmas.Reasons.{reasoned_among, reasoned_cut, reasoned_forced}
-use Rattle.watch.proofs.WatchLemmas.Reasons.{reasoned_none, reasoned_same}
+use Rattle.watch.proofs.WatchLemmas.Reasons.{reasoned_instead, reasoned_none, reasoned_same}
 
 pub kept_forced : (live : FinMap nat_cmp Clause) (roots : Roots) (lits : List Literal) → IsKept live roots lits → AreForced (maps.get (each_in_order live)) lits
 kept_forced live roots lits kept = reasoned_forced (maps.get (each_in_order live)) (at roots.reasons) lits kept.reasoned
@@ -202,6 +202,40 @@ module _ (trues more : List Literal) (m : Literal) (set : has more m ≡ true) w
   unit_alone [] first = absurd (false≢true first.0)
   unit_alone (a ∷ []) first = ap (has more) first.1 ∙ set
   unit_alone (a ∷ b ∷ c) first = tt
+
+-- ---- Another reason
+
+module _ (live : FinMap nat_cmp Clause) (roots after : Roots) (lits : List Literal) (kept_is : after.kept ≡ roots.kept) (history_is : after.history ≡ roots.history) (kept : IsKept live roots lits) where
+  with_reasons : AreNoted (maps.get (each_in_order live)) (at after.reasons) → AreReasoned (maps.get (each_in_order live)) (at after.reasons) lits → IsKept live after lits
+  with_reasons noted reasoned = record {
+    noted = noted;
+    reasoned = reasoned;
+    known = subst (λ k. IsKnown live k lits) (sym kept_is) kept.known;
+    history = subst (λ h. IsHistory (maps.get live) h lits) (sym history_is) kept.history;
+    visited = λ quiet. subst (λ h. IsWatched (maps.get live) (take (visits h) lits) lits) (sym history_is) (kept.visited (ap has_clash (sym kept_is) ∙ quiet));
+  }
+
+  -- another clause makes a literal true
+  pub kept_instead : (m : Literal) (slot : ℕ) → HasNoVariableTwice lits → IsReasonAt (maps.get live) slot lits m → ((k : Literal) → at after.reasons k ≡ cond (eqb k m) (Some slot) (at roots.reasons k)) → IsKept live after lits
+  kept_instead m slot apart by set =
+      with_reasons (record { each = λ s c is l member. ap is_some (set l) ∙ by_test (eqb l m) (at roots.reasons l) (kept.noted.each s c is l member) })
+      (reasoned_instead (maps.get (each_in_order live)) (at roots.reasons) lits kept.reasoned (at after.reasons) m slot apart shown (set m ∙ ap (λ b. cond b (Some slot) (at roots.reasons m)) (eq-eqb m m refl))
+      (λ l ne. set l ∙ ap (λ b. cond b (Some slot) (at roots.reasons l)) (ne_eqb l m ne)))
+    where
+      by_test : (b : Bool) (o : Option ℕ) → is_some o ≡ true → is_some (cond b (Some slot) o) ≡ true
+      by_test true o h = refl
+      by_test false o h = h
+
+      shown : IsReasonAt (maps.get (each_in_order live)) slot lits m
+      shown = record {
+        clause = in_order by.clause;
+        at = seen_there live slot by.clause by.at;
+        member = has-in_order by.clause m ∙ by.member;
+        place = by.place;
+        inside = by.inside;
+        stands = by.stands;
+        others = λ k h. by.others k (sym (has-in_order by.clause k) ∙ h);
+      }
 
 -- ---- Fewer literals
 

@@ -1,15 +1,18 @@
 -- Literals that follow from their reasons.
 use Rattle.std.proofs.Common.{◌≡◌, ◌≢◌, ℕ, Bool, true, Option, Some, is_some, List, [], ◌∷◌}
-use Rattle.std.proofs.Common.{◌++◌, length, take, sym, ap, ◌∙◌, subst, arith, inl, inr}
+use Rattle.std.proofs.Common.{◌++◌, length, take, sym, ap, ◌∙◌, subst, arith, inl, inr, ◌≤◌}
 use Rattle.std.proofs.lemmas.Bool.{cases_eq, cases_lt, false≢true}
 use Rattle.std.proofs.lemmas.List.{length-append, length-take, take-append-le, take-take, take_all}
 use Rattle.std.proofs.lemmas.Option.{same_Some}
-use Rattle.cnf_base.specs.Literals.{Literal, complement, Clause, has}
+use Rattle.cnf_base.specs.Literals.{Literal, complement, Clause, has, variable}
 use Rattle.cnf_base.proofs.SetLemmas.{has_append_left, has_append_right, has_head}
 use Rattle.theory.specs.Propagation.{Live, Forced}
 use Rattle.propagation.specs.Assumptions.{HasAt}
-use Rattle.watch.specs.Code.Roots.{AreReasoned, FollowsReasons}
+use Rattle.cnf_base.proofs.MemberLemmas.{place_in_front}
+use Rattle.trail.specs.Trail.{HasNoVariableTwice}
+use Rattle.watch.specs.Code.Roots.{AreReasoned, FollowsReasons, IsReasonAt}
 use Rattle.trail.proofs.TrailLemmas.Longer.{pushed_each}
+use Rattle.trail.proofs.TrailLemmas.Truth.{places_apart}
 use Rattle.watch.proofs.WatchLemmas.Follow.{front_part}
 
 -- the literals pass where the complements of the others of each reason let its literal pass
@@ -93,6 +96,38 @@ module _ (live : Live) (reason_of : Literal → Option ℕ) (lits : List Literal
       in_each = λ n passes follows.
           are.in_each n passes (λ l s d member is at others. elim (cases_eq l m) [
             | inl e ↦ subst (λ x. passes x ≡ true) (sym e) (follows m slot c (ap (has (take n lits)) (sym e) ∙ member) set there (λ k h ne. absurd (ne (alone k h))))
+            | inr ne ↦ follows l s d member (same l ne ∙ is) at others
+          ]);
+    }
+
+  -- another clause makes a literal true, by those that stand before it
+  module _ (reason_now : Literal → Option ℕ) (m : Literal) (slot : ℕ) (apart : HasNoVariableTwice lits) (by : IsReasonAt live slot lits m) (set : reason_now m ≡ Some slot) (same : (l : Literal) → l ≢ m → reason_now l ≡ reason_of l) where
+    not_before : (n : ℕ) → n ≤ by.place → has (take n lits) m ≡ true → ⊥
+    not_before n low member =
+        let w = place_in_front lits n m member in
+        let inside = w.1 in
+        places_apart lits apart w.0 by.place (omega (arith, low, inside)) by.inside (ap variable (w.3 ∙ sym by.stands))
+
+    from_front : (n : ℕ) (passes : Literal → Bool) → FollowsReasons live reason_now (take n lits) passes → has (take n lits) m ≡ true → passes m ≡ true
+    from_front n passes follows member = elim (cases_lt by.place n) [
+      | inl low ↦ follows m slot by.clause member set by.at (λ k h ne.
+          are.in_each by.place passes (λ l s c there is at others.
+          follows l s c (front_part by.place (take n lits) l (ap (λ ls. has ls l) (take-take by.place n lits (omega (arith, low))) ∙ there)) (same l (λ e. not_before by.place (omega arith) (ap (has (take by.place lits)) (sym e) ∙ there)) ∙ is) at others)
+          (complement k) (by.others k h ne))
+      | inr past ↦ absurd (not_before n past member)
+    ]
+
+    pub reasoned_instead : AreReasoned live reason_now lits
+    reasoned_instead = record {
+      has_it = λ l s member is. elim (cases_eq l m) [
+        | inl e ↦
+            subst (λ x. HasAt live x s) (sym e)
+            (subst (λ x. HasAt live m x) (same_Some slot s (sym set ∙ ap reason_now (sym e) ∙ is)) (record { clause = by.clause; at = by.at; member = by.member }))
+        | inr ne ↦ are.has_it l s member (sym (same l ne) ∙ is)
+      ];
+      in_each = λ n passes follows.
+          are.in_each n passes (λ l s d member is at others. elim (cases_eq l m) [
+            | inl e ↦ subst (λ x. passes x ≡ true) (sym e) (from_front n passes follows (ap (has (take n lits)) (sym e) ∙ member))
             | inr ne ↦ follows l s d member (same l ne ∙ is) at others
           ]);
     }

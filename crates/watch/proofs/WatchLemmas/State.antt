@@ -23,7 +23,8 @@ use Rattle.watch.specs.Code.Roots.{AreForced, IsKept, IsKnown, IsStanding, has_c
 use Rattle.watch.specs.Code.Roots.{is_up_to_date}
 use Rattle.watch.specs.Code.State.{IsWatch}
 use Rattle.watch.specs.Code.Visits.{PropagatesTo, IsPart}
-use Rattle.watch.specs.Code.Watched.{AreWatched, HasEntry, IsListed, IsShortList, IsWatched}
+use Rattle.watch.specs.Code.Watched.{AreUnchanged, AreWatched, HasEntry, IsListed, IsShortList}
+use Rattle.watch.specs.Code.Watched.{IsWatched}
 use Rattle.watch.specs.Code.Watched.{NamesOwn}
 use Rattle.watch.specs.Code.Watched.{is_short, entries_for, short_for, watches}
 use Rattle.watch.specs.Watched.{long_clauses, short_clauses}
@@ -161,7 +162,7 @@ watch_reserved live lists short roots before after lits_are assumptions_are star
 }
 
 -- more room for reasons
-pub watch_noted : (live : FinMap nat_cmp Clause) (lists : WatchLists) (short : List ℕ) (roots after : Roots) (held : AssumptionsState) → after ≡ record roots { reasons = after.reasons } →
+pub watch_noted : (live : FinMap nat_cmp Clause) (lists : WatchLists) (short : List ℕ) (roots after : Roots) (held : AssumptionsState) → after ≡ record roots { reasons = after.reasons; places = after.places } →
     ((l : Literal) → is_some (at roots.reasons l) ≡ true → at after.reasons l ≡ at roots.reasons l) → IsWatch live lists short roots held → IsWatch live lists short after held
 watch_noted live lists short roots after held as_before old watch = record {
   scan = watch.scan;
@@ -198,6 +199,11 @@ watch_same live lists after short roots held apart times fewer entries watch = r
   kept = watch.kept;
   standing = watch.standing;
 }
+
+-- the lists were taken out and put back
+pub watch_put_back : (live : FinMap nat_cmp Clause) (lists after : WatchLists) (short : List ℕ) (roots : Roots) (held : AssumptionsState) → AreUnchanged lists after → IsWatch live lists short roots held → IsWatch live after short roots held
+watch_put_back live lists after short roots held same watch =
+    watch_same live lists after short roots held same.apart (λ l s. ap (entries_of s) (same.lists l)) (λ l s c _. let e = ap (foreign_blockers s c) (same.lists l) in omega (arith, e)) same.entries watch
 
 -- ---- Where nothing is assumed
 

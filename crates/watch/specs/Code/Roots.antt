@@ -36,6 +36,17 @@ pub record AreReasoned (live : Live) (reason_of : Literal → Option ℕ) (lits 
       FollowsReasons live reason_of (take n lits) passes →
       (l : Literal) → IsTrue (has (take n lits) l) → IsTrue (passes l)
 
+-- the clause in the slot makes the literal true, of those before it alone
+pub record IsReasonAt (live : Live) (slot : ℕ) (lits : List Literal) (l : Literal) : Type 0 where
+  pub clause : Clause
+  pub at : live slot ≡ Some clause
+  pub member : IsTrue (has clause l)
+  pub place : ℕ
+  pub inside : place < length lits
+  pub stands : slice_index lits place ≡ l
+  pub others : (k : Literal) → IsTrue (has clause k) → k ≢ l →
+      IsTrue (has (take place lits) (complement k))
+
 -- there is room for the reasons of the clause's literals
 abbrev pub HasReasons : Clause → (Literal → Option ℕ) → Type 0
 HasReasons c reason_of = (l : Literal) → IsTrue (has c l) → IsSome (reason_of l)

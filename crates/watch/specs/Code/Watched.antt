@@ -6,7 +6,8 @@ use Rattle.cnf_base.specs.Literals.{Literal, Clause, has, complement}
 use Rattle.theory.specs.Propagation.{Live}
 use Rattle.propagation.specs.Assumptions.{Assumption}
 use Rattle.propagation.specs.declared.answer.Answer.TheVariants.{Quiet}
-use Rattle.watch_lists.specs.Lists.{entries_of, foreign_blockers, list_at, times_in}
+use Rattle.watch_lists.specs.Lists.{AreApart, entries_in, entries_of, foreign_blockers, list_at}
+use Rattle.watch_lists.specs.Lists.{times_in}
 use Rattle.watch_lists.specs.declared.lists.WatchLists.{WatchLists}
 use Rattle.watch_lists.specs.declared.watcher.Watcher.{Watcher}
 
@@ -57,6 +58,12 @@ abbrev pub NamesOwn : Clause → ℕ → WatchLists → WatchLists → Type 0
 NamesOwn c slot before after =
     (l s : ℕ) (d : Clause) → (s ≡ slot → d ≡ c) →
     foreign_blockers s d (list_at after l) ≤ foreign_blockers s d (list_at before l)
+
+-- the lists have the same entries
+pub record AreUnchanged (before after : WatchLists) : Type 0 where
+  pub lists : (l : Literal) → list_at after l ≡ list_at before l
+  pub entries : entries_in after ≡ entries_in before
+  pub apart : AreApart after
 
 -- ---- Where literals are false
 

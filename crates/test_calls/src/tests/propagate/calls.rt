@@ -94,6 +94,62 @@ fn propagates(rt: HostRuntime) -> Result<(), Fail> {
     Ok(())
 }
 
+/// Takes a clause out, if it is there, where what follows with nothing assumed is known.
+fn lose<P: Propagate>(alloc: Global, clauses: &mut P, row: &[i32]) -> Result<(), Fail>
+    requires { (P.state clauses.old).assumptions ≡ [] }
+    ensures { OnOk result ((P.state clauses.new).assumptions ≡ []) }
+{
+    let _ = clauses.assume(&[])?;
+    clauses.undo();
+    let clause = literals(alloc, row)?;
+    if let Some(slot) = clauses.find(clause.as_slice()) {
+        clauses.remove(slot);
+    }
+    Ok(())
+}
+
+/// Which literals are true with nothing assumed, after two clauses were taken out.
+fn left_true<P: Fresh>(
+    alloc: Global,
+    rows: &[[i32; 2]],
+    first: &[i32],
+    second: &[i32],
+) -> Result<Option<Vec<i32>>, Fail> {
+    let mut clauses = P::fresh(alloc)?;
+    fill(alloc, &mut clauses, rows)?;
+    lose(alloc, &mut clauses, first)?;
+    lose(alloc, &mut clauses, second)?;
+    match clauses.assume(&[])? {
+        Answer::Clash => Ok(None),
+        Answer::Quiet => Ok(Some(trues(alloc, &clauses)?)),
+    }
+}
+
+/// 3 follows from 1, from 2, and from 4, which follows from it.
+const WITH_A_CYCLE: [[i32; 2]; 6] = [[1, 1], [-1, 2], [-1, 3], [-2, 3], [-3, 4], [-4, 3]];
+
+/// Two clauses that are taken out, and what is true then.
+type Loss<'a> = (&'a [i32], &'a [i32], Option<&'a [i32]>);
+
+#[test]
+fn keeps_what_has_another_reason(rt: HostRuntime) -> Result<(), Fail> {
+    let rows: [Loss<'_>; 4] = [
+        (&[-1, 3], &[5, 6], Some(&[1, 2, 3])),
+        (&[-1, 3], &[-2, 3], Some(&[1, 2])),
+        (&[-1, 2], &[-1, 3], Some(&[1])),
+        (&[-1, 3], &[1], Some(&[])),
+    ];
+    for (first, second, expected) in &rows {
+        let scanned = left_true::<Scan>(rt.alloc(), &WITH_A_CYCLE, first, second)?;
+        let scanned = scanned.as_ref().map(|all| all.as_slice());
+        expect_true(&rt, scanned == *expected);
+        let watched = left_true::<Watch>(rt.alloc(), &WITH_A_CYCLE, first, second)?;
+        let watched = watched.as_ref().map(|all| all.as_slice());
+        expect_true(&rt, watched == *expected);
+    }
+    Ok(())
+}
+
 /// How the rest of the clause `row` is answered where nothing else is assumed; none where there is
 /// no such clause.
 fn rest_answer<P: Fresh>(

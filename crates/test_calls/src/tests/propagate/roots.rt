@@ -80,11 +80,16 @@ fn loses_what_rests_on_a_removed_clause(rt: HostRuntime) -> Result<(), Fail> {
     Ok(())
 }
 
-/// What is known after the removal of a clause of a chain, and what is found again.
-fn found_again(alloc: Global, watch: &mut Watch, numbers: &[i32]) -> Result<(Known, Known), Fail>
+/// What is known after the removal of a clause, and what is found again.
+fn found_again(
+    alloc: Global,
+    watch: &mut Watch,
+    rows: &[[i32; 2]],
+    numbers: &[i32],
+) -> Result<(Known, Known), Fail>
     requires { watch.old.propagation.assumptions ≡ [] }
 {
-    fill(alloc, watch, &[[-1, 2], [-2, 3], [-3, 4], [-1, 3], [1, 1]])?;
+    fill(alloc, watch, rows)?;
     let _ = watch.assume(&[])?;
     watch.take_back();
     let lost = take_out(alloc, watch, numbers)?;
@@ -92,19 +97,35 @@ fn found_again(alloc: Global, watch: &mut Watch, numbers: &[i32]) -> Result<(Kno
     Ok((lost, known(watch)))
 }
 
-fn cut_back(alloc: Global, numbers: &[i32]) -> Result<(Known, Known), Fail> {
+fn cut_back(alloc: Global, rows: &[[i32; 2]], numbers: &[i32]) -> Result<(Known, Known), Fail> {
     let mut watch = Watch::new(alloc)?;
-    found_again(alloc, &mut watch, numbers)
+    found_again(alloc, &mut watch, rows, numbers)
 }
+
+/// 3 follows from 1, and from 2.
+const CHAIN: [[i32; 2]; 5] = [[-1, 2], [-2, 3], [-3, 4], [-1, 3], [1, 1]];
 
 #[test]
 fn cuts_back_to_the_lost_literal(rt: HostRuntime) -> Result<(), Fail> {
-    let last = cut_back(rt.alloc(), &[-3, 4])?;
+    let last = cut_back(rt.alloc(), &CHAIN, &[-3, 4])?;
     expect_equal(&rt, last, ((false, false, 3), (true, false, 3)));
-    let middle = cut_back(rt.alloc(), &[-1, 3])?;
-    expect_equal(&rt, middle, ((false, false, 0), (true, false, 4)));
-    let first = cut_back(rt.alloc(), &[-1, 2])?;
+    let first = cut_back(rt.alloc(), &CHAIN, &[-1, 2])?;
     expect_equal(&rt, first, ((false, false, 0), (true, false, 3)));
+    Ok(())
+}
+
+#[test]
+fn keeps_a_literal_by_another_reason(rt: HostRuntime) -> Result<(), Fail> {
+    let kept = cut_back(rt.alloc(), &CHAIN, &[-1, 3])?;
+    expect_equal(&rt, kept, ((true, false, 4), (true, false, 4)));
+    Ok(())
+}
+
+#[test]
+fn takes_no_reason_from_behind(rt: HostRuntime) -> Result<(), Fail> {
+    let cycle = [[1, 1], [-1, 2], [-2, 3], [-3, 2]];
+    let lost = cut_back(rt.alloc(), &cycle, &[-1, 2])?;
+    expect_equal(&rt, lost, ((false, false, 0), (true, false, 1)));
     Ok(())
 }
 
