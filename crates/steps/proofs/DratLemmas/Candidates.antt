@@ -1,21 +1,30 @@
 -- The search over the clauses that an addition is tried with.
 use Rattle.std.proofs.Common.{◌≡◌, ℕ, ◌&&◌, not, Bool, true, false, Option, Some, None, is_some}
 use Rattle.std.proofs.Common.{IsSome, List, refl, sym, ap, ◌∙◌, subst, ◌+◌, ◌<◌, eqb, eqb-true}
-use Rattle.std.proofs.Common.{get_or, length, slice_index, take, inl, inr}
+use Rattle.std.proofs.Common.{get_or, length, slice_index, take, inl, inr, ◌++◌}
 use Rattle.std.specs.List.{list_any}
 use Rattle.std.specs.FinMap as maps
+use Rattle.std.specs.FinMap.{FinMap}
+use Rattle.std.specs.Ordering.{nat_cmp}
 use Rattle.std.proofs.lemmas.Bool.{false≢true, or_cases}
 use Rattle.std.proofs.lemmas.Grind.{get_or_default_zero}
 use Rattle.std.specs.Prelude.{unwrap_or, []}
-use Rattle.cnf_base.specs.Literals.{Clause, Literal, complement, has, same_clause}
+use Rattle.cnf_base.specs.Literals.{Clause, Literal, complement, complements, has, same_clause}
+use Rattle.cnf_base.proofs.LiteralLemmas.{complement-complement}
 use Rattle.cnf_base.proofs.SetLemmas.{any_from, any_some, both_pass, same_back, same_there}
+use Rattle.cnf_base.proofs.SetLemmas.{complements_has, filter_has, has-complements, has-filter}
+use Rattle.cnf_base.proofs.SetLemmas.{has_append_cases, has_append_left, has_append_right}
 use Rattle.cnf_base.proofs.WalkLemmas.{has_more, is_in}
-use Rattle.propagation.specs.Assumptions.{HasAt, Propagation, assumed_by}
+use Rattle.clause_db.specs.Store.{IsTouchedAt}
+use Rattle.propagation.specs.Assumptions.{HasAt, MayAssume, Propagation, assumed_by}
 use Rattle.trail.specs.LiteralSet.{in_set}
-use Rattle.theory.specs.Propagation.{Live}
-use Rattle.steps.specs.Code.Candidates.{AllClash, PassesAt, SomeQuiet, is_candidate, rest_of}
+use Rattle.theory.specs.Propagation.{Live, Clash}
+use Rattle.steps.specs.Code.Candidates.{AllClash, CanTry, HasClashed, IsWithin, PassesAt, PassesIn}
+use Rattle.steps.specs.Code.Candidates.{SomeQuiet, is_candidate, is_left, rest_of}
 use Rattle.steps.specs.Code.Ready.{IsAsBefore}
+use Rattle.steps.proofs.DratLemmas.Steps.{clash_same}
 use Rattle.steps.specs.declared.drat.candidates.Candidates.{Candidates}
+use Rattle.steps.specs.declared.drat.candidates.Clashed.{Clashed}
 use Rattle.steps.specs.declared.drat.candidates.Candidates.TheVariants.{Holding, ReducedBy}
 
 pub clause_there : (o : Option Clause) → is_some o ≡ true → (c : Clause) × (o ≡ Some c)
@@ -46,7 +55,7 @@ looked_at o them seen is_one there is d at =
 -- each candidate in these slots clashes
 abbrev pub Passed : Propagation → Candidates → List ℕ → Type 0
 Passed p candidates slots =
-    (s : ℕ) → has slots s ≡ true → PassesAt (maps.get p.live) (assumed_by p.assumptions) candidates s true
+    (s : ℕ) → has slots s ≡ true → PassesIn p candidates s true
 
 -- what is asked later is said of the state before, which has the same clauses and assumptions
 passes_before : (before after : Propagation) → IsAsBefore before after → (candidates : Candidates) (slot : ℕ) (found passes : Bool) → found ≡ passes →
@@ -56,8 +65,59 @@ passes_before before after same candidates slot found passes is h =
     (subst (λ them. PassesAt (maps.get before.live) (assumed_by them) candidates slot found) same.assumptions
     (subst (λ m. PassesAt (maps.get m) (assumed_by after.assumptions) candidates slot found) same.live h))
 
+-- ---- A candidate that has all that is left of one that clashed
+
+pub none_clashed : (clauses : Propagation) (them : Candidates) (last : Clashed) → last.rest.items ≡ [] → HasClashed clauses them last
+none_clashed clauses them last none = record { left = λ l h. absurd (false≢true (ap (λ ls. has ls l) (sym none) ∙ h)); clashes = λ some. absurd (some none) }
+
+pub clashed_after : (before after : Propagation) → IsAsBefore before after → (them : Candidates) (last : Clashed) → HasClashed before them last → HasClashed after them last
+clashed_after before after same them last known = record {
+  left = known.left;
+  clashes = λ some.
+      subst (λ m. Clash (maps.get m) (assumed_by after.assumptions ++ complements last.rest.items)) (sym same.live)
+      (subst (λ assumed. Clash (maps.get before.live) (assumed_by assumed ++ complements last.rest.items)) (sym same.assumptions) (known.clashes some));
+}
+
+-- it notes the same, whatever its set was filled with
+pub clashed_with : (clauses : Propagation) (them : Candidates) (last other : Clashed) → other.rest ≡ last.rest → HasClashed clauses them last → HasClashed clauses them other
+clashed_with clauses them last other is known = record {
+  left = λ l h. known.left l (subst (λ v. has v.items l ≡ true) is h);
+  clashes = λ some.
+      subst (λ v. Clash (maps.get clauses.live) (assumed_by clauses.assumptions ++ complements v.items)) (sym is)
+      (known.clashes (λ none. some (ap (λ v. v.items) is ∙ none)));
+}
+
+-- more literals assumed false clash too
+clash_more : (live : Live) (assumed rest more : List Literal) → ((l : Literal) → has rest l ≡ true → has more l ≡ true) → Clash live (assumed ++ complements rest) → Clash live (assumed ++ complements more)
+clash_more live assumed rest more all = clash_same live (assumed ++ complements rest) (assumed ++ complements more) (λ a h. elim (has_append_cases assumed (complements rest) a h) [
+  | inl e ↦ has_append_left assumed (complements more) a e
+  | inr e ↦ has_append_right assumed (complements more) a
+      (subst (λ l. has (complements more) l ≡ true) (complement-complement a) (has-complements more (complement a) (all (complement a) (complements_has rest a e))))
+])
+
+module _ (clauses : Propagation) (them : Candidates) (slot : ℕ) (seen : Clause) (there : (c : Clause) × (maps.get clauses.live slot ≡ Some c) × (same_clause c seen ≡ true)) where
+  seen_is : (d : Clause) → maps.get clauses.live slot ≡ Some d → same_clause d seen ≡ true
+  seen_is d at = subst (λ c. same_clause c seen ≡ true) (ap (λ x. unwrap_or x []) (sym there.1 ∙ at)) there.2
+
+  pub clashes_within : (last : Clashed) → HasClashed clauses them last → IsWithin last.rest.items seen → PassesIn clauses them slot true
+  clashes_within last known within d at _ =
+      clash_more (maps.get clauses.live) (assumed_by clauses.assumptions) last.rest.items (rest_of them d)
+      (λ l h. has-filter (is_left them) d l (same_back d seen (seen_is d at) l (within.all l h)) (known.left l h)) (known.clashes within.some)
+
+  -- what is left of the clause as it was looked at
+  pub clashed_now : ((d : Clause) → maps.get clauses.live slot ≡ Some d → Clash (maps.get clauses.live) (assumed_by clauses.assumptions ++ complements (rest_of them d)))
+      → (last : Clashed) → last.rest.items ≡ rest_of them seen → HasClashed clauses them last
+  clashed_now clash last is = record {
+    left = λ l h. (filter_has (is_left them) seen l (subst (λ ls. has ls l ≡ true) is h)).1;
+    clashes = λ _.
+        clash_more (maps.get clauses.live) (assumed_by clauses.assumptions) (rest_of them there.0) last.rest.items
+        (λ l h. let w = filter_has (is_left them) there.0 l h in
+        subst (λ ls. has ls l ≡ true) (sym is) (has-filter (is_left them) seen l (same_there there.0 seen there.2 l w.0) w.1))
+        (clash there.0 there.1);
+  }
+
 module _ (live : Live) (assumed : List Literal) (candidates : Candidates) where
-  pub all_passed : (slots : List ℕ) → ((s : ℕ) (c : Clause) → live s ≡ Some c → is_candidate candidates c ≡ true → has slots s ≡ true) →
+  all_passed : (slots : List ℕ) → ((s : ℕ) (c : Clause) → live s ≡ Some c → is_candidate candidates c ≡ true → has slots s ≡ true) →
       ((s : ℕ) → has slots s ≡ true → PassesAt live assumed candidates s true) → AllClash live assumed (is_candidate candidates) (rest_of candidates)
   all_passed slots listed passed k d at test = passed k (listed k d at test) d at test
 
@@ -90,3 +150,22 @@ module _ (before after : Propagation) (same : IsAsBefore before after) (candidat
     | inl early ↦ passed s early
     | inr here ↦ subst (λ k. PassesAt (maps.get before.live) (assumed_by before.assumptions) candidates k true) (eqb-true slot s here) (passes_before before after same candidates slot found true passes answer)
   ]
+
+-- ---- The clauses that the literals touch, all of them in these slots
+
+pub touched_alive : (live : FinMap nat_cmp Clause) (lits slots items : List ℕ) → items ≡ slots → ((s : ℕ) → has slots s ≡ true → IsTouchedAt live lits s) → (s : ℕ) → has items s ≡ true → IsSome (maps.get live s)
+touched_alive live lits slots items is each s h = ap is_some (each s (subst (λ ls. has ls s ≡ true) is h)).at
+
+pub can_try : (before after : Propagation) → IsAsBefore before after → MayAssume before.assumptions → (slots : List ℕ) (i slot : ℕ) → i < length slots → slot ≡ slice_index slots i
+    → ((s : ℕ) → has slots s ≡ true → IsSome (maps.get before.live s)) → CanTry after slot
+can_try before after same room slots i slot inside is alive = record {
+  room = subst MayAssume (sym same.assumptions) room;
+  alive = subst (λ m. IsSome (maps.get m slot)) (sym same.live) (alive slot (is_in slots i inside slot (is ∙ sym (get_or_default_zero slots i slot inside))));
+}
+
+pub all_touched_passed : (p : Propagation) (them : Candidates) (lits : List Literal) → ((c : Clause) → is_candidate them c ≡ true → list_any (λ l. has c (complement l)) lits ≡ true)
+    → (slots items : List ℕ) → items ≡ slots → ((s : ℕ) → IsTouchedAt p.live lits s → has slots s ≡ true) → Passed p them items
+    → AllClash (maps.get p.live) (assumed_by p.assumptions) (is_candidate them) (rest_of them)
+all_touched_passed p them lits touched slots items is all passed =
+    all_passed (maps.get p.live) (assumed_by p.assumptions) them items
+    (λ s c at test. subst (λ ls. has ls s ≡ true) (sym is) (all s (record { clause = c; at = at; touched = touched c test }))) passed

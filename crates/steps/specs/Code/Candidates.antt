@@ -1,9 +1,9 @@
 -- The clauses that an addition in DRAT is tried with, as the code finds them.
 use Rattle.std.specs.FinMap as maps
-use Rattle.std.specs.Prelude.{◌≡◌, ℕ, Some, List, [], ◌++◌, ◌⊎◌, IsTrue, Bool, true, false, not}
-use Rattle.std.specs.Prelude.{filter, IsFalse, IsSome}
-use Rattle.cnf_base.specs.Literals.{Literal, Clause, complement, complements, has, without}
-use Rattle.propagation.specs.Assumptions.{Propagation, MayAssume}
+use Rattle.std.specs.Prelude.{◌≡◌, ◌≢◌, ℕ, Some, List, [], ◌++◌, ◌⊎◌, IsTrue, Bool, true, false}
+use Rattle.std.specs.Prelude.{◌==◌, not, filter, IsFalse, IsSome}
+use Rattle.cnf_base.specs.Literals.{Literal, Clause, complement, complements, has}
+use Rattle.propagation.specs.Assumptions.{Propagation, MayAssume, assumed_by}
 use Rattle.theory.specs.Propagation.{Live, Clash}
 use Rattle.theory.specs.Sets.{conflicts}
 use Rattle.trail.specs.LiteralSet.{in_set}
@@ -11,16 +11,21 @@ use Rattle.trail.specs.Reduced.{is_reduced}
 use Rattle.trail.specs.declared.literal_set.LiteralSet.{LiteralSet}
 use Rattle.steps.specs.declared.drat.candidates.Candidates.TheVariants.{Holding, ReducedBy}
 use Rattle.steps.specs.declared.drat.candidates.Candidates.{Candidates}
+use Rattle.steps.specs.declared.drat.candidates.Clashed.{Clashed}
 
 -- whether the clause is one of them
 abbrev pub is_candidate : Candidates → Clause → Bool
 is_candidate (Holding l) c = has c l
 is_candidate (ReducedBy witness) c = is_reduced (in_set witness.now) c
 
+-- whether a literal of one of them is assumed false
+abbrev pub is_left : Candidates → Literal → Bool
+is_left (Holding held) l = not (l == held)
+is_left (ReducedBy witness) l = not (in_set witness.now (complement l))
+
 -- what of it is assumed false
 abbrev pub rest_of : Candidates → Clause → Clause
-rest_of (Holding l) c = without c l
-rest_of (ReducedBy witness) c = filter (λ l. not (in_set witness.now (complement l))) c
+rest_of candidates c = filter (is_left candidates) c
 
 -- an addition of the clause lists no witness, or one that has a literal of the clause
 abbrev pub MeetsIfListed : Clause → List Literal → Type 0
@@ -46,6 +51,11 @@ abbrev pub Searched : Live → List Literal → (Clause → Bool) → (Clause �
 Searched live assumed test rest true = AllClash live assumed test rest
 Searched live assumed test rest false = SomeQuiet live assumed test rest
 
+abbrev pub SearchedIn : Propagation → Candidates → Bool → Type 0
+SearchedIn clauses candidates =
+    Searched (maps.get clauses.live) (assumed_by clauses.assumptions) (is_candidate candidates)
+    (rest_of candidates)
+
 -- whether the clause in the slot is no candidate, or clashes
 abbrev pub PassesAt : Live → List Literal → Candidates → ℕ → Bool → Type 0
 PassesAt live assumed candidates slot true =
@@ -55,6 +65,21 @@ PassesAt live assumed candidates slot false =
     (c : Clause) → live slot ≡ Some c →
     IsTrue (is_candidate candidates c)
     × ¬ Clash live (assumed ++ complements (rest_of candidates c))
+
+abbrev pub PassesIn : Propagation → Candidates → ℕ → Bool → Type 0
+PassesIn clauses = PassesAt (maps.get clauses.live) (assumed_by clauses.assumptions)
+
+-- what it notes is left of a candidate that clashes, or nothing
+pub record HasClashed (clauses : Propagation) (candidates : Candidates) (last : Clashed) : Type 0
+  where
+    pub left : (l : Literal) → IsTrue (has last.rest.items l) → IsTrue (is_left candidates l)
+    pub clashes : last.rest.items ≢ [] → Clash (maps.get clauses.live)
+        (assumed_by clauses.assumptions ++ complements last.rest.items)
+
+-- there are literals, and the clause has them all
+pub record IsWithin (rest : List Literal) (c : Clause) : Type 0 where
+  pub some : rest ≢ []
+  pub all : (l : Literal) → IsTrue (has rest l) → IsTrue (has c l)
 
 -- a further assumption can stand, and the slot has a clause
 pub record CanTry (clauses : Propagation) (slot : ℕ) : Type 0 where

@@ -8,7 +8,7 @@ ghost use Rattle.steps.specs.Code.Candidates.{IsListed, MeetsIfListed};
 ghost use Rattle.steps.specs.Code.Ready.{IsIdle, IsAssumed, IsAsBefore};
 ghost use Rattle.theory.specs.Answers.{UnlessOutOfMemory};
 
-use crate::drat::candidates::Candidates;
+use crate::drat::candidates::{Candidates, Clashed};
 use crate::word::word_of;
 use cnf_base::Lit;
 use propagation::{Answer, Propagate};
@@ -22,6 +22,7 @@ pub(crate) struct Examiner<P: Propagate> {
     pub(crate) clauses: P,
     /// The slots of the clauses that are touched.
     slots: Vec<u32>,
+    last: Clashed,
     /// The witness that is tried.
     witness: LiteralSet,
 }
@@ -35,6 +36,7 @@ impl<P: Propagate> Examiner<P> {
         Examiner {
             clauses,
             slots: Vec::new(alloc),
+            last: Clashed::new(alloc),
             witness: LiteralSet::new(alloc),
         }
     }
@@ -50,8 +52,9 @@ impl<P: Propagate> Examiner<P> {
         let Some(pivot) = lits.first() else {
             return Err(Refusal::NotRup);
         };
+        let first = [*pivot];
         let candidates = Candidates::Holding(pivot.neg());
-        match candidates.all_clash(&mut self.clauses, &[*pivot], &mut self.slots) {
+        match candidates.all_clash(&mut self.clauses, &first, &mut self.slots, &mut self.last) {
             Ok(true) => Ok(Accepted::Rat),
             Ok(false) => Err(Refusal::NeitherRupNorRat(*pivot)),
             Err(_) => Err(Refusal::OutOfMemory),
@@ -69,7 +72,7 @@ impl<P: Propagate> Examiner<P> {
         ensures same { IsAsBefore (P.state self.old.clauses) (P.state self.new.clauses) }
     {
         let candidates = Candidates::ReducedBy(&self.witness);
-        match candidates.all_clash(&mut self.clauses, witness, &mut self.slots) {
+        match candidates.all_clash(&mut self.clauses, witness, &mut self.slots, &mut self.last) {
             Ok(true) => Ok(Accepted::Pr),
             Ok(false) => Err(Refusal::NeitherRupNorPr),
             Err(_) => Err(Refusal::OutOfMemory),

@@ -3,17 +3,19 @@
 //! They are counted first, by the store's count of the clauses with each literal. Where there is
 //! none, none is looked for: so a definition, whose pivot is a new variable, costs what it is long.
 
-ghost use Rattle.std.specs.Prelude.{◌≡◌, ◌++◌, ℕ, Some, IsSome, IsTrue, IfOk, true};
+ghost use Rattle.std.specs.Prelude.{◌≡◌, ◌++◌, ℕ, Some, [], IsSome, IsTrue, IfOk, OnOk, true};
 ghost use Rattle.std.specs.List.{list_any};
 ghost use Rattle.std.specs.FinMap as maps;
 ghost use Rattle.cnf_base.specs.Literals.{Clause, Literal, complement, complements, has};
-ghost use Rattle.propagation.specs.Assumptions.{Assuming, HasAt, IsAnswer, MayAssume, assumed_by};
-ghost use Rattle.steps.specs.Code.Candidates.{CanTry, PassesAt, Searched, is_candidate, rest_of};
+ghost use Rattle.propagation.specs.Assumptions.{HasAt, IsAnswer, MayAssume, assumed_by};
+ghost use Rattle.steps.specs.Code.Candidates.{CanTry, HasClashed, IsWithin, PassesIn, SearchedIn};
+ghost use Rattle.steps.specs.Code.Candidates.{is_candidate, is_left, rest_of};
 ghost use Rattle.steps.specs.Code.Ready.{IsAsBefore};
 
 use clause_db::Slot;
 use cnf_base::{Lit, OutOfMemory};
 use propagation::{Answer, Propagate};
+use std::alloc::Global;
 use trail::LiteralSet;
 
 /// Which live clauses an addition is tried with.
@@ -23,6 +25,53 @@ pub(crate) enum Candidates<'a> {
     Holding(Lit),
     /// Those that the witness reduces; what it leaves of one is assumed false.
     ReducedBy(&'a LiteralSet),
+}
+
+/// What is left of the last candidate that clashed. Another one that has all of it clashes too.
+#[derive(Drop)]
+pub(crate) struct Clashed {
+    /// Nothing, where none has: no candidate is tried where nothing more has to be assumed.
+    rest: Vec<Lit>,
+    /// The literals of the candidate that is looked at.
+    looked_at: LiteralSet,
+}
+
+impl Clashed {
+    /// Of no candidate. It takes no memory.
+    pub(crate) fn new(alloc: Global) -> Self
+        ensures { result.rest.items ≡ [] }
+    {
+        Clashed {
+            rest: Vec::new(alloc),
+            looked_at: LiteralSet::new(alloc),
+        }
+    }
+
+    /// Of this candidate.
+    fn note(&mut self, candidates: &Candidates, clause: &[Lit]) -> Result<(), OutOfMemory>
+        ensures { OnOk result (self.new.rest.items ≡ rest_of candidates.now clause.now) }
+    {
+        self.rest.clear();
+        for l in clause {
+            if candidates.is_left(*l) {
+                self.rest.push(*l)?;
+            }
+        }
+        Ok(())
+    }
+
+    /// Whether some has, and the clause has all that is left of it.
+    fn is_within(&mut self, clause: &[Lit]) -> Result<bool, OutOfMemory>
+        ensures within { IfOk result (λ is_within. is_within ≡ true →
+            IsWithin self.old.rest.items clause.now) }
+        ensures same { self.new.rest ≡ self.old.rest }
+    {
+        if self.rest.is_empty() {
+            return Ok(false);
+        }
+        self.looked_at.fill(clause)?;
+        Ok(self.rest.iter().all(|l| self.looked_at.has(*l)))
+    }
 }
 
 /// Whether no clause has the complement of one of the literals.
@@ -49,16 +98,13 @@ impl Candidates<'_> {
         }
     }
 
-    /// Assumes the rest of one of them false, beside what is assumed.
-    fn assume<P: Propagate>(&self, clauses: &mut P, slot: Slot) -> Result<Answer, OutOfMemory>
-        requires { CanTry (P.state clauses.old) slot }
-        ensures { (c : Clause) → maps.get (P.state clauses.old).live slot ≡ Some c →
-            Assuming (P.state clauses.old) (P.state clauses.new)
-            (complements (rest_of self.now c)) result }
+    /// Whether the literal, if one of them has it, is left of it.
+    fn is_left(&self, l: Lit) -> bool
+        ensures { result ≡ is_left self.now l }
     {
         match *self {
-            Candidates::Holding(l) => clauses.assume_rest(slot, l),
-            Candidates::ReducedBy(witness) => clauses.assume_reduced(slot, witness),
+            Candidates::Holding(held) => l != held,
+            Candidates::ReducedBy(witness) => !witness.has(l.neg()),
         }
     }
 
@@ -71,45 +117,38 @@ impl Candidates<'_> {
             (P.state clauses.old).assumptions ++ complements (rest_of self.now c)) a) }
         ensures same { IsAsBefore (P.state clauses.old) (P.state clauses.new) }
     {
-        let answer = self.assume(clauses, slot)?;
+        let answer = match *self {
+            Candidates::Holding(l) => clauses.assume_rest(slot, l),
+            Candidates::ReducedBy(witness) => clauses.assume_reduced(slot, witness),
+        }?;
         clauses.undo();
         Ok(answer)
     }
 
     /// Whether the clause in the slot is none of them, or clashes with what is assumed.
-    fn passes<P: Propagate>(&self, clauses: &mut P, slot: Slot) -> Result<bool, OutOfMemory>
-        requires { CanTry (P.state clauses.old) slot }
-        ensures passes { IfOk result (λ passes. PassesAt (maps.get (P.state clauses.old).live)
-            (assumed_by (P.state clauses.old).assumptions) self.now slot passes) }
+    fn passes<P: Propagate>(
+        &self,
+        clauses: &mut P,
+        slot: Slot,
+        last: &mut Clashed,
+    ) -> Result<bool, OutOfMemory>
+        requires can_try { CanTry (P.state clauses.old) slot }
+        requires clashed { HasClashed (P.state clauses.old) self.now last.old }
+        ensures passes { IfOk result (PassesIn (P.state clauses.old) self.now slot) }
+        ensures clashed { OnOk result (HasClashed (P.state clauses.old) self.now last.new) }
         ensures same { IsAsBefore (P.state clauses.old) (P.state clauses.new) }
     {
-        if !self.includes(clauses.clause(slot)) {
+        let clause = clauses.clause(slot);
+        if !self.includes(clause) || last.is_within(clause)? {
             return Ok(true);
         }
         match self.answer_with(clauses, slot)? {
-            Answer::Clash => Ok(true),
+            Answer::Clash => {
+                last.note(self, clauses.clause(slot))?;
+                Ok(true)
+            }
             Answer::Quiet => Ok(false),
         }
-    }
-
-    /// Whether each of them in these slots, which have all, clashes with what is assumed.
-    fn all_pass<P: Propagate>(&self, clauses: &mut P, slots: &[u32]) -> Result<bool, OutOfMemory>
-        requires room { MayAssume (P.state clauses.old).assumptions }
-        requires alive { (s : ℕ) → IsTrue (has slots.now s) →
-            IsSome (maps.get (P.state clauses.old).live s) }
-        requires listed { (s : ℕ) (c : Clause) → maps.get (P.state clauses.old).live s ≡ Some c →
-            IsTrue (is_candidate self.now c) → IsTrue (has slots.now s) }
-        ensures searched { IfOk result (Searched (maps.get (P.state clauses.old).live)
-            (assumed_by (P.state clauses.old).assumptions) (is_candidate self.now)
-            (rest_of self.now)) }
-        ensures same { IsAsBefore (P.state clauses.old) (P.state clauses.new) }
-    {
-        for slot in slots {
-            if !self.passes(clauses, Slot::at(*slot as usize))? {
-                return Ok(false);
-            }
-        }
-        Ok(true)
     }
 
     /// Whether each of them clashes with what is assumed, where the literals touch all that can be
@@ -119,19 +158,24 @@ impl Candidates<'_> {
         clauses: &mut P,
         lits: &[Lit],
         slots: &mut Vec<u32>,
+        last: &mut Clashed,
     ) -> Result<bool, OutOfMemory>
         requires room { MayAssume (P.state clauses.old).assumptions }
         requires touched { (c : Clause) → IsTrue (is_candidate self.now c) →
             IsTrue (list_any (λ l. has c (complement l)) lits.now) }
-        ensures searched { IfOk result (Searched (maps.get (P.state clauses.old).live)
-            (assumed_by (P.state clauses.old).assumptions) (is_candidate self.now)
-            (rest_of self.now)) }
+        ensures searched { IfOk result (SearchedIn (P.state clauses.old) self.now) }
         ensures same { IsAsBefore (P.state clauses.old) (P.state clauses.new) }
     {
         if none_touched(clauses, lits) {
             return Ok(true);
         }
         clauses.touched(lits, slots)?;
-        self.all_pass(clauses, slots.as_slice())
+        last.rest.clear();
+        for slot in slots.as_slice() {
+            if !self.passes(clauses, Slot::at(*slot as usize), last)? {
+                return Ok(false);
+            }
+        }
+        Ok(true)
     }
 }

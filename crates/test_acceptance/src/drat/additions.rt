@@ -5,7 +5,7 @@ use crate::support::{
 };
 use std::test::Fail;
 
-const ROWS: [Row<'static>; 18] = [
+const ROWS: [Row<'static>; 20] = [
     E_BY_DRAT,
     Row {
         name: "e_drat, without the last line feed",
@@ -55,6 +55,22 @@ const ROWS: [Row<'static>; 18] = [
         lines: "c formula 3 variables 2 clauses\nc step 1: neither RUP nor RAT on -1",
         status: 1,
         ..DRAT
+    },
+    Row {
+        name: "the second and third candidate have more than the first",
+        formula: "p cnf 8 5\n-1 5 6 0\n-1 5 6 8 0\n8 6 5 -1 0\n5 7 0\n5 -7 0\n",
+        second: b"1 0\n",
+        lines: "c formula 8 variables 5 clauses\nc 1 add rat\nc end: no empty clause",
+        status: 1,
+        ..DRAT_TRACED
+    },
+    Row {
+        name: "the third candidate shares a literal with the first, and fails",
+        formula: "p cnf 8 5\n-1 5 6 0\n-1 5 6 8 0\n-1 6 8 0\n5 7 0\n5 -7 0\n",
+        second: b"1 0\n",
+        lines: "c formula 8 variables 5 clauses\nc step 1: neither RUP nor RAT on 1",
+        status: 1,
+        ..DRAT_TRACED
     },
     Row {
         name: "tautology_and_great_variable, a tautology",

@@ -12,7 +12,7 @@ const E_AND_ONE: &str = "p cnf 4 5\n1 2 0\n-1 2 0\n1 -2 0\n-1 -2 0\n3 4 0\n";
 const E_AND_ONE_LINES: &str =
     "c formula 4 variables 5 clauses\nc 1 add pr\nc 2 add rup\nc 3 add rup\nc steps 3 peak 12";
 
-const ROWS: [Row<'static>; 19] = [
+const ROWS: [Row<'static>; 22] = [
     Row {
         name: "a clause with PR",
         formula: G,
@@ -106,6 +106,31 @@ const ROWS: [Row<'static>; 19] = [
         formula: "p cnf 3 1\n-2 3 0\n",
         second: b"1 1 2 0\n",
         lines: "c formula 3 variables 1 clauses\nc step 1: neither RUP nor PR",
+        status: 1,
+        ..DRAT_PR
+    },
+    // What is left of the first clause that the set reduces, and of each one with more, clashes.
+    Row {
+        name: "three clauses that clash, the second and third with more than the first",
+        formula: "p cnf 8 5\n-2 5 6 0\n-3 5 6 8 0\n-4 8 6 5 0\n5 7 0\n5 -7 0\n",
+        second: b"1 1 2 3 4 0\n",
+        lines: "c formula 8 variables 5 clauses\nc 1 add pr\nc end: no empty clause",
+        status: 1,
+        ..DRAT_PR
+    },
+    Row {
+        name: "three clauses, the third with a part of the first alone, without a clash",
+        formula: "p cnf 8 5\n-2 5 6 0\n-3 5 6 8 0\n-4 6 8 0\n5 7 0\n5 -7 0\n",
+        second: b"1 1 2 3 4 0\n",
+        lines: "c formula 8 variables 5 clauses\nc step 1: neither RUP nor PR",
+        status: 1,
+        ..DRAT_PR
+    },
+    Row {
+        name: "what clashed for a step no longer does for the next",
+        formula: "p cnf 9 5\n-2 5 6 0\n-3 5 6 8 0\n5 7 9 0\n5 -7 9 0\n-9 1 0\n",
+        second: b"1 1 2 3 0\n4 4 2 3 0\n",
+        lines: "c formula 9 variables 5 clauses\nc 1 add pr\nc step 2: neither RUP nor PR",
         status: 1,
         ..DRAT_PR
     },
