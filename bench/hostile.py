@@ -107,9 +107,9 @@ def touched_last(n):
     return [(i, i + 1) for i in range(3, n + 3)] + [(-1, 2)], [clause(1, -2, 1), "d " + clause(1, -2)] * n
 
 
-@kind(DRAT, 2000, "--pr", is_linear=False)
+@kind(DRAT, 2000, "--pr")
 def wide_witness(n):
-    """One addition whose witness has n literals, each of which touches a clause. Each candidate's propagation visits all."""
+    """One addition whose witness has n literals, each of which touches a clause. To propagate one of these visits all."""
     top = n + 3
     touched = [(-i, top, top + 1) for i in range(2, n + 2)]
     return touched + [(top, top + 2), (top, -top - 2)], [clause(1, 1, *range(2, n + 2))]
