@@ -267,7 +267,19 @@ of_every_tool() {
     malformed "$1_satlib" "$2" 'line 3, column 1: bad token' "cut the end off by sed '/^%/,\$d', and name the formula '-'" \
         "$room/satlib.cnf" "$room/satlib.cnf" "$6"
     malformed "$1_percent" "$2" 'line 3, column 1: bad token' '' "$room/percent.cnf" "$room/percent.cnf" "$6"
-    malformed "$1_satlib_out_of_range" "$2" 'line 2, column 3: literal out of range' '' "$room/range.cnf" "$room/range.cnf" "$6"
+    malformed "$1_satlib_out_of_range" "$2" "line 2, column 3: literal out of range: the header's number of variables is 2" '' \
+        "$room/range.cnf" "$room/range.cnf" "$6"
+
+    # the range of a literal is told where the first 1024 bytes have the header, and only where a literal is out of it
+    printf 'c p cnf 7 1\n\n\tp  cnf 25 1\n-26 0\n' > "$room/past.cnf"
+    malformed "$1_past_a_header" "$2" "line 4, column 1: literal out of range: the header's number of variables is 25" '' \
+        "$room/past.cnf" "$room/past.cnf" "$6"
+    { printf 'c %01020d\n' 0; printf 'p cnf 25 1\n-26 0\n'; } > "$room/late.cnf"
+    malformed "$1_past_a_late_header" "$2" 'line 3, column 1: literal out of range' '' "$room/late.cnf" "$room/late.cnf" "$6"
+    { printf 'c %01014d\n' 0; printf 'p cnf 25 1\n-26 0\n'; } > "$room/cut.cnf"
+    malformed "$1_past_a_cut_header" "$2" 'line 3, column 1: literal out of range' '' "$room/cut.cnf" "$room/cut.cnf" "$6"
+    printf 'p cnf 25 1\n268435456 0\n' > "$room/large.cnf"
+    malformed "$1_past_the_greatest" "$2" 'line 2, column 1: number too large' '' "$room/large.cnf" "$room/large.cnf" "$6"
 }
 
 # of_a_proof_checker PREFIX PROGRAM PROOF: what both proof checkers do alike, with a proof of examples/e.cnf
@@ -296,7 +308,9 @@ LINES
 c formula 2:3: literal out of range
 s NOT VERIFIED
 LINES
-    told "$1_fault_before_a_missing_proof" <<< "$2: $x/literal_out_of_range.cnf: line 2, column 3: literal out of range"
+    told "$1_fault_before_a_missing_proof" <<LINES
+$2: $x/literal_out_of_range.cnf: line 2, column 3: literal out of range: the header's number of variables is 2
+LINES
 
     # a folder can be opened, and then its first read fails
     row "$1_folder_as_formula" 3 $x "$3" <<'LINES'
@@ -900,7 +914,9 @@ row model_literal_out_of_range 2 $x/literal_out_of_range.cnf $x/models.out <<'LI
 c formula 2:3: literal out of range
 s MODEL NOT VERIFIED
 LINES
-told model_literal_out_of_range <<< "model-check: $x/literal_out_of_range.cnf: line 2, column 3: literal out of range"
+told model_literal_out_of_range <<LINES
+model-check: $x/literal_out_of_range.cnf: line 2, column 3: literal out of range: the header's number of variables is 2
+LINES
 
 row missing_output 3 $x/models.cnf $x/there_is_no_such_file <<'LINES'
 c cannot read output

@@ -6,6 +6,7 @@
 ghost use Rattle.std.specs.Prelude.{◌≡◌, ◌-◌, ◌^◌, None, IfErr};
 ghost use Rattle.cnf_base.specs.Stream.{Reader};
 
+use crate::header::vars_in;
 use crate::hints::hint_of;
 use crate::input::Input;
 use crate::inputs::faulty_name;
@@ -15,7 +16,7 @@ use crate::randomness::seed;
 use crate::sampled::Sampled;
 use crate::system::System;
 use crate::terminal::is_terminal;
-use cnf_base::{Fault, FromRead, Place};
+use cnf_base::{Fault, FromRead, Place, TextFault};
 use proofs::StepEnd;
 use sat_check::{Args, InputFault, Status, Tool, binary_kind, text_kind};
 use std::alloc::Global;
@@ -38,6 +39,24 @@ impl<'a> Host<'a> {
             rt,
             program,
             progress,
+        }
+    }
+
+    // Tells what is wrong at a place of a text that begins with these bytes: of a literal out of
+    // range also the range, where the bytes have it.
+    fn tell_text_fault(&self, name: &str, kind: TextFault, place: Place, first: &[u8]) {
+        let (program, Place { line, col }) = (self.program, place);
+        let text = text_kind(kind);
+        match (kind, vars_in(first)) {
+            (TextFault::LiteralOutOfRange, Some(vars)) => {
+                let _ = eprintln!(self.rt;
+                    "{program}: {name}: line {line}, column {col}: {text}: \
+                    the header's number of variables is {vars}"
+                );
+            }
+            _ => {
+                let _ = eprintln!(self.rt; "{program}: {name}: line {line}, column {col}: {text}");
+            }
         }
     }
 }
@@ -129,18 +148,15 @@ impl<'a> System for Host<'a> {
     ) {
         let (program, name) = (self.program, faulty_name(args, fault));
         let (InputFault::Formula(malformed) | InputFault::Second(malformed)) = fault;
+        let sample = input.sample();
         match malformed {
-            Fault::Text(kind, Place { line, col }) => {
-                let kind = text_kind(kind);
-                let _ = eprintln!(self.rt; "{program}: {name}: line {line}, column {col}: {kind}");
-            }
+            Fault::Text(kind, place) => self.tell_text_fault(name, kind, place, sample.first()),
             Fault::Binary(kind, byte_no) => {
                 let kind = binary_kind(kind);
                 let _ = eprintln!(self.rt; "{program}: {name}: byte {byte_no}: {kind}");
             }
             Fault::ReadFailed | Fault::OutOfMemory => return,
         }
-        let sample = input.sample();
         if let Some(hint) = hint_of(tool, fault, sample.first(), sample.last()) {
             let text = hint.text();
             let _ = eprintln!(self.rt; "{program}: {name}: hint: {text}");

@@ -5,6 +5,7 @@
 #![tactic(auto)]
 
 mod ending;
+mod header;
 mod hint;
 mod hints;
 mod host;

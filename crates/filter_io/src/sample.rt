@@ -2,8 +2,8 @@
 //!
 //! A reader keeps them on the way, since an input that is a pipe can't be read twice.
 
-/// How many of the first bytes are kept.
-const FIRST: usize = 6;
+/// How many of the first bytes are kept: as a rule, the header of a formula is among them.
+const FIRST: usize = 1024;
 
 /// How many of the last ones.
 const LAST: usize = 5;
