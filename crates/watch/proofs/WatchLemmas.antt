@@ -1,12 +1,9 @@
 -- Watched literals.
 pub mod Shown
-pub mod Order
 pub mod Visits
 pub mod Moves
-pub mod Reasons
 pub mod PropagatesTo
 pub mod Follow
-pub mod History
 pub mod Units
 pub mod Entries
 pub mod Closed
@@ -16,5 +13,4 @@ pub mod CatchUp
 pub mod Visited
 pub mod Arrange
 pub mod Assumed
-pub mod Entered
 pub mod State

@@ -4,7 +4,7 @@ ghost use Rattle.std.specs.Prelude.{◌≡◌, ◌≢◌, ℕ, Some, IsSome};
 ghost use Rattle.std.specs.FinMap as maps;
 ghost use Rattle.cnf_base.specs.Literals.{Clause, Literal, has};
 ghost use Rattle.clause_db.specs.Store.{literals_in};
-ghost use Rattle.watch.specs.Code.Roots.{IsArranged, IsBrought};
+ghost use Rattle.root_literals.specs.Roots.{IsArranged, IsBrought};
 
 use clause_db::{Slot, Store};
 use trail::{Left, Trail};

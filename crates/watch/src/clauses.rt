@@ -5,7 +5,7 @@ ghost use Rattle.std.specs.FinMap as maps;
 ghost use Rattle.cnf_base.specs.Literals.{Clause, same_clause};
 ghost use Rattle.clause_db.specs.Store.{literals_in};
 ghost use Rattle.propagation.specs.Closure.{IsClosure};
-ghost use Rattle.watch.specs.Code.Order.{each_in_order};
+ghost use Rattle.root_literals.specs.Order.{each_in_order};
 
 use clause_db::{Slot, Store};
 use cnf_base::{Lit, OutOfMemory};

@@ -6,7 +6,7 @@ ghost use Rattle.std.specs.FinMap as maps;
 ghost use Rattle.cnf_base.specs.Literals.{Clause, has, size};
 ghost use Rattle.watch_lists.specs.Lists.{AreApart, entries_in, entries_of};
 ghost use Rattle.watch_lists.specs.Lists.{list_at, times_in};
-ghost use Rattle.watch.specs.Code.Watched.{HasEntry, IsListed, IsShortList, NamesOwn, is_short};
+ghost use Rattle.root_literals.specs.Watched.{HasEntry, IsListed, IsShortList, NamesOwn, is_short};
 
 use clause_db::{Slot, Store};
 use cnf_base::OutOfMemory;

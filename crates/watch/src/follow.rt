@@ -10,18 +10,18 @@ ghost use Rattle.std.specs.FinMap as maps;
 ghost use Rattle.cnf_base.specs.Literals.{Clause, Literal, complement, has};
 ghost use Rattle.theory.specs.Sets.{conflicts};
 ghost use Rattle.propagation.specs.Assumptions.{AssumptionsState};
-ghost use Rattle.watch.specs.Code.Order.{each_in_order};
-ghost use Rattle.watch.specs.Code.Watched.{IsMet, IsWatched};
-ghost use Rattle.watch.specs.Code.Roots.{IsFalseAt};
+ghost use Rattle.root_literals.specs.Order.{each_in_order};
+ghost use Rattle.root_literals.specs.Watched.{IsMet, IsWatched};
+ghost use Rattle.root_literals.specs.Roots.{IsFalseAt};
 ghost use Rattle.watch.specs.Code.Visits.{AreMet, CanFollow, CanVisit, Followed, IsExchangeAt};
 ghost use Rattle.watch.specs.Code.Visits.{IsInHand, IsNextSlot, Visited, entries_left};
 ghost use Rattle.tables.specs.Table.{at};
 
-use crate::roots::set_by;
 use crate::visit::{Exchange, Visit, look};
 use clause_db::{Slot, Store};
 use cnf_base::{Lit, OutOfMemory};
 use propagation::Assumptions;
+use root_literals::set_by;
 use tables::Table;
 use watch_lists::{Cursor, WatchLists, Watcher};
 

@@ -5,13 +5,13 @@ ghost use Rattle.std.specs.FinMap as maps;
 ghost use Rattle.cnf_base.specs.Literals.{Clause};
 ghost use Rattle.propagation.specs.Closure.{IsClosure};
 ghost use Rattle.theory.specs.Propagation.{IsRootReason};
-ghost use Rattle.watch.specs.Code.Order.{each_in_order};
-ghost use Rattle.watch.specs.Code.Roots.{IsKept, is_up_to_date};
+ghost use Rattle.root_literals.specs.Order.{each_in_order};
+ghost use Rattle.root_literals.specs.Roots.{IsKept, is_up_to_date};
 
-use crate::roots::Roots;
 use clause_db::{Slot, Store};
 use cnf_base::OutOfMemory;
 use propagation::{Assumptions, Closure};
+use root_literals::Roots;
 
 /// Whether the clause in the slot makes a literal of it hold for good: by the literals that are
 /// kept, which are all that follows with nothing assumed, or, where a clash is known, by the whole

@@ -4,19 +4,19 @@ ghost use Rattle.std.specs.Prelude.{◌≡◌, true, false, OnOk};
 ghost use Rattle.std.specs.FinMap as maps;
 ghost use Rattle.trail.specs.Trail.{HasRoomForAll};
 ghost use Rattle.theory.specs.Sets.{SameSet};
-ghost use Rattle.watch.specs.Code.Order.{each_in_order};
-ghost use Rattle.watch.specs.Code.Roots.{IsKept, is_cut, is_up_to_date};
-ghost use Rattle.watch.specs.Code.Watched.{IsShortList};
+ghost use Rattle.root_literals.specs.Order.{each_in_order};
+ghost use Rattle.root_literals.specs.Roots.{IsKept, is_cut, is_up_to_date};
+ghost use Rattle.root_literals.specs.Watched.{IsShortList};
 ghost use Rattle.watch.specs.Code.State.{IsWatch};
 ghost use Rattle.watch.specs.Code.Visits.{CanFollow, Followed};
 ghost use Rattle.tables.specs.Table.{at};
 
 use crate::follow::follow;
-use crate::roots::{Kept, Roots};
 use crate::units::set_units;
 use clause_db::Store;
 use cnf_base::OutOfMemory;
 use propagation::Assumptions;
+use root_literals::{Kept, Roots};
 use watch_lists::{SlotList, WatchLists};
 
 /// Keeps the literals of the clauses of one literal too, where some may be missing. It takes no

@@ -3,15 +3,15 @@
 ghost use Rattle.std.specs.Prelude.{◌≡◌, ℕ, ◌∷◌, [], Some, IsTrue, IfSome, IfNone};
 ghost use Rattle.std.specs.FinMap as maps;
 ghost use Rattle.tables.specs.Table.{at};
-ghost use Rattle.watch.specs.Code.Order.{each_in_order};
-ghost use Rattle.watch.specs.Code.Roots.{HaveUnits, IsFalseAt};
-ghost use Rattle.watch.specs.Code.Watched.{IsShortList, is_short};
+ghost use Rattle.root_literals.specs.Order.{each_in_order};
+ghost use Rattle.root_literals.specs.Roots.{HaveUnits, IsFalseAt};
+ghost use Rattle.root_literals.specs.Watched.{IsShortList, is_short};
 ghost use Rattle.watch.specs.Code.Visits.{CanSet, PropagatesTo};
 
-use crate::roots::set_by;
 use clause_db::{Slot, Store};
 use cnf_base::Lit;
 use propagation::Assumptions;
+use root_literals::set_by;
 use tables::Table;
 
 /// The literal of a clause that has one or none.

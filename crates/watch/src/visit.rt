@@ -3,7 +3,7 @@
 ghost use Rattle.std.specs.Prelude.{◌≡◌, ℕ, ◌-◌, ◌<◌, ◌≤◌, length, slice_index, IsTrue};
 ghost use Rattle.cnf_base.specs.Literals.{complement, has, size};
 ghost use Rattle.trail.specs.Trail.{HasNoVariableTwice};
-ghost use Rattle.watch.specs.Code.Watched.{watches};
+ghost use Rattle.root_literals.specs.Watched.{watches};
 ghost use Rattle.watch.specs.Code.Visits.{IsVisit};
 
 use cnf_base::Lit;

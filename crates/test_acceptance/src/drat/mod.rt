@@ -9,4 +9,4 @@ mod inputs;
 mod kept_units;
 mod listed_sets;
 mod long_inputs;
-mod root_literals;
+mod root_level;

@@ -9,7 +9,7 @@ use Rattle.std.proofs.lemmas.Grind.{get_or-set_at, get_or_default_zero}
 use Rattle.std.proofs.lemmas.List.{get_or-set_other, get_or-set_same, length-set}
 use Rattle.std.proofs.lemmas.Option.{same_Some}
 use Rattle.cnf_base.specs.Literals.{Literal, complement, Clause, has}
-use Rattle.watch.specs.Code.Roots.{IsArranged, IsBrought}
+use Rattle.root_literals.specs.Roots.{IsArranged, IsBrought}
 use Rattle.trail.specs.declared.left.Left.TheVariants.{Nothing, One, More}
 use Rattle.cnf_base.proofs.MemberLemmas.{has_place, place_of}
 use Rattle.clause_db.proofs.StoreLemmas.Sums.{get_insert}

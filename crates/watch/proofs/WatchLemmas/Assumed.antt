@@ -16,11 +16,11 @@ use Rattle.propagation.specs.Code.Scan.{AssumesOn}
 use Rattle.propagation.specs.declared.answer.Answer.{Answer}
 use Rattle.propagation.proofs.PropagationLemmas.Scan.{assuming_alike, assuming_from}
 use Rattle.watch.specs.Code.ClauseSource.{AssumingFrom, HasRoomGiven, IsThere, clause_of}
-use Rattle.watch.specs.Code.Order.{each_in_order, in_order}
+use Rattle.root_literals.specs.Order.{each_in_order, in_order}
 use Rattle.watch.specs.declared.clause_source.ClauseSource.TheVariants.{Given, Stored}
 use Rattle.watch.specs.declared.clause_source.ClauseSource.{ClauseSource}
-use Rattle.watch.proofs.WatchLemmas.Order.{alive_alike, alive_clause, has-in_order, part_alike}
-use Rattle.watch.proofs.WatchLemmas.Order.{seen_there, there_seen}
+use Rattle.root_literals.proofs.RootLemmas.Order.{alive_alike, alive_clause, has-in_order}
+use Rattle.root_literals.proofs.RootLemmas.Order.{part_alike, seen_there, there_seen}
 
 module _ (live : FinMap nat_cmp Clause) (slot : ℕ) where
   -- there is a clause, if there is one that is shown

@@ -8,15 +8,15 @@ use Rattle.std.proofs.lemmas.List.{take-take, take_more}
 use Rattle.cnf_base.specs.Literals.{Literal, complement, Clause, has}
 use Rattle.tables.specs.Table.{at}
 use Rattle.propagation.specs.Assumptions.{AssumptionsState}
-use Rattle.watch.specs.Code.History.{IsHistory, visits}
-use Rattle.watch.specs.Code.Roots.{AreReasoned, IsKept, IsKnown, has_clash}
-use Rattle.watch.specs.Code.Visits.{PropagatesTo, IsPart}
-use Rattle.watch.specs.Code.Watched.{IsMet, IsWatched}
-use Rattle.watch.specs.declared.history.History.{History}
-use Rattle.watch.specs.declared.roots.Roots.{Roots}
+use Rattle.root_literals.specs.History.{IsHistory, visits}
+use Rattle.root_literals.specs.Roots.{AreReasoned, IsKept, IsKnown, has_clash}
+use Rattle.watch.specs.Code.Visits.{PropagatesTo}
+use Rattle.root_literals.specs.Watched.{IsPart, IsMet, IsWatched}
+use Rattle.root_literals.specs.declared.history.History.{History}
+use Rattle.root_literals.specs.declared.roots.Roots.{Roots}
 use Rattle.trail.proofs.TrailLemmas.Longer.{has_begun}
-use Rattle.watch.proofs.WatchLemmas.Follow.{watched_done, watched_grown, watched_more}
-use Rattle.watch.proofs.WatchLemmas.History.{history_longer, watched_part}
+use Rattle.root_literals.proofs.RootLemmas.Watched.{watched_done, watched_grown, watched_more}
+use Rattle.root_literals.proofs.RootLemmas.History.{history_longer, watched_part}
 use Rattle.watch.proofs.WatchLemmas.Kept.{history_carried, noted_carried, visited_carried}
 
 module _ (a b : FinMap nat_cmp Clause) (x y : AssumptionsState) (r s : Literal → Option ℕ) (carried : PropagatesTo a b x y r s) where

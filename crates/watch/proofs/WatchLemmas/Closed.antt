@@ -10,11 +10,11 @@ use Rattle.cnf_base.specs.Literals.{Literal, complement, Clause, has, size}
 use Rattle.cnf_base.proofs.SetLemmas.{has_head, has_tail, has_cases}
 use Rattle.theory.specs.Propagation.{IsClosed, Clash, by_empty, by_both}
 use Rattle.theory.specs.Sets.{conflicts}
-use Rattle.watch.specs.Code.Order.{in_order, each_in_order}
-use Rattle.watch.specs.Code.Watched.{is_short, short_for, watches, IsMet, HasUnit, IsWatched}
+use Rattle.root_literals.specs.Order.{in_order, each_in_order}
+use Rattle.root_literals.specs.Watched.{is_short, short_for, watches, IsMet, HasUnit, IsWatched}
 use Rattle.theory.proofs.PropagationLemmas.Conflicts.{conflict_from}
-use Rattle.watch.proofs.WatchLemmas.Order.{has-in_order, seen_there, there_seen}
-use Rattle.watch.proofs.WatchLemmas.Units.{unit_more}
+use Rattle.root_literals.proofs.RootLemmas.Order.{has-in_order, seen_there, there_seen}
+use Rattle.root_literals.proofs.RootLemmas.Watched.{unit_more}
 use Rattle.trail.proofs.TrailLemmas.Longer.{has_begun}
 use Rattle.propagation.specs.Assumptions.{AssumptionsState}
 use Rattle.watch.specs.Code.Visits.{PropagatesTo}

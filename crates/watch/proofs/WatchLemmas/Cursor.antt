@@ -12,8 +12,8 @@ use Rattle.std.proofs.lemmas.List.Edits.{length-remove}
 use Rattle.cnf_base.specs.Literals.{Literal, Clause}
 use Rattle.watch_lists.specs.Cursor.{CursorState}
 use Rattle.watch_lists.specs.Lists.{entries_of}
-use Rattle.watch.specs.Code.Visits.{AreMet, IsPart, entries_left}
-use Rattle.watch.specs.Code.Watched.{IsMet}
+use Rattle.watch.specs.Code.Visits.{AreMet, entries_left}
+use Rattle.root_literals.specs.Watched.{IsPart, IsMet}
 use Rattle.watch_lists.specs.declared.watcher.Watcher.{Watcher}
 use Rattle.watch.proofs.WatchLemmas.Follow.{visited_further, visited_here}
 

@@ -5,7 +5,7 @@ use Rattle.std.proofs.lemmas.Bool.{true≢false, false≢true}
 use Rattle.std.proofs.lemmas.Bool.Decides.{nat_tests}
 use Rattle.cnf_base.specs.Literals.{Literal, Clause, has, size}
 use Rattle.cnf_base.proofs.SetLemmas.{has_head}
-use Rattle.watch.specs.Code.Watched.{watches, is_short}
+use Rattle.root_literals.specs.Watched.{watches, is_short}
 use Rattle.cnf_base.proofs.SizeLemmas.{distinct_parts}
 
 -- a clause of two literals or more

@@ -1,30 +1,19 @@
 -- Visits of the clauses in a list, one after the other.
 use Rattle.std.proofs.Common.{◌≡◌, ◌≢◌, ℕ, ◌+◌, ◌<◌, ◌≤◌, Bool, true, false, cond, eqb, eq-eqb}
-use Rattle.std.proofs.Common.{eqb-true, ne_eqb, ◌||◌, Option, Some, None, List, [], ◌∷◌, ◌++◌}
-use Rattle.std.proofs.Common.{length, get_or, take, drop, refl, sym, ap, ◌∙◌, subst, arith, inl}
-use Rattle.std.proofs.Common.{inr, zero, suc, slice_get}
-use Rattle.std.proofs.lemmas.Bool.{cases_eq, true≢false, false≢true}
-use Rattle.std.proofs.lemmas.List.{take_all, take-append-drop}
+use Rattle.std.proofs.Common.{eqb-true, ne_eqb, ◌||◌, Option, Some, None, List, [], ◌∷◌, length}
+use Rattle.std.proofs.Common.{get_or, take, refl, sym, ap, ◌∙◌, subst, arith, inl, inr, zero, suc}
+use Rattle.std.proofs.Common.{slice_get}
+use Rattle.std.proofs.lemmas.Bool.{cases_eq, false≢true}
+use Rattle.std.proofs.lemmas.List.{take_all}
 use Rattle.std.proofs.lemmas.List.Sums.{sum_by_more, sum_by_more_le, sum_by-cons}
 use Rattle.std.proofs.lemmas.Option.{same_Some, slice_get_cases}
-use Rattle.cnf_base.specs.Literals.{Literal, complement, Clause, has}
-use Rattle.cnf_base.proofs.LiteralLemmas.{complement-complement}
-use Rattle.cnf_base.proofs.SetLemmas.{has_append_left}
+use Rattle.cnf_base.specs.Literals.{Literal, Clause, has}
 use Rattle.theory.specs.Propagation.{Live}
 use Rattle.watch_lists.specs.Lists.{entries_of, foreign_blockers, times_in}
-use Rattle.watch.specs.Code.Visits.{IsPart}
-use Rattle.watch.specs.Code.Watched.{watches, entries_for, IsListed, IsMet, IsWatched}
+use Rattle.root_literals.specs.Watched.{IsPart, watches, entries_for, IsListed, IsMet}
 use Rattle.watch_lists.specs.declared.watcher.Watcher.{Watcher}
-use Rattle.trail.proofs.TrailLemmas.Longer.{pushed_each}
+use Rattle.root_literals.proofs.RootLemmas.Watched.{met_more, met_unwatched}
 use Rattle.watch.proofs.WatchLemmas.Moves.{entry_alive}
-
--- ---- Clauses with a true literal
-
-pub met_more : (c : Clause) (l : Literal) (first second : List Literal) → IsPart first second → IsMet c l first → IsMet c l second
-met_more c l first second part met there = let w = met there in (w.0, w.1, part w.0 w.2)
-
-pub met_unwatched : (c : Clause) (l : Literal) (trues : List Literal) → watches c l ≡ false → IsMet c l trues
-met_unwatched c l trues e there = absurd (true≢false (sym there ∙ e))
 
 -- ---- Slots in a list
 
@@ -164,20 +153,3 @@ hand_taken lists after l list is others k = by_test (eqb k l) refl
     by_test : (b : Bool) → eqb k l ≡ b → cond b list (after k) ≡ lists k
     by_test true e = is ∙ ap lists (sym (eqb-true k l e))
     by_test false e = others k ∙ ap (λ b. cond b [] (lists k)) e
-
-pub front_part : (n : ℕ) (trues : List Literal) → IsPart (take n trues) trues
-front_part n trues l h = ap (λ ls. has ls l) (sym (take-append-drop n trues)) ∙ has_append_left (take n trues) (drop n trues) l h
-
--- one more literal is propagated
-pub watched_more : (live : Live) (done trues : List Literal) (p : Literal) → IsWatched live done trues → ((s : ℕ) (c : Clause) → live s ≡ Some c → IsMet c (complement p) trues) → IsWatched live (done ++ p ∷ []) trues
-watched_more live done trues p watched partners = record {
-  each = λ s c is l h.
-      pushed_each (λ x. x ≡ complement l → IsMet c l trues) done p (λ x g e. watched.each s c is l (ap (has done) (sym e) ∙ g))
-      (λ e. subst (λ x. IsMet c x trues) (ap complement e ∙ complement-complement l) (partners s c is)) (complement l) h refl;
-}
-
-pub watched_grown : (live : Live) (done trues more : List Literal) → IsPart trues more → IsWatched live done trues → IsWatched live done more
-watched_grown live done trues more part watched = record { each = λ s c is l h. met_more c l trues more part (watched.each s c is l h) }
-
-pub watched_done : (live : Live) (done other trues : List Literal) → other ≡ done → IsWatched live done trues → IsWatched live other trues
-watched_done live done other trues same watched = subst (λ ls. IsWatched live ls trues) (sym same) watched

@@ -16,8 +16,8 @@ use Rattle.cnf_base.specs.Literals.{Literal, complement, Clause, has, size}
 use Rattle.cnf_base.proofs.SetLemmas.{has_head, has_tail}
 use Rattle.theory.specs.Propagation.{Live}
 use Rattle.watch_lists.specs.Lists.{entries_of, foreign_blockers}
-use Rattle.watch.specs.Code.Watched.{watches, is_short, entries_for, short_for, IsListed, IsMet}
-use Rattle.watch.specs.Code.Watched.{IsWatched}
+use Rattle.root_literals.specs.Watched.{watches, is_short, entries_for, short_for, IsListed, IsMet}
+use Rattle.root_literals.specs.Watched.{IsWatched}
 use Rattle.cnf_base.proofs.MemberLemmas.{has_place, has_front}
 use Rattle.watch_lists.proofs.WatchListsLemmas.Lists.{blockers_alike, blockers_pushed}
 use Rattle.watch_lists.proofs.WatchListsLemmas.Lists.{blocking_own, eqb_turned}

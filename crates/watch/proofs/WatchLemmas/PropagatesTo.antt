@@ -12,18 +12,18 @@ use Rattle.theory.specs.Propagation.{Forced, Clash}
 use Rattle.propagation.specs.Assumptions.{AssumptionsState}
 use Rattle.propagation.specs.Code.Exact.{Extends}
 use Rattle.theory.specs.Sets.{SameSet}
-use Rattle.watch.specs.Code.Order.{in_order, each_in_order}
-use Rattle.watch.specs.Code.Roots.{AreReasoned, IsFalseAt}
-use Rattle.watch.specs.Code.Visits.{PropagatesTo, IsPart}
+use Rattle.root_literals.specs.Order.{in_order, each_in_order}
+use Rattle.root_literals.specs.Roots.{AreReasoned, IsFalseAt}
+use Rattle.watch.specs.Code.Visits.{PropagatesTo}
+use Rattle.root_literals.specs.Watched.{IsPart, watches}
 use Rattle.propagation.proofs.PropagationLemmas.Exact.{extends_on, extends_made}
 use Rattle.theory.proofs.PropagationLemmas.Forced.{forced_assumed, forced_unit, forced_through}
 use Rattle.theory.proofs.PropagationLemmas.Forced.{clash_by_false}
 use Rattle.trail.proofs.TrailLemmas.Longer.{has_begun, pushed_each}
 use Rattle.watch.proofs.WatchLemmas.Moves.{entries_moved, still_watched, short_moved, watched_moved}
 use Rattle.watch.proofs.WatchLemmas.Moves.{shorts_moved}
-use Rattle.watch.specs.Code.Watched.{watches}
-use Rattle.watch.proofs.WatchLemmas.Order.{has-in_order, ordered_same, seen_there}
-use Rattle.watch.proofs.WatchLemmas.Reasons.{reasoned_more, reasoned_same}
+use Rattle.root_literals.proofs.RootLemmas.Order.{has-in_order, ordered_same, seen_there}
+use Rattle.root_literals.proofs.RootLemmas.Reasons.{reasoned_more, reasoned_same}
 use Rattle.clause_db.proofs.StoreLemmas.Swap.{has_swapped}
 
 pub extends_none : (held : AssumptionsState) → Extends held held

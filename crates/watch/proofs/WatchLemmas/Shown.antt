@@ -11,8 +11,8 @@ use Rattle.cnf_base.proofs.SetLemmas.{same_from}
 use Rattle.theory.specs.Propagation.{Live, Forced, IsRootReason}
 use Rattle.propagation.specs.Closure.{IsClosure}
 use Rattle.theory.proofs.PropagationLemmas.Covers.{Covers, forced_covers, reason_covers}
-use Rattle.watch.specs.Code.Order.{in_order, each_in_order}
-use Rattle.watch.proofs.WatchLemmas.Order.{has-in_order, seen_there, there_seen}
+use Rattle.root_literals.specs.Order.{in_order, each_in_order}
+use Rattle.root_literals.proofs.RootLemmas.Order.{has-in_order, seen_there, there_seen}
 
 module _ (live : FinMap nat_cmp Clause) where
   covers_shown : Covers (maps.get live) (maps.get (each_in_order live))

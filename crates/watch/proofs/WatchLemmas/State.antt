@@ -17,33 +17,32 @@ use Rattle.theory.specs.Sets.{SameSet}
 use Rattle.trail.specs.Trail.{HasRoomForAll}
 use Rattle.watch_lists.specs.Lists.{AreApart, entries_in, entries_of, foreign_blockers, list_at}
 use Rattle.watch_lists.specs.Lists.{times_in}
-use Rattle.watch.specs.Code.History.{IsHistory, visits}
-use Rattle.watch.specs.Code.Order.{each_in_order}
-use Rattle.watch.specs.Code.Roots.{AreForced, IsKept, IsKnown, IsStanding, has_clash}
-use Rattle.watch.specs.Code.Roots.{is_up_to_date}
+use Rattle.root_literals.specs.History.{IsHistory, visits}
+use Rattle.root_literals.specs.Order.{each_in_order}
+use Rattle.root_literals.specs.Roots.{IsKept, IsKnown, IsStanding, has_clash, is_up_to_date}
+use Rattle.propagation.specs.Code.Closure.{AreForced}
 use Rattle.watch.specs.Code.State.{IsWatch}
-use Rattle.watch.specs.Code.Visits.{PropagatesTo, IsPart}
-use Rattle.watch.specs.Code.Watched.{AreUnchanged, AreWatched, HasEntry, IsListed, IsShortList}
-use Rattle.watch.specs.Code.Watched.{IsWatched}
-use Rattle.watch.specs.Code.Watched.{NamesOwn}
-use Rattle.watch.specs.Code.Watched.{is_short, entries_for, short_for, watches}
+use Rattle.watch.specs.Code.Visits.{PropagatesTo}
+use Rattle.root_literals.specs.Watched.{IsPart, AreUnchanged, AreWatched, HasEntry, IsListed}
+use Rattle.root_literals.specs.Watched.{IsShortList, IsWatched, NamesOwn, is_short, entries_for}
+use Rattle.root_literals.specs.Watched.{short_for, watches}
 use Rattle.watch.specs.Watched.{long_clauses, short_clauses}
 use Rattle.propagation.specs.declared.answer.Answer.{Answer}
 use Rattle.propagation.specs.declared.answer.Answer.TheVariants.{Quiet}
 use Rattle.watch_lists.specs.declared.lists.WatchLists.{WatchLists}
-use Rattle.watch.specs.declared.roots.Kept.TheVariants.{Cut}
-use Rattle.watch.specs.declared.roots.Roots.{Roots}
+use Rattle.root_literals.specs.declared.roots.Kept.TheVariants.{Cut}
+use Rattle.root_literals.specs.declared.roots.Roots.{Roots}
 use Rattle.tables.specs.Table.{at}
 use Rattle.propagation.proofs.PropagationLemmas.Exact.{begins_on, longer_from}
 use Rattle.trail.proofs.TrailLemmas.Longer.{has_begun}
 use Rattle.propagation.proofs.PropagationLemmas.Scan.{held_reserved}
-use Rattle.watch.proofs.WatchLemmas.Follow.{front_part}
+use Rattle.root_literals.proofs.RootLemmas.Watched.{front_part}
 use Rattle.watch_lists.proofs.WatchListsLemmas.Lists.{blockers_none}
-use Rattle.watch.proofs.WatchLemmas.Kept.{kept_carried, kept_forced, kept_nothing, roots_alone}
-use Rattle.watch.proofs.WatchLemmas.Kept.{roots_part}
+use Rattle.watch.proofs.WatchLemmas.Kept.{kept_carried, kept_forced, roots_alone, roots_part}
+use Rattle.root_literals.proofs.RootLemmas.Kept.{kept_nothing}
 use Rattle.watch.proofs.WatchLemmas.Moves.{and_false, and_true}
-use Rattle.watch.proofs.WatchLemmas.Order.{ordered_empty, size-in_order, sum_ordered}
-use Rattle.watch.proofs.WatchLemmas.Reasons.{reasoned_same, reasoned_some}
+use Rattle.root_literals.proofs.RootLemmas.Order.{ordered_empty, size-in_order, sum_ordered}
+use Rattle.root_literals.proofs.RootLemmas.Reasons.{reasoned_same, reasoned_some}
 use Rattle.clause_db.proofs.StoreLemmas.Sums.{get_insert, get_remove, sum_insert, sum_remove}
 use Rattle.clause_db.proofs.StoreLemmas.Sums.{sum_empty}
 
@@ -162,9 +161,9 @@ watch_reserved live lists short roots before after lits_are assumptions_are star
 }
 
 -- more room for reasons
-pub watch_noted : (live : FinMap nat_cmp Clause) (lists : WatchLists) (short : List ℕ) (roots after : Roots) (held : AssumptionsState) → after ≡ record roots { reasons = after.reasons; places = after.places } →
+pub watch_noted : (live : FinMap nat_cmp Clause) (lists : WatchLists) (short : List ℕ) (roots after : Roots) (held : AssumptionsState) → after.kept ≡ roots.kept → after.history ≡ roots.history →
     ((l : Literal) → is_some (at roots.reasons l) ≡ true → at after.reasons l ≡ at roots.reasons l) → IsWatch live lists short roots held → IsWatch live lists short after held
-watch_noted live lists short roots after held as_before old watch = record {
+watch_noted live lists short roots after held kept_is history_is old watch = record {
   scan = watch.scan;
   apart = watch.apart;
   listed = watch.listed;
@@ -177,13 +176,13 @@ watch_noted live lists short roots after held as_before old watch = record {
     reasoned = let lits = roots_in held.trail.lits held.assumptions held.starts in
         let live_shown = maps.get (each_in_order live) in
         reasoned_same live_shown (at roots.reasons) lits watch.kept.reasoned (at after.reasons) (λ l h. old l (reasoned_some live_shown (at roots.reasons) lits watch.kept.reasoned l h));
-    known = subst (λ k. IsKnown live k (roots_in held.trail.lits held.assumptions held.starts)) (sym (ap (λ r. r.kept) as_before)) watch.kept.known;
-    history = subst (λ h. IsHistory (maps.get live) h (roots_in held.trail.lits held.assumptions held.starts)) (sym (ap (λ r. r.history) as_before)) watch.kept.history;
+    known = subst (λ k. IsKnown live k (roots_in held.trail.lits held.assumptions held.starts)) (sym kept_is) watch.kept.known;
+    history = subst (λ h. IsHistory (maps.get live) h (roots_in held.trail.lits held.assumptions held.starts)) (sym history_is) watch.kept.history;
     visited = λ quiet.
-        subst (λ h. IsWatched (maps.get live) (take (visits h) (roots_in held.trail.lits held.assumptions held.starts)) (roots_in held.trail.lits held.assumptions held.starts)) (sym (ap (λ r. r.history) as_before))
-        (watch.kept.visited (ap (λ r. has_clash r.kept) (sym as_before) ∙ quiet));
+        subst (λ h. IsWatched (maps.get live) (take (visits h) (roots_in held.trail.lits held.assumptions held.starts)) (roots_in held.trail.lits held.assumptions held.starts)) (sym history_is)
+        (watch.kept.visited (ap has_clash (sym kept_is) ∙ quiet));
   };
-  standing = subst (λ k. IsStanding k held.assumptions) (sym (ap (λ r. r.kept) as_before)) watch.standing;
+  standing = subst (λ k. IsStanding k held.assumptions) (sym kept_is) watch.standing;
 }
 
 pub watch_same : (live : FinMap nat_cmp Clause) (lists after : WatchLists) (short : List ℕ) (roots : Roots) (held : AssumptionsState) → AreApart after → ((l s : ℕ) → entries_of s (list_at after l) ≡ entries_of s (list_at lists l)) →

@@ -9,9 +9,9 @@ use Rattle.std.proofs.lemmas.Option.{same_Some}
 use Rattle.cnf_base.specs.Literals.{Literal, Clause, has}
 use Rattle.cnf_base.proofs.SetLemmas.{has_append_right, has_cases, has_head}
 use Rattle.theory.specs.Propagation.{Live}
-use Rattle.watch.specs.Code.Visits.{IsPart}
-use Rattle.watch.specs.Code.Watched.{is_short, short_for, IsShortList, HasUnit}
+use Rattle.root_literals.specs.Watched.{IsPart, is_short, short_for, IsShortList, HasUnit}
 use Rattle.trail.proofs.TrailLemmas.Longer.{pushed_each}
+use Rattle.root_literals.proofs.RootLemmas.Watched.{unit_more}
 use Rattle.watch.proofs.WatchLemmas.Follow.{has_times}
 
 -- ---- One clause
@@ -21,11 +21,6 @@ only_literal c l is k h = elim (has_cases l [] k (ap (λ d. has d k) (sym is) �
 
 pub no_literal : (c : Clause) → c ≡ [] → (k : Literal) → has c k ≡ true → ⊥
 no_literal c is k h = false≢true (ap (λ d. has d k) (sym is) ∙ h)
-
-pub unit_more : (c : Clause) (first second : List Literal) → IsPart first second → HasUnit c first → HasUnit c second
-unit_more [] first second part h = h
-unit_more (a ∷ []) first second part h = part a h
-unit_more (a ∷ b ∷ c) first second part h = h
 
 unit_long : (c : Clause) (trues : List Literal) → is_short c ≡ false → HasUnit c trues
 unit_long [] trues e = absurd (true≢false e)

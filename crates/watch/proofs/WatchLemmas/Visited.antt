@@ -9,7 +9,7 @@ use Rattle.cnf_base.specs.Literals.{Literal, Clause, complement, has, variable}
 use Rattle.cnf_base.proofs.LiteralLemmas.{complement-complement}
 use Rattle.cnf_base.proofs.MemberLemmas.{has_place}
 use Rattle.propagation.specs.Assumptions.{AssumptionsState}
-use Rattle.watch.specs.Code.Order.{in_order}
+use Rattle.root_literals.specs.Order.{in_order}
 use Rattle.watch.specs.Code.Visits.{CanFollow, CanSet, CanVisit, Followed, IsInHand, PropagatesTo}
 use Rattle.watch.specs.Code.Visits.{Visited}
 use Rattle.watch_lists.specs.declared.lists.WatchLists.{WatchLists}
@@ -18,7 +18,7 @@ use Rattle.trail.specs.Trail.{HasNoVariableTwice, TrailState}
 use Rattle.trail.proofs.TrailLemmas.Longer.{has_begun}
 use Rattle.trail.proofs.TrailLemmas.Values.{fits_within}
 use Rattle.watch.proofs.WatchLemmas.Kept.{noted_carried}
-use Rattle.watch.proofs.WatchLemmas.Order.{has-in_order, seen_there}
+use Rattle.root_literals.proofs.RootLemmas.Order.{has-in_order, seen_there}
 use Rattle.watch.proofs.WatchLemmas.PropagatesTo.{propagates_none, propagates_on}
 
 -- there is room for a literal of a clause, and for its reason

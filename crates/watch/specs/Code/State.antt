@@ -9,13 +9,14 @@ use Rattle.propagation.specs.Assumptions.{Propagation, AssumptionsState, roots_i
 use Rattle.propagation.specs.Code.Coding.{propagation_code}
 use Rattle.propagation.specs.Code.Scan.{IsHeld}
 use Rattle.watch_lists.specs.Lists.{AreApart, entries_in, list_at}
-use Rattle.watch.specs.Code.Order.{each_in_order}
-use Rattle.watch.specs.Code.Roots.{AreForced, IsKept, IsStanding}
-use Rattle.watch.specs.Code.Watched.{AreWatched, IsListed, IsShortList}
+use Rattle.root_literals.specs.Order.{each_in_order}
+use Rattle.root_literals.specs.Roots.{IsKept, IsStanding}
+use Rattle.propagation.specs.Code.Closure.{AreForced}
+use Rattle.root_literals.specs.Watched.{AreWatched, IsListed, IsShortList}
 use Rattle.watch.specs.State.{WatchState}
 use Rattle.watch.specs.Watched.{long_clauses, short_clauses}
 use Rattle.watch_lists.specs.declared.lists.WatchLists.{WatchLists}
-use Rattle.watch.specs.declared.roots.Roots.{Roots}
+use Rattle.root_literals.specs.declared.roots.Roots.{Roots}
 
 -- how many different variables there are
 abbrev pub variables_in : List ℕ → ℕ

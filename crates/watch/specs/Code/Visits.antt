@@ -3,8 +3,7 @@ use Rattle.std.specs.FinMap as maps
 use Rattle.std.specs.FinMap.{FinMap}
 use Rattle.std.specs.Ordering.{nat_cmp}
 use Rattle.std.specs.Prelude.{List, IsTrue, ◌≡◌, ◌≢◌, ◌<◌, ◌≤◌, ◌+◌, ◌-◌, length, slice_index, take}
-use Rattle.std.specs.Prelude.{IsFalse, ℕ, Option, Some, IsSome, [], ◌==◌}
-use Rattle.std.specs.Prelude.{if◌then◌else◌}
+use Rattle.std.specs.Prelude.{IsFalse, ℕ, Option, Some, IsSome, [], ◌==◌, if◌then◌else◌}
 use Rattle.cnf_base.specs.Literals.{Literal, has, complement, Clause, size}
 use Rattle.theory.specs.Propagation.{Forced}
 use Rattle.trail.specs.Trail.{HasRoomForAll}
@@ -12,18 +11,14 @@ use Rattle.propagation.specs.Assumptions.{AssumptionsState}
 use Rattle.propagation.specs.Code.Exact.{Extends}
 use Rattle.watch_lists.specs.Cursor.{CursorState}
 use Rattle.watch_lists.specs.Lists.{AreApart, entries_in, entries_of, has_list_at, list_at, slot_at}
-use Rattle.watch.specs.Code.Order.{each_in_order}
-use Rattle.watch.specs.Code.Roots.{AreNoted, AreReasoned}
-use Rattle.watch.specs.Code.Watched.{IsListed, IsMet, IsWatched, short_for}
+use Rattle.root_literals.specs.Order.{each_in_order}
+use Rattle.root_literals.specs.Roots.{AreNoted, AreReasoned}
+use Rattle.root_literals.specs.Watched.{IsListed, IsMet, IsPart, IsWatched, short_for}
 use Rattle.watch_lists.specs.declared.lists.WatchLists.{WatchLists}
 use Rattle.watch.specs.declared.visit.Exchange.{Exchange}
 use Rattle.watch.specs.declared.visit.Visit.TheVariants.{Stays, Moves, Unit, Clash}
 use Rattle.watch.specs.declared.visit.Visit.{Visit}
 use Rattle.watch_lists.specs.declared.watcher.Watcher.{Watcher}
-
--- all its literals are in the other list
-abbrev pub IsPart : List Literal → List Literal → Type 0
-IsPart part whole = (l : Literal) → IsTrue (has part l) → IsTrue (has whole l)
 
 -- the clause can watch the literal `next` in place of `l`
 pub record IsExchange (c : Clause) (l : Literal) (x : Exchange) : Type 0 where

@@ -1,10 +1,10 @@
 use Rattle.std.proofs.Common.{◌<◌, length, get_or, sym, ap, ◌∙◌, subst}
 use Rattle.std.proofs.lemmas.Grind.{get_or_default_zero}
 use Rattle.std.proofs.lemmas.Option.{same_Some}
-use Rattle.watch.specs.Code.Roots.{IsBrought}
+use Rattle.root_literals.specs.Roots.{IsBrought}
 use Rattle.watch.proofs.WatchLemmas.Arrange.{arranged_more, arranged_nothing, arranged_one}
 use Rattle.watch.proofs.WatchLemmas.Arrange.{one_inside}
-use Rattle.watch.proofs.WatchLemmas.Order.{alive_clause}
+use Rattle.root_literals.proofs.RootLemmas.Order.{alive_clause}
 use Rattle.watch.proofs.arrange.arrange.Goals as goal
 
 pub returns-then-not-bring-clause-arranged : goal.returns-then-not-bring-clause-arranged

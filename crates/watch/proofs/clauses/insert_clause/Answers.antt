@@ -2,8 +2,8 @@ use Rattle.std.proofs.Common.{is_some, sym, ap, ◌∙◌, subst}
 use Rattle.std.specs.FinMap as maps
 use Rattle.clause_db.specs.Store.{literals_in}
 use Rattle.propagation.specs.Closure.{IsClosure}
-use Rattle.watch.specs.Code.Order.{each_in_order}
-use Rattle.watch.proofs.WatchLemmas.Order.{removed_back}
+use Rattle.root_literals.specs.Order.{each_in_order}
+use Rattle.root_literals.proofs.RootLemmas.Order.{removed_back}
 use Rattle.watch.proofs.WatchLemmas.Shown.{closure_held, closure_shown}
 use Rattle.watch.proofs.clauses.insert_clause.Goals as goal
 

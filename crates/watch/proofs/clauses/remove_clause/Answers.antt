@@ -1,7 +1,7 @@
 use Rattle.std.proofs.Common.{sym, subst}
 use Rattle.std.specs.FinMap as maps
 use Rattle.propagation.specs.Closure.{IsClosure}
-use Rattle.watch.specs.Code.Order.{each_in_order}
+use Rattle.root_literals.specs.Order.{each_in_order}
 use Rattle.watch.proofs.WatchLemmas.Shown.{closure_held, closure_shown}
 use Rattle.watch.proofs.clauses.remove_clause.Goals as goal
 

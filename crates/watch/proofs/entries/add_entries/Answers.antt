@@ -2,7 +2,7 @@ use Rattle.std.proofs.lemmas.Grind.{common_steps}
 use Rattle.std.proofs.Common.{rules, ◌≡◌, ℕ, ◌+◌, ◌&&◌, cond, eqb, sym, ap, ◌∙◌, subst, arith}
 use Rattle.std.proofs.lemmas.Option.{same_Some}
 use Rattle.watch_lists.specs.Lists.{entries_of, list_at}
-use Rattle.watch.specs.Code.Watched.{watches}
+use Rattle.root_literals.specs.Watched.{watches}
 use Rattle.watch.proofs.WatchLemmas.Entries.{two_apart, two_watched, one_each}
 use Rattle.watch_lists.proofs.WatchListsLemmas.Results.{on_ok_map}
 use Rattle.watch.proofs.entries.add_entries.Goals as goal

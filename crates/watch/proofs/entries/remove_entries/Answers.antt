@@ -2,7 +2,7 @@ use Rattle.std.proofs.Common.{ℕ, cond, eqb, eq-eqb, refl, sym, ap, ◌∙◌, 
 use Rattle.std.proofs.lemmas.Bool.{or_right}
 use Rattle.cnf_base.specs.Literals.{has}
 use Rattle.watch_lists.specs.Lists.{entries_of, list_at}
-use Rattle.watch.specs.Code.Watched.{entries_for, short_for}
+use Rattle.root_literals.specs.Watched.{entries_for, short_for}
 use Rattle.watch.proofs.WatchLemmas.Entries.{two_apart, two_watched, short_is}
 use Rattle.watch.proofs.WatchLemmas.Follow.{has_times}
 use Rattle.watch.proofs.entries.remove_entries.Goals as goal

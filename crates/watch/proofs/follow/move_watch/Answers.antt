@@ -6,7 +6,7 @@ use Rattle.std.proofs.lemmas.List.Edits.{length-remove, length-swap}
 use Rattle.clause_db.proofs.StoreLemmas.Swap.{has_swapped}
 use Rattle.watch_lists.specs.Lists.{list_at}
 use Rattle.watch.specs.Code.Visits.{IsInHand, PropagatesTo, with_list}
-use Rattle.watch.specs.Code.Watched.{IsListed}
+use Rattle.root_literals.specs.Watched.{IsListed}
 use Rattle.watch_lists.specs.declared.watcher.Watcher.{Watcher}
 use Rattle.watch.proofs.WatchLemmas.Cursor.{same_cursor}
 use Rattle.watch.proofs.WatchLemmas.Follow.{listed_alike}

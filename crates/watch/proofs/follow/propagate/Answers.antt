@@ -4,10 +4,10 @@ use Rattle.cnf_base.specs.Literals.{Clause, complement}
 use Rattle.tables.specs.Table.{at}
 use Rattle.theory.specs.Sets.{conflicts}
 use Rattle.trail.proofs.TrailLemmas.MakesFalse.{no_conflict}
-use Rattle.watch.specs.Code.Watched.{IsMet}
+use Rattle.root_literals.specs.Watched.{IsMet}
 use Rattle.watch.proofs.WatchLemmas.CatchUp.{visited_more}
-use Rattle.watch.proofs.WatchLemmas.Visited.{can_follow_on, false_at, fits_on}
-use Rattle.watch.proofs.WatchLemmas.Visited.{followed_none, followed_on, read_at}
+use Rattle.watch.proofs.WatchLemmas.Visited.{can_follow_on, false_at, fits_on, followed_none}
+use Rattle.watch.proofs.WatchLemmas.Visited.{followed_on, read_at}
 use Rattle.watch.proofs.follow.propagate.Goals as goal
 
 pub follow-requires-clause-is_false : goal.follow-requires-clause-is_false

@@ -1,7 +1,7 @@
 use Rattle.std.proofs.Common.{◌-◌, ◌≤◌, length, take}
 use Rattle.std.specs.FinMap as maps
 use Rattle.tables.specs.Table.{at}
-use Rattle.watch.specs.Code.Watched.{IsWatched}
+use Rattle.root_literals.specs.Watched.{IsWatched}
 use Rattle.watch.specs.Code.Visits.{Followed}
 use Rattle.watch.proofs.follow.propagate.Given as goal
 

@@ -6,7 +6,7 @@ use Rattle.cnf_base.specs.Literals.{Clause, has}
 use Rattle.tables.specs.Table.{at}
 use Rattle.watch_lists.specs.Lists.{entries_of, list_at}
 use Rattle.watch.specs.Code.Visits.{AreMet}
-use Rattle.watch.specs.Code.Watched.{IsMet}
+use Rattle.root_literals.specs.Watched.{IsMet}
 use Rattle.watch.proofs.WatchLemmas.Follow.{all_met, met_passed, none_before}
 use Rattle.watch.proofs.WatchLemmas.Visited.{can_visit_on, visited_none, visited_on, visited_with}
 use Rattle.watch_lists.proofs.WatchListsLemmas.Lists.{entry_past}

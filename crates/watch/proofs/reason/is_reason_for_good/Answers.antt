@@ -6,10 +6,9 @@ use Rattle.theory.specs.Propagation.{IsRootReason}
 use Rattle.trail.specs.Left.{is_one_at_most}
 use Rattle.trail.specs.Trail.{HasNoVariableTwice}
 use Rattle.propagation.proofs.PropagationLemmas.Closing.{no_reason_left, reason_left}
-use Rattle.watch.specs.Code.Roots.{IsKept}
+use Rattle.root_literals.specs.Roots.{IsKept}
 use Rattle.watch.proofs.WatchLemmas.Kept.{all_forced, kept_forced, roots_alone}
-use Rattle.watch.proofs.WatchLemmas.Shown.{closure_held, closure_shown, forced_held}
-use Rattle.watch.proofs.WatchLemmas.Shown.{forced_shown}
+use Rattle.watch.proofs.WatchLemmas.Shown.{closure_held, closure_shown, forced_held, forced_shown}
 use Rattle.watch.proofs.reason.is_reason_for_good.Goals as goal
 
 pub is_root_reason-requires-clause-closure : goal.is_root_reason-requires-clause-closure

@@ -5,15 +5,15 @@ use Rattle.std.proofs.lemmas.Bool.{true≢false}
 use Rattle.std.proofs.lemmas.List.{length-append, take_all}
 use Rattle.cnf_base.specs.Literals.{Clause, complement}
 use Rattle.tables.specs.Table.{at}
-use Rattle.watch.specs.Code.History.{IsHistory, visits}
-use Rattle.watch.specs.Code.Order.{each_in_order}
-use Rattle.watch.specs.Code.Roots.{IsFalseAt, IsKnown, has_clash}
-use Rattle.watch.specs.Code.Watched.{IsMet, IsWatched}
+use Rattle.root_literals.specs.History.{IsHistory, visits}
+use Rattle.root_literals.specs.Order.{each_in_order}
+use Rattle.root_literals.specs.Roots.{IsFalseAt, IsKnown, has_clash}
+use Rattle.root_literals.specs.Watched.{IsMet, IsWatched}
 use Rattle.watch.proofs.WatchLemmas.CatchUp.{history_grown, kept_grown, visited_more}
 use Rattle.watch.proofs.WatchLemmas.Closed.{units_kept}
-use Rattle.watch.proofs.WatchLemmas.History.{history_begun}
-use Rattle.watch.proofs.WatchLemmas.Visited.{can_follow_on, false_at, fits_on}
-use Rattle.watch.proofs.WatchLemmas.Visited.{followed_none, followed_on, read_at}
+use Rattle.root_literals.proofs.RootLemmas.History.{history_begun}
+use Rattle.watch.proofs.WatchLemmas.Visited.{can_follow_on, false_at, fits_on, followed_none}
+use Rattle.watch.proofs.WatchLemmas.Visited.{followed_on, read_at}
 use Rattle.watch.proofs.refresh.catch_up.Goals as goal
 use Rattle.watch.proofs.refresh.catch_up.Goals.{In_ok-slot}
 

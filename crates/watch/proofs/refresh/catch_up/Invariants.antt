@@ -1,9 +1,9 @@
 use Rattle.std.proofs.Common.{◌≡◌, ◌-◌, length, take}
 use Rattle.std.specs.FinMap as maps
 use Rattle.tables.specs.Table.{at}
-use Rattle.watch.specs.Code.History.{IsHistory, visits}
+use Rattle.root_literals.specs.History.{IsHistory, visits}
 use Rattle.watch.specs.Code.Visits.{Followed}
-use Rattle.watch.specs.Code.Watched.{IsWatched}
+use Rattle.root_literals.specs.Watched.{IsWatched}
 use Rattle.watch.proofs.refresh.catch_up.Given as goal
 
 abbrev pub invariant-loop-done : goal.invariant-loop-done

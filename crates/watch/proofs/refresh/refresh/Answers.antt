@@ -1,11 +1,12 @@
 use Rattle.std.proofs.Common.{◌≡◌, ◌/◌, length, take, sym, ap, ◌∙◌, subst, arith}
 use Rattle.std.specs.FinMap as maps
 use Rattle.tables.specs.Table.{at}
-use Rattle.watch.specs.Code.History.{IsRewound}
-use Rattle.watch.specs.Code.Order.{each_in_order}
-use Rattle.watch.specs.Code.Roots.{AreNoted}
-use Rattle.watch.proofs.WatchLemmas.History.{rewound_none}
-use Rattle.watch.proofs.WatchLemmas.Kept.{kept_nothing, noted_carried, nothing_stands}
+use Rattle.root_literals.specs.History.{IsRewound}
+use Rattle.root_literals.specs.Order.{each_in_order}
+use Rattle.root_literals.specs.Roots.{AreNoted}
+use Rattle.root_literals.proofs.RootLemmas.History.{rewound_none}
+use Rattle.root_literals.proofs.RootLemmas.Kept.{kept_nothing}
+use Rattle.watch.proofs.WatchLemmas.Kept.{noted_carried, nothing_stands}
 use Rattle.watch.proofs.WatchLemmas.State.{watch_refreshed}
 use Rattle.watch.proofs.refresh.refresh.Goals as goal
 

@@ -1,7 +1,7 @@
 use Rattle.std.proofs.Common.{IfSome, IfNone, refl, ap, subst}
 use Rattle.std.specs.FinMap as maps
-use Rattle.watch.specs.Code.Order.{each_in_order}
-use Rattle.watch.specs.Code.Roots.{HaveUnits, IsFalseAt, has_clash}
+use Rattle.root_literals.specs.Order.{each_in_order}
+use Rattle.root_literals.specs.Roots.{HaveUnits, IsFalseAt, has_clash}
 use Rattle.watch.proofs.WatchLemmas.CatchUp.{kept_started}
 use Rattle.watch.proofs.refresh.start.Goals as goal
 

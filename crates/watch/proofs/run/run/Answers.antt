@@ -4,9 +4,9 @@ use Rattle.tables.specs.Table.{at}
 use Rattle.theory.specs.Propagation.{Clash, IsClosed}
 use Rattle.cnf_base.specs.Literals.{has}
 use Rattle.theory.specs.Sets.{conflicts}
-use Rattle.watch.specs.Code.Order.{each_in_order}
-use Rattle.watch.specs.Code.Roots.{IsFalseAt}
-use Rattle.watch.specs.Code.Watched.{IsWatched}
+use Rattle.root_literals.specs.Order.{each_in_order}
+use Rattle.root_literals.specs.Roots.{IsFalseAt}
+use Rattle.root_literals.specs.Watched.{IsWatched}
 use Rattle.trail.proofs.TrailLemmas.Longer.{has_begun}
 use Rattle.watch.proofs.WatchLemmas.PropagatesTo.{clash_from}
 use Rattle.watch.proofs.WatchLemmas.Closed.{all_closed, all_quiet, units_kept}

@@ -2,7 +2,7 @@ use Rattle.std.proofs.Common.{◌≡◌, ℕ, true, Some, take}
 use Rattle.std.specs.FinMap as maps
 use Rattle.tables.specs.Table.{at}
 use Rattle.cnf_base.specs.Literals.{Clause, has}
-use Rattle.watch.specs.Code.Watched.{HasUnit}
+use Rattle.root_literals.specs.Watched.{HasUnit}
 use Rattle.watch.specs.Code.Visits.{PropagatesTo}
 use Rattle.watch.proofs.units.set_units.Given as goal
 

@@ -6,8 +6,8 @@ use Rattle.cnf_base.specs.Literals.{complements, has}
 use Rattle.propagation.specs.Assumptions.{assumed_by, roots_in}
 use Rattle.propagation.specs.Code.Exact.{IsExact}
 use Rattle.theory.specs.Sets.{SameSet}
-use Rattle.watch.specs.Code.Order.{each_in_order}
-use Rattle.watch.specs.Code.Roots.{AreForced}
+use Rattle.root_literals.specs.Order.{each_in_order}
+use Rattle.propagation.specs.Code.Closure.{AreForced}
 use Rattle.watch.specs.Code.ClauseSource.{clause_of}
 use Rattle.propagation.proofs.PropagationLemmas.Scan.{assumed_none, part_clashes, part_answer}
 use Rattle.propagation.proofs.PropagationLemmas.Scan.{part_exact, scan_after}

@@ -4,7 +4,7 @@ use Rattle.propagation.specs.Closure.{IsClosure}
 use Rattle.propagation.proofs.PropagationLemmas.Reduced.{unless_refused}
 use Rattle.watch.proofs.WatchLemmas.Assumed.{assuming_source, refused_source, source_room}
 use Rattle.watch.proofs.WatchLemmas.Assumed.{source_there}
-use Rattle.watch.proofs.WatchLemmas.Order.{literals_ordered}
+use Rattle.root_literals.proofs.RootLemmas.Order.{literals_ordered}
 use Rattle.watch.proofs.watch.Watch.assume_source.Goals as goal
 
 pub assume_part-assumed-requires-clause-alive : goal.assume_part-assumed-requires-clause-alive

@@ -1,7 +1,7 @@
 use Rattle.std.proofs.Common.{sym, ◌∙◌, subst}
 use Rattle.std.specs.FinMap as maps
 use Rattle.propagation.specs.Closure.{IsClosure}
-use Rattle.watch.proofs.WatchLemmas.Order.{literals_ordered}
+use Rattle.root_literals.proofs.RootLemmas.Order.{literals_ordered}
 use Rattle.watch.proofs.watch.Watch.prepare.Goals as goal
 
 pub invariant_of-self : goal.invariant_of-self

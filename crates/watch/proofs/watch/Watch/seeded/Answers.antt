@@ -1,9 +1,9 @@
 use Rattle.std.proofs.Common.{ap, sym, ◌∙◌, subst}
 use Rattle.std.specs.FinMap as maps
 use Rattle.propagation.specs.Closure.{IsClosure}
-use Rattle.watch.specs.Code.Order.{each_in_order}
+use Rattle.root_literals.specs.Order.{each_in_order}
 use Rattle.propagation.proofs.PropagationLemmas.Scan.{none_alone}
-use Rattle.watch.proofs.WatchLemmas.Order.{literals_ordered, ordered_empty}
+use Rattle.root_literals.proofs.RootLemmas.Order.{literals_ordered, ordered_empty}
 use Rattle.watch.proofs.WatchLemmas.State.{watch_empty}
 use Rattle.watch.proofs.watch.Watch.seeded.Goals as goal
 

@@ -1,7 +1,7 @@
 use Rattle.std.proofs.Common.{is_some, sym, ap, ◌∙◌}
 use Rattle.std.specs.FinMap as maps
-use Rattle.watch.specs.Code.Order.{in_order}
-use Rattle.watch.proofs.WatchLemmas.Order.{alive_alike, same-in_order, seen_there}
+use Rattle.root_literals.specs.Order.{in_order}
+use Rattle.root_literals.proofs.RootLemmas.Order.{alive_alike, same-in_order, seen_there}
 use Rattle.watch.proofs.watch.WatchPropagate.clause.Goals as goal
 
 pub clause-requires : goal.clause-requires

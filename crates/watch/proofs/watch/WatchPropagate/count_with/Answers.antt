@@ -1,7 +1,7 @@
 use Rattle.std.proofs.Common.{sym, ap, ◌∙◌}
 use Rattle.clause_db.specs.Store.{copies_with}
 use Rattle.propagation.proofs.PropagationLemmas.Counts.{none_with, some_with}
-use Rattle.watch.proofs.WatchLemmas.Order.{copies_ordered}
+use Rattle.root_literals.proofs.RootLemmas.Order.{copies_ordered}
 use Rattle.watch.proofs.watch.WatchPropagate.count_with.Goals as goal
 
 pub returns-clause-value : goal.returns-clause-value

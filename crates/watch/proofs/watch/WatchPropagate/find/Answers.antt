@@ -1,8 +1,8 @@
 use Rattle.std.proofs.Common.{sym, ap, ◌∙◌}
 use Rattle.std.specs.FinMap as maps
 use Rattle.cnf_base.proofs.SetLemmas.{same_from, same_trans}
-use Rattle.watch.specs.Code.Order.{in_order}
-use Rattle.watch.proofs.WatchLemmas.Order.{same-in_order, seen_there, there_seen}
+use Rattle.root_literals.specs.Order.{in_order}
+use Rattle.root_literals.proofs.RootLemmas.Order.{same-in_order, seen_there, there_seen}
 use Rattle.clause_db.proofs.StoreLemmas.Options.{if_none_then, if_some_then}
 use Rattle.watch.proofs.watch.WatchPropagate.find.Goals as goal
 

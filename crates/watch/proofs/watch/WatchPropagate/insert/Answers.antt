@@ -4,18 +4,18 @@ use Rattle.std.specs.FinMap as maps
 use Rattle.std.proofs.lemmas.Bool.{false_from_ne_true}
 use Rattle.cnf_base.specs.Literals.{Clause, has}
 use Rattle.cnf_base.proofs.SetLemmas.{same_from, same_there, same_trans}
-use Rattle.watch.specs.Code.Order.{each_in_order, in_order}
-use Rattle.watch.specs.Code.Roots.{IsArranged, IsKept}
+use Rattle.root_literals.specs.Order.{each_in_order, in_order}
+use Rattle.root_literals.specs.Roots.{IsArranged, IsKept}
 use Rattle.watch.specs.Code.State.{IsWatch}
 use Rattle.std.proofs.lemmas.Option.{none-some, same_Some}
-use Rattle.watch.specs.Code.Watched.{short_for}
+use Rattle.root_literals.specs.Watched.{short_for}
 use Rattle.clause_db.specs.Store.{literals_in}
 use Rattle.propagation.proofs.PropagationLemmas.Scan.{room_added}
 use Rattle.propagation.specs.Closure.{IsClosure}
 use Rattle.watch.proofs.WatchLemmas.Follow.{times_has}
-use Rattle.watch.proofs.WatchLemmas.Order.{get_ordered, inserted_is, literals_ordered}
-use Rattle.watch.proofs.WatchLemmas.Order.{ordered_alike}
-use Rattle.watch.proofs.WatchLemmas.Order.{removed_back, same-in_order, seen_there}
+use Rattle.root_literals.proofs.RootLemmas.Order.{get_ordered, inserted_is, literals_ordered}
+use Rattle.root_literals.proofs.RootLemmas.Order.{ordered_alike, removed_back, same-in_order}
+use Rattle.root_literals.proofs.RootLemmas.Order.{seen_there}
 use Rattle.watch.proofs.WatchLemmas.State.{alone_kept, same_state, watch_added, watch_noted}
 use Rattle.watch.proofs.WatchLemmas.State.{watch_reserved, watch_same}
 use Rattle.watch.proofs.watch.WatchPropagate.insert.Goals as goal
@@ -41,7 +41,7 @@ enter-requires-clause-kept c =
     let i = c.self.inside in
     let live = i.store.live in
     let r = c.reserve.ensures in
-    let watch = watch_noted live i.lists i.short i.roots c.reserve-2.new.self c.reserve.new.self c.reserve-2.ensures.kept c.reserve-2.ensures.old (watch_reserved live i.lists i.short i.roots i.assumptions c.reserve.new.self r.lits r.assumptions r.starts r.reserved c.self.invariant.0) in
+    let watch = watch_noted live i.lists i.short i.roots c.reserve-2.new.self c.reserve.new.self c.reserve-2.ensures.kept c.reserve-2.ensures.history c.reserve-2.ensures.old (watch_reserved live i.lists i.short i.roots i.assumptions c.reserve.new.self r.lits r.assumptions r.starts r.reserved c.self.invariant.0) in
     subst (λ m. IsKept m c.reserve-2.new.self c.reserve.new.self.trail.lits)
     (sym (removed_back live c.arrange-left.new.store.live c.in_ok-slot.slot c.in_ok-slot.ensures.free (λ s ne. c.arrange-left.ensures.others s ne ∙ c.in_ok-slot.ensures.others s ne)))
     (alone_kept live i.lists i.short c.reserve-2.new.self c.reserve.new.self watch (r.assumptions ∙ ap (λ w. w.propagation.assumptions) c.self.view_is ∙ c.requires))
@@ -73,7 +73,7 @@ invariant_of-self-in-Ok c =
     let held = c.reserve.new.self in
     let now = c.enter.new.assumptions in
     let r = c.reserve.ensures in
-    let watch = watch_noted live i.lists i.short i.roots c.reserve-2.new.self held c.reserve-2.ensures.kept c.reserve-2.ensures.old (watch_reserved live i.lists i.short i.roots i.assumptions held r.lits r.assumptions r.starts r.reserved c.self.invariant.0) in
+    let watch = watch_noted live i.lists i.short i.roots c.reserve-2.new.self held c.reserve-2.ensures.kept c.reserve-2.ensures.history c.reserve-2.ensures.old (watch_reserved live i.lists i.short i.roots i.assumptions held r.lits r.assumptions r.starts r.reserved c.self.invariant.0) in
     let d = c.in_ok-slot.ensures.stored in
     let w = c.arrange-left.ensures.arranged d.0 d.1 in
     let e = c.in-Ok.ensures in
@@ -102,7 +102,7 @@ invariant_of-self-in-Err c =
     let held = c.reserve.new.self in
     let roots = c.reserve-2.new.self in
     let r = c.reserve.ensures in
-    let watch = watch_noted live i.lists i.short i.roots roots held c.reserve-2.ensures.kept c.reserve-2.ensures.old (watch_reserved live i.lists i.short i.roots i.assumptions held r.lits r.assumptions r.starts r.reserved c.self.invariant.0) in
+    let watch = watch_noted live i.lists i.short i.roots roots held c.reserve-2.ensures.kept c.reserve-2.ensures.history c.reserve-2.ensures.old (watch_reserved live i.lists i.short i.roots i.assumptions held r.lits r.assumptions r.starts r.reserved c.self.invariant.0) in
     let d = c.in_ok-slot.ensures.stored in
     let w = c.arrange-left.ensures.arranged d.0 d.1 in
     let e = c.in-Err.ensures in
@@ -150,7 +150,7 @@ pub invariant_of-self-in_err-reserve-2 : goal.invariant_of-self-in_err-reserve-2
 invariant_of-self-in_err-reserve-2 c =
     let i = c.self.inside in
     let r = c.reserve.ensures in (
-      watch_noted i.store.live i.lists i.short i.roots c.reserve-2.new.self c.reserve.new.self c.reserve-2.ensures.kept c.reserve-2.ensures.old
+      watch_noted i.store.live i.lists i.short i.roots c.reserve-2.new.self c.reserve.new.self c.reserve-2.ensures.kept c.reserve-2.ensures.history c.reserve-2.ensures.old
           (watch_reserved i.store.live i.lists i.short i.roots i.assumptions c.reserve.new.self r.lits r.assumptions r.starts r.reserved c.self.invariant.0),
       c.self.invariant.1,
       c.self.invariant.2,
@@ -160,7 +160,7 @@ pub invariant_of-self-in_err-slot : goal.invariant_of-self-in_err-slot
 invariant_of-self-in_err-slot c =
     let i = c.self.inside in
     let r = c.reserve.ensures in
-    let watch = watch_noted i.store.live i.lists i.short i.roots c.reserve-2.new.self c.reserve.new.self c.reserve-2.ensures.kept c.reserve-2.ensures.old
+    let watch = watch_noted i.store.live i.lists i.short i.roots c.reserve-2.new.self c.reserve.new.self c.reserve-2.ensures.kept c.reserve-2.ensures.history c.reserve-2.ensures.old
     (watch_reserved i.store.live i.lists i.short i.roots i.assumptions c.reserve.new.self r.lits r.assumptions r.starts r.reserved c.self.invariant.0) in
     let same = sym c.in_err-slot.ensures.err in (
       subst (λ s. IsWatch s.live i.lists i.short c.reserve-2.new.self c.reserve.new.self) same watch,

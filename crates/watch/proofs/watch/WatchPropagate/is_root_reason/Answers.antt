@@ -1,7 +1,7 @@
 use Rattle.std.proofs.Common.{true, false, is_some, sym, ap, ◌∙◌}
 use Rattle.std.specs.FinMap as maps
 use Rattle.theory.specs.Propagation.{IsRootReason}
-use Rattle.watch.proofs.WatchLemmas.Order.{alive_alike}
+use Rattle.root_literals.proofs.RootLemmas.Order.{alive_alike}
 use Rattle.watch.proofs.WatchLemmas.Shown.{answer_shown, none_shown, reason_shown}
 use Rattle.watch.proofs.watch.WatchPropagate.is_root_reason.Goals as goal
 

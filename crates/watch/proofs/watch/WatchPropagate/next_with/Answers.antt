@@ -1,7 +1,7 @@
 use Rattle.std.proofs.Common.{is_some, sym, ap, subst, ◌∙◌}
 use Rattle.std.specs.FinMap as maps
 use Rattle.propagation.specs.Assumptions.{HasAt}
-use Rattle.watch.proofs.WatchLemmas.Order.{alive_alike, has_at_seen, seen_has_at}
+use Rattle.root_literals.proofs.RootLemmas.Order.{alive_alike, has_at_seen, seen_has_at}
 use Rattle.clause_db.proofs.StoreLemmas.Options.{if_none_then, if_some_then}
 use Rattle.watch.proofs.watch.WatchPropagate.next_with.Goals as goal
 

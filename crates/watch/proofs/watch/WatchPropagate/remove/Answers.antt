@@ -1,10 +1,10 @@
 use Rattle.std.proofs.Common.{◌/◌, is_some, sym, ap, ◌∙◌, subst}
 use Rattle.std.specs.FinMap as maps
-use Rattle.watch.specs.Code.Order.{each_in_order}
-use Rattle.watch.specs.Code.Roots.{IsKept}
+use Rattle.root_literals.specs.Order.{each_in_order}
+use Rattle.root_literals.specs.Roots.{IsKept}
 use Rattle.propagation.proofs.PropagationLemmas.Scan.{room_removed}
-use Rattle.watch.proofs.WatchLemmas.Order.{alive_alike, alive_clause, literals_ordered}
-use Rattle.watch.proofs.WatchLemmas.Order.{ordered_remove}
+use Rattle.root_literals.proofs.RootLemmas.Order.{alive_alike, alive_clause, literals_ordered}
+use Rattle.root_literals.proofs.RootLemmas.Order.{ordered_remove}
 use Rattle.watch.proofs.WatchLemmas.State.{alone_kept, watch_put_back, watch_removed}
 use Rattle.watch.proofs.watch.WatchPropagate.remove.Goals as goal
 

@@ -1,0 +1,7 @@
+-- Root literals.
+pub mod Order
+pub mod Watched
+pub mod Reasons
+pub mod History
+pub mod Kept
+pub mod Entered

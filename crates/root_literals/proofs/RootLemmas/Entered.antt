@@ -1,0 +1,218 @@
+-- What is kept where a clause was added.
+use Rattle.std.proofs.Common.{◌≡◌, ◌≢◌, ℕ, ◌+◌, ◌<◌, Bool, true, false, cond, eqb, eq-eqb, ne_eqb}
+use Rattle.std.proofs.Common.{Option, Some, is_some, List, [], ◌∷◌, ◌++◌, length, take, refl, sym}
+use Rattle.std.proofs.Common.{ap, ◌∙◌, subst, arith, inl, inr}
+use Rattle.std.specs.Ordering.{nat_cmp}
+use Rattle.std.specs.FinMap as maps
+use Rattle.std.specs.FinMap.{FinMap}
+use Rattle.std.proofs.lemmas.Bool.{true≢false, false≢true}
+use Rattle.std.proofs.lemmas.List.{length-append, take_all, take-append-le}
+use Rattle.cnf_base.specs.Literals.{Literal, complement, Clause, has}
+use Rattle.cnf_base.proofs.SetLemmas.{has_append_left, has_append_right, has_cases, has_head}
+use Rattle.tables.specs.Table.{at}
+use Rattle.root_literals.specs.History.{IsHistory, visits}
+use Rattle.root_literals.specs.Order.{in_order, each_in_order}
+use Rattle.root_literals.specs.Roots.{AreNoted, AreReasoned, HasReasons, HaveUnits, IsArranged}
+use Rattle.root_literals.specs.Roots.{IsKept, IsKnown, has_clash, is_cut}
+use Rattle.root_literals.specs.Watched.{IsPart, IsMet, HasUnit, IsWatched}
+use Rattle.trail.specs.declared.left.Left.{Left}
+use Rattle.trail.specs.declared.left.Left.TheVariants.{Nothing, One, More}
+use Rattle.root_literals.specs.declared.history.History.{History}
+use Rattle.root_literals.specs.declared.roots.Kept.{Kept}
+use Rattle.root_literals.specs.declared.roots.Kept.TheVariants.{Cut, Behind, All, Clash}
+use Rattle.root_literals.specs.declared.roots.Roots.{Roots}
+use Rattle.root_literals.proofs.RootLemmas.Watched.{front_part, watched_grown, unit_more}
+use Rattle.root_literals.proofs.RootLemmas.History.{history_above, history_longer, history_noted}
+use Rattle.root_literals.proofs.RootLemmas.Kept.{elsewhere, false_added, gone, noted_added}
+use Rattle.root_literals.proofs.RootLemmas.Kept.{met_alone, met_open, reasoned_added, unit_alone}
+use Rattle.root_literals.proofs.RootLemmas.Kept.{unit_open, units_added, watched_added}
+use Rattle.root_literals.proofs.RootLemmas.Order.{has-in_order, seen_there}
+use Rattle.root_literals.proofs.RootLemmas.Reasons.{reasoned_more, reasoned_same, reasoned_taken}
+
+only_one : (c : Clause) (m : Literal) → length c ≡ 1 → has c m ≡ true → (k : Literal) → has c k ≡ true → k ≡ m
+only_one [] m one there k h = absurd (false≢true h)
+only_one (a ∷ []) m one there k h =
+    elim (has_cases a [] k h) [
+      | inl e ↦ sym e ∙ elim (has_cases a [] m there) [ inl f ↦ f | inr none ↦ absurd (false≢true none) ]
+      | inr none ↦ absurd (false≢true none)
+    ]
+only_one (a ∷ b ∷ c) m one there k h = absurd (let wrong : ⊥ = omega (arith, one) in wrong)
+
+abbrev is_more : Left → Bool
+is_more Nothing = false
+is_more (One l) = false
+is_more More = true
+
+met_short : (c : Clause) → length c < 2 → (l : Literal) (trues : List Literal) → IsMet c l trues
+met_short [] small l trues there = absurd (false≢true there)
+met_short (a ∷ []) small l trues there = absurd (false≢true there)
+met_short (a ∷ b ∷ c) small l trues there = absurd (let wrong : ⊥ = omega (arith, small) in wrong)
+
+-- what a clause watches is met at any place, unless it watches a literal that is false
+met_sure : (lits : List Literal) (c : Clause) (left : Left) → IsArranged lits c left → (left ≢ More → length c < 2) → (done more : List Literal) → IsPart done lits → (l : Literal) → has done (complement l) ≡ true → IsMet c l more
+met_sure lits c More first small done more part l h = met_open c lits done more part first l h
+met_sure lits c Nothing first small done more part l h = met_short c (small (λ e. false≢true (ap is_more e))) l more
+met_sure lits c (One m) first small done more part l h = met_short c (small (λ e. false≢true (ap is_more e))) l more
+
+-- a clause is entered into the slot, of which this is left, where the others are kept
+pub record Entering (after : FinMap nat_cmp Clause) (slot : ℕ) (c : Clause) (roots : Roots) (lits : List Literal) (left : Left) (later : History) : Type 0 where
+  pub here : maps.get after slot ≡ Some c
+  pub kept : IsKept (maps.remove after slot) roots lits
+  pub reasons : HasReasons c (at roots.reasons)
+  pub arranged : IsArranged lits c left
+  pub is_doubtful : Bool
+  pub small : is_doubtful ≡ false → left ≢ More → length c < 2
+  pub visited_is : later.visited ≡ roots.history.visited
+  pub floor_is : later.floor ≡ cond is_doubtful (length lits) roots.history.floor
+
+module _ {after : FinMap nat_cmp Clause} {slot : ℕ} {c : Clause} {roots : Roots} {lits : List Literal} {left : Left} {later : History} (given : Entering after slot c roots lits left later) where
+  noted : AreNoted (maps.get (each_in_order after)) (at roots.reasons)
+  noted = noted_added (maps.remove after slot) after slot c (gone after slot slot refl) given.here (λ s ne. sym (elsewhere after slot s ne)) (at roots.reasons) given.kept.noted given.reasons
+
+  reasoned : AreReasoned (maps.get (each_in_order after)) (at roots.reasons) lits
+  reasoned = reasoned_added (maps.remove after slot) after slot c (gone after slot slot refl) given.here (λ s ne. sym (elsewhere after slot s ne)) (at roots.reasons) lits given.kept.reasoned
+
+  watched : (done trues : List Literal) → IsWatched (maps.get (maps.remove after slot)) done trues → ((l : Literal) → has done (complement l) ≡ true → IsMet c l trues) → IsWatched (maps.get after) done trues
+  watched = watched_added (maps.remove after slot) after slot c (gone after slot slot refl) given.here (λ s ne. sym (elsewhere after slot s ne))
+
+  units : (trues : List Literal) → HaveUnits (maps.get (maps.remove after slot)) trues → HasUnit c trues → HaveUnits (maps.get after) trues
+  units = units_added (maps.remove after slot) after slot c (gone after slot slot refl) given.here (λ s ne. sym (elsewhere after slot s ne))
+
+  sure : given.is_doubtful ≡ false → (done trues : List Literal) → IsPart done lits → IsWatched (maps.get (maps.remove after slot)) done trues → IsWatched (maps.get after) done trues
+  sure is done trues part was = watched done trues was (met_sure lits c left given.arranged (given.small is) done trues part)
+
+  history : IsHistory (maps.get after) later lits
+  history =
+      history_noted (maps.get (maps.remove after slot)) (maps.get after) roots.history later lits given.is_doubtful given.visited_is given.floor_is
+      (λ is d p. sure is (take d lits) (take p lits) (front_part d lits)) given.kept.history
+
+  -- what was visited
+  so_far : has_clash roots.kept ≡ false → IsWatched (maps.get (maps.remove after slot)) (take (visits later) lits) lits
+  so_far quiet = subst (λ v. IsWatched (maps.get (maps.remove after slot)) (take (length v.items) lits) lits) (sym given.visited_is) (given.kept.visited quiet)
+
+  idle : (k : Kept) → has_clash k ≡ true → IsKnown (maps.remove after slot) k lits → IsKnown after k lits
+  idle Cut is known = absurd (false≢true is)
+  idle Behind is known = absurd (false≢true is)
+  idle All is known = absurd (false≢true is)
+  idle (Clash s) is known = false_added (maps.remove after slot) after slot c (gone after slot slot refl) given.here (λ s ne. sym (elsewhere after slot s ne)) s lits known
+
+  pub entered_idle : has_clash roots.kept ≡ true → (now : Roots) → now.kept ≡ roots.kept → now.history ≡ later → now.reasons ≡ roots.reasons → IsKept after now lits
+  entered_idle is now kept_is history_is reasons_are = record {
+    noted = subst (λ t. AreNoted (maps.get (each_in_order after)) (at t)) (sym reasons_are) noted;
+    reasoned = subst (λ t. AreReasoned (maps.get (each_in_order after)) (at t) lits) (sym reasons_are) reasoned;
+    known = subst (λ k. IsKnown after k lits) (sym kept_is) (idle roots.kept is given.kept.known);
+    history = subst (λ h. IsHistory (maps.get after) h lits) (sym history_is) history;
+    visited = λ quiet. absurd (true≢false (sym is ∙ ap has_clash (sym kept_is) ∙ quiet));
+  }
+
+  -- nothing new follows from it
+  settled : ((done : List Literal) → IsPart done lits → (l : Literal) → has done (complement l) ≡ true → IsMet c l lits) → HasUnit c lits → (k : Kept) → IsKnown (maps.remove after slot) k lits → IsKnown after k lits
+  settled met unit Cut known = known
+  settled met unit Behind known = units lits known unit
+  settled met unit All known = (watched lits lits known.0 (met lits (λ l h. h)), units lits known.1 unit)
+  settled met unit (Clash s) known = idle (Clash s) refl known
+
+  entered_settled : ((done : List Literal) → IsPart done lits → (l : Literal) → has done (complement l) ≡ true → IsMet c l lits) → HasUnit c lits → (now : Roots) → now.kept ≡ roots.kept → now.history ≡ later →
+      AreNoted (maps.get (each_in_order after)) (at now.reasons) → AreReasoned (maps.get (each_in_order after)) (at now.reasons) lits → IsKept after now lits
+  entered_settled met unit now kept_is history_is now_noted now_reasoned = record {
+    noted = now_noted;
+    reasoned = now_reasoned;
+    known = subst (λ k. IsKnown after k lits) (sym kept_is) (settled met unit roots.kept given.kept.known);
+    history = subst (λ h. IsHistory (maps.get after) h lits) (sym history_is) history;
+    visited = λ quiet.
+        subst (λ h. IsWatched (maps.get after) (take (visits h) lits) lits) (sym history_is)
+        (watched (take (visits later) lits) lits (so_far (ap has_clash (sym kept_is) ∙ quiet)) (met (take (visits later) lits) (front_part (visits later) lits)));
+  }
+
+  pub entered_more : IsArranged lits c More → (now : Roots) → now.kept ≡ roots.kept → now.history ≡ later → now.reasons ≡ roots.reasons → IsKept after now lits
+  entered_more first now kept_is history_is reasons_are =
+      entered_settled (λ done part. met_open c lits done lits part first) (unit_open c lits lits first) now kept_is history_is (subst (λ t. AreNoted (maps.get (each_in_order after)) (at t)) (sym reasons_are) noted)
+      (subst (λ t. AreReasoned (maps.get (each_in_order after)) (at t) lits) (sym reasons_are) reasoned)
+
+  pub entered_false : IsArranged lits c Nothing → (now : Roots) (number : ℕ) → number ≡ slot → now.kept ≡ Clash number → now.history ≡ later → now.reasons ≡ roots.reasons → IsKept after now lits
+  entered_false falses now number is kept_is history_is reasons_are = record {
+    noted = subst (λ t. AreNoted (maps.get (each_in_order after)) (at t)) (sym reasons_are) noted;
+    reasoned = subst (λ t. AreReasoned (maps.get (each_in_order after)) (at t) lits) (sym reasons_are) reasoned;
+    known = subst (λ k. IsKnown after k lits) (sym (kept_is ∙ ap Clash is)) (record { clause = in_order c; at = seen_there after slot c given.here; falses = λ k h. falses k (sym (has-in_order c k) ∙ h) });
+    history = subst (λ h. IsHistory (maps.get after) h lits) (sym history_is) history;
+    visited = λ quiet. absurd (true≢false (ap has_clash (sym kept_is) ∙ quiet));
+  }
+
+  module _ (m : Literal) (first : IsArranged lits c (One m)) where
+    set_noted : (now : Roots) → ((k : Literal) → at now.reasons k ≡ cond (eqb k m) (Some slot) (at roots.reasons k)) → AreNoted (maps.get (each_in_order after)) (at now.reasons)
+    set_noted now set = record { each = λ s d is l member. ap is_some (set l) ∙ by_test (eqb l m) (at roots.reasons l) (noted.each s d is l member) }
+      where
+        by_test : (b : Bool) (o : Option ℕ) → is_some o ≡ true → is_some (cond b (Some slot) o) ≡ true
+        by_test true o h = refl
+        by_test false o h = h
+
+    set_here : (now : Roots) → ((k : Literal) → at now.reasons k ≡ cond (eqb k m) (Some slot) (at roots.reasons k)) → at now.reasons m ≡ Some slot
+    set_here now set = set m ∙ ap (λ b. cond b (Some slot) (at roots.reasons m)) (eq-eqb m m refl)
+
+    set_other : (now : Roots) → ((k : Literal) → at now.reasons k ≡ cond (eqb k m) (Some slot) (at roots.reasons k)) → (l : Literal) → l ≢ m → at now.reasons l ≡ at roots.reasons l
+    set_other now set l ne = set l ∙ ap (λ b. cond b (Some slot) (at roots.reasons l)) (ne_eqb l m ne)
+
+    -- the literal is true already
+    pub entered_true : has lits m ≡ true → (now : Roots) → now.kept ≡ roots.kept → now.history ≡ later → ((k : Literal) → at now.reasons k ≡ at roots.reasons k) → IsKept after now lits
+    entered_true is_true now kept_is history_is same =
+        entered_settled (λ done part l h. met_alone lits lits m is_true c first l) (unit_alone lits lits m is_true c first) now kept_is history_is (record { each = λ s d is l member. ap is_some (same l) ∙ noted.each s d is l member })
+        (reasoned_same (maps.get (each_in_order after)) (at roots.reasons) lits reasoned (at now.reasons) (λ l h. same l))
+
+    -- and the clause has no other
+    pub entered_taken : has lits m ≡ true → length c ≡ 1 → (now : Roots) → now.kept ≡ roots.kept → now.history ≡ later → ((k : Literal) → at now.reasons k ≡ cond (eqb k m) (Some slot) (at roots.reasons k)) → IsKept after now lits
+    entered_taken is_true one now kept_is history_is set =
+        entered_settled (λ done part l h. met_alone lits lits m is_true c first l) (unit_alone lits lits m is_true c first) now kept_is history_is (set_noted now set)
+        (reasoned_taken (maps.get (each_in_order after)) (at roots.reasons) lits reasoned (at now.reasons) m slot (in_order c) (seen_there after slot c given.here) (has-in_order c m ∙ first.0) (set_here now set)
+        (λ k h. only_one c m one first.0 k (sym (has-in_order c k) ∙ h)) (set_other now set) is_true)
+
+    -- the literal becomes true
+    pub entered_set : has_clash roots.kept ≡ false → has lits m ≡ false → (now : Roots) (more : List Literal) → now.kept ≡ cond (is_cut roots.kept) Cut Behind → now.history ≡ later → more ≡ lits ++ m ∷ [] →
+        ((k : Literal) → at now.reasons k ≡ cond (eqb k m) (Some slot) (at roots.reasons k)) → IsKept after now more
+    entered_set quiet is_open now more kept_is history_is is set = record {
+      noted = set_noted now set;
+      reasoned = subst (AreReasoned (maps.get (each_in_order after)) (at now.reasons)) (sym is)
+          (reasoned_more (maps.get (each_in_order after)) (at roots.reasons) lits reasoned (at now.reasons) m slot (in_order c) (seen_there after slot c given.here) (has-in_order c m ∙ first.0) (set_here now set)
+          (λ k h ne. first.3 k (sym (has-in_order c k) ∙ h) ne) (λ l h. set_other now set l (λ e. true≢false (sym h ∙ ap (has lits) e ∙ is_open))));
+      known = subst (λ k. IsKnown after k more) (sym kept_is) (subst (IsKnown after (cond (is_cut roots.kept) Cut Behind)) (sym is) (grown_known roots.kept quiet given.kept.known));
+      history = subst (λ h. IsHistory (maps.get after) h more) (sym history_is) (subst (IsHistory (maps.get after) later) (sym is) (grown_history given.is_doubtful refl));
+      visited = λ _. subst (λ h. IsWatched (maps.get after) (take (visits h) more) more) (sym history_is) (subst (λ ls. IsWatched (maps.get after) (take (visits later) ls) ls) (sym is) grown_watched);
+    }
+      where
+        longer : length (lits ++ m ∷ []) ≡ length lits + 1
+        longer = length-append lits (m ∷ [])
+
+        m_true : has (lits ++ m ∷ []) m ≡ true
+        m_true = has_append_right lits (m ∷ []) m (has_head m [])
+
+        begins : take (length lits) (lits ++ m ∷ []) ≡ lits
+        begins = take-append-le (length lits) lits (m ∷ []) (omega arith) ∙ take_all (length lits) lits (omega arith)
+
+        front : take (visits later) (lits ++ m ∷ []) ≡ take (visits later) lits
+        front = take-append-le (visits later) lits (m ∷ []) history.inside
+
+        grown_watched : IsWatched (maps.get after) (take (visits later) (lits ++ m ∷ [])) (lits ++ m ∷ [])
+        grown_watched =
+            subst (λ ls. IsWatched (maps.get after) ls (lits ++ m ∷ [])) (sym front)
+            (watched (take (visits later) lits) (lits ++ m ∷ [])
+            (watched_grown (maps.get (maps.remove after slot)) (take (visits later) lits) lits (lits ++ m ∷ []) (λ l h. has_append_left lits (m ∷ []) l h) (so_far quiet))
+            (λ l h. met_alone lits (lits ++ m ∷ []) m m_true c first l))
+
+        grown_units : HaveUnits (maps.get (maps.remove after slot)) lits → HaveUnits (maps.get after) (lits ++ m ∷ [])
+        grown_units known =
+            units (lits ++ m ∷ []) (λ s d is. unit_more d lits (lits ++ m ∷ []) (λ l h. has_append_left lits (m ∷ []) l h) (known s d is))
+            (unit_alone lits (lits ++ m ∷ []) m m_true c first)
+
+        grown_known : (k : Kept) → has_clash k ≡ false → IsKnown (maps.remove after slot) k lits → IsKnown after (cond (is_cut k) Cut Behind) (lits ++ m ∷ [])
+        grown_known Cut quiet known = tt
+        grown_known Behind quiet known = grown_units known
+        grown_known All quiet known = grown_units known.1
+        grown_known (Clash s) quiet known = absurd (true≢false quiet)
+
+        grown_history : (b : Bool) → given.is_doubtful ≡ b → IsHistory (maps.get after) later (lits ++ m ∷ [])
+        grown_history true is =
+            let high = given.floor_is ∙ ap (λ b. cond b (length lits) roots.history.floor) is in
+            let inside = history.inside in
+            history_above (maps.get after) later (lits ++ m ∷ []) (omega (arith, inside, longer)) history.began (omega (arith, high, longer)) grown_watched
+        grown_history false is =
+            history_longer (maps.get after) later lits (lits ++ m ∷ []) (visits later) begins (omega (arith, longer)) (omega arith)
+            (sure is (take (visits later) lits) lits (front_part (visits later) lits) (so_far quiet)) history

@@ -1,0 +1,175 @@
+-- When the literals that are kept were propagated.
+use Rattle.std.proofs.Common.{◌≡◌, ◌≢◌, ℕ, ◌+◌, ◌<◌, ◌≤◌, Bool, true, false, cond, List, [], ◌∷◌}
+use Rattle.std.proofs.Common.{◌++◌, length, get_or, take, refl, sym, ap, ◌∙◌, subst, arith, inl}
+use Rattle.std.proofs.Common.{inr}
+use Rattle.std.proofs.lemmas.Bool.{cases_eq, cases_lt, false≢true}
+use Rattle.std.proofs.Math.Seq.{get_or-append_seam}
+use Rattle.std.proofs.lemmas.List.{get_or-take, get_or_append_left, length-append, length-take-le}
+use Rattle.std.proofs.lemmas.List.{take-take, take_all}
+use Rattle.cnf_base.specs.Literals.{Literal, complement, has}
+use Rattle.theory.specs.Propagation.{Live}
+use Rattle.root_literals.specs.History.{IsHistory, IsRewound, trues_at, visits}
+use Rattle.root_literals.specs.Watched.{IsPart, IsWatched}
+use Rattle.root_literals.specs.declared.history.History.{History}
+use Rattle.root_literals.proofs.RootLemmas.Watched.{front_part, met_more}
+
+-- ---- Fewer propagated literals
+
+pub watched_nothing : (live : Live) (done trues : List Literal) → done ≡ [] → IsWatched live done trues
+watched_nothing live done trues none = record { each = λ s c is l h. absurd (false≢true (ap (λ ls. has ls (complement l)) (sym none) ∙ h)) }
+
+pub watched_part : (live : Live) (done other trues more : List Literal) → IsPart other done → IsPart trues more → IsWatched live done trues → IsWatched live other more
+watched_part live done other trues more fewer part watched = record { each = λ s c is l h. met_more c l trues more part (watched.each s c is l (fewer (complement l) h)) }
+
+pub front_in_front : (lits : List Literal) (d n : ℕ) → d ≤ n → IsPart (take d lits) (take n lits)
+front_in_front lits d n low l h = front_part d (take n lits) l (ap (λ ls. has ls l) (take-take d n lits low) ∙ h)
+
+watched_twice : (live : Live) (lits : List Literal) (d p n : ℕ) → d ≤ n → p ≤ n → IsWatched live (take d lits) (take p lits) → IsWatched live (take d (take n lits)) (take p (take n lits))
+watched_twice live lits d p n low inside watched =
+    subst (λ ls. IsWatched live ls (take p (take n lits))) (sym (take-take d n lits low)) (subst (λ ls. IsWatched live (take d lits) ls) (sym (take-take p n lits inside)) watched)
+
+-- ---- No visits
+
+pub history_none : (live : Live) (history : History) (lits : List Literal) → visits history ≡ 0 → IsHistory live history lits
+history_none live history lits none = record {
+  inside = omega (arith, none);
+  began = λ d low. absurd (let wrong : ⊥ = omega (arith, none, low) in wrong);
+  before = λ d p low _ _ _. absurd (let wrong : ⊥ = omega (arith, none, low) in wrong);
+}
+
+pub watched_none : (live : Live) (history : History) (lits : List Literal) → visits history ≡ 0 → IsWatched live (take (visits history) lits) lits
+watched_none live history lits none = watched_nothing live (take (visits history) lits) lits (ap (λ n. take n lits) none)
+
+-- ---- Other clauses
+
+-- the same visits, where what they are known to have propagated is
+pub history_among : (live after : Live) (history : History) (lits : List Literal) → ((d p : ℕ) → d < visits history → history.floor < p → p ≤ length lits → IsWatched live (take d lits) (take p lits) → IsWatched after (take d lits) (take p lits)) →
+    IsHistory live history lits → IsHistory after history lits
+history_among live after history lits among is = record { inside = is.inside; began = is.began; before = λ d p low at_most above inside. among d p low above inside (is.before d p low at_most above inside) }
+
+-- one clause more, which is met at any place, or was noted as doubtful
+pub history_noted : (live after : Live) (history noted : History) (lits : List Literal) (is_doubtful : Bool) → noted.visited ≡ history.visited → noted.floor ≡ cond is_doubtful (length lits) history.floor →
+    (is_doubtful ≡ false → (d p : ℕ) → IsWatched live (take d lits) (take p lits) → IsWatched after (take d lits) (take p lits)) → IsHistory live history lits → IsHistory after noted lits
+history_noted live after history noted lits true visited floor_is met is = record {
+  inside = let n = ap (λ v. length v.items) visited in let low = is.inside in omega (arith, n, low);
+  began = λ d low. subst (λ v. d < get_or v.items d 0) (sym visited) (is.began d (subst (λ v. d < length v.items) visited low));
+  before = λ d p low at_most above inside. absurd (let wrong : ⊥ = omega (arith, floor_is, above, inside) in wrong);
+}
+history_noted live after history noted lits false visited floor_is met is = record {
+  inside = let n = ap (λ v. length v.items) visited in let low = is.inside in omega (arith, n, low);
+  began = λ d low. subst (λ v. d < get_or v.items d 0) (sym visited) (is.began d (subst (λ v. d < length v.items) visited low));
+  before = λ d p low at_most above inside.
+      met refl d p (is.before d p (subst (λ v. d < length v.items) visited low) (subst (λ v. get_or v.items d 0 ≤ p) visited at_most) (subst (λ n. n < p) floor_is above) inside);
+}
+
+-- ---- More literals
+
+-- where the literals before the last visit are propagated among all
+pub history_longer : (live : Live) (history : History) (lits more : List Literal) (n : ℕ) → take (length lits) more ≡ lits → length lits ≤ length more → visits history ≤ n + 1 → IsWatched live (take n lits) lits → IsHistory live history lits → IsHistory live history more
+history_longer live history lits more n begins longer all watched is = record {
+  inside = let low = is.inside in omega (arith, low, longer);
+  began = is.began;
+  before = λ d p low at_most above inside. elim (cases_lt (length lits) p) [
+    | inl past ↦ watched_part live (take n lits) (take d more) lits (take p more) (part d low) (λ l h. front_in_front more (length lits) p (omega (arith, past)) l (ap (λ ls. has ls l) begins ∙ h)) watched
+    | inr within ↦
+        subst (λ ls. IsWatched live ls (take p more)) (sym (front d (omega (arith, low, is.inside))))
+        (subst (λ ls. IsWatched live (take d lits) ls) (sym (front p within)) (is.before d p low at_most above within))
+  ];
+}
+  where
+    front : (k : ℕ) → k ≤ length lits → take k more ≡ take k lits
+    front k low = sym (take-take k (length lits) more low) ∙ ap (take k) begins
+
+    part : (d : ℕ) → d < visits history → IsPart (take d more) (take n lits)
+    part d low l h = front_in_front lits d n (omega (arith, low, all)) l (ap (λ ls. has ls l) (sym (front d (omega (arith, low, is.inside)))) ∙ h)
+
+-- where no cut is told of but those that keep all literals
+pub history_above : (live : Live) (history : History) (lits : List Literal) → visits history ≤ length lits → ((d : ℕ) → d < visits history → d < trues_at history d) → length lits ≤ history.floor + 1 →
+    IsWatched live (take (visits history) lits) lits → IsHistory live history lits
+history_above live history lits inside began high watched = record {
+  inside = inside;
+  began = began;
+  before = λ d p low at_most above within.
+      watched_part live (take (visits history) lits) (take d lits) lits (take p lits) (front_in_front lits d (visits history) (omega (arith, low)))
+      (λ l h. ap (λ ls. has ls l) (take_all p lits (omega (arith, high, above))) ∙ h) watched;
+}
+
+-- the next visit begins
+pub history_begun : (live : Live) (history begun : History) (lits : List Literal) → visits history < length lits → begun.visited.items ≡ history.visited.items ++ length lits ∷ [] → begun.floor ≡ history.floor →
+    IsWatched live (take (visits history) lits) lits → IsHistory live history lits → IsHistory live begun lits
+history_begun live history begun lits fits pushed floor_is watched is = record {
+  inside = omega (arith, one_more, fits);
+  began = λ d low. elim (cases_eq d (visits history)) [
+    | inl e ↦ let here = last d e in omega (arith, here, e, fits)
+    | inr ne ↦ let old = earlier d (before_last d low ne) in let was = is.began d (before_last d low ne) in omega (arith, old, was)
+  ];
+  before = λ d p low at_most above inside. elim (cases_eq d (visits history)) [
+    | inl e ↦
+        let here = last d e in
+        subst (λ ls. IsWatched live (take d lits) ls) (sym (take_all p lits (omega (arith, here, at_most)))) (subst (λ n. IsWatched live (take n lits) lits) (sym e) watched)
+    | inr ne ↦
+        let old = earlier d (before_last d low ne) in
+        is.before d p (before_last d low ne) (omega (arith, old, at_most)) (subst (λ n. n < p) floor_is above) inside
+  ];
+}
+  where
+    one_more : visits begun ≡ visits history + 1
+    one_more = ap length pushed ∙ length-append history.visited.items (length lits ∷ [])
+
+    before_last : (d : ℕ) → d < visits begun → d ≢ visits history → d < visits history
+    before_last d low ne = elim (cases_lt d (visits history)) [
+      | inl h ↦ h
+      | inr h ↦ absurd (ne (omega (arith, one_more, low, h)))
+    ]
+
+    earlier : (d : ℕ) → d < visits history → trues_at begun d ≡ trues_at history d
+    earlier d low = ap (λ ns. get_or ns d 0) pushed ∙ get_or_append_left history.visited.items (length lits ∷ []) 0 d low
+
+    last : (d : ℕ) → d ≡ visits history → trues_at begun d ≡ length lits
+    last d e = ap (λ k. get_or begun.visited.items k 0) e ∙ ap (λ ns. get_or ns (visits history) 0) pushed ∙ get_or-append_seam history.visited.items (length lits) [] 0
+
+-- ---- Fewer literals
+
+pub rewound_none : {history now : History} → IsRewound history now 0 → visits now ≡ 0
+rewound_none {history} {now} rewound = elim (cases_eq (visits now) 0) [
+  | inl none ↦ none
+  | inr some ↦ let floor = rewound.floor some in let low = floor.0 in absurd (let wrong : ⊥ = omega (arith, low) in wrong)
+]
+
+module _ (live : Live) (history now : History) (lits : List Literal) (place : ℕ) (is : IsHistory live history lits) (rewound : IsRewound history now place) (inside : place ≤ length lits) where
+  long : length (take place lits) ≡ place
+  long = length-take-le place lits inside
+
+  -- a visit that is left came before the one that is made again
+  below : visits now ≢ 0 → visits now < place
+  below some = let next = rewound.next some in let began = is.began (visits now) next.0 in let at_most = next.1 in omega (arith, began, at_most)
+
+  pub history_cut : IsHistory live now (take place lits)
+  history_cut = elim (cases_eq (visits now) 0) [
+    | inl none ↦ history_none live now (take place lits) none
+    | inr some ↦
+        let next = rewound.next some in
+        let floor = rewound.floor some in
+        let low = below some in record {
+          inside = omega (arith, low, long);
+          began = λ d h. subst (λ n. d < n) (sym (same d h)) (is.began d (let more = next.0 in omega (arith, h, more)));
+          before = λ d p h at_most above within.
+              let fits : p ≤ place = omega (arith, within, long) in
+              let more = next.0 in
+              watched_twice live lits d p place (omega (arith, h, low)) fits
+              (is.before d p (omega (arith, h, more)) (subst (λ n. n ≤ p) (same d h) at_most) (subst (λ n. n < p) floor.1 above) (omega (arith, fits, inside)));
+        }
+  ]
+    where
+      same : (d : ℕ) → d < visits now → trues_at now d ≡ trues_at history d
+      same d h = ap (λ ns. get_or ns d 0) rewound.front ∙ get_or-take (visits now) history.visited.items d 0 h
+
+  pub watched_cut : IsWatched live (take (visits now) (take place lits)) (take place lits)
+  watched_cut = elim (cases_eq (visits now) 0) [
+    | inl none ↦ watched_none live now (take place lits) none
+    | inr some ↦
+        let next = rewound.next some in
+        let floor = rewound.floor some in
+        let low = below some in
+        subst (λ ls. IsWatched live ls (take place lits)) (sym (take-take (visits now) place lits (omega (arith, low)))) (is.before (visits now) place next.0 next.1 floor.0 inside)
+  ]

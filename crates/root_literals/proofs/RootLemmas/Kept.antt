@@ -1,0 +1,209 @@
+-- What is kept where clauses come and go.
+use Rattle.std.proofs.Common.{◌≡◌, ◌≢◌, ℕ, Bool, true, false, ◌||◌, cond, eqb, eqb-true, eq-eqb}
+use Rattle.std.proofs.Common.{ne_eqb, Option, Some, None, is_some, option_map, List, [], ◌∷◌}
+use Rattle.std.proofs.Common.{length, take, ◌≤◌, refl, sym, ap, ◌∙◌, subst, arith, inl, inr, ◌⊎◌}
+use Rattle.std.specs.Ordering.{nat_cmp}
+use Rattle.std.specs.FinMap as maps
+use Rattle.std.specs.FinMap.{FinMap}
+use Rattle.std.proofs.lemmas.Bool.{cases_eq, true≢false, false≢true}
+use Rattle.std.proofs.lemmas.Option.{none-some, same_Some}
+use Rattle.cnf_base.specs.Literals.{Literal, complement, Clause, has}
+use Rattle.tables.specs.Table.{at}
+use Rattle.root_literals.specs.History.{IsHistory, IsRewound, visits}
+use Rattle.root_literals.specs.Order.{in_order, each_in_order}
+use Rattle.root_literals.specs.Roots.{AreNoted, AreReasoned, HasReasons, HaveUnits, IsArranged}
+use Rattle.root_literals.specs.Roots.{IsFalseAt, IsKept, IsKnown, IsReasonAt, has_clash}
+use Rattle.root_literals.specs.Watched.{IsPart, IsMet, HasUnit, IsWatched}
+use Rattle.trail.specs.declared.left.Left.TheVariants.{One, More}
+use Rattle.root_literals.specs.declared.roots.Kept.{Kept}
+use Rattle.root_literals.specs.declared.roots.Kept.TheVariants.{Cut, Behind, All}
+use Rattle.root_literals.specs.declared.roots.Kept.TheVariants.{Clash as KeptClash}
+use Rattle.root_literals.specs.declared.roots.Roots.{Roots}
+use Rattle.trail.specs.Trail.{HasNoVariableTwice}
+use Rattle.root_literals.proofs.RootLemmas.Order.{get_ordered, has-in_order, seen_there}
+use Rattle.clause_db.proofs.StoreLemmas.Sums.{get_remove}
+use Rattle.cnf_base.proofs.SetLemmas.{has_head}
+use Rattle.root_literals.proofs.RootLemmas.History.{history_among, history_cut, history_none}
+use Rattle.root_literals.proofs.RootLemmas.History.{watched_cut, watched_none}
+use Rattle.root_literals.proofs.RootLemmas.Reasons.{reasoned_among, reasoned_cut, reasoned_instead}
+use Rattle.root_literals.proofs.RootLemmas.Reasons.{reasoned_none}
+
+-- ---- One clause more
+
+module _ (live after : FinMap nat_cmp Clause) (slot : ℕ) (c : Clause) (free : maps.get live slot ≡ None) (here : maps.get after slot ≡ Some c) (others : (s : ℕ) → s ≢ slot → maps.get after s ≡ maps.get live s) where
+  pub watched_added : (done trues : List Literal) → IsWatched (maps.get live) done trues → ((l : Literal) → has done (complement l) ≡ true → IsMet c l trues) → IsWatched (maps.get after) done trues
+  watched_added done trues watched partner = record {
+    each = λ s d is. elim (cases_eq s slot) [
+      | inl e ↦ λ l h. subst (λ x. IsMet x l trues) (same_Some c d (sym here ∙ ap (maps.get after) (sym e) ∙ is)) (partner l h)
+      | inr ne ↦ watched.each s d (sym (others s ne) ∙ is)
+    ];
+  }
+
+  pub units_added : (trues : List Literal) → HaveUnits (maps.get live) trues → HasUnit c trues → HaveUnits (maps.get after) trues
+  units_added trues units unit s d is = elim (cases_eq s slot) [
+    | inl e ↦ subst (λ x. HasUnit x trues) (same_Some c d (sym here ∙ ap (maps.get after) (sym e) ∙ is)) unit
+    | inr ne ↦ units s d (sym (others s ne) ∙ is)
+  ]
+
+  pub still_there : (s : ℕ) (d : Clause) → maps.get (each_in_order live) s ≡ Some d → maps.get (each_in_order after) s ≡ Some d
+  still_there s d is = elim (cases_eq s slot) [
+    | inl e ↦ absurd (none-some d (sym (ap (option_map in_order) free) ∙ sym (get_ordered live slot) ∙ ap (maps.get (each_in_order live)) (sym e) ∙ is))
+    | inr ne ↦ get_ordered after s ∙ ap (option_map in_order) (others s ne) ∙ sym (get_ordered live s) ∙ is
+  ]
+
+  pub noted_added : (reason_of : Literal → Option ℕ) → AreNoted (maps.get (each_in_order live)) reason_of → HasReasons c reason_of → AreNoted (maps.get (each_in_order after)) reason_of
+  noted_added reason_of noted reasons = record {
+    each = λ s d is l member. elim (cases_eq s slot) [
+      | inl e ↦ reasons l (sym (has-in_order c l) ∙ ap (λ x. has x l) (same_Some (in_order c) d (sym (seen_there after slot c here) ∙ ap (maps.get (each_in_order after)) (sym e) ∙ is)) ∙ member)
+      | inr ne ↦ noted.each s d (get_ordered live s ∙ ap (option_map in_order) (sym (others s ne)) ∙ sym (get_ordered after s) ∙ is) l member
+    ];
+  }
+
+  pub reasoned_added : (reason_of : Literal → Option ℕ) (lits : List Literal) → AreReasoned (maps.get (each_in_order live)) reason_of lits → AreReasoned (maps.get (each_in_order after)) reason_of lits
+  reasoned_added reason_of lits are = reasoned_among (maps.get (each_in_order live)) reason_of lits are (maps.get (each_in_order after)) (λ l s d _ _ is. still_there s d is)
+
+  pub false_added : (s : ℕ) (trues : List Literal) → IsFalseAt (maps.get (each_in_order live)) s trues → IsFalseAt (maps.get (each_in_order after)) s trues
+  false_added s trues false_at = record { clause = false_at.clause; at = still_there s false_at.clause false_at.at; falses = false_at.falses }
+
+one_of_two : (a b l : Literal) → (eqb a l || eqb b l) ≡ true → (a ≡ l) ⊎ (b ≡ l)
+one_of_two a b l h = by_test (eqb a l) refl h
+  where
+    by_test : (t : Bool) → eqb a l ≡ t → (t || eqb b l) ≡ true → (a ≡ l) ⊎ (b ≡ l)
+    by_test true e g = inl (eqb-true a l e)
+    by_test false e g = inr (eqb-true b l g)
+
+-- two literals are not false, and stand first
+pub met_open : (c : Clause) (trues done more : List Literal) → IsPart done trues → IsArranged trues c More → (l : Literal) → has done (complement l) ≡ true → IsMet c l more
+met_open [] trues done more part first l h there = absurd (false≢true there)
+met_open (a ∷ []) trues done more part first l h there = absurd (false≢true there)
+met_open (a ∷ b ∷ c) trues done more part first l h there =
+    absurd (elim (one_of_two a b l there) [
+      | inl e ↦ true≢false (sym (part (complement l) h) ∙ ap (λ x. has trues (complement x)) (sym e) ∙ first.1)
+      | inr e ↦ true≢false (sym (part (complement l) h) ∙ ap (λ x. has trues (complement x)) (sym e) ∙ first.2)
+    ])
+
+pub unit_open : (c : Clause) (trues more : List Literal) → IsArranged trues c More → HasUnit c more
+unit_open [] trues more first = absurd (let n = first.0 in let wrong : ⊥ = omega (arith, n) in wrong)
+unit_open (a ∷ []) trues more first = absurd (let n = first.0 in let wrong : ⊥ = omega (arith, n) in wrong)
+unit_open (a ∷ b ∷ c) trues more first = tt
+
+-- one literal is not false, stands first, and becomes true
+module _ (trues more : List Literal) (m : Literal) (set : has more m ≡ true) where
+  pub met_alone : (c : Clause) → IsArranged trues c (One m) → (l : Literal) → IsMet c l more
+  met_alone [] first l there = absurd (false≢true there)
+  met_alone (a ∷ []) first l there = absurd (false≢true there)
+  met_alone (a ∷ b ∷ c) first l there = (m, ap (has (a ∷ b ∷ c)) (sym first.1) ∙ has_head a (b ∷ c), set)
+
+  pub unit_alone : (c : Clause) → IsArranged trues c (One m) → HasUnit c more
+  unit_alone [] first = absurd (false≢true first.0)
+  unit_alone (a ∷ []) first = ap (has more) first.1 ∙ set
+  unit_alone (a ∷ b ∷ c) first = tt
+
+-- ---- Another reason
+
+module _ (live : FinMap nat_cmp Clause) (roots after : Roots) (lits : List Literal) (kept_is : after.kept ≡ roots.kept) (history_is : after.history ≡ roots.history) (kept : IsKept live roots lits) where
+  with_reasons : AreNoted (maps.get (each_in_order live)) (at after.reasons) → AreReasoned (maps.get (each_in_order live)) (at after.reasons) lits → IsKept live after lits
+  with_reasons noted reasoned = record {
+    noted = noted;
+    reasoned = reasoned;
+    known = subst (λ k. IsKnown live k lits) (sym kept_is) kept.known;
+    history = subst (λ h. IsHistory (maps.get live) h lits) (sym history_is) kept.history;
+    visited = λ quiet. subst (λ h. IsWatched (maps.get live) (take (visits h) lits) lits) (sym history_is) (kept.visited (ap has_clash (sym kept_is) ∙ quiet));
+  }
+
+  -- another clause makes a literal true
+  pub kept_instead : (m : Literal) (slot : ℕ) → HasNoVariableTwice lits → IsReasonAt (maps.get live) slot lits m → ((k : Literal) → at after.reasons k ≡ cond (eqb k m) (Some slot) (at roots.reasons k)) → IsKept live after lits
+  kept_instead m slot apart by set =
+      with_reasons (record { each = λ s c is l member. ap is_some (set l) ∙ by_test (eqb l m) (at roots.reasons l) (kept.noted.each s c is l member) })
+      (reasoned_instead (maps.get (each_in_order live)) (at roots.reasons) lits kept.reasoned (at after.reasons) m slot apart shown (set m ∙ ap (λ b. cond b (Some slot) (at roots.reasons m)) (eq-eqb m m refl))
+      (λ l ne. set l ∙ ap (λ b. cond b (Some slot) (at roots.reasons l)) (ne_eqb l m ne)))
+    where
+      by_test : (b : Bool) (o : Option ℕ) → is_some o ≡ true → is_some (cond b (Some slot) o) ≡ true
+      by_test true o h = refl
+      by_test false o h = h
+
+      shown : IsReasonAt (maps.get (each_in_order live)) slot lits m
+      shown = record {
+        clause = in_order by.clause;
+        at = seen_there live slot by.clause by.at;
+        member = has-in_order by.clause m ∙ by.member;
+        place = by.place;
+        inside = by.inside;
+        stands = by.stands;
+        others = λ k h. by.others k (sym (has-in_order by.clause k) ∙ h);
+      }
+
+-- ---- Fewer literals
+
+pub kept_cut : (live : FinMap nat_cmp Clause) (roots after : Roots) (lits now : List Literal) (place : ℕ) → IsKept live roots lits → place ≤ length lits → after.kept ≡ Cut → IsRewound roots.history after.history place → after.reasons ≡ roots.reasons → now ≡ take place lits →
+    IsKept live after now
+kept_cut live roots after lits now place kept inside cut rewound reasons is = record {
+  noted = subst (λ t. AreNoted (maps.get (each_in_order live)) (at t)) (sym reasons) kept.noted;
+  reasoned = subst (λ t. AreReasoned (maps.get (each_in_order live)) (at t) now) (sym reasons)
+      (subst (AreReasoned (maps.get (each_in_order live)) (at roots.reasons)) (sym is) (reasoned_cut (maps.get (each_in_order live)) (at roots.reasons) lits kept.reasoned place));
+  known = subst (λ k. IsKnown live k now) (sym cut) tt;
+  history = subst (IsHistory (maps.get live) after.history) (sym is) (history_cut (maps.get live) roots.history after.history lits place kept.history rewound inside);
+  visited = λ quiet. subst (λ ls. IsWatched (maps.get live) (take (visits after.history) ls) ls) (sym is) (watched_cut (maps.get live) roots.history after.history lits place kept.history rewound inside);
+}
+
+-- nothing is kept any more
+pub kept_nothing : (live : FinMap nat_cmp Clause) (roots : Roots) (lits : List Literal) → AreNoted (maps.get (each_in_order live)) (at roots.reasons) → roots.kept ≡ Cut → visits roots.history ≡ 0 → lits ≡ [] → IsKept live roots lits
+kept_nothing live roots lits noted cut unseen none = record {
+  noted = noted;
+  reasoned = reasoned_none (maps.get (each_in_order live)) (at roots.reasons) lits none;
+  known = subst (λ k. IsKnown live k lits) (sym cut) tt;
+  history = history_none (maps.get live) roots.history lits unseen;
+  visited = λ quiet. watched_none (maps.get live) roots.history lits unseen;
+}
+
+-- ---- One clause fewer
+
+module _ (live : FinMap nat_cmp Clause) (slot : ℕ) where
+  pub elsewhere : (s : ℕ) → s ≢ slot → maps.get (maps.remove live slot) s ≡ maps.get live s
+  elsewhere s ne = get_remove live slot s ∙ ap (λ b. cond b None (maps.get live s)) (ne_eqb s slot ne)
+
+  pub gone : (s : ℕ) → s ≡ slot → maps.get (maps.remove live slot) s ≡ None
+  gone s e = get_remove live slot s ∙ ap (λ b. cond b None (maps.get live s)) (eq-eqb s slot e)
+
+  was_there : (s : ℕ) (d : Clause) → maps.get (maps.remove live slot) s ≡ Some d → maps.get live s ≡ Some d
+  was_there s d is = elim (cases_eq s slot) [
+    | inl e ↦ absurd (none-some d (sym (gone s e) ∙ is))
+    | inr ne ↦ sym (elsewhere s ne) ∙ is
+  ]
+
+  was_seen : (s : ℕ) (d : Clause) → maps.get (each_in_order (maps.remove live slot)) s ≡ Some d → maps.get (each_in_order live) s ≡ Some d
+  was_seen s d is = elim (cases_eq s slot) [
+    | inl e ↦ absurd (none-some d (sym (ap (option_map in_order) (gone s e)) ∙ sym (get_ordered (maps.remove live slot) s) ∙ is))
+    | inr ne ↦ get_ordered live s ∙ ap (option_map in_order) (sym (elsewhere s ne)) ∙ sym (get_ordered (maps.remove live slot) s) ∙ is
+  ]
+
+  still_seen : (s : ℕ) → s ≢ slot → (d : Clause) → maps.get (each_in_order live) s ≡ Some d → maps.get (each_in_order (maps.remove live slot)) s ≡ Some d
+  still_seen s ne d is = get_ordered (maps.remove live slot) s ∙ ap (option_map in_order) (elsewhere s ne) ∙ sym (get_ordered live s) ∙ is
+
+  noted_left : (reason_of : Literal → Option ℕ) → AreNoted (maps.get (each_in_order live)) reason_of → AreNoted (maps.get (each_in_order (maps.remove live slot))) reason_of
+  noted_left reason_of noted = record { each = λ s d is. noted.each s d (was_seen s d is) }
+
+  watched_left : (done trues : List Literal) → IsWatched (maps.get live) done trues → IsWatched (maps.get (maps.remove live slot)) done trues
+  watched_left done trues watched = record { each = λ s d at_s. watched.each s d (was_there s d at_s) }
+
+  -- nothing that is kept rests on it
+  module _ (roots : Roots) (lits : List Literal) (kept : IsKept live roots lits) (c : Clause) (here : maps.get live slot ≡ Some c) (no_clash : roots.kept ≢ KeptClash slot)
+      (no_reason : (l : Literal) → has c l ≡ true → has lits l ≡ true → at roots.reasons l ≢ Some slot) where
+    still_known : (k : Kept) → roots.kept ≡ k → IsKnown live k lits → IsKnown (maps.remove live slot) k lits
+    still_known Cut is known = known
+    still_known Behind is known = λ s d at_s. known s d (was_there s d at_s)
+    still_known All is known = (watched_left lits lits known.0, λ s d at_s. known.1 s d (was_there s d at_s))
+    still_known (KeptClash s) is known = record { clause = known.clause; at = still_seen s (λ e. no_clash (is ∙ ap KeptClash e)) known.clause known.at; falses = known.falses }
+
+    pub kept_left : IsKept (maps.remove live slot) roots lits
+    kept_left = record {
+      noted = noted_left (at roots.reasons) kept.noted;
+      reasoned = reasoned_among (maps.get (each_in_order live)) (at roots.reasons) lits kept.reasoned (maps.get (each_in_order (maps.remove live slot))) (λ l s d member is at_s.
+          still_seen s (λ e.
+          let w = kept.reasoned.has_it l s member is in
+          let same = same_Some (in_order c) w.clause (sym (seen_there live slot c here) ∙ ap (maps.get (each_in_order live)) (sym e) ∙ w.at) in
+          no_reason l (sym (has-in_order c l) ∙ ap (λ x. has x l) same ∙ w.member) member (is ∙ ap Some e)) d at_s);
+      known = still_known roots.kept refl kept.known;
+      history = history_among (maps.get live) (maps.get (maps.remove live slot)) roots.history lits (λ d p _ _ _. watched_left (take d lits) (take p lits)) kept.history;
+      visited = λ quiet. watched_left (take (visits roots.history) lits) lits (kept.visited quiet);
+    }

@@ -1,0 +1,216 @@
+-- Clauses in order are the same sets.
+use Rattle.std.proofs.Common.{◌≡◌, ◌≢◌, ℕ, ◌+◌, Bool, true, false, cond, eqb, eqb-true, eq-eqb}
+use Rattle.std.proofs.Common.{filter, ◌&&◌, ◌||◌, T, Option, Some, None, option_map, is_some, List}
+use Rattle.std.proofs.Common.{[], ◌∷◌, map, sum_by, refl, sym, ap, ◌∙◌, subst, arith}
+use Rattle.std.specs.Ordering.{nat_cmp, is_lt, eq_by_cmp}
+use Rattle.std.specs.Cmp.{nat_cmp_total}
+use Rattle.std.specs.List.{list_any}
+use Rattle.std.specs.FinMap as maps
+use Rattle.std.specs.FinMap.{FinMap, find, is_sorted}
+use Rattle.std.specs.FinMap.Entries.{below_all}
+use Rattle.std.proofs.lemmas.Bool.{true≢false}
+use Rattle.std.proofs.lemmas.Bool.Decides.{nat_tests}
+use Rattle.std.proofs.lemmas.List.Sums.{sum_by-cons}
+use Rattle.std.proofs.lemmas.Option.{none-some, same_Some}
+use Rattle.cnf_base.specs.Literals.{Literal, Clause, complement, complements, has, same_clause}
+use Rattle.cnf_base.specs.Literals.{size}
+use Rattle.cnf_base.proofs.LiteralLemmas.{complement-complement}
+use Rattle.cnf_base.proofs.SetLemmas.{both_pass, complements_has, filter_has, has-complements}
+use Rattle.cnf_base.proofs.SetLemmas.{has-filter, same_from}
+use Rattle.propagation.specs.Assumptions.{HasAt}
+use Rattle.clause_db.specs.Store.{IsTouchedAt, sum_over, literals_in, copies_with}
+use Rattle.root_literals.specs.Order.{set_of, in_order, each_in_order}
+use Rattle.cnf_base.proofs.SizeLemmas.{size_same}
+use Rattle.clause_db.proofs.StoreLemmas.Sums.{get_insert, get_remove, same_maps}
+
+tie_is : (k q : ℕ) → eq_by_cmp nat_cmp k q ≡ eqb q k
+tie_is k q = grind (arith, nat_tests)
+
+-- ---- One clause
+
+in_set : (c : Clause) (l : Literal) → is_some (maps.get (set_of c) l) ≡ has c l
+in_set [] l = ap is_some (maps.get-empty nat_cmp l)
+in_set (k ∷ c) l =
+    ap is_some (maps.get-insert nat_cmp_total (set_of c) k tt l)
+    ∙ by_test (eq_by_cmp nat_cmp l k) (eqb k l) (tie_is l k) (maps.get (set_of c) l) (in_set c l)
+  where
+    by_test : (a b : Bool) → a ≡ b → (o : Option Unit) → is_some o ≡ has c l → is_some (cond a (Some tt) o) ≡ (b || has c l)
+    by_test true true e o f = refl
+    by_test true false e o f = absurd (true≢false e)
+    by_test false true e o f = absurd (true≢false (sym e))
+    by_test false false e o f = f
+
+-- the same literals
+pub has-in_order : (c : Clause) (l : Literal) → has (in_order c) l ≡ has c l
+has-in_order c l =
+    ap (λ p. list_any p (in_order c)) (λ i k. sym (tie_is l k) i) ∙ sym (maps.contains_key-keys (set_of c) l) ∙ in_set c l
+
+pub same-in_order : (c : Clause) → same_clause (in_order c) c ≡ true
+same-in_order c = same_from (in_order c) c (λ l h. sym (has-in_order c l) ∙ h) (λ l h. has-in_order c l ∙ h)
+
+pub size-in_order : (c : Clause) → size (in_order c) ≡ size c
+size-in_order c = size_same (in_order c) c (λ l h. sym (has-in_order c l) ∙ h) (λ l h. has-in_order c l ∙ h)
+
+-- clauses with the same literals are shown alike
+pub alike_in_order : (c d : Clause) → ((l : Literal) → has c l ≡ has d l) → in_order c ≡ in_order d
+alike_in_order c d alike = ap maps.keys (maps.same_map nat_cmp_total maps.nat_cmp-IsAntisymmetric (set_of c) (set_of d) (λ l. one_value _ _ (in_set c l ∙ alike l ∙ sym (in_set d l))))
+  where
+    one_value : (o p : Option Unit) → is_some o ≡ is_some p → o ≡ p
+    one_value None None e = refl
+    one_value None (Some x) e = absurd (true≢false (sym e))
+    one_value (Some x) None e = absurd (true≢false e)
+    one_value (Some x) (Some y) e = refl
+
+-- ---- All clauses
+
+abbrev ordered : List (ℕ × Clause) → List (ℕ × Clause)
+ordered es = map (λ e. (e.0, in_order e.1)) es
+
+below_ordered : (k : ℕ) (es : List (ℕ × Clause)) → below_all nat_cmp k (ordered es) ≡ below_all nat_cmp k es
+below_ordered k [] = refl
+below_ordered k (e ∷ es) = ap (λ b. is_lt (nat_cmp k e.0) && b) (below_ordered k es)
+
+sorted_ordered : (es : List (ℕ × Clause)) → is_sorted nat_cmp (ordered es) ≡ is_sorted nat_cmp es
+sorted_ordered [] = refl
+sorted_ordered (e ∷ es) = ap (λ b. b && is_sorted nat_cmp (ordered es)) (below_ordered e.0 es) ∙ ap (λ b. below_all nat_cmp e.0 es && b) (sorted_ordered es)
+
+find_ordered : (q : ℕ) (es : List (ℕ × Clause)) → find nat_cmp q (ordered es) ≡ option_map in_order (find nat_cmp q es)
+find_ordered q [] = refl
+find_ordered q (e ∷ es) = by_test (find_ordered q es) (eq_by_cmp nat_cmp q e.0)
+  where
+    by_test : find nat_cmp q (ordered es) ≡ option_map in_order (find nat_cmp q es) → (b : Bool) → cond b (Some (in_order e.1)) (find nat_cmp q (ordered es)) ≡ option_map in_order (cond b (Some e.1) (find nat_cmp q es))
+    by_test rest true = refl
+    by_test rest false = rest
+
+weights_ordered : (w : Clause → ℕ) → ((c : Clause) → w (in_order c) ≡ w c) → (es : List (ℕ × Clause)) → sum_by w (map (λ e. e.1) (ordered es)) ≡ sum_by w (map (λ e. e.1) es)
+weights_ordered w alike [] = refl
+weights_ordered w alike (e ∷ es) =
+    sum_by-cons w (in_order e.1) (map (λ e. e.1) (ordered es)) ∙ ap (λ n. n + sum_by w (map (λ e. e.1) (ordered es))) (alike e.1)
+    ∙ ap (λ n. w e.1 + n) (weights_ordered w alike es) ∙ sym (sum_by-cons w e.1 (map (λ e. e.1) es))
+
+still_sorted : (live : FinMap nat_cmp Clause) → T (is_sorted nat_cmp (ordered (maps.entries live)))
+still_sorted live = subst T (sym (sorted_ordered (maps.entries live))) (maps.entries_sorted live)
+
+pub get_ordered : (live : FinMap nat_cmp Clause) (s : ℕ) → maps.get (each_in_order live) s ≡ option_map in_order (maps.get live s)
+unfolding each_in_order
+get_ordered live s =
+    maps.get-from_sorted nat_cmp (ordered (maps.entries live)) s (still_sorted live) ∙ find_ordered s (maps.entries live)
+    ∙ ap (option_map in_order) (sym (maps.get-entries live s))
+
+pub sum_ordered : (w : Clause → ℕ) → ((c : Clause) → w (in_order c) ≡ w c) → (live : FinMap nat_cmp Clause) → sum_over w (each_in_order live) ≡ sum_over w live
+unfolding each_in_order
+sum_ordered w alike live =
+    ap (λ es. sum_by w (map (λ e. e.1) es)) (maps.entries-from_sorted nat_cmp (ordered (maps.entries live)) (still_sorted live))
+    ∙ weights_ordered w alike (maps.entries live)
+
+pub copies_ordered : (live : FinMap nat_cmp Clause) (l : Literal) → copies_with (each_in_order live) l ≡ copies_with live l
+copies_ordered live l = sum_ordered (λ c. cond (has c l) 1 0) (λ c. ap (λ b. cond b 1 0) (has-in_order c l)) live
+
+pub literals_ordered : (live : FinMap nat_cmp Clause) → literals_in (each_in_order live) ≡ literals_in live
+literals_ordered = sum_ordered size size-in_order
+
+-- ---- Changes
+
+pub ordered_insert : (live : FinMap nat_cmp Clause) (s : ℕ) (c : Clause) → each_in_order (maps.insert live s c) ≡ maps.insert (each_in_order live) s (in_order c)
+ordered_insert live s c = same_maps _ _ (λ q.
+    get_ordered (maps.insert live s c) q ∙ ap (option_map in_order) (get_insert live s c q) ∙ by_test q (eqb q s)
+    ∙ ap (cond (eqb q s) (Some (in_order c))) (sym (get_ordered live q)) ∙ sym (get_insert (each_in_order live) s (in_order c) q))
+  where
+    by_test : (q : ℕ) (b : Bool) → option_map in_order (cond b (Some c) (maps.get live q)) ≡ cond b (Some (in_order c)) (option_map in_order (maps.get live q))
+    by_test q true = refl
+    by_test q false = refl
+
+pub ordered_remove : (live : FinMap nat_cmp Clause) (s : ℕ) → each_in_order (maps.remove live s) ≡ maps.remove (each_in_order live) s
+ordered_remove live s = same_maps _ _ (λ q.
+    get_ordered (maps.remove live s) q ∙ ap (option_map in_order) (get_remove live s q) ∙ by_test q (eqb q s)
+    ∙ ap (cond (eqb q s) None) (sym (get_ordered live q)) ∙ sym (get_remove (each_in_order live) s q))
+  where
+    by_test : (q : ℕ) (b : Bool) → option_map in_order (cond b None (maps.get live q)) ≡ cond b None (option_map in_order (maps.get live q))
+    by_test q true = refl
+    by_test q false = refl
+
+pub ordered_empty : each_in_order maps.empty ≡ maps.empty
+ordered_empty = same_maps _ _ (λ q. get_ordered maps.empty q ∙ ap (option_map in_order) (maps.get-empty nat_cmp q) ∙ sym (maps.get-empty nat_cmp q))
+
+-- a clause that is put in the place of one with the same literals isn't seen
+pub ordered_same : (live : FinMap nat_cmp Clause) (s : ℕ) (c d : Clause) → maps.get live s ≡ Some c → ((l : Literal) → has d l ≡ has c l) → each_in_order (maps.insert live s d) ≡ each_in_order live
+ordered_same live s c d here alike = same_maps _ _ (λ q.
+    get_ordered (maps.insert live s d) q ∙ ap (option_map in_order) (get_insert live s d q) ∙ by_test q (eqb q s) (λ e. same q e) ∙ sym (get_ordered live q))
+  where
+    same : (q : ℕ) → eqb q s ≡ true → option_map in_order (maps.get live q) ≡ Some (in_order d)
+    same q e = ap (λ k. option_map in_order (maps.get live k)) (eqb-true q s e) ∙ ap (option_map in_order) here ∙ ap Some (alike_in_order c d (λ l. sym (alike l)))
+
+    by_test : (q : ℕ) (b : Bool) → (b ≡ true → option_map in_order (maps.get live q) ≡ Some (in_order d)) → option_map in_order (cond b (Some d) (maps.get live q)) ≡ option_map in_order (maps.get live q)
+    by_test q true e = sym (e refl)
+    by_test q false e = refl
+
+-- ---- Look-ups
+
+pub seen_there : (live : FinMap nat_cmp Clause) (s : ℕ) (c : Clause) → maps.get live s ≡ Some c → maps.get (each_in_order live) s ≡ Some (in_order c)
+seen_there live s c here = get_ordered live s ∙ ap (option_map in_order) here
+
+pub there_seen : (live : FinMap nat_cmp Clause) (s : ℕ) (d : Clause) → maps.get (each_in_order live) s ≡ Some d → (c : Clause) × (maps.get live s ≡ Some c) × ((l : Literal) → has d l ≡ has c l)
+there_seen live s d here = by_clause (maps.get live s) refl (sym (get_ordered live s) ∙ here)
+  where
+    by_clause : (o : Option Clause) → maps.get live s ≡ o → option_map in_order o ≡ Some d → (c : Clause) × (maps.get live s ≡ Some c) × ((l : Literal) → has d l ≡ has c l)
+    by_clause None is e = absurd (none-some d e)
+    by_clause (Some c) is e = (c, is, λ l. ap (λ x. has x l) (sym (same_Some (in_order c) d e)) ∙ has-in_order c l)
+
+pub alive_alike : (live : FinMap nat_cmp Clause) (s : ℕ) → is_some (maps.get (each_in_order live) s) ≡ is_some (maps.get live s)
+alive_alike live s = ap is_some (get_ordered live s) ∙ by_clause (maps.get live s)
+  where
+    by_clause : (o : Option Clause) → is_some (option_map in_order o) ≡ is_some o
+    by_clause None = refl
+    by_clause (Some c) = refl
+
+pub alive_clause : (live : FinMap nat_cmp Clause) (s : ℕ) → is_some (maps.get live s) ≡ true → (c : Clause) × (maps.get live s ≡ Some c)
+alive_clause live s alive = by_clause (maps.get live s) refl alive
+  where
+    by_clause : (o : Option Clause) → maps.get live s ≡ o → is_some o ≡ true → (c : Clause) × (maps.get live s ≡ Some c)
+    by_clause None is h = absurd (true≢false (sym h))
+    by_clause (Some c) is h = (c, is)
+
+pub has_at_seen : (live : FinMap nat_cmp Clause) (l : Literal) (s : ℕ) → HasAt (maps.get live) l s → HasAt (maps.get (each_in_order live)) l s
+has_at_seen live l s h = record { clause = in_order h.clause; at = seen_there live s h.clause h.at; member = has-in_order h.clause l ∙ h.member }
+
+pub seen_has_at : (live : FinMap nat_cmp Clause) (l : Literal) (s : ℕ) → HasAt (maps.get (each_in_order live)) l s → HasAt (maps.get live) l s
+seen_has_at live l s h = let w = there_seen live s h.clause h.at in record { clause = w.0; at = w.1; member = sym (w.2 l) ∙ h.member }
+
+-- what literals touch, in order and as it stands
+abbrev touches : (lits : List Literal) → (Literal → Bool) → Bool
+touches lits member = list_any (λ l. member (complement l)) lits
+
+pub touched_seen : (live : FinMap nat_cmp Clause) (lits : List Literal) (s : ℕ) → IsTouchedAt live lits s → IsTouchedAt (each_in_order live) lits s
+touched_seen live lits s h = record { clause = in_order h.clause; at = seen_there live s h.clause h.at; touched = ap (touches lits) (λ i l. has-in_order h.clause l i) ∙ h.touched }
+
+pub seen_touched : (live : FinMap nat_cmp Clause) (lits : List Literal) (s : ℕ) → IsTouchedAt (each_in_order live) lits s → IsTouchedAt live lits s
+seen_touched live lits s h = let w = there_seen live s h.clause h.at in record { clause = w.0; at = w.1; touched = sym (ap (touches lits) (λ i l. w.2 l i)) ∙ h.touched }
+
+-- a clause in a slot that was free, and is free again
+pub inserted_is : (live after : FinMap nat_cmp Clause) (slot : ℕ) (c : Clause) → maps.get after slot ≡ Some c → ((s : ℕ) → s ≢ slot → maps.get after s ≡ maps.get live s) → after ≡ maps.insert live slot c
+inserted_is live after slot c here others = same_maps _ _ (λ s. by_test s (eqb s slot) refl ∙ sym (get_insert live slot c s))
+  where
+    by_test : (s : ℕ) (b : Bool) → eqb s slot ≡ b → maps.get after s ≡ cond b (Some c) (maps.get live s)
+    by_test s true e = ap (maps.get after) (eqb-true s slot e) ∙ here
+    by_test s false e = others s (λ same. true≢false (sym (eq-eqb s slot same) ∙ e))
+
+-- the literals of the clause in a slot were put in another order
+pub ordered_alike : (live after : FinMap nat_cmp Clause) (slot : ℕ) (c d : Clause) → maps.get live slot ≡ Some c → maps.get after slot ≡ Some d → ((l : Literal) → has d l ≡ has c l) → ((s : ℕ) → s ≢ slot → maps.get after s ≡ maps.get live s) → each_in_order after ≡ each_in_order live
+ordered_alike live after slot c d here there alike others = ap each_in_order (inserted_is live after slot d there others) ∙ ordered_same live slot c d here alike
+
+pub removed_back : (live after : FinMap nat_cmp Clause) (slot : ℕ) → maps.get live slot ≡ None → ((s : ℕ) → s ≢ slot → maps.get after s ≡ maps.get live s) → maps.remove after slot ≡ live
+removed_back live after slot free others = same_maps _ _ (λ s. get_remove after slot s ∙ by_test s (eqb s slot) refl)
+  where
+    by_test : (s : ℕ) (b : Bool) → eqb s slot ≡ b → cond b None (maps.get after s) ≡ maps.get live s
+    by_test s true e = sym free ∙ ap (maps.get live) (sym (eqb-true s slot e))
+    by_test s false e = others s (λ same. true≢false (sym (eq-eqb s slot same) ∙ e))
+
+-- ---- Parts
+
+pub part_alike : (keeps : Literal → Bool) (c d : Clause) → ((l : Literal) → has c l ≡ has d l) → (l : Literal) → has (complements (filter keeps c)) l ≡ has (complements (filter keeps d)) l
+part_alike keeps c d alike l = both_pass _ _ (there c d alike l) (there d c (λ k. sym (alike k)) l)
+  where
+    there : (c d : Clause) → ((l : Literal) → has c l ≡ has d l) → (l : Literal) → has (complements (filter keeps c)) l ≡ true → has (complements (filter keeps d)) l ≡ true
+    there c d alike l h =
+        let w = filter_has keeps c (complement l) (complements_has (filter keeps c) l h) in
+        ap (has (complements (filter keeps d))) (sym (complement-complement l)) ∙ has-complements (filter keeps d) (complement l) (has-filter keeps d (complement l) (sym (alike (complement l)) ∙ w.0) w.1)

@@ -1,0 +1,16 @@
+use Rattle.std.proofs.Common.{◌≡◌, ◌+◌, cond, length, []}
+use Rattle.theory.specs.Sets.{SameSet}
+use Rattle.root_literals.specs.Roots.{IsKept, has_clash}
+use Rattle.root_literals.proofs.roots.Roots.leave.Given as goal
+
+abbrev pub invariant-loop-place : goal.invariant-loop-place
+invariant-loop-place l = record {
+  kept : IsKept l.store.live l.self l.assumptions.trail.lits;
+  reserved : SameSet l.assumptions.trail.reserved l.fn.assumptions.trail.reserved;
+  assumptions : l.assumptions.assumptions ≡ [];
+  starts : l.assumptions.starts ≡ l.fn.assumptions.starts;
+}
+
+-- a clash is given up, or literals are
+abbrev pub decreases-loop-place : goal.decreases-loop-place
+decreases-loop-place l = length l.assumptions.trail.lits + cond (has_clash l.self.kept) 1 0

@@ -1,0 +1,4 @@
+pub mod History
+pub mod Order
+pub mod Roots
+pub mod Watched

@@ -1,0 +1,95 @@
+-- Watched literals: the first two of each clause of two literals or more (as solvers and DRAT-trim
+-- have them; our own profile).
+use Rattle.std.specs.Prelude.{◌==◌, ◌||◌, ◌&&◌, ◌+◌, ◌≤◌, Bool, false, [], ◌∷◌, true, ℕ, Option}
+use Rattle.std.specs.Prelude.{Some, None, if◌then◌else◌, ◌≡◌, ◌<◌, List, IsSome, IsTrue, ⊤, take}
+use Rattle.cnf_base.specs.Literals.{Literal, Clause, has, complement}
+use Rattle.theory.specs.Propagation.{Live}
+use Rattle.propagation.specs.Assumptions.{Assumption}
+use Rattle.propagation.specs.declared.answer.Answer.TheVariants.{Quiet}
+use Rattle.watch_lists.specs.Lists.{AreApart, entries_in, entries_of, foreign_blockers, list_at}
+use Rattle.watch_lists.specs.Lists.{times_in}
+use Rattle.watch_lists.specs.declared.lists.WatchLists.{WatchLists}
+use Rattle.watch_lists.specs.declared.watcher.Watcher.{Watcher}
+
+-- whether a clause watches a literal
+abbrev pub watches : Clause → Literal → Bool
+watches [] l = false
+watches (a ∷ []) l = false
+watches (a ∷ b ∷ c) l = a == l || b == l
+
+-- whether a clause is too short to watch two literals
+abbrev pub is_short : Clause → Bool
+is_short [] = true
+is_short (a ∷ []) = true
+is_short (a ∷ b ∷ c) = false
+
+-- ---- The lists
+
+-- how many entries there are for a slot in the list of a literal
+abbrev pub entries_for : Option Clause → Literal → ℕ
+entries_for None l = 0
+entries_for (Some c) l = if watches c l then 1 else 0
+
+-- how many there are for it in the list of the short clauses
+abbrev pub short_for : Option Clause → ℕ
+short_for None = 0
+short_for (Some c) = if is_short c then 1 else 0
+
+-- a slot stands once in the lists of the two literals that its clause watches, and nowhere else,
+-- each time with a literal of it
+pub record IsListed (live : Live) (list_of : Literal → List Watcher) : Type 0 where
+  pub watched : (l s : ℕ) → entries_of s (list_of l) ≡ entries_for (live s) l
+  pub low : (s : ℕ) → IsSome (live s) → s < 4294967296
+  pub own : (l s : ℕ) (c : Clause) → live s ≡ Some c → foreign_blockers s c (list_of l) ≡ 0
+
+-- a slot of a short clause stands once in this list, and nothing else does
+pub record IsShortList (live : Live) (short : List ℕ) : Type 0 where
+  pub listed : (s : ℕ) → times_in s short ≡ short_for (live s)
+
+-- the lists of the literals that the clause watches have one entry more for the slot, and no other
+-- list has more or fewer
+abbrev pub HasEntry : Clause → ℕ → WatchLists → WatchLists → Type 0
+HasEntry c slot lists lists_without =
+    (l s : ℕ) → entries_of s (list_at lists l) ≡
+    entries_of s (list_at lists_without l) + (if watches c l && s == slot then 1 else 0)
+
+-- no entry has come that names a literal which isn't one of its clause, where the slot has this one
+abbrev pub NamesOwn : Clause → ℕ → WatchLists → WatchLists → Type 0
+NamesOwn c slot before after =
+    (l s : ℕ) (d : Clause) → (s ≡ slot → d ≡ c) →
+    foreign_blockers s d (list_at after l) ≤ foreign_blockers s d (list_at before l)
+
+-- the lists have the same entries
+pub record AreUnchanged (before after : WatchLists) : Type 0 where
+  pub lists : (l : Literal) → list_at after l ≡ list_at before l
+  pub entries : entries_in after ≡ entries_in before
+  pub apart : AreApart after
+
+-- ---- Where literals are false
+
+-- all its literals are in the other list
+abbrev pub IsPart : List Literal → List Literal → Type 0
+IsPart part whole = (l : Literal) → IsTrue (has part l) → IsTrue (has whole l)
+
+-- if the clause watches the literal, then a literal of it is true
+abbrev pub IsMet : Clause → Literal → List Literal → Type 0
+IsMet c l trues = IsTrue (watches c l) → (m : Literal) × IsTrue (has c m) × IsTrue (has trues m)
+
+-- a short clause has its literal, and it is true
+abbrev pub HasUnit : Clause → List Literal → Type 0
+HasUnit [] trues = ⊥
+HasUnit (a ∷ []) trues = IsTrue (has trues a)
+HasUnit (a ∷ b ∷ c) trues = ⊤
+
+-- where a watched literal is false by the first list, a literal of the clause is true by the second
+pub record IsWatched (live : Live) (done trues : List Literal) : Type 0 where
+  pub each : (s : ℕ) (c : Clause) → live s ≡ Some c →
+      (l : Literal) → IsTrue (has done (complement l)) → IsMet c l trues
+
+-- so it is after each assumption that was quiet, where `starts` says how many literals were true
+-- before it
+abbrev pub AreWatched : Live → List Literal → List Assumption → List ℕ → Type 0
+AreWatched live lits [] starts = ⊤
+AreWatched live lits (last ∷ rest) [] = ⊤
+AreWatched live lits (last ∷ rest) (start ∷ starts) =
+    (last.answer ≡ Quiet → IsWatched live lits lits) × AreWatched live (take start lits) rest starts

@@ -1,0 +1,10 @@
+//! The literals that are true with nothing assumed, as clauses come and go.
+#![tactic(auto)]
+
+mod history;
+mod other_reason;
+mod places;
+mod roots;
+
+pub use history::History;
+pub use roots::{Kept, Roots, set_by};

@@ -1,0 +1,323 @@
+//! The root-level literals that are kept, each with its reason, the clause that made it true.
+//!
+//! The removal of a clause that is no reason, nor the clause of a kept clash, changes nothing. That
+//! of a reason cuts the kept literals back to the place of its own: those before it have reasons of
+//! literals before them alone. What still follows is found again at the next assumption. So a
+//! deletion costs what was cut, and a look at each unit clause.
+//!
+//! A unit clause that is added becomes the reason of its literal even where that is true already:
+//! solvers add one, and then delete the clauses that it satisfies. A reason stays in the table when
+//! its literal is taken back, and says nothing until the next clause that makes it true.
+
+ghost use Rattle.std.specs.Prelude.{◌≡◌, ◌≢◌, ℕ, ◌<◌, ◌≤◌, ◌/◌, ◌==◌, ◌&&◌, ◌++◌, ◌∷◌, [], not};
+ghost use Rattle.std.specs.Prelude.{true, false, length, take, slice_index, if◌then◌else◌, Some};
+ghost use Rattle.std.specs.Prelude.{IsTrue, IsFalse, IsSome, IfSome, IfNone, OnOk};
+ghost use Rattle.std.specs.FinMap as maps;
+ghost use Rattle.cnf_base.specs.Literals.{Literal, Clause, complement, has};
+ghost use Rattle.tables.specs.Table.{at};
+ghost use Rattle.trail.specs.Trail.{HasRoom};
+ghost use Rattle.theory.specs.Sets.{SameSet, conflicts};
+ghost use Rattle.root_literals.specs.History.{IsRewound};
+ghost use Rattle.root_literals.specs.Roots.{HasReasons, IsArranged, IsKept, has_clash, is_cut};
+ghost use Rattle.root_literals.specs.Roots.{is_up_to_date};
+ghost use Rattle.root_literals.specs.Watched.{AreUnchanged};
+ghost use Rattle.watch_lists.specs.Lists.{AreApart};
+ghost use Rattle.trail.specs.declared.left.Left.TheVariants.{More};
+ghost use Rattle.root_literals.specs.declared.roots.Kept.TheVariants.{Behind, Clash, Cut};
+
+use crate::history::History;
+use crate::other_reason::other_reason;
+use crate::places::Places;
+use clause_db::{Slot, Store};
+use cnf_base::{Lit, OutOfMemory};
+use propagation::Assumptions;
+use std::alloc::Global;
+use tables::{Table, key};
+use trail::{Left, Trail};
+use watch_lists::WatchLists;
+
+/// What is known of the literals that are true with nothing assumed.
+#[derive(Clone, Copy)]
+pub enum Kept {
+    /// Some are kept, and those that were visited are propagated.
+    Cut,
+    /// The same, and those of unit clauses are all among them.
+    Behind,
+    /// All are kept.
+    All,
+    /// All literals of the clause in this slot are false.
+    Clash(u32),
+}
+
+impl Kept {
+    /// With one more literal that is kept, where no clash is.
+    fn with_more(self) -> Self
+        ensures { result ≡ (if is_cut self then Cut else Behind) }
+    {
+        match self {
+            Kept::Cut => Kept::Cut,
+            _ => Kept::Behind,
+        }
+    }
+}
+
+/// What is known of the literals that are true with nothing assumed, and of each the clause that
+/// makes it true, its reason.
+#[derive(Drop)]
+pub struct Roots {
+    pub kept: Kept,
+    /// When they were propagated.
+    pub history: History,
+    /// By literal the slot of its reason.
+    pub reasons: Table<u32>,
+    places: Places,
+}
+
+/// Sets a literal that is not false by the clause in a slot, unless it is true already. Tells
+/// whether it was open. It takes no memory.
+#[inline(always)]
+pub fn set_by(assumptions: &mut Assumptions, reasons: &mut Table<u32>, l: Lit, slot: u32) -> bool
+    requires reserved { IsTrue (has assumptions.old.trail.reserved (l / 2)) }
+    requires not_false { IsFalse (has assumptions.old.trail.lits (complement l)) }
+    requires noted { IsSome (at reasons.old l) }
+    ensures was_open { result ≡ not (has assumptions.old.trail.lits l) }
+    ensures lits { assumptions.new.trail.lits ≡
+        (if result then assumptions.old.trail.lits ++ l ∷ [] else assumptions.old.trail.lits) }
+    ensures reserved { SameSet assumptions.new.trail.reserved assumptions.old.trail.reserved }
+    ensures assumptions { assumptions.new.assumptions ≡ assumptions.old.assumptions }
+    ensures starts { assumptions.new.starts ≡ assumptions.old.starts }
+    ensures reasons { (k : Literal) → at reasons.new k ≡
+        (if result && k == l then Some slot else at reasons.old k) }
+{
+    let is_open = assumptions.make_true(l);
+    if is_open {
+        reasons.set(key(l), slot);
+    }
+    is_open
+}
+
+/// Whether the clause in the slot is the reason of a literal.
+fn is_reason(reasons: &Table<u32>, l: Lit, slot: usize) -> bool
+    ensures yes { IsTrue result → at reasons.now l ≡ Some slot }
+    ensures no { IsFalse result → at reasons.now l ≢ Some slot }
+{
+    match reasons.get(key(l)) {
+        Some(reason) => reason as usize == slot,
+        None => false,
+    }
+}
+
+/// The literal that is true by the clause in the slot, which has these literals.
+fn made_true_by(reasons: &Table<u32>, trail: &Trail, clause: &[Lit], slot: usize) -> Option<Lit>
+    ensures is_true { IfSome result (λ l. IsTrue (has trail.now.lits l)) }
+    ensures reason { IfSome result (λ l. at reasons.now l ≡ Some slot) }
+    ensures none { IfNone result ((l : Literal) → IsTrue (has clause.now l) →
+        IsTrue (has trail.now.lits l) → at reasons.now l ≢ Some slot) }
+{
+    for l in clause {
+        if trail.is_true(*l) && is_reason(reasons, *l, slot) {
+            return Some(*l);
+        }
+    }
+    None
+}
+
+/// The place of a literal, sought from the end.
+fn place_of(lits: &[Lit], l: Lit) -> usize
+    requires { IsTrue (has lits.now l) }
+    ensures inside { result < length lits.now }
+    ensures literal { slice_index lits.now result ≡ l }
+{
+    let mut place = lits.len();
+    while place > 0 {
+        place -= 1;
+        if lits[place] == l {
+            return place;
+        }
+    }
+    0
+}
+
+/// Whether a clause of which this is left watches a literal that is false.
+fn watches_false(clause: &[Lit], left: &Left) -> bool
+    ensures { IsFalse result → left.now ≢ More → length clause.now < 2 }
+{
+    match left {
+        Left::More => false,
+        _ => clause.len() > 1,
+    }
+}
+
+impl Roots {
+    /// Nothing is known.
+    pub fn new(alloc: Global) -> Self
+        ensures kept { result.kept ≡ Cut }
+        ensures visited { result.history.visited.items ≡ [] }
+    {
+        Roots {
+            kept: Kept::Cut,
+            history: History::new(alloc),
+            reasons: Table::new(alloc),
+            places: Places::new(alloc),
+        }
+    }
+
+    /// Whether all literals that are true with nothing assumed are kept, or a clash of theirs.
+    pub fn is_up_to_date(&self) -> bool
+        ensures { result ≡ is_up_to_date self.now.kept }
+    {
+        matches!(self.kept, Kept::All | Kept::Clash(_))
+    }
+
+    /// Whether a clause is known of which all literals are false with nothing assumed.
+    pub fn has_clash(&self) -> bool
+        ensures { result ≡ has_clash self.now.kept }
+    {
+        matches!(self.kept, Kept::Clash(_))
+    }
+
+    /// Makes room for the reasons and the places of the literals of a clause.
+    pub fn reserve(&mut self, clause: &[Lit]) -> Result<(), OutOfMemory>
+        ensures room { OnOk result (HasReasons clause.now (at self.new.reasons)) }
+        ensures old { (l : Literal) → IsSome (at self.old.reasons l) →
+            at self.new.reasons l ≡ at self.old.reasons l }
+        ensures kept { self.new.kept ≡ self.old.kept }
+        ensures history { self.new.history ≡ self.old.history }
+    {
+        for l in clause {
+            self.reasons.reserve(key(*l), 0)?;
+        }
+        self.places.reserve(clause)
+    }
+
+    /// Takes note of a clause that was added, of which this is left and stands first. It takes no
+    /// memory.
+    pub fn enter(&mut self, store: &Store, assumptions: &mut Assumptions, slot: Slot, left: Left)
+        requires alive { IsSome (maps.get store.now.live slot) }
+        requires low { slot < 4294967296 }
+        requires kept { IsKept (maps.remove store.now.live slot) self.old
+            assumptions.old.trail.lits }
+        requires reasons { (c : Clause) → maps.get store.now.live slot ≡ Some c →
+            HasReasons c (at self.old.reasons) }
+        requires room { (c : Clause) → maps.get store.now.live slot ≡ Some c →
+            HasRoom assumptions.old.trail.reserved c }
+        requires arranged { (c : Clause) → maps.get store.now.live slot ≡ Some c →
+            IsArranged assumptions.old.trail.lits c left }
+        ensures kept { IsKept store.now.live self.new assumptions.new.trail.lits }
+        ensures reserved { SameSet assumptions.new.trail.reserved assumptions.old.trail.reserved }
+        ensures assumptions { assumptions.new.assumptions ≡ assumptions.old.assumptions }
+        ensures starts { assumptions.new.starts ≡ assumptions.old.starts }
+    {
+        let clause = store.clause(slot);
+        let is_doubtful = watches_false(clause, &left);
+        self.history.enter(is_doubtful, assumptions.trail().len());
+        if self.has_clash() {
+            return;
+        }
+        let number = slot.number() as u32;
+        match left {
+            Left::More => {}
+            Left::Nothing => self.kept = Kept::Clash(number),
+            Left::One(l) => {
+                if set_by(assumptions, &mut self.reasons, l, number) {
+                    self.kept = self.kept.with_more();
+                } else if clause.len() == 1 {
+                    self.reasons.set(key(l), number);
+                }
+            }
+        }
+    }
+
+    /// From which literal on what is kept rests on the clause in the slot, which has these
+    /// literals; none where nothing does.
+    fn rests_from(&self, trail: &Trail, clause: &[Lit], slot: usize) -> Option<usize>
+        ensures inside { IfSome result (λ place. place ≤ length trail.now.lits) }
+        ensures fewer { IfSome result (λ place. has_clash self.now.kept ≡ false →
+            place < length trail.now.lits) }
+        ensures clash { IfNone result (self.now.kept ≢ Clash slot) }
+        ensures reasons { IfNone result ((l : Literal) → IsTrue (has clause.now l) →
+            IsTrue (has trail.now.lits l) → at self.now.reasons l ≢ Some slot) }
+    {
+        match self.kept {
+            Kept::Clash(number) if number as usize == slot => Some(trail.len()),
+            _ => {
+                let l = made_true_by(&self.reasons, trail, clause, slot)?;
+                Some(place_of(trail.lits(), l))
+            }
+        }
+    }
+
+    /// Keeps no more than the first so many literals, where nothing is assumed, and visits that are
+    /// as if no others had been true. It takes no memory.
+    pub fn cut(&mut self, assumptions: &mut Assumptions, place: usize)
+        requires nothing_assumed { assumptions.old.assumptions ≡ [] }
+        requires inside { place ≤ length assumptions.old.trail.lits }
+        ensures kept { self.new.kept ≡ Cut }
+        ensures history { IsRewound self.old.history self.new.history
+            (length assumptions.new.trail.lits) }
+        ensures reasons { self.new.reasons ≡ self.old.reasons }
+        ensures lits { assumptions.new.trail.lits ≡
+            take (length assumptions.new.trail.lits) assumptions.old.trail.lits }
+        ensures fewer { length assumptions.new.trail.lits ≤ place }
+        ensures reserved { SameSet assumptions.new.trail.reserved assumptions.old.trail.reserved }
+        ensures assumptions { assumptions.new.assumptions ≡ [] }
+        ensures starts { assumptions.new.starts ≡ assumptions.old.starts }
+    {
+        let left = self.history.rewind(place);
+        assumptions.cut(left);
+        self.places.cut(left);
+        self.kept = Kept::Cut;
+    }
+
+    /// Gives the literal that is true by the clause in the slot another reason, where one is found.
+    /// It takes no memory.
+    fn change_reason(&mut self, store: &Store, lists: &mut WatchLists, trail: &Trail, slot: Slot)
+        requires alive { IsSome (maps.get store.now.live slot) }
+        requires apart { AreApart lists.old }
+        requires kept { IsKept store.now.live self.old trail.now.lits }
+        ensures kept { IsKept store.now.live self.new trail.now.lits }
+        ensures lists { AreUnchanged lists.old lists.new }
+    {
+        let Some(l) = made_true_by(&self.reasons, trail, store.clause(slot), slot.number()) else {
+            return;
+        };
+        if !lists.has_list(l) {
+            return;
+        }
+        let lits = trail.lits();
+        self.places.note(lits);
+        let list = lists.take_out(l);
+        let found = other_reason(store, &self.places, &list, lits, l, slot.number());
+        lists.put_back(l, list);
+        if let Some(other) = found {
+            self.reasons.set(key(l), other);
+        }
+    }
+
+    /// Takes note of a clause that is to be removed: what is kept by it is kept by another clause,
+    /// or is cut back to the place from which on it rests on it. It takes no memory.
+    pub fn leave(
+        &mut self,
+        store: &Store,
+        lists: &mut WatchLists,
+        assumptions: &mut Assumptions,
+        slot: Slot,
+    )
+        requires alive { IsSome (maps.get store.now.live slot) }
+        requires apart { AreApart lists.old }
+        requires nothing_assumed { assumptions.old.assumptions ≡ [] }
+        requires kept { IsKept store.now.live self.old assumptions.old.trail.lits }
+        ensures kept { IsKept (maps.remove store.now.live slot) self.new
+            assumptions.new.trail.lits }
+        ensures lists { AreUnchanged lists.old lists.new }
+        ensures reserved { SameSet assumptions.new.trail.reserved assumptions.old.trail.reserved }
+        ensures assumptions { assumptions.new.assumptions ≡ [] }
+        ensures starts { assumptions.new.starts ≡ assumptions.old.starts }
+    {
+        self.change_reason(store, lists, assumptions.trail(), slot);
+        let clause = store.clause(slot);
+        while let Some(place) = self.rests_from(assumptions.trail(), clause, slot.number()) {
+            self.cut(assumptions, place);
+        }
+    }
+}
