@@ -199,13 +199,13 @@ def deletions_of_reasons(n, of, first):
     return [line for c in gone for line in ("d " + clause(*c), clause(of, 3 * n + 1))]
 
 
-@kind(DRAT, 1000, is_linear=False)
+@kind(DRAT, 1000)
 def last_reasons(n):
     """The reasons of the last literal of a chain are deleted one after the other."""
     return with_reasons(n, n), deletions_of_reasons(n, n, (1 - n, n))
 
 
-@kind(DRAT, 1000, is_linear=False)
+@kind(DRAT, 1000)
 def first_reasons(n):
     """The reasons of the first literal of a chain are deleted one after the other."""
     return with_reasons(n, 1), deletions_of_reasons(n, 1, (1,))
