@@ -66,7 +66,10 @@ impl Clashed {
             IsWithin self.old.rest.items clause.now) }
         ensures same { self.new.rest ≡ self.old.rest }
     {
-        if self.rest.is_empty() {
+        let Some(first) = self.rest.first() else {
+            return Ok(false);
+        };
+        if !clause.contains(first) {
             return Ok(false);
         }
         self.looked_at.fill(clause)?;
