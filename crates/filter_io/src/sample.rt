@@ -1,4 +1,5 @@
-//! The first six and the last five bytes that were read of an input: what a hint is chosen by.
+//! The first 1024 and the last five bytes that were read of an input: what is told of a fault is
+//! chosen by them.
 //!
 //! A reader keeps them on the way, since an input that is a pipe can't be read twice.
 

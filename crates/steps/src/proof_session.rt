@@ -1,8 +1,7 @@
 //! The trait `ProofSession`: what every session does that checks a proof.
 //!
-//! It alone has the contract of a session. A `Rule` and a `State` of the definitions have a case
-//! for DRAT and one for LRAT, and so has all that is said of a session; callers of one read the
-//! contract with its case. So the engine is written once, for all sessions and readers.
+//! It alone has the contract of a session: so the engine is written once for all of them, and
+//! callers of one read the contract with its case of `Rule` and `State`.
 
 pub(crate) mod progress;
 

@@ -1,7 +1,4 @@
-//! The candidates of a DRAT addition that lacks RUP: the clauses that it is tried with.
-//!
-//! They are counted first, by the store's count of the clauses with each literal. Where there is
-//! none, none is looked for: so a definition, whose pivot is a new variable, costs what it is long.
+//! The candidates of a DRAT addition that lacks RUP. They are counted before they are sought.
 
 ghost use Rattle.std.specs.Prelude.{◌≡◌, ◌++◌, ℕ, Some, [], IsSome, IsTrue, IfOk, OnOk, true};
 ghost use Rattle.std.specs.List.{list_any};

@@ -1,7 +1,4 @@
-//! The candidates of an LRAT addition: those that groups of hints name, and the others.
-//!
-//! They are counted first: where groups name as many as clauses hold the complement of the pivot,
-//! there is no other, and none is looked for.
+//! The candidates of an LRAT addition, in groups or not. They are counted before they are sought.
 
 ghost use Rattle.std.specs.Prelude.{◌≡◌, ◌==◌, ◌||◌, ℕ, Some, [], IfOk, IfNone, IsTrue, IsFalse};
 ghost use Rattle.std.specs.List.Sorted.{IsStrictlyIncreasing};

@@ -1,7 +1,4 @@
-//! The candidates that groups of hints have named.
-//!
-//! They take memory only where a step has groups. The hints are numbers of the proof's choice, so
-//! they stand in a tree and are not hashed.
+//! The candidates that groups of hints named: a tree, since a proof chooses their numbers.
 
 ghost use Rattle.std.specs.Prelude.{◌≡◌, ℕ, ◌||◌, ◌==◌, not, length, [], IfOk, OnOk};
 ghost use Rattle.std.specs.Prelude.{nat_eq};

@@ -1,7 +1,5 @@
 //! How far a session has come: whether it is over or has verified the formula, and its peak.
-//!
-//! The sum of the live sizes is kept in one place, the store. Both sessions count the peak up to
-//! 2^64 - 1 from the start: a maximum of sums that stay there is the maximum, up to there.
+//! The peak saturates at 2^64 - 1: a maximum of saturated sums is the saturated maximum.
 
 ghost use Rattle.std.specs.Prelude.{◌≡◌, ◌||◌, max, true, false};
 ghost use Rattle.theory.specs.Verdicts.{is_last};
