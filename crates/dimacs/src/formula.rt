@@ -38,18 +38,8 @@ impl<R: In> Model for FormulaReader<R> {
 
     // Each field has to be named here. `stored` is the sum of the lengths of those that are lists
     // of literals: no field is a list.
-    ghost view = { λ record {
-      scanner = scanner;
-      header = header;
-      complete = complete;
-      kept = kept;
-    }. record {
-      stream = scanner;
-      header = header;
-      complete = complete;
-      kept = kept;
-      stored = sum [];
-    } };
+    ghost view = { λ record { scanner = scanner; header = header; complete = n; kept = kept }.
+        record { stream = scanner; header = header; complete = n; kept = kept; stored = sum [] } };
 
     ghost invariant = { λ r. (r.header.vars ≤ 268435455) × (r.complete ≤ r.header.clauses)
         × (r.kept ≡ Some (Ok true) → ⊥)
