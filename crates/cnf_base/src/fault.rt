@@ -1,8 +1,4 @@
-//! Faults: what is wrong with an input, and where.
-//!
-//! A fault of a text has a line and a column, one of a binary proof the number of a byte; a failed
-//! read and want of memory have no place. So no fault has a place that means nothing. A failed read
-//! and want of memory become faults by `From`, so that code passes both up by `?`.
+//! Faults: what is wrong with an input, and where, if it has a place.
 
 ghost use Rattle.std.specs.Prelude.{◌≡◌};
 ghost use Rattle.cnf_base.specs.declared.fault.Fault.TheVariants.{ReadFailed as Cut};

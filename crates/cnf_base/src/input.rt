@@ -1,11 +1,4 @@
 //! Readers of bytes: the trait `In`, and readers of the standard library that meet it.
-//!
-//! Contracts of `In` know more than those of std's readers: the end or the failure that was given,
-//! to which status 3 is tied; how many bytes may still be read, which bounds every loop and tells
-//! how much was read; and the borrows, by which an engine that lends its reader knows it again.
-//!
-//! std's readers may go on after an end or an error. `FromRead` keeps either, so that the contract
-//! of `In` can say so of every reader.
 ghost use Rattle.std.specs.Prelude.{◌≡◌, ◌+◌, ◌-◌, ◌^◌, ℕ, List, [], ◌∷◌, None, Some, is_some};
 ghost use Rattle.std.specs.Io.{ReadsAtMost};
 ghost use Rattle.std.specs.Io.KnownBytes.{ReadConsumes};

@@ -1,6 +1,4 @@
-//! Laws of what a run saw of a reader: some input is that, and the reader might have given it.
-//!
-//! The functions do nothing: their contracts are the theorems.
+//! Laws of what a run saw of a reader. The functions do nothing: their contracts are the theorems.
 
 ghost use Rattle.cnf_base.specs.Seen.{SeenMayBeGiven, SeenIsSome};
 

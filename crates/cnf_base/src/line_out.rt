@@ -1,6 +1,4 @@
 //! Lines out: each of fewer than 128 bytes in one write with its line feed.
-//!
-//! A line is put together in an array, without memory. A longer one goes out in two writes.
 ghost use Rattle.std.specs.Prelude.{◌≡◌, true, false, [], ◌∷◌, ◌++◌, Bool, List, ℕ, IsTrue, OnOk};
 ghost use Rattle.std.specs.Prelude.{OnErr};
 ghost use Rattle.std.specs.Io.KnownBytes.{Appends};

@@ -1,8 +1,4 @@
 //! Literals, as numbers: 2v for the variable v, and 2v + 1 for its complement.
-//!
-//! So each literal has a complement, which is another one, without a condition, and tables are
-//! indexed by literals. `new` takes an `i32`, as callers write literals. `from_number` takes a sign
-//! and a size of 64 bits, as a text has them: a literal that is too large must not be cut to 32.
 
 ghost use Rattle.std.specs.Prelude.{◌≡◌, ℕ, ◌+◌, ◌*◌, ◌/◌, ◌<◌, ◌≤◌, ◌↔◌, nat_abs, IsSome, IfSome};
 ghost use Rattle.cnf_base.specs.Literals.{literal_of, complement};

@@ -1,6 +1,4 @@
-//! The error of a growth that was refused: `OutOfMemory`.
-//!
-//! A call whose signature has no answer for it takes no memory.
+//! The error of a growth that was refused. A call that cannot answer it takes no memory.
 
 use std::alloc::{AllocError, AllocFailed};
 

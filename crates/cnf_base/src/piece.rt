@@ -1,7 +1,4 @@
-//! The room for one piece of an input: 65536 bytes.
-//!
-//! It is made before the source, since memory for it may be refused. So no engine has to take a
-//! reader back from a refusal; `Source::new` is for callers who want both at once.
+//! The room for one piece of an input: 65536 bytes, made before the source.
 
 ghost use Rattle.std.specs.Prelude.{◌≡◌, IfOk, length};
 

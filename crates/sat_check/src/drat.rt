@@ -1,9 +1,5 @@
-//! A check of a DRAT proof, from bytes to bytes.
-//!
-//! `run_drat` is the status of `run_drat_placed`: a caller who needs the verdict alone reads a
-//! contract without places. Each engine opens its reader itself, in lines that are alike but for
-//! the reader's type. A trait for that would have to name the type of a reader over a borrow of
-//! whatever is read, which the language does not have.
+//! A check of a DRAT proof, from bytes to bytes. Each engine opens its reader itself: a trait for
+//! it would have to name a type over a borrow, which the language does not have.
 
 ghost use Rattle.std.specs.Prelude.{◌≡◌, [], false};
 ghost use Rattle.std.specs.FinMap as maps;

@@ -1,7 +1,4 @@
-//! The status of a run: a verdict, or why there is none.
-//!
-//! A program ends with one type of status, whoever found it. So a wrong command line is one too
-//! (`Usage`), which no engine answers.
+//! The status of a run: a verdict, or why there is none, be it a wrong command line (`Usage`).
 
 ghost use Rattle.std.specs.Prelude.{◌≡◌};
 ghost use Rattle.sat_check.specs.Status.{code_of};

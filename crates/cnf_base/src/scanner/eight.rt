@@ -1,9 +1,5 @@
-//! The digits at the front of eight bytes, which are read as one number.
-//!
-//! Where a number ends can't be foretold, and one wrong guess costs more than all eight digits do.
-//! So no digit has a branch: bits tell how many are digits, and three multiplications join them. A
-//! longer number goes on digit by digit (`whole.rt`); one near the end of a piece is read byte by
-//! byte (`run.rt`).
+//! The digits at the front of eight bytes, which are read as one number. Where a number ends can't
+//! be foretold, and a wrong guess costs more than all digits do: so no digit has a branch.
 ghost use Rattle.std.specs.Prelude.{◌≡◌, ◌≤◌, length, map, ℕ, List, IfSome};
 ghost use Rattle.std.specs.List.{prefix_len};
 ghost use Rattle.cnf_base.specs.Words.{is_digit};

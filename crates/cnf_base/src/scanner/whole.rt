@@ -1,5 +1,4 @@
-//! Numbers that stand whole in what was read at once: they are read with no look at the source for
-//! each byte.
+//! Numbers that stand whole in what was read at once, without a look at the source for each byte.
 ghost use Rattle.std.specs.Prelude.{◌≡◌, ◌+◌, ◌*◌, ◌<◌, ◌≤◌, length, take, IfSome};
 ghost use Rattle.cnf_base.specs.Code.Whole.{IsWholeNumber, GoOn};
 
