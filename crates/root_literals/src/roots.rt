@@ -1,9 +1,10 @@
 //! The root-level literals that are kept, each with its reason, the clause that made it true.
 //!
-//! The removal of a clause that is no reason, nor the clause of a kept clash, changes nothing. That
-//! of a reason cuts the kept literals back to the place of its own: those before it have reasons of
-//! literals before them alone. What still follows is found again at the next assumption. So a
-//! deletion costs what was cut, and a look at each unit clause.
+//! The removal of a clause that is no reason, nor the clause of a kept clash, changes nothing. Where
+//! a reason is removed, another clause takes its place if there is one by literals before its own.
+//! Else the kept literals are cut back to that one: those before it have reasons of literals before
+//! them alone. What still follows is found again at the next assumption. So a deletion costs what
+//! was cut, and a look at each unit clause.
 //!
 //! A unit clause that is added becomes the reason of its literal even where that is true already:
 //! solvers add one, and then delete the clauses that it satisfies. A reason stays in the table when
