@@ -161,8 +161,9 @@ impl Propagate for Scan {
         self.store.insert(lits)
     }
 
-    fn remove(&mut self, slot: Slot) {
+    fn remove(&mut self, slot: Slot) -> bool {
         self.store.remove(slot);
+        false
     }
 
     fn find(&mut self, lits: &[Lit]) -> Option<Slot> {

@@ -17,8 +17,10 @@ ghost use Rattle.std.specs.FinMap as maps;
 ghost use Rattle.cnf_base.specs.Literals.{Literal, Clause, complement, has};
 ghost use Rattle.tables.specs.Table.{at};
 ghost use Rattle.trail.specs.Trail.{HasRoom};
+ghost use Rattle.theory.specs.Propagation.{IsRootReason};
 ghost use Rattle.theory.specs.Sets.{SameSet, conflicts};
 ghost use Rattle.root_literals.specs.History.{IsRewound};
+ghost use Rattle.root_literals.specs.Order.{each_in_order};
 ghost use Rattle.root_literals.specs.Roots.{HasReasons, IsArranged, IsKept, has_clash, is_cut};
 ghost use Rattle.root_literals.specs.Roots.{is_up_to_date};
 ghost use Rattle.root_literals.specs.Watched.{AreUnchanged};
@@ -271,43 +273,57 @@ impl Roots {
     }
 
     /// Gives the literal that is true by the clause in the slot another reason, where one is found.
-    /// It takes no memory.
-    fn change_reason(&mut self, store: &Store, lists: &mut WatchLists, trail: &Trail, slot: Slot)
+    /// Tells whether the literal still rests on that clause. It takes no memory.
+    fn change_reason(
+        &mut self,
+        store: &Store,
+        lists: &mut WatchLists,
+        trail: &Trail,
+        slot: Slot,
+    ) -> bool
         requires alive { IsSome (maps.get store.now.live slot) }
         requires apart { AreApart lists.old }
         requires kept { IsKept store.now.live self.old trail.now.lits }
         ensures kept { IsKept store.now.live self.new trail.now.lits }
         ensures lists { AreUnchanged lists.old lists.new }
+        ensures rests { result ≡ true → (l : Literal) × IsTrue (has trail.now.lits l)
+            × (at self.new.reasons l ≡ Some slot) }
     {
         let Some(l) = made_true_by(&self.reasons, trail, store.clause(slot), slot.number()) else {
-            return;
+            return false;
         };
         if !lists.has_list(l) {
-            return;
+            return true;
         }
         let lits = trail.lits();
         self.places.note(lits);
         let list = lists.take_out(l);
         let found = other_reason(store, &self.places, &list, lits, l, slot.number());
         lists.put_back(l, list);
-        if let Some(other) = found {
-            self.reasons.set(key(l), other);
-        }
+        let Some(other) = found else {
+            return true;
+        };
+        self.reasons.set(key(l), other);
+        false
     }
 
     /// Takes note of a clause that is to be removed: what is kept by it is kept by another clause,
-    /// or is cut back to the place from which on it rests on it. It takes no memory.
+    /// or is cut back to the place from which on it rests on it. Tells whether a literal rested on
+    /// it. It takes no memory.
     pub fn leave(
         &mut self,
         store: &Store,
         lists: &mut WatchLists,
         assumptions: &mut Assumptions,
         slot: Slot,
-    )
+    ) -> bool
         requires alive { IsSome (maps.get store.now.live slot) }
         requires apart { AreApart lists.old }
         requires nothing_assumed { assumptions.old.assumptions ≡ [] }
         requires kept { IsKept store.now.live self.old assumptions.old.trail.lits }
+        ensures root_reason { result ≡ true → (c : Clause) →
+            maps.get (each_in_order store.now.live) slot ≡ Some c →
+            IsRootReason (maps.get (each_in_order store.now.live)) c }
         ensures kept { IsKept (maps.remove store.now.live slot) self.new
             assumptions.new.trail.lits }
         ensures lists { AreUnchanged lists.old lists.new }
@@ -315,10 +331,11 @@ impl Roots {
         ensures assumptions { assumptions.new.assumptions ≡ [] }
         ensures starts { assumptions.new.starts ≡ assumptions.old.starts }
     {
-        self.change_reason(store, lists, assumptions.trail(), slot);
+        let is_reason = self.change_reason(store, lists, assumptions.trail(), slot);
         let clause = store.clause(slot);
         while let Some(place) = self.rests_from(assumptions.trail(), clause, slot.number()) {
             self.cut(assumptions, place);
         }
+        is_reason
     }
 }

@@ -94,7 +94,7 @@ pub(crate) fn delete<P: Propagate>(
     match is_kept(clauses, rules, slot) {
         Ok(true) => Ok(Accepted::Ignored),
         Ok(false) => {
-            clauses.remove(slot);
+            let _ = clauses.remove(slot);
             Ok(Accepted::Deleted)
         }
         Err(_) => Err(Refusal::OutOfMemory),
