@@ -38,8 +38,9 @@ const MOST: usize = 4294967296;
 /// By how many entries a list grows at least.
 const LEAST_GROWTH: usize = 2;
 
-/// For how many entries a list keeps room, however few it has.
-const LEAST_KEPT: usize = 8;
+/// For how many entries a list keeps room, once it had as many. Watch lists of that length lose
+/// most of their entries and get others all the time.
+const LEAST_KEPT: usize = 32;
 
 /// How many entries these lists have in all; `2^64 - 1` where they are more.
 fn total_len<T: Copy + Drop>(lists: &Vec<Vec<T>>) -> u64
@@ -72,7 +73,7 @@ fn add<T: Copy + Drop>(list: &mut Vec<T>, entry: T) -> Result<(), OutOfMemory>
 fn shrink<T: Copy + Drop>(list: &mut Vec<T>)
     ensures { list.new.items ≡ list.old.items }
 {
-    list.shrink_to(list.len().saturating_mul(2));
+    list.shrink_to(list.len().saturating_mul(2).max(LEAST_KEPT));
 }
 
 /// Takes room from a list that has fallen below a quarter of it.

@@ -100,6 +100,9 @@ impl<T: Copy + Drop> Table<T> {
         if let Some(Some(value)) = self.dense.as_slice().get(key as usize) {
             return Some(value);
         }
+        if self.sparse.is_empty() {
+            return None;
+        }
         self.look_up_far(key)
     }
 

@@ -16,9 +16,9 @@ ghost use Rattle.theory.specs.Propagation.{open_literals};
 ghost use Rattle.trail.specs.Left.{AreFalseFrom, IsOpenAt, how_many};
 ghost use Rattle.trail.specs.Code.Left.{IsCount};
 ghost use Rattle.trail.specs.Trail.{value_under, is_variable, HasNoVariableTwice, HasRoom};
-ghost use Rattle.trail.specs.Trail.{MakesFalse};
+ghost use Rattle.trail.specs.Trail.{AreNear, MakesFalse};
 ghost use Rattle.theory.specs.Sets.{SameSet, conflicts};
-ghost use Rattle.trail.specs.Code.Values.{AreNear, value_at, known_value};
+ghost use Rattle.trail.specs.Code.Values.{value_at, known_value};
 ghost use Rattle.trail.specs.declared.value.Value.TheVariants.{Open};
 
 use self::values::Values;
@@ -291,13 +291,33 @@ impl Trail {
         false
     }
 
-    /// The values that lie near. A loop asks for them once: else it would have their place read
-    /// again for each literal.
+    /// The values that lie near, by literal. A loop asks for them once: else it would have their
+    /// place read again for each literal.
     #[inline(always)]
-    fn near(&self) -> &[Value]
+    pub fn near(&self) -> &[Value]
         ensures { AreNear self.now.lits result.now }
     {
         self.values.near()
+    }
+
+    /// Whether the literal is true, which one of these near values may say.
+    #[inline(always)]
+    pub fn is_true_near(&self, near: &[Value], l: Lit) -> bool
+        requires { AreNear self.now.lits near.now }
+        ensures { result ≡ has self.now.lits l }
+    {
+        match near.get(l.index()) {
+            Some(value) => matches!(value, Value::True),
+            None => self.is_true_far(l),
+        }
+    }
+
+    #[cold]
+    #[inline(never)]
+    fn is_true_far(&self, l: Lit) -> bool
+        ensures { result ≡ has self.now.lits l }
+    {
+        self.is_true(l)
     }
 
     /// Whether the literal is false, where its value is one of these near ones.

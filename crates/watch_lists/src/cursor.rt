@@ -61,9 +61,10 @@ impl Cursor {
         ensures inside { self.new.visited ≤ length self.new.entries }
         ensures next { result ≡ slice_get self.new.entries self.new.visited }
     {
+        let near = trail.near();
         while self.next < self.list.len() {
             let entry = self.list[self.next];
-            if !trail.is_true(entry.blocking) {
+            if !trail.is_true_near(near, entry.blocking) {
                 return Some(entry);
             }
             self.keep(entry);

@@ -4,7 +4,7 @@
 //! list would take sixteen. The maps hash the hashes once more, by constants. They need no seed,
 //! since nobody can foresee the hashes.
 
-ghost use Rattle.std.specs.Prelude.{◌≡◌, ◌≢◌, ℕ, None, nat_eq, ◌==◌, ◌-◌, ◌<◌, [], ◌∷◌, ◌++◌};
+ghost use Rattle.std.specs.Prelude.{◌≡◌, ◌≢◌, ℕ, None, Some, nat_eq, ◌==◌, ◌-◌, ◌<◌, [], ◌∷◌, ◌++◌};
 ghost use Rattle.std.specs.Prelude.{length, swap_remove, slice_index, if◌then◌else◌, IfOk, OnOk};
 ghost use Rattle.std.specs.Prelude.{OnErr};
 ghost use Rattle.std.specs.HashMap.{get};
@@ -69,7 +69,6 @@ impl Buckets {
             (if h == hash then bucket_at self.old h ++ slot ∷ [] else bucket_at self.old h)) }
         ensures err { OnErr result ((h : ℕ) → bucket_at self.new h ≡ bucket_at self.old h) }
     {
-        let alloc = self.alloc;
         if let Some(slots) = self.many.get_mut(&hash) {
             let Ok(place) = u32::try_from(slots.len()) else {
                 return Err(OutOfMemory);
@@ -77,17 +76,44 @@ impl Buckets {
             slots.push(slot)?;
             return Ok(place);
         }
-        match self.single.get(&hash) {
-            Some(first) => {
-                let slots = both(alloc, *first, slot)?;
-                self.many.insert(hash, slots)?;
-                Ok(1)
-            }
-            None => {
-                self.single.insert(hash, slot)?;
-                Ok(0)
-            }
+        self.widen();
+        match self.single.insert(hash, slot)? {
+            Some(first) => self.join(hash, first, slot),
+            None => Ok(0),
         }
+    }
+
+    /// Makes the map of single slots four times as long where it is full, if memory allows: it is
+    /// hashed anew each time that it grows.
+    fn widen(&mut self)
+        ensures buckets { (h : ℕ) → bucket_at self.new h ≡ bucket_at self.old h }
+        ensures many { self.new.many ≡ self.old.many }
+        ensures single { (h : ℕ) → get nat_eq self.new.single h ≡ get nat_eq self.old.single h }
+    {
+        let len = self.single.len();
+        if len == self.single.capacity() {
+            let _ = self.single.reserve(len.saturating_mul(3));
+        }
+    }
+
+    /// Makes a bucket of two slots, of which the map of single slots has the second.
+    fn join(&mut self, hash: u32, first: u32, second: u32) -> Result<u32, OutOfMemory>
+        requires one { get nat_eq self.old.many hash ≡ None }
+        requires second { get nat_eq self.old.single hash ≡ Some second }
+        ensures place { IfOk result (λ place. place ≡ 1) }
+        ensures ok { OnOk result ((h : ℕ) → bucket_at self.new h ≡
+            (if h == hash then first ∷ second ∷ [] else bucket_at self.old h)) }
+        ensures err { OnErr result ((h : ℕ) → bucket_at self.new h ≡
+            (if h == hash then first ∷ [] else bucket_at self.old h)) }
+    {
+        if let Ok(slots) = both(self.alloc, first, second)
+            && self.many.insert(hash, slots).is_ok()
+        {
+            return Ok(1);
+        }
+        // This key is there, so that it takes no memory.
+        let _ = self.single.insert(hash, first);
+        Err(OutOfMemory)
     }
 
     /// Takes the slot at a place out of the bucket of a hash. The last slot takes that place, and

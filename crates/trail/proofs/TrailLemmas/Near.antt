@@ -3,8 +3,8 @@ use Rattle.std.proofs.Common.{◌≡◌, ℕ, ◌<◌, Option, List, length, get
 use Rattle.std.specs.Option.{option_or}
 use Rattle.std.specs.Prelude.{slice_get}
 use Rattle.std.proofs.lemmas.Option.{slice_get_read}
-use Rattle.trail.specs.Trail.{value_under, HasNoVariableTwice}
-use Rattle.trail.specs.Code.Values.{AreNear, known_value}
+use Rattle.trail.specs.Trail.{AreNear, value_under, HasNoVariableTwice}
+use Rattle.trail.specs.Code.Values.{known_value}
 use Rattle.trail.specs.declared.value.Value.{Value}
 
 pub are_near : (near : List Value) (far : ℕ → Option Value) (lits : List ℕ) → ((l : ℕ) → known_value (option_or (slice_get near l) (far l)) ≡ value_under lits l) → HasNoVariableTwice lits → AreNear lits near

@@ -1,7 +1,7 @@
 -- How the code holds a trail: a value by literal.
 use Rattle.std.specs.Option.{option_or}
 use Rattle.std.specs.Prelude.{ℕ, Option, slice_get, unwrap_or, ◌≡◌, ◌≤◌, List, map, length, is_some}
-use Rattle.std.specs.Prelude.{IsTrue, IsSome, Some}
+use Rattle.std.specs.Prelude.{IsTrue, IsSome}
 use Rattle.cnf_base.specs.Literals.{Literal, variable, has}
 use Rattle.tables.specs.Table.{at}
 use Rattle.trail.specs.Trail.{value_under, HasNoVariableTwice}
@@ -27,8 +27,3 @@ pub record IsTrail {T : Type 0} (lits : List Literal) (reserved : List ℕ) (cap
   pub noted : (v : ℕ) → is_some (seen v) ≡ has reserved v
   pub known : (l : Literal) → IsTrue (has reserved (variable l)) → IsSome (value_of l)
   pub values : (l : Literal) → known_value (value_of l) ≡ value_under lits l
-
--- values by literal that say what the trail says, which has no variable twice
-pub record AreNear (lits : List Literal) (near : List Value) : Type 0 where
-  pub different : HasNoVariableTwice lits
-  pub says : (l : Literal) (v : Value) → slice_get near l ≡ Some v → v ≡ value_under lits l

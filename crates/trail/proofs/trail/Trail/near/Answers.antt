@@ -1,6 +1,6 @@
 use Rattle.std.proofs.Common.{sym, ap, subst}
 use Rattle.tables.specs.Table.{at}
-use Rattle.trail.specs.Code.Values.{AreNear}
+use Rattle.trail.specs.Trail.{AreNear}
 use Rattle.trail.proofs.TrailLemmas.Near.{are_near}
 use Rattle.trail.proofs.trail.Trail.near.Goals as goal
 
