@@ -230,11 +230,25 @@ def chain_from_front(n):
     return [(1,), *chain], deletions(chain, clause(1, n + 1))
 
 
-@kind(DRAT, 1000, is_linear=False)
+@kind(DRAT, 1000)
 def units_from_behind(n):
-    """Unit clauses are deleted from the last, with a step after each, which looks at all that are left."""
+    """Unit clauses are deleted from the last, with a step after each. No other clause has their variables."""
     units = [(i,) for i in range(1, n + 1)]
     return units, deletions(units[:0:-1], clause(1, n + 1))
+
+
+@kind(DRAT, 1000)
+def units_from_front(n):
+    """The same from the first."""
+    units = [(i,) for i in range(1, n + 1)]
+    return units, deletions(units[:-1], clause(n, n + 1))
+
+
+@kind(DRAT, 1000, is_linear=False)
+def units_of_clauses(n):
+    """The same from the last, where each literal satisfies a clause that a false one watches."""
+    units = [(i,) for i in range(1, n + 1)] + [(-i,) for i in range(n + 1, 2 * n + 1)]
+    return units + [(i, n + i, 2 * n + 1) for i in range(1, n + 1)], deletions(units[n - 1:0:-1], clause(1, 2 * n + 2))
 
 
 def written(made, formula, proof):

@@ -1,9 +1,10 @@
 //! The assumptions that stand, and the literals that are true.
 
-ghost use Rattle.std.specs.Prelude.{◌≡◌, ◌≢◌, ◌≤◌, ℕ, ◌/◌, ◌++◌, ◌∷◌, [], not, filter, take, drop};
+ghost use Rattle.std.specs.Prelude.{◌≡◌, ◌≢◌, ◌<◌, ◌≤◌, ℕ, ◌/◌, ◌++◌, ◌∷◌, [], not, filter, take, drop};
 ghost use Rattle.std.specs.Prelude.{length, slice_index, is_some, List, IsTrue, IsFalse, IsSome};
 ghost use Rattle.std.specs.Prelude.{IfOk, OnOk, OnErr, if◌then◌else◌};
 ghost use Rattle.std.specs.Bool.{OnFalse};
+ghost use Rattle.std.specs.List.{remove};
 ghost use Rattle.cnf_base.specs.Literals.{Literal, complement, complements, has};
 ghost use Rattle.propagation.specs.Assumptions.{Assumption, MayAssume, assumed_by, roots_in};
 ghost use Rattle.propagation.specs.Code.Levels.{Notes};
@@ -243,6 +244,18 @@ impl Assumptions {
         ensures starts { self.new.starts ≡ self.old.starts }
     {
         self.trail.undo_to(n);
+    }
+
+    /// Takes one literal back, where nothing is assumed. It takes no memory.
+    pub fn take_out(&mut self, place: usize)
+        requires nothing_assumed { self.old.assumptions ≡ [] }
+        requires inside { place < length self.old.trail.lits }
+        ensures lits { self.new.trail.lits ≡ remove self.old.trail.lits place }
+        ensures reserved { SameSet self.new.trail.reserved self.old.trail.reserved }
+        ensures assumptions { self.new.assumptions ≡ [] }
+        ensures starts { self.new.starts ≡ self.old.starts }
+    {
+        self.trail.take_out(place);
     }
 
     /// Takes back the last assumption, in constant time and with no memory.

@@ -5,3 +5,4 @@ pub mod Reasons
 pub mod History
 pub mod Kept
 pub mod Entered
+pub mod Lone

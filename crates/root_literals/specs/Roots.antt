@@ -110,6 +110,18 @@ abbrev pub IsStanding : Kept → List Assumption → Type 0
 IsStanding kept [] = ⊤
 IsStanding kept (last ∷ rest) = is_up_to_date kept ≡ true
 
+-- ---- A clause that is removed
+
+-- no clause has the literal
+abbrev pub IsAbsent : Live → Literal → Type 0
+IsAbsent live l = (s : ℕ) (c : Clause) → live s ≡ Some c → IsFalse (has c l)
+
+-- no literal behind the place has a reason with the complement of this one
+abbrev pub IsUnneeded : Live → (Literal → Option ℕ) → List Literal → ℕ → Literal → Type 0
+IsUnneeded live reason_of lits place l =
+    (q s : ℕ) (c : Clause) → place < q → q < length lits →
+    reason_of (slice_index lits q) ≡ Some s → live s ≡ Some c → IsFalse (has c (complement l))
+
 -- ---- A clause that is added
 
 -- a literal that is not false was brought to a place, if there was one from it on

@@ -5,7 +5,8 @@
 //! more literals than are left. Where there is none, nothing is kept and all is found again: visits
 //! that began while all of these literals were true would tell nothing of the next cut either.
 
-ghost use Rattle.std.specs.Prelude.{◌≡◌, ◌≤◌, ◌++◌, ◌∷◌, [], true, OnOk, if◌then◌else◌};
+ghost use Rattle.std.specs.Prelude.{◌≡◌, ◌<◌, ◌≤◌, ◌++◌, ◌∷◌, [], true, OnOk, if◌then◌else◌};
+ghost use Rattle.std.specs.List.{remove};
 ghost use Rattle.root_literals.specs.History.{IsRewound, visits};
 
 use cnf_base::OutOfMemory;
@@ -60,6 +61,19 @@ impl History {
     {
         if is_doubtful {
             self.floor = trues;
+        }
+    }
+
+    /// The literal at this place is taken back, because of which no clause was let alone. Its own
+    /// visit goes with it, if it was made. It takes no memory.
+    pub(crate) fn take_out(&mut self, place: usize)
+        ensures gone { place < visits self.old →
+            self.new.visited.items ≡ remove self.old.visited.items place }
+        ensures stays { visits self.old ≤ place → self.new.visited.items ≡ self.old.visited.items }
+        ensures floor { self.new.floor ≡ self.old.floor }
+    {
+        if place < self.len() {
+            self.visited.remove(place);
         }
     }
 

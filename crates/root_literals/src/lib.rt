@@ -2,6 +2,7 @@
 #![tactic(auto)]
 
 mod history;
+mod lone;
 mod other_reason;
 mod places;
 mod roots;

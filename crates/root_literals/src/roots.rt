@@ -29,6 +29,7 @@ ghost use Rattle.trail.specs.declared.left.Left.TheVariants.{More};
 ghost use Rattle.root_literals.specs.declared.roots.Kept.TheVariants.{Behind, Clash, Cut};
 
 use crate::history::History;
+use crate::lone::{is_needed, lone_literal};
 use crate::other_reason::other_reason;
 use crate::places::Places;
 use clause_db::{Slot, Store};
@@ -125,17 +126,22 @@ fn made_true_by(reasons: &Table<u32>, trail: &Trail, clause: &[Lit], slot: usize
     None
 }
 
-/// The place of a literal, sought from the end.
+/// The place of a literal, sought from both ends.
 fn place_of(lits: &[Lit], l: Lit) -> usize
     requires { IsTrue (has lits.now l) }
     ensures inside { result < length lits.now }
     ensures literal { slice_index lits.now result ≡ l }
 {
-    let mut place = lits.len();
-    while place > 0 {
-        place -= 1;
-        if lits[place] == l {
-            return place;
+    let mut before = 0;
+    let mut behind = lits.len();
+    while before < behind {
+        if lits[before] == l {
+            return before;
+        }
+        before += 1;
+        behind -= 1;
+        if lits[behind] == l {
+            return behind;
         }
     }
     0
@@ -307,6 +313,41 @@ impl Roots {
         false
     }
 
+    /// Takes back the literal of a clause that is to be removed, and no other, where no other clause
+    /// has it and no literal rests on it. Tells whether it is so. It takes no memory.
+    fn take_back_alone(&mut self, store: &Store, assumptions: &mut Assumptions, slot: Slot) -> bool
+        requires alive { IsSome (maps.get store.now.live slot) }
+        requires nothing_assumed { assumptions.old.assumptions ≡ [] }
+        requires kept { IsKept store.now.live self.old assumptions.old.trail.lits }
+        ensures kept { result ≡ true → IsKept (maps.remove store.now.live slot) self.new
+            assumptions.new.trail.lits }
+        ensures root_reason { result ≡ true → (c : Clause) →
+            maps.get (each_in_order store.now.live) slot ≡ Some c →
+            IsRootReason (maps.get (each_in_order store.now.live)) c }
+        ensures same { result ≡ false →
+            (self.new ≡ self.old) × (assumptions.new ≡ assumptions.old) }
+        ensures reserved { SameSet assumptions.new.trail.reserved assumptions.old.trail.reserved }
+        ensures assumptions { assumptions.new.assumptions ≡ [] }
+        ensures starts { assumptions.new.starts ≡ assumptions.old.starts }
+    {
+        let Some(l) = lone_literal(store, slot) else {
+            return false;
+        };
+        let is_true = assumptions.trail().is_true(l);
+        if !is_true || self.has_clash() || !is_reason(&self.reasons, l, slot.number()) {
+            return false;
+        }
+        let lits = assumptions.trail().lits();
+        let place = place_of(lits, l);
+        if is_needed(store, &self.reasons, lits, place, l) {
+            return false;
+        }
+        self.history.take_out(place);
+        self.places.cut(place);
+        assumptions.take_out(place);
+        true
+    }
+
     /// Takes note of a clause that is to be removed: what is kept by it is kept by another clause,
     /// or is cut back to the place from which on it rests on it. Tells whether a literal rested on
     /// it. It takes no memory.
@@ -331,6 +372,9 @@ impl Roots {
         ensures assumptions { assumptions.new.assumptions ≡ [] }
         ensures starts { assumptions.new.starts ≡ assumptions.old.starts }
     {
+        if self.take_back_alone(store, assumptions, slot) {
+            return true;
+        }
         let is_reason = self.change_reason(store, lists, assumptions.trail(), slot);
         let clause = store.clause(slot);
         while let Some(place) = self.rests_from(assumptions.trail(), clause, slot.number()) {

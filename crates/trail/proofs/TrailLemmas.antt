@@ -4,3 +4,4 @@ pub mod MakesFalse
 pub mod Near
 pub mod Truth
 pub mod Values
+pub mod Without

@@ -11,6 +11,7 @@ mod values;
 ghost use Rattle.std.specs.Prelude.{◌≡◌, ℕ, ◌*◌, ◌/◌, ◌-◌, ◌==◌, ◌<◌, ◌≤◌, ◌||◌, ◌&&◌, not, []};
 ghost use Rattle.std.specs.Prelude.{◌∷◌, ◌++◌, filter, length, map, take, is_some, IsSome, IsTrue};
 ghost use Rattle.std.specs.Prelude.{IsFalse, ◌↔◌, IfSome, IfNone, IfOk, OnOk, OnErr, if◌then◌else◌};
+ghost use Rattle.std.specs.List.{remove};
 ghost use Rattle.cnf_base.specs.Literals.{complement, has, variable};
 ghost use Rattle.theory.specs.Propagation.{open_literals};
 ghost use Rattle.trail.specs.Left.{AreFalseFrom, IsOpenAt, how_many};
@@ -209,6 +210,16 @@ impl Trail {
     {
         open_all(&mut self.values, &self.lits[n..]);
         self.lits.truncate(n);
+    }
+
+    /// Takes one literal back, and leaves the others in their order. It takes no memory.
+    pub fn take_out(&mut self, place: usize)
+        requires { place < length self.old.lits }
+        ensures lits { self.new.lits ≡ remove self.old.lits place }
+        ensures reserved { (v : ℕ) → has self.new.reserved v ≡ has self.old.reserved v }
+    {
+        let l = self.lits.remove(place);
+        self.values.set_both(l, Value::Open, Value::Open);
     }
 
     /// The literals, in the order in which they were set.

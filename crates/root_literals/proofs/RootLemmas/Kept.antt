@@ -165,7 +165,7 @@ module _ (live : FinMap nat_cmp Clause) (slot : ℕ) where
   pub gone : (s : ℕ) → s ≡ slot → maps.get (maps.remove live slot) s ≡ None
   gone s e = get_remove live slot s ∙ ap (λ b. cond b None (maps.get live s)) (eq-eqb s slot e)
 
-  was_there : (s : ℕ) (d : Clause) → maps.get (maps.remove live slot) s ≡ Some d → maps.get live s ≡ Some d
+  pub was_there : (s : ℕ) (d : Clause) → maps.get (maps.remove live slot) s ≡ Some d → maps.get live s ≡ Some d
   was_there s d is = elim (cases_eq s slot) [
     | inl e ↦ absurd (none-some d (sym (gone s e) ∙ is))
     | inr ne ↦ sym (elsewhere s ne) ∙ is
@@ -177,10 +177,10 @@ module _ (live : FinMap nat_cmp Clause) (slot : ℕ) where
     | inr ne ↦ get_ordered live s ∙ ap (option_map in_order) (sym (elsewhere s ne)) ∙ sym (get_ordered (maps.remove live slot) s) ∙ is
   ]
 
-  still_seen : (s : ℕ) → s ≢ slot → (d : Clause) → maps.get (each_in_order live) s ≡ Some d → maps.get (each_in_order (maps.remove live slot)) s ≡ Some d
+  pub still_seen : (s : ℕ) → s ≢ slot → (d : Clause) → maps.get (each_in_order live) s ≡ Some d → maps.get (each_in_order (maps.remove live slot)) s ≡ Some d
   still_seen s ne d is = get_ordered (maps.remove live slot) s ∙ ap (option_map in_order) (elsewhere s ne) ∙ sym (get_ordered live s) ∙ is
 
-  noted_left : (reason_of : Literal → Option ℕ) → AreNoted (maps.get (each_in_order live)) reason_of → AreNoted (maps.get (each_in_order (maps.remove live slot))) reason_of
+  pub noted_left : (reason_of : Literal → Option ℕ) → AreNoted (maps.get (each_in_order live)) reason_of → AreNoted (maps.get (each_in_order (maps.remove live slot))) reason_of
   noted_left reason_of noted = record { each = λ s d is. noted.each s d (was_seen s d is) }
 
   watched_left : (done trues : List Literal) → IsWatched (maps.get live) done trues → IsWatched (maps.get (maps.remove live slot)) done trues

@@ -33,7 +33,7 @@ or_nothing : (b : Bool) → (b || false) ≡ b
 or_nothing true = refl
 or_nothing false = refl
 
-value_by_tests : (lits : List ℕ) (l : ℕ) (a b : Bool) → has lits l ≡ a → has lits (complement l) ≡ b → value_under lits l ≡ cond a True (cond b False Open)
+pub value_by_tests : (lits : List ℕ) (l : ℕ) (a b : Bool) → has lits l ≡ a → has lits (complement l) ≡ b → value_under lits l ≡ cond a True (cond b False Open)
 value_by_tests lits l a b p q = rw (p, q) refl
 
 -- ---- One more literal at the end

@@ -1,10 +1,14 @@
-use Rattle.std.proofs.Common.{◌≡◌, ◌≤◌, true, length, take}
+use Rattle.std.proofs.Common.{◌≡◌, ◌≤◌, true, false, length, take}
 use Rattle.cnf_base.specs.Literals.{has}
 use Rattle.root_literals.proofs.roots.place_of.Given as goal
 
-abbrev pub invariant-loop-place : goal.invariant-loop-place
-invariant-loop-place l =
-    record { inside : l.place ≤ length l.lits; before : has (take l.place l.lits) l.l ≡ true }
+abbrev pub invariant-loop-before : goal.invariant-loop-before
+invariant-loop-before l = record {
+  inside : l.behind ≤ length l.lits;
+  low : l.before ≤ length l.lits;
+  absent : has (take l.before l.lits) l.l ≡ false;
+  there : has (take l.behind l.lits) l.l ≡ true;
+}
 
-abbrev pub decreases-loop-place : goal.decreases-loop-place
-decreases-loop-place l = l.place
+abbrev pub decreases-loop-before : goal.decreases-loop-before
+decreases-loop-before l = l.behind

@@ -1,0 +1,301 @@
+-- What is kept where a literal is taken back of which no clause knows but its unit clause.
+use Rattle.std.proofs.Common.{◌≡◌, ◌≢◌, ℕ, ◌+◌, ◌<◌, ◌≤◌, Bool, true, false, ◌||◌, eqb, eqb-true}
+use Rattle.std.proofs.Common.{eq-eqb, Option, Some, List, [], ◌∷◌, length, get_or, take, refl, sym, ap}
+use Rattle.std.proofs.Common.{◌∙◌, subst, arith, inl, inr, ◌⊎◌}
+use Rattle.std.specs.List.{remove}
+use Rattle.std.specs.Ordering.{nat_cmp}
+use Rattle.std.specs.FinMap as maps
+use Rattle.std.specs.FinMap.{FinMap}
+use Rattle.std.proofs.lemmas.Bool.{cases_eq, cases_lt, false≢true, false_from_ne_true, or_cases, or_left, or_right, true≢false}
+use Rattle.std.proofs.lemmas.List.Edits.{get_or-remove_above, get_or-remove_below, length-remove}
+use Rattle.std.proofs.lemmas.Option.{same_Some}
+use Rattle.cnf_base.specs.Literals.{Literal, complement, Clause, has, variable}
+use Rattle.cnf_base.proofs.LiteralLemmas.{complement-complement}
+use Rattle.cnf_base.proofs.SetLemmas.{has_cases, has_head}
+use Rattle.cnf_base.proofs.MemberLemmas.{has_front, place_in_front}
+use Rattle.clause_db.specs.Store.{copies_with}
+use Rattle.tables.specs.Table.{at}
+use Rattle.propagation.specs.Assumptions.{HasAt}
+use Rattle.propagation.proofs.PropagationLemmas.Counts.{copies_without, none_with}
+use Rattle.trail.specs.Trail.{HasNoVariableTwice}
+use Rattle.trail.proofs.TrailLemmas.Truth.{places_apart}
+use Rattle.trail.proofs.TrailLemmas.Without.{IsFront, front_before, front_still, front_was, none_left}
+use Rattle.trail.proofs.TrailLemmas.Without.{still_there, was_there as was_true}
+use Rattle.root_literals.specs.History.{IsHistory, trues_at, visits}
+use Rattle.root_literals.specs.Order.{each_in_order}
+use Rattle.root_literals.specs.Roots.{AreNoted, AreReasoned, FollowsReasons, HaveUnits}
+use Rattle.root_literals.specs.Roots.{IsAbsent, IsKept, IsKnown, IsUnneeded, has_clash}
+use Rattle.root_literals.specs.Watched.{HasUnit, IsPart, IsWatched}
+use Rattle.root_literals.specs.declared.history.History.{History}
+use Rattle.root_literals.specs.declared.roots.Kept.{Kept}
+use Rattle.root_literals.specs.declared.roots.Kept.TheVariants.{Cut, Behind, All}
+use Rattle.root_literals.specs.declared.roots.Kept.TheVariants.{Clash as KeptClash}
+use Rattle.root_literals.specs.declared.roots.Roots.{Roots}
+use Rattle.root_literals.proofs.RootLemmas.History.{front_in_front}
+use Rattle.root_literals.proofs.RootLemmas.Kept.{noted_left, still_seen, was_there}
+use Rattle.root_literals.proofs.RootLemmas.Order.{seen_has_at, there_seen}
+use Rattle.root_literals.proofs.RootLemmas.Watched.{front_part}
+
+-- one clause has the literal
+pub absent_else : (live : FinMap nat_cmp Clause) (slot : ℕ) (l : Literal) → maps.get live slot ≡ Some (l ∷ []) → 1 ≡ copies_with live l → IsAbsent (maps.get (maps.remove live slot)) l
+absent_else live slot l unit one s c is = false_from_ne_true (has c l) (λ h. none_with (maps.remove live slot) l none_else s (record { clause = c; at = is; member = h }))
+  where
+    none_else : copies_with (maps.remove live slot) l ≡ 0
+    none_else =
+        let more = copies_without live l slot (record { clause = l ∷ []; at = unit; member = has_head l [] }) in
+        omega (arith, more, one)
+
+-- no clause has the complement
+pub unneeded_none : (live : FinMap nat_cmp Clause) (reason_of : Literal → Option ℕ) (lits : List Literal) (place : ℕ) (l : Literal) → copies_with live (complement l) ≡ 0 → IsUnneeded (maps.get live) reason_of lits place l
+unneeded_none live reason_of lits place l none q s c _ _ _ at = false_from_ne_true (has c (complement l)) (λ h. none_with live (complement l) none s (record { clause = c; at = at; member = h }))
+
+module _ (live : FinMap nat_cmp Clause) (slot place : ℕ) (l : Literal) (lits : List Literal) (inside : place < length lits) (stands : get_or lits place 0 ≡ l) (different : HasNoVariableTwice lits)
+    (unit : maps.get live slot ≡ Some (l ∷ [])) (absent : IsAbsent (maps.get (maps.remove live slot)) l) where
+  abbrev out : List Literal
+  out = remove lits place
+
+  abbrev rest : FinMap nat_cmp Clause
+  rest = maps.remove live slot
+
+  gone_is : has out l ≡ false
+  gone_is = none_left lits place inside l stands different l refl
+
+  not_it : (k : Literal) → has out k ≡ true → k ≢ l
+  not_it k h e = true≢false (sym h ∙ ap (has out) e ∙ gone_is)
+
+  other_literal : (s : ℕ) (c : Clause) → maps.get rest s ≡ Some c → (m : Literal) → has c m ≡ true → m ≢ l
+  other_literal s c is m h e = true≢false (sym h ∙ ap (has c) e ∙ absent s c is)
+
+  -- ---- Watched clauses
+
+  watched_out : (done now trues trues_now : List Literal) → IsPart now done → ((k : Literal) → has trues k ≡ true → k ≢ l → has trues_now k ≡ true) → IsWatched (maps.get live) done trues → IsWatched (maps.get rest) now trues_now
+  watched_out done now trues trues_now fewer part watched = record {
+    each = λ s c is m h there.
+        let w = watched.each s c (was_there live slot s c is) m (fewer (complement m) h) there in (w.0, w.1, part w.0 w.2 (other_literal s c is w.0 w.1));
+  }
+
+  watched_front : (d before p wide : ℕ) → IsFront place d before → IsFront place p wide → IsWatched (maps.get live) (take before lits) (take wide lits) → IsWatched (maps.get rest) (take d out) (take p out)
+  watched_front d before p wide first second =
+      watched_out (take before lits) (take d out) (take wide lits) (take p out) (front_was lits place inside d before first) (front_still lits place inside l stands p wide second)
+
+  -- ---- Visits
+
+  module _ (old now : History) (gone : place < visits old → now.visited.items ≡ remove old.visited.items place) (stays : visits old ≤ place → now.visited.items ≡ old.visited.items) (floor_is : now.floor ≡ old.floor) where
+    -- a visit that is left, and the same one before
+    record IsLeft (d i : ℕ) : Type 0 where
+      within : i < visits old
+      front : IsFront place d i
+      reach : trues_at now d ≡ trues_at old i
+      low : d ≤ i
+
+    left : (d : ℕ) → d < visits now → (i : ℕ) × IsLeft d i
+    left d low = elim (cases_lt place (visits old)) [
+      | inl cut ↦ elim (cases_lt d place) [
+        | inl before ↦ (
+          d,
+          record {
+            within = omega (arith, before, cut);
+            front = inl (refl, omega (arith, before));
+            reach = ap (λ v. get_or v d 0) (gone cut) ∙ get_or-remove_below old.visited.items place 0 d before cut;
+            low = omega arith;
+          },
+        )
+        | inr past ↦ (
+          d + 1,
+          record {
+            within = let n = ap length (gone cut) in let m = length-remove old.visited.items place cut in omega (arith, n, m, low);
+            front = inr (refl, past);
+            reach = ap (λ v. get_or v d 0) (gone cut) ∙ get_or-remove_above old.visited.items place 0 d past cut;
+            low = omega arith;
+          },
+        )
+      ]
+      | inr beyond ↦
+          let few = subst (λ v. d < length v) (stays beyond) low in (
+            d,
+            record {
+              within = few;
+              front = inl (refl, omega (arith, few, beyond));
+              reach = ap (λ v. get_or v d 0) (stays beyond);
+              low = omega arith;
+            },
+          )
+    ]
+
+    fewer : (visits now + 1 ≡ visits old) ⊎ ((visits now ≡ visits old) × (visits old ≤ place))
+    fewer = elim (cases_lt place (visits old)) [
+      | inl cut ↦ inl (let n = ap length (gone cut) in let m = length-remove old.visited.items place cut in omega (arith, n, m))
+      | inr beyond ↦ inr (ap length (stays beyond), beyond)
+    ]
+
+    shorter : length out + 1 ≡ length lits
+    shorter = length-remove lits place inside
+
+    pub history_out : IsHistory (maps.get live) old lits → IsHistory (maps.get rest) now out
+    history_out history = record {
+      inside = elim fewer [
+        | inl less ↦ let n = shorter in let most = history.inside in omega (arith, n, most, less)
+        | inr same ↦ let n = shorter in let e = same.0 in let most = same.1 in omega (arith, n, e, most, inside)
+      ];
+      began = λ d low.
+          let w = left d low in
+          let is = w.1 in
+          let first = history.began w.0 is.within in
+          let reach = is.reach in
+          let most = is.low in
+          omega (arith, first, reach, most);
+      before = λ d p low at_most above within.
+          let w = left d low in
+          let is = w.1 in
+          let up = front_before place p in
+          let wide = widened p up.0 up.1 in
+          let reach = is.reach in
+          let n = shorter in
+          watched_front d w.0 p up.0 is.front up.1
+          (history.before w.0 up.0 is.within (let most = wide.0 in omega (arith, at_most, reach, most)) (let most = wide.0 in omega (arith, above, floor_is, most)) (let most = wide.1 in omega (arith, within, n, most)));
+    }
+      where
+        widened : (p q : ℕ) → IsFront place p q → (p ≤ q) × (q ≤ p + 1)
+        widened p q is = elim is [
+          | inl f ↦ let e = f.0 in (omega (arith, e), omega (arith, e))
+          | inr f ↦ let e = f.0 in (omega (arith, e), omega (arith, e))
+        ]
+
+    pub visited_out : IsWatched (maps.get live) (take (visits old) lits) lits → IsWatched (maps.get rest) (take (visits now) out) out
+    visited_out = watched_out (take (visits old) lits) (take (visits now) out) lits out (front_was lits place inside (visits now) (visits old) front) (still_there lits place inside l stands)
+      where
+        front : IsFront place (visits now) (visits old)
+        front = elim (cases_lt place (visits old)) [
+          | inl cut ↦ let n = ap length (gone cut) in let m = length-remove old.visited.items place cut in inr (omega (arith, n, m), omega (arith, n, m, cut))
+          | inr beyond ↦ let e = ap length (stays beyond) in inl (sym e, omega (arith, e, beyond))
+        ]
+
+  -- ---- Unit clauses
+
+  unit_out : (c : Clause) → ((m : Literal) → has c m ≡ true → m ≢ l) → HasUnit c lits → HasUnit c out
+  unit_out [] others h = h
+  unit_out (a ∷ []) others h = still_there lits place inside l stands a h (others a (has_head a []))
+  unit_out (a ∷ b ∷ c) others h = h
+
+  units_out : HaveUnits (maps.get live) lits → HaveUnits (maps.get rest) out
+  units_out units s c is = unit_out c (other_literal s c is) (units s c (was_there live slot s c is))
+
+  known_out : (kept : Kept) → has_clash kept ≡ false → IsKnown live kept lits → IsKnown rest kept out
+  known_out Cut quiet known = known
+  known_out Behind quiet known = units_out known
+  known_out All quiet known = (watched_out lits out lits out (was_true lits place inside) (still_there lits place inside l stands) known.0, units_out known.1)
+  known_out (KeptClash s) quiet known = absurd (true≢false quiet)
+
+  -- ---- Places
+
+  apart : (q : ℕ) → place ≤ q → (q ≡ place → ⊥) → place < q
+  apart q past ne = omega (arith, past, ne)
+
+  -- ---- Reasons
+
+  not_the_slot : (k : Literal) (s : ℕ) → HasAt (maps.get (each_in_order live)) k s → k ≢ l → s ≢ slot
+  not_the_slot k s h ne e =
+      let w = seen_has_at live k s h in
+      let same = same_Some (l ∷ []) w.clause (sym unit ∙ ap (maps.get live) (sym e) ∙ w.at) in
+      elim (has_cases l [] k (ap (λ c. has c k) same ∙ w.member)) [ inl is ↦ ne (sym is) | inr none ↦ false≢true none ]
+
+  module _ (reason_of : Literal → Option ℕ) (unneeded : IsUnneeded (maps.get live) reason_of lits place l) (are : AreReasoned (maps.get (each_in_order live)) reason_of lits) where
+    holds_it : (k : Literal) (s : ℕ) → has lits k ≡ true → k ≢ l → reason_of k ≡ Some s → (c : Clause) → maps.get (each_in_order live) s ≡ Some c → maps.get (each_in_order rest) s ≡ Some c
+    holds_it k s h ne is c at = still_seen live slot s (not_the_slot k s (are.has_it k s h is) ne) c at
+
+    -- the reason of a literal behind doesn't need the one that is taken back
+    not_complement : (m : Literal) (s : ℕ) (c : Clause) (q : ℕ) → place < q → q < length lits → get_or lits q 0 ≡ m → reason_of m ≡ Some s → maps.get (each_in_order live) s ≡ Some c → (j : Literal) → has c j ≡ true → complement j ≢ l
+    not_complement m s c q behind low stands_there is at j h e =
+        let w = there_seen live s c at in
+        true≢false (sym h ∙ ap (has c) (sym (complement-complement j) ∙ ap complement e) ∙ w.2 (complement l) ∙ unneeded q s w.0 behind low (ap reason_of stands_there ∙ is) w.1)
+
+    module _ (n : ℕ) (passes : Literal → Bool) (follows : FollowsReasons (maps.get (each_in_order rest)) reason_of (take n out) passes) where
+      abbrev or_it : Literal → Bool
+      or_it k = eqb k l || passes k
+
+      wide : (before : ℕ) × IsFront place n before
+      wide = front_before place n
+
+      -- how many of them stand before the place
+      lower : (e : ℕ) × (e ≤ n) × (e ≤ place) × ((i : ℕ) → i < wide.0 → i < place → i < e)
+      lower = elim (cases_lt n place) [
+        | inl less ↦ (
+          n,
+          omega arith,
+          omega (arith, less),
+          λ i low before. elim wide.1 [
+            | inl f ↦ let e = f.0 in omega (arith, e, low)
+            | inr f ↦ let past = f.1 in absurd (let wrong : ⊥ = omega (arith, less, past) in wrong)
+          ],
+        )
+        | inr past ↦ (place, past, omega arith, λ i low before. before)
+      ]
+
+      abbrev low_end : ℕ
+      low_end = lower.0
+
+      low_other : (m : Literal) → has (take low_end lits) m ≡ true → m ≢ l
+      low_other m h e =
+          let w = place_in_front lits low_end m h in
+          let low = w.1 in
+          let most = lower.2 in
+          places_apart lits different w.0 place (omega (arith, low, most)) inside (ap variable (w.3 ∙ e ∙ sym stands))
+
+      low_wide : (m : Literal) → has (take low_end lits) m ≡ true → has (take wide.0 lits) m ≡ true
+      low_wide m h = front_in_front lits low_end wide.0 (let most = lower.1 in elim wide.1 [
+        | inl f ↦ let e = f.0 in omega (arith, e, most)
+        | inr f ↦ let e = f.0 in omega (arith, e, most)
+      ]) m h
+
+      follow_low : FollowsReasons (maps.get (each_in_order live)) reason_of (take low_end lits) passes
+      follow_low m s c h is at others =
+          let ne = low_other m h in
+          follows m s c (front_still lits place inside l stands n wide.0 wide.1 m (low_wide m h) ne) is (holds_it m s (front_part low_end lits m h) ne is c at) others
+
+      low_pass : (k : Literal) → has (take low_end lits) k ≡ true → passes k ≡ true
+      low_pass = are.in_each low_end passes follow_low
+
+      follow_all : FollowsReasons (maps.get (each_in_order live)) reason_of (take wide.0 lits) or_it
+      follow_all m s c h is at others = elim (cases_eq m l) [
+        | inl e ↦ or_left (eqb m l) (passes m) (eq-eqb m l e)
+        | inr ne ↦
+            let w = place_in_front lits wide.0 m h in
+            or_right (eqb m l) (passes m) (elim (cases_lt w.0 place) [
+              | inl before ↦ low_pass m (subst (λ x. has (take low_end lits) x ≡ true) w.3 (has_front lits low_end w.0 (lower.3 w.0 w.1 before) w.2))
+              | inr past ↦
+                  let behind : place < w.0 = apart w.0 past (λ e. ne (sym w.3 ∙ ap (λ q. get_or lits q 0) e ∙ stands)) in
+                  follows m s c (front_still lits place inside l stands n wide.0 wide.1 m h ne) is (holds_it m s (front_part wide.0 lits m h) ne is c at) (λ j member other.
+                  elim (or_cases (eqb (complement j) l) (passes (complement j)) (others j member other)) [
+                    | inl e ↦ absurd (not_complement m s c w.0 behind w.2 w.3 is at j member (eqb-true (complement j) l e))
+                    | inr passed ↦ passed
+                  ])
+            ])
+      ]
+
+      all_pass : (k : Literal) → has (take n out) k ≡ true → passes k ≡ true
+      all_pass k h =
+          elim (or_cases (eqb k l) (passes k) (are.in_each wide.0 or_it follow_all k (front_was lits place inside n wide.0 wide.1 k h))) [
+            | inl e ↦ absurd (not_it k (front_part n out k h) (eqb-true k l e))
+            | inr passed ↦ passed
+          ]
+
+    pub reasoned_out : AreReasoned (maps.get (each_in_order rest)) reason_of out
+    reasoned_out = record {
+      has_it = λ k s h is.
+          let before = was_true lits place inside k h in
+          let w = are.has_it k s before is in record { clause = w.clause; at = holds_it k s before (not_it k h) is w.clause w.at; member = w.member };
+      in_each = all_pass;
+    }
+
+  -- ---- All of it
+
+  pub kept_out : (roots after : Roots) → IsUnneeded (maps.get live) (at roots.reasons) lits place l → IsKept live roots lits → has_clash roots.kept ≡ false → after.kept ≡ roots.kept → after.reasons ≡ roots.reasons →
+      (place < visits roots.history → after.history.visited.items ≡ remove roots.history.visited.items place) → (visits roots.history ≤ place → after.history.visited.items ≡ roots.history.visited.items) → after.history.floor ≡ roots.history.floor →
+      IsKept rest after out
+  kept_out roots after unneeded kept quiet kept_is reasons_are gone stays floor_is = record {
+    noted = subst (λ t. AreNoted (maps.get (each_in_order rest)) (at t)) (sym reasons_are) (noted_left live slot (at roots.reasons) kept.noted);
+    reasoned = subst (λ t. AreReasoned (maps.get (each_in_order rest)) (at t) out) (sym reasons_are) (reasoned_out (at roots.reasons) unneeded kept.reasoned);
+    known = subst (λ k. IsKnown rest k out) (sym kept_is) (known_out roots.kept quiet kept.known);
+    history = history_out roots.history after.history gone stays floor_is kept.history;
+    visited = λ _. visited_out roots.history after.history gone stays floor_is (kept.visited quiet);
+  }

@@ -1,0 +1,78 @@
+//! A root-level literal that no clause has but its own unit clause, and that no other rests on.
+//!
+//! Where that clause is removed, the literal alone is taken back: no clause was let alone because of
+//! it. Such unit clauses are left where a solver has deleted all clauses that they satisfy. A cut
+//! would have everything behind the literal found again. To see whether a literal rests on it costs
+//! a look at the reasons behind it, and nothing where no clause has the complement.
+
+ghost use Rattle.std.specs.Prelude.{◌≡◌, ℕ, ◌<◌, ◌∷◌, [], length, false, Some, IsSome, IfSome};
+ghost use Rattle.std.specs.FinMap as maps;
+ghost use Rattle.cnf_base.specs.Literals.{Clause, complement, has};
+ghost use Rattle.root_literals.specs.Roots.{IsAbsent, IsUnneeded};
+ghost use Rattle.tables.specs.Table.{at};
+
+use clause_db::{Slot, Store};
+use cnf_base::Lit;
+use tables::{Table, key};
+
+/// The literal of a clause that has no other.
+fn only_literal(clause: &[Lit]) -> Option<Lit>
+    ensures { IfSome result (λ l. clause.now ≡ l ∷ []) }
+{
+    match clause {
+        [l] => Some(*l),
+        _ => None,
+    }
+}
+
+/// The literal of the unit clause in the slot, where no other clause has it.
+pub(crate) fn lone_literal(store: &Store, slot: Slot) -> Option<Lit>
+    requires { IsSome (maps.get store.now.live slot) }
+    ensures unit { IfSome result (λ l. maps.get store.now.live slot ≡ Some (l ∷ [])) }
+    ensures alone { IfSome result (λ l.
+        IsAbsent (maps.get (maps.remove store.now.live slot)) l) }
+{
+    let l = only_literal(store.clause(slot))?;
+    if store.count_with(l) == 1 {
+        Some(l)
+    } else {
+        None
+    }
+}
+
+/// Whether the reason of a literal has the literal `k`.
+fn reason_has(store: &Store, reasons: &Table<u32>, l: Lit, k: Lit) -> bool
+    ensures { result ≡ false → (s : ℕ) (c : Clause) → at reasons.now l ≡ Some s →
+        maps.get store.now.live s ≡ Some c → has c k ≡ false }
+{
+    let Some(slot) = reasons.get(key(l)) else {
+        return false;
+    };
+    match store.at(slot as usize) {
+        Some(clause) => clause.contains(&k),
+        None => false,
+    }
+}
+
+/// Whether a literal behind this place, where `l` stands, may rest on `l`.
+pub(crate) fn is_needed(
+    store: &Store,
+    reasons: &Table<u32>,
+    lits: &[Lit],
+    place: usize,
+    l: Lit,
+) -> bool
+    requires { place < length lits.now }
+    ensures { result ≡ false →
+        IsUnneeded (maps.get store.now.live) (at reasons.now) lits.now place l }
+{
+    if store.count_with(l.neg()) == 0 {
+        return false;
+    }
+    for behind in place + 1..lits.len() {
+        if reason_has(store, reasons, lits[behind], l.neg()) {
+            return true;
+        }
+    }
+    false
+}
