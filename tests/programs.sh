@@ -630,6 +630,8 @@ c steps 9456 peak 47275
 s VERIFIED
 LINES
 
+units_hint='the proof deleted the reason clause of a root-level literal: --keep-units may accept it'
+
 # deletions of clauses that a literal follows by, as Glucose wrote them: by examples/make-glucose-proof.sh
 row units_kept 0 --keep-units $x/kept_units.cnf $x/kept_units.drat <<'LINES'
 c formula 20 variables 45 clauses
@@ -642,6 +644,10 @@ c formula 20 variables 45 clauses
 c step 51: neither RUP nor RAT on -15
 s NOT VERIFIED
 LINES
+told units_deleted <<LINES
+drat-forward: $x/kept_units.drat: the refused step ends at line 51, column 5
+drat-forward: $x/kept_units.drat: hint: $units_hint
+LINES
 
 row pigeonhole_by_glucose 0 --strict --keep-units $x/pigeonhole-5.cnf $x/pigeonhole-5-glucose.drat <<'LINES'
 c formula 30 variables 81 clauses
@@ -652,6 +658,61 @@ LINES
 row pigeonhole_by_glucose_without_the_option 1 $x/pigeonhole-5.cnf $x/pigeonhole-5-glucose.drat <<'LINES'
 c formula 30 variables 81 clauses
 c step 247: neither RUP nor RAT on 21
+s NOT VERIFIED
+LINES
+told pigeonhole_by_glucose_without_the_option <<LINES
+drat-forward: $x/pigeonhole-5-glucose.drat: the refused step ends at line 247, column 9
+drat-forward: $x/pigeonhole-5-glucose.drat: hint: $units_hint
+LINES
+
+# refused_after NAME PROGRAM PLACE HINT FORMULA PROOF WORD..: the program $checker with these words refuses the step that ends at the
+# place, of these lines of a proof and of a formula of four clauses. Standard error has the hint or, where it is empty, none.
+refused_after() {
+    local name=$1 program=$2 place=$3 hint=$4 ended
+    printf 'p cnf 4 4\n%b\n' "$5" > "$room/lost.cnf"
+    printf '%b\n' "$6" > "$room/lost.proof"
+    shift 6
+    "$checker" "$@" "$room/lost.cnf" "$room/lost.proof" > "$room/report" 2> "$room/out"
+    ended=$?
+    echo "$program: $room/lost.proof: the refused step ends at $place" > "$room/wanted"
+    if [ -n "$hint" ]; then
+        echo "$program: $room/lost.proof: hint: $hint" >> "$room/wanted"
+    fi
+    judge "$name" 1 "$ended"
+}
+
+# lost NAME PLACE FORMULA PROOF WORD..: the same of drat-forward, with the hint that $units_hint has; kept: without one
+lost() {
+    refused_after "$1" drat-forward "$2" "$units_hint" "${@:3}"
+}
+
+kept() {
+    refused_after "$1" drat-forward "$2" '' "${@:3}"
+}
+
+# 1 and 2 hold for good: 1 by a unit clause, and 2 by -1 2
+chain='1 0\n-1 2 0\n-2 3 4 0\n-2 3 -4 0'
+copies='1 0\n-1 2 0\n-1 2 0\n-2 3 4 0'
+lost reason_deleted 'line 2, column 3' "$chain" 'd -1 2 0\n2 0'
+lost unit_clause_deleted 'line 2, column 3' "$chain" 'd 1 0\n2 0'
+lost reason_deleted_as_the_same_set 'line 2, column 3' "$chain" 'd 2 -1 2 0\n2 0'
+lost reason_deleted_after_an_addition 'line 3, column 3' "$chain" '-1 3 4 0\nd -1 2 0\n2 0'
+lost both_copies_of_a_reason_deleted 'line 3, column 3' "$copies" 'd -1 2 0\nd -1 2 0\n2 0'
+kept no_deletion 'line 1, column 4' "$chain" '-3 0'
+kept copy_of_a_reason_left 'line 2, column 4' "$copies" 'd -1 2 0\n-3 0'
+kept unit_clause_added_before 'line 3, column 4' "$chain" '2 0\nd -1 2 0\n-3 0'
+kept no_reason_deleted 'line 2, column 4' "$chain" 'd -2 3 4 0\n-3 0'
+kept no_root_level_literal 'line 2, column 3' '1 2 0\n3 4 0\n-1 2 0\n-3 4 0' 'd 1 2 0\n1 0'
+kept reason_deleted_after_the_refused_step 'line 1, column 4' "$chain" '-3 0\nd -1 2 0'
+kept deletion_refused 'line 1, column 7' "$chain" 'd 1 2 0' --strict
+kept refused_with_units_kept 'line 2, column 4' "$chain" 'd -1 2 0\n-3 0' --keep-units
+checker=$lrat_check refused_after lrat_reason_deleted lrat-check 'line 2, column 9' '' "$chain" '5 d 2 0\n6 2 0 1 0'
+
+row reason_kept 1 --keep-units --trace "$room/lost.cnf" <(printf '%s\n' 'd -1 2 0' '2 0') <<'LINES'
+c formula 4 variables 4 clauses
+c 1 ignored
+c 2 add rup
+c end: no empty clause
 s NOT VERIFIED
 LINES
 

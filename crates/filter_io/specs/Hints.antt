@@ -10,6 +10,7 @@ use Rattle.cnf_base.specs.declared.fault.TextFault.TheVariants as text
 use Rattle.cnf_base.specs.declared.fault.BinaryFault.TheVariants as binary
 use Rattle.command_line.specs.declared.tool.Tool.{Tool}
 use Rattle.command_line.specs.declared.tool.Tool.TheVariants.{Drat, Lrat, Model}
+use Rattle.sat_check.specs.declared.checked.Checked.{Checked}
 use Rattle.sat_check.specs.declared.input_fault.InputFault.{InputFault}
 use Rattle.sat_check.specs.declared.input_fault.InputFault.TheVariants.{Formula, Second}
 use Rattle.filter_io.specs.declared.hint.Hint.{Hint}
@@ -114,3 +115,8 @@ or_else None other = other
 
 abbrev pub hint_of : Tool → InputFault → (first last : List ℕ) → Option Hint
 hint_of tool f first last = or_else (packing_of first) (kind_hint tool f first last)
+
+-- The hint to a refused step, where a check tells that a reason was deleted before it: so never
+-- where the rules keep units.
+abbrev pub refusal_hint : Checked → Option Hint
+refusal_hint checked = only_if checked.reason_deleted hint.KeepUnits

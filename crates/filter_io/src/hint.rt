@@ -1,6 +1,6 @@
-//! What may help where an input is malformed.
+//! What may help where an input is malformed, or a step is refused.
 
-/// What may help where an input is malformed.
+/// What may help where an input is malformed, or a step is refused.
 #[derive(Clone, Copy, Debug, PartialEq, Eq)]
 pub enum Hint {
     /// It is compressed by gzip.
@@ -25,6 +25,8 @@ pub enum Hint {
     Frat,
     /// The proof ends inside a step.
     CutShort,
+    /// The proof deleted a clause that made a literal hold for good.
+    KeepUnits,
 }
 
 impl Hint {
@@ -43,6 +45,8 @@ impl Hint {
             Hint::Frat => "FRAT is read once it is made DRAT by \
                 sed -n 's/ l .*//; s/^a [0-9]* //p; s/^d [0-9]* /d /p'",
             Hint::CutShort => "the proof ends inside a step, so it may have been cut short",
+            Hint::KeepUnits => "the proof deleted the reason clause of a root-level literal: \
+                --keep-units may accept it",
         }
     }
 }

@@ -4,11 +4,11 @@ ghost use Rattle.std.specs.Prelude.{◌≡◌};
 ghost use Rattle.filter_io.specs.Hints.{drat_hint, formula_hint, formula_kind_hint, hint_of};
 ghost use Rattle.filter_io.specs.Hints.{is_binary, is_number, is_satlib_end, is_second};
 ghost use Rattle.filter_io.specs.Hints.{is_separator, lrat_hint, only_if, packing_of};
-ghost use Rattle.filter_io.specs.Hints.{second_hint, text_hint};
+ghost use Rattle.filter_io.specs.Hints.{refusal_hint, second_hint, text_hint};
 
 use crate::hint::Hint;
 use cnf_base::{BinaryFault, Fault, TextFault};
-use sat_check::{InputFault, Tool};
+use sat_check::{Checked, InputFault, Tool};
 
 /// What may help where an input has this fault, by its first bytes and the last ones of those that
 /// were read of it.
@@ -22,6 +22,13 @@ pub fn hint_of(tool: Tool, fault: InputFault, first: &[u8], last: &[u8]) -> Opti
         InputFault::Formula(fault) => formula_hint(fault, first, last),
         InputFault::Second(fault) => second_hint(tool, fault, first),
     }
+}
+
+/// What may help where a step was refused.
+pub fn refusal_hint(checked: Checked) -> Option<Hint>
+    ensures { result ≡ refusal_hint checked }
+{
+    only_if(checked.reason_deleted, Hint::KeepUnits)
 }
 
 // By what the input is compressed.

@@ -7,6 +7,7 @@ ghost use Rattle.std.specs.Prelude.{◌≡◌, ◌-◌, ◌^◌, None, IfErr};
 ghost use Rattle.cnf_base.specs.Stream.{Reader};
 
 use crate::header::vars_in;
+use crate::hint::Hint;
 use crate::hints::hint_of;
 use crate::input::Input;
 use crate::inputs::faulty_name;
@@ -57,6 +58,14 @@ impl<'a> Host<'a> {
             _ => {
                 let _ = eprintln!(self.rt; "{program}: {name}: line {line}, column {col}: {text}");
             }
+        }
+    }
+
+    // Tells what may help, if something may.
+    fn tell_hint(&self, name: &str, hint: Option<Hint>) {
+        if let Some(hint) = hint {
+            let (program, text) = (self.program, hint.text());
+            let _ = eprintln!(self.rt; "{program}: {name}: hint: {text}");
         }
     }
 }
@@ -121,7 +130,7 @@ impl<'a> System for Host<'a> {
         }
     }
 
-    fn tell_refusal(&self, name: &str, end: StepEnd) {
+    fn tell_refusal(&self, name: &str, end: StepEnd, hint: Option<Hint>) {
         match end {
             StepEnd::Text(place) => {
                 let (line, col) = (place.line, place.col);
@@ -137,6 +146,7 @@ impl<'a> System for Host<'a> {
                 );
             }
         }
+        self.tell_hint(name, hint);
     }
 
     fn tell_fault(
@@ -157,9 +167,6 @@ impl<'a> System for Host<'a> {
             }
             Fault::ReadFailed | Fault::OutOfMemory => return,
         }
-        if let Some(hint) = hint_of(tool, fault, sample.first(), sample.last()) {
-            let text = hint.text();
-            let _ = eprintln!(self.rt; "{program}: {name}: hint: {text}");
-        }
+        self.tell_hint(name, hint_of(tool, fault, sample.first(), sample.last()));
     }
 }

@@ -3,6 +3,7 @@
 ghost use Rattle.std.specs.Prelude.{◌≡◌, Some, IfOk, IfErr, option_map, string_bytes};
 ghost use Rattle.command_line.specs.Words.{asked_by, is_standard};
 
+use crate::hints::refusal_hint;
 use crate::system::System;
 use sat_check::{Args, Checked, InputFault, Status, Tool};
 
@@ -65,10 +66,10 @@ pub(crate) fn explain_failures<S: System>(
     system.tell_failure(shown_name(second_name(args)), second);
 }
 
-/// Explains where the step ends that was refused, if one was.
+/// Explains where the step ends that was refused, if one was, and what may help.
 pub(crate) fn explain_refusal<S: System>(system: &S, args: &Args, checked: Checked) {
     if let Some(end) = checked.refused {
-        system.tell_refusal(shown_name(second_name(args)), end);
+        system.tell_refusal(shown_name(second_name(args)), end, refusal_hint(checked));
     }
 }
 

@@ -24,7 +24,7 @@ mod words;
 
 pub use ending::exit_code;
 pub use hint::Hint;
-pub use hints::hint_of;
+pub use hints::{hint_of, refusal_hint};
 pub use host::Host;
 pub use input::Input;
 pub use metered::Metered;

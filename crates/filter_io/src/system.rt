@@ -7,6 +7,7 @@
 ghost use Rattle.std.specs.Prelude.{◌≡◌, ℕ, List, Option, None, Some, IfOk, IfErr};
 ghost use Rattle.cnf_base.specs.Stream.{Reader};
 
+use crate::hint::Hint;
 use cnf_base::In;
 use proofs::StepEnd;
 use sat_check::{Args, InputFault, Status, Tool};
@@ -44,8 +45,8 @@ pub trait System {
     /// Tells why a read of the input of this name failed, if one did.
     fn tell_failure(&self, name: &str, input: &Self::Input);
 
-    /// Tells where the step of the proof of this name ends that was refused.
-    fn tell_refusal(&self, name: &str, end: StepEnd);
+    /// Tells where the step of the proof of this name ends that was refused, and what may help.
+    fn tell_refusal(&self, name: &str, end: StepEnd, hint: Option<Hint>);
 
     /// Tells what is wrong with this input of a tool, and where, and what may help.
     fn tell_fault(&self, tool: Tool, args: &Args, fault: InputFault, input: &Self::Input);

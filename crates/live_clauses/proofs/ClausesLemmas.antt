@@ -1,5 +1,6 @@
 pub mod Distinct
 pub mod Joined
 pub mod Kept
+pub mod Keys
 pub mod Owners
 pub mod Touched

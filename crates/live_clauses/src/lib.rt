@@ -2,6 +2,8 @@
 #![tactic(auto)]
 
 mod clauses;
+mod id_set;
 mod owners;
 
 pub use clauses::LiveClauses;
+pub use id_set::IdSet;

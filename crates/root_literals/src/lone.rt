@@ -1,9 +1,9 @@
 //! A root-level literal that no clause has but its own unit clause, and that no other rests on.
 //!
-//! Where that clause is removed, the literal alone is taken back: no clause was let alone because of
-//! it. Such unit clauses are left where a solver has deleted all clauses that they satisfy. A cut
-//! would have everything behind the literal found again. To see whether a literal rests on it costs
-//! a look at the reasons behind it, and nothing where no clause has the complement.
+//! Where that clause is removed, the literal alone is taken back: no clause was let alone because
+//! of it. Such unit clauses are left where a solver has deleted all clauses that they satisfy. A
+//! cut would have everything behind the literal found again. To see whether a literal rests on it
+//! costs a look at the reasons behind it, and nothing where no clause has the complement.
 
 ghost use Rattle.std.specs.Prelude.{◌≡◌, ℕ, ◌<◌, ◌∷◌, [], length, false, Some, IsSome, IfSome};
 ghost use Rattle.std.specs.FinMap as maps;

@@ -1,10 +1,11 @@
 //! The root-level literals that are kept, each with its reason, the clause that made it true.
 //!
-//! The removal of a clause that is no reason, nor the clause of a kept clash, changes nothing. Where
-//! a reason is removed, another clause takes its place if there is one by literals before its own.
-//! Else the kept literals are cut back to that one: those before it have reasons of literals before
-//! them alone. What still follows is found again at the next assumption. So a deletion costs what
-//! was cut, and a look at each unit clause.
+//! The removal of a clause that is no reason, nor the clause of a kept clash, changes nothing.
+//! Where a reason is removed, another clause takes its place if there is one by literals before its
+//! own. Else the literal goes alone where nothing needs it, and otherwise the kept literals are cut
+//! back to it: those before it have reasons of literals before them alone. What still follows is
+//! found again at the next assumption. So a deletion costs what was cut, and a look at each unit
+//! clause.
 //!
 //! A unit clause that is added becomes the reason of its literal even where that is true already:
 //! solvers add one, and then delete the clauses that it satisfies. A reason stays in the table when
@@ -313,8 +314,8 @@ impl Roots {
         false
     }
 
-    /// Takes back the literal of a clause that is to be removed, and no other, where no other clause
-    /// has it and no literal rests on it. Tells whether it is so. It takes no memory.
+    /// Takes back the literal of a clause that is to be removed, and no other, where no other
+    /// clause has it and no literal rests on it. Tells whether it is so. It takes no memory.
     fn take_back_alone(&mut self, store: &Store, assumptions: &mut Assumptions, slot: Slot) -> bool
         requires alive { IsSome (maps.get store.now.live slot) }
         requires nothing_assumed { assumptions.old.assumptions ≡ [] }

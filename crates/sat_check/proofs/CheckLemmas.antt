@@ -2,7 +2,7 @@
 use Rattle.std.proofs.Common.{◌≡◌, ℕ, ◌+◌, ◌≤◌, Bool, true, false, Option, None, Some, List, []}
 use Rattle.std.proofs.Common.{◌++◌, refl, sym, ap, ◌∙◌, subst, arith, append_assoc, ◌⊎◌}
 use Rattle.std.proofs.Common.{inl, inr}
-use Rattle.std.specs.Prelude.{Result, Ok, Err}
+use Rattle.std.specs.Prelude.{Result, Ok, Err, IsTrue}
 use Rattle.cnf_base.specs.Stream.{Input, Suffix, from_start, Reader, Stream, Along, unread_stream}
 use Rattle.cnf_base.specs.Stream.{bytes_read}
 use Rattle.cnf_base.specs.Seen.{Seen, IsSeen}
@@ -33,7 +33,7 @@ use Rattle.sat_check.specs.declared.status.Status.TheVariants.{OutOfMemory as No
 use Rattle.sat_check.specs.declared.status.Status.TheVariants.{ReadFailed as NoRead}
 use Rattle.sat_check.proofs.OutcomeLemmas.{Outcome-after, Writes-all, Writes-still, text_of-append}
 use Rattle.sat_check.proofs.ReachLemmas.{no_verdict, LeavesRest-none, LeavesRest-broken}
-use Rattle.sat_check.proofs.ReachLemmas.{TellsFault-none}
+use Rattle.sat_check.proofs.ReachLemmas.{TellsFault-none, TellsReason-none}
 use Rattle.sat_check.proofs.ReachLemmas.{LeavesRest-decided, LeavesRest-step}
 use Rattle.sat_check.proofs.ReportLemmas.{some_report}
 use Rattle.sat_check.proofs.RestLemmas.{Rest-clean, Rest-fault, Rest-some, Rest-step}
@@ -44,7 +44,7 @@ fresh_reading s = record { stream = s; kept = None; step_end = None; stored = 0 
 
 -- What follows the step that decides is left of a whole proof where it is of the steps that are to come.
 abbrev pub Leaves : View → Proof → View → Proof → Type 0
-Leaves first whole session p = (rest : Suffix) (checked : Checked) → LeavesRest session.state p rest checked → LeavesRest first.state whole rest checked
+Leaves first whole session p = (rest : Suffix) (checked : Checked) → LeavesRest session p rest checked → LeavesRest first whole rest checked
 
 -- From one moment to another these lines were written; the rest of the report is still to come, and the step that
 -- decides.
@@ -69,7 +69,7 @@ Checking-start trace start first was whole sound finite least = record {
   written = [];
   run = Along-map _ _ _ _ (Along-none start.stream) (λ i j m e. (
     (λ r rest. let P : Suffix → Type 0 = λ x. Rest trace first.state 0 first.peak (start.to_come x) r in subst P (sym e) rest),
-    (λ left checked leaves. let P : Suffix → Type 0 = λ x. LeavesRest first.state (start.to_come x) left checked in subst P (sym e) leaves),
+    (λ left checked leaves. let P : Suffix → Type 0 = λ x. LeavesRest first (start.to_come x) left checked in subst P (sym e) leaves),
   ));
   wrote = Writes-still was;
   whole = whole;
@@ -86,7 +86,7 @@ module _ (trace : Bool) (start now new : Standing) (first session : View) (accep
   -- the report was written to its end, and what follows the step that decides is left
   abbrev pub Ended : Checked → Sink → Suffix → Suffix → Type 0
   Ended checked last i j =
-      (r : Report) × Rest trace first.state 0 first.peak (start.to_come i) r × Outcome checked.status was.held last.held r × LeavesRest first.state (start.to_come i) j checked
+      (r : Report) × Rest trace first.state 0 first.peak (start.to_come i) r × Outcome checked.status was.held last.held r × LeavesRest first (start.to_come i) j checked
 
   -- what a call gave, and that it passed the end of no step
   abbrev Gave : Result Bool Fault → Option StepEnd → Step → Suffix → Suffix → Type 0
@@ -105,8 +105,8 @@ module _ (trace : Bool) (start now new : Standing) (first session : View) (accep
             let Q : Proof → Type 0 = λ x. Rest trace session.state so_far.count session.peak x (with_lines (traced trace number goes.word) r) in
             subst P (with_both so_far.written (traced trace number goes.word) r) (p.0 (with_lines (traced trace number goes.word) r) (subst Q (sym q.0.2) (front k q.0.0 r rest)))),
         (λ left checked leaves.
-            let Q : Proof → Type 0 = λ x. LeavesRest session.state x left checked in
-            p.1 left checked (subst Q (sym q.0.2) (LeavesRest-step session.state step q.0.0 k.offset (new.to_come k) left checked t.state goes.word goes.answers goes.not_last goes.state leaves))),
+            let Q : Proof → Type 0 = λ x. LeavesRest session x left checked in
+            p.1 left checked (subst Q (sym q.0.2) (LeavesRest-step session step q.0.0 k.offset (new.to_come k) left checked t goes.word goes.answers goes.not_last goes.state goes.deleted_reason leaves))),
       ));
       wrote = let P : List ℕ → Type 0 = Writes was last in
           subst P (sym (text_of-append so_far.written (traced trace number goes.word))) (Writes-then _ _ _ _ _ so_far.wrote goes.wrote);
@@ -129,17 +129,18 @@ module _ (trace : Bool) (start now new : Standing) (first session : View) (accep
     pub Checking-stop : (checked : Checked) (last : Sink) → Stops trace number session step lines last checked.status
         → (checked.status ≡ NotVerified → IsRefused session.state step)
         → (checked.status ≡ NotVerified → checked.refused ≡ end) → ((checked.status ≡ NotVerified → ⊥) → checked.refused ≡ None)
+        → (IsTrue checked.reason_deleted → (checked.status ≡ NotVerified) × IsTrue session.has_deleted_reason)
         → checked.fault ≡ None → (checked.status ≡ Malformed → ⊥)
         → Along start.stream new.stream (λ i j. Ended checked last i j)
-    Checking-stop checked last stops refuses told only none not = Along-then _ _ _ _ _ _ so_far.run gives (λ i j k m p q.
+    Checking-stop checked last stops refuses told only reason none not = Along-then _ _ _ _ _ _ so_far.run gives (λ i j k m p q.
         let s = stops so_far.count k.offset q.0.0 (new.to_come k) counts so_far.least so_far.finite in
         let Q : Proof → Type 0 = λ x. Rest trace session.state so_far.count session.peak x s.0 in
-        let R : Proof → Type 0 = λ x. LeavesRest session.state x k checked in
+        let R : Proof → Type 0 = λ x. LeavesRest session x k checked in
         let S : Proof → Type 0 = λ x. PassesNoEnd x k in (
           with_lines so_far.written s.0,
           p.0 s.0 (subst Q (sym q.0.2) s.1),
           Outcome-after checked.status was.held lines.held last.held so_far.written s.0 (Writes-all was lines (text_of so_far.written) so_far.wrote so_far.whole) s.2,
-          p.1 k checked (subst R (sym q.0.2) (LeavesRest-decided session.state step q.0.0 k.offset (new.to_come k) k checked refuses (λ v. told v ∙ q.0.1) only (TellsFault-none None (new.to_come k).fault checked none not) (subst S q.0.2 q.1))),
+          p.1 k checked (subst R (sym q.0.2) (LeavesRest-decided session step q.0.0 k.offset (new.to_come k) k checked refuses (λ v. told v ∙ q.0.1) only reason (TellsFault-none None (new.to_come k).fault checked none not) (subst S q.0.2 q.1))),
         ))
 
   -- what is known so far of the report, and of the step that decides
@@ -149,7 +150,7 @@ module _ (trace : Bool) (start now new : Standing) (first session : View) (accep
 
   -- the rest of the report that what is to come has
   ended : (checked : Checked) (last : Sink) (i j k : Suffix) (r : Report) → SoFar i j → Rest trace session.state so_far.count session.peak (now.to_come j) r
-      → Outcome checked.status lines.held last.held r → LeavesRest session.state (now.to_come j) k checked → Ended checked last i k
+      → Outcome checked.status lines.held last.held r → LeavesRest session (now.to_come j) k checked → Ended checked last i k
   ended checked last i j k r p rest o leaves = (
     with_lines so_far.written r,
     p.0 r rest,
@@ -157,14 +158,14 @@ module _ (trace : Bool) (start now new : Standing) (first session : View) (accep
     p.1 k checked leaves,
   )
 
-  module _ (step : Step) (checked : Checked) (none : checked.refused ≡ None) (last : Sink) where
+  module _ (step : Step) (checked : Checked) (none : checked.refused ≡ None) (quiet : checked.reason_deleted ≡ false) (last : Sink) where
     pub Checking-end : Along now.stream new.stream (Gave (Ok false) None step)
         → Outcome checked.status lines.held last.held (end_report None) → TellsFault None None checked → Along start.stream new.stream (λ i j. Ended checked last i j)
     Checking-end gives o tells = Along-then _ _ _ _ _ _ so_far.run gives (λ i j k m p q.
         let Q : Proof → Type 0 = λ x. Rest trace session.state so_far.count session.peak x (end_report None) in
-        let R : Proof → Type 0 = λ x. LeavesRest session.state x k checked in
+        let R : Proof → Type 0 = λ x. LeavesRest session x k checked in
         ended checked last i j k (end_report None) p (subst Q (sym q.0.1) (Rest-clean trace session.state so_far.count session.peak)) o
-        (subst R (sym q.0.1) (LeavesRest-none session.state None k checked none tells)))
+        (subst R (sym q.0.1) (LeavesRest-none session None k checked none quiet tells)))
 
     -- what is told where the proof has this fault
     abbrev TellsOf : Fault → Type 0
@@ -179,9 +180,9 @@ module _ (trace : Bool) (start now new : Standing) (first session : View) (accep
         met : (f : Fault) (i j k : Suffix) → SoFar i j → now.to_come j ≡ faulty_proof f → Outcome checked.status lines.held last.held (end_report (Some f)) → TellsOf f → Ended checked last i k
         met f i j k p e o tells =
             let Q : Proof → Type 0 = λ x. Rest trace session.state so_far.count session.peak x (end_report (Some f)) in
-            let R : Proof → Type 0 = λ x. LeavesRest session.state x k checked in
+            let R : Proof → Type 0 = λ x. LeavesRest session x k checked in
             ended checked last i j k (end_report (Some f)) p (subst Q (sym e) (Rest-fault trace session.state so_far.count session.peak f)) o
-            (subst R (sym e) (LeavesRest-none session.state (Some f) k checked none (record { malformed = tells.0; only = tells.1 })))
+            (subst R (sym e) (LeavesRest-none session (Some f) k checked none quiet (record { malformed = tells.0; only = tells.1 })))
 
         by : (f : Fault) → Along now.stream new.stream (Gave (Err f) end step)
             → (f ≡ OutOfMemory → (r : Report) → Outcome checked.status lines.held last.held r) → ((f ≡ OutOfMemory → ⊥) → Outcome checked.status lines.held last.held (end_report (Some f)))
@@ -192,7 +193,7 @@ module _ (trace : Bool) (start now new : Standing) (first session : View) (accep
         by OutOfMemory gives refused other tells = Along-then _ _ _ _ _ _ so_far.run gives (λ i j n m p q.
             let some = Rest-some trace session.state so_far.count session.peak so_far.finite (now.to_come j) in
             ended checked last i j n some.0 p some.1 (refused refl some.0)
-            (LeavesRest-broken session.state (now.to_come j) n checked none (no_verdict checked.status lines.held last.held [] (refused refl (record { lines = []; status = Malformed })))
+            (LeavesRest-broken session (now.to_come j) n checked none quiet (no_verdict checked.status lines.held last.held [] (refused refl (record { lines = []; status = Malformed })))
             (record { malformed = λ m. absurd (tells.2 refl m); only = tells.1 }) q.1))
 
 -- what a call gave, by its answer's pattern
@@ -207,8 +208,8 @@ step_told now new result answer end s gives is =
 
 -- neither was read
 reports_nothing : (rule : Rule) (trace : Bool) (steps : Input → Proof) (formula proof new : Reader) (checked : Checked) (was now : Sink) → proof ≡ new
-    → checked.refused ≡ None → ((r : Report) → Outcome checked.status was.held now.held r) → checked.fault ≡ None → (checked.status ≡ Malformed → ⊥) → AllReports rule trace steps formula formula proof new checked was.held now.held
-reports_nothing rule trace steps formula proof new checked was now same none o sound not =
+    → checked.refused ≡ None → checked.reason_deleted ≡ false → ((r : Report) → Outcome checked.status was.held now.held r) → checked.fault ≡ None → (checked.status ≡ Malformed → ⊥) → AllReports rule trace steps formula formula proof new checked was.held now.held
+reports_nothing rule trace steps formula proof new checked was now same none quiet o sound not =
     let P : Reader → Type 0 = λ r. AllReports rule trace steps formula formula proof r checked was.held now.held in
     subst P same (record {
       first = Seen-nothing formula;
@@ -217,7 +218,7 @@ reports_nothing rule trace steps formula proof new checked was now same none o s
           let some = some_report rule trace i (steps j) in (
             record { report = some.0; reports = some.1; outcome = o some.0 },
             record { unread = λ n. refl; past = λ words ending last whole e d. omega arith },
-            record { unread = λ n. none; refused = λ words ending whole is e. absurd (broken (inr is)); only = λ _. none; malformed = TellsFault-none (formula_of i).fault (steps j).fault checked sound not },
+            record { unread = λ n. none; refused = λ words ending whole is e. absurd (broken (inr is)); only = λ _. none; reason = TellsReason-none rule (formula_of i).clauses (steps j) checked quiet; malformed = TellsFault-none (formula_of i).fault (steps j).fault checked sound not },
           );
     })
   where
@@ -226,13 +227,13 @@ reports_nothing rule trace steps formula proof new checked was now same none o s
 
 -- memory ran out before either was read
 pub runs_nothing : (rule : Rule) (trace : Bool) (steps : Input → Proof) (formula proof new : Reader) (checked : Checked) (was now : Sink) → proof ≡ new
-    → checked ≡ record { status = NoMemory; refused = None; fault = None } → ((r : Report) → Outcome NoMemory was.held now.held r) → LeavesWriter NoMemory was now
+    → checked ≡ record { status = NoMemory; refused = None; reason_deleted = false; fault = None } → ((r : Report) → Outcome NoMemory was.held now.held r) → LeavesWriter NoMemory was now
     → RunsInto rule trace steps formula formula proof new was now checked
 runs_nothing rule trace steps formula proof new checked was now same is o writer =
-    let gone : Checked = record { status = NoMemory; refused = None; fault = None } in
+    let gone : Checked = record { status = NoMemory; refused = None; reason_deleted = false; fault = None } in
     let P : Checked → Type 0 = λ c. RunsInto rule trace steps formula formula proof new was now c in
     subst P (sym is) (record {
-      report = reports_nothing rule trace steps formula proof new gone was now same refl o refl (λ e. let bad : NoMemory ≡ Malformed = e in cc);
+      report = reports_nothing rule trace steps formula proof new gone was now same refl refl o refl (λ e. let bad : NoMemory ≡ Malformed = e in cc);
       read_failed = λ e. absurd (let bad : NoMemory ≡ NoRead = e in cc);
       write_failed = λ e. absurd (let bad : NoMemory ≡ WriteFailed = e in cc);
       writer = writer;

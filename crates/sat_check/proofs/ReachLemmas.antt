@@ -1,7 +1,7 @@
 -- How far a proof is read, step by step.
 use Rattle.std.proofs.Common.{◌≡◌, ℕ, ◌≤◌, true, false, Option, None, Some, List, [], ◌∷◌, length}
-use Rattle.std.proofs.Common.{refl, sym, ap, ◌∙◌, subst, inl, inr, ◌⊎◌, Ok, Err}
-use Rattle.std.specs.Prelude.{slice_get}
+use Rattle.std.proofs.Common.{refl, sym, ap, ◌∙◌, subst, inl, inr, ◌⊎◌, Ok, Err, is_some}
+use Rattle.std.specs.Prelude.{slice_get, IsTrue}
 use Rattle.std.specs.List.{list_any}
 use Rattle.std.proofs.lemmas.Bool.{false≢true, MatchBool-at_true, MatchBool-at_false}
 use Rattle.std.proofs.lemmas.Option.{none-some}
@@ -17,13 +17,14 @@ use Rattle.proofs.specs.declared.step_end.StepEnd.{StepEnd}
 use Rattle.steps.specs.ProofSession.{View}
 use Rattle.theory.specs.Rules.{Rule, State, by_ids, by_copies, start, Answers, after, Same}
 use Rattle.theory.specs.Verdicts.{Ending, verified, refused, no_empty_clause, Ends, Verdict}
-use Rattle.theory.specs.Verdicts.{is_last, is_empty}
+use Rattle.theory.specs.Verdicts.{is_last, is_empty, DeletesReason, DeletedReason}
 use Rattle.theory.specs.declared.accepted.Accepted.{Accepted}
 use Rattle.theory.proofs.LratLemmas.LiveSets.{SameClauses-sym}
 use Rattle.theory.proofs.LratLemmas.Steps.{ok_is, ok_err}
 use Rattle.theory.proofs.LawLemmas.Rules.{answer_unique}
-use Rattle.theory.proofs.LawLemmas.Verdicts.{ends_same}
+use Rattle.theory.proofs.LawLemmas.Verdicts.{ends_same, deleted_same}
 use Rattle.sat_check.specs.Reach.{deciding_step, refused_end, NeedsNoProof, TellsFault, first_fault}
+use Rattle.sat_check.specs.Reach.{TellsReason}
 use Rattle.sat_check.specs.Code.Reach.{IsVerdict}
 use Rattle.sat_check.specs.Report.{Outcome, bare_steps, is_cut_short}
 use Rattle.sat_check.specs.Code.Checking.{IsLoaded, Loads, IsRefused, IsTold, LeavesRest}
@@ -79,6 +80,16 @@ not_passed p rest reach words ending last d =
 pub TellsFault-none : (formula second : Option Fault) (checked : Checked) → checked.fault ≡ None → (checked.status ≡ Malformed → ⊥) → TellsFault formula second checked
 TellsFault-none formula second checked none not = record { malformed = λ m. absurd (not m); only = λ _. none }
 
+-- nor a reason where none is told of
+not_told : (checked : Checked) → checked.reason_deleted ≡ false → IsTrue checked.reason_deleted → ⊥
+not_told checked quiet told = false≢true (sym quiet ∙ told)
+
+pub TellsReason-none : (rule : Rule) (clauses : List Clause) (p : Proof) (checked : Checked) → checked.reason_deleted ≡ false → TellsReason rule clauses p checked
+TellsReason-none rule clauses p checked quiet = record {
+  refused = λ told. absurd (not_told checked quiet told);
+  deleted = λ words ending told e. absurd (not_told checked quiet told);
+}
+
 -- no input is malformed where a run was cut short, or a verdict was written
 pub cut_short_not : (s : Status) → is_cut_short s ≡ true → s ≡ Malformed → ⊥
 cut_short_not s cut m = false≢true (sym (ap is_cut_short m) ∙ cut)
@@ -92,68 +103,78 @@ pub told_not : (s : Status) (now : Sink) → IsTold s now → s ≡ Malformed �
 told_not s now told m = let P : Status → Type 0 = λ x. IsTold x now in subst P m told
 
 -- no step decides where none is to come
-pub LeavesRest-none : (s : State) (fault : Option Fault) (rest : Suffix) (checked : Checked) → checked.refused ≡ None → TellsFault None fault checked → LeavesRest s (record { steps = []; fault = fault }) rest checked
-LeavesRest-none s fault rest checked none tells = record {
+pub LeavesRest-none : (s : View) (fault : Option Fault) (rest : Suffix) (checked : Checked) → checked.refused ≡ None → checked.reason_deleted ≡ false → TellsFault None fault checked → LeavesRest s (record { steps = []; fault = fault }) rest checked
+LeavesRest-none s fault rest checked none quiet tells = record {
   past = λ words ending last e d. by words ending last e d;
   refused = λ words ending is e. none ∙ no_end words ending e;
   only = λ _. none;
+  reason = λ told. absurd (not_told checked quiet told);
+  deleted = λ words ending told e. absurd (not_told checked quiet told);
   malformed = tells;
 }
   where
-    by : (words : List Accepted) (ending : Ending) (last : PlacedStep) → Ends s [] words ending → deciding_step [] words ending ≡ Some last → rest.offset ≤ last.offset
+    by : (words : List Accepted) (ending : Ending) (last : PlacedStep) → Ends s.state [] words ending → deciding_step [] words ending ≡ Some last → rest.offset ≤ last.offset
     by [] verified last e d = absurd (none-some last d)
     by [] (refused r) last e d = absurd (none-some last d)
     by [] no_empty_clause last e d = absurd (none-some last d)
     by (w ∷ ws) ending last e d = absurd e
 
-    no_end : (words : List Accepted) (ending : Ending) → Ends s [] words ending → None ≡ refused_end [] words ending
+    no_end : (words : List Accepted) (ending : Ending) → Ends s.state [] words ending → None ≡ refused_end [] words ending
     no_end [] verified e = refl
     no_end [] (refused r) e = refl
     no_end [] no_empty_clause e = refl
     no_end (w ∷ ws) ending e = absurd e
 
 -- no verdict was answered
-pub LeavesRest-broken : (s : State) (p : Proof) (rest : Suffix) (checked : Checked) → checked.refused ≡ None → (IsVerdict checked.status → ⊥) → TellsFault None p.fault checked → PassesNoEnd p rest
+pub LeavesRest-broken : (s : View) (p : Proof) (rest : Suffix) (checked : Checked) → checked.refused ≡ None → checked.reason_deleted ≡ false → (IsVerdict checked.status → ⊥) → TellsFault None p.fault checked → PassesNoEnd p rest
     → LeavesRest s p rest checked
-LeavesRest-broken s p rest checked none broken tells reach = record {
+LeavesRest-broken s p rest checked none quiet broken tells reach = record {
   past = λ words ending last e d. not_passed p rest reach words ending last d;
   refused = λ words ending is e. absurd (broken (inr is));
   only = λ _. none;
+  reason = λ told. absurd (not_told checked quiet told);
+  deleted = λ words ending told e. absurd (not_told checked quiet told);
   malformed = tells;
 }
 
-module _ (s : State) (step : Step) (end : StepEnd) (offset : ℕ) (p : Proof) (rest : Suffix) (checked : Checked) where
+module _ (s : View) (step : Step) (end : StepEnd) (offset : ℕ) (p : Proof) (rest : Suffix) (checked : Checked) where
   abbrev here : PlacedStep
   here = record { step = step; end = end; offset = offset }
 
   -- the check ended with this step, which was refused or not
-  pub LeavesRest-decided : (checked.status ≡ NotVerified → IsRefused s step)
-      → (checked.status ≡ NotVerified → checked.refused ≡ Some end) → ((checked.status ≡ NotVerified → ⊥) → checked.refused ≡ None) → TellsFault None p.fault checked
+  pub LeavesRest-decided : (checked.status ≡ NotVerified → IsRefused s.state step)
+      → (checked.status ≡ NotVerified → checked.refused ≡ Some end) → ((checked.status ≡ NotVerified → ⊥) → checked.refused ≡ None)
+      → (IsTrue checked.reason_deleted → (checked.status ≡ NotVerified) × IsTrue s.has_deleted_reason) → TellsFault None p.fault checked
       → PassesNoEnd (with_step step end offset p) rest → LeavesRest s (with_step step end offset p) rest checked
-  LeavesRest-decided refuses told only tells reach = record {
+  LeavesRest-decided refuses told only reason tells reach = record {
     past = λ words ending last e d. not_passed (with_step step end offset p) rest reach words ending last d;
     refused = λ words ending v e. told v ∙ ended (refuses v) words ending e;
     only = only;
+    reason = λ t. ap is_some (told (reason t).0);
+    deleted = λ words ending t e. inl (reason t).1;
     malformed = tells;
   }
     where
-      ended : IsRefused s step → (words : List Accepted) (ending : Ending) → Ends s (step ∷ bare_steps p) words ending
+      ended : IsRefused s.state step → (words : List Accepted) (ending : Ending) → Ends s.state (step ∷ bare_steps p) words ending
           → Some end ≡ refused_end (here ∷ p.steps) words ending
       ended a [] ending e = sym (ap (refused_end (here ∷ p.steps) []) e.1)
-      ended a (w ∷ ws) ending e = absurd (ok_err w a.0 (answer_unique s step _ _ e.0 a.1))
+      ended a (w ∷ ws) ending e = absurd (ok_err w a.0 (answer_unique s.state step _ _ e.0 a.1))
 
   -- it was accepted, and the check went on
-  pub LeavesRest-step : (t : State) (word : Accepted) → Answers s step (Ok word) → is_last word ≡ false → Same t (after s step word)
+  pub LeavesRest-step : (t : View) (word : Accepted) → Answers s.state step (Ok word) → is_last word ≡ false → Same t.state (after s.state step word)
+      → (IsTrue t.has_deleted_reason → IsTrue s.has_deleted_reason ⊎ DeletesReason s.state step word)
       → LeavesRest t p rest checked → LeavesRest s (with_step step end offset p) rest checked
-  LeavesRest-step t word a not_last same later = record {
+  LeavesRest-step t word a not_last same reason later = record {
     past = λ words ending last e d. by words ending last e d;
     refused = λ words ending v e. ended words ending v e;
     only = later.only;
+    reason = later.reason;
+    deleted = λ words ending told e. before words ending told e;
     malformed = later.malformed;
   }
     where
       -- the same step decides among the later ones
-      later_step : (ps : List PlacedStep) (w : Accepted) (ws : List Accepted) (ending : Ending) → Ends t (bare_steps (record { steps = ps; fault = p.fault })) ws ending
+      later_step : (ps : List PlacedStep) (w : Accepted) (ws : List Accepted) (ending : Ending) → Ends t.state (bare_steps (record { steps = ps; fault = p.fault })) ws ending
           → deciding_step (here ∷ ps) (w ∷ ws) ending ≡ deciding_step ps ws ending
       later_step [] w [] verified e = absurd (cc)
       later_step (x ∷ ps) w [] verified e = absurd (let bad = e.1 in cc)
@@ -167,34 +188,48 @@ module _ (s : State) (step : Step) (end : StepEnd) (offset : ℕ) (p : Proof) (r
       later_end w ws no_empty_clause = refl
 
       -- and so it does from the state that this step left
-      goes_on : (w : Accepted) (ws : List Accepted) (ending : Ending) → Ends s (step ∷ bare_steps p) (w ∷ ws) ending → Ends t (bare_steps p) ws ending
+      goes_on : (w : Accepted) (ws : List Accepted) (ending : Ending) → Ends s.state (step ∷ bare_steps p) (w ∷ ws) ending → Ends t.state (bare_steps p) ws ending
       goes_on w ws ending e =
-          let is = ok_is w word (answer_unique s step _ _ e.0 a) in
-          let P : Accepted → Type 0 = λ x. Ends (after s step x) (bare_steps p) ws ending in
+          let is = ok_is w word (answer_unique s.state step _ _ e.0 a) in
+          let P : Accepted → Type 0 = λ x. Ends (after s.state step x) (bare_steps p) ws ending in
           let ends = subst P is (MatchBool-at_false _ _ (ap is_last is ∙ not_last) e.1) in
-          ends_same (bare_steps p) ws ending (after s step word) t (same_sym t (after s step word) same) ends
+          ends_same (bare_steps p) ws ending (after s.state step word) t.state (same_sym t.state (after s.state step word) same) ends
 
-      by : (words : List Accepted) (ending : Ending) (last : PlacedStep) → Ends s (step ∷ bare_steps p) words ending
+      -- a reason was deleted before this step, by it or after it
+      before : (words : List Accepted) (ending : Ending) → IsTrue checked.reason_deleted → Ends s.state (step ∷ bare_steps p) words ending
+          → IsTrue s.has_deleted_reason ⊎ DeletedReason s.state (step ∷ bare_steps p) words
+      before [] ending told e = absurd (ok_err word e.0 (answer_unique s.state step _ _ a e.2))
+      before (w ∷ ws) ending told e =
+          let P : Accepted → Type 0 = λ x. IsTrue s.has_deleted_reason ⊎ DeletedReason s.state (step ∷ bare_steps p) (x ∷ ws) in
+          subst P (sym (ok_is w word (answer_unique s.state step _ _ e.0 a))) (elim (later.deleted ws ending told (goes_on w ws ending e)) [
+            | inl had ↦ elim (reason had) [
+              | inl earlier ↦ inl earlier
+              | inr now ↦ inr (inl now)
+            ]
+            | inr d ↦ inr (inr (deleted_same (bare_steps p) ws t.state (after s.state step word) same d))
+          ])
+
+      by : (words : List Accepted) (ending : Ending) (last : PlacedStep) → Ends s.state (step ∷ bare_steps p) words ending
           → deciding_step (here ∷ p.steps) words ending ≡ Some last → rest.offset ≤ last.offset
-      by [] ending last e d = absurd (ok_err word e.0 (answer_unique s step _ _ a e.2))
+      by [] ending last e d = absurd (ok_err word e.0 (answer_unique s.state step _ _ a e.2))
       by (w ∷ ws) ending last e d =
           let now = goes_on w ws ending e in
           later.past ws ending last now (sym (later_step p.steps w ws ending now) ∙ d)
 
-      ended : (words : List Accepted) (ending : Ending) → checked.status ≡ NotVerified → Ends s (step ∷ bare_steps p) words ending
+      ended : (words : List Accepted) (ending : Ending) → checked.status ≡ NotVerified → Ends s.state (step ∷ bare_steps p) words ending
           → checked.refused ≡ refused_end (here ∷ p.steps) words ending
-      ended [] ending v e = absurd (ok_err word e.0 (answer_unique s step _ _ a e.2))
+      ended [] ending v e = absurd (ok_err word e.0 (answer_unique s.state step _ _ a e.2))
       ended (w ∷ ws) ending v e = later.refused ws ending v (goes_on w ws ending e) ∙ later_end w ws ending
 
 -- ---- A whole proof
 
-module _ (rule : Rule) (fault : Option Fault) (clauses : List Clause) (p : Proof) (reader : Reader) (rest : Suffix) (checked : Checked) (none : checked.refused ≡ None) (tells : TellsFault fault p.fault checked) where
+module _ (rule : Rule) (fault : Option Fault) (clauses : List Clause) (p : Proof) (reader : Reader) (rest : Suffix) (checked : Checked) (none : checked.refused ≡ None) (quiet : checked.reason_deleted ≡ false) (tells : TellsFault fault p.fault checked) where
   -- no verdict was answered, and nothing was read
   pub LeavesProof-broken : (IsVerdict checked.status → ⊥) → LeavesProof rule fault clauses p reader reader rest checked
   LeavesProof-broken broken = record {
     unread = λ n. refl;
     past = λ words ending last whole e d. inl refl;
-    told = record { unread = λ n. none; refused = λ words ending whole is e. absurd (broken (inr is)); only = λ _. none; malformed = tells };
+    told = record { unread = λ n. none; refused = λ words ending whole is e. absurd (broken (inr is)); only = λ _. none; reason = TellsReason-none rule clauses p checked quiet; malformed = tells };
   }
 
   -- some clause is empty
@@ -208,13 +243,14 @@ module _ (rule : Rule) (fault : Option Fault) (clauses : List Clause) (p : Proof
           let q = MatchBool-at_true _ _ empty e in
           none ∙ sym (ap (refused_end p.steps words) q.1);
       only = λ _. none;
+      reason = TellsReason-none rule clauses p checked quiet;
       malformed = tells;
     };
   }
 
 -- the steps were checked
 pub LeavesProof-checked : (rule : Rule) (s : View) (clauses : List Clause) (l : IsLoaded rule s clauses) (p : Proof) (old new : Reader) (rest : Suffix) (checked : Checked)
-    → s.is_verified ≡ false → LeavesRest s.state p rest checked → LeavesProof rule None clauses p old new rest checked
+    → s.is_verified ≡ false → LeavesRest s p rest checked → LeavesProof rule None clauses p old new rest checked
 LeavesProof-checked rule s clauses l p old new rest checked unverified leaves = record {
   unread = λ n. absurd (needed n);
   past = λ words ending last whole e d. inr (leaves.past words ending last (ends words ending e) d);
@@ -222,6 +258,13 @@ LeavesProof-checked rule s clauses l p old new rest checked unverified leaves = 
     unread = λ n. absurd (needed n);
     refused = λ words ending whole v e. leaves.refused words ending v (ends words ending e);
     only = leaves.only;
+    reason = record {
+      refused = leaves.reason;
+      deleted = λ words ending told e. elim (leaves.deleted words ending told (ends words ending e)) [
+        | inl had ↦ absurd (false≢true (sym l.none_deleted ∙ had))
+        | inr d ↦ deleted_same (bare_steps p) words s.state (start rule clauses) l.state d
+      ];
+    };
     malformed = leaves.malformed;
   };
 }
@@ -237,11 +280,11 @@ LeavesProof-checked rule s clauses l p old new rest checked unverified leaves = 
     ends words ending e = ends_same (bare_steps p) words ending (start rule clauses) s.state (same_sym s.state (start rule clauses) l.state) (MatchBool-at_false _ _ none e)
 
 -- the formula has a fault, or memory ran out
-pub LeavesProof-fault : (rule : Rule) (s : View) (f : Fault) (i : Input) (p : Proof) (reader : Reader) (rest : Suffix) (checked : Checked) → checked.refused ≡ None
+pub LeavesProof-fault : (rule : Rule) (s : View) (f : Fault) (i : Input) (p : Proof) (reader : Reader) (rest : Suffix) (checked : Checked) → checked.refused ≡ None → checked.reason_deleted ≡ false
     → Loads rule s (Err f) (formula_of i) → (f ≡ OutOfMemory → (IsVerdict checked.status → ⊥) × (checked.status ≡ Malformed → ⊥))
     → (checked.status ≡ Malformed → checked.fault ≡ Some (of.Formula f)) → ((checked.status ≡ Malformed → ⊥) → checked.fault ≡ None)
     → LeavesProof rule (formula_of i).fault (formula_of i).clauses p reader reader rest checked
-LeavesProof-fault rule s f i p reader rest checked none loads broken malformed only = by f loads broken malformed
+LeavesProof-fault rule s f i p reader rest checked none quiet loads broken malformed only = by f loads broken malformed
   where
     faulty : (f : Fault) → (formula_of i).fault ≡ Some f → (checked.status ≡ Malformed → checked.fault ≡ Some (of.Formula f))
         → LeavesProof rule (formula_of i).fault (formula_of i).clauses p reader reader rest checked
@@ -252,6 +295,7 @@ LeavesProof-fault rule s f i p reader rest checked none loads broken malformed o
         unread = λ n. none;
         refused = λ words ending whole v e. absurd (none-some f (sym whole ∙ is));
         only = λ _. none;
+        reason = TellsReason-none rule (formula_of i).clauses p checked quiet;
         malformed = record { malformed = λ m. malformed m ∙ sym (ap (λ o. first_fault o p.fault) is); only = only };
       };
     }
@@ -263,5 +307,5 @@ LeavesProof-fault rule s f i p reader rest checked none loads broken malformed o
     by (Binary k x) loads broken malformed = faulty (Binary k x) loads malformed
     by ReadFailed loads broken malformed = faulty ReadFailed loads malformed
     by OutOfMemory loads broken malformed =
-        LeavesProof-broken rule (formula_of i).fault (formula_of i).clauses p reader rest checked none
+        LeavesProof-broken rule (formula_of i).fault (formula_of i).clauses p reader rest checked none quiet
         (record { malformed = λ m. absurd ((broken refl).1 m); only = only }) (broken refl).0

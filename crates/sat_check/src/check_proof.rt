@@ -30,7 +30,7 @@ pub fn check_proof<S: ProofSession, R: StepReader, O: Out>(
     ensures report { Along (R.stream reader.old) (R.stream reader.new) (λ i j.
         (r : Report) × Rest trace (S.shown session.old).state 0 (S.shown session.old).peak
         (R.to_come reader.old i) r × Outcome result.status lines.old.held lines.new.held r
-        × LeavesRest (S.shown session.old).state (R.to_come reader.old i) j result) }
+        × LeavesRest (S.shown session.old) (R.to_come reader.old i) j result) }
     ensures read_failed { result.status ≡ Status.ReadFailed →
         tells_failure (R.stream reader.new).reader ≡ true }
     ensures write_failed { result.status ≡ Status.WriteFailed → lines.new.has_failed ≡ true }
@@ -42,8 +42,9 @@ pub fn check_proof<S: ProofSession, R: StepReader, O: Out>(
         match reader.next(&mut step) {
             Ok(true) => {
                 let number = accepted.saturating_add(1);
+                let reason_deleted = session.has_deleted_reason();
                 if let Some(status) = check_step(alloc, trace, session, &step, number, lines) {
-                    return Checked::by_step(status, reader.step_end());
+                    return Checked::by_step(status, reader.step_end(), reason_deleted);
                 }
                 accepted = number;
             }

@@ -1,16 +1,19 @@
 //! How a check ended.
 
-ghost use Rattle.std.specs.Prelude.{◌≡◌, ◌≢◌, Some, None};
+ghost use Rattle.std.specs.Prelude.{◌≡◌, ◌≢◌, Some, None, false, IsTrue};
 
 use crate::{InputFault, Status};
 use proofs::StepEnd;
 
-/// How a check ended, where the step ends that was refused, and what is wrong with an input.
+/// How a check ended, and why: what is known of a step that was refused, or is wrong with an input.
 #[derive(Clone, Copy, Debug, PartialEq, Eq)]
 pub struct Checked {
     pub status: Status,
     /// Where the `0` stands that ends the refused step. None where no step was refused.
     pub refused: Option<StepEnd>,
+    /// Whether the proof is known to have deleted a clause that made a literal hold for good. False
+    /// where no step was refused.
+    pub reason_deleted: bool,
     /// What is wrong with an input. None where the status isn't `Malformed`.
     pub fault: Option<InputFault>,
 }
@@ -18,26 +21,35 @@ pub struct Checked {
 impl Checked {
     /// No step was refused, and no input is malformed.
     pub(crate) fn without_step(status: Status) -> Checked
-        ensures { result ≡ record { status = status; refused = None; fault = None } }
+        ensures { result ≡ record {
+          status = status;
+          refused = None;
+          reason_deleted = false;
+          fault = None;
+        } }
     {
         Checked {
             status,
             refused: None,
+            reason_deleted: false,
             fault: None,
         }
     }
 
     /// The last step, which ends there, was refused if the proof wasn't verified.
-    pub(crate) fn by_step(status: Status, end: Option<StepEnd>) -> Checked
+    pub(crate) fn by_step(status: Status, end: Option<StepEnd>, reason_deleted: bool) -> Checked
         ensures status { result.status ≡ status }
         ensures refused { status ≡ Status.NotVerified → result.refused ≡ end }
         ensures only { status ≢ Status.NotVerified → result.refused ≡ None }
+        ensures reason { IsTrue result.reason_deleted →
+            (status ≡ Status.NotVerified) × IsTrue reason_deleted }
         ensures well_formed { result.fault ≡ None }
     {
         match status {
             Status::NotVerified => Checked {
                 status,
                 refused: end,
+                reason_deleted,
                 fault: None,
             },
             _ => Checked::without_step(status),
@@ -48,6 +60,7 @@ impl Checked {
     pub(crate) fn by_fault(status: Status, fault: InputFault) -> Checked
         ensures status { result.status ≡ status }
         ensures refused { result.refused ≡ None }
+        ensures no_reason { result.reason_deleted ≡ false }
         ensures malformed { status ≡ Status.Malformed → result.fault ≡ Some fault }
         ensures only { status ≢ Status.Malformed → result.fault ≡ None }
     {
@@ -55,6 +68,7 @@ impl Checked {
             Status::Malformed => Checked {
                 status,
                 refused: None,
+                reason_deleted: false,
                 fault: Some(fault),
             },
             _ => Checked::without_step(status),

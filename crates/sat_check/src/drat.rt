@@ -60,8 +60,33 @@ pub fn run_drat_placed<F: In, P: In, O: Out>(
     checked
 }
 
+/// As [`run_drat`], with a propagation of the caller's choice: it has no clause,
+/// nothing is assumed, and no memory was refused to it.
+pub fn run_drat_with<C: Propagate + Drop, F: In, P: In, O: Out>(
+    alloc: Global,
+    options: &DratOptions,
+    clauses: C,
+    formula: &mut F,
+    proof: &mut P,
+    out: &mut O,
+) -> Status
+    requires empty { (C.state clauses).live ≡ maps.empty }
+    requires nothing_assumed { (C.state clauses).assumptions ≡ [] }
+    requires none_refused { (C.state clauses).has_refused ≡ false }
+    ensures { RunsProof (drat (rules_of options.now)) options.now.trace
+        (drat_proof options.now.binary) (F.shown formula.old) (F.shown formula.new)
+        (P.shown proof.old) (P.shown proof.new) (O.held out.old) (O.held out.new)
+        (O.has_failed out.old) (O.has_failed out.new) (O.is_flushed out.new) result }
+{
+    let mut lines = LineOut::new(&mut *out);
+    let checked = check_with(alloc, *options, clauses, formula, proof, &mut lines);
+    let held = lines.release();
+    let _ = &*held;
+    checked.status
+}
+
 // The check by a propagation without clauses, in the form that was asked for.
-pub(crate) fn check_with<C: Propagate + Drop, F: In, P: In, O: Out>(
+fn check_with<C: Propagate + Drop, F: In, P: In, O: Out>(
     alloc: Global,
     options: DratOptions,
     clauses: C,

@@ -11,7 +11,6 @@ mod check_step;
 mod checked;
 mod conclude;
 mod drat;
-mod drat_with;
 mod input_fault;
 mod judge;
 mod judgement;
@@ -29,8 +28,7 @@ mod tools;
 
 pub use checked::Checked;
 pub use command_line::{Args, ArgsFault, Tool, read_args};
-pub use drat::{run_drat, run_drat_placed};
-pub use drat_with::run_drat_with;
+pub use drat::{run_drat, run_drat_placed, run_drat_with};
 pub use input_fault::InputFault;
 pub use kinds::{binary_kind, text_kind};
 pub use lrat::{run_lrat, run_lrat_placed};

@@ -2,7 +2,6 @@ pub mod Deletions
 pub mod Ending
 pub mod Groups
 pub mod Hints
-pub mod Keys
 pub mod Remaining
 pub mod Rooms
 pub mod Starts

@@ -16,6 +16,8 @@ pub record Held : Type 0 where
   pub top : ℕ
   -- the sum of the lengths of all lists of literals that are kept
   pub stored : ℕ
+  -- whether a deleted clause is known that made a literal hold for good
+  pub has_deleted_reason : Bool
 
 -- what contracts see of a session
 pub record SessionState : Type 0 where
@@ -32,7 +34,13 @@ pub record SessionState : Type 0 where
 -- no clause was input
 abbrev pub fresh : Rule → SessionState
 fresh rule = record {
-  held = record { rule = rule; live = maps.empty; top = 0; stored = 0 };
+  held = record {
+    rule = rule;
+    live = maps.empty;
+    top = 0;
+    stored = 0;
+    has_deleted_reason = false;
+  };
   has_stepped = false;
   is_verified = false;
   is_ended = false;
@@ -54,6 +62,7 @@ view_of s = record {
   has_stepped = s.has_stepped;
   is_verified = s.is_verified;
   is_ended = s.is_ended;
+  has_deleted_reason = s.held.has_deleted_reason;
   peak = s.peak;
   stored = s.held.stored;
   room = 4294967295 - s.held.top;

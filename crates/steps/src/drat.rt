@@ -26,6 +26,7 @@ pub type DratSession<P> = Session<DratJudge<P>>;
 pub struct DratJudge<P: Propagate> {
     examiner: Examiner<P>,
     rules: DratRules,
+    has_deleted_reason: bool,
 }
 
 impl<P: Propagate> Session<DratJudge<P>> {
@@ -39,7 +40,11 @@ impl<P: Propagate> Session<DratJudge<P>> {
         // so it is known that no literals are kept
         let _ = clauses.literals();
         let examiner = Examiner::new(clauses);
-        Session::over(DratJudge { examiner, rules })
+        Session::over(DratJudge {
+            examiner,
+            rules,
+            has_deleted_reason: false,
+        })
     }
 }
 
@@ -52,6 +57,7 @@ impl<P: Propagate> Judge for DratJudge<P> {
       live = (P.state s.examiner.clauses).live;
       top = 0;
       stored = (P.state s.examiner.clauses).stored;
+      has_deleted_reason = s.has_deleted_reason;
     } };
 
     ghost is_ready = { λ s. IsIdle (P.state s.examiner.clauses) };
@@ -66,8 +72,16 @@ impl<P: Propagate> Judge for DratJudge<P> {
                 let (clause, witness) = parts_of(self.rules, step);
                 self.examiner.add(clause, witness)
             }
-            StepKind::Delete => delete(&mut self.examiner.clauses, self.rules, step.lits()),
+            StepKind::Delete => {
+                let clauses = &mut self.examiner.clauses;
+                let lits = step.lits();
+                delete(clauses, self.rules, lits, &mut self.has_deleted_reason)
+            }
         }
+    }
+
+    fn has_deleted_reason(&self) -> bool {
+        self.has_deleted_reason
     }
 
     fn literals(&self) -> u64 {

@@ -3,7 +3,6 @@
 mod addition;
 mod candidates;
 mod deletions;
-mod named;
 mod walk;
 
 ghost use Rattle.std.specs.Prelude.{◌≡◌, ◌≢◌, ◌≤◌, IfOk, OnOk, OnErr};
@@ -105,6 +104,7 @@ impl Session<LratJudge> {
 
 impl Judge for LratJudge {
     ghost use Rattle.std.specs.FinMap as maps;
+    ghost use Rattle.std.specs.Prelude.{false};
     ghost use Rattle.theory.specs.Rules.{lrat};
     ghost use Rattle.steps.specs.Code.Ready.{IsReady};
 
@@ -113,6 +113,7 @@ impl Judge for LratJudge {
       live = s.held.live;
       top = s.held.top;
       stored = s.held.stored;
+      has_deleted_reason = false;
     } };
 
     ghost is_ready = { λ s. IsReady (maps.get s.held.live) s.trues };
@@ -131,6 +132,10 @@ impl Judge for LratJudge {
                 None => Ok(Accepted::Deleted),
             },
         }
+    }
+
+    fn has_deleted_reason(&self) -> bool {
+        false
     }
 
     fn literals(&self) -> u64 {

@@ -47,6 +47,7 @@ impl<J: Judge> Session<J> {
         requires ready { J.is_ready judge }
         requires empty { (J.held judge).live ≡ maps.empty }
         requires none_before { (J.held judge).top ≡ 0 }
+        requires none_deleted { (J.held judge).has_deleted_reason ≡ false }
         ensures { result ≡ fresh (J.held judge).rule }
     {
         let progress = Progress::new(judge.literals());
@@ -84,6 +85,10 @@ impl<J: Judge> ProofSession for Session<J> {
 
     fn verified(&self) -> bool {
         self.progress.is_verified
+    }
+
+    fn has_deleted_reason(&self) -> bool {
+        self.judge.has_deleted_reason()
     }
 
     fn held(&self) -> u64 {

@@ -4,7 +4,7 @@ ghost use Rattle.std.specs.Prelude.{◌^◌, ◌-◌, None, Some, is_some, if◌
 
 use crate::support::{E, E_DRAT, E_PROOF, MODELS, MODELS_OUTPUT, expect_equal};
 use cnf_base::{FromRead, ToWrite};
-use filter_io::{System, run_drat_forward, run_lrat_check, run_model_check};
+use filter_io::{Hint, System, run_drat_forward, run_lrat_check, run_model_check};
 use proofs::StepEnd;
 use sat_check::{Args, InputFault, Status, Tool};
 use std::alloc::Global;
@@ -49,7 +49,7 @@ impl<'a> System for TwoInputs<'a> {
 
     fn tell_failure(&self, _name: &str, _input: &FromRead<&'a [u8]>) {}
 
-    fn tell_refusal(&self, _name: &str, _end: StepEnd) {}
+    fn tell_refusal(&self, _name: &str, _end: StepEnd, _hint: Option<Hint>) {}
 
     fn tell_fault(
         &self,

@@ -35,6 +35,7 @@ fn run_placed<F: In, P: In, O: Out>(
         Request::Model => Checked {
             status: Status::Usage,
             refused: None,
+            reason_deleted: false,
             fault: None,
         },
     }

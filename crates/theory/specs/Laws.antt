@@ -11,8 +11,8 @@ use Rattle.theory.specs.Drat.{DratStep, AnswersDrat, after_drat, SameLive}
 use Rattle.theory.specs.Lrat.{Group, LratState, LratStep, add, AnswersLrat, chain, conflict}
 use Rattle.theory.specs.Lrat.{with_clause, without_ids, SameClauses}
 use Rattle.theory.specs.Sizes.{total}
-use Rattle.theory.specs.Rules.{Rule, State, Answers, after, IsSatisfiable, IsFinite}
-use Rattle.theory.specs.Verdicts.{Ending, verified, Verdict}
+use Rattle.theory.specs.Rules.{Rule, drat, State, start, Answers, after, IsSatisfiable, IsFinite}
+use Rattle.theory.specs.Verdicts.{Ending, verified, Verdict, DeletedReason}
 use Rattle.proofs.specs.Steps.{Step}
 use Rattle.theory.specs.declared.drat_rules.DratRules.{DratRules}
 
@@ -82,6 +82,14 @@ UnitsAreKept = (rules : DratRules) (live last : List Clause) (steps : List DratS
     (words : List Accepted) (l : Literal) →
     IsTrue rules.keep_units → Leads rules live steps words last →
     Forced (slice_get live) [] l → Forced (slice_get last) [] l
+
+-- Where the rules keep units, no clause is deleted that makes a literal hold for good (our own
+-- profile).
+abbrev pub ReasonsAreKept : Type 0
+ReasonsAreKept = (rules : DratRules) (formula : List Clause) (steps : List Step)
+    (words : List Accepted) (ending : Ending) →
+    IsTrue rules.keep_units → Verdict (drat rules) formula steps words ending →
+    ¬ DeletedReason (start (drat rules) formula) steps words
 
 -- A step has at most one answer.
 abbrev pub AnswersAreUnique : Type 0

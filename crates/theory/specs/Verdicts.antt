@@ -1,13 +1,15 @@
 -- The verdict on a list of steps under either rule (our own profile: the first refused step, or
 -- the first accepted empty clause, ends the check).
-use Rattle.std.specs.Prelude.{◌≡◌, Bool, true, false, List, [], ◌∷◌, Ok, Err, MatchBool}
+use Rattle.std.specs.Prelude.{◌≡◌, Bool, true, false, List, [], ◌∷◌, Ok, Err, MatchBool, ◌⊎◌}
+use Rattle.std.specs.Prelude.{slice_get}
 use Rattle.std.specs.List.{list_any}
 use Rattle.cnf_base.specs.Literals.{Clause}
 use Rattle.proofs.specs.Steps.{Step}
 use Rattle.theory.specs.declared.accepted.Accepted.{Accepted}
-use Rattle.theory.specs.declared.accepted.Accepted.TheVariants.{Empty}
+use Rattle.theory.specs.declared.accepted.Accepted.TheVariants.{Deleted, Empty}
 use Rattle.theory.specs.declared.refusal.Refusal.{Refusal}
-use Rattle.theory.specs.Rules.{Rule, State, start, Answers, after}
+use Rattle.theory.specs.Propagation.{IsRootReason}
+use Rattle.theory.specs.Rules.{Rule, State, by_copies, start, Answers, after}
 
 -- how a check ends: the formula is shown to have no model, a step is refused, or the proof ends
 -- first
@@ -43,3 +45,15 @@ abbrev pub Verdict : Rule → List Clause → List Step → List Accepted → En
 Verdict rule formula steps words ending =
     MatchBool (list_any is_empty formula) ((words ≡ []) × (ending ≡ verified))
     (Ends (start rule formula) steps words ending)
+
+-- A step of DRAT, accepted with this word, deletes a clause that makes a literal of it hold for
+-- good.
+abbrev pub DeletesReason : State → Step → Accepted → Type 0
+DeletesReason (by_copies rules live) step Deleted = IsRootReason (slice_get live) step.lits
+DeletesReason _ step word = ⊥
+
+-- One of the steps that are accepted with these words does.
+abbrev pub DeletedReason : State → List Step → List Accepted → Type 0
+DeletedReason state (step ∷ steps) (word ∷ words) =
+    DeletesReason state step word ⊎ DeletedReason (after state step word) steps words
+DeletedReason state _ _ = ⊥

@@ -8,6 +8,7 @@ ghost use Rattle.theory.specs.Laws.{ForcedIsTrue, RupIsImplied, RatKeepsModels, 
 ghost use Rattle.theory.specs.Laws.{ChainShowsClash, LratShowsRedundant, KeepsModels};
 ghost use Rattle.theory.specs.Laws.{IsSoundVerdict, AnswersAreUnique, AnswersExist};
 ghost use Rattle.theory.specs.Laws.{VerdictsAreUnique, VerdictsExist, UnitsAreKept};
+ghost use Rattle.theory.specs.Laws.{ReasonsAreKept};
 ghost use Rattle.theory.specs.Laws.{OnlyCopiesCount, OnlySetsCount, EqualSetsEqualTotals};
 ghost use Rattle.theory.specs.Laws.{EqualCopiesEqualSums};
 
@@ -55,6 +56,11 @@ pub fn is_sound()
 /// step.
 pub fn units_are_kept()
     ensures { UnitsAreKept }
+{}
+
+/// Where the rules keep units, no clause is deleted that makes a literal hold for good.
+pub fn reasons_are_kept()
+    ensures { ReasonsAreKept }
 {}
 
 /// A step has at most one answer.

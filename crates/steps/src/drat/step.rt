@@ -1,7 +1,7 @@
 //! One step of a DRAT proof, over any store of clauses that propagates.
 
-ghost use Rattle.std.specs.Prelude.{◌≡◌, ◌∷◌, true, false, Some, IsSome, IsTrue};
-ghost use Rattle.std.specs.Prelude.{IfOk, OnOk, OnErr};
+ghost use Rattle.std.specs.Prelude.{◌≡◌, ◌∷◌, ◌⊎◌, true, false, Some, IsSome, IsTrue};
+ghost use Rattle.std.specs.Prelude.{IfOk, OnOk, OnErr, slice_get};
 ghost use Rattle.std.specs.FinMap as maps;
 ghost use Rattle.cnf_base.specs.Literals.{Clause};
 ghost use Rattle.theory.specs.Propagation.{IsRootReason};
@@ -51,7 +51,14 @@ impl<P: Propagate> Examiner<P> {
 }
 
 /// Whether the rules keep the clause in the slot, since it makes a literal of it hold for good.
-fn is_kept<P: Propagate>(clauses: &mut P, rules: DratRules, slot: Slot) -> Result<bool, OutOfMemory>
+///
+/// Where they keep none, these are found too, up to the first that is lost: `remove` tells of it.
+fn is_kept<P: Propagate>(
+    clauses: &mut P,
+    rules: DratRules,
+    slot: Slot,
+    was_lost: bool,
+) -> Result<bool, OutOfMemory>
     requires alive { IsSome (maps.get (P.state clauses.old).live slot) }
     requires idle { IsIdle (P.state clauses.old) }
     ensures yes { IfOk result (λ is_kept. is_kept ≡ true → (c : Clause) →
@@ -64,17 +71,22 @@ fn is_kept<P: Propagate>(clauses: &mut P, rules: DratRules, slot: Slot) -> Resul
     ensures idle { IsIdle (P.state clauses.new) }
 {
     if rules.keep_units {
-        clauses.is_root_reason(slot)
-    } else {
-        Ok(false)
+        return clauses.is_root_reason(slot);
     }
+    if was_lost {
+        return Ok(false);
+    }
+    let _ = clauses.assume(&[])?;
+    clauses.undo();
+    Ok(false)
 }
 
-/// Takes one copy of the clause off, unless the rules keep it.
+/// Takes one copy of the clause off, unless the rules keep it. It notes where a literal is lost.
 pub(crate) fn delete<P: Propagate>(
     clauses: &mut P,
     rules: DratRules,
     lits: &[Lit],
+    has_deleted_reason: &mut bool,
 ) -> Result<Accepted, Refusal>
     requires { IsIdle (P.state clauses.old) }
     ensures answers { UnlessOutOfMemory result
@@ -82,6 +94,10 @@ pub(crate) fn delete<P: Propagate>(
     ensures live { IfOk result (λ word. SameLive (maps.values (P.state clauses.new).live)
         (after_drat (maps.values (P.state clauses.old).live) (drat.delete lits.now) word)) }
     ensures idle { IsIdle (P.state clauses.new) }
+    ensures deleted_reason { IfOk result (λ word. IsTrue has_deleted_reason.new →
+        IsTrue has_deleted_reason.old ⊎ ((word ≡ Accepted.Deleted)
+        × IsRootReason (slice_get (maps.values (P.state clauses.old).live)) lits.now)) }
+    ensures reason_stays { OnErr result (has_deleted_reason.new ≡ has_deleted_reason.old) }
     ensures refused { OnErr result ((P.state clauses.new).live ≡ (P.state clauses.old).live) }
 {
     let Some(slot) = clauses.find(lits) else {
@@ -91,10 +107,10 @@ pub(crate) fn delete<P: Propagate>(
             Ok(Accepted::Ignored)
         };
     };
-    match is_kept(clauses, rules, slot) {
+    match is_kept(clauses, rules, slot, *has_deleted_reason) {
         Ok(true) => Ok(Accepted::Ignored),
         Ok(false) => {
-            let _ = clauses.remove(slot);
+            *has_deleted_reason |= clauses.remove(slot);
             Ok(Accepted::Deleted)
         }
         Err(_) => Err(Refusal::OutOfMemory),

@@ -11,11 +11,10 @@ ghost use Rattle.steps.specs.Code.Walk.{IsEnd};
 ghost use Rattle.theory.specs.Answers.{UnlessOutOfMemory};
 
 use crate::lrat::candidates::{HintsRoom, first_left_out, judge_groups};
-use crate::lrat::named::Named;
 use crate::lrat::walk::{WalkEnd, walk};
 use crate::word::word_of;
 use cnf_base::Lit;
-use live_clauses::LiveClauses;
+use live_clauses::{IdSet, LiveClauses};
 use theory::{Accepted, Refusal};
 use trail::{Trail, Whole};
 
@@ -38,7 +37,7 @@ fn judge_rat(
     ensures reserved { SameSet trues.new.reserved trues.old.reserved }
     ensures same { live.new ≡ live.old }
 {
-    let mut named = Named::new(room.alloc);
+    let mut named = IdSet::new(room.alloc);
     match judge_groups(live, trues, pivot, &mut named, hints)? {
         Some(refusal) => Err(refusal),
         None => match first_left_out(live, trues, pivot, &named, &mut room.ids)? {

@@ -11,10 +11,9 @@ ghost use Rattle.live_clauses.specs.LiveClauses.{Holds};
 ghost use Rattle.steps.specs.Code.Groups.{named_in, needs_group_at, IsGroupEnd, IsFirstLeftOut};
 ghost use Rattle.steps.specs.Code.Groups.{is_unnamed};
 
-use crate::lrat::named::Named;
 use crate::lrat::walk::{WalkEnd, refusal_of, walk};
 use cnf_base::{Lit, OutOfMemory};
-use live_clauses::LiveClauses;
+use live_clauses::{IdSet, LiveClauses};
 use std::alloc::{AllocError, Global};
 use theory::Refusal;
 use trail::{Except, Trail};
@@ -70,7 +69,7 @@ fn judge_group(
     live: &LiveClauses,
     trues: &mut Trail,
     pivot: Lit,
-    named: &mut Named,
+    named: &mut IdSet,
     candidate: u64,
     hints: &[i64],
 ) -> Result<Option<Refusal>, AllocError>
@@ -106,7 +105,7 @@ pub(crate) fn judge_groups(
     live: &LiveClauses,
     trues: &mut Trail,
     pivot: Lit,
-    named: &mut Named,
+    named: &mut IdSet,
     hints: &[i64],
 ) -> Result<Option<Refusal>, AllocError>
     requires quiet { IsFalse (conflicts trues.old.lits) }
@@ -159,7 +158,7 @@ fn needs_group(trues: &mut Trail, opposite: Lit, clause: &[Lit]) -> bool
 }
 
 /// Whether the clause is a candidate that no group names and that gives no conflict at once.
-fn is_left_out(live: &LiveClauses, trues: &mut Trail, pivot: Lit, named: &Named, id: u64) -> bool
+fn is_left_out(live: &LiveClauses, trues: &mut Trail, pivot: Lit, named: &IdSet, id: u64) -> bool
     requires quiet { IsFalse (conflicts trues.old.lits) }
     requires room { HasRoomForAll trues.old.reserved (maps.get live.now.live) }
     ensures unnamed { result ≡
@@ -182,7 +181,7 @@ fn first_unnamed(
     live: &LiveClauses,
     trues: &mut Trail,
     pivot: Lit,
-    named: &Named,
+    named: &IdSet,
     ids: &[u64],
 ) -> Option<u64>
     requires quiet { IsFalse (conflicts trues.old.lits) }
@@ -208,7 +207,7 @@ pub(crate) fn first_left_out(
     live: &mut LiveClauses,
     trues: &mut Trail,
     pivot: Lit,
-    named: &Named,
+    named: &IdSet,
     ids: &mut Vec<u64>,
 ) -> Result<Option<u64>, OutOfMemory>
     requires quiet { IsFalse (conflicts trues.old.lits) }

@@ -1,8 +1,10 @@
--- Where the rules keep units, what follows with nothing assumed follows after every accepted step.
-use Rattle.std.proofs.Common.{◌≡◌, ℕ, zero, suc, true, cond, Some, Ok, List, [], ◌∷◌}
+-- Where the rules keep units, what follows with nothing assumed follows after every accepted step,
+-- and no reason is deleted.
+use Rattle.std.proofs.Common.{◌≡◌, ℕ, zero, suc, Bool, true, false, cond, Some, Ok, List, [], ◌∷◌}
 use Rattle.std.proofs.Common.{slice_get, sym, subst, inl, inr, ◌⊎◌}
+use Rattle.std.specs.List.{list_any}
 use Rattle.std.specs.Prelude.{IsTrue}
-use Rattle.std.proofs.lemmas.Bool.{false≢true, cases_Bool}
+use Rattle.std.proofs.lemmas.Bool.{false≢true, cases_Bool, MatchBool-at_true, MatchBool-at_false}
 use Rattle.std.proofs.lemmas.Option.{none-some, same_Some}
 use Rattle.cnf_base.specs.Literals.{Literal, complement, Clause, has, same_clause}
 use Rattle.cnf_base.proofs.SetLemmas.{same_there, same_back}
@@ -11,9 +13,15 @@ use Rattle.theory.specs.declared.accepted.Accepted.{Accepted}
 use Rattle.theory.specs.declared.accepted.Accepted.TheVariants.{Rup, Rat, Pr, Empty, Deleted}
 use Rattle.theory.specs.declared.accepted.Accepted.TheVariants.{Ignored}
 use Rattle.theory.specs.declared.drat_rules.DratRules.{DratRules}
-use Rattle.theory.specs.Drat.{DratStep, add, delete, AnswersDrat, take_off, after_drat}
+use Rattle.proofs.specs.Steps.{Step, clause_part, witness_part}
+use Rattle.proofs.specs.declared.step_buf.StepKind.{StepKind}
+use Rattle.proofs.specs.declared.step_buf.StepKind.TheVariants.{Add, Delete}
+use Rattle.theory.specs.Drat.{DratStep, add, delete, AnswersListed, AnswersDrat, addition_of}
+use Rattle.theory.specs.Drat.{drat_step, drat_step_of, take_off, after_drat}
 use Rattle.theory.specs.Propagation.{Live, IsClosed, Forced, IsRootReason}
-use Rattle.theory.specs.Laws.{UnitsAreKept}
+use Rattle.theory.specs.Rules.{State, by_copies, Answers}
+use Rattle.theory.specs.Verdicts.{Ending, Ends, is_empty, is_last, DeletesReason, DeletedReason}
+use Rattle.theory.specs.Laws.{UnitsAreKept, ReasonsAreKept}
 use Rattle.theory.proofs.LawLemmas.Reasons.{IsAll, all_that_follows}
 
 -- what follows from some clauses follows from these and others
@@ -99,3 +107,46 @@ units_are_kept rules live last [] (word ∷ words) l on leads f = absurd leads
 units_are_kept rules live last (step ∷ steps) [] l on leads f = absurd leads
 units_are_kept rules live last (step ∷ steps) (word ∷ words) l on leads f =
     units_are_kept rules (after_drat live step word) last steps words l on leads.1 (kept_by_step rules live step word l on leads.0 f)
+
+-- ---- Reasons
+
+-- no addition is accepted as a deletion
+none_added : (live : List Clause) (c set : List Literal) → AnswersListed live c set (Ok Deleted) → ⊥
+none_added live [] [] answers = answers
+none_added live (l ∷ c) [] answers = answers
+none_added live c (l ∷ set) answers = answers
+
+step_keeps : (rules : DratRules) (live : List Clause) (step : Step) (word : Accepted) → IsTrue rules.keep_units → Answers (by_copies rules live) step (Ok word)
+    → DeletesReason (by_copies rules live) step word → ⊥
+step_keeps rules live step Deleted on answers deletes = by step.kind answers
+  where
+    added : (pr : Bool) → AnswersDrat rules live (addition_of pr step.lits) (Ok Deleted) → ⊥
+    added true a = none_added live (clause_part step.lits) (witness_part step.lits) a
+    added false a = none_added live step.lits [] a
+
+    by : (kind : StepKind) → AnswersDrat rules live (drat_step_of rules kind step.lits) (Ok Deleted) → ⊥
+    by Add a = added rules.pr a
+    by Delete a = a.1 (on, deletes)
+step_keeps rules live step word on answers deletes = deletes
+
+none_before : (steps : List Step) (state : State) → DeletedReason state steps [] → ⊥
+none_before [] state d = d
+none_before (step ∷ steps) state d = d
+
+ends_keep : (rules : DratRules) (steps : List Step) (live : List Clause) (words : List Accepted) (ending : Ending) → IsTrue rules.keep_units
+    → Ends (by_copies rules live) steps words ending → DeletedReason (by_copies rules live) steps words → ⊥
+ends_keep rules [] live words ending on ends deleted = deleted
+ends_keep rules (step ∷ steps) live [] ending on ends deleted = deleted
+ends_keep rules (step ∷ steps) live (word ∷ words) ending on ends deleted = elim deleted [
+  | inl now ↦ step_keeps rules live step word on ends.0 now
+  | inr later ↦ elim (cases_Bool (is_last word)) [
+    | inl last ↦ none_before steps _ (subst (DeletedReason _ steps) (MatchBool-at_true _ _ last ends.1).0 later)
+    | inr goes_on ↦ ends_keep rules steps (after_drat live (drat_step rules step) word) words ending on (MatchBool-at_false _ _ goes_on ends.1) later
+  ]
+]
+
+pub reasons_are_kept : ReasonsAreKept
+reasons_are_kept rules formula steps words ending on verdict deleted = elim (cases_Bool (list_any is_empty formula)) [
+  | inl empty ↦ none_before steps _ (subst (DeletedReason _ steps) (MatchBool-at_true _ _ empty verdict).0 deleted)
+  | inr none ↦ ends_keep rules steps formula words ending on (MatchBool-at_false _ _ none verdict) deleted
+]

@@ -20,7 +20,7 @@ returns-in-Err-clause-report g c =
       _,
       some.1,
       rw c.without_step.ensures (stopped some.0 c.formula_line.ensures),
-      LeavesProof-broken rule None clauses _ _ k c.without_step.result (search rules)
+      LeavesProof-broken rule None clauses _ _ k c.without_step.result (search rules) (search rules)
           (TellsFault-none None _ c.without_step.result (search rules) (λ m. cut_short_not _ c.in-Err.ensures.cut_short (sym (ap (λ (x : Checked). x.status) c.without_step.ensures) ∙ m)))
           (rw c.without_step.ensures (no_verdict _ _ _ _ (stopped (record { lines = []; status = Malformed }) c.formula_line.ensures))),
     ))
@@ -34,7 +34,7 @@ returns-then-verified-clause-report g c =
       done.0,
       done.1,
       rw c.without_step-then-verified.ensures done.2,
-      LeavesProof-empty rule None clauses _ _ k c.without_step-then-verified.result (search rules)
+      LeavesProof-empty rule None clauses _ _ k c.without_step-then-verified.result (search rules) (search rules)
           (TellsFault-none None _ c.without_step-then-verified.result (search rules)
           (λ m. concluded_not Verified _ _ c.conclude-status.ensures.status (λ e. let bad : Verified ≡ Malformed = e in cc) (sym (ap (λ (x : Checked). x.status) c.without_step-then-verified.ensures) ∙ m)))
           (sym l.verified ∙ search rules),

@@ -27,6 +27,7 @@ returns-clause-goes_on g c = record {
   answers = c.in-Ok.ensures.answers c.requires.sound;
   not_last = search rules;
   state = c.in-Ok.ensures.state;
+  deleted_reason = c.in-Ok.ensures.deleted_reason;
   peak = c.in-Ok.ensures.peak;
   sound = search rules;
   wrote = c.in_default.ensures.wrote;

@@ -1,6 +1,7 @@
 use Rattle.std.proofs.Common.{ap, ◌∙◌, inr}
 use Rattle.std.specs.FinMap as maps
-use Rattle.steps.proofs.DratLemmas.Steps.{kept_ignored, none_listed, not_kept_deleted, taken_off}
+use Rattle.steps.proofs.DratLemmas.Steps.{kept_ignored, lost_told, none_listed, not_kept_deleted}
+use Rattle.steps.proofs.DratLemmas.Steps.{taken_off}
 use Rattle.steps.proofs.drat.step.delete.Goals as goal
 
 pub returns-then-rules-clause-answers : goal.returns-then-rules-clause-answers
@@ -26,3 +27,7 @@ returns-in-Ok-false-clause-live g c =
     let found = c.in-Some.ensures.found in
     taken_off live c.args.lits.now slot found.0 (g.P.Propagate.state c.remove.new.self).live found.1 found.2
     (c.remove.ensures.live ∙ ap (λ m. maps.remove m slot) c.is_kept.ensures.live ∙ ap (λ s. maps.remove s.live slot) c.in-Some.ensures.same)
+
+pub returns-in-Ok-false-clause-deleted_reason : goal.returns-in-Ok-false-clause-deleted_reason
+returns-in-Ok-false-clause-deleted_reason g c =
+    lost_told (g.P.Propagate.state c.args.clauses.now).live _ (c.is_kept.ensures.live ∙ ap (λ s. s.live) c.in-Some.ensures.same) c.args.lits.now c.in-Some.slot c.in-Some.ensures.found c.args.has_deleted_reason.now c.remove.result c.remove.ensures.root_reason

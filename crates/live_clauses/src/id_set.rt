@@ -1,4 +1,4 @@
-//! The candidates that groups of hints named: a tree, since a proof chooses their numbers.
+//! Sets of identifiers: trees, since a proof chooses their numbers.
 
 ghost use Rattle.std.specs.Prelude.{◌≡◌, ℕ, ◌||◌, ◌==◌, not, length, [], IfOk, OnOk};
 ghost use Rattle.std.specs.Prelude.{nat_eq};
@@ -11,11 +11,11 @@ use std::marker::Model;
 
 /// Identifiers, none of them twice. Contracts see them as a list, in no stated order.
 #[derive(Drop)]
-pub(crate) struct Named {
+pub struct IdSet {
     ids: BTreeSet<u64>,
 }
 
-impl Model for Named {
+impl Model for IdSet {
     ghost use Rattle.std.specs.Prelude.{ℕ, List};
     ghost use Rattle.std.specs.Coded.{coded_list, coded_ℕ};
 
@@ -26,18 +26,18 @@ impl Model for Named {
     ghost view = { λ s. s.ids.keys };
 }
 
-impl Named {
+impl IdSet {
     /// None. It takes no memory.
-    pub(crate) fn new(alloc: Global) -> Self
+    pub fn new(alloc: Global) -> Self
         ensures { result ≡ [] }
     {
-        Named {
+        IdSet {
             ids: BTreeSet::new(alloc),
         }
     }
 
     /// Adds the identifier, and tells whether it is new.
-    pub(crate) fn insert(&mut self, id: u64) -> Result<bool, AllocError>
+    pub fn insert(&mut self, id: u64) -> Result<bool, AllocError>
         ensures new { IfOk result (λ is_new. is_new ≡ not (has self.old id)) }
         ensures ids { OnOk result ((k : ℕ) → has self.new k ≡ (has self.old k || (id == k))) }
     {
@@ -45,13 +45,15 @@ impl Named {
         Ok(is_new)
     }
 
-    pub(crate) fn contains(&self, id: u64) -> bool
+    /// Whether the identifier is one of them.
+    pub fn contains(&self, id: u64) -> bool
         ensures { result ≡ has self.now id }
     {
         self.ids.contains(&id)
     }
 
-    pub(crate) fn len(&self) -> usize
+    /// How many there are.
+    pub fn len(&self) -> usize
         ensures len { result ≡ length self.now }
         ensures different { IsDistinct nat_eq self.now }
     {

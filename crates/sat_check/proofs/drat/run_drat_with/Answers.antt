@@ -4,7 +4,7 @@ use Rattle.sat_check.specs.Report.{drat_proof, rules_of}
 use Rattle.theory.specs.Rules.{drat}
 use Rattle.sat_check.proofs.RunLemmas.{weakened}
 use Rattle.sat_check.proofs.SoundLemmas.{runs_placed}
-use Rattle.sat_check.proofs.drat_with.run_drat_with.Goals as goal
+use Rattle.sat_check.proofs.drat.run_drat_with.Goals as goal
 
 pub returns : goal.returns
 returns g c =

@@ -1,0 +1,5 @@
+use Rattle.theory.proofs.LawLemmas.KeptUnits.{reasons_are_kept}
+use Rattle.theory.proofs.laws.reasons_are_kept.Goals as goal
+
+pub returns : goal.returns
+returns c = reasons_are_kept
