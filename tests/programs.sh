@@ -827,7 +827,10 @@ c formula 1 variables 3 clauses
 c step 3: not RUP
 s NOT VERIFIED
 LINES
-told drat_refused_step_of_standard_input <<< "drat-forward: standard input: the refused step ends at line 3, column 1"
+told drat_refused_step_of_standard_input <<LINES
+drat-forward: standard input: the refused step ends at line 3, column 1
+drat-forward: standard input: hint: $units_hint
+LINES
 
 # the end of the second step, which stands with the third one in a line
 printf 'c 0\n3 -1 0\r\n\r\n-3\nc 0\n 2\n\n0 0\n' > "$room/lines.drat"
