@@ -1,4 +1,3 @@
-pub mod Entries
 pub mod Fields
 pub mod Index
 pub mod Indexed

@@ -8,7 +8,6 @@
 //! the live sizes then has to be proved, and a clause that is only marked as deleted breaks it.
 
 mod buckets;
-mod entry;
 pub(crate) mod index;
 mod kept;
 mod mark;
@@ -24,24 +23,21 @@ ghost use Rattle.std.specs.Ordering.{nat_cmp};
 ghost use Rattle.std.specs.FinMap as maps;
 ghost use Rattle.std.specs.FinMap.{FinMap};
 ghost use Rattle.cnf_base.specs.Literals.{Clause, has, same_clause, size};
-ghost use Rattle.slab.specs.Slab.{slab_len, HasRoomFor};
 ghost use Rattle.clause_db.specs.Store.{literals_in, copies_with, IsTouchedAt};
-ghost use Rattle.clause_db.specs.Code.Entries.{clauses_in};
+ghost use Rattle.clause_db.specs.Code.Fields.{IsTakenIn};
 ghost use Rattle.clause_db.specs.Code.Kept.{AreKept};
 ghost use Rattle.clause_db.specs.Code.LiteralMarks.{is_marked, mark_count};
 ghost use Rattle.tables.specs.Table.{at};
 
-use crate::store::entry::{Entry, swap_literals};
 use crate::store::index::{Index, Indexing, NoIndex};
 use crate::store::kept::{find_slots, forget, note};
 use crate::store::mark::Mark;
 use crate::store::marks::{all_known, count_all, gather, mark_all, mark_new, release, unmark_all};
 use crate::store::search::find_marked;
+use clause_memory::ClauseMemory;
 use cnf_base::{Lit, OutOfMemory};
 use ids::Slot;
 use occurrences::Occurrences;
-use slab::Slab;
-use smallvec::SmallVec;
 use std::alloc::Global;
 use std::marker::Model;
 use tables::{Table, key};
@@ -55,7 +51,7 @@ use tables::{Table, key};
 #[derive(Drop)]
 pub struct Store<I: Indexing = Index> {
     alloc: Global,
-    entries: Slab<Entry>,
+    memory: ClauseMemory,
     index: I,
     marks: Table<Mark>,
     sum: u128,
@@ -65,103 +61,100 @@ pub struct Store<I: Indexing = Index> {
 
 impl<I: Indexing> Model for Store<I> {
     ghost use Rattle.clause_db.specs.Store.{StoreState};
-    ghost use Rattle.clause_db.specs.Code.Fields.{store_code};
-    ghost use Rattle.clause_db.specs.Code.Entries.{clauses_in, literals_kept};
-    ghost use Rattle.clause_db.specs.Code.Fields.{IsStore};
+    ghost use Rattle.clause_db.specs.Code.Fields.{IsStore, store_code};
     ghost use Rattle.clause_db.specs.Code.Kept.{AreKept};
 
     ghost Value = { StoreState };
 
     ghost coded = { store_code };
 
-    // Each field has to be named here. Of them the entries alone have lists of literals.
+    // Each field has to be named here. Of them the memory alone keeps literals of clauses.
     ghost view = { λ record {
       alloc = _;
-      entries = entries;
+      memory = memory;
       index = _;
       marks = _;
       sum = _;
       occurrences = _;
     }. record {
-      live = clauses_in entries;
-      stored = literals_kept entries;
+      live = memory.live;
+      stored = memory.stored;
     } };
 
     ghost invariant = { λ s.
-        IsStore s.entries s.marks s.sum × I.indexes s.index (clauses_in s.entries)
-        × AreKept s.occurrences (clauses_in s.entries) };
+        IsStore s.memory.live s.memory.stored s.marks s.sum
+        × I.indexes s.index s.memory.live × AreKept s.occurrences s.memory.live };
 }
 
-/// A store with more clauses would take far more memory than there is. Counts and places have four
-/// bytes.
-const MOST: usize = 4294967295;
-
-/// Makes room for one more clause.
-fn make_room(entries: &mut Slab<Entry>) -> Result<(), OutOfMemory>
-    ensures room { OnOk result (HasRoomFor entries.new 1) }
-    ensures few { OnOk result (slab_len entries.new < 4294967295) }
-    ensures slots { entries.new.slots ≡ entries.old.slots }
-    ensures key { entries.new.vacant_key ≡ entries.old.vacant_key }
-{
-    if entries.len() >= MOST {
-        return Err(OutOfMemory);
-    }
-    entries.reserve(1)?;
-    Ok(())
-}
-
-/// Makes room for a clause with these literals, and counts each of them. Where memory is refused,
-/// nothing is counted.
-fn take_in(
+/// The marked literals, each once, where so many are marked. They stay marked.
+fn without_repeats(
     alloc: Global,
-    entries: &mut Slab<Entry>,
     marks: &mut Table<Mark>,
     lits: &[Lit],
-) -> Result<Entry, OutOfMemory>
-    requires clear { (l : ℕ) → is_marked (at marks.old l) ≡ false }
-    requires counted { (l : ℕ) → mark_count (at marks.old l) ≤ slab_len entries.old }
-    ensures same { IfOk result (λ e. IsTrue (same_clause e.lits.items lits.now)) }
-    ensures different { IfOk result (λ e. size e.lits.items ≡ length e.lits.items) }
-    ensures short { IfOk result (λ e. length e.lits.items < 18446744073709551616) }
-    ensures counts { OnOk result ((l : ℕ) → mark_count (at marks.new l) ≡
-        mark_count (at marks.old l) + (if has lits.now l then 1 else 0)) }
-    ensures room { OnOk result (HasRoomFor entries.new 1) }
-    ensures few { OnOk result (slab_len entries.new < 4294967295) }
-    ensures clear { (l : ℕ) → is_marked (at marks.new l) ≡ false }
-    ensures slots { entries.new.slots ≡ entries.old.slots }
-    ensures key { entries.new.vacant_key ≡ entries.old.vacant_key }
-    ensures refused { OnErr result ((l : ℕ) → mark_count (at marks.new l) ≡
-        mark_count (at marks.old l)) }
+    len: usize,
+) -> Result<Vec<Lit>, OutOfMemory>
+    requires marked { (l : ℕ) → is_marked (at marks.old l) ≡ has lits.now l }
+    requires len { len ≡ size lits.now }
+    ensures same { IfOk result (λ kept. IsTrue (same_clause kept.items lits.now)) }
+    ensures different { IfOk result (λ kept. size kept.items ≡ length kept.items) }
+    ensures known { OnOk result ((l : ℕ) → has lits.now l ≡ true → IsSome (at marks.new l)) }
+    ensures all { OnOk result ((l : ℕ) → is_marked (at marks.new l) ≡ has lits.now l) }
+    ensures some { (l : ℕ) → is_marked (at marks.new l) ≡ true → has lits.now l ≡ true }
+    ensures counts { (l : ℕ) → mark_count (at marks.new l) ≡ mark_count (at marks.old l) }
 {
-    if let Ok(len) = mark_new(marks, lits) {
-        if len == lits.len() {
-            if let Ok(copy) = SmallVec::from_slice(alloc, lits)
-                && make_room(entries).is_ok()
-            {
-                count_all(marks, lits);
-                return Ok(Entry { lits: copy });
-            }
-        } else if let Ok(mut kept) = SmallVec::with_capacity(alloc, len)
-            && make_room(entries).is_ok()
-        {
-            gather(marks, lits, &mut kept);
-            return Ok(Entry { lits: kept });
-        }
-    }
-    unmark_all(marks, lits);
-    Err(OutOfMemory)
+    let mut kept = Vec::with_capacity(alloc, len)?;
+    gather(marks, lits, &mut kept);
+    mark_new(marks, &kept)?;
+    Ok(kept)
 }
 
-/// Counts the literals of a clause that isn't stored once less.
-fn give_back(marks: &mut Table<Mark>, entry: Entry)
-    requires different { size entry.lits.items ≡ length entry.lits.items }
-    requires counted { (l : ℕ) → has entry.lits.items l ≡ true →
-        0 < mark_count (at marks.old l) }
-    ensures marked { (l : ℕ) → is_marked (at marks.new l) ≡ is_marked (at marks.old l) }
-    ensures counts { (l : ℕ) → mark_count (at marks.new l) +
-        (if has entry.lits.items l then 1 else 0) ≡ mark_count (at marks.old l) }
+/// Marks the literals of a clause, and puts it into the memory, without repeated ones. Where memory
+/// is refused, some of them may be marked.
+fn put_in(
+    alloc: Global,
+    memory: &mut ClauseMemory,
+    marks: &mut Table<Mark>,
+    lits: &[Lit],
+) -> Result<usize, OutOfMemory>
+    requires { (l : ℕ) → is_marked (at marks.old l) ≡ false }
+    ensures taken { IfOk result (λ slot. IsTakenIn memory.old memory.new slot lits.now) }
+    ensures known { OnOk result ((l : ℕ) → has lits.now l ≡ true → IsSome (at marks.new l)) }
+    ensures all { OnOk result ((l : ℕ) → is_marked (at marks.new l) ≡ has lits.now l) }
+    ensures some { (l : ℕ) → is_marked (at marks.new l) ≡ true → has lits.now l ≡ true }
+    ensures counts { (l : ℕ) → mark_count (at marks.new l) ≡ mark_count (at marks.old l) }
+    ensures err { OnErr result (memory.new ≡ memory.old) }
 {
-    release(marks, entry.lits.as_slice());
+    let len = mark_new(marks, lits)?;
+    if len == lits.len() {
+        return memory.insert(lits);
+    }
+    let kept = without_repeats(alloc, marks, lits, len)?;
+    memory.insert(&kept)
+}
+
+/// Puts a clause into the memory, without repeated literals, and leaves each of them marked. Where
+/// memory is refused, none is.
+fn take_in(
+    alloc: Global,
+    memory: &mut ClauseMemory,
+    marks: &mut Table<Mark>,
+    lits: &[Lit],
+) -> Result<usize, OutOfMemory>
+    requires { (l : ℕ) → is_marked (at marks.old l) ≡ false }
+    ensures taken { IfOk result (λ slot. IsTakenIn memory.old memory.new slot lits.now) }
+    ensures known { OnOk result ((l : ℕ) → has lits.now l ≡ true → IsSome (at marks.new l)) }
+    ensures all { OnOk result ((l : ℕ) → is_marked (at marks.new l) ≡ has lits.now l) }
+    ensures counts { (l : ℕ) → mark_count (at marks.new l) ≡ mark_count (at marks.old l) }
+    ensures err { OnErr result (memory.new ≡ memory.old) }
+    ensures clear { OnErr result ((l : ℕ) → is_marked (at marks.new l) ≡ false) }
+{
+    match put_in(alloc, memory, marks, lits) {
+        Ok(slot) => Ok(slot),
+        Err(refused) => {
+            unmark_all(marks, lits);
+            Err(refused)
+        }
+    }
 }
 
 /// Adds the slot of a clause to what finds it again.
@@ -172,6 +165,7 @@ fn list_up<I: Indexing>(
     lits: &[Lit],
 ) -> Result<(), OutOfMemory>
     requires different { size lits.now ≡ length lits.now }
+    requires low { slot < 4294967296 }
     requires free { (live : FinMap nat_cmp Clause) × AreKept kept.old live
         × (maps.get live slot ≡ None) }
     ensures index { OnOk result ((live : FinMap nat_cmp Clause) →
@@ -200,7 +194,7 @@ impl<I: Indexing> Store<I> {
     {
         Store {
             alloc,
-            entries: Slab::new(alloc),
+            memory: ClauseMemory::new(alloc),
             index: I::new(alloc, seed),
             marks: Table::new(alloc),
             sum: 0,
@@ -219,17 +213,17 @@ impl<I: Indexing> Store<I> {
         ensures live_alone { self.new.stored ≡ literals_in self.new.live }
         ensures err { OnErr result (self.new ≡ self.old) }
     {
-        let entry = take_in(self.alloc, &mut self.entries, &mut self.marks, lits)?;
-        let free = self.entries.vacant_key();
-        let kept = entry.lits.as_slice();
-        match list_up(&mut self.index, &mut self.occurrences, free, kept) {
+        let slot = take_in(self.alloc, &mut self.memory, &mut self.marks, lits)?;
+        let kept = self.memory.clause(slot);
+        match list_up(&mut self.index, &mut self.occurrences, slot, kept) {
             Ok(()) => {
-                self.sum += entry.lits.len() as u128;
-                let slot = self.entries.insert_reserved(entry);
+                self.sum += kept.len() as u128;
+                count_all(&mut self.marks, lits);
                 Ok(Slot::at(slot))
             }
             Err(refused) => {
-                give_back(&mut self.marks, entry);
+                unmark_all(&mut self.marks, lits);
+                self.memory.remove(slot);
                 Err(refused)
             }
         }
@@ -241,12 +235,13 @@ impl<I: Indexing> Store<I> {
         ensures live { self.new.live ≡ maps.remove self.old.live slot }
         ensures live_alone { self.new.stored ≡ literals_in self.new.live }
     {
-        let entry = self.entries.remove(slot.number());
-        let lits = entry.lits.as_slice();
+        let number = slot.number();
+        let lits = self.memory.clause(number);
         release(&mut self.marks, lits);
         self.sum -= lits.len() as u128;
-        self.index.remove(slot.number(), lits);
-        forget(&mut self.occurrences, slot.number());
+        self.index.remove(number, lits);
+        forget(&mut self.occurrences, number);
+        self.memory.remove(number);
     }
 
     /// The literals of the clause in the slot, in the order of the store.
@@ -255,8 +250,7 @@ impl<I: Indexing> Store<I> {
         ensures clause { Some result.now ≡ maps.get self.now.live slot }
         ensures different { length result.now ≡ size result.now }
     {
-        let entry = &self.entries[slot.number()];
-        entry.lits.as_slice()
+        self.memory.clause(slot.number())
     }
 
     /// What holds of each store: no clause repeats a literal, and no literals are kept but those of
@@ -273,17 +267,14 @@ impl<I: Indexing> Store<I> {
     pub fn end(&self) -> usize
         ensures { (s : ℕ) → IsSome (maps.get self.now.live s) → s < result }
     {
-        self.entries.capacity()
+        self.memory.end()
     }
 
     /// The clause in the slot with this number, if there is one.
     pub fn at(&self, number: usize) -> Option<&[Lit]>
         ensures { option_map (λ c. c.now) result ≡ maps.get self.now.live number }
     {
-        match self.entries.get(number) {
-            Some(entry) => Some(entry.lits.as_slice()),
-            None => None,
-        }
+        self.memory.at(number)
     }
 
     /// The sum of the lengths of the lists of literals that it keeps, which is that of the sizes of
@@ -313,7 +304,7 @@ impl<I: Indexing> Store<I> {
             IsTrue (has into.new.items s)) }
         ensures same { self.new ≡ self.old }
     {
-        find_slots(&mut self.occurrences, self.alloc, &self.entries, lits, into)
+        find_slots(&mut self.occurrences, self.alloc, &self.memory, lits, into)
     }
 
     /// How many of the clauses have the literal.
@@ -367,7 +358,7 @@ impl Store {
             return None;
         }
         let digest = mark_all(&mut self.marks, lits, self.index.seed);
-        let found = find_marked(&self.entries, &self.index, &self.marks, &digest);
+        let found = find_marked(&self.memory, &self.index, &self.marks, &digest);
         unmark_all(&mut self.marks, lits);
         match found {
             Some(slot) => Some(Slot::at(slot)),
@@ -383,6 +374,6 @@ impl Store {
             self.new.live ≡ maps.insert self.old.live slot (swap c a b) }
         ensures live_alone { self.new.stored ≡ literals_in self.new.live }
     {
-        swap_literals(&mut self.entries[slot.number()], a, b);
+        self.memory.swap(slot.number(), a, b);
     }
 }

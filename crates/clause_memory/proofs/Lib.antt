@@ -1,6 +1,7 @@
-pub mod BlockLemmas
-pub mod FieldLemmas
-pub mod MoveLemmas
-pub mod SlotLemmas
 pub mod SumLemmas
-pub mod WordLemmas
+pub mod UnitLemmas
+mod BlockLemmas
+mod ClauseLemmas
+mod FreeLemmas
+mod MemoryLemmas
+mod RoomLemmas

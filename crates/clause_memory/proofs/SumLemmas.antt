@@ -1,4 +1,4 @@
--- Finite maps by number, and sums over the clauses of one.
+-- Finite maps by number, and sums over one.
 use Rattle.std.proofs.Common.{◌≡◌, ℕ, ◌+◌, Bool, true, false, cond, eqb, eq-eqb, Option, Some, None}
 use Rattle.std.proofs.Common.{List, [], ◌∷◌, map, sum_by, length, refl, sym, ap, ◌∙◌, arith}
 use Rattle.std.specs.Ordering.{nat_cmp, is_eq, eq_by_cmp}
@@ -11,7 +11,6 @@ use Rattle.std.specs.FinMap.Entries.{by_order}
 use Rattle.std.proofs.lemmas.List.Sums.{sum_by-cons}
 use Rattle.std.proofs.lemmas.Bool.Decides.{nat_tests}
 use Rattle.std.proofs.lemmas.Option.{none-some}
-use Rattle.cnf_base.specs.Literals.{Clause}
 use Rattle.clause_memory.specs.Memory.{sum_over}
 
 tie_is : (k q : ℕ) → eq_by_cmp nat_cmp k q ≡ eqb k q
@@ -31,14 +30,14 @@ module _ {X : Type 0} where
 
 -- ---- Sums
 
-module _ (w : Clause → ℕ) where
-  abbrev weight : List (ℕ × Clause) → ℕ
+module _ {X : Type 0} (w : X → ℕ) where
+  abbrev weight : List (ℕ × X) → ℕ
   weight es = sum_by w (map (λ e. e.1) es)
 
-  weight-cons : (e : ℕ × Clause) (es : List (ℕ × Clause)) → weight (e ∷ es) ≡ w e.1 + weight es
+  weight-cons : (e : ℕ × X) (es : List (ℕ × X)) → weight (e ∷ es) ≡ w e.1 + weight es
   weight-cons e es = sum_by-cons w e.1 (map (λ e. e.1) es)
 
-  weight_put : (k : ℕ) (c : Clause) (es : List (ℕ × Clause)) → find nat_cmp k es ≡ None → weight (put nat_cmp k c es) ≡ w c + weight es
+  weight_put : (k : ℕ) (c : X) (es : List (ℕ × X)) → find nat_cmp k es ≡ None → weight (put nat_cmp k c es) ≡ w c + weight es
   weight_put k c [] none = weight-cons (k, c) []
   weight_put k c (e ∷ es) none = by_place (nat_cmp k e.0) none (weight_put k c es)
     where
@@ -52,19 +51,19 @@ module _ (w : Clause → ℕ) where
           let second = weight-cons e es in
           omega arith
 
-  -- a clause at a new key adds its weight
-  pub sum_insert : (m : FinMap nat_cmp Clause) (k : ℕ) (c : Clause) → maps.get m k ≡ None → sum_over w (maps.insert m k c) ≡ w c + sum_over w m
+  -- what comes to a new key adds its weight
+  pub sum_insert : (m : FinMap nat_cmp X) (k : ℕ) (c : X) → maps.get m k ≡ None → sum_over w (maps.insert m k c) ≡ w c + sum_over w m
   sum_insert m k c none =
       ap weight (maps.entries-insert nat_cmp_total m k c)
       ∙ weight_put k c (maps.entries m) (sym (maps.get-entries m k) ∙ none)
 
-  -- a clause that is taken out takes its weight with it
-  pub sum_remove : (m : FinMap nat_cmp Clause) (k : ℕ) (c : Clause) → maps.get m k ≡ Some c → w c + sum_over w (maps.remove m k) ≡ sum_over w m
+  -- what is taken out takes its weight with it
+  pub sum_remove : (m : FinMap nat_cmp X) (k : ℕ) (c : X) → maps.get m k ≡ Some c → w c + sum_over w (maps.remove m k) ≡ sum_over w m
   sum_remove m k c here =
       sym (sum_insert (maps.remove m k) k c (get_remove m k k ∙ ap (λ b. cond b None (maps.get m k)) (eq-eqb k k refl)))
       ∙ ap (sum_over w) (same_maps (maps.insert (maps.remove m k) k c) m (λ q. get_insert (maps.remove m k) k c q ∙ ap (cond (eqb q k) (Some c)) (get_remove m k q) ∙ back q))
     where
-      both : (b : Bool) (x y : Option Clause) → (b ≡ true → x ≡ y) → cond b x (cond b None y) ≡ y
+      both : (b : Bool) (x y : Option X) → (b ≡ true → x ≡ y) → cond b x (cond b None y) ≡ y
       both true x y h = h refl
       both false x y h = refl
 
@@ -74,22 +73,22 @@ module _ (w : Clause → ℕ) where
       back : (q : ℕ) → cond (eqb q k) (Some c) (cond (eqb q k) None (maps.get m q)) ≡ maps.get m q
       back q = both (eqb q k) (Some c) (maps.get m q) (λ h. sym here ∙ ap (maps.get m) (sym (eq_to q h)))
 
--- a clause in the place of one
-pub insert_again : (m : FinMap nat_cmp Clause) (k : ℕ) (d : Clause) → maps.insert (maps.remove m k) k d ≡ maps.insert m k d
-insert_again m k d = same_maps _ _ (λ q. get_insert (maps.remove m k) k d q ∙ ap (cond (eqb q k) (Some d)) (get_remove m k q) ∙ hidden (eqb q k) (maps.get m q) ∙ sym (get_insert m k d q))
+-- one in the place of another
+pub insert_again : {X : Type 0} (m : FinMap nat_cmp X) (k : ℕ) (d : X) → maps.insert (maps.remove m k) k d ≡ maps.insert m k d
+insert_again {X} m k d = same_maps _ _ (λ q. get_insert (maps.remove m k) k d q ∙ ap (cond (eqb q k) (Some d)) (get_remove m k q) ∙ hidden (eqb q k) (maps.get m q) ∙ sym (get_insert m k d q))
   where
-    hidden : (b : Bool) (o : Option Clause) → cond b (Some d) (cond b None o) ≡ cond b (Some d) o
+    hidden : (b : Bool) (o : Option X) → cond b (Some d) (cond b None o) ≡ cond b (Some d) o
     hidden true o = refl
     hidden false o = refl
 
-pub sum_replace : (w : Clause → ℕ) (m : FinMap nat_cmp Clause) (k : ℕ) (c d : Clause) → maps.get m k ≡ Some c → w d ≡ w c → sum_over w (maps.insert m k d) ≡ sum_over w m
+pub sum_replace : {X : Type 0} (w : X → ℕ) (m : FinMap nat_cmp X) (k : ℕ) (c d : X) → maps.get m k ≡ Some c → w d ≡ w c → sum_over w (maps.insert m k d) ≡ sum_over w m
 sum_replace w m k c d here alike =
     sym (ap (sum_over w) (insert_again m k d)) ∙ sum_insert w (maps.remove m k) k d (get_remove m k k ∙ ap (λ b. cond b None (maps.get m k)) (eq-eqb k k refl))
     ∙ ap (λ n. n + sum_over w (maps.remove m k)) alike ∙ sum_remove w m k c here
 
-pub sum_empty : (w : Clause → ℕ) → sum_over w maps.empty ≡ 0
-sum_empty w = ap (λ es. sum_by w (map (λ e. e.1) es)) (no_entries (maps.entries maps.empty) (sym (maps.len-entries maps.empty) ∙ maps.len-empty nat_cmp Clause))
+pub sum_empty : {X : Type 0} (w : X → ℕ) → sum_over w maps.empty ≡ 0
+sum_empty {X} w = ap (λ es. sum_by w (map (λ e. e.1) es)) (no_entries (maps.entries maps.empty) (sym (maps.len-entries maps.empty) ∙ maps.len-empty nat_cmp X))
   where
-    no_entries : (es : List (ℕ × Clause)) → length es ≡ 0 → es ≡ []
+    no_entries : (es : List (ℕ × X)) → length es ≡ 0 → es ≡ []
     no_entries [] e = refl
     no_entries (x ∷ es) e = absurd (let wrong : ⊥ = omega arith in wrong)

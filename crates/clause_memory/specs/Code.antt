@@ -1,5 +1,4 @@
 -- How the parts of the code fit together. No public contract speaks of it.
 pub mod Fields
-pub mod Moves
-pub mod Slots
-pub mod Words
+pub mod Free
+pub mod Units

@@ -1,9 +1,10 @@
-//! A memory of clauses: the literals of each beside its header, in one array.
+//! A memory of clauses: the literals of each behind its header, in one array.
 #![tactic(auto)]
 
 mod blocks;
+mod kind;
 mod memory;
-mod together;
+mod room;
 mod words;
 
 pub use memory::ClauseMemory;

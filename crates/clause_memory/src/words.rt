@@ -1,18 +1,27 @@
 //! The words of a memory.
+//!
+//! They are literals, so that a clause is handed out as a slice. Numbers are written among them as
+//! the literals with the codes of them and 2.
 
-ghost use Rattle.std.specs.Prelude.{◌≡◌, ◌+◌, ◌-◌, ◌<◌, ◌≤◌, ◌++◌, length, take, drop};
-ghost use Rattle.std.specs.Prelude.{vec_len, vec_capacity, OnOk};
-ghost use Rattle.clause_memory.specs.Code.Words.{blanks, block_words};
+ghost use Rattle.std.specs.Prelude.{◌≡◌, ℕ, ◌+◌, ◌-◌, ◌*◌, ◌<◌, ◌≤◌, ◌++◌, length, take, drop};
+ghost use Rattle.std.specs.Prelude.{vec_len, vec_capacity, OnOk, slice_index};
+ghost use Rattle.std.specs.List.{swap};
+ghost use Rattle.clause_memory.specs.Memory.{units_for};
+ghost use Rattle.clause_memory.specs.Code.Free.{link_at};
+ghost use Rattle.clause_memory.specs.Code.Units.{blanks, clause_at, size_at};
 
 use cnf_base::{Lit, OutOfMemory};
 
-/// How many words a header has: how many words follow it in the block, and the slot.
-pub(crate) const HEADER: usize = 2;
+/// How many words a unit has.
+pub(crate) const UNIT: usize = 4;
 
 /// The greatest number that a word can be.
 pub(crate) const MOST: usize = 536870909;
 
-/// A number as a word: the array has words of one type, so that a clause is a slice of literals.
+/// The first word of a link has its last 28 bits.
+const LOW: usize = 268435456;
+
+/// A number as a word.
 fn word(number: usize) -> Lit
     requires { number ≤ 536870909 }
     ensures { result ≡ number + 2 }
@@ -31,12 +40,47 @@ fn word(number: usize) -> Lit
 
 /// The number that a word is.
 #[inline(always)]
-pub(crate) fn number(word: Lit) -> usize
+fn number(word: Lit) -> usize
     ensures value { result ≡ word - 2 }
     ensures range { result ≤ 536870909 }
-    ensures code { word ≡ result + 2 }
 {
     word.index() - 2
+}
+
+/// How many units a block for so many literals has.
+pub(crate) fn units(literals: usize) -> usize
+    ensures { result ≡ units_for literals }
+{
+    literals / UNIT + 1
+}
+
+/// How many literals follow the header of a block.
+#[inline(always)]
+pub(crate) fn size(words: &[Lit], slot: usize) -> usize
+    requires { 4 * slot < length words.now }
+    ensures value { result ≡ size_at words.now slot }
+    ensures range { result ≤ 536870909 }
+{
+    number(words[slot * UNIT])
+}
+
+/// The literals of a block.
+#[inline(always)]
+pub(crate) fn literals(words: &[Lit], slot: usize) -> &[Lit]
+    requires { 4 * slot + 1 + size_at words.now slot ≤ length words.now }
+    ensures { result.now ≡ clause_at words.now slot }
+{
+    let len = size(words, slot);
+    let from = slot * UNIT + 1;
+    &words[from..from + len]
+}
+
+/// The link to the next block of a list of free ones.
+pub(crate) fn link(words: &[Lit], slot: usize) -> usize
+    requires { 4 * slot + 1 < length words.now }
+    ensures { result ≡ link_at words.now slot }
+{
+    number(words[slot * UNIT]) + LOW * number(words[slot * UNIT + 1])
 }
 
 /// Makes room for more words. A full array grows by half and not to twice its length, since it is
@@ -52,40 +96,75 @@ pub(crate) fn grow(words: &mut Vec<Lit>, more: usize) -> Result<(), OutOfMemory>
     Ok(())
 }
 
-/// Puts a block at the end.
-pub(crate) fn append(words: &mut Vec<Lit>, slot: usize, lits: &[Lit])
-    requires slot { slot ≤ 536870909 }
-    requires len { length lits.now < 536870909 }
-    requires room { vec_len words.old + (length lits.now + 2) ≤ vec_capacity words.old }
-    ensures { words.new.items ≡ words.old.items ++ block_words (slot + 2) lits.now }
+/// Puts blank words at the end.
+pub(crate) fn append_blanks(words: &mut Vec<Lit>, count: usize)
+    requires { vec_len words.old + count ≤ vec_capacity words.old }
+    ensures { words.new.items ≡ words.old.items ++ blanks count }
 {
-    words.push_reserved(word(lits.len() + 1));
-    words.push_reserved(word(slot));
-    for lit in lits {
-        words.push_reserved(*lit);
+    let blank = word(0);
+    for _added in 0..count {
+        words.push_reserved(blank);
     }
 }
 
 /// Overwrites words with blank ones.
-pub(crate) fn wipe(words: &mut Vec<Lit>, from: usize, len: usize)
-    requires { from + len ≤ length words.old.items }
+pub(crate) fn wipe(words: &mut Vec<Lit>, from: usize, count: usize)
+    requires { from + count ≤ length words.old.items }
     ensures { words.new.items ≡
-        take from words.old.items ++ (blanks len ++ drop (from + len) words.old.items) }
+        take from words.old.items ++ (blanks count ++ drop (from + count) words.old.items) }
 {
-    let blank = word(0);
-    for i in from..from + len {
-        words[i] = blank;
-    }
+    words[from..from + count].fill(word(0));
 }
 
-/// Moves words down to a place before, over those that are there.
-pub(crate) fn slide(words: &mut Vec<Lit>, from: usize, len: usize, to: usize)
-    requires down { to ≤ from }
-    requires inside { from + len ≤ length words.old.items }
-    ensures low { take (to + len) words.new.items ≡
-        take to words.old.items ++ take len (drop from words.old.items) }
-    ensures high { drop (from + len) words.new.items ≡ drop (from + len) words.old.items }
-    ensures same_len { length words.new.items ≡ length words.old.items }
+/// Overwrites words with literals.
+fn write(words: &mut Vec<Lit>, from: usize, lits: &[Lit])
+    requires { from + length lits.now ≤ length words.old.items }
+    ensures { words.new.items ≡
+        take from words.old.items ++ (lits.now ++ drop (from + length lits.now) words.old.items) }
 {
-    words.copy_within(from..from + len, to);
+    words[from..from + lits.len()].copy_from_slice(lits);
+}
+
+/// Writes the header and the literals of a clause.
+pub(crate) fn write_clause(words: &mut Vec<Lit>, slot: usize, lits: &[Lit])
+    requires inside { 4 * slot + 1 + length lits.now ≤ length words.old.items }
+    requires short { length lits.now ≤ 536870909 }
+    ensures same_len { length words.new.items ≡ length words.old.items }
+    ensures header { slice_index words.new.items (4 * slot) ≡ length lits.now + 2 }
+    ensures literals { take (length lits.now) (drop (4 * slot + 1) words.new.items) ≡ lits.now }
+    ensures before { (i : ℕ) → i < 4 * slot →
+        slice_index words.new.items i ≡ slice_index words.old.items i }
+    ensures behind { (i : ℕ) → 4 * slot + 1 + length lits.now ≤ i →
+        slice_index words.new.items i ≡ slice_index words.old.items i }
+{
+    words[slot * UNIT] = word(lits.len());
+    write(words, slot * UNIT + 1, lits);
+}
+
+/// Writes a link into a block.
+pub(crate) fn write_link(words: &mut Vec<Lit>, slot: usize, link: usize)
+    requires inside { 4 * slot + 1 < length words.old.items }
+    requires low { link < 4294967296 }
+    ensures same_len { length words.new.items ≡ length words.old.items }
+    ensures link { link_at words.new.items slot ≡ link }
+    ensures before { (i : ℕ) → i < 4 * slot →
+        slice_index words.new.items i ≡ slice_index words.old.items i }
+    ensures behind { (i : ℕ) → 4 * slot + 2 ≤ i →
+        slice_index words.new.items i ≡ slice_index words.old.items i }
+{
+    words[slot * UNIT] = word(link % LOW);
+    words[slot * UNIT + 1] = word(link / LOW);
+}
+
+/// Puts two literals of a block in each other's place.
+#[inline(always)]
+pub(crate) fn exchange(words: &mut Vec<Lit>, slot: usize, a: usize, b: usize)
+    requires first { 4 * slot + 1 + a < length words.old.items }
+    requires second { 4 * slot + 1 + b < length words.old.items }
+    ensures { words.new.items ≡ swap words.old.items (4 * slot + 1 + a) (4 * slot + 1 + b) }
+{
+    let from = slot * UNIT + 1;
+    let first = words[from + a];
+    words[from + a] = words[from + b];
+    words[from + b] = first;
 }

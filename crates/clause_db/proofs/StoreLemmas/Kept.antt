@@ -1,23 +1,18 @@
 -- The occurrences of literals in the clauses, through a change.
-use Rattle.std.proofs.Common.{◌≡◌, ◌≢◌, ℕ, ◌<◌, ◌≤◌, nat_lt, Bool, true, false, ◌&&◌, ◌||◌, not}
+use Rattle.std.proofs.Common.{◌≡◌, ◌≢◌, ℕ, ◌<◌, nat_lt, Bool, true, false, ◌&&◌, ◌||◌, not}
 use Rattle.std.proofs.Common.{cond, eqb}
 use Rattle.std.proofs.Common.{eq-eqb, ne_eqb, Option, Some, None, is_some, List, [], ◌∷◌, refl, sym}
-use Rattle.std.proofs.Common.{ap, ◌∙◌, subst, arith, inl, inr, length}
+use Rattle.std.proofs.Common.{ap, ◌∙◌, subst, arith, inl, inr}
 use Rattle.std.specs.List.{list_any}
 use Rattle.std.specs.Ordering.{nat_cmp}
 use Rattle.std.specs.FinMap as maps
 use Rattle.std.specs.FinMap.{FinMap}
-use Rattle.std.proofs.lemmas.Bool.{cases_eq, cases_lt, false≢true, lt-ltb}
-use Rattle.std.proofs.lemmas.List.{get_or_past}
-use Rattle.slab.specs.Slab.{Slab, get}
+use Rattle.std.proofs.lemmas.Bool.{cases_eq, false≢true, lt-ltb}
 use Rattle.cnf_base.specs.Literals.{Literal, Clause, complement, has}
 use Rattle.occurrences.specs.Occurrences.{occurs}
 use Rattle.occurrences.specs.declared.by_literal.Occurrences.{Occurrences}
 use Rattle.clause_db.specs.Store.{IsTouchedAt}
-use Rattle.clause_db.specs.Code.Entries.{clauses_in}
 use Rattle.clause_db.specs.Code.Kept.{has_in, AreOf, AreKept}
-use Rattle.clause_db.specs.declared.store.entry.Entry.{Entry}
-use Rattle.clause_db.proofs.StoreLemmas.Entries.{clause_of, get_stored}
 use Rattle.clause_db.proofs.StoreLemmas.Sums.{get_insert, get_remove, same_maps}
 
 -- ---- Look-ups in a changed map
@@ -25,7 +20,7 @@ use Rattle.clause_db.proofs.StoreLemmas.Sums.{get_insert, get_remove, same_maps}
 pub insert_here : (live : FinMap nat_cmp Clause) (k s : ℕ) (c : Clause) → s ≡ k → maps.get (maps.insert live k c) s ≡ Some c
 insert_here live k s c e = get_insert live k c s ∙ ap (λ b. cond b (Some c) (maps.get live s)) (eq-eqb s k e)
 
-insert_other : (live : FinMap nat_cmp Clause) (k s : ℕ) (c : Clause) → s ≢ k → maps.get (maps.insert live k c) s ≡ maps.get live s
+pub insert_other : (live : FinMap nat_cmp Clause) (k s : ℕ) (c : Clause) → s ≢ k → maps.get (maps.insert live k c) s ≡ maps.get live s
 insert_other live k s c ne = get_insert live k c s ∙ ap (λ b. cond b (Some c) (maps.get live s)) (ne_eqb s k ne)
 
 remove_here : (live : FinMap nat_cmp Clause) (k s : ℕ) → s ≡ k → maps.get (maps.remove live k) s ≡ None
@@ -87,9 +82,6 @@ of_without old new live k are is = record {
   ];
 }
 
-pub of_same : (old new : Occurrences) (live : FinMap nat_cmp Clause) → AreOf old live → ((l s : ℕ) → occurs new l s ≡ occurs old l s) → AreOf new live
-of_same old new live are is = record { exact = λ l s. is l s ∙ are.exact l s; low = are.low }
-
 -- a clause in the place of one with the same literals
 pub kept_replaced : (kept : Option Occurrences) (live : FinMap nat_cmp Clause) (k : ℕ) (c d : Clause) → maps.get live k ≡ Some c → ((l : ℕ) → has d l ≡ has c l) →
     AreKept kept live → AreKept kept (maps.insert live k d)
@@ -107,39 +99,34 @@ kept_replaced (Some o) live k c d here alike are = record {
 
 -- ---- Notes of all clauses
 
-module _ (entries : Slab Entry) (slot : ℕ) where
-  pub noted_some : (e : Entry) → get entries slot ≡ Some e → (before : Bool) (l s : ℕ) → (before || (has e.lits.items l && eqb s slot)) ≡ (before || (eqb s slot && has_in (maps.get (clauses_in entries) s) l))
-  noted_some e here before l s = ap (λ b. before || b) (elim (cases_eq s slot) [
+module _ (live : FinMap nat_cmp Clause) (slot : ℕ) where
+  pub noted_some : (c : Clause) → maps.get live slot ≡ Some c → (before : Bool) (l s : ℕ) → (before || (has c l && eqb s slot)) ≡ (before || (eqb s slot && has_in (maps.get live s) l))
+  noted_some c here before l s = ap (λ b. before || b) (elim (cases_eq s slot) [
     | inl same ↦
-        ap (λ b. has e.lits.items l && b) (eq-eqb s slot same) ∙ and_true (has e.lits.items l)
-        ∙ ap (λ o. has_in o l) (sym (get_stored entries s ∙ ap clause_of (ap (get entries) same ∙ here))) ∙ ap (λ b. b && has_in (maps.get (clauses_in entries) s) l) (sym (eq-eqb s slot same))
+        ap (λ b. has c l && b) (eq-eqb s slot same) ∙ and_true (has c l)
+        ∙ ap (λ o. has_in o l) (sym (ap (maps.get live) same ∙ here)) ∙ ap (λ b. b && has_in (maps.get live s) l) (sym (eq-eqb s slot same))
     | inr apart ↦
-        ap (λ b. has e.lits.items l && b) (ne_eqb s slot apart) ∙ and_false (has e.lits.items l)
-        ∙ ap (λ b. b && has_in (maps.get (clauses_in entries) s) l) (sym (ne_eqb s slot apart))
+        ap (λ b. has c l && b) (ne_eqb s slot apart) ∙ and_false (has c l)
+        ∙ ap (λ b. b && has_in (maps.get live s) l) (sym (ne_eqb s slot apart))
   ])
 
-  pub noted_none : get entries slot ≡ None → (before : Bool) (l s : ℕ) → before ≡ (before || (eqb s slot && has_in (maps.get (clauses_in entries) s) l))
+  pub noted_none : maps.get live slot ≡ None → (before : Bool) (l s : ℕ) → before ≡ (before || (eqb s slot && has_in (maps.get live s) l))
   noted_none none before l s = sym (or_false before) ∙ ap (λ b. before || b) (elim (cases_eq s slot) [
     | inl same ↦
-        sym (and_false (eqb s slot)) ∙ ap (λ o. eqb s slot && has_in o l) (sym (get_stored entries s ∙ ap clause_of (ap (get entries) same ∙ none)))
-    | inr apart ↦ ap (λ b. b && has_in (maps.get (clauses_in entries) s) l) (sym (ne_eqb s slot apart))
+        sym (and_false (eqb s slot)) ∙ ap (λ o. eqb s slot && has_in o l) (sym (ap (maps.get live) same ∙ none))
+    | inr apart ↦ ap (λ b. b && has_in (maps.get live s) l) (sym (ne_eqb s slot apart))
   ])
 
-pub all_noted : (entries : Slab Entry) (n : ℕ) (o : Occurrences) → length entries.slots ≤ n → ((l s : ℕ) → occurs o l s ≡ (nat_lt s n && has_in (maps.get (clauses_in entries) s) l)) →
-    ((s : ℕ) → s < n → is_some (maps.get (clauses_in entries) s) ≡ true → s < 4294967296) → AreOf o (clauses_in entries)
-all_noted entries n o all is low = record {
-  exact = λ l s. is l s ∙ elim (cases_lt s n) [
-    | inl before ↦ ap (λ b. b && has_in (maps.get (clauses_in entries) s) l) (lt-ltb s n before)
-    | inr past ↦ ap (λ c. nat_lt s n && has_in c l) (none_past s past) ∙ and_false (nat_lt s n) ∙ ap (λ c. has_in c l) (sym (none_past s past))
-  ];
-  low = λ s some. elim (cases_lt s n) [
-    | inl before ↦ low s before some
-    | inr past ↦ absurd (false≢true (sym (ap is_some (none_past s past)) ∙ some))
-  ];
+pub all_noted : (live : FinMap nat_cmp Clause) (n : ℕ) (o : Occurrences) → ((s : ℕ) → is_some (maps.get live s) ≡ true → s < n) →
+    ((l s : ℕ) → occurs o l s ≡ (nat_lt s n && has_in (maps.get live s) l)) → ((s : ℕ) → is_some (maps.get live s) ≡ true → s < 4294967295) → AreOf o live
+all_noted live n o all is low = record {
+  exact = λ l s. is l s ∙ by_clause l s (maps.get live s) refl;
+  low = λ s some. let below = low s some in omega arith;
 }
   where
-    none_past : (s : ℕ) → n ≤ s → maps.get (clauses_in entries) s ≡ None
-    none_past s past = get_stored entries s ∙ ap clause_of (get_or_past entries.slots s None (omega (arith, all, past)))
+    by_clause : (l s : ℕ) (c : Option Clause) → maps.get live s ≡ c → (nat_lt s n && has_in c l) ≡ has_in c l
+    by_clause l s None none = and_false (nat_lt s n)
+    by_clause l s (Some c) here = ap (λ b. b && has c l) (lt-ltb s n (all s (ap is_some here)))
 
 -- ---- A slot whose clause has one of the literals
 

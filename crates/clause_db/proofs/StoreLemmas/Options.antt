@@ -10,10 +10,6 @@ pub if_some_then : (o : Option ℕ) {P Q : ℕ → Type 0} → ((x : ℕ) → P 
 if_some_then None f h = tt
 if_some_then (Some x) f h = f x h
 
-pub on_err_then : {X E : Type 0} (r : Result X E) {P Q : Type 0} → (P → Q) → OnErr r P → OnErr r Q
-on_err_then (Ok x) f h = tt
-on_err_then (Err e) f h = f h
-
 pub if_some_from : (o : Option ℕ) (x : ℕ) (P : ℕ → Type 0) → o ≡ Some x → P x → IfSome o P
 if_some_from o x P e h = subst (λ q. IfSome q P) (sym e) h
 

@@ -1,17 +1,16 @@
 -- What is so of the fields of a store.
-use Rattle.slab.specs.Slab.{Slab}
 use Rattle.std.specs.Coded.{Coded, code_by, coded×, coded_ℕ, coded_list}
 use Rattle.std.specs.FinMap as maps
 use Rattle.std.specs.FinMap.{FinMap}
 use Rattle.std.specs.Ordering.{nat_cmp}
-use Rattle.std.specs.Prelude.{ℕ, refl, ◌≡◌, ◌<◌, false, Some, length}
-use Rattle.cnf_base.specs.Literals.{Clause, size}
+use Rattle.std.specs.Prelude.{ℕ, refl, ◌≡◌, ◌<◌, false, Some, None, length, IsTrue}
+use Rattle.cnf_base.specs.Literals.{Clause, same_clause, size}
+use Rattle.clause_memory.specs.Memory as memory
+use Rattle.clause_memory.specs.Memory.{MemoryState}
 use Rattle.tables.specs.Table.{at}
 use Rattle.tables.specs.declared.table.Table.{Table}
-use Rattle.clause_db.specs.Code.Entries.{clauses_in}
 use Rattle.clause_db.specs.Code.LiteralMarks.{mark_count, is_marked}
-use Rattle.clause_db.specs.Store.{StoreState, literals_in, copies_with}
-use Rattle.clause_db.specs.declared.store.entry.Entry.{Entry}
+use Rattle.clause_db.specs.Store.{StoreState, copies_with}
 use Rattle.clause_db.specs.declared.store.mark.Mark.{Mark}
 
 -- a store is kept as the pair of its fields
@@ -21,12 +20,25 @@ store_code =
     (λ s. (s.live, s.stored)) (λ p. record { live = p.0; stored = p.1 }) (λ _. refl)
 
 -- no clause repeats a literal, the table counts the clauses with each literal and has no marks, and
--- the sum is that of the sizes
-pub record IsStore (entries : Slab Entry) (marks : Table Mark) (sum : ℕ) : Type 0 where
-  pub different : (s : ℕ) (c : Clause) → maps.get (clauses_in entries) s ≡ Some c →
-      size c ≡ length c
-  pub short : (s : ℕ) (c : Clause) → maps.get (clauses_in entries) s ≡ Some c →
-      length c < 18446744073709551616
-  pub counted : (l : ℕ) → mark_count (at marks l) ≡ copies_with (clauses_in entries) l
+-- the sum is that of the lengths
+pub record IsStore (live : FinMap nat_cmp Clause) (stored : ℕ) (marks : Table Mark) (sum : ℕ) :
+    Type 0 where
+  pub different : (s : ℕ) (c : Clause) → maps.get live s ≡ Some c → size c ≡ length c
+  pub short : (s : ℕ) (c : Clause) → maps.get live s ≡ Some c → length c < 18446744073709551616
+  pub counted : (l : ℕ) → mark_count (at marks l) ≡ copies_with live l
   pub clear : (l : ℕ) → is_marked (at marks l) ≡ false
-  pub sum_is : sum ≡ literals_in (clauses_in entries)
+  pub stored_is : stored ≡ memory.literals_in live
+  pub sum_is : sum ≡ stored
+
+-- a slot that was free has the clause of these literals, without repeated ones, and the others are
+-- as before
+pub record IsTakenIn (old new : MemoryState) (slot : ℕ) (lits : Clause) : Type 0 where
+  pub clause : Clause
+  pub same : IsTrue (same_clause clause lits)
+  pub different : size clause ≡ length clause
+  pub short : length clause < 18446744073709551616
+  pub free : maps.get old.live slot ≡ None
+  pub live : new.live ≡ maps.insert old.live slot clause
+  pub stored : new.stored ≡ memory.literals_in new.live
+  pub low : slot < 4294967295
+  pub few : maps.len old.live < 4294967295

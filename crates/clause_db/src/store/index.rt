@@ -34,6 +34,7 @@ pub trait Indexing: Sized {
     /// Adds the slot of a clause.
     fn add(&mut self, slot: usize, lits: &[Lit]) -> Result<(), OutOfMemory>
         requires different { size lits.now ≡ length lits.now }
+        requires low { slot < 4294967296 }
         ensures ok { OnOk result ((live : FinMap nat_cmp Clause) →
             indexes self.old live → maps.get live slot ≡ None →
             indexes self.new (maps.insert live slot lits.now)) }
@@ -129,9 +130,7 @@ impl Indexing for Index {
     }
 
     fn add(&mut self, slot: usize, lits: &[Lit]) -> Result<(), OutOfMemory> {
-        let Ok(number) = u32::try_from(slot) else {
-            return Err(OutOfMemory);
-        };
+        let number = slot as u32;
         let hash = hash_of(self.seed, lits);
         let place = self.buckets.push(hash, number)?;
         match note_new(&mut self.places, number, place) {

@@ -12,46 +12,38 @@ ghost use Rattle.std.specs.FinMap as maps;
 ghost use Rattle.std.specs.FinMap.{FinMap};
 ghost use Rattle.cnf_base.specs.Literals.{Clause, complement, has};
 ghost use Rattle.occurrences.specs.Occurrences.{occurs};
-ghost use Rattle.clause_db.specs.Code.Entries.{clauses_in};
 ghost use Rattle.clause_db.specs.Code.Kept.{AreKept, AreOf, has_in};
 
-use crate::store::entry::Entry;
+use clause_memory::ClauseMemory;
 use cnf_base::{Lit, OutOfMemory};
 use occurrences::Occurrences;
-use slab::Slab;
 use std::alloc::Global;
 
 /// Notes the clause of a slot, if there is one.
-fn note_entry(
+fn note_slot(
     occurrences: &mut Occurrences,
-    entries: &Slab<Entry>,
+    memory: &ClauseMemory,
     slot: usize,
 ) -> Result<(), OutOfMemory>
-    requires { (l : ℕ) → occurs occurrences.old l slot ≡ false }
-    ensures noted { OnOk result ((l s : ℕ) → occurs occurrences.new l s ≡
-        (occurs occurrences.old l s ||
-        (s == slot && has_in (maps.get (clauses_in entries.now) s) l))) }
-    ensures low { OnOk result (IsSome (maps.get (clauses_in entries.now) slot) →
-        slot < 4294967296) }
+    requires absent { (l : ℕ) → occurs occurrences.old l slot ≡ false }
+    requires low { IsSome (maps.get memory.now.live slot) → slot < 4294967296 }
+    ensures { OnOk result ((l s : ℕ) → occurs occurrences.new l s ≡
+        (occurs occurrences.old l s || (s == slot && has_in (maps.get memory.now.live s) l))) }
 {
-    match entries.get(slot) {
-        Some(entry) => {
-            let Ok(number) = u32::try_from(slot) else {
-                return Err(OutOfMemory);
-            };
-            occurrences.add(number, entry.lits.as_slice())
-        }
+    match memory.at(slot) {
+        Some(lits) => occurrences.add(slot as u32, lits),
         None => Ok(()),
     }
 }
 
 /// The occurrences in the clauses.
-fn occurrences_in(alloc: Global, entries: &Slab<Entry>) -> Result<Occurrences, OutOfMemory>
-    ensures { IfOk result (λ o. AreOf o (clauses_in entries.now)) }
+fn occurrences_in(alloc: Global, memory: &ClauseMemory) -> Result<Occurrences, OutOfMemory>
+    ensures { IfOk result (λ o. AreOf o memory.now.live) }
 {
+    memory.recall_invariant();
     let mut occurrences = Occurrences::new(alloc);
-    for slot in 0..entries.capacity() {
-        note_entry(&mut occurrences, entries, slot)?;
+    for slot in 0..memory.end() {
+        note_slot(&mut occurrences, memory, slot)?;
     }
     Ok(occurrences)
 }
@@ -60,20 +52,20 @@ fn occurrences_in(alloc: Global, entries: &Slab<Entry>) -> Result<Occurrences, O
 pub(crate) fn find_slots(
     kept: &mut Option<Occurrences>,
     alloc: Global,
-    entries: &Slab<Entry>,
+    memory: &ClauseMemory,
     lits: &[Lit],
     into: &mut Vec<u32>,
 ) -> Result<(), OutOfMemory>
-    requires { AreKept kept.old (clauses_in entries.now) }
+    requires { AreKept kept.old memory.now.live }
     ensures ascending { OnOk result (IsStrictlyIncreasing into.new.items) }
     ensures slots { OnOk result ((s : ℕ) → has into.new.items s ≡
-        list_any (λ l. has_in (maps.get (clauses_in entries.now) s) (complement l)) lits.now) }
-    ensures kept { AreKept kept.new (clauses_in entries.now) }
+        list_any (λ l. has_in (maps.get memory.now.live s) (complement l)) lits.now) }
+    ensures kept { AreKept kept.new memory.now.live }
 {
     match kept {
         Some(occurrences) => occurrences.slots_touched(lits, into),
         None => {
-            let mut made = occurrences_in(alloc, entries)?;
+            let mut made = occurrences_in(alloc, memory)?;
             let gathered = made.slots_touched(lits, into);
             *kept = Some(made);
             gathered
@@ -87,7 +79,8 @@ pub(crate) fn note(
     slot: usize,
     lits: &[Lit],
 ) -> Result<(), OutOfMemory>
-    requires { (live : FinMap nat_cmp Clause) × AreKept kept.old live
+    requires low { slot < 4294967296 }
+    requires free { (live : FinMap nat_cmp Clause) × AreKept kept.old live
         × (maps.get live slot ≡ None) }
     ensures ok { OnOk result ((live : FinMap nat_cmp Clause) → AreKept kept.old live →
         maps.get live slot ≡ None → AreKept kept.new (maps.insert live slot lits.now)) }
@@ -95,12 +88,7 @@ pub(crate) fn note(
         AreKept kept.new live) }
 {
     match kept {
-        Some(occurrences) => {
-            let Ok(number) = u32::try_from(slot) else {
-                return Err(OutOfMemory);
-            };
-            occurrences.add(number, lits)
-        }
+        Some(occurrences) => occurrences.add(slot as u32, lits),
         None => Ok(()),
     }
 }

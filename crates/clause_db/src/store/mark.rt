@@ -101,42 +101,42 @@ pub(crate) fn add_mark(marks: &mut Table<Mark>, l: Lit) -> Result<bool, OutOfMem
     }
 }
 
-/// Takes the mark off a literal.
-pub(crate) fn clear_mark(marks: &mut Table<Mark>, l: Lit)
+/// Takes the mark off a literal, and tells whether it was marked.
+pub(crate) fn clear_mark(marks: &mut Table<Mark>, l: Lit) -> bool
+    ensures was { result ≡ is_marked (at marks.old l) }
     ensures marked { (k : ℕ) → is_marked (at marks.new k) ≡
         (not (k == l) && is_marked (at marks.old k)) }
     ensures counts { (k : ℕ) → mark_count (at marks.new k) ≡ mark_count (at marks.old k) }
     ensures known { (k : ℕ) → is_some (at marks.new k) ≡ is_some (at marks.old k) }
 {
-    if let Some(mark) = marks.get(key(l)) {
-        marks.set(key(l), mark.with(false));
+    match marks.get(key(l)) {
+        Some(mark) => {
+            marks.set(key(l), mark.with(false));
+            mark.marked
+        }
+        None => false,
     }
 }
 
-/// Takes the mark off a literal and counts it once more, if it is marked, and tells whether it was.
-pub(crate) fn count_up(marks: &mut Table<Mark>, l: Lit) -> bool
+/// Takes the mark off a literal and counts it once more, if it is marked.
+pub(crate) fn count_up(marks: &mut Table<Mark>, l: Lit)
     requires known { IsSome (at marks.old l) }
     requires few { is_marked (at marks.old l) ≡ true →
         mark_count (at marks.old l) < 4294967295 }
-    ensures was { result ≡ is_marked (at marks.old l) }
     ensures marked { (k : ℕ) → is_marked (at marks.new k) ≡
         (not (k == l) && is_marked (at marks.old k)) }
     ensures counts { (k : ℕ) → mark_count (at marks.new k) ≡ mark_count (at marks.old k) +
         (if k == l && is_marked (at marks.old k) then 1 else 0) }
     ensures known { (k : ℕ) → is_some (at marks.new k) ≡ is_some (at marks.old k) }
 {
-    match marks.get(key(l)) {
-        Some(mark) => {
-            if mark.marked {
-                let counted = Mark {
-                    count: mark.count + 1,
-                    marked: false,
-                };
-                marks.set(key(l), counted);
-            }
-            mark.marked
-        }
-        None => false,
+    if let Some(mark) = marks.get(key(l))
+        && mark.marked
+    {
+        let counted = Mark {
+            count: mark.count + 1,
+            marked: false,
+        };
+        marks.set(key(l), counted);
     }
 }
 

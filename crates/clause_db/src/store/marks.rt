@@ -2,6 +2,7 @@
 
 ghost use Rattle.std.specs.Prelude.{◌≡◌, ℕ, ◌+◌, ◌<◌, ◌≤◌, ◌==◌, ◌&&◌, true, false, is_some, []};
 ghost use Rattle.std.specs.Prelude.{length, if◌then◌else◌, IsSome, IsTrue, IfOk, OnOk};
+ghost use Rattle.std.specs.Prelude.{vec_capacity};
 ghost use Rattle.std.specs.List.{list_all};
 ghost use Rattle.cnf_base.specs.Literals.{has, same_clause, size};
 ghost use Rattle.clause_db.specs.Code.Hashes.{hash};
@@ -12,7 +13,6 @@ use crate::store::mark::{
     Mark, add_mark, clear_mark, count_down, count_up, mixed, set_mark, upper_half,
 };
 use cnf_base::{Lit, OutOfMemory};
-use smallvec::SmallVec;
 use tables::{Table, key};
 
 /// How many different literals a clause has, and its hash as a set, by a seed.
@@ -102,21 +102,18 @@ pub(crate) fn unmark_all(marks: &mut Table<Mark>, lits: &[Lit])
     }
 }
 
-/// Puts each of the marked literals into `kept` once, counts it once more and takes its mark off.
-pub(crate) fn gather(marks: &mut Table<Mark>, lits: &[Lit], kept: &mut SmallVec<Lit, 4>)
-    requires known { (l : ℕ) → has lits.now l ≡ true → IsSome (at marks.old l) }
+/// Puts each of the marked literals into `kept` once, and takes its mark off.
+pub(crate) fn gather(marks: &mut Table<Mark>, lits: &[Lit], kept: &mut Vec<Lit>)
     requires marked { (l : ℕ) → is_marked (at marks.old l) ≡ has lits.now l }
-    requires few { (l : ℕ) → mark_count (at marks.old l) < 4294967295 }
     requires empty { kept.old.items ≡ [] }
-    requires room { size lits.now ≤ kept.old.capacity }
+    requires room { size lits.now ≤ vec_capacity kept.old }
     ensures same { IsTrue (same_clause kept.new.items lits.now) }
     ensures different { size kept.new.items ≡ length kept.new.items }
     ensures clear { (l : ℕ) → is_marked (at marks.new l) ≡ false }
-    ensures counts { (l : ℕ) → mark_count (at marks.new l) ≡ mark_count (at marks.old l) +
-        (if has lits.now l then 1 else 0) }
+    ensures counts { (l : ℕ) → mark_count (at marks.new l) ≡ mark_count (at marks.old l) }
 {
     for l in lits {
-        if count_up(marks, *l) {
+        if clear_mark(marks, *l) {
             kept.push_reserved(*l);
         }
     }

@@ -4,35 +4,46 @@
 //! So a search is linear in the clause, whatever is repeated, and takes no memory. `find` marks and
 //! unmarks literals, and so takes `&mut self`.
 
-ghost use Rattle.std.specs.Prelude.{◌≡◌, ℕ, false, true, Some, slice_get, IfSome, IfNone};
-ghost use Rattle.clause_db.specs.Code.Entries.{is_match};
+ghost use Rattle.std.specs.Prelude.{◌≡◌, ℕ, false, true, Some, slice_get, IsSome, IfSome, IfNone};
+ghost use Rattle.std.specs.FinMap as maps;
+ghost use Rattle.cnf_base.specs.Literals.{Clause};
 ghost use Rattle.clause_db.specs.Code.Index.{under};
 ghost use Rattle.clause_db.specs.Code.LiteralMarks.{is_marked};
+ghost use Rattle.clause_db.specs.Code.Matches.{is_match};
 ghost use Rattle.tables.specs.Table.{at};
-ghost use Rattle.slab.specs.Slab.{get};
 
-use crate::store::entry::{Entry, is_match_at};
 use crate::store::index::Index;
 use crate::store::mark::Mark;
-use crate::store::marks::Digest;
-use slab::Slab;
+use crate::store::marks::{Digest, all_marked};
+use clause_memory::ClauseMemory;
+use cnf_base::Lit;
 use tables::Table;
+
+/// Whether a clause has this many literals, each of them marked.
+fn matches(marks: &Table<Mark>, len: usize, lits: &[Lit]) -> bool
+    ensures { result ≡ is_match (λ l. is_marked (at marks.now l)) len lits.now }
+{
+    lits.len() == len && all_marked(marks, lits)
+}
 
 /// The first slot of the bucket that has a clause of this many literals, each of them marked.
 fn first_match(
-    entries: &Slab<Entry>,
+    memory: &ClauseMemory,
     bucket: &[u32],
     marks: &Table<Mark>,
     len: usize,
 ) -> Option<usize>
-    ensures found { IfSome result (λ s.
-        is_match (λ l. is_marked (at marks.now l)) len (get entries.now s) ≡ true) }
-    ensures none { IfNone result ((i s : ℕ) → slice_get bucket.now i ≡ Some s →
-        is_match (λ l. is_marked (at marks.now l)) len (get entries.now s) ≡ false) }
+    requires { (i s : ℕ) → slice_get bucket.now i ≡ Some s →
+        IsSome (maps.get memory.now.live s) }
+    ensures found { IfSome result (λ s. (c : Clause) × (maps.get memory.now.live s ≡ Some c)
+        × (is_match (λ l. is_marked (at marks.now l)) len c ≡ true)) }
+    ensures none { IfNone result ((i s : ℕ) (c : Clause) → slice_get bucket.now i ≡ Some s →
+        maps.get memory.now.live s ≡ Some c →
+        is_match (λ l. is_marked (at marks.now l)) len c ≡ false) }
 {
     for i in 0..bucket.len() {
         let slot = bucket[i] as usize;
-        if is_match_at(entries, slot, marks, len) {
+        if matches(marks, len, memory.clause(slot)) {
             return Some(slot);
         }
     }
@@ -41,16 +52,19 @@ fn first_match(
 
 /// A slot with the hash of the digest that has a clause of so many literals, each of them marked.
 pub(crate) fn find_marked(
-    entries: &Slab<Entry>,
+    memory: &ClauseMemory,
     index: &Index,
     marks: &Table<Mark>,
     digest: &Digest,
 ) -> Option<usize>
-    ensures found { IfSome result (λ s.
-        is_match (λ l. is_marked (at marks.now l)) digest.now.len (get entries.now s) ≡ true) }
-    ensures none { IfNone result ((i s : ℕ) →
+    requires { (i s : ℕ) → slice_get (under index.now digest.now.hash) i ≡ Some s →
+        IsSome (maps.get memory.now.live s) }
+    ensures found { IfSome result (λ s. (c : Clause) × (maps.get memory.now.live s ≡ Some c)
+        × (is_match (λ l. is_marked (at marks.now l)) digest.now.len c ≡ true)) }
+    ensures none { IfNone result ((i s : ℕ) (c : Clause) →
         slice_get (under index.now digest.now.hash) i ≡ Some s →
-        is_match (λ l. is_marked (at marks.now l)) digest.now.len (get entries.now s) ≡ false) }
+        maps.get memory.now.live s ≡ Some c →
+        is_match (λ l. is_marked (at marks.now l)) digest.now.len c ≡ false) }
 {
-    first_match(entries, index.slots(digest.hash), marks, digest.len)
+    first_match(memory, index.slots(digest.hash), marks, digest.len)
 }

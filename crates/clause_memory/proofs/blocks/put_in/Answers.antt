@@ -1,46 +1,62 @@
-use Rattle.std.proofs.Common.{◌≡◌, ◌≢◌, ℕ, ◌+◌, ◌++◌, None, get_or, arith, sym, ap}
-use Rattle.std.proofs.Common.{◌∙◌}
-use Rattle.std.specs.FinMap as maps
-use Rattle.slab.specs.Slab.{Slab}
-use Rattle.clause_memory.specs.Code.Slots.{places_in}
-use Rattle.clause_memory.specs.Code.Words.{block_words}
-use Rattle.clause_memory.proofs.BlockLemmas.{IsPutIn, clauses_with, count_with, laid_with}
-use Rattle.clause_memory.proofs.BlockLemmas.{literals_with, places_with}
+use Rattle.std.proofs.Common.{Some, cond, eqb, length, arith, ap, ◌∙◌}
+use Rattle.tables.specs.Table.{at}
+use Rattle.clause_memory.specs.Memory.{units_for}
+use Rattle.clause_memory.specs.Code.Free.{link_at}
+use Rattle.clause_memory.proofs.MemoryLemmas.{IsPutIn, first_block, first_low, link_fits, put_in_blocks, put_in_clauses}
+use Rattle.clause_memory.proofs.MemoryLemmas.{put_in_memory, was_none}
+use Rattle.clause_memory.proofs.UnitLemmas.{block_inside, units_hold}
 use Rattle.clause_memory.proofs.blocks.put_in.Goals as goal
-use Rattle.clause_memory.proofs.blocks.put_in.Goals.{After-insert_reserved}
+use Rattle.clause_memory.proofs.blocks.put_in.Goals.{After-write_clause}
 
-put : (c : After-insert_reserved) → IsPutIn c.args.places.now c.insert_reserved.new.self c.args.words.now.items c.append.new.words.items c.insert_reserved.result c.len-place.result c.args.lits.now
+put : (c : After-write_clause) → IsPutIn c.args.kinds.now.items c.args.words.now.items c.write_clause.new.words.items (at c.args.heads.now) (at c.set.new.self) c.args.slot c.args.lits.now
 put c =
-    let words = c.args.words.now.items in
-    let slot = c.insert_reserved.result in
-    let is_there = c.insert_reserved.ensures in
-    let slots = ap (λ (s : Slab ℕ). s.slots) c.reserve.ensures.rest_kept in
-    let key = ap (λ (s : Slab ℕ). s.vacant_key) c.reserve.ensures.rest_kept in
-    let slot_is : c.vacant_key-slot.result ≡ slot = c.vacant_key-slot.ensures.value ∙ sym key ∙ sym is_there.key in
-    let low = c.if-place-lits.false in
-    let few = c.if-lits-ge-MOST.false in record {
-      laid = c.requires.laid;
-      free = ap (λ xs. get_or xs slot None) (sym slots) ∙ is_there.was_vacant;
-      there = is_there.updates.changed;
-      others = λ (t : ℕ) (apart : t ≢ slot). is_there.updates.others t apart ∙ ap (λ xs. get_or xs t None) slots;
-      place_is = omega arith;
-      are = c.append.ensures ∙ ap (λ ws. ws ++ block_words (c.vacant_key-slot.result + 2) c.args.lits.now) c.grow.ensures.same ∙ ap (λ k. words ++ block_words (k + 2) c.args.lits.now) slot_is;
-      fits = omega arith;
+    let link_is = c.link.ensures ∙ ap (λ ws. link_at ws c.args.slot) c.deref.ensures.value in record {
+      memory = c.requires.memory;
+      first = c.requires.first;
+      same_len = c.write_clause.ensures.same_len;
+      header = c.write_clause.ensures.header;
+      literals = c.write_clause.ensures.literals;
+      before = c.write_clause.ensures.before;
+      behind = c.write_clause.ensures.behind;
+      head = record {
+        each = λ k.
+            c.set.ensures k ∙ ap (λ n. cond (eqb k n) (Some c.link.result) (at c.args.heads.now k)) c.units.ensures
+            ∙ ap (λ x. cond (eqb k (units_for (length c.args.lits.now))) (Some x) (at c.args.heads.now k)) link_is;
+      };
     }
 
-pub returns-clause-laid : goal.returns-clause-laid
-returns-clause-laid c = laid_with (put (goal.at.returns-clause-laid c).After-insert_reserved)
+pub link-requires : goal.link-requires
+link-requires c =
+    let low = (first_low c.requires.memory (units_for (length c.args.lits.now)) c.args.slot c.requires.first).1 in
+    let long = ap length c.deref.ensures.value in
+    let hold = units_hold (length c.args.lits.now) in
+    omega arith
+
+pub overflow_cast-link : goal.overflow_cast-link
+overflow_cast-link c =
+    let low = link_fits c.requires.memory (units_for (length c.args.lits.now)) c.args.slot c.requires.first in
+    let is = c.link.ensures ∙ ap (λ ws. link_at ws c.args.slot) c.deref.ensures.value in
+    omega arith
+
+pub index_mut-requires : goal.index_mut-requires
+index_mut-requires c =
+    let inside = block_inside (first_block c.requires.memory (units_for (length c.args.lits.now)) c.args.slot c.requires.first) in
+    omega (arith, inside, c.args.kinds.now.ok)
+
+pub write_clause-requires-clause-inside : goal.write_clause-requires-clause-inside
+write_clause-requires-clause-inside c =
+    let low = (first_low c.requires.memory (units_for (length c.args.lits.now)) c.args.slot c.requires.first).1 in
+    let hold = units_hold (length c.args.lits.now) in
+    omega arith
+
+pub returns-clause-memory : goal.returns-clause-memory
+returns-clause-memory c = put_in_memory (put (goal.at.returns-clause-memory c).After-write_clause)
+
+pub returns-clause-free : goal.returns-clause-free
+returns-clause-free c = was_none (put (goal.at.returns-clause-free c).After-write_clause)
 
 pub returns-clause-clauses : goal.returns-clause-clauses
-returns-clause-clauses c = clauses_with (put (goal.at.returns-clause-clauses c).After-insert_reserved)
+returns-clause-clauses c = put_in_clauses (put (goal.at.returns-clause-clauses c).After-write_clause)
 
-pub returns-clause-places : goal.returns-clause-places
-returns-clause-places c =
-    let given = put (goal.at.returns-clause-places c).After-insert_reserved in
-    places_with given ∙ ap (maps.insert (places_in c.args.places.now) c.insert_reserved.result) given.place_is
-
-pub returns-clause-literals : goal.returns-clause-literals
-returns-clause-literals c = literals_with (put (goal.at.returns-clause-literals c).After-insert_reserved)
-
-pub returns-clause-taken : goal.returns-clause-taken
-returns-clause-taken c = count_with (put (goal.at.returns-clause-taken c).After-insert_reserved)
+pub returns-clause-blocks : goal.returns-clause-blocks
+returns-clause-blocks c = put_in_blocks (put (goal.at.returns-clause-blocks c).After-write_clause)

@@ -1,66 +1,47 @@
-use Rattle.std.proofs.Common.{◌≡◌, ◌+◌, ◌-◌, length, arith}
-use Rattle.clause_memory.proofs.BlockLemmas.{IsTakenOut, Spot, clauses_without, count_without}
-use Rattle.clause_memory.proofs.BlockLemmas.{laid_without, literals_without, live_is}
-use Rattle.clause_memory.proofs.BlockLemmas.{places_without, spot, wiped_length}
-use Rattle.clause_memory.proofs.FieldLemmas.{len_there}
+use Rattle.std.proofs.Common.{◌≡◌, ◌+◌, ◌*◌, ◌<◌, ◌≤◌, ◌++◌, Option, Some, None, length, arith, sym, ap, ◌∙◌, subst, refl, take, drop, get_or, unwrap_or, ℕ}
+use Rattle.tables.specs.Table.{at}
+use Rattle.clause_memory.specs.Memory.{units_for}
+use Rattle.clause_memory.specs.Code.Free.{link_of}
+use Rattle.clause_memory.specs.Code.Units.{blanks, size_at}
+use Rattle.clause_memory.proofs.MemoryLemmas.{IsTakenOut, taken_out_blocks, taken_out_clauses, taken_out_memory}
+use Rattle.clause_memory.proofs.UnitLemmas.{wiped_before, wiped_behind, wiped_inside, wiped_len}
 use Rattle.clause_memory.proofs.blocks.take_out.Goals as goal
-use Rattle.clause_memory.proofs.blocks.take_out.Goals.{After-number-len, After-wipe}
+use Rattle.clause_memory.proofs.blocks.take_out.Goals.{After-set}
 
--- the block of the slot, whose length its header has
-read : (c : After-number-len) → (s : Spot c.args.words.now.items c.args.slot c.remove-place.result) × (c.number-len.result ≡ length s.clause + 1)
-read c =
-    let s = spot c.args.places.now c.args.words.now.items c.requires.laid c.args.slot c.remove-place.result c.remove-place.ensures.value in
-    (s, len_there c.args.words.now.items c.args.slot c.remove-place.result s c.index.result.now c.number-len.result c.index.ensures c.number-len.ensures.code)
+read : (o : Option ℕ) → unwrap_or o 0 ≡ link_of o
+read None = refl
+read (Some link) = refl
 
-out : (c : After-wipe) → IsTakenOut c.args.places.now c.remove-place.new.self c.args.words.now.items c.wipe.new.words.items c.args.slot c.remove-place.result (c.number-len.result - 1)
-out c =
-    let s = spot c.args.places.now c.args.words.now.items c.requires.laid c.args.slot c.remove-place.result c.remove-place.ensures.value in
-    let len = len_there c.args.words.now.items c.args.slot c.remove-place.result s c.index.result.now c.number-len.result c.index.ensures c.number-len.ensures.code in record {
-      laid = c.requires.laid;
-      at = c.remove-place.ensures.value;
-      spot = s;
-      gone = c.remove-place.ensures.updates.changed;
-      others = c.remove-place.ensures.updates.others;
-      len_is = omega arith;
-      are = c.wipe.ensures;
+taken : (c : After-set) → IsTakenOut c.args.kinds.now.items c.args.words.now.items c.write_link.new.words.items (at c.args.heads.now) (at c.set.new.self) c.args.slot c.units-count.result
+taken c =
+    let words = c.args.words.now.items in
+    let s = c.args.slot in
+    let n = c.units-count.result in
+    let units = c.units-count.ensures ∙ ap units_for (c.size.ensures.value ∙ ap (λ ws. size_at ws s) c.deref.ensures.value) in
+    let block = c.requires.memory.block s c.requires.alive in
+    let block_fits = block.fits in
+    let whole = c.requires.memory.whole in
+    let fits : s * 4 + n * 4 ≤ length words = omega arith in
+    let wiped = c.wipe.ensures in
+    let at_word : (i : ℕ) → get_or c.wipe.new.words.items i 0 ≡ get_or (take (s * 4) words ++ (blanks (n * 4) ++ drop (s * 4 + n * 4) words)) i 0 = λ i. ap (λ ws. get_or ws i 0) wiped in record {
+      memory = c.requires.memory;
+      live = c.requires.alive;
+      units = units;
+      same_len = c.write_link.ensures.same_len ∙ ap length wiped ∙ wiped_len words (s * 4) (n * 4) fits;
+      link = c.write_link.ensures.link ∙ c.unwrap_or-first.ensures ∙ ap (λ o. unwrap_or o 0) c.get.ensures ∙ read (at c.args.heads.now n);
+      blank = λ i high low. c.write_link.ensures.behind i high ∙ at_word i ∙ wiped_inside words (s * 4) (n * 4) fits i (omega arith) (omega arith);
+      before = λ i low. c.write_link.ensures.before i low ∙ at_word i ∙ wiped_before words (s * 4) (n * 4) fits i (omega arith);
+      behind = λ i high.
+          let some : 0 < n = subst (λ k. 0 < k) (sym units) block.some in
+          c.write_link.ensures.behind i (omega arith) ∙ at_word i ∙ wiped_behind words (s * 4) (n * 4) fits i (omega arith);
+      head = record { each = c.set.ensures };
     }
 
-pub index-requires : goal.index-requires
-index-requires c =
-    let fits = (spot c.args.places.now c.args.words.now.items c.requires.laid c.args.slot c.remove-place.result c.remove-place.ensures.value).fits in
-    omega arith
-
-pub overflow_sub-len : goal.overflow_sub-len
-overflow_sub-len c =
-    let len = (read (goal.at.overflow_sub-len c).After-number-len).1 in
-    omega arith
-
-pub wipe-requires : goal.wipe-requires
-wipe-requires c =
-    let w = read (goal.at.wipe-requires c).After-number-len in
-    let fits = w.0.fits in
-    let len = w.1 in
-    omega arith
-
-pub returns-clause-laid : goal.returns-clause-laid
-returns-clause-laid c = laid_without (out (goal.at.returns-clause-laid c).After-wipe)
-
-pub returns-clause-clause : goal.returns-clause-clause
-returns-clause-clause c =
-    let given = out (goal.at.returns-clause-clause c).After-wipe in
-    (given.spot.clause, live_is c.args.places.now c.args.words.now.items c.args.slot c.remove-place.result given.spot.clause given.at given.spot.here, given.len_is)
+pub returns-clause-memory : goal.returns-clause-memory
+returns-clause-memory c = taken_out_memory (taken (goal.at.returns-clause-memory c).After-set)
 
 pub returns-clause-clauses : goal.returns-clause-clauses
-returns-clause-clauses c = clauses_without (out (goal.at.returns-clause-clauses c).After-wipe)
+returns-clause-clauses c = taken_out_clauses (taken (goal.at.returns-clause-clauses c).After-set)
 
-pub returns-clause-places : goal.returns-clause-places
-returns-clause-places c = places_without (out (goal.at.returns-clause-places c).After-wipe)
-
-pub returns-clause-literals : goal.returns-clause-literals
-returns-clause-literals c = literals_without (out (goal.at.returns-clause-literals c).After-wipe)
-
-pub returns-clause-taken : goal.returns-clause-taken
-returns-clause-taken c = count_without (out (goal.at.returns-clause-taken c).After-wipe)
-
-pub returns-clause-same_len : goal.returns-clause-same_len
-returns-clause-same_len c = wiped_length (out (goal.at.returns-clause-same_len c).After-wipe)
+pub returns-clause-blocks : goal.returns-clause-blocks
+returns-clause-blocks c = taken_out_blocks (taken (goal.at.returns-clause-blocks c).After-set)

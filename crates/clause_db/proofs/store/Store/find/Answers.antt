@@ -1,14 +1,13 @@
-use Rattle.std.proofs.Common.{◌≡◌, ℕ, ◌<◌, true, Some, is_some, sym, ap, ◌∙◌, arith}
+use Rattle.std.proofs.Common.{◌≡◌, ℕ, ◌<◌, true, is_some, sym, ap, ◌∙◌, arith}
 use Rattle.std.specs.FinMap as maps
 use Rattle.std.proofs.lemmas.Bool.{true≢false}
-use Rattle.slab.specs.Slab.{get}
-use Rattle.cnf_base.specs.Literals.{Clause, has}
+use Rattle.cnf_base.specs.Literals.{has}
 use Rattle.cnf_base.proofs.SetLemmas.{all_each, each_all, same_back}
 use Rattle.clause_db.specs.Code.Index.{noted_place, under}
 use Rattle.clause_db.specs.Code.LiteralMarks.{is_marked, mark_count}
 use Rattle.tables.specs.Table.{at}
-use Rattle.clause_db.proofs.StoreLemmas.Entries.{clause_of, get_stored}
-use Rattle.clause_db.proofs.StoreLemmas.Search.{copies_pos, known_from_count, match_same, none_same}
+use Rattle.clause_db.proofs.StoreLemmas.Search.{copies_pos, in_bucket, known_from_count, match_same}
+use Rattle.clause_db.proofs.StoreLemmas.Search.{none_same}
 use Rattle.clause_db.proofs.StoreLemmas.Options.{if_some_from, if_some_from_none, if_none_from}
 use Rattle.clause_db.proofs.StoreLemmas.Options.{if_none_from_some}
 use Rattle.clause_db.proofs.store.Store.find.Goals as goal
@@ -32,18 +31,21 @@ pub mark_all-digest-requires-clause-known : goal.mark_all-digest-requires-clause
 mark_all-digest-requires-clause-known c l h =
     all_each (λ l. is_some (at c.self.inside.marks l)) c.args.lits.now l (sym c.all_known.ensures ∙ c.if-not-all_known.false) h
 
+pub find_marked-found-requires : goal.find_marked-found-requires
+find_marked-found-requires c k s stands =
+    let i = c.self.inside in
+    in_bucket i.index.seed i.memory.live (under i.index) (noted_place i.index) c.self.invariant.1 c.mark_all-digest.result.hash k s stands
+
 pub returns-clause-found : goal.returns-clause-found
 returns-clause-found c =
-    let i = c.self.inside in
-    let now = c.args.self.now in
     let digest = c.mark_all-digest in
     elim c.match-found.branch [
       | in-Some w ↦
           let slot = w.in-Some.slot in
-          let different = λ (d : Clause) (is : clause_of (get i.entries slot) ≡ Some d). c.self.invariant.0.different slot d (get_stored i.entries slot ∙ is) in
-          let matched = match_same c.args.lits.now (λ l. is_marked (at digest.new.marks l)) digest.ensures.marked digest.result.len digest.ensures.len (get i.entries slot) different w.in-Some.ensures.found in
+          let is = w.in-Some.ensures.found in
+          let same = match_same c.args.lits.now (λ l. is_marked (at digest.new.marks l)) digest.ensures.marked digest.result.len digest.ensures.len is.0 (c.self.invariant.0.different slot is.0 is.1) is.2 in
           if_some_from c.match-found.result w.at.result _ w.result-is
-          (matched.0, ap (maps.get now.live) w.at.ensures ∙ ap (λ v. maps.get v.live slot) (sym c.self.view_is) ∙ get_stored i.entries slot ∙ matched.1, matched.2)
+          (is.0, ap (maps.get c.args.self.now.live) w.at.ensures ∙ ap (λ v. maps.get v.live slot) (sym c.self.view_is) ∙ is.1, same)
       | in-None w ↦ if_some_from_none c.match-found.result _ w.result-is
     ]
 
@@ -54,7 +56,7 @@ returns-clause-none c =
     elim c.match-found.branch [
       | in-Some w ↦ if_none_from_some c.match-found.result w.at.result _ w.result-is
       | in-None w ↦ if_none_from c.match-found.result _ w.result-is (λ s d is same.
-          none_same i.index.seed i.entries (under i.index) (noted_place i.index) c.self.invariant.1 c.args.lits.now (λ l. is_marked (at digest.new.marks l)) digest.ensures.marked
+          none_same i.index.seed i.memory.live (under i.index) (noted_place i.index) c.self.invariant.1 c.args.lits.now (λ l. is_marked (at digest.new.marks l)) digest.ensures.marked
           digest.result.len digest.ensures.len digest.result.hash digest.ensures.hash c.self.invariant.0.different w.in-None.ensures.none
           s d (ap (λ v. maps.get v.live s) c.self.view_is ∙ is) same)
     ]

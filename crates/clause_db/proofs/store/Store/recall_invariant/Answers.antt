@@ -1,7 +1,7 @@
 use Rattle.std.proofs.Common.{sym, ap, ◌∙◌}
 use Rattle.std.specs.FinMap as maps
 use Rattle.clause_db.specs.Store.{literals_in}
-use Rattle.clause_db.proofs.StoreLemmas.Fields.{live_kept}
+use Rattle.clause_db.proofs.StoreLemmas.Fields.{live_alone}
 use Rattle.clause_db.proofs.store.Store.recall_invariant.Goals as goal
 
 pub returns-clause-different : goal.returns-clause-different
@@ -10,4 +10,4 @@ returns-clause-different g c s d is = c.self.invariant.0.different s d (ap (λ v
 pub returns-clause-live_alone : goal.returns-clause-live_alone
 returns-clause-live_alone g c =
     let i = c.self.inside in
-    ap (λ v. v.stored) (sym c.self.view_is) ∙ live_kept i.entries i.marks i.sum c.self.invariant.0 ∙ ap (λ v. literals_in v.live) c.self.view_is
+    ap (λ v. v.stored) (sym c.self.view_is) ∙ live_alone i.memory.live i.memory.stored i.marks i.sum c.self.invariant.0 ∙ ap (λ v. literals_in v.live) c.self.view_is

@@ -1,9 +1,7 @@
-use Rattle.std.proofs.Common.{◌≤◌, length, arith}
+use Rattle.std.proofs.Common.{arith}
 use Rattle.clause_db.proofs.StoreLemmas.Kept.{all_noted}
 use Rattle.clause_db.proofs.store.kept.occurrences_in.Goals as goal
 
 pub returns : goal.returns
-returns c =
-    let entries = c.args.entries.now in
-    let all : length entries.slots ≤ c.loop-slot.slot = omega (arith, c.capacity-slot-end.ensures.slots, c.loop-slot-test.false) in
-    all_noted entries c.loop-slot.slot c.loop-slot.occurrences all c.loop-slot.invariant.exact c.loop-slot.invariant.low
+returns c = all_noted c.args.memory.now.live c.loop-slot.slot c.loop-slot.occurrences
+    (λ s some. let below = c.end-slot-end.ensures s some in omega arith) c.loop-slot.invariant c.recall_invariant.ensures.low

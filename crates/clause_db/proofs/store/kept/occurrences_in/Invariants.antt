@@ -1,13 +1,9 @@
-use Rattle.std.proofs.Common.{◌≡◌, ℕ, ◌<◌, ◌&&◌, nat_lt, is_some, true}
+use Rattle.std.proofs.Common.{◌≡◌, ℕ, ◌&&◌, nat_lt}
 use Rattle.std.specs.FinMap as maps
 use Rattle.occurrences.specs.Occurrences.{occurs}
-use Rattle.clause_db.specs.Code.Entries.{clauses_in}
 use Rattle.clause_db.specs.Code.Kept.{has_in}
 use Rattle.clause_db.proofs.store.kept.occurrences_in.Given as goal
 
 abbrev pub invariant-loop-slot : goal.invariant-loop-slot
-invariant-loop-slot l = record {
-  exact : (k s : ℕ) → occurs l.occurrences k s
-      ≡ (nat_lt s l.slot && has_in (maps.get (clauses_in l.entries) s) k);
-  low : (s : ℕ) → s < l.slot → is_some (maps.get (clauses_in l.entries) s) ≡ true → s < 4294967296;
-}
+invariant-loop-slot l = (k s : ℕ) → occurs l.occurrences k s
+    ≡ (nat_lt s l.slot && has_in (maps.get l.memory.live s) k)

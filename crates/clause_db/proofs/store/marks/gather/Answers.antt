@@ -4,16 +4,11 @@ use Rattle.std.proofs.lemmas.List.{take_all}
 use Rattle.cnf_base.specs.Literals.{has, size}
 use Rattle.cnf_base.proofs.SetLemmas.{same_from}
 use Rattle.cnf_base.proofs.WalkLemmas.{is_in}
-use Rattle.clause_db.proofs.StoreLemmas.Marks.{marked_new, marked_old, few_more, gather_more}
-use Rattle.clause_db.proofs.StoreLemmas.Marks.{count_more, has_kept, push_same, push_fits}
+use Rattle.clause_db.proofs.StoreLemmas.Marks.{marked_new, marked_old, gather_more}
+use Rattle.clause_db.proofs.StoreLemmas.Marks.{has_kept, push_same, push_fits}
 use Rattle.clause_db.proofs.StoreLemmas.Marks.{push_different}
 use Rattle.clause_db.proofs.store.marks.gather.Goals as goal
-use Rattle.clause_db.proofs.store.marks.gather.Goals.{then-count_up, else-count_up}
-
-pub count_up-requires-clause-few : goal.count_up-requires-clause-few
-count_up-requires-clause-few c marked =
-    let x = c.l-item.result in
-    few_more c.args.lits.now c.loop-l.l-index c.loop-l-test.true x c.l-item.is _ _ _ _ (c.loop-l.invariant.marked x) marked (c.loop-l.invariant.counts x) (c.requires.few x)
+use Rattle.clause_db.proofs.store.marks.gather.Goals.{then-clear_mark, else-clear_mark}
 
 pub push_reserved-requires : goal.push_reserved-requires
 push_reserved-requires c =
@@ -21,12 +16,13 @@ push_reserved-requires c =
     let i = c.loop-l.l-index in
     let x = c.l-item.result in
     let inside : i < length lits = omega arith in
-    let new : has (take i lits) x ≡ false = marked_new (has lits x) (has (take i lits) x) (sym (c.loop-l.invariant.marked x) ∙ sym c.count_up.ensures.was ∙ c.if-count_up.true) in
+    let new : has (take i lits) x ≡ false = marked_new (has lits x) (has (take i lits) x) (sym (c.loop-l.invariant.marked x) ∙ sym c.clear_mark.ensures.was ∙ c.if-clear_mark.true) in
     let fits = push_fits lits i inside x c.l-item.is c.loop-l.kept.items c.loop-l.invariant.items new in
     let different = c.loop-l.invariant.different in
     let room = c.loop-l.invariant.room in
     let enough = c.requires.room in
-    (omega arith, omega arith)
+    let whole = c.loop-l.kept.ok.0 in
+    omega arith
 
 pub loop-l-preserved : goal.loop-l-preserved
 loop-l-preserved c =
@@ -34,31 +30,28 @@ loop-l-preserved c =
     let i = c.loop-l.l-index in
     let x = c.l-item.result in
     let inside : i < length lits = omega arith in
-    let was : c.count_up.result ≡ (has lits x && not (has (take i lits) x)) = c.count_up.ensures.was ∙ c.loop-l.invariant.marked x in
-    let marked = λ (k : ℕ). gather_more lits i inside x c.l-item.is k _ _ (c.count_up.ensures.marked k) (c.loop-l.invariant.marked k) in
-    let counts = λ (k : ℕ). count_more lits i inside x c.l-item.is k _ _ _ _ (c.count_up.ensures.counts k) (c.loop-l.invariant.marked k) (c.loop-l.invariant.counts k) in
-    let known = λ (k : ℕ). c.count_up.ensures.known k ∙ c.loop-l.invariant.known k in
-    elim c.if-count_up.branch [
-      | then-count_up w ↦
-          let new : has (take i lits) x ≡ false = marked_new (has lits x) (has (take i lits) x) (sym was ∙ w.if-count_up.true) in
+    let was : c.clear_mark.result ≡ (has lits x && not (has (take i lits) x)) = c.clear_mark.ensures.was ∙ c.loop-l.invariant.marked x in
+    let marked = λ (k : ℕ). gather_more lits i inside x c.l-item.is k _ _ (c.clear_mark.ensures.marked k) (c.loop-l.invariant.marked k) in
+    let counts = λ (k : ℕ). c.clear_mark.ensures.counts k ∙ c.loop-l.invariant.counts k in
+    elim c.if-clear_mark.branch [
+      | then-clear_mark w ↦
+          let new : has (take i lits) x ≡ false = marked_new (has lits x) (has (take i lits) x) (sym was ∙ w.if-clear_mark.true) in
           let items_are = ap (λ v. v.items) w.kept-is ∙ w.push_reserved.ensures.items in
           record {
             items = λ k. ap (λ ls. has ls k) items_are ∙ push_same lits i inside x c.l-item.is c.loop-l.kept.items c.loop-l.invariant.items new k;
             different = ap size items_are ∙ push_different lits i inside x c.l-item.is c.loop-l.kept.items c.loop-l.invariant.items new c.loop-l.invariant.different ∙ ap length (sym items_are);
             marked = marked;
             counts = counts;
-            known = known;
-            room = ap (λ v. v.capacity) w.kept-is ∙ w.push_reserved.ensures.capacity ∙ c.loop-l.invariant.room;
+            room = ap (λ v. v.cap) w.kept-is ∙ w.push_reserved.ensures.capacity ∙ c.loop-l.invariant.room;
           }
-      | else-count_up w ↦
-          let old : has (take i lits) x ≡ true = marked_old (has lits x) (has (take i lits) x) (is_in lits i inside x c.l-item.is) (sym was ∙ w.if-count_up.false) in
+      | else-clear_mark w ↦
+          let old : has (take i lits) x ≡ true = marked_old (has lits x) (has (take i lits) x) (is_in lits i inside x c.l-item.is) (sym was ∙ w.if-clear_mark.false) in
           record {
             items = λ k. ap (λ v. has v.items k) w.kept-is ∙ c.loop-l.invariant.items k ∙ sym (has_kept lits i inside x c.l-item.is old k);
             different = ap (λ v. size v.items) w.kept-is ∙ c.loop-l.invariant.different ∙ ap (λ v. length v.items) (sym w.kept-is);
             marked = marked;
             counts = counts;
-            known = known;
-            room = ap (λ v. v.capacity) w.kept-is ∙ c.loop-l.invariant.room;
+            room = ap (λ v. v.cap) w.kept-is ∙ c.loop-l.invariant.room;
           }
     ]
 
