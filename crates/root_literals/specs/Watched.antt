@@ -6,8 +6,8 @@ use Rattle.cnf_base.specs.Literals.{Literal, Clause, has, complement}
 use Rattle.theory.specs.Propagation.{Live}
 use Rattle.propagation.specs.Assumptions.{Assumption}
 use Rattle.propagation.specs.declared.answer.Answer.TheVariants.{Quiet}
-use Rattle.watch_lists.specs.Lists.{AreApart, entries_in, entries_of, foreign_blockers, list_at}
-use Rattle.watch_lists.specs.Lists.{times_in}
+use Rattle.watch_lists.specs.Lists.{AreApart, entries_in, entries_of, list_at, times_in}
+use Rattle.watch_lists.specs.Lists.{unfit_entries}
 use Rattle.watch_lists.specs.declared.lists.WatchLists.{WatchLists}
 use Rattle.watch_lists.specs.declared.watcher.Watcher.{Watcher}
 
@@ -36,11 +36,11 @@ short_for None = 0
 short_for (Some c) = if is_short c then 1 else 0
 
 -- a slot stands once in the lists of the two literals that its clause watches, and nowhere else,
--- each time with a literal of it
+-- each time in an entry that fits the clause
 pub record IsListed (live : Live) (list_of : Literal → List Watcher) : Type 0 where
   pub watched : (l s : ℕ) → entries_of s (list_of l) ≡ entries_for (live s) l
-  pub low : (s : ℕ) → IsSome (live s) → s < 4294967296
-  pub own : (l s : ℕ) (c : Clause) → live s ≡ Some c → foreign_blockers s c (list_of l) ≡ 0
+  pub low : (s : ℕ) → IsSome (live s) → s < 2147483648
+  pub fitting : (l s : ℕ) (c : Clause) → live s ≡ Some c → unfit_entries s c l (list_of l) ≡ 0
 
 -- a slot of a short clause stands once in this list, and nothing else does
 pub record IsShortList (live : Live) (short : List ℕ) : Type 0 where
@@ -53,11 +53,11 @@ HasEntry c slot lists lists_without =
     (l s : ℕ) → entries_of s (list_at lists l) ≡
     entries_of s (list_at lists_without l) + (if watches c l && s == slot then 1 else 0)
 
--- no entry has come that names a literal which isn't one of its clause, where the slot has this one
-abbrev pub NamesOwn : Clause → ℕ → WatchLists → WatchLists → Type 0
-NamesOwn c slot before after =
+-- no entry has come that doesn't fit its clause, where the slot has this one
+abbrev pub AddsFitting : Clause → ℕ → WatchLists → WatchLists → Type 0
+AddsFitting c slot before after =
     (l s : ℕ) (d : Clause) → (s ≡ slot → d ≡ c) →
-    foreign_blockers s d (list_at after l) ≤ foreign_blockers s d (list_at before l)
+    unfit_entries s d l (list_at after l) ≤ unfit_entries s d l (list_at before l)
 
 -- the lists have the same entries
 pub record AreUnchanged (before after : WatchLists) : Type 0 where

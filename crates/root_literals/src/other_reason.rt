@@ -52,12 +52,12 @@ pub(crate) fn other_reason(
     let place = places.place(lits, l)?;
     let mut effort = (lits.len() - place).saturating_add(LEAST_EFFORT);
     for entry in list {
-        let number = entry.slot as usize;
-        if number != slot && places.stands_before(lits, entry.blocking.neg(), place) {
+        let number = entry.slot() as usize;
+        if number != slot && places.stands_before(lits, entry.blocking().neg(), place) {
             let clause = store.at(number)?;
             effort = effort.checked_sub(clause.len())?;
             if rests_before(places, lits, clause, place) {
-                return Some(entry.slot);
+                return Some(entry.slot());
             }
         }
         effort = effort.checked_sub(1)?;

@@ -6,11 +6,12 @@ ghost use Rattle.std.specs.FinMap as maps;
 ghost use Rattle.cnf_base.specs.Literals.{Clause, has, size};
 ghost use Rattle.watch_lists.specs.Lists.{AreApart, entries_in, entries_of};
 ghost use Rattle.watch_lists.specs.Lists.{list_at, times_in};
-ghost use Rattle.root_literals.specs.Watched.{HasEntry, IsListed, IsShortList, NamesOwn, is_short};
+ghost use Rattle.root_literals.specs.Watched.{AddsFitting, HasEntry, IsListed, IsShortList};
+ghost use Rattle.root_literals.specs.Watched.{is_short};
 
 use clause_db::{Slot, Store};
 use cnf_base::OutOfMemory;
-use watch_lists::{SlotList, WatchLists};
+use watch_lists::{SlotList, WatchLists, Watcher};
 
 /// Puts the slot of a clause into the lists of its first two literals, or into that of the short
 /// clauses.
@@ -25,8 +26,8 @@ pub(crate) fn add_entries(
     requires absent { IsFalse (has short.old slot) }
     ensures watched { OnOk result ((c : Clause) → maps.get store.now.live slot ≡ Some c →
         HasEntry c slot lists.new lists.old) }
-    ensures names_own { (c : Clause) → maps.get store.now.live slot ≡ Some c →
-        NamesOwn c slot lists.old lists.new }
+    ensures fitting { (c : Clause) → maps.get store.now.live slot ≡ Some c →
+        AddsFitting c slot lists.old lists.new }
     ensures rest { OnOk result ((c : Clause) → maps.get store.now.live slot ≡ Some c →
         (s : ℕ) → times_in s short.new ≡ times_in s short.old
         + (if is_short c && s == slot then 1 else 0)) }
@@ -34,7 +35,7 @@ pub(crate) fn add_entries(
         entries_in lists.new ≡ entries_in lists.old + (if is_short c then 0 else 2)) }
     ensures longer { OnOk result ((c : Clause) → maps.get store.now.live slot ≡ Some c →
         length short.new ≡ length short.old + (if is_short c then 1 else 0)) }
-    ensures low { OnOk result (slot < 4294967296) }
+    ensures low { OnOk result (slot < 2147483648) }
     ensures err_watched { OnErr result ((l s : ℕ) → entries_of s (list_at lists.new l) ≡
         entries_of s (list_at lists.old l)) }
     ensures err_entries { OnErr result (entries_in lists.new ≡ entries_in lists.old) }
@@ -43,14 +44,15 @@ pub(crate) fn add_entries(
         size c ≡ length c) }
     ensures apart { AreApart lists.new }
 {
-    let Ok(number) = u32::try_from(slot.number()) else {
+    if slot.number() > Watcher::MAX_SLOT as usize {
         return Err(OutOfMemory);
-    };
+    }
+    let number = slot.number() as u32;
     let clause = store.clause(slot);
     if clause.len() < 2 {
         short.add(number)
     } else {
-        lists.watch(clause[0], clause[1], number)
+        lists.watch(clause[0], clause[1], number, clause.len() == 2)
     }
 }
 
@@ -67,8 +69,8 @@ pub(crate) fn remove_entries(
     requires rest { IsShortList (maps.get store.now.live) short.old }
     ensures watched { (c : Clause) → maps.get store.now.live slot ≡ Some c →
         HasEntry c slot lists.old lists.new }
-    ensures names_own { (c : Clause) → maps.get store.now.live slot ≡ Some c →
-        NamesOwn c slot lists.old lists.new }
+    ensures fitting { (c : Clause) → maps.get store.now.live slot ≡ Some c →
+        AddsFitting c slot lists.old lists.new }
     ensures rest { (c : Clause) → maps.get store.now.live slot ≡ Some c →
         (s : ℕ) → times_in s short.new + (if is_short c && s == slot then 1 else 0) ≡
         times_in s short.old }

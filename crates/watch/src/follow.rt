@@ -17,7 +17,7 @@ ghost use Rattle.watch.specs.Code.Visits.{AreMet, CanFollow, CanVisit, Followed,
 ghost use Rattle.watch.specs.Code.Visits.{IsInHand, IsNextSlot, Visited, entries_left};
 ghost use Rattle.tables.specs.Table.{at};
 
-use crate::visit::{Exchange, Visit, look};
+use crate::visit::{Exchange, Visit, look_at};
 use clause_db::{Slot, Store};
 use cnf_base::{Lit, OutOfMemory};
 use propagation::Assumptions;
@@ -52,10 +52,8 @@ fn move_watch(
     let at = Slot::at(slot as usize);
     // Before anything else is written, what was read of the clause need not be read again.
     store.swap(at, exchange.from, exchange.to);
-    let watcher = Watcher {
-        slot,
-        blocking: exchange.other,
-    };
+    // It has a third literal, the one at `to`.
+    let watcher = Watcher::new(slot, exchange.other, false);
     match lists.push(exchange.next, watcher) {
         Ok(()) => {
             cursor.take_out();
@@ -94,25 +92,21 @@ fn visit(
     ensures fewer { IfOk result (λ found. IfNone found
         (entries_left cursor.new + 1 ≡ entries_left cursor.old)) }
 {
-    let at = Slot::at(entry.slot as usize);
-    match look(assumptions.trail(), store.clause(at), l) {
+    match look_at(store, assumptions.trail(), entry, l) {
         Visit::Stays(blocking) => {
-            cursor.keep(Watcher {
-                slot: entry.slot,
-                blocking,
-            });
+            cursor.keep(entry.with_blocking(blocking));
             Ok(None)
         }
         Visit::Moves(exchange) => {
-            move_watch(store, lists, cursor, entry.slot, l, exchange)?;
+            move_watch(store, lists, cursor, entry.slot(), l, exchange)?;
             Ok(None)
         }
         Visit::Unit(m) => {
-            set_by(assumptions, reasons, m, entry.slot);
+            set_by(assumptions, reasons, m, entry.slot());
             cursor.keep(entry);
             Ok(None)
         }
-        Visit::Clash => Ok(Some(entry.slot)),
+        Visit::Clash => Ok(Some(entry.slot())),
     }
 }
 

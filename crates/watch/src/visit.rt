@@ -1,13 +1,16 @@
 //! Visits of clauses that watch a literal which became false.
 
-ghost use Rattle.std.specs.Prelude.{◌≡◌, ℕ, ◌-◌, ◌<◌, ◌≤◌, length, slice_index, IsTrue};
-ghost use Rattle.cnf_base.specs.Literals.{complement, has, size};
+ghost use Rattle.std.specs.Prelude.{◌≡◌, ℕ, ◌-◌, ◌<◌, ◌≤◌, length, slice_index, Some, IsTrue};
+ghost use Rattle.std.specs.FinMap as maps;
+ghost use Rattle.cnf_base.specs.Literals.{Clause, complement, has, size};
 ghost use Rattle.trail.specs.Trail.{HasNoVariableTwice};
 ghost use Rattle.root_literals.specs.Watched.{watches};
-ghost use Rattle.watch.specs.Code.Visits.{IsVisit};
+ghost use Rattle.watch.specs.Code.Visits.{IsEntryOf, IsVisit};
 
+use clause_db::{Slot, Store};
 use cnf_base::Lit;
 use trail::{Trail, Value};
+use watch_lists::Watcher;
 
 /// Two literals of a clause that take each other's place, so that another one is watched.
 #[derive(Clone, Copy)]
@@ -59,7 +62,7 @@ fn other_watched(clause: &[Lit], l: Lit) -> Lit
 }
 
 /// What is to be done with a clause that watches this literal, which is false.
-pub(crate) fn look(trail: &Trail, clause: &[Lit], l: Lit) -> Visit
+fn look(trail: &Trail, clause: &[Lit], l: Lit) -> Visit
     requires watched { IsTrue (watches clause.now l) }
     requires is_false { IsTrue (has trail.now.lits (complement l)) }
     requires different { size clause.now ≡ length clause.now }
@@ -83,5 +86,28 @@ pub(crate) fn look(trail: &Trail, clause: &[Lit], l: Lit) -> Visit
             Value::False => Visit::Clash,
             _ => Visit::Unit(other),
         },
+    }
+}
+
+/// What is to be done with the clause of an entry in the list of this literal, which is false. A
+/// binary clause isn't looked at: the blocking literal is its other one.
+#[inline(always)]
+pub(crate) fn look_at(store: &Store, trail: &Trail, entry: Watcher, l: Lit) -> Visit
+    requires entry { IsEntryOf store.now.live entry l }
+    requires is_false { IsTrue (has trail.now.lits (complement l)) }
+    ensures visit { (c : Clause) → maps.get store.now.live entry.slot ≡ Some c →
+        IsVisit trail.now.lits c l result }
+    ensures unrepeated { (c : Clause) → maps.get store.now.live entry.slot ≡ Some c →
+        size c ≡ length c }
+    ensures different { HasNoVariableTwice trail.now.lits }
+{
+    store.recall_invariant();
+    if !entry.is_binary() {
+        return look(trail, store.clause(Slot::at(entry.slot() as usize)), l);
+    }
+    let other = entry.blocking();
+    match trail.value(other) {
+        Value::False => Visit::Clash,
+        _ => Visit::Unit(other),
     }
 }

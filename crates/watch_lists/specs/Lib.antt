@@ -1,3 +1,4 @@
 pub mod Cursor
+pub mod Entry
 pub mod Lists
 pub mod Code

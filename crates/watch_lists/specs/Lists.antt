@@ -1,6 +1,6 @@
 -- Watch lists, and the slots of the clauses that need none.
 use Rattle.std.specs.Prelude.{ℕ, ◌==◌, List, sum_by, if◌then◌else◌, ◌&&◌, not, Option, Some, None}
-use Rattle.std.specs.Prelude.{slice_get, Bool}
+use Rattle.std.specs.Prelude.{slice_get, Bool, length}
 use Rattle.cnf_base.specs.Literals.{Clause, has, Literal}
 use Rattle.tables.specs.Lists as by_key
 use Rattle.watch_lists.specs.declared.lists.WatchLists.{WatchLists}
@@ -14,10 +14,17 @@ times_in s slots = sum_by (λ x. if x == s then 1 else 0) slots
 abbrev pub entries_of : ℕ → List Watcher → ℕ
 entries_of s list = sum_by (λ w. if w.slot == s then 1 else 0) list
 
--- how many are of a slot and have a literal that the clause lacks
-abbrev pub foreign_blockers : ℕ → Clause → List Watcher → ℕ
-foreign_blockers s c list =
-    sum_by (λ w. if w.slot == s && not (has c w.blocking) then 1 else 0) list
+-- whether an entry in the list of a literal `l` fits a clause: its blocking literal, `other`, is of
+-- the clause, and it says that the clause is binary just where that has two literals; then `other`
+-- isn't `l`
+abbrev pub fits : Clause → Literal → Literal → Bool → Bool
+fits c l other is_binary =
+    has c other && (if is_binary then length c == 2 && not (other == l) else not (length c == 2))
+
+-- how many entries of the list of a literal `l` are of a slot and don't fit the clause
+abbrev pub unfit_entries : ℕ → Clause → Literal → List Watcher → ℕ
+unfit_entries s c l list =
+    sum_by (λ w. if w.slot == s && not (fits c l w.blocking w.is_binary) then 1 else 0) list
 
 -- the slot of an entry, if there is one
 abbrev pub slot_of : Option Watcher → ℕ

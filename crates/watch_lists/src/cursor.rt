@@ -64,7 +64,7 @@ impl Cursor {
         let near = trail.near();
         while self.next < self.list.len() {
             let entry = self.list[self.next];
-            if !trail.is_true_near(near, entry.blocking) {
+            if !trail.is_true_near(near, entry.blocking()) {
                 return Some(entry);
             }
             self.keep(entry);

@@ -8,8 +8,8 @@
 ghost use Rattle.std.specs.Prelude.{◌≡◌, ℕ, ◌+◌, ◌==◌, ◌&&◌, ◌++◌, ◌∷◌, [], length, min};
 ghost use Rattle.std.specs.Prelude.{if◌then◌else◌, IsTrue, OnOk, OnErr, true, false, ◌≢◌, ◌<◌, ◌≤◌};
 ghost use Rattle.cnf_base.specs.Literals.{Literal, Clause, has};
-ghost use Rattle.watch_lists.specs.Lists.{AreApart, entries_in, entries_of, foreign_blockers};
-ghost use Rattle.watch_lists.specs.Lists.{has_list_at, list_at};
+ghost use Rattle.watch_lists.specs.Lists.{AreApart, entries_in, entries_of, fits, has_list_at};
+ghost use Rattle.watch_lists.specs.Lists.{list_at, unfit_entries};
 
 use crate::watcher::{Watcher, take_off};
 use cnf_base::{Lit, OutOfMemory};
@@ -110,8 +110,8 @@ impl WatchLists {
         ensures others { (k : Literal) → k ≢ l → list_at self.new k ≡ list_at self.old k }
         ensures times { (s : ℕ) → entries_of s (list_at self.new l) +
             (if s == slot then 1 else 0) ≡ entries_of s (list_at self.old l) }
-        ensures foreign_blockers { (k s : ℕ) (c : Clause) →
-            foreign_blockers s c (list_at self.new k) ≤ foreign_blockers s c (list_at self.old k) }
+        ensures unfit { (k s : ℕ) (c : Clause) →
+            unfit_entries s c k (list_at self.new k) ≤ unfit_entries s c k (list_at self.old k) }
         ensures entries { entries_in self.new + 1 ≡ entries_in self.old }
         ensures apart { AreApart self.new }
     {
@@ -122,30 +122,31 @@ impl WatchLists {
     }
 
     /// Puts the slot of a clause into the lists of two literals of it, or into none where memory is
-    /// refused.
-    pub fn watch(&mut self, first: Lit, second: Lit, slot: u32) -> Result<(), OutOfMemory>
-        requires { AreApart self.old }
+    /// refused. The entries say whether it is binary.
+    pub fn watch(
+        &mut self,
+        first: Lit,
+        second: Lit,
+        slot: u32,
+        is_binary: bool,
+    ) -> Result<(), OutOfMemory>
+        requires apart { AreApart self.old }
+        requires low { slot < 2147483648 }
         ensures ok { OnOk result ((k s : ℕ) → entries_of s (list_at self.new k) ≡
             entries_of s (list_at self.old k) + (if k == first && s == slot then 1 else 0)
             + (if k == second && s == slot then 1 else 0)) }
-        ensures foreign_blockers { (k s : ℕ) (c : Clause) →
-            (s ≡ slot → IsTrue (has c first) × IsTrue (has c second)) →
-            foreign_blockers s c (list_at self.new k) ≤ foreign_blockers s c (list_at self.old k) }
+        ensures unfit { (k s : ℕ) (c : Clause) →
+            (s ≡ slot → IsTrue (fits c first second is_binary)
+            × IsTrue (fits c second first is_binary)) →
+            unfit_entries s c k (list_at self.new k) ≤ unfit_entries s c k (list_at self.old k) }
         ensures more { OnOk result (entries_in self.new ≡ entries_in self.old + 2) }
         ensures err { OnErr result ((k s : ℕ) → entries_of s (list_at self.new k) ≡
             entries_of s (list_at self.old k)) }
         ensures as_many { OnErr result (entries_in self.new ≡ entries_in self.old) }
         ensures apart { AreApart self.new }
     {
-        let watcher = Watcher {
-            slot,
-            blocking: second,
-        };
-        self.push(first, watcher)?;
-        let watcher = Watcher {
-            slot,
-            blocking: first,
-        };
+        self.push(first, Watcher::new(slot, second, is_binary))?;
+        let watcher = Watcher::new(slot, first, is_binary);
         if self.push(second, watcher).is_err() {
             self.take_off(first, slot);
             return Err(OutOfMemory);

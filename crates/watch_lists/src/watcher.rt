@@ -1,9 +1,14 @@
-//! The entries of watch lists: the slot of a clause, and a blocking literal of it.
+//! The entries of watch lists: the slot of a clause, a blocking literal of it, and whether it has
+//! just two literals.
 //!
-//! Where that literal is true the clause isn't looked at. Clauses lie elsewhere in memory, behind a
-//! tag for the slot and one for the literals, so a look costs far more than four bytes. The literal
-//! is the other watched one when the entry is written, and again where a look finds that one true.
-//! So a clause that is passed over has a true literal, whichever it is.
+//! Where that literal is true the clause isn't looked at. Clauses lie elsewhere in memory, so a look
+//! costs far more than four bytes. The literal is the other watched one when the entry is written,
+//! and again where a look finds that one true. So a clause that is passed over has a true literal,
+//! whichever it is.
+//!
+//! Of a binary clause, one of two literals, the entry tells all: the blocking literal is the other
+//! one. So a visit never looks at such a clause. The mark takes no room: it is the last bit of the
+//! number that has the slot, for which 31 bits are left.
 //!
 //! A removal searches a list for an entry: 64 entries at once, then 16, then one by one. The more
 //! at once, the fewer instructions an entry, up to what a processor's registers allow.
@@ -11,18 +16,94 @@
 ghost use Rattle.std.specs.Prelude.{◌≡◌, ℕ, ◌+◌, ◌==◌, length, if◌then◌else◌, IsTrue, IfSome, take};
 ghost use Rattle.std.specs.Prelude.{◌<◌, ◌≤◌};
 ghost use Rattle.cnf_base.specs.Literals.{Clause};
-ghost use Rattle.watch_lists.specs.Lists.{entries_of, foreign_blockers, slot_at};
+ghost use Rattle.watch_lists.specs.Lists.{entries_of, slot_at, unfit_entries};
 
 use cnf_base::Lit;
+use std::marker::Model;
 
-/// An entry of a watch list: the slot of a clause, and a literal of it. Where that is true, the
-/// clause need not be looked at.
+/// An entry of a watch list: the slot of a clause, a literal of it, and whether it is binary, that
+/// is, has just two literals. Where the literal is true, the clause need not be looked at, and a
+/// binary one need never be.
 ///
 /// It has eight bytes: the lists are what a propagation reads most.
 #[derive(Clone, Copy)]
 pub struct Watcher {
-    pub slot: u32,
-    pub blocking: Lit,
+    /// Twice the slot, and one more for a binary clause.
+    code: u32,
+    blocking: Lit,
+}
+
+impl Model for Watcher {
+    ghost use Rattle.std.specs.Prelude.{◌+◌, ◌*◌, ◌/◌, ◌%◌, ◌==◌, if◌then◌else◌};
+    ghost use Rattle.watch_lists.specs.Entry.{Entry};
+    ghost use Rattle.watch_lists.specs.Code.Entry.{code_back};
+
+    ghost Value = { Entry };
+
+    ghost view = { λ w. record {
+      slot = w.code / 2;
+      blocking = w.blocking;
+      is_binary = w.code % 2 == 1;
+    } };
+
+    ghost inverse = { λ e. record {
+      code = 2 * e.slot + (if e.is_binary then 1 else 0);
+      blocking = e.blocking;
+    } };
+
+    ghost inverse_ok = { λ w h i. record { code = code_back w.code i; blocking = w.blocking } };
+}
+
+impl Watcher {
+    /// The greatest slot that an entry can have.
+    pub const MAX_SLOT: u32 = 2147483647;
+
+    /// An entry for the clause in a slot.
+    #[inline(always)]
+    pub fn new(slot: u32, blocking: Lit, is_binary: bool) -> Self
+        requires { slot < 2147483648 }
+        ensures { result ≡
+            record { slot = slot; blocking = blocking; is_binary = is_binary } }
+    {
+        let code = if is_binary { 2 * slot + 1 } else { 2 * slot };
+        Watcher { code, blocking }
+    }
+
+    /// The same with another literal.
+    #[inline(always)]
+    pub fn with_blocking(self, blocking: Lit) -> Self
+        ensures { result ≡ record self { blocking = blocking } }
+    {
+        Watcher {
+            code: self.code,
+            blocking,
+        }
+    }
+
+    /// The slot.
+    #[inline(always)]
+    pub fn slot(self) -> u32
+        ensures value { result ≡ self.slot }
+        ensures range { result < 2147483648 }
+    {
+        self.code / 2
+    }
+
+    /// The blocking literal.
+    #[inline(always)]
+    pub fn blocking(self) -> Lit
+        ensures { result ≡ self.blocking }
+    {
+        self.blocking
+    }
+
+    /// Whether the clause is binary.
+    #[inline(always)]
+    pub fn is_binary(self) -> bool
+        ensures { result ≡ self.is_binary }
+    {
+        self.code % 2 == 1
+    }
 }
 
 /// How many entries are looked at without a branch, by a processor's wide registers, where a list
@@ -41,7 +122,7 @@ fn lacks(list: &[Watcher], slot: u32) -> bool
 {
     let mut is_absent = true;
     for place in 0..list.len() {
-        is_absent &= list[place].slot != slot;
+        is_absent &= list[place].slot() != slot;
     }
     is_absent
 }
@@ -54,7 +135,7 @@ fn place_from(list: &[Watcher], slot: u32, from: usize) -> usize
     ensures there { slot_at list.now result ≡ slot }
 {
     for place in from..list.len() {
-        if list[place].slot == slot {
+        if list[place].slot() == slot {
             return place;
         }
     }
@@ -84,7 +165,7 @@ fn place_around(list: &[Watcher], slot: u32, middle: usize) -> Option<usize>
 {
     let end = middle.saturating_add(AROUND).min(list.len());
     for place in middle.saturating_sub(AROUND)..end {
-        if list[place].slot == slot {
+        if list[place].slot() == slot {
             return Some(place);
         }
     }
@@ -114,8 +195,8 @@ pub(crate) fn take_off(list: &mut Vec<Watcher>, slot: u32, middle: usize) -> usi
     requires { 0 < entries_of slot list.old.items }
     ensures times { (s : ℕ) → entries_of s list.new.items + (if s == slot then 1 else 0) ≡
         entries_of s list.old.items }
-    ensures foreign_blockers { (s : ℕ) (c : Clause) →
-        foreign_blockers s c list.new.items ≤ foreign_blockers s c list.old.items }
+    ensures unfit { (s l : ℕ) (c : Clause) →
+        unfit_entries s c l list.new.items ≤ unfit_entries s c l list.old.items }
     ensures len { length list.new.items + 1 ≡ length list.old.items }
 {
     let place = place_in(list, slot, middle);

@@ -3,13 +3,13 @@ use Rattle.std.proofs.Common.{◌≡◌, ◌≢◌, ℕ, ◌+◌, ◌<◌, ◌�
 use Rattle.std.proofs.Common.{eqb-true, ne_eqb, ◌||◌, Option, Some, None, List, [], ◌∷◌, length}
 use Rattle.std.proofs.Common.{get_or, take, refl, sym, ap, ◌∙◌, subst, arith, inl, inr, zero, suc}
 use Rattle.std.proofs.Common.{slice_get}
-use Rattle.std.proofs.lemmas.Bool.{cases_eq, false≢true}
+use Rattle.std.proofs.lemmas.Bool.{and_parts, cases_eq, false≢true}
 use Rattle.std.proofs.lemmas.List.{take_all}
 use Rattle.std.proofs.lemmas.List.Sums.{sum_by_more, sum_by_more_le, sum_by-cons}
 use Rattle.std.proofs.lemmas.Option.{same_Some, slice_get_cases}
 use Rattle.cnf_base.specs.Literals.{Literal, Clause, has}
 use Rattle.theory.specs.Propagation.{Live}
-use Rattle.watch_lists.specs.Lists.{entries_of, foreign_blockers, times_in}
+use Rattle.watch_lists.specs.Lists.{entries_of, times_in, unfit_entries}
 use Rattle.root_literals.specs.Watched.{IsPart, watches, entries_for, IsListed, IsMet}
 use Rattle.watch_lists.specs.declared.watcher.Watcher.{Watcher}
 use Rattle.root_literals.proofs.RootLemmas.Watched.{met_more, met_unwatched}
@@ -114,7 +114,7 @@ module _ (live : Live) (lists : Literal → List Watcher) (l : Literal) (list : 
   met_next place w inside is satisfied visited =
       let alive = entry_alive live lists l list listed place w inside is in
       visited_further live live l trues trues (λ k h. h) list place w.slot visited (λ s ne. refl) list refl w inside (ap (λ x. x.slot) (sym is))
-      (λ c there _. (w.blocking, ap (λ d. has d w.blocking) (same_Some c alive.0 (sym there ∙ alive.1)) ∙ alive.3, satisfied))
+      (λ c there _. (w.blocking, ap (λ d. has d w.blocking) (same_Some c alive.0 (sym there ∙ alive.1)) ∙ (and_parts (has alive.0 w.blocking) _ alive.3).0, satisfied))
 
   -- their literals are true
   pub met_passed : (from n to : ℕ) → to ≡ from + n → to ≤ length list → ((place : ℕ) (w : Watcher) → from ≤ place → place < to → slice_get list place ≡ Some w → has trues w.blocking ≡ true) →
@@ -134,7 +134,7 @@ module _ (live : Live) (lists : Literal → List Watcher) (l : Literal) (list : 
 -- ---- Lists that are the same
 
 pub listed_alike : (live : Live) (first second : Literal → List Watcher) → ((k : Literal) → second k ≡ first k) → IsListed live first → IsListed live second
-listed_alike live first second alike listed = record { watched = λ l s. ap (entries_of s) (alike l) ∙ listed.watched l s; low = listed.low; own = λ l s c is. ap (foreign_blockers s c) (alike l) ∙ listed.own l s c is }
+listed_alike live first second alike listed = record { watched = λ l s. ap (entries_of s) (alike l) ∙ listed.watched l s; low = listed.low; fitting = λ l s c is. ap (unfit_entries s c l) (alike l) ∙ listed.fitting l s c is }
 
 -- a literal without a list
 pub none_met : (live : Live) (lists : Literal → List Watcher) (l : Literal) → lists l ≡ [] → IsListed live lists → (trues : List Literal) (s : ℕ) (c : Clause) → live s ≡ Some c → IsMet c l trues

@@ -15,12 +15,12 @@ use Rattle.std.proofs.lemmas.Option.{same_Some}
 use Rattle.cnf_base.specs.Literals.{Literal, complement, Clause, has, size}
 use Rattle.cnf_base.proofs.SetLemmas.{has_head, has_tail}
 use Rattle.theory.specs.Propagation.{Live}
-use Rattle.watch_lists.specs.Lists.{entries_of, foreign_blockers}
+use Rattle.watch_lists.specs.Lists.{entries_of, fits, unfit_entries}
 use Rattle.root_literals.specs.Watched.{watches, is_short, entries_for, short_for, IsListed, IsMet}
 use Rattle.root_literals.specs.Watched.{IsWatched}
 use Rattle.cnf_base.proofs.MemberLemmas.{has_place, has_front}
-use Rattle.watch_lists.proofs.WatchListsLemmas.Lists.{blockers_alike, blockers_pushed}
-use Rattle.watch_lists.proofs.WatchListsLemmas.Lists.{blocking_own, eqb_turned}
+use Rattle.watch_lists.proofs.WatchListsLemmas.Lists.{entry_fits, eqb_turned, unfit_alike}
+use Rattle.watch_lists.proofs.WatchListsLemmas.Lists.{unfit_none, unfit_pushed}
 use Rattle.watch_lists.specs.declared.watcher.Watcher.{Watcher}
 use Rattle.cnf_base.proofs.SizeLemmas.{distinct_parts, distinct_before}
 use Rattle.clause_db.proofs.StoreLemmas.Sums.{get_insert, same_maps}
@@ -156,17 +156,17 @@ module _ (lists after : Literal → List Watcher) (l m : ℕ) (w : Watcher) (oth
         ]
   ]
 
-  -- where the literals of both entries are of the clause
-  pub blockers_moved : (c : Clause) → has c w.blocking ≡ true → ((s : ℕ) (e : Clause) → foreign_blockers s e left ≤ foreign_blockers s e list) → (x s : ℕ) (e : Clause) → (s ≡ w.slot → e ≡ c) → foreign_blockers s e (is x) ≤ foreign_blockers s e (was x)
-  blockers_moved c own fewer x s e same = elim (cases_eq x l) [
+  -- where the entry fits the clause
+  pub unfit_moved : (c : Clause) → fits c m w.blocking w.is_binary ≡ true → ((s x : ℕ) (e : Clause) → unfit_entries s e x left ≤ unfit_entries s e x list) → (x s : ℕ) (e : Clause) → (s ≡ w.slot → e ≡ c) → unfit_entries s e x (is x) ≤ unfit_entries s e x (was x)
+  unfit_moved c fitting fewer x s e same = elim (cases_eq x l) [
     | inl y ↦
-        subst (λ b. foreign_blockers s e (cond b left (after x)) ≤ foreign_blockers s e (cond b list (lists x))) (sym (eq-eqb x l y)) (fewer s e)
+        subst (λ b. unfit_entries s e x (cond b left (after x)) ≤ unfit_entries s e x (cond b list (lists x))) (sym (eq-eqb x l y)) (fewer s x e)
     | inr ne ↦
-        subst (λ b. foreign_blockers s e (cond b left (after x)) ≤ foreign_blockers s e (cond b list (lists x))) (sym (ne_eqb x l ne)) (elim (cases_eq x m) [
+        subst (λ b. unfit_entries s e x (cond b left (after x)) ≤ unfit_entries s e x (cond b list (lists x))) (sym (ne_eqb x l ne)) (elim (cases_eq x m) [
           | inl y ↦
-              subst (λ xs. foreign_blockers s e xs ≤ foreign_blockers s e (lists x)) (sym (pushed x ∙ ap (λ b. cond b (lists x ++ w ∷ []) (lists x)) (eq-eqb x m y)))
-              (blockers_pushed (lists x) w s e (λ z. ap (λ d. has d w.blocking) (same z) ∙ own))
-          | inr apart ↦ let alike = ap (foreign_blockers s e) (at_other x apart) in omega (arith, alike)
+              subst (λ xs. unfit_entries s e x xs ≤ unfit_entries s e x (lists x)) (sym (pushed x ∙ ap (λ b. cond b (lists x ++ w ∷ []) (lists x)) (eq-eqb x m y)))
+              (unfit_pushed (lists x) w s x e (λ z. ap (λ d. fits d x w.blocking w.is_binary) (same z) ∙ ap (λ k. fits c k w.blocking w.is_binary) y ∙ fitting))
+          | inr apart ↦ let alike = ap (unfit_entries s e x) (at_other x apart) in omega (arith, alike)
         ])
   ]
 
@@ -216,9 +216,9 @@ module _ (live : FinMap nat_cmp Clause) (slot : ℕ) (c d : Clause) (here : maps
   at_others = others_moved live slot d
 
   pub listed_moved : (lists after : Literal → List Watcher) → IsListed (maps.get live) lists →
-      ((x s : ℕ) → entries_of s (after x) + cond (eqb x l && eqb s slot) 1 0 ≡ entries_of s (lists x) + cond (eqb x m && eqb s slot) 1 0) → ((k : Literal) → has d k ≡ has c k) →
-      ((x s : ℕ) (e : Clause) → (s ≡ slot → e ≡ c) → foreign_blockers s e (after x) ≤ foreign_blockers s e (lists x)) → IsListed (maps.get (maps.insert live slot d)) after
-  listed_moved lists after listed times alike fewer = record {
+      ((x s : ℕ) → entries_of s (after x) + cond (eqb x l && eqb s slot) 1 0 ≡ entries_of s (lists x) + cond (eqb x m && eqb s slot) 1 0) → ((k : Literal) → has d k ≡ has c k) → length d ≡ length c →
+      ((x s : ℕ) (e : Clause) → (s ≡ slot → e ≡ c) → unfit_entries s e x (after x) ≤ unfit_entries s e x (lists x)) → IsListed (maps.get (maps.insert live slot d)) after
+  listed_moved lists after listed times alike as_long fewer = record {
     watched = λ x s. elim (cases_eq s slot) [
       | inl e ↦
           let step = times x s in
@@ -239,14 +239,14 @@ module _ (live : FinMap nat_cmp Clause) (slot : ℕ) (c d : Clause) (here : maps
       | inl e ↦ listed.low s (ap (λ k. is_some (maps.get live k)) e ∙ ap is_some here)
       | inr ne ↦ listed.low s (ap is_some (sym (at_others s ne)) ∙ is)
     ];
-    own = λ x s e is. elim (cases_eq s slot) [
+    fitting = λ x s e is. elim (cases_eq s slot) [
       | inl same ↦
           let is_d = same_Some d e (sym at_slot ∙ ap (maps.get (maps.insert live slot d)) (sym same) ∙ is) in
-          let none = listed.own x s c (ap (maps.get live) same ∙ here) in
+          let none = listed.fitting x s c (ap (maps.get live) same ∙ here) in
           let left = fewer x s c (λ _. refl) in
-          ap (λ y. foreign_blockers s y (after x)) (sym is_d) ∙ blockers_alike (after x) s c d alike ∙ omega (arith, none, left)
+          ap (λ y. unfit_entries s y x (after x)) (sym is_d) ∙ unfit_alike (after x) s x c d alike as_long ∙ omega (arith, none, left)
       | inr ne ↦
-          let none = listed.own x s e (sym (at_others s ne) ∙ is) in
+          let none = listed.fitting x s e (sym (at_others s ne) ∙ is) in
           let left = fewer x s e (λ same. absurd (ne same)) in
           omega (arith, none, left)
     ];
@@ -273,7 +273,7 @@ module _ (live : FinMap nat_cmp Clause) (slot : ℕ) (c d : Clause) (here : maps
 -- ---- A slot in the list that is in hand
 
 slot_alive : (live : Live) (lists : Literal → List Watcher) (l : Literal) (list : List Watcher) → IsListed live (λ k. cond (eqb k l) list (lists k)) → (place : ℕ) (d : Watcher) → place < length list →
-    (c : Clause) × (live (get_or list place d).slot ≡ Some c) × (watches c l ≡ true) × (foreign_blockers (get_or list place d).slot c list ≡ 0)
+    (c : Clause) × (live (get_or list place d).slot ≡ Some c) × (watches c l ≡ true) × (unfit_entries (get_or list place d).slot c l list ≡ 0)
 slot_alive live lists l list listed place d inside =
     let s = (get_or list place d).slot in
     let one = get_or-le-sum_by (λ w. cond (eqb w.slot s) 1 0) list place d inside in
@@ -286,34 +286,35 @@ slot_alive live lists l list listed place d inside =
     by_watch c false e h = absurd (omega (arith, h))
 
     by_clause : (o : Option Clause) → live (get_or list place d).slot ≡ o → 0 < entries_for o l →
-        (c : Clause) × (live (get_or list place d).slot ≡ Some c) × (watches c l ≡ true) × (foreign_blockers (get_or list place d).slot c list ≡ 0)
+        (c : Clause) × (live (get_or list place d).slot ≡ Some c) × (watches c l ≡ true) × (unfit_entries (get_or list place d).slot c l list ≡ 0)
     by_clause None is h = absurd (omega (arith, h))
     by_clause (Some c) is h =
-        (c, is, by_watch c (watches c l) refl h, ap (λ b. foreign_blockers (get_or list place d).slot c (cond b list (lists l))) (sym (eq-eqb l l refl)) ∙ listed.own l (get_or list place d).slot c is)
+        (c, is, by_watch c (watches c l) refl h, ap (λ b. unfit_entries (get_or list place d).slot c l (cond b list (lists l))) (sym (eq-eqb l l refl)) ∙ listed.fitting l (get_or list place d).slot c is)
 
--- its clause, which has its literal
+-- its clause, which the entry fits
 pub entry_alive : (live : Live) (lists : Literal → List Watcher) (l : Literal) (list : List Watcher) → IsListed live (λ k. cond (eqb k l) list (lists k)) → (place : ℕ) (e : Watcher) → place < length list → e ≡ get_or list place e →
-    (c : Clause) × (live e.slot ≡ Some c) × (watches c l ≡ true) × (has c e.blocking ≡ true)
+    (c : Clause) × (live e.slot ≡ Some c) × (watches c l ≡ true) × (fits c l e.blocking e.is_binary ≡ true)
 entry_alive live lists l list listed place e inside is =
     let w = slot_alive live lists l list listed place e inside in
-    (w.0, ap (λ x. live x.slot) is ∙ w.1, w.2, blocking_own list place e w.0 inside is (ap (λ x. foreign_blockers x.slot w.0 list) is ∙ w.3))
+    (w.0, ap (λ x. live x.slot) is ∙ w.1, w.2, entry_fits list place e l w.0 inside is (ap (λ x. unfit_entries x.slot w.0 l list) is ∙ w.3))
 
 -- an entry with another literal of its clause
 pub listed_written : (live : Live) (lists : Literal → List Watcher) (l : Literal) (list : List Watcher) → IsListed live (λ k. cond (eqb k l) list (lists k)) → (place : ℕ) (e entry : Watcher) → place < length list → e ≡ get_or list place e → entry.slot ≡ e.slot →
-    ((c : Clause) → live e.slot ≡ Some c → has c entry.blocking ≡ true) → IsListed live (λ k. cond (eqb k l) (set list place entry) (lists k))
-listed_written live lists l list listed place e entry inside is same own = record {
+    ((c : Clause) → live e.slot ≡ Some c → fits c l entry.blocking entry.is_binary ≡ true) → IsListed live (λ k. cond (eqb k l) (set list place entry) (lists k))
+listed_written live lists l list listed place e entry inside is same fitting = record {
   watched = λ k s. elim (cases_eq k l) [
     | inl y ↦
         ap (λ b. entries_of s (cond b (set list place entry) (lists k))) (eq-eqb k l y) ∙ as_many s ∙ ap (λ b. entries_of s (cond b list (lists k))) (sym (eq-eqb k l y)) ∙ listed.watched k s
     | inr ne ↦ ap (λ b. entries_of s (cond b (set list place entry) (lists k))) (ne_eqb k l ne) ∙ ap (λ b. entries_of s (cond b list (lists k))) (sym (ne_eqb k l ne)) ∙ listed.watched k s
   ];
   low = listed.low;
-  own = λ k s c there. elim (cases_eq k l) [
+  fitting = λ k s c there. elim (cases_eq k l) [
     | inl y ↦
-        let none = ap (λ b. foreign_blockers s c (cond b list (lists k))) (sym (eq-eqb k l y)) ∙ listed.own k s c there in
-        let left = fewer s c there in
-        ap (λ b. foreign_blockers s c (cond b (set list place entry) (lists k))) (eq-eqb k l y) ∙ omega (arith, none, left)
-    | inr ne ↦ ap (λ b. foreign_blockers s c (cond b (set list place entry) (lists k))) (ne_eqb k l ne) ∙ ap (λ b. foreign_blockers s c (cond b list (lists k))) (sym (ne_eqb k l ne)) ∙ listed.own k s c there
+        let none = ap (λ b. unfit_entries s c k (cond b list (lists k))) (sym (eq-eqb k l y)) ∙ listed.fitting k s c there in
+        let left = fewer k y s c there in
+        ap (λ b. unfit_entries s c k (cond b (set list place entry) (lists k))) (eq-eqb k l y) ∙ omega (arith, none, left)
+    | inr ne ↦
+        ap (λ b. unfit_entries s c k (cond b (set list place entry) (lists k))) (ne_eqb k l ne) ∙ ap (λ b. unfit_entries s c k (cond b list (lists k))) (sym (ne_eqb k l ne)) ∙ listed.fitting k s c there
   ];
 }
   where
@@ -323,12 +324,8 @@ listed_written live lists l list listed place e entry inside is same own = recor
         let alike : cond {A = ℕ} (eqb entry.slot s) 1 0 ≡ cond (eqb (get_or list place e).slot s) 1 0 = ap (λ n. cond {A = ℕ} (eqb n s) 1 0) (same ∙ ap (λ x. x.slot) is) in
         omega (arith, put, alike)
 
-    fewer : (s : ℕ) (c : Clause) → live s ≡ Some c → foreign_blockers s c (set list place entry) ≤ foreign_blockers s c list
-    fewer s c there =
-        let put = sum_by-set (λ w. cond (eqb w.slot s && not (has c w.blocking)) 1 0) list place entry e inside in
-        let none : cond {A = ℕ} (eqb entry.slot s && not (has c entry.blocking)) 1 0 ≡ 0 = elim (cases_eq entry.slot s) [
-          | inl y ↦
-              ap (λ b. cond {A = ℕ} (b && not (has c entry.blocking)) 1 0) (eq-eqb entry.slot s y) ∙ ap (λ b. cond {A = ℕ} (not b) 1 0) (own c (ap live (sym same ∙ y) ∙ there))
-          | inr ne ↦ ap (λ b. cond {A = ℕ} (b && not (has c entry.blocking)) 1 0) (ne_eqb entry.slot s ne)
-        ] in
+    fewer : (k : Literal) → k ≡ l → (s : ℕ) (c : Clause) → live s ≡ Some c → unfit_entries s c k (set list place entry) ≤ unfit_entries s c k list
+    fewer k of_l s c there =
+        let put = sum_by-set (λ w. cond (eqb w.slot s && not (fits c k w.blocking w.is_binary)) 1 0) list place entry e inside in
+        let none = unfit_none s k c entry (λ y. ap (λ x. fits c x entry.blocking entry.is_binary) of_l ∙ fitting c (ap live (sym same ∙ sym y) ∙ there)) in
         omega (arith, put, none)

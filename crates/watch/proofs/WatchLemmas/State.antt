@@ -15,7 +15,7 @@ use Rattle.propagation.specs.Code.Exact.{AreExact}
 use Rattle.propagation.specs.Code.Scan.{IsHeld}
 use Rattle.theory.specs.Sets.{SameSet}
 use Rattle.trail.specs.Trail.{HasRoomForAll}
-use Rattle.watch_lists.specs.Lists.{AreApart, entries_in, entries_of, foreign_blockers, list_at}
+use Rattle.watch_lists.specs.Lists.{AreApart, entries_in, entries_of, list_at, unfit_entries}
 use Rattle.watch_lists.specs.Lists.{times_in}
 use Rattle.root_literals.specs.History.{IsHistory, visits}
 use Rattle.root_literals.specs.Order.{each_in_order}
@@ -24,7 +24,7 @@ use Rattle.propagation.specs.Code.Closure.{AreForced}
 use Rattle.watch.specs.Code.State.{IsWatch}
 use Rattle.watch.specs.Code.Visits.{PropagatesTo}
 use Rattle.root_literals.specs.Watched.{IsPart, AreUnchanged, AreWatched, HasEntry, IsListed}
-use Rattle.root_literals.specs.Watched.{IsShortList, IsWatched, NamesOwn, is_short, entries_for}
+use Rattle.root_literals.specs.Watched.{AddsFitting, IsShortList, IsWatched, is_short, entries_for}
 use Rattle.root_literals.specs.Watched.{short_for, watches}
 use Rattle.watch.specs.Watched.{long_clauses, short_clauses}
 use Rattle.propagation.specs.declared.answer.Answer.{Answer}
@@ -37,7 +37,7 @@ use Rattle.propagation.proofs.PropagationLemmas.Exact.{begins_on, longer_from}
 use Rattle.trail.proofs.TrailLemmas.Longer.{has_begun}
 use Rattle.propagation.proofs.PropagationLemmas.Scan.{held_reserved}
 use Rattle.root_literals.proofs.RootLemmas.Watched.{front_part}
-use Rattle.watch_lists.proofs.WatchListsLemmas.Lists.{blockers_none}
+use Rattle.watch_lists.proofs.WatchListsLemmas.Lists.{unfit_absent}
 use Rattle.watch.proofs.WatchLemmas.Kept.{kept_carried, kept_forced, roots_alone, roots_part}
 use Rattle.root_literals.proofs.RootLemmas.Kept.{kept_nothing}
 use Rattle.watch.proofs.WatchLemmas.Moves.{and_false, and_true}
@@ -186,11 +186,11 @@ watch_noted live lists short roots after held kept_is history_is old watch = rec
 }
 
 pub watch_same : (live : FinMap nat_cmp Clause) (lists after : WatchLists) (short : List ℕ) (roots : Roots) (held : AssumptionsState) → AreApart after → ((l s : ℕ) → entries_of s (list_at after l) ≡ entries_of s (list_at lists l)) →
-    ((l s : ℕ) (c : Clause) → maps.get live s ≡ Some c → foreign_blockers s c (list_at after l) ≤ foreign_blockers s c (list_at lists l)) → entries_in after ≡ entries_in lists → IsWatch live lists short roots held → IsWatch live after short roots held
+    ((l s : ℕ) (c : Clause) → maps.get live s ≡ Some c → unfit_entries s c l (list_at after l) ≤ unfit_entries s c l (list_at lists l)) → entries_in after ≡ entries_in lists → IsWatch live lists short roots held → IsWatch live after short roots held
 watch_same live lists after short roots held apart times fewer entries watch = record {
   scan = watch.scan;
   apart = apart;
-  listed = record { watched = λ l s. times l s ∙ watch.listed.watched l s; low = watch.listed.low; own = λ l s c is. let none = watch.listed.own l s c is in let left = fewer l s c is in omega (arith, none, left) };
+  listed = record { watched = λ l s. times l s ∙ watch.listed.watched l s; low = watch.listed.low; fitting = λ l s c is. let none = watch.listed.fitting l s c is in let left = fewer l s c is in omega (arith, none, left) };
   rest = watch.rest;
   watched = watch.watched;
   two_each = entries ∙ watch.two_each;
@@ -202,7 +202,7 @@ watch_same live lists after short roots held apart times fewer entries watch = r
 -- the lists were taken out and put back
 pub watch_put_back : (live : FinMap nat_cmp Clause) (lists after : WatchLists) (short : List ℕ) (roots : Roots) (held : AssumptionsState) → AreUnchanged lists after → IsWatch live lists short roots held → IsWatch live after short roots held
 watch_put_back live lists after short roots held same watch =
-    watch_same live lists after short roots held same.apart (λ l s. ap (entries_of s) (same.lists l)) (λ l s c _. let e = ap (foreign_blockers s c) (same.lists l) in omega (arith, e)) same.entries watch
+    watch_same live lists after short roots held same.apart (λ l s. ap (entries_of s) (same.lists l)) (λ l s c _. let e = ap (unfit_entries s c l) (same.lists l) in omega (arith, e)) same.entries watch
 
 -- ---- Where nothing is assumed
 
@@ -246,7 +246,7 @@ watch_empty live lists short roots held none empty no_entries apart no_short cut
     (record {
       watched = λ l s. ap (entries_of s) (empty l) ∙ sym (ap (λ o. entries_for o l) (gone s));
       low = λ s is. absurd (false≢true (sym (ap is_some (gone s)) ∙ is));
-      own = λ l s c here. absurd (none-some c (sym (gone s) ∙ here));
+      fitting = λ l s c here. absurd (none-some c (sym (gone s) ∙ here));
     })
     (record { listed = λ s. ap (times_in s) no_short ∙ sym (ap short_for (gone s)) }) (no_entries ∙ sym (ap (λ n. 2 * n) (ap long_clauses none ∙ sum_empty (λ c. cond (nat_le 2 (size c)) 1 0))))
     (ap length no_short ∙ sym (ap short_clauses none ∙ sum_empty (λ c. cond (nat_le 2 (size c)) 0 1)))
@@ -281,8 +281,8 @@ module _ (live after : FinMap nat_cmp Clause) (lists lists2 : WatchLists) (short
   two : entries_in lists2 ≡ 2 * long_clauses after → length short2 ≡ short_clauses after → IsListed (maps.get after) (list_at lists2) → IsShortList (maps.get after) short2 → IsWatch after lists2 short2 roots2 held2
   two two_each one_each listed rest = watch_alone after lists2 short2 roots2 held2 nothing room apart listed rest two_each one_each kept
 
-  pub watch_added : maps.get live slot ≡ None → after ≡ maps.insert live slot c → slot < 4294967296 →
-      HasEntry c slot lists2 lists → NamesOwn c slot lists lists2 → ((s : ℕ) → times_in s short2 ≡ times_in s short + cond (is_short c && eqb s slot) 1 0) →
+  pub watch_added : maps.get live slot ≡ None → after ≡ maps.insert live slot c → slot < 2147483648 →
+      HasEntry c slot lists2 lists → AddsFitting c slot lists lists2 → ((s : ℕ) → times_in s short2 ≡ times_in s short + cond (is_short c && eqb s slot) 1 0) →
       entries_in lists2 ≡ entries_in lists + cond (is_short c) 0 2 → length short2 ≡ length short + cond (is_short c) 1 0 → IsWatch after lists2 short2 roots2 held2
   watch_added free is low times fewer short_times entries longer =
       let more = ap long_clauses is ∙ sum_insert (λ c. cond (nat_le 2 (size c)) 1 0) live slot c free in
@@ -295,16 +295,16 @@ module _ (live after : FinMap nat_cmp Clause) (lists lists2 : WatchLists) (short
       (record {
         watched = λ l s. times l s ∙ added (λ o. entries_for o l) refl (watches c l) refl s (entries_of s (list_at lists l)) (watch.listed.watched l s);
         low = λ s there. elim (cases_eq s slot) [
-          | inl e ↦ subst (λ n. n < 4294967296) (sym e) low
+          | inl e ↦ subst (λ n. n < 2147483648) (sym e) low
           | inr ne ↦ watch.listed.low s (ap is_some (sym (others s ne)) ∙ there)
         ];
-        own = λ l s d is_d. elim (cases_eq s slot) [
+        fitting = λ l s d is_d. elim (cases_eq s slot) [
           | inl e ↦
-              let none = blockers_none (list_at lists l) s d (watch.listed.watched l s ∙ ap (λ k. entries_for (maps.get live k) l) e ∙ ap (λ o. entries_for o l) free) in
+              let none = unfit_absent (list_at lists l) s l d (watch.listed.watched l s ∙ ap (λ k. entries_for (maps.get live k) l) e ∙ ap (λ o. entries_for o l) free) in
               let left = fewer l s d (λ _. same_Some d c (sym is_d ∙ here s e)) in
               omega (arith, none, left)
           | inr ne ↦
-              let none = watch.listed.own l s d (sym (others s ne) ∙ is_d) in
+              let none = watch.listed.fitting l s d (sym (others s ne) ∙ is_d) in
               let left = fewer l s d (λ e. absurd (ne e)) in
               omega (arith, none, left)
         ];
@@ -330,7 +330,7 @@ module _ (live after : FinMap nat_cmp Clause) (lists lists2 : WatchLists) (short
       ]
 
   pub watch_removed : maps.get live slot ≡ Some c → after ≡ maps.remove live slot →
-      HasEntry c slot lists lists2 → NamesOwn c slot lists lists2 → ((s : ℕ) → times_in s short2 + cond (is_short c && eqb s slot) 1 0 ≡ times_in s short) →
+      HasEntry c slot lists lists2 → AddsFitting c slot lists lists2 → ((s : ℕ) → times_in s short2 + cond (is_short c && eqb s slot) 1 0 ≡ times_in s short) →
       entries_in lists2 + cond (is_short c) 0 2 ≡ entries_in lists → length short2 + cond (is_short c) 1 0 ≡ length short → IsWatch after lists2 short2 roots2 held2
   watch_removed there is times fewer short_times entries shorter =
       let less = sum_remove (λ c. cond (nat_le 2 (size c)) 1 0) live slot c there in
@@ -348,10 +348,10 @@ module _ (live after : FinMap nat_cmp Clause) (lists lists2 : WatchLists) (short
           | inl e ↦ absurd (false≢true (sym (ap is_some (gone s e)) ∙ alive))
           | inr ne ↦ watch.listed.low s (ap is_some (sym (others s ne)) ∙ alive)
         ];
-        own = λ l s d is_d. elim (cases_eq s slot) [
+        fitting = λ l s d is_d. elim (cases_eq s slot) [
           | inl e ↦ absurd (none-some d (sym (gone s e) ∙ is_d))
           | inr ne ↦
-              let none = watch.listed.own l s d (sym (others s ne) ∙ is_d) in
+              let none = watch.listed.fitting l s d (sym (others s ne) ∙ is_d) in
               let left = fewer l s d (λ e. absurd (ne e)) in
               omega (arith, none, left)
         ];

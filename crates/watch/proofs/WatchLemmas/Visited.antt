@@ -1,6 +1,6 @@
 -- Visits, one after the other.
 use Rattle.std.proofs.Common.{◌≡◌, ℕ, ◌/◌, ◌<◌, ◌≤◌, true, Option, Some, is_some, List, refl, sym}
-use Rattle.std.proofs.Common.{ap, ◌∙◌, subst, length, get_or, map}
+use Rattle.std.proofs.Common.{ap, ◌∙◌, subst, length, get_or, map, slice_get}
 use Rattle.std.specs.Ordering.{nat_cmp}
 use Rattle.std.specs.FinMap as maps
 use Rattle.std.specs.FinMap.{FinMap}
@@ -10,14 +10,18 @@ use Rattle.cnf_base.proofs.LiteralLemmas.{complement-complement}
 use Rattle.cnf_base.proofs.MemberLemmas.{has_place}
 use Rattle.propagation.specs.Assumptions.{AssumptionsState}
 use Rattle.root_literals.specs.Order.{in_order}
-use Rattle.watch.specs.Code.Visits.{CanFollow, CanSet, CanVisit, Followed, IsInHand, PropagatesTo}
-use Rattle.watch.specs.Code.Visits.{Visited}
+use Rattle.watch.specs.Code.Visits.{CanFollow, CanSet, CanVisit, Followed, IsEntryOf, IsInHand}
+use Rattle.watch.specs.Code.Visits.{PropagatesTo, Visited}
+use Rattle.watch_lists.specs.Cursor.{CursorState}
+use Rattle.watch_lists.specs.Lists.{list_at}
 use Rattle.watch_lists.specs.declared.lists.WatchLists.{WatchLists}
 use Rattle.watch_lists.specs.declared.watcher.Watcher.{Watcher}
 use Rattle.trail.specs.Trail.{HasNoVariableTwice, TrailState}
 use Rattle.trail.proofs.TrailLemmas.Longer.{has_begun}
 use Rattle.trail.proofs.TrailLemmas.Values.{fits_within}
+use Rattle.watch_lists.proofs.WatchListsLemmas.Lists.{entry_at}
 use Rattle.watch.proofs.WatchLemmas.Kept.{noted_carried}
+use Rattle.watch.proofs.WatchLemmas.Moves.{entry_alive}
 use Rattle.root_literals.proofs.RootLemmas.Order.{has-in_order, seen_there}
 use Rattle.watch.proofs.WatchLemmas.PropagatesTo.{propagates_none, propagates_on}
 
@@ -72,6 +76,13 @@ module _ {a b : FinMap nat_cmp Clause} {lists lists_b : WatchLists} {x y : Assum
   }
 
 -- ---- The list in hand
+
+-- the clause of the next entry
+pub next_entry : {live : FinMap nat_cmp Clause} {lists : WatchLists} {l : Literal} (cursor : CursorState) (entry : Watcher) → slice_get cursor.entries cursor.visited ≡ Some entry → IsInHand live lists cursor.entries l → IsEntryOf live entry l
+next_entry {live} {lists} {l} cursor entry is hand =
+    let e = entry_at cursor.entries cursor.visited entry is in
+    let w = entry_alive (maps.get live) (list_at lists) l cursor.entries hand.listed cursor.visited entry e.0 e.1 in
+    record { clause = w.0; at = w.1; watched = w.2; fitting = w.3 }
 
 pub visited_none : {a : FinMap nat_cmp Clause} {lists : WatchLists} {list : List Watcher} {l : Literal} (x : AssumptionsState) (r : Literal → Option ℕ) → IsInHand a lists list l → Visited a a lists lists list list x x r r l
 visited_none {a} x r hand = record { hand = hand; entries = refl; propagates = propagates_none a x r }

@@ -10,10 +10,11 @@ use Rattle.trail.specs.Trail.{HasRoomForAll}
 use Rattle.propagation.specs.Assumptions.{AssumptionsState}
 use Rattle.propagation.specs.Code.Exact.{Extends}
 use Rattle.watch_lists.specs.Cursor.{CursorState}
-use Rattle.watch_lists.specs.Lists.{AreApart, entries_in, entries_of, has_list_at, list_at, slot_at}
+use Rattle.watch_lists.specs.Lists.{AreApart, entries_in, entries_of, fits, has_list_at, list_at}
+use Rattle.watch_lists.specs.Lists.{slot_at}
 use Rattle.root_literals.specs.Order.{each_in_order}
 use Rattle.root_literals.specs.Roots.{AreNoted, AreReasoned}
-use Rattle.root_literals.specs.Watched.{IsListed, IsMet, IsPart, IsWatched, short_for}
+use Rattle.root_literals.specs.Watched.{IsListed, IsMet, IsPart, IsWatched, short_for, watches}
 use Rattle.watch_lists.specs.declared.lists.WatchLists.{WatchLists}
 use Rattle.watch.specs.declared.visit.Exchange.{Exchange}
 use Rattle.watch.specs.declared.visit.Visit.TheVariants.{Stays, Moves, Unit, Clash}
@@ -39,6 +40,13 @@ pub record IsExchangeAt (live : FinMap nat_cmp Clause) (slot : ℕ) (l : Literal
   pub at : maps.get live slot ≡ Some clause
   pub different : size clause ≡ length clause
   pub exchange : IsExchange clause l x
+
+-- the entry, in the list of the literal, fits the clause in its slot, which watches the literal
+pub record IsEntryOf (live : FinMap nat_cmp Clause) (entry : Watcher) (l : Literal) : Type 0 where
+  pub clause : Clause
+  pub at : maps.get live entry.slot ≡ Some clause
+  pub watched : IsTrue (watches clause l)
+  pub fitting : IsTrue (fits clause l entry.blocking entry.is_binary)
 
 -- what is to be done with a clause that watches a literal which became false
 abbrev pub IsVisit : List Literal → Clause → Literal → Visit → Type 0

@@ -12,8 +12,7 @@ use Rattle.std.proofs.lemmas.List.Sums.{get_or-le-sum_by, sum_by-append, sum_by-
 use Rattle.std.proofs.lemmas.List.Sums.{sum_by-remove, sum_by-swap_remove, sum_by_more, sum_by_push}
 use Rattle.std.specs.List.{remove}
 use Rattle.cnf_base.specs.Literals.{Clause, has}
-use Rattle.watch_lists.specs.Lists.{entries_of, foreign_blockers, slot_at, slot_of}
-use Rattle.watch_lists.specs.Lists.{times_in}
+use Rattle.watch_lists.specs.Lists.{entries_of, fits, slot_at, slot_of, times_in, unfit_entries}
 use Rattle.watch_lists.specs.declared.watcher.Watcher.{Watcher}
 
 pub eqb_turned : (a b : ℕ) → eqb a b ≡ eqb b a
@@ -51,8 +50,8 @@ entries_taken xs i s d inside read k =
     let here : cond {A = ℕ} (eqb (get_or xs i d).slot k) 1 0 ≡ cond (eqb k s) 1 0 = ap (λ y. cond {A = ℕ} (eqb y k) 1 0) same ∙ ap (λ b. cond {A = ℕ} b 1 0) (eqb_turned s k) in
     omega (arith, taken, here)
 
-pub blockers_left : (xs : List Watcher) (i : ℕ) (d : Watcher) → i < length xs → (s : ℕ) (c : Clause) → foreign_blockers s c (swap_remove xs i d) ≤ foreign_blockers s c xs
-blockers_left xs i d inside s c = let taken = sum_by-swap_remove (λ w. cond (eqb w.slot s && not (has c w.blocking)) 1 0) xs i d inside in omega (arith, taken)
+pub unfit_left : (xs : List Watcher) (i : ℕ) (d : Watcher) → i < length xs → (s l : ℕ) (c : Clause) → unfit_entries s c l (swap_remove xs i d) ≤ unfit_entries s c l xs
+unfit_left xs i d inside s l c = let taken = sum_by-swap_remove (λ w. cond (eqb w.slot s && not (fits c l w.blocking w.is_binary)) 1 0) xs i d inside in omega (arith, taken)
 
 -- the same where the others keep their order
 pub entries_removed : (xs : List Watcher) (i s : ℕ) (d : Watcher) → i < length xs → slot_at xs i ≡ s → (k : ℕ) → entries_of k (remove xs i) + cond (eqb k s) 1 0 ≡ entries_of k xs
@@ -62,8 +61,8 @@ entries_removed xs i s d inside read k =
     let here : cond {A = ℕ} (eqb (get_or xs i d).slot k) 1 0 ≡ cond (eqb k s) 1 0 = ap (λ y. cond {A = ℕ} (eqb y k) 1 0) same ∙ ap (λ b. cond {A = ℕ} b 1 0) (eqb_turned s k) in
     omega (arith, taken, here)
 
-pub blockers_removed : (xs : List Watcher) (i : ℕ) (d : Watcher) → i < length xs → (s : ℕ) (c : Clause) → foreign_blockers s c (remove xs i) ≤ foreign_blockers s c xs
-blockers_removed xs i d inside s c = let taken = sum_by-remove (λ w. cond (eqb w.slot s && not (has c w.blocking)) 1 0) xs i d inside in omega (arith, taken)
+pub unfit_removed : (xs : List Watcher) (i : ℕ) (d : Watcher) → i < length xs → (s l : ℕ) (c : Clause) → unfit_entries s c l (remove xs i) ≤ unfit_entries s c l xs
+unfit_removed xs i d inside s l c = let taken = sum_by-remove (λ w. cond (eqb w.slot s && not (fits c l w.blocking w.is_binary)) 1 0) xs i d inside in omega (arith, taken)
 
 -- an entry that isn't the next one
 pub entries_next : (xs : List Watcher) (i s : ℕ) (d : Watcher) → i < length xs → ((get_or xs i d).slot ≡ s → ⊥) → entries_of s (take i xs) ≡ 0 → entries_of s (take (i + 1) xs) ≡ 0
@@ -88,20 +87,25 @@ entries_none xs i s past none some =
     let all = ap (entries_of s) (take_all i xs past) in
     omega arith
 
--- an entry of a clause, with a literal of it
-pub blockers_pushed : (xs : List Watcher) (w : Watcher) (s : ℕ) (c : Clause) → (s ≡ w.slot → has c w.blocking ≡ true) → foreign_blockers s c (xs ++ w ∷ []) ≤ foreign_blockers s c xs
-blockers_pushed xs w s c own =
-    let pushed = sum_by_push (λ x. cond (eqb x.slot s && not (has c x.blocking)) 1 0) xs w in
-    let none : cond {A = ℕ} (eqb w.slot s && not (has c w.blocking)) 1 0 ≡ 0 = elim (cases_eq w.slot s) [
-      | inl e ↦ ap (λ b. cond {A = ℕ} (b && not (has c w.blocking)) 1 0) (eq-eqb w.slot s e) ∙ ap (λ b. cond {A = ℕ} (not b) 1 0) (own (sym e))
-      | inr ne ↦ ap (λ b. cond {A = ℕ} (b && not (has c w.blocking)) 1 0) (ne_eqb w.slot s ne)
-    ] in
+-- an entry that fits its clause, or is of another slot
+pub unfit_none : (s l : ℕ) (c : Clause) (w : Watcher) → (s ≡ w.slot → fits c l w.blocking w.is_binary ≡ true) → cond {A = ℕ} (eqb w.slot s && not (fits c l w.blocking w.is_binary)) 1 0 ≡ 0
+unfit_none s l c w fitting = elim (cases_eq w.slot s) [
+  | inl e ↦
+      ap (λ b. cond {A = ℕ} (b && not (fits c l w.blocking w.is_binary)) 1 0) (eq-eqb w.slot s e) ∙ ap (λ b. cond {A = ℕ} (not b) 1 0) (fitting (sym e))
+  | inr ne ↦ ap (λ b. cond {A = ℕ} (b && not (fits c l w.blocking w.is_binary)) 1 0) (ne_eqb w.slot s ne)
+]
+
+-- one more that does
+pub unfit_pushed : (xs : List Watcher) (w : Watcher) (s l : ℕ) (c : Clause) → (s ≡ w.slot → fits c l w.blocking w.is_binary ≡ true) → unfit_entries s c l (xs ++ w ∷ []) ≤ unfit_entries s c l xs
+unfit_pushed xs w s l c fitting =
+    let pushed = sum_by_push (λ x. cond (eqb x.slot s && not (fits c l x.blocking x.is_binary)) 1 0) xs w in
+    let none = unfit_none s l c w fitting in
     omega (arith, pushed, none)
 
 -- a slot without entries
-pub blockers_none : (xs : List Watcher) (s : ℕ) (c : Clause) → entries_of s xs ≡ 0 → foreign_blockers s c xs ≡ 0
-blockers_none xs s c none =
-    let fewer = sum_by-le-sum_by (λ w. cond (eqb w.slot s && not (has c w.blocking)) 1 0) (λ w. cond (eqb w.slot s) 1 0) xs (λ w. at_most (eqb w.slot s) (not (has c w.blocking))) in
+pub unfit_absent : (xs : List Watcher) (s l : ℕ) (c : Clause) → entries_of s xs ≡ 0 → unfit_entries s c l xs ≡ 0
+unfit_absent xs s l c none =
+    let fewer = sum_by-le-sum_by (λ w. cond (eqb w.slot s && not (fits c l w.blocking w.is_binary)) 1 0) (λ w. cond (eqb w.slot s) 1 0) xs (λ w. at_most (eqb w.slot s) (not (fits c l w.blocking w.is_binary))) in
     omega (arith, fewer, none)
   where
     at_most : (a b : Bool) → cond {A = ℕ} (a && b) 1 0 ≤ cond a 1 0
@@ -109,16 +113,19 @@ blockers_none xs s c none =
     at_most true false = omega arith
     at_most false b = omega arith
 
--- clauses with the same literals
-pub blockers_alike : (xs : List Watcher) (s : ℕ) (c d : Clause) → ((k : ℕ) → has d k ≡ has c k) → foreign_blockers s d xs ≡ foreign_blockers s c xs
-blockers_alike xs s c d alike = λ i. sum_by (λ w. cond {A = ℕ} (eqb w.slot s && not (alike w.blocking i)) 1 0) xs
+-- clauses with the same literals, and as many
+pub unfit_alike : (xs : List Watcher) (s l : ℕ) (c d : Clause) → ((k : ℕ) → has d k ≡ has c k) → length d ≡ length c → unfit_entries s d l xs ≡ unfit_entries s c l xs
+unfit_alike xs s l c d alike as_long = λ i. sum_by (λ w. cond {A = ℕ} (eqb w.slot s && not (fits_alike w.blocking w.is_binary i)) 1 0) xs
+  where
+    fits_alike : (other : ℕ) (is_binary : Bool) → fits d l other is_binary ≡ fits c l other is_binary
+    fits_alike other is_binary = λ i. alike other i && cond is_binary (eqb (as_long i) 2 && not (eqb other l)) (not (eqb (as_long i) 2))
 
--- the literal of an entry
-pub blocking_own : (xs : List Watcher) (i : ℕ) (w : Watcher) (c : Clause) → i < length xs → w ≡ get_or xs i w → foreign_blockers w.slot c xs ≡ 0 → has c w.blocking ≡ true
-blocking_own xs i w c inside is none =
-    let one = get_or-le-sum_by (λ x. cond (eqb x.slot w.slot && not (has c x.blocking)) 1 0) xs i w inside in
-    let here : cond {A = ℕ} (eqb w.slot w.slot && not (has c w.blocking)) 1 0 ≡ 0 = ap (λ x. cond {A = ℕ} (eqb x.slot w.slot && not (has c x.blocking)) 1 0) is ∙ (let most = one in omega (arith, most, none)) in
-    by_test (has c w.blocking) (ap (λ b. cond {A = ℕ} (b && not (has c w.blocking)) 1 0) (sym (eq-eqb w.slot w.slot refl)) ∙ here)
+-- an entry of a list in which all fit
+pub entry_fits : (xs : List Watcher) (i : ℕ) (w : Watcher) (l : ℕ) (c : Clause) → i < length xs → w ≡ get_or xs i w → unfit_entries w.slot c l xs ≡ 0 → fits c l w.blocking w.is_binary ≡ true
+entry_fits xs i w l c inside is none =
+    let one = get_or-le-sum_by (λ x. cond (eqb x.slot w.slot && not (fits c l x.blocking x.is_binary)) 1 0) xs i w inside in
+    let here : cond {A = ℕ} (eqb w.slot w.slot && not (fits c l w.blocking w.is_binary)) 1 0 ≡ 0 = ap (λ x. cond {A = ℕ} (eqb x.slot w.slot && not (fits c l x.blocking x.is_binary)) 1 0) is ∙ (let most = one in omega (arith, most, none)) in
+    by_test (fits c l w.blocking w.is_binary) (ap (λ b. cond {A = ℕ} (b && not (fits c l w.blocking w.is_binary)) 1 0) (sym (eq-eqb w.slot w.slot refl)) ∙ here)
   where
     by_test : (b : Bool) → cond {A = ℕ} (not b) 1 0 ≡ 0 → b ≡ true
     by_test true e = refl

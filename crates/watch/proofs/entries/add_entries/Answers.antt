@@ -14,7 +14,7 @@ returns-else-clause-lt2-clause-watched c =
     let second = c.index-clause-1.result in
     on_ok_map c.watch.result (λ ok clause here l s.
     let same = same_Some _ _ (c.clause-clause.ensures.clause ∙ here) in
-    let slot_is : c.in-Ok.number ≡ c.args.slot = search (rules, common_steps) in
+    let slot_is : c.number-number.result ≡ c.args.slot = search (rules, common_steps) in
     let long = c.if-clause-lt2.false in
     let step = subst (λ n. entries_of s (list_at c.watch.new.self l) ≡ entries_of s (list_at c.args.lists.now l) + cond {A = ℕ} (eqb l first && eqb s n) 1 0 + cond {A = ℕ} (eqb l second && eqb s n) 1 0) slot_is (ok l s) in
     let apart = two_apart first second d long (sym c.clause-clause.ensures.different) c.index-clause-0.is c.index-clause-1.is in

@@ -1,19 +1,20 @@
-use Rattle.std.proofs.Common.{◌+◌, ◌++◌, ◌∷◌, [], cond, eqb, ne_eqb, refl, sym, ap}
+use Rattle.std.proofs.Common.{◌+◌, ◌++◌, ◌∷◌, [], cond, eqb, false, ne_eqb, refl, sym, ap}
 use Rattle.std.proofs.Common.{◌∙◌, length, subst, arith}
 use Rattle.std.specs.List.{remove, swap}
 use Rattle.std.specs.FinMap as maps
 use Rattle.std.proofs.lemmas.List.Edits.{length-remove, length-swap}
 use Rattle.clause_db.proofs.StoreLemmas.Swap.{has_swapped}
+use Rattle.cnf_base.specs.Literals.{Literal}
 use Rattle.watch_lists.specs.Lists.{list_at}
 use Rattle.watch.specs.Code.Visits.{IsInHand, PropagatesTo, with_list}
 use Rattle.root_literals.specs.Watched.{IsListed}
 use Rattle.watch_lists.specs.declared.watcher.Watcher.{Watcher}
 use Rattle.watch.proofs.WatchLemmas.Cursor.{same_cursor}
 use Rattle.watch.proofs.WatchLemmas.Follow.{listed_alike}
-use Rattle.watch_lists.proofs.WatchListsLemmas.Lists.{blockers_removed, entries_removed}
-use Rattle.watch.proofs.WatchLemmas.Moves.{at_inserted, blockers_moved, entries_moved}
-use Rattle.watch.proofs.WatchLemmas.Moves.{exchanged_back, listed_moved, others_moved, places_apart}
-use Rattle.watch.proofs.WatchLemmas.Moves.{times_moved}
+use Rattle.watch_lists.proofs.WatchListsLemmas.Lists.{entries_removed, unfit_removed}
+use Rattle.watch.proofs.WatchLemmas.Entries.{longer_fits}
+use Rattle.watch.proofs.WatchLemmas.Moves.{at_inserted, entries_moved, exchanged_back, listed_moved}
+use Rattle.watch.proofs.WatchLemmas.Moves.{others_moved, places_apart, times_moved, unfit_moved}
 use Rattle.watch.proofs.WatchLemmas.PropagatesTo.{propagates_moved, propagates_none}
 use Rattle.watch.proofs.follow.move_watch.Goals as goal
 
@@ -50,7 +51,8 @@ returns-in-Ok c =
     let place = c.args.cursor.now.visited in
     let left = remove list place in
     let slot = c.args.slot in
-    let entry : Watcher = record { slot = slot; blocking = x.other } in
+    let entry : Watcher = record { slot = slot; blocking = x.other; is_binary = false } in
+    let put = λ (k : Literal). c.in-Ok.ensures.ok k ∙ ap (λ w. cond (eqb k x.next) (lists k ++ w ∷ []) (lists k)) c.new-watcher.ensures in
     let inside = c.requires.next.0 in
     let low = w.exchange.from_low in
     let past = w.exchange.to_high in
@@ -59,17 +61,17 @@ returns-in-Ok c =
     let d = swap w.clause x.from x.to in
     let moved = c.swap.ensures.live w.clause (ap (maps.get live) c.at-at.ensures ∙ w.at) ∙ ap (λ s. maps.insert live s d) c.at-at.ensures in
     let taken = entries_removed list place slot entry inside c.requires.next.1 in
-    let fewer = blockers_removed list place entry inside in
+    let fewer = unfit_removed list place entry inside in
     let hand : IsInHand c.swap.new.self.live c.push.new.self left l = record {
       known = c.push.ensures.known l c.requires.hand.known;
-      taken = c.in-Ok.ensures.ok l ∙ ap (λ b. cond b (lists l ++ entry ∷ []) (lists l)) (ne_eqb l x.next other) ∙ c.requires.hand.taken;
+      taken = put l ∙ ap (λ b. cond b (lists l ++ entry ∷ []) (lists l)) (ne_eqb l x.next other) ∙ c.requires.hand.taken;
       apart = c.push.ensures.apart;
       listed = subst (λ m. IsListed (maps.get m) (with_list c.push.new.self l left)) (sym moved)
           (listed_moved live slot w.clause d w.at l x.next (entries_moved l x.next w.clause x.from x.to w.different low w.exchange.from_is past within w.exchange.to_is)
           (with_list c.args.lists.now l list) (with_list c.push.new.self l left) c.requires.hand.listed
-          (times_moved lists pushed l x.next entry other c.in-Ok.ensures.ok list left taken)
-          (has_swapped w.clause d x.from x.to (omega (arith, low, past, within)) within refl)
-          (blockers_moved lists pushed l x.next entry other c.in-Ok.ensures.ok list left taken w.clause w.exchange.has_other fewer));
+          (times_moved lists pushed l x.next entry other put list left taken)
+          (has_swapped w.clause d x.from x.to (omega (arith, low, past, within)) within refl) (length-swap w.clause x.from x.to)
+          (unfit_moved lists pushed l x.next entry other put list left taken w.clause (longer_fits w.clause x.next x.other w.exchange.has_other (omega (arith, past, within))) fewer));
     } in
     let shorter = length-remove list place inside in record {
       visited = λ held reason_of is_open. record {

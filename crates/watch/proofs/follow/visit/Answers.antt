@@ -1,64 +1,53 @@
-use Rattle.std.proofs.Common.{◌&&◌, cond, eqb, Some, is_some, length, refl, sym, ap}
+use Rattle.std.proofs.Common.{◌&&◌, cond, eqb, set, Some, length, refl, sym, ap}
 use Rattle.std.proofs.Common.{◌∙◌, ◌+◌, subst}
 use Rattle.std.specs.FinMap as maps
 use Rattle.tables.specs.Table.{at}
 use Rattle.std.proofs.lemmas.List.{length-set}
 use Rattle.std.proofs.lemmas.Option.{same_Some}
 use Rattle.cnf_base.specs.Literals.{has}
-use Rattle.watch_lists.specs.Lists.{entries_in, list_at}
+use Rattle.watch_lists.specs.Lists.{entries_in, fits, list_at}
 use Rattle.root_literals.specs.Order.{each_in_order}
 use Rattle.root_literals.specs.Roots.{IsFalseAt}
 use Rattle.watch.specs.Code.Visits.{IsInHand, IsVisit}
-use Rattle.root_literals.specs.Watched.{watches}
 use Rattle.watch_lists.specs.declared.watcher.Watcher.{Watcher}
+use Rattle.watch.proofs.WatchLemmas.Entries.{kept_fits}
 use Rattle.watch.specs.declared.visit.Visit.TheVariants.{Stays, Moves, Unit, Clash}
 use Rattle.watch.proofs.WatchLemmas.Cursor.{kept_fewer, kept_met, put_same, taken_fewer, taken_met}
 use Rattle.watch.proofs.WatchLemmas.Follow.{front_apart}
 use Rattle.watch.proofs.WatchLemmas.PropagatesTo.{clashes, propagates_none, propagates_unit}
 use Rattle.watch_lists.proofs.WatchListsLemmas.Lists.{entry_at, slot_is}
-use Rattle.watch.proofs.WatchLemmas.Moves.{entry_alive, listed_written}
-use Rattle.watch.proofs.WatchLemmas.Visited.{room_for, visited_none}
+use Rattle.watch.proofs.WatchLemmas.Moves.{listed_written}
+use Rattle.watch.proofs.WatchLemmas.Visited.{next_entry, room_for, visited_none}
 use Rattle.watch.proofs.WatchLemmas.Visits.{made_true}
+use Rattle.trail.specs.Trail.{HasNoVariableTwice}
 use Rattle.trail.proofs.TrailLemmas.Longer.{has_begun}
 use Rattle.watch.proofs.follow.visit.Goals as goal
 
-pub clause-requires : goal.clause-requires
-clause-requires c =
-    let cursor = c.args.cursor.now in
-    let live = maps.get c.args.store.now.live in
-    let e = entry_at cursor.entries cursor.visited c.args.entry c.requires.next in
-    let w = entry_alive live (list_at c.args.lists.now) c.args.l cursor.entries c.requires.can.hand.listed cursor.visited c.args.entry e.0 e.1 in
-    ap (λ s. is_some (live s)) c.at-at.ensures ∙ ap is_some w.1
-
-pub look-requires-clause-watched : goal.look-requires-clause-watched
-look-requires-clause-watched c =
-    let cursor = c.args.cursor.now in
-    let live = maps.get c.args.store.now.live in
-    let e = entry_at cursor.entries cursor.visited c.args.entry c.requires.next in
-    let w = entry_alive live (list_at c.args.lists.now) c.args.l cursor.entries c.requires.can.hand.listed cursor.visited c.args.entry e.0 e.1 in
-    ap (λ d. watches d c.args.l) (same_Some _ _ (c.clause.ensures.clause ∙ ap live c.at-at.ensures ∙ w.1)) ∙ w.2
+pub look_at-requires-clause-entry : goal.look_at-requires-clause-entry
+look_at-requires-clause-entry c = next_entry c.args.cursor.now c.args.entry c.requires.next c.requires.can.hand
 
 pub move_watch-requires-clause-next : goal.move_watch-requires-clause-next
 move_watch-requires-clause-next c =
     let cursor = c.args.cursor.now in
     let e = entry_at cursor.entries cursor.visited c.args.entry c.requires.next in
-    (e.0, slot_is cursor.entries cursor.visited c.args.entry e.0 ∙ ap (λ x. x.slot) (sym e.1))
+    (e.0, slot_is cursor.entries cursor.visited c.args.entry e.0 ∙ ap (λ x. x.slot) (sym e.1) ∙ sym c.slot.ensures.value)
 
 pub move_watch-requires-clause-exchange : goal.move_watch-requires-clause-exchange
 move_watch-requires-clause-exchange c =
-    let live = maps.get c.args.store.now.live in
-    let d = c.clause.result.now in
-    let move = subst (λ t. IsVisit t.lits d c.args.l (Moves c.in-Moves.exchange)) c.trail.ensures c.in-Moves.ensures.visit in
-    record { clause = d; at = ap live (sym c.at-at.ensures) ∙ sym c.clause.ensures.clause; different = sym c.clause.ensures.different; exchange = move.0 }
+    let w = next_entry c.args.cursor.now c.args.entry c.requires.next c.requires.can.hand in
+    let move = subst (λ t. IsVisit t.lits w.clause c.args.l (Moves c.in-Moves.exchange)) c.trail.ensures (c.in-Moves.ensures.visit w.clause w.at) in
+    record { clause = w.clause; at = ap (maps.get c.args.store.now.live) c.slot.ensures.value ∙ w.at; different = c.in-Moves.ensures.unrepeated w.clause w.at; exchange = move.0 }
 
 pub returns-in_ok-move_watch-in-Moves-clause-visited : goal.returns-in_ok-move_watch-in-Moves-clause-visited
 returns-in_ok-move_watch-in-Moves-clause-visited c =
-    let move = subst (λ t. IsVisit t.lits c.clause.result.now c.args.l (Moves c.in-Moves.exchange)) c.trail.ensures c.in-Moves.ensures.visit in
+    let w = next_entry c.args.cursor.now c.args.entry c.requires.next c.requires.can.hand in
+    let move = subst (λ t. IsVisit t.lits w.clause c.args.l (Moves c.in-Moves.exchange)) c.trail.ensures (c.in-Moves.ensures.visit w.clause w.at) in
     c.move_watch.ensures.visited c.args.assumptions.now (at c.args.reasons.now) move.1
 
 pub returns-in_err-move_watch-in-Moves-clause-visited : goal.returns-in_err-move_watch-in-Moves-clause-visited
 returns-in_err-move_watch-in-Moves-clause-visited c =
-    let move = subst (λ t. IsVisit t.lits c.clause.result.now c.args.l (Moves c.in-Moves.exchange)) c.trail.ensures c.in-Moves.ensures.visit in
+    let w = next_entry c.args.cursor.now c.args.entry c.requires.next c.requires.can.hand in
+    let move = subst (λ t. IsVisit t.lits w.clause c.args.l (Moves c.in-Moves.exchange)) c.trail.ensures (c.in-Moves.ensures.visit w.clause w.at) in
     c.move_watch.ensures.visited c.args.assumptions.now (at c.args.reasons.now) move.1
 
 pub returns-in_ok-move_watch-in-Moves-clause-met : goal.returns-in_ok-move_watch-in-Moves-clause-met
@@ -67,9 +56,9 @@ returns-in_ok-move_watch-in-Moves-clause-met c =
     let live = c.args.store.now.live in
     let e = entry_at cursor.entries cursor.visited c.args.entry c.requires.next in
     let trues = c.args.assumptions.now.trail.lits in
-    taken_met live c.move_watch.new.store.live c.args.l trues trues (λ l h. h) cursor c.move_watch.new.cursor c.args.entry.slot e.0 c.requires.met c.move_watch.ensures.others
+    taken_met live c.move_watch.new.store.live c.args.l trues trues (λ l h. h) cursor c.move_watch.new.cursor c.slot.result e.0 c.requires.met c.move_watch.ensures.others
     c.in_ok-move_watch-in-Moves.ensures.taken
-    (λ s there same. front_apart (maps.get live) (list_at c.args.lists.now) c.args.l cursor.entries c.requires.can.hand.listed cursor.visited s c.args.entry e.0 there (same ∙ ap (λ x. x.slot) e.1))
+    (λ s there same. front_apart (maps.get live) (list_at c.args.lists.now) c.args.l cursor.entries c.requires.can.hand.listed cursor.visited s c.args.entry e.0 there (same ∙ c.slot.ensures.value ∙ ap (λ x. x.slot) e.1))
 
 pub returns-in_ok-move_watch-in-Moves-clause-fewer : goal.returns-in_ok-move_watch-in-Moves-clause-fewer
 returns-in_ok-move_watch-in-Moves-clause-fewer c =
@@ -79,9 +68,10 @@ returns-in_ok-move_watch-in-Moves-clause-fewer c =
 
 pub set_by-requires : goal.set_by-requires
 set_by-requires c =
-    let d = c.clause.result.now in
-    let unit = subst (λ t. IsVisit t.lits d c.args.l (Unit c.in-Unit.m)) c.trail.ensures c.in-Unit.ensures.visit in
-    let room = room_for c.requires.can.can_set c.at-at.result d (sym c.clause.ensures.clause) c.in-Unit.m unit.0 in
+    let e = c.args.entry in
+    let w = next_entry c.args.cursor.now e c.requires.next c.requires.can.hand in
+    let unit = subst (λ t. IsVisit t.lits w.clause c.args.l (Unit c.in-Unit.m)) c.trail.ensures (c.in-Unit.ensures.visit w.clause w.at) in
+    let room = room_for c.requires.can.can_set e.slot w.clause w.at c.in-Unit.m unit.0 in
     record { reserved = room.0; not_false = unit.1; noted = room.1 }
 
 pub keep-requires-in-Unit : goal.keep-requires-in-Unit
@@ -97,28 +87,31 @@ returns-in-Stays c =
     let list = cursor.entries in
     let e = c.args.entry in
     let r = entry_at list cursor.visited e c.requires.next in
-    let d = c.clause.result.now in
-    let entry : Watcher = record { slot = e.slot; blocking = c.in-Stays.blocking } in
-    let here = c.clause.ensures.clause ∙ ap live c.at-at.ensures in
-    let stays = subst (λ t. IsVisit t.lits d c.args.l (Stays c.in-Stays.blocking)) c.trail.ensures c.in-Stays.ensures.visit in
+    let w = next_entry cursor e c.requires.next c.requires.can.hand in
+    let other = c.in-Stays.blocking in
+    let entry : Watcher = record { slot = e.slot; blocking = other; is_binary = e.is_binary } in
+    let entries = c.keep.ensures.entries ∙ ap (set list cursor.visited) c.with_blocking.ensures in
     let held = c.args.assumptions.now in
+    let stays = subst (λ t. IsVisit t.lits w.clause c.args.l (Stays other)) c.trail.ensures (c.in-Stays.ensures.visit w.clause w.at) in
+    let different = subst (λ t. HasNoVariableTwice t.lits) c.trail.ensures c.in-Stays.ensures.different in
+    let fitting = kept_fits held.trail.lits different w.clause c.args.l e.blocking other e.is_binary w.fitting c.requires.can.is_false stays.0 stays.1 in
     let hand = c.requires.can.hand in record {
       visited = record {
-        hand = subst (λ xs. IsInHand c.args.store.now.live c.args.lists.now xs c.args.l) (sym c.keep.ensures.entries) (record {
+        hand = subst (λ xs. IsInHand c.args.store.now.live c.args.lists.now xs c.args.l) (sym entries) (record {
           known = hand.known;
           taken = hand.taken;
           apart = hand.apart;
           listed = listed_written live (list_at c.args.lists.now) c.args.l list hand.listed cursor.visited e entry r.0 r.1 refl
-              (λ x there. ap (λ y. has y c.in-Stays.blocking) (sym (same_Some d x (here ∙ there))) ∙ stays.0);
+              (λ x there. ap (λ y. fits y c.args.l other e.is_binary) (same_Some x w.clause (sym there ∙ w.at)) ∙ fitting);
         });
-        entries = ap (λ xs. entries_in c.args.lists.now + length xs) c.keep.ensures.entries ∙ ap (λ n. entries_in c.args.lists.now + n) (length-set list cursor.visited entry);
+        entries = ap (λ xs. entries_in c.args.lists.now + length xs) entries ∙ ap (λ n. entries_in c.args.lists.now + n) (length-set list cursor.visited entry);
         propagates = propagates_none c.args.store.now.live held (at c.args.reasons.now);
       };
       clash = tt;
       met = kept_met c.args.store.now.live c.args.store.now.live c.args.l held.trail.lits held.trail.lits (λ l h. h) cursor c.keep.new.self e.slot r.0 c.requires.met (λ s ne. refl)
-          entry refl c.keep.ensures.entries c.keep.ensures.visited
-          (λ x there _. (c.in-Stays.blocking, ap (λ y. has y c.in-Stays.blocking) (sym (same_Some d x (here ∙ there))) ∙ stays.0, stays.1));
-      fewer = kept_fewer cursor c.keep.new.self r.0 entry c.keep.ensures.entries c.keep.ensures.visited;
+          entry refl entries c.keep.ensures.visited
+          (λ x there _. (other, ap (λ y. has y other) (same_Some x w.clause (sym there ∙ w.at)) ∙ stays.0, stays.1));
+      fewer = kept_fewer cursor c.keep.new.self r.0 entry entries c.keep.ensures.visited;
     }
 
 pub returns-in-Unit : goal.returns-in-Unit
@@ -127,18 +120,17 @@ returns-in-Unit c =
     let cursor = c.args.cursor.now in
     let e = c.args.entry in
     let r = entry_at cursor.entries cursor.visited e c.requires.next in
-    let d = c.clause.result.now in
+    let w = next_entry cursor e c.requires.next c.requires.can.hand in
     let m = c.in-Unit.m in
-    let here = c.clause.ensures.clause ∙ ap (maps.get live) c.at-at.ensures in
-    let unit = subst (λ t. IsVisit t.lits d c.args.l (Unit m)) c.trail.ensures c.in-Unit.ensures.visit in
+    let unit = subst (λ t. IsVisit t.lits w.clause c.args.l (Unit m)) c.trail.ensures (c.in-Unit.ensures.visit w.clause w.at) in
     let held = c.args.assumptions.now in
     let now = c.set_by.new.assumptions in
     let s = c.set_by.ensures in
     let kept = c.keep-in-Unit in
     let same = kept.ensures.entries ∙ put_same cursor.entries cursor.visited e r.1 in
     let propagates =
-    propagates_unit live held c.at-at.result d (sym c.clause.ensures.clause) m unit.0 unit.2 now c.set_by.result s.was_open s.lits s.reserved s.assumptions s.starts (at c.args.reasons.now) (at c.set_by.new.reasons)
-    (λ k. s.reasons k ∙ ap (λ n. cond (c.set_by.result && eqb k m) (Some n) (at c.args.reasons.now k)) (sym c.at-at.ensures)) in record {
+    propagates_unit live held e.slot w.clause w.at m unit.0 unit.2 now c.set_by.result s.was_open s.lits s.reserved s.assumptions s.starts (at c.args.reasons.now) (at c.set_by.new.reasons)
+    (λ k. s.reasons k ∙ ap (λ n. cond (c.set_by.result && eqb k m) (Some n) (at c.args.reasons.now k)) c.slot-in-Unit.ensures.value) in record {
       visited = record {
         hand = subst (λ xs. IsInHand live c.args.lists.now xs c.args.l) (sym same) c.requires.can.hand;
         entries = ap (λ xs. entries_in c.args.lists.now + length xs) same;
@@ -147,17 +139,19 @@ returns-in-Unit c =
       clash = tt;
       met = kept_met live live c.args.l held.trail.lits now.trail.lits (λ l h. has_begun held.trail.lits now.trail.lits l propagates.extends.begins h) cursor kept.new.self e.slot r.0 c.requires.met (λ s ne. refl)
           e refl kept.ensures.entries kept.ensures.visited
-          (λ x there _. (m, ap (λ y. has y m) (sym (same_Some d x (here ∙ there))) ∙ unit.0, made_true c.set_by.result held.trail.lits now.trail.lits m s.was_open s.lits));
+          (λ x there _. (m, ap (λ y. has y m) (same_Some x w.clause (sym there ∙ w.at)) ∙ unit.0, made_true c.set_by.result held.trail.lits now.trail.lits m s.was_open s.lits));
       fewer = kept_fewer cursor kept.new.self r.0 e kept.ensures.entries kept.ensures.visited;
     }
 
 pub returns-in-Clash : goal.returns-in-Clash
 returns-in-Clash c =
-    let d = c.clause.result.now in
+    let live = c.args.store.now.live in
+    let e = c.args.entry in
+    let w = next_entry c.args.cursor.now e c.requires.next c.requires.can.hand in
     let held = c.args.assumptions.now in record {
       visited = visited_none held (at c.args.reasons.now) c.requires.can.hand;
-      clash = subst (λ n. IsFalseAt (maps.get (each_in_order c.args.store.now.live)) n held.trail.lits) c.at-at.ensures
-          (clashes c.args.store.now.live held c.at-at.result d (sym c.clause.ensures.clause) (subst (λ t. IsVisit t.lits d c.args.l Clash) c.trail.ensures c.in-Clash.ensures.visit));
+      clash = subst (λ n. IsFalseAt (maps.get (each_in_order live)) n held.trail.lits) (sym c.slot-in-Clash.ensures.value)
+          (clashes live held e.slot w.clause w.at (subst (λ t. IsVisit t.lits w.clause c.args.l Clash) c.trail.ensures (c.in-Clash.ensures.visit w.clause w.at)));
       met = tt;
       fewer = tt;
     }

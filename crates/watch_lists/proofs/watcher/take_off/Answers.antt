@@ -1,6 +1,6 @@
 use Rattle.std.proofs.Common.{◌≡◌, ◌+◌, ◌<◌, ◌≤◌, length, cond, eqb, sym, ap, ◌∙◌, subst}
-use Rattle.watch_lists.specs.Lists.{entries_of, foreign_blockers, slot_at}
-use Rattle.watch_lists.proofs.WatchListsLemmas.Lists.{blockers_left, entries_taken}
+use Rattle.watch_lists.specs.Lists.{entries_of, slot_at, unfit_entries}
+use Rattle.watch_lists.proofs.WatchListsLemmas.Lists.{entries_taken, unfit_left}
 use Rattle.watch_lists.proofs.watcher.take_off.Goals as goal
 
 pub returns-clause-times : goal.returns-clause-times
@@ -9,8 +9,8 @@ returns-clause-times c s =
     let place = subst (λ xs. (p.result < length xs) × (slot_at xs p.result ≡ c.args.slot)) c.deref.ensures.value (p.ensures.inside, p.ensures.there) in
     ap (λ xs. entries_of s xs + cond (eqb s c.args.slot) 1 0) c.swap_remove.ensures.items ∙ entries_taken c.args.list.now.items p.result c.args.slot _ place.0 place.1 s
 
-pub returns-clause-foreign_blockers : goal.returns-clause-foreign_blockers
-returns-clause-foreign_blockers c s d =
+pub returns-clause-unfit : goal.returns-clause-unfit
+returns-clause-unfit c s l d =
     let p = c.place_in-place in
     let inside = subst (λ xs. p.result < length xs) c.deref.ensures.value p.ensures.inside in
-    subst (λ xs. foreign_blockers s d xs ≤ foreign_blockers s d c.args.list.now.items) (sym c.swap_remove.ensures.items) (blockers_left c.args.list.now.items p.result _ inside s d)
+    subst (λ xs. unfit_entries s d l xs ≤ unfit_entries s d l c.args.list.now.items) (sym c.swap_remove.ensures.items) (unfit_left c.args.list.now.items p.result _ inside s l d)

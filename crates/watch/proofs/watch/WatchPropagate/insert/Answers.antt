@@ -84,7 +84,7 @@ invariant_of-self-in-Ok c =
     (in_order w.0, seen_there after slot w.0 w.1, is_same) (λ s ne. get_ordered after s ∙ ap (option_map in_order) (others s ne) ∙ sym (get_ordered live s)) in (
       watch_added live after i.lists c.add_entries.new.lists i.short c.add_entries.new.short c.reserve-2.new.self c.enter.new.self held now watch (n.assumptions ∙ r.assumptions ∙ ap (λ w. w.propagation.assumptions) c.self.view_is ∙ c.requires)
           slot w.0 (e.different w.0 w.1) e.apart (record { each = λ k x here l member. n.reserved (l / 2) ∙ room.each k x here l member }) n.kept
-          c.in_ok-slot.ensures.free (inserted_is live after slot w.0 w.1 others) e.low (e.watched w.0 w.1) (e.names_own w.0 w.1) (e.rest w.0 w.1) (e.more w.0 w.1) (e.longer w.0 w.1),
+          c.in_ok-slot.ensures.free (inserted_is live after slot w.0 w.1 others) e.low (e.watched w.0 w.1) (e.fitting w.0 w.1) (e.rest w.0 w.1) (e.more w.0 w.1) (e.longer w.0 w.1),
       c.arrange-left.ensures.live_alone ∙ sym (literals_ordered after),
       subst (λ m. IsClosure (maps.get m) c.insert_clause.new.closure) (sym (ordered_alike c.insert_clause.new.store.live after slot d.0 w.0 d.1 w.1 w.2 c.arrange-left.ensures.others)) c.insert_clause.ensures.closure,
     )
@@ -106,7 +106,7 @@ invariant_of-self-in-Err c =
     let d = c.in_ok-slot.ensures.stored in
     let w = c.arrange-left.ensures.arranged d.0 d.1 in
     let e = c.in-Err.ensures in
-    let fewer = λ (l s : ℕ) (x : Clause) (is : maps.get live s ≡ Some x). e.names_own w.0 w.1 l s x (λ same. absurd (none-some x (sym (ap (maps.get live) same ∙ c.in_ok-slot.ensures.free) ∙ is))) in
+    let fewer = λ (l s : ℕ) (x : Clause) (is : maps.get live s ≡ Some x). e.fitting w.0 w.1 l s x (λ same. absurd (none-some x (sym (ap (maps.get live) same ∙ c.in_ok-slot.ensures.free) ∙ is))) in
     let back = c.remove_clause.ensures.live ∙ removed_back live c.arrange-left.new.store.live c.in_ok-slot.slot c.in_ok-slot.ensures.free (λ s ne. c.arrange-left.ensures.others s ne ∙ c.in_ok-slot.ensures.others s ne) in (
       subst (λ m. IsWatch m c.add_entries.new.lists c.add_entries.new.short roots held) (sym back)
           (subst (λ xs. IsWatch live c.add_entries.new.lists xs roots held) (sym e.err_rest) (watch_same live i.lists c.add_entries.new.lists i.short roots held e.apart e.err_watched fewer e.err_entries watch)),

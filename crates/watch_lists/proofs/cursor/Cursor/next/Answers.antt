@@ -20,7 +20,7 @@ loop-self-preserved c =
       passed = λ place w from low is.
           let was = ap (λ xs. slice_get xs place) (sym same) ∙ is in
           elim (cases_eq place before.self.visited) [
-            | inl e ↦ ap (λ y. has c.args.trail.now.lits y.blocking) (same_Some w x (sym was ∙ ap (slice_get before.self.entries) e ∙ there)) ∙ sym c.is_true_near.ensures ∙ c.if-not-is_true_near.false
+            | inl e ↦ ap (λ y. has c.args.trail.now.lits y.blocking) (same_Some w x (sym was ∙ ap (slice_get before.self.entries) e ∙ there)) ∙ ap (has c.args.trail.now.lits) (sym c.blocking.ensures) ∙ sym c.is_true_near.ensures ∙ c.if-not-is_true_near.false
             | inr ne ↦ before.invariant.passed place w from (omega (arith, low, more, ne)) was
           ];
     }
