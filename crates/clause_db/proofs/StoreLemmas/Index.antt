@@ -15,13 +15,14 @@ use Rattle.clause_db.proofs.StoreLemmas.Sums.{get_insert, get_remove}
 use Rattle.clause_db.proofs.StoreLemmas.Indexed.{placed_with, placed_without, spot_end, same_hash}
 use Rattle.clause_db.proofs.StoreLemmas.Indexed.{same_place}
 
-pub index_empty : (seed : ℕ) (buckets : ℕ → List ℕ) (place_of : ℕ → ℕ) → ((h : ℕ) → buckets h ≡ []) → IsIndex seed buckets place_of maps.empty
-index_empty seed buckets place_of none = record {
+pub index_empty : (seed : ℕ) (buckets : ℕ → List ℕ) (place_of : ℕ → ℕ) → ((h : ℕ) → buckets h ≡ []) → ((s : ℕ) → place_of s ≡ 0) → IsIndex seed buckets place_of maps.empty
+index_empty seed buckets place_of none no_place = record {
   placed = record {
     there = λ s h i is. absurd (none-some (h, i) (sym (ap (option_map (λ (c : Clause). (hash seed c, place_of s))) (maps.get-empty nat_cmp s)) ∙ is));
     back = λ s h i is. absurd (none-some s (sym (ap (λ xs. slice_get xs i) (none h)) ∙ is));
   };
   low = λ s is. absurd (false≢true (sym (ap is_some (maps.get-empty nat_cmp s)) ∙ is));
+  vacant = λ s _. no_place s;
 }
 
 -- a place that is written changes no other
@@ -41,6 +42,7 @@ module _ (seed : ℕ) (buckets : ℕ → List ℕ) (place_of : ℕ → ℕ) (liv
       back = λ s h i is. spots s ∙ sound.placed.back s h i (ap (λ xs. slice_get xs i) (sym (same_buckets h)) ∙ is);
     };
     low = sound.low;
+    vacant = λ s none. same_places s ∙ sound.vacant s none;
   }
     where
       spots : (s : ℕ) → spot_in seed live after s ≡ spot_in seed live place_of s
@@ -69,6 +71,10 @@ module _ (seed : ℕ) (buckets : ℕ → List ℕ) (place_of : ℕ → ℕ) (liv
       low = λ s is. elim (cases_eq s k) [
         | inl same ↦ subst (λ n. n < 4294967296) (sym same) low
         | inr apart ↦ sound.low s (ap is_some (sym (get_insert live k c s ∙ ap (λ b. cond b (Some c) (maps.get live s)) (ne_eqb s k apart))) ∙ is)
+      ];
+      vacant = λ s none. elim (cases_eq s k) [
+        | inl same ↦ absurd (none-some c (sym none ∙ get_insert live k c s ∙ ap (λ b. cond b (Some c) (maps.get live s)) (eq-eqb s k same)))
+        | inr apart ↦ others s apart ∙ sound.vacant s (ap (λ b. cond b (Some c) (maps.get live s)) (sym (ne_eqb s k apart)) ∙ sym (get_insert live k c s) ∙ none)
       ];
     }
 
@@ -101,15 +107,12 @@ module _ (seed : ℕ) (buckets : ℕ → List ℕ) (place_of : ℕ → ℕ) (liv
 
     module _ (m : ℕ) (m_is : m ≡ get_or (buckets h) (length (buckets h) - 1) 0) (left : ℕ → List ℕ) (after : ℕ → ℕ)
         (taken : (g : ℕ) → left g ≡ cond (eqb g h) (swap_remove (buckets g) place 0) (buckets g))
-        (moved : (s : ℕ) → after s ≡ cond (eqb s m) place (place_of s)) where
-      at_moved : after m ≡ place
-      at_moved = wrote_place place_of after m place moved
+        (cleared : after k ≡ 0) (moved : (s : ℕ) → s ≢ k → after s ≡ cond (eqb s m) place (place_of s)) where
+      at_apart : (s : ℕ) → s ≢ k → s ≢ m → after s ≡ place_of s
+      at_apart s gone apart = moved s gone ∙ ap (λ b. cond b place (place_of s)) (ne_eqb s m apart)
 
-      at_apart : (s : ℕ) → s ≢ m → after s ≡ place_of s
-      at_apart s apart = other_place place_of after m place moved s apart
-
-      moved_spot : spot_in seed live after m ≡ Some (h, place)
-      moved_spot = ap (λ p. option_map (λ (d : Clause). (hash seed d, p)) (maps.get live m)) at_moved ∙ by_clause (maps.get live m) (last_spot m m_is)
+      moved_spot : m ≢ k → spot_in seed live after m ≡ Some (h, place)
+      moved_spot ne = ap (λ p. option_map (λ (d : Clause). (hash seed d, p)) (maps.get live m)) (moved m ne ∙ ap (λ b. cond b place (place_of m)) (eq-eqb m m refl)) ∙ by_clause (maps.get live m) (last_spot m m_is)
         where
           by_clause : (o : Option Clause) → option_map {U = ℕ × ℕ} (λ (d : Clause). (hash seed d, place_of m)) o ≡ Some (h, length (buckets h) - 1) → option_map {U = ℕ × ℕ} (λ (d : Clause). (hash seed d, place)) o ≡ Some (h, place)
           by_clause None e = absurd (none-some (h, length (buckets h) - 1) e)
@@ -123,9 +126,9 @@ module _ (seed : ℕ) (buckets : ℕ → List ℕ) (place_of : ℕ → ℕ) (liv
         | inr apart ↦
             ap (option_map (λ (d : Clause). (hash seed d, after s))) (get_remove live k s ∙ ap (λ b. cond b None (maps.get live s)) (ne_eqb s k apart))
             ∙ elim (cases_eq s m) [
-              | inl is ↦ ap (spot_in seed live after) is ∙ moved_spot ∙ ap (λ b. cond b (Some (h, place)) (spot_in seed live place_of s)) (sym (eq-eqb s m is))
+              | inl is ↦ ap (spot_in seed live after) is ∙ moved_spot (λ e. apart (is ∙ e)) ∙ ap (λ b. cond b (Some (h, place)) (spot_in seed live place_of s)) (sym (eq-eqb s m is))
               | inr other ↦
-                  ap (λ p. option_map (λ (d : Clause). (hash seed d, p)) (maps.get live s)) (at_apart s other)
+                  ap (λ p. option_map (λ (d : Clause). (hash seed d, p)) (maps.get live s)) (at_apart s apart other)
                   ∙ ap (λ b. cond b (Some (h, place)) (spot_in seed live place_of s)) (sym (ne_eqb s m other))
             ]
             ∙ ap (λ b. cond b None (cond (eqb s m) (Some (h, place)) (spot_in seed live place_of s))) (sym (ne_eqb s k apart))
@@ -141,7 +144,16 @@ module _ (seed : ℕ) (buckets : ℕ → List ℕ) (place_of : ℕ → ℕ) (liv
       index_without = record {
         placed = placed_without (spot_in seed live place_of) (spot_in seed (maps.remove live k) after) buckets left k h sound.placed place m spot_here m_is spots_without taken;
         low = λ s is. sound.low s (was_live s is);
+        vacant = λ s none. elim (cases_eq s k) [
+          | inl same ↦ ap after same ∙ cleared
+          | inr gone ↦
+              (let was : maps.get live s ≡ None = ap (λ b. cond b None (maps.get live s)) (sym (ne_eqb s k gone)) ∙ sym (get_remove live k s) ∙ none in
+              at_apart s gone (λ e. not_last s was e) ∙ sound.vacant s was)
+        ];
       }
+        where
+          not_last : (s : ℕ) → maps.get live s ≡ None → s ≡ m → ⊥
+          not_last s was e = none-some (h, length (buckets h) - 1) (sym (ap (option_map (λ (d : Clause). (hash seed d, place_of m))) (ap (maps.get live) (sym e) ∙ was)) ∙ last_spot m m_is)
 
 -- a clause in the place of one with the same hash
 pub index_replaced : (seed : ℕ) (buckets : ℕ → List ℕ) (place_of : ℕ → ℕ) (live : FinMap nat_cmp Clause) → IsIndex seed buckets place_of live → (k : ℕ) (c d : Clause) → maps.get live k ≡ Some c → hash seed d ≡ hash seed c →
@@ -152,8 +164,13 @@ index_replaced seed buckets place_of live sound k c d here alike = record {
     back = λ s h i is. spots s ∙ sound.placed.back s h i is;
   };
   low = λ s is. sound.low s (sym (still s) ∙ is);
+  vacant = λ s none. sound.vacant s (none_from (maps.get live s) (sym (still s) ∙ ap is_some none));
 }
   where
+    none_from : (o : Option Clause) → is_some o ≡ false → o ≡ None
+    none_from None e = refl
+    none_from (Some x) e = absurd (false≢true (sym e))
+
     by_test : {X : Type 0} (f : Clause → X) → f d ≡ f c → (s : ℕ) → option_map f (maps.get (maps.insert live k d) s) ≡ option_map f (maps.get live s)
     by_test f same s = elim (cases_eq s k) [
       | inl e ↦ ap (option_map f) (get_insert live k d s ∙ ap (λ b. cond b (Some d) (maps.get live s)) (eq-eqb s k e)) ∙ ap Some same ∙ ap (option_map f) (sym here ∙ ap (maps.get live) (sym e))

@@ -2,7 +2,7 @@
 use Rattle.std.specs.FinMap as maps
 use Rattle.std.specs.FinMap.{FinMap}
 use Rattle.std.specs.Ordering.{nat_cmp}
-use Rattle.std.specs.Prelude.{ℕ, List, unwrap_or, Option, option_map, ◌<◌, IsSome}
+use Rattle.std.specs.Prelude.{ℕ, List, unwrap_or, Option, None, option_map, ◌≡◌, ◌<◌, IsSome}
 use Rattle.cnf_base.specs.Literals.{Clause}
 use Rattle.tables.specs.Table.{at}
 use Rattle.tables.specs.declared.table.Table.{Table}
@@ -27,11 +27,13 @@ noted_place index = place_in index.places
 abbrev pub spot_in : ℕ → FinMap nat_cmp Clause → (ℕ → ℕ) → ℕ → Option (ℕ × ℕ)
 spot_in seed live place_of s = option_map (λ c. (hash seed c, place_of s)) (maps.get live s)
 
--- each slot stands in the bucket of its clause's hash, at the place that is noted for it
+-- each slot stands in the bucket of its clause's hash, at the place that is noted for it, and for a
+-- slot without a clause none is
 pub record IsIndex (seed : ℕ) (buckets : ℕ → List ℕ) (place_of : ℕ → ℕ)
     (live : FinMap nat_cmp Clause) : Type 0 where
   pub placed : IsIndexed (spot_in seed live place_of) buckets
   pub low : (s : ℕ) → IsSome (maps.get live s) → s < 4294967296
+  pub vacant : (s : ℕ) → maps.get live s ≡ None → place_of s ≡ 0
 
 -- the index fits the clauses
 abbrev pub Indexes : Index → FinMap nat_cmp Clause → Type 0

@@ -5,10 +5,11 @@
 //!
 //! Copies of a clause stand in one bucket. The place of a slot there is noted, unless it is the
 //! first and always was, so that one of many copies is removed in constant time. A formula without
-//! copies, as nearly each is, has few places to note.
+//! copies, as nearly each is, has few places to note. For a slot without a clause none is noted, so
+//! that a clause with no copy is added without a look at the places.
 
 ghost use Rattle.std.specs.Prelude.{◌≡◌, ℕ, ◌==◌, ◌<◌, length, if◌then◌else◌, Some, None, ⊤, OnOk};
-ghost use Rattle.std.specs.Prelude.{OnErr};
+ghost use Rattle.std.specs.Prelude.{OnErr, ◌≢◌};
 ghost use Rattle.std.specs.Ordering.{nat_cmp};
 ghost use Rattle.std.specs.FinMap as maps;
 ghost use Rattle.std.specs.FinMap.{FinMap};
@@ -89,17 +90,34 @@ fn note(places: &mut Table<u32>, slot: u32, place: u32)
     }
 }
 
-/// Notes the place of a slot that was added, and makes room for it unless it is 0.
+/// Notes the place of a slot that was added, for which none is noted, and makes room for it unless
+/// it is 0.
 fn note_new(places: &mut Table<u32>, slot: u32, place: u32) -> Result<(), OutOfMemory>
-    ensures ok { OnOk result ((s : ℕ) → place_in places.new s ≡
+    ensures ok { OnOk result (place_in places.old slot ≡ 0 → (s : ℕ) → place_in places.new s ≡
         (if s == slot then place else place_in places.old s)) }
     ensures err { OnErr result ((s : ℕ) → place_in places.new s ≡ place_in places.old s) }
 {
     if place > 0 {
         places.reserve(slot, 0)?;
+        places.set(slot, place);
     }
-    note(places, slot, place);
     Ok(())
+}
+
+/// Forgets the place of a slot that was taken out, and notes it for the slot that took it.
+fn note_removed(places: &mut Table<u32>, slot: u32, last: u32, place: u32)
+    requires known { at places.old last ≡ None → place ≡ 0 }
+    requires place { place_in places.old slot ≡ place }
+    ensures vacant { place_in places.new slot ≡ 0 }
+    ensures moved { (s : ℕ) → s ≢ slot → place_in places.new s ≡
+        (if s == last then place else place_in places.old s) }
+{
+    if last != slot {
+        note(places, last, place);
+    }
+    if place > 0 {
+        note(places, slot, 0);
+    }
 }
 
 /// The place that is noted for a slot.
@@ -145,6 +163,6 @@ impl Indexing for Index {
     fn remove(&mut self, slot: usize, lits: &[Lit]) {
         let place = place_of(&self.places, slot as u32);
         let last = self.buckets.take(hash_of(self.seed, lits), place as usize);
-        note(&mut self.places, last, place);
+        note_removed(&mut self.places, slot as u32, last, place);
     }
 }

@@ -22,7 +22,7 @@ returns-in-Ok-clause-ok c live sound free =
     let old = c.args.self.now in
     let place = c.in_ok-place.place in
     let after = place_in c.note_new.new.places in
-    let wrote = c.in-Ok.ensures.ok in
+    let wrote = c.in-Ok.ensures.ok (sound.vacant c.args.slot free) in
     let here = wrote_place (noted_place old) after c.args.slot place wrote ∙ c.in_ok-place.ensures.place in
     let others = other_place (noted_place old) after c.args.slot place wrote in
     index_with old.seed (under old) (noted_place old) live sound c.args.slot c.args.lits.now c.hash_of-hash.result free c.requires.low c.hash_of-hash.ensures _ after c.in_ok-place.ensures.ok here others
