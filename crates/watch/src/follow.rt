@@ -92,7 +92,12 @@ fn visit(
     ensures fewer { IfOk result (λ found. IfNone found
         (entries_left cursor.new + 1 ≡ entries_left cursor.old)) }
 {
-    match look_at(store, assumptions.trail(), entry, l) {
+    let trail = assumptions.trail();
+    if trail.is_true_near(trail.near(), entry.blocking()) {
+        cursor.keep(entry);
+        return Ok(None);
+    }
+    match look_at(store, trail, entry, l) {
         Visit::Stays(blocking) => {
             cursor.keep(entry.with_blocking(blocking));
             Ok(None)
@@ -132,7 +137,7 @@ fn visit_all(
         cursor.old.entries cursor.new.entries assumptions.old assumptions.new
         (at reasons.old) (at reasons.new) l }
 {
-    while let Some(entry) = cursor.next(assumptions.trail()) {
+    while let Some(entry) = cursor.next() {
         if let Some(slot) = visit(store, lists, assumptions, reasons, cursor, entry, l)? {
             return Ok(Some(slot));
         }

@@ -1,13 +1,10 @@
 //! A watch list of which the clauses are visited.
 
-ghost use Rattle.std.specs.Prelude.{◌≡◌, ℕ, ◌+◌, ◌<◌, ◌≤◌, Some, length, slice_get, slice_set};
-ghost use Rattle.std.specs.Prelude.{IsTrue};
+ghost use Rattle.std.specs.Prelude.{◌≡◌, ◌+◌, ◌<◌, length, slice_get, slice_set};
 ghost use Rattle.std.specs.List.{remove};
-ghost use Rattle.cnf_base.specs.Literals.{has};
 
 use crate::watcher::Watcher;
 use std::marker::Model;
-use trail::Trail;
 
 /// A watch list of which the clauses are visited one after the other. An entry is kept or taken
 /// out, and the order stays.
@@ -50,26 +47,16 @@ impl Cursor {
         }
     }
 
-    /// Goes on to the next entry of which the literal isn't true, and answers it, if there is one.
+    /// The next entry, if there is one.
     #[inline(always)]
-    pub fn next(&mut self, trail: &Trail) -> Option<Watcher>
-        ensures entries { self.new.entries ≡ self.old.entries }
-        ensures further { self.old.visited ≤ self.new.visited }
-        ensures passed { (place : ℕ) (w : Watcher) → self.old.visited ≤ place →
-            place < self.new.visited → slice_get self.new.entries place ≡ Some w →
-            IsTrue (has trail.now.lits w.blocking) }
-        ensures inside { self.new.visited ≤ length self.new.entries }
-        ensures next { result ≡ slice_get self.new.entries self.new.visited }
+    pub fn next(&self) -> Option<Watcher>
+        ensures { result ≡ slice_get self.now.entries self.now.visited }
     {
-        let near = trail.near();
-        while self.next < self.list.len() {
-            let entry = self.list[self.next];
-            if !trail.is_true_near(near, entry.blocking()) {
-                return Some(entry);
-            }
-            self.keep(entry);
+        if self.next < self.list.len() {
+            Some(self.list[self.next])
+        } else {
+            None
         }
-        None
     }
 
     /// Puts this in the place of the next entry, and keeps it.

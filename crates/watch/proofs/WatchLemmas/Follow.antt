@@ -1,19 +1,16 @@
 -- Visits of the clauses in a list, one after the other.
 use Rattle.std.proofs.Common.{◌≡◌, ◌≢◌, ℕ, ◌+◌, ◌<◌, ◌≤◌, Bool, true, false, cond, eqb, eq-eqb}
 use Rattle.std.proofs.Common.{eqb-true, ne_eqb, ◌||◌, Option, Some, None, List, [], ◌∷◌, length}
-use Rattle.std.proofs.Common.{get_or, take, refl, sym, ap, ◌∙◌, subst, arith, inl, inr, zero, suc}
-use Rattle.std.proofs.Common.{slice_get}
-use Rattle.std.proofs.lemmas.Bool.{and_parts, cases_eq, false≢true}
+use Rattle.std.proofs.Common.{get_or, take, refl, sym, ap, ◌∙◌, subst, arith, inl, inr}
+use Rattle.std.proofs.lemmas.Bool.{cases_eq, false≢true}
 use Rattle.std.proofs.lemmas.List.{take_all}
 use Rattle.std.proofs.lemmas.List.Sums.{sum_by_more, sum_by_more_le, sum_by-cons}
-use Rattle.std.proofs.lemmas.Option.{same_Some, slice_get_cases}
 use Rattle.cnf_base.specs.Literals.{Literal, Clause, has}
 use Rattle.theory.specs.Propagation.{Live}
 use Rattle.watch_lists.specs.Lists.{entries_of, times_in, unfit_entries}
 use Rattle.root_literals.specs.Watched.{IsPart, watches, entries_for, IsListed, IsMet}
 use Rattle.watch_lists.specs.declared.watcher.Watcher.{Watcher}
 use Rattle.root_literals.proofs.RootLemmas.Watched.{met_more, met_unwatched}
-use Rattle.watch.proofs.WatchLemmas.Moves.{entry_alive}
 
 -- ---- Slots in a list
 
@@ -102,34 +99,11 @@ module _ (live after : Live) (l : Literal) (trues more : List Literal) (part : I
           let same = ap (entries_of s) front in
           omega (arith, split, none, same, there)
 
--- ---- Entries that are passed over
+-- ---- Entries before a place
 
 -- none stand before the first
 pub none_before : (list : List Watcher) (place s : ℕ) → place ≡ 0 → 0 < entries_of s (take place list) → ⊥
 none_before list place s is some = let none = ap (λ k. entries_of s (take k list)) is in omega (arith, none, some)
-
-module _ (live : Live) (lists : Literal → List Watcher) (l : Literal) (list : List Watcher) (listed : IsListed live (λ k. cond (eqb k l) list (lists k))) (trues : List Literal) where
-  met_next : (place : ℕ) (w : Watcher) → place < length list → w ≡ get_or list place w → has trues w.blocking ≡ true → ((s : ℕ) → 0 < entries_of s (take place list) → (c : Clause) → live s ≡ Some c → IsMet c l trues) →
-      (s : ℕ) → 0 < entries_of s (take (place + 1) list) → (c : Clause) → live s ≡ Some c → IsMet c l trues
-  met_next place w inside is satisfied visited =
-      let alive = entry_alive live lists l list listed place w inside is in
-      visited_further live live l trues trues (λ k h. h) list place w.slot visited (λ s ne. refl) list refl w inside (ap (λ x. x.slot) (sym is))
-      (λ c there _. (w.blocking, ap (λ d. has d w.blocking) (same_Some c alive.0 (sym there ∙ alive.1)) ∙ (and_parts (has alive.0 w.blocking) _ alive.3).0, satisfied))
-
-  -- their literals are true
-  pub met_passed : (from n to : ℕ) → to ≡ from + n → to ≤ length list → ((place : ℕ) (w : Watcher) → from ≤ place → place < to → slice_get list place ≡ Some w → has trues w.blocking ≡ true) →
-      ((s : ℕ) → 0 < entries_of s (take from list) → (c : Clause) → live s ≡ Some c → IsMet c l trues) → (s : ℕ) → 0 < entries_of s (take to list) → (c : Clause) → live s ≡ Some c → IsMet c l trues
-  met_passed from zero to is inside passed met =
-      subst (λ k. (s : ℕ) → 0 < entries_of s (take k list) → (c : Clause) → live s ≡ Some c → IsMet c l trues) (let same : from ≡ to = omega (arith, is) in same) met
-  met_passed from (suc n) to is inside passed met =
-      let low : from + n < length list = omega (arith, is, inside) in
-      elim (slice_get_cases list (from + n)).1 [
-        | inl there ↦
-            subst (λ k. (s : ℕ) → 0 < entries_of s (take k list) → (c : Clause) → live s ≡ Some c → IsMet c l trues) (let same : from + n + 1 ≡ to = omega (arith, is) in same)
-            (met_next (from + n) there.0 low (sym there.3) (passed (from + n) there.0 (omega arith) (omega (arith, is)) there.2)
-            (met_passed from n (from + n) refl (omega (arith, low)) (λ place w above below. passed place w above (omega (arith, below, is))) met))
-        | inr past ↦ absurd (let high = past.0 in let wrong : ⊥ = omega (arith, high, low) in wrong)
-      ]
 
 -- ---- Lists that are the same
 

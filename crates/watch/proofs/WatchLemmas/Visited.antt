@@ -102,6 +102,3 @@ module _ {a b : FinMap nat_cmp Clause} {lists lists_b : WatchLists} {list list_b
     entries = second.entries ∙ first.entries;
     propagates = propagates_on a b c x y z r s t first.propagates second.propagates;
   }
-
-  pub visited_with : {list_c : List Watcher} → list_c ≡ list_b → Visited a b lists lists_b list list_b x y r s l → Visited a b lists lists_b list list_c x y r s l
-  visited_with {list_c} same first = subst (λ xs. Visited a b lists lists_b list xs x y r s l) (sym same) first

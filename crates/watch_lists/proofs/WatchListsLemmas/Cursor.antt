@@ -1,13 +1,12 @@
 -- A list of which an entry is kept or taken out.
 use Rattle.std.proofs.Common.{◌≡◌, ℕ, ◌+◌, ◌-◌, ◌<◌, ◌≤◌, ◌++◌, ◌∷◌, [], List, length, take, drop}
-use Rattle.std.proofs.Common.{set, get_or, slice_get, Some, None, sym, ap, ◌∙◌, arith}
+use Rattle.std.proofs.Common.{set, sym, ap, ◌∙◌, arith}
 use Rattle.std.specs.List.{remove}
 use Rattle.std.proofs.lemmas.List.{append_assoc, drop-drop, drop-set-lt, drop_more, length-append}
-use Rattle.std.proofs.lemmas.List.{get_or-append_right, length-drop, length-take-le}
+use Rattle.std.proofs.lemmas.List.{length-drop, length-take-le}
 use Rattle.std.proofs.lemmas.List.{set-append_right}
-use Rattle.std.proofs.lemmas.List.{set-get_or, take_more_set}
+use Rattle.std.proofs.lemmas.List.{take_more_set}
 use Rattle.std.proofs.lemmas.List.Edits.{remove-append_right}
-use Rattle.std.proofs.lemmas.Option.{slice_get-get_or, slice_get_past}
 
 module _ {X : Type 0} (xs : List X) (kept next : ℕ) (ordered : kept ≤ next) where
   -- how many entries there are
@@ -34,27 +33,6 @@ module _ {X : Type 0} (xs : List X) (kept next : ℕ) (ordered : kept ≤ next) 
     entry_taken =
         let none : kept - kept ≡ 0 = omega arith in
         sym (remove-append_right (take kept xs) (drop next xs) kept kept front (omega arith) ∙ ap (λ i. take kept xs ++ remove (drop next xs) i) none ∙ ap (λ ys. take kept xs ++ ys) (drop-drop 1 next xs))
-
-    -- the next entry
-    pub entry_read : (d : X) → get_or (take kept xs ++ drop next xs) kept d ≡ get_or xs next d
-    entry_read d =
-        let none : kept - kept ≡ 0 = omega arith in
-        get_or-append_right (take kept xs) (drop next xs) kept kept d front (omega arith) ∙ ap (λ i. get_or (drop next xs) i d) none ∙ ap (λ ys. get_or ys 0 d) (drop_more xs next d inside)
-
-    -- it can be read
-    pub entry_inside : kept < length (take kept xs ++ drop next xs)
-    entry_inside = let n = entries_length (omega (arith, inside)) in omega (arith, n, inside)
-
-    pub entry_there : (x : X) → x ≡ get_or xs next x → slice_get (take kept xs ++ drop next xs) kept ≡ Some x
-    entry_there x is = slice_get-get_or (take kept xs ++ drop next xs) kept x entry_inside ∙ ap Some (entry_read x ∙ sym is)
-
-    -- it is put where it is
-    pub entry_same : (x : X) → x ≡ get_or xs next x → set (take kept xs ++ drop next xs) kept x ≡ take kept xs ++ drop next xs
-    entry_same x is = ap (set (take kept xs ++ drop next xs) kept) (is ∙ sym (entry_read x)) ∙ set-get_or (take kept xs ++ drop next xs) kept x
-
-  -- there is none at the end
-  pub entry_none : next ≤ length xs → length xs ≤ next → slice_get (take kept xs ++ drop next xs) kept ≡ None
-  entry_none inside past = slice_get_past (take kept xs ++ drop next xs) kept (let n = entries_length inside in omega (arith, n, past))
 
 -- the next entry is inside the list where there is one
 pub next_inside : {X : Type 0} (xs : List X) (kept next : ℕ) → kept ≤ next → next ≤ length xs → kept < length (take kept xs ++ drop next xs) → next < length xs
