@@ -117,10 +117,10 @@ pub(crate) fn wipe(words: &mut Vec<Lit>, from: usize, count: usize)
 }
 
 /// Overwrites words with literals.
-fn write(words: &mut Vec<Lit>, from: usize, lits: &[Lit])
-    requires { from + length lits.now ≤ length words.old.items }
-    ensures { words.new.items ≡
-        take from words.old.items ++ (lits.now ++ drop (from + length lits.now) words.old.items) }
+fn write(words: &mut [Lit], from: usize, lits: &[Lit])
+    requires { from + length lits.now ≤ length words.old }
+    ensures { words.new ≡
+        take from words.old ++ (lits.now ++ drop (from + length lits.now) words.old) }
 {
     words[from..from + lits.len()].copy_from_slice(lits);
 }
@@ -137,6 +137,7 @@ pub(crate) fn write_clause(words: &mut Vec<Lit>, slot: usize, lits: &[Lit])
     ensures behind { (i : ℕ) → 4 * slot + 1 + length lits.now ≤ i →
         slice_index words.new.items i ≡ slice_index words.old.items i }
 {
+    let words = words.as_mut_slice();
     words[slot * UNIT] = word(lits.len());
     write(words, slot * UNIT + 1, lits);
 }
@@ -152,6 +153,7 @@ pub(crate) fn write_link(words: &mut Vec<Lit>, slot: usize, link: usize)
     ensures behind { (i : ℕ) → 4 * slot + 2 ≤ i →
         slice_index words.new.items i ≡ slice_index words.old.items i }
 {
+    let words = words.as_mut_slice();
     words[slot * UNIT] = word(link % LOW);
     words[slot * UNIT + 1] = word(link / LOW);
 }
@@ -163,6 +165,7 @@ pub(crate) fn exchange(words: &mut Vec<Lit>, slot: usize, a: usize, b: usize)
     requires second { 4 * slot + 1 + b < length words.old.items }
     ensures { words.new.items ≡ swap words.old.items (4 * slot + 1 + a) (4 * slot + 1 + b) }
 {
+    let words = words.as_mut_slice();
     let from = slot * UNIT + 1;
     let first = words[from + a];
     words[from + a] = words[from + b];
