@@ -11,7 +11,9 @@ use Rattle.std.proofs.lemmas.Bool.{cases_eq, cases_lt, false≢true}
 use Rattle.std.proofs.lemmas.List.{drop-append-le, get_or-append_right, get_or-replicate}
 use Rattle.std.proofs.lemmas.List.{get_or_append_left, get_or_past, length-append, length-drop}
 use Rattle.std.proofs.lemmas.List.{length-replicate, take-append-le}
-use Rattle.cnf_base.specs.Literals.{has}
+use Rattle.std.proofs.Math.ListN.{set}
+use Rattle.std.proofs.Math.Seq.{drop-append-add, set-append_seam, take-append_seam}
+use Rattle.cnf_base.specs.Literals.{Clause, has}
 use Rattle.cnf_base.proofs.SetLemmas.{has_cases, has_head}
 use Rattle.clause_memory.specs.Memory.{units_for}
 use Rattle.clause_memory.specs.Code.Fields.{IsMemory}
@@ -23,9 +25,10 @@ use Rattle.clause_memory.specs.declared.kind.Kind.TheVariants.{Live, Free, Rest}
 use Rattle.clause_memory.proofs.ClauseLemmas.{clause_fits, clause_if, clauses_same, get_live}
 use Rattle.clause_memory.proofs.FreeLemmas.{HasHead, each_list, head_here, head_known, head_there}
 use Rattle.clause_memory.proofs.FreeLemmas.{leads_same, list_here, list_there, none_of, with_list}
-use Rattle.clause_memory.proofs.MemoryLemmas.{memory_heads}
+use Rattle.clause_memory.proofs.MemoryLemmas.{IsPutIn, memory_heads, put_in_blocks, put_in_clauses}
+use Rattle.clause_memory.proofs.MemoryLemmas.{put_in_memory, was_none}
 use Rattle.clause_memory.proofs.UnitLemmas.{begins_inside, free_begins, live_begins, live_isnt_free}
-use Rattle.clause_memory.proofs.UnitLemmas.{part_blank, start_alike, start_begins, start_le, start_run}
+use Rattle.clause_memory.proofs.UnitLemmas.{part_blank, start_alike, start_begins, start_le, start_run, units_hold}
 
 pub record IsMade (ks : List Kind) (words : List ℕ) (heads heads_now : ℕ → Option ℕ) (n more : ℕ) : Type 0 where
   pub memory : IsMemory ks words heads
@@ -51,8 +54,8 @@ memory_reserved {ks} {words} {heads} now n memory is = memory_heads now memory l
       | inr ne ↦ ap link_of (is k ∙ ap (λ b. cond b (Some (unwrap_or (heads n) 0)) (heads k)) (ne_eqb k n ne))
     ]
 
-pub none_reserved : (heads now : ℕ → Option ℕ) (n : ℕ) → link_of (heads n) ≡ 0 → ((k : ℕ) → now k ≡ cond (eqb k n) (Some (unwrap_or (heads n) 0)) (heads k)) → link_of (now n) ≡ 0
-none_reserved heads now n none is = ap link_of (is n ∙ ap (λ b. cond b (Some (unwrap_or (heads n) 0)) (heads n)) (eq-eqb n n refl)) ∙ read (heads n) ∙ none
+pub none_reserved : (heads now : ℕ → Option ℕ) (n : ℕ) → link_of (heads n) ≡ 0 → ((k : ℕ) → now k ≡ cond (eqb k n) (Some (unwrap_or (heads n) 0)) (heads k)) → now n ≡ Some 0
+none_reserved heads now n none is = is n ∙ ap (λ b. cond b (Some (unwrap_or (heads n) 0)) (heads n)) (eq-eqb n n refl) ∙ ap Some (read (heads n) ∙ none)
   where
     read : (o : Option ℕ) → unwrap_or o 0 ≡ link_of o
     read None = refl
@@ -302,9 +305,6 @@ module _ {ks : List Kind} {words : List ℕ} {heads heads_now : ℕ → Option �
         ∙ sym (get_block ks s ∙ ap (λ k. block_if k (rests (drop (suc s) ks) + 1)) (get_or_past ks s Rest high))
   ]
 
-  pub made_anew : maps.get (blocks_in ks) end ≡ None
-  made_anew = get_block ks end ∙ ap (λ k. block_if k (rests (drop (suc end) ks) + 1)) (get_or_past ks end Rest (omega arith))
-
 -- where no free block of so many units is listed, each has a clause
 pub none_free : {ks : List Kind} {words : List ℕ} {heads : ℕ → Option ℕ} → IsMemory ks words heads → (n : ℕ) → link_of (heads n) ≡ 0 → (s : ℕ) → maps.get (blocks_in ks) s ≡ Some n → is_some (maps.get (clauses_in ks words) s) ≡ true
 none_free {ks} {words} {heads} memory n none s here = by_kind (kind_at ks s) refl
@@ -319,3 +319,139 @@ none_free {ks} {words} {heads} memory n none s here = by_kind (kind_at ks s) ref
     by_kind Live is = ap is_some (get_live ks words s is)
     by_kind Free is = absurd (not_free is)
     by_kind Rest is = absurd (none-some n (sym (ap (λ k. block_if k (rests (drop (suc s) ks) + 1)) is) ∙ sym (get_block ks s) ∙ here))
+
+-- ---- A clause behind all others
+
+-- A block that is made with its clause is one that was made free, and then got it.
+
+pub record IsAppended (ks : List Kind) (words : List ℕ) (heads : ℕ → Option ℕ) (c : Clause) (more : ℕ) : Type 0 where
+  pub memory : IsMemory ks words heads
+  pub more_is : more + 1 ≡ units_for (length c)
+  pub none : heads (units_for (length c)) ≡ Some 0
+  pub few : length ks + units_for (length c) ≤ 4294967295
+
+module _ {ks : List Kind} {words : List ℕ} {heads : ℕ → Option ℕ} {c : Clause} {more : ℕ} (appended : IsAppended ks words heads c more) where
+  abbrev units : ℕ
+  units = units_for (length c)
+
+  -- the heads, were the block free
+  abbrev with_free : ℕ → Option ℕ
+  with_free k = cond (eqb k units) (Some (length ks + 1)) (heads k)
+
+  abbrev free_words : List ℕ
+  free_words = words ++ blanks (4 * units)
+
+  abbrev clause_words : List ℕ
+  clause_words = (length c + 2) ∷ (c ++ blanks (4 * units - 1 - length c))
+
+  abbrev pub now_kinds : List Kind
+  now_kinds = ks ++ Live ∷ replicate more Rest
+
+  abbrev pub now_words : List ℕ
+  now_words = words ++ clause_words
+
+  made_free : IsMade ks words heads with_free units more
+  made_free = record {
+    memory = appended.memory;
+    more_is = appended.more_is;
+    none = ap link_of appended.none;
+    few = appended.few;
+    head = record { each = λ k. refl };
+  }
+
+  length_words : length words ≡ 4 * length ks
+  length_words = appended.memory.whole
+
+  clause_words_len : length clause_words ≡ 4 * units
+  clause_words_len =
+      let hold = units_hold (length c) in
+      let sum = length-append c (blanks (4 * units - 1 - length c)) in
+      let len : length (blanks (4 * units - 1 - length c)) ≡ 4 * units - 1 - length c = length-replicate (4 * units - 1 - length c) 2 in
+      omega arith
+
+  free_words_len : length (blanks (4 * units)) ≡ 4 * units
+  free_words_len = length-replicate (4 * units) 2
+
+  now_word : (i : ℕ) → 4 * length ks ≤ i → get_or now_words i 0 ≡ get_or clause_words (i - 4 * length ks) 0
+  now_word i high = get_or-append_right words clause_words (4 * length ks) i 0 length_words high
+
+  first_word : get_or now_words (4 * length ks) 0 ≡ length c + 2
+  first_word =
+      let at : 4 * length ks - 4 * length ks ≡ 0 = omega arith in
+      now_word (4 * length ks) (omega arith) ∙ ap (λ i. get_or clause_words i 0) at
+
+  literal_words_are : take (length c) (drop (4 * length ks + 1) now_words) ≡ c
+  literal_words_are =
+      ap (λ n. take (length c) (drop (n + 1) now_words)) (sym length_words)
+      ∙ ap (take (length c)) (drop-append-add words clause_words 1)
+      ∙ take-append_seam c (blanks (4 * units - 1 - length c))
+
+  before_same : (i : ℕ) → i < 4 * length ks → get_or now_words i 0 ≡ get_or free_words i 0
+  before_same i low =
+      let long = length_words in
+      get_or_append_left words clause_words 0 i (omega arith) ∙ sym (get_or_append_left words (blanks (4 * units)) 0 i (omega arith))
+
+  behind_same : (i : ℕ) → 4 * length ks + 1 + length c ≤ i → get_or now_words i 0 ≡ get_or free_words i 0
+  behind_same i high = elim (cases_lt i (4 * length ks + 4 * units)) [
+    | inl low ↦
+        now_word i (omega arith) ∙ ap (λ j. get_or clause_words j 0) (at_literals i high)
+        ∙ get_or-append_right c (blanks (4 * units - 1 - length c)) (length c) (i - 4 * length ks - 1) 0 refl (omega arith)
+        ∙ get_or-replicate (4 * units - 1 - length c) (i - 4 * length ks - 1 - length c) 2 0 (omega arith)
+        ∙ sym (new_word made_free i (omega arith) (omega arith))
+    | inr past ↦
+        get_or_past now_words i 0 (let long = length_words in let len = clause_words_len in let sum = length-append words clause_words in omega arith)
+        ∙ sym (get_or_past free_words i 0 (let long = length_words in let len = free_words_len in let sum = length-append words (blanks (4 * units)) in omega arith))
+  ]
+    where
+      at_literals : (i : ℕ) → 4 * length ks + 1 + length c ≤ i → i - 4 * length ks ≡ suc (i - 4 * length ks - 1)
+      at_literals i high = omega arith
+
+  heads_back : (k : ℕ) → heads k ≡ cond (eqb k units) (Some (link_at free_words (length ks))) (with_free k)
+  heads_back k = elim (cases_eq k units) [
+    | inl e ↦
+        ap heads e ∙ appended.none ∙ ap Some (sym (new_link made_free))
+        ∙ ap (λ b. cond b (Some (link_at free_words (length ks))) (with_free k)) (sym (eq-eqb k units e))
+    | inr ne ↦
+        ap (λ b. cond b (Some (length ks + 1)) (heads k)) (sym (ne_eqb k units ne))
+        ∙ ap (λ b. cond b (Some (link_at free_words (length ks))) (with_free k)) (sym (ne_eqb k units ne))
+  ]
+
+  put_there : IsPutIn (ks ++ Free ∷ replicate more Rest) free_words now_words with_free heads (length ks) c
+  put_there = record {
+    memory = made_memory made_free;
+    first = ap (λ b. cond b (Some (length ks + 1)) (heads units)) (eq-eqb units units refl);
+    same_len =
+        (let len = clause_words_len in
+        let blank = free_words_len in
+        let sum = length-append words clause_words in
+        let free_sum = length-append words (blanks (4 * units)) in
+        omega arith);
+    header = first_word;
+    literals = literal_words_are;
+    before = before_same;
+    behind = behind_same;
+    head = record { each = heads_back };
+  }
+
+  kinds_now : set (ks ++ Free ∷ replicate more Rest) (length ks) Live ≡ now_kinds
+  kinds_now = set-append_seam ks Free (replicate more Rest) Live
+
+  pub appended_memory : IsMemory now_kinds now_words heads
+  appended_memory = subst (λ ls. IsMemory ls now_words heads) kinds_now (put_in_memory put_there)
+
+  pub appended_free : maps.get (clauses_in ks words) (length ks) ≡ None
+  appended_free = ap (λ m. maps.get m (length ks)) (sym (made_clauses made_free)) ∙ was_none put_there
+
+  pub appended_clauses : clauses_in now_kinds now_words ≡ maps.insert (clauses_in ks words) (length ks) c
+  appended_clauses =
+      ap (λ ls. clauses_in ls now_words) (sym kinds_now) ∙ put_in_clauses put_there
+      ∙ ap (λ m. maps.insert m (length ks) c) (made_clauses made_free)
+
+  appended_blocks : blocks_in now_kinds ≡ blocks_in (ks ++ Free ∷ replicate more Rest)
+  appended_blocks = ap blocks_in (sym kinds_now) ∙ put_in_blocks put_there
+
+  pub appended_block : maps.get (blocks_in now_kinds) (length ks) ≡ Some units
+  appended_block = ap (λ m. maps.get m (length ks)) appended_blocks ∙ made_block made_free
+
+  pub appended_other_blocks : (s : ℕ) → s ≢ length ks → maps.get (blocks_in now_kinds) s ≡ maps.get (blocks_in ks) s
+  appended_other_blocks s ne = ap (λ m. maps.get m s) appended_blocks ∙ made_other_blocks made_free s ne

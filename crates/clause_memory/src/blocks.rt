@@ -26,6 +26,8 @@ pub(crate) fn put_in(
     requires short { length lits.now ≤ 536870909 }
     ensures memory { IsMemory kinds.new.items words.new.items (at heads.new) }
     ensures free { maps.get (clauses_in kinds.old.items words.old.items) slot ≡ None }
+    ensures block { maps.get (blocks_in kinds.old.items) slot ≡
+        Some (units_for (length lits.now)) }
     ensures blocks { blocks_in kinds.new.items ≡ blocks_in kinds.old.items }
     ensures clauses { clauses_in kinds.new.items words.new.items ≡
         maps.insert (clauses_in kinds.old.items words.old.items) slot lits.now }

@@ -7,9 +7,9 @@ ghost use Rattle.std.specs.List.{swap};
 ghost use Rattle.cnf_base.specs.Literals.{Clause};
 ghost use Rattle.clause_memory.specs.Memory.{literals_in, units_for, units_in};
 
-use crate::blocks::{put_in, take_out};
+use crate::blocks::take_out;
 use crate::kind::{Kind, kind_of};
-use crate::room::find_room;
+use crate::room::place;
 use crate::words::{exchange, literals};
 use cnf_base::{Lit, OutOfMemory};
 use std::alloc::Global;
@@ -88,20 +88,7 @@ impl ClauseMemory {
         ensures live_alone { self.new.stored ≡ literals_in self.new.live }
         ensures err { OnErr result (self.new ≡ self.old) }
     {
-        let slot = find_room(
-            &mut self.kinds,
-            &mut self.words,
-            &mut self.heads,
-            lits.len(),
-        )?;
-        put_in(
-            &mut self.kinds,
-            &mut self.words,
-            &mut self.heads,
-            slot,
-            lits,
-        );
-        Ok(slot)
+        place(&mut self.kinds, &mut self.words, &mut self.heads, lits)
     }
 
     /// Removes the clause in the slot. It takes no memory.

@@ -3,7 +3,7 @@
 //! They are literals, so that a clause is handed out as a slice. Numbers are written among them as
 //! the literals with the codes of them and 2.
 
-ghost use Rattle.std.specs.Prelude.{◌≡◌, ℕ, ◌+◌, ◌-◌, ◌*◌, ◌<◌, ◌≤◌, ◌++◌, length, take, drop};
+ghost use Rattle.std.specs.Prelude.{◌≡◌, ℕ, ◌+◌, ◌-◌, ◌*◌, ◌<◌, ◌≤◌, ◌++◌, ◌∷◌, length, take, drop};
 ghost use Rattle.std.specs.Prelude.{vec_len, vec_capacity, OnOk, slice_index};
 ghost use Rattle.std.specs.List.{swap};
 ghost use Rattle.clause_memory.specs.Memory.{units_for};
@@ -105,6 +105,22 @@ pub(crate) fn append_blanks(words: &mut Vec<Lit>, count: usize)
     for _added in 0..count {
         words.push_reserved(blank);
     }
+}
+
+/// Puts the header and the literals of a clause at the end, and blank words behind them up to this
+/// count.
+pub(crate) fn append_clause(words: &mut Vec<Lit>, lits: &[Lit], count: usize)
+    requires short { length lits.now ≤ 536870909 }
+    requires inside { length lits.now < count }
+    requires room { vec_len words.old + count ≤ vec_capacity words.old }
+    ensures { words.new.items ≡ words.old.items ++
+        (length lits.now + 2) ∷ (lits.now ++ blanks (count - 1 - length lits.now)) }
+{
+    words.push_reserved(word(lits.len()));
+    for l in lits {
+        words.push_reserved(*l);
+    }
+    append_blanks(words, count - 1 - lits.len());
 }
 
 /// Overwrites words with blank ones.

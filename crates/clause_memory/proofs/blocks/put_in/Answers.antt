@@ -2,6 +2,7 @@ use Rattle.std.proofs.Common.{Some, cond, eqb, length, arith, ap, ◌∙◌}
 use Rattle.tables.specs.Table.{at}
 use Rattle.clause_memory.specs.Memory.{units_for}
 use Rattle.clause_memory.specs.Code.Free.{link_at}
+use Rattle.clause_memory.proofs.BlockLemmas.{block_is}
 use Rattle.clause_memory.proofs.MemoryLemmas.{IsPutIn, first_block, first_low, link_fits, put_in_blocks, put_in_clauses}
 use Rattle.clause_memory.proofs.MemoryLemmas.{put_in_memory, was_none}
 use Rattle.clause_memory.proofs.UnitLemmas.{block_inside, units_hold}
@@ -60,3 +61,6 @@ returns-clause-clauses c = put_in_clauses (put (goal.at.returns-clause-clauses c
 
 pub returns-clause-blocks : goal.returns-clause-blocks
 returns-clause-blocks c = put_in_blocks (put (goal.at.returns-clause-blocks c).After-write_clause)
+
+pub returns-clause-block : goal.returns-clause-block
+returns-clause-block c = block_is (first_block c.requires.memory (units_for (length c.args.lits.now)) c.args.slot c.requires.first)

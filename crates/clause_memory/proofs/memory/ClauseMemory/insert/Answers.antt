@@ -1,20 +1,19 @@
-use Rattle.std.proofs.Common.{arith, length}
-use Rattle.clause_memory.specs.Memory.{units_for}
+use Rattle.std.proofs.Common.{◌≤◌, Result, Ok, Err, OnOk, arith}
+use Rattle.std.specs.FinMap as maps
+use Rattle.clause_memory.specs.Code.Units.{clauses_in}
 use Rattle.clause_memory.proofs.ClauseLemmas.{few_clauses, stored_is}
-use Rattle.clause_memory.proofs.MemoryLemmas.{first_low}
 use Rattle.clause_memory.proofs.memory.ClauseMemory.insert.Goals as goal
 
-pub returns-in_err-slot-clause-live_alone : goal.returns-in_err-slot-clause-live_alone
-returns-in_err-slot-clause-live_alone c = stored_is c.find_room.ensures.memory
-
-pub returns-clause-low : goal.returns-clause-low
-returns-clause-low c = (first_low c.find_room.ensures.memory (units_for (length c.args.lits.now)) c.in_ok-slot.slot c.in_ok-slot.ensures.first).0
+on_ok : {X E : Type 0} (r : Result X E) (P : Type 0) → P → OnOk r P
+on_ok (Ok x) P p = p
+on_ok (Err e) P p = tt
 
 pub returns-clause-few : goal.returns-clause-few
 returns-clause-few c =
-    let few = few_clauses c.put_in.new.kinds.items c.put_in.new.words.items in
-    let most = c.put_in.ensures.memory.few in
-    omega arith
+    let few = few_clauses c.place.new.kinds.items c.place.new.words.items in
+    let most = c.place.ensures.memory.few in
+    let all : maps.len (clauses_in c.place.new.kinds.items c.place.new.words.items) ≤ 4294967295 = omega arith in
+    on_ok c.place.result _ all
 
 pub returns-clause-live_alone : goal.returns-clause-live_alone
-returns-clause-live_alone c = stored_is c.put_in.ensures.memory
+returns-clause-live_alone c = stored_is c.place.ensures.memory
