@@ -6,9 +6,8 @@
 
 ghost use Rattle.std.specs.Prelude.{◌≡◌, ◌≢◌, ℕ, None, Some, nat_eq, ◌==◌, ◌-◌, ◌<◌, [], ◌∷◌, ◌++◌};
 ghost use Rattle.std.specs.Prelude.{length, swap_remove, slice_index, if◌then◌else◌, IfOk, OnOk};
-ghost use Rattle.std.specs.Prelude.{OnErr};
+ghost use Rattle.std.specs.Prelude.{OnErr, IsSome};
 ghost use Rattle.std.specs.HashMap.{get};
-ghost use Rattle.clause_db.specs.Code.Buckets.{bucket_at};
 
 use cnf_base::OutOfMemory;
 use std::alloc::Global;
@@ -21,11 +20,12 @@ use std::slice;
 #[derive(Drop)]
 pub(crate) struct Buckets {
     alloc: Global,
-    /// By hash the one slot of a bucket that `many` has not. Where `many` has it, this says
-    /// nothing.
+    /// By hash the one slot of a bucket that `many` has not. Where `many` has it, this has some slot,
+    /// so that a hash that is not here is nowhere.
     single: HashMap<u32, u32>,
     /// The buckets that had two slots or more since they were empty.
     many: HashMap<u32, Vec<u32>>,
+    ghost covered: { (h : ℕ) → IsSome (get nat_eq many h) → IsSome (get nat_eq single h) },
 }
 
 fn both(alloc: Global, first: u32, second: u32) -> Result<Vec<u32>, OutOfMemory>
@@ -38,6 +38,8 @@ fn both(alloc: Global, first: u32, second: u32) -> Result<Vec<u32>, OutOfMemory>
 }
 
 impl Buckets {
+    ghost use Rattle.clause_db.specs.Code.Buckets.{bucket_at, bucket_of};
+
     /// No bucket has a slot. It takes no memory.
     pub(crate) fn new(alloc: Global) -> Self
         ensures { (h : ℕ) → bucket_at result h ≡ [] }
@@ -69,6 +71,26 @@ impl Buckets {
             (if h == hash then bucket_at self.old h ++ slot ∷ [] else bucket_at self.old h)) }
         ensures err { OnErr result ((h : ℕ) → bucket_at self.new h ≡ bucket_at self.old h) }
     {
+        self.widen();
+        match self.single.insert(hash, slot)? {
+            Some(first) => self.push_further(hash, first, slot),
+            None => Ok(0),
+        }
+    }
+
+    /// Puts a further slot at the end of the bucket of a hash. The map of single slots has it
+    /// already, in the place of this one.
+    fn push_further(&mut self, hash: u32, first: u32, slot: u32) -> Result<u32, OutOfMemory>
+        requires slot { get nat_eq self.old.single hash ≡ Some slot }
+        ensures place { IfOk result (λ place. place ≡
+            length (bucket_of (get nat_eq self.old.many hash) (Some first))) }
+        ensures ok { OnOk result ((h : ℕ) → bucket_at self.new h ≡
+            (if h == hash then bucket_of (get nat_eq self.old.many h) (Some first) ++ slot ∷ []
+            else bucket_at self.old h)) }
+        ensures err { OnErr result ((h : ℕ) → bucket_at self.new h ≡
+            (if h == hash then bucket_of (get nat_eq self.old.many h) (Some first)
+            else bucket_at self.old h)) }
+    {
         if let Some(slots) = self.many.get_mut(&hash) {
             let Ok(place) = u32::try_from(slots.len()) else {
                 return Err(OutOfMemory);
@@ -76,11 +98,7 @@ impl Buckets {
             slots.push(slot)?;
             return Ok(place);
         }
-        self.widen();
-        match self.single.insert(hash, slot)? {
-            Some(first) => self.join(hash, first, slot),
-            None => Ok(0),
-        }
+        self.join(hash, first, slot)
     }
 
     /// Makes the map of single slots four times as long where it is full, if memory allows: it is
