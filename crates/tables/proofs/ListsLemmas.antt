@@ -68,6 +68,13 @@ module _ {T : Type 0} where
         ]
       ]
 
+  -- one more is found at once, which was empty
+  pub near_more_empty : (near : List (Vec T Global)) (list : Vec T Global) (rest : ℕ → List T) → list.items ≡ [] → rest (length near) ≡ [] → (k : ℕ) → items_or (slice_get (near ++ list ∷ []) k) (rest k) ≡ items_or (slice_get near k) (rest k)
+  near_more_empty near list rest empty none = near_more near list rest rest (empty ∙ sym none) (λ k. elim (cases_eq k (length near)) [
+    | inl e ↦ ap rest e ∙ none ∙ sym (ap (λ b. cond b [] (rest k)) (eq-eqb k (length near) e))
+    | inr ne ↦ sym (ap (λ b. cond b [] (rest k)) (ne_eqb k (length near) ne))
+  ])
+
   -- a list that is found by number is written
   pub far_written : (lists : List (Vec T Global)) (number_of : ℕ → Option ℕ) → AreNumbered number_of (length lists) → (key n : ℕ) (list : Vec T Global) → number_of key ≡ Some n → (k : ℕ) →
       items_at (set lists n list) (number_of k) ≡ cond (eqb k key) list.items (items_at lists (number_of k))

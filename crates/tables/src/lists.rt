@@ -5,7 +5,9 @@
 //! and come to the array when it grows past them.
 
 ghost use Rattle.std.specs.Prelude.{◌≡◌, ℕ, ◌+◌, ◌==◌, ◌++◌, ◌∷◌, [], length, min, vec_len};
-ghost use Rattle.std.specs.Prelude.{if◌then◌else◌, IsTrue, IsFalse, OnOk, OnErr, false, ◌≤◌};
+ghost use Rattle.std.specs.Prelude.{if◌then◌else◌, IsTrue, IsFalse, OnOk, OnErr, false, ◌≤◌, ◌<◌};
+ghost use Rattle.std.specs.Prelude.{None};
+ghost use Rattle.tables.specs.Table.{at};
 ghost use Rattle.tables.specs.Lists.{AreApart, entries_in, far_at, has_list_at, list_at, total};
 ghost use Rattle.tables.specs.Code.Lists.{AreSame};
 
@@ -177,6 +179,14 @@ impl<T: Copy + Drop> Lists<T> {
         }
     }
 
+    /// The first key from one on that has a list in `far`, or the end where none before it has one.
+    fn next_far(&self, from: usize, end: usize) -> usize
+        requires { end ≤ 4294967296 }
+        ensures { (k : ℕ) → from ≤ k → k < result → at self.now.numbers k ≡ None }
+    {
+        self.numbers.first_key(from, end).unwrap_or(end)
+    }
+
     /// Lengthens `near`, with the lists that `far` has there.
     fn widen(&mut self, len: usize) -> Result<(), OutOfMemory>
         requires len { len ≤ 4294967296 }
@@ -184,10 +194,16 @@ impl<T: Copy + Drop> Lists<T> {
         ensures same { AreSame self.old self.new }
         ensures long { OnOk result (len ≤ vec_len self.new.near) }
     {
+        let mut next = self.next_far(self.near.len(), len);
         for key in self.near.len()..len {
             self.near.reserve(1)?;
+            if key < next {
+                self.near.push_reserved(Vec::new(self.alloc));
+                continue;
+            }
             let list = self.take_far(key as u32);
             self.near.push_reserved(list);
+            next = self.next_far(key + 1, len);
         }
         Ok(())
     }

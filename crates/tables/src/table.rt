@@ -9,11 +9,11 @@
 //! constants in each run: keys that all collide would make a few megabytes take minutes.
 
 ghost use Rattle.std.specs.Prelude.{◌≡◌, ℕ, ◌==◌, ◌<◌, ◌≤◌, if◌then◌else◌, unwrap_or, IsSome};
-ghost use Rattle.std.specs.Prelude.{IsTrue, OnOk, OnErr, vec_len, slice_index_or};
+ghost use Rattle.std.specs.Prelude.{IsTrue, IfSome, IfNone, OnOk, OnErr, vec_len, slice_index_or};
 ghost use Rattle.std.specs.Option.{option_copied};
 ghost use Rattle.std.specs.Ordering.{nat_cmp};
 ghost use Rattle.std.specs.BTreeMap.{get};
-ghost use Rattle.tables.specs.Table.{at, looked_up};
+ghost use Rattle.tables.specs.Table.{at, looked_up, IsFirst};
 
 use cnf_base::{Lit, OutOfMemory};
 use std::alloc::Global;
@@ -68,6 +68,35 @@ fn is_covered<T: Copy + Drop>(dense: &Vec<Option<T>>, sparse: &BTreeMap<u32, T>)
     true
 }
 
+/// The first key from one on, and before another one, that has a value in `dense`.
+fn first_dense<T: Copy + Drop>(dense: &[Option<T>], from: usize, to: usize) -> Option<usize>
+    ensures some { IfSome result (IsFirst (λ k. slice_index_or dense.now k None) from to) }
+    ensures none { IfNone result ((k : ℕ) → from ≤ k → k < to →
+        slice_index_or dense.now k None ≡ None) }
+{
+    for key in from..to.min(dense.len()) {
+        if dense[key].is_some() {
+            return Some(key);
+        }
+    }
+    None
+}
+
+/// The first key from one on, and before another one, that has a value in `sparse`.
+fn first_sparse<T: Copy + Drop>(sparse: &BTreeMap<u32, T>, from: usize, to: usize) -> Option<usize>
+    requires { to ≤ 4294967296 }
+    ensures some { IfSome result (IsFirst (get nat_cmp sparse.now) from to) }
+    ensures none { IfNone result ((k : ℕ) → from ≤ k → k < to →
+        get nat_cmp sparse.now k ≡ None) }
+{
+    if from >= to {
+        return None;
+    }
+    let (key, _) = sparse.range(from as u32..).next()?;
+    let key = *key as usize;
+    if key < to { Some(key) } else { None }
+}
+
 #[tactic(auto, using(crate::proofs::TableLemmas::table_steps), unfolding(crate::specs::Table::at))]
 impl<T: Copy + Drop> Table<T> {
     /// An empty table. It takes no memory.
@@ -112,6 +141,21 @@ impl<T: Copy + Drop> Table<T> {
         ensures { option_copied result ≡ get nat_cmp self.now.sparse key }
     {
         self.sparse.get(&key)
+    }
+
+    /// The least key from one on, and before another one, that has a value.
+    pub fn first_key(&self, from: usize, to: usize) -> Option<usize>
+        requires { to ≤ 4294967296 }
+        ensures some { IfSome result (IsFirst (at self.now) from to) }
+        ensures none { IfNone result ((k : ℕ) → from ≤ k → k < to → at self.now k ≡ None) }
+    {
+        let dense = first_dense(self.dense.as_slice(), from, to);
+        let sparse = first_sparse(&self.sparse, from, to);
+        match (dense, sparse) {
+            (Some(near), Some(far)) => Some(near.min(far)),
+            (Some(near), None) => Some(near),
+            (None, sparse) => sparse,
+        }
     }
 
     /// Writes the value at the key, which was reserved.

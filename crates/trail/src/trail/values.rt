@@ -123,6 +123,14 @@ impl Values {
         }
     }
 
+    /// The first key from one on that has a value in `far`, or the end where none before it has one.
+    fn next_far(&self, from: usize, end: usize) -> usize
+        requires { end ≤ 536870912 }
+        ensures { (k : ℕ) → from ≤ k → k < result → at self.now.far k ≡ None }
+    {
+        self.far.first_key(from, end).unwrap_or(end)
+    }
+
     /// Lengthens `dense`, with what `far` has there.
     fn widen(&mut self, len: usize) -> Result<(), OutOfMemory>
         requires { len ≤ 536870912 }
@@ -130,9 +138,15 @@ impl Values {
             known_value (value_at self.new k) ≡ known_value (value_at self.old k) }
         ensures kept { (k : ℕ) → IsSome (value_at self.old k) → IsSome (value_at self.new k) }
     {
+        let mut next = self.next_far(self.dense.len(), len);
         for key in self.dense.len()..len {
+            if key < next {
+                self.dense.push(Value::Open)?;
+                continue;
+            }
             let value = self.far_value(key as u32);
             self.dense.push(value)?;
+            next = self.next_far(key + 1, len);
         }
         Ok(())
     }
