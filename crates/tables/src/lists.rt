@@ -32,7 +32,7 @@ pub struct Lists<T> {
 }
 
 /// The length from which `near` grows.
-const LEAST: usize = 1024;
+const LEAST: usize = 16384;
 
 /// The key past the greatest one.
 const MOST: usize = 4294967296;

@@ -2,8 +2,8 @@
 //!
 //! Dense keys have their values in an array, far keys in a balanced tree. So variable 268435455
 //! takes the memory that variable 1 takes, and a look-up among dense keys costs one comparison more
-//! than an array's. The array is at most sixteen times as long as the keys that were met, and a few
-//! thousand.
+//! than an array's. The array is at most sixteen times as long as the keys that were met, and
+//! sixteen thousand.
 //!
 //! No key is hashed, since whoever writes an input chooses the keys. `HashMap` has the same
 //! constants in each run: keys that all collide would make a few megabytes take minutes.
@@ -32,7 +32,7 @@ pub struct Table<T> {
 }
 
 /// The length from which `dense` grows.
-const LEAST: usize = 1024;
+const LEAST: usize = 8192;
 
 /// The key of a literal.
 pub fn key(l: Lit) -> u32

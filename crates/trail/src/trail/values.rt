@@ -25,7 +25,7 @@ pub(crate) struct Values {
 }
 
 /// The length from which `dense` grows.
-const LEAST: usize = 2048;
+const LEAST: usize = 16384;
 
 /// The key past the greatest one.
 const MOST: usize = 536870912;

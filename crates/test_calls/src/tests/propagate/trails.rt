@@ -80,7 +80,7 @@ fn has_room_for_any_number(rt: HostRuntime) -> Result<(), Fail> {
 fn stays_where_memory_runs_out(rt: HostRuntime) -> Result<(), Fail> {
     let first = literal(3)?;
     let mut trail = Trail::new(rt.alloc())?;
-    for var in 1..3000u32 {
+    for var in 1..10000u32 {
         let Some(l) = Lit::new(-(var as i32)) else {
             break;
         };

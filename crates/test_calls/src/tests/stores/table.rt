@@ -11,19 +11,19 @@ fn reads_back(rt: HostRuntime) -> Result<(), Fail> {
     let mut rising: Table<u32> = Table::new(rt.alloc());
     let mut falling: Table<u32> = Table::new(rt.alloc());
     for k in 0..2000u32 {
-        rising.reserve(k, k)?;
+        rising.reserve(8 * k, k)?;
         falling.reserve(536870911 - 7 * k, k)?;
-        falling.reserve(2000 - k, k + 10)?;
+        falling.reserve(16000 - k, k + 10)?;
     }
     for k in 0..2000u32 {
-        expect_equal(&rt, rising.get(k), Some(k));
+        expect_equal(&rt, rising.get(8 * k), Some(k));
         expect_equal(&rt, falling.get(536870911 - 7 * k), Some(k));
-        expect_equal(&rt, falling.get(2000 - k), Some(k + 10));
+        expect_equal(&rt, falling.get(16000 - k), Some(k + 10));
     }
-    expect_equal(&rt, rising.get(2000), None);
-    expect_equal(&rt, falling.get(0), None);
-    rising.reserve(5, 1)?;
-    expect_equal(&rt, rising.get(5), Some(5));
+    expect_equal(&rt, rising.get(16000), None);
+    expect_equal(&rt, falling.get(14000), None);
+    rising.reserve(40, 1)?;
+    expect_equal(&rt, rising.get(40), Some(5));
     Ok(())
 }
 
