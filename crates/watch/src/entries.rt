@@ -86,7 +86,9 @@ pub(crate) fn remove_entries(
     if clause.len() < 2 {
         short.remove(slot.number() as u32);
     } else {
-        lists.take_off(clause[0], slot.number() as u32);
-        lists.take_off(clause[1], slot.number() as u32);
+        let number = slot.number() as u32;
+        let is_binary = clause.len() == 2;
+        lists.take_off(clause[0], number, is_binary);
+        lists.take_off(clause[1], number, is_binary);
     }
 }

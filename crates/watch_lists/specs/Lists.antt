@@ -14,6 +14,11 @@ times_in s slots = sum_by (λ x. if x == s then 1 else 0) slots
 abbrev pub entries_of : ℕ → List Watcher → ℕ
 entries_of s list = sum_by (λ w. if w.slot == s then 1 else 0) list
 
+-- how many are of a slot and say that its clause is binary, or that it isn't
+abbrev pub marked_entries : ℕ → Bool → List Watcher → ℕ
+marked_entries s is_binary list = sum_by (λ w.
+    if w.slot == s && (if is_binary then w.is_binary else not w.is_binary) then 1 else 0) list
+
 -- whether an entry in the list of a literal `l` fits a clause: its blocking literal, `other`, is of
 -- the clause, and it says that the clause is binary just where that has two literals; then `other`
 -- isn't `l`

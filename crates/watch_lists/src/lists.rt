@@ -9,7 +9,7 @@ ghost use Rattle.std.specs.Prelude.{◌≡◌, ℕ, ◌+◌, ◌==◌, ◌&&◌,
 ghost use Rattle.std.specs.Prelude.{if◌then◌else◌, IsTrue, OnOk, OnErr, true, false, ◌≢◌, ◌<◌, ◌≤◌};
 ghost use Rattle.cnf_base.specs.Literals.{Literal, Clause, has};
 ghost use Rattle.watch_lists.specs.Lists.{AreApart, entries_in, entries_of, fits, has_list_at};
-ghost use Rattle.watch_lists.specs.Lists.{list_at, unfit_entries};
+ghost use Rattle.watch_lists.specs.Lists.{list_at, marked_entries, unfit_entries};
 
 use crate::watcher::{Watcher, take_off};
 use cnf_base::{Lit, OutOfMemory};
@@ -103,10 +103,12 @@ impl WatchLists {
         self.lists.put_back(key(l), list);
     }
 
-    /// Takes the entry of a slot out of the list of a literal, which has one. It takes no memory.
-    pub fn take_off(&mut self, l: Lit, slot: u32)
+    /// Takes the entry of a slot with this mark out of the list of a literal, which has one. It takes
+    /// no memory.
+    pub fn take_off(&mut self, l: Lit, slot: u32, is_binary: bool)
         requires apart { AreApart self.old }
-        requires there { 0 < entries_of slot (list_at self.old l) }
+        requires low { slot < 2147483648 }
+        requires there { 0 < marked_entries slot is_binary (list_at self.old l) }
         ensures others { (k : Literal) → k ≢ l → list_at self.new k ≡ list_at self.old k }
         ensures times { (s : ℕ) → entries_of s (list_at self.new l) +
             (if s == slot then 1 else 0) ≡ entries_of s (list_at self.old l) }
@@ -117,7 +119,7 @@ impl WatchLists {
     {
         let noted = l.index() % PLACES;
         let mut watchers = self.lists.take_out(key(l));
-        self.places[noted] = take_off(&mut watchers, slot, self.places[noted]);
+        self.places[noted] = take_off(&mut watchers, slot, is_binary, self.places[noted]);
         self.lists.put_back(key(l), watchers);
     }
 
@@ -148,7 +150,7 @@ impl WatchLists {
         self.push(first, Watcher::new(slot, second, is_binary))?;
         let watcher = Watcher::new(slot, first, is_binary);
         if self.push(second, watcher).is_err() {
-            self.take_off(first, slot);
+            self.take_off(first, slot, is_binary);
             return Err(OutOfMemory);
         }
         Ok(())

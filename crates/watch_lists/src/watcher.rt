@@ -11,12 +11,14 @@
 //! number that has the slot, for which 31 bits are left.
 //!
 //! A removal searches a list for an entry: 64 entries at once, then 16, then one by one. The more
-//! at once, the fewer instructions an entry, up to what a processor's registers allow.
+//! at once, the fewer instructions an entry, up to what a processor's registers allow. It compares
+//! slot and mark in one number, so that no slot is worked out.
 
 ghost use Rattle.std.specs.Prelude.{◌≡◌, ℕ, ◌+◌, ◌==◌, length, if◌then◌else◌, IsTrue, IfSome, take};
 ghost use Rattle.std.specs.Prelude.{◌<◌, ◌≤◌};
 ghost use Rattle.cnf_base.specs.Literals.{Clause};
-ghost use Rattle.watch_lists.specs.Lists.{entries_of, slot_at, unfit_entries};
+ghost use Rattle.watch_lists.specs.Lists.{entries_of, marked_entries, unfit_entries};
+ghost use Rattle.watch_lists.specs.Code.Lists.{code_at, code_of, entries_with};
 
 use cnf_base::Lit;
 use std::marker::Model;
@@ -54,6 +56,15 @@ impl Model for Watcher {
     ghost inverse_ok = { λ w h i. record { code = code_back w.code i; blocking = w.blocking } };
 }
 
+/// The slot and the mark in one number.
+#[inline(always)]
+fn code_of(slot: u32, is_binary: bool) -> u32
+    requires { slot < 2147483648 }
+    ensures { result ≡ code_of slot is_binary }
+{
+    if is_binary { 2 * slot + 1 } else { 2 * slot }
+}
+
 impl Watcher {
     /// The greatest slot that an entry can have.
     pub const MAX_SLOT: u32 = 2147483647;
@@ -65,7 +76,7 @@ impl Watcher {
         ensures { result ≡
             record { slot = slot; blocking = blocking; is_binary = is_binary } }
     {
-        let code = if is_binary { 2 * slot + 1 } else { 2 * slot };
+        let code = code_of(slot, is_binary);
         Watcher { code, blocking }
     }
 
@@ -87,6 +98,14 @@ impl Watcher {
         ensures range { result < 2147483648 }
     {
         self.code / 2
+    }
+
+    /// The slot and the mark in one number.
+    #[inline(always)]
+    fn code(self) -> u32
+        ensures { result ≡ code_of self.slot self.is_binary }
+    {
+        self.code
     }
 
     /// The blocking literal.
@@ -116,90 +135,91 @@ const FEW_AT_ONCE: usize = 16;
 /// How far around a place an entry is looked for.
 const AROUND: usize = 8;
 
-/// Whether none of these entries is of the slot.
-fn lacks(list: &[Watcher], slot: u32) -> bool
-    ensures { IsTrue result → entries_of slot list.now ≡ 0 }
+/// Whether none of these entries has the code.
+fn lacks(list: &[Watcher], code: u32) -> bool
+    ensures { IsTrue result → entries_with code list.now ≡ 0 }
 {
     let mut is_absent = true;
     for place in 0..list.len() {
-        is_absent &= list[place].slot() != slot;
+        is_absent &= list[place].code() != code;
     }
     is_absent
 }
 
-/// The place of the entry of a slot in a list that has one, from this place on.
-fn place_from(list: &[Watcher], slot: u32, from: usize) -> usize
-    requires there { 0 < entries_of slot list.now }
-    requires absent { entries_of slot (take from list.now) ≡ 0 }
+/// The place of an entry with this code in a list that has one, from this place on.
+fn place_from(list: &[Watcher], code: u32, from: usize) -> usize
+    requires there { 0 < entries_with code list.now }
+    requires absent { entries_with code (take from list.now) ≡ 0 }
     ensures inside { result < length list.now }
-    ensures there { slot_at list.now result ≡ slot }
+    ensures there { code_at list.now result ≡ code }
 {
     for place in from..list.len() {
-        if list[place].slot() == slot {
+        if list[place].code() == code {
             return place;
         }
     }
     0
 }
 
-/// Goes over as many entries at once as long as none is of the slot, from this place on.
+/// Goes over as many entries at once as long as none has the code, from this place on.
 #[inline(always)]
-fn pass_over(list: &[Watcher], slot: u32, from: usize, at_once: usize) -> usize
+fn pass_over(list: &[Watcher], code: u32, from: usize, at_once: usize) -> usize
     requires some { 0 < at_once }
     requires inside { from ≤ length list.now }
-    requires absent { entries_of slot (take from list.now) ≡ 0 }
+    requires absent { entries_with code (take from list.now) ≡ 0 }
     ensures inside { result ≤ length list.now }
-    ensures absent { entries_of slot (take result list.now) ≡ 0 }
+    ensures absent { entries_with code (take result list.now) ≡ 0 }
 {
     let mut place = from;
-    while list.len() - place >= at_once && lacks(&list[place..place + at_once], slot) {
+    while list.len() - place >= at_once && lacks(&list[place..place + at_once], code) {
         place += at_once;
     }
     place
 }
 
-/// The place of an entry of a slot around this place, if one stands there.
-fn place_around(list: &[Watcher], slot: u32, middle: usize) -> Option<usize>
+/// The place of an entry with this code around this place, if one stands there.
+fn place_around(list: &[Watcher], code: u32, middle: usize) -> Option<usize>
     ensures inside { IfSome result (λ place. place < length list.now) }
-    ensures there { IfSome result (λ place. slot_at list.now place ≡ slot) }
+    ensures there { IfSome result (λ place. code_at list.now place ≡ code) }
 {
     let end = middle.saturating_add(AROUND).min(list.len());
     for place in middle.saturating_sub(AROUND)..end {
-        if list[place].slot() == slot {
+        if list[place].code() == code {
             return Some(place);
         }
     }
     None
 }
 
-/// The place of the entry of a slot in a list that has one. Where the list is long, it is looked
+/// The place of an entry with this code in a list that has one. Where the list is long, it is looked
 /// for around a place first.
-fn place_in(list: &[Watcher], slot: u32, middle: usize) -> usize
-    requires { 0 < entries_of slot list.now }
+fn place_in(list: &[Watcher], code: u32, middle: usize) -> usize
+    requires { 0 < entries_with code list.now }
     ensures inside { result < length list.now }
-    ensures there { slot_at list.now result ≡ slot }
+    ensures there { code_at list.now result ≡ code }
 {
     if list.len() >= MANY_AT_ONCE {
-        if let Some(place) = place_around(list, slot, middle) {
+        if let Some(place) = place_around(list, code, middle) {
             return place;
         }
     }
-    let far = pass_over(list, slot, 0, MANY_AT_ONCE);
-    let near = pass_over(list, slot, far, FEW_AT_ONCE);
-    place_from(list, slot, near)
+    let far = pass_over(list, code, 0, MANY_AT_ONCE);
+    let near = pass_over(list, code, far, FEW_AT_ONCE);
+    place_from(list, code, near)
 }
 
-/// Takes the entry of a slot out of a list that has one, which may stand around a place, and tells
-/// where it stood.
-pub(crate) fn take_off(list: &mut Vec<Watcher>, slot: u32, middle: usize) -> usize
-    requires { 0 < entries_of slot list.old.items }
+/// Takes the entry of a slot with this mark out of a list that has one, which may stand around a
+/// place, and tells where it stood.
+pub(crate) fn take_off(list: &mut Vec<Watcher>, slot: u32, is_binary: bool, middle: usize) -> usize
+    requires low { slot < 2147483648 }
+    requires there { 0 < marked_entries slot is_binary list.old.items }
     ensures times { (s : ℕ) → entries_of s list.new.items + (if s == slot then 1 else 0) ≡
         entries_of s list.old.items }
     ensures unfit { (s l : ℕ) (c : Clause) →
         unfit_entries s c l list.new.items ≤ unfit_entries s c l list.old.items }
     ensures len { length list.new.items + 1 ≡ length list.old.items }
 {
-    let place = place_in(list, slot, middle);
+    let place = place_in(list, code_of(slot, is_binary), middle);
     list.swap_remove(place);
     place
 }

@@ -8,11 +8,14 @@ use Rattle.std.proofs.lemmas.Bool.Decides.{nat_tests}
 use Rattle.std.proofs.lemmas.Grind.{get_or_default_zero}
 use Rattle.std.proofs.lemmas.List.{drop-take, take-append-drop, take-take, take_all}
 use Rattle.std.proofs.lemmas.Option.{none-some, same_Some, slice_get-get_or, slice_get_cases}
-use Rattle.std.proofs.lemmas.List.Sums.{get_or-le-sum_by, sum_by-append, sum_by-le-sum_by}
+use Rattle.std.proofs.lemmas.List.Sums.{get_or-le-sum_by, sum_by-append, sum_by-cons}
+use Rattle.std.proofs.lemmas.List.Sums.{sum_by-le-sum_by}
 use Rattle.std.proofs.lemmas.List.Sums.{sum_by-remove, sum_by-swap_remove, sum_by_more, sum_by_push}
 use Rattle.std.specs.List.{remove}
 use Rattle.cnf_base.specs.Literals.{Clause, has}
-use Rattle.watch_lists.specs.Lists.{entries_of, fits, slot_at, slot_of, times_in, unfit_entries}
+use Rattle.watch_lists.specs.Lists.{entries_of, fits, marked_entries, slot_at, slot_of, times_in}
+use Rattle.watch_lists.specs.Lists.{unfit_entries}
+use Rattle.watch_lists.specs.Code.Lists.{code_at, code_in, code_of, entries_with}
 use Rattle.watch_lists.specs.declared.watcher.Watcher.{Watcher}
 
 pub eqb_turned : (a b : ℕ) → eqb a b ≡ eqb b a
@@ -65,27 +68,60 @@ pub unfit_removed : (xs : List Watcher) (i : ℕ) (d : Watcher) → i < length x
 unfit_removed xs i d inside s l c = let taken = sum_by-remove (λ w. cond (eqb w.slot s && not (fits c l w.blocking w.is_binary)) 1 0) xs i d inside in omega (arith, taken)
 
 -- an entry that isn't the next one
-pub entries_next : (xs : List Watcher) (i s : ℕ) (d : Watcher) → i < length xs → ((get_or xs i d).slot ≡ s → ⊥) → entries_of s (take i xs) ≡ 0 → entries_of s (take (i + 1) xs) ≡ 0
-entries_next xs i s d inside other none =
-    let more = sum_by_more (λ w. cond (eqb w.slot s) 1 0) xs i d inside in
-    let here : cond {A = ℕ} (eqb (get_or xs i d).slot s) 1 0 ≡ 0 = ap (λ b. cond {A = ℕ} b 1 0) (ne_eqb (get_or xs i d).slot s other) in
+pub coded_next : (xs : List Watcher) (i code : ℕ) (d : Watcher) → i < length xs → (code_of (get_or xs i d).slot (get_or xs i d).is_binary ≡ code → ⊥) → entries_with code (take i xs) ≡ 0 → entries_with code (take (i + 1) xs) ≡ 0
+coded_next xs i code d inside other none =
+    let more = sum_by_more (λ w. cond (eqb (code_of w.slot w.is_binary) code) 1 0) xs i d inside in
+    let here : cond {A = ℕ} (eqb (code_of (get_or xs i d).slot (get_or xs i d).is_binary) code) 1 0 ≡ 0 = ap (λ b. cond {A = ℕ} b 1 0) (ne_eqb (code_of (get_or xs i d).slot (get_or xs i d).is_binary) code other) in
     omega (arith, more, here, none)
 
 -- an entry that is none of the next ones
-pub entries_chunk : (xs : List Watcher) (from n s : ℕ) → entries_of s (take from xs) ≡ 0 → entries_of s (take (from + n - from) (drop from xs)) ≡ 0 → entries_of s (take (from + n) xs) ≡ 0
-entries_chunk xs from n s none absent =
-    let whole = ap (entries_of s) (sym (take-append-drop from (take (from + n) xs))) in
-    let split = sum_by-append (λ w. cond (eqb w.slot s) 1 0) (take from (take (from + n) xs)) (drop from (take (from + n) xs)) in
-    let front = ap (entries_of s) (take-take from (from + n) xs (omega arith)) ∙ none in
+pub coded_chunk : (xs : List Watcher) (from n code : ℕ) → entries_with code (take from xs) ≡ 0 → entries_with code (take (from + n - from) (drop from xs)) ≡ 0 → entries_with code (take (from + n) xs) ≡ 0
+coded_chunk xs from n code none absent =
+    let whole = ap (entries_with code) (sym (take-append-drop from (take (from + n) xs))) in
+    let split = sum_by-append (λ w. cond (eqb (code_of w.slot w.is_binary) code) 1 0) (take from (take (from + n) xs)) (drop from (take (from + n) xs)) in
+    let front = ap (entries_with code) (take-take from (from + n) xs (omega arith)) ∙ none in
     let same : from + n - from ≡ n = omega arith in
-    let rest = ap (entries_of s) (drop-take from n xs) ∙ ap (λ k. entries_of s (take k (drop from xs))) (sym same) ∙ absent in
+    let rest = ap (entries_with code) (drop-take from n xs) ∙ ap (λ k. entries_with code (take k (drop from xs))) (sym same) ∙ absent in
     omega (arith, whole, split, front, rest)
 
 -- an entry that is in no place
-pub entries_none : (xs : List Watcher) (i s : ℕ) → length xs ≤ i → entries_of s (take i xs) ≡ 0 → 0 < entries_of s xs → ⊥
-entries_none xs i s past none some =
-    let all = ap (entries_of s) (take_all i xs past) in
+pub coded_none : (xs : List Watcher) (i code : ℕ) → length xs ≤ i → entries_with code (take i xs) ≡ 0 → 0 < entries_with code xs → ⊥
+coded_none xs i code past none some =
+    let all = ap (entries_with code) (take_all i xs past) in
     omega arith
+
+-- a slot and a mark are told by their number
+same_code : (s t : ℕ) (a b : Bool) → code_of s a ≡ code_of t b → (s ≡ t) × (a ≡ b)
+same_code s t true true e = (omega arith, refl)
+same_code s t true false e = absurd (omega arith)
+same_code s t false true e = absurd (omega arith)
+same_code s t false false e = (omega arith, refl)
+
+pub slot_by_code : (xs : List Watcher) (i s : ℕ) (mark : Bool) → i < length xs → code_at xs i ≡ code_of s mark → slot_at xs i ≡ s
+slot_by_code xs i s mark inside read = elim (slice_get_cases xs i).1 [
+  | inl there ↦ ap slot_of there.2 ∙ (same_code there.0.slot s there.0.is_binary mark (sym (ap code_in there.2) ∙ read)).0
+  | inr past ↦ absurd (let high = past.0 in omega arith)
+]
+
+-- entries that fit their clause have its mark
+pub marked_fitting : (xs : List Watcher) (s l : ℕ) (c : Clause) → entries_of s xs ≤ marked_entries s (eqb (length c) 2) xs + unfit_entries s c l xs
+marked_fitting [] s l c = omega arith
+marked_fitting (w ∷ xs) s l c =
+    let rest = marked_fitting xs s l c in
+    let all = sum_by-cons (λ x. cond (eqb x.slot s) 1 0) w xs in
+    let marked = sum_by-cons (λ x. cond (eqb x.slot s && cond (eqb (length c) 2) x.is_binary (not x.is_binary)) 1 0) w xs in
+    let unfit = sum_by-cons (λ x. cond (eqb x.slot s && not (fits c l x.blocking x.is_binary)) 1 0) w xs in
+    let here = one (eqb w.slot s) (eqb (length c) 2) w.is_binary (has c w.blocking) (not (eqb w.blocking l)) in
+    omega (arith, rest, all, marked, unfit, here)
+  where
+    one : (is_of two b member differs : Bool) → cond {A = ℕ} is_of 1 0 ≤ cond (is_of && cond two b (not b)) 1 0 + cond (is_of && not (member && cond b (two && differs) (not two))) 1 0
+    one false two b member differs = omega arith
+    one true true true member differs = omega arith
+    one true true false true differs = omega arith
+    one true true false false differs = omega arith
+    one true false true true differs = omega arith
+    one true false true false differs = omega arith
+    one true false false member differs = omega arith
 
 -- an entry that fits its clause, or is of another slot
 pub unfit_none : (s l : ℕ) (c : Clause) (w : Watcher) → (s ≡ w.slot → fits c l w.blocking w.is_binary ≡ true) → cond {A = ℕ} (eqb w.slot s && not (fits c l w.blocking w.is_binary)) 1 0 ≡ 0

@@ -1,11 +1,11 @@
 use Rattle.std.proofs.Common.{◌≡◌, ◌≤◌, ◌-◌, length, take}
-use Rattle.watch_lists.specs.Lists.{entries_of}
+use Rattle.watch_lists.specs.Code.Lists.{entries_with}
 use Rattle.watch_lists.proofs.watcher.pass_over.Given as goal
 
 abbrev pub invariant-loop-place : goal.invariant-loop-place
 invariant-loop-place l = record {
   inside : l.place ≤ length l.list;
-  none : entries_of l.slot (take l.place l.list) ≡ 0;
+  none : entries_with l.code (take l.place l.list) ≡ 0;
 }
 
 abbrev pub decreases-loop-place : goal.decreases-loop-place
