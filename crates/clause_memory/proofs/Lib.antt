@@ -5,3 +5,4 @@ mod ClauseLemmas
 mod FreeLemmas
 mod MemoryLemmas
 mod RoomLemmas
+mod SwapLemmas

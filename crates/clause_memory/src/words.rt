@@ -174,6 +174,30 @@ pub(crate) fn write_link(words: &mut Vec<Lit>, slot: usize, link: usize)
     words[slot * UNIT + 1] = word(link / LOW);
 }
 
+/// Puts two words in each other's place.
+#[inline(always)]
+fn exchange_two(words: &mut [Lit], a: usize, b: usize)
+    requires first { a < length words.old }
+    requires second { b < length words.old }
+    ensures { words.new ≡ swap words.old a b }
+{
+    let first = words[a];
+    words[a] = words[b];
+    words[b] = first;
+}
+
+/// Puts two of the words from a place on in each other's place.
+#[inline(always)]
+fn exchange_behind(words: &mut Vec<Lit>, from: usize, a: usize, b: usize)
+    requires inside { from ≤ length words.old.items }
+    requires first { a < length (drop from words.old.items) }
+    requires second { b < length (drop from words.old.items) }
+    ensures { words.new.items ≡
+        take from words.old.items ++ swap (drop from words.old.items) a b }
+{
+    exchange_two(&mut words[from..], a, b);
+}
+
 /// Puts two literals of a block in each other's place.
 #[inline(always)]
 pub(crate) fn exchange(words: &mut Vec<Lit>, slot: usize, a: usize, b: usize)
@@ -181,9 +205,5 @@ pub(crate) fn exchange(words: &mut Vec<Lit>, slot: usize, a: usize, b: usize)
     requires second { 4 * slot + 1 + b < length words.old.items }
     ensures { words.new.items ≡ swap words.old.items (4 * slot + 1 + a) (4 * slot + 1 + b) }
 {
-    let words = words.as_mut_slice();
-    let from = slot * UNIT + 1;
-    let first = words[from + a];
-    words[from + a] = words[from + b];
-    words[from + b] = first;
+    exchange_behind(words, slot * UNIT + 1, a, b);
 }

@@ -42,7 +42,7 @@ const LEAST_GROWTH: usize = 2;
 
 /// For how many entries a list keeps room, once it had as many. Watch lists of that length lose
 /// most of their entries and get others all the time.
-const LEAST_KEPT: usize = 32;
+const LEAST_KEPT: usize = 256;
 
 /// How many entries these lists have in all; `2^64 - 1` where they are more.
 fn total_len<T: Copy + Drop>(lists: &Vec<Vec<T>>) -> u64
