@@ -7,7 +7,7 @@ use Rattle.std.proofs.lemmas.List.{get_or_read}
 use Rattle.std.proofs.lemmas.Bool.Decides.{nat_tests}
 use Rattle.std.specs.Ordering.{nat_cmp}
 use Rattle.std.specs.BTreeMap.{BTreeMap, get, IsUnchanged, Updates}
-use Rattle.tables.specs.Table.{looked_up}
+use Rattle.tables.specs.Parts.{looked_up}
 
 module _ {T : Type 0} (dense : List (Option T)) (sparse : BTreeMap ℕ T) where
   pub looked_up-set : (i : ℕ) (v : T) → i < length dense → (k : ℕ) → looked_up (set dense i (Some v)) sparse k ≡ cond (eqb k i) (Some v) (looked_up dense sparse k)

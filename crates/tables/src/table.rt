@@ -10,10 +10,11 @@
 
 ghost use Rattle.std.specs.Prelude.{◌≡◌, ℕ, ◌==◌, ◌<◌, ◌≤◌, if◌then◌else◌, unwrap_or, IsSome};
 ghost use Rattle.std.specs.Prelude.{IsTrue, IfSome, IfNone, OnOk, OnErr, vec_len, slice_index_or};
+ghost use Rattle.std.specs.Prelude.{None};
 ghost use Rattle.std.specs.Option.{option_copied};
 ghost use Rattle.std.specs.Ordering.{nat_cmp};
 ghost use Rattle.std.specs.BTreeMap.{get};
-ghost use Rattle.tables.specs.Table.{at, looked_up, IsFirst};
+ghost use Rattle.tables.specs.Parts.{looked_up, IsFirst};
 
 use cnf_base::{Lit, OutOfMemory};
 use std::alloc::Global;
@@ -22,13 +23,16 @@ use std::collections::BTreeMap;
 /// Values by keys, with room for the keys that were reserved.
 ///
 /// The keys below `dense.len()` have a place in `dense`, all others in `sparse`, where no choice of
-/// keys makes a look-up long. A value in `dense` hides one in `sparse`.
+/// keys makes a look-up long. A value in `dense` hides one in `sparse`, and what `sparse` has below
+/// the length of `dense` is there too.
 #[derive(Drop)]
 pub struct Table<T> {
     alloc: Global,
     dense: Vec<Option<T>>,
     sparse: BTreeMap<u32, T>,
     count: usize,
+    ghost whole: { (k : ℕ) → k < vec_len dense → IsSome (get nat_cmp sparse k) →
+        IsSome (slice_index_or dense.items k None) },
 }
 
 /// The length from which `dense` grows.
@@ -43,8 +47,11 @@ pub fn key(l: Lit) -> u32
 
 /// Copies into `dense` what `sparse` has below its length, where it has nothing yet.
 fn bring_in<T: Copy + Drop>(dense: &mut Vec<Option<T>>, sparse: &BTreeMap<u32, T>)
-    ensures { (k : ℕ) → looked_up dense.new.items sparse.now k ≡
+    ensures same { (k : ℕ) → looked_up dense.new.items sparse.now k ≡
         looked_up dense.old.items sparse.now k }
+    ensures len { vec_len dense.new ≡ vec_len dense.old }
+    ensures covers { (k : ℕ) → k < vec_len dense.new → IsSome (get nat_cmp sparse.now k) →
+        IsSome (slice_index_or dense.new.items k None) }
 {
     for (key, value) in sparse {
         let i = *key as usize;
@@ -99,6 +106,8 @@ fn first_sparse<T: Copy + Drop>(sparse: &BTreeMap<u32, T>, from: usize, to: usiz
 
 #[tactic(auto, using(crate::proofs::TableLemmas::table_steps), unfolding(crate::specs::Table::at))]
 impl<T: Copy + Drop> Table<T> {
+    ghost use Rattle.tables.specs.Table.{at};
+
     /// An empty table. It takes no memory.
     pub fn new(alloc: Global) -> Self
         ensures { (k : ℕ) → at result k ≡ None }
@@ -126,13 +135,11 @@ impl<T: Copy + Drop> Table<T> {
     fn look_up(&self, key: u32) -> Option<&T>
         ensures { option_copied result ≡ at self.now key }
     {
-        if let Some(Some(value)) = self.dense.as_slice().get(key as usize) {
-            return Some(value);
+        match self.dense.as_slice().get(key as usize) {
+            Some(Some(value)) => Some(value),
+            Some(None) => None,
+            None => self.look_up_far(key),
         }
-        if self.sparse.is_empty() {
-            return None;
-        }
-        self.look_up_far(key)
     }
 
     #[cold]
