@@ -224,7 +224,8 @@ impl<T: Copy + Drop> Lists<T> {
         Ok(())
     }
 
-    /// Gives a key a list where it has none, in `near` unless it is far from those that have one.
+    /// Gives a key a list where it has none, in `near` unless it is far from those that have one. A
+    /// list in `far` comes to `near` where its key is near by now.
     #[cold]
     #[inline(never)]
     fn make_list(&mut self, key: u32) -> Result<(), OutOfMemory>
@@ -232,15 +233,15 @@ impl<T: Copy + Drop> Lists<T> {
         ensures same { AreSame self.old self.new }
         ensures known { OnOk result (IsTrue (has_list_at self.new key)) }
     {
-        if self.has_list(key) {
-            return Ok(());
-        }
-        self.count = self.count.saturating_add(1);
+        let is_new = !self.has_list(key);
+        self.count = self.count.saturating_add(usize::from(is_new));
         let limit = self.count.saturating_mul(4).saturating_add(LEAST);
-        if (key as usize) < limit {
+        if self.near.len() <= key as usize && (key as usize) < limit {
             self.widen(limit.min(MOST))
-        } else {
+        } else if is_new {
             self.add_far(key)
+        } else {
+            Ok(())
         }
     }
 

@@ -224,18 +224,19 @@ impl<T: Copy + Drop> Table<T> {
             (if k == key then Some (unwrap_or (at self.old key) value) else at self.old k)) }
         ensures err { OnErr result ((k : ℕ) → at self.new k ≡ at self.old k) }
     {
-        if self.get(key).is_some() {
+        if let Some(Some(_)) = self.dense.as_slice().get(key as usize) {
             return Ok(());
         }
-        self.reserve_anew(key, value)
+        self.reserve_far(key, value)
     }
 
-    /// Makes room for the key, which has none, with this value.
+    /// Makes room for a key that has no value in `dense`. Where it is near by now, `dense` comes to
+    /// have it.
     #[cold]
     #[inline(never)]
-    fn reserve_anew(&mut self, key: u32, value: T) -> Result<(), OutOfMemory>
+    fn reserve_far(&mut self, key: u32, value: T) -> Result<(), OutOfMemory>
         ensures ok { OnOk result ((k : ℕ) → at self.new k ≡
-            (if k == key then Some value else at self.old k)) }
+            (if k == key then Some (unwrap_or (at self.old key) value) else at self.old k)) }
         ensures err { OnErr result ((k : ℕ) → at self.new k ≡ at self.old k) }
     {
         let len = self.dense.len();
@@ -245,6 +246,9 @@ impl<T: Copy + Drop> Table<T> {
         let is_short = len > 0 && len < self.count;
         if is_near || is_short {
             self.widen(limit.max(len.saturating_mul(2)))?;
+        }
+        if self.get(key).is_some() {
+            return Ok(());
         }
         self.put(key, value)?;
         self.count = self.count.saturating_add(1);
