@@ -57,6 +57,21 @@ impl Model for Assumptions {
     ghost invariant = { λ a. IsNumbered a.trail a.numbers a.made a.levels };
 }
 
+/// Makes room for the variable of a literal.
+fn reserve_variable(trail: &mut Trail, numbers: &mut Table<u64>, l: Lit) -> Result<(), OutOfMemory>
+    requires known { (v : ℕ) → IsTrue (has trail.old.reserved v) → IsSome (at numbers.old v) }
+    ensures room { OnOk result (IsTrue (has trail.new.reserved (l / 2))) }
+    ensures reserved { (v : ℕ) → IsTrue (has trail.old.reserved v) →
+        IsTrue (has trail.new.reserved v) }
+    ensures others { (v : ℕ) → v ≢ l / 2 → has trail.new.reserved v ≡ has trail.old.reserved v }
+    ensures lits { trail.new.lits ≡ trail.old.lits }
+    ensures known { (v : ℕ) → IsTrue (has trail.new.reserved v) → IsSome (at numbers.new v) }
+    ensures numbers { (v : ℕ) → number_at numbers.new v ≡ number_at numbers.old v }
+{
+    numbers.reserve(l.var(), 0)?;
+    trail.reserve(l.var())
+}
+
 /// Makes room for the variables of the literals.
 fn reserve_variables(
     trail: &mut Trail,
@@ -73,8 +88,7 @@ fn reserve_variables(
 {
     for l in lits {
         if !trail.has_room(l.var()) {
-            numbers.reserve(l.var(), 0)?;
-            trail.reserve(l.var())?;
+            reserve_variable(trail, numbers, *l)?;
         }
     }
     Ok(())
@@ -142,6 +156,20 @@ impl Assumptions {
         ensures starts { self.new.starts ≡ self.old.starts }
     {
         reserve_variables(&mut self.trail, &mut self.numbers, clause)
+    }
+
+    /// Makes room for the variable of a literal, and for no other.
+    pub fn reserve_variable(&mut self, l: Lit) -> Result<(), OutOfMemory>
+        ensures room { OnOk result (IsTrue (has self.new.trail.reserved (l / 2))) }
+        ensures reserved { (v : ℕ) → IsTrue (has self.old.trail.reserved v) →
+            IsTrue (has self.new.trail.reserved v) }
+        ensures others { (v : ℕ) → v ≢ l / 2 →
+            has self.new.trail.reserved v ≡ has self.old.trail.reserved v }
+        ensures lits { self.new.trail.lits ≡ self.old.trail.lits }
+        ensures assumptions { self.new.assumptions ≡ self.old.assumptions }
+        ensures starts { self.new.starts ≡ self.old.starts }
+    {
+        reserve_variable(&mut self.trail, &mut self.numbers, l)
     }
 
     /// Sets a literal that is not false, unless it is true already. Tells whether it was open. It

@@ -27,12 +27,9 @@ impl Places {
         }
     }
 
-    /// Makes room for the places of the literals of a clause.
-    pub(crate) fn reserve(&mut self, clause: &[Lit]) -> Result<(), OutOfMemory> {
-        for l in clause {
-            self.by_variable.reserve(l.var(), 0)?;
-        }
-        Ok(())
+    /// Makes room for the place of the literal of a variable.
+    pub(crate) fn reserve(&mut self, variable: u32) -> Result<(), OutOfMemory> {
+        self.by_variable.reserve(variable, 0)
     }
 
     /// Notes the places of the literals that were set since. It takes no memory.

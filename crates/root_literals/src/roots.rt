@@ -186,18 +186,19 @@ impl Roots {
         matches!(self.kept, Kept::Clash(_))
     }
 
-    /// Makes room for the reasons and the places of the literals of a clause.
-    pub fn reserve(&mut self, clause: &[Lit]) -> Result<(), OutOfMemory>
-        ensures room { OnOk result (HasReasons clause.now (at self.new.reasons)) }
+    /// Makes room for the reasons of a literal and of its complement, and for the place of the one
+    /// that is true.
+    pub fn reserve_variable(&mut self, l: Lit) -> Result<(), OutOfMemory>
+        ensures room { OnOk result ((k : Literal) → k / 2 ≡ l / 2 →
+            IsSome (at self.new.reasons k)) }
         ensures old { (l : Literal) → IsSome (at self.old.reasons l) →
             at self.new.reasons l ≡ at self.old.reasons l }
         ensures kept { self.new.kept ≡ self.old.kept }
         ensures history { self.new.history ≡ self.old.history }
     {
-        for l in clause {
-            self.reasons.reserve(key(*l), 0)?;
-        }
-        self.places.reserve(clause)
+        self.places.reserve(l.var())?;
+        self.reasons.reserve(key(l), 0)?;
+        self.reasons.reserve(key(l.neg()), 0)
     }
 
     /// Takes note of a clause that was added, of which this is left and stands first. It takes no
@@ -214,6 +215,8 @@ impl Roots {
         requires arranged { (c : Clause) → maps.get store.now.live slot ≡ Some c →
             IsArranged assumptions.old.trail.lits c left }
         ensures kept { IsKept store.now.live self.new assumptions.new.trail.lits }
+        ensures noted { (l : Literal) → IsSome (at self.old.reasons l) →
+            IsSome (at self.new.reasons l) }
         ensures reserved { SameSet assumptions.new.trail.reserved assumptions.old.trail.reserved }
         ensures assumptions { assumptions.new.assumptions ≡ assumptions.old.assumptions }
         ensures starts { assumptions.new.starts ≡ assumptions.old.starts }
@@ -292,6 +295,8 @@ impl Roots {
         requires apart { AreApart lists.old }
         requires kept { IsKept store.now.live self.old trail.now.lits }
         ensures kept { IsKept store.now.live self.new trail.now.lits }
+        ensures noted { (l : Literal) → IsSome (at self.old.reasons l) →
+            IsSome (at self.new.reasons l) }
         ensures lists { AreUnchanged lists.old lists.new }
         ensures rests { result ≡ true → (l : Literal) × IsTrue (has trail.now.lits l)
             × (at self.new.reasons l ≡ Some slot) }
@@ -327,6 +332,7 @@ impl Roots {
             IsRootReason (maps.get (each_in_order store.now.live)) c }
         ensures same { result ≡ false →
             (self.new ≡ self.old) × (assumptions.new ≡ assumptions.old) }
+        ensures reasons { self.new.reasons ≡ self.old.reasons }
         ensures reserved { SameSet assumptions.new.trail.reserved assumptions.old.trail.reserved }
         ensures assumptions { assumptions.new.assumptions ≡ [] }
         ensures starts { assumptions.new.starts ≡ assumptions.old.starts }
@@ -368,6 +374,8 @@ impl Roots {
             IsRootReason (maps.get (each_in_order store.now.live)) c }
         ensures kept { IsKept (maps.remove store.now.live slot) self.new
             assumptions.new.trail.lits }
+        ensures noted { (l : Literal) → IsSome (at self.old.reasons l) →
+            IsSome (at self.new.reasons l) }
         ensures lists { AreUnchanged lists.old lists.new }
         ensures reserved { SameSet assumptions.new.trail.reserved assumptions.old.trail.reserved }
         ensures assumptions { assumptions.new.assumptions ≡ [] }

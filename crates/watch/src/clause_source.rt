@@ -1,18 +1,22 @@
 //! Where the clause stands of which a part is assumed.
 
 ghost use Rattle.std.specs.Prelude.{◌≡◌, ℕ, ◌++◌, ◌∷◌, filter, length, take, List, IsTrue, IfOk};
-ghost use Rattle.std.specs.Prelude.{OnOk, OnErr};
+ghost use Rattle.std.specs.Prelude.{IsSome, OnOk, OnErr};
 ghost use Rattle.std.specs.Bool.{OnFalse};
 ghost use Rattle.cnf_base.specs.Literals.{Literal, complements, has};
 ghost use Rattle.propagation.specs.Assumptions.{Assumption, MayAssume, assumed_by};
 ghost use Rattle.trail.specs.Trail.{HasRoom};
 ghost use Rattle.theory.specs.Sets.{SameSet, conflicts};
+ghost use Rattle.tables.specs.Table.{at};
 ghost use Rattle.watch.specs.Code.ClauseSource.{HasRoomGiven, IsThere, clause_of};
+ghost use Rattle.watch.specs.Code.State.{HaveReasons};
 ghost use Rattle.propagation.specs.declared.answer.Answer.TheVariants.{Clash};
 
+use crate::room::reserve_room;
 use clause_db::{Slot, Store};
 use cnf_base::{Lit, OutOfMemory};
 use propagation::Assumptions;
+use root_literals::Roots;
 use trail::Part;
 
 /// A clause that is given, or that of a slot.
@@ -27,17 +31,24 @@ pub(crate) enum ClauseSource<'a> {
 /// Makes room for the literals that are given. For those of a slot there is room.
 pub(crate) fn reserve_given(
     assumptions: &mut Assumptions,
+    roots: &mut Roots,
     source: &ClauseSource<'_>,
 ) -> Result<(), OutOfMemory>
+    requires noted { HaveReasons assumptions.old.trail.reserved (at roots.old.reasons) }
+    ensures noted { HaveReasons assumptions.new.trail.reserved (at roots.new.reasons) }
     ensures reserved { (v : ℕ) → IsTrue (has assumptions.old.trail.reserved v) →
         IsTrue (has assumptions.new.trail.reserved v) }
     ensures lits { assumptions.new.trail.lits ≡ assumptions.old.trail.lits }
     ensures assumptions { assumptions.new.assumptions ≡ assumptions.old.assumptions }
     ensures starts { assumptions.new.starts ≡ assumptions.old.starts }
+    ensures old { (k : Literal) → IsSome (at roots.old.reasons k) →
+        at roots.new.reasons k ≡ at roots.old.reasons k }
+    ensures kept { roots.new.kept ≡ roots.old.kept }
+    ensures history { roots.new.history ≡ roots.old.history }
     ensures room { OnOk result (HasRoomGiven assumptions.new.trail.reserved source.now) }
 {
     match *source {
-        ClauseSource::Given(lits) => assumptions.reserve(lits),
+        ClauseSource::Given(lits) => reserve_room(assumptions, roots, lits),
         ClauseSource::Stored(_) => Ok(()),
     }
 }

@@ -8,6 +8,7 @@ mod entries;
 mod follow;
 mod reason;
 mod refresh;
+mod room;
 mod run;
 mod units;
 mod visit;

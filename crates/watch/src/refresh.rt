@@ -1,7 +1,8 @@
 //! What follows with nothing assumed, brought up to date.
 
-ghost use Rattle.std.specs.Prelude.{◌≡◌, true, false, OnOk};
+ghost use Rattle.std.specs.Prelude.{◌≡◌, true, false, IsSome, OnOk};
 ghost use Rattle.std.specs.FinMap as maps;
+ghost use Rattle.cnf_base.specs.Literals.{Literal};
 ghost use Rattle.trail.specs.Trail.{HasRoomForAll};
 ghost use Rattle.theory.specs.Sets.{SameSet};
 ghost use Rattle.root_literals.specs.Order.{each_in_order};
@@ -28,6 +29,8 @@ fn start(store: &Store, short: &SlotList, assumptions: &mut Assumptions, roots: 
     requires kept { IsKept store.now.live roots.old assumptions.old.trail.lits }
     ensures kept { IsKept store.now.live roots.new assumptions.new.trail.lits }
     ensures known { is_cut roots.new.kept ≡ false }
+    ensures noted { (l : Literal) → IsSome (at roots.old.reasons l) →
+        IsSome (at roots.new.reasons l) }
     ensures reserved { SameSet assumptions.new.trail.reserved assumptions.old.trail.reserved }
     ensures assumptions { assumptions.new.assumptions ≡ assumptions.old.assumptions }
     ensures starts { assumptions.new.starts ≡ assumptions.old.starts }

@@ -23,6 +23,7 @@ use crate::clauses::{insert_clause, remove_clause};
 use crate::entries::{add_entries, remove_entries};
 use crate::reason::is_reason_for_good;
 use crate::refresh::refresh;
+use crate::room::reserve_room;
 use crate::run::run;
 use clause_db::{Slot, Store};
 use cnf_base::{Lit, OutOfMemory};
@@ -284,7 +285,7 @@ impl Watch {
             (P.keeps part.now) result }
     {
         self.prepare()?;
-        if reserve_given(&mut self.assumptions, source).is_err() {
+        if reserve_given(&mut self.assumptions, &mut self.roots, source).is_err() {
             self.has_refused = true;
             return Err(OutOfMemory);
         }
@@ -337,8 +338,7 @@ impl Propagate for Watch {
     }
 
     fn insert(&mut self, lits: &[Lit]) -> Result<Slot, OutOfMemory> {
-        self.assumptions.reserve(lits)?;
-        self.roots.reserve(lits)?;
+        reserve_room(&mut self.assumptions, &mut self.roots, lits)?;
         let slot = insert_clause(&mut self.store, &mut self.closure, lits)?;
         let left = arrange(&mut self.store, self.assumptions.trail(), slot);
         match add_entries(&self.store, &mut self.lists, &mut self.short, slot) {

@@ -1,5 +1,5 @@
 -- What a set leaves of a clause.
-use Rattle.std.proofs.Common.{◌≡◌, Bool, true, false, not, filter, OnOk, subst}
+use Rattle.std.proofs.Common.{◌≡◌, Bool, false, not, filter, OnOk, subst}
 use Rattle.std.specs.Result.{is_err}
 use Rattle.std.specs.declared.result.Result.{Result}
 use Rattle.std.specs.declared.result.Result.TheVariants.{Ok, Err}

@@ -9,7 +9,7 @@ use Rattle.std.specs.FinMap.{FinMap}
 use Rattle.std.proofs.lemmas.Bool.Decides.{nat_tests}
 use Rattle.std.proofs.lemmas.Bool.{cases_eq, false≢true}
 use Rattle.std.proofs.lemmas.Option.{none-some, same_Some}
-use Rattle.cnf_base.specs.Literals.{Literal, Clause, has, size}
+use Rattle.cnf_base.specs.Literals.{Literal, Clause, has, size, variable}
 use Rattle.propagation.specs.Assumptions.{Assumption, AssumptionsState, Propagation, roots_in}
 use Rattle.propagation.specs.Code.Exact.{AreExact}
 use Rattle.propagation.specs.Code.Scan.{IsHeld}
@@ -21,7 +21,7 @@ use Rattle.root_literals.specs.History.{IsHistory, visits}
 use Rattle.root_literals.specs.Order.{each_in_order}
 use Rattle.root_literals.specs.Roots.{IsKept, IsKnown, IsStanding, has_clash, is_up_to_date}
 use Rattle.propagation.specs.Code.Closure.{AreForced}
-use Rattle.watch.specs.Code.State.{IsWatch}
+use Rattle.watch.specs.Code.State.{HaveReasons, IsWatch}
 use Rattle.watch.specs.Code.Visits.{PropagatesTo}
 use Rattle.root_literals.specs.Watched.{IsPart, AreUnchanged, AreWatched, HasEntry, IsListed}
 use Rattle.root_literals.specs.Watched.{AddsFitting, IsShortList, IsWatched, is_short, entries_for}
@@ -96,9 +96,9 @@ module _ (live live2 : FinMap nat_cmp Clause) (lists lists2 : WatchLists) (short
       kept_carried live live2 after found (at roots.reasons) (at roots2.reasons) carried roots roots2 (roots_in before.trail.lits before.assumptions before.starts) as_known (ap (λ r. r.history) as_before) (λ l. refl) (λ l. refl)
       (λ l h. has_begun before.trail.lits after.trail.lits l begins (roots_part before.trail.lits before.assumptions before.starts l h)) watch.kept
 
-  watch_with : (last : AssumptionsState) → IsHeld (each_in_order live) (AreForced (maps.get (each_in_order live))) last → AreWatched (maps.get live2) last.trail.lits last.assumptions last.starts →
+  watch_with : (last : AssumptionsState) → SameSet last.trail.reserved before.trail.reserved → IsHeld (each_in_order live) (AreForced (maps.get (each_in_order live))) last → AreWatched (maps.get live2) last.trail.lits last.assumptions last.starts →
       IsKept live2 roots2 (roots_in last.trail.lits last.assumptions last.starts) → IsStanding roots2.kept last.assumptions → IsWatch live2 lists2 short roots2 last
-  watch_with last scan watched kept standing = record {
+  watch_with last reserved scan watched kept standing = record {
     scan = subst (λ m. IsHeld m (AreForced (maps.get m)) last) (sym carried.same) scan;
     apart = apart;
     listed = listed;
@@ -108,14 +108,15 @@ module _ (live live2 : FinMap nat_cmp Clause) (lists lists2 : WatchLists) (short
     one_each = watch.one_each ∙ sym (short_alike live live2 carried.same);
     kept = kept;
     standing = standing;
+    noted = λ l h. carried.noted l (watch.noted l (sym (reserved (variable l)) ∙ h));
   }
 
   -- it is answered
   pub watch_answered : is_up_to_date roots.kept ≡ true → (last : AssumptionsState) (answer : Answer) (all : List Literal) → last.trail ≡ found.trail → last.assumptions ≡ record { answer = answer; assumed = all } ∷ before.assumptions →
-      last.starts ≡ length before.trail.lits ∷ before.starts → (answer ≡ Quiet → IsWatched (maps.get live2) found.trail.lits found.trail.lits) → IsHeld (each_in_order live) (AreForced (maps.get (each_in_order live))) last →
+      last.starts ≡ length before.trail.lits ∷ before.starts → (answer ≡ Quiet → IsWatched (maps.get live2) found.trail.lits found.trail.lits) → SameSet last.trail.reserved before.trail.reserved → IsHeld (each_in_order live) (AreForced (maps.get (each_in_order live))) last →
       IsWatch live2 lists2 short roots2 last
-  watch_answered up last answer all trail stand starts quiet scan =
-      watch_with last scan
+  watch_answered up last answer all trail stand starts quiet reserved scan =
+      watch_with last reserved scan
       (subst (λ t. AreWatched (maps.get live2) t.lits last.assumptions last.starts) (sym trail)
       (subst (λ xs. AreWatched (maps.get live2) found.trail.lits xs last.starts) (sym stand)
       (subst (λ ns. AreWatched (maps.get live2) found.trail.lits (record { answer = answer; assumed = all } ∷ before.assumptions) ns) (sym starts)
@@ -133,7 +134,7 @@ module _ (live live2 : FinMap nat_cmp Clause) (lists lists2 : WatchLists) (short
       let same_assumptions = assumptions_are ∙ ap (drop 1) stand in
       let same_starts = starts_are ∙ ap (drop 1) starts in
       let same_lits = lits_are ∙ ap (λ ns. take (slice_index ns 0) found.trail.lits) starts ∙ begins_found in
-      watch_with last
+      watch_with last reserved
       (held_reserved (each_in_order live) (AreForced (maps.get (each_in_order live))) before last same_lits same_assumptions same_starts (λ v h. reserved v ∙ h) watch.scan)
       (subst (λ ls. AreWatched (maps.get live2) ls last.assumptions last.starts) (sym same_lits)
       (subst (λ xs. AreWatched (maps.get live2) before.trail.lits xs last.starts) (sym same_assumptions)
@@ -143,9 +144,9 @@ module _ (live live2 : FinMap nat_cmp Clause) (lists lists2 : WatchLists) (short
 
 -- ---- Where nothing changes but room and order
 
-pub watch_reserved : (live : FinMap nat_cmp Clause) (lists : WatchLists) (short : List ℕ) (roots : Roots) (before after : AssumptionsState) → after.trail.lits ≡ before.trail.lits → after.assumptions ≡ before.assumptions → after.starts ≡ before.starts →
-    ((v : ℕ) → has before.trail.reserved v ≡ true → has after.trail.reserved v ≡ true) → IsWatch live lists short roots before → IsWatch live lists short roots after
-watch_reserved live lists short roots before after lits_are assumptions_are starts_are within watch = record {
+watch_reserved : (live : FinMap nat_cmp Clause) (lists : WatchLists) (short : List ℕ) (roots : Roots) (before after : AssumptionsState) → after.trail.lits ≡ before.trail.lits → after.assumptions ≡ before.assumptions → after.starts ≡ before.starts →
+    ((v : ℕ) → has before.trail.reserved v ≡ true → has after.trail.reserved v ≡ true) → HaveReasons after.trail.reserved (at roots.reasons) → IsWatch live lists short roots before → IsWatch live lists short roots after
+watch_reserved live lists short roots before after lits_are assumptions_are starts_are within noted watch = record {
   scan = held_reserved (each_in_order live) (AreForced (maps.get (each_in_order live))) before after lits_are assumptions_are starts_are within watch.scan;
   apart = watch.apart;
   listed = watch.listed;
@@ -158,10 +159,11 @@ watch_reserved live lists short roots before after lits_are assumptions_are star
   one_each = watch.one_each;
   kept = subst (IsKept live roots) (sym (same_roots before after lits_are assumptions_are starts_are)) watch.kept;
   standing = subst (IsStanding roots.kept) (sym assumptions_are) watch.standing;
+  noted = noted;
 }
 
 -- more room for reasons
-pub watch_noted : (live : FinMap nat_cmp Clause) (lists : WatchLists) (short : List ℕ) (roots after : Roots) (held : AssumptionsState) → after.kept ≡ roots.kept → after.history ≡ roots.history →
+watch_noted : (live : FinMap nat_cmp Clause) (lists : WatchLists) (short : List ℕ) (roots after : Roots) (held : AssumptionsState) → after.kept ≡ roots.kept → after.history ≡ roots.history →
     ((l : Literal) → is_some (at roots.reasons l) ≡ true → at after.reasons l ≡ at roots.reasons l) → IsWatch live lists short roots held → IsWatch live lists short after held
 watch_noted live lists short roots after held kept_is history_is old watch = record {
   scan = watch.scan;
@@ -183,7 +185,15 @@ watch_noted live lists short roots after held kept_is history_is old watch = rec
         (watch.kept.visited (ap has_clash (sym kept_is) ∙ quiet));
   };
   standing = subst (λ k. IsStanding k held.assumptions) (sym kept_is) watch.standing;
+  noted = λ l h. let was = watch.noted l h in ap is_some (old l was) ∙ was;
 }
+
+-- more room for variables, and for the reasons of their literals
+pub watch_room : (live : FinMap nat_cmp Clause) (lists : WatchLists) (short : List ℕ) (roots roots2 : Roots) (held held2 : AssumptionsState) → held2.trail.lits ≡ held.trail.lits → held2.assumptions ≡ held.assumptions → held2.starts ≡ held.starts →
+    ((v : ℕ) → has held.trail.reserved v ≡ true → has held2.trail.reserved v ≡ true) → roots2.kept ≡ roots.kept → roots2.history ≡ roots.history → ((l : Literal) → is_some (at roots.reasons l) ≡ true → at roots2.reasons l ≡ at roots.reasons l) →
+    HaveReasons held2.trail.reserved (at roots2.reasons) → IsWatch live lists short roots held → IsWatch live lists short roots2 held2
+watch_room live lists short roots roots2 held held2 lits_are assumptions_are starts_are within kept_is history_is old noted watch =
+    watch_reserved live lists short roots2 held held2 lits_are assumptions_are starts_are within noted (watch_noted live lists short roots roots2 held kept_is history_is old watch)
 
 pub watch_same : (live : FinMap nat_cmp Clause) (lists after : WatchLists) (short : List ℕ) (roots : Roots) (held : AssumptionsState) → AreApart after → ((l s : ℕ) → entries_of s (list_at after l) ≡ entries_of s (list_at lists l)) →
     ((l s : ℕ) (c : Clause) → maps.get live s ≡ Some c → unfit_entries s c l (list_at after l) ≤ unfit_entries s c l (list_at lists l)) → entries_in after ≡ entries_in lists → IsWatch live lists short roots held → IsWatch live after short roots held
@@ -197,6 +207,7 @@ watch_same live lists after short roots held apart times fewer entries watch = r
   one_each = watch.one_each;
   kept = watch.kept;
   standing = watch.standing;
+  noted = watch.noted;
 }
 
 -- the lists were taken out and put back
@@ -207,8 +218,9 @@ watch_put_back live lists after short roots held same watch =
 -- ---- Where nothing is assumed
 
 pub watch_alone : (live : FinMap nat_cmp Clause) (lists : WatchLists) (short : List ℕ) (roots : Roots) (held : AssumptionsState) → held.assumptions ≡ [] → HasRoomForAll held.trail.reserved (maps.get (each_in_order live)) →
-    AreApart lists → IsListed (maps.get live) (list_at lists) → IsShortList (maps.get live) short → entries_in lists ≡ 2 * long_clauses live → length short ≡ short_clauses live → IsKept live roots held.trail.lits → IsWatch live lists short roots held
-watch_alone live lists short roots held nothing room apart listed rest two_each one_each kept = record {
+    AreApart lists → IsListed (maps.get live) (list_at lists) → IsShortList (maps.get live) short → entries_in lists ≡ 2 * long_clauses live → length short ≡ short_clauses live → IsKept live roots held.trail.lits → HaveReasons held.trail.reserved (at roots.reasons) →
+    IsWatch live lists short roots held
+watch_alone live lists short roots held nothing room apart listed rest two_each one_each kept noted = record {
   scan = record {
     room = room;
     exact = subst (λ xs. AreExact (maps.get (each_in_order live)) (AreForced (maps.get (each_in_order live))) held.trail.lits xs held.starts) (sym nothing) (kept_forced live roots held.trail.lits kept);
@@ -221,6 +233,7 @@ watch_alone live lists short roots held nothing room apart listed rest two_each 
   one_each = one_each;
   kept = subst (IsKept live roots) (sym (roots_alone held.trail.lits held.assumptions held.starts nothing)) kept;
   standing = subst (IsStanding roots.kept) (sym nothing) tt;
+  noted = noted;
 }
 
 -- what is kept there
@@ -230,16 +243,18 @@ alone_kept live lists short roots held watch nothing = subst (IsKept live roots)
 -- it is brought up to date
 pub watch_refreshed : (live live2 : FinMap nat_cmp Clause) (lists lists2 : WatchLists) (short : List ℕ) (roots roots2 : Roots) (held held2 : AssumptionsState) → IsWatch live lists short roots held → held2.assumptions ≡ [] → SameSet held2.trail.reserved held.trail.reserved →
     each_in_order live2 ≡ each_in_order live → ((s : ℕ) → short_for (maps.get live2 s) ≡ short_for (maps.get live s)) → AreApart lists2 → IsListed (maps.get live2) (list_at lists2) → entries_in lists2 ≡ entries_in lists →
-    IsKept live2 roots2 held2.trail.lits → IsWatch live2 lists2 short roots2 held2
-watch_refreshed live live2 lists lists2 short roots roots2 held held2 watch nothing reserved same shorts apart listed entries kept =
+    IsKept live2 roots2 held2.trail.lits → ((l : Literal) → is_some (at roots.reasons l) ≡ true → is_some (at roots2.reasons l) ≡ true) → IsWatch live2 lists2 short roots2 held2
+watch_refreshed live live2 lists lists2 short roots roots2 held held2 watch nothing reserved same shorts apart listed entries kept noted =
     watch_alone live2 lists2 short roots2 held2 nothing (record { each = λ k c here l member. reserved (l / 2) ∙ watch.scan.room.each k c (ap (λ m. maps.get m k) (sym same) ∙ here) l member }) apart listed
     (record { listed = λ s. watch.rest.listed s ∙ sym (shorts s) }) (entries ∙ watch.two_each ∙ ap (λ n. 2 * n) (sym (long_alike live live2 same))) (watch.one_each ∙ sym (short_alike live live2 same)) kept
+    (λ l h. noted l (watch.noted l (sym (reserved (variable l)) ∙ h)))
 
 -- ---- No clauses
 
 pub watch_empty : (live : FinMap nat_cmp Clause) (lists : WatchLists) (short : List ℕ) (roots : Roots) (held : AssumptionsState) → live ≡ maps.empty → ((l : Literal) → list_at lists l ≡ []) → entries_in lists ≡ 0 → AreApart lists → short ≡ [] →
-    roots.kept ≡ Cut → roots.history.visited.items ≡ [] → held.trail.lits ≡ [] → held.assumptions ≡ [] → IsWatch live lists short roots held
-watch_empty live lists short roots held none empty no_entries apart no_short cut unseen unset nothing =
+    roots.kept ≡ Cut → roots.history.visited.items ≡ [] → held.trail.lits ≡ [] → held.trail.reserved ≡ [] → held.assumptions ≡ [] →
+    IsWatch live lists short roots held
+watch_empty live lists short roots held none empty no_entries apart no_short cut unseen unset no_room nothing =
     let gone = λ (s : ℕ). ap (λ m. maps.get m s) none ∙ maps.get-empty nat_cmp s in
     let gone_shown = λ (s : ℕ). ap (λ m. maps.get m s) (ap each_in_order none ∙ ordered_empty) ∙ maps.get-empty nat_cmp s in
     watch_alone live lists short roots held nothing (record { each = λ k c here. absurd (none-some c (sym (gone_shown k) ∙ here)) }) apart
@@ -251,6 +266,7 @@ watch_empty live lists short roots held none empty no_entries apart no_short cut
     (record { listed = λ s. ap (times_in s) no_short ∙ sym (ap short_for (gone s)) }) (no_entries ∙ sym (ap (λ n. 2 * n) (ap long_clauses none ∙ sum_empty (λ c. cond (nat_le 2 (size c)) 1 0))))
     (ap length no_short ∙ sym (ap short_clauses none ∙ sum_empty (λ c. cond (nat_le 2 (size c)) 0 1)))
     (kept_nothing live roots held.trail.lits (record { each = λ s c here. absurd (none-some c (sym (gone_shown s) ∙ here)) }) cut (ap length unseen) unset)
+    (λ l h. absurd (false≢true (ap (λ vs. has vs (variable l)) (sym no_room) ∙ h)))
 
 -- ---- One clause more or less, where nothing is assumed
 
@@ -277,9 +293,9 @@ short_weight c different = ap (λ b. cond b 0 1) (long_is c different) ∙ by_te
     by_test false = refl
 
 module _ (live after : FinMap nat_cmp Clause) (lists lists2 : WatchLists) (short short2 : List ℕ) (roots roots2 : Roots) (held held2 : AssumptionsState) (watch : IsWatch live lists short roots held) (nothing : held2.assumptions ≡ [])
-    (slot : ℕ) (c : Clause) (different : size c ≡ length c) (apart : AreApart lists2) (room : HasRoomForAll held2.trail.reserved (maps.get (each_in_order after))) (kept : IsKept after roots2 held2.trail.lits) where
+    (slot : ℕ) (c : Clause) (different : size c ≡ length c) (apart : AreApart lists2) (room : HasRoomForAll held2.trail.reserved (maps.get (each_in_order after))) (kept : IsKept after roots2 held2.trail.lits) (noted : HaveReasons held2.trail.reserved (at roots2.reasons)) where
   two : entries_in lists2 ≡ 2 * long_clauses after → length short2 ≡ short_clauses after → IsListed (maps.get after) (list_at lists2) → IsShortList (maps.get after) short2 → IsWatch after lists2 short2 roots2 held2
-  two two_each one_each listed rest = watch_alone after lists2 short2 roots2 held2 nothing room apart listed rest two_each one_each kept
+  two two_each one_each listed rest = watch_alone after lists2 short2 roots2 held2 nothing room apart listed rest two_each one_each kept noted
 
   pub watch_added : maps.get live slot ≡ None → after ≡ maps.insert live slot c → slot < 2147483648 →
       HasEntry c slot lists2 lists → AddsFitting c slot lists lists2 → ((s : ℕ) → times_in s short2 ≡ times_in s short + cond (is_short c && eqb s slot) 1 0) →

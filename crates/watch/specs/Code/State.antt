@@ -3,8 +3,9 @@ use Rattle.std.specs.Coded.{Coded, code_by, coded×, coded_bool, coded_list, cod
 use Rattle.std.specs.FinMap as maps
 use Rattle.std.specs.FinMap.{FinMap}
 use Rattle.std.specs.Ordering.{nat_cmp}
-use Rattle.std.specs.Prelude.{ℕ, List, Bool, refl, ◌≡◌, ◌*◌, length}
-use Rattle.cnf_base.specs.Literals.{size, Clause}
+use Rattle.std.specs.Prelude.{ℕ, List, Bool, Option, refl, ◌≡◌, ◌*◌, length, IsTrue, IsSome}
+use Rattle.cnf_base.specs.Literals.{size, Clause, Literal, has, variable}
+use Rattle.tables.specs.Table.{at}
 use Rattle.propagation.specs.Assumptions.{Propagation, AssumptionsState, roots_in}
 use Rattle.propagation.specs.Code.Coding.{propagation_code}
 use Rattle.propagation.specs.Code.Scan.{IsHeld}
@@ -49,9 +50,14 @@ watch_code =
     })
     (λ _. refl)
 
+-- there is room for the reasons of both literals of each of these variables
+abbrev pub HaveReasons : List ℕ → (Literal → Option ℕ) → Type 0
+HaveReasons variables reason_of =
+    (l : Literal) → IsTrue (has variables (variable l)) → IsSome (reason_of l)
+
 -- of what is held nothing follows that isn't true; each clause stands in the lists where it should,
--- and nothing else does; what is false is watched; and what is kept of the literals that are true
--- with nothing assumed is so
+-- and nothing else does; what is false is watched; what is kept of the literals that are true with
+-- nothing assumed is so; and each literal of a variable that is reserved can have a reason
 pub record IsWatch (live : FinMap nat_cmp Clause) (lists : WatchLists) (short : List ℕ)
     (roots : Roots) (held : AssumptionsState) : Type 0 where
   pub scan : IsHeld (each_in_order live) (AreForced (maps.get (each_in_order live))) held
@@ -63,3 +69,4 @@ pub record IsWatch (live : FinMap nat_cmp Clause) (lists : WatchLists) (short : 
   pub one_each : length short ≡ short_clauses live
   pub kept : IsKept live roots (roots_in held.trail.lits held.assumptions held.starts)
   pub standing : IsStanding roots.kept held.assumptions
+  pub noted : HaveReasons held.trail.reserved (at roots.reasons)

@@ -1,4 +1,4 @@
-use Rattle.std.proofs.Common.{◌≡◌, ◌/◌, length, take, sym, ap, ◌∙◌, subst, arith}
+use Rattle.std.proofs.Common.{◌≡◌, ◌/◌, is_some, length, take, sym, ap, ◌∙◌, subst, arith}
 use Rattle.std.specs.FinMap as maps
 use Rattle.tables.specs.Table.{at}
 use Rattle.root_literals.specs.History.{IsRewound}
@@ -22,6 +22,7 @@ returns-in-Ok-clause-watch c =
     watch_refreshed c.args.store.now.live c.catch_up.new.store.live c.args.lists.now c.catch_up.new.lists c.args.short.now c.args.roots.now c.catch_up.new.roots c.args.assumptions.now c.catch_up.new.assumptions c.requires.watch
     (p.extends.assumptions ∙ c.start.ensures.assumptions ∙ nothing_stands c.args.roots.now.kept c.args.assumptions.now.assumptions c.requires.watch.standing (sym c.is_up_to_date.ensures ∙ c.if-is_up_to_date.false))
     (λ v. p.extends.reserved v ∙ c.start.ensures.reserved v) p.same p.short e.apart e.listed e.entries c.in-Ok.ensures.kept
+    (λ l h. p.noted l (c.start.ensures.noted l h))
 
 pub returns-in-Err-clause-watch : goal.returns-in-Err-clause-watch
 returns-in-Err-clause-watch c =
@@ -37,3 +38,4 @@ returns-in-Err-clause-watch c =
     (kept_nothing after c.cut.new.self c.cut.new.assumptions.trail.lits
     (subst (λ t. AreNoted (maps.get (each_in_order after)) (at t)) (sym u.reasons)
     (noted_carried c.args.store.now.live after c.start.new.assumptions c.catch_up.new.assumptions (at c.start.new.roots.reasons) (at roots.reasons) p c.start.ensures.kept.noted)) u.kept (rewound_none (subst (IsRewound roots.history c.cut.new.self.history) zero u.history)) (u.lits ∙ ap (λ n. take n c.catch_up.new.assumptions.trail.lits) zero))
+    (λ l h. ap (λ t. is_some (at t l)) u.reasons ∙ p.noted l (c.start.ensures.noted l h))

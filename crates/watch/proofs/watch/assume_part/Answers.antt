@@ -72,6 +72,7 @@ returns-in-Ok g c =
       };
       watch =
           watch_answered live c.run.new.store.live c.args.lists.now c.run.new.lists c.args.short.now c.args.roots.now _ before after found c.requires.watch f.propagates refl f.apart f.listed f.entries e.begins c.requires.up_to_date last answer all c.answer.ensures.trail stand starts p.watched
+          (λ v. ap (λ t. has t.reserved v) c.answer.ensures.trail ∙ extends.reserved v ∙ e.reserved v)
           (scan_after shown (AreForced (maps.get shown)) (λ ls forced. forced) before after added c.requires.may c.requires.watch.scan last answer all stand starts
           (ap (λ t. take (length before.trail.lits) t.lits) c.answer.ensures.trail ∙ begins) (λ v. ap (λ t. has t.reserved v) c.answer.ensures.trail ∙ extends.reserved v ∙ e.reserved v)
           (λ quiet. subst (λ t. IsExact (maps.get shown) all t.lits) (sym c.answer.ensures.trail)

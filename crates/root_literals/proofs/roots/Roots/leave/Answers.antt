@@ -1,7 +1,8 @@
-use Rattle.std.proofs.Common.{Some, ◌≤◌}
+use Rattle.std.proofs.Common.{Some, is_some, ◌≤◌}
 use Rattle.std.proofs.Common.{length}
 use Rattle.std.proofs.Common.{sym, ap, ◌∙◌, subst, arith}
 use Rattle.cnf_base.specs.Literals.{has}
+use Rattle.tables.specs.Table.{at}
 use Rattle.root_literals.specs.declared.roots.Kept.TheVariants.{Clash}
 use Rattle.root_literals.proofs.RootLemmas.Kept.{kept_cut, kept_left}
 use Rattle.root_literals.proofs.RootLemmas.Reasons.{reasoned_root}
@@ -13,6 +14,7 @@ loop-place-preserved c =
     let e = c.cut.ensures in
     let below = subst (λ t. c.in-Some.place ≤ length t.lits) c.trail-in-loop-place.ensures c.in-Some.ensures.inside in
     let fewer = e.fewer in record {
+      noted = λ k h. ap (λ t. is_some (at t k)) e.reasons ∙ so_far.noted k h;
       kept = kept_cut c.args.store.now.live c.loop-place.self c.cut.new.self c.loop-place.assumptions.trail.lits c.cut.new.assumptions.trail.lits (length c.cut.new.assumptions.trail.lits) so_far.kept (omega (arith, below, fewer)) e.kept e.history e.reasons e.lits;
       reserved = λ v. e.reserved v ∙ so_far.reserved v;
       assumptions = e.assumptions;

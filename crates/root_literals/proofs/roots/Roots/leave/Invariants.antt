@@ -1,10 +1,13 @@
-use Rattle.std.proofs.Common.{◌≡◌, ◌+◌, cond, length, []}
+use Rattle.std.proofs.Common.{◌≡◌, ◌+◌, cond, length, [], IsSome}
+use Rattle.cnf_base.specs.Literals.{Literal}
+use Rattle.tables.specs.Table.{at}
 use Rattle.theory.specs.Sets.{SameSet}
 use Rattle.root_literals.specs.Roots.{IsKept, has_clash}
 use Rattle.root_literals.proofs.roots.Roots.leave.Given as goal
 
 abbrev pub invariant-loop-place : goal.invariant-loop-place
 invariant-loop-place l = record {
+  noted : (k : Literal) → IsSome (at l.fn.self.reasons k) → IsSome (at l.self.reasons k);
   kept : IsKept l.store.live l.self l.assumptions.trail.lits;
   reserved : SameSet l.assumptions.trail.reserved l.fn.assumptions.trail.reserved;
   assumptions : l.assumptions.assumptions ≡ [];

@@ -5,7 +5,23 @@ use Rattle.propagation.proofs.PropagationLemmas.Reduced.{unless_refused}
 use Rattle.watch.proofs.WatchLemmas.Assumed.{assuming_source, refused_source, source_room}
 use Rattle.watch.proofs.WatchLemmas.Assumed.{source_there}
 use Rattle.root_literals.proofs.RootLemmas.Order.{literals_ordered}
+use Rattle.watch.proofs.WatchLemmas.State.{watch_room}
 use Rattle.watch.proofs.watch.Watch.assume_source.Goals as goal
+
+pub invariant_of-self : goal.invariant_of-self
+invariant_of-self g c =
+    let i = c.self.inside in
+    let r = c.reserve_given.ensures in (
+      watch_room i.store.live i.lists i.short i.roots c.reserve_given.new.roots i.assumptions c.reserve_given.new.assumptions r.lits r.assumptions r.starts r.reserved r.kept r.history r.old r.noted c.self.invariant.0,
+      c.self.invariant.1,
+      c.self.invariant.2,
+    )
+
+pub assume_part-assumed-requires-clause-watch : goal.assume_part-assumed-requires-clause-watch
+assume_part-assumed-requires-clause-watch g c =
+    let i = c.self.inside in
+    let r = c.reserve_given.ensures in
+    watch_room i.store.live i.lists i.short i.roots c.reserve_given.new.roots i.assumptions c.reserve_given.new.assumptions r.lits r.assumptions r.starts r.reserved r.kept r.history r.old r.noted c.self.invariant.0
 
 pub assume_part-assumed-requires-clause-alive : goal.assume_part-assumed-requires-clause-alive
 assume_part-assumed-requires-clause-alive g c =

@@ -16,8 +16,8 @@ use Rattle.watch.proofs.WatchLemmas.Follow.{times_has}
 use Rattle.root_literals.proofs.RootLemmas.Order.{get_ordered, inserted_is, literals_ordered}
 use Rattle.root_literals.proofs.RootLemmas.Order.{ordered_alike, removed_back, same-in_order}
 use Rattle.root_literals.proofs.RootLemmas.Order.{seen_there}
-use Rattle.watch.proofs.WatchLemmas.State.{alone_kept, same_state, watch_added, watch_noted}
-use Rattle.watch.proofs.WatchLemmas.State.{watch_reserved, watch_same}
+use Rattle.watch.proofs.WatchLemmas.State.{alone_kept, same_state, watch_added, watch_room}
+use Rattle.watch.proofs.WatchLemmas.State.{watch_same}
 use Rattle.watch.proofs.watch.WatchPropagate.insert.Goals as goal
 
 pub arrange-left-requires : goal.arrange-left-requires
@@ -40,23 +40,23 @@ pub enter-requires-clause-kept : goal.enter-requires-clause-kept
 enter-requires-clause-kept c =
     let i = c.self.inside in
     let live = i.store.live in
-    let r = c.reserve.ensures in
-    let watch = watch_noted live i.lists i.short i.roots c.reserve-2.new.self c.reserve.new.self c.reserve-2.ensures.kept c.reserve-2.ensures.history c.reserve-2.ensures.old (watch_reserved live i.lists i.short i.roots i.assumptions c.reserve.new.self r.lits r.assumptions r.starts r.reserved c.self.invariant.0) in
-    subst (λ m. IsKept m c.reserve-2.new.self c.reserve.new.self.trail.lits)
+    let r = c.reserve_room.ensures in
+    let watch = watch_room live i.lists i.short i.roots c.reserve_room.new.roots i.assumptions c.reserve_room.new.assumptions r.lits r.assumptions r.starts r.reserved r.kept r.history r.old r.noted c.self.invariant.0 in
+    subst (λ m. IsKept m c.reserve_room.new.roots c.reserve_room.new.assumptions.trail.lits)
     (sym (removed_back live c.arrange-left.new.store.live c.in_ok-slot.slot c.in_ok-slot.ensures.free (λ s ne. c.arrange-left.ensures.others s ne ∙ c.in_ok-slot.ensures.others s ne)))
-    (alone_kept live i.lists i.short c.reserve-2.new.self c.reserve.new.self watch (r.assumptions ∙ ap (λ w. w.propagation.assumptions) c.self.view_is ∙ c.requires))
+    (alone_kept live i.lists i.short c.reserve_room.new.roots c.reserve_room.new.assumptions watch (r.assumptions ∙ ap (λ w. w.propagation.assumptions) c.self.view_is ∙ c.requires))
 
 pub enter-requires-clause-reasons : goal.enter-requires-clause-reasons
 enter-requires-clause-reasons c clause here l member =
     let d = c.in_ok-slot.ensures.stored in
     let e = c.arrange-left.ensures.arranged d.0 d.1 in
-    c.in_ok-reserve-2.ensures.room l (same_there d.0 c.args.lits.now d.2 l (sym (e.2 l) ∙ ap (λ x. has x l) (same_Some e.0 clause (sym e.1 ∙ here)) ∙ member))
+    c.reserve_room.ensures.noted l (c.in_ok-reserve_room.ensures.room l (same_there d.0 c.args.lits.now d.2 l (sym (e.2 l) ∙ ap (λ x. has x l) (same_Some e.0 clause (sym e.1 ∙ here)) ∙ member)))
 
 pub enter-requires-clause-room : goal.enter-requires-clause-room
 enter-requires-clause-room c clause here l member =
     let d = c.in_ok-slot.ensures.stored in
     let e = c.arrange-left.ensures.arranged d.0 d.1 in
-    c.in_ok-reserve.ensures.room l (same_there d.0 c.args.lits.now d.2 l (sym (e.2 l) ∙ ap (λ x. has x l) (same_Some e.0 clause (sym e.1 ∙ here)) ∙ member))
+    c.in_ok-reserve_room.ensures.room l (same_there d.0 c.args.lits.now d.2 l (sym (e.2 l) ∙ ap (λ x. has x l) (same_Some e.0 clause (sym e.1 ∙ here)) ∙ member))
 
 pub enter-requires-clause-arranged : goal.enter-requires-clause-arranged
 enter-requires-clause-arranged c clause here =
@@ -70,20 +70,21 @@ invariant_of-self-in-Ok c =
     let live = i.store.live in
     let after = c.arrange-left.new.store.live in
     let slot = c.in_ok-slot.slot in
-    let held = c.reserve.new.self in
+    let held = c.reserve_room.new.assumptions in
     let now = c.enter.new.assumptions in
-    let r = c.reserve.ensures in
-    let watch = watch_noted live i.lists i.short i.roots c.reserve-2.new.self held c.reserve-2.ensures.kept c.reserve-2.ensures.history c.reserve-2.ensures.old (watch_reserved live i.lists i.short i.roots i.assumptions held r.lits r.assumptions r.starts r.reserved c.self.invariant.0) in
+    let r = c.reserve_room.ensures in
+    let watch = watch_room live i.lists i.short i.roots c.reserve_room.new.roots i.assumptions c.reserve_room.new.assumptions r.lits r.assumptions r.starts r.reserved r.kept r.history r.old r.noted c.self.invariant.0 in
     let d = c.in_ok-slot.ensures.stored in
     let w = c.arrange-left.ensures.arranged d.0 d.1 in
     let e = c.in-Ok.ensures in
     let n = c.enter.ensures in
     let others : (s : ℕ) → s ≢ slot → maps.get after s ≡ maps.get live s = λ s ne. c.arrange-left.ensures.others s ne ∙ c.in_ok-slot.ensures.others s ne in
     let is_same = same_trans (in_order w.0) w.0 c.args.lits.now (same-in_order w.0) (same_trans w.0 d.0 c.args.lits.now (same_from w.0 d.0 (λ l g. sym (w.2 l) ∙ g) (λ l g. w.2 l ∙ g)) d.2) in
-    let room = room_added held.trail.reserved (each_in_order live) (each_in_order after) slot c.args.lits.now watch.scan.room c.in_ok-reserve.ensures.room
+    let room = room_added held.trail.reserved (each_in_order live) (each_in_order after) slot c.args.lits.now watch.scan.room c.in_ok-reserve_room.ensures.room
     (in_order w.0, seen_there after slot w.0 w.1, is_same) (λ s ne. get_ordered after s ∙ ap (option_map in_order) (others s ne) ∙ sym (get_ordered live s)) in (
-      watch_added live after i.lists c.add_entries.new.lists i.short c.add_entries.new.short c.reserve-2.new.self c.enter.new.self held now watch (n.assumptions ∙ r.assumptions ∙ ap (λ w. w.propagation.assumptions) c.self.view_is ∙ c.requires)
+      watch_added live after i.lists c.add_entries.new.lists i.short c.add_entries.new.short c.reserve_room.new.roots c.enter.new.self held now watch (n.assumptions ∙ r.assumptions ∙ ap (λ w. w.propagation.assumptions) c.self.view_is ∙ c.requires)
           slot w.0 (e.different w.0 w.1) e.apart (record { each = λ k x here l member. n.reserved (l / 2) ∙ room.each k x here l member }) n.kept
+          (λ l h. n.noted l (watch.noted l (sym (n.reserved (l / 2)) ∙ h)))
           c.in_ok-slot.ensures.free (inserted_is live after slot w.0 w.1 others) e.low (e.watched w.0 w.1) (e.fitting w.0 w.1) (e.rest w.0 w.1) (e.more w.0 w.1) (e.longer w.0 w.1),
       c.arrange-left.ensures.live_alone ∙ sym (literals_ordered after),
       subst (λ m. IsClosure (maps.get m) c.insert_clause.new.closure) (sym (ordered_alike c.insert_clause.new.store.live after slot d.0 w.0 d.1 w.1 w.2 c.arrange-left.ensures.others)) c.insert_clause.ensures.closure,
@@ -99,10 +100,10 @@ pub invariant_of-self-in-Err : goal.invariant_of-self-in-Err
 invariant_of-self-in-Err c =
     let i = c.self.inside in
     let live = i.store.live in
-    let held = c.reserve.new.self in
-    let roots = c.reserve-2.new.self in
-    let r = c.reserve.ensures in
-    let watch = watch_noted live i.lists i.short i.roots roots held c.reserve-2.ensures.kept c.reserve-2.ensures.history c.reserve-2.ensures.old (watch_reserved live i.lists i.short i.roots i.assumptions held r.lits r.assumptions r.starts r.reserved c.self.invariant.0) in
+    let held = c.reserve_room.new.assumptions in
+    let roots = c.reserve_room.new.roots in
+    let r = c.reserve_room.ensures in
+    let watch = watch_room live i.lists i.short i.roots c.reserve_room.new.roots i.assumptions c.reserve_room.new.assumptions r.lits r.assumptions r.starts r.reserved r.kept r.history r.old r.noted c.self.invariant.0 in
     let d = c.in_ok-slot.ensures.stored in
     let w = c.arrange-left.ensures.arranged d.0 d.1 in
     let e = c.in-Err.ensures in
@@ -144,14 +145,13 @@ returns-in-Err-clause-err c =
     let live = i.store.live in
     let back = c.remove_clause.ensures.live ∙ removed_back live c.arrange-left.new.store.live c.in_ok-slot.slot c.in_ok-slot.ensures.free (λ s ne. c.arrange-left.ensures.others s ne ∙ c.in_ok-slot.ensures.others s ne) in
     let stored = c.remove_clause.ensures.live_alone ∙ ap literals_in back ∙ sym (literals_ordered live) ∙ sym c.self.invariant.1 in
-    same_state (each_in_order c.remove_clause.new.store.live) (each_in_order live) _ _ _ _ i.has_refused (ap each_in_order back) c.reserve.ensures.assumptions stored ∙ ap (λ w. w.propagation) c.self.view_is
+    same_state (each_in_order c.remove_clause.new.store.live) (each_in_order live) _ _ _ _ i.has_refused (ap each_in_order back) c.reserve_room.ensures.assumptions stored ∙ ap (λ w. w.propagation) c.self.view_is
 
-pub invariant_of-self-in_err-reserve-2 : goal.invariant_of-self-in_err-reserve-2
-invariant_of-self-in_err-reserve-2 c =
+pub invariant_of-self : goal.invariant_of-self
+invariant_of-self c =
     let i = c.self.inside in
-    let r = c.reserve.ensures in (
-      watch_noted i.store.live i.lists i.short i.roots c.reserve-2.new.self c.reserve.new.self c.reserve-2.ensures.kept c.reserve-2.ensures.history c.reserve-2.ensures.old
-          (watch_reserved i.store.live i.lists i.short i.roots i.assumptions c.reserve.new.self r.lits r.assumptions r.starts r.reserved c.self.invariant.0),
+    let r = c.reserve_room.ensures in (
+      watch_room i.store.live i.lists i.short i.roots c.reserve_room.new.roots i.assumptions c.reserve_room.new.assumptions r.lits r.assumptions r.starts r.reserved r.kept r.history r.old r.noted c.self.invariant.0,
       c.self.invariant.1,
       c.self.invariant.2,
     )
@@ -159,11 +159,10 @@ invariant_of-self-in_err-reserve-2 c =
 pub invariant_of-self-in_err-slot : goal.invariant_of-self-in_err-slot
 invariant_of-self-in_err-slot c =
     let i = c.self.inside in
-    let r = c.reserve.ensures in
-    let watch = watch_noted i.store.live i.lists i.short i.roots c.reserve-2.new.self c.reserve.new.self c.reserve-2.ensures.kept c.reserve-2.ensures.history c.reserve-2.ensures.old
-    (watch_reserved i.store.live i.lists i.short i.roots i.assumptions c.reserve.new.self r.lits r.assumptions r.starts r.reserved c.self.invariant.0) in
+    let r = c.reserve_room.ensures in
+    let watch = watch_room i.store.live i.lists i.short i.roots c.reserve_room.new.roots i.assumptions c.reserve_room.new.assumptions r.lits r.assumptions r.starts r.reserved r.kept r.history r.old r.noted c.self.invariant.0 in
     let same = sym c.in_err-slot.ensures.err in (
-      subst (λ s. IsWatch s.live i.lists i.short c.reserve-2.new.self c.reserve.new.self) same watch,
+      subst (λ s. IsWatch s.live i.lists i.short c.reserve_room.new.roots c.reserve_room.new.assumptions) same watch,
       subst (λ s. s.stored ≡ literals_in (each_in_order s.live)) same c.self.invariant.1,
       c.insert_clause.ensures.closure,
     )

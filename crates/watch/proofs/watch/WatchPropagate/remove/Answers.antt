@@ -50,6 +50,7 @@ invariant_of-self c =
       watch_removed live after c.leave-is_lost.new.lists c.remove_entries.new.lists i.short c.remove_entries.new.short i.roots c.leave-is_lost.new.self i.assumptions held watch left.assumptions
           slot d.0 (e.different d.0 d.1) e.apart (record { each = λ k x here l member. left.reserved (l / 2) ∙ room.each k x here l member })
           (subst (λ m. IsKept m c.leave-is_lost.new.self held.trail.lits) (sym c.remove_clause.ensures.live) left.kept)
+          (λ l h. left.noted l (watch.noted l (sym (left.reserved (l / 2)) ∙ h)))
           d.1 c.remove_clause.ensures.live (e.watched d.0 d.1) (e.fitting d.0 d.1) (e.rest d.0 d.1) (e.fewer d.0 d.1) (e.shorter d.0 d.1),
       c.remove_clause.ensures.live_alone ∙ sym (literals_ordered after),
       c.remove_clause.ensures.closure,
