@@ -82,8 +82,8 @@ impl Cursor {
         self.next += 1; // into_list closes the gap
     }
 
-    /// The list.
-    #[inline(always)]
+    /// The list. Inlined, it would make the loop over the entries carry three more numbers.
+    #[inline(never)]
     pub fn into_list(self) -> Vec<Watcher>
         ensures { result.items ≡ self.entries }
     {
