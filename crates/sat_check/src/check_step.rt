@@ -1,10 +1,13 @@
 //! One step of a proof, and its line.
+//!
+//! Lines are made in functions that are called, not inlined: most steps have none, and the frame of
+//! each step would be filled with blank ones.
 
-ghost use Rattle.std.specs.Prelude.{◌≡◌, ◌≢◌, true, false, IfErr, IfNone, IfSome, OnOk, IsFalse};
+ghost use Rattle.std.specs.Prelude.{◌≡◌, ◌≢◌, ◌⊎◌, true, false, IfErr, IfNone, IfSome, OnOk, IsFalse};
 ghost use Rattle.cnf_base.specs.Lines.{Writes};
 ghost use Rattle.steps.specs.ProofSession.{is_over};
 ghost use Rattle.theory.specs.Verdicts.{is_last};
-ghost use Rattle.sat_check.specs.Lines.{a_proof, refusal_line, trace_line};
+ghost use Rattle.sat_check.specs.Lines.{a_proof, refusal_line, steps_line, trace_line};
 ghost use Rattle.sat_check.specs.Report.{Report, Outcome, is_cut_short, concluded, with_lines};
 ghost use Rattle.sat_check.specs.Report.{text_of};
 ghost use Rattle.sat_check.specs.Code.Writer.{LeavesWriter};
@@ -53,10 +56,27 @@ pub fn check_step<S: ProofSession, O: Out>(
         return Some(status);
     }
     if is_last(word) {
-        let line = steps_line(alloc, number, session.peak());
-        return Some(conclude(lines, Subject::Proof, line, Status::Verified));
+        return Some(verify(alloc, number, session.peak(), lines));
     }
     None
+}
+
+// Writes the verdict on a proof of which this step, the last one, was accepted.
+#[cold]
+#[inline(never)]
+fn verify<O: Out>(alloc: Global, number: u64, peak: u64, lines: &mut LineOut<O>) -> Status
+    ensures outcome { Outcome result lines.old.held lines.new.held
+        (concluded a_proof (steps_line number peak) Status.Verified) }
+    ensures status { (result ≡ Status.Verified) ⊎ (result ≡ Status.OutOfMemory)
+        ⊎ ((result ≡ Status.WriteFailed) × (lines.new.has_failed ≡ true)) }
+    ensures writer { LeavesWriter result lines.old lines.new }
+{
+    conclude(
+        lines,
+        Subject::Proof,
+        steps_line(alloc, number, peak),
+        Status::Verified,
+    )
 }
 
 // Writes the line of an accepted step, if a trace is asked for.
@@ -79,10 +99,32 @@ fn write_trace<O: Out>(
     if !trace {
         return Ok(());
     }
+    write_trace_line(alloc, number, word, lines)
+}
+
+// Writes the line of an accepted step.
+#[inline(never)]
+fn write_trace_line<O: Out>(
+    alloc: Global,
+    number: u64,
+    word: Accepted,
+    lines: &mut LineOut<O>,
+) -> Result<(), Status>
+    ensures wrote { OnOk result (Writes lines.old lines.new (text_of (traced true number word))) }
+    ensures whole { OnOk result (lines.old.is_broken ≡ false → lines.new.is_broken ≡ false) }
+    ensures stopped { IfErr result (λ status. (r : Report) →
+        Outcome status lines.old.held lines.new.held (with_lines (traced true number word) r)) }
+    ensures no_failure { OnOk result (lines.new.has_failed ≡ lines.old.has_failed) }
+    ensures broke { IfErr result (λ status. IsBreak status lines.new) }
+    ensures cut_short { IfErr result (λ status. is_cut_short status ≡ true) }
+    ensures same_writer { lines.new.borrows ≡ lines.old.borrows }
+{
     write_line(lines, trace_line(alloc, number, word))
 }
 
 // Writes why a step was refused. A session that had no memory has nothing to say of it.
+#[cold]
+#[inline(never)]
 fn refuse<O: Out>(alloc: Global, number: u64, refusal: Refusal, lines: &mut LineOut<O>) -> Status
     ensures memory { is_memory refusal ≡ true → (r : Report) →
         Outcome result lines.old.held lines.new.held r }

@@ -27,6 +27,8 @@ pub struct DratJudge<P: Propagate> {
     examiner: Examiner<P>,
     rules: DratRules,
     has_deleted_reason: bool,
+    /// Whether a deletion since the last addition found the literals that hold for good.
+    is_settled: bool,
 }
 
 impl<P: Propagate> Session<DratJudge<P>> {
@@ -44,6 +46,7 @@ impl<P: Propagate> Session<DratJudge<P>> {
             examiner,
             rules,
             has_deleted_reason: false,
+            is_settled: false,
         })
     }
 }
@@ -63,19 +66,23 @@ impl<P: Propagate> Judge for DratJudge<P> {
     ghost is_ready = { λ s. IsIdle (P.state s.examiner.clauses) };
 
     fn input(&mut self, lits: &[Lit]) -> Result<(), OutOfMemory> {
+        self.is_settled = false;
         add_copy(&mut self.examiner.clauses, lits)
     }
 
     fn step(&mut self, step: &StepBuf) -> Result<Accepted, Refusal> {
         match step.kind() {
             StepKind::Add => {
+                self.is_settled = false;
                 let (clause, witness) = parts_of(self.rules, step);
                 self.examiner.add(clause, witness)
             }
             StepKind::Delete => {
                 let clauses = &mut self.examiner.clauses;
-                let lits = step.lits();
-                delete(clauses, self.rules, lits, &mut self.has_deleted_reason)
+                let lost = &mut self.has_deleted_reason;
+                let answer = delete(clauses, self.rules, step.lits(), self.is_settled, lost);
+                self.is_settled |= matches!(answer, Ok(Accepted::Deleted));
+                answer
             }
         }
     }

@@ -52,12 +52,13 @@ impl<P: Propagate> Examiner<P> {
 
 /// Whether the rules keep the clause in the slot, since it makes a literal of it hold for good.
 ///
-/// Where they keep none, these are found too, up to the first that is lost: `remove` tells of it.
+/// Where they keep none, these literals are found too, unless that is done: so `remove` can tell
+/// that one is lost.
 fn is_kept<P: Propagate>(
     clauses: &mut P,
     rules: DratRules,
     slot: Slot,
-    was_lost: bool,
+    is_settled: bool,
 ) -> Result<bool, OutOfMemory>
     requires alive { IsSome (maps.get (P.state clauses.old).live slot) }
     requires idle { IsIdle (P.state clauses.old) }
@@ -73,7 +74,7 @@ fn is_kept<P: Propagate>(
     if rules.keep_units {
         return clauses.is_root_reason(slot);
     }
-    if was_lost {
+    if is_settled {
         return Ok(false);
     }
     let _ = clauses.assume(&[])?;
@@ -81,11 +82,14 @@ fn is_kept<P: Propagate>(
     Ok(false)
 }
 
-/// Takes one copy of the clause off, unless the rules keep it. It notes where a literal is lost.
+/// Takes one copy of the clause off, unless the rules keep it. It notes where a literal is lost, up
+/// to the first, for which the literals that hold for good are found, unless `is_settled` says that
+/// they are.
 pub(crate) fn delete<P: Propagate>(
     clauses: &mut P,
     rules: DratRules,
     lits: &[Lit],
+    is_settled: bool,
     has_deleted_reason: &mut bool,
 ) -> Result<Accepted, Refusal>
     requires { IsIdle (P.state clauses.old) }
@@ -107,7 +111,7 @@ pub(crate) fn delete<P: Propagate>(
             Ok(Accepted::Ignored)
         };
     };
-    match is_kept(clauses, rules, slot, *has_deleted_reason) {
+    match is_kept(clauses, rules, slot, is_settled || *has_deleted_reason) {
         Ok(true) => Ok(Accepted::Ignored),
         Ok(false) => {
             *has_deleted_reason |= clauses.remove(slot);

@@ -1,6 +1,5 @@
 -- The step was refused, its line broke off, it is the last one, or the check goes on.
 use Rattle.std.proofs.Common.{[], rules, inl, inr}
-use Rattle.sat_check.specs.Lines.{steps_line}
 use Rattle.sat_check.specs.declared.status.Status.TheVariants.{Malformed}
 use Rattle.sat_check.proofs.ReachLemmas.{no_verdict}
 use Rattle.sat_check.proofs.StepLemmas.{Stops-refused, was_refused, Stops-traced, Stops-verified}
@@ -17,9 +16,9 @@ returns-in-Err-write_trace-clause-stops g c =
 
 pub returns-then-is_last-clause-stops : goal.returns-then-is_last-clause-stops
 returns-then-is_last-clause-stops g c =
-    Stops-verified c.args.trace c.args.number (g.S.ProofSession.shown c.args.session.now) c.args.step.now c.args.lines.now c.conclude.new.lines (g.S.ProofSession.shown c.step.new.self) c.in-Ok.word (c.in-Ok.ensures.answers c.requires.sound) c.in-Ok.ensures.state c.in-Ok.ensures.peak
-    c.conclude.result _ c.peak.result (search rules) c.peak.ensures c.in_default.ensures.wrote (c.in_default.ensures.whole c.requires.whole)
-    (c.conclude.ensures.outcome (steps_line c.args.number c.peak.result) c.steps_line-line.ensures)
+    Stops-verified c.args.trace c.args.number (g.S.ProofSession.shown c.args.session.now) c.args.step.now c.args.lines.now c.verify.new.lines (g.S.ProofSession.shown c.step.new.self) c.in-Ok.word (c.in-Ok.ensures.answers c.requires.sound) c.in-Ok.ensures.state c.in-Ok.ensures.peak
+    c.verify.result _ c.peak.result (search rules) c.peak.ensures c.in_default.ensures.wrote (c.in_default.ensures.whole c.requires.whole)
+    c.verify.ensures.outcome
 
 pub returns-clause-goes_on : goal.returns-clause-goes_on
 returns-clause-goes_on g c = record {

@@ -9,7 +9,7 @@ returns-in-Add-clause-keeps_models g c =
     let state = λ (p : g.row.P.Denot). by_copies c.args.self.now.rules (maps.values (g.P.Propagate.state p).live) in
     keeps_taken (state c.args.self.now.examiner.clauses) (state c.add.new.self.clauses) c.args.step.now c.add.result (search rules) (search rules)
 
-pub returns-in-Delete-clause-keeps_models : goal.returns-in-Delete-clause-keeps_models
-returns-in-Delete-clause-keeps_models g c =
+pub returns-after-matches-clause-keeps_models : goal.returns-after-matches-clause-keeps_models
+returns-after-matches-clause-keeps_models g c =
     let state = λ (p : g.row.P.Denot). by_copies c.args.self.now.rules (maps.values (g.P.Propagate.state p).live) in
-    keeps_taken (state c.args.self.now.examiner.clauses) (state c.delete.new.clauses) c.args.step.now c.delete.result (search rules) (search rules)
+    keeps_taken (state c.args.self.now.examiner.clauses) (state c.delete-answer.new.clauses) c.args.step.now c.delete-answer.result (search rules) (search rules)
