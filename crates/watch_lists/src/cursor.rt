@@ -1,6 +1,7 @@
 //! A watch list of which the clauses are visited.
 
-ghost use Rattle.std.specs.Prelude.{◌≡◌, ◌+◌, ◌<◌, length, slice_get, slice_set};
+ghost use Rattle.std.specs.Prelude.{◌≡◌, ◌+◌, ◌<◌, ◌≤◌, ◌++◌, take, drop, length, slice_get};
+ghost use Rattle.std.specs.Prelude.{slice_set};
 ghost use Rattle.std.specs.List.{remove};
 
 use crate::watcher::Watcher;
@@ -17,6 +18,21 @@ pub struct Cursor {
     kept: usize,
     /// Those from this place on are yet to be visited.
     next: usize,
+}
+
+/// Takes out what stands between two places. Few visits end early, so that a gap is left: inlined,
+/// it would make the loop over the entries carry more numbers.
+#[inline(never)]
+fn close_gap(list: &mut Vec<Watcher>, from: usize, to: usize)
+    requires order { from ≤ to }
+    requires inside { to ≤ length list.old.items }
+    ensures { list.new.items ≡ take from list.old.items ++ drop to list.old.items }
+{
+    let rest = list.len() - to;
+    if from < to {
+        list.copy_within(to.., from);
+    }
+    list.truncate(from + rest);
 }
 
 impl Model for Cursor {
@@ -82,17 +98,17 @@ impl Cursor {
         self.next += 1; // into_list closes the gap
     }
 
-    /// The list. Inlined, it would make the loop over the entries carry three more numbers.
-    #[inline(never)]
+    /// The list.
+    #[inline(always)]
     pub fn into_list(self) -> Vec<Watcher>
         ensures { result.items ≡ self.entries }
     {
         let mut list = self.list;
-        let rest = list.len() - self.next;
-        if rest > 0 && self.kept < self.next {
-            list.copy_within(self.next.., self.kept);
+        if self.next < list.len() {
+            close_gap(&mut list, self.kept, self.next);
+        } else {
+            list.truncate(self.kept);
         }
-        list.truncate(self.kept + rest);
         list
     }
 }
