@@ -311,6 +311,19 @@ impl Trail {
         self.values.near()
     }
 
+    /// What the trail says of a literal, which one of these near values may say. It takes no memory.
+    #[inline(always)]
+    pub fn value_near(&self, near: &[Value], l: Lit) -> Value
+        requires { AreNear self.now.lits near.now }
+        ensures value { result ≡ value_under self.now.lits l }
+        ensures different { HasNoVariableTwice self.now.lits }
+    {
+        match near.get(l.index()) {
+            Some(value) => *value,
+            None => self.value(l),
+        }
+    }
+
     /// Whether the literal is true, which one of these near values may say.
     #[inline(always)]
     pub fn is_true_near(&self, near: &[Value], l: Lit) -> bool
@@ -361,18 +374,25 @@ impl Trail {
         Some((count, last))
     }
 
-    /// The same as `first_open`, where the values of all literals that it looks at lie near.
+    /// The same as `first_open`, where the values of all literals that it looks at are these near
+    /// ones. It counts the places beside the slice, which takes fewer instructions than a look by
+    /// each place.
     #[inline(always)]
-    fn first_open_near(&self, clause: &[Lit], from: usize) -> Option<Option<usize>>
+    fn first_open_near(&self, near: &[Value], clause: &[Lit], from: usize) -> Option<Option<usize>>
+        requires { AreNear self.now.lits near.now }
         ensures found { IfSome result (λ r. IfSome r (IsOpenAt self.now.lits clause.now from)) }
         ensures none { IfSome result (λ r. IfNone r (AreFalseFrom self.now.lits clause.now from)) }
     {
-        let near = self.near();
-        for place in from..clause.len() {
-            let is_false = self.is_false_near(near, clause[place])?;
+        if from >= clause.len() {
+            return Some(None);
+        }
+        let mut place = from;
+        for l in &clause[from..] {
+            let is_false = self.is_false_near(near, *l)?;
             if !is_false {
                 return Some(Some(place));
             }
+            place += 1;
         }
         Some(None)
     }
@@ -398,7 +418,17 @@ impl Trail {
         ensures found { IfSome result (IsOpenAt self.now.lits clause.now from) }
         ensures none { IfNone result (AreFalseFrom self.now.lits clause.now from) }
     {
-        match self.first_open_near(clause, from) {
+        self.first_open_in(self.near(), clause, from)
+    }
+
+    /// The same as [`Trail::first_open`], where these near values may say which literals are false.
+    #[inline(always)]
+    pub fn first_open_in(&self, near: &[Value], clause: &[Lit], from: usize) -> Option<usize>
+        requires { AreNear self.now.lits near.now }
+        ensures found { IfSome result (IsOpenAt self.now.lits clause.now from) }
+        ensures none { IfNone result (AreFalseFrom self.now.lits clause.now from) }
+    {
+        match self.first_open_near(near, clause, from) {
             Some(found) => found,
             None => self.first_open_far(clause, from),
         }
