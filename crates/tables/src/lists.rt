@@ -34,6 +34,9 @@ pub struct Lists<T> {
 /// The length from which `near` grows.
 const LEAST: usize = 16384;
 
+/// A key is near where it is below so many times the number of keys that were met.
+const SPARSE: usize = 8;
+
 /// The key past the greatest one.
 const MOST: usize = 4294967296;
 
@@ -235,9 +238,11 @@ impl<T: Copy + Drop> Lists<T> {
     {
         let is_new = !self.has_list(key);
         self.count = self.count.saturating_add(usize::from(is_new));
-        let limit = self.count.saturating_mul(4).saturating_add(LEAST);
-        if self.near.len() <= key as usize && (key as usize) < limit {
-            self.widen(limit.min(MOST))
+        let len = self.near.len();
+        let place = key as usize;
+        let limit = self.count.saturating_mul(SPARSE).saturating_add(LEAST);
+        if len <= place && place < limit {
+            self.widen(len.saturating_mul(2).max(LEAST).max(place + 1).min(MOST))
         } else if is_new {
             self.add_far(key)
         } else {

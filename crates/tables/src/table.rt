@@ -2,7 +2,7 @@
 //!
 //! Dense keys have their values in an array, far keys in a balanced tree. So variable 268435455
 //! takes the memory that variable 1 takes, and a look-up among dense keys costs one comparison more
-//! than an array's. The array is at most sixteen times as long as the keys that were met, and
+//! than an array's. The array is at most thirty-two times as long as the keys that were met, and
 //! sixteen thousand.
 //!
 //! No key is hashed, since whoever writes an input chooses the keys. `HashMap` has the same
@@ -37,6 +37,9 @@ pub struct Table<T> {
 
 /// The length from which `dense` grows.
 const LEAST: usize = 8192;
+
+/// A key is near where it is below so many times the number of keys that were met.
+const SPARSE: usize = 16;
 
 /// The key of a literal.
 pub fn key(l: Lit) -> u32
@@ -240,12 +243,15 @@ impl<T: Copy + Drop> Table<T> {
         ensures err { OnErr result ((k : ℕ) → at self.new k ≡ at self.old k) }
     {
         let len = self.dense.len();
-        let limit = self.count.saturating_mul(8).saturating_add(LEAST);
-        let is_near = len <= key as usize && (key as usize) < limit;
+        let place = key as usize;
+        let limit = self.count.saturating_mul(SPARSE).saturating_add(LEAST);
+        let is_near = len <= place && place < limit;
         // Keys that fell from high to low would else stay in the sparse part.
         let is_short = len > 0 && len < self.count;
-        if is_near || is_short {
-            self.widen(limit.max(len.saturating_mul(2)))?;
+        if is_near {
+            self.widen(len.saturating_mul(2).max(LEAST).max(place + 1))?;
+        } else if is_short {
+            self.widen(len.saturating_mul(2))?;
         }
         if self.get(key).is_some() {
             return Ok(());

@@ -27,6 +27,9 @@ pub(crate) struct Values {
 /// The length from which `dense` grows.
 const LEAST: usize = 16384;
 
+/// A literal is near where it is below so many times the number of variables that were reserved.
+const SPARSE: usize = 32;
+
 /// The key past the greatest one.
 const MOST: usize = 536870912;
 
@@ -172,10 +175,11 @@ impl Values {
         ensures room { OnOk result (IsSome (value_at self.new l)) }
         ensures other { OnOk result (IsSome (value_at self.new (complement l))) }
     {
-        let limit = count.saturating_mul(16).saturating_add(LEAST);
+        let limit = count.saturating_mul(SPARSE).saturating_add(LEAST);
         let len = self.dense.len();
         if len <= l.index() && l.index() < limit {
-            self.widen(limit.max(len.saturating_mul(2)).min(MOST))?;
+            let wanted = len.saturating_mul(2).max(LEAST).max(l.index() + 2);
+            self.widen(wanted.min(MOST))?;
         }
         self.make_room(key(l))?;
         self.make_room(key(l.neg()))
