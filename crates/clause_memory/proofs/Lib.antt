@@ -4,5 +4,6 @@ mod BlockLemmas
 mod ClauseLemmas
 mod FreeLemmas
 mod MemoryLemmas
+mod RewatchLemmas
 mod RoomLemmas
 mod SwapLemmas

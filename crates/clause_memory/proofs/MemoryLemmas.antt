@@ -1,9 +1,12 @@
 -- A memory through a change: a block gets a clause, and loses it, and literals change places.
-use Rattle.std.proofs.Common.{◌≡◌, ◌≢◌, ℕ, zero, suc, ◌+◌, ◌-◌, ◌*◌, ◌<◌, ◌≤◌, true}
+use Rattle.std.proofs.Common.{◌≡◌, ◌≢◌, ℕ, zero, suc, ◌+◌, ◌-◌, ◌*◌, ◌<◌, ◌≤◌, true, Bool, false}
+use Rattle.std.proofs.Common.{cond, eqb}
 use Rattle.std.proofs.Common.{Option, Some, None, is_some, List, [], ◌∷◌, length, take, drop}
 use Rattle.std.proofs.Common.{get_or, refl, sym, ap, ◌∙◌, subst, arith, inl, inr}
 use Rattle.std.proofs.Math.ListN.{set}
 use Rattle.std.specs.FinMap as maps
+use Rattle.std.specs.FinMap.{FinMap}
+use Rattle.std.specs.Ordering.{nat_cmp}
 use Rattle.std.specs.List.{swap}
 use Rattle.std.proofs.lemmas.Bool.{cases_eq}
 use Rattle.std.proofs.lemmas.List.{drop-set-add, get_or-drop, get_or-set_other, get_or-set_same}
@@ -23,6 +26,8 @@ use Rattle.clause_memory.proofs.ClauseLemmas.{clause_if, clause_len, clauses_wit
 use Rattle.clause_memory.proofs.ClauseLemmas.{clauses_without, get_free}
 use Rattle.clause_memory.proofs.FreeLemmas.{HasHead, first_of, head_here, head_known, link_low}
 use Rattle.clause_memory.proofs.FreeLemmas.{listed_still, listed_with, listed_without}
+use Rattle.clause_memory.proofs.RewatchLemmas.{named_is}
+use Rattle.clause_memory.proofs.SumLemmas.{get_insert, same_maps}
 use Rattle.clause_memory.proofs.UnitLemmas.{IsChanged, alike_set, begins_inside, block_same}
 use Rattle.clause_memory.proofs.UnitLemmas.{clause_same, free_begins, kept_same}
 use Rattle.clause_memory.proofs.UnitLemmas.{live_isnt_free, part_blank, rest_by_kind, size_same}
@@ -320,7 +325,7 @@ module _ {ks : List Kind} {words : List ℕ} {heads : ℕ → Option ℕ} (memor
         other_word i (λ e. absurd (let wrong : ⊥ = omega arith in wrong)) (λ e. absurd (let wrong : ⊥ = omega arith in wrong));
   }
 
-  size_swapped : size_at swapped s ≡ size_at words s
+  pub size_swapped : size_at swapped s ≡ size_at words s
   size_swapped = ap (λ w. w - 2) (other_word (4 * s) (λ e. absurd (let wrong : ⊥ = omega arith in wrong)) (λ e. absurd (let wrong : ⊥ = omega arith in wrong)))
 
   size_all : (t : ℕ) → kind_at ks t ≡ Live → size_at swapped t ≡ size_at words t
@@ -357,3 +362,54 @@ module _ {ks : List Kind} {words : List ℕ} {heads : ℕ → Option ℕ} (memor
 
   pub swapped_clauses : clauses_in ks swapped ≡ maps.insert (clauses_in ks words) s (swap (clause_at words s) a b)
   swapped_clauses = clauses_with ks ks words swapped s live (λ t ne. clause_still memory changed_by_swap t ne) ∙ ap (maps.insert (clauses_in ks words) s) swapped_clause
+
+-- ---- Literals that change places, of which none is read
+
+hidden : {X : Type 0} (b : Bool) (x y : X) (o : Option X) → cond b (Some y) (cond b (Some x) o) ≡ cond b (Some y) o
+hidden true x y o = refl
+hidden false x y o = refl
+
+insert_twice : (m : FinMap nat_cmp Clause) (s : ℕ) (x y : Clause) → maps.insert (maps.insert m s x) s y ≡ maps.insert m s y
+insert_twice m s x y = same_maps _ _ (λ q.
+    get_insert (maps.insert m s x) s y q ∙ ap (cond (eqb q s) (Some y)) (get_insert m s x q) ∙ hidden (eqb q s) x y (maps.get m q)
+    ∙ sym (get_insert m s y q))
+
+word_of : (words : List ℕ) (s i : ℕ) → i < size_at words s → get_or words (4 * s + 1 + i) 0 ≡ get_or (clause_at words s) i 0
+word_of words s i low = sym (get_or-drop (4 * s + 1) words i 0) ∙ sym (get_or-take (size_at words s) (drop (4 * s + 1) words) i 0 low)
+
+module _ {ks : List Kind} {words : List ℕ} {heads : ℕ → Option ℕ} (memory : IsMemory ks words heads) (s from to l other next : ℕ) (live : kind_at ks s ≡ Live) (low : from < 2) (past : 2 ≤ to) (inside : to < size_at words s)
+    (is_l : get_or (clause_at words s) from 0 ≡ l) (is_other : get_or (clause_at words s) (1 - from) 0 ≡ other) (is_next : get_or (clause_at words s) to 0 ≡ next) where
+  abbrev turned : List ℕ
+  turned = swap words (4 * s + 1 + 0) (4 * s + 1 + (1 - from))
+
+  abbrev rewritten : List ℕ
+  rewritten = set (set (set words (4 * s + 1) other) (4 * s + 2) next) (4 * s + 1 + to) l
+
+  pub rewrite_inside : 4 * s + 1 + to < length words
+  rewrite_inside = (swap_inside memory s 0 to live (omega (arith, past, inside)) inside).1
+
+  rewritten_is : rewritten ≡ swap turned (4 * s + 1 + 1) (4 * s + 1 + to)
+  rewritten_is =
+      let second : 4 * s + 2 ≡ 4 * s + 1 + 1 = omega arith in
+      ap (λ n. set (set (set words (4 * s + 1) other) n next) (4 * s + 1 + to) l) second
+      ∙ named_is words (4 * s + 1) from to l other next low past rewrite_inside
+      (word_of words s from (omega (arith, low, past, inside)) ∙ is_l) (word_of words s (1 - from) (omega (arith, past, inside)) ∙ is_other) (word_of words s to inside ∙ is_next)
+
+  turned_memory : IsMemory ks turned heads
+  turned_memory = swapped_memory memory s 0 (1 - from) live (omega (arith, past, inside)) (omega (arith, past, inside))
+
+  same_size : size_at turned s ≡ size_at words s
+  same_size = size_swapped memory s 0 (1 - from) live (omega (arith, past, inside)) (omega (arith, past, inside))
+
+  pub rewritten_memory : IsMemory ks rewritten heads
+  rewritten_memory =
+      let size = same_size in
+      subst (λ ws. IsMemory ks ws heads) (sym rewritten_is) (swapped_memory turned_memory s 1 to live (omega (arith, size, past, inside)) (omega (arith, size, inside)))
+
+  pub rewritten_clauses : clauses_in ks rewritten ≡ maps.insert (clauses_in ks words) s (swap (swap (clause_at words s) 0 (1 - from)) 1 to)
+  rewritten_clauses =
+      let size = same_size in
+      ap (clauses_in ks) rewritten_is ∙ swapped_clauses turned_memory s 1 to live (omega (arith, size, past, inside)) (omega (arith, size, inside))
+      ∙ ap (λ m. maps.insert m s (swap (clause_at turned s) 1 to)) (swapped_clauses memory s 0 (1 - from) live (omega (arith, past, inside)) (omega (arith, past, inside)))
+      ∙ insert_twice (clauses_in ks words) s (swap (clause_at words s) 0 (1 - from)) (swap (clause_at turned s) 1 to)
+      ∙ ap (λ c. maps.insert (clauses_in ks words) s (swap c 1 to)) (swapped_clause memory s 0 (1 - from) live (omega (arith, past, inside)) (omega (arith, past, inside)))

@@ -1,7 +1,7 @@
 //! A memory of clauses.
 
-ghost use Rattle.std.specs.Prelude.{◌≡◌, ◌≢◌, ℕ, ◌*◌, ◌<◌, ◌≤◌, length, option_map};
-ghost use Rattle.std.specs.Prelude.{Some, None, IsSome, IfOk, OnOk, OnErr};
+ghost use Rattle.std.specs.Prelude.{◌≡◌, ◌≢◌, ℕ, ◌-◌, ◌*◌, ◌<◌, ◌≤◌, length, option_map};
+ghost use Rattle.std.specs.Prelude.{Some, None, IsSome, IfOk, OnOk, OnErr, slice_index};
 ghost use Rattle.std.specs.FinMap as maps;
 ghost use Rattle.std.specs.List.{swap};
 ghost use Rattle.cnf_base.specs.Literals.{Clause};
@@ -10,7 +10,7 @@ ghost use Rattle.clause_memory.specs.Memory.{literals_in, units_for, units_in};
 use crate::blocks::take_out;
 use crate::kind::{Kind, kind_of};
 use crate::room::place;
-use crate::words::{exchange, literals};
+use crate::words::{exchange, literals, rewrite};
 use cnf_base::{Lit, OutOfMemory};
 use std::alloc::Global;
 use std::marker::Model;
@@ -145,6 +145,23 @@ impl ClauseMemory {
         ensures live_alone { self.new.stored ≡ literals_in self.new.live }
     {
         exchange(&mut self.words, slot, a, b);
+    }
+
+    /// Puts the literal `next` of the clause in the slot among its first two, in the place of `l`,
+    /// which goes to where `next` stood. The other one of the two, `other`, comes first. Nothing is
+    /// read, and it takes no memory.
+    #[inline(always)]
+    pub fn rewatch(&mut self, slot: usize, other: Lit, next: Lit, to: usize, l: Lit)
+        requires { (c : Clause) × (from : ℕ) × (maps.get self.old.live slot ≡ Some c)
+            × (from < 2) × (slice_index c from ≡ l) × (slice_index c (1 - from) ≡ other)
+            × (2 ≤ to) × (to < length c) × (slice_index c to ≡ next) }
+        ensures live { (c : Clause) (from : ℕ) → maps.get self.old.live slot ≡ Some c → from < 2 →
+            slice_index c from ≡ l → slice_index c (1 - from) ≡ other →
+            self.new.live ≡ maps.insert self.old.live slot (swap (swap c 0 (1 - from)) 1 to) }
+        ensures blocks { self.new.blocks ≡ self.old.blocks }
+        ensures live_alone { self.new.stored ≡ literals_in self.new.live }
+    {
+        rewrite(&mut self.words, slot, other, next, to, l);
     }
 
     /// What holds of each memory: its words hold no literals but those of the live clauses, and

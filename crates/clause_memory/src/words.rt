@@ -4,7 +4,7 @@
 //! the literals with the codes of them and 2.
 
 ghost use Rattle.std.specs.Prelude.{◌≡◌, ℕ, ◌+◌, ◌-◌, ◌*◌, ◌<◌, ◌≤◌, ◌++◌, ◌∷◌, length, take, drop};
-ghost use Rattle.std.specs.Prelude.{vec_len, vec_capacity, OnOk, slice_index};
+ghost use Rattle.std.specs.Prelude.{vec_len, vec_capacity, OnOk, slice_index, slice_set};
 ghost use Rattle.std.specs.List.{swap};
 ghost use Rattle.clause_memory.specs.Memory.{units_for};
 ghost use Rattle.clause_memory.specs.Code.Free.{link_at};
@@ -206,4 +206,39 @@ pub(crate) fn exchange(words: &mut Vec<Lit>, slot: usize, a: usize, b: usize)
     ensures { words.new.items ≡ swap words.old.items (4 * slot + 1 + a) (4 * slot + 1 + b) }
 {
     exchange_behind(words, slot * UNIT + 1, a, b);
+}
+
+/// Writes the first two literals of a slice, and its last one.
+#[inline(always)]
+fn write_three(block: &mut [Lit], first: Lit, second: Lit, last: usize, l: Lit)
+    requires behind { 2 ≤ last }
+    requires inside { last < length block.old }
+    ensures { block.new ≡ slice_set (slice_set (slice_set block.old 0 first) 1 second) last l }
+{
+    block[0] = first;
+    block[1] = second;
+    block[last] = l;
+}
+
+/// Writes two words from a place on, and one that stands farther behind.
+#[inline(always)]
+fn write_behind(words: &mut Vec<Lit>, from: usize, first: Lit, second: Lit, to: usize, l: Lit)
+    requires behind { 2 ≤ to }
+    requires inside { from + to < length words.old.items }
+    ensures { words.new.items ≡ take from words.old.items ++
+        (slice_set (slice_set (slice_set (take (to + 1) (drop from words.old.items))
+        0 first) 1 second) to l ++ drop (from + to + 1) words.old.items) }
+{
+    write_three(&mut words[from..from + to + 1], first, second, to, l);
+}
+
+/// Writes the first two literals of a block, and one behind them. None is read.
+#[inline(always)]
+pub(crate) fn rewrite(words: &mut Vec<Lit>, slot: usize, first: Lit, second: Lit, to: usize, l: Lit)
+    requires behind { 2 ≤ to }
+    requires inside { 4 * slot + 1 + to < length words.old.items }
+    ensures { words.new.items ≡ slice_set (slice_set (slice_set words.old.items
+        (4 * slot + 1) first) (4 * slot + 2) second) (4 * slot + 1 + to) l }
+{
+    write_behind(words, slot * UNIT + 1, first, second, to, l);
 }
