@@ -9,7 +9,7 @@ ghost use Rattle.trail.specs.Trail.{HasRoom};
 ghost use Rattle.theory.specs.Sets.{SameSet, conflicts};
 ghost use Rattle.tables.specs.Table.{at};
 ghost use Rattle.watch.specs.Code.ClauseSource.{HasRoomGiven, IsThere, clause_of};
-ghost use Rattle.watch.specs.Code.State.{HaveReasons};
+ghost use Rattle.watch.specs.Code.State.{AddsRoom, HaveReasons};
 ghost use Rattle.propagation.specs.declared.answer.Answer.TheVariants.{Clash};
 
 use crate::room::reserve_room;
@@ -36,15 +36,7 @@ pub(crate) fn reserve_given(
 ) -> Result<(), OutOfMemory>
     requires noted { HaveReasons assumptions.old.trail.reserved (at roots.old.reasons) }
     ensures noted { HaveReasons assumptions.new.trail.reserved (at roots.new.reasons) }
-    ensures reserved { (v : ℕ) → IsTrue (has assumptions.old.trail.reserved v) →
-        IsTrue (has assumptions.new.trail.reserved v) }
-    ensures lits { assumptions.new.trail.lits ≡ assumptions.old.trail.lits }
-    ensures assumptions { assumptions.new.assumptions ≡ assumptions.old.assumptions }
-    ensures starts { assumptions.new.starts ≡ assumptions.old.starts }
-    ensures old { (k : Literal) → IsSome (at roots.old.reasons k) →
-        at roots.new.reasons k ≡ at roots.old.reasons k }
-    ensures kept { roots.new.kept ≡ roots.old.kept }
-    ensures history { roots.new.history ≡ roots.old.history }
+    ensures more { AddsRoom assumptions.old assumptions.new roots.old roots.new }
     ensures room { OnOk result (HasRoomGiven assumptions.new.trail.reserved source.now) }
 {
     match *source {

@@ -7,7 +7,7 @@ ghost use Rattle.std.specs.Prelude.{◌≡◌, ◌/◌, ℕ, IsTrue, IsSome, OnO
 ghost use Rattle.cnf_base.specs.Literals.{Literal, has};
 ghost use Rattle.tables.specs.Table.{at};
 ghost use Rattle.trail.specs.Trail.{HasRoom};
-ghost use Rattle.watch.specs.Code.State.{HaveReasons};
+ghost use Rattle.watch.specs.Code.State.{AddsRoom, HaveReasons};
 
 use cnf_base::{Lit, OutOfMemory};
 use propagation::Assumptions;
@@ -29,15 +29,7 @@ fn reserve_variable(
     requires noted { HaveReasons assumptions.old.trail.reserved (at roots.old.reasons) }
     ensures room { OnOk result (IsTrue (has assumptions.new.trail.reserved (l / 2))) }
     ensures noted { HaveReasons assumptions.new.trail.reserved (at roots.new.reasons) }
-    ensures reserved { (v : ℕ) → IsTrue (has assumptions.old.trail.reserved v) →
-        IsTrue (has assumptions.new.trail.reserved v) }
-    ensures lits { assumptions.new.trail.lits ≡ assumptions.old.trail.lits }
-    ensures assumptions { assumptions.new.assumptions ≡ assumptions.old.assumptions }
-    ensures starts { assumptions.new.starts ≡ assumptions.old.starts }
-    ensures old { (k : Literal) → IsSome (at roots.old.reasons k) →
-        at roots.new.reasons k ≡ at roots.old.reasons k }
-    ensures kept { roots.new.kept ≡ roots.old.kept }
-    ensures history { roots.new.history ≡ roots.old.history }
+    ensures more { AddsRoom assumptions.old assumptions.new roots.old roots.new }
 {
     roots.reserve_variable(l)?;
     assumptions.reserve_variable(l)
@@ -56,15 +48,7 @@ pub(crate) fn reserve_room(
     requires noted { HaveReasons assumptions.old.trail.reserved (at roots.old.reasons) }
     ensures room { OnOk result (HasRoom assumptions.new.trail.reserved lits.now) }
     ensures noted { HaveReasons assumptions.new.trail.reserved (at roots.new.reasons) }
-    ensures reserved { (v : ℕ) → IsTrue (has assumptions.old.trail.reserved v) →
-        IsTrue (has assumptions.new.trail.reserved v) }
-    ensures lits { assumptions.new.trail.lits ≡ assumptions.old.trail.lits }
-    ensures assumptions { assumptions.new.assumptions ≡ assumptions.old.assumptions }
-    ensures starts { assumptions.new.starts ≡ assumptions.old.starts }
-    ensures old { (k : Literal) → IsSome (at roots.old.reasons k) →
-        at roots.new.reasons k ≡ at roots.old.reasons k }
-    ensures kept { roots.new.kept ≡ roots.old.kept }
-    ensures history { roots.new.history ≡ roots.old.history }
+    ensures more { AddsRoom assumptions.old assumptions.new roots.old roots.new }
 {
     for l in lits {
         if !assumptions.trail().has_room(l.var()) {

@@ -21,7 +21,7 @@ use Rattle.root_literals.specs.History.{IsHistory, visits}
 use Rattle.root_literals.specs.Order.{each_in_order}
 use Rattle.root_literals.specs.Roots.{IsKept, IsKnown, IsStanding, has_clash, is_up_to_date}
 use Rattle.propagation.specs.Code.Closure.{AreForced}
-use Rattle.watch.specs.Code.State.{HaveReasons, IsWatch}
+use Rattle.watch.specs.Code.State.{AddsRoom, HaveReasons, IsWatch}
 use Rattle.watch.specs.Code.Visits.{PropagatesTo}
 use Rattle.root_literals.specs.Watched.{IsPart, AreUnchanged, AreWatched, HasEntry, IsListed}
 use Rattle.root_literals.specs.Watched.{AddsFitting, IsShortList, IsWatched, is_short, entries_for}
@@ -189,11 +189,10 @@ watch_noted live lists short roots after held kept_is history_is old watch = rec
 }
 
 -- more room for variables, and for the reasons of their literals
-pub watch_room : (live : FinMap nat_cmp Clause) (lists : WatchLists) (short : List ℕ) (roots roots2 : Roots) (held held2 : AssumptionsState) → held2.trail.lits ≡ held.trail.lits → held2.assumptions ≡ held.assumptions → held2.starts ≡ held.starts →
-    ((v : ℕ) → has held.trail.reserved v ≡ true → has held2.trail.reserved v ≡ true) → roots2.kept ≡ roots.kept → roots2.history ≡ roots.history → ((l : Literal) → is_some (at roots.reasons l) ≡ true → at roots2.reasons l ≡ at roots.reasons l) →
+pub watch_room : (live : FinMap nat_cmp Clause) (lists : WatchLists) (short : List ℕ) (roots roots2 : Roots) (held held2 : AssumptionsState) → AddsRoom held held2 roots roots2 →
     HaveReasons held2.trail.reserved (at roots2.reasons) → IsWatch live lists short roots held → IsWatch live lists short roots2 held2
-watch_room live lists short roots roots2 held held2 lits_are assumptions_are starts_are within kept_is history_is old noted watch =
-    watch_reserved live lists short roots2 held held2 lits_are assumptions_are starts_are within noted (watch_noted live lists short roots roots2 held kept_is history_is old watch)
+watch_room live lists short roots roots2 held held2 more noted watch =
+    watch_reserved live lists short roots2 held held2 more.lits more.assumptions more.starts more.reserved noted (watch_noted live lists short roots roots2 held more.kept more.history more.reasons watch)
 
 pub watch_same : (live : FinMap nat_cmp Clause) (lists after : WatchLists) (short : List ℕ) (roots : Roots) (held : AssumptionsState) → AreApart after → ((l s : ℕ) → entries_of s (list_at after l) ≡ entries_of s (list_at lists l)) →
     ((l s : ℕ) (c : Clause) → maps.get live s ≡ Some c → unfit_entries s c l (list_at after l) ≤ unfit_entries s c l (list_at lists l)) → entries_in after ≡ entries_in lists → IsWatch live lists short roots held → IsWatch live after short roots held

@@ -55,6 +55,17 @@ abbrev pub HaveReasons : List ℕ → (Literal → Option ℕ) → Type 0
 HaveReasons variables reason_of =
     (l : Literal) → IsTrue (has variables (variable l)) → IsSome (reason_of l)
 
+-- there may be room for more variables, and for the reasons of more literals; else all is as it was
+pub record AddsRoom (held now : AssumptionsState) (roots roots_now : Roots) : Type 0 where
+  pub reserved : (v : ℕ) → IsTrue (has held.trail.reserved v) → IsTrue (has now.trail.reserved v)
+  pub lits : now.trail.lits ≡ held.trail.lits
+  pub assumptions : now.assumptions ≡ held.assumptions
+  pub starts : now.starts ≡ held.starts
+  pub reasons : (k : Literal) → IsSome (at roots.reasons k) →
+      at roots_now.reasons k ≡ at roots.reasons k
+  pub kept : roots_now.kept ≡ roots.kept
+  pub history : roots_now.history ≡ roots.history
+
 -- of what is held nothing follows that isn't true; each clause stands in the lists where it should,
 -- and nothing else does; what is false is watched; what is kept of the literals that are true with
 -- nothing assumed is so; and each literal of a variable that is reserved can have a reason
