@@ -79,8 +79,8 @@ fn positive(var: u32) -> Option<Lit>
     Lit::new(var as i32)
 }
 
-/// Makes the literals and their complements open.
-fn open_all(values: &mut Values, lits: &[Lit])
+/// Makes the literals and their complements open, wherever their values lie.
+fn open_rest(values: &mut Values, lits: &[Lit])
     requires { (l : ℕ) → IsTrue (has lits.now l) → IsSome (value_at values.old l)
         × IsSome (value_at values.old (complement l)) }
     ensures known { (k : ℕ) →
@@ -92,6 +92,21 @@ fn open_all(values: &mut Values, lits: &[Lit])
     for l in lits {
         values.set_both(*l, Value::Open, Value::Open);
     }
+}
+
+/// Makes the literals and their complements open.
+fn open_all(values: &mut Values, lits: &[Lit])
+    requires { (l : ℕ) → IsTrue (has lits.now l) → IsSome (value_at values.old l)
+        × IsSome (value_at values.old (complement l)) }
+    ensures known { (k : ℕ) →
+        is_some (value_at values.new k) ≡ is_some (value_at values.old k) }
+    ensures opened { (k : ℕ) → known_value (value_at values.new k) ≡
+        (if has lits.now k || has lits.now (complement k) then Open
+        else known_value (value_at values.old k)) }
+{
+    // Values that lie near are written in a loop of few instructions.
+    let near = values.open_front(lits);
+    open_rest(values, &lits[near..]);
 }
 
 impl Truths for Trail {

@@ -4,8 +4,10 @@
 //! its complement is set or taken back: among dense literals a look-up is one load.
 
 ghost use Rattle.std.specs.Prelude.{◌≡◌, ℕ, ◌==◌, ◌≤◌, ◌<◌, ◌+◌, ◌*◌, if◌then◌else◌, Some, None};
-ghost use Rattle.std.specs.Prelude.{IsSome, IsTrue, is_some, OnOk, vec_len};
-ghost use Rattle.cnf_base.specs.Literals.{complement};
+ghost use Rattle.std.specs.Prelude.{IsSome, IsTrue, is_some, OnOk, vec_len, length, take, slice_get};
+ghost use Rattle.std.specs.Prelude.{◌||◌};
+ghost use Rattle.cnf_base.specs.Literals.{complement, has};
+ghost use Rattle.trail.specs.declared.value.Value.TheVariants.{Open};
 ghost use Rattle.trail.specs.Code.Values.{value_at, known_value};
 ghost use Rattle.tables.specs.Table.{at};
 
@@ -32,6 +34,28 @@ const SPARSE: usize = 32;
 
 /// The key past the greatest one.
 const MOST: usize = 536870912;
+
+/// Makes literals and their complements open, up to the first that isn't in the slice. Tells how
+/// many.
+fn open_dense(near: &mut [Value], lits: &[Lit]) -> usize
+    ensures inside { result ≤ length lits.now }
+    ensures len { length near.new ≡ length near.old }
+    ensures opened { (k : ℕ) → slice_get near.new k ≡
+        (if has (take result lits.now) k || has (take result lits.now) (complement k)
+        then Some Open else slice_get near.old k) }
+{
+    let mut count = 0;
+    for l in lits {
+        let (one, other) = (l.index(), l.neg().index());
+        if one >= near.len() || other >= near.len() {
+            return count;
+        }
+        near[one] = Value::Open;
+        near[other] = Value::Open;
+        count += 1;
+    }
+    count
+}
 
 impl Values {
     /// No literal has a value. It takes no memory.
@@ -111,6 +135,19 @@ impl Values {
     {
         self.set(key(l), value);
         self.set(key(l.neg()), other);
+    }
+
+    /// Makes literals and their complements open, up to the first that isn't in `dense`. Tells how
+    /// many.
+    pub(crate) fn open_front(&mut self, lits: &[Lit]) -> usize
+        ensures inside { result ≤ length lits.now }
+        ensures known { (k : ℕ) →
+            is_some (value_at self.new k) ≡ is_some (value_at self.old k) }
+        ensures opened { (k : ℕ) → known_value (value_at self.new k) ≡
+            (if has (take result lits.now) k || has (take result lits.now) (complement k)
+            then Open else known_value (value_at self.old k)) }
+    {
+        open_dense(&mut self.dense, lits)
     }
 
     /// Writes the value of a literal that has one.

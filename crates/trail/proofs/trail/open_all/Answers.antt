@@ -1,27 +1,22 @@
-use Rattle.std.proofs.Common.{ℕ, ◌∙◌, refl, Some, cond, eqb, Option}
-use Rattle.cnf_base.specs.Literals.{complement}
+-- Those that lie near are open, then the rest.
+use Rattle.std.proofs.Common.{◌∙◌, ap, cond, ◌||◌, take, drop, length, ◌-◌}
+use Rattle.cnf_base.specs.Literals.{complement, has}
 use Rattle.trail.specs.Code.Values.{value_at, known_value}
-use Rattle.trail.specs.declared.value.Value.{Value}
 use Rattle.trail.specs.declared.value.Value.TheVariants.{Open}
-use Rattle.cnf_base.proofs.WalkLemmas.{is_in}
-use Rattle.trail.proofs.TrailLemmas.Values.{written_some, written_value, opened_more}
+use Rattle.trail.proofs.TrailLemmas.Values.{opened_parts, rest_is_part}
 use Rattle.trail.proofs.trail.open_all.Goals as goal
 
-pub loop-l-preserved : goal.loop-l-preserved
-loop-l-preserved c =
-    let x = c.l-item.result in
+pub open_rest-requires : goal.open_rest-requires
+open_rest-requires c = λ l h.
+    let known = c.open_front-near.ensures.known in
+    let were = c.requires l (rest_is_part c.args.lits.now c.open_front-near.result l h) in
+    (known l ∙ were.0, known (complement l) ∙ were.1)
+
+pub returns-clause-opened : goal.returns-clause-opened
+returns-clause-opened c = λ k.
     let clause = c.args.lits.now in
-    let inside = c.loop-l-test.true in
-    let was = value_at c.args.values.now in
-    let before = value_at c.loop-l.values in
-    let first : ℕ → Option Value = λ k. cond (eqb k x) (Some Open) (before k) in
-    let after = value_at c.set_both.new.self in
-    let one = λ (k : ℕ). refl in
-    let other = c.set_both.ensures in
-    let known = c.requires x (is_in clause c.loop-l.l-index inside x c.l-item.is) in
-    let so_far = c.loop-l.invariant in
-    record {
-      known = λ k. written_some x Open Open before first after one other (so_far.known x ∙ known.0) (so_far.known (complement x) ∙ known.1) k ∙ so_far.known k;
-      opened = opened_more clause c.loop-l.l-index inside x c.l-item.is (λ k. known_value (was k)) (λ k. known_value (before k)) (λ k. known_value (after k)) so_far.opened
-          (written_value x Open Open before first after one other);
-    }
+    let n = c.open_front-near.result in
+    let rest = take (length clause - n) (drop n clause) in
+    c.open_rest.ensures.opened k
+    ∙ ap (cond (has rest k || has rest (complement k)) Open) (c.open_front-near.ensures.opened k)
+    ∙ opened_parts clause n Open (known_value (value_at c.args.values.now k)) k

@@ -2,7 +2,7 @@ use Rattle.std.proofs.Common.{◌≡◌, ℕ, ◌||◌, cond, is_some, take}
 use Rattle.cnf_base.specs.Literals.{complement, has}
 use Rattle.trail.specs.Code.Values.{value_at, known_value}
 use Rattle.trail.specs.declared.value.Value.TheVariants.{Open}
-use Rattle.trail.proofs.trail.open_all.Given as goal
+use Rattle.trail.proofs.trail.open_rest.Given as goal
 
 abbrev pub invariant-loop-l : goal.invariant-loop-l
 invariant-loop-l l = record {
