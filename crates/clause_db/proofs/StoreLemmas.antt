@@ -5,5 +5,6 @@ pub mod Kept
 pub mod Marks
 pub mod Options
 pub mod Search
+pub mod SlotMap
 pub mod Sums
 pub mod Swap

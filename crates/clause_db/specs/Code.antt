@@ -1,5 +1,6 @@
 -- How the parts of the code fit together. No public contract speaks of it.
 pub mod Buckets
+pub mod Entries
 pub mod Fields
 pub mod Hashes
 pub mod Index
@@ -7,3 +8,4 @@ pub mod Indexed
 pub mod Kept
 pub mod LiteralMarks
 pub mod Matches
+pub mod SlotMap

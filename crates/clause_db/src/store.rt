@@ -13,6 +13,7 @@ mod kept;
 mod mark;
 mod marks;
 mod search;
+mod slot_map;
 
 ghost use Rattle.std.specs.Prelude.{◌≡◌, ◌≢◌, ℕ, ◌+◌, ◌-◌, ◌<◌, ◌≤◌, ◌==◌, ◌++◌, [], ◌∷◌, ◌^◌, min};
 ghost use Rattle.std.specs.Prelude.{true, false, Some, None, option_map, length, if◌then◌else◌};
@@ -165,7 +166,7 @@ fn list_up<I: Indexing>(
     lits: &[Lit],
 ) -> Result<(), OutOfMemory>
     requires different { size lits.now ≡ length lits.now }
-    requires low { slot < 4294967296 }
+    requires low { slot < 4294967295 }
     requires free { (live : FinMap nat_cmp Clause) × AreKept kept.old live
         × (maps.get live slot ≡ None) }
     ensures index { OnOk result ((live : FinMap nat_cmp Clause) →

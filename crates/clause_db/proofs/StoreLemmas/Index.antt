@@ -48,7 +48,7 @@ module _ (seed : ℕ) (buckets : ℕ → List ℕ) (place_of : ℕ → ℕ) (liv
       spots : (s : ℕ) → spot_in seed live after s ≡ spot_in seed live place_of s
       spots s = ap (λ p. option_map (λ (c : Clause). (hash seed c, p)) (maps.get live s)) (same_places s)
 
-  module _ (k : ℕ) (c : Clause) (h : ℕ) (free : maps.get live k ≡ None) (low : k < 4294967296) (hash_is : h ≡ hash seed c)
+  module _ (k : ℕ) (c : Clause) (h : ℕ) (free : maps.get live k ≡ None) (low : k < 4294967295) (hash_is : h ≡ hash seed c)
       (left : ℕ → List ℕ) (after : ℕ → ℕ)
       (pushed : (g : ℕ) → left g ≡ cond (eqb g h) (buckets g ++ k ∷ []) (buckets g))
       (here : after k ≡ length (buckets h)) (others : (s : ℕ) → s ≢ k → after s ≡ place_of s) where
@@ -69,7 +69,7 @@ module _ (seed : ℕ) (buckets : ℕ → List ℕ) (place_of : ℕ → ℕ) (liv
       placed = placed_with (spot_in seed live place_of) (spot_in seed (maps.insert live k c) after) buckets left k h sound.placed
           (ap (option_map (λ (d : Clause). (hash seed d, place_of k))) free) spots_with pushed;
       low = λ s is. elim (cases_eq s k) [
-        | inl same ↦ subst (λ n. n < 4294967296) (sym same) low
+        | inl same ↦ subst (λ n. n < 4294967295) (sym same) low
         | inr apart ↦ sound.low s (ap is_some (sym (get_insert live k c s ∙ ap (λ b. cond b (Some c) (maps.get live s)) (ne_eqb s k apart))) ∙ is)
       ];
       vacant = λ s none. elim (cases_eq s k) [

@@ -2,6 +2,7 @@
 use Rattle.std.specs.Global.{Global}
 use Rattle.std.specs.HashMap.{get}
 use Rattle.std.specs.Prelude.{ℕ, List, [], ◌∷◌, Option, Some, None, Vec, nat_eq}
+use Rattle.clause_db.specs.Code.SlotMap.{slot_at}
 use Rattle.clause_db.specs.declared.store.buckets.Buckets.{Buckets}
 
 -- a list of slots, or else one slot, or else none
@@ -12,4 +13,4 @@ bucket_of None None = []
 
 -- the slots in the bucket of a hash, in the order of their places
 abbrev pub bucket_at : Buckets → ℕ → List ℕ
-bucket_at buckets h = bucket_of (get nat_eq buckets.many h) (get nat_eq buckets.single h)
+bucket_at buckets h = bucket_of (get nat_eq buckets.many h) (slot_at buckets.single h)

@@ -32,7 +32,7 @@ spot_in seed live place_of s = option_map (λ c. (hash seed c, place_of s)) (map
 pub record IsIndex (seed : ℕ) (buckets : ℕ → List ℕ) (place_of : ℕ → ℕ)
     (live : FinMap nat_cmp Clause) : Type 0 where
   pub placed : IsIndexed (spot_in seed live place_of) buckets
-  pub low : (s : ℕ) → IsSome (maps.get live s) → s < 4294967296
+  pub low : (s : ℕ) → IsSome (maps.get live s) → s < 4294967295
   pub vacant : (s : ℕ) → maps.get live s ≡ None → place_of s ≡ 0
 
 -- the index fits the clauses

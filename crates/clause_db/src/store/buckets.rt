@@ -1,14 +1,16 @@
 //! Slots by the hashes of their clauses: a bucket of slots for each hash.
 //!
-//! Most buckets have one slot. It stands in a map of its own, from a hash to four bytes, where a
-//! list would take sixteen. The maps hash the hashes once more, by constants. They need no seed,
-//! since nobody can foresee the hashes.
+//! Most buckets have one slot. It stands in a map of its own, in eight bytes with its hash. A list
+//! would take sixteen more. The map of lists hashes the hashes once more, by constants. It needs no
+//! seed, since nobody can foresee the hashes.
 
 ghost use Rattle.std.specs.Prelude.{◌≡◌, ◌≢◌, ℕ, None, Some, nat_eq, ◌==◌, ◌-◌, ◌<◌, [], ◌∷◌, ◌++◌};
 ghost use Rattle.std.specs.Prelude.{length, swap_remove, slice_index, if◌then◌else◌, IfOk, OnOk};
 ghost use Rattle.std.specs.Prelude.{OnErr, IsSome};
 ghost use Rattle.std.specs.HashMap.{get};
+ghost use Rattle.clause_db.specs.Code.SlotMap.{slot_at};
 
+use crate::store::slot_map::SlotMap;
 use cnf_base::OutOfMemory;
 use std::alloc::Global;
 use std::collections::HashMap;
@@ -22,10 +24,10 @@ pub(crate) struct Buckets {
     alloc: Global,
     /// By hash the one slot of a bucket that `many` has not. Where `many` has it, this has some slot,
     /// so that a hash that is not here is nowhere.
-    single: HashMap<u32, u32>,
+    single: SlotMap,
     /// The buckets that had two slots or more since they were empty.
     many: HashMap<u32, Vec<u32>>,
-    ghost covered: { (h : ℕ) → IsSome (get nat_eq many h) → IsSome (get nat_eq single h) },
+    ghost covered: { (h : ℕ) → IsSome (get nat_eq many h) → IsSome (slot_at single h) },
 }
 
 fn both(alloc: Global, first: u32, second: u32) -> Result<Vec<u32>, OutOfMemory>
@@ -46,7 +48,7 @@ impl Buckets {
     {
         Buckets {
             alloc,
-            single: HashMap::new(alloc),
+            single: SlotMap::new(alloc),
             many: HashMap::new(alloc),
         }
     }
@@ -55,10 +57,12 @@ impl Buckets {
     pub(crate) fn slots(&self, hash: u32) -> &[u32]
         ensures { result.now ≡ bucket_at self.now hash }
     {
-        if let Some(slots) = self.many.get(&hash) {
+        if !self.many.is_empty()
+            && let Some(slots) = self.many.get(&hash)
+        {
             return slots.as_slice();
         }
-        match self.single.get(&hash) {
+        match self.single.get(hash) {
             Some(slot) => slice::from_ref(slot),
             None => &[],
         }
@@ -66,12 +70,12 @@ impl Buckets {
 
     /// Puts a slot at the end of the bucket of a hash, and tells its place there.
     pub(crate) fn push(&mut self, hash: u32, slot: u32) -> Result<u32, OutOfMemory>
+        requires { slot < 4294967295 }
         ensures place { IfOk result (λ place. place ≡ length (bucket_at self.old hash)) }
         ensures ok { OnOk result ((h : ℕ) → bucket_at self.new h ≡
             (if h == hash then bucket_at self.old h ++ slot ∷ [] else bucket_at self.old h)) }
         ensures err { OnErr result ((h : ℕ) → bucket_at self.new h ≡ bucket_at self.old h) }
     {
-        self.widen();
         match self.single.insert(hash, slot)? {
             Some(first) => self.push_further(hash, first, slot),
             None => Ok(0),
@@ -81,7 +85,8 @@ impl Buckets {
     /// Puts a further slot at the end of the bucket of a hash. The map of single slots has it
     /// already, in the place of this one.
     fn push_further(&mut self, hash: u32, first: u32, slot: u32) -> Result<u32, OutOfMemory>
-        requires slot { get nat_eq self.old.single hash ≡ Some slot }
+        requires low { first < 4294967295 }
+        requires slot { slot_at self.old.single hash ≡ Some slot }
         ensures place { IfOk result (λ place. place ≡
             length (bucket_of (get nat_eq self.old.many hash) (Some first))) }
         ensures ok { OnOk result ((h : ℕ) → bucket_at self.new h ≡
@@ -91,7 +96,9 @@ impl Buckets {
             (if h == hash then bucket_of (get nat_eq self.old.many h) (Some first)
             else bucket_at self.old h)) }
     {
-        if let Some(slots) = self.many.get_mut(&hash) {
+        if !self.many.is_empty()
+            && let Some(slots) = self.many.get_mut(&hash)
+        {
             let Ok(place) = u32::try_from(slots.len()) else {
                 return Err(OutOfMemory);
             };
@@ -101,23 +108,11 @@ impl Buckets {
         self.join(hash, first, slot)
     }
 
-    /// Makes the map of single slots four times as long where it is full, if memory allows: it is
-    /// hashed anew each time that it grows.
-    fn widen(&mut self)
-        ensures buckets { (h : ℕ) → bucket_at self.new h ≡ bucket_at self.old h }
-        ensures many { self.new.many ≡ self.old.many }
-        ensures single { (h : ℕ) → get nat_eq self.new.single h ≡ get nat_eq self.old.single h }
-    {
-        let len = self.single.len();
-        if len == self.single.capacity() {
-            let _ = self.single.reserve(len.saturating_mul(3));
-        }
-    }
-
     /// Makes a bucket of two slots, of which the map of single slots has the second.
     fn join(&mut self, hash: u32, first: u32, second: u32) -> Result<u32, OutOfMemory>
+        requires low { first < 4294967295 }
         requires one { get nat_eq self.old.many hash ≡ None }
-        requires second { get nat_eq self.old.single hash ≡ Some second }
+        requires second { slot_at self.old.single hash ≡ Some second }
         ensures place { IfOk result (λ place. place ≡ 1) }
         ensures ok { OnOk result ((h : ℕ) → bucket_at self.new h ≡
             (if h == hash then first ∷ second ∷ [] else bucket_at self.old h)) }
@@ -129,8 +124,7 @@ impl Buckets {
         {
             return Ok(1);
         }
-        // This key is there, so that it takes no memory.
-        let _ = self.single.insert(hash, first);
+        self.single.put(hash, first);
         Err(OutOfMemory)
     }
 
@@ -144,6 +138,9 @@ impl Buckets {
             (if h == hash then swap_remove (bucket_at self.old h) place 0
             else bucket_at self.old h) }
     {
+        if self.many.is_empty() {
+            return self.take_single(hash);
+        }
         let Some(slots) = self.many.get_mut(&hash) else {
             return self.take_single(hash);
         };
@@ -151,7 +148,7 @@ impl Buckets {
         slots.swap_remove(place);
         if slots.is_empty() {
             self.many.remove(&hash);
-            self.single.remove(&hash);
+            self.single.remove(hash);
         }
         last
     }
@@ -164,7 +161,7 @@ impl Buckets {
         ensures slots { (h : ℕ) → bucket_at self.new h ≡
             (if h == hash then [] else bucket_at self.old h) }
     {
-        match self.single.remove(&hash) {
+        match self.single.remove(hash) {
             Some(slot) => slot,
             None => 0,
         }

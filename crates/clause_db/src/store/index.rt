@@ -35,7 +35,7 @@ pub trait Indexing: Sized {
     /// Adds the slot of a clause.
     fn add(&mut self, slot: usize, lits: &[Lit]) -> Result<(), OutOfMemory>
         requires different { size lits.now ≡ length lits.now }
-        requires low { slot < 4294967296 }
+        requires low { slot < 4294967295 }
         ensures ok { OnOk result ((live : FinMap nat_cmp Clause) →
             indexes self.old live → maps.get live slot ≡ None →
             indexes self.new (maps.insert live slot lits.now)) }
