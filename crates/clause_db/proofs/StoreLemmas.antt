@@ -8,3 +8,5 @@ pub mod Search
 pub mod SlotMap
 pub mod Sums
 pub mod Swap
+pub mod Waiting
+pub mod Whole

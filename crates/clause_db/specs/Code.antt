@@ -8,4 +8,6 @@ pub mod Indexed
 pub mod Kept
 pub mod LiteralMarks
 pub mod Matches
+pub mod Placed
 pub mod SlotMap
+pub mod Waiting

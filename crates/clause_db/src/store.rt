@@ -12,6 +12,7 @@ pub(crate) mod index;
 mod kept;
 mod mark;
 mod marks;
+mod placed;
 mod search;
 mod slot_map;
 

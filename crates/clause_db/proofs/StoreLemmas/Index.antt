@@ -10,7 +10,7 @@ use Rattle.std.proofs.lemmas.Bool.{false≢true, cases_eq}
 use Rattle.std.proofs.lemmas.Option.{none-some, slice_get_within}
 use Rattle.cnf_base.specs.Literals.{Clause}
 use Rattle.clause_db.specs.Code.Hashes.{hash}
-use Rattle.clause_db.specs.Code.Index.{spot_in, IsIndex}
+use Rattle.clause_db.specs.Code.Placed.{spot_in, IsIndex}
 use Rattle.clause_db.proofs.StoreLemmas.Sums.{get_insert, get_remove}
 use Rattle.clause_db.proofs.StoreLemmas.Indexed.{placed_with, placed_without, spot_end, same_hash}
 use Rattle.clause_db.proofs.StoreLemmas.Indexed.{same_place}

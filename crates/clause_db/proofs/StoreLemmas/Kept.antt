@@ -23,10 +23,10 @@ insert_here live k s c e = get_insert live k c s ∙ ap (λ b. cond b (Some c) (
 pub insert_other : (live : FinMap nat_cmp Clause) (k s : ℕ) (c : Clause) → s ≢ k → maps.get (maps.insert live k c) s ≡ maps.get live s
 insert_other live k s c ne = get_insert live k c s ∙ ap (λ b. cond b (Some c) (maps.get live s)) (ne_eqb s k ne)
 
-remove_here : (live : FinMap nat_cmp Clause) (k s : ℕ) → s ≡ k → maps.get (maps.remove live k) s ≡ None
+pub remove_here : (live : FinMap nat_cmp Clause) (k s : ℕ) → s ≡ k → maps.get (maps.remove live k) s ≡ None
 remove_here live k s e = get_remove live k s ∙ ap (λ b. cond b None (maps.get live s)) (eq-eqb s k e)
 
-remove_other : (live : FinMap nat_cmp Clause) (k s : ℕ) → s ≢ k → maps.get (maps.remove live k) s ≡ maps.get live s
+pub remove_other : (live : FinMap nat_cmp Clause) (k s : ℕ) → s ≢ k → maps.get (maps.remove live k) s ≡ maps.get live s
 remove_other live k s ne = get_remove live k s ∙ ap (λ b. cond b None (maps.get live s)) (ne_eqb s k ne)
 
 pub insert_undone : (live : FinMap nat_cmp Clause) (k : ℕ) (c : Clause) → maps.get live k ≡ None → maps.remove (maps.insert live k c) k ≡ live

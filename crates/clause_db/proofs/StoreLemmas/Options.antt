@@ -25,3 +25,7 @@ if_none_from_some o x P e = subst (λ q. IfNone q P) (sym e) tt
 pub on_err_from : {X E : Type 0} (r : Result X E) (P : Type 0) → P → OnErr r P
 on_err_from (Ok x) P p = tt
 on_err_from (Err e) P p = p
+
+pub if_none_always : {X : Type 0} (r : Option X) (P : Type 0) → P → IfNone r P
+if_none_always None P p = p
+if_none_always (Some x) P p = tt

@@ -14,7 +14,7 @@ use Rattle.clause_db.specs.Store.{copies_with}
 use Rattle.clause_db.specs.Code.Matches.{is_match}
 use Rattle.clause_db.specs.Code.Hashes.{hash}
 use Rattle.clause_db.specs.Code.LiteralMarks.{mark_count}
-use Rattle.clause_db.specs.Code.Index.{spot_in, IsIndex}
+use Rattle.clause_db.specs.Code.Placed.{spot_in, IsIndex}
 use Rattle.clause_db.specs.declared.store.mark.Mark.{Mark}
 use Rattle.cnf_base.proofs.SizeLemmas.{IsWithin, size_same, all_covered}
 use Rattle.clause_db.proofs.StoreLemmas.Marks.{hash_same}

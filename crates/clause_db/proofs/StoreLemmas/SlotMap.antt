@@ -3,7 +3,7 @@ use Rattle.std.proofs.Common.{◌≡◌, ◌≢◌, ℕ, suc, zero, ◌+◌, ◌
 use Rattle.std.proofs.Common.{Option, Some, None, is_some, List, [], ◌∷◌, length, get_or, set, take, add-one, refl, sym, ap, ◌∙◌, subst, arith, inl, inr}
 use Rattle.std.proofs.lemmas.Bool.{true≢false, cases_eq, cases_order, and_parts, and_from, or_cases, or_left, or_right, false_from_ne_true, not-true}
 use Rattle.std.proofs.lemmas.Bool.Decides.{nat_tests}
-use Rattle.std.proofs.lemmas.List.{length-set, get_or-set_same, get_or-set_other, get_or-replicate, get_or-take, length-replicate, length-take}
+use Rattle.std.proofs.lemmas.List.{length-set, get_or-set_same, get_or-set_other, get_or-replicate, get_or-take, get_or_default, length-replicate, length-take}
 use Rattle.std.proofs.lemmas.List.Sums.{sum_by-cons, sum_by-set}
 use Rattle.std.proofs.lemmas.Nat.{and_le_r}
 use Rattle.clause_db.specs.declared.store.slot_map.Entry.{Entry}
@@ -375,12 +375,7 @@ slot_blank n h e vacant = slot_none (replicate n e) h (λ p low.
 -- ---- What the code reads
 
 pub entry_read : (es : List Entry) (p : ℕ) (x : Entry) → p < length es → x ≡ get_or es p x → x ≡ entry_at es p
-entry_read es p x low is = is ∙ alike es p low
-  where
-    alike : (es : List Entry) (p : ℕ) → p < length es → get_or es p x ≡ entry_at es p
-    alike [] p low = absurd (let wrong : ⊥ = omega arith in wrong)
-    alike (e ∷ es) zero low = refl
-    alike (e ∷ es) (suc p) low = alike es p (omega arith)
+entry_read es p x low is = is ∙ get_or_default es p x _ low
 
 -- one entry more
 pub slot_more : (es : List Entry) (i : ℕ) → i < length es → (h : ℕ) →

@@ -22,8 +22,8 @@ use std::slice;
 #[derive(Drop)]
 pub(crate) struct Buckets {
     alloc: Global,
-    /// By hash the one slot of a bucket that `many` has not. Where `many` has it, this has some slot,
-    /// so that a hash that is not here is nowhere.
+    /// By hash the one slot of a bucket that `many` has not. Where `many` has it, this has some
+    /// slot, so that a hash that is not here is nowhere.
     single: SlotMap,
     /// The buckets that had two slots or more since they were empty.
     many: HashMap<u32, Vec<u32>>,

@@ -3,25 +3,23 @@
 //! LRAT names clauses by identifiers and never searches for one, so its store has none (`NoIndex`):
 //! a third less memory for clauses of three literals.
 //!
-//! Copies of a clause stand in one bucket. The place of a slot there is noted, unless it is the
-//! first and always was, so that one of many copies is removed in constant time. A formula without
-//! copies, as nearly each is, has few places to note. For a slot without a clause none is noted, so
-//! that a clause with no copy is added without a look at the places.
+//! To place a slot takes a load that no cache has, since the hashes lie far apart. So the slots of
+//! a formula's clauses are placed some at a time, in a loop in which these loads overlap. Until
+//! then they wait in a list, and a search goes over it too. From the first removal on, when the
+//! formula is read as a rule, each slot is placed at once.
 
-ghost use Rattle.std.specs.Prelude.{◌≡◌, ℕ, ◌==◌, ◌<◌, length, if◌then◌else◌, Some, None, ⊤, OnOk};
-ghost use Rattle.std.specs.Prelude.{OnErr, ◌≢◌};
+ghost use Rattle.std.specs.Prelude.{◌≡◌, ◌≢◌, ℕ, ◌<◌, length, Some, None, ⊤, OnOk, OnErr, IfSome};
+ghost use Rattle.std.specs.Prelude.{IfNone};
 ghost use Rattle.std.specs.Ordering.{nat_cmp};
 ghost use Rattle.std.specs.FinMap as maps;
 ghost use Rattle.std.specs.FinMap.{FinMap};
 ghost use Rattle.cnf_base.specs.Literals.{Clause, size};
-ghost use Rattle.clause_db.specs.Code.Index.{under, place_in, Indexes};
-ghost use Rattle.tables.specs.Table.{at};
+ghost use Rattle.clause_db.specs.Code.Waiting.{waiting_at};
 
-use crate::store::buckets::Buckets;
 use crate::store::marks::hash_of;
+use crate::store::placed::Placed;
 use cnf_base::{Lit, OutOfMemory};
 use std::alloc::Global;
-use tables::Table;
 
 /// What a store keeps to find the slots of a clause again.
 pub trait Indexing: Sized {
@@ -69,100 +67,123 @@ impl Indexing for NoIndex {
     fn remove(&mut self, _slot: usize, _lits: &[Lit]) {}
 }
 
-/// The slots of the clauses, in a bucket for each hash.
+/// A slot that isn't placed yet, with the hash of its clause.
+#[derive(Clone, Copy)]
+pub(crate) struct Waiting {
+    pub(crate) hash: u32,
+    pub(crate) slot: u32,
+}
+
+/// How many slots wait at most.
+const MOST: usize = 64;
+
+/// The slots of the clauses by their hashes.
 #[derive(Drop)]
 pub struct Index {
     /// What clauses are hashed by. Who doesn't know it can't choose clauses with one hash.
     pub(crate) seed: u64,
-    buckets: Buckets,
-    /// By slot its place in its bucket, where it was not always the first in one.
-    places: Table<u32>,
+    pub(crate) placed: Placed,
+    /// The slots that aren't placed yet.
+    pub(crate) waiting: Vec<Waiting>,
+    /// Whether a slot was removed, so that none is to wait any more.
+    at_once: bool,
+    ghost low: { (i : ℕ) → i < length waiting.items →
+        (waiting_at waiting.items i).slot < 4294967295 },
 }
 
-/// Notes the place of a slot, for which there is room unless it is 0.
-fn note(places: &mut Table<u32>, slot: u32, place: u32)
-    requires { at places.old slot ≡ None → place ≡ 0 }
-    ensures { (s : ℕ) → place_in places.new s ≡
-        (if s == slot then place else place_in places.old s) }
+/// The place at which a slot waits.
+fn place_of(waiting: &[Waiting], slot: u32) -> Option<usize>
+    ensures some { IfSome result (λ i.
+        (i < length waiting.now) × ((waiting_at waiting.now i).slot ≡ slot)) }
+    ensures none { IfNone result ((i : ℕ) → i < length waiting.now →
+        (waiting_at waiting.now i).slot ≢ slot) }
 {
-    if places.get(slot).is_some() {
-        places.set(slot, place);
+    for i in 0..waiting.len() {
+        if waiting[i].slot == slot {
+            return Some(i);
+        }
     }
-}
-
-/// Notes the place of a slot that was added, for which none is noted, and makes room for it unless
-/// it is 0.
-fn note_new(places: &mut Table<u32>, slot: u32, place: u32) -> Result<(), OutOfMemory>
-    ensures ok { OnOk result (place_in places.old slot ≡ 0 → (s : ℕ) → place_in places.new s ≡
-        (if s == slot then place else place_in places.old s)) }
-    ensures err { OnErr result ((s : ℕ) → place_in places.new s ≡ place_in places.old s) }
-{
-    if place > 0 {
-        places.reserve(slot, 0)?;
-        places.set(slot, place);
-    }
-    Ok(())
-}
-
-/// Forgets the place of a slot that was taken out, and notes it for the slot that took it.
-fn note_removed(places: &mut Table<u32>, slot: u32, last: u32, place: u32)
-    requires known { at places.old last ≡ None → place ≡ 0 }
-    requires place { place_in places.old slot ≡ place }
-    ensures vacant { place_in places.new slot ≡ 0 }
-    ensures moved { (s : ℕ) → s ≢ slot → place_in places.new s ≡
-        (if s == last then place else place_in places.old s) }
-{
-    if last != slot {
-        note(places, last, place);
-    }
-    if place > 0 {
-        note(places, slot, 0);
-    }
-}
-
-/// The place that is noted for a slot.
-fn place_of(places: &Table<u32>, slot: u32) -> u32
-    ensures { result ≡ place_in places.now slot }
-{
-    places.get(slot).unwrap_or(0)
+    None
 }
 
 impl Index {
-    /// The slots with this hash.
-    pub(crate) fn slots(&self, hash: u32) -> &[u32]
-        ensures { result.now ≡ under self.now hash }
+    ghost use Rattle.clause_db.specs.Code.Index.{Indexes};
+
+    /// Places the slot that waits last. Where memory is refused, it still waits.
+    #[inline(always)]
+    fn place_last(&mut self) -> Result<(), OutOfMemory>
+        requires { 0 < length self.old.waiting.items }
+        ensures same { (live : FinMap nat_cmp Clause) →
+            Indexes self.old live → Indexes self.new live }
+        ensures fewer { OnOk result
+            (length self.new.waiting.items < length self.old.waiting.items) }
     {
-        self.buckets.slots(hash)
+        let last = self.waiting[self.waiting.len() - 1];
+        self.placed.add(last.hash, last.slot)?;
+        self.waiting.pop();
+        Ok(())
+    }
+
+    /// Places all slots that wait. Where memory is refused, some still wait.
+    #[inline(never)]
+    fn place_all(&mut self) -> Result<(), OutOfMemory>
+        ensures same { (live : FinMap nat_cmp Clause) →
+            Indexes self.old live → Indexes self.new live }
+        ensures none { OnOk result (length self.new.waiting.items ≡ 0) }
+    {
+        while !self.waiting.is_empty() {
+            self.place_last()?;
+        }
+        Ok(())
+    }
+
+    /// Makes room for a further slot to wait, or to be placed at once.
+    #[inline(always)]
+    fn make_room(&mut self) -> Result<(), OutOfMemory>
+        ensures { (live : FinMap nat_cmp Clause) →
+            Indexes self.old live → Indexes self.new live }
+    {
+        let len = self.waiting.len();
+        if len >= MOST || (self.at_once && len > 0) {
+            return self.place_all();
+        }
+        Ok(())
     }
 }
 
 impl Indexing for Index {
+    ghost use Rattle.clause_db.specs.Code.Index.{Indexes};
+
     ghost indexes = { Indexes };
 
     fn new(alloc: Global, seed: u64) -> Self {
         Index {
             seed,
-            buckets: Buckets::new(alloc),
-            places: Table::new(alloc),
+            placed: Placed::new(alloc),
+            waiting: Vec::new(alloc),
+            at_once: false,
         }
     }
 
     fn add(&mut self, slot: usize, lits: &[Lit]) -> Result<(), OutOfMemory> {
-        let number = slot as u32;
+        self.make_room()?;
         let hash = hash_of(self.seed, lits);
-        let place = self.buckets.push(hash, number)?;
-        match note_new(&mut self.places, number, place) {
-            Ok(()) => Ok(()),
-            Err(refused) => {
-                self.buckets.take(hash, place as usize);
-                Err(refused)
-            }
+        let slot = slot as u32;
+        if self.at_once {
+            return self.placed.add(hash, slot);
         }
+        self.waiting.push(Waiting { hash, slot })?;
+        Ok(())
     }
 
     fn remove(&mut self, slot: usize, lits: &[Lit]) {
-        let place = place_of(&self.places, slot as u32);
-        let last = self.buckets.take(hash_of(self.seed, lits), place as usize);
-        note_removed(&mut self.places, slot as u32, last, place);
+        self.at_once = true;
+        let slot = slot as u32;
+        match place_of(&self.waiting, slot) {
+            Some(i) => {
+                self.waiting.swap_remove(i);
+            }
+            None => self.placed.remove(hash_of(self.seed, lits), slot),
+        }
     }
 }

@@ -4,15 +4,17 @@
 //! So a search is linear in the clause, whatever is repeated, and takes no memory. `find` marks and
 //! unmarks literals, and so takes `&mut self`.
 
-ghost use Rattle.std.specs.Prelude.{◌≡◌, ℕ, false, true, Some, slice_get, IsSome, IfSome, IfNone};
+ghost use Rattle.std.specs.Prelude.{◌≡◌, ℕ, ◌<◌, false, true, Some, length, slice_get};
+ghost use Rattle.std.specs.Prelude.{IsSome, IfSome, IfNone};
 ghost use Rattle.std.specs.FinMap as maps;
 ghost use Rattle.cnf_base.specs.Literals.{Clause};
-ghost use Rattle.clause_db.specs.Code.Index.{under};
+ghost use Rattle.clause_db.specs.Code.Placed.{under};
+ghost use Rattle.clause_db.specs.Code.Waiting.{waiting_at};
 ghost use Rattle.clause_db.specs.Code.LiteralMarks.{is_marked};
 ghost use Rattle.clause_db.specs.Code.Matches.{is_match};
 ghost use Rattle.tables.specs.Table.{at};
 
-use crate::store::index::Index;
+use crate::store::index::{Index, Waiting};
 use crate::store::mark::Mark;
 use crate::store::marks::{Digest, all_marked};
 use clause_memory::ClauseMemory;
@@ -50,6 +52,32 @@ fn first_match(
     None
 }
 
+/// The first slot that waits with the hash of the digest and has a clause of so many literals, each
+/// of them marked.
+fn first_waiting(
+    memory: &ClauseMemory,
+    waiting: &[Waiting],
+    marks: &Table<Mark>,
+    digest: &Digest,
+) -> Option<usize>
+    requires { (i : ℕ) → i < length waiting.now →
+        IsSome (maps.get memory.now.live (waiting_at waiting.now i).slot) }
+    ensures found { IfSome result (λ s. (c : Clause) × (maps.get memory.now.live s ≡ Some c)
+        × (is_match (λ l. is_marked (at marks.now l)) digest.now.len c ≡ true)) }
+    ensures none { IfNone result ((i : ℕ) (c : Clause) → i < length waiting.now →
+        (waiting_at waiting.now i).hash ≡ digest.now.hash →
+        maps.get memory.now.live (waiting_at waiting.now i).slot ≡ Some c →
+        is_match (λ l. is_marked (at marks.now l)) digest.now.len c ≡ false) }
+{
+    for i in 0..waiting.len() {
+        let slot = waiting[i].slot as usize;
+        if waiting[i].hash == digest.hash && matches(marks, digest.len, memory.clause(slot)) {
+            return Some(slot);
+        }
+    }
+    None
+}
+
 /// A slot with the hash of the digest that has a clause of so many literals, each of them marked.
 pub(crate) fn find_marked(
     memory: &ClauseMemory,
@@ -57,14 +85,23 @@ pub(crate) fn find_marked(
     marks: &Table<Mark>,
     digest: &Digest,
 ) -> Option<usize>
-    requires { (i s : ℕ) → slice_get (under index.now digest.now.hash) i ≡ Some s →
+    requires placed { (i s : ℕ) → slice_get (under index.now.placed digest.now.hash) i ≡ Some s →
         IsSome (maps.get memory.now.live s) }
+    requires waiting { (i : ℕ) → i < length index.now.waiting.items →
+        IsSome (maps.get memory.now.live (waiting_at index.now.waiting.items i).slot) }
     ensures found { IfSome result (λ s. (c : Clause) × (maps.get memory.now.live s ≡ Some c)
         × (is_match (λ l. is_marked (at marks.now l)) digest.now.len c ≡ true)) }
-    ensures none { IfNone result ((i s : ℕ) (c : Clause) →
-        slice_get (under index.now digest.now.hash) i ≡ Some s →
+    ensures placed { IfNone result ((i s : ℕ) (c : Clause) →
+        slice_get (under index.now.placed digest.now.hash) i ≡ Some s →
         maps.get memory.now.live s ≡ Some c →
         is_match (λ l. is_marked (at marks.now l)) digest.now.len c ≡ false) }
+    ensures waiting { IfNone result ((i : ℕ) (c : Clause) → i < length index.now.waiting.items →
+        (waiting_at index.now.waiting.items i).hash ≡ digest.now.hash →
+        maps.get memory.now.live (waiting_at index.now.waiting.items i).slot ≡ Some c →
+        is_match (λ l. is_marked (at marks.now l)) digest.now.len c ≡ false) }
 {
-    first_match(memory, index.slots(digest.hash), marks, digest.len)
+    match first_waiting(memory, &index.waiting, marks, digest) {
+        Some(slot) => Some(slot),
+        None => first_match(memory, index.placed.slots(digest.hash), marks, digest.len),
+    }
 }

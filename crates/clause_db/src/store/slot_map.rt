@@ -5,7 +5,8 @@
 //! foresee them.
 
 ghost use Rattle.std.specs.Prelude.{◌≡◌, ℕ, ◌+◌, ◌<◌, ◌≤◌, ◌==◌, length, true, false, option_map};
-ghost use Rattle.std.specs.Prelude.{count_by, None, Some, if◌then◌else◌, IfSome, IfNone, IfOk, OnOk, OnErr};
+ghost use Rattle.std.specs.Prelude.{count_by, None, Some, if◌then◌else◌, IfSome, IfNone, IfOk};
+ghost use Rattle.std.specs.Prelude.{OnOk, OnErr};
 ghost use Rattle.clause_db.specs.Code.Entries.{entry_at, home, is_end, is_free, is_taken, is_used};
 ghost use Rattle.clause_db.specs.Code.Entries.{next_of, slot_among, spot, AreApart};
 ghost use Rattle.clause_db.specs.Code.Entries.{AreReached, HasAt, IsEnd};
@@ -194,7 +195,8 @@ impl SlotMap {
     #[inline(always)]
     pub(crate) fn put(&mut self, hash: u32, slot: u32) -> Option<u32>
         requires slot { slot < 4294967295 }
-        requires room { slot_at self.old hash ≡ None → self.old.used < length self.old.entries.items }
+        requires room { slot_at self.old hash ≡ None →
+            self.old.used < length self.old.entries.items }
         ensures was { result ≡ slot_at self.old hash }
         ensures low { IfSome result (λ was. was < 4294967295) }
         ensures slots { (h : ℕ) → slot_at self.new h ≡

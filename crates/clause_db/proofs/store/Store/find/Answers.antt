@@ -3,13 +3,12 @@ use Rattle.std.specs.FinMap as maps
 use Rattle.std.proofs.lemmas.Bool.{true≢false}
 use Rattle.cnf_base.specs.Literals.{has}
 use Rattle.cnf_base.proofs.SetLemmas.{all_each, each_all, same_back}
-use Rattle.clause_db.specs.Code.Index.{noted_place, under}
 use Rattle.clause_db.specs.Code.LiteralMarks.{is_marked, mark_count}
 use Rattle.tables.specs.Table.{at}
-use Rattle.clause_db.proofs.StoreLemmas.Search.{copies_pos, in_bucket, known_from_count, match_same}
-use Rattle.clause_db.proofs.StoreLemmas.Search.{none_same}
+use Rattle.clause_db.proofs.StoreLemmas.Search.{copies_pos, known_from_count, match_same}
 use Rattle.clause_db.proofs.StoreLemmas.Options.{if_some_from, if_some_from_none, if_none_from}
 use Rattle.clause_db.proofs.StoreLemmas.Options.{if_none_from_some}
+use Rattle.clause_db.proofs.StoreLemmas.Whole.{bucket_live, none_found, waiting_live}
 use Rattle.clause_db.proofs.store.Store.find.Goals as goal
 use Rattle.clause_db.proofs.store.Store.find.Goals.{in-Some, in-None}
 
@@ -31,10 +30,15 @@ pub mark_all-digest-requires-clause-known : goal.mark_all-digest-requires-clause
 mark_all-digest-requires-clause-known c l h =
     all_each (λ l. is_some (at c.self.inside.marks l)) c.args.lits.now l (sym c.all_known.ensures ∙ c.if-not-all_known.false) h
 
-pub find_marked-found-requires : goal.find_marked-found-requires
-find_marked-found-requires c k s stands =
+pub find_marked-found-requires-clause-placed : goal.find_marked-found-requires-clause-placed
+find_marked-found-requires-clause-placed c k s stands =
     let i = c.self.inside in
-    in_bucket i.index.seed i.memory.live (under i.index) (noted_place i.index) c.self.invariant.1 c.mark_all-digest.result.hash k s stands
+    bucket_live i.index i.memory.live c.self.invariant.1 c.mark_all-digest.result.hash k s stands
+
+pub find_marked-found-requires-clause-waiting : goal.find_marked-found-requires-clause-waiting
+find_marked-found-requires-clause-waiting c k low =
+    let i = c.self.inside in
+    waiting_live i.index i.memory.live c.self.invariant.1 k low
 
 pub returns-clause-found : goal.returns-clause-found
 returns-clause-found c =
@@ -56,7 +60,7 @@ returns-clause-none c =
     elim c.match-found.branch [
       | in-Some w ↦ if_none_from_some c.match-found.result w.at.result _ w.result-is
       | in-None w ↦ if_none_from c.match-found.result _ w.result-is (λ s d is same.
-          none_same i.index.seed i.memory.live (under i.index) (noted_place i.index) c.self.invariant.1 c.args.lits.now (λ l. is_marked (at digest.new.marks l)) digest.ensures.marked
-          digest.result.len digest.ensures.len digest.result.hash digest.ensures.hash c.self.invariant.0.different w.in-None.ensures.none
+          none_found i.index i.memory.live c.self.invariant.1 c.args.lits.now (λ l. is_marked (at digest.new.marks l)) digest.ensures.marked
+          digest.result.len digest.ensures.len digest.result.hash digest.ensures.hash c.self.invariant.0.different w.in-None.ensures.placed w.in-None.ensures.waiting
           s d (ap (λ v. maps.get v.live s) c.self.view_is ∙ is) same)
     ]

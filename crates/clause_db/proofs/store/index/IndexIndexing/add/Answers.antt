@@ -1,28 +1,60 @@
-use Rattle.std.proofs.Common.{refl, ◌∙◌}
-use Rattle.clause_db.specs.Code.Buckets.{bucket_at}
-use Rattle.clause_db.specs.Code.Index.{noted_place, place_in, under}
+use Rattle.std.proofs.Common.{◌≡◌, ℕ, ◌+◌, ◌<◌, length, vec_len, arith, refl, sym, ap, ◌∙◌, subst}
+use Rattle.std.proofs.lemmas.Result.{on_ok_weaker, on_err_weaker}
+use Rattle.std.specs.FinMap as maps
+use Rattle.clause_db.specs.Code.Waiting.{AreWaiting, waiting_at}
+use Rattle.clause_db.specs.declared.store.index.Waiting.{Waiting}
 use Rattle.clause_db.proofs.StoreLemmas.Options.{on_err_from}
-use Rattle.clause_db.proofs.StoreLemmas.Indexed.{undone}
-use Rattle.clause_db.proofs.StoreLemmas.Index.{index_same, index_with, other_place, wrote_place}
+use Rattle.clause_db.proofs.StoreLemmas.Waiting.{free_placed, waiting_more, waiting_with}
 use Rattle.clause_db.proofs.store.index.IndexIndexing.add.Goals as goal
 
-pub returns-in_err-place-clause-err : goal.returns-in_err-place-clause-err
-returns-in_err-place-clause-err c =
-    let old = c.args.self.now in
-    on_err_from c.from_residual.result _ (λ live sound. index_same old.seed (under old) (noted_place old) live sound _ (noted_place old) c.in_err-place.ensures.err (λ s. refl))
+pub returns-in_err-make_room-clause-err : goal.returns-in_err-make_room-clause-err
+returns-in_err-make_room-clause-err c = on_err_from c.from_residual.result _ c.make_room.ensures
 
-pub returns-in-Err-clause-err : goal.returns-in-Err-clause-err
-returns-in-Err-clause-err c live sound =
-    let old = c.args.self.now in
-    let back = undone (under old) (bucket_at c.push.new.self) (bucket_at c.take.new.self) c.hash_of-hash.result c.args.slot c.in_ok-place.place c.in_ok-place.ensures.ok c.take.ensures.slots c.in_ok-place.ensures.place in
-    index_same old.seed (under old) (noted_place old) live sound _ (place_in c.note_new.new.places) back c.in-Err.ensures.err
+-- ---- Where the slot is placed at once
 
-pub returns-in-Ok-clause-ok : goal.returns-in-Ok-clause-ok
-returns-in-Ok-clause-ok c live sound free =
-    let old = c.args.self.now in
-    let place = c.in_ok-place.place in
-    let after = place_in c.note_new.new.places in
-    let wrote = c.in-Ok.ensures.ok (sound.vacant c.args.slot free) in
-    let here = wrote_place (noted_place old) after c.args.slot place wrote ∙ c.in_ok-place.ensures.place in
-    let others = other_place (noted_place old) after c.args.slot place wrote in
-    index_with old.seed (under old) (noted_place old) live sound c.args.slot c.args.lits.now c.hash_of-hash.result free c.requires.low c.hash_of-hash.ensures _ after c.in_ok-place.ensures.ok here others
+pub returns-then-self-clause-ok : goal.returns-then-self-clause-ok
+returns-then-self-clause-ok c = on_ok_weaker c.add.result (λ ok live old free.
+    let m = c.make_room.new.self in
+    let now = c.make_room.ensures live old in
+    let k = c.args.slot in
+    let lits = c.args.lits.now in record {
+      rest = maps.insert now.rest k lits;
+      placed = ok m.seed now.rest lits now.placed (free_placed m.seed m.waiting.items now.rest live now.waiting k free) c.hash_of-hash.ensures;
+      waiting = waiting_with m.seed m.waiting.items now.rest live now.waiting k lits free;
+    }) c.add.ensures.ok
+
+pub returns-then-self-clause-err : goal.returns-then-self-clause-err
+returns-then-self-clause-err c = on_err_weaker c.add.result (λ err live old.
+    let m = c.make_room.new.self in
+    let now = c.make_room.ensures live old in record {
+      rest = now.rest;
+      placed = err m.seed now.rest now.placed;
+      waiting = now.waiting;
+    }) c.add.ensures.err
+
+-- ---- Where it waits
+
+pub returns-in_err-push-clause-err : goal.returns-in_err-push-clause-err
+returns-in_err-push-clause-err c = on_err_from c.from_residual-in_err-push.result _ (λ live old.
+    let now = c.make_room.ensures live old in record {
+      rest = now.rest;
+      placed = now.placed;
+      waiting = subst (λ xs. AreWaiting c.make_room.new.self.seed xs now.rest live) (sym c.in_err-push.ensures.items) now.waiting;
+    })
+
+pub returns-clause-ok : goal.returns-clause-ok
+returns-clause-ok c live old free =
+    let m = c.make_room.new.self in
+    let now = c.make_room.ensures live old in
+    let ws = m.waiting.items in
+    let more = c.push.new.self.items in
+    let w : Waiting = record { hash = c.hash_of-hash.result; slot = c.args.slot } in
+    let at = c.in_ok-push.ensures.by_index in
+    let len_is : length ws ≡ vec_len m.waiting = omega arith in
+    let long : length more ≡ length ws + 1 = let len = c.in_ok-push.ensures.len in omega arith in
+    let same : (i : ℕ) → i < length ws → waiting_at more i ≡ waiting_at ws i = λ i low. at.0 i _ (omega arith) in
+    let last : waiting_at more (length ws) ≡ w = ap (waiting_at more) len_is ∙ at.1 _ refl in record {
+      rest = now.rest;
+      placed = now.placed;
+      waiting = waiting_more m.seed ws now.rest live now.waiting more long same w last c.args.lits.now free c.hash_of-hash.ensures;
+    }

@@ -1,8 +1,10 @@
-use Rattle.std.proofs.Common.{ap, unwrap_or}
-use Rattle.clause_db.specs.Code.Buckets.{bucket_at}
-use Rattle.clause_db.specs.Code.Index.{place_in}
-use Rattle.clause_db.proofs.StoreLemmas.Index.{index_empty}
+use Rattle.std.specs.FinMap as maps
+use Rattle.clause_db.proofs.StoreLemmas.Waiting.{none_waiting}
 use Rattle.clause_db.proofs.store.index.IndexIndexing.new.Goals as goal
 
 pub returns : goal.returns
-returns c = index_empty c.args.seed (bucket_at c.new.result) (place_in c.new-2.result) c.new.ensures (λ s. ap (λ o. unwrap_or o 0) (c.new-2.ensures s))
+returns c = record {
+  rest = maps.empty;
+  placed = c.new.ensures c.args.seed;
+  waiting = none_waiting c.args.seed _ c.new-2.ensures.items maps.empty;
+}

@@ -1,27 +1,47 @@
-use Rattle.std.proofs.Common.{unwrap_or, sym, ap}
-use Rattle.clause_db.specs.Code.Index.{noted_place, place_in, under}
-use Rattle.clause_db.proofs.StoreLemmas.Index.{alone, index_without, place_inside}
+use Rattle.std.proofs.Common.{◌≡◌, ℕ, ◌+◌, ◌-◌, ◌<◌, cond, eqb, eq-eqb, ne_eqb, length, arith, sym, ap, ◌∙◌, subst, inl, inr}
+use Rattle.std.specs.FinMap as maps
+use Rattle.std.proofs.lemmas.Bool.{cases_eq}
+use Rattle.clause_db.specs.Code.Waiting.{AreWaiting, waiting_at}
+use Rattle.clause_db.proofs.StoreLemmas.Waiting.{Absent, waiting_less, waiting_without}
 use Rattle.clause_db.proofs.store.index.IndexIndexing.remove.Goals as goal
 
-pub take-last-requires : goal.take-last-requires
-take-last-requires c =
-    let old = c.args.self.now in
-    let w = c.requires.there in
-    let place_is = sym c.place_of-place.ensures in
-    place_inside old.seed (under old) (noted_place old) w.0 w.1 c.args.slot c.args.lits.now c.hash_of.result c.place_of-place.result w.2 c.hash_of.ensures place_is
+-- ---- Where the slot waits
 
-pub note_removed-requires-clause-known : goal.note_removed-requires-clause-known
-note_removed-requires-clause-known c past =
-    let old = c.args.self.now in
-    let w = c.requires.there in
-    let m = c.take-last.result in
-    let place_is = sym c.place_of-place.ensures in
-    alone old.seed (under old) (noted_place old) w.0 w.1 c.args.slot c.args.lits.now c.hash_of.result c.place_of-place.result w.2 c.hash_of.ensures place_is
-    m c.take-last.ensures.last (ap (λ o. unwrap_or o 0) past)
+pub returns-in-Some : goal.returns-in-Some
+returns-in-Some c live old there =
+    let m = c.args.self.now in
+    let ws = m.waiting.items in
+    let left = c.swap_remove.new.self.items in
+    let i = c.in-Some.i in
+    let found = subst (λ xs. (i < length xs) × ((waiting_at xs i).slot ≡ c.args.slot)) c.deref.ensures.value c.in-Some.ensures.some in
+    let low = found.0 in
+    let long : length left + 1 ≡ length ws = omega arith in
+    let moved = c.swap_remove.ensures.by_index in
+    let same : (j : ℕ) → j < length left → waiting_at left j ≡ waiting_at ws (cond (eqb j i) (length left) j) =
+    λ j inside. elim (cases_eq j i) [
+      | inl is ↦ ap (waiting_at left) is ∙ moved.0 _ (omega arith) ∙ ap (waiting_at ws) (let e : m.waiting.len - 1 ≡ length left = omega arith in e) ∙ ap (λ b. waiting_at ws (cond b (length left) j)) (sym (eq-eqb j i is))
+      | inr ne ↦ moved.1 j _ ne (omega arith) ∙ ap (λ b. waiting_at ws (cond b (length left) j)) (sym (ne_eqb j i ne))
+    ] in record {
+      rest = old.rest;
+      placed = old.placed;
+      waiting = subst (λ s. AreWaiting m.seed left old.rest (maps.remove live s)) found.1 (waiting_less m.seed ws old.rest live old.waiting left i low long same);
+    }
 
-pub returns : goal.returns
-returns c live sound there =
-    let old = c.args.self.now in
-    let place_is = sym c.place_of-place.ensures in
-    index_without old.seed (under old) (noted_place old) live sound c.args.slot c.args.lits.now c.hash_of.result c.place_of-place.result there c.hash_of.ensures place_is
-    c.take-last.result c.take-last.ensures.last _ (place_in c.note_removed.new.places) c.take-last.ensures.slots c.note_removed.ensures.vacant c.note_removed.ensures.moved
+-- ---- Where it is placed
+
+pub remove-requires : goal.remove-requires
+remove-requires c =
+    let m = c.args.self.now in
+    let w = c.requires.there in
+    let none = subst (λ xs. Absent xs c.args.slot) c.deref.ensures.value c.in-None.ensures.none in
+    (m.seed, w.1.rest, c.args.lits.now, w.1.placed, w.1.waiting.others c.args.slot none ∙ w.2, c.hash_of.ensures)
+
+pub returns-in-None : goal.returns-in-None
+returns-in-None c live old there =
+    let m = c.args.self.now in
+    let k = c.args.slot in
+    let none = subst (λ xs. Absent xs k) c.deref.ensures.value c.in-None.ensures.none in record {
+      rest = maps.remove old.rest k;
+      placed = c.remove.ensures m.seed old.rest c.args.lits.now old.placed (old.waiting.others k none ∙ there) c.hash_of.ensures;
+      waiting = waiting_without m.seed m.waiting.items old.rest live old.waiting k none;
+    }

@@ -1,0 +1,14 @@
+use Rattle.std.proofs.Common.{◌≡◌, ℕ, ◌<◌, false, Some}
+use Rattle.std.specs.FinMap as maps
+use Rattle.cnf_base.specs.Literals.{Clause}
+use Rattle.clause_db.specs.Code.LiteralMarks.{is_marked}
+use Rattle.clause_db.specs.Code.Matches.{is_match}
+use Rattle.clause_db.specs.Code.Waiting.{waiting_at}
+use Rattle.tables.specs.Table.{at}
+use Rattle.clause_db.proofs.store.search.first_waiting.Given as goal
+
+abbrev pub invariant-loop-i : goal.invariant-loop-i
+invariant-loop-i l = (k : ℕ) (c : Clause) → k < l.i →
+    (waiting_at l.waiting k).hash ≡ l.digest.hash →
+    maps.get l.memory.live (waiting_at l.waiting k).slot ≡ Some c →
+    is_match (λ m. is_marked (at l.marks m)) l.digest.len c ≡ false
