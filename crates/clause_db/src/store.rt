@@ -18,6 +18,7 @@ mod slot_map;
 
 ghost use Rattle.std.specs.Prelude.{◌≡◌, ◌≢◌, ℕ, ◌+◌, ◌-◌, ◌<◌, ◌≤◌, ◌==◌, ◌++◌, [], ◌∷◌, ◌^◌, min};
 ghost use Rattle.std.specs.Prelude.{true, false, Some, None, option_map, length, if◌then◌else◌};
+ghost use Rattle.std.specs.Prelude.{slice_index};
 ghost use Rattle.std.specs.Prelude.{IsTrue, IsSome, IfSome, IfNone, IfOk, OnOk, OnErr};
 ghost use Rattle.std.specs.List.{swap};
 ghost use Rattle.std.specs.List.Sorted.{IsStrictlyIncreasing};
@@ -377,5 +378,21 @@ impl Store {
         ensures live_alone { self.new.stored ≡ literals_in self.new.live }
     {
         self.memory.swap(slot.number(), a, b);
+    }
+
+    /// Puts the literal `next` of the clause in the slot among its first two, in the place of `l`,
+    /// which goes to where `next` stood. The other one of the two, `other`, comes first. Nothing is
+    /// read of the clause, and it takes no memory.
+    #[inline(always)]
+    pub fn rewatch(&mut self, slot: Slot, other: Lit, next: Lit, to: usize, l: Lit)
+        requires { (c : Clause) × (from : ℕ) × (maps.get self.old.live slot ≡ Some c)
+            × (from < 2) × (slice_index c from ≡ l) × (slice_index c (1 - from) ≡ other)
+            × (2 ≤ to) × (to < length c) × (slice_index c to ≡ next) }
+        ensures live { (c : Clause) (from : ℕ) → maps.get self.old.live slot ≡ Some c → from < 2 →
+            slice_index c from ≡ l → slice_index c (1 - from) ≡ other →
+            self.new.live ≡ maps.insert self.old.live slot (swap (swap c 0 (1 - from)) 1 to) }
+        ensures live_alone { self.new.stored ≡ literals_in self.new.live }
+    {
+        self.memory.rewatch(slot.number(), other, next, to, l);
     }
 }
