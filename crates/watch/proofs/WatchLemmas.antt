@@ -14,3 +14,4 @@ pub mod Visited
 pub mod Arrange
 pub mod Assumed
 pub mod State
+pub mod Turned

@@ -1,7 +1,10 @@
 //! The watch list of a literal that became false: visits of its clauses, and moves to other lists.
 //!
 //! A clause is written before the list that it goes to, so that what was just read of it need not
-//! be found again. Where memory for the list is refused, the clause is put back as it was.
+//! be found again. Where memory for the list is refused, the clause watches the same two literals
+//! as before, perhaps in the other order.
+//!
+//! The near values are asked for once for all visits up to the next literal that becomes true.
 
 ghost use Rattle.std.specs.Prelude.{◌≡◌, ◌≢◌, ℕ, ◌+◌, ◌≤◌, length, take, slice_get, Option, Some};
 ghost use Rattle.std.specs.Prelude.{IsTrue, IsFalse, IfOk, IfSome, IfNone, OnOk};
@@ -10,11 +13,12 @@ ghost use Rattle.std.specs.FinMap as maps;
 ghost use Rattle.cnf_base.specs.Literals.{Clause, Literal, complement, has};
 ghost use Rattle.theory.specs.Sets.{conflicts};
 ghost use Rattle.propagation.specs.Assumptions.{AssumptionsState};
+ghost use Rattle.trail.specs.Trail.{AreNear};
 ghost use Rattle.root_literals.specs.Order.{each_in_order};
 ghost use Rattle.root_literals.specs.Watched.{IsMet, IsWatched};
 ghost use Rattle.root_literals.specs.Roots.{IsFalseAt};
 ghost use Rattle.watch.specs.Code.Visits.{AreMet, CanFollow, CanVisit, Followed, IsExchangeAt};
-ghost use Rattle.watch.specs.Code.Visits.{IsInHand, IsNextSlot, Visited, entries_left};
+ghost use Rattle.watch.specs.Code.Visits.{IsFoundNext, IsInHand, IsNextSlot, Visited, entries_left};
 ghost use Rattle.tables.specs.Table.{at};
 
 use crate::visit::{Exchange, Visit, look_at};
@@ -23,6 +27,7 @@ use cnf_base::{Lit, OutOfMemory};
 use propagation::Assumptions;
 use root_literals::set_by;
 use tables::Table;
+use trail::{Trail, Value};
 use watch_lists::{Cursor, WatchLists, Watcher};
 
 /// Lets the clause of the next entry watch another literal instead of `l`, whose list is in hand
@@ -51,7 +56,7 @@ fn move_watch(
 {
     let at = Slot::at(slot as usize);
     // Before anything else is written, what was read of the clause need not be read again.
-    store.swap(at, exchange.from, exchange.to);
+    store.rewatch(at, exchange.other, exchange.next, exchange.to, l);
     // It has a third literal, the one at `to`.
     let watcher = Watcher::new(slot, exchange.other, false);
     match lists.push(exchange.next, watcher) {
@@ -60,44 +65,62 @@ fn move_watch(
             Ok(())
         }
         Err(refused) => {
-            store.swap(at, exchange.to, exchange.from);
+            store.swap(at, exchange.to, 1);
             Err(refused)
         }
     }
 }
 
-/// Visits the clause of the next entry in the list of a literal that became false. Its slot is the
-/// result where all its literals are false.
+/// What is found of a clause that has no true literal.
+#[derive(Clone, Copy)]
+pub(crate) enum Found {
+    /// This literal alone isn't false.
+    Unit(Lit),
+    /// All literals are false.
+    Clash,
+}
+
+/// An entry of whose clause something is found.
+#[derive(Clone, Copy)]
+pub(crate) struct FoundAt {
+    pub(crate) entry: Watcher,
+    pub(crate) found: Found,
+}
+
+/// Visits the clause of the next entry in the list of a literal that became false. Where something
+/// is found of it, nothing is written, and the entry is still the next one.
 #[inline(always)]
 fn visit(
     store: &mut Store,
     lists: &mut WatchLists,
-    assumptions: &mut Assumptions,
-    reasons: &mut Table<u32>,
+    trail: &Trail,
+    near: &[Value],
     cursor: &mut Cursor,
     entry: Watcher,
     l: Lit,
-) -> Result<Option<u32>, OutOfMemory>
+) -> Result<Option<Found>, OutOfMemory>
+    requires near { AreNear trail.now.lits near.now }
     requires next { slice_get cursor.old.entries cursor.old.visited ≡ Some entry }
-    requires can { CanVisit store.old.live lists.old cursor.old.entries assumptions.old
-        (at reasons.old) l }
-    requires met { AreMet store.old.live cursor.old l assumptions.old.trail.lits }
-    ensures visited { Visited store.old.live store.new.live lists.old lists.new
-        cursor.old.entries cursor.new.entries assumptions.old assumptions.new
-        (at reasons.old) (at reasons.new) l }
-    ensures clash { IfOk result (λ found. IfSome found (λ s.
-        IsFalseAt (maps.get (each_in_order store.new.live)) s assumptions.new.trail.lits)) }
-    ensures met { IfOk result (λ found. IfNone found
-        (AreMet store.new.live cursor.new l assumptions.new.trail.lits)) }
+    requires hand { IsInHand store.old.live lists.old cursor.old.entries l }
+    requires is_false { IsTrue (has trail.now.lits (complement l)) }
+    requires met { AreMet store.old.live cursor.old l trail.now.lits }
+    ensures visited { (held : AssumptionsState) (reason_of : Literal → Option ℕ) →
+        held.trail ≡ trail.now →
+        Visited store.old.live store.new.live lists.old lists.new cursor.old.entries
+        cursor.new.entries held held reason_of reason_of l }
+    ensures met { OnOk result (AreMet store.new.live cursor.new l trail.now.lits) }
+    ensures found { IfOk result (λ found. IfSome found
+        (IsFoundNext store.new.live cursor.new trail.now.lits entry)) }
     ensures fewer { IfOk result (λ found. IfNone found
         (entries_left cursor.new + 1 ≡ entries_left cursor.old)) }
+    ensures as_many { IfOk result (λ found. IfSome found (λ _.
+        entries_left cursor.new ≡ entries_left cursor.old)) }
 {
-    let trail = assumptions.trail();
-    if trail.is_true_near(trail.near(), entry.blocking()) {
+    if trail.is_true_near(near, entry.blocking()) {
         cursor.keep(entry);
         return Ok(None);
     }
-    match look_at(store, trail, entry, l) {
+    match look_at(store, trail, near, entry, l) {
         Visit::Stays(blocking) => {
             cursor.keep(entry.with_blocking(blocking));
             Ok(None)
@@ -106,13 +129,41 @@ fn visit(
             move_watch(store, lists, cursor, entry.slot(), l, exchange)?;
             Ok(None)
         }
-        Visit::Unit(m) => {
-            set_by(assumptions, reasons, m, entry.slot());
-            cursor.keep(entry);
-            Ok(None)
-        }
-        Visit::Clash => Ok(Some(entry.slot())),
+        Visit::Unit(m) => Ok(Some(Found::Unit(m))),
+        Visit::Clash => Ok(Some(Found::Clash)),
     }
+}
+
+/// Visits the clauses of the next entries, up to one of which something is found.
+#[inline(always)]
+fn next_found(
+    store: &mut Store,
+    lists: &mut WatchLists,
+    trail: &Trail,
+    cursor: &mut Cursor,
+    l: Lit,
+) -> Result<Option<FoundAt>, OutOfMemory>
+    requires hand { IsInHand store.old.live lists.old cursor.old.entries l }
+    requires is_false { IsTrue (has trail.now.lits (complement l)) }
+    requires met { AreMet store.old.live cursor.old l trail.now.lits }
+    ensures visited { (held : AssumptionsState) (reason_of : Literal → Option ℕ) →
+        held.trail ≡ trail.now →
+        Visited store.old.live store.new.live lists.old lists.new cursor.old.entries
+        cursor.new.entries held held reason_of reason_of l }
+    ensures met { OnOk result (AreMet store.new.live cursor.new l trail.now.lits) }
+    ensures found { IfOk result (λ found. IfSome found (λ f.
+        IsFoundNext store.new.live cursor.new trail.now.lits f.entry f.found)) }
+    ensures end { IfOk result (λ found. IfNone found
+        (length cursor.new.entries ≤ cursor.new.visited)) }
+    ensures no_more { OnOk result (entries_left cursor.new ≤ entries_left cursor.old) }
+{
+    let near = trail.near();
+    while let Some(entry) = cursor.next() {
+        if let Some(found) = visit(store, lists, trail, near, cursor, entry, l)? {
+            return Ok(Some(FoundAt { entry, found }));
+        }
+    }
+    Ok(None)
 }
 
 /// Visits the clauses in the list of a literal that became false, up to one that is false: its
@@ -137,9 +188,15 @@ fn visit_all(
         cursor.old.entries cursor.new.entries assumptions.old assumptions.new
         (at reasons.old) (at reasons.new) l }
 {
-    while let Some(entry) = cursor.next() {
-        if let Some(slot) = visit(store, lists, assumptions, reasons, cursor, entry, l)? {
-            return Ok(Some(slot));
+    while let Some(at) = next_found(store, lists, assumptions.trail(), cursor, l)? {
+        let entry = at.entry;
+        let found = at.found;
+        match found {
+            Found::Unit(m) => {
+                set_by(assumptions, reasons, m, entry.slot());
+                cursor.keep(entry);
+            }
+            Found::Clash => return Ok(Some(entry.slot())),
         }
     }
     Ok(None)

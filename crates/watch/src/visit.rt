@@ -3,7 +3,7 @@
 ghost use Rattle.std.specs.Prelude.{◌≡◌, ℕ, ◌-◌, ◌<◌, ◌≤◌, length, slice_index, Some, IsTrue};
 ghost use Rattle.std.specs.FinMap as maps;
 ghost use Rattle.cnf_base.specs.Literals.{Clause, complement, has, size};
-ghost use Rattle.trail.specs.Trail.{HasNoVariableTwice};
+ghost use Rattle.trail.specs.Trail.{AreNear, HasNoVariableTwice};
 ghost use Rattle.root_literals.specs.Watched.{watches};
 ghost use Rattle.watch.specs.Code.Visits.{IsEntryOf, IsVisit};
 
@@ -12,11 +12,10 @@ use cnf_base::Lit;
 use trail::{Trail, Value};
 use watch_lists::Watcher;
 
-/// Two literals of a clause that take each other's place, so that another one is watched.
+/// What a clause watches in place of a literal that became false.
 #[derive(Clone, Copy)]
 pub(crate) struct Exchange {
-    /// The place of the watched literal that became false.
-    pub(crate) from: usize,
+    /// A place behind the first two.
     pub(crate) to: usize,
     /// The literal at `to`, which isn't false.
     pub(crate) next: Lit,
@@ -37,16 +36,6 @@ pub(crate) enum Visit {
     Clash,
 }
 
-/// The place of a literal that the clause watches.
-fn watched_place(clause: &[Lit], l: Lit) -> usize
-    requires { IsTrue (watches clause.now l) }
-    ensures inside { result < 2 }
-    ensures long { 2 ≤ length clause.now }
-    ensures there { slice_index clause.now result ≡ l }
-{
-    if clause[0] == l { 0 } else { 1 }
-}
-
 /// The other literal that the clause watches.
 #[inline(always)]
 fn other_watched(clause: &[Lit], l: Lit) -> Lit
@@ -62,27 +51,26 @@ fn other_watched(clause: &[Lit], l: Lit) -> Lit
 }
 
 /// What is to be done with a clause that watches this literal, which is false.
-fn look(trail: &Trail, clause: &[Lit], l: Lit) -> Visit
+fn look(trail: &Trail, near: &[Value], clause: &[Lit], l: Lit) -> Visit
+    requires near { AreNear trail.now.lits near.now }
     requires watched { IsTrue (watches clause.now l) }
     requires is_false { IsTrue (has trail.now.lits (complement l)) }
     requires different { size clause.now ≡ length clause.now }
     ensures visit { IsVisit trail.now.lits clause.now l result }
     ensures different { HasNoVariableTwice trail.now.lits }
 {
-    // Mostly the place of the literal isn't asked.
     let other = other_watched(clause, l);
-    let value = trail.value(other);
-    if matches!(value, Value::True) {
+    if matches!(trail.value_near(near, other), Value::True) {
         return Visit::Stays(other);
     }
-    match trail.first_open(clause, 2) {
+    match trail.first_open_in(near, clause, 2) {
         Some(to) => Visit::Moves(Exchange {
-            from: watched_place(clause, l),
             to,
             next: clause[to],
             other,
         }),
-        None => match value {
+        // Asked again, since it would be carried through the search for an open literal.
+        None => match trail.value_near(near, other) {
             Value::False => Visit::Clash,
             _ => Visit::Unit(other),
         },
@@ -92,7 +80,8 @@ fn look(trail: &Trail, clause: &[Lit], l: Lit) -> Visit
 /// What is to be done with the clause of an entry in the list of this literal, which is false. A
 /// binary clause isn't looked at: the blocking literal is its other one.
 #[inline(always)]
-pub(crate) fn look_at(store: &Store, trail: &Trail, entry: Watcher, l: Lit) -> Visit
+pub(crate) fn look_at(store: &Store, trail: &Trail, near: &[Value], entry: Watcher, l: Lit) -> Visit
+    requires near { AreNear trail.now.lits near.now }
     requires entry { IsEntryOf store.now.live entry l }
     requires is_false { IsTrue (has trail.now.lits (complement l)) }
     ensures visit { (c : Clause) → maps.get store.now.live entry.slot ≡ Some c →
@@ -103,10 +92,15 @@ pub(crate) fn look_at(store: &Store, trail: &Trail, entry: Watcher, l: Lit) -> V
 {
     store.recall_invariant();
     if !entry.is_binary() {
-        return look(trail, store.clause(Slot::at(entry.slot() as usize)), l);
+        return look(
+            trail,
+            near,
+            store.clause(Slot::at(entry.slot() as usize)),
+            l,
+        );
     }
     let other = entry.blocking();
-    match trail.value(other) {
+    match trail.value_near(near, other) {
         Value::False => Visit::Clash,
         _ => Visit::Unit(other),
     }

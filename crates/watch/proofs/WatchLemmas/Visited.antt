@@ -1,6 +1,6 @@
 -- Visits, one after the other.
 use Rattle.std.proofs.Common.{◌≡◌, ℕ, ◌/◌, ◌<◌, ◌≤◌, true, Option, Some, is_some, List, refl, sym}
-use Rattle.std.proofs.Common.{ap, ◌∙◌, subst, length, get_or, map, slice_get}
+use Rattle.std.proofs.Common.{ap, ◌∙◌, subst, length, get_or, map, slice_get, IfSome}
 use Rattle.std.specs.Ordering.{nat_cmp}
 use Rattle.std.specs.FinMap as maps
 use Rattle.std.specs.FinMap.{FinMap}
@@ -11,7 +11,9 @@ use Rattle.cnf_base.proofs.MemberLemmas.{has_place}
 use Rattle.propagation.specs.Assumptions.{AssumptionsState}
 use Rattle.root_literals.specs.Order.{in_order}
 use Rattle.watch.specs.Code.Visits.{CanFollow, CanSet, CanVisit, Followed, IsEntryOf, IsInHand}
-use Rattle.watch.specs.Code.Visits.{PropagatesTo, Visited}
+use Rattle.watch.specs.Code.Visits.{IsFoundNext, PropagatesTo, Visited}
+use Rattle.watch.specs.declared.follow.Found.{Found}
+use Rattle.watch.specs.declared.follow.FoundAt.{FoundAt}
 use Rattle.watch_lists.specs.Cursor.{CursorState}
 use Rattle.watch_lists.specs.Lists.{list_at}
 use Rattle.watch_lists.specs.declared.lists.WatchLists.{WatchLists}
@@ -102,3 +104,10 @@ module _ {a b : FinMap nat_cmp Clause} {lists lists_b : WatchLists} {list list_b
     entries = second.entries ∙ first.entries;
     propagates = propagates_on a b c x y z r s t first.propagates second.propagates;
   }
+
+-- what was found of the clause of the next entry
+pub found_next : {live : FinMap nat_cmp Clause} {cursor : CursorState} {seen trues : List Literal} {o : Option FoundAt} → IfSome o (λ f. IsFoundNext live cursor seen f.entry f.found) →
+    {f : FoundAt} {found : Found} → o ≡ Some f → f.found ≡ found → seen ≡ trues → IsFoundNext live cursor trues f.entry found
+found_next {live} {cursor} {seen} {trues} found_in {f} {found} is found_is same =
+    let here = subst (λ p. IfSome p (λ f. IsFoundNext live cursor seen f.entry f.found)) is found_in in
+    subst (λ ls. IsFoundNext live cursor ls f.entry found) same (subst (IsFoundNext live cursor seen f.entry) found_is here)

@@ -3,7 +3,7 @@ use Rattle.std.specs.FinMap as maps
 use Rattle.std.specs.FinMap.{FinMap}
 use Rattle.std.specs.Ordering.{nat_cmp}
 use Rattle.std.specs.Prelude.{List, IsTrue, ◌≡◌, ◌≢◌, ◌<◌, ◌≤◌, ◌+◌, ◌-◌, length, slice_index, take}
-use Rattle.std.specs.Prelude.{IsFalse, ℕ, Option, Some, IsSome, [], ◌==◌, if◌then◌else◌}
+use Rattle.std.specs.Prelude.{IsFalse, ℕ, Option, Some, IsSome, [], ◌==◌, if◌then◌else◌, slice_get}
 use Rattle.cnf_base.specs.Literals.{Literal, has, complement, Clause, size}
 use Rattle.theory.specs.Propagation.{Forced}
 use Rattle.trail.specs.Trail.{HasRoomForAll}
@@ -19,19 +19,21 @@ use Rattle.watch_lists.specs.declared.lists.WatchLists.{WatchLists}
 use Rattle.watch.specs.declared.visit.Exchange.{Exchange}
 use Rattle.watch.specs.declared.visit.Visit.TheVariants.{Stays, Moves, Unit, Clash}
 use Rattle.watch.specs.declared.visit.Visit.{Visit}
+use Rattle.watch.specs.declared.follow.Found.{Found}
+use Rattle.watch.specs.declared.follow.Found.TheVariants as found
 use Rattle.watch_lists.specs.declared.watcher.Watcher.{Watcher}
 
 -- the clause can watch the literal `next` in place of `l`
 pub record IsExchange (c : Clause) (l : Literal) (x : Exchange) : Type 0 where
-  -- `l` stands at one of the two places that are watched
-  pub from_low : x.from < 2
-  pub from_is : slice_index c x.from ≡ l
+  -- `l` stands at one of the two places that are watched, and `other` at the other one
+  pub from : ℕ
+  pub from_low : from < 2
+  pub from_is : slice_index c from ≡ l
+  pub other_is : slice_index c (1 - from) ≡ x.other
   -- `next` stands at another place
   pub to_high : 2 ≤ x.to
   pub to_inside : x.to < length c
   pub to_is : slice_index c x.to ≡ x.next
-  -- `other` is a literal of the clause
-  pub has_other : IsTrue (has c x.other)
 
 -- so can the clause in the slot, which has no literal twice
 pub record IsExchangeAt (live : FinMap nat_cmp Clause) (slot : ℕ) (l : Literal) (x : Exchange)
@@ -48,14 +50,22 @@ pub record IsEntryOf (live : FinMap nat_cmp Clause) (entry : Watcher) (l : Liter
   pub watched : IsTrue (watches clause l)
   pub fitting : IsTrue (fits clause l entry.blocking entry.is_binary)
 
+-- the literal alone of the clause's isn't false
+abbrev pub IsUnit : List Literal → Clause → Literal → Type 0
+IsUnit trues c m =
+    IsTrue (has c m) × IsFalse (has trues (complement m))
+    × ((k : Literal) → IsTrue (has c k) → k ≢ m → IsTrue (has trues (complement k)))
+
+-- all literals of the clause are false
+abbrev pub AreFalse : List Literal → Clause → Type 0
+AreFalse trues c = (k : Literal) → IsTrue (has c k) → IsTrue (has trues (complement k))
+
 -- what is to be done with a clause that watches a literal which became false
 abbrev pub IsVisit : List Literal → Clause → Literal → Visit → Type 0
 IsVisit trues c l (Stays other) = IsTrue (has c other) × IsTrue (has trues other)
 IsVisit trues c l (Moves x) = IsExchange c l x × IsFalse (has trues (complement x.next))
-IsVisit trues c l (Unit m) =
-    IsTrue (has c m) × IsFalse (has trues (complement m))
-    × ((k : Literal) → IsTrue (has c k) → k ≢ m → IsTrue (has trues (complement k)))
-IsVisit trues c l Clash = (k : Literal) → IsTrue (has c k) → IsTrue (has trues (complement k))
+IsVisit trues c l (Unit m) = IsUnit trues c m
+IsVisit trues c l Clash = AreFalse trues c
 
 -- the clauses are the same but for the order of their literals, what was watched still is, and more
 -- literals are true, all forced, each by a reason
@@ -143,6 +153,19 @@ pub record Visited (before after : FinMap nat_cmp Clause) (lists lists_now : Wat
 abbrev pub IsNextSlot : CursorState → ℕ → Type 0
 IsNextSlot cursor slot =
     (cursor.visited < length cursor.entries) × (slot_at cursor.entries cursor.visited ≡ slot)
+
+-- what was found of a clause: its only literal that isn't false, or that there is none
+abbrev pub IsFound : List Literal → Clause → Found → Type 0
+IsFound trues c (found.Unit m) = IsUnit trues c m
+IsFound trues c found.Clash = AreFalse trues c
+
+-- it was found of the clause of the next entry, which is this
+pub record IsFoundNext (live : FinMap nat_cmp Clause) (cursor : CursorState) (trues : List Literal)
+    (entry : Watcher) (found : Found) : Type 0 where
+  pub next : slice_get cursor.entries cursor.visited ≡ Some entry
+  pub clause : Clause
+  pub at : maps.get live entry.slot ≡ Some clause
+  pub holds : IsFound trues clause found
 
 -- how many entries are yet to be visited
 abbrev pub entries_left : CursorState → ℕ

@@ -15,36 +15,39 @@ use Rattle.watch_lists.proofs.WatchListsLemmas.Lists.{entries_removed, unfit_rem
 use Rattle.watch.proofs.WatchLemmas.Entries.{longer_fits}
 use Rattle.watch.proofs.WatchLemmas.Moves.{at_inserted, entries_moved, exchanged_back, listed_moved}
 use Rattle.watch.proofs.WatchLemmas.Moves.{others_moved, places_apart, times_moved, unfit_moved}
-use Rattle.watch.proofs.WatchLemmas.PropagatesTo.{propagates_moved, propagates_none}
+use Rattle.watch.proofs.WatchLemmas.PropagatesTo.{propagates_moved, propagates_on}
+use Rattle.watch.proofs.WatchLemmas.Turned.{exchange_member, turned_at, turned_clause, turned_listed}
+use Rattle.watch.proofs.WatchLemmas.Turned.{turned_live, turned_moved, turned_propagates}
 use Rattle.watch.proofs.follow.move_watch.Goals as goal
+
+pub rewatch-requires : goal.rewatch-requires
+rewatch-requires c =
+    let w = c.requires.exchange in
+    let x = w.exchange in
+    (w.clause, x.from, ap (maps.get c.args.store.now.live) c.at-at.ensures ∙ w.at, x.from_low, x.from_is, x.other_is, x.to_high, x.to_inside, x.to_is)
 
 pub swap-requires : goal.swap-requires
 swap-requires c =
-    let w = c.requires.exchange in
-    let x = w.exchange in
-    let low = x.from_low in
-    let past = x.to_high in
-    let inside = x.to_inside in
-    (w.clause, ap (maps.get c.args.store.now.live) c.at-at.ensures ∙ w.at, omega (arith, low, past, inside), inside)
-
-pub swap-requires-in-Err : goal.swap-requires-in-Err
-swap-requires-in-Err c =
-    let w = c.requires.exchange in
-    let x = c.args.exchange in
-    let live = c.args.store.now.live in
-    let low = w.exchange.from_low in
+    let was = c.requires.exchange in
+    let here = ap (maps.get c.args.store.now.live) c.at-at.ensures ∙ was.at in
+    let after = c.rewatch.new.self.live in
+    let moved = turned_moved was after c.at-at.result c.at-at.ensures (c.rewatch.ensures.live was.clause was.exchange.from here was.exchange.from_low was.exchange.from_is was.exchange.other_is) in
+    let w = turned_at was in
+    let to = c.args.exchange.to in
     let past = w.exchange.to_high in
     let inside = w.exchange.to_inside in
-    let d = swap w.clause x.from x.to in
-    let len = length-swap w.clause x.from x.to in
-    (d, ap (λ m. maps.get m c.at-at.result) (c.swap.ensures.live w.clause (ap (maps.get live) c.at-at.ensures ∙ w.at)) ∙ at_inserted live c.at-at.result d, omega (arith, len, inside), omega (arith, len, low, past, inside))
+    let d = swap w.clause 1 to in
+    let len = length-swap w.clause 1 to in
+    (d, ap (maps.get after) c.at-at.ensures ∙ ap (λ m. maps.get m c.args.slot) moved ∙ at_inserted (turned_live was) c.args.slot d, omega (arith, len, inside), omega (arith, len, past, inside))
 
 pub returns-in-Ok : goal.returns-in-Ok
 returns-in-Ok c =
-    let w = c.requires.exchange in
+    let was = c.requires.exchange in
+    let w = turned_at was in
     let x = c.args.exchange in
     let l = c.args.l in
-    let live = c.args.store.now.live in
+    let before = c.args.store.now.live in
+    let live = turned_live was in
     let lists = list_at c.args.lists.now in
     let pushed = list_at c.push.new.self in
     let list = c.args.cursor.now.entries in
@@ -54,56 +57,63 @@ returns-in-Ok c =
     let entry : Watcher = record { slot = slot; blocking = x.other; is_binary = false } in
     let put = λ (k : Literal). c.in-Ok.ensures.ok k ∙ ap (λ w. cond (eqb k x.next) (lists k ++ w ∷ []) (lists k)) c.new-watcher.ensures in
     let inside = c.requires.next.0 in
-    let low = w.exchange.from_low in
     let past = w.exchange.to_high in
     let within = w.exchange.to_inside in
-    let other = places_apart w.clause x.from x.to l x.next w.different (omega (arith, low, past)) within w.exchange.from_is w.exchange.to_is in
-    let d = swap w.clause x.from x.to in
-    let moved = c.swap.ensures.live w.clause (ap (maps.get live) c.at-at.ensures ∙ w.at) ∙ ap (λ s. maps.insert live s d) c.at-at.ensures in
+    let other = places_apart w.clause 1 x.to l x.next w.different (omega (arith, past)) within w.exchange.from_is w.exchange.to_is in
+    let d = swap w.clause 1 x.to in
+    let here = ap (maps.get before) c.at-at.ensures ∙ was.at in
+    let moved = turned_moved was c.rewatch.new.self.live c.at-at.result c.at-at.ensures (c.rewatch.ensures.live was.clause was.exchange.from here was.exchange.from_low was.exchange.from_is was.exchange.other_is) in
     let taken = entries_removed list place slot entry inside c.requires.next.1 in
     let fewer = unfit_removed list place entry inside in
-    let hand : IsInHand c.swap.new.self.live c.push.new.self left l = record {
+    let hand : IsInHand c.rewatch.new.self.live c.push.new.self left l = record {
       known = c.push.ensures.known l c.requires.hand.known;
       taken = put l ∙ ap (λ b. cond b (lists l ++ entry ∷ []) (lists l)) (ne_eqb l x.next other) ∙ c.requires.hand.taken;
       apart = c.push.ensures.apart;
       listed = subst (λ m. IsListed (maps.get m) (with_list c.push.new.self l left)) (sym moved)
-          (listed_moved live slot w.clause d w.at l x.next (entries_moved l x.next w.clause x.from x.to w.different low w.exchange.from_is past within w.exchange.to_is)
-          (with_list c.args.lists.now l list) (with_list c.push.new.self l left) c.requires.hand.listed
+          (listed_moved live slot w.clause d w.at l x.next (entries_moved l x.next w.clause 1 x.to w.different w.exchange.from_low w.exchange.from_is past within w.exchange.to_is)
+          (with_list c.args.lists.now l list) (with_list c.push.new.self l left) (turned_listed was (with_list c.args.lists.now l list) c.requires.hand.listed)
           (times_moved lists pushed l x.next entry other put list left taken)
-          (has_swapped w.clause d x.from x.to (omega (arith, low, past, within)) within refl) (length-swap w.clause x.from x.to)
-          (unfit_moved lists pushed l x.next entry other put list left taken w.clause (longer_fits w.clause x.next x.other w.exchange.has_other (omega (arith, past, within))) fewer));
+          (has_swapped w.clause d 1 x.to (omega (arith, past, within)) within refl) (length-swap w.clause 1 x.to)
+          (unfit_moved lists pushed l x.next entry other put list left taken w.clause (longer_fits w.clause x.next x.other (exchange_member w.exchange) (omega (arith, past, within))) fewer));
     } in
     let shorter = length-remove list place inside in record {
       visited = λ held reason_of is_open. record {
-        hand = subst (λ xs. IsInHand c.swap.new.self.live c.push.new.self xs l) (sym c.take_out.ensures.entries) hand;
+        hand = subst (λ xs. IsInHand c.rewatch.new.self.live c.push.new.self xs l) (sym c.take_out.ensures.entries) hand;
         entries = let more = c.in-Ok.ensures.more in let len = ap length c.take_out.ensures.entries in omega (arith, more, shorter, len);
-        propagates = subst (λ m. PropagatesTo live m held held reason_of reason_of) (sym moved)
-            (propagates_moved live held slot w.clause w.at x.from x.to l x.next w.different low w.exchange.from_is past within w.exchange.to_is is_open reason_of);
+        propagates = subst (λ m. PropagatesTo before m held held reason_of reason_of) (sym moved)
+            (propagates_on before live (maps.insert live slot d) held held held reason_of reason_of reason_of (turned_propagates was held reason_of)
+            (propagates_moved live held slot w.clause w.at 1 x.to l x.next w.different w.exchange.from_low w.exchange.from_is past within w.exchange.to_is is_open reason_of));
       };
       taken = same_cursor c.take_out.new.self (remove list place) place c.take_out.ensures.entries c.take_out.ensures.visited;
-      others = λ s ne. ap (λ m. maps.get m s) moved ∙ others_moved live slot d s ne;
+      others = λ s ne. ap (λ m. maps.get m s) moved ∙ others_moved live slot d s ne ∙ others_moved before slot (turned_clause was) s ne;
     }
 
 pub returns-in-Err : goal.returns-in-Err
 returns-in-Err c =
     let list = c.args.cursor.now.entries in
-    let live = c.args.store.now.live in
+    let before = c.args.store.now.live in
+    let after = c.rewatch.new.self.live in
     let l = c.args.l in
-    let w = c.requires.exchange in
+    let was = c.requires.exchange in
+    let w = turned_at was in
     let x = c.args.exchange in
-    let here = ap (maps.get live) c.at-at.ensures ∙ w.at in
-    let back = exchanged_back live _ _ c.at-at.result x.from x.to w.clause here w.exchange.from_low w.exchange.to_high w.exchange.to_inside (c.swap.ensures.live w.clause here) c.swap-in-Err.ensures.live in record {
+    let here = ap (maps.get before) c.at-at.ensures ∙ was.at in
+    let moved = turned_moved was after c.at-at.result c.at-at.ensures (c.rewatch.ensures.live was.clause was.exchange.from here was.exchange.from_low was.exchange.from_is was.exchange.other_is) in
+    let back =
+    exchanged_back (turned_live was) after c.swap.new.self.live c.args.slot 1 x.to w.clause w.at w.exchange.from_low w.exchange.to_high w.exchange.to_inside moved
+    (λ d there. c.swap.ensures.live d (ap (maps.get after) c.at-at.ensures ∙ there) ∙ ap (λ s. maps.insert after s (swap d x.to 1)) c.at-at.ensures) in record {
       visited = λ held reason_of is_open. record {
         hand = record {
           known = c.push.ensures.known l c.requires.hand.known;
           taken = c.in-Err.ensures.err l ∙ c.requires.hand.taken;
           apart = c.push.ensures.apart;
           listed = subst (λ m. IsListed (maps.get m) (with_list c.push.new.self l list)) (sym back)
-              (listed_alike (maps.get live) (with_list c.args.lists.now l list) (with_list c.push.new.self l list) (λ y. ap (cond (eqb y l) list) (c.in-Err.ensures.err y)) c.requires.hand.listed);
+              (listed_alike (maps.get (turned_live was)) (with_list c.args.lists.now l list) (with_list c.push.new.self l list) (λ y. ap (cond (eqb y l) list) (c.in-Err.ensures.err y))
+              (turned_listed was (with_list c.args.lists.now l list) c.requires.hand.listed));
         };
         entries = ap (λ n. n + length list) c.in-Err.ensures.as_many;
-        propagates = subst (λ m. PropagatesTo live m held held reason_of reason_of) (sym back) (propagates_none live held reason_of);
+        propagates = subst (λ m. PropagatesTo before m held held reason_of reason_of) (sym back) (turned_propagates was held reason_of);
       };
       taken = tt;
-      others = λ s ne. ap (λ m. maps.get m s) back;
+      others = λ s ne. ap (λ m. maps.get m s) back ∙ others_moved before c.args.slot (turned_clause was) s ne;
     }

@@ -1,38 +1,119 @@
-use Rattle.std.proofs.Common.{sym, ◌∙◌}
-use Rattle.std.proofs.Common.{IfNone, subst}
+use Rattle.std.proofs.Common.{◌≤◌, ◌&&◌, cond, eqb, Some, IfNone, length, refl, sym, ap, ◌∙◌, ◌+◌}
+use Rattle.std.proofs.Common.{subst, arith}
 use Rattle.std.specs.FinMap as maps
+use Rattle.std.proofs.lemmas.Option.{same_Some}
 use Rattle.tables.specs.Table.{at}
-use Rattle.watch_lists.specs.Lists.{list_at}
-use Rattle.watch.specs.Code.Visits.{AreMet}
+use Rattle.cnf_base.specs.Literals.{complement, has}
+use Rattle.watch_lists.specs.Lists.{entries_in, list_at}
+use Rattle.root_literals.specs.Order.{each_in_order}
+use Rattle.root_literals.specs.Roots.{IsFalseAt}
+use Rattle.watch.specs.Code.Visits.{AreMet, IsInHand}
+use Rattle.watch.proofs.WatchLemmas.Cursor.{kept_fewer, kept_met, put_same}
 use Rattle.watch.proofs.WatchLemmas.Follow.{all_met, none_before}
-use Rattle.watch.proofs.WatchLemmas.Visited.{can_visit_on, visited_none, visited_on}
-use Rattle.watch_lists.proofs.WatchListsLemmas.Lists.{entry_past}
+use Rattle.watch.proofs.WatchLemmas.PropagatesTo.{clashes, propagates_unit}
+use Rattle.watch.proofs.WatchLemmas.Visited.{can_visit_on, found_next, room_for, visited_none}
+use Rattle.watch.proofs.WatchLemmas.Visited.{visited_on}
+use Rattle.watch.proofs.WatchLemmas.Visits.{made_true}
+use Rattle.trail.proofs.TrailLemmas.Longer.{has_begun}
+use Rattle.watch_lists.proofs.WatchListsLemmas.Lists.{entry_at}
 use Rattle.watch.proofs.follow.visit_all.Goals as goal
 
-pub loop-entry-init : goal.loop-entry-init
-loop-entry-init c = record {
+pub loop-at-init : goal.loop-at-init
+loop-at-init c = record {
   visited = visited_none c.args.assumptions.now (at c.args.reasons.now) c.requires.can.hand;
   met = λ s some. absurd (none_before c.args.cursor.now.entries c.args.cursor.now.visited s c.requires.front some);
 }
 
-pub visit-requires-clause-can : goal.visit-requires-clause-can
-visit-requires-clause-can c = can_visit_on c.requires.can c.loop-entry.invariant.visited
+pub next_found-requires-clause-hand : goal.next_found-requires-clause-hand
+next_found-requires-clause-hand c = c.loop-at.invariant.visited.hand
 
-pub returns-in_err-slot-clause-visited : goal.returns-in_err-slot-clause-visited
-returns-in_err-slot-clause-visited c = visited_on c.loop-entry.invariant.visited c.visit.ensures.visited
+pub next_found-requires-clause-is_false : goal.next_found-requires-clause-is_false
+next_found-requires-clause-is_false c =
+    ap (λ t. has t.lits (complement c.args.l)) c.trail.ensures ∙ (can_visit_on c.requires.can c.loop-at.invariant.visited).is_false
 
-pub returns-in-Some-2-clause-visited : goal.returns-in-Some-2-clause-visited
-returns-in-Some-2-clause-visited c = visited_on c.loop-entry.invariant.visited c.visit.ensures.visited
+pub next_found-requires-clause-met : goal.next_found-requires-clause-met
+next_found-requires-clause-met c = subst (λ t. AreMet c.loop-at.store.live c.loop-at.cursor c.args.l t.lits) (sym c.trail.ensures) c.loop-at.invariant.met
 
-pub loop-entry-preserved : goal.loop-entry-preserved
-loop-entry-preserved c = record {
-  visited = visited_on c.loop-entry.invariant.visited c.visit.ensures.visited;
-  met = subst (λ o. IfNone o (AreMet c.visit.new.store.live c.visit.new.cursor c.args.l c.visit.new.assumptions.trail.lits)) c.in_default-2.is c.in_ok-slot.ensures.met;
-}
+pub returns-in_err-at-clause-visited : goal.returns-in_err-at-clause-visited
+returns-in_err-at-clause-visited c = visited_on c.loop-at.invariant.visited (c.next_found.ensures.visited c.loop-at.assumptions (at c.loop-at.reasons) (sym c.trail.ensures))
+
+pub set_by-requires-clause-reserved : goal.set_by-requires-clause-reserved
+set_by-requires-clause-reserved c =
+    let before = c.loop-at in
+    let visited = c.next_found.ensures.visited before.assumptions (at before.reasons) (sym c.trail.ensures) in
+    let f = found_next c.in_ok-at.ensures.found c.in-Some.is c.in-Unit.is (ap (λ t. t.lits) c.trail.ensures) in
+    (room_for (can_visit_on (can_visit_on c.requires.can before.invariant.visited) visited).can_set _ f.clause f.at c.in-Unit.m f.holds.0).0
+
+pub set_by-requires-clause-noted : goal.set_by-requires-clause-noted
+set_by-requires-clause-noted c =
+    let before = c.loop-at in
+    let visited = c.next_found.ensures.visited before.assumptions (at before.reasons) (sym c.trail.ensures) in
+    let f = found_next c.in_ok-at.ensures.found c.in-Some.is c.in-Unit.is (ap (λ t. t.lits) c.trail.ensures) in
+    (room_for (can_visit_on (can_visit_on c.requires.can before.invariant.visited) visited).can_set _ f.clause f.at c.in-Unit.m f.holds.0).1
+
+pub keep-requires : goal.keep-requires
+keep-requires c =
+    let cursor = c.next_found.new.cursor in
+    let f = found_next c.in_ok-at.ensures.found c.in-Some.is refl (ap (λ t. t.lits) c.trail.ensures) in
+    (entry_at cursor.entries cursor.visited _ f.next).0
+
+pub loop-at-smaller : goal.loop-at-smaller
+loop-at-smaller c =
+    let cursor = c.next_found.new.cursor in
+    let f = found_next c.in_ok-at.ensures.found c.in-Some.is refl (ap (λ t. t.lits) c.trail.ensures) in
+    let inside = (entry_at cursor.entries cursor.visited _ f.next).0 in
+    let fewer = kept_fewer cursor c.keep.new.self inside _ c.keep.ensures.entries c.keep.ensures.visited in
+    let no_more = c.in_ok-at.ensures.no_more in
+    omega (arith, fewer, no_more)
+
+pub loop-at-preserved : goal.loop-at-preserved
+loop-at-preserved c =
+    let before = c.loop-at in
+    let live = c.next_found.new.store.live in
+    let lists = c.next_found.new.lists in
+    let cursor = c.next_found.new.cursor in
+    let held = before.assumptions in
+    let now = c.set_by.new.assumptions in
+    let m = c.in-Unit.m in
+    let f = found_next c.in_ok-at.ensures.found c.in-Some.is c.in-Unit.is (ap (λ t. t.lits) c.trail.ensures) in
+    let visited = c.next_found.ensures.visited held (at before.reasons) (sym c.trail.ensures) in
+    let met = subst (λ t. AreMet live cursor c.args.l t.lits) c.trail.ensures c.in_ok-at.ensures.met in
+    let r = entry_at cursor.entries cursor.visited _ f.next in
+    let s = c.set_by.ensures in
+    let kept = c.keep in
+    let same = kept.ensures.entries ∙ put_same cursor.entries cursor.visited _ r.1 in
+    let propagates =
+    propagates_unit live held _ f.clause f.at m f.holds.0 f.holds.2 now c.set_by.result s.was_open s.lits s.reserved s.assumptions s.starts (at before.reasons) (at c.set_by.new.reasons)
+    (λ k. s.reasons k ∙ ap (λ n. cond (c.set_by.result && eqb k m) (Some n) (at before.reasons k)) c.slot.ensures.value) in record {
+      visited = visited_on (visited_on before.invariant.visited visited) (record {
+        hand = subst (λ xs. IsInHand live lists xs c.args.l) (sym same) visited.hand;
+        entries = ap (λ xs. entries_in lists + length xs) same;
+        propagates = propagates;
+      });
+      met = kept_met live live c.args.l held.trail.lits now.trail.lits (λ l h. has_begun held.trail.lits now.trail.lits l propagates.extends.begins h) cursor kept.new.self _ r.0 met (λ s ne. refl)
+          _ refl kept.ensures.entries kept.ensures.visited
+          (λ x there _. (m, ap (λ y. has y m) (same_Some x f.clause (sym there ∙ f.at)) ∙ f.holds.0, made_true c.set_by.result held.trail.lits now.trail.lits m s.was_open s.lits));
+    }
+
+pub returns-in-Clash-clause-clash : goal.returns-in-Clash-clause-clash
+returns-in-Clash-clause-clash c =
+    let live = c.next_found.new.store.live in
+    let held = c.loop-at.assumptions in
+    let f = found_next c.in_ok-at.ensures.found c.in-Some.is c.in-Clash.is (ap (λ t. t.lits) c.trail.ensures) in
+    subst (λ n. IsFalseAt (maps.get (each_in_order live)) n held.trail.lits) (sym c.slot-in-Clash.ensures.value) (clashes live held _ f.clause f.at f.holds)
+
+pub returns-in-Clash-clause-visited : goal.returns-in-Clash-clause-visited
+returns-in-Clash-clause-visited c = visited_on c.loop-at.invariant.visited (c.next_found.ensures.visited c.loop-at.assumptions (at c.loop-at.reasons) (sym c.trail.ensures))
+
+pub returns-clause-visited : goal.returns-clause-visited
+returns-clause-visited c = visited_on c.loop-at.invariant.visited (c.next_found.ensures.visited c.loop-at.assumptions (at c.loop-at.reasons) (sym c.trail.ensures))
 
 pub returns-clause-met : goal.returns-clause-met
 returns-clause-met c =
-    let before = c.loop-entry in
-    let cursor = before.cursor in
-    let past = entry_past cursor.entries cursor.visited (sym c.next.ensures ∙ c.in_default.is) in
-    all_met (maps.get before.store.live) (list_at before.lists) c.args.l cursor.entries before.invariant.visited.hand.listed before.assumptions.trail.lits cursor.visited past before.invariant.met
+    let before = c.loop-at in
+    let now = c.next_found.new in
+    let trues = before.assumptions.trail.lits in
+    let visited = c.next_found.ensures.visited before.assumptions (at before.reasons) (sym c.trail.ensures) in
+    let end = subst (λ o. IfNone o (length now.cursor.entries ≤ now.cursor.visited)) c.in_default.is c.in_ok-at.ensures.end in
+    let met = subst (λ t. AreMet now.store.live now.cursor c.args.l t.lits) c.trail.ensures c.in_ok-at.ensures.met in
+    all_met (maps.get now.store.live) (list_at now.lists) c.args.l now.cursor.entries visited.hand.listed trues now.cursor.visited end met

@@ -2,13 +2,13 @@ use Rattle.tables.specs.Table.{at}
 use Rattle.watch.specs.Code.Visits.{AreMet, Visited, entries_left}
 use Rattle.watch.proofs.follow.visit_all.Given as goal
 
-abbrev pub invariant-loop-entry : goal.invariant-loop-entry
-invariant-loop-entry l = record {
+abbrev pub invariant-loop-at : goal.invariant-loop-at
+invariant-loop-at l = record {
   visited :
       Visited l.fn.store.live l.store.live l.fn.lists l.lists l.fn.cursor.entries l.cursor.entries
       l.fn.assumptions l.assumptions (at l.fn.reasons) (at l.reasons) l.l;
   met : AreMet l.store.live l.cursor l.l l.assumptions.trail.lits;
 }
 
-abbrev pub decreases-loop-entry : goal.decreases-loop-entry
-decreases-loop-entry l = entries_left l.cursor
+abbrev pub decreases-loop-at : goal.decreases-loop-at
+decreases-loop-at l = entries_left l.cursor

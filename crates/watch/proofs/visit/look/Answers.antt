@@ -9,14 +9,14 @@ returns-in-False-clause-visit c =
     each_false c.args.trail.now.lits c.args.clause.now c.args.l w.0 w.1 c.other_watched-other.ensures.long w.2 m w.3 c.requires.is_false c.in-None.ensures.none
     (false_from_value c.args.trail.now.lits m c.in-False.ensures.value)
 
-pub returns-in_default-value-clause-visit : goal.returns-in_default-value-clause-visit
-returns-in_default-value-clause-visit c =
+pub returns-in_default-value_near-clause-visit : goal.returns-in_default-value_near-clause-visit
+returns-in_default-value_near-clause-visit c =
     let w = c.other_watched-other.ensures.other in
     let long = c.other_watched-other.ensures.long in
     let m = c.other_watched-other.result in
     let trues = c.args.trail.now.lits in
     let clause = c.args.clause.now in (
       other_member trues clause c.args.l w.0 w.1 long w.2 m w.3 c.requires.is_false c.in-None.ensures.none,
-      not_false trues c.value-value.ensures.different m c.value-value.result c.value-value.ensures.value c.in_default-value.not-False,
+      not_false trues c.value_near-in-None.ensures.different m c.value_near-in-None.result c.value_near-in-None.ensures.value c.in_default-value_near.not-False,
       others_false trues clause c.args.l w.0 w.1 long w.2 m w.3 c.requires.is_false c.in-None.ensures.none,
     )

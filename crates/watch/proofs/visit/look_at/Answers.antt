@@ -31,6 +31,6 @@ returns-in_default-clause-visit c clause there =
     let fitting = ap (fits w.clause l other) is_binary ∙ ap (λ m. fits w.clause l m c.args.entry.is_binary) c.blocking-other.ensures ∙ w.fitting in
     subst (λ d. IsVisit trues d l (Unit other)) (same_Some w.clause clause (sym w.at ∙ there)) (
       (and_parts (has w.clause other) _ fitting).0,
-      not_false trues c.value.ensures.different other c.value.result c.value.ensures.value c.in_default.not-False,
+      not_false trues c.value_near.ensures.different other c.value_near.result c.value_near.ensures.value c.in_default.not-False,
       binary_others trues w.clause l other w.watched fitting c.requires.is_false,
     )
