@@ -3,10 +3,10 @@ use Rattle.std.specs.List.{swap}
 use Rattle.std.specs.FinMap as maps
 use Rattle.clause_memory.specs.Memory as memory
 use Rattle.clause_db.specs.Code.Fields.{IsStore}
-use Rattle.clause_db.specs.Code.Index.{Indexes, noted_place, under}
+use Rattle.clause_db.specs.Code.Index.{Indexes}
 use Rattle.clause_db.specs.Code.Kept.{AreKept}
 use Rattle.clause_db.proofs.StoreLemmas.Fields.{live_alone, sound_replaced}
-use Rattle.clause_db.proofs.StoreLemmas.Index.{index_replaced}
+use Rattle.clause_db.proofs.StoreLemmas.Whole.{index_swapped}
 use Rattle.clause_db.proofs.StoreLemmas.Kept.{kept_replaced}
 use Rattle.clause_db.proofs.StoreLemmas.Marks.{hash_same}
 use Rattle.clause_db.proofs.StoreLemmas.Swap.{has_rewatched, length_rewatched}
@@ -31,7 +31,7 @@ invariant_of-self c =
     let hashes = hash_same i.index.seed y x (λ l h. sym (alike l) ∙ h) (λ l h. alike l ∙ h) in (
       subst (λ l. IsStore l m.stored i.marks i.sum) (sym live)
           (sound_replaced i.memory.live i.memory.stored i.marks i.sum c.self.invariant.0 k x here y alike (length_rewatched x w.1 c.args.to) m.stored (c.rewatch.ensures.live_alone ∙ ap memory.literals_in live)),
-      subst (Indexes i.index) (sym live) (index_replaced i.index.seed (under i.index) (noted_place i.index) i.memory.live c.self.invariant.1 k x y here hashes),
+      subst (Indexes i.index) (sym live) (index_swapped i.index i.memory.live c.self.invariant.1 k x y here hashes),
       subst (AreKept i.occurrences) (sym live) (kept_replaced i.occurrences i.memory.live k x y here alike c.self.invariant.2),
     )
 
