@@ -124,7 +124,10 @@ fn finds_what_is_open(rt: HostRuntime) -> Result<(), Fail> {
     expect_equal(&rt, trail.first_open(&clause, 2), Some(2));
     expect_equal(&rt, trail.first_open(&clause, 3), None);
     expect_equal(&rt, trail.first_open(&clause, 4), None);
+    expect_equal(&rt, trail.first_open_in(trail.near(), &clause, 2), Some(2));
     expect_true(&rt, !make_false(&mut trail, &[far], &Whole)?);
     expect_equal(&rt, trail.first_open(&clause, 2), None);
+    expect_equal(&rt, trail.value_near(trail.near(), two), Value::True);
+    expect_equal(&rt, trail.value_near(trail.near(), far), Value::False);
     Ok(())
 }

@@ -190,3 +190,17 @@ fn removes_many_copies(rt: HostRuntime) -> Result<(), Fail> {
     expect_equal(&rt, store.count_with(a), 0);
     Ok(())
 }
+
+#[test]
+fn writes_a_new_watch(rt: HostRuntime) -> Result<(), Fail> {
+    let lits = [literal(1)?, literal(-2)?, literal(268435455)?];
+    let mut store = Store::new(rt.alloc())?;
+    let slot = store.insert(&lits)?;
+    let clause = store.clause(slot);
+    assert!(rt; clause.len() == 3);
+    let [l, other, next] = [clause[0], clause[1], clause[2]];
+    store.rewatch(slot, other, next, 2, l);
+    expect_true(&rt, store.clause(slot) == [other, next, l]);
+    expect_true(&rt, store.find(&lits) == Some(slot));
+    Ok(())
+}
