@@ -44,7 +44,6 @@ pub struct Watch {
     alloc: Global,
     /// Of a clause of two literals or more it watches the first two.
     store: Store,
-    lists: WatchLists,
     /// The slots of the clauses of one literal and of none.
     short: SlotList,
     assumptions: Assumptions,
@@ -55,6 +54,9 @@ pub struct Watch {
     /// The set that the last call was given, if it was given one.
     set: LiteralSet,
     has_refused: bool,
+    /// They are dropped last: a large block that is given back behind so many small ones makes the
+    /// C library join all of these.
+    lists: WatchLists,
 }
 
 impl Model for Watch {

@@ -19,12 +19,12 @@ use trail::LiteralSet;
 /// step to step.
 #[derive(Drop)]
 pub(crate) struct Examiner<P: Propagate> {
-    pub(crate) clauses: P,
     /// The slots of the clauses that are touched.
     slots: Vec<u32>,
     last: Clashed,
     /// The witness that is tried.
     witness: LiteralSet,
+    pub(crate) clauses: P,
 }
 
 impl<P: Propagate> Examiner<P> {

@@ -50,7 +50,7 @@ pub record IsEntryOf (live : FinMap nat_cmp Clause) (entry : Watcher) (l : Liter
   pub watched : IsTrue (watches clause l)
   pub fitting : IsTrue (fits clause l entry.blocking entry.is_binary)
 
--- the literal alone of the clause's isn't false
+-- all literals of the clause but this one are false, and this one isn't
 abbrev pub IsUnit : List Literal → Clause → Literal → Type 0
 IsUnit trues c m =
     IsTrue (has c m) × IsFalse (has trues (complement m))
