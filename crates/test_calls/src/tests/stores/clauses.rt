@@ -200,7 +200,10 @@ fn writes_a_new_watch(rt: HostRuntime) -> Result<(), Fail> {
     assert!(rt; clause.len() == 3);
     let [l, other, next] = [clause[0], clause[1], clause[2]];
     store.rewatch(slot, other, next, 2, l);
-    expect_true(&rt, store.clause(slot) == [other, next, l]);
-    expect_true(&rt, store.find(&lits) == Some(slot));
+    let Some(found) = store.find(&lits) else {
+        return Err(Fail::from("no clause"));
+    };
+    expect_true(&rt, found == slot);
+    expect_true(&rt, store.clause(found) == [other, next, l].as_slice());
     Ok(())
 }
