@@ -7,7 +7,7 @@
 //     collisions variables FORMULA ALIKE              DIMACS CNF: clauses with far variables
 //     collisions model FORMULA OUTPUT FORMULA2 OUTPUT2        the same clauses, with a model
 //
-// The mixing of literals is that of `mix` (crates/clause_db/specs/Code/Hashes.antt), and the hashing of numbers that of the
+// The mixing of literals is that of `mix` (crates/clause_index/specs/Hashes.antt), and the hashing of numbers that of the
 // hash maps of Rattle's library, whose constants are fixed.
 
 #include <algorithm>

@@ -1,12 +1,7 @@
 pub mod Fields
-pub mod Index
-pub mod Indexed
 pub mod Kept
 pub mod Marks
 pub mod Options
 pub mod Search
-pub mod SlotMap
 pub mod Sums
 pub mod Swap
-pub mod Waiting
-pub mod Whole

@@ -3,6 +3,6 @@
 
 mod store;
 
+pub use clause_index::{Index, Indexing, NoIndex};
 pub use ids::{Ids, Slot};
 pub use store::Store;
-pub use store::index::{Index, Indexing, NoIndex};

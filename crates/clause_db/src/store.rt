@@ -7,14 +7,10 @@
 //! What is kept (`stored`) is counted over the fields, not over the clauses: that it is the sum of
 //! the live sizes then has to be proved, and a clause that is only marked as deleted breaks it.
 
-mod buckets;
-pub(crate) mod index;
 mod kept;
 mod mark;
 mod marks;
-mod placed;
 mod search;
-mod slot_map;
 
 ghost use Rattle.std.specs.Prelude.{◌≡◌, ◌≢◌, ℕ, ◌+◌, ◌-◌, ◌<◌, ◌≤◌, ◌==◌, ◌++◌, [], ◌∷◌, ◌^◌, min};
 ghost use Rattle.std.specs.Prelude.{true, false, Some, None, option_map, length, if◌then◌else◌};
@@ -32,11 +28,11 @@ ghost use Rattle.clause_db.specs.Code.Kept.{AreKept};
 ghost use Rattle.clause_db.specs.Code.LiteralMarks.{is_marked, mark_count};
 ghost use Rattle.tables.specs.Table.{at};
 
-use crate::store::index::{Index, Indexing, NoIndex};
 use crate::store::kept::{find_slots, forget, note};
 use crate::store::mark::Mark;
 use crate::store::marks::{all_known, count_all, gather, mark_all, mark_new, release, unmark_all};
 use crate::store::search::find_marked;
+use clause_index::{Index, Indexing, NoIndex};
 use clause_memory::ClauseMemory;
 use cnf_base::{Lit, OutOfMemory};
 use ids::Slot;
@@ -360,7 +356,7 @@ impl Store {
         if !all_known(&self.marks, lits) {
             return None;
         }
-        let digest = mark_all(&mut self.marks, lits, self.index.seed);
+        let digest = mark_all(&mut self.marks, lits, self.index.seed());
         let found = find_marked(&self.memory, &self.index, &self.marks, &digest);
         unmark_all(&mut self.marks, lits);
         match found {

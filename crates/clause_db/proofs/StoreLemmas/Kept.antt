@@ -1,6 +1,6 @@
 -- The occurrences of literals in the clauses, through a change.
-use Rattle.std.proofs.Common.{◌≡◌, ◌≢◌, ℕ, ◌<◌, nat_lt, Bool, true, false, ◌&&◌, ◌||◌, not}
-use Rattle.std.proofs.Common.{cond, eqb}
+use Rattle.std.proofs.Common.{◌≡◌, ℕ, ◌<◌, nat_lt, Bool, true, false, ◌&&◌, ◌||◌, not}
+use Rattle.std.proofs.Common.{eqb}
 use Rattle.std.proofs.Common.{eq-eqb, ne_eqb, Option, Some, None, is_some, List, [], ◌∷◌, refl, sym}
 use Rattle.std.proofs.Common.{ap, ◌∙◌, subst, arith, inl, inr}
 use Rattle.std.specs.List.{list_any}
@@ -13,21 +13,11 @@ use Rattle.occurrences.specs.Occurrences.{occurs}
 use Rattle.occurrences.specs.declared.by_literal.Occurrences.{Occurrences}
 use Rattle.clause_db.specs.Store.{IsTouchedAt}
 use Rattle.clause_db.specs.Code.Kept.{has_in, AreOf, AreKept}
-use Rattle.clause_db.proofs.StoreLemmas.Sums.{get_insert, get_remove, same_maps}
+use Rattle.clause_db.proofs.StoreLemmas.Sums.{same_maps}
+use Rattle.clause_index.proofs.IndexLemmas.Maps.{insert_here, insert_other, remove_here}
+use Rattle.clause_index.proofs.IndexLemmas.Maps.{remove_other}
 
--- ---- Look-ups in a changed map
-
-pub insert_here : (live : FinMap nat_cmp Clause) (k s : ℕ) (c : Clause) → s ≡ k → maps.get (maps.insert live k c) s ≡ Some c
-insert_here live k s c e = get_insert live k c s ∙ ap (λ b. cond b (Some c) (maps.get live s)) (eq-eqb s k e)
-
-pub insert_other : (live : FinMap nat_cmp Clause) (k s : ℕ) (c : Clause) → s ≢ k → maps.get (maps.insert live k c) s ≡ maps.get live s
-insert_other live k s c ne = get_insert live k c s ∙ ap (λ b. cond b (Some c) (maps.get live s)) (ne_eqb s k ne)
-
-pub remove_here : (live : FinMap nat_cmp Clause) (k s : ℕ) → s ≡ k → maps.get (maps.remove live k) s ≡ None
-remove_here live k s e = get_remove live k s ∙ ap (λ b. cond b None (maps.get live s)) (eq-eqb s k e)
-
-pub remove_other : (live : FinMap nat_cmp Clause) (k s : ℕ) → s ≢ k → maps.get (maps.remove live k) s ≡ maps.get live s
-remove_other live k s ne = get_remove live k s ∙ ap (λ b. cond b None (maps.get live s)) (ne_eqb s k ne)
+-- ---- A clause that is taken out again
 
 pub insert_undone : (live : FinMap nat_cmp Clause) (k : ℕ) (c : Clause) → maps.get live k ≡ None → maps.remove (maps.insert live k c) k ≡ live
 insert_undone live k c none = same_maps (maps.remove (maps.insert live k c) k) live (λ s. elim (cases_eq s k) [

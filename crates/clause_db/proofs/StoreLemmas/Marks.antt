@@ -1,68 +1,19 @@
 -- Walks over a clause: what is so of the literals so far, through one more literal.
-use Rattle.std.proofs.Common.{◌≡◌, ℕ, ◌+◌, ◌*◌, ◌/◌, ◌%◌, ◌^◌, ◌<◌, ◌≤◌, ◌&&◌, ◌||◌, Bool, true}
+use Rattle.std.proofs.Common.{◌≡◌, ℕ, ◌+◌, ◌%◌, ◌^◌, ◌<◌, ◌≤◌, ◌&&◌, ◌||◌, Bool, true}
 use Rattle.std.proofs.Common.{false, not, cond, eqb, eqb-true, [], ◌∷◌, ◌++◌, length, take, get_or}
 use Rattle.std.proofs.Common.{length-append, refl, sym, ap, ◌∙◌, subst, arith}
 use Rattle.std.proofs.lemmas.Bool.{false≢true, true≢false, not-true, not-false}
 use Rattle.std.proofs.lemmas.Bool.Decides.{nat_tests}
-use Rattle.std.proofs.lemmas.List.{take_all}
-use Rattle.std.proofs.lemmas.Nat.{div-add-mod'}
-use Rattle.std.proofs.Math.Nat.{add-mul-mod_self_right}
 use Rattle.cnf_base.specs.Literals.{Literal, Clause, has, size}
-use Rattle.cnf_base.specs.Code.Literals.{sum_distinct}
-use Rattle.clause_db.specs.Code.Hashes.{mix, mixed_sum, hash}
-use Rattle.cnf_base.proofs.SizeLemmas.{IsWithin, sum_same, sum_push, size_push, size_covered}
+use Rattle.clause_index.specs.Hashes.{mix, mixed_sum}
+use Rattle.cnf_base.proofs.SizeLemmas.{IsWithin, size_push, size_covered}
 use Rattle.cnf_base.proofs.SizeLemmas.{distinct_before}
 use Rattle.cnf_base.proofs.WalkLemmas.{has_push, has_take, take_is, has_more, is_in}
-
--- ---- One more literal at the end
-
-add_rest : (a b m : ℕ) → (a % m + b) % m ≡ (a + b) % m
-add_rest a b m =
-    let whole = div-add-mod' a m in
-    let same : (a % m + b) + a / m * m ≡ a + b = omega arith in
-    sym (add-mul-mod_self_right (a % m + b) (a / m) m) ∙ ap (λ x. x % m) same
-
-pub mixed_none : (seed : ℕ) → mixed_sum seed [] ≡ 0
-unfolding mixed_sum
-mixed_none seed = refl
-
-mixed_same : (seed : ℕ) (c d : Clause) → IsWithin c d → IsWithin d c → mixed_sum seed c ≡ mixed_sum seed d
-unfolding mixed_sum
-mixed_same seed c d there back = ap (λ n. n % 2 ^ 64) (sum_same (mix seed) c d there back)
-
--- clauses that are the same set have one hash
-pub hash_same : (seed : ℕ) (c d : Clause) → IsWithin c d → IsWithin d c → hash seed c ≡ hash seed d
-unfolding hash
-hash_same seed c d there back = ap (λ n. n / 2 ^ 32) (mixed_same seed c d there back)
-
--- a walk over a whole clause that summed its different mixed literals
-pub hash_whole : (seed : ℕ) (c : Clause) (i sum h : ℕ) → sum ≡ mixed_sum seed (take i c) → length c ≤ i → h ≡ sum / 2 ^ 32 → h ≡ hash seed c
-unfolding hash
-hash_whole seed c i sum h sum_is whole is = is ∙ ap (λ n. n / 2 ^ 32) (sum_is ∙ ap (mixed_sum seed) (take_all i c whole))
-
-pub mixed_push : (seed : ℕ) (c : Clause) (x : Literal) → has c x ≡ false → mixed_sum seed (c ++ x ∷ []) ≡ (mixed_sum seed c + mix seed x) % 2 ^ 64
-unfolding mixed_sum
-mixed_push seed c x new =
-    let f = mix seed in
-    let more : sum_distinct f (c ++ x ∷ []) ≡ f x + sum_distinct f c = sum_push f c x ∙ ap (λ b. cond b (sum_distinct f c) (f x + sum_distinct f c)) new in
-    let turn : f x + sum_distinct f c ≡ sum_distinct f c + f x = omega arith in
-    ap (λ n. n % 2 ^ 64) (more ∙ turn) ∙ sym (add_rest (sum_distinct f c) (f x) (2 ^ 64))
-
-pub mixed_again : (seed : ℕ) (c : Clause) (x : Literal) → has c x ≡ true → mixed_sum seed (c ++ x ∷ []) ≡ mixed_sum seed c
-unfolding mixed_sum
-mixed_again seed c x old =
-    let f = mix seed in
-    ap (λ n. n % 2 ^ 64) (sum_push f c x ∙ ap (λ b. cond b (sum_distinct f c) (f x + sum_distinct f c)) old)
+use Rattle.clause_index.proofs.IndexLemmas.Hashes.{mixed_kept, mixed_more, mixed_none}
 
 -- ---- One turn of a walk: x is the literal at i
 
 module _ (c : Clause) (i : ℕ) (inside : i < length c) (x : Literal) (is : x ≡ get_or c i x) where
-  pub mixed_more : (seed : ℕ) → has (take i c) x ≡ false → mixed_sum seed (take (i + 1) c) ≡ (mixed_sum seed (take i c) + mix seed x) % 2 ^ 64
-  mixed_more seed new = ap (mixed_sum seed) (take_is c i inside x is) ∙ mixed_push seed (take i c) x new
-
-  pub mixed_kept : (seed : ℕ) → has (take i c) x ≡ true → mixed_sum seed (take (i + 1) c) ≡ mixed_sum seed (take i c)
-  mixed_kept seed old = ap (mixed_sum seed) (take_is c i inside x is) ∙ mixed_again seed (take i c) x old
-
   pub size_more : has (take i c) x ≡ false → size (take (i + 1) c) ≡ 1 + size (take i c)
   size_more new = ap size (take_is c i inside x is) ∙ size_push (take i c) x ∙ ap (λ b. cond b (size (take i c)) (1 + size (take i c))) new
 

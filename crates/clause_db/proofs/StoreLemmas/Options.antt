@@ -1,5 +1,5 @@
 -- What is said of a result that is there or not.
-use Rattle.std.proofs.Common.{◌≡◌, ℕ, Option, Some, None, Result, Ok, Err, OnErr, IfSome, IfNone}
+use Rattle.std.proofs.Common.{◌≡◌, ℕ, Option, Some, None, IfSome, IfNone}
 use Rattle.std.proofs.Common.{sym, subst}
 
 pub if_none_then : {T : Type 0} (o : Option T) {P Q : Type 0} → IfNone o P → (P → Q) → IfNone o Q
@@ -21,10 +21,6 @@ if_none_from o P e h = subst (λ q. IfNone q P) (sym e) h
 
 pub if_none_from_some : (o : Option ℕ) (x : ℕ) (P : Type 0) → o ≡ Some x → IfNone o P
 if_none_from_some o x P e = subst (λ q. IfNone q P) (sym e) tt
-
-pub on_err_from : {X E : Type 0} (r : Result X E) (P : Type 0) → P → OnErr r P
-on_err_from (Ok x) P p = tt
-on_err_from (Err e) P p = p
 
 pub if_none_always : {X : Type 0} (r : Option X) (P : Type 0) → P → IfNone r P
 if_none_always None P p = p

@@ -1,23 +1,19 @@
 -- What a search in a bucket says of the clauses.
-use Rattle.std.proofs.Common.{◌≡◌, ℕ, ◌<◌, Bool, true, false, cond, eqb, eqb-true, eq-eqb, Option}
-use Rattle.std.proofs.Common.{Some, None, option_map, is_some, List, length, slice_get, refl, sym}
+use Rattle.std.proofs.Common.{◌≡◌, ℕ, ◌<◌, Bool, true, cond, eqb, eqb-true, eq-eqb, Option}
+use Rattle.std.proofs.Common.{Some, None, is_some, length, refl, sym}
 use Rattle.std.proofs.Common.{ap, ◌∙◌, arith}
 use Rattle.std.specs.List.{list_all}
 use Rattle.std.specs.FinMap as maps
 use Rattle.std.specs.FinMap.{FinMap}
 use Rattle.std.specs.Ordering.{nat_cmp}
-use Rattle.std.proofs.lemmas.Bool.{true≢false, and_parts, and_from}
-use Rattle.std.proofs.lemmas.Option.{none-some}
+use Rattle.std.proofs.lemmas.Bool.{and_parts, and_from}
 use Rattle.cnf_base.specs.Literals.{Literal, Clause, has, same_clause, size}
 use Rattle.cnf_base.proofs.SetLemmas.{all_each, each_all, same_there, same_back, same_from}
 use Rattle.clause_db.specs.Store.{copies_with}
 use Rattle.clause_db.specs.Code.Matches.{is_match}
-use Rattle.clause_db.specs.Code.Hashes.{hash}
 use Rattle.clause_db.specs.Code.LiteralMarks.{mark_count}
-use Rattle.clause_db.specs.Code.Placed.{spot_in, IsIndex}
 use Rattle.clause_db.specs.declared.store.mark.Mark.{Mark}
 use Rattle.cnf_base.proofs.SizeLemmas.{IsWithin, size_same, all_covered}
-use Rattle.clause_db.proofs.StoreLemmas.Marks.{hash_same}
 use Rattle.clause_db.proofs.StoreLemmas.Sums.{sum_remove}
 
 -- a clause that stands in the map counts
@@ -46,24 +42,3 @@ module _ (lits : Clause) (passes : Literal → Bool) (marked : (l : Literal) →
       let there = same_there c lits same in
       let length_is : length c ≡ len = sym different ∙ size_same c lits there (same_back c lits same) ∙ sym len_is in
       and_from (eqb (length c) len) (list_all passes c) (eq-eqb (length c) len length_is) (each_all passes c (λ l g. marked l ∙ there l g))
-
-module _ (seed : ℕ) (live : FinMap nat_cmp Clause) (buckets : ℕ → List ℕ) (place_of : ℕ → ℕ) (sound : IsIndex seed buckets place_of live) where
-  -- a slot in a bucket has a clause
-  pub in_bucket : (h i s : ℕ) → slice_get (buckets h) i ≡ Some s → is_some (maps.get live s) ≡ true
-  in_bucket h i s stands = by_clause (maps.get live s) (sound.placed.back s h i stands)
-    where
-      by_clause : (o : Option Clause) → option_map {U = ℕ × ℕ} (λ (d : Clause). (hash seed d, place_of s)) o ≡ Some (h, i) → is_some o ≡ true
-      by_clause None e = absurd (none-some (h, i) e)
-      by_clause (Some d) e = refl
-
-  -- where no slot in the bucket matches, no clause is the same
-  pub none_same : (lits : Clause) (passes : Literal → Bool) → ((l : Literal) → passes l ≡ has lits l) → (len : ℕ) → len ≡ size lits → (h : ℕ) → h ≡ hash seed lits →
-      ((s : ℕ) (c : Clause) → maps.get live s ≡ Some c → size c ≡ length c) →
-      ((i s : ℕ) (c : Clause) → slice_get (buckets h) i ≡ Some s → maps.get live s ≡ Some c → is_match passes len c ≡ false) →
-      (s : ℕ) (c : Clause) → maps.get live s ≡ Some c → same_clause c lits ≡ true → ⊥
-  none_same lits passes marked len len_is h h_is different none s c is same =
-      let i = place_of s in
-      let spot : spot_in seed live place_of s ≡ Some (hash seed c, i) = ap (option_map (λ (d : Clause). (hash seed d, i))) is in
-      let hash_is : hash seed c ≡ h = hash_same seed c lits (same_there c lits same) (same_back c lits same) ∙ sym h_is in
-      let stands : slice_get (buckets h) i ≡ Some s = ap (λ x. slice_get (buckets x) i) (sym hash_is) ∙ sound.placed.there s (hash seed c) i spot in
-      true≢false (sym (same_match lits passes marked len len_is c (different s c is) same) ∙ none i s c stands is)

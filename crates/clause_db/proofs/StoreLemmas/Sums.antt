@@ -2,7 +2,7 @@
 use Rattle.std.proofs.Common.{◌≡◌, ℕ, zero, suc, ◌+◌, ◌-◌, ◌*◌, ◌≤◌, Bool, true, false, cond, eqb}
 use Rattle.std.proofs.Common.{eq-eqb, Option, Some, None, is_some, List, [], ◌∷◌, map, sum_by}
 use Rattle.std.proofs.Common.{length, refl, sym, ap, ◌∙◌, subst, arith, inl, inr, ◌⊎◌}
-use Rattle.std.specs.Ordering.{nat_cmp, is_eq, eq_by_cmp}
+use Rattle.std.specs.Ordering.{nat_cmp, is_eq}
 use Rattle.std.specs.Cmp.{nat_cmp_total}
 use Rattle.std.specs.declared.cmp.Ordering.{Ordering}
 use Rattle.std.specs.declared.cmp.Ordering.TheVariants.{Less, Equal, Greater}
@@ -14,17 +14,10 @@ use Rattle.std.proofs.lemmas.Bool.Decides.{nat_tests}
 use Rattle.std.proofs.lemmas.Option.{none-some, same_Some}
 use Rattle.cnf_base.specs.Literals.{Clause}
 use Rattle.clause_db.specs.Store.{sum_over}
-
-tie_is : (k q : ℕ) → eq_by_cmp nat_cmp k q ≡ eqb k q
-tie_is k q = grind (arith, nat_tests)
+use Rattle.clause_index.proofs.IndexLemmas.Maps.{tie_is}
+pub use Rattle.clause_index.proofs.IndexLemmas.Maps.{get_insert, get_remove}
 
 -- ---- Look-ups
-
-pub get_insert : (m : FinMap nat_cmp Clause) (k : ℕ) (c : Clause) (q : ℕ) → maps.get (maps.insert m k c) q ≡ cond (eqb q k) (Some c) (maps.get m q)
-get_insert m k c q = maps.get-insert nat_cmp_total m k c q ∙ ap (λ b. cond b (Some c) (maps.get m q)) (tie_is q k)
-
-pub get_remove : (m : FinMap nat_cmp Clause) (k q : ℕ) → maps.get (maps.remove m k) q ≡ cond (eqb q k) None (maps.get m q)
-get_remove m k q = maps.get-remove nat_cmp_total m k q ∙ ap (λ b. cond b None (maps.get m q)) (tie_is q k)
 
 pub after_insert : (m : FinMap nat_cmp Clause) (k : ℕ) (x : Clause) (s : ℕ) (c : Clause) → maps.get (maps.insert m k x) s ≡ Some c → (x ≡ c) ⊎ (maps.get m s ≡ Some c)
 after_insert m k x s c is = by_test (eqb s k) (sym (get_insert m k x s) ∙ is)

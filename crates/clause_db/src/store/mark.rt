@@ -1,16 +1,7 @@
-//! One literal: its mark and its count in a store's table, and its share of a clause's hash.
-//!
-//! A clause's hash is the upper half of a sum over its different literals, so their order does not
-//! matter. It takes four bytes less a clause than the sum, and among a million clauses some hundred
-//! pairs have one hash. Marks tell these apart: a collision costs time alone.
-//!
-//! The mixing has a seed, one number a run. Without one, whoever writes a proof could find some
-//! 65000 clauses of eight literals with one sum in seconds, and each search among them would go
-//! over all.
+//! One literal: its mark and its count in a store's table.
 
-ghost use Rattle.std.specs.Prelude.{◌≡◌, ℕ, ◌+◌, ◌/◌, ◌^◌, ◌<◌, ◌==◌, ◌&&◌, ◌||◌, true, not};
+ghost use Rattle.std.specs.Prelude.{◌≡◌, ℕ, ◌+◌, ◌<◌, ◌==◌, ◌&&◌, ◌||◌, true, not};
 ghost use Rattle.std.specs.Prelude.{is_some, if◌then◌else◌, IsSome, IfOk, OnOk, OnErr};
-ghost use Rattle.clause_db.specs.Code.Hashes.{mix};
 ghost use Rattle.clause_db.specs.Code.LiteralMarks.{mark_count, is_marked};
 ghost use Rattle.tables.specs.Table.{at};
 
@@ -34,26 +25,6 @@ impl Mark {
             marked,
         }
     }
-}
-
-/// A literal spread over the words, by the seed.
-#[tactic(auto, unfolding(crate::specs::Code::Hashes::mix))]
-pub(crate) fn mixed(seed: u64, l: Lit) -> u64
-    ensures { result ≡ mix seed l }
-{
-    let x = (l.index() as u64)
-        .wrapping_mul(11400714819323198485)
-        .wrapping_add(seed);
-    let y = (x ^ (x / 1073741824)).wrapping_mul(13787848793156543929);
-    let z = (y ^ (y / 134217728)).wrapping_mul(10723151780598845931);
-    z ^ (z / 2147483648)
-}
-
-/// The upper half of a sum of mixed literals.
-pub(crate) fn upper_half(sum: u64) -> u32
-    ensures { result ≡ sum / 2 ^ 32 }
-{
-    (sum / 4294967296) as u32
 }
 
 /// Marks a literal, and tells whether it was not marked before.

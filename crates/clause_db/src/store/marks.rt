@@ -5,13 +5,12 @@ ghost use Rattle.std.specs.Prelude.{length, if◌then◌else◌, IsSome, IsTrue,
 ghost use Rattle.std.specs.Prelude.{vec_capacity};
 ghost use Rattle.std.specs.List.{list_all};
 ghost use Rattle.cnf_base.specs.Literals.{has, same_clause, size};
-ghost use Rattle.clause_db.specs.Code.Hashes.{hash};
+ghost use Rattle.clause_index.specs.Hashes.{hash};
 ghost use Rattle.clause_db.specs.Code.LiteralMarks.{mark_count, is_marked};
 ghost use Rattle.tables.specs.Table.{at};
 
-use crate::store::mark::{
-    Mark, add_mark, clear_mark, count_down, count_up, mixed, set_mark, upper_half,
-};
+use crate::store::mark::{Mark, add_mark, clear_mark, count_down, count_up, set_mark};
+use clause_index::{mixed, upper_half};
 use cnf_base::{Lit, OutOfMemory};
 use tables::{Table, key};
 
@@ -144,16 +143,4 @@ pub(crate) fn release(marks: &mut Table<Mark>, lits: &[Lit])
     for l in lits {
         count_down(marks, *l);
     }
-}
-
-/// The hash by the seed of a clause that repeats no literal.
-pub(crate) fn hash_of(seed: u64, lits: &[Lit]) -> u32
-    requires { size lits.now ≡ length lits.now }
-    ensures { result ≡ hash seed lits.now }
-{
-    let mut sum: u64 = 0;
-    for l in lits {
-        sum = sum.wrapping_add(mixed(seed, *l));
-    }
-    upper_half(sum)
 }

@@ -8,15 +8,16 @@ ghost use Rattle.std.specs.Prelude.{◌≡◌, ℕ, ◌<◌, false, true, Some, 
 ghost use Rattle.std.specs.Prelude.{IsSome, IfSome, IfNone};
 ghost use Rattle.std.specs.FinMap as maps;
 ghost use Rattle.cnf_base.specs.Literals.{Clause};
-ghost use Rattle.clause_db.specs.Code.Placed.{under};
-ghost use Rattle.clause_db.specs.Code.Waiting.{waiting_at};
+ghost use Rattle.clause_index.specs.Hashes.{hash};
+ghost use Rattle.clause_index.specs.Index.{seed_of};
+ghost use Rattle.clause_index.specs.Waiting.{waiting_at};
 ghost use Rattle.clause_db.specs.Code.LiteralMarks.{is_marked};
 ghost use Rattle.clause_db.specs.Code.Matches.{is_match};
 ghost use Rattle.tables.specs.Table.{at};
 
-use crate::store::index::{Index, Waiting};
 use crate::store::mark::Mark;
 use crate::store::marks::{Digest, all_marked};
+use clause_index::{Index, Indexing, Waiting};
 use clause_memory::ClauseMemory;
 use cnf_base::Lit;
 use tables::Table;
@@ -85,23 +86,15 @@ pub(crate) fn find_marked(
     marks: &Table<Mark>,
     digest: &Digest,
 ) -> Option<usize>
-    requires placed { (i s : ℕ) → slice_get (under index.now.placed digest.now.hash) i ≡ Some s →
-        IsSome (maps.get memory.now.live s) }
-    requires waiting { (i : ℕ) → i < length index.now.waiting.items →
-        IsSome (maps.get memory.now.live (waiting_at index.now.waiting.items i).slot) }
+    requires { ⟦<Index as Indexing>⟧.indexes index.now memory.now.live }
     ensures found { IfSome result (λ s. (c : Clause) × (maps.get memory.now.live s ≡ Some c)
         × (is_match (λ l. is_marked (at marks.now l)) digest.now.len c ≡ true)) }
-    ensures placed { IfNone result ((i s : ℕ) (c : Clause) →
-        slice_get (under index.now.placed digest.now.hash) i ≡ Some s →
-        maps.get memory.now.live s ≡ Some c →
-        is_match (λ l. is_marked (at marks.now l)) digest.now.len c ≡ false) }
-    ensures waiting { IfNone result ((i : ℕ) (c : Clause) → i < length index.now.waiting.items →
-        (waiting_at index.now.waiting.items i).hash ≡ digest.now.hash →
-        maps.get memory.now.live (waiting_at index.now.waiting.items i).slot ≡ Some c →
+    ensures none { IfNone result ((s : ℕ) (c : Clause) → maps.get memory.now.live s ≡ Some c →
+        hash (seed_of index.now) c ≡ digest.now.hash →
         is_match (λ l. is_marked (at marks.now l)) digest.now.len c ≡ false) }
 {
-    match first_waiting(memory, &index.waiting, marks, digest) {
+    match first_waiting(memory, index.waiting(), marks, digest) {
         Some(slot) => Some(slot),
-        None => first_match(memory, index.placed.slots(digest.hash), marks, digest.len),
+        None => first_match(memory, index.placed(digest.hash), marks, digest.len),
     }
 }

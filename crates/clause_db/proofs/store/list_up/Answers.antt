@@ -1,7 +1,8 @@
 use Rattle.std.proofs.Common.{is_some, refl, ap, subst}
 use Rattle.std.specs.FinMap as maps
 use Rattle.clause_db.specs.Code.Kept.{AreKept}
-use Rattle.clause_db.proofs.StoreLemmas.Kept.{insert_here, insert_undone}
+use Rattle.clause_db.proofs.StoreLemmas.Kept.{insert_undone}
+use Rattle.clause_index.proofs.IndexLemmas.Maps.{insert_here}
 use Rattle.clause_db.proofs.store.list_up.Goals as goal
 
 pub forget-requires : goal.forget-requires

@@ -2,13 +2,16 @@ use Rattle.std.proofs.Common.{◌≡◌, ℕ, ◌<◌, true, is_some, sym, ap, �
 use Rattle.std.specs.FinMap as maps
 use Rattle.std.proofs.lemmas.Bool.{true≢false}
 use Rattle.cnf_base.specs.Literals.{has}
-use Rattle.cnf_base.proofs.SetLemmas.{all_each, each_all, same_back}
+use Rattle.cnf_base.proofs.SetLemmas.{all_each, each_all, same_back, same_there}
 use Rattle.clause_db.specs.Code.LiteralMarks.{is_marked, mark_count}
 use Rattle.tables.specs.Table.{at}
 use Rattle.clause_db.proofs.StoreLemmas.Search.{copies_pos, known_from_count, match_same}
+use Rattle.clause_db.proofs.StoreLemmas.Search.{same_match}
 use Rattle.clause_db.proofs.StoreLemmas.Options.{if_some_from, if_some_from_none, if_none_from}
 use Rattle.clause_db.proofs.StoreLemmas.Options.{if_none_from_some}
-use Rattle.clause_db.proofs.StoreLemmas.Whole.{bucket_live, none_found, waiting_live}
+use Rattle.clause_index.specs.Hashes.{hash}
+use Rattle.clause_index.specs.Index.{seed_of}
+use Rattle.clause_index.proofs.IndexLemmas.Hashes.{hash_same}
 use Rattle.clause_db.proofs.store.Store.find.Goals as goal
 use Rattle.clause_db.proofs.store.Store.find.Goals.{in-Some, in-None}
 
@@ -30,15 +33,8 @@ pub mark_all-digest-requires-clause-known : goal.mark_all-digest-requires-clause
 mark_all-digest-requires-clause-known c l h =
     all_each (λ l. is_some (at c.self.inside.marks l)) c.args.lits.now l (sym c.all_known.ensures ∙ c.if-not-all_known.false) h
 
-pub find_marked-found-requires-clause-placed : goal.find_marked-found-requires-clause-placed
-find_marked-found-requires-clause-placed c k s stands =
-    let i = c.self.inside in
-    bucket_live i.index i.memory.live c.self.invariant.1 c.mark_all-digest.result.hash k s stands
-
-pub find_marked-found-requires-clause-waiting : goal.find_marked-found-requires-clause-waiting
-find_marked-found-requires-clause-waiting c k low =
-    let i = c.self.inside in
-    waiting_live i.index i.memory.live c.self.invariant.1 k low
+pub find_marked-found-requires : goal.find_marked-found-requires
+find_marked-found-requires c = c.self.invariant.1
 
 pub returns-clause-found : goal.returns-clause-found
 returns-clause-found c =
@@ -56,11 +52,13 @@ returns-clause-found c =
 pub returns-clause-none : goal.returns-clause-none
 returns-clause-none c =
     let i = c.self.inside in
+    let lits = c.args.lits.now in
     let digest = c.mark_all-digest in
     elim c.match-found.branch [
       | in-Some w ↦ if_none_from_some c.match-found.result w.at.result _ w.result-is
       | in-None w ↦ if_none_from c.match-found.result _ w.result-is (λ s d is same.
-          none_found i.index i.memory.live c.self.invariant.1 c.args.lits.now (λ l. is_marked (at digest.new.marks l)) digest.ensures.marked
-          digest.result.len digest.ensures.len digest.result.hash digest.ensures.hash c.self.invariant.0.different w.in-None.ensures.placed w.in-None.ensures.waiting
-          s d (ap (λ v. maps.get v.live s) c.self.view_is ∙ is) same)
+          let there = ap (λ v. maps.get v.live s) c.self.view_is ∙ is in
+          let alike = hash_same (seed_of i.index) d lits (same_there d lits same) (same_back d lits same) in
+          let matched = same_match lits (λ l. is_marked (at digest.new.marks l)) digest.ensures.marked digest.result.len digest.ensures.len d (c.self.invariant.0.different s d there) same in
+          true≢false (sym matched ∙ w.in-None.ensures.none s d there (alike ∙ ap (λ n. hash n lits) (sym c.seed.ensures) ∙ sym digest.ensures.hash)))
     ]

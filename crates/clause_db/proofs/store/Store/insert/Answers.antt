@@ -12,10 +12,11 @@ use Rattle.clause_db.specs.Code.Fields.{IsStore, IsTakenIn}
 use Rattle.clause_db.specs.Code.Kept.{AreKept}
 use Rattle.clause_db.specs.Code.LiteralMarks.{mark_count}
 use Rattle.tables.specs.Table.{at}
-use Rattle.clause_db.proofs.StoreLemmas.Options.{on_err_from}
+use Rattle.clause_index.proofs.IndexLemmas.Results.{on_err_from}
 use Rattle.clause_db.proofs.StoreLemmas.Fields.{copies_few, live_alone, sound_same, sound_with}
 use Rattle.clause_db.proofs.StoreLemmas.Fields.{sum_fits}
-use Rattle.clause_db.proofs.StoreLemmas.Kept.{insert_here, insert_other, insert_undone}
+use Rattle.clause_db.proofs.StoreLemmas.Kept.{insert_undone}
+use Rattle.clause_index.proofs.IndexLemmas.Maps.{insert_here, insert_other}
 use Rattle.clause_db.proofs.store.Store.insert.Goals as goal
 
 -- ---- Where no memory is left for the clause

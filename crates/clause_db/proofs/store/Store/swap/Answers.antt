@@ -4,12 +4,12 @@ use Rattle.std.proofs.lemmas.List.Edits.{length-swap}
 use Rattle.std.specs.FinMap as maps
 use Rattle.clause_memory.specs.Memory as memory
 use Rattle.clause_db.specs.Code.Fields.{IsStore}
-use Rattle.clause_db.specs.Code.Index.{Indexes}
+use Rattle.clause_index.specs.Code.Index.{Indexes}
 use Rattle.clause_db.specs.Code.Kept.{AreKept}
 use Rattle.clause_db.proofs.StoreLemmas.Fields.{live_alone, sound_replaced}
-use Rattle.clause_db.proofs.StoreLemmas.Whole.{index_swapped}
+use Rattle.clause_index.proofs.IndexLemmas.Whole.{index_swapped}
 use Rattle.clause_db.proofs.StoreLemmas.Kept.{kept_replaced}
-use Rattle.clause_db.proofs.StoreLemmas.Marks.{hash_same}
+use Rattle.clause_index.proofs.IndexLemmas.Hashes.{hash_same}
 use Rattle.clause_db.proofs.StoreLemmas.Swap.{has_swapped}
 use Rattle.clause_db.proofs.store.Store.swap.Goals as goal
 

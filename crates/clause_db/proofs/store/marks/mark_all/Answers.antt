@@ -1,8 +1,8 @@
 use Rattle.std.proofs.Common.{◌≡◌, ℕ, not, take, refl, sym, ap, ◌∙◌, arith}
 use Rattle.std.proofs.lemmas.Bool.{not-true, not-false}
 use Rattle.cnf_base.specs.Literals.{has}
-use Rattle.clause_db.proofs.StoreLemmas.Marks.{hash_whole, digest_none, digest_more, digest_kept}
-use Rattle.clause_db.proofs.StoreLemmas.Marks.{mark_more}
+use Rattle.clause_index.proofs.IndexLemmas.Hashes.{hash_whole}
+use Rattle.clause_db.proofs.StoreLemmas.Marks.{digest_none, digest_more, digest_kept, mark_more}
 use Rattle.clause_db.proofs.store.marks.mark_all.Goals as goal
 use Rattle.clause_db.proofs.store.marks.mark_all.Goals.{then-set_mark, else-set_mark}
 

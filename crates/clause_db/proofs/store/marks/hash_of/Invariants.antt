@@ -1,6 +1,0 @@
-use Rattle.std.proofs.Common.{◌≡◌, take}
-use Rattle.clause_db.specs.Code.Hashes.{mixed_sum}
-use Rattle.clause_db.proofs.store.marks.hash_of.Given as goal
-
-abbrev pub invariant-loop-l : goal.invariant-loop-l
-invariant-loop-l l = l.sum ≡ mixed_sum l.seed (take l.l-index l.lits)

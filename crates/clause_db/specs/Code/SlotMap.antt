@@ -1,8 +1,0 @@
--- Slots by hashes.
-use Rattle.std.specs.Prelude.{ℕ, Option}
-use Rattle.clause_db.specs.Code.Entries.{slot_among}
-use Rattle.clause_db.specs.declared.store.slot_map.SlotMap.{SlotMap}
-
--- the slot of a hash in the map
-abbrev pub slot_at : SlotMap → ℕ → Option ℕ
-slot_at map = slot_among map.entries.items

@@ -1,0 +1,4 @@
+pub mod Hashes
+pub mod Index
+pub mod Waiting
+pub mod Code
