@@ -6,7 +6,7 @@ use Rattle.std.specs.Ordering.{nat_cmp}
 use Rattle.std.specs.FinMap as maps
 use Rattle.std.specs.FinMap.{FinMap}
 use Rattle.std.proofs.lemmas.Bool.{cases_Bool, false≢true, true≢false}
-use Rattle.std.proofs.lemmas.List.{drop-append-le, get_or-drop, length-drop}
+use Rattle.std.proofs.lemmas.List.{drop-append-le, get_or-drop, get_or_past, length-drop}
 use Rattle.clause_memory.specs.Memory.{units_in}
 use Rattle.clause_memory.specs.Code.Units.{IsBlock, blocks_from, blocks_in, is_rest, kind_at, rests}
 use Rattle.clause_memory.specs.Code.Units.{start_of}
@@ -97,6 +97,10 @@ block_from (Free ∷ ks) n (suc k) q e = other_block_at (blocks_from (n + 1) ks)
 pub get_block : (ks : List Kind) (s : ℕ) → maps.get (blocks_in ks) s ≡ block_if (kind_at ks s) (rests (drop (suc s) ks) + 1)
 unfolding blocks_in
 get_block ks s = block_from ks 0 s s (omega arith)
+
+-- behind all units
+pub block_past : (ks : List Kind) → maps.get (blocks_in ks) (length ks) ≡ None
+block_past ks = get_block ks (length ks) ∙ ap (λ k. block_if k (rests (drop (suc (length ks)) ks) + 1)) (get_or_past ks (length ks) Rest (omega arith))
 
 -- a block has the number of units that is seen
 pub block_is : {ks : List Kind} {s n : ℕ} → IsBlock ks s n → maps.get (blocks_in ks) s ≡ Some n

@@ -2,6 +2,7 @@ pub mod SumLemmas
 pub mod UnitLemmas
 mod BlockLemmas
 mod ClauseLemmas
+mod CountLemmas
 mod FreeLemmas
 mod MemoryLemmas
 mod RewatchLemmas

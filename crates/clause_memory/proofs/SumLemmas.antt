@@ -13,7 +13,7 @@ use Rattle.std.proofs.lemmas.Bool.Decides.{nat_tests}
 use Rattle.std.proofs.lemmas.Option.{none-some}
 use Rattle.clause_memory.specs.Memory.{sum_over}
 
-tie_is : (k q : ℕ) → eq_by_cmp nat_cmp k q ≡ eqb k q
+pub tie_is : (k q : ℕ) → eq_by_cmp nat_cmp k q ≡ eqb k q
 tie_is k q = grind (arith, nat_tests)
 
 -- ---- Look-ups

@@ -1,10 +1,11 @@
 //! A memory of clauses.
 
-ghost use Rattle.std.specs.Prelude.{◌≡◌, ◌≢◌, ℕ, ◌-◌, ◌*◌, ◌<◌, ◌≤◌, length, option_map};
-ghost use Rattle.std.specs.Prelude.{Some, None, IsSome, IfOk, OnOk, OnErr, slice_index};
+ghost use Rattle.std.specs.Prelude.{◌≡◌, ◌≢◌, ℕ, ◌*◌, ◌<◌, ◌≤◌, length, option_map};
+ghost use Rattle.std.specs.Prelude.{Some, None, IsSome, IfOk, OnOk, OnErr};
 ghost use Rattle.std.specs.FinMap as maps;
 ghost use Rattle.std.specs.List.{swap};
 ghost use Rattle.cnf_base.specs.Literals.{Clause};
+ghost use Rattle.clause_memory.specs.Memory.{AddsFewBlocks, CanRewatch, IsRewatched};
 ghost use Rattle.clause_memory.specs.Memory.{literals_in, units_for, units_in};
 
 use crate::blocks::take_out;
@@ -83,6 +84,8 @@ impl ClauseMemory {
         ensures none_was_free { IfOk result (λ slot. maps.get self.old.blocks slot ≡ None →
             (s : ℕ) → maps.get self.old.blocks s ≡ Some (units_for (length lits.now)) →
             IsSome (maps.get self.old.live s)) }
+        ensures few_blocks { AddsFewBlocks self.old.blocks self.new.blocks self.old.live
+            (units_for (length lits.now)) }
         ensures low { IfOk result (λ slot. slot < 4294967295) }
         ensures few { OnOk result (maps.len self.new.live ≤ 4294967295) }
         ensures live_alone { self.new.stored ≡ literals_in self.new.live }
@@ -152,12 +155,8 @@ impl ClauseMemory {
     /// read, and it takes no memory.
     #[inline(always)]
     pub fn rewatch(&mut self, slot: usize, other: Lit, next: Lit, to: usize, l: Lit)
-        requires { (c : Clause) × (from : ℕ) × (maps.get self.old.live slot ≡ Some c)
-            × (from < 2) × (slice_index c from ≡ l) × (slice_index c (1 - from) ≡ other)
-            × (2 ≤ to) × (to < length c) × (slice_index c to ≡ next) }
-        ensures live { (c : Clause) (from : ℕ) → maps.get self.old.live slot ≡ Some c → from < 2 →
-            slice_index c from ≡ l → slice_index c (1 - from) ≡ other →
-            self.new.live ≡ maps.insert self.old.live slot (swap (swap c 0 (1 - from)) 1 to) }
+        requires { CanRewatch self.old.live slot other next to l }
+        ensures live { IsRewatched self.old.live self.new.live slot other to l }
         ensures blocks { self.new.blocks ≡ self.old.blocks }
         ensures live_alone { self.new.stored ≡ literals_in self.new.live }
     {

@@ -4,7 +4,7 @@ ghost use Rattle.std.specs.Prelude.{◌≡◌, ◌≢◌, ℕ, ◌+◌, ◌*◌,
 ghost use Rattle.std.specs.Prelude.{IsSome, IfOk, OnErr, replicate, vec_len, vec_capacity};
 ghost use Rattle.std.specs.FinMap as maps;
 ghost use Rattle.tables.specs.Table.{at};
-ghost use Rattle.clause_memory.specs.Memory.{units_for};
+ghost use Rattle.clause_memory.specs.Memory.{AddsFewBlocks, units_for};
 ghost use Rattle.clause_memory.specs.Code.Fields.{IsMemory};
 ghost use Rattle.clause_memory.specs.Code.Free.{link_of};
 ghost use Rattle.clause_memory.specs.Code.Units.{blocks_in, clauses_in};
@@ -51,6 +51,8 @@ fn append(
         maps.get (blocks_in kinds.new.items) slot ≡ Some (units_for (length lits.now))) }
     ensures other_blocks { IfOk result (λ slot. (s : ℕ) → s ≢ slot →
         maps.get (blocks_in kinds.new.items) s ≡ maps.get (blocks_in kinds.old.items) s) }
+    ensures few_blocks { AddsFewBlocks (blocks_in kinds.old.items) (blocks_in kinds.new.items)
+        (clauses_in kinds.old.items words.old.items) (units_for (length lits.now)) }
     ensures low { IfOk result (λ slot. slot < 4294967295) }
     ensures same_kinds { OnErr result (kinds.new.items ≡ kinds.old.items) }
     ensures same_words { OnErr result (words.new.items ≡ words.old.items) }
@@ -90,6 +92,8 @@ pub(crate) fn place(
         maps.get (blocks_in kinds.old.items) slot ≡ None → (s : ℕ) →
         maps.get (blocks_in kinds.old.items) s ≡ Some (units_for (length lits.now)) →
         IsSome (maps.get (clauses_in kinds.old.items words.old.items) s)) }
+    ensures few_blocks { AddsFewBlocks (blocks_in kinds.old.items) (blocks_in kinds.new.items)
+        (clauses_in kinds.old.items words.old.items) (units_for (length lits.now)) }
     ensures low { IfOk result (λ slot. slot < 4294967295) }
     ensures same_kinds { OnErr result (kinds.new.items ≡ kinds.old.items) }
     ensures same_words { OnErr result (words.new.items ≡ words.old.items) }

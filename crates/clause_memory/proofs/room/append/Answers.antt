@@ -1,13 +1,15 @@
 use Rattle.std.proofs.Common.{◌≡◌, ◌+◌, ◌-◌, ◌*◌, ◌++◌, ◌∷◌, length, arith, sym, ap, ◌∙◌, subst, replicate}
 use Rattle.std.specs.FinMap as maps
 use Rattle.tables.specs.Table.{at}
-use Rattle.clause_memory.specs.Memory.{units_for}
+use Rattle.clause_memory.specs.Memory.{AddsFewBlocks, units_for}
 use Rattle.clause_memory.specs.Code.Fields.{IsMemory}
 use Rattle.clause_memory.specs.Code.Free.{link_of}
 use Rattle.clause_memory.specs.Code.Units.{blanks, blocks_in, clauses_in}
 use Rattle.clause_memory.specs.declared.kind.Kind.TheVariants.{Live, Rest}
+use Rattle.clause_memory.proofs.BlockLemmas.{block_past}
+use Rattle.clause_memory.proofs.CountLemmas.{none_left, one_more_block}
 use Rattle.clause_memory.proofs.RoomLemmas.{IsAppended, appended_block, appended_clauses, appended_free, appended_memory}
-use Rattle.clause_memory.proofs.RoomLemmas.{appended_other_blocks, memory_reserved, none_reserved, now_kinds, now_words}
+use Rattle.clause_memory.proofs.RoomLemmas.{appended_other_blocks, memory_reserved, none_free, none_reserved, now_kinds, now_words}
 use Rattle.clause_memory.proofs.room.append.Goals as goal
 use Rattle.clause_memory.proofs.room.append.Goals.{After-append_clause}
 
@@ -68,3 +70,12 @@ pub returns-clause-other_blocks : goal.returns-clause-other_blocks
 returns-clause-other_blocks c s ne =
     let a = (goal.at.returns-clause-other_blocks c).After-append_clause in
     ap (λ ks. maps.get (blocks_in ks) s) (kinds_are a) ∙ appended_other_blocks (appended a) s (λ e. ne (e ∙ sym (slot_is a)))
+
+pub returns-clause-few_blocks : goal.returns-clause-few_blocks
+returns-clause-few_blocks c =
+    let a = (goal.at.returns-clause-few_blocks c).After-append_clause in
+    let n = units_for (length c.args.lits.now) in
+    let ks = c.args.kinds.now.items in
+    subst (λ ls. AddsFewBlocks (blocks_in ks) (blocks_in ls) (clauses_in ks c.args.words.now.items) n) (sym (kinds_are a))
+    (one_more_block (blocks_in ks) (blocks_in (now_kinds (appended a))) (clauses_in ks c.args.words.now.items) (length ks) n
+    (none_left c.requires.memory n (none_free c.requires.memory n c.requires.none)) (block_past ks) (appended_block (appended a)) (appended_other_blocks (appended a)))
