@@ -10,6 +10,8 @@ use Rattle.cnf_base.specs.Literals.{Clause, Literal, complement, has, size}
 pub record StoreState : Type 0 where
   -- the live clauses, each in its slot
   pub live : FinMap nat_cmp Clause
+  -- by slot the number of units of its block, whether it has a clause or is free
+  pub blocks : FinMap nat_cmp ℕ
   -- the sum of the lengths of all lists of literals that it keeps
   pub stored : ℕ
 

@@ -12,9 +12,8 @@ mod mark;
 mod marks;
 mod search;
 
-ghost use Rattle.std.specs.Prelude.{◌≡◌, ◌≢◌, ℕ, ◌+◌, ◌-◌, ◌<◌, ◌≤◌, ◌==◌, ◌++◌, [], ◌∷◌, ◌^◌, min};
+ghost use Rattle.std.specs.Prelude.{◌≡◌, ◌≢◌, ℕ, ◌+◌, ◌*◌, ◌<◌, ◌≤◌, ◌==◌, ◌++◌, [], ◌∷◌, ◌^◌, min};
 ghost use Rattle.std.specs.Prelude.{true, false, Some, None, option_map, length, if◌then◌else◌};
-ghost use Rattle.std.specs.Prelude.{slice_index};
 ghost use Rattle.std.specs.Prelude.{IsTrue, IsSome, IfSome, IfNone, IfOk, OnOk, OnErr};
 ghost use Rattle.std.specs.List.{swap};
 ghost use Rattle.std.specs.List.Sorted.{IsStrictlyIncreasing};
@@ -22,6 +21,8 @@ ghost use Rattle.std.specs.Ordering.{nat_cmp};
 ghost use Rattle.std.specs.FinMap as maps;
 ghost use Rattle.std.specs.FinMap.{FinMap};
 ghost use Rattle.cnf_base.specs.Literals.{Clause, has, same_clause, size};
+ghost use Rattle.clause_memory.specs.Memory.{AddsFewBlocks, CanRewatch, IsRewatched};
+ghost use Rattle.clause_memory.specs.Memory.{units_for, units_in};
 ghost use Rattle.clause_db.specs.Store.{literals_in, copies_with, IsTouchedAt};
 ghost use Rattle.clause_db.specs.Code.Fields.{IsTakenIn};
 ghost use Rattle.clause_db.specs.Code.Kept.{AreKept};
@@ -43,8 +44,8 @@ use tables::{Table, key};
 
 /// The live clauses of a proof checker, each in a slot that the store picks.
 ///
-/// Contracts see it as a finite map from the numbers of the slots to the clauses, and the number of
-/// literals that it keeps. A clause is the set of its literals: the store keeps each literal once,
+/// Contracts see it as finite maps from the numbers of the slots to the clauses and to the sizes of
+/// their blocks of memory, and the number of literals that it keeps. A clause is the set of its literals: the store keeps each literal once,
 /// in an order that it picks. One with [`NoIndex`](crate::NoIndex) finds no clause by its literals,
 /// and takes less memory.
 #[derive(Drop)]
@@ -77,6 +78,7 @@ impl<I: Indexing> Model for Store<I> {
       occurrences = _;
     }. record {
       live = memory.live;
+      blocks = memory.blocks;
       stored = memory.stored;
     } };
 
@@ -121,6 +123,8 @@ fn put_in(
     ensures all { OnOk result ((l : ℕ) → is_marked (at marks.new l) ≡ has lits.now l) }
     ensures some { (l : ℕ) → is_marked (at marks.new l) ≡ true → has lits.now l ≡ true }
     ensures counts { (l : ℕ) → mark_count (at marks.new l) ≡ mark_count (at marks.old l) }
+    ensures few_blocks { AddsFewBlocks memory.old.blocks memory.new.blocks memory.old.live
+        (units_for (size lits.now)) }
     ensures err { OnErr result (memory.new ≡ memory.old) }
 {
     let len = mark_new(marks, lits)?;
@@ -144,6 +148,8 @@ fn take_in(
     ensures known { OnOk result ((l : ℕ) → has lits.now l ≡ true → IsSome (at marks.new l)) }
     ensures all { OnOk result ((l : ℕ) → is_marked (at marks.new l) ≡ has lits.now l) }
     ensures counts { (l : ℕ) → mark_count (at marks.new l) ≡ mark_count (at marks.old l) }
+    ensures few_blocks { AddsFewBlocks memory.old.blocks memory.new.blocks memory.old.live
+        (units_for (size lits.now)) }
     ensures err { OnErr result (memory.new ≡ memory.old) }
     ensures clear { OnErr result ((l : ℕ) → is_marked (at marks.new l) ≡ false) }
 {
@@ -189,7 +195,7 @@ fn list_up<I: Indexing>(
 
 impl<I: Indexing> Store<I> {
     fn empty(alloc: Global, seed: u64) -> Self
-        ensures { result ≡ record { live = maps.empty; stored = 0 } }
+        ensures { result ≡ record { live = maps.empty; blocks = maps.empty; stored = 0 } }
     {
         Store {
             alloc,
@@ -202,15 +208,19 @@ impl<I: Indexing> Store<I> {
     }
 
     /// Stores a clause in a slot that is free, and fails only where memory is refused. A repeated
-    /// literal is kept once.
+    /// literal is kept once. A further block of memory is made only where each that has as many
+    /// units has a clause; one that was made for a clause that is then refused stays, and is free.
     pub fn insert(&mut self, lits: &[Lit]) -> Result<Slot, OutOfMemory>
         ensures free { IfOk result (λ slot. maps.get self.old.live slot ≡ None) }
         ensures stored { IfOk result (λ slot. (c : Clause) ×
             (maps.get self.new.live slot ≡ Some c) × IsTrue (same_clause c lits.now)) }
         ensures others { IfOk result (λ slot. (s : ℕ) → s ≢ slot →
             maps.get self.new.live s ≡ maps.get self.old.live s) }
+        ensures few_blocks { AddsFewBlocks self.old.blocks self.new.blocks self.old.live
+            (units_for (size lits.now)) }
         ensures live_alone { self.new.stored ≡ literals_in self.new.live }
-        ensures err { OnErr result (self.new ≡ self.old) }
+        ensures err_live { OnErr result (self.new.live ≡ self.old.live) }
+        ensures err_stored { OnErr result (self.new.stored ≡ self.old.stored) }
     {
         let slot = take_in(self.alloc, &mut self.memory, &mut self.marks, lits)?;
         let kept = self.memory.clause(slot);
@@ -232,6 +242,7 @@ impl<I: Indexing> Store<I> {
     pub fn remove(&mut self, slot: Slot)
         requires { IsSome (maps.get self.old.live slot) }
         ensures live { self.new.live ≡ maps.remove self.old.live slot }
+        ensures blocks { self.new.blocks ≡ self.old.blocks }
         ensures live_alone { self.new.stored ≡ literals_in self.new.live }
     {
         let number = slot.number();
@@ -285,6 +296,14 @@ impl<I: Indexing> Store<I> {
         self.sum.min(18446744073709551615) as u64
     }
 
+    /// How many words of four bytes the clauses and the blocks that are free take: four for each
+    /// unit of a block.
+    pub fn words(&self) -> usize
+        ensures { result ≡ 4 * units_in self.now.blocks }
+    {
+        self.memory.words()
+    }
+
     /// Gathers the slots of the clauses that the literals touch, in ascending order: that have the
     /// complement of one of them. `into` is emptied first.
     ///
@@ -320,7 +339,7 @@ impl<I: Indexing> Store<I> {
 impl Store<NoIndex> {
     /// No clauses, and none will be searched for by its literals.
     pub fn without_index(alloc: Global) -> Result<Self, OutOfMemory>
-        ensures { IfOk result (λ s. s ≡ record { live = maps.empty; stored = 0 }) }
+        ensures { IfOk result (λ s. s ≡ record { live = maps.empty; blocks = maps.empty; stored = 0 }) }
     {
         let store = Store::empty(alloc, 0);
         Ok(store)
@@ -331,7 +350,7 @@ impl Store {
     /// No clauses. Whoever chooses them can choose some with one hash, which makes the searches
     /// long: see [`Store::seeded`].
     pub fn new(alloc: Global) -> Result<Self, OutOfMemory>
-        ensures { IfOk result (λ s. s ≡ record { live = maps.empty; stored = 0 }) }
+        ensures { IfOk result (λ s. s ≡ record { live = maps.empty; blocks = maps.empty; stored = 0 }) }
     {
         Store::seeded(alloc, 0)
     }
@@ -339,7 +358,7 @@ impl Store {
     /// No clauses. They will be hashed by the seed, a number that whoever chooses them shouldn't
     /// know. No answer depends on it.
     pub fn seeded(alloc: Global, seed: u64) -> Result<Self, OutOfMemory>
-        ensures { IfOk result (λ s. s ≡ record { live = maps.empty; stored = 0 }) }
+        ensures { IfOk result (λ s. s ≡ record { live = maps.empty; blocks = maps.empty; stored = 0 }) }
     {
         Ok(Store::empty(alloc, seed))
     }
@@ -371,6 +390,7 @@ impl Store {
             × (a < length c) × (b < length c) }
         ensures live { (c : Clause) → maps.get self.old.live slot ≡ Some c →
             self.new.live ≡ maps.insert self.old.live slot (swap c a b) }
+        ensures blocks { self.new.blocks ≡ self.old.blocks }
         ensures live_alone { self.new.stored ≡ literals_in self.new.live }
     {
         self.memory.swap(slot.number(), a, b);
@@ -381,12 +401,9 @@ impl Store {
     /// read of the clause, and it takes no memory.
     #[inline(always)]
     pub fn rewatch(&mut self, slot: Slot, other: Lit, next: Lit, to: usize, l: Lit)
-        requires { (c : Clause) × (from : ℕ) × (maps.get self.old.live slot ≡ Some c)
-            × (from < 2) × (slice_index c from ≡ l) × (slice_index c (1 - from) ≡ other)
-            × (2 ≤ to) × (to < length c) × (slice_index c to ≡ next) }
-        ensures live { (c : Clause) (from : ℕ) → maps.get self.old.live slot ≡ Some c → from < 2 →
-            slice_index c from ≡ l → slice_index c (1 - from) ≡ other →
-            self.new.live ≡ maps.insert self.old.live slot (swap (swap c 0 (1 - from)) 1 to) }
+        requires { CanRewatch self.old.live slot other next to l }
+        ensures live { IsRewatched self.old.live self.new.live slot other to l }
+        ensures blocks { self.new.blocks ≡ self.old.blocks }
         ensures live_alone { self.new.stored ≡ literals_in self.new.live }
     {
         self.memory.rewatch(slot.number(), other, next, to, l);

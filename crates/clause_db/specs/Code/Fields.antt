@@ -13,11 +13,14 @@ use Rattle.clause_db.specs.Code.LiteralMarks.{mark_count, is_marked}
 use Rattle.clause_db.specs.Store.{StoreState, copies_with}
 use Rattle.clause_db.specs.declared.store.mark.Mark.{Mark}
 
--- a store is kept as the pair of its fields
+-- a store is kept as the tuple of its fields
 abbrev pub store_code : Coded StoreState
 store_code =
-    code_by (FinMap nat_cmp Clause × ℕ) (coded× (maps.code coded_ℕ (coded_list coded_ℕ)) coded_ℕ)
-    (λ s. (s.live, s.stored)) (λ p. record { live = p.0; stored = p.1 }) (λ _. refl)
+    code_by (FinMap nat_cmp Clause × (FinMap nat_cmp ℕ × ℕ))
+    (coded× (maps.code coded_ℕ (coded_list coded_ℕ))
+    (coded× (maps.code coded_ℕ coded_ℕ) coded_ℕ))
+    (λ s. (s.live, (s.blocks, s.stored)))
+    (λ p. record { live = p.0; blocks = p.1.0; stored = p.1.1 }) (λ _. refl)
 
 -- no clause repeats a literal, the table counts the clauses with each literal and has no marks, and
 -- the sum is that of the lengths

@@ -14,4 +14,4 @@ invariant_of-result g c =
     )
 
 pub returns : goal.returns
-returns g c = λ t. record { live = c.new.ensures.live t; stored = c.new.ensures.stored t }
+returns g c = λ t. record { live = c.new.ensures.live t; blocks = c.new.ensures.blocks t; stored = c.new.ensures.stored t }

@@ -7,7 +7,8 @@ use Rattle.std.proofs.lemmas.Option.{same_Some}
 use Rattle.cnf_base.specs.Literals.{Clause, has, size}
 use Rattle.cnf_base.proofs.SetLemmas.{both_pass, same_there, same_back}
 use Rattle.clause_memory.specs.Memory as memory
-use Rattle.clause_memory.specs.Memory.{MemoryState}
+use Rattle.clause_memory.specs.Memory.{AddsFewBlocks, MemoryState, units_for}
+use Rattle.clause_db.specs.Store.{StoreState}
 use Rattle.clause_db.specs.Code.Fields.{IsStore, IsTakenIn}
 use Rattle.clause_db.specs.Code.Kept.{AreKept}
 use Rattle.clause_db.specs.Code.LiteralMarks.{mark_count}
@@ -18,6 +19,10 @@ use Rattle.clause_db.proofs.StoreLemmas.Fields.{sum_fits}
 use Rattle.clause_db.proofs.StoreLemmas.Kept.{insert_undone}
 use Rattle.clause_index.proofs.IndexLemmas.Maps.{insert_here, insert_other}
 use Rattle.clause_db.proofs.store.Store.insert.Goals as goal
+
+-- the blocks of the memory are those that are seen
+few_seen : (m : MemoryState) (state : StoreState) → record { live = m.live; blocks = m.blocks; stored = m.stored } ≡ state → (blocks : FinMap nat_cmp ℕ) (added : ℕ) → AddsFewBlocks m.blocks blocks m.live added → AddsFewBlocks state.blocks blocks state.live added
+few_seen m state is blocks added few = subst (λ (v : StoreState). AddsFewBlocks v.blocks blocks v.live added) is few
 
 -- ---- Where no memory is left for the clause
 
@@ -32,9 +37,16 @@ invariant_of-self g c =
 pub returns-in_err-slot-clause-live_alone : goal.returns-in_err-slot-clause-live_alone
 returns-in_err-slot-clause-live_alone g c = live_alone c.take_in.new.memory.live c.take_in.new.memory.stored c.take_in.new.marks _ (invariant_of-self g c).0
 
-pub returns-in_err-slot-clause-err : goal.returns-in_err-slot-clause-err
-returns-in_err-slot-clause-err g c =
-    on_err_from c.from_residual.result _ (ap (λ (m : MemoryState). record { live = m.live; stored = m.stored }) c.in_err-slot.ensures.err ∙ c.self.view_is)
+pub returns-in_err-slot-clause-err_live : goal.returns-in_err-slot-clause-err_live
+returns-in_err-slot-clause-err_live g c =
+    on_err_from c.from_residual.result _ (ap (λ (m : MemoryState). m.live) c.in_err-slot.ensures.err ∙ ap (λ v. v.live) c.self.view_is)
+
+pub returns-in_err-slot-clause-err_stored : goal.returns-in_err-slot-clause-err_stored
+returns-in_err-slot-clause-err_stored g c =
+    on_err_from c.from_residual.result _ (ap (λ (m : MemoryState). m.stored) c.in_err-slot.ensures.err ∙ ap (λ v. v.stored) c.self.view_is)
+
+pub returns-in_err-slot-clause-few_blocks : goal.returns-in_err-slot-clause-few_blocks
+returns-in_err-slot-clause-few_blocks g c = few_seen c.self.inside.memory c.args.self.now c.self.view_is c.take_in.new.memory.blocks (units_for (size c.args.lits.now)) c.take_in.ensures.few_blocks
 
 -- ---- Where it is told to the index
 
@@ -113,6 +125,9 @@ returns-in-Ok-clause-others g c s apart =
 pub returns-in-Ok-clause-live_alone : goal.returns-in-Ok-clause-live_alone
 returns-in-Ok-clause-live_alone g c = live_alone c.take_in.new.memory.live c.take_in.new.memory.stored c.count_all.new.marks _ (invariant_of-self-in-Ok g c).0
 
+pub returns-in-Ok-clause-few_blocks : goal.returns-in-Ok-clause-few_blocks
+returns-in-Ok-clause-few_blocks g c = few_seen c.self.inside.memory c.args.self.now c.self.view_is c.take_in.new.memory.blocks (units_for (size c.args.lits.now)) c.take_in.ensures.few_blocks
+
 -- ---- Where no memory is left for the index
 
 pub unmark_all-requires : goal.unmark_all-requires
@@ -142,11 +157,16 @@ invariant_of-self-in-Err g c =
       subst (AreKept c.list_up.new.kept) (sym live) (c.in-Err.ensures.same_kept i.memory.live c.self.invariant.2 taken.free),
     )
 
-pub returns-in-Err-clause-err : goal.returns-in-Err-clause-err
-returns-in-Err-clause-err g c =
-    let live = undone c.in_ok-slot.ensures.taken c.remove.ensures.live in
-    let stored = c.remove.ensures.live_alone ∙ ap memory.literals_in live ∙ sym c.self.invariant.0.stored_is in
-    (λ t. record { live = live t; stored = stored t }) ∙ c.self.view_is
+pub returns-in-Err-clause-err_live : goal.returns-in-Err-clause-err_live
+returns-in-Err-clause-err_live g c = undone c.in_ok-slot.ensures.taken c.remove.ensures.live ∙ ap (λ v. v.live) c.self.view_is
+
+pub returns-in-Err-clause-err_stored : goal.returns-in-Err-clause-err_stored
+returns-in-Err-clause-err_stored g c =
+    c.remove.ensures.live_alone ∙ ap memory.literals_in (undone c.in_ok-slot.ensures.taken c.remove.ensures.live) ∙ sym c.self.invariant.0.stored_is ∙ ap (λ v. v.stored) c.self.view_is
+
+pub returns-in-Err-clause-few_blocks : goal.returns-in-Err-clause-few_blocks
+returns-in-Err-clause-few_blocks g c =
+    few_seen c.self.inside.memory c.args.self.now c.self.view_is c.remove.new.self.blocks (units_for (size c.args.lits.now)) (subst (λ b. AddsFewBlocks c.self.inside.memory.blocks b c.self.inside.memory.live (units_for (size c.args.lits.now))) (sym c.remove.ensures.blocks) c.take_in.ensures.few_blocks)
 
 pub returns-in-Err-clause-live_alone : goal.returns-in-Err-clause-live_alone
 returns-in-Err-clause-live_alone g c = live_alone c.remove.new.self.live c.remove.new.self.stored c.unmark_all.new.marks _ (invariant_of-self-in-Err g c).0
