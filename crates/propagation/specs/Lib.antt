@@ -1,3 +1,4 @@
 pub mod Assumptions
 pub mod Closure
+pub mod State
 pub mod Code

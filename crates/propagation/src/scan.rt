@@ -32,12 +32,12 @@ pub struct Scan {
 }
 
 impl Model for Scan {
-    ghost use Rattle.propagation.specs.Assumptions.{Propagation};
-    ghost use Rattle.propagation.specs.Code.Coding.{propagation_code};
+    ghost use Rattle.propagation.specs.State.{ScanState};
+    ghost use Rattle.propagation.specs.Code.Coding.{scan_code};
 
-    ghost Value = { Propagation };
+    ghost Value = { ScanState };
 
-    ghost coded = { propagation_code };
+    ghost coded = { scan_code };
 
     ghost use Rattle.std.specs.Prelude.{◌≡◌};
     ghost use Rattle.clause_db.specs.Store.{literals_in};
@@ -51,10 +51,13 @@ impl Model for Scan {
       set = _;
       has_refused = has_refused;
     }. record {
-      live = store.live;
-      assumptions = assumptions.assumptions;
-      stored = store.stored;
-      has_refused = has_refused;
+      propagation = record {
+        live = store.live;
+        assumptions = assumptions.assumptions;
+        stored = store.stored;
+        has_refused = has_refused;
+      };
+      blocks = store.blocks;
     } };
 
     ghost invariant = { λ s.
@@ -116,9 +119,10 @@ fn assume_part<P: Part>(
 impl Scan {
     /// No clauses, and nothing is assumed.
     pub fn new(alloc: Global) -> Result<Self, OutOfMemory>
-        ensures live { IfOk result (λ s. s.live ≡ maps.empty) }
-        ensures nothing_assumed { IfOk result (λ s. s.assumptions ≡ []) }
-        ensures refused { IfOk result (λ s. s.has_refused ≡ false) }
+        ensures live { IfOk result (λ s. s.propagation.live ≡ maps.empty) }
+        ensures blocks { IfOk result (λ s. s.blocks ≡ maps.empty) }
+        ensures nothing_assumed { IfOk result (λ s. s.propagation.assumptions ≡ []) }
+        ensures refused { IfOk result (λ s. s.propagation.has_refused ≡ false) }
     {
         Ok(Scan {
             alloc,
@@ -135,9 +139,11 @@ impl Scan {
     ///
     /// Where memory runs out, and ever after. What is assumed is then as it was.
     fn assume_stored<P: Part>(&mut self, slot: Slot, part: &P) -> Result<Answer, OutOfMemory>
-        requires may { MayAssume self.old.assumptions }
-        requires alive { IsSome (maps.get self.old.live slot) }
-        ensures { AssumingPart self.old self.new slot (P.keeps part.now) result }
+        requires may { MayAssume self.old.propagation.assumptions }
+        requires alive { IsSome (maps.get self.old.propagation.live slot) }
+        ensures assumed { AssumingPart self.old.propagation self.new.propagation slot
+            (P.keeps part.now) result }
+        ensures blocks { self.new.blocks ≡ self.old.blocks }
     {
         if self.has_refused {
             return Err(OutOfMemory);
@@ -150,7 +156,9 @@ impl Scan {
 }
 
 impl Propagate for Scan {
-    ghost state = { λ s. s };
+    ghost state = { λ s. s.propagation };
+
+    ghost blocks = { λ s. s.blocks };
 
     fn alloc(&self) -> Global {
         self.alloc

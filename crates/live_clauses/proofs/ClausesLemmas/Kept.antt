@@ -32,7 +32,7 @@ module _ (store freed : StoreState) (alone : store.stored ≡ literals_in store.
   kept_back ids after id slot paired free others is = freed_alone ∙ ap literals_in (is ∙ freed_is ids store.live after id slot paired free others) ∙ sym alone
 
 -- where no clause is stored, none of its literals is
-pub none_alone : (s : StoreState) → s ≡ record { live = maps.empty; stored = 0 } → s.stored ≡ literals_in s.live
+pub none_alone : (s : StoreState) → s ≡ record { live = maps.empty; blocks = maps.empty; stored = 0 } → s.stored ≡ literals_in s.live
 none_alone s is = ap (λ s. s.stored) is ∙ sym (sum_empty size) ∙ ap (λ s. literals_in s.live) (sym is)
 
 -- ---- What holds of a result that is known

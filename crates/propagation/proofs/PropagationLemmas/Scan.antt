@@ -73,12 +73,8 @@ pub room_inserted : {E : Type 0} (reserved : List ℕ) (live after : FinMap nat_
 room_inserted reserved live after lits (Ok slot) all room stored others err = room_added reserved live after slot lits all room stored others
 room_inserted reserved live after lits (Err e) all room stored others err = subst (λ m. HasRoomForAll reserved (maps.get m)) (sym err) all
 
--- what is kept in a store that is left as it was, and in one without clauses
-pub err_live : {X E : Type 0} (r : Result X E) (old new : StoreState) → OnErr r (new ≡ old) → OnErr r (new.live ≡ old.live)
-err_live (Ok x) old new h = tt
-err_live (Err e) old new h = ap (λ s. s.live) h
-
-pub none_alone : (s : StoreState) → s ≡ record { live = maps.empty; stored = 0 } → s.stored ≡ literals_in s.live
+-- what is kept in a store without clauses
+pub none_alone : (s : StoreState) → s ≡ record { live = maps.empty; blocks = maps.empty; stored = 0 } → s.stored ≡ literals_in s.live
 none_alone s is = ap (λ s. s.stored) is ∙ sym (sum_empty size) ∙ ap (λ s. literals_in s.live) (sym is)
 
 -- ---- One more assumption
