@@ -53,6 +53,7 @@ fn move_watch(
     }) }
     ensures others { (s : ℕ) → s ≢ slot →
         maps.get store.new.live s ≡ maps.get store.old.live s }
+    ensures blocks { store.new.blocks ≡ store.old.blocks }
 {
     let at = Slot::at(slot as usize);
     // Before anything else is written, what was read of the clause need not be read again.
@@ -115,6 +116,7 @@ fn visit(
         (entries_left cursor.new + 1 ≡ entries_left cursor.old)) }
     ensures as_many { IfOk result (λ found. IfSome found (λ _.
         entries_left cursor.new ≡ entries_left cursor.old)) }
+    ensures blocks { store.new.blocks ≡ store.old.blocks }
 {
     if trail.is_true_near(near, entry.blocking()) {
         cursor.keep(entry);
@@ -156,6 +158,7 @@ fn next_found(
     ensures end { IfOk result (λ found. IfNone found
         (length cursor.new.entries ≤ cursor.new.visited)) }
     ensures no_more { OnOk result (entries_left cursor.new ≤ entries_left cursor.old) }
+    ensures blocks { store.new.blocks ≡ store.old.blocks }
 {
     let near = trail.near();
     while let Some(entry) = cursor.next() {
@@ -187,6 +190,7 @@ fn visit_all(
     ensures visited { Visited store.old.live store.new.live lists.old lists.new
         cursor.old.entries cursor.new.entries assumptions.old assumptions.new
         (at reasons.old) (at reasons.new) l }
+    ensures blocks { store.new.blocks ≡ store.old.blocks }
 {
     while let Some(at) = next_found(store, lists, assumptions.trail(), cursor, l)? {
         let entry = at.entry;
@@ -219,6 +223,7 @@ pub(crate) fn follow(
         maps.get store.new.live s ≡ Some c → IsMet c l assumptions.new.trail.lits)) }
     ensures followed { Followed store.old.live store.new.live lists.old lists.new
         assumptions.old assumptions.new (at reasons.old) (at reasons.new) }
+    ensures blocks { store.new.blocks ≡ store.old.blocks }
 {
     if !lists.has_list(l) {
         return Ok(None);
@@ -250,6 +255,7 @@ pub(crate) fn propagate(
         (IsFalse (conflicts assumptions.new.trail.lits))) }
     ensures followed { Followed store.old.live store.new.live lists.old lists.new
         assumptions.old assumptions.new (at reasons.old) (at reasons.new) }
+    ensures blocks { store.new.blocks ≡ store.old.blocks }
 {
     let mut done = from;
     while done < assumptions.trail().len() {

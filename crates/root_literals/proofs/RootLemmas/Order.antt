@@ -1,7 +1,7 @@
 -- Clauses in order are the same sets.
 use Rattle.std.proofs.Common.{◌≡◌, ◌≢◌, ℕ, ◌+◌, Bool, true, false, cond, eqb, eqb-true, eq-eqb}
 use Rattle.std.proofs.Common.{filter, ◌&&◌, ◌||◌, T, Option, Some, None, option_map, is_some, List}
-use Rattle.std.proofs.Common.{[], ◌∷◌, map, sum_by, refl, sym, ap, ◌∙◌, subst, arith}
+use Rattle.std.proofs.Common.{[], ◌∷◌, length, map, sum_by, refl, sym, ap, ◌∙◌, subst, arith}
 use Rattle.std.specs.Ordering.{nat_cmp, is_lt, eq_by_cmp}
 use Rattle.std.specs.Cmp.{nat_cmp_total}
 use Rattle.std.specs.List.{list_any}
@@ -10,6 +10,7 @@ use Rattle.std.specs.FinMap.{FinMap, find, is_sorted}
 use Rattle.std.specs.FinMap.Entries.{below_all}
 use Rattle.std.proofs.lemmas.Bool.{true≢false}
 use Rattle.std.proofs.lemmas.Bool.Decides.{nat_tests}
+use Rattle.std.proofs.lemmas.List.{length-map}
 use Rattle.std.proofs.lemmas.List.Sums.{sum_by-cons}
 use Rattle.std.proofs.lemmas.Option.{none-some, same_Some}
 use Rattle.cnf_base.specs.Literals.{Literal, Clause, complement, complements, has, same_clause}
@@ -51,6 +52,20 @@ same-in_order c = same_from (in_order c) c (λ l h. sym (has-in_order c l) ∙ h
 pub size-in_order : (c : Clause) → size (in_order c) ≡ size c
 size-in_order c = size_same (in_order c) c (λ l h. sym (has-in_order c l) ∙ h) (λ l h. has-in_order c l ∙ h)
 
+-- no literal stands twice there
+pub length-in_order : (c : Clause) → length (in_order c) ≡ size c
+length-in_order c = length-map (maps.entries (set_of c)) (λ e. e.0) ∙ sym (maps.len-entries (set_of c)) ∙ as_many c
+  where
+    by_test : (b : Bool) (m n : ℕ) → m ≡ n → cond b m (m + 1) ≡ cond b n (1 + n)
+    by_test true m n e = e
+    by_test false m n e = omega arith
+
+    as_many : (d : Clause) → maps.len (set_of d) ≡ size d
+    as_many [] = maps.len-empty nat_cmp Unit
+    as_many (l ∷ d) =
+        let is = as_many d in
+        maps.len-insert nat_cmp_total (set_of d) l tt ∙ ap (λ b. cond b (maps.len (set_of d)) (maps.len (set_of d) + 1)) (in_set d l) ∙ by_test (has d l) (maps.len (set_of d)) (size d) is
+
 -- clauses with the same literals are shown alike
 pub alike_in_order : (c d : Clause) → ((l : Literal) → has c l ≡ has d l) → in_order c ≡ in_order d
 alike_in_order c d alike = ap maps.keys (maps.same_map nat_cmp_total maps.nat_cmp-IsAntisymmetric (set_of c) (set_of d) (λ l. one_value _ _ (in_set c l ∙ alike l ∙ sym (in_set d l))))
@@ -82,11 +97,11 @@ find_ordered q (e ∷ es) = by_test (find_ordered q es) (eq_by_cmp nat_cmp q e.0
     by_test rest true = refl
     by_test rest false = rest
 
-weights_ordered : (w : Clause → ℕ) → ((c : Clause) → w (in_order c) ≡ w c) → (es : List (ℕ × Clause)) → sum_by w (map (λ e. e.1) (ordered es)) ≡ sum_by w (map (λ e. e.1) es)
-weights_ordered w alike [] = refl
-weights_ordered w alike (e ∷ es) =
+weights_ordered : (w v : Clause → ℕ) → ((c : Clause) → w (in_order c) ≡ v c) → (es : List (ℕ × Clause)) → sum_by w (map (λ e. e.1) (ordered es)) ≡ sum_by v (map (λ e. e.1) es)
+weights_ordered w v alike [] = refl
+weights_ordered w v alike (e ∷ es) =
     sum_by-cons w (in_order e.1) (map (λ e. e.1) (ordered es)) ∙ ap (λ n. n + sum_by w (map (λ e. e.1) (ordered es))) (alike e.1)
-    ∙ ap (λ n. w e.1 + n) (weights_ordered w alike es) ∙ sym (sum_by-cons w e.1 (map (λ e. e.1) es))
+    ∙ ap (λ n. v e.1 + n) (weights_ordered w v alike es) ∙ sym (sum_by-cons v e.1 (map (λ e. e.1) es))
 
 still_sorted : (live : FinMap nat_cmp Clause) → T (is_sorted nat_cmp (ordered (maps.entries live)))
 still_sorted live = subst T (sym (sorted_ordered (maps.entries live))) (maps.entries_sorted live)
@@ -97,17 +112,17 @@ get_ordered live s =
     maps.get-from_sorted nat_cmp (ordered (maps.entries live)) s (still_sorted live) ∙ find_ordered s (maps.entries live)
     ∙ ap (option_map in_order) (sym (maps.get-entries live s))
 
-pub sum_ordered : (w : Clause → ℕ) → ((c : Clause) → w (in_order c) ≡ w c) → (live : FinMap nat_cmp Clause) → sum_over w (each_in_order live) ≡ sum_over w live
+pub sum_ordered : (w v : Clause → ℕ) → ((c : Clause) → w (in_order c) ≡ v c) → (live : FinMap nat_cmp Clause) → sum_over w (each_in_order live) ≡ sum_over v live
 unfolding each_in_order
-sum_ordered w alike live =
+sum_ordered w v alike live =
     ap (λ es. sum_by w (map (λ e. e.1) es)) (maps.entries-from_sorted nat_cmp (ordered (maps.entries live)) (still_sorted live))
-    ∙ weights_ordered w alike (maps.entries live)
+    ∙ weights_ordered w v alike (maps.entries live)
 
 pub copies_ordered : (live : FinMap nat_cmp Clause) (l : Literal) → copies_with (each_in_order live) l ≡ copies_with live l
-copies_ordered live l = sum_ordered (λ c. cond (has c l) 1 0) (λ c. ap (λ b. cond b 1 0) (has-in_order c l)) live
+copies_ordered live l = sum_ordered (λ c. cond (has c l) 1 0) (λ c. cond (has c l) 1 0) (λ c. ap (λ b. cond b 1 0) (has-in_order c l)) live
 
 pub literals_ordered : (live : FinMap nat_cmp Clause) → literals_in (each_in_order live) ≡ literals_in live
-literals_ordered = sum_ordered size size-in_order
+literals_ordered = sum_ordered size size size-in_order
 
 -- ---- Changes
 

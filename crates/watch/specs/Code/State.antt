@@ -27,19 +27,20 @@ variables_in reserved = size reserved
 abbrev pub watch_code : Coded WatchState
 watch_code =
     code_by
-    (Propagation × (((ℕ × ℕ) × (ℕ × ℕ)) × (List ℕ × (Bool × Bool))))
-    (coded× propagation_code
+    ((Propagation × FinMap nat_cmp ℕ) × (((ℕ × ℕ) × (ℕ × ℕ)) × (List ℕ × (Bool × Bool))))
+    (coded× (coded× propagation_code (maps.code coded_ℕ coded_ℕ))
     (coded× (coded× (coded× coded_ℕ coded_ℕ) (coded× coded_ℕ coded_ℕ))
     (coded× (coded_list coded_ℕ) (coded× coded_bool coded_bool))))
     (λ s. (
-      s.propagation,
+      (s.propagation, s.blocks),
       (
         ((s.entries, s.short_entries), (s.trues, s.variables)),
         (s.roots, (s.is_up_to_date, s.has_clash)),
       ),
     ))
     (λ p. record {
-      propagation = p.0;
+      propagation = p.0.0;
+      blocks = p.0.1;
       entries = p.1.0.0.0;
       short_entries = p.1.0.0.1;
       trues = p.1.0.1.0;

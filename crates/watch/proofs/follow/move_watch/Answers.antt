@@ -86,6 +86,7 @@ returns-in-Ok c =
       };
       taken = same_cursor c.take_out.new.self (remove list place) place c.take_out.ensures.entries c.take_out.ensures.visited;
       others = λ s ne. ap (λ m. maps.get m s) moved ∙ others_moved live slot d s ne ∙ others_moved before slot (turned_clause was) s ne;
+      blocks = cc;
     }
 
 pub returns-in-Err : goal.returns-in-Err
@@ -116,4 +117,5 @@ returns-in-Err c =
       };
       taken = tt;
       others = λ s ne. ap (λ m. maps.get m s) back ∙ others_moved before c.args.slot (turned_clause was) s ne;
+      blocks = cc;
     }

@@ -2,7 +2,7 @@ use Rattle.std.proofs.Common.{◌≡◌, ◌≢◌, ℕ, ◌/◌, Some, option_m
 use Rattle.std.proofs.Common.{arith}
 use Rattle.std.specs.FinMap as maps
 use Rattle.std.proofs.lemmas.Bool.{false_from_ne_true}
-use Rattle.cnf_base.specs.Literals.{Clause, has}
+use Rattle.cnf_base.specs.Literals.{Clause, has, size}
 use Rattle.cnf_base.proofs.SetLemmas.{same_from, same_there, same_trans}
 use Rattle.root_literals.specs.Order.{each_in_order, in_order}
 use Rattle.root_literals.specs.Roots.{IsArranged, IsKept}
@@ -10,6 +10,7 @@ use Rattle.watch.specs.Code.State.{IsWatch}
 use Rattle.std.proofs.lemmas.Option.{none-some, same_Some}
 use Rattle.root_literals.specs.Watched.{short_for}
 use Rattle.clause_db.specs.Store.{literals_in}
+use Rattle.clause_memory.specs.Memory.{AddsFewBlocks, units_for}
 use Rattle.propagation.proofs.PropagationLemmas.Scan.{room_added}
 use Rattle.propagation.specs.Closure.{IsClosure}
 use Rattle.watch.proofs.WatchLemmas.Follow.{times_has}
@@ -161,8 +162,28 @@ invariant_of-self-in_err-slot c =
     let i = c.self.inside in
     let r = c.reserve_room.ensures in
     let watch = watch_room i.store.live i.lists i.short i.roots c.reserve_room.new.roots i.assumptions c.reserve_room.new.assumptions r.more r.noted c.self.invariant.0 in
-    let same = sym c.in_err-slot.ensures.err in (
-      subst (λ s. IsWatch s.live i.lists i.short c.reserve_room.new.roots c.reserve_room.new.assumptions) same watch,
-      subst (λ s. s.stored ≡ literals_in (each_in_order s.live)) same c.self.invariant.1,
+    let same = sym c.in_err-slot.ensures.err_live in (
+      subst (λ m. IsWatch m i.lists i.short c.reserve_room.new.roots c.reserve_room.new.assumptions) same watch,
+      c.in_err-slot.ensures.err_stored ∙ c.self.invariant.1 ∙ ap (λ m. literals_in (each_in_order m)) same,
       c.insert_clause.ensures.closure,
     )
+
+-- ---- Blocks
+
+pub returns-in-Ok-clause-few_blocks : goal.returns-in-Ok-clause-few_blocks
+returns-in-Ok-clause-few_blocks c =
+    let added = units_for (size c.args.lits.now) in
+    let store = c.self.inside.store in
+    subst (λ w. AddsFewBlocks w.blocks c.arrange-left.new.store.blocks w.propagation.live added) c.self.view_is
+    (subst (λ b. AddsFewBlocks store.blocks b (each_in_order store.live) added) (sym c.arrange-left.ensures.blocks) c.insert_clause.ensures.few_blocks)
+
+pub returns-in-Err-clause-few_blocks : goal.returns-in-Err-clause-few_blocks
+returns-in-Err-clause-few_blocks c =
+    let added = units_for (size c.args.lits.now) in
+    let store = c.self.inside.store in
+    subst (λ w. AddsFewBlocks w.blocks c.remove_clause.new.store.blocks w.propagation.live added) c.self.view_is
+    (subst (λ b. AddsFewBlocks store.blocks b (each_in_order store.live) added) (sym (c.remove_clause.ensures.blocks ∙ c.arrange-left.ensures.blocks)) c.insert_clause.ensures.few_blocks)
+
+pub returns-in_err-slot-clause-few_blocks : goal.returns-in_err-slot-clause-few_blocks
+returns-in_err-slot-clause-few_blocks c =
+    subst (λ w. AddsFewBlocks w.blocks c.insert_clause.new.store.blocks w.propagation.live (units_for (size c.args.lits.now))) c.self.view_is c.insert_clause.ensures.few_blocks
