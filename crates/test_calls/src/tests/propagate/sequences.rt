@@ -6,6 +6,7 @@ ghost use Rattle.propagation.specs.Assumptions.{LastIsAnswered};
 ghost use Rattle.propagation.specs.declared.answer.Answer.TheVariants.{Quiet};
 
 use crate::tests::asserts::{expect_equal, expect_true};
+use crate::tests::literals::literals;
 use crate::tests::propagate::calls::fill;
 use crate::tests::propagate::fresh::Fresh;
 use cnf_base::Lit;
@@ -195,5 +196,27 @@ fn counts_of(alloc: Global, watch: &mut Watch) -> Result<(u64, usize, usize), Fa
 fn counts_entries(rt: HostRuntime) -> Result<(), Fail> {
     let mut watch = Watch::new(rt.alloc())?;
     expect_equal(&rt, counts_of(rt.alloc(), &mut watch)?, (4, 1, 2));
+    Ok(())
+}
+
+/// How many words three clauses take, two of them, and three again.
+fn words_of(alloc: Global, watch: &mut Watch) -> Result<(usize, usize, usize), Fail>
+    requires { watch.old.propagation.assumptions ≡ [] }
+{
+    fill(alloc, watch, &[[1, 2], [-1, 3], [1, 1]])?;
+    let filled = watch.words();
+    let clause = literals(alloc, &[-1, 3])?;
+    if let Some(slot) = watch.find(clause.as_slice()) {
+        watch.remove(slot);
+    }
+    let left = watch.words();
+    fill(alloc, watch, &[[2, 3]])?;
+    Ok((filled, left, watch.words()))
+}
+
+#[test]
+fn uses_the_words_of_a_removed_clause(rt: HostRuntime) -> Result<(), Fail> {
+    let mut watch = Watch::new(rt.alloc())?;
+    expect_equal(&rt, words_of(rt.alloc(), &mut watch)?, (12, 12, 12));
     Ok(())
 }

@@ -161,6 +161,29 @@ fn keeps_its_room(rt: HostRuntime) -> Result<(), Fail> {
     Ok(())
 }
 
+/// How many words the store has with three clauses, without one of them, and with another one that
+/// is as long.
+fn words_again(store: &mut Store, lits: [Lit; 4]) -> Result<(usize, usize, usize), Fail> {
+    let [a, b, c, d] = lits;
+    store.insert(&[a])?;
+    let slot = store.insert(&[a, b, c, d])?;
+    store.insert(&[b, c, d])?;
+    let filled = store.words();
+    store.remove(slot);
+    let left = store.words();
+    store.insert(&[d, c, b, a])?;
+    Ok((filled, left, store.words()))
+}
+
+#[test]
+fn uses_the_words_of_a_removed_clause(rt: HostRuntime) -> Result<(), Fail> {
+    let mut store = Store::new(rt.alloc())?;
+    expect_equal(&rt, store.words(), 0);
+    let lits = [literal(1)?, literal(-2)?, literal(3)?, literal(4)?];
+    expect_equal(&rt, words_again(&mut store, lits)?, (16, 16, 16));
+    Ok(())
+}
+
 fn insert_copies(store: &mut Store, lits: &[Lit], count: u32) -> Result<(), OutOfMemory> {
     for _ in 0..count {
         store.insert(lits)?;
