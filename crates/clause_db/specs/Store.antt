@@ -15,6 +15,10 @@ pub record StoreState : Type 0 where
   -- the sum of the lengths of all lists of literals that it keeps
   pub stored : ℕ
 
+-- a store with nothing in it
+abbrev pub no_clauses : StoreState
+no_clauses = record { live = maps.empty; blocks = maps.empty; stored = 0 }
+
 -- the sum of the weights of the clauses, each as often as it is stored
 abbrev pub sum_over : (Clause → ℕ) → FinMap nat_cmp Clause → ℕ
 sum_over weight clauses = sum_by weight (maps.values clauses)

@@ -23,7 +23,7 @@ ghost use Rattle.std.specs.FinMap.{FinMap};
 ghost use Rattle.cnf_base.specs.Literals.{Clause, has, same_clause, size};
 ghost use Rattle.clause_memory.specs.Memory.{AddsFewBlocks, CanRewatch, IsRewatched};
 ghost use Rattle.clause_memory.specs.Memory.{units_for, units_in};
-ghost use Rattle.clause_db.specs.Store.{literals_in, copies_with, IsTouchedAt};
+ghost use Rattle.clause_db.specs.Store.{literals_in, copies_with, no_clauses, IsTouchedAt};
 ghost use Rattle.clause_db.specs.Code.Fields.{IsTakenIn};
 ghost use Rattle.clause_db.specs.Code.Kept.{AreKept};
 ghost use Rattle.clause_db.specs.Code.LiteralMarks.{is_marked, mark_count};
@@ -45,9 +45,9 @@ use tables::{Table, key};
 /// The live clauses of a proof checker, each in a slot that the store picks.
 ///
 /// Contracts see it as finite maps from the numbers of the slots to the clauses and to the sizes of
-/// their blocks of memory, and the number of literals that it keeps. A clause is the set of its literals: the store keeps each literal once,
-/// in an order that it picks. One with [`NoIndex`](crate::NoIndex) finds no clause by its literals,
-/// and takes less memory.
+/// their blocks of memory, and the number of literals that it keeps. A clause is the set of its
+/// literals: the store keeps each literal once, in an order that it picks. One with
+/// [`NoIndex`](crate::NoIndex) finds no clause by its literals, and takes less memory.
 #[derive(Drop)]
 pub struct Store<I: Indexing = Index> {
     alloc: Global,
@@ -195,7 +195,7 @@ fn list_up<I: Indexing>(
 
 impl<I: Indexing> Store<I> {
     fn empty(alloc: Global, seed: u64) -> Self
-        ensures { result ≡ record { live = maps.empty; blocks = maps.empty; stored = 0 } }
+        ensures { result ≡ no_clauses }
     {
         Store {
             alloc,
@@ -339,7 +339,7 @@ impl<I: Indexing> Store<I> {
 impl Store<NoIndex> {
     /// No clauses, and none will be searched for by its literals.
     pub fn without_index(alloc: Global) -> Result<Self, OutOfMemory>
-        ensures { IfOk result (λ s. s ≡ record { live = maps.empty; blocks = maps.empty; stored = 0 }) }
+        ensures { IfOk result (λ s. s ≡ no_clauses) }
     {
         let store = Store::empty(alloc, 0);
         Ok(store)
@@ -350,7 +350,7 @@ impl Store {
     /// No clauses. Whoever chooses them can choose some with one hash, which makes the searches
     /// long: see [`Store::seeded`].
     pub fn new(alloc: Global) -> Result<Self, OutOfMemory>
-        ensures { IfOk result (λ s. s ≡ record { live = maps.empty; blocks = maps.empty; stored = 0 }) }
+        ensures { IfOk result (λ s. s ≡ no_clauses) }
     {
         Store::seeded(alloc, 0)
     }
@@ -358,7 +358,7 @@ impl Store {
     /// No clauses. They will be hashed by the seed, a number that whoever chooses them shouldn't
     /// know. No answer depends on it.
     pub fn seeded(alloc: Global, seed: u64) -> Result<Self, OutOfMemory>
-        ensures { IfOk result (λ s. s ≡ record { live = maps.empty; blocks = maps.empty; stored = 0 }) }
+        ensures { IfOk result (λ s. s ≡ no_clauses) }
     {
         Ok(Store::empty(alloc, seed))
     }

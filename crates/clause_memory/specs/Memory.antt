@@ -40,12 +40,12 @@ blocks_with n blocks = sum_over (λ m. if m == n then 1 else 0) blocks
 abbrev pub clauses_with : ℕ → FinMap nat_cmp Clause → ℕ
 clauses_with n clauses = sum_over (λ c. if units_for (length c) == n then 1 else 0) clauses
 
--- A clause that needs `added` units is to come to the live ones: of each number of units there are
--- no more blocks than before, or than clauses with the new one. So there are never more than the
--- most clauses that there ever were, or were to be.
+-- A clause that needs `added` units was to come to the live ones. Of each number of units there are
+-- no more blocks than before, or no more than clauses with it. So over all calls there are never
+-- more than clauses were alive at once, and one more where one was refused.
 abbrev pub AddsFewBlocks : FinMap nat_cmp ℕ → FinMap nat_cmp ℕ → FinMap nat_cmp Clause → ℕ → Type 0
-AddsFewBlocks old new live added = (n : ℕ) →
-    blocks_with n new ≤ max (blocks_with n old) (clauses_with n live + (if n == added then 1 else 0))
+AddsFewBlocks old new live added = (n : ℕ) → blocks_with n new ≤
+    max (blocks_with n old) (clauses_with n live + (if n == added then 1 else 0))
 
 -- The clause in the slot has `l` and `other` at its front, in this order or the other, and `next`
 -- behind them at `to`.

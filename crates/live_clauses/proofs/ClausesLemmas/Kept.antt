@@ -10,7 +10,7 @@ use Rattle.std.specs.declared.result.Result.TheVariants.{Ok, Err}
 use Rattle.std.specs.FinMap as maps
 use Rattle.std.specs.FinMap.{FinMap}
 use Rattle.cnf_base.specs.Literals.{Clause, size}
-use Rattle.clause_db.specs.Store.{StoreState, literals_in}
+use Rattle.clause_db.specs.Store.{StoreState, literals_in, no_clauses}
 use Rattle.clause_db.proofs.StoreLemmas.Sums.{sum_empty, sum_remove}
 use Rattle.live_clauses.specs.Code.LiveClauses.{IsPaired}
 use Rattle.live_clauses.proofs.ClausesLemmas.Joined.{freed_is}
@@ -32,7 +32,7 @@ module _ (store freed : StoreState) (alone : store.stored ≡ literals_in store.
   kept_back ids after id slot paired free others is = freed_alone ∙ ap literals_in (is ∙ freed_is ids store.live after id slot paired free others) ∙ sym alone
 
 -- where no clause is stored, none of its literals is
-pub none_alone : (s : StoreState) → s ≡ record { live = maps.empty; blocks = maps.empty; stored = 0 } → s.stored ≡ literals_in s.live
+pub none_alone : (s : StoreState) → s ≡ no_clauses → s.stored ≡ literals_in s.live
 none_alone s is = ap (λ s. s.stored) is ∙ sym (sum_empty size) ∙ ap (λ s. literals_in s.live) (sym is)
 
 -- ---- What holds of a result that is known

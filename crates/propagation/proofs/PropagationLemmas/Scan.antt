@@ -15,7 +15,7 @@ use Rattle.propagation.specs.Assumptions.{Propagation, assumed_by}
 use Rattle.propagation.specs.Code.Exact.{IsExact, AreExact}
 use Rattle.theory.specs.Propagation.{Live, IsClosed, Forced, Clash}
 use Rattle.propagation.specs.Code.Scan.{AssumesOn, IsHeld, IsScan}
-use Rattle.clause_db.specs.Store.{StoreState, literals_in}
+use Rattle.clause_db.specs.Store.{StoreState, literals_in, no_clauses}
 use Rattle.trail.specs.Trail.{HasRoom, HasRoomForAll}
 use Rattle.theory.specs.Sets.{SameSet, conflicts}
 use Rattle.propagation.specs.declared.answer.Answer.{Answer}
@@ -74,7 +74,7 @@ room_inserted reserved live after lits (Ok slot) all room stored others err = ro
 room_inserted reserved live after lits (Err e) all room stored others err = subst (λ m. HasRoomForAll reserved (maps.get m)) (sym err) all
 
 -- what is kept in a store without clauses
-pub none_alone : (s : StoreState) → s ≡ record { live = maps.empty; blocks = maps.empty; stored = 0 } → s.stored ≡ literals_in s.live
+pub none_alone : (s : StoreState) → s ≡ no_clauses → s.stored ≡ literals_in s.live
 none_alone s is = ap (λ s. s.stored) is ∙ sym (sum_empty size) ∙ ap (λ s. literals_in s.live) (sym is)
 
 -- ---- One more assumption
