@@ -9,7 +9,7 @@ ghost use Rattle.std.specs.Prelude.{if◌then◌else◌, IsTrue, IsFalse, OnOk, 
 ghost use Rattle.std.specs.Prelude.{None};
 ghost use Rattle.tables.specs.Table.{at};
 ghost use Rattle.tables.specs.Lists.{AreApart, entries_in, far_at, has_list_at, list_at, total};
-ghost use Rattle.tables.specs.Code.Lists.{AreSame};
+ghost use Rattle.tables.specs.Code.Lists.{AreSame, Pushes};
 
 use crate::table::Table;
 use cnf_base::OutOfMemory;
@@ -270,6 +270,16 @@ impl<T: Copy + Drop> Lists<T> {
                 return Ok(());
             }
         }
+        self.push_apart(key, entry)
+    }
+
+    /// The same, wherever the list is and if it is full. Inlined, it would make a loop that puts
+    /// entries into lists carry more numbers.
+    #[inline(never)]
+    fn push_apart(&mut self, key: u32, entry: T) -> Result<(), OutOfMemory>
+        requires { AreApart self.old }
+        ensures { Pushes self.old self.new key entry result }
+    {
         self.make_list(key)?;
         let mut list = self.take_out(key);
         let added = add(&mut list, entry);

@@ -19,7 +19,7 @@ ghost use Rattle.trail.specs.Code.Left.{IsCount};
 ghost use Rattle.trail.specs.Trail.{value_under, is_variable, HasNoVariableTwice, HasRoom};
 ghost use Rattle.trail.specs.Trail.{AreNear, MakesFalse};
 ghost use Rattle.theory.specs.Sets.{SameSet, conflicts};
-ghost use Rattle.trail.specs.Code.Values.{value_at, known_value};
+ghost use Rattle.trail.specs.Code.Values.{HaveValues, Opens, value_at};
 ghost use Rattle.trail.specs.declared.value.Value.TheVariants.{Open};
 
 use self::values::Values;
@@ -81,13 +81,8 @@ fn positive(var: u32) -> Option<Lit>
 
 /// Makes the literals and their complements open, wherever their values lie.
 fn open_rest(values: &mut Values, lits: &[Lit])
-    requires { (l : ℕ) → IsTrue (has lits.now l) → IsSome (value_at values.old l)
-        × IsSome (value_at values.old (complement l)) }
-    ensures known { (k : ℕ) →
-        is_some (value_at values.new k) ≡ is_some (value_at values.old k) }
-    ensures opened { (k : ℕ) → known_value (value_at values.new k) ≡
-        (if has lits.now k || has lits.now (complement k) then Open
-        else known_value (value_at values.old k)) }
+    requires { HaveValues (value_at values.old) lits.now }
+    ensures { Opens (value_at values.old) (value_at values.new) lits.now }
 {
     for l in lits {
         values.set_both(*l, Value::Open, Value::Open);
@@ -96,13 +91,8 @@ fn open_rest(values: &mut Values, lits: &[Lit])
 
 /// Makes the literals and their complements open.
 fn open_all(values: &mut Values, lits: &[Lit])
-    requires { (l : ℕ) → IsTrue (has lits.now l) → IsSome (value_at values.old l)
-        × IsSome (value_at values.old (complement l)) }
-    ensures known { (k : ℕ) →
-        is_some (value_at values.new k) ≡ is_some (value_at values.old k) }
-    ensures opened { (k : ℕ) → known_value (value_at values.new k) ≡
-        (if has lits.now k || has lits.now (complement k) then Open
-        else known_value (value_at values.old k)) }
+    requires { HaveValues (value_at values.old) lits.now }
+    ensures { Opens (value_at values.old) (value_at values.new) lits.now }
 {
     // Values that lie near are written in a loop of few instructions.
     let near = values.open_front(lits);
@@ -335,8 +325,17 @@ impl Trail {
     {
         match near.get(l.index()) {
             Some(value) => *value,
-            None => self.value(l),
+            None => self.value_far(l),
         }
+    }
+
+    #[cold]
+    #[inline(never)]
+    fn value_far(&self, l: Lit) -> Value
+        ensures value { result ≡ value_under self.now.lits l }
+        ensures different { HasNoVariableTwice self.now.lits }
+    {
+        self.value(l)
     }
 
     /// Whether the literal is true, which one of these near values may say.
@@ -389,29 +388,6 @@ impl Trail {
         Some((count, last))
     }
 
-    /// The same as `first_open`, where the values of all literals that it looks at are these near
-    /// ones. It counts the places beside the slice, which takes fewer instructions than a look by
-    /// each place.
-    #[inline(always)]
-    fn first_open_near(&self, near: &[Value], clause: &[Lit], from: usize) -> Option<Option<usize>>
-        requires { AreNear self.now.lits near.now }
-        ensures found { IfSome result (λ r. IfSome r (IsOpenAt self.now.lits clause.now from)) }
-        ensures none { IfSome result (λ r. IfNone r (AreFalseFrom self.now.lits clause.now from)) }
-    {
-        if from >= clause.len() {
-            return Some(None);
-        }
-        let mut place = from;
-        for l in &clause[from..] {
-            let is_false = self.is_false_near(near, *l)?;
-            if !is_false {
-                return Some(Some(place));
-            }
-            place += 1;
-        }
-        Some(None)
-    }
-
     /// The same as `first_open`, wherever the values lie.
     #[cold]
     #[inline(never)]
@@ -437,16 +413,27 @@ impl Trail {
     }
 
     /// The same as [`Trail::first_open`], where these near values may say which literals are false.
+    ///
+    /// It counts the places beside the slice, which takes fewer instructions than a look by each
+    /// place.
     #[inline(always)]
     pub fn first_open_in(&self, near: &[Value], clause: &[Lit], from: usize) -> Option<usize>
         requires { AreNear self.now.lits near.now }
         ensures found { IfSome result (IsOpenAt self.now.lits clause.now from) }
         ensures none { IfNone result (AreFalseFrom self.now.lits clause.now from) }
     {
-        match self.first_open_near(near, clause, from) {
-            Some(found) => found,
-            None => self.first_open_far(clause, from),
+        if from >= clause.len() {
+            return None;
         }
+        let mut place = from;
+        for l in &clause[from..] {
+            match self.is_false_near(near, *l) {
+                Some(true) => place += 1,
+                Some(false) => return Some(place),
+                None => return self.first_open_far(clause, place),
+            }
+        }
+        None
     }
 
     /// What is left of a clause, as [`Trail::left`] says it. It takes no memory.

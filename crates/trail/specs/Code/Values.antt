@@ -1,8 +1,8 @@
 -- How the code holds a trail: a value by literal.
 use Rattle.std.specs.Option.{option_or}
 use Rattle.std.specs.Prelude.{ℕ, Option, slice_get, unwrap_or, ◌≡◌, ◌≤◌, List, map, length, is_some}
-use Rattle.std.specs.Prelude.{IsTrue, IsSome}
-use Rattle.cnf_base.specs.Literals.{Literal, variable, has}
+use Rattle.std.specs.Prelude.{IsTrue, IsSome, ◌||◌, if◌then◌else◌}
+use Rattle.cnf_base.specs.Literals.{Literal, complement, variable, has}
 use Rattle.tables.specs.Table.{at}
 use Rattle.trail.specs.Trail.{value_under, HasNoVariableTwice}
 use Rattle.trail.specs.declared.trail.values.Values.{Values}
@@ -16,6 +16,17 @@ value_at values l = option_or (slice_get values.dense.items l) (at values.far l)
 -- a literal without a value is open
 abbrev pub known_value : Option Value → Value
 known_value o = unwrap_or o Open
+
+-- each of these literals has a value, and so has its complement
+abbrev pub HaveValues : (ℕ → Option Value) → List Literal → Type 0
+HaveValues value_of lits =
+    (l : ℕ) → IsTrue (has lits l) → IsSome (value_of l) × IsSome (value_of (complement l))
+
+-- these literals and their complements are open, all others are as before, and as many have a value
+pub record Opens (before after : ℕ → Option Value) (lits : List Literal) : Type 0 where
+  pub known : (k : ℕ) → is_some (after k) ≡ is_some (before k)
+  pub opened : (k : ℕ) → known_value (after k) ≡
+      (if has lits k || has lits (complement k) then Open else known_value (before k))
 
 -- just the variables that were reserved are seen, and both literals of each have a value, which is
 -- what the trail says of them; it has no variable twice, and room for one literal of each

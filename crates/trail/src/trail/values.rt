@@ -8,7 +8,7 @@ ghost use Rattle.std.specs.Prelude.{IsSome, IsTrue, is_some, OnOk, vec_len, leng
 ghost use Rattle.std.specs.Prelude.{◌||◌};
 ghost use Rattle.cnf_base.specs.Literals.{complement, has};
 ghost use Rattle.trail.specs.declared.value.Value.TheVariants.{Open};
-ghost use Rattle.trail.specs.Code.Values.{value_at, known_value};
+ghost use Rattle.trail.specs.Code.Values.{Opens, value_at, known_value};
 ghost use Rattle.tables.specs.Table.{at};
 
 use crate::value::Value;
@@ -141,11 +141,7 @@ impl Values {
     /// many.
     pub(crate) fn open_front(&mut self, lits: &[Lit]) -> usize
         ensures inside { result ≤ length lits.now }
-        ensures known { (k : ℕ) →
-            is_some (value_at self.new k) ≡ is_some (value_at self.old k) }
-        ensures opened { (k : ℕ) → known_value (value_at self.new k) ≡
-            (if has (take result lits.now) k || has (take result lits.now) (complement k)
-            then Open else known_value (value_at self.old k)) }
+        ensures opened { Opens (value_at self.old) (value_at self.new) (take result lits.now) }
     {
         open_dense(&mut self.dense, lits)
     }
