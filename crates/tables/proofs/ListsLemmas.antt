@@ -149,6 +149,14 @@ module _ {T : Type 0} where
       let was : length (get_or lists n list).items ≡ 0 = ap length (sym (ap (λ o. items_or o []) (slice_get-get_or lists n list inside)) ∙ empty) in
       omega arith
 
+  -- a list that is written again, with as many entries, changes no sum
+  pub total_again : (lists : List (Vec T Global)) (n : ℕ) (list again : Vec T Global) → n < length lists → length again.items ≡ length list.items → total (set (set lists n list) n again) ≡ total (set lists n list)
+  total_again lists n list again inside len =
+      let there : n < length (set lists n list) = let long = length-set lists n list in omega (arith, long) in
+      let put = sum_by-set (λ v. length v.items) (set lists n list) n again list there in
+      let was = ap (λ v. length v.items) (get_or-set_same lists n list list inside) in
+      omega (arith, put, was, len)
+
   -- one more list is counted
   pub counted_more : (lists : List (Vec T Global)) (n so_far len sum : ℕ) (list : Vec T Global) → n < length lists → list ≡ get_or lists n list → so_far ≡ min (total (take n lists)) 18446744073709551615 →
       len ≡ length list.items → sum ≡ min (so_far + len) 18446744073709551615 → sum ≡ min (total (take (n + 1) lists)) 18446744073709551615

@@ -145,7 +145,7 @@ impl<T: Copy + Drop> Lists<T> {
     /// Puts a list in the place of the empty one of a key. It gives room back where it is far
     /// shorter than it was.
     #[inline(always)]
-    pub fn put_back(&mut self, key: u32, mut list: Vec<T>)
+    pub fn put_back(&mut self, key: u32, list: Vec<T>)
         requires apart { AreApart self.old }
         requires known { IsTrue (has_list_at self.old key) }
         requires taken { list_at self.old key ≡ [] }
@@ -155,9 +155,10 @@ impl<T: Copy + Drop> Lists<T> {
         ensures known { (k : ℕ) → has_list_at self.new k ≡ has_list_at self.old k }
         ensures apart { AreApart self.new }
     {
-        give_back(&mut list);
+        // Room is given back in its place: a list that lies in registers need not go to memory first.
         if (key as usize) < self.near.len() {
             self.near[key as usize] = list;
+            give_back(&mut self.near[key as usize]);
         } else if let Some(number) = self.numbers.get(key) {
             self.far[number as usize] = list;
         }

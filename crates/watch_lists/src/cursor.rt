@@ -21,18 +21,20 @@ pub struct Cursor {
 }
 
 /// Takes out what stands between two places. Few visits end early, so that a gap is left: inlined,
-/// it would make the loop over the entries carry more numbers.
+/// it would make the loop over the entries carry more numbers. By a reference the list would have to
+/// lie in memory on all other ways too.
 #[inline(never)]
-fn close_gap(list: &mut Vec<Watcher>, from: usize, to: usize)
+fn close_gap(mut list: Vec<Watcher>, from: usize, to: usize) -> Vec<Watcher>
     requires order { from ≤ to }
-    requires inside { to ≤ length list.old.items }
-    ensures { list.new.items ≡ take from list.old.items ++ drop to list.old.items }
+    requires inside { to ≤ length list.items }
+    ensures { result.items ≡ take from list.items ++ drop to list.items }
 {
     let rest = list.len() - to;
     if from < to {
         list.copy_within(to.., from);
     }
     list.truncate(from + rest);
+    list
 }
 
 impl Model for Cursor {
@@ -105,10 +107,9 @@ impl Cursor {
     {
         let mut list = self.list;
         if self.next < list.len() {
-            close_gap(&mut list, self.kept, self.next);
-        } else {
-            list.truncate(self.kept);
+            return close_gap(list, self.kept, self.next);
         }
+        list.truncate(self.kept);
         list
     }
 }
