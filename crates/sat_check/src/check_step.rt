@@ -3,17 +3,15 @@
 //! Lines are made in functions that are called, not inlined: most steps have none, and the frame of
 //! each step would be filled with blank ones.
 
-ghost use Rattle.std.specs.Prelude.{◌≡◌, ◌≢◌, ◌⊎◌, true, false, IfErr, IfNone, IfSome, OnOk, IsFalse};
-ghost use Rattle.cnf_base.specs.Lines.{Writes};
+ghost use Rattle.std.specs.Prelude.{◌≡◌, ◌≢◌, ◌⊎◌, true, false, IfNone, IfSome};
 ghost use Rattle.steps.specs.ProofSession.{is_over};
 ghost use Rattle.theory.specs.Verdicts.{is_last};
-ghost use Rattle.sat_check.specs.Lines.{a_proof, refusal_line, steps_line, trace_line};
-ghost use Rattle.sat_check.specs.Report.{Report, Outcome, is_cut_short, concluded, with_lines};
-ghost use Rattle.sat_check.specs.Report.{text_of};
+ghost use Rattle.sat_check.specs.Lines.{a_proof, refusal_line, steps_line};
+ghost use Rattle.sat_check.specs.Report.{Report, Outcome, concluded};
 ghost use Rattle.sat_check.specs.Code.Writer.{LeavesWriter};
 ghost use Rattle.sat_check.specs.Code.Reach.{IsVerdict};
-ghost use Rattle.sat_check.specs.Code.Checking.{Decides, GoesOn, IsRefused, Stops, IsBreak, IsTold};
-ghost use Rattle.sat_check.specs.Code.Checking.{is_memory, traced};
+ghost use Rattle.sat_check.specs.Code.Checking.{Decides, GoesOn, IsRefused, Stops, IsTold, Traces};
+ghost use Rattle.sat_check.specs.Code.Checking.{is_memory};
 
 use crate::Status;
 use crate::conclude::{conclude, give_up, write_line};
@@ -87,14 +85,7 @@ fn write_trace<O: Out>(
     word: Accepted,
     lines: &mut LineOut<O>,
 ) -> Result<(), Status>
-    ensures wrote { OnOk result (Writes lines.old lines.new (text_of (traced trace number word))) }
-    ensures whole { OnOk result (lines.old.is_broken ≡ false → lines.new.is_broken ≡ false) }
-    ensures stopped { IfErr result (λ status. (r : Report) →
-        Outcome status lines.old.held lines.new.held (with_lines (traced trace number word) r)) }
-    ensures no_failure { OnOk result (lines.new.has_failed ≡ lines.old.has_failed) }
-    ensures broke { IfErr result (λ status. IsBreak status lines.new) }
-    ensures cut_short { IfErr result (λ status. is_cut_short status ≡ true) }
-    ensures same_writer { lines.new.borrows ≡ lines.old.borrows }
+    ensures { Traces trace number word lines.old lines.new result }
 {
     if !trace {
         return Ok(());
@@ -110,14 +101,7 @@ fn write_trace_line<O: Out>(
     word: Accepted,
     lines: &mut LineOut<O>,
 ) -> Result<(), Status>
-    ensures wrote { OnOk result (Writes lines.old lines.new (text_of (traced true number word))) }
-    ensures whole { OnOk result (lines.old.is_broken ≡ false → lines.new.is_broken ≡ false) }
-    ensures stopped { IfErr result (λ status. (r : Report) →
-        Outcome status lines.old.held lines.new.held (with_lines (traced true number word) r)) }
-    ensures no_failure { OnOk result (lines.new.has_failed ≡ lines.old.has_failed) }
-    ensures broke { IfErr result (λ status. IsBreak status lines.new) }
-    ensures cut_short { IfErr result (λ status. is_cut_short status ≡ true) }
-    ensures same_writer { lines.new.borrows ≡ lines.old.borrows }
+    ensures { Traces true number word lines.old lines.new result }
 {
     write_line(lines, trace_line(alloc, number, word))
 }

@@ -2,7 +2,7 @@
 use Rattle.std.specs.List.{list_any}
 use Rattle.std.specs.Prelude.{◌≡◌, ◌+◌, ◌≤◌, false, List, length, None, Some, Result, Ok, Err, ℕ}
 use Rattle.std.specs.Prelude.{max, Bool, ◌⊎◌, Option, true, ◌-◌, ◌^◌, min, if◌then◌else◌, [], ◌∷◌}
-use Rattle.std.specs.Prelude.{IsTrue, IsSome}
+use Rattle.std.specs.Prelude.{IsTrue, IsSome, OnOk, IfErr}
 use Rattle.cnf_base.specs.Lines.{Sink, Writes}
 use Rattle.cnf_base.specs.Literals.{Clause}
 use Rattle.cnf_base.specs.Seen.{OfBothSeen, OneHasFailed}
@@ -26,7 +26,7 @@ use Rattle.sat_check.specs.Lines.{trace_line}
 use Rattle.sat_check.specs.Reach.{deciding_step, refused_end, NeedsNoProof, TellsWhy}
 use Rattle.sat_check.specs.Reach.{ReadsNoFurther, TellsFault}
 use Rattle.sat_check.specs.Report.{Report, bare_steps, peak_of, proof_report, Reports, text_of}
-use Rattle.sat_check.specs.Report.{Outcome}
+use Rattle.sat_check.specs.Report.{Outcome, is_cut_short, with_lines}
 use Rattle.sat_check.specs.declared.checked.Checked.{Checked}
 use Rattle.sat_check.specs.declared.status.Status.TheVariants.{NotVerified, OutOfMemory as NoMemory}
 use Rattle.sat_check.specs.declared.status.Status.TheVariants.{WriteFailed, ReadFailed}
@@ -168,6 +168,18 @@ abbrev pub IsBreak : Status → Sink → Type 0
 IsBreak NoMemory now = Unit {0}
 IsBreak WriteFailed now = now.has_failed ≡ true
 IsBreak _ now = ⊥
+
+-- the line of an accepted step was written, if a trace is asked for; or the report broke off there
+pub record Traces (trace : Bool) (number : ℕ) (word : Accepted) (was now : Sink)
+    (result : Result Unit Status) : Type 0 where
+  pub wrote : OnOk result (Writes was now (text_of (traced trace number word)))
+  pub whole : OnOk result (was.is_broken ≡ false → now.is_broken ≡ false)
+  pub stopped : IfErr result (λ status. (r : Report) →
+      Outcome status was.held now.held (with_lines (traced trace number word) r))
+  pub no_failure : OnOk result (now.has_failed ≡ was.has_failed)
+  pub broke : IfErr result (λ status. IsBreak status now)
+  pub cut_short : IfErr result (λ status. is_cut_short status ≡ true)
+  pub same_writer : now.borrows ≡ was.borrows
 
 -- neither a malformed input or a failed read, nor a failed write that the writer doesn't tell of
 abbrev pub IsTold : Status → Sink → Type 0

@@ -1,8 +1,16 @@
+use Rattle.std.proofs.Common.{rules}
 use Rattle.sat_check.specs.Lines.{trace_line}
 use Rattle.sat_check.proofs.OutcomeLemmas.{Writes-line, on_ok}
 use Rattle.sat_check.proofs.check_step.write_trace_line.Goals as goal
 
-pub returns-clause-wrote : goal.returns-clause-wrote
-returns-clause-wrote g c =
-    on_ok c.write_line.result _ _ c.write_line.ensures.written
-    (λ w. Writes-line _ _ (trace_line c.args.number c.args.word) (w (trace_line c.args.number c.args.word) c.trace_line.ensures))
+pub returns : goal.returns
+returns g c = record {
+  wrote = on_ok c.write_line.result _ _ c.write_line.ensures.written
+      (λ w. Writes-line _ _ (trace_line c.args.number c.args.word) (w (trace_line c.args.number c.args.word) c.trace_line.ensures));
+  whole = search rules;
+  stopped = search rules;
+  no_failure = search rules;
+  broke = search rules;
+  cut_short = c.write_line.ensures.cut_short;
+  same_writer = c.write_line.ensures.same_writer;
+}
