@@ -18,7 +18,8 @@ ghost use Rattle.root_literals.specs.Order.{each_in_order};
 ghost use Rattle.root_literals.specs.Watched.{IsMet, IsWatched};
 ghost use Rattle.root_literals.specs.Roots.{IsFalseAt};
 ghost use Rattle.watch.specs.Code.Visits.{AreMet, CanFollow, CanVisit, Followed, IsExchangeAt};
-ghost use Rattle.watch.specs.Code.Visits.{IsFoundNext, IsInHand, IsNextSlot, Visited, entries_left};
+ghost use Rattle.watch.specs.Code.Visits.{IsFoundNext, IsInHand, IsNextSlot, Visited, VisitsUnder};
+ghost use Rattle.watch.specs.Code.Visits.{entries_left};
 ghost use Rattle.tables.specs.Table.{at};
 
 use crate::visit::{Exchange, Visit, look_at};
@@ -105,10 +106,8 @@ fn visit(
     requires hand { IsInHand store.old.live lists.old cursor.old.entries l }
     requires is_false { IsTrue (has trail.now.lits (complement l)) }
     requires met { AreMet store.old.live cursor.old l trail.now.lits }
-    ensures visited { (held : AssumptionsState) (reason_of : Literal → Option ℕ) →
-        held.trail ≡ trail.now →
-        Visited store.old.live store.new.live lists.old lists.new cursor.old.entries
-        cursor.new.entries held held reason_of reason_of l }
+    ensures visited { VisitsUnder trail.now store.old.live store.new.live lists.old lists.new
+        cursor.old.entries cursor.new.entries l }
     ensures met { OnOk result (AreMet store.new.live cursor.new l trail.now.lits) }
     ensures found { IfOk result (λ found. IfSome found
         (IsFoundNext store.new.live cursor.new trail.now.lits entry)) }
@@ -148,10 +147,8 @@ fn next_found(
     requires hand { IsInHand store.old.live lists.old cursor.old.entries l }
     requires is_false { IsTrue (has trail.now.lits (complement l)) }
     requires met { AreMet store.old.live cursor.old l trail.now.lits }
-    ensures visited { (held : AssumptionsState) (reason_of : Literal → Option ℕ) →
-        held.trail ≡ trail.now →
-        Visited store.old.live store.new.live lists.old lists.new cursor.old.entries
-        cursor.new.entries held held reason_of reason_of l }
+    ensures visited { VisitsUnder trail.now store.old.live store.new.live lists.old lists.new
+        cursor.old.entries cursor.new.entries l }
     ensures met { OnOk result (AreMet store.new.live cursor.new l trail.now.lits) }
     ensures found { IfOk result (λ found. IfSome found (λ f.
         IsFoundNext store.new.live cursor.new trail.now.lits f.entry f.found)) }

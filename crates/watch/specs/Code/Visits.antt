@@ -6,7 +6,7 @@ use Rattle.std.specs.Prelude.{List, IsTrue, ◌≡◌, ◌≢◌, ◌<◌, ◌�
 use Rattle.std.specs.Prelude.{IsFalse, ℕ, Option, Some, IsSome, [], ◌==◌, if◌then◌else◌, slice_get}
 use Rattle.cnf_base.specs.Literals.{Literal, has, complement, Clause, size}
 use Rattle.theory.specs.Propagation.{Forced}
-use Rattle.trail.specs.Trail.{HasRoomForAll}
+use Rattle.trail.specs.Trail.{HasRoomForAll, TrailState}
 use Rattle.propagation.specs.Assumptions.{AssumptionsState}
 use Rattle.propagation.specs.Code.Exact.{Extends}
 use Rattle.watch_lists.specs.Cursor.{CursorState}
@@ -148,6 +148,14 @@ pub record Visited (before after : FinMap nat_cmp Clause) (lists lists_now : Wat
   pub entries : entries_in lists_now + length list_now ≡ entries_in lists + length list
   -- what is true now was forced
   pub propagates : PropagatesTo before after held now reason_of reason_now
+
+-- visits moved clauses from the list in hand to others and made no literal true, whatever is held
+-- beside these true literals
+abbrev pub VisitsUnder : TrailState → FinMap nat_cmp Clause → FinMap nat_cmp Clause → WatchLists →
+    WatchLists → List Watcher → List Watcher → Literal → Type 0
+VisitsUnder trail before after lists lists_now list list_now l =
+    (held : AssumptionsState) (reason_of : Literal → Option ℕ) → held.trail ≡ trail →
+    Visited before after lists lists_now list list_now held held reason_of reason_of l
 
 -- the next entry is of the slot
 abbrev pub IsNextSlot : CursorState → ℕ → Type 0
