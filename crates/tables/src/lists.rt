@@ -160,7 +160,9 @@ impl<T: Copy + Drop> Lists<T> {
             self.near[key as usize] = list;
             give_back(&mut self.near[key as usize]);
         } else if let Some(number) = self.numbers.get(key) {
-            self.far[number as usize] = list;
+            let mut far = list;
+            give_back(&mut far);
+            self.far[number as usize] = far;
         }
     }
 

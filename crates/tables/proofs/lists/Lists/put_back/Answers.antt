@@ -1,8 +1,8 @@
-use Rattle.std.proofs.Common.{◌<◌, ◌≤◌, length, [], sym, ap, ◌∙◌, arith}
+use Rattle.std.proofs.Common.{◌<◌, ◌≤◌, cond, eqb, length, [], sym, ap, ◌∙◌, arith}
 use Rattle.std.proofs.lemmas.List.{get_or-set_same}
 use Rattle.std.proofs.lemmas.Option.{slice_get-get_or, slice_get_past}
 use Rattle.tables.specs.Table.{at}
-use Rattle.tables.specs.Lists.{far_at, items_at, items_or}
+use Rattle.tables.specs.Lists.{far_at, items_at, items_or, list_at}
 use Rattle.tables.proofs.ListsLemmas.{far_written, rest_written, total_again, total_put}
 use Rattle.tables.proofs.lists.Lists.put_back.Goals as goal
 
@@ -21,9 +21,9 @@ pub returns-in-Some-clause-lists : goal.returns-in-Some-clause-lists
 returns-in-Some-clause-lists g c =
     let old = c.args.self.now in
     let past : length old.near.items ≤ c.args.key = let high = c.if-key-len.false in let n = c.len.ensures in let fits = old.near.ok in omega arith in
-    let list = c.args.list in
+    let list = c.give_back-in-Some.new.list in
     let written = far_written old.far.items (at old.numbers) c.requires.apart c.args.key c.in-Some.number list (sym c.get.ensures ∙ c.in-Some.is) in
-    rest_written old.near.items c.args.key (λ _. list.items) (far_at old) _ past written
+    λ k. rest_written old.near.items c.args.key (λ _. list.items) (far_at old) _ past written k ∙ ap (λ xs. cond (eqb k c.args.key) xs (list_at old k)) c.give_back-in-Some.ensures
 
 pub returns-in-Some-clause-entries : goal.returns-in-Some-clause-entries
 returns-in-Some-clause-entries g c =
@@ -31,5 +31,6 @@ returns-in-Some-clause-entries g c =
     let here = sym c.get.ensures ∙ c.in-Some.is in
     let past : length old.near.items ≤ c.args.key = let high = c.if-key-len.false in let n = c.len.ensures in let fits = old.near.ok in omega arith in
     let none = ap (items_at old.far.items) (sym here) ∙ sym (ap (λ o. items_or o (far_at old c.args.key)) (slice_get_past old.near.items c.args.key past)) ∙ c.requires.taken in
-    let put = total_put old.far.items c.in-Some.number c.args.list (c.requires.apart.inside c.args.key c.in-Some.number here) none in
-    omega (arith, put)
+    let put = total_put old.far.items c.in-Some.number c.give_back-in-Some.new.list (c.requires.apart.inside c.args.key c.in-Some.number here) none in
+    let len = ap length c.give_back-in-Some.ensures in
+    omega (arith, put, len)
