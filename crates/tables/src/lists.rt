@@ -34,7 +34,10 @@ pub struct Lists<T> {
 /// The length from which `near` grows.
 const LEAST: usize = 16384;
 
-/// A key is near where it is below so many times the number of keys that were met.
+/// A key below this is near, however few were met.
+const NEAR: usize = 131072;
+
+/// So is one that is below so many times the number of keys that were met, and this.
 const SPARSE: usize = 8;
 
 /// The key past the greatest one.
@@ -155,7 +158,7 @@ impl<T: Copy + Drop> Lists<T> {
         ensures known { (k : ℕ) → has_list_at self.new k ≡ has_list_at self.old k }
         ensures apart { AreApart self.new }
     {
-        // Room is given back in its place: a list that lies in registers need not go to memory first.
+        // Room is given back in its place: a list in registers need not go to memory first.
         if (key as usize) < self.near.len() {
             self.near[key as usize] = list;
             give_back(&mut self.near[key as usize]);
@@ -230,11 +233,24 @@ impl<T: Copy + Drop> Lists<T> {
         Ok(())
     }
 
+    /// Gives a key a list where it has none.
+    #[inline(always)]
+    fn make_list(&mut self, key: u32) -> Result<(), OutOfMemory>
+        requires { AreApart self.old }
+        ensures same { AreSame self.old self.new }
+        ensures known { OnOk result (IsTrue (has_list_at self.new key)) }
+    {
+        if (key as usize) < self.near.len() {
+            return Ok(());
+        }
+        self.make_list_apart(key)
+    }
+
     /// Gives a key a list where it has none, in `near` unless it is far from those that have one. A
     /// list in `far` comes to `near` where its key is near by now.
     #[cold]
     #[inline(never)]
-    fn make_list(&mut self, key: u32) -> Result<(), OutOfMemory>
+    fn make_list_apart(&mut self, key: u32) -> Result<(), OutOfMemory>
         requires { AreApart self.old }
         ensures same { AreSame self.old self.new }
         ensures known { OnOk result (IsTrue (has_list_at self.new key)) }
@@ -243,7 +259,7 @@ impl<T: Copy + Drop> Lists<T> {
         self.count = self.count.saturating_add(usize::from(is_new));
         let len = self.near.len();
         let place = key as usize;
-        let limit = self.count.saturating_mul(SPARSE).saturating_add(LEAST);
+        let limit = self.count.saturating_mul(SPARSE).saturating_add(NEAR);
         if len <= place && place < limit {
             self.widen(len.saturating_mul(2).max(LEAST).max(place + 1).min(MOST))
         } else if is_new {
@@ -276,8 +292,8 @@ impl<T: Copy + Drop> Lists<T> {
         self.push_apart(key, entry)
     }
 
-    /// The same, wherever the list is and if it is full. Inlined, it would make a loop that puts
-    /// entries into lists carry more numbers.
+    /// The same where the list is full, or far. Inlined, it would make a loop that puts entries into
+    /// lists carry more numbers.
     #[inline(never)]
     fn push_apart(&mut self, key: u32, entry: T) -> Result<(), OutOfMemory>
         requires { AreApart self.old }

@@ -2,8 +2,8 @@
 //!
 //! Dense keys have their values in an array, far keys in a balanced tree. So variable 268435455
 //! takes the memory that variable 1 takes, and a look-up among dense keys costs one comparison more
-//! than an array's. The array is at most thirty-two times as long as the keys that were met, and
-//! sixteen thousand.
+//! than an array's. The array is at most thirty-two times as long as the keys that were met, and a
+//! hundred and thirty thousand.
 //!
 //! No key is hashed, since whoever writes an input chooses the keys. `HashMap` has the same
 //! constants in each run: keys that all collide would make a few megabytes take minutes.
@@ -38,7 +38,10 @@ pub struct Table<T> {
 /// The length from which `dense` grows.
 const LEAST: usize = 8192;
 
-/// A key is near where it is below so many times the number of keys that were met.
+/// A key below this is near, however few were met.
+const NEAR: usize = 65536;
+
+/// So is one that is below so many times the number of keys that were met, and this.
 const SPARSE: usize = 16;
 
 /// The key of a literal.
@@ -230,7 +233,25 @@ impl<T: Copy + Drop> Table<T> {
         if let Some(Some(_)) = self.dense.as_slice().get(key as usize) {
             return Ok(());
         }
-        self.reserve_far(key, value)
+        self.reserve_anew(key, value)
+    }
+
+    /// Makes room for a key that has no value in `dense`.
+    #[inline(never)]
+    fn reserve_anew(&mut self, key: u32, value: T) -> Result<(), OutOfMemory>
+        requires { slice_index_or self.old.dense.items key None ≡ None }
+        ensures ok { OnOk result ((k : ℕ) → at self.new k ≡
+            (if k == key then Some (unwrap_or (at self.old key) value) else at self.old k)) }
+        ensures err { OnErr result ((k : ℕ) → at self.new k ≡ at self.old k) }
+    {
+        let len = self.dense.len();
+        let place = key as usize;
+        if place >= len || self.count >= len {
+            return self.reserve_far(key, value);
+        }
+        self.dense[place] = Some(value);
+        self.count += 1;
+        Ok(())
     }
 
     /// Makes room for a key that has no value in `dense`. Where it is near by now, `dense` comes to
@@ -244,7 +265,7 @@ impl<T: Copy + Drop> Table<T> {
     {
         let len = self.dense.len();
         let place = key as usize;
-        let limit = self.count.saturating_mul(SPARSE).saturating_add(LEAST);
+        let limit = self.count.saturating_mul(SPARSE).saturating_add(NEAR);
         let is_near = len <= place && place < limit;
         // Keys that fell from high to low would else stay in the sparse part.
         let is_short = len > 0 && len < self.count;

@@ -29,7 +29,10 @@ pub(crate) struct Values {
 /// The length from which `dense` grows.
 const LEAST: usize = 16384;
 
-/// A literal is near where it is below so many times the number of variables that were reserved.
+/// A literal below this is near, however few variables were reserved.
+const NEAR: usize = 131072;
+
+/// So is one that is below so many times the number of variables that were reserved, and this.
 const SPARSE: usize = 32;
 
 /// The key past the greatest one.
@@ -208,7 +211,7 @@ impl Values {
         ensures room { OnOk result (IsSome (value_at self.new l)) }
         ensures other { OnOk result (IsSome (value_at self.new (complement l))) }
     {
-        let limit = count.saturating_mul(SPARSE).saturating_add(LEAST);
+        let limit = count.saturating_mul(SPARSE).saturating_add(NEAR);
         let len = self.dense.len();
         if len <= l.index() && l.index() < limit {
             let wanted = len.saturating_mul(2).max(LEAST).max(l.index() + 2);
