@@ -6,3 +6,4 @@ pub mod Results
 pub mod SlotMap
 pub mod Waiting
 pub mod Whole
+pub mod Writes

@@ -235,10 +235,6 @@ module _ (es : List Entry) (reached : AreReached es) (apart : AreApart es) where
   pub slot_of : (h p : ℕ) → HasAt es h p → slot_among es h ≡ Some (entry_at es p).slot
   slot_of h p has = slot_there es h p apart has.inside has.of
 
-  -- the slot that the code reads there is the hash's
-  pub slot_read : (h p : ℕ) → HasAt es h p → (x : Entry) → x ≡ get_or es p x → Some x.slot ≡ slot_among es h
-  slot_read h p has x is = ap (λ (e : Entry). Some e.slot) (entry_read es p x has.inside is) ∙ sym (slot_of h p has)
-
   -- ---- A slot that is taken out
 
   module _ (h p : ℕ) (has : HasAt es h p) (left : Entry) (vacant : is_taken left ≡ false)
