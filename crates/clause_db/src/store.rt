@@ -7,13 +7,14 @@
 //! What is kept (`stored`) is counted over the fields, not over the clauses: that it is the sum of
 //! the live sizes then has to be proved, and a clause that is only marked as deleted breaks it.
 
+mod counts;
 mod kept;
 mod mark;
 mod marks;
 mod search;
 
 ghost use Rattle.std.specs.Prelude.{◌≡◌, ◌≢◌, ℕ, ◌+◌, ◌*◌, ◌<◌, ◌≤◌, ◌==◌, ◌++◌, [], ◌∷◌, ◌^◌, min};
-ghost use Rattle.std.specs.Prelude.{true, false, Some, None, option_map, length, if◌then◌else◌};
+ghost use Rattle.std.specs.Prelude.{true, false, Some, None, is_some, option_map, length};
 ghost use Rattle.std.specs.Prelude.{IsTrue, IsSome, IfSome, IfNone, IfOk, OnOk, OnErr};
 ghost use Rattle.std.specs.List.{swap};
 ghost use Rattle.std.specs.List.Sorted.{IsStrictlyIncreasing};
@@ -24,14 +25,15 @@ ghost use Rattle.cnf_base.specs.Literals.{Clause, has, same_clause, size};
 ghost use Rattle.clause_memory.specs.Memory.{AddsFewBlocks, CanRewatch, IsRewatched};
 ghost use Rattle.clause_memory.specs.Memory.{units_for, units_in};
 ghost use Rattle.clause_db.specs.Store.{literals_in, copies_with, no_clauses, IsTouchedAt};
+ghost use Rattle.clause_db.specs.Code.Counts.{AreCounted};
 ghost use Rattle.clause_db.specs.Code.Fields.{IsTakenIn};
 ghost use Rattle.clause_db.specs.Code.Kept.{AreKept};
-ghost use Rattle.clause_db.specs.Code.LiteralMarks.{is_marked, mark_count};
+ghost use Rattle.clause_db.specs.Code.LiteralMarks.{is_marked};
 ghost use Rattle.tables.specs.Table.{at};
 
+use crate::store::counts::{count_in, count_out, count_with, keep};
 use crate::store::kept::{find_slots, forget, note};
-use crate::store::mark::Mark;
-use crate::store::marks::{all_known, count_all, gather, mark_all, mark_new, release, unmark_all};
+use crate::store::marks::{all_known, gather, mark_all, mark_new, unmark_all};
 use crate::store::search::find_marked;
 use clause_index::{Index, Indexing, NoIndex};
 use clause_memory::ClauseMemory;
@@ -40,7 +42,7 @@ use ids::Slot;
 use occurrences::Occurrences;
 use std::alloc::Global;
 use std::marker::Model;
-use tables::{Table, key};
+use tables::Table;
 
 /// The live clauses of a proof checker, each in a slot that the store picks.
 ///
@@ -53,7 +55,10 @@ pub struct Store<I: Indexing = Index> {
     alloc: Global,
     memory: ClauseMemory,
     index: I,
-    marks: Table<Mark>,
+    /// By literal whether a call has marked it.
+    marks: Table<bool>,
+    /// By literal how many clauses have it, where this is counted.
+    counts: Option<Table<u32>>,
     sum: u128,
     /// By literal the slots of the clauses that have it, from when they are first asked for.
     occurrences: Option<Occurrences>,
@@ -61,6 +66,7 @@ pub struct Store<I: Indexing = Index> {
 
 impl<I: Indexing> Model for Store<I> {
     ghost use Rattle.clause_db.specs.Store.{StoreState};
+    ghost use Rattle.clause_db.specs.Code.Counts.{AreCounted};
     ghost use Rattle.clause_db.specs.Code.Fields.{IsStore, store_code};
     ghost use Rattle.clause_db.specs.Code.Kept.{AreKept};
 
@@ -74,6 +80,7 @@ impl<I: Indexing> Model for Store<I> {
       memory = memory;
       index = _;
       marks = _;
+      counts = _;
       sum = _;
       occurrences = _;
     }. record {
@@ -84,13 +91,14 @@ impl<I: Indexing> Model for Store<I> {
 
     ghost invariant = { λ s.
         IsStore s.memory.live s.memory.stored s.marks s.sum
-        × I.indexes s.index s.memory.live × AreKept s.occurrences s.memory.live };
+        × I.indexes s.index s.memory.live × AreKept s.occurrences s.memory.live
+        × AreCounted s.counts s.memory.live };
 }
 
-/// The marked literals, each once, where so many are marked. They stay marked.
+/// The marked literals, each once, where so many are marked. Their marks are taken off.
 fn without_repeats(
     alloc: Global,
-    marks: &mut Table<Mark>,
+    marks: &mut Table<bool>,
     lits: &[Lit],
     len: usize,
 ) -> Result<Vec<Lit>, OutOfMemory>
@@ -98,31 +106,26 @@ fn without_repeats(
     requires len { len ≡ size lits.now }
     ensures same { IfOk result (λ kept. IsTrue (same_clause kept.items lits.now)) }
     ensures different { IfOk result (λ kept. size kept.items ≡ length kept.items) }
-    ensures known { OnOk result ((l : ℕ) → has lits.now l ≡ true → IsSome (at marks.new l)) }
-    ensures all { OnOk result ((l : ℕ) → is_marked (at marks.new l) ≡ has lits.now l) }
     ensures some { (l : ℕ) → is_marked (at marks.new l) ≡ true → has lits.now l ≡ true }
-    ensures counts { (l : ℕ) → mark_count (at marks.new l) ≡ mark_count (at marks.old l) }
+    ensures known { (l : ℕ) → is_some (at marks.new l) ≡ is_some (at marks.old l) }
 {
     let mut kept = Vec::with_capacity(alloc, len)?;
     gather(marks, lits, &mut kept);
-    mark_new(marks, &kept)?;
     Ok(kept)
 }
 
-/// Marks the literals of a clause, and puts it into the memory, without repeated ones. Where memory
-/// is refused, some of them may be marked.
+/// Marks literals of a clause, and puts it into the memory, without repeated ones.
 fn put_in(
     alloc: Global,
     memory: &mut ClauseMemory,
-    marks: &mut Table<Mark>,
+    marks: &mut Table<bool>,
     lits: &[Lit],
 ) -> Result<usize, OutOfMemory>
     requires { (l : ℕ) → is_marked (at marks.old l) ≡ false }
     ensures taken { IfOk result (λ slot. IsTakenIn memory.old memory.new slot lits.now) }
     ensures known { OnOk result ((l : ℕ) → has lits.now l ≡ true → IsSome (at marks.new l)) }
-    ensures all { OnOk result ((l : ℕ) → is_marked (at marks.new l) ≡ has lits.now l) }
+    ensures still_known { (l : ℕ) → IsSome (at marks.old l) → IsSome (at marks.new l) }
     ensures some { (l : ℕ) → is_marked (at marks.new l) ≡ true → has lits.now l ≡ true }
-    ensures counts { (l : ℕ) → mark_count (at marks.new l) ≡ mark_count (at marks.old l) }
     ensures few_blocks { AddsFewBlocks memory.old.blocks memory.new.blocks memory.old.live
         (units_for (size lits.now)) }
     ensures err { OnErr result (memory.new ≡ memory.old) }
@@ -135,66 +138,72 @@ fn put_in(
     memory.insert(&kept)
 }
 
-/// Puts a clause into the memory, without repeated literals, and leaves each of them marked. Where
-/// memory is refused, none is.
+/// Puts a clause into the memory, without repeated literals. It leaves no literal marked.
 fn take_in(
     alloc: Global,
     memory: &mut ClauseMemory,
-    marks: &mut Table<Mark>,
+    marks: &mut Table<bool>,
     lits: &[Lit],
 ) -> Result<usize, OutOfMemory>
     requires { (l : ℕ) → is_marked (at marks.old l) ≡ false }
     ensures taken { IfOk result (λ slot. IsTakenIn memory.old memory.new slot lits.now) }
     ensures known { OnOk result ((l : ℕ) → has lits.now l ≡ true → IsSome (at marks.new l)) }
-    ensures all { OnOk result ((l : ℕ) → is_marked (at marks.new l) ≡ has lits.now l) }
-    ensures counts { (l : ℕ) → mark_count (at marks.new l) ≡ mark_count (at marks.old l) }
+    ensures still_known { (l : ℕ) → IsSome (at marks.old l) → IsSome (at marks.new l) }
+    ensures clear { (l : ℕ) → is_marked (at marks.new l) ≡ false }
     ensures few_blocks { AddsFewBlocks memory.old.blocks memory.new.blocks memory.old.live
         (units_for (size lits.now)) }
     ensures err { OnErr result (memory.new ≡ memory.old) }
-    ensures clear { OnErr result ((l : ℕ) → is_marked (at marks.new l) ≡ false) }
 {
-    match put_in(alloc, memory, marks, lits) {
-        Ok(slot) => Ok(slot),
-        Err(refused) => {
-            unmark_all(marks, lits);
-            Err(refused)
-        }
-    }
+    let taken = put_in(alloc, memory, marks, lits);
+    unmark_all(marks, lits);
+    taken
 }
 
-/// Adds the slot of a clause to what finds it again.
+/// Counts the literals of a clause, and adds its slot to what finds it again.
 fn list_up<I: Indexing>(
     index: &mut I,
     kept: &mut Option<Occurrences>,
+    counts: &mut Option<Table<u32>>,
     slot: usize,
     lits: &[Lit],
 ) -> Result<(), OutOfMemory>
     requires different { size lits.now ≡ length lits.now }
     requires low { slot < 4294967295 }
     requires free { (live : FinMap nat_cmp Clause) × AreKept kept.old live
-        × (maps.get live slot ≡ None) }
+        × AreCounted counts.old live × (maps.get live slot ≡ None)
+        × (maps.len live < 4294967295) }
     ensures index { OnOk result ((live : FinMap nat_cmp Clause) →
         I.indexes index.old live → maps.get live slot ≡ None →
         I.indexes index.new (maps.insert live slot lits.now)) }
     ensures kept { OnOk result ((live : FinMap nat_cmp Clause) → AreKept kept.old live →
         maps.get live slot ≡ None → AreKept kept.new (maps.insert live slot lits.now)) }
+    ensures counts { OnOk result ((live : FinMap nat_cmp Clause) → AreCounted counts.old live →
+        maps.get live slot ≡ None → AreCounted counts.new (maps.insert live slot lits.now)) }
     ensures same_index { OnErr result ((live : FinMap nat_cmp Clause) →
         I.indexes index.old live → I.indexes index.new live) }
     ensures same_kept { OnErr result ((live : FinMap nat_cmp Clause) → AreKept kept.old live →
         maps.get live slot ≡ None → AreKept kept.new live) }
+    ensures same_counts { OnErr result ((live : FinMap nat_cmp Clause) →
+        AreCounted counts.old live → maps.get live slot ≡ None → AreCounted counts.new live) }
 {
-    note(kept, slot, lits)?;
+    count_in(counts, lits)?;
+    if let Err(refused) = note(kept, slot, lits) {
+        count_out(counts, lits);
+        return Err(refused);
+    }
     match index.add(slot, lits) {
         Ok(()) => Ok(()),
         Err(refused) => {
             forget(kept, slot);
+            count_out(counts, lits);
             Err(refused)
         }
     }
 }
 
 impl<I: Indexing> Store<I> {
-    fn empty(alloc: Global, seed: u64) -> Self
+    fn empty(alloc: Global, seed: u64, counts: Option<Table<u32>>) -> Self
+        requires { AreCounted counts maps.empty }
         ensures { result ≡ no_clauses }
     {
         Store {
@@ -202,6 +211,7 @@ impl<I: Indexing> Store<I> {
             memory: ClauseMemory::new(alloc),
             index: I::new(alloc, seed),
             marks: Table::new(alloc),
+            counts,
             sum: 0,
             occurrences: None,
         }
@@ -224,14 +234,18 @@ impl<I: Indexing> Store<I> {
     {
         let slot = take_in(self.alloc, &mut self.memory, &mut self.marks, lits)?;
         let kept = self.memory.clause(slot);
-        match list_up(&mut self.index, &mut self.occurrences, slot, kept) {
+        match list_up(
+            &mut self.index,
+            &mut self.occurrences,
+            &mut self.counts,
+            slot,
+            kept,
+        ) {
             Ok(()) => {
                 self.sum += kept.len() as u128;
-                count_all(&mut self.marks, lits);
                 Ok(Slot::at(slot))
             }
             Err(refused) => {
-                unmark_all(&mut self.marks, lits);
                 self.memory.remove(slot);
                 Err(refused)
             }
@@ -247,7 +261,7 @@ impl<I: Indexing> Store<I> {
     {
         let number = slot.number();
         let lits = self.memory.clause(number);
-        release(&mut self.marks, lits);
+        count_out(&mut self.counts, lits);
         self.sum -= lits.len() as u128;
         self.index.remove(number, lits);
         forget(&mut self.occurrences, number);
@@ -325,23 +339,34 @@ impl<I: Indexing> Store<I> {
         find_slots(&mut self.occurrences, self.alloc, &self.memory, lits, into)
     }
 
-    /// How many of the clauses have the literal.
+    /// Counts from now on how many clauses have each literal, so that `count_with` takes constant
+    /// time. The first call goes over all clauses.
+    ///
+    /// # Errors
+    ///
+    /// Where memory runs out.
+    pub fn keep_counts(&mut self) -> Result<(), OutOfMemory>
+        ensures { self.new ≡ self.old }
+    {
+        keep(&mut self.counts, self.alloc, &self.memory)
+    }
+
+    /// How many of the clauses have the literal. It takes constant time where these are counted, as
+    /// in a store with an index, and else goes over all clauses.
     pub fn count_with(&self, l: Lit) -> u64
         ensures { result ≡ copies_with self.now.live l }
     {
-        match self.marks.get(key(l)) {
-            Some(mark) => u64::from(mark.count),
-            None => 0,
-        }
+        count_with(&self.counts, &self.memory, l)
     }
 }
 
 impl Store<NoIndex> {
-    /// No clauses, and none will be searched for by its literals.
+    /// No clauses, and none will be searched for by its literals. The clauses with each literal are
+    /// counted from when [`Store::keep_counts`] is called.
     pub fn without_index(alloc: Global) -> Result<Self, OutOfMemory>
         ensures { IfOk result (λ s. s ≡ no_clauses) }
     {
-        let store = Store::empty(alloc, 0);
+        let store = Store::empty(alloc, 0, None);
         Ok(store)
     }
 }
@@ -360,7 +385,9 @@ impl Store {
     pub fn seeded(alloc: Global, seed: u64) -> Result<Self, OutOfMemory>
         ensures { IfOk result (λ s. s ≡ no_clauses) }
     {
-        Ok(Store::empty(alloc, seed))
+        let counts = Some(Table::new(alloc));
+        let store = Store::empty(alloc, seed, counts);
+        Ok(store)
     }
 
     /// A slot with the same clause as a set, if there is one. It takes no memory.

@@ -1,5 +1,5 @@
 -- What is so of the fields of a store, through a change.
-use Rattle.std.proofs.Common.{◌≡◌, ℕ, ◌+◌, ◌-◌, ◌*◌, ◌<◌, ◌≤◌, Bool, true, false, cond, Some, None}
+use Rattle.std.proofs.Common.{◌≡◌, ℕ, ◌+◌, ◌-◌, ◌*◌, ◌<◌, ◌≤◌, Bool, true, false, is_some, Some, None}
 use Rattle.std.proofs.Common.{length, sym, ap, ◌∙◌, subst, arith, inl, inr}
 use Rattle.std.proofs.lemmas.Option.{none-some}
 use Rattle.std.specs.Ordering.{nat_cmp}
@@ -8,45 +8,31 @@ use Rattle.std.specs.FinMap.{FinMap}
 use Rattle.cnf_base.specs.Literals.{Clause, has, size}
 use Rattle.clause_memory.specs.Memory as memory
 use Rattle.clause_db.specs.Store.{literals_in}
-use Rattle.clause_db.specs.Code.LiteralMarks.{mark_count, is_marked}
+use Rattle.clause_db.specs.Code.LiteralMarks.{is_marked}
 use Rattle.clause_db.specs.Code.Fields.{IsStore}
 use Rattle.tables.specs.Table.{at}
-use Rattle.clause_db.specs.declared.store.mark.Mark.{Mark}
 use Rattle.tables.specs.declared.table.Table.{Table}
 use Rattle.cnf_base.proofs.SizeLemmas.{size_same}
 use Rattle.clause_db.proofs.StoreLemmas.Sums.{after_insert, after_remove, sum_alike, sum_bound}
 use Rattle.clause_db.proofs.StoreLemmas.Sums.{sum_empty, sum_insert, sum_remove, sum_replace}
 
-abbrev with_literal : ℕ → Clause → ℕ
-with_literal l c = cond (has c l) 1 0
-
 -- ---- No clauses
 
-pub sound_empty : (marks : Table Mark) → ((l : ℕ) → at marks l ≡ None) → IsStore maps.empty 0 marks 0
+pub sound_empty : (marks : Table Bool) → ((l : ℕ) → at marks l ≡ None) → IsStore maps.empty 0 marks 0
 sound_empty marks no_marks = record {
   different = λ s c is. absurd (none-some c (sym (maps.get-empty nat_cmp s) ∙ is));
   short = λ s c is. absurd (none-some c (sym (maps.get-empty nat_cmp s) ∙ is));
-  counted = λ l. ap mark_count (no_marks l) ∙ sym (sum_empty (with_literal l));
+  known = λ s c is. absurd (none-some c (sym (maps.get-empty nat_cmp s) ∙ is));
   clear = λ l. ap is_marked (no_marks l);
   stored_is = sym (sum_empty length);
   sum_is = omega arith;
 }
 
-module _ (live : FinMap nat_cmp Clause) (stored : ℕ) (marks : Table Mark) (sum : ℕ) (sound : IsStore live stored marks sum) where
+module _ (live : FinMap nat_cmp Clause) (stored : ℕ) (marks : Table Bool) (sum : ℕ) (sound : IsStore live stored marks sum) where
   -- ---- What is kept
 
   pub live_alone : stored ≡ literals_in live
   live_alone = sound.stored_is ∙ sum_alike length size live (λ s c is. sym (sound.different s c is))
-
-  pub copies_few : (l : ℕ) → mark_count (at marks l) ≤ maps.len live
-  copies_few l =
-      let is = sound.counted l in
-      let bound = sum_bound (with_literal l) 1 live (λ s c is. at_most_one (has c l)) in
-      omega arith
-    where
-      at_most_one : (b : Bool) → cond b 1 0 ≤ 1
-      at_most_one true = omega arith
-      at_most_one false = omega arith
 
   pub sum_fits : sum ≤ 18446744073709551615 * maps.len live
   sum_fits =
@@ -57,11 +43,11 @@ module _ (live : FinMap nat_cmp Clause) (stored : ℕ) (marks : Table Mark) (sum
 
   -- ---- The same clauses
 
-  pub sound_same : (after : Table Mark) → ((l : ℕ) → mark_count (at after l) ≡ mark_count (at marks l)) → ((l : ℕ) → is_marked (at after l) ≡ false) → IsStore live stored after sum
-  sound_same after counts clear = record {
+  pub sound_same : (after : Table Bool) → ((l : ℕ) → is_some (at marks l) ≡ true → is_some (at after l) ≡ true) → ((l : ℕ) → is_marked (at after l) ≡ false) → IsStore live stored after sum
+  sound_same after kept clear = record {
     different = sound.different;
     short = sound.short;
-    counted = λ l. counts l ∙ sound.counted l;
+    known = λ s c is l member. kept l (sound.known s c is l member);
     clear = clear;
     stored_is = sound.stored_is;
     sum_is = sound.sum_is;
@@ -69,8 +55,8 @@ module _ (live : FinMap nat_cmp Clause) (stored : ℕ) (marks : Table Mark) (sum
 
   -- ---- One clause more
 
-  module _ (k : ℕ) (x : Clause) (free : maps.get live k ≡ None) (different : size x ≡ length x) (short : length x < 18446744073709551616) (after : Table Mark)
-      (counts : (l : ℕ) → mark_count (at after l) ≡ mark_count (at marks l) + cond (has x l) 1 0) (clear : (l : ℕ) → is_marked (at after l) ≡ false) where
+  module _ (k : ℕ) (x : Clause) (free : maps.get live k ≡ None) (different : size x ≡ length x) (short : length x < 18446744073709551616) (after : Table Bool)
+      (known : (l : ℕ) → has x l ≡ true → is_some (at after l) ≡ true) (kept_known : (l : ℕ) → is_some (at marks l) ≡ true → is_some (at after l) ≡ true) (clear : (l : ℕ) → is_marked (at after l) ≡ false) where
     pub sound_with : (kept : ℕ) → kept ≡ memory.literals_in (maps.insert live k x) → IsStore (maps.insert live k x) kept after (sum + length x)
     sound_with kept kept_is = record {
       different = λ s c is. elim (after_insert live k x s c is) [
@@ -81,11 +67,10 @@ module _ (live : FinMap nat_cmp Clause) (stored : ℕ) (marks : Table Mark) (sum
         | inl same ↦ subst (λ d. length d < 18446744073709551616) same short
         | inr was ↦ sound.short s c was
       ];
-      counted = λ l.
-          let more = sum_insert (with_literal l) live k x free in
-          let was = sound.counted l in
-          let now = counts l in
-          omega arith;
+      known = λ s c is l member. elim (after_insert live k x s c is) [
+        | inl same ↦ known l (subst (λ d. has d l ≡ true) (sym same) member)
+        | inr was ↦ kept_known l (sound.known s c was l member)
+      ];
       clear = clear;
       stored_is = kept_is;
       sum_is =
@@ -105,24 +90,12 @@ module _ (live : FinMap nat_cmp Clause) (stored : ℕ) (marks : Table Mark) (sum
         let stored_is = sound.stored_is in
         omega arith
 
-    pub counted_here : (l : ℕ) → has x l ≡ true → 0 < mark_count (at marks l)
-    counted_here l member =
-        let split = sum_remove (with_literal l) live k x here in
-        let one : cond {A = ℕ} (has x l) 1 0 ≡ 1 = ap (λ b. cond {A = ℕ} b 1 0) member in
-        let is = sound.counted l in
-        omega arith
-
-    pub sound_without : (after : Table Mark) → ((l : ℕ) → mark_count (at after l) + cond (has x l) 1 0 ≡ mark_count (at marks l)) → ((l : ℕ) → is_marked (at after l) ≡ is_marked (at marks l)) →
-        (kept : ℕ) → kept ≡ memory.literals_in (maps.remove live k) → IsStore (maps.remove live k) kept after (sum - length x)
-    sound_without after counts same_marks kept kept_is = record {
+    pub sound_without : (kept : ℕ) → kept ≡ memory.literals_in (maps.remove live k) → IsStore (maps.remove live k) kept marks (sum - length x)
+    sound_without kept kept_is = record {
       different = λ s c is. sound.different s c (after_remove live k s c is);
       short = λ s c is. sound.short s c (after_remove live k s c is);
-      counted = λ l.
-          let split = sum_remove (with_literal l) live k x here in
-          let was = sound.counted l in
-          let now = counts l in
-          omega arith;
-      clear = λ l. same_marks l ∙ sound.clear l;
+      known = λ s c is. sound.known s c (after_remove live k s c is);
+      clear = sound.clear;
       stored_is = kept_is;
       sum_is =
           let split = sum_remove length live k x here in
@@ -144,7 +117,10 @@ module _ (live : FinMap nat_cmp Clause) (stored : ℕ) (marks : Table Mark) (sum
         | inl same ↦ subst (λ d. length d < 18446744073709551616) same (subst (λ n. n < 18446744073709551616) (sym as_long) (sound.short k x here))
         | inr was ↦ sound.short s c was
       ];
-      counted = λ l. sound.counted l ∙ sym (sum_replace (with_literal l) live k x y here (ap (λ b. cond b 1 0) (alike l)));
+      known = λ s c is l member. elim (after_insert live k y s c is) [
+        | inl same ↦ sound.known k x here l (sym (alike l) ∙ subst (λ d. has d l ≡ true) (sym same) member)
+        | inr was ↦ sound.known s c was l member
+      ];
       clear = sound.clear;
       stored_is = kept_is;
       sum_is = sound.sum_is ∙ sound.stored_is ∙ sym (kept_is ∙ sum_replace length live k x y here as_long);

@@ -1,14 +1,14 @@
 -- Walks over a clause: what is so of the literals so far, through one more literal.
 use Rattle.std.proofs.Common.{◌≡◌, ℕ, ◌+◌, ◌%◌, ◌^◌, ◌<◌, ◌≤◌, ◌&&◌, ◌||◌, Bool, true}
 use Rattle.std.proofs.Common.{false, not, cond, eqb, eqb-true, [], ◌∷◌, ◌++◌, length, take, get_or}
-use Rattle.std.proofs.Common.{length-append, refl, sym, ap, ◌∙◌, subst, arith}
+use Rattle.std.proofs.Common.{length-append, refl, sym, ap, ◌∙◌, arith}
 use Rattle.std.proofs.lemmas.Bool.{false≢true, true≢false, not-true, not-false}
 use Rattle.std.proofs.lemmas.Bool.Decides.{nat_tests}
 use Rattle.cnf_base.specs.Literals.{Literal, Clause, has, size}
 use Rattle.clause_index.specs.Hashes.{mix, mixed_sum}
 use Rattle.cnf_base.proofs.SizeLemmas.{IsWithin, size_push, size_covered}
 use Rattle.cnf_base.proofs.SizeLemmas.{distinct_before}
-use Rattle.cnf_base.proofs.WalkLemmas.{has_push, has_take, take_is, has_more, is_in}
+use Rattle.cnf_base.proofs.WalkLemmas.{has_push, has_take, take_is, has_more}
 use Rattle.clause_index.proofs.IndexLemmas.Hashes.{mixed_kept, mixed_more, mixed_none}
 
 -- ---- One turn of a walk: x is the literal at i
@@ -71,7 +71,7 @@ pub marked_old : (m h : Bool) → m ≡ true → (m && not h) ≡ false → h �
 marked_old true h i e = not-false h e
 marked_old false h i e = absurd (false≢true i)
 
--- ---- Marks and counts, through one more literal
+-- ---- Marks, through one more literal
 
 module _ (c : Clause) (i : ℕ) (inside : i < length c) (x : Literal) (is : x ≡ get_or c i x) where
   pub mark_more : (k : Literal) (before after : Bool) → after ≡ (eqb k x || before) → before ≡ has (take i c) k → after ≡ has (take (i + 1) c) k
@@ -90,47 +90,6 @@ module _ (c : Clause) (i : ℕ) (inside : i < length c) (x : Literal) (is : x �
       by_tests false true true = refl
       by_tests false true false = refl
       by_tests false false h = refl
-
-  -- the count of each literal that was met is one more
-  pub count_more : (k : Literal) (before after start : ℕ) (was_marked : Bool) → after ≡ before + cond (eqb k x && was_marked) 1 0 → was_marked ≡ (has c k && not (has (take i c) k)) →
-      before ≡ start + cond (has (take i c) k) 1 0 → after ≡ start + cond (has (take (i + 1) c) k) 1 0
-  count_more k before after start was_marked step marked was =
-      step ∙ ap (λ b. before + cond (b && was_marked) 1 0) (eqb_turn k x) ∙ ap (λ b. before + cond (eqb x k && b) 1 0) marked
-      ∙ ap (λ n. n + cond (eqb x k && (has c k && not (has (take i c) k))) 1 0) was
-      ∙ by_tests (eqb x k) (has c k) (has (take i c) k) (λ e. subst (λ l. has c l ≡ true) (eqb-true x k e) (is_in c i inside x is))
-      ∙ ap (λ b. start + cond b 1 0) (sym (has_more c i inside x is k))
-    where
-      by_tests : (e m h : Bool) → (e ≡ true → m ≡ true) → (start + cond h 1 0) + cond (e && (m && not h)) 1 0 ≡ start + cond (h || e) 1 0
-      by_tests true true true in_c = omega arith
-      by_tests true true false in_c = omega arith
-      by_tests true false h in_c = absurd (false≢true (in_c refl))
-      by_tests false m true in_c = omega arith
-      by_tests false m false in_c = omega arith
-
-  -- a literal that is counted up was not met before, so that its count is the first one
-  pub few_more : (before start most : ℕ) (was_marked : Bool) → was_marked ≡ (has c x && not (has (take i c) x)) → was_marked ≡ true → before ≡ start + cond (has (take i c) x) 1 0 → start < most → before < most
-  few_more before start most was_marked marked here was few =
-      let none : cond {A = ℕ} (has (take i c) x) 1 0 ≡ 0 = ap (λ b. cond {A = ℕ} b 1 0) (marked_new (has c x) (has (take i c) x) (sym marked ∙ here)) in
-      omega arith
-
-  -- a literal that is counted down is still counted
-  pub release_counted : size c ≡ length c → (before start : ℕ) → (has c x ≡ true → 0 < start) → before + cond (has (take i c) x) 1 0 ≡ start → 0 < before
-  release_counted different before start counted was =
-      let positive = counted (is_in c i inside x is) in
-      let none : cond {A = ℕ} (has (take i c) x) 1 0 ≡ 0 = ap (λ b. cond {A = ℕ} b 1 0) (new_here c i inside x is different) in
-      omega arith
-
-  pub release_more : size c ≡ length c → (k : Literal) (before after start : ℕ) → after + cond (eqb k x) 1 0 ≡ before → before + cond (has (take i c) k) 1 0 ≡ start → after + cond (has (take (i + 1) c) k) 1 0 ≡ start
-  release_more different k before after start step was =
-      ap (λ b. after + cond b 1 0) (has_more c i inside x is k)
-      ∙ by_tests (eqb x k) (has (take i c) k) (λ e. sym (ap (has (take i c)) (eqb-true x k e)) ∙ new_here c i inside x is different) (ap (λ b. after + cond b 1 0) (eqb_turn x k) ∙ step)
-      ∙ was
-    where
-      by_tests : (e h : Bool) → (e ≡ true → h ≡ false) → after + cond e 1 0 ≡ before → after + cond (h || e) 1 0 ≡ before + cond h 1 0
-      by_tests true true new step = absurd (true≢false (new refl))
-      by_tests true false new step = omega arith
-      by_tests false true new step = omega arith
-      by_tests false false new step = omega arith
 
   pub has_kept : has (take i c) x ≡ true → (k : Literal) → has (take (i + 1) c) k ≡ has (take i c) k
   has_kept old k = has_more c i inside x is k ∙ by_test (eqb x k) (has (take i c) k) (λ e. sym (ap (has (take i c)) (eqb-true x k e)) ∙ old)

@@ -1,31 +1,13 @@
 -- What a search in a bucket says of the clauses.
-use Rattle.std.proofs.Common.{◌≡◌, ℕ, ◌<◌, Bool, true, cond, eqb, eqb-true, eq-eqb, Option}
-use Rattle.std.proofs.Common.{Some, None, is_some, length, refl, sym}
-use Rattle.std.proofs.Common.{ap, ◌∙◌, arith}
+use Rattle.std.proofs.Common.{◌≡◌, ℕ, Bool, true, eqb, eqb-true, eq-eqb}
+use Rattle.std.proofs.Common.{length, sym}
+use Rattle.std.proofs.Common.{◌∙◌}
 use Rattle.std.specs.List.{list_all}
-use Rattle.std.specs.FinMap as maps
-use Rattle.std.specs.FinMap.{FinMap}
-use Rattle.std.specs.Ordering.{nat_cmp}
 use Rattle.std.proofs.lemmas.Bool.{and_parts, and_from}
 use Rattle.cnf_base.specs.Literals.{Literal, Clause, has, same_clause, size}
 use Rattle.cnf_base.proofs.SetLemmas.{all_each, each_all, same_there, same_back, same_from}
-use Rattle.clause_db.specs.Store.{copies_with}
 use Rattle.clause_db.specs.Code.Matches.{is_match}
-use Rattle.clause_db.specs.Code.LiteralMarks.{mark_count}
-use Rattle.clause_db.specs.declared.store.mark.Mark.{Mark}
 use Rattle.cnf_base.proofs.SizeLemmas.{IsWithin, size_same, all_covered}
-use Rattle.clause_db.proofs.StoreLemmas.Sums.{sum_remove}
-
--- a clause that stands in the map counts
-pub copies_pos : (m : FinMap nat_cmp Clause) (s : ℕ) (c : Clause) (l : Literal) → maps.get m s ≡ Some c → has c l ≡ true → 0 < copies_with m l
-copies_pos m s c l is h =
-    let split = sum_remove (λ d. cond (has d l) 1 0) m s c is in
-    let one : cond {A = ℕ} (has c l) 1 0 ≡ 1 = ap (λ b. cond {A = ℕ} b 1 0) h in
-    omega arith
-
-pub known_from_count : (o : Option Mark) → 0 < mark_count o → is_some o ≡ true
-known_from_count None h = absurd (let wrong : ⊥ = omega arith in wrong)
-known_from_count (Some x) h = refl
 
 module _ (lits : Clause) (passes : Literal → Bool) (marked : (l : Literal) → passes l ≡ has lits l) (len : ℕ) (len_is : len ≡ size lits) (c : Clause) (different : size c ≡ length c) where
   -- a match is the same clause

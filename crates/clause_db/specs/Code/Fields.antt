@@ -3,15 +3,15 @@ use Rattle.std.specs.Coded.{Coded, code_by, coded×, coded_ℕ, coded_list}
 use Rattle.std.specs.FinMap as maps
 use Rattle.std.specs.FinMap.{FinMap}
 use Rattle.std.specs.Ordering.{nat_cmp}
-use Rattle.std.specs.Prelude.{ℕ, refl, ◌≡◌, ◌<◌, false, Some, None, length, IsTrue}
-use Rattle.cnf_base.specs.Literals.{Clause, same_clause, size}
+use Rattle.std.specs.Prelude.{ℕ, refl, ◌≡◌, ◌<◌, Bool, true, false, Some, None, length, IsSome}
+use Rattle.std.specs.Prelude.{IsTrue}
+use Rattle.cnf_base.specs.Literals.{Clause, has, same_clause, size}
 use Rattle.clause_memory.specs.Memory as memory
 use Rattle.clause_memory.specs.Memory.{MemoryState}
 use Rattle.tables.specs.Table.{at}
 use Rattle.tables.specs.declared.table.Table.{Table}
-use Rattle.clause_db.specs.Code.LiteralMarks.{mark_count, is_marked}
-use Rattle.clause_db.specs.Store.{StoreState, copies_with}
-use Rattle.clause_db.specs.declared.store.mark.Mark.{Mark}
+use Rattle.clause_db.specs.Code.LiteralMarks.{is_marked}
+use Rattle.clause_db.specs.Store.{StoreState}
 
 -- a store is kept as the tuple of its fields
 abbrev pub store_code : Coded StoreState
@@ -22,13 +22,14 @@ store_code =
     (λ s. (s.live, (s.blocks, s.stored)))
     (λ p. record { live = p.0; blocks = p.1.0; stored = p.1.1 }) (λ _. refl)
 
--- no clause repeats a literal, the table counts the clauses with each literal and has no marks, and
--- the sum is that of the lengths
-pub record IsStore (live : FinMap nat_cmp Clause) (stored : ℕ) (marks : Table Mark) (sum : ℕ) :
+-- no clause repeats a literal, the table knows each literal of a clause and has no marks, and the
+-- sum is that of the lengths
+pub record IsStore (live : FinMap nat_cmp Clause) (stored : ℕ) (marks : Table Bool) (sum : ℕ) :
     Type 0 where
   pub different : (s : ℕ) (c : Clause) → maps.get live s ≡ Some c → size c ≡ length c
   pub short : (s : ℕ) (c : Clause) → maps.get live s ≡ Some c → length c < 18446744073709551616
-  pub counted : (l : ℕ) → mark_count (at marks l) ≡ copies_with live l
+  pub known : (s : ℕ) (c : Clause) → maps.get live s ≡ Some c →
+      (l : ℕ) → has c l ≡ true → IsSome (at marks l)
   pub clear : (l : ℕ) → is_marked (at marks l) ≡ false
   pub stored_is : stored ≡ memory.literals_in live
   pub sum_is : sum ≡ stored

@@ -1,4 +1,4 @@
-//! Walks over a clause that mark, count and compare its literals. Each is linear in the clause.
+//! Walks over a clause that mark and compare its literals. Each is linear in the clause.
 
 ghost use Rattle.std.specs.Prelude.{◌≡◌, ℕ, ◌+◌, ◌<◌, ◌≤◌, ◌==◌, ◌&&◌, true, false, is_some, []};
 ghost use Rattle.std.specs.Prelude.{length, if◌then◌else◌, IsSome, IsTrue, IfOk, OnOk};
@@ -6,10 +6,10 @@ ghost use Rattle.std.specs.Prelude.{vec_capacity};
 ghost use Rattle.std.specs.List.{list_all};
 ghost use Rattle.cnf_base.specs.Literals.{has, same_clause, size};
 ghost use Rattle.clause_index.specs.Hashes.{hash};
-ghost use Rattle.clause_db.specs.Code.LiteralMarks.{mark_count, is_marked};
+ghost use Rattle.clause_db.specs.Code.LiteralMarks.{is_marked};
 ghost use Rattle.tables.specs.Table.{at};
 
-use crate::store::mark::{Mark, add_mark, clear_mark, count_down, count_up, set_mark};
+use crate::store::mark::{add_mark, clear_mark, set_mark};
 use clause_index::{mixed, upper_half};
 use cnf_base::{Lit, OutOfMemory};
 use tables::{Table, key};
@@ -23,15 +23,15 @@ pub(crate) struct Digest {
 
 /// Makes room in the table for the literals and marks them, where none is marked, and counts the
 /// different ones.
-pub(crate) fn mark_new(marks: &mut Table<Mark>, lits: &[Lit]) -> Result<usize, OutOfMemory>
+pub(crate) fn mark_new(marks: &mut Table<bool>, lits: &[Lit]) -> Result<usize, OutOfMemory>
     requires { (l : ℕ) → is_marked (at marks.old l) ≡ false }
     ensures len { IfOk result (λ len. len ≡ size lits.now) }
     ensures short { OnOk result (size lits.now < 18446744073709551616) }
     ensures known { OnOk result
         ((l : ℕ) → has lits.now l ≡ true → IsSome (at marks.new l)) }
+    ensures still_known { (l : ℕ) → IsSome (at marks.old l) → IsSome (at marks.new l) }
     ensures all { OnOk result ((l : ℕ) → is_marked (at marks.new l) ≡ has lits.now l) }
     ensures some { (l : ℕ) → is_marked (at marks.new l) ≡ true → has lits.now l ≡ true }
-    ensures counts { (l : ℕ) → mark_count (at marks.new l) ≡ mark_count (at marks.old l) }
 {
     let mut len = 0;
     for l in lits {
@@ -43,37 +43,36 @@ pub(crate) fn mark_new(marks: &mut Table<Mark>, lits: &[Lit]) -> Result<usize, O
 }
 
 /// Whether the table has each literal.
-pub(crate) fn all_known(marks: &Table<Mark>, lits: &[Lit]) -> bool
+pub(crate) fn all_known(marks: &Table<bool>, lits: &[Lit]) -> bool
     ensures { result ≡ list_all (λ l. is_some (at marks.now l)) lits.now }
 {
     lits.iter().all(|l| marks.get(key(*l)).is_some())
 }
 
 /// Whether each literal is marked.
-pub(crate) fn all_marked(marks: &Table<Mark>, lits: &[Lit]) -> bool
+pub(crate) fn all_marked(marks: &Table<bool>, lits: &[Lit]) -> bool
     ensures { result ≡ list_all (λ l. is_marked (at marks.now l)) lits.now }
 {
     lits.iter().all(|l| is_set(marks, *l))
 }
 
-fn is_set(marks: &Table<Mark>, l: Lit) -> bool
+fn is_set(marks: &Table<bool>, l: Lit) -> bool
     ensures { result ≡ is_marked (at marks.now l) }
 {
     match marks.get(key(l)) {
-        Some(mark) => mark.marked,
+        Some(marked) => marked,
         None => false,
     }
 }
 
 /// Marks the literals, where none is marked, and hashes them by the seed.
-pub(crate) fn mark_all(marks: &mut Table<Mark>, lits: &[Lit], seed: u64) -> Digest
+pub(crate) fn mark_all(marks: &mut Table<bool>, lits: &[Lit], seed: u64) -> Digest
     requires known { (l : ℕ) → has lits.now l ≡ true → IsSome (at marks.old l) }
     requires clear { (l : ℕ) → is_marked (at marks.old l) ≡ false }
     ensures len { result.len ≡ size lits.now }
     ensures short { size lits.now < 18446744073709551616 }
     ensures hash { result.hash ≡ hash seed lits.now }
     ensures marked { (l : ℕ) → is_marked (at marks.new l) ≡ has lits.now l }
-    ensures counts { (l : ℕ) → mark_count (at marks.new l) ≡ mark_count (at marks.old l) }
     ensures known { (l : ℕ) → is_some (at marks.new l) ≡ is_some (at marks.old l) }
 {
     let mut len = 0;
@@ -91,10 +90,10 @@ pub(crate) fn mark_all(marks: &mut Table<Mark>, lits: &[Lit], seed: u64) -> Dige
 }
 
 /// Takes the marks off the literals, where no others are marked.
-pub(crate) fn unmark_all(marks: &mut Table<Mark>, lits: &[Lit])
+pub(crate) fn unmark_all(marks: &mut Table<bool>, lits: &[Lit])
     requires { (l : ℕ) → is_marked (at marks.old l) ≡ true → has lits.now l ≡ true }
     ensures clear { (l : ℕ) → is_marked (at marks.new l) ≡ false }
-    ensures counts { (l : ℕ) → mark_count (at marks.new l) ≡ mark_count (at marks.old l) }
+    ensures known { (l : ℕ) → is_some (at marks.new l) ≡ is_some (at marks.old l) }
 {
     for l in lits {
         clear_mark(marks, *l);
@@ -102,45 +101,18 @@ pub(crate) fn unmark_all(marks: &mut Table<Mark>, lits: &[Lit])
 }
 
 /// Puts each of the marked literals into `kept` once, and takes its mark off.
-pub(crate) fn gather(marks: &mut Table<Mark>, lits: &[Lit], kept: &mut Vec<Lit>)
+pub(crate) fn gather(marks: &mut Table<bool>, lits: &[Lit], kept: &mut Vec<Lit>)
     requires marked { (l : ℕ) → is_marked (at marks.old l) ≡ has lits.now l }
     requires empty { kept.old.items ≡ [] }
     requires room { size lits.now ≤ vec_capacity kept.old }
     ensures same { IsTrue (same_clause kept.new.items lits.now) }
     ensures different { size kept.new.items ≡ length kept.new.items }
     ensures clear { (l : ℕ) → is_marked (at marks.new l) ≡ false }
-    ensures counts { (l : ℕ) → mark_count (at marks.new l) ≡ mark_count (at marks.old l) }
+    ensures known { (l : ℕ) → is_some (at marks.new l) ≡ is_some (at marks.old l) }
 {
     for l in lits {
         if clear_mark(marks, *l) {
             kept.push_reserved(*l);
         }
-    }
-}
-
-/// Counts each of the marked literals once more and takes its mark off.
-pub(crate) fn count_all(marks: &mut Table<Mark>, lits: &[Lit])
-    requires known { (l : ℕ) → has lits.now l ≡ true → IsSome (at marks.old l) }
-    requires marked { (l : ℕ) → is_marked (at marks.old l) ≡ has lits.now l }
-    requires few { (l : ℕ) → mark_count (at marks.old l) < 4294967295 }
-    ensures clear { (l : ℕ) → is_marked (at marks.new l) ≡ false }
-    ensures counts { (l : ℕ) → mark_count (at marks.new l) ≡ mark_count (at marks.old l) +
-        (if has lits.now l then 1 else 0) }
-{
-    for l in lits {
-        count_up(marks, *l);
-    }
-}
-
-/// Counts each of the literals once less, where no literal is repeated.
-pub(crate) fn release(marks: &mut Table<Mark>, lits: &[Lit])
-    requires different { size lits.now ≡ length lits.now }
-    requires counted { (l : ℕ) → has lits.now l ≡ true → 0 < mark_count (at marks.old l) }
-    ensures marked { (l : ℕ) → is_marked (at marks.new l) ≡ is_marked (at marks.old l) }
-    ensures counts { (l : ℕ) → mark_count (at marks.new l) +
-        (if has lits.now l then 1 else 0) ≡ mark_count (at marks.old l) }
-{
-    for l in lits {
-        count_down(marks, *l);
     }
 }

@@ -1,17 +1,63 @@
-use Rattle.std.proofs.Common.{is_some, refl, ap, subst}
+use Rattle.std.proofs.Common.{◌≡◌, ℕ, Option, Some, None, is_some, refl, ap, subst}
+use Rattle.std.specs.Ordering.{nat_cmp}
 use Rattle.std.specs.FinMap as maps
+use Rattle.std.specs.FinMap.{FinMap}
+use Rattle.cnf_base.specs.Literals.{Clause}
+use Rattle.tables.specs.declared.table.Table.{Table}
+use Rattle.clause_db.specs.Code.Counts.{AreCounted}
 use Rattle.clause_db.specs.Code.Kept.{AreKept}
 use Rattle.clause_db.proofs.StoreLemmas.Kept.{insert_undone}
 use Rattle.clause_index.proofs.IndexLemmas.Maps.{insert_here}
 use Rattle.clause_db.proofs.store.list_up.Goals as goal
 
+pub count_in-requires-clause-few : goal.count_in-requires-clause-few
+count_in-requires-clause-few g c = let w = c.requires.free in (w.0, w.2, w.4)
+
+pub note-requires-clause-free : goal.note-requires-clause-free
+note-requires-clause-free g c = let w = c.requires.free in (w.0, w.1, w.3)
+
+-- ---- Counts that are taken back
+
+module _ (slot : ℕ) (lits : Clause) (old with : Option (Table ℕ))
+    (counted : (live : FinMap nat_cmp Clause) (s : ℕ) → AreCounted old live → maps.get live s ≡ None → AreCounted with (maps.insert live s lits)) where
+  counted_there : (live : FinMap nat_cmp Clause) → AreCounted old live → maps.get live slot ≡ None →
+      (m : FinMap nat_cmp Clause) × (s : ℕ) × AreCounted with m × (maps.get m s ≡ Some lits)
+  counted_there live are free = (maps.insert live slot lits, slot, counted live slot are free, insert_here live slot slot lits refl)
+
+  taken_back : (after : Option (Table ℕ)) → ((live : FinMap nat_cmp Clause) (s : ℕ) → AreCounted with live → maps.get live s ≡ Some lits → AreCounted after (maps.remove live s)) →
+      (live : FinMap nat_cmp Clause) → AreCounted old live → maps.get live slot ≡ None → AreCounted after live
+  unfolding counted_there
+  taken_back after removed live are free =
+      let w = counted_there live are free in
+      subst (AreCounted after) (insert_undone live slot lits free) (removed w.0 slot w.2 w.3)
+
+pub count_out-requires-clause-there : goal.count_out-requires-clause-there
+count_out-requires-clause-there g c =
+    let w = c.requires.free in
+    counted_there c.args.slot c.args.lits.now c.args.counts.now c.count_in.new.counts c.in_ok-count_in.ensures.ok w.0 w.2 w.3
+
+pub returns-in-Err-clause-same_counts : goal.returns-in-Err-clause-same_counts
+returns-in-Err-clause-same_counts g c =
+    taken_back c.args.slot c.args.lits.now c.args.counts.now c.count_in.new.counts c.in_ok-count_in.ensures.ok c.count_out.new.counts c.count_out.ensures
+
+pub count_out-requires-in-Err-add-clause-there : goal.count_out-requires-in-Err-add-clause-there
+count_out-requires-in-Err-add-clause-there g c =
+    let w = c.requires.free in
+    counted_there c.args.slot c.args.lits.now c.args.counts.now c.count_in.new.counts c.in_ok-count_in.ensures.ok w.0 w.2 w.3
+
+pub returns-in-Err-add-clause-same_counts : goal.returns-in-Err-add-clause-same_counts
+returns-in-Err-add-clause-same_counts g c =
+    taken_back c.args.slot c.args.lits.now c.args.counts.now c.count_in.new.counts c.in_ok-count_in.ensures.ok c.count_out-in-Err-add.new.counts c.count_out-in-Err-add.ensures
+
+-- ---- Occurrences that are taken back
+
 pub forget-requires : goal.forget-requires
 forget-requires g c =
     let w = c.requires.free in
     let lits = c.args.lits.now in
-    (maps.insert w.0 c.args.slot lits, c.in_ok-note.ensures.ok w.0 w.1 w.2, ap is_some (insert_here w.0 c.args.slot c.args.slot lits refl))
+    (maps.insert w.0 c.args.slot lits, c.in_default.ensures.ok w.0 w.1 w.3, ap is_some (insert_here w.0 c.args.slot c.args.slot lits refl))
 
-pub returns-in-Err-clause-same_kept : goal.returns-in-Err-clause-same_kept
-returns-in-Err-clause-same_kept g c live kept free =
+pub returns-in-Err-add-clause-same_kept : goal.returns-in-Err-add-clause-same_kept
+returns-in-Err-add-clause-same_kept g c live kept free =
     let lits = c.args.lits.now in
-    subst (AreKept c.forget.new.kept) (insert_undone live c.args.slot lits free) (c.forget.ensures (maps.insert live c.args.slot lits) (c.in_ok-note.ensures.ok live kept free))
+    subst (AreKept c.forget.new.kept) (insert_undone live c.args.slot lits free) (c.forget.ensures (maps.insert live c.args.slot lits) (c.in_default.ensures.ok live kept free))

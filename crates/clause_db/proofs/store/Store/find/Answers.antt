@@ -1,12 +1,10 @@
-use Rattle.std.proofs.Common.{◌≡◌, ℕ, ◌<◌, true, is_some, sym, ap, ◌∙◌, arith}
+use Rattle.std.proofs.Common.{is_some, sym, ap, ◌∙◌}
 use Rattle.std.specs.FinMap as maps
 use Rattle.std.proofs.lemmas.Bool.{true≢false}
-use Rattle.cnf_base.specs.Literals.{has}
 use Rattle.cnf_base.proofs.SetLemmas.{all_each, each_all, same_back, same_there}
-use Rattle.clause_db.specs.Code.LiteralMarks.{is_marked, mark_count}
+use Rattle.clause_db.specs.Code.LiteralMarks.{is_marked}
 use Rattle.tables.specs.Table.{at}
-use Rattle.clause_db.proofs.StoreLemmas.Search.{copies_pos, known_from_count, match_same}
-use Rattle.clause_db.proofs.StoreLemmas.Search.{same_match}
+use Rattle.clause_db.proofs.StoreLemmas.Search.{match_same, same_match}
 use Rattle.clause_db.proofs.StoreLemmas.Options.{if_some_from, if_some_from_none, if_none_from}
 use Rattle.clause_db.proofs.StoreLemmas.Options.{if_none_from_some}
 use Rattle.clause_index.specs.Hashes.{hash}
@@ -21,12 +19,7 @@ returns-then-not-all_known-clause-none c s d is same =
     let marks = c.self.inside.marks in
     let lits = c.args.lits.now in
     let at_slot = ap (λ v. maps.get v.live s) c.self.view_is ∙ is in
-    let counted : (l : ℕ) → has lits l ≡ true → 0 < mark_count (at marks l) =
-    λ l h.
-    let many = copies_pos _ s d l at_slot (same_back d lits same l h) in
-    let count_is = c.self.invariant.0.counted l in
-    omega arith in
-    let known = each_all (λ l. is_some (at marks l)) lits (λ l h. known_from_count (at marks l) (counted l h)) in
+    let known = each_all (λ l. is_some (at marks l)) lits (λ l h. c.self.invariant.0.known s d at_slot l (same_back d lits same l h)) in
     true≢false (sym known ∙ sym c.all_known.ensures ∙ c.if-not-all_known.true)
 
 pub mark_all-digest-requires-clause-known : goal.mark_all-digest-requires-clause-known

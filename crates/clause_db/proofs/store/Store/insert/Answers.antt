@@ -1,20 +1,19 @@
-use Rattle.std.proofs.Common.{◌≡◌, ℕ, ◌+◌, Some, cond, is_some, length, refl, sym, ap, ◌∙◌}
+use Rattle.std.proofs.Common.{◌≡◌, ℕ, ◌+◌, true, Some, is_some, length, refl, sym, ap, ◌∙◌}
 use Rattle.std.proofs.Common.{subst, arith}
 use Rattle.std.specs.FinMap as maps
 use Rattle.std.specs.FinMap.{FinMap}
 use Rattle.std.specs.Ordering.{nat_cmp}
 use Rattle.std.proofs.lemmas.Option.{same_Some}
 use Rattle.cnf_base.specs.Literals.{Clause, has, size}
-use Rattle.cnf_base.proofs.SetLemmas.{both_pass, same_there, same_back}
+use Rattle.cnf_base.proofs.SetLemmas.{same_there}
 use Rattle.clause_memory.specs.Memory as memory
 use Rattle.clause_memory.specs.Memory.{AddsFewBlocks, MemoryState, units_for}
 use Rattle.clause_db.specs.Store.{StoreState}
+use Rattle.clause_db.specs.Code.Counts.{AreCounted}
 use Rattle.clause_db.specs.Code.Fields.{IsStore, IsTakenIn}
 use Rattle.clause_db.specs.Code.Kept.{AreKept}
-use Rattle.clause_db.specs.Code.LiteralMarks.{mark_count}
-use Rattle.tables.specs.Table.{at}
 use Rattle.clause_index.proofs.IndexLemmas.Results.{on_err_from}
-use Rattle.clause_db.proofs.StoreLemmas.Fields.{copies_few, live_alone, sound_same, sound_with}
+use Rattle.clause_db.proofs.StoreLemmas.Fields.{live_alone, sound_same, sound_with}
 use Rattle.clause_db.proofs.StoreLemmas.Fields.{sum_fits}
 use Rattle.clause_db.proofs.StoreLemmas.Kept.{insert_undone}
 use Rattle.clause_index.proofs.IndexLemmas.Maps.{insert_here, insert_other}
@@ -30,9 +29,9 @@ pub invariant_of-self : goal.invariant_of-self
 invariant_of-self g c =
     let i = c.self.inside in
     let marks = c.take_in.new.marks in
-    let same = sound_same i.memory.live i.memory.stored i.marks i.sum c.self.invariant.0 marks c.take_in.ensures.counts c.in_err-slot.ensures.clear in
-    subst (λ (m : MemoryState). IsStore m.live m.stored marks i.sum × g.I.Indexing.indexes i.index m.live × AreKept i.occurrences m.live) (sym c.in_err-slot.ensures.err)
-    (same, c.self.invariant.1, c.self.invariant.2)
+    let same = sound_same i.memory.live i.memory.stored i.marks i.sum c.self.invariant.0 marks c.take_in.ensures.still_known c.take_in.ensures.clear in
+    subst (λ (m : MemoryState). IsStore m.live m.stored marks i.sum × g.I.Indexing.indexes i.index m.live × AreKept i.occurrences m.live × AreCounted i.counts m.live) (sym c.in_err-slot.ensures.err)
+    (same, c.self.invariant.1, c.self.invariant.2, c.self.invariant.3)
 
 pub returns-in_err-slot-clause-live_alone : goal.returns-in_err-slot-clause-live_alone
 returns-in_err-slot-clause-live_alone g c = live_alone c.take_in.new.memory.live c.take_in.new.memory.stored c.take_in.new.marks _ (invariant_of-self g c).0
@@ -56,7 +55,9 @@ clause-kept-requires g c =
     ap (λ m. is_some (maps.get m c.in_ok-slot.slot)) taken.live ∙ ap is_some (insert_here c.self.inside.memory.live c.in_ok-slot.slot c.in_ok-slot.slot taken.clause refl)
 
 pub list_up-requires-clause-free : goal.list_up-requires-clause-free
-list_up-requires-clause-free g c = (c.self.inside.memory.live, c.self.invariant.2, c.in_ok-slot.ensures.taken.free)
+list_up-requires-clause-free g c =
+    let taken = c.in_ok-slot.ensures.taken in
+    (c.self.inside.memory.live, c.self.invariant.2, c.self.invariant.3, taken.free, taken.few)
 
 -- the literals that the memory hands out are those that were taken in
 taken_is : {m n : MemoryState} {slot : ℕ} {lits kept : Clause} → (taken : IsTakenIn m n slot lits) → Some kept ≡ maps.get n.live slot → kept ≡ taken.clause
@@ -77,31 +78,22 @@ overflow_add-self g c =
     let as_long = ap length (taken_is taken c.clause-kept.ensures) in
     omega arith
 
-pub count_all-requires-clause-few : goal.count_all-requires-clause-few
-count_all-requires-clause-few g c l =
-    let i = c.self.inside in
-    let bound = copies_few i.memory.live i.memory.stored i.marks i.sum c.self.invariant.0 l in
-    let same = c.take_in.ensures.counts l in
-    let few = c.in_ok-slot.ensures.taken.few in
-    omega arith
-
 pub invariant_of-self-in-Ok : goal.invariant_of-self-in-Ok
 invariant_of-self-in-Ok g c =
     let i = c.self.inside in
     let m = c.take_in.new.memory in
     let slot = c.in_ok-slot.slot in
-    let lits = c.args.lits.now in
+    let marks = c.take_in.new.marks in
     let taken = c.in_ok-slot.ensures.taken in
     let x = taken.clause in
     let kept_is = taken_is taken c.clause-kept.ensures in
-    let alike = λ (l : ℕ). both_pass (has lits l) (has x l) (same_back x lits taken.same l) (same_there x lits taken.same l) in
-    let counts = λ (l : ℕ).
-    c.count_all.ensures.counts l ∙ ap (λ n. n + cond (has lits l) 1 0) (c.take_in.ensures.counts l) ∙ ap (λ b. mark_count (at i.marks l) + cond b 1 0) (alike l) in
+    let known = λ (l : ℕ) (h : has x l ≡ true). c.in_ok-slot.ensures.known l (same_there x c.args.lits.now taken.same l h) in
     let live_is = ap (maps.insert i.memory.live slot) kept_is ∙ sym taken.live in
-    let sound = sound_with i.memory.live i.memory.stored i.marks i.sum c.self.invariant.0 slot x taken.free taken.different taken.short c.count_all.new.marks counts c.count_all.ensures.clear m.stored (taken.stored ∙ ap memory.literals_in taken.live) in (
-      subst (λ n. IsStore m.live m.stored c.count_all.new.marks (i.sum + n)) (ap length (sym kept_is)) (subst (λ l. IsStore l m.stored c.count_all.new.marks (i.sum + length x)) (sym taken.live) sound),
+    let sound = sound_with i.memory.live i.memory.stored i.marks i.sum c.self.invariant.0 slot x taken.free taken.different taken.short marks known c.take_in.ensures.still_known c.take_in.ensures.clear m.stored (taken.stored ∙ ap memory.literals_in taken.live) in (
+      subst (λ n. IsStore m.live m.stored marks (i.sum + n)) (ap length (sym kept_is)) (subst (λ l. IsStore l m.stored marks (i.sum + length x)) (sym taken.live) sound),
       subst (g.I.Indexing.indexes c.list_up.new.index) live_is (c.in-Ok.ensures.index i.memory.live c.self.invariant.1 taken.free),
       subst (AreKept c.list_up.new.kept) live_is (c.in-Ok.ensures.kept i.memory.live c.self.invariant.2 taken.free),
+      subst (AreCounted c.list_up.new.counts) live_is (c.in-Ok.ensures.counts i.memory.live c.self.invariant.3 taken.free),
     )
 
 pub returns-in-Ok-clause-free : goal.returns-in-Ok-clause-free
@@ -123,15 +115,12 @@ returns-in-Ok-clause-others g c s apart =
     ap (λ l. maps.get l s) taken.live ∙ insert_other c.self.inside.memory.live c.in_ok-slot.slot s taken.clause (λ e. apart (e ∙ sym c.at.ensures)) ∙ ap (λ v. maps.get v.live s) c.self.view_is
 
 pub returns-in-Ok-clause-live_alone : goal.returns-in-Ok-clause-live_alone
-returns-in-Ok-clause-live_alone g c = live_alone c.take_in.new.memory.live c.take_in.new.memory.stored c.count_all.new.marks _ (invariant_of-self-in-Ok g c).0
+returns-in-Ok-clause-live_alone g c = live_alone c.take_in.new.memory.live c.take_in.new.memory.stored c.take_in.new.marks _ (invariant_of-self-in-Ok g c).0
 
 pub returns-in-Ok-clause-few_blocks : goal.returns-in-Ok-clause-few_blocks
 returns-in-Ok-clause-few_blocks g c = few_seen c.self.inside.memory c.args.self.now c.self.view_is c.take_in.new.memory.blocks (units_for (size c.args.lits.now)) c.take_in.ensures.few_blocks
 
 -- ---- Where no memory is left for the index
-
-pub unmark_all-requires : goal.unmark_all-requires
-unmark_all-requires g c l marked = sym (c.in_ok-slot.ensures.all l) ∙ marked
 
 pub remove-requires : goal.remove-requires
 remove-requires g c =
@@ -146,15 +135,15 @@ pub invariant_of-self-in-Err : goal.invariant_of-self-in-Err
 invariant_of-self-in-Err g c =
     let i = c.self.inside in
     let m = c.remove.new.self in
-    let marks = c.unmark_all.new.marks in
+    let marks = c.take_in.new.marks in
     let taken = c.in_ok-slot.ensures.taken in
     let live = undone taken c.remove.ensures.live in
     let stored = c.remove.ensures.live_alone ∙ ap memory.literals_in live ∙ sym c.self.invariant.0.stored_is in
-    let counts = λ (l : ℕ). c.unmark_all.ensures.counts l ∙ c.take_in.ensures.counts l in
-    let same = sound_same i.memory.live i.memory.stored i.marks i.sum c.self.invariant.0 marks counts c.unmark_all.ensures.clear in (
+    let same = sound_same i.memory.live i.memory.stored i.marks i.sum c.self.invariant.0 marks c.take_in.ensures.still_known c.take_in.ensures.clear in (
       subst (λ n. IsStore m.live n marks i.sum) (sym stored) (subst (λ l. IsStore l i.memory.stored marks i.sum) (sym live) same),
       subst (g.I.Indexing.indexes c.list_up.new.index) (sym live) (c.in-Err.ensures.same_index i.memory.live c.self.invariant.1),
       subst (AreKept c.list_up.new.kept) (sym live) (c.in-Err.ensures.same_kept i.memory.live c.self.invariant.2 taken.free),
+      subst (AreCounted c.list_up.new.counts) (sym live) (c.in-Err.ensures.same_counts i.memory.live c.self.invariant.3 taken.free),
     )
 
 pub returns-in-Err-clause-err_live : goal.returns-in-Err-clause-err_live
@@ -169,4 +158,4 @@ returns-in-Err-clause-few_blocks g c =
     few_seen c.self.inside.memory c.args.self.now c.self.view_is c.remove.new.self.blocks (units_for (size c.args.lits.now)) (subst (λ b. AddsFewBlocks c.self.inside.memory.blocks b c.self.inside.memory.live (units_for (size c.args.lits.now))) (sym c.remove.ensures.blocks) c.take_in.ensures.few_blocks)
 
 pub returns-in-Err-clause-live_alone : goal.returns-in-Err-clause-live_alone
-returns-in-Err-clause-live_alone g c = live_alone c.remove.new.self.live c.remove.new.self.stored c.unmark_all.new.marks _ (invariant_of-self-in-Err g c).0
+returns-in-Err-clause-live_alone g c = live_alone c.remove.new.self.live c.remove.new.self.stored c.take_in.new.marks _ (invariant_of-self-in-Err g c).0

@@ -1,22 +1,21 @@
 use Rattle.std.proofs.Common.{◌-◌, is_some, length, sym, ap, ◌∙◌, subst}
 use Rattle.std.specs.FinMap as maps
 use Rattle.clause_memory.specs.Memory as memory
+use Rattle.clause_db.specs.Code.Counts.{AreCounted}
 use Rattle.clause_db.specs.Code.Fields.{IsStore}
 use Rattle.clause_db.specs.Code.Kept.{AreKept}
-use Rattle.clause_db.proofs.StoreLemmas.Fields.{counted_here, live_alone, sound_without, within_sum}
+use Rattle.clause_db.proofs.StoreLemmas.Fields.{live_alone, sound_without, within_sum}
 use Rattle.clause_db.proofs.store.Store.remove.Goals as goal
 
 pub clause-lits-requires : goal.clause-lits-requires
 clause-lits-requires g c =
     ap (λ v. is_some (maps.get v.live c.number-number.result)) c.self.view_is ∙ ap (λ s. is_some (maps.get c.args.self.now.live s)) c.number-number.ensures ∙ c.requires
 
-pub release-requires-clause-different : goal.release-requires-clause-different
-release-requires-clause-different g c = c.self.invariant.0.different c.number-number.result c.clause-lits.result.now (sym c.clause-lits.ensures)
+pub count_out-requires-clause-different : goal.count_out-requires-clause-different
+count_out-requires-clause-different g c = c.self.invariant.0.different c.number-number.result c.clause-lits.result.now (sym c.clause-lits.ensures)
 
-pub release-requires-clause-counted : goal.release-requires-clause-counted
-release-requires-clause-counted g c =
-    let i = c.self.inside in
-    counted_here i.memory.live i.memory.stored i.marks i.sum c.self.invariant.0 c.number-number.result c.clause-lits.result.now (sym c.clause-lits.ensures)
+pub count_out-requires-clause-there : goal.count_out-requires-clause-there
+count_out-requires-clause-there g c = (c.self.inside.memory.live, c.number-number.result, c.self.invariant.3, sym c.clause-lits.ensures)
 
 pub overflow_sub-self : goal.overflow_sub-self
 overflow_sub-self g c =
@@ -42,10 +41,11 @@ invariant_of-self g c =
     let here = sym c.clause-lits.ensures in
     let is = c.remove-2.ensures in
     let kept_is = is.live_alone ∙ ap memory.literals_in is.live in (
-      subst (λ l. IsStore l m.stored c.release.new.marks (i.sum - length c.clause-lits.result.now)) (sym is.live)
-          (sound_without i.memory.live i.memory.stored i.marks i.sum c.self.invariant.0 c.number-number.result c.clause-lits.result.now here c.release.new.marks c.release.ensures.counts c.release.ensures.marked m.stored kept_is),
+      subst (λ l. IsStore l m.stored i.marks (i.sum - length c.clause-lits.result.now)) (sym is.live)
+          (sound_without i.memory.live i.memory.stored i.marks i.sum c.self.invariant.0 c.number-number.result c.clause-lits.result.now here m.stored kept_is),
       subst (g.I.Indexing.indexes c.remove.new.self) (sym is.live) (c.remove.ensures i.memory.live c.self.invariant.1 here),
       subst (AreKept c.forget.new.kept) (sym is.live) (c.forget.ensures i.memory.live c.self.invariant.2),
+      subst (AreCounted c.count_out.new.counts) (sym is.live) (c.count_out.ensures i.memory.live c.number-number.result c.self.invariant.3 here),
     )
 
 pub returns-clause-live : goal.returns-clause-live
@@ -53,4 +53,4 @@ returns-clause-live g c =
     c.remove-2.ensures.live ∙ ap (maps.remove c.self.inside.memory.live) c.number-number.ensures ∙ ap (λ v. maps.remove v.live c.args.slot) c.self.view_is
 
 pub returns-clause-live_alone : goal.returns-clause-live_alone
-returns-clause-live_alone g c = live_alone c.remove-2.new.self.live c.remove-2.new.self.stored c.release.new.marks _ (invariant_of-self g c).0
+returns-clause-live_alone g c = live_alone c.remove-2.new.self.live c.remove-2.new.self.stored c.self.inside.marks _ (invariant_of-self g c).0

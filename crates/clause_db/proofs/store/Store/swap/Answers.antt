@@ -3,9 +3,11 @@ use Rattle.std.specs.List.{swap}
 use Rattle.std.proofs.lemmas.List.Edits.{length-swap}
 use Rattle.std.specs.FinMap as maps
 use Rattle.clause_memory.specs.Memory as memory
+use Rattle.clause_db.specs.Code.Counts.{AreCounted}
 use Rattle.clause_db.specs.Code.Fields.{IsStore}
 use Rattle.clause_index.specs.Code.Index.{Indexes}
 use Rattle.clause_db.specs.Code.Kept.{AreKept}
+use Rattle.clause_db.proofs.StoreLemmas.Counts.{counted_replaced}
 use Rattle.clause_db.proofs.StoreLemmas.Fields.{live_alone, sound_replaced}
 use Rattle.clause_index.proofs.IndexLemmas.Whole.{index_swapped}
 use Rattle.clause_db.proofs.StoreLemmas.Kept.{kept_replaced}
@@ -34,6 +36,7 @@ invariant_of-self c =
           (sound_replaced i.memory.live i.memory.stored i.marks i.sum c.self.invariant.0 k x here y alike (length-swap x c.args.a c.args.b) m.stored (c.swap.ensures.live_alone ∙ ap memory.literals_in live)),
       subst (Indexes i.index) (sym live) (index_swapped i.index i.memory.live c.self.invariant.1 k x y here hashes),
       subst (AreKept i.occurrences) (sym live) (kept_replaced i.occurrences i.memory.live k x y here alike c.self.invariant.2),
+      subst (AreCounted i.counts) (sym live) (counted_replaced i.counts i.memory.live k x y here alike c.self.invariant.3),
     )
 
 pub returns-clause-live : goal.returns-clause-live

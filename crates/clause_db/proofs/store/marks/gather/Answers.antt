@@ -32,7 +32,7 @@ loop-l-preserved c =
     let inside : i < length lits = omega arith in
     let was : c.clear_mark.result ≡ (has lits x && not (has (take i lits) x)) = c.clear_mark.ensures.was ∙ c.loop-l.invariant.marked x in
     let marked = λ (k : ℕ). gather_more lits i inside x c.l-item.is k _ _ (c.clear_mark.ensures.marked k) (c.loop-l.invariant.marked k) in
-    let counts = λ (k : ℕ). c.clear_mark.ensures.counts k ∙ c.loop-l.invariant.counts k in
+    let known = λ (k : ℕ). c.clear_mark.ensures.known k ∙ c.loop-l.invariant.known k in
     elim c.if-clear_mark.branch [
       | then-clear_mark w ↦
           let new : has (take i lits) x ≡ false = marked_new (has lits x) (has (take i lits) x) (sym was ∙ w.if-clear_mark.true) in
@@ -41,7 +41,7 @@ loop-l-preserved c =
             items = λ k. ap (λ ls. has ls k) items_are ∙ push_same lits i inside x c.l-item.is c.loop-l.kept.items c.loop-l.invariant.items new k;
             different = ap size items_are ∙ push_different lits i inside x c.l-item.is c.loop-l.kept.items c.loop-l.invariant.items new c.loop-l.invariant.different ∙ ap length (sym items_are);
             marked = marked;
-            counts = counts;
+            known = known;
             room = ap (λ v. v.cap) w.kept-is ∙ w.push_reserved.ensures.capacity ∙ c.loop-l.invariant.room;
           }
       | else-clear_mark w ↦
@@ -50,7 +50,7 @@ loop-l-preserved c =
             items = λ k. ap (λ v. has v.items k) w.kept-is ∙ c.loop-l.invariant.items k ∙ sym (has_kept lits i inside x c.l-item.is old k);
             different = ap (λ v. size v.items) w.kept-is ∙ c.loop-l.invariant.different ∙ ap (λ v. length v.items) (sym w.kept-is);
             marked = marked;
-            counts = counts;
+            known = known;
             room = ap (λ v. v.cap) w.kept-is ∙ c.loop-l.invariant.room;
           }
     ]

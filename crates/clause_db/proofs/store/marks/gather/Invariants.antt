@@ -1,6 +1,6 @@
-use Rattle.std.proofs.Common.{◌≡◌, ℕ, ◌&&◌, not, take, length, vec_capacity}
+use Rattle.std.proofs.Common.{◌≡◌, ℕ, ◌&&◌, not, take, length, vec_capacity, is_some}
 use Rattle.cnf_base.specs.Literals.{has, size}
-use Rattle.clause_db.specs.Code.LiteralMarks.{mark_count, is_marked}
+use Rattle.clause_db.specs.Code.LiteralMarks.{is_marked}
 use Rattle.tables.specs.Table.{at}
 use Rattle.clause_db.proofs.store.marks.gather.Given as goal
 
@@ -10,6 +10,6 @@ invariant-loop-l l = record {
   different : size l.kept.items ≡ length l.kept.items;
   marked : (k : ℕ) → is_marked (at l.marks k)
       ≡ (has l.lits k && not (has (take l.l-index l.lits) k));
-  counts : (k : ℕ) → mark_count (at l.marks k) ≡ mark_count (at l.fn.marks k);
+  known : (k : ℕ) → is_some (at l.marks k) ≡ is_some (at l.fn.marks k);
   room : vec_capacity l.kept ≡ vec_capacity l.fn.kept;
 }

@@ -1,6 +1,6 @@
 use Rattle.std.proofs.Common.{◌≡◌, ℕ, is_some, take}
 use Rattle.cnf_base.specs.Literals.{has}
-use Rattle.clause_db.specs.Code.LiteralMarks.{mark_count, is_marked}
+use Rattle.clause_db.specs.Code.LiteralMarks.{is_marked}
 use Rattle.tables.specs.Table.{at}
 use Rattle.clause_db.proofs.StoreLemmas.Marks.{IsDigest}
 use Rattle.clause_db.proofs.store.marks.mark_all.Given as goal
@@ -8,7 +8,6 @@ use Rattle.clause_db.proofs.store.marks.mark_all.Given as goal
 abbrev pub invariant-loop-l : goal.invariant-loop-l
 invariant-loop-l l = record {
   marked : (k : ℕ) → is_marked (at l.marks k) ≡ has (take l.l-index l.lits) k;
-  counts : (k : ℕ) → mark_count (at l.marks k) ≡ mark_count (at l.fn.marks k);
   known : (k : ℕ) → is_some (at l.marks k) ≡ is_some (at l.fn.marks k);
   digest : IsDigest l.seed l.lits l.l-index l.len l.sum;
 }

@@ -1,13 +1,13 @@
 use Rattle.std.proofs.Common.{◌≡◌, ℕ, ◌≤◌, true, take, IsSome}
 use Rattle.cnf_base.specs.Literals.{has, size}
-use Rattle.clause_db.specs.Code.LiteralMarks.{mark_count, is_marked}
+use Rattle.clause_db.specs.Code.LiteralMarks.{is_marked}
 use Rattle.tables.specs.Table.{at}
 use Rattle.clause_db.proofs.store.marks.mark_new.Given as goal
 
 abbrev pub invariant-loop-l : goal.invariant-loop-l
 invariant-loop-l l = record {
   marked : (k : ℕ) → is_marked (at l.marks k) ≡ has (take l.l-index l.lits) k;
-  counts : (k : ℕ) → mark_count (at l.marks k) ≡ mark_count (at l.fn.marks k);
+  still_known : (k : ℕ) → IsSome (at l.fn.marks k) → IsSome (at l.marks k);
   known : (k : ℕ) → has (take l.l-index l.lits) k ≡ true → IsSome (at l.marks k);
   len_is : l.len ≡ size (take l.l-index l.lits);
   few : l.len ≤ l.l-index;

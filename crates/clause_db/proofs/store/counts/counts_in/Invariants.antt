@@ -1,0 +1,8 @@
+use Rattle.std.proofs.Common.{ℕ}
+use Rattle.clause_db.specs.Code.Counts.{count_of}
+use Rattle.tables.specs.Table.{at}
+use Rattle.clause_db.proofs.StoreLemmas.Counts.{IsCountBelow}
+use Rattle.clause_db.proofs.store.counts.counts_in.Given as goal
+
+abbrev pub invariant-loop-slot : goal.invariant-loop-slot
+invariant-loop-slot l = (k : ℕ) → IsCountBelow l.memory.live l.slot k (count_of (at l.counts k))
