@@ -105,11 +105,20 @@ impl LiveClauses {
     }
 
     /// A number that no list of different identifiers, of clauses that hold the literal, exceeds.
-    pub fn holding(&self, l: Lit) -> u64
-        ensures { (ids : List ℕ) → AllHold (maps.get self.now.live) l ids →
-            length ids ≤ result }
+    ///
+    /// The first call goes over all clauses, and counts how many have each literal. From then on
+    /// this is kept, and a call takes constant time.
+    ///
+    /// # Errors
+    ///
+    /// Where memory runs out.
+    pub fn holding(&mut self, l: Lit) -> Result<u64, OutOfMemory>
+        ensures bound { IfOk result (λ n. (ids : List ℕ) →
+            AllHold (maps.get self.old.live) l ids → length ids ≤ n) }
+        ensures same { self.new ≡ self.old }
     {
-        self.store.count_with(l)
+        self.store.keep_counts()?;
+        Ok(self.store.count_with(l))
     }
 
     /// Gathers the identifiers of the clauses that the literal touches, in ascending order: that

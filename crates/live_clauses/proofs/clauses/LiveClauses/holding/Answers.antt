@@ -1,6 +1,9 @@
-use Rattle.std.proofs.Common.{ap}
+use Rattle.std.proofs.Common.{ap, ◌∙◌}
+use Rattle.clause_db.specs.Store.{copies_with}
 use Rattle.live_clauses.proofs.ClausesLemmas.Joined.{holding_counts}
 use Rattle.live_clauses.proofs.clauses.LiveClauses.holding.Goals as goal
 
-pub returns : goal.returns
-returns c = holding_counts c.self.inside.ids c.self.inside.store.live c.args.self.now (ap (λ s. s.live) c.self.view_is) c.self.invariant.0.0 c.args.l c.count_with.result c.count_with.ensures
+pub returns-clause-bound : goal.returns-clause-bound
+returns-clause-bound c =
+    holding_counts c.self.inside.ids c.self.inside.store.live c.args.self.now (ap (λ s. s.live) c.self.view_is) c.self.invariant.0.0 c.args.l c.count_with.result
+    (c.count_with.ensures ∙ ap (λ s. copies_with s.live c.args.l) c.keep_counts.ensures)
