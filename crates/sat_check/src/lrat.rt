@@ -3,6 +3,7 @@
 ghost use Rattle.std.specs.Prelude.{◌≡◌, false};
 ghost use Rattle.proofs.specs.Lrat.{lrat_steps};
 ghost use Rattle.theory.specs.Rules.{lrat};
+ghost use Rattle.steps.specs.Session.{fresh};
 ghost use Rattle.sat_check.specs.Code.Checking.{RunsInto};
 ghost use Rattle.sat_check.specs.Runs.{RunsLrat, RunsProof};
 
@@ -46,32 +47,52 @@ pub fn run_lrat_placed<F: In, P: In, O: Out>(
         (P.shown proof.old) (P.shown proof.new) (O.held out.old) (O.held out.new)
         (O.has_failed out.old) (O.has_failed out.new) (O.is_flushed out.new) result }
 {
-    let mut lines = LineOut::new(&mut *out);
-    let checked = check_lrat(alloc, options.trace, formula, proof, &mut lines);
-    let writer = lines.release();
-    let _ = &*writer;
-    checked
+    run_lrat_kept(alloc, options, formula, proof, out).0
 }
 
+/// As [`run_lrat_placed`], and hands over the session that it checked in, if there was memory for
+/// one.
+pub(crate) fn run_lrat_kept<F: In, P: In, O: Out>(
+    alloc: Global,
+    options: &LratOptions,
+    formula: &mut F,
+    proof: &mut P,
+    out: &mut O,
+) -> (Checked, Option<LratSession>)
+    ensures { RunsLrat options.now.trace (F.shown formula.old) (F.shown formula.new)
+        (P.shown proof.old) (P.shown proof.new) (O.held out.old) (O.held out.new)
+        (O.has_failed out.old) (O.has_failed out.new) (O.is_flushed out.new) result.0 }
+{
+    let mut lines = LineOut::new(&mut *out);
+    let mut session = LratSession::new(alloc).ok();
+    let checked = match &mut session {
+        Some(session) => check_lrat(alloc, options.trace, session, formula, proof, &mut lines),
+        None => Checked::without_step(give_up(&mut lines)),
+    };
+    let writer = lines.release();
+    let _ = &*writer;
+    (checked, session)
+}
+
+// The check in a session that has begun.
 fn check_lrat<F: In, P: In, O: Out>(
     alloc: Global,
     trace: bool,
+    session: &mut LratSession,
     formula: &mut F,
     proof: &mut P,
     lines: &mut LineOut<O>,
 ) -> Checked
-    requires { lines.old.is_broken ≡ false }
+    requires fresh { session.old ≡ fresh lrat }
+    requires whole { lines.old.is_broken ≡ false }
     ensures { RunsInto lrat trace lrat_steps (F.shown formula.old) (F.shown formula.new)
         (P.shown proof.old) (P.shown proof.new) lines.old lines.new result }
 {
-    let Ok(mut session) = LratSession::new(alloc) else {
-        return Checked::without_step(give_up(lines));
-    };
     let Ok(piece) = Piece::new(alloc) else {
         return Checked::without_step(give_up(lines));
     };
     let mut reader = LratText::new(Source::over(piece, &mut *proof));
-    let checked = check(alloc, trace, formula, &mut session, &mut reader, lines);
+    let checked = check(alloc, trace, formula, session, &mut reader, lines);
     let rest = reader.release();
     let _ = &*rest;
     checked

@@ -1,14 +1,20 @@
 //! Each tool, as the words of its command line ask for it.
+//!
+//! A program ends when its check has, and the system takes all its memory at once. To free clause by
+//! clause and list by list before would take up to a twentieth of its time. So the session is left.
 
 ghost use Rattle.sat_check.specs.Options.{drat_options, lrat_options};
 ghost use Rattle.sat_check.specs.Runs.{RunsDrat, RunsLrat};
 
-use crate::{Args, Checked, DratOptions, LratOptions, run_drat_placed, run_lrat_placed};
+use crate::drat::run_drat_kept;
+use crate::lrat::run_lrat_kept;
+use crate::{Args, Checked, DratOptions, LratOptions};
 use cnf_base::{In, Out};
 use std::alloc::Global;
+use std::mem::ManuallyDrop;
 
-/// What `drat-forward` does with its inputs: [`run_drat_placed`] by the options that the words ask
-/// for.
+/// What `drat-forward` does with its inputs: [`run_drat_placed`](crate::run_drat_placed) by the
+/// options that the words ask for. The memory of its clauses is not given back.
 pub fn drat_forward<F: In, P: In, O: Out>(
     alloc: Global,
     args: &Args,
@@ -21,11 +27,14 @@ pub fn drat_forward<F: In, P: In, O: Out>(
         (P.shown proof.old) (P.shown proof.new) (O.held out.old) (O.held out.new)
         (O.has_failed out.old) (O.has_failed out.new) (O.is_flushed out.new) result }
 {
-    run_drat_placed(alloc, &DratOptions::of(args, seed), formula, proof, out)
+    let options = DratOptions::of(args, seed);
+    let (checked, session) = run_drat_kept(alloc, &options, formula, proof, out);
+    let _left = ManuallyDrop::new(session);
+    checked
 }
 
-/// What `lrat-check` does with its inputs: [`run_lrat_placed`] by the options that the words ask
-/// for.
+/// What `lrat-check` does with its inputs: [`run_lrat_placed`](crate::run_lrat_placed) by the
+/// options that the words ask for. The memory of its clauses is not given back.
 pub fn lrat_check<F: In, P: In, O: Out>(
     alloc: Global,
     args: &Args,
@@ -37,5 +46,7 @@ pub fn lrat_check<F: In, P: In, O: Out>(
         (P.shown proof.old) (P.shown proof.new) (O.held out.old) (O.held out.new)
         (O.has_failed out.old) (O.has_failed out.new) (O.is_flushed out.new) result }
 {
-    run_lrat_placed(alloc, &LratOptions::of(args), formula, proof, out)
+    let (checked, session) = run_lrat_kept(alloc, &LratOptions::of(args), formula, proof, out);
+    let _left = ManuallyDrop::new(session);
+    checked
 }

@@ -13,19 +13,14 @@ returns-in_default g c =
     runs_nothing lrat c.args.trace lrat_steps _ _ _ c.without_step.result c.args.lines.now c.give_up.new.lines refl
     (rw (c.without_step.ensures, c.give_up.ensures.status) refl) c.give_up.ensures.outcome c.give_up.ensures.writer
 
-pub returns-in_default-new : goal.returns-in_default-new
-returns-in_default-new g c =
-    runs_nothing lrat c.args.trace lrat_steps _ _ _ c.without_step-in_default-new.result c.args.lines.now c.give_up-in_default-new.new.lines refl
-    (rw (c.without_step-in_default-new.ensures, c.give_up-in_default-new.ensures.status) refl) c.give_up-in_default-new.ensures.outcome c.give_up-in_default-new.ensures.writer
-
 pub check-checked-requires-clause-unused : goal.check-checked-requires-clause-unused
-check-checked-requires-clause-unused g c = unused lrat c.in-Ok.session c.in-Ok.ensures
+check-checked-requires-clause-unused g c = unused lrat c.args.session.now c.requires.fresh
 
 pub returns : goal.returns
 returns g c =
-    let rule = rule_of (view_of c.in-Ok.session).state in
+    let rule = rule_of (view_of c.args.session.now).state in
     record {
-      report = reports_as rule lrat c.args.trace lrat_steps lrat_steps _ _ _ _ c.check-checked.result c.args.lines.now c.check-checked.new.lines (ap (λ s. rule_of (view_of s).state) c.in-Ok.ensures) (λ j. refl)
+      report = reports_as rule lrat c.args.trace lrat_steps lrat_steps _ _ _ _ c.check-checked.result c.args.lines.now c.check-checked.new.lines (ap (λ s. rule_of (view_of s).state) c.requires.fresh) (λ j. refl)
           (reports_run rule c.args.trace lrat_to_come lrat_steps _ _ _ _ c.over.result _ _ c.check-checked.result c.args.lines.now c.check-checked.new.lines c.over.ensures (search rules) (λ j. refl)
           c.new-reader.result c.new-reader.ensures c.check-checked.ensures.report.0 c.check-checked.ensures.report.1);
       read_failed = search rules;

@@ -4,19 +4,19 @@ use Rattle.sat_check.specs.Report.{drat_proof, rules_of}
 use Rattle.theory.specs.Rules.{drat}
 use Rattle.sat_check.proofs.CheckLemmas.{runs_nothing}
 use Rattle.sat_check.proofs.SoundLemmas.{runs_placed}
-use Rattle.sat_check.proofs.drat.run_drat_placed.Goals as goal
-use Rattle.sat_check.proofs.drat.run_drat_placed.Goals.{in-Ok, in-Err}
+use Rattle.sat_check.proofs.drat.run_drat_kept.Goals as goal
+use Rattle.sat_check.proofs.drat.run_drat_kept.Goals.{in-Some, in-None}
 
 pub returns : goal.returns
 returns g c =
     let rule = drat (rules_of c.args.options.now) in
     let trace = c.args.options.now.trace in
     let steps = drat_proof c.args.options.now.binary in
-    runs_placed rule trace steps _ _ _ _ c.match-seeded.checked c.new-lines.result c.match-seeded.lines _ _ _ _ _
+    runs_placed rule trace steps _ _ _ _ c.match-session.checked c.new-lines.result c.match-session.lines _ _ _ _ _
     (search rules) (search rules) (search rules) (search rules) (search rules)
-    (elim c.match-seeded.branch [
-      | in-Ok w ↦ rw (w.formula-is, w.proof-is, w.lines-is, w.checked-is) w.check_with-checked.ensures
-      | in-Err w ↦ rw (w.formula-is, w.proof-is, w.lines-is, w.checked-is)
+    (elim c.match-session.branch [
+      | in-Some w ↦ rw (w.formula-is, w.proof-is, w.lines-is, w.checked-is) w.check_with-checked.ensures
+      | in-None w ↦ rw (w.formula-is, w.proof-is, w.lines-is, w.checked-is)
           (runs_nothing rule trace steps _ _ _ w.without_step-checked.result c.new-lines.result w.give_up.new.lines refl
           (rw (w.without_step-checked.ensures, w.give_up.ensures.status) refl) w.give_up.ensures.outcome w.give_up.ensures.writer)
     ])
