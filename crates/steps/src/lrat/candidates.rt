@@ -201,8 +201,9 @@ fn first_unnamed(
     None
 }
 
-/// The lowest identifier of a candidate that no group names and that gives no conflict at once. It
-/// takes memory only where some candidate is not named.
+/// The lowest identifier of a candidate that no group names and that gives no conflict at once. The
+/// first call takes memory to count the clauses by literal, and each call where some candidate is
+/// not named takes some to find the candidates.
 pub(crate) fn first_left_out(
     live: &mut LiveClauses,
     trues: &mut Trail,
@@ -220,8 +221,9 @@ pub(crate) fn first_left_out(
     ensures reserved { SameSet trues.new.reserved trues.old.reserved }
     ensures same { live.new ≡ live.old }
 {
+    let holding = live.holding(pivot.neg())?;
     // Each named clause holds the complement, so that no other does where these are as many.
-    if live.holding(pivot.neg()) <= named.len() as u64 {
+    if holding <= named.len() as u64 {
         return Ok(None);
     }
     live.touched(pivot, ids)?;
