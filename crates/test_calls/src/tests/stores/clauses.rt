@@ -2,7 +2,7 @@
 
 use crate::tests::asserts::{expect_equal, expect_true, expect_true_at};
 use crate::tests::literals::{literal, literals};
-use clause_db::{Slot, Store};
+use clause_db::{NoIndex, Slot, Store};
 use cnf_base::{Lit, OutOfMemory};
 use std::alloc::Global;
 use std::process::Abort;
@@ -211,6 +211,40 @@ fn removes_many_copies(rt: HostRuntime) -> Result<(), Fail> {
     expect_equal(&rt, take_out_copies(&mut store, &[b, a], 100000), 100000);
     expect_true(&rt, store.find(&[a, b]).is_none());
     expect_equal(&rt, store.count_with(a), 0);
+    Ok(())
+}
+
+/// In how many clauses each of the two literals is.
+fn counts_of(store: &Store<NoIndex>, lits: [Lit; 2]) -> (u64, u64) {
+    let [a, b] = lits;
+    (store.count_with(a), store.count_with(b))
+}
+
+/// The counts of the two literals once there are a clause with both and one with the first, and
+/// once the former is removed.
+fn counts_around(
+    store: &mut Store<NoIndex>,
+    lits: [Lit; 2],
+) -> Result<((u64, u64), (u64, u64)), Fail> {
+    let [a, b] = lits;
+    let slot = store.insert(&[a, b, a])?;
+    store.insert(&[a])?;
+    let filled = counts_of(store, lits);
+    store.remove(slot);
+    Ok((filled, counts_of(store, lits)))
+}
+
+#[test]
+fn counts_before_and_after_it_keeps_the_counts(rt: HostRuntime) -> Result<(), Fail> {
+    let lits = [literal(A)?, literal(B)?];
+    let mut store = Store::without_index(rt.alloc())?;
+    expect_equal(&rt, counts_of(&store, lits), (0, 0));
+    expect_equal(&rt, counts_around(&mut store, lits)?, ((2, 1), (1, 0)));
+    store.keep_counts()?;
+    expect_equal(&rt, counts_of(&store, lits), (1, 0));
+    expect_equal(&rt, counts_around(&mut store, lits)?, ((3, 1), (2, 0)));
+    store.keep_counts()?;
+    expect_equal(&rt, counts_of(&store, lits), (2, 0));
     Ok(())
 }
 
