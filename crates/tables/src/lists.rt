@@ -294,6 +294,7 @@ impl<T: Copy + Drop> Lists<T> {
 
     /// The same where the list is full, or far. Inlined, it would make a loop that puts entries into
     /// lists carry more numbers.
+    #[cold]
     #[inline(never)]
     fn push_apart(&mut self, key: u32, entry: T) -> Result<(), OutOfMemory>
         requires { AreApart self.old }
