@@ -21,8 +21,8 @@ pub struct Cursor {
 }
 
 /// Takes out what stands between two places. Few visits end early, so that a gap is left: inlined,
-/// it would make the loop over the entries carry more numbers. By a reference the list would have to
-/// lie in memory on all other ways too.
+/// it would make the loop over the entries carry more numbers. By a reference the list would have
+/// to lie in memory on all other ways too.
 #[inline(never)]
 fn close_gap(mut list: Vec<Watcher>, from: usize, to: usize) -> Vec<Watcher>
     requires order { from ≤ to }

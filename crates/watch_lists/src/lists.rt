@@ -103,8 +103,8 @@ impl WatchLists {
         self.lists.put_back(key(l), list);
     }
 
-    /// Takes the entry of a slot with this mark out of the list of a literal, which has one. It takes
-    /// no memory.
+    /// Takes the entry of a slot with this mark out of the list of a literal, which has one. It
+    /// takes no memory.
     pub fn take_off(&mut self, l: Lit, slot: u32, is_binary: bool)
         requires apart { AreApart self.old }
         requires low { slot < 2147483648 }

@@ -1,10 +1,10 @@
 //! The entries of watch lists: the slot of a clause, a blocking literal of it, and whether it has
 //! just two literals.
 //!
-//! Where that literal is true the clause isn't looked at. Clauses lie elsewhere in memory, so a look
-//! costs far more than four bytes. The literal is the other watched one when the entry is written,
-//! and again where a look finds that one true. So a clause that is passed over has a true literal,
-//! whichever it is.
+//! Where that literal is true the clause isn't looked at. Clauses lie elsewhere in memory, so a
+//! look costs far more than four bytes. The literal is the other watched one when the entry is
+//! written, and again where a look finds that one true. So a clause that is passed over has a true
+//! literal, whichever it is.
 //!
 //! Of a binary clause, one of two literals, the entry tells all: the blocking literal is the other
 //! one. So a visit never looks at such a clause. The mark takes no room: it is the last bit of the
@@ -12,7 +12,8 @@
 //!
 //! A removal searches a list for an entry: 64 entries at once, then 16, then one by one. The more
 //! at once, the fewer instructions an entry, up to what a processor's registers allow. It compares
-//! slot and mark in one number, so that no slot is worked out.
+//! slot and mark in one number, so that no slot is worked out. In a long list it looks around a
+//! noted place first, and farther around it in a very long one.
 
 ghost use Rattle.std.specs.Prelude.{◌≡◌, ℕ, ◌+◌, ◌==◌, length, if◌then◌else◌, IsTrue, IfSome, take};
 ghost use Rattle.std.specs.Prelude.{◌<◌, ◌≤◌};
@@ -132,8 +133,12 @@ const MANY_AT_ONCE: usize = 64;
 /// How many are, where fewer are left.
 const FEW_AT_ONCE: usize = 16;
 
-/// How far around a place an entry is looked for.
+/// How far around a place an entry is looked for, one by one.
 const AROUND: usize = 8;
+
+/// How many entries a list has at least where one is then looked for farther around the place,
+/// many at once.
+const LONG: usize = 1000;
 
 /// Whether none of these entries has the code.
 fn lacks(list: &[Watcher], code: u32) -> bool
@@ -177,13 +182,15 @@ fn pass_over(list: &[Watcher], code: u32, from: usize, at_once: usize) -> usize
     place
 }
 
-/// The place of an entry with this code around this place, if one stands there.
-fn place_around(list: &[Watcher], code: u32, middle: usize) -> Option<usize>
+/// The place of an entry with this code between two places, if one stands there. It looks at the
+/// entries one by one.
+#[inline(always)]
+fn place_between(list: &[Watcher], code: u32, from: usize, to: usize) -> Option<usize>
+    requires { to ≤ length list.now }
     ensures inside { IfSome result (λ place. place < length list.now) }
     ensures there { IfSome result (λ place. code_at list.now place ≡ code) }
 {
-    let end = middle.saturating_add(AROUND).min(list.len());
-    for place in middle.saturating_sub(AROUND)..end {
+    for place in from..to {
         if list[place].code() == code {
             return Some(place);
         }
@@ -191,8 +198,46 @@ fn place_around(list: &[Watcher], code: u32, middle: usize) -> Option<usize>
     None
 }
 
-/// The place of an entry with this code in a list that has one. Where the list is long, it is looked
-/// for around a place first.
+/// The same, but it looks at them at once first, and one by one only where one has the code.
+fn place_within(list: &[Watcher], code: u32, from: usize, to: usize) -> Option<usize>
+    requires ordered { from ≤ to }
+    requires inside { to ≤ length list.now }
+    ensures inside { IfSome result (λ place. place < length list.now) }
+    ensures there { IfSome result (λ place. code_at list.now place ≡ code) }
+{
+    if lacks(&list[from..to], code) {
+        return None;
+    }
+    place_between(list, code, from, to)
+}
+
+/// The place of an entry with this code around this place, if one stands there.
+fn place_around(list: &[Watcher], code: u32, middle: usize) -> Option<usize>
+    ensures inside { IfSome result (λ place. place < length list.now) }
+    ensures there { IfSome result (λ place. code_at list.now place ≡ code) }
+{
+    let end = middle.saturating_add(AROUND).min(list.len());
+    place_between(list, code, middle.saturating_sub(AROUND), end)
+}
+
+/// The same farther around this place: in the chunk of entries that ends there, and in the one that
+/// begins there.
+#[inline(never)]
+fn place_farther(list: &[Watcher], code: u32, middle: usize) -> Option<usize>
+    ensures inside { IfSome result (λ place. place < length list.now) }
+    ensures there { IfSome result (λ place. code_at list.now place ≡ code) }
+{
+    let middle = middle.min(list.len());
+    let before = place_within(list, code, middle.saturating_sub(MANY_AT_ONCE), middle);
+    if before.is_some() {
+        return before;
+    }
+    let end = middle.saturating_add(MANY_AT_ONCE).min(list.len());
+    place_within(list, code, middle, end)
+}
+
+/// The place of an entry with this code in a list that has one. Where the list is long, it is
+/// looked for around a place first, and farther around it where it is very long.
 fn place_in(list: &[Watcher], code: u32, middle: usize) -> usize
     requires { 0 < entries_with code list.now }
     ensures inside { result < length list.now }
@@ -200,6 +245,11 @@ fn place_in(list: &[Watcher], code: u32, middle: usize) -> usize
 {
     if list.len() >= MANY_AT_ONCE {
         if let Some(place) = place_around(list, code, middle) {
+            return place;
+        }
+    }
+    if list.len() >= LONG {
+        if let Some(place) = place_farther(list, code, middle) {
             return place;
         }
     }
