@@ -29,7 +29,7 @@ ghost use Rattle.clause_db.specs.Code.Counts.{AreCounted};
 ghost use Rattle.clause_db.specs.Code.Fields.{IsTakenIn};
 ghost use Rattle.clause_db.specs.Code.Kept.{AreKept};
 ghost use Rattle.clause_db.specs.Code.LiteralMarks.{is_marked};
-ghost use Rattle.tables.specs.Table.{at};
+ghost use Rattle.tables.specs.Filled.{at};
 
 use crate::store::counts::{count_in, count_out, count_with, keep};
 use crate::store::kept::{find_slots, forget, note};
@@ -42,7 +42,7 @@ use ids::Slot;
 use occurrences::Occurrences;
 use std::alloc::Global;
 use std::marker::Model;
-use tables::Table;
+use tables::Filled;
 
 /// The live clauses of a proof checker, each in a slot that the store picks.
 ///
@@ -56,9 +56,9 @@ pub struct Store<I: Indexing = Index> {
     memory: ClauseMemory,
     index: I,
     /// By literal whether a call has marked it.
-    marks: Table<bool>,
+    marks: Filled<bool>,
     /// By literal how many clauses have it, where this is counted.
-    counts: Option<Table<u32>>,
+    counts: Option<Filled<u32>>,
     sum: u128,
     /// By literal the slots of the clauses that have it, from when they are first asked for.
     occurrences: Option<Occurrences>,
@@ -98,7 +98,7 @@ impl<I: Indexing> Model for Store<I> {
 /// The marked literals, each once, where so many are marked. Their marks are taken off.
 fn without_repeats(
     alloc: Global,
-    marks: &mut Table<bool>,
+    marks: &mut Filled<bool>,
     lits: &[Lit],
     len: usize,
 ) -> Result<Vec<Lit>, OutOfMemory>
@@ -118,7 +118,7 @@ fn without_repeats(
 fn put_in(
     alloc: Global,
     memory: &mut ClauseMemory,
-    marks: &mut Table<bool>,
+    marks: &mut Filled<bool>,
     lits: &[Lit],
 ) -> Result<usize, OutOfMemory>
     requires { (l : ℕ) → is_marked (at marks.old l) ≡ false }
@@ -138,32 +138,11 @@ fn put_in(
     memory.insert(&kept)
 }
 
-/// Puts a clause into the memory, without repeated literals. It leaves no literal marked.
-fn take_in(
-    alloc: Global,
-    memory: &mut ClauseMemory,
-    marks: &mut Table<bool>,
-    lits: &[Lit],
-) -> Result<usize, OutOfMemory>
-    requires { (l : ℕ) → is_marked (at marks.old l) ≡ false }
-    ensures taken { IfOk result (λ slot. IsTakenIn memory.old memory.new slot lits.now) }
-    ensures known { OnOk result ((l : ℕ) → has lits.now l ≡ true → IsSome (at marks.new l)) }
-    ensures still_known { (l : ℕ) → IsSome (at marks.old l) → IsSome (at marks.new l) }
-    ensures clear { (l : ℕ) → is_marked (at marks.new l) ≡ false }
-    ensures few_blocks { AddsFewBlocks memory.old.blocks memory.new.blocks memory.old.live
-        (units_for (size lits.now)) }
-    ensures err { OnErr result (memory.new ≡ memory.old) }
-{
-    let taken = put_in(alloc, memory, marks, lits);
-    unmark_all(marks, lits);
-    taken
-}
-
 /// Counts the literals of a clause, and adds its slot to what finds it again.
 fn list_up<I: Indexing>(
     index: &mut I,
     kept: &mut Option<Occurrences>,
-    counts: &mut Option<Table<u32>>,
+    counts: &mut Option<Filled<u32>>,
     slot: usize,
     lits: &[Lit],
 ) -> Result<(), OutOfMemory>
@@ -202,7 +181,7 @@ fn list_up<I: Indexing>(
 }
 
 impl<I: Indexing> Store<I> {
-    fn empty(alloc: Global, seed: u64, counts: Option<Table<u32>>) -> Self
+    fn empty(alloc: Global, seed: u64, counts: Option<Filled<u32>>) -> Self
         requires { AreCounted counts maps.empty }
         ensures { result ≡ no_clauses }
     {
@@ -210,7 +189,7 @@ impl<I: Indexing> Store<I> {
             alloc,
             memory: ClauseMemory::new(alloc),
             index: I::new(alloc, seed),
-            marks: Table::new(alloc),
+            marks: Filled::new(alloc),
             counts,
             sum: 0,
             occurrences: None,
@@ -232,7 +211,9 @@ impl<I: Indexing> Store<I> {
         ensures err_live { OnErr result (self.new.live ≡ self.old.live) }
         ensures err_stored { OnErr result (self.new.stored ≡ self.old.stored) }
     {
-        let slot = take_in(self.alloc, &mut self.memory, &mut self.marks, lits)?;
+        let taken = put_in(self.alloc, &mut self.memory, &mut self.marks, lits);
+        unmark_all(&mut self.marks, lits);
+        let slot = taken?;
         let kept = self.memory.clause(slot);
         match list_up(
             &mut self.index,
@@ -385,7 +366,7 @@ impl Store {
     pub fn seeded(alloc: Global, seed: u64) -> Result<Self, OutOfMemory>
         ensures { IfOk result (λ s. s ≡ no_clauses) }
     {
-        let counts = Some(Table::new(alloc));
+        let counts = Some(Filled::new(alloc));
         let store = Store::empty(alloc, seed, counts);
         Ok(store)
     }

@@ -1,6 +1,7 @@
 //! The assumptions that stand, and the literals that are true.
 
-ghost use Rattle.std.specs.Prelude.{◌≡◌, ◌≢◌, ◌<◌, ◌≤◌, ℕ, ◌/◌, ◌++◌, ◌∷◌, [], not, filter, take, drop};
+ghost use Rattle.std.specs.Prelude.{◌≡◌, ◌≢◌, ◌<◌, ◌≤◌, ℕ, ◌/◌, ◌++◌, ◌∷◌, [], not, filter, take};
+ghost use Rattle.std.specs.Prelude.{drop};
 ghost use Rattle.std.specs.Prelude.{length, slice_index, is_some, List, IsTrue, IsFalse, IsSome};
 ghost use Rattle.std.specs.Prelude.{IfOk, OnOk, OnErr, if◌then◌else◌};
 ghost use Rattle.std.specs.Bool.{OnFalse};
@@ -9,7 +10,7 @@ ghost use Rattle.cnf_base.specs.Literals.{Literal, complement, complements, has}
 ghost use Rattle.propagation.specs.Assumptions.{Assumption, MayAssume, assumed_by, roots_in};
 ghost use Rattle.propagation.specs.Code.Levels.{Notes};
 ghost use Rattle.trail.specs.Numbers.{number_at};
-ghost use Rattle.tables.specs.Table.{at};
+ghost use Rattle.tables.specs.Filled.{at};
 ghost use Rattle.trail.specs.Trail.{HasRoom};
 ghost use Rattle.theory.specs.Sets.{SameSet, conflicts};
 ghost use Rattle.propagation.specs.declared.answer.Answer.TheVariants.{Clash};
@@ -19,7 +20,7 @@ use crate::levels::{Level, Levels};
 use cnf_base::{Lit, OutOfMemory};
 use std::alloc::Global;
 use std::marker::Model;
-use tables::Table;
+use tables::Filled;
 use trail::{Part, Trail};
 
 /// At most two assumptions that stand, the second on the first, and the literals that are true:
@@ -32,7 +33,7 @@ pub struct Assumptions {
     trail: Trail,
     /// By variable the number of the last assumption that has a literal of it. Those of assumptions
     /// that are taken back stay, and say nothing.
-    numbers: Table<u64>,
+    numbers: Filled<u64>,
     /// How many assumptions were made, which is the number of the last one.
     made: u64,
     levels: Levels,
@@ -58,7 +59,7 @@ impl Model for Assumptions {
 }
 
 /// Makes room for the variable of a literal.
-fn reserve_variable(trail: &mut Trail, numbers: &mut Table<u64>, l: Lit) -> Result<(), OutOfMemory>
+fn reserve_variable(trail: &mut Trail, numbers: &mut Filled<u64>, l: Lit) -> Result<(), OutOfMemory>
     requires known { (v : ℕ) → IsTrue (has trail.old.reserved v) → IsSome (at numbers.old v) }
     ensures room { OnOk result (IsTrue (has trail.new.reserved (l / 2))) }
     ensures reserved { (v : ℕ) → IsTrue (has trail.old.reserved v) →
@@ -75,7 +76,7 @@ fn reserve_variable(trail: &mut Trail, numbers: &mut Table<u64>, l: Lit) -> Resu
 /// Makes room for the variables of the literals.
 fn reserve_variables(
     trail: &mut Trail,
-    numbers: &mut Table<u64>,
+    numbers: &mut Filled<u64>,
     lits: &[Lit],
 ) -> Result<(), OutOfMemory>
     requires known { (v : ℕ) → IsTrue (has trail.old.reserved v) → IsSome (at numbers.old v) }
@@ -95,7 +96,7 @@ fn reserve_variables(
 }
 
 /// Notes the variable with the number, unless the first assumption noted it.
-fn note(numbers: &mut Table<u64>, var: u32, first: u64, number: u64)
+fn note(numbers: &mut Filled<u64>, var: u32, first: u64, number: u64)
     requires { IsSome (at numbers.old var) }
     ensures other { (v : ℕ) → v ≢ var →
         number_at numbers.new v ≡ number_at numbers.old v }
@@ -110,7 +111,7 @@ fn note(numbers: &mut Table<u64>, var: u32, first: u64, number: u64)
 
 /// Notes the variables of a part of a clause with the number, but for those that the first
 /// assumption noted.
-fn note_all<P: Part>(numbers: &mut Table<u64>, clause: &[Lit], part: &P, first: u64, number: u64)
+fn note_all<P: Part>(numbers: &mut Filled<u64>, clause: &[Lit], part: &P, first: u64, number: u64)
     requires known { (l : Literal) → IsTrue (has clause.now l) →
         IsSome (at numbers.old (l / 2)) }
     ensures notes { Notes first number (filter (P.keeps part.now) clause.now)
@@ -133,7 +134,7 @@ impl Assumptions {
     {
         Ok(Assumptions {
             trail: Trail::new(alloc)?,
-            numbers: Table::new(alloc),
+            numbers: Filled::new(alloc),
             made: 0,
             levels: Levels::Nothing,
         })

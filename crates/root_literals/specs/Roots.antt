@@ -6,7 +6,7 @@ use Rattle.std.specs.Ordering.{nat_cmp}
 use Rattle.std.specs.Prelude.{◌≡◌, ◌≢◌, ℕ, Bool, Option, Some, List, IsTrue, IsSome, ◌≤◌, [], take}
 use Rattle.std.specs.Prelude.{length, true, false, ◌∷◌, ⊤, ◌<◌, slice_index, IsFalse}
 use Rattle.cnf_base.specs.Literals.{Literal, Clause, has, complement}
-use Rattle.tables.specs.Table.{at}
+use Rattle.tables.specs.Filled.{at}
 use Rattle.theory.specs.Propagation.{Live}
 use Rattle.trail.specs.declared.left.Left.TheVariants.{Nothing, One, More}
 use Rattle.trail.specs.declared.left.Left.{Left}

@@ -9,11 +9,11 @@ ghost use Rattle.std.specs.Prelude.{◌≡◌, ℕ, ◌<◌, ◌∷◌, [], leng
 ghost use Rattle.std.specs.FinMap as maps;
 ghost use Rattle.cnf_base.specs.Literals.{Clause, complement, has};
 ghost use Rattle.root_literals.specs.Roots.{IsAbsent, IsUnneeded};
-ghost use Rattle.tables.specs.Table.{at};
+ghost use Rattle.tables.specs.Filled.{at};
 
 use clause_db::{Slot, Store};
 use cnf_base::Lit;
-use tables::{Table, key};
+use tables::{Filled, key};
 
 /// The literal of a clause that has no other.
 fn only_literal(clause: &[Lit]) -> Option<Lit>
@@ -41,7 +41,7 @@ pub(crate) fn lone_literal(store: &Store, slot: Slot) -> Option<Lit>
 }
 
 /// Whether the reason of a literal has the literal `k`.
-fn reason_has(store: &Store, reasons: &Table<u32>, l: Lit, k: Lit) -> bool
+fn reason_has(store: &Store, reasons: &Filled<u32>, l: Lit, k: Lit) -> bool
     ensures { result ≡ false → (s : ℕ) (c : Clause) → at reasons.now l ≡ Some s →
         maps.get store.now.live s ≡ Some c → has c k ≡ false }
 {
@@ -57,7 +57,7 @@ fn reason_has(store: &Store, reasons: &Table<u32>, l: Lit, k: Lit) -> bool
 /// Whether a literal behind this place, where `l` stands, may rest on `l`.
 pub(crate) fn is_needed(
     store: &Store,
-    reasons: &Table<u32>,
+    reasons: &Filled<u32>,
     lits: &[Lit],
     place: usize,
     l: Lit,

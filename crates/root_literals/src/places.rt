@@ -5,7 +5,7 @@ ghost use Rattle.cnf_base.specs.Literals.{has};
 
 use cnf_base::{Lit, OutOfMemory};
 use std::alloc::Global;
-use tables::Table;
+use tables::Filled;
 
 /// By variable the place at which its literal stood when places were noted last. A literal may have
 /// gone since, so each place is looked at before it is told.
@@ -13,7 +13,7 @@ use tables::Table;
 /// Places are noted where they are asked for, and not when a literal is set: most never are.
 #[derive(Drop)]
 pub(crate) struct Places {
-    by_variable: Table<u32>,
+    by_variable: Filled<u32>,
     /// The places from this one on are yet to be noted.
     noted: usize,
 }
@@ -22,7 +22,7 @@ impl Places {
     /// None is noted.
     pub(crate) fn new(alloc: Global) -> Self {
         Places {
-            by_variable: Table::new(alloc),
+            by_variable: Filled::new(alloc),
             noted: 0,
         }
     }

@@ -16,7 +16,7 @@ ghost use Rattle.std.specs.Prelude.{true, false, length, take, slice_index, if�
 ghost use Rattle.std.specs.Prelude.{IsTrue, IsFalse, IsSome, IfSome, IfNone, OnOk};
 ghost use Rattle.std.specs.FinMap as maps;
 ghost use Rattle.cnf_base.specs.Literals.{Literal, Clause, complement, has};
-ghost use Rattle.tables.specs.Table.{at};
+ghost use Rattle.tables.specs.Filled.{at};
 ghost use Rattle.trail.specs.Trail.{HasRoom};
 ghost use Rattle.theory.specs.Propagation.{IsRootReason};
 ghost use Rattle.theory.specs.Sets.{SameSet, conflicts};
@@ -37,7 +37,7 @@ use clause_db::{Slot, Store};
 use cnf_base::{Lit, OutOfMemory};
 use propagation::Assumptions;
 use std::alloc::Global;
-use tables::{Table, key};
+use tables::{Filled, key};
 use trail::{Left, Trail};
 use watch_lists::WatchLists;
 
@@ -74,14 +74,14 @@ pub struct Roots {
     /// When they were propagated.
     pub history: History,
     /// By literal the slot of its reason.
-    pub reasons: Table<u32>,
+    pub reasons: Filled<u32>,
     places: Places,
 }
 
 /// Sets a literal that is not false by the clause in a slot, unless it is true already. Tells
 /// whether it was open. It takes no memory.
 #[inline(always)]
-pub fn set_by(assumptions: &mut Assumptions, reasons: &mut Table<u32>, l: Lit, slot: u32) -> bool
+pub fn set_by(assumptions: &mut Assumptions, reasons: &mut Filled<u32>, l: Lit, slot: u32) -> bool
     requires reserved { IsTrue (has assumptions.old.trail.reserved (l / 2)) }
     requires not_false { IsFalse (has assumptions.old.trail.lits (complement l)) }
     requires noted { IsSome (at reasons.old l) }
@@ -102,7 +102,7 @@ pub fn set_by(assumptions: &mut Assumptions, reasons: &mut Table<u32>, l: Lit, s
 }
 
 /// Whether the clause in the slot is the reason of a literal.
-fn is_reason(reasons: &Table<u32>, l: Lit, slot: usize) -> bool
+fn is_reason(reasons: &Filled<u32>, l: Lit, slot: usize) -> bool
     ensures yes { IsTrue result → at reasons.now l ≡ Some slot }
     ensures no { IsFalse result → at reasons.now l ≢ Some slot }
 {
@@ -113,7 +113,7 @@ fn is_reason(reasons: &Table<u32>, l: Lit, slot: usize) -> bool
 }
 
 /// The literal that is true by the clause in the slot, which has these literals.
-fn made_true_by(reasons: &Table<u32>, trail: &Trail, clause: &[Lit], slot: usize) -> Option<Lit>
+fn made_true_by(reasons: &Filled<u32>, trail: &Trail, clause: &[Lit], slot: usize) -> Option<Lit>
     ensures is_true { IfSome result (λ l. IsTrue (has trail.now.lits l)) }
     ensures reason { IfSome result (λ l. at reasons.now l ≡ Some slot) }
     ensures none { IfNone result ((l : Literal) → IsTrue (has clause.now l) →
@@ -167,7 +167,7 @@ impl Roots {
         Roots {
             kept: Kept::Cut,
             history: History::new(alloc),
-            reasons: Table::new(alloc),
+            reasons: Filled::new(alloc),
             places: Places::new(alloc),
         }
     }

@@ -1,2 +1,3 @@
+pub mod FilledLemmas
 pub mod ListsLemmas
 pub mod TableLemmas

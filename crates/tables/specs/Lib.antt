@@ -1,4 +1,5 @@
 pub mod Parts
 pub mod Table
+pub mod Filled
 pub mod Lists
 pub mod Code

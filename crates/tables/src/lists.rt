@@ -44,7 +44,7 @@ const SPARSE: usize = 8;
 const MOST: usize = 4294967296;
 
 /// By how many entries a list grows at least.
-const LEAST_GROWTH: usize = 2;
+const LEAST_GROWTH: usize = 3;
 
 /// For how many entries a list keeps room, once it had as many. Watch lists of that length lose
 /// most of their entries and get others all the time.
@@ -292,8 +292,8 @@ impl<T: Copy + Drop> Lists<T> {
         self.push_apart(key, entry)
     }
 
-    /// The same where the list is full, or far. Inlined, it would make a loop that puts entries into
-    /// lists carry more numbers.
+    /// The same where the list is full, or far. Inlined, it would make a loop that puts entries
+    /// into lists carry more numbers.
     #[cold]
     #[inline(never)]
     fn push_apart(&mut self, key: u32, entry: T) -> Result<(), OutOfMemory>

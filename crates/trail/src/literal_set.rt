@@ -5,11 +5,11 @@ ghost use Rattle.std.specs.List.{list_any};
 ghost use Rattle.cnf_base.specs.Literals.{complement, has};
 ghost use Rattle.trail.specs.Reduced.{is_reduced};
 ghost use Rattle.trail.specs.Numbers.{number_at};
-ghost use Rattle.tables.specs.Table.{at};
+ghost use Rattle.tables.specs.Filled.{at};
 
 use cnf_base::{Lit, OutOfMemory};
 use std::alloc::Global;
-use tables::{Table, key};
+use tables::{Filled, key};
 
 /// A set of literals. It is filled again and again, and keeps its room.
 ///
@@ -17,14 +17,14 @@ use tables::{Table, key};
 /// walk.
 #[derive(Drop)]
 pub struct LiteralSet {
-    numbers: Table<u64>,
+    numbers: Filled<u64>,
     /// The number of the last filling.
     last: u64,
     ghost few: { (l : ℕ) → number_at numbers l ≤ last },
 }
 
 /// Makes room for the literals.
-fn reserve_literals(numbers: &mut Table<u64>, lits: &[Lit]) -> Result<(), OutOfMemory>
+fn reserve_literals(numbers: &mut Filled<u64>, lits: &[Lit]) -> Result<(), OutOfMemory>
     ensures known { OnOk result
         ((l : ℕ) → IsTrue (has lits.now l) → IsSome (at numbers.new l)) }
     ensures numbers { (l : ℕ) → number_at numbers.new l ≡ number_at numbers.old l }
@@ -36,7 +36,7 @@ fn reserve_literals(numbers: &mut Table<u64>, lits: &[Lit]) -> Result<(), OutOfM
 }
 
 /// Notes the literals with the number.
-fn number_literals(numbers: &mut Table<u64>, lits: &[Lit], number: u64)
+fn number_literals(numbers: &mut Filled<u64>, lits: &[Lit], number: u64)
     requires known { (l : ℕ) → IsTrue (has lits.now l) → IsSome (at numbers.old l) }
     ensures numbers { (l : ℕ) → number_at numbers.new l ≡
         (if has lits.now l then number else number_at numbers.old l) }
@@ -55,7 +55,7 @@ impl LiteralSet {
         ensures { (l : ℕ) → IsFalse (in_set result l) }
     {
         LiteralSet {
-            numbers: Table::new(alloc),
+            numbers: Filled::new(alloc),
             last: 1,
         }
     }
@@ -84,7 +84,7 @@ impl LiteralSet {
     pub fn has(&self, l: Lit) -> bool
         ensures { result ≡ in_set self.now l }
     {
-        self.numbers.get(key(l)).unwrap_or(0) == self.last
+        self.numbers.get_or(key(l), 0) == self.last
     }
 
     /// Whether it has some literal of the clause.

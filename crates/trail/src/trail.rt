@@ -19,10 +19,9 @@ ghost use Rattle.trail.specs.Code.Left.{IsCount};
 ghost use Rattle.trail.specs.Trail.{value_under, is_variable, HasNoVariableTwice, HasRoom};
 ghost use Rattle.trail.specs.Trail.{AreNear, MakesFalse};
 ghost use Rattle.theory.specs.Sets.{SameSet, conflicts};
-ghost use Rattle.trail.specs.Code.Values.{HaveValues, Opens, value_at};
 ghost use Rattle.trail.specs.declared.value.Value.TheVariants.{Open};
 
-use self::values::Values;
+use self::values::{open_all, reserve_both, set_both};
 use crate::left::Left;
 use crate::part::Part;
 use crate::truths::{Truths, left_of};
@@ -30,7 +29,7 @@ use crate::value::Value;
 use cnf_base::{Lit, OutOfMemory};
 use std::alloc::Global;
 use std::marker::Model;
-use tables::{Table, key};
+use tables::{Filled, Table, key};
 
 /// The literals that are true, in the order in which they were set. No two are of one variable.
 ///
@@ -47,13 +46,14 @@ pub struct Trail {
     /// The variables that were reserved.
     seen: Table<()>,
     /// By literal, for both literals of each variable that was reserved.
-    values: Values,
+    values: Filled<Value>,
 }
 
 impl Model for Trail {
     ghost use Rattle.std.specs.Prelude.{vec_capacity};
     ghost use Rattle.trail.specs.Trail.{TrailState};
-    ghost use Rattle.trail.specs.Code.Values.{IsTrail, value_at};
+    ghost use Rattle.trail.specs.Code.Values.{IsTrail};
+    ghost use Rattle.tables.specs.Filled as filled;
     ghost use Rattle.tables.specs.Table.{at};
 
     ghost Value = { TrailState };
@@ -65,7 +65,7 @@ impl Model for Trail {
 
     ghost invariant = { λ t.
         IsTrail t.lits.items t.reserved.items (vec_capacity t.lits) (at t.seen)
-        (value_at t.values) };
+        (filled.at t.values) };
 }
 
 /// The literal that says that the variable is true; none for 0 and past the greatest variable.
@@ -77,26 +77,6 @@ fn positive(var: u32) -> Option<Lit>
         return None;
     }
     Lit::new(var as i32)
-}
-
-/// Makes the literals and their complements open, wherever their values lie.
-fn open_rest(values: &mut Values, lits: &[Lit])
-    requires { HaveValues (value_at values.old) lits.now }
-    ensures { Opens (value_at values.old) (value_at values.new) lits.now }
-{
-    for l in lits {
-        values.set_both(*l, Value::Open, Value::Open);
-    }
-}
-
-/// Makes the literals and their complements open.
-fn open_all(values: &mut Values, lits: &[Lit])
-    requires { HaveValues (value_at values.old) lits.now }
-    ensures { Opens (value_at values.old) (value_at values.new) lits.now }
-{
-    // Values that lie near are written in a loop of few instructions.
-    let near = values.open_front(lits);
-    open_rest(values, &lits[near..]);
 }
 
 impl Truths for Trail {
@@ -117,7 +97,7 @@ impl Trail {
             lits: Vec::new(alloc),
             reserved: Vec::new(alloc),
             seen: Table::new(alloc),
-            values: Values::new(alloc),
+            values: Filled::new(alloc),
         })
     }
 
@@ -163,7 +143,7 @@ impl Trail {
         };
         self.lits.reserve(self.reserved.len() + 1)?;
         self.reserved.reserve(1)?;
-        self.values.reserve(lit, self.reserved.len())?;
+        reserve_both(&mut self.values, lit)?;
         self.seen.reserve(var, ())?;
         self.reserved.push_reserved(var);
         Ok(())
@@ -177,7 +157,7 @@ impl Trail {
         ensures reserved { (v : ℕ) → has self.new.reserved v ≡ has self.old.reserved v }
     {
         self.lits.push_reserved(l);
-        self.values.set_both(l, Value::True, Value::False);
+        set_both(&mut self.values, l, Value::True, Value::False);
     }
 
     /// What the trail says of a literal. It takes no memory.
@@ -185,7 +165,7 @@ impl Trail {
         ensures value { result ≡ value_under self.now.lits l }
         ensures different { HasNoVariableTwice self.now.lits }
     {
-        self.values.value(key(l))
+        self.values.get_or(key(l), Value::Open)
     }
 
     /// How many literals were set. They are at most as many as the variables for which there is
@@ -224,7 +204,7 @@ impl Trail {
         ensures reserved { (v : ℕ) → has self.new.reserved v ≡ has self.old.reserved v }
     {
         let l = self.lits.remove(place);
-        self.values.set_both(l, Value::Open, Value::Open);
+        set_both(&mut self.values, l, Value::Open, Value::Open);
     }
 
     /// The literals, in the order in which they were set.
@@ -316,7 +296,8 @@ impl Trail {
         self.values.near()
     }
 
-    /// What the trail says of a literal, which one of these near values may say. It takes no memory.
+    /// What the trail says of a literal, which one of these near values may say. It takes no
+    /// memory.
     #[inline(always)]
     pub fn value_near(&self, near: &[Value], l: Lit) -> Value
         requires { AreNear self.now.lits near.now }

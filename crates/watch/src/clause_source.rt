@@ -7,7 +7,7 @@ ghost use Rattle.cnf_base.specs.Literals.{Literal, complements, has};
 ghost use Rattle.propagation.specs.Assumptions.{Assumption, MayAssume, assumed_by};
 ghost use Rattle.trail.specs.Trail.{HasRoom};
 ghost use Rattle.theory.specs.Sets.{SameSet, conflicts};
-ghost use Rattle.tables.specs.Table.{at};
+ghost use Rattle.tables.specs.Filled.{at};
 ghost use Rattle.watch.specs.Code.ClauseSource.{HasRoomGiven, IsThere, clause_of};
 ghost use Rattle.watch.specs.Code.State.{AddsRoom, HaveReasons};
 ghost use Rattle.propagation.specs.declared.answer.Answer.TheVariants.{Clash};

@@ -20,14 +20,14 @@ ghost use Rattle.root_literals.specs.Roots.{IsFalseAt};
 ghost use Rattle.watch.specs.Code.Visits.{AreMet, CanFollow, CanVisit, Followed, IsExchangeAt};
 ghost use Rattle.watch.specs.Code.Visits.{IsFoundNext, IsInHand, IsNextSlot, Visited, VisitsUnder};
 ghost use Rattle.watch.specs.Code.Visits.{entries_left};
-ghost use Rattle.tables.specs.Table.{at};
+ghost use Rattle.tables.specs.Filled.{at};
 
 use crate::visit::{Exchange, Visit, look_at};
 use clause_db::{Slot, Store};
 use cnf_base::{Lit, OutOfMemory};
 use propagation::Assumptions;
 use root_literals::set_by;
-use tables::Table;
+use tables::Filled;
 use trail::{Trail, Value};
 use watch_lists::{Cursor, WatchLists, Watcher};
 
@@ -173,7 +173,7 @@ fn visit_all(
     store: &mut Store,
     lists: &mut WatchLists,
     assumptions: &mut Assumptions,
-    reasons: &mut Table<u32>,
+    reasons: &mut Filled<u32>,
     cursor: &mut Cursor,
     l: Lit,
 ) -> Result<Option<u32>, OutOfMemory>
@@ -209,7 +209,7 @@ pub(crate) fn follow(
     store: &mut Store,
     lists: &mut WatchLists,
     assumptions: &mut Assumptions,
-    reasons: &mut Table<u32>,
+    reasons: &mut Filled<u32>,
     l: Lit,
 ) -> Result<Option<u32>, OutOfMemory>
     requires can { CanFollow store.old.live lists.old assumptions.old (at reasons.old) }
@@ -237,7 +237,7 @@ pub(crate) fn propagate(
     store: &mut Store,
     lists: &mut WatchLists,
     assumptions: &mut Assumptions,
-    reasons: &mut Table<u32>,
+    reasons: &mut Filled<u32>,
     from: usize,
 ) -> Result<Option<u32>, OutOfMemory>
     requires from { from ≤ length assumptions.old.trail.lits }

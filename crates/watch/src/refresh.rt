@@ -10,7 +10,7 @@ ghost use Rattle.root_literals.specs.Roots.{IsKept, is_cut, is_up_to_date};
 ghost use Rattle.root_literals.specs.Watched.{IsShortList};
 ghost use Rattle.watch.specs.Code.State.{IsWatch};
 ghost use Rattle.watch.specs.Code.Visits.{CanFollow, Followed};
-ghost use Rattle.tables.specs.Table.{at};
+ghost use Rattle.tables.specs.Filled.{at};
 
 use crate::follow::follow;
 use crate::units::set_units;

@@ -3,7 +3,7 @@
 ghost use Rattle.std.specs.Prelude.{◌≡◌, ℕ, ◌≤◌, length, take, IfOk};
 ghost use Rattle.std.specs.FinMap as maps;
 ghost use Rattle.cnf_base.specs.Literals.{has};
-ghost use Rattle.tables.specs.Table.{at};
+ghost use Rattle.tables.specs.Filled.{at};
 ghost use Rattle.propagation.specs.Assumptions.{IsAnswer};
 ghost use Rattle.root_literals.specs.Order.{each_in_order};
 ghost use Rattle.root_literals.specs.Roots.{HaveUnits};
@@ -16,7 +16,7 @@ use crate::follow::propagate;
 use clause_db::Store;
 use cnf_base::OutOfMemory;
 use propagation::{Answer, Assumptions};
-use tables::Table;
+use tables::Filled;
 use watch_lists::WatchLists;
 
 /// Sets all that follows from the literals that are true, or stops at a clash. Those before the
@@ -25,7 +25,7 @@ pub(crate) fn run(
     store: &mut Store,
     lists: &mut WatchLists,
     assumptions: &mut Assumptions,
-    reasons: &mut Table<u32>,
+    reasons: &mut Filled<u32>,
     from: usize,
 ) -> Result<Answer, OutOfMemory>
     requires from { from ≤ length assumptions.old.trail.lits }

@@ -2,7 +2,7 @@
 
 ghost use Rattle.std.specs.Prelude.{◌≡◌, ℕ, ◌∷◌, [], Some, IsTrue, IfSome, IfNone};
 ghost use Rattle.std.specs.FinMap as maps;
-ghost use Rattle.tables.specs.Table.{at};
+ghost use Rattle.tables.specs.Filled.{at};
 ghost use Rattle.root_literals.specs.Order.{each_in_order};
 ghost use Rattle.root_literals.specs.Roots.{HaveUnits, IsFalseAt};
 ghost use Rattle.root_literals.specs.Watched.{IsShortList, is_short};
@@ -12,7 +12,7 @@ use clause_db::{Slot, Store};
 use cnf_base::Lit;
 use propagation::Assumptions;
 use root_literals::set_by;
-use tables::Table;
+use tables::Filled;
 
 /// The literal of a clause that has one or none.
 fn literal_of(clause: &[Lit]) -> Option<Lit>
@@ -29,7 +29,7 @@ pub(crate) fn set_units(
     store: &Store,
     slots: &[u32],
     assumptions: &mut Assumptions,
-    reasons: &mut Table<u32>,
+    reasons: &mut Filled<u32>,
 ) -> Option<u32>
     requires listed { IsShortList (maps.get store.now.live) slots.now }
     requires can { CanSet store.now.live assumptions.old (at reasons.old) }

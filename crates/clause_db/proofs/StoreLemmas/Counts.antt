@@ -11,8 +11,8 @@ use Rattle.cnf_base.proofs.WalkLemmas.{has_more}
 use Rattle.clause_db.specs.Store.{copies_with}
 use Rattle.clause_db.specs.Code.Counts.{AreCounted, count_of}
 use Rattle.clause_db.specs.Code.Kept.{has_in}
-use Rattle.tables.specs.Table.{at}
-use Rattle.tables.specs.declared.table.Table.{Table}
+use Rattle.tables.specs.Filled.{at}
+use Rattle.tables.specs.declared.filled.Filled.{Filled}
 use Rattle.clause_db.proofs.StoreLemmas.Marks.{eqb_turn, new_here}
 use Rattle.clause_db.proofs.StoreLemmas.Sums.{same_maps, sum_bound, sum_empty, sum_insert}
 use Rattle.clause_db.proofs.StoreLemmas.Sums.{sum_remove, sum_replace}
@@ -32,10 +32,10 @@ copies_few live l =
 
 -- ---- Through a change of the clauses
 
-pub counted_empty : (counts : Table ℕ) → ((l : ℕ) → at counts l ≡ None) → AreCounted (Some counts) maps.empty
+pub counted_empty : (counts : Filled ℕ) → ((l : ℕ) → at counts l ≡ None) → AreCounted (Some counts) maps.empty
 counted_empty counts none l = ap count_of (none l) ∙ sym (sum_empty (with_literal l))
 
-module _ (old new : Table ℕ) (live : FinMap nat_cmp Clause) (k : ℕ) (c : Clause) (are : AreCounted (Some old) live) where
+module _ (old new : Filled ℕ) (live : FinMap nat_cmp Clause) (k : ℕ) (c : Clause) (are : AreCounted (Some old) live) where
   pub counted_with : maps.get live k ≡ None → ((l : ℕ) → count_of (at new l) ≡ count_of (at old l) + cond (has c l) 1 0) → AreCounted (Some new) (maps.insert live k c)
   counted_with free counts l =
       let more = sum_insert (with_literal l) live k c free in
@@ -51,7 +51,7 @@ module _ (old new : Table ℕ) (live : FinMap nat_cmp Clause) (k : ℕ) (c : Cla
       omega arith
 
 -- a literal of a clause is counted
-pub counted_here : (counts : Table ℕ) (live : FinMap nat_cmp Clause) (k : ℕ) (c : Clause) → AreCounted (Some counts) live → maps.get live k ≡ Some c → (l : ℕ) → has c l ≡ true → 0 < count_of (at counts l)
+pub counted_here : (counts : Filled ℕ) (live : FinMap nat_cmp Clause) (k : ℕ) (c : Clause) → AreCounted (Some counts) live → maps.get live k ≡ Some c → (l : ℕ) → has c l ≡ true → 0 < count_of (at counts l)
 counted_here counts live k c are here l member =
     let split = sum_remove (with_literal l) live k c here in
     let one : cond {A = ℕ} (has c l) 1 0 ≡ 1 = ap (λ b. cond {A = ℕ} b 1 0) member in
@@ -59,7 +59,7 @@ counted_here counts live k c are here l member =
     omega arith
 
 -- a clause in the place of one with the same literals
-pub counted_replaced : (counts : Option (Table ℕ)) (live : FinMap nat_cmp Clause) (k : ℕ) (c d : Clause) → maps.get live k ≡ Some c → ((l : ℕ) → has d l ≡ has c l) →
+pub counted_replaced : (counts : Option (Filled ℕ)) (live : FinMap nat_cmp Clause) (k : ℕ) (c d : Clause) → maps.get live k ≡ Some c → ((l : ℕ) → has d l ≡ has c l) →
     AreCounted counts live → AreCounted counts (maps.insert live k d)
 counted_replaced None live k c d here alike are = tt
 counted_replaced (Some counts) live k c d here alike are = λ l. are l ∙ sym (sum_replace (with_literal l) live k c d here (ap (λ b. cond b 1 0) (alike l)))

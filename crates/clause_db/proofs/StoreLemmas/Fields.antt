@@ -10,15 +10,15 @@ use Rattle.clause_memory.specs.Memory as memory
 use Rattle.clause_db.specs.Store.{literals_in}
 use Rattle.clause_db.specs.Code.LiteralMarks.{is_marked}
 use Rattle.clause_db.specs.Code.Fields.{IsStore}
-use Rattle.tables.specs.Table.{at}
-use Rattle.tables.specs.declared.table.Table.{Table}
+use Rattle.tables.specs.Filled.{at}
+use Rattle.tables.specs.declared.filled.Filled.{Filled}
 use Rattle.cnf_base.proofs.SizeLemmas.{size_same}
 use Rattle.clause_db.proofs.StoreLemmas.Sums.{after_insert, after_remove, sum_alike, sum_bound}
 use Rattle.clause_db.proofs.StoreLemmas.Sums.{sum_empty, sum_insert, sum_remove, sum_replace}
 
 -- ---- No clauses
 
-pub sound_empty : (marks : Table Bool) → ((l : ℕ) → at marks l ≡ None) → IsStore maps.empty 0 marks 0
+pub sound_empty : (marks : Filled Bool) → ((l : ℕ) → at marks l ≡ None) → IsStore maps.empty 0 marks 0
 sound_empty marks no_marks = record {
   different = λ s c is. absurd (none-some c (sym (maps.get-empty nat_cmp s) ∙ is));
   short = λ s c is. absurd (none-some c (sym (maps.get-empty nat_cmp s) ∙ is));
@@ -28,7 +28,7 @@ sound_empty marks no_marks = record {
   sum_is = omega arith;
 }
 
-module _ (live : FinMap nat_cmp Clause) (stored : ℕ) (marks : Table Bool) (sum : ℕ) (sound : IsStore live stored marks sum) where
+module _ (live : FinMap nat_cmp Clause) (stored : ℕ) (marks : Filled Bool) (sum : ℕ) (sound : IsStore live stored marks sum) where
   -- ---- What is kept
 
   pub live_alone : stored ≡ literals_in live
@@ -43,7 +43,7 @@ module _ (live : FinMap nat_cmp Clause) (stored : ℕ) (marks : Table Bool) (sum
 
   -- ---- The same clauses
 
-  pub sound_same : (after : Table Bool) → ((l : ℕ) → is_some (at marks l) ≡ true → is_some (at after l) ≡ true) → ((l : ℕ) → is_marked (at after l) ≡ false) → IsStore live stored after sum
+  pub sound_same : (after : Filled Bool) → ((l : ℕ) → is_some (at marks l) ≡ true → is_some (at after l) ≡ true) → ((l : ℕ) → is_marked (at after l) ≡ false) → IsStore live stored after sum
   sound_same after kept clear = record {
     different = sound.different;
     short = sound.short;
@@ -55,7 +55,7 @@ module _ (live : FinMap nat_cmp Clause) (stored : ℕ) (marks : Table Bool) (sum
 
   -- ---- One clause more
 
-  module _ (k : ℕ) (x : Clause) (free : maps.get live k ≡ None) (different : size x ≡ length x) (short : length x < 18446744073709551616) (after : Table Bool)
+  module _ (k : ℕ) (x : Clause) (free : maps.get live k ≡ None) (different : size x ≡ length x) (short : length x < 18446744073709551616) (after : Filled Bool)
       (known : (l : ℕ) → has x l ≡ true → is_some (at after l) ≡ true) (kept_known : (l : ℕ) → is_some (at marks l) ≡ true → is_some (at after l) ≡ true) (clear : (l : ℕ) → is_marked (at after l) ≡ false) where
     pub sound_with : (kept : ℕ) → kept ≡ memory.literals_in (maps.insert live k x) → IsStore (maps.insert live k x) kept after (sum + length x)
     sound_with kept kept_is = record {

@@ -1,7 +1,7 @@
-//! How many of the clauses have a literal, counted from when somebody asks for it.
+//! How many of the clauses have a literal, where this is counted.
 //!
-//! RAT counts its candidates before it seeks them. A proof without such a step pays nothing for the
-//! counts; without them a call goes over all clauses.
+//! RAT counts its candidates before it seeks them. A store with an index counts from the start,
+//! another one from when it is told to; without counts a call goes over all clauses.
 
 ghost use Rattle.std.specs.Prelude.{◌≡◌, ℕ, ◌+◌, ◌<◌, ◌==◌, Some, None, length, if◌then◌else◌};
 ghost use Rattle.std.specs.Prelude.{true, IsSome, IfOk, OnOk, OnErr};
@@ -12,42 +12,36 @@ ghost use Rattle.cnf_base.specs.Literals.{Clause, has, size};
 ghost use Rattle.clause_db.specs.Store.{copies_with};
 ghost use Rattle.clause_db.specs.Code.Counts.{AreCounted, count_of};
 ghost use Rattle.clause_db.specs.Code.Kept.{has_in};
-ghost use Rattle.tables.specs.Table.{at};
+ghost use Rattle.tables.specs.Filled.{at};
 
 use clause_memory::ClauseMemory;
 use cnf_base::{Lit, OutOfMemory};
 use std::alloc::Global;
-use tables::{Table, key};
+use tables::{Filled, key};
 
 /// How often a literal is counted.
-fn count_at(counts: &Table<u32>, l: Lit) -> u32
+fn count_at(counts: &Filled<u32>, l: Lit) -> u32
     ensures { result ≡ count_of (at counts.now l) }
 {
-    match counts.get(key(l)) {
-        Some(count) => count,
-        None => 0,
-    }
+    counts.get_or(key(l), 0)
 }
 
 /// Counts a literal once more, for which it makes room.
-fn count_up(counts: &mut Table<u32>, l: Lit) -> Result<(), OutOfMemory>
+fn count_up(counts: &mut Filled<u32>, l: Lit) -> Result<(), OutOfMemory>
     requires { count_of (at counts.old l) < 4294967295 }
     ensures ok { OnOk result ((k : ℕ) → count_of (at counts.new k) ≡
         count_of (at counts.old k) + (if k == l then 1 else 0)) }
     ensures err { OnErr result
         ((k : ℕ) → count_of (at counts.new k) ≡ count_of (at counts.old k)) }
 {
-    match counts.get(key(l)) {
-        Some(count) => {
-            counts.set(key(l), count + 1);
-            Ok(())
-        }
-        None => counts.reserve(key(l), 1),
-    }
+    counts.reserve(key(l), 0)?;
+    let count = count_at(counts, l);
+    counts.set(key(l), count + 1);
+    Ok(())
 }
 
 /// Counts a literal once less.
-fn count_down(counts: &mut Table<u32>, l: Lit)
+fn count_down(counts: &mut Filled<u32>, l: Lit)
     requires { 0 < count_of (at counts.old l) }
     ensures { (k : ℕ) →
         count_of (at counts.new k) + (if k == l then 1 else 0) ≡ count_of (at counts.old k) }
@@ -58,7 +52,7 @@ fn count_down(counts: &mut Table<u32>, l: Lit)
 }
 
 /// Counts each of the literals once less, where no literal is repeated.
-fn release(counts: &mut Table<u32>, lits: &[Lit])
+fn release(counts: &mut Filled<u32>, lits: &[Lit])
     requires different { size lits.now ≡ length lits.now }
     requires counted { (l : ℕ) → has lits.now l ≡ true → 0 < count_of (at counts.old l) }
     ensures { (l : ℕ) → count_of (at counts.new l) +
@@ -71,7 +65,7 @@ fn release(counts: &mut Table<u32>, lits: &[Lit])
 
 /// Counts each of the literals once more, where no literal is repeated. Where memory is refused, it
 /// counts none.
-fn count_all(counts: &mut Table<u32>, lits: &[Lit]) -> Result<(), OutOfMemory>
+fn count_all(counts: &mut Filled<u32>, lits: &[Lit]) -> Result<(), OutOfMemory>
     requires different { size lits.now ≡ length lits.now }
     requires few { (l : ℕ) → count_of (at counts.old l) < 4294967295 }
     ensures ok { OnOk result ((l : ℕ) → count_of (at counts.new l) ≡
@@ -90,7 +84,7 @@ fn count_all(counts: &mut Table<u32>, lits: &[Lit]) -> Result<(), OutOfMemory>
 
 /// Counts the literals of the clause in a slot, if there is one.
 fn count_slot(
-    counts: &mut Table<u32>,
+    counts: &mut Filled<u32>,
     memory: &ClauseMemory,
     slot: usize,
 ) -> Result<(), OutOfMemory>
@@ -108,12 +102,12 @@ fn count_slot(
 }
 
 /// By literal how many of the clauses have it.
-fn counts_in(alloc: Global, memory: &ClauseMemory) -> Result<Table<u32>, OutOfMemory>
+fn counts_in(alloc: Global, memory: &ClauseMemory) -> Result<Filled<u32>, OutOfMemory>
     requires { (s : ℕ) (c : Clause) → maps.get memory.now.live s ≡ Some c → size c ≡ length c }
     ensures { IfOk result (λ counts. AreCounted (Some counts) memory.now.live) }
 {
     memory.recall_invariant();
-    let mut counts = Table::new(alloc);
+    let mut counts = Filled::new(alloc);
     for slot in 0..memory.end() {
         count_slot(&mut counts, memory, slot)?;
     }
@@ -145,7 +139,7 @@ fn copies_in(memory: &ClauseMemory, l: Lit) -> u64
 
 /// Keeps the counts from now on.
 pub(crate) fn keep(
-    counts: &mut Option<Table<u32>>,
+    counts: &mut Option<Filled<u32>>,
     alloc: Global,
     memory: &ClauseMemory,
 ) -> Result<(), OutOfMemory>
@@ -162,7 +156,7 @@ pub(crate) fn keep(
 }
 
 /// How many of the clauses have the literal.
-pub(crate) fn count_with(counts: &Option<Table<u32>>, memory: &ClauseMemory, l: Lit) -> u64
+pub(crate) fn count_with(counts: &Option<Filled<u32>>, memory: &ClauseMemory, l: Lit) -> u64
     requires { AreCounted counts.now memory.now.live }
     ensures { result ≡ copies_with memory.now.live l }
 {
@@ -173,7 +167,7 @@ pub(crate) fn count_with(counts: &Option<Table<u32>>, memory: &ClauseMemory, l: 
 }
 
 /// Counts the literals of a further clause, where the counts are kept.
-pub(crate) fn count_in(counts: &mut Option<Table<u32>>, lits: &[Lit]) -> Result<(), OutOfMemory>
+pub(crate) fn count_in(counts: &mut Option<Filled<u32>>, lits: &[Lit]) -> Result<(), OutOfMemory>
     requires different { size lits.now ≡ length lits.now }
     requires few { (live : FinMap nat_cmp Clause) × AreCounted counts.old live
         × (maps.len live < 4294967295) }
@@ -190,7 +184,7 @@ pub(crate) fn count_in(counts: &mut Option<Table<u32>>, lits: &[Lit]) -> Result<
 }
 
 /// Counts the literals of a clause no longer, where the counts are kept. It takes no memory.
-pub(crate) fn count_out(counts: &mut Option<Table<u32>>, lits: &[Lit])
+pub(crate) fn count_out(counts: &mut Option<Filled<u32>>, lits: &[Lit])
     requires different { size lits.now ≡ length lits.now }
     requires there { (live : FinMap nat_cmp Clause) × (slot : ℕ) × AreCounted counts.old live
         × (maps.get live slot ≡ Some lits.now) }

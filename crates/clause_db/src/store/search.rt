@@ -13,16 +13,16 @@ ghost use Rattle.clause_index.specs.Index.{seed_of};
 ghost use Rattle.clause_index.specs.Waiting.{waiting_at};
 ghost use Rattle.clause_db.specs.Code.LiteralMarks.{is_marked};
 ghost use Rattle.clause_db.specs.Code.Matches.{is_match};
-ghost use Rattle.tables.specs.Table.{at};
+ghost use Rattle.tables.specs.Filled.{at};
 
 use crate::store::marks::{Digest, all_marked};
 use clause_index::{Index, Indexing, Waiting};
 use clause_memory::ClauseMemory;
 use cnf_base::Lit;
-use tables::Table;
+use tables::Filled;
 
 /// Whether a clause has this many literals, each of them marked.
-fn matches(marks: &Table<bool>, len: usize, lits: &[Lit]) -> bool
+fn matches(marks: &Filled<bool>, len: usize, lits: &[Lit]) -> bool
     ensures { result ≡ is_match (λ l. is_marked (at marks.now l)) len lits.now }
 {
     lits.len() == len && all_marked(marks, lits)
@@ -32,7 +32,7 @@ fn matches(marks: &Table<bool>, len: usize, lits: &[Lit]) -> bool
 fn first_match(
     memory: &ClauseMemory,
     bucket: &[u32],
-    marks: &Table<bool>,
+    marks: &Filled<bool>,
     len: usize,
 ) -> Option<usize>
     requires { (i s : ℕ) → slice_get bucket.now i ≡ Some s →
@@ -57,7 +57,7 @@ fn first_match(
 fn first_waiting(
     memory: &ClauseMemory,
     waiting: &[Waiting],
-    marks: &Table<bool>,
+    marks: &Filled<bool>,
     digest: &Digest,
 ) -> Option<usize>
     requires { (i : ℕ) → i < length waiting.now →
@@ -82,7 +82,7 @@ fn first_waiting(
 pub(crate) fn find_marked(
     memory: &ClauseMemory,
     index: &Index,
-    marks: &Table<bool>,
+    marks: &Filled<bool>,
     digest: &Digest,
 ) -> Option<usize>
     requires { ⟦<Index as Indexing>⟧.indexes index.now memory.now.live }

@@ -15,10 +15,10 @@ use Rattle.trail.specs.Numbers.{number_at}
 use Rattle.propagation.specs.Code.Levels.{pushed, first_number, of_variables, IsNumbered, is_noted}
 use Rattle.propagation.specs.Code.Levels.{is_noted_by_two, assumptions_of, IsLevel, AreLevels}
 use Rattle.propagation.specs.Code.Levels.{Notes}
-use Rattle.tables.specs.Table.{at}
+use Rattle.tables.specs.Filled.{at}
 use Rattle.trail.specs.Trail.{TrailState, HasNoVariableTwice}
 use Rattle.theory.specs.Sets.{SameSet}
-use Rattle.tables.specs.declared.table.Table.{Table}
+use Rattle.tables.specs.declared.filled.Filled.{Filled}
 use Rattle.propagation.specs.declared.answer.Answer.TheVariants.{Clash}
 use Rattle.propagation.specs.declared.levels.Level.{Level}
 use Rattle.propagation.specs.declared.levels.Levels.{Levels}
@@ -189,7 +189,7 @@ complements_true : (more lits rest : List Literal) → SameSet more (lits ++ com
 complements_true more lits rest added l h = added (complement l) ∙ has_append_right lits (complements rest) (complement l) (has-complements rest l h)
 
 -- So it is after it, where it is pushed as one that clashes.
-module _ (trail after : TrailState) (numbers noted : Table ℕ) (made number start : ℕ) (levels : Levels) (rest : List Literal) (stood : List Assumption)
+module _ (trail after : TrailState) (numbers noted : Filled ℕ) (made number start : ℕ) (levels : Levels) (rest : List Literal) (stood : List Assumption)
     (is : IsNumbered trail numbers made levels) (stood_are : assumptions_of (number_at numbers) trail.lits levels ≡ stood) (may : MayAssume stood) (number_is : number ≡ made + 1) (start_is : start ≡ length trail.lits)
     (first : ℕ) (first_is : first ≡ first_number levels number) (notes : Notes first number rest (number_at numbers) (number_at noted))
     (begins : take (length trail.lits) after.lits ≡ trail.lits) (longer : length trail.lits ≤ length after.lits) where

@@ -9,7 +9,7 @@ use Rattle.std.proofs.lemmas.Bool.{true≢false, false≢true}
 use Rattle.std.proofs.lemmas.List.{length-append, take_all, take-append-le}
 use Rattle.cnf_base.specs.Literals.{Literal, complement, Clause, has}
 use Rattle.cnf_base.proofs.SetLemmas.{has_append_left, has_append_right, has_cases, has_head}
-use Rattle.tables.specs.Table.{at}
+use Rattle.tables.specs.Filled.{at}
 use Rattle.root_literals.specs.History.{IsHistory, visits}
 use Rattle.root_literals.specs.Order.{in_order, each_in_order}
 use Rattle.root_literals.specs.Roots.{AreNoted, AreReasoned, HasReasons, HaveUnits, IsArranged}

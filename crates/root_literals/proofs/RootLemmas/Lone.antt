@@ -14,7 +14,7 @@ use Rattle.cnf_base.proofs.LiteralLemmas.{complement-complement}
 use Rattle.cnf_base.proofs.SetLemmas.{has_cases, has_head}
 use Rattle.cnf_base.proofs.MemberLemmas.{has_front, place_in_front}
 use Rattle.clause_db.specs.Store.{copies_with}
-use Rattle.tables.specs.Table.{at}
+use Rattle.tables.specs.Filled.{at}
 use Rattle.propagation.specs.Assumptions.{HasAt}
 use Rattle.propagation.proofs.PropagationLemmas.Counts.{copies_without, none_with}
 use Rattle.trail.specs.Trail.{HasNoVariableTwice}

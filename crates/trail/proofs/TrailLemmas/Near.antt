@@ -1,16 +1,15 @@
 -- What the trail says of literals whose values lie near.
 use Rattle.std.proofs.Common.{◌≡◌, ℕ, ◌<◌, Option, List, length, get_or, ap, sym, ◌∙◌, refl}
-use Rattle.std.specs.Option.{option_or}
 use Rattle.std.specs.Prelude.{slice_get}
-use Rattle.std.proofs.lemmas.Option.{slice_get_read}
+use Rattle.std.proofs.lemmas.Option.{slice_get_read, slice_get_within}
 use Rattle.trail.specs.Trail.{AreNear, value_under, HasNoVariableTwice}
 use Rattle.trail.specs.Code.Values.{known_value}
 use Rattle.trail.specs.declared.value.Value.{Value}
 
-pub are_near : (near : List Value) (far : ℕ → Option Value) (lits : List ℕ) → ((l : ℕ) → known_value (option_or (slice_get near l) (far l)) ≡ value_under lits l) → HasNoVariableTwice lits → AreNear lits near
-are_near near far lits says apart = record {
+pub are_near : (near : List Value) (value_of : ℕ → Option Value) (lits : List ℕ) → ((l : ℕ) → l < length near → slice_get near l ≡ value_of l) → ((l : ℕ) → known_value (value_of l) ≡ value_under lits l) → HasNoVariableTwice lits → AreNear lits near
+are_near near value_of lits same says apart = record {
   different = apart;
-  says = λ l v found. sym (ap (λ o. known_value (option_or o (far l))) found) ∙ says l;
+  says = λ l v found. sym (ap known_value (sym (same l (slice_get_within near l v found)) ∙ found)) ∙ says l;
 }
 
 -- a value that was read

@@ -2,7 +2,6 @@
 use Rattle.std.proofs.Common.{◌≡◌, ℕ, ◌*◌, ◌+◌, ◌-◌, ◌<◌, ◌≤◌, Bool, true, false, ◌||◌, cond, eqb}
 use Rattle.std.proofs.Common.{eqb-true, eq-eqb, Option, Some, None, is_some, List, [], ◌∷◌, ◌++◌}
 use Rattle.std.proofs.Common.{map, take, drop, get_or, length, nat_eq, length-append, arith, ap}
-use Rattle.std.proofs.Common.{zero, suc, slice_get, slice_set}
 use Rattle.std.proofs.Common.{sym, ◌∙◌, inl, inr, ◌⊎◌, refl, subst}
 use Rattle.std.specs.List.{AllByRecursion, IsDistinct}
 use Rattle.std.specs.Cmp.{nat_eq_equiv}
@@ -294,26 +293,6 @@ trail_cut lits shown reserved capacity seen value_of same trail n = subst (λ ls
 
 -- ---- Literals made open, one after the other
 
-module _ {X : Type 0} where
-  set_same : (xs : List X) (i : ℕ) (w : X) → i < length xs → slice_get (slice_set xs i w) i ≡ Some w
-  set_same [] i w h = absurd (omega arith)
-  set_same (x ∷ xs) zero w h = refl
-  set_same (x ∷ xs) (suc i) w h = set_same xs i w (omega arith)
-
-  set_other : (xs : List X) (i j : ℕ) (w : X) → (j ≡ i → ⊥) → slice_get (slice_set xs i w) j ≡ slice_get xs j
-  set_other [] i j w h = refl
-  set_other (x ∷ xs) zero zero w h = absurd (h refl)
-  set_other (x ∷ xs) zero (suc j) w h = refl
-  set_other (x ∷ xs) (suc i) zero w h = refl
-  set_other (x ∷ xs) (suc i) (suc j) w h = set_other xs i j w (λ e. h (ap suc e))
-
-  -- a slice with one place written
-  pub written_slice : (xs : List X) (i k : ℕ) (w : X) → i < length xs → slice_get (slice_set xs i w) k ≡ cond (eqb k i) (Some w) (slice_get xs k)
-  written_slice xs i k w h = elim (cases_eq k i) [
-    | inl same ↦ ap (slice_get (slice_set xs i w)) same ∙ set_same xs i w h ∙ sym (ap (λ b. cond b (Some w) (slice_get xs k)) (eq-eqb k i same))
-    | inr other ↦ set_other xs i k w other ∙ sym (ap (λ b. cond b (Some w) (slice_get xs k)) (ne_eqb k i other))
-  ]
-
 module _ {T : Type 0} (value : T) (c : List ℕ) (i : ℕ) (inside : i < length c) (x : ℕ) (is : x ≡ get_or c i x) (was before after : ℕ → T) where
   pub opened_more : ((k : ℕ) → before k ≡ cond (has (take i c) k || has (take i c) (complement k)) value (was k)) →
       ((k : ℕ) → after k ≡ cond (eqb k (complement x)) value (cond (eqb k x) value (before k))) →
@@ -339,35 +318,3 @@ module _ {T : Type 0} (value : T) (c : List ℕ) (i : ℕ) (inside : i < length 
     where
       more : (l : ℕ) → has (take (i + 1) c) l ≡ (has (take i c) l || eqb x l)
       more = has_more c i inside x is
-
-same_both : {T : Type 0} (b : Bool) (t : T) → cond b t t ≡ t
-same_both true t = refl
-same_both false t = refl
-
-either : {T : Type 0} (t old : T) (a b p q : Bool) → cond (b || q) t (cond (a || p) t old) ≡ cond ((a || b) || (p || q)) t old
-either t old true b p q = same_both (b || q) t
-either t old false true p q = refl
-either t old false false true q = same_both q t
-either t old false false false q = refl
-
--- those of the first part, then those of the rest
-module _ (c : List ℕ) (n : ℕ) where
-  abbrev rest_from : List ℕ
-  rest_from = take (length c - n) (drop n c)
-
-  parts : (l : ℕ) → has c l ≡ (has (take n c) l || has rest_from l)
-  parts l =
-      ap (λ ls. has ls l) (front_and_rest c n)
-      ∙ both_pass (has (take n c ++ rest_from) l) (has (take n c) l || has rest_from l)
-      (λ h. elim (has_append_cases (take n c) rest_from l h) [ inl g ↦ or_left _ (has rest_from l) g | inr g ↦ or_right (has (take n c) l) _ g ])
-      (λ h. elim (or_cases (has (take n c) l) (has rest_from l) h) [ inl g ↦ has_append_left (take n c) rest_from l g | inr g ↦ has_append_right (take n c) rest_from l g ])
-
-  pub rest_is_part : (l : ℕ) → has (take (length c - n) (drop n c)) l ≡ true → has c l ≡ true
-  rest_is_part l h = parts l ∙ or_right (has (take n c) l) _ h
-
-  pub opened_parts : {T : Type 0} (value old : T) (k : ℕ) →
-      cond (has (take (length c - n) (drop n c)) k || has (take (length c - n) (drop n c)) (complement k)) value (cond (has (take n c) k || has (take n c) (complement k)) value old) ≡ cond (has c k || has c (complement k)) value old
-  opened_parts value old k =
-      either value old (has (take n c) k) (has rest_from k) (has (take n c) (complement k)) (has rest_from (complement k))
-      ∙ ap (λ b. cond (b || (has (take n c) (complement k) || has rest_from (complement k))) value old) (sym (parts k))
-      ∙ ap (λ b. cond (has c k || b) value old) (sym (parts (complement k)))

@@ -1,17 +1,10 @@
 -- How the code holds a trail: a value by literal.
-use Rattle.std.specs.Option.{option_or}
-use Rattle.std.specs.Prelude.{ℕ, Option, slice_get, unwrap_or, ◌≡◌, ◌≤◌, List, map, length, is_some}
+use Rattle.std.specs.Prelude.{ℕ, Option, unwrap_or, ◌≡◌, ◌≤◌, List, map, length, is_some}
 use Rattle.std.specs.Prelude.{IsTrue, IsSome, ◌||◌, if◌then◌else◌}
 use Rattle.cnf_base.specs.Literals.{Literal, complement, variable, has}
-use Rattle.tables.specs.Table.{at}
 use Rattle.trail.specs.Trail.{value_under, HasNoVariableTwice}
-use Rattle.trail.specs.declared.trail.values.Values.{Values}
 use Rattle.trail.specs.declared.value.Value.TheVariants.{Open}
 use Rattle.trail.specs.declared.value.Value.{Value}
-
--- the value of a literal, if it has one
-abbrev pub value_at : Values → ℕ → Option Value
-value_at values l = option_or (slice_get values.dense.items l) (at values.far l)
 
 -- a literal without a value is open
 abbrev pub known_value : Option Value → Value

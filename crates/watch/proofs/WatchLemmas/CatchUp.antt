@@ -6,7 +6,7 @@ use Rattle.std.specs.FinMap as maps
 use Rattle.std.specs.FinMap.{FinMap}
 use Rattle.std.proofs.lemmas.List.{take-take, take_more}
 use Rattle.cnf_base.specs.Literals.{Literal, complement, Clause, has}
-use Rattle.tables.specs.Table.{at}
+use Rattle.tables.specs.Filled.{at}
 use Rattle.propagation.specs.Assumptions.{AssumptionsState}
 use Rattle.root_literals.specs.History.{IsHistory, visits}
 use Rattle.root_literals.specs.Roots.{AreReasoned, IsKept, IsKnown, has_clash}

@@ -6,7 +6,7 @@ use Rattle.std.specs.FinMap as maps
 use Rattle.std.specs.FinMap.{FinMap}
 use Rattle.std.proofs.lemmas.Bool.{false_from_ne_true, true≢false, false≢true}
 use Rattle.cnf_base.specs.Literals.{Literal, complement, Clause, has, size}
-use Rattle.tables.specs.Table.{at}
+use Rattle.tables.specs.Filled.{at}
 use Rattle.theory.specs.Propagation.{Clash, Forced}
 use Rattle.propagation.specs.Assumptions.{Assumption, AssumptionsState, roots_in}
 use Rattle.root_literals.specs.History.{IsHistory, visits}

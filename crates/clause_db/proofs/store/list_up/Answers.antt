@@ -3,7 +3,7 @@ use Rattle.std.specs.Ordering.{nat_cmp}
 use Rattle.std.specs.FinMap as maps
 use Rattle.std.specs.FinMap.{FinMap}
 use Rattle.cnf_base.specs.Literals.{Clause}
-use Rattle.tables.specs.declared.table.Table.{Table}
+use Rattle.tables.specs.declared.filled.Filled.{Filled}
 use Rattle.clause_db.specs.Code.Counts.{AreCounted}
 use Rattle.clause_db.specs.Code.Kept.{AreKept}
 use Rattle.clause_db.proofs.StoreLemmas.Kept.{insert_undone}
@@ -18,13 +18,13 @@ note-requires-clause-free g c = let w = c.requires.free in (w.0, w.1, w.3)
 
 -- ---- Counts that are taken back
 
-module _ (slot : ℕ) (lits : Clause) (old with : Option (Table ℕ))
+module _ (slot : ℕ) (lits : Clause) (old with : Option (Filled ℕ))
     (counted : (live : FinMap nat_cmp Clause) (s : ℕ) → AreCounted old live → maps.get live s ≡ None → AreCounted with (maps.insert live s lits)) where
   counted_there : (live : FinMap nat_cmp Clause) → AreCounted old live → maps.get live slot ≡ None →
       (m : FinMap nat_cmp Clause) × (s : ℕ) × AreCounted with m × (maps.get m s ≡ Some lits)
   counted_there live are free = (maps.insert live slot lits, slot, counted live slot are free, insert_here live slot slot lits refl)
 
-  taken_back : (after : Option (Table ℕ)) → ((live : FinMap nat_cmp Clause) (s : ℕ) → AreCounted with live → maps.get live s ≡ Some lits → AreCounted after (maps.remove live s)) →
+  taken_back : (after : Option (Filled ℕ)) → ((live : FinMap nat_cmp Clause) (s : ℕ) → AreCounted with live → maps.get live s ≡ Some lits → AreCounted after (maps.remove live s)) →
       (live : FinMap nat_cmp Clause) → AreCounted old live → maps.get live slot ≡ None → AreCounted after live
   unfolding counted_there
   taken_back after removed live are free =

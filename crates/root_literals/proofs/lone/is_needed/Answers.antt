@@ -3,7 +3,7 @@ use Rattle.std.proofs.lemmas.Bool.{cases_lt}
 use Rattle.std.proofs.lemmas.Grind.{get_or_default_zero}
 use Rattle.cnf_base.specs.Literals.{has}
 use Rattle.clause_db.specs.Store.{copies_with}
-use Rattle.tables.specs.Table.{at}
+use Rattle.tables.specs.Filled.{at}
 use Rattle.root_literals.proofs.RootLemmas.Lone.{unneeded_none}
 use Rattle.root_literals.proofs.lone.is_needed.Goals as goal
 

@@ -1,6 +1,6 @@
 use Rattle.std.proofs.Common.{◌≡◌, ◌≢◌, true, Some, take}
 use Rattle.cnf_base.specs.Literals.{Literal, has}
-use Rattle.tables.specs.Table.{at}
+use Rattle.tables.specs.Filled.{at}
 use Rattle.root_literals.proofs.roots.made_true_by.Given as goal
 
 abbrev pub invariant-loop-l : goal.invariant-loop-l

@@ -1,6 +1,6 @@
 use Rattle.std.proofs.Common.{[], cond, eq-eqb, length, ◌+◌, refl, sym, ap, ◌∙◌, subst}
 use Rattle.std.specs.FinMap as maps
-use Rattle.tables.specs.Table.{at}
+use Rattle.tables.specs.Filled.{at}
 use Rattle.watch_lists.specs.Lists.{entries_in, list_at}
 use Rattle.watch.specs.Code.Visits.{CanVisit, with_list}
 use Rattle.root_literals.specs.Watched.{IsListed}

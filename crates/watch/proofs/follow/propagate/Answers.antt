@@ -1,7 +1,7 @@
 use Rattle.std.proofs.Common.{◌≡◌, ◌<◌, Some, IfNone, length, false, ℕ, refl, ap, ◌∙◌, subst, arith}
 use Rattle.std.specs.FinMap as maps
 use Rattle.cnf_base.specs.Literals.{Clause, complement}
-use Rattle.tables.specs.Table.{at}
+use Rattle.tables.specs.Filled.{at}
 use Rattle.theory.specs.Sets.{conflicts}
 use Rattle.trail.proofs.TrailLemmas.MakesFalse.{no_conflict}
 use Rattle.root_literals.specs.Watched.{IsMet}

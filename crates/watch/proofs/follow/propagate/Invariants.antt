@@ -1,6 +1,6 @@
 use Rattle.std.proofs.Common.{◌≡◌, ◌-◌, ◌≤◌, length, take}
 use Rattle.std.specs.FinMap as maps
-use Rattle.tables.specs.Table.{at}
+use Rattle.tables.specs.Filled.{at}
 use Rattle.root_literals.specs.Watched.{IsWatched}
 use Rattle.watch.specs.Code.Visits.{Followed}
 use Rattle.watch.proofs.follow.propagate.Given as goal

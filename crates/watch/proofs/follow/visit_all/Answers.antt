@@ -2,7 +2,7 @@ use Rattle.std.proofs.Common.{◌≤◌, ◌&&◌, cond, eqb, Some, IfNone, leng
 use Rattle.std.proofs.Common.{subst, arith}
 use Rattle.std.specs.FinMap as maps
 use Rattle.std.proofs.lemmas.Option.{same_Some}
-use Rattle.tables.specs.Table.{at}
+use Rattle.tables.specs.Filled.{at}
 use Rattle.cnf_base.specs.Literals.{complement, has}
 use Rattle.watch_lists.specs.Lists.{entries_in, list_at}
 use Rattle.root_literals.specs.Order.{each_in_order}

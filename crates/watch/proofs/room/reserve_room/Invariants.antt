@@ -1,6 +1,6 @@
 use Rattle.std.proofs.Common.{◌≡◌, ◌/◌, true, take}
 use Rattle.cnf_base.specs.Literals.{Literal, has}
-use Rattle.tables.specs.Table.{at}
+use Rattle.tables.specs.Filled.{at}
 use Rattle.watch.specs.Code.State.{AddsRoom, HaveReasons}
 use Rattle.watch.proofs.room.reserve_room.Given as goal
 

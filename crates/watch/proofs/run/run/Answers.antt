@@ -1,6 +1,6 @@
 use Rattle.std.proofs.Common.{◌≡◌, false, IfSome, IfNone, sym, subst}
 use Rattle.std.specs.FinMap as maps
-use Rattle.tables.specs.Table.{at}
+use Rattle.tables.specs.Filled.{at}
 use Rattle.theory.specs.Propagation.{Clash, IsClosed}
 use Rattle.cnf_base.specs.Literals.{has}
 use Rattle.theory.specs.Sets.{conflicts}

@@ -1,6 +1,6 @@
 use Rattle.std.proofs.Common.{◌≡◌, ℕ, true, Some, take}
 use Rattle.std.specs.FinMap as maps
-use Rattle.tables.specs.Table.{at}
+use Rattle.tables.specs.Filled.{at}
 use Rattle.cnf_base.specs.Literals.{Clause, has}
 use Rattle.root_literals.specs.Watched.{HasUnit}
 use Rattle.watch.specs.Code.Visits.{PropagatesTo}

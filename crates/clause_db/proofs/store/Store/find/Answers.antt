@@ -3,7 +3,7 @@ use Rattle.std.specs.FinMap as maps
 use Rattle.std.proofs.lemmas.Bool.{true≢false}
 use Rattle.cnf_base.proofs.SetLemmas.{all_each, each_all, same_back, same_there}
 use Rattle.clause_db.specs.Code.LiteralMarks.{is_marked}
-use Rattle.tables.specs.Table.{at}
+use Rattle.tables.specs.Filled.{at}
 use Rattle.clause_db.proofs.StoreLemmas.Search.{match_same, same_match}
 use Rattle.clause_db.proofs.StoreLemmas.Options.{if_some_from, if_some_from_none, if_none_from}
 use Rattle.clause_db.proofs.StoreLemmas.Options.{if_none_from_some}

@@ -28,13 +28,13 @@ few_seen m state is blocks added few = subst (λ (v : StoreState). AddsFewBlocks
 pub invariant_of-self : goal.invariant_of-self
 invariant_of-self g c =
     let i = c.self.inside in
-    let marks = c.take_in.new.marks in
-    let same = sound_same i.memory.live i.memory.stored i.marks i.sum c.self.invariant.0 marks c.take_in.ensures.still_known c.take_in.ensures.clear in
+    let marks = c.unmark_all.new.marks in
+    let same = sound_same i.memory.live i.memory.stored i.marks i.sum c.self.invariant.0 marks (λ l h. c.unmark_all.ensures.known l ∙ c.put_in-taken.ensures.still_known l h) c.unmark_all.ensures.clear in
     subst (λ (m : MemoryState). IsStore m.live m.stored marks i.sum × g.I.Indexing.indexes i.index m.live × AreKept i.occurrences m.live × AreCounted i.counts m.live) (sym c.in_err-slot.ensures.err)
     (same, c.self.invariant.1, c.self.invariant.2, c.self.invariant.3)
 
 pub returns-in_err-slot-clause-live_alone : goal.returns-in_err-slot-clause-live_alone
-returns-in_err-slot-clause-live_alone g c = live_alone c.take_in.new.memory.live c.take_in.new.memory.stored c.take_in.new.marks _ (invariant_of-self g c).0
+returns-in_err-slot-clause-live_alone g c = live_alone c.put_in-taken.new.memory.live c.put_in-taken.new.memory.stored c.unmark_all.new.marks _ (invariant_of-self g c).0
 
 pub returns-in_err-slot-clause-err_live : goal.returns-in_err-slot-clause-err_live
 returns-in_err-slot-clause-err_live g c =
@@ -45,7 +45,7 @@ returns-in_err-slot-clause-err_stored g c =
     on_err_from c.from_residual.result _ (ap (λ (m : MemoryState). m.stored) c.in_err-slot.ensures.err ∙ ap (λ v. v.stored) c.self.view_is)
 
 pub returns-in_err-slot-clause-few_blocks : goal.returns-in_err-slot-clause-few_blocks
-returns-in_err-slot-clause-few_blocks g c = few_seen c.self.inside.memory c.args.self.now c.self.view_is c.take_in.new.memory.blocks (units_for (size c.args.lits.now)) c.take_in.ensures.few_blocks
+returns-in_err-slot-clause-few_blocks g c = few_seen c.self.inside.memory c.args.self.now c.self.view_is c.put_in-taken.new.memory.blocks (units_for (size c.args.lits.now)) c.put_in-taken.ensures.few_blocks
 
 -- ---- Where it is told to the index
 
@@ -81,15 +81,15 @@ overflow_add-self g c =
 pub invariant_of-self-in-Ok : goal.invariant_of-self-in-Ok
 invariant_of-self-in-Ok g c =
     let i = c.self.inside in
-    let m = c.take_in.new.memory in
+    let m = c.put_in-taken.new.memory in
     let slot = c.in_ok-slot.slot in
-    let marks = c.take_in.new.marks in
+    let marks = c.unmark_all.new.marks in
     let taken = c.in_ok-slot.ensures.taken in
     let x = taken.clause in
     let kept_is = taken_is taken c.clause-kept.ensures in
-    let known = λ (l : ℕ) (h : has x l ≡ true). c.in_ok-slot.ensures.known l (same_there x c.args.lits.now taken.same l h) in
+    let known = λ (l : ℕ) (h : has x l ≡ true). c.unmark_all.ensures.known l ∙ c.in_ok-slot.ensures.known l (same_there x c.args.lits.now taken.same l h) in
     let live_is = ap (maps.insert i.memory.live slot) kept_is ∙ sym taken.live in
-    let sound = sound_with i.memory.live i.memory.stored i.marks i.sum c.self.invariant.0 slot x taken.free taken.different taken.short marks known c.take_in.ensures.still_known c.take_in.ensures.clear m.stored (taken.stored ∙ ap memory.literals_in taken.live) in (
+    let sound = sound_with i.memory.live i.memory.stored i.marks i.sum c.self.invariant.0 slot x taken.free taken.different taken.short marks known (λ l h. c.unmark_all.ensures.known l ∙ c.put_in-taken.ensures.still_known l h) c.unmark_all.ensures.clear m.stored (taken.stored ∙ ap memory.literals_in taken.live) in (
       subst (λ n. IsStore m.live m.stored marks (i.sum + n)) (ap length (sym kept_is)) (subst (λ l. IsStore l m.stored marks (i.sum + length x)) (sym taken.live) sound),
       subst (g.I.Indexing.indexes c.list_up.new.index) live_is (c.in-Ok.ensures.index i.memory.live c.self.invariant.1 taken.free),
       subst (AreKept c.list_up.new.kept) live_is (c.in-Ok.ensures.kept i.memory.live c.self.invariant.2 taken.free),
@@ -105,7 +105,7 @@ returns-in-Ok-clause-stored g c =
     let taken = c.in_ok-slot.ensures.taken in
     let slot = c.in_ok-slot.slot in (
       taken.clause,
-      ap (maps.get c.take_in.new.memory.live) c.at.ensures ∙ ap (λ l. maps.get l slot) taken.live ∙ insert_here c.self.inside.memory.live slot slot taken.clause refl,
+      ap (maps.get c.put_in-taken.new.memory.live) c.at.ensures ∙ ap (λ l. maps.get l slot) taken.live ∙ insert_here c.self.inside.memory.live slot slot taken.clause refl,
       taken.same,
     )
 
@@ -115,10 +115,10 @@ returns-in-Ok-clause-others g c s apart =
     ap (λ l. maps.get l s) taken.live ∙ insert_other c.self.inside.memory.live c.in_ok-slot.slot s taken.clause (λ e. apart (e ∙ sym c.at.ensures)) ∙ ap (λ v. maps.get v.live s) c.self.view_is
 
 pub returns-in-Ok-clause-live_alone : goal.returns-in-Ok-clause-live_alone
-returns-in-Ok-clause-live_alone g c = live_alone c.take_in.new.memory.live c.take_in.new.memory.stored c.take_in.new.marks _ (invariant_of-self-in-Ok g c).0
+returns-in-Ok-clause-live_alone g c = live_alone c.put_in-taken.new.memory.live c.put_in-taken.new.memory.stored c.unmark_all.new.marks _ (invariant_of-self-in-Ok g c).0
 
 pub returns-in-Ok-clause-few_blocks : goal.returns-in-Ok-clause-few_blocks
-returns-in-Ok-clause-few_blocks g c = few_seen c.self.inside.memory c.args.self.now c.self.view_is c.take_in.new.memory.blocks (units_for (size c.args.lits.now)) c.take_in.ensures.few_blocks
+returns-in-Ok-clause-few_blocks g c = few_seen c.self.inside.memory c.args.self.now c.self.view_is c.put_in-taken.new.memory.blocks (units_for (size c.args.lits.now)) c.put_in-taken.ensures.few_blocks
 
 -- ---- Where no memory is left for the index
 
@@ -135,11 +135,11 @@ pub invariant_of-self-in-Err : goal.invariant_of-self-in-Err
 invariant_of-self-in-Err g c =
     let i = c.self.inside in
     let m = c.remove.new.self in
-    let marks = c.take_in.new.marks in
+    let marks = c.unmark_all.new.marks in
     let taken = c.in_ok-slot.ensures.taken in
     let live = undone taken c.remove.ensures.live in
     let stored = c.remove.ensures.live_alone ∙ ap memory.literals_in live ∙ sym c.self.invariant.0.stored_is in
-    let same = sound_same i.memory.live i.memory.stored i.marks i.sum c.self.invariant.0 marks c.take_in.ensures.still_known c.take_in.ensures.clear in (
+    let same = sound_same i.memory.live i.memory.stored i.marks i.sum c.self.invariant.0 marks (λ l h. c.unmark_all.ensures.known l ∙ c.put_in-taken.ensures.still_known l h) c.unmark_all.ensures.clear in (
       subst (λ n. IsStore m.live n marks i.sum) (sym stored) (subst (λ l. IsStore l i.memory.stored marks i.sum) (sym live) same),
       subst (g.I.Indexing.indexes c.list_up.new.index) (sym live) (c.in-Err.ensures.same_index i.memory.live c.self.invariant.1),
       subst (AreKept c.list_up.new.kept) (sym live) (c.in-Err.ensures.same_kept i.memory.live c.self.invariant.2 taken.free),
@@ -155,7 +155,7 @@ returns-in-Err-clause-err_stored g c =
 
 pub returns-in-Err-clause-few_blocks : goal.returns-in-Err-clause-few_blocks
 returns-in-Err-clause-few_blocks g c =
-    few_seen c.self.inside.memory c.args.self.now c.self.view_is c.remove.new.self.blocks (units_for (size c.args.lits.now)) (subst (λ b. AddsFewBlocks c.self.inside.memory.blocks b c.self.inside.memory.live (units_for (size c.args.lits.now))) (sym c.remove.ensures.blocks) c.take_in.ensures.few_blocks)
+    few_seen c.self.inside.memory c.args.self.now c.self.view_is c.remove.new.self.blocks (units_for (size c.args.lits.now)) (subst (λ b. AddsFewBlocks c.self.inside.memory.blocks b c.self.inside.memory.live (units_for (size c.args.lits.now))) (sym c.remove.ensures.blocks) c.put_in-taken.ensures.few_blocks)
 
 pub returns-in-Err-clause-live_alone : goal.returns-in-Err-clause-live_alone
-returns-in-Err-clause-live_alone g c = live_alone c.remove.new.self.live c.remove.new.self.stored c.take_in.new.marks _ (invariant_of-self-in-Err g c).0
+returns-in-Err-clause-live_alone g c = live_alone c.remove.new.self.live c.remove.new.self.stored c.unmark_all.new.marks _ (invariant_of-self-in-Err g c).0

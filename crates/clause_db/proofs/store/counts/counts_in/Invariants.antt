@@ -1,6 +1,6 @@
 use Rattle.std.proofs.Common.{ℕ}
 use Rattle.clause_db.specs.Code.Counts.{count_of}
-use Rattle.tables.specs.Table.{at}
+use Rattle.tables.specs.Filled.{at}
 use Rattle.clause_db.proofs.StoreLemmas.Counts.{IsCountBelow}
 use Rattle.clause_db.proofs.store.counts.counts_in.Given as goal
 

@@ -1,17 +1,16 @@
-use Rattle.std.proofs.Common.{◌≡◌, ℕ, ◌+◌, not, true, is_some, eqb, take, sym, ap, ◌∙◌, arith, inl}
+use Rattle.std.proofs.Common.{◌≡◌, ℕ, ◌+◌, not, true, is_some, eqb, eqb-true, subst, take, sym, ap, ◌∙◌, arith, inl}
 use Rattle.std.proofs.Common.{inr}
-use Rattle.std.proofs.lemmas.Bool.{not-true, not-false, or_cases, or_left, or_right}
+use Rattle.std.proofs.lemmas.Bool.{not-true, not-false, or_cases}
 use Rattle.cnf_base.specs.Literals.{has}
-use Rattle.clause_db.specs.Code.LiteralMarks.{is_marked}
-use Rattle.tables.specs.Table.{at}
-use Rattle.clause_db.proofs.StoreLemmas.Marks.{eqb_turn, mark_more, size_kept, size_more}
+use Rattle.tables.specs.Filled.{at}
+use Rattle.clause_db.proofs.StoreLemmas.Marks.{mark_more, size_kept, size_more}
 use Rattle.cnf_base.proofs.WalkLemmas.{has_more, has_take}
 use Rattle.clause_db.proofs.store.marks.mark_new.Goals as goal
 use Rattle.clause_db.proofs.store.marks.mark_new.Goals.{then-branch, else-branch}
 
 pub returns-in_err-add_mark-clause-some : goal.returns-in_err-add_mark-clause-some
 returns-in_err-add_mark-clause-some c l marked =
-    has_take c.args.lits.now c.loop-l.l-index l (sym (ap is_marked (c.in_err-add_mark.ensures.err l) ∙ c.loop-l.invariant.marked l) ∙ marked)
+    has_take c.args.lits.now c.loop-l.l-index l (sym (c.in_err-add_mark.ensures.err l ∙ c.loop-l.invariant.marked l) ∙ marked)
 
 pub loop-l-preserved : goal.loop-l-preserved
 loop-l-preserved c =
@@ -23,10 +22,10 @@ loop-l-preserved c =
     let made = c.in_ok-add_mark.ensures in
     let was = made.was ∙ ap not (so_far.marked x) in
     let marked = λ (k : ℕ). mark_more lits i inside x c.l-item.is k _ _ (made.marked k) (so_far.marked k) in
-    let still_known = λ (k : ℕ) (h : is_some (at c.args.marks.now k) ≡ true). made.known k ∙ or_right (eqb k x) (is_some (at c.loop-l.marks k)) (so_far.still_known k h) in
-    let known = λ (k : ℕ) (h : has (take (i + 1) lits) k ≡ true). made.known k ∙ elim (or_cases (has (take i lits) k) (eqb x k) (sym (has_more lits i inside x c.l-item.is k) ∙ h)) [
-      | inl g ↦ or_right (eqb k x) (is_some (at c.loop-l.marks k)) (so_far.known k g)
-      | inr e ↦ or_left (eqb k x) (is_some (at c.loop-l.marks k)) (eqb_turn k x ∙ e)
+    let still_known = λ (k : ℕ) (h : is_some (at c.args.marks.now k) ≡ true). made.still_known k (so_far.still_known k h) in
+    let known : (k : ℕ) → has (take (i + 1) lits) k ≡ true → is_some (at c.add_mark.new.marks k) ≡ true = λ k h. elim (or_cases (has (take i lits) k) (eqb x k) (sym (has_more lits i inside x c.l-item.is k) ∙ h)) [
+      | inl g ↦ made.still_known k (so_far.known k g)
+      | inr e ↦ subst (λ j. is_some (at c.add_mark.new.marks j) ≡ true) (eqb-true x k e) made.known
     ] in
     let len = so_far.len_is in
     let few = so_far.few in

@@ -4,7 +4,7 @@ use Rattle.std.proofs.lemmas.Bool.{cases_lt}
 use Rattle.std.proofs.lemmas.Option.{slice_get_within, get_or_from_slice_get, same_Some, slice_get-get_or}
 use Rattle.clause_db.specs.Code.LiteralMarks.{is_marked}
 use Rattle.clause_db.specs.Code.Matches.{is_match}
-use Rattle.tables.specs.Table.{at}
+use Rattle.tables.specs.Filled.{at}
 use Rattle.clause_db.proofs.store.search.first_match.Goals as goal
 
 pub clause-requires : goal.clause-requires

@@ -3,7 +3,7 @@ use Rattle.std.specs.FinMap as maps
 use Rattle.cnf_base.specs.Literals.{Clause}
 use Rattle.clause_db.specs.Code.LiteralMarks.{is_marked}
 use Rattle.clause_db.specs.Code.Matches.{is_match}
-use Rattle.tables.specs.Table.{at}
+use Rattle.tables.specs.Filled.{at}
 use Rattle.clause_db.proofs.store.search.first_match.Given as goal
 
 abbrev pub invariant-loop-i : goal.invariant-loop-i

@@ -5,7 +5,7 @@ use Rattle.std.proofs.lemmas.Option.{same_Some}
 use Rattle.clause_db.specs.Code.LiteralMarks.{is_marked}
 use Rattle.clause_db.specs.Code.Matches.{is_match}
 use Rattle.clause_index.specs.Waiting.{waiting_at}
-use Rattle.tables.specs.Table.{at}
+use Rattle.tables.specs.Filled.{at}
 use Rattle.clause_db.proofs.store.search.first_waiting.Goals.{else-waiting-i-via-then-waiting-i+else-matches}
 use Rattle.clause_db.proofs.store.search.first_waiting.Goals.{else-waiting-i-via-else-waiting-i}
 use Rattle.clause_db.proofs.store.search.first_waiting.Goals as goal

@@ -4,7 +4,7 @@ use Rattle.cnf_base.specs.Literals.{Clause}
 use Rattle.clause_db.specs.Code.LiteralMarks.{is_marked}
 use Rattle.clause_db.specs.Code.Matches.{is_match}
 use Rattle.clause_index.specs.Waiting.{waiting_at}
-use Rattle.tables.specs.Table.{at}
+use Rattle.tables.specs.Filled.{at}
 use Rattle.clause_db.proofs.store.search.first_waiting.Given as goal
 
 abbrev pub invariant-loop-i : goal.invariant-loop-i

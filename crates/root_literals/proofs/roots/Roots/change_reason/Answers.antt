@@ -1,6 +1,6 @@
 use Rattle.std.proofs.Common.{Some, cond, eqb, refl, ap, ◌∙◌, subst}
 use Rattle.std.specs.FinMap as maps
-use Rattle.tables.specs.Table.{at}
+use Rattle.tables.specs.Filled.{at}
 use Rattle.root_literals.specs.Roots.{IsReasonAt}
 use Rattle.root_literals.proofs.RootLemmas.Kept.{kept_instead}
 use Rattle.root_literals.proofs.roots.Roots.change_reason.Goals as goal

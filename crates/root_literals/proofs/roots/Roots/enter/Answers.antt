@@ -3,7 +3,7 @@ use Rattle.std.proofs.Common.{◌∷◌}
 use Rattle.std.proofs.Common.{◌++◌, refl, sym, ap, ◌∙◌, subst}
 use Rattle.std.proofs.lemmas.Bool.{not-false}
 use Rattle.cnf_base.specs.Literals.{Literal, has}
-use Rattle.tables.specs.Table.{at}
+use Rattle.tables.specs.Filled.{at}
 use Rattle.root_literals.specs.Roots.{IsArranged, IsKept}
 use Rattle.root_literals.proofs.RootLemmas.Entered.{Entering, entered_false, entered_idle}
 use Rattle.root_literals.proofs.RootLemmas.Entered.{entered_more, entered_set, entered_taken}

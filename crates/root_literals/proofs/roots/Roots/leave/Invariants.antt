@@ -1,6 +1,6 @@
 use Rattle.std.proofs.Common.{◌≡◌, ◌+◌, cond, length, [], IsSome}
 use Rattle.cnf_base.specs.Literals.{Literal}
-use Rattle.tables.specs.Table.{at}
+use Rattle.tables.specs.Filled.{at}
 use Rattle.theory.specs.Sets.{SameSet}
 use Rattle.root_literals.specs.Roots.{IsKept, has_clash}
 use Rattle.root_literals.proofs.roots.Roots.leave.Given as goal

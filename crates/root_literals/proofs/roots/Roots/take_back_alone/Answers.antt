@@ -2,7 +2,7 @@ use Rattle.std.proofs.Common.{◌<◌, Some, get_or, length, refl, sym, ap, ◌�
 use Rattle.std.specs.FinMap as maps
 use Rattle.cnf_base.specs.Literals.{has}
 use Rattle.trail.specs.Trail.{HasNoVariableTwice}
-use Rattle.tables.specs.Table.{at}
+use Rattle.tables.specs.Filled.{at}
 use Rattle.root_literals.specs.Roots.{IsKept, IsUnneeded}
 use Rattle.root_literals.proofs.RootLemmas.Lone.{kept_out}
 use Rattle.root_literals.proofs.RootLemmas.Reasons.{reasoned_root}

@@ -1,5 +1,5 @@
-use Rattle.std.proofs.Common.{sym, ap, subst}
-use Rattle.tables.specs.Table.{at}
+use Rattle.std.proofs.Common.{ap, subst}
+use Rattle.tables.specs.Filled as filled
 use Rattle.trail.specs.Trail.{AreNear}
 use Rattle.trail.proofs.TrailLemmas.Near.{are_near}
 use Rattle.trail.proofs.trail.Trail.near.Goals as goal
@@ -7,5 +7,5 @@ use Rattle.trail.proofs.trail.Trail.near.Goals as goal
 pub returns : goal.returns
 returns c =
     let t = c.self.inside in
-    let near = are_near t.values.dense.items (at t.values.far) t.lits.items c.self.invariant.values c.self.invariant.different in
-    subst (AreNear c.args.self.now.lits) (sym c.near.ensures) (subst (λ lits. AreNear lits t.values.dense.items) (ap (λ s. s.lits) c.self.view_is) near)
+    subst (λ lits. AreNear lits c.near.result.now) (ap (λ s. s.lits) c.self.view_is)
+    (are_near c.near.result.now (filled.at t.values) t.lits.items c.near.ensures c.self.invariant.values c.self.invariant.different)

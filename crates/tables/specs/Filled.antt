@@ -1,0 +1,9 @@
+-- What a filled table has at each key.
+use Rattle.std.specs.Option.{option_or}
+use Rattle.std.specs.Prelude.{ℕ, Option, slice_get}
+use Rattle.tables.specs.Table as table
+use Rattle.tables.specs.declared.filled.Filled.{Filled}
+
+-- the value at the key
+unfoldable pub at : {T : Type 0} → Filled T → ℕ → Option T
+at f k = option_or (slice_get f.near.items k) (table.at f.far k)

@@ -1,0 +1,228 @@
+//! Values by small numbers, of which all that are near have one.
+//!
+//! A value in the array takes its own size, as nothing else is noted of its key, and a key below
+//! the array's length has room without a look. The array is at most sixty-four times as long as
+//! there were keys outside it, and two hundred and sixty thousand.
+
+ghost use Rattle.std.specs.Prelude.{◌≡◌, ℕ, ◌==◌, ◌<◌, ◌≤◌, if◌then◌else◌, unwrap_or, vec_len};
+ghost use Rattle.std.specs.Prelude.{IsSome, OnOk, Some, None, length, slice_get};
+ghost use Rattle.tables.specs.Code.Filled.{IsFilled};
+ghost use Rattle.tables.specs.Table as table;
+
+use crate::table::Table;
+use cnf_base::OutOfMemory;
+use std::alloc::Global;
+
+/// Values by keys. Room for one key may make room for others that are near.
+///
+/// The keys below `near.len()` have their values in `near`, all others in `far`, where no choice of
+/// keys makes a look-up long. A value in `near` hides one in `far`.
+#[derive(Drop)]
+pub struct Filled<T> {
+    near: Vec<T>,
+    far: Table<T>,
+    /// How often room was made for a key that was not in `near`.
+    count: usize,
+}
+
+/// The length from which `near` grows.
+const LEAST: usize = 8192;
+
+/// A key below this is near, however few were met.
+const NEAR: usize = 131072;
+
+/// So is one that is below so many times the number of keys that were met outside `near`, and this.
+const SPARSE: usize = 32;
+
+/// The key past the greatest one.
+const MOST: usize = 4294967296;
+
+#[tactic(auto, unfolding(crate::specs::Filled::at))]
+impl<T: Copy + Drop> Filled<T> {
+    ghost use Rattle.tables.specs.Filled.{at};
+
+    /// No values. It takes no memory.
+    pub fn new(alloc: Global) -> Self
+        ensures { (k : ℕ) → at result k ≡ None }
+    {
+        Filled {
+            near: Vec::new(alloc),
+            far: Table::new(alloc),
+            count: 0,
+        }
+    }
+
+    /// The value at the key.
+    #[inline(always)]
+    pub fn get(&self, key: u32) -> Option<T>
+        ensures { result ≡ at self.now key }
+    {
+        match self.near.as_slice().get(key as usize) {
+            Some(value) => Some(*value),
+            None => self.get_far(key),
+        }
+    }
+
+    /// The value at the key, or this one where it has none.
+    #[inline(always)]
+    pub fn get_or(&self, key: u32, first: T) -> T
+        ensures { result ≡ unwrap_or (at self.now key) first }
+    {
+        match self.near.as_slice().get(key as usize) {
+            Some(value) => *value,
+            None => self.get_far_or(key, first),
+        }
+    }
+
+    #[cold]
+    #[inline(never)]
+    fn get_far(&self, key: u32) -> Option<T>
+        ensures { result ≡ table.at self.now.far key }
+    {
+        self.far.get(key)
+    }
+
+    #[cold]
+    #[inline(never)]
+    fn get_far_or(&self, key: u32, first: T) -> T
+        ensures { result ≡ unwrap_or (table.at self.now.far key) first }
+    {
+        self.far.get(key).unwrap_or(first)
+    }
+
+    /// The values of the keys below the length of this, in their order.
+    #[inline(always)]
+    pub fn near(&self) -> &[T]
+        ensures { (k : ℕ) → k < length result.now → slice_get result.now k ≡ at self.now k }
+    {
+        self.near.as_slice()
+    }
+
+    /// Writes the value at the key, for which there is room.
+    #[inline(always)]
+    pub fn set(&mut self, key: u32, value: T)
+        requires { IsSome (at self.old key) }
+        ensures { (k : ℕ) → at self.new k ≡ (if k == key then Some value else at self.old k) }
+    {
+        if (key as usize) < self.near.len() {
+            self.near[key as usize] = value;
+        } else {
+            self.set_far(key, value);
+        }
+    }
+
+    #[cold]
+    #[inline(never)]
+    fn set_far(&mut self, key: u32, value: T)
+        requires far { vec_len self.old.near ≤ key }
+        requires room { IsSome (at self.old key) }
+        ensures { (k : ℕ) → at self.new k ≡ (if k == key then Some value else at self.old k) }
+    {
+        self.far.set(key, value);
+    }
+
+    /// Writes the values at two keys, for which there is room: at the same key the second one.
+    #[inline(always)]
+    pub fn set_both(&mut self, key: u32, value: T, other: u32, other_value: T)
+        requires key { IsSome (at self.old key) }
+        requires other { IsSome (at self.old other) }
+        ensures { (k : ℕ) → at self.new k ≡ (if k == other then Some other_value
+            else if k == key then Some value else at self.old k) }
+    {
+        let len = self.near.len();
+        if (key as usize) < len && (other as usize) < len {
+            self.near[key as usize] = value;
+            self.near[other as usize] = other_value;
+        } else {
+            self.set_both_far(key, value, other, other_value);
+        }
+    }
+
+    /// The same where one of them is far.
+    #[cold]
+    #[inline(never)]
+    fn set_both_far(&mut self, key: u32, value: T, other: u32, other_value: T)
+        requires key { IsSome (at self.old key) }
+        requires other { IsSome (at self.old other) }
+        ensures { (k : ℕ) → at self.new k ≡ (if k == other then Some other_value
+            else if k == key then Some value else at self.old k) }
+    {
+        self.set(key, value);
+        self.set(other, other_value);
+    }
+
+    /// The first key from one on that has a value in `far`, or the end where none before has.
+    fn next_far(&self, from: usize, end: usize) -> usize
+        requires { end ≤ 4294967296 }
+        ensures none { (k : ℕ) → from ≤ k → k < result → table.at self.now.far k ≡ None }
+        ensures most { result ≤ end }
+        ensures least { from ≤ end → from ≤ result }
+    {
+        self.far.first_key(from, end).unwrap_or(end)
+    }
+
+    /// Lengthens `near` up to the next key that `far` has, and by that one, but to no more than
+    /// this length.
+    fn widen_once(&mut self, len: usize, first: T) -> Result<(), OutOfMemory>
+        requires short { vec_len self.old.near < len }
+        requires most { len ≤ 4294967296 }
+        ensures filled { IsFilled first self.old self.new }
+        ensures longer { OnOk result (vec_len self.old.near < vec_len self.new.near) }
+    {
+        let next = self.next_far(self.near.len(), len);
+        self.near.resize(next, first)?;
+        if next < len {
+            let value = self.far.get(next as u32).unwrap_or(first);
+            self.near.push(value)?;
+        }
+        Ok(())
+    }
+
+    /// Lengthens `near`, with what `far` has there.
+    fn widen(&mut self, len: usize, first: T) -> Result<(), OutOfMemory>
+        requires { len ≤ 4294967296 }
+        ensures { IsFilled first self.old self.new }
+    {
+        self.near
+            .reserve_exact(len.saturating_sub(self.near.len()))?;
+        while self.near.len() < len {
+            self.widen_once(len, first)?;
+        }
+        Ok(())
+    }
+
+    /// Makes room for the key, and perhaps for others. Those that had none get this value.
+    #[inline(always)]
+    pub fn reserve(&mut self, key: u32, first: T) -> Result<(), OutOfMemory>
+        ensures room { OnOk result (IsSome (at self.new key)) }
+        ensures same { (k : ℕ) →
+            unwrap_or (at self.new k) first ≡ unwrap_or (at self.old k) first }
+        ensures kept { (k : ℕ) → IsSome (at self.old k) → IsSome (at self.new k) }
+    {
+        if (key as usize) < self.near.len() {
+            return Ok(());
+        }
+        self.reserve_far(key, first)
+    }
+
+    /// Makes room for a key that isn't in `near`. Where it is near by now, `near` comes to have it.
+    #[cold]
+    #[inline(never)]
+    fn reserve_far(&mut self, key: u32, first: T) -> Result<(), OutOfMemory>
+        ensures filled { IsFilled first self.old self.new }
+        ensures room { OnOk result (IsSome (at self.new key)) }
+    {
+        let is_new = self.far.get(key).is_none();
+        self.count = self.count.saturating_add(usize::from(is_new));
+        let place = key as usize;
+        let limit = self.count.saturating_mul(SPARSE).saturating_add(NEAR);
+        if place < limit {
+            let len = self.near.len().saturating_mul(2).max(LEAST).max(place + 1);
+            self.widen(len.min(MOST), first)?;
+        }
+        if place < self.near.len() {
+            return Ok(());
+        }
+        self.far.reserve(key, first)
+    }
+}
