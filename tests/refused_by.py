@@ -72,7 +72,8 @@ def refuser(folder, told):
     if not place:
         return "", True
     path, number, rest = place.groups()
-    goal, is_whole = (re.findall(r"`([^`]*)(`?)", rest) or [("", "")])[0]
+    # the name of a goal stands in brackets, behind other words that are quoted
+    goal, is_whole = (re.findall(r"\(`([^`]*)(`?)", rest) or re.findall(r"`([^`]*)(`?)", rest) or [("", "")])[0]
     function = function_at(f"{folder}/{path}", int(number))
     is_known = is_whole or "-clause-" in goal
     return f"{function}.{clause_of(goal) if is_known else ''}", bool(is_whole)
