@@ -4,5 +4,4 @@ pub mod Kept
 pub mod Marks
 pub mod Options
 pub mod Search
-pub mod Sums
 pub mod Swap

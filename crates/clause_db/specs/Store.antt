@@ -3,8 +3,9 @@ use Rattle.std.specs.FinMap as maps
 use Rattle.std.specs.FinMap.{FinMap}
 use Rattle.std.specs.Ordering.{nat_cmp}
 use Rattle.std.specs.List.{list_any}
-use Rattle.std.specs.Prelude.{◌≡◌, ℕ, List, Some, IsTrue, sum_by, if◌then◌else◌}
+use Rattle.std.specs.Prelude.{◌≡◌, ℕ, List, Some, IsTrue, if◌then◌else◌}
 use Rattle.cnf_base.specs.Literals.{Clause, Literal, complement, has, size}
+use Rattle.cnf_base.specs.Maps.{sum_over}
 
 -- a store, as its callers see it
 pub record StoreState : Type 0 where
@@ -18,10 +19,6 @@ pub record StoreState : Type 0 where
 -- a store with nothing in it
 abbrev pub no_clauses : StoreState
 no_clauses = record { live = maps.empty; blocks = maps.empty; stored = 0 }
-
--- the sum of the weights of the clauses, each as often as it is stored
-abbrev pub sum_over : (Clause → ℕ) → FinMap nat_cmp Clause → ℕ
-sum_over weight clauses = sum_by weight (maps.values clauses)
 
 -- the sum of the sizes of the clauses
 abbrev pub literals_in : FinMap nat_cmp Clause → ℕ

@@ -1,6 +1,6 @@
 -- The blocks of a memory, as a finite map.
 use Rattle.std.proofs.Common.{◌≡◌, ℕ, zero, suc, ◌+◌, ◌-◌, ◌<◌, ◌≤◌, true, false, cond}
-use Rattle.std.proofs.Common.{eq-eqb, ne_eqb, Option, Some, None, List, [], ◌∷◌, ◌++◌}
+use Rattle.std.proofs.Common.{Option, Some, None, List, [], ◌∷◌, ◌++◌}
 use Rattle.std.proofs.Common.{length, drop, refl, sym, ap, ◌∙◌, arith, inl, inr}
 use Rattle.std.specs.Ordering.{nat_cmp}
 use Rattle.std.specs.FinMap as maps
@@ -12,7 +12,7 @@ use Rattle.clause_memory.specs.Code.Units.{IsBlock, blocks_from, blocks_in, is_r
 use Rattle.clause_memory.specs.Code.Units.{start_of}
 use Rattle.clause_memory.specs.declared.kind.Kind.{Kind}
 use Rattle.clause_memory.specs.declared.kind.Kind.TheVariants.{Live, Free, Rest}
-use Rattle.clause_memory.proofs.SumLemmas.{get_insert, same_maps, sum_empty, sum_insert}
+use Rattle.cnf_base.proofs.MapLemmas.{insert_here, insert_other, same_maps, sum_empty, sum_insert}
 use Rattle.clause_memory.proofs.UnitLemmas.{AreAlike, start_begins}
 
 -- a unit of a kind that begins a block has so many units
@@ -72,26 +72,21 @@ below_block : (ks : List Kind) (n q : ℕ) → q < n → maps.get (blocks_from n
 below_block [] n q low = maps.get-empty nat_cmp q
 below_block (Rest ∷ ks) n q low = below_block ks (n + 1) q (omega arith)
 below_block (Live ∷ ks) n q low =
-    get_insert (blocks_from (n + 1) ks) n (rests ks + 1) q
-    ∙ ap (λ b. cond b (Some (rests ks + 1)) (maps.get (blocks_from (n + 1) ks) q)) (ne_eqb q n (λ same. absurd (let wrong : ⊥ = omega arith in wrong))) ∙ below_block ks (n + 1) q (omega arith)
+    insert_other (blocks_from (n + 1) ks) n q (rests ks + 1) (λ same. absurd (let wrong : ⊥ = omega arith in wrong)) ∙ below_block ks (n + 1) q (omega arith)
 below_block (Free ∷ ks) n q low =
-    get_insert (blocks_from (n + 1) ks) n (rests ks + 1) q
-    ∙ ap (λ b. cond b (Some (rests ks + 1)) (maps.get (blocks_from (n + 1) ks) q)) (ne_eqb q n (λ same. absurd (let wrong : ⊥ = omega arith in wrong))) ∙ below_block ks (n + 1) q (omega arith)
+    insert_other (blocks_from (n + 1) ks) n q (rests ks + 1) (λ same. absurd (let wrong : ⊥ = omega arith in wrong)) ∙ below_block ks (n + 1) q (omega arith)
 
--- the first unit, where it begins a block, and the others
-first_block_at : (m : FinMap nat_cmp ℕ) (n x q : ℕ) → q ≡ n → maps.get (maps.insert m n x) q ≡ Some x
-first_block_at m n x q e = get_insert m n x q ∙ ap (λ b. cond b (Some x) (maps.get m q)) (eq-eqb q n e)
-
+-- a unit behind the first one
 other_block_at : (m : FinMap nat_cmp ℕ) (n x q : ℕ) → n < q → maps.get (maps.insert m n x) q ≡ maps.get m q
-other_block_at m n x q more = get_insert m n x q ∙ ap (λ b. cond b (Some x) (maps.get m q)) (ne_eqb q n (λ same. absurd (let wrong : ⊥ = omega arith in wrong)))
+other_block_at m n x q more = insert_other m n q x (λ same. absurd (let wrong : ⊥ = omega arith in wrong))
 
 block_from : (ks : List Kind) (n k q : ℕ) → q ≡ n + k → maps.get (blocks_from n ks) q ≡ block_if (kind_at ks k) (rests (drop (suc k) ks) + 1)
 block_from [] n k q e = maps.get-empty nat_cmp q
 block_from (Rest ∷ ks) n zero q e = below_block ks (n + 1) q (omega arith)
 block_from (Rest ∷ ks) n (suc k) q e = block_from ks (n + 1) k q (omega arith)
-block_from (Live ∷ ks) n zero q e = first_block_at (blocks_from (n + 1) ks) n (rests ks + 1) q (omega arith)
+block_from (Live ∷ ks) n zero q e = insert_here (blocks_from (n + 1) ks) n q (rests ks + 1) (omega arith)
 block_from (Live ∷ ks) n (suc k) q e = other_block_at (blocks_from (n + 1) ks) n (rests ks + 1) q (omega arith) ∙ block_from ks (n + 1) k q (omega arith)
-block_from (Free ∷ ks) n zero q e = first_block_at (blocks_from (n + 1) ks) n (rests ks + 1) q (omega arith)
+block_from (Free ∷ ks) n zero q e = insert_here (blocks_from (n + 1) ks) n q (rests ks + 1) (omega arith)
 block_from (Free ∷ ks) n (suc k) q e = other_block_at (blocks_from (n + 1) ks) n (rests ks + 1) q (omega arith) ∙ block_from ks (n + 1) k q (omega arith)
 
 pub get_block : (ks : List Kind) (s : ℕ) → maps.get (blocks_in ks) s ≡ block_if (kind_at ks s) (rests (drop (suc s) ks) + 1)

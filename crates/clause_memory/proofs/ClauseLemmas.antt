@@ -9,14 +9,16 @@ use Rattle.std.proofs.lemmas.Bool.{cases_eq, false≢true}
 use Rattle.std.proofs.lemmas.List.{length-drop, length-take}
 use Rattle.std.proofs.lemmas.Option.{same_Some}
 use Rattle.cnf_base.specs.Literals.{Clause}
-use Rattle.clause_memory.specs.Memory.{MemoryState, literals_in, sum_over}
+use Rattle.clause_memory.specs.Memory.{MemoryState, literals_in}
+use Rattle.cnf_base.specs.Maps.{sum_over}
 use Rattle.clause_memory.specs.Code.Fields.{IsMemory, seen_as}
 use Rattle.clause_memory.specs.Code.Units.{clause_at, clauses_from, clauses_in, is_rest, kept_as}
 use Rattle.clause_memory.specs.Code.Units.{kept_in, kind_at, literal_words, size_at, start_of}
 use Rattle.clause_memory.specs.Code.Units.{sum_from}
 use Rattle.clause_memory.specs.declared.kind.Kind.{Kind}
 use Rattle.clause_memory.specs.declared.kind.Kind.TheVariants.{Live, Free, Rest}
-use Rattle.clause_memory.proofs.SumLemmas.{get_insert, get_remove, same_maps, sum_empty, sum_insert}
+use Rattle.cnf_base.proofs.MapLemmas.{get_insert, get_remove, insert_here, insert_other, same_maps}
+use Rattle.cnf_base.proofs.MapLemmas.{sum_empty, sum_insert}
 use Rattle.clause_memory.proofs.UnitLemmas.{live_isnt_free, units_hold}
 
 -- the clause of a unit of this kind, if it begins one's block
@@ -31,8 +33,7 @@ module _ (words : List ℕ) where
   below_from (Free ∷ rest) n q low = below_from rest (n + 1) q (omega arith)
   below_from (Rest ∷ rest) n q low = below_from rest (n + 1) q (omega arith)
   below_from (Live ∷ rest) n q low =
-      get_insert (clauses_from words (n + 1) rest) n (clause_at words n) q
-      ∙ ap (λ b. cond b (Some (clause_at words n)) (maps.get (clauses_from words (n + 1) rest) q)) (ne_eqb q n (λ same. absurd (let wrong : ⊥ = omega arith in wrong)))
+      insert_other (clauses_from words (n + 1) rest) n q (clause_at words n) (λ same. absurd (let wrong : ⊥ = omega arith in wrong))
       ∙ below_from rest (n + 1) q (omega arith)
 
   at_from : (kinds : List Kind) (n k q : ℕ) → q ≡ n + k → maps.get (clauses_from words n kinds) q ≡ clause_if (kind_at kinds k) (clause_at words q)
@@ -43,12 +44,10 @@ module _ (words : List ℕ) where
   at_from (Rest ∷ rest) n (suc k) q e = at_from rest (n + 1) k q (omega arith)
   at_from (Live ∷ rest) n zero q e =
       let same : q ≡ n = omega arith in
-      get_insert (clauses_from words (n + 1) rest) n (clause_at words n) q
-      ∙ ap (λ b. cond b (Some (clause_at words n)) (maps.get (clauses_from words (n + 1) rest) q)) (eq-eqb q n same)
+      insert_here (clauses_from words (n + 1) rest) n q (clause_at words n) same
       ∙ ap (λ x. Some (clause_at words x)) (sym same)
   at_from (Live ∷ rest) n (suc k) q e =
-      get_insert (clauses_from words (n + 1) rest) n (clause_at words n) q
-      ∙ ap (λ b. cond b (Some (clause_at words n)) (maps.get (clauses_from words (n + 1) rest) q)) (ne_eqb q n (λ same. absurd (let wrong : ⊥ = omega arith in wrong)))
+      insert_other (clauses_from words (n + 1) rest) n q (clause_at words n) (λ same. absurd (let wrong : ⊥ = omega arith in wrong))
       ∙ at_from rest (n + 1) k q (omega arith)
 
   few_from : (kinds : List Kind) (n : ℕ) → maps.len (clauses_from words n kinds) ≤ length kinds

@@ -1,4 +1,3 @@
-pub mod SumLemmas
 pub mod UnitLemmas
 mod BlockLemmas
 mod ClauseLemmas

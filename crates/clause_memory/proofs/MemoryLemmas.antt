@@ -1,12 +1,9 @@
 -- A memory through a change: a block gets a clause, and loses it, and literals change places.
-use Rattle.std.proofs.Common.{◌≡◌, ◌≢◌, ℕ, zero, suc, ◌+◌, ◌-◌, ◌*◌, ◌<◌, ◌≤◌, true, Bool, false}
-use Rattle.std.proofs.Common.{cond, eqb}
+use Rattle.std.proofs.Common.{◌≡◌, ◌≢◌, ℕ, zero, suc, ◌+◌, ◌-◌, ◌*◌, ◌<◌, ◌≤◌, true}
 use Rattle.std.proofs.Common.{Option, Some, None, is_some, List, [], ◌∷◌, length, take, drop}
 use Rattle.std.proofs.Common.{get_or, refl, sym, ap, ◌∙◌, subst, arith, inl, inr}
 use Rattle.std.proofs.Math.ListN.{set}
 use Rattle.std.specs.FinMap as maps
-use Rattle.std.specs.FinMap.{FinMap}
-use Rattle.std.specs.Ordering.{nat_cmp}
 use Rattle.std.specs.List.{swap}
 use Rattle.std.proofs.lemmas.Bool.{cases_eq}
 use Rattle.std.proofs.lemmas.List.{drop-set-add, get_or-drop, get_or-set_other, get_or-set_same}
@@ -27,7 +24,7 @@ use Rattle.clause_memory.proofs.ClauseLemmas.{clauses_without, get_free}
 use Rattle.clause_memory.proofs.FreeLemmas.{HasHead, first_of, head_here, head_known, link_low}
 use Rattle.clause_memory.proofs.FreeLemmas.{listed_still, listed_with, listed_without}
 use Rattle.clause_memory.proofs.RewatchLemmas.{named_is}
-use Rattle.clause_memory.proofs.SumLemmas.{get_insert, same_maps}
+use Rattle.cnf_base.proofs.MapLemmas.{insert_twice}
 use Rattle.clause_memory.proofs.UnitLemmas.{IsChanged, alike_set, begins_inside, block_same}
 use Rattle.clause_memory.proofs.UnitLemmas.{clause_same, free_begins, kept_same}
 use Rattle.clause_memory.proofs.UnitLemmas.{live_isnt_free, part_blank, rest_by_kind, size_same}
@@ -364,15 +361,6 @@ module _ {ks : List Kind} {words : List ℕ} {heads : ℕ → Option ℕ} (memor
   swapped_clauses = clauses_with ks ks words swapped s live (λ t ne. clause_still memory changed_by_swap t ne) ∙ ap (maps.insert (clauses_in ks words) s) swapped_clause
 
 -- ---- Literals that change places, of which none is read
-
-hidden : {X : Type 0} (b : Bool) (x y : X) (o : Option X) → cond b (Some y) (cond b (Some x) o) ≡ cond b (Some y) o
-hidden true x y o = refl
-hidden false x y o = refl
-
-insert_twice : (m : FinMap nat_cmp Clause) (s : ℕ) (x y : Clause) → maps.insert (maps.insert m s x) s y ≡ maps.insert m s y
-insert_twice m s x y = same_maps _ _ (λ q.
-    get_insert (maps.insert m s x) s y q ∙ ap (cond (eqb q s) (Some y)) (get_insert m s x q) ∙ hidden (eqb q s) x y (maps.get m q)
-    ∙ sym (get_insert m s y q))
 
 word_of : (words : List ℕ) (s i : ℕ) → i < size_at words s → get_or words (4 * s + 1 + i) 0 ≡ get_or (clause_at words s) i 0
 word_of words s i low = sym (get_or-drop (4 * s + 1) words i 0) ∙ sym (get_or-take (size_at words s) (drop (4 * s + 1) words) i 0 low)

@@ -4,8 +4,9 @@ use Rattle.std.specs.FinMap.{FinMap}
 use Rattle.std.specs.Ordering.{nat_cmp}
 use Rattle.std.specs.List.{swap}
 use Rattle.std.specs.Prelude.{◌≡◌, ℕ, ◌+◌, ◌-◌, ◌/◌, ◌<◌, ◌≤◌, ◌==◌, Some, length, max, slice_index}
-use Rattle.std.specs.Prelude.{sum_by, if◌then◌else◌}
+use Rattle.std.specs.Prelude.{if◌then◌else◌}
 use Rattle.cnf_base.specs.Literals.{Clause, Literal}
+use Rattle.cnf_base.specs.Maps.{sum_over}
 
 -- a memory, as its callers see it
 pub record MemoryState : Type 0 where
@@ -15,10 +16,6 @@ pub record MemoryState : Type 0 where
   pub blocks : FinMap nat_cmp ℕ
   -- how many of its words hold a literal of a clause
   pub stored : ℕ
-
--- the sum of the weights of what slots have
-abbrev pub sum_over : {X : Type 0} → (X → ℕ) → FinMap nat_cmp X → ℕ
-sum_over weight m = sum_by weight (maps.values m)
 
 -- the sum of the lengths of the clauses
 abbrev pub literals_in : FinMap nat_cmp Clause → ℕ

@@ -1,4 +1,5 @@
 pub mod LiteralLemmas
+pub mod MapLemmas
 pub mod SetLemmas
 pub mod SizeLemmas
 pub mod MemberLemmas

@@ -1,4 +1,5 @@
 pub mod Literals
+pub mod Maps
 pub mod Marks
 pub mod Stream
 pub mod Words

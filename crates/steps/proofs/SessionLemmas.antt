@@ -3,7 +3,7 @@ use Rattle.std.specs.FinMap as maps
 use Rattle.std.proofs.Common.{◌≡◌, ap, ◌∙◌, Ok, Err, IfOk, OnOk}
 use Rattle.cnf_base.specs.Literals.{size}
 use Rattle.clause_db.specs.Store.{literals_in}
-use Rattle.clause_db.proofs.StoreLemmas.Sums.{sum_empty}
+use Rattle.cnf_base.proofs.MapLemmas.{sum_empty}
 use Rattle.theory.specs.Rules.{Rule, lrat, drat, State, by_ids, by_copies, Same, IsSatisfiable}
 use Rattle.theory.specs.Rules.{literals_of, Answers, after}
 use Rattle.theory.specs.Answers.{StepAnswer, UnlessOutOfMemory}

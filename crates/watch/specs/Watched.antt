@@ -3,7 +3,7 @@ use Rattle.std.specs.FinMap.{FinMap}
 use Rattle.std.specs.Ordering.{nat_cmp}
 use Rattle.std.specs.Prelude.{ℕ, nat_le, if◌then◌else◌}
 use Rattle.cnf_base.specs.Literals.{Clause, size}
-use Rattle.clause_db.specs.Store.{sum_over}
+use Rattle.cnf_base.specs.Maps.{sum_over}
 
 -- how many of the clauses have two literals or more, and how many have fewer
 abbrev pub long_clauses : FinMap nat_cmp Clause → ℕ

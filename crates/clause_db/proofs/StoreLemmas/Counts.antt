@@ -14,9 +14,8 @@ use Rattle.clause_db.specs.Code.Kept.{has_in}
 use Rattle.tables.specs.Filled.{at}
 use Rattle.tables.specs.declared.filled.Filled.{Filled}
 use Rattle.clause_db.proofs.StoreLemmas.Marks.{eqb_turn, new_here}
-use Rattle.clause_db.proofs.StoreLemmas.Sums.{same_maps, sum_bound, sum_empty, sum_insert}
-use Rattle.clause_db.proofs.StoreLemmas.Sums.{sum_remove, sum_replace}
-use Rattle.clause_index.proofs.IndexLemmas.Maps.{insert_here, insert_other}
+use Rattle.cnf_base.proofs.MapLemmas.{insert_here, insert_other, same_maps, sum_bound, sum_empty}
+use Rattle.cnf_base.proofs.MapLemmas.{sum_insert, sum_remove, sum_replace}
 
 abbrev with_literal : ℕ → Clause → ℕ
 with_literal l c = cond (has c l) 1 0

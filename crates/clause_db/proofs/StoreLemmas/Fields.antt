@@ -13,8 +13,8 @@ use Rattle.clause_db.specs.Code.Fields.{IsStore}
 use Rattle.tables.specs.Filled.{at}
 use Rattle.tables.specs.declared.filled.Filled.{Filled}
 use Rattle.cnf_base.proofs.SizeLemmas.{size_same}
-use Rattle.clause_db.proofs.StoreLemmas.Sums.{after_insert, after_remove, sum_alike, sum_bound}
-use Rattle.clause_db.proofs.StoreLemmas.Sums.{sum_empty, sum_insert, sum_remove, sum_replace}
+use Rattle.cnf_base.proofs.MapLemmas.{after_insert, after_remove, sum_alike, sum_bound, sum_empty}
+use Rattle.cnf_base.proofs.MapLemmas.{sum_insert, sum_remove, sum_replace}
 
 -- ---- No clauses
 

@@ -13,9 +13,8 @@ use Rattle.occurrences.specs.Occurrences.{occurs}
 use Rattle.occurrences.specs.declared.by_literal.Occurrences.{Occurrences}
 use Rattle.clause_db.specs.Store.{IsTouchedAt}
 use Rattle.clause_db.specs.Code.Kept.{has_in, AreOf, AreKept}
-use Rattle.clause_db.proofs.StoreLemmas.Sums.{same_maps}
-use Rattle.clause_index.proofs.IndexLemmas.Maps.{insert_here, insert_other, remove_here}
-use Rattle.clause_index.proofs.IndexLemmas.Maps.{remove_other}
+use Rattle.cnf_base.proofs.MapLemmas.{insert_here, insert_other, remove_here, remove_other}
+use Rattle.cnf_base.proofs.MapLemmas.{same_maps}
 
 -- ---- A clause that is taken out again
 

@@ -11,7 +11,8 @@ use Rattle.std.proofs.lemmas.Option.{none-some, slice_get_within}
 use Rattle.cnf_base.specs.Literals.{Clause}
 use Rattle.clause_index.specs.Hashes.{hash}
 use Rattle.clause_index.specs.Code.Placed.{spot_in, IsIndex}
-use Rattle.clause_index.proofs.IndexLemmas.Maps.{get_insert, get_remove}
+use Rattle.cnf_base.proofs.MapLemmas.{get_insert, insert_here, insert_other, remove_here}
+use Rattle.cnf_base.proofs.MapLemmas.{remove_other}
 use Rattle.clause_index.proofs.IndexLemmas.Indexed.{placed_with, placed_without, spot_end, same_hash}
 use Rattle.clause_index.proofs.IndexLemmas.Indexed.{same_place}
 
@@ -55,11 +56,11 @@ module _ (seed : ℕ) (buckets : ℕ → List ℕ) (place_of : ℕ → ℕ) (liv
     spots_with : (s : ℕ) → spot_in seed (maps.insert live k c) after s ≡ (if eqb s k then Some (h, length (buckets h)) else spot_in seed live place_of s)
     spots_with s = elim (cases_eq s k) [
       | inl is ↦
-          ap (option_map (λ (d : Clause). (hash seed d, after s))) (get_insert live k c s ∙ ap (λ b. if b then Some c else maps.get live s) (eq-eqb s k is))
+          ap (option_map (λ (d : Clause). (hash seed d, after s))) (insert_here live k s c is)
           ∙ ap (λ p. Some (hash seed c, p)) (ap after is ∙ here) ∙ ap (λ g. Some (g, length (buckets h))) (sym hash_is)
           ∙ ap (λ b. if b then Some (h, length (buckets h)) else spot_in seed live place_of s) (sym (eq-eqb s k is))
       | inr apart ↦
-          ap (option_map (λ (d : Clause). (hash seed d, after s))) (get_insert live k c s ∙ ap (λ b. if b then Some c else maps.get live s) (ne_eqb s k apart))
+          ap (option_map (λ (d : Clause). (hash seed d, after s))) (insert_other live k s c apart)
           ∙ ap (λ p. option_map (λ (d : Clause). (hash seed d, p)) (maps.get live s)) (others s apart)
           ∙ ap (λ b. if b then Some (h, length (buckets h)) else spot_in seed live place_of s) (sym (ne_eqb s k apart))
     ]
@@ -70,11 +71,11 @@ module _ (seed : ℕ) (buckets : ℕ → List ℕ) (place_of : ℕ → ℕ) (liv
           (ap (option_map (λ (d : Clause). (hash seed d, place_of k))) free) spots_with pushed;
       low = λ s is. elim (cases_eq s k) [
         | inl same ↦ subst (λ n. n < 4294967295) (sym same) low
-        | inr apart ↦ sound.low s (ap is_some (sym (get_insert live k c s ∙ ap (λ b. if b then Some c else maps.get live s) (ne_eqb s k apart))) ∙ is)
+        | inr apart ↦ sound.low s (ap is_some (sym (insert_other live k s c apart)) ∙ is)
       ];
       vacant = λ s none. elim (cases_eq s k) [
-        | inl same ↦ absurd (none-some c (sym none ∙ get_insert live k c s ∙ ap (λ b. if b then Some c else maps.get live s) (eq-eqb s k same)))
-        | inr apart ↦ others s apart ∙ sound.vacant s (ap (λ b. if b then Some c else maps.get live s) (sym (ne_eqb s k apart)) ∙ sym (get_insert live k c s) ∙ none)
+        | inl same ↦ absurd (none-some c (sym none ∙ insert_here live k s c same))
+        | inr apart ↦ others s apart ∙ sound.vacant s (sym (insert_other live k s c apart) ∙ none)
       ];
     }
 
@@ -121,10 +122,10 @@ module _ (seed : ℕ) (buckets : ℕ → List ℕ) (place_of : ℕ → ℕ) (liv
       spots_without : (s : ℕ) → spot_in seed (maps.remove live k) after s ≡ (if eqb s k then None else (if eqb s m then Some (h, place) else spot_in seed live place_of s))
       spots_without s = elim (cases_eq s k) [
         | inl is ↦
-            ap (option_map (λ (d : Clause). (hash seed d, after s))) (get_remove live k s ∙ ap (λ b. if b then None else maps.get live s) (eq-eqb s k is))
+            ap (option_map (λ (d : Clause). (hash seed d, after s))) (remove_here live k s is)
             ∙ ap (λ b. if b then None else (if eqb s m then Some (h, place) else spot_in seed live place_of s)) (sym (eq-eqb s k is))
         | inr apart ↦
-            ap (option_map (λ (d : Clause). (hash seed d, after s))) (get_remove live k s ∙ ap (λ b. if b then None else maps.get live s) (ne_eqb s k apart))
+            ap (option_map (λ (d : Clause). (hash seed d, after s))) (remove_other live k s apart)
             ∙ elim (cases_eq s m) [
               | inl is ↦ ap (spot_in seed live after) is ∙ moved_spot (λ e. apart (is ∙ e)) ∙ ap (λ b. if b then Some (h, place) else spot_in seed live place_of s) (sym (eq-eqb s m is))
               | inr other ↦
@@ -136,8 +137,8 @@ module _ (seed : ℕ) (buckets : ℕ → List ℕ) (place_of : ℕ → ℕ) (liv
 
       was_live : (s : ℕ) → is_some (maps.get (maps.remove live k) s) ≡ true → is_some (maps.get live s) ≡ true
       was_live s is = elim (cases_eq s k) [
-        | inl same ↦ absurd (false≢true (sym (ap is_some (get_remove live k s ∙ ap (λ b. if b then None else maps.get live s) (eq-eqb s k same))) ∙ is))
-        | inr apart ↦ ap is_some (sym (get_remove live k s ∙ ap (λ b. if b then None else maps.get live s) (ne_eqb s k apart))) ∙ is
+        | inl same ↦ absurd (false≢true (sym (ap is_some (remove_here live k s same)) ∙ is))
+        | inr apart ↦ ap is_some (sym (remove_other live k s apart)) ∙ is
       ]
 
       pub index_without : IsIndex seed left after (maps.remove live k)
@@ -147,7 +148,7 @@ module _ (seed : ℕ) (buckets : ℕ → List ℕ) (place_of : ℕ → ℕ) (liv
         vacant = λ s none. elim (cases_eq s k) [
           | inl same ↦ ap after same ∙ cleared
           | inr gone ↦
-              (let was : maps.get live s ≡ None = ap (λ b. if b then None else maps.get live s) (sym (ne_eqb s k gone)) ∙ sym (get_remove live k s) ∙ none in
+              (let was : maps.get live s ≡ None = sym (remove_other live k s gone) ∙ none in
               at_apart s gone (λ e. not_last s was e) ∙ sound.vacant s was)
         ];
       }
@@ -173,8 +174,8 @@ index_replaced seed buckets place_of live sound k c d here alike = record {
 
     by_test : {X : Type 0} (f : Clause → X) → f d ≡ f c → (s : ℕ) → option_map f (maps.get (maps.insert live k d) s) ≡ option_map f (maps.get live s)
     by_test f same s = elim (cases_eq s k) [
-      | inl e ↦ ap (option_map f) (get_insert live k d s ∙ ap (λ b. if b then Some d else maps.get live s) (eq-eqb s k e)) ∙ ap Some same ∙ ap (option_map f) (sym here ∙ ap (maps.get live) (sym e))
-      | inr apart ↦ ap (option_map f) (get_insert live k d s ∙ ap (λ b. if b then Some d else maps.get live s) (ne_eqb s k apart))
+      | inl e ↦ ap (option_map f) (insert_here live k s d e) ∙ ap Some same ∙ ap (option_map f) (sym here ∙ ap (maps.get live) (sym e))
+      | inr apart ↦ ap (option_map f) (insert_other live k s d apart)
     ]
 
     spots : (s : ℕ) → spot_in seed (maps.insert live k d) place_of s ≡ spot_in seed live place_of s

@@ -10,7 +10,7 @@ use Rattle.clause_index.specs.Hashes.{hash}
 use Rattle.clause_index.specs.Waiting.{Absent, waiting_at}
 use Rattle.clause_index.specs.Code.Waiting.{IsWaiting, AreWaiting}
 use Rattle.clause_index.specs.declared.index.Waiting.{Waiting}
-use Rattle.clause_index.proofs.IndexLemmas.Maps.{insert_here, insert_other, remove_here, remove_other}
+use Rattle.cnf_base.proofs.MapLemmas.{insert_here, insert_other, remove_here, remove_other}
 
 -- ---- Whether a slot waits
 

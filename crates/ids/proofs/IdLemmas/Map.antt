@@ -3,8 +3,6 @@ use Rattle.std.proofs.Common.{◌≡◌, ◌≢◌, ℕ, zero, suc, ◌+◌, ◌
 use Rattle.std.proofs.Common.{eqb, eq-eqb, ne_eqb, Option, Some, None, List, length, get_or, set}
 use Rattle.std.proofs.Common.{nat_cmp, refl, sym, ap, ◌∙◌, subst, arith, inl, inr, get_or-set_same}
 use Rattle.std.proofs.Common.{get_or-set_other, IfNone}
-use Rattle.std.specs.Ordering.{eq_by_cmp}
-use Rattle.std.specs.Cmp.{nat_cmp_total}
 use Rattle.std.specs.BTreeMap.{BTreeMap}
 use Rattle.std.specs.FinMap as maps
 use Rattle.std.specs.FinMap.{FinMap}
@@ -12,6 +10,7 @@ use Rattle.std.proofs.lemmas.Bool.{cases_eq, cases_lt}
 use Rattle.std.proofs.lemmas.List.{get_or_past}
 use Rattle.std.proofs.lemmas.Option.{none-some}
 use Rattle.std.proofs.lemmas.Bool.Decides.{nat_tests}
+use Rattle.cnf_base.proofs.MapLemmas.{get_insert, get_remove, insert_here, insert_other, same_maps}
 use Rattle.ids.specs.declared.directory.Directory.{Directory}
 use Rattle.ids.specs.declared.pages.Pages.{Pages}
 use Rattle.ids.specs.Code.Ids.{page_at, far_at, slot_from, place, entry_in, entry_at}
@@ -19,16 +18,13 @@ use Rattle.ids.specs.Code.Ids.{entry_for, with_slot, map_below, as_map, IsOwned,
 
 -- ---- As a finite map
 
-tie_is : (k q : ℕ) → eq_by_cmp nat_cmp k q ≡ eqb k q
-tie_is k q = grind (arith, nat_tests)
-
 with_other : (m : FinMap nat_cmp ℕ) (id : ℕ) (o : Option ℕ) (q : ℕ) → q ≢ id → maps.get (with_slot m id o) q ≡ maps.get m q
 with_other m id None q apart = refl
-with_other m id (Some s) q apart = maps.get-insert nat_cmp_total m id s q ∙ ap (λ b. cond b (Some s) (maps.get m q)) (tie_is q id ∙ ne_eqb q id apart)
+with_other m id (Some s) q apart = insert_other m id q s apart
 
 with_same : (m : FinMap nat_cmp ℕ) (id : ℕ) (o : Option ℕ) → maps.get m id ≡ None → maps.get (with_slot m id o) id ≡ o
 with_same m id None none = none
-with_same m id (Some s) none = maps.get-insert nat_cmp_total m id s id ∙ ap (λ b. cond b (Some s) (maps.get m id)) (tie_is id id ∙ eq-eqb id id refl)
+with_same m id (Some s) none = insert_here m id id s refl
 
 below_none : (n : ℕ) (slot : ℕ → Option ℕ) (q : ℕ) → n ≤ q → maps.get (map_below n slot) q ≡ None
 unfolding map_below
@@ -71,7 +67,7 @@ module _ (entry : ℕ → ℕ) where
   ]
 
   pub as_map-empty : ((k : ℕ) → entry k ≡ 0) → as_map entry ≡ maps.empty
-  as_map-empty none = maps.same_map nat_cmp_total maps.nat_cmp-IsAntisymmetric _ _ (λ q. get-unbound q (none q) ∙ sym (maps.get-empty nat_cmp q))
+  as_map-empty none = same_maps _ _ (λ q. get-unbound q (none q) ∙ sym (maps.get-empty nat_cmp q))
 
 same_at : (entry after : ℕ → ℕ) (q : ℕ) → after q ≡ entry q → maps.get (as_map after) q ≡ maps.get (as_map entry) q
 same_at entry after q same = elim (cases_lt q (2 ^ 64)) [
@@ -80,30 +76,30 @@ same_at entry after q same = elim (cases_lt q (2 ^ 64)) [
 ]
 
 pub as_map-same : (entry after : ℕ → ℕ) → ((k : ℕ) → after k ≡ entry k) → as_map after ≡ as_map entry
-as_map-same entry after same = maps.same_map nat_cmp_total maps.nat_cmp-IsAntisymmetric _ _ (λ q. same_at entry after q (same q))
+as_map-same entry after same = same_maps _ _ (λ q. same_at entry after q (same q))
 
 -- a change of one entry
 module _ (entry after : ℕ → ℕ) (id value : ℕ) (fits : id < 2 ^ 64) (changes : (k : ℕ) → after k ≡ cond (eqb k id) value (entry k)) where
-  changed : (q : ℕ) → maps.get (as_map after) q ≡ cond (eq_by_cmp nat_cmp q id) (slot_from value) (maps.get (as_map entry) q)
+  changed : (q : ℕ) → maps.get (as_map after) q ≡ cond (eqb q id) (slot_from value) (maps.get (as_map entry) q)
   changed q = elim (cases_eq q id) [
     | inl is ↦
         get-as_map after q (omega arith)
         ∙ ap slot_from (changes q ∙ ap (λ b. cond b value (entry q)) (eq-eqb q id is))
-        ∙ ap (λ b. cond b (slot_from value) (maps.get (as_map entry) q)) (sym (tie_is q id ∙ eq-eqb q id is))
+        ∙ ap (λ b. cond b (slot_from value) (maps.get (as_map entry) q)) (sym (eq-eqb q id is))
     | inr apart ↦
         same_at entry after q (changes q ∙ ap (λ b. cond b value (entry q)) (ne_eqb q id apart))
-        ∙ ap (λ b. cond b (slot_from value) (maps.get (as_map entry) q)) (sym (tie_is q id ∙ ne_eqb q id apart))
+        ∙ ap (λ b. cond b (slot_from value) (maps.get (as_map entry) q)) (sym (ne_eqb q id apart))
   ]
 
   pub as_map-insert : (slot : ℕ) → value ≡ slot + 1 → as_map after ≡ maps.insert (as_map entry) id slot
-  as_map-insert slot is = maps.same_map nat_cmp_total maps.nat_cmp-IsAntisymmetric _ _ (λ q.
-      changed q ∙ ap (λ o. cond (eq_by_cmp nat_cmp q id) o (maps.get (as_map entry) q)) (some_slot (λ k. value) q slot is)
-      ∙ sym (maps.get-insert nat_cmp_total (as_map entry) id slot q))
+  as_map-insert slot is = same_maps _ _ (λ q.
+      changed q ∙ ap (λ o. cond (eqb q id) o (maps.get (as_map entry) q)) (some_slot (λ k. value) q slot is)
+      ∙ sym (get_insert (as_map entry) id slot q))
 
   pub as_map-remove : value ≡ 0 → as_map after ≡ maps.remove (as_map entry) id
-  as_map-remove is = maps.same_map nat_cmp_total maps.nat_cmp-IsAntisymmetric _ _ (λ q.
-      changed q ∙ ap (λ o. cond (eq_by_cmp nat_cmp q id) o (maps.get (as_map entry) q)) (ap slot_from is)
-      ∙ sym (maps.get-remove nat_cmp_total (as_map entry) id q))
+  as_map-remove is = same_maps _ _ (λ q.
+      changed q ∙ ap (λ o. cond (eqb q id) o (maps.get (as_map entry) q)) (ap slot_from is)
+      ∙ sym (get_remove (as_map entry) id q))
 
 -- ---- Pages of page numbers
 

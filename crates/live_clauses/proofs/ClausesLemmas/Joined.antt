@@ -1,23 +1,23 @@
 -- Identifiers, slots and clauses as one finite map.
-use Rattle.std.proofs.Common.{◌≡◌, ℕ, Bool, true, false, cond, eqb, eq-eqb, ne_eqb, Option, Some}
+use Rattle.std.proofs.Common.{◌≡◌, ℕ, Bool, true, false, cond, eqb, Option, Some}
 use Rattle.std.proofs.Common.{None, option_map, List, [], ◌∷◌, map, ◌+◌, ◌<◌, ◌≤◌, ◌≢◌, is_some}
 use Rattle.std.proofs.Common.{refl, sym, ap, ◌∙◌, subst, arith, nat_cmp, nat_eq, length, inl, inr}
 use Rattle.std.proofs.Common.{◌⊎◌}
 use Rattle.std.proofs.lemmas.Option.{same_Some, none-some}
-use Rattle.std.proofs.lemmas.Option.{}
 use Rattle.std.specs.Ordering.{eq_by_cmp}
 use Rattle.std.specs.Option.{unwrap_or, IsSome}
-use Rattle.std.specs.Cmp.{nat_cmp_total, unsigned_tied}
+use Rattle.std.specs.Cmp.{nat_cmp_total}
 use Rattle.std.specs.FinMap as maps
-use Rattle.std.specs.FinMap.{FinMap, find, get-entries, get-insert, get-remove, get-empty}
-use Rattle.std.specs.FinMap.{get-from_entries, same_map, nat_cmp-IsAntisymmetric}
+use Rattle.std.specs.FinMap.{FinMap, find, get-entries, get-empty, get-from_entries}
 use Rattle.std.proofs.lemmas.Bool.{cases_eq, false≢true}
 use Rattle.std.specs.Bool.{IsTrue}
 use Rattle.std.specs.List.{IsDistinct}
 use Rattle.cnf_base.specs.Literals.{Literal, Clause, has, same_clause, size}
 use Rattle.cnf_base.proofs.SetLemmas.{has_head, has_tail}
 use Rattle.clause_db.specs.Store.{copies_with, literals_in}
-use Rattle.clause_db.proofs.StoreLemmas.Sums.{same_maps, sum_insert, sum_remove, sum_empty}
+use Rattle.cnf_base.proofs.MapLemmas.{insert_here, insert_other, inserted_is, remove_here}
+use Rattle.cnf_base.proofs.MapLemmas.{remove_other, removed_back, same_maps, sum_empty, sum_insert}
+use Rattle.cnf_base.proofs.MapLemmas.{sum_remove}
 use Rattle.live_clauses.proofs.ClausesLemmas.Distinct.{distinct_head, distinct_tail}
 use Rattle.theory.specs.Propagation.{Live}
 use Rattle.theory.specs.Lrat.{with_clause, without_id, SameAt, SameClauses}
@@ -55,21 +55,6 @@ module _ (ids : FinMap nat_cmp ℕ) (store : FinMap nat_cmp Clause) (state : Liv
       sum_agree top (λ k. size_at (held_at ids store k)) (λ k. size_at (maps.get state.live k)) (λ k low high. ap size_at (sym (live_at k)))
       ∙ ap (λ t. sum_to t (λ k. size_at (maps.get state.live k))) e
 
--- ---- Finite maps at one key
-
-module _ {X : Type 0} (m : FinMap nat_cmp X) (k : ℕ) where
-  pub insert_here : (x : X) → maps.get (maps.insert m k x) k ≡ Some x
-  insert_here x = get-insert nat_cmp_total m k x k ∙ ap (λ b. cond b (Some x) (maps.get m k)) (unsigned_tied k k ∙ eq-eqb k k refl)
-
-  pub insert_other : (x : X) (q : ℕ) → q ≢ k → maps.get (maps.insert m k x) q ≡ maps.get m q
-  insert_other x q apart = get-insert nat_cmp_total m k x q ∙ ap (λ b. cond b (Some x) (maps.get m q)) (unsigned_tied q k ∙ ne_eqb q k apart)
-
-  pub remove_here : maps.get (maps.remove m k) k ≡ None
-  remove_here = get-remove nat_cmp_total m k k ∙ ap (λ b. cond b None (maps.get m k)) (unsigned_tied k k ∙ eq-eqb k k refl)
-
-  pub remove_other : (q : ℕ) → q ≢ k → maps.get (maps.remove m k) q ≡ maps.get m q
-  remove_other q apart = get-remove nat_cmp_total m k q ∙ ap (λ b. cond b None (maps.get m q)) (unsigned_tied q k ∙ ne_eqb q k apart)
-
 pub some_is_some : {X : Type 0} (o : Option X) (x : X) → o ≡ Some x → IsSome o
 some_is_some o x e = ap is_some e
 
@@ -94,17 +79,14 @@ module _ (ids : FinMap nat_cmp ℕ) (store after : FinMap nat_cmp Clause) (id sl
 
   -- a slot that was filled and freed again
   pub freed_is : maps.remove after slot ≡ store
-  freed_is = same_maps (maps.remove after slot) store (λ q. elim (cases_eq q slot) [
-    | inl e ↦ ap (maps.get (maps.remove after slot)) e ∙ remove_here after slot ∙ sym (ap (maps.get store) e ∙ free)
-    | inr apart ↦ remove_other after slot q apart ∙ others q apart
-  ])
+  freed_is = removed_back store after slot free others
 
   module _ (c : Clause) (stored : maps.get after slot ≡ Some c) (after_ids : FinMap nat_cmp ℕ) (bound : after_ids ≡ maps.insert ids id slot) where
     ids_here : maps.get after_ids id ≡ Some slot
-    ids_here = ap (λ m. maps.get m id) bound ∙ insert_here ids id slot
+    ids_here = ap (λ m. maps.get m id) bound ∙ insert_here ids id id slot refl
 
     ids_other : (k : ℕ) → k ≢ id → maps.get after_ids k ≡ maps.get ids k
-    ids_other k apart = ap (λ m. maps.get m k) bound ∙ insert_other ids id slot k apart
+    ids_other k apart = ap (λ m. maps.get m k) bound ∙ insert_other ids id k slot apart
 
     pub held_with : (k : ℕ) → held_at after_ids after k ≡ with_clause (held_at ids store) id c k
     held_with k = elim (cases_eq k id) [
@@ -143,10 +125,7 @@ module _ (ids : FinMap nat_cmp ℕ) (store after : FinMap nat_cmp Clause) (id sl
     }
 
     filled_is : after ≡ maps.insert store slot c
-    filled_is = same_maps after (maps.insert store slot c) (λ q. elim (cases_eq q slot) [
-      | inl e ↦ ap (maps.get after) e ∙ stored ∙ sym (ap (maps.get (maps.insert store slot c)) e ∙ insert_here store slot c)
-      | inr apart ↦ others q apart ∙ sym (insert_other store slot c q apart)
-    ])
+    filled_is = inserted_is store after slot c stored others
 
     pub tally_with : (top : ℕ) → IsTally (held_at ids store) top (literals_in store) → top < id → IsTally (held_at after_ids after) id (literals_in after)
     tally_with top tally above =
@@ -172,7 +151,7 @@ not_bound ids store k h = by_slot (maps.get ids k) h
 
 module _ (ids after_ids : FinMap nat_cmp ℕ) (store : FinMap nat_cmp Clause) (id : ℕ) (paired : IsPaired ids store) (unbound : after_ids ≡ maps.remove ids id) where
   gone_here : maps.get after_ids id ≡ None
-  gone_here = ap (λ m. maps.get m id) unbound ∙ remove_here ids id
+  gone_here = ap (λ m. maps.get m id) unbound ∙ remove_here ids id id refl
 
   gone_other : (k : ℕ) → k ≢ id → maps.get after_ids k ≡ maps.get ids k
   gone_other k apart = ap (λ m. maps.get m k) unbound ∙ remove_other ids id k apart
@@ -229,7 +208,7 @@ module _ (ids after_ids : FinMap nat_cmp ℕ) (store : FinMap nat_cmp Clause) (i
       filled = λ k s at. let was = still_bound k s at in subst IsSome (sym (kept_slot k s was.0 was.1)) (paired.filled k s was.1);
       own = λ j k s first second. paired.own j k s (still_bound j s first).1 (still_bound k s second).1;
       used = λ s some. elim (cases_eq s slot) [
-        | inl e ↦ absurd (none_is_not_some (maps.get after s) (ap (λ m. maps.get m s) freed ∙ ap (maps.get (maps.remove store slot)) e ∙ remove_here store slot) some)
+        | inl e ↦ absurd (none_is_not_some (maps.get after s) (ap (λ m. maps.get m s) freed ∙ ap (maps.get (maps.remove store slot)) e ∙ remove_here store slot slot refl) some)
         | inr apart ↦
             let was = paired.used s (subst IsSome (ap (λ m. maps.get m s) freed ∙ remove_other store slot s apart) some) in
             let other : was.0 ≢ id = λ e. apart (same_Some s slot (sym was.1 ∙ ap (maps.get ids) e ∙ bound)) in
@@ -406,4 +385,4 @@ module _ (ids : FinMap nat_cmp ℕ) (store : FinMap nat_cmp Clause) (no_ids : id
   )
 
   pub start_view : joined ids store ≡ maps.empty
-  start_view = same_map nat_cmp_total nat_cmp-IsAntisymmetric (joined ids store) maps.empty (λ k. joined_is ids store k ∙ ap (option_map (clause_at store)) (none_bound k) ∙ sym (get-empty nat_cmp k))
+  start_view = same_maps (joined ids store) maps.empty (λ k. joined_is ids store k ∙ ap (option_map (clause_at store)) (none_bound k) ∙ sym (get-empty nat_cmp k))

@@ -11,7 +11,7 @@ use Rattle.std.specs.FinMap as maps
 use Rattle.std.specs.FinMap.{FinMap}
 use Rattle.cnf_base.specs.Literals.{Clause, size}
 use Rattle.clause_db.specs.Store.{StoreState, literals_in, no_clauses}
-use Rattle.clause_db.proofs.StoreLemmas.Sums.{sum_empty, sum_remove}
+use Rattle.cnf_base.proofs.MapLemmas.{sum_empty, sum_remove}
 use Rattle.live_clauses.specs.Code.LiveClauses.{IsPaired}
 use Rattle.live_clauses.proofs.ClausesLemmas.Joined.{freed_is}
 

@@ -1,7 +1,6 @@
 -- The identifiers that are noted for slots, through a change.
 use Rattle.std.proofs.Common.{◌≡◌, ◌≢◌, ℕ, ◌<◌, ◌+◌, true, cond, eqb, eq-eqb, ne_eqb, Some, List}
-use Rattle.std.proofs.Common.{None}
-use Rattle.std.proofs.Common.{◌≤◌, slice_index, sym, ap, ◌∙◌, arith, inl, inr}
+use Rattle.std.proofs.Common.{None, ◌≤◌, slice_index, refl, sym, ap, ◌∙◌, arith, inl, inr}
 use Rattle.std.specs.Ordering.{nat_cmp}
 use Rattle.std.specs.FinMap as maps
 use Rattle.std.specs.FinMap.{FinMap}
@@ -12,7 +11,7 @@ use Rattle.std.proofs.lemmas.Bool.{cases_eq, cases_lt}
 use Rattle.std.proofs.lemmas.Option.{same_Some, none-some}
 use Rattle.live_clauses.specs.Code.LiveClauses.{owner_at, AreNoted, AreOwners}
 use Rattle.live_clauses.specs.declared.owners.Owners.{Owners}
-use Rattle.live_clauses.proofs.ClausesLemmas.Joined.{insert_here, insert_other}
+use Rattle.cnf_base.proofs.MapLemmas.{insert_here, insert_other}
 
 -- one more identifier at a slot that is free
 module _ (owners after : Owners) (ids after_ids : FinMap nat_cmp ℕ) (id slot : ℕ) (free : (k s : ℕ) → maps.get ids k ≡ Some s → s ≢ slot)
@@ -23,9 +22,9 @@ module _ (owners after : Owners) (ids after_ids : FinMap nat_cmp ℕ) (id slot :
   pub owners_bound : {X Y : Type 0} (result : Result X Y) → OnOk result (after_ids ≡ maps.insert ids id slot) → OnErr result (after_ids ≡ ids) → AreOwners owners ids → AreOwners after after_ids
   owners_bound (Ok x) bound same are is k s at = elim (cases_eq k id) [
     | inl e ↦
-        let here : s ≡ slot = same_Some s slot (sym at ∙ ap (maps.get after_ids) e ∙ ap (λ m. maps.get m id) bound ∙ insert_here ids id slot) in
+        let here : s ≡ slot = same_Some s slot (sym at ∙ ap (maps.get after_ids) e ∙ ap (λ m. maps.get m id) bound ∙ insert_here ids id id slot refl) in
         noted is s ∙ ap (λ b. cond b id (owner_at owners s)) (eq-eqb s slot here) ∙ sym e
-    | inr apart ↦ owner_stays are is k s (sym (ap (λ m. maps.get m k) bound ∙ insert_other ids id slot k apart) ∙ at)
+    | inr apart ↦ owner_stays are is k s (sym (ap (λ m. maps.get m k) bound ∙ insert_other ids id k slot apart) ∙ at)
   ]
   owners_bound (Err y) bound same are is k s at = owner_stays are is k s (sym (ap (λ m. maps.get m k) same) ∙ at)
 

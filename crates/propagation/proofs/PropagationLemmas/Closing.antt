@@ -7,16 +7,16 @@ use Rattle.std.specs.Ordering.{nat_cmp}
 use Rattle.std.specs.FinMap as maps
 use Rattle.std.specs.FinMap.{FinMap}
 use Rattle.std.proofs.lemmas.Bool.{false≢true, true≢false, cases_Bool, cases_eq, or_cases, or_left}
-use Rattle.std.proofs.lemmas.Bool.{and_parts, false_from_ne_true}
+use Rattle.std.proofs.lemmas.Bool.{and_parts}
 use Rattle.std.proofs.lemmas.List.{take-take, take_all}
-use Rattle.std.proofs.lemmas.Option.{none-some, same_Some}
+use Rattle.std.proofs.lemmas.Option.{same_Some}
 use Rattle.std.proofs.lemmas.Result.{on_ok_weaker}
 use Rattle.cnf_base.specs.Literals.{Literal, complement, Clause, has}
 use Rattle.cnf_base.proofs.LiteralLemmas.{complement-complement}
 use Rattle.cnf_base.proofs.SetLemmas.{has_append_right, has_append_cases}
 use Rattle.cnf_base.proofs.SetLemmas.{has_cases, has_head}
 use Rattle.cnf_base.proofs.WalkLemmas.{has_more, has_take}
-use Rattle.clause_db.proofs.StoreLemmas.Sums.{get_remove}
+use Rattle.cnf_base.proofs.MapLemmas.{after_remove, remove_other}
 use Rattle.clause_db.specs.Store.{IsTouchedAt}
 use Rattle.propagation.specs.Closure.{IsClosure, IsWhole}
 use Rattle.propagation.specs.Code.Closure.{AreForced, FollowsFrom, IsFollowed, TakesIn}
@@ -199,18 +199,8 @@ whole_kept live true lits o is known whole = subst (IsClosure live) is whole
 whole_kept live false lits o is known whole = absurd (false≢true known)
 
 module _ (live : FinMap nat_cmp Clause) (slot : ℕ) where
-  still_there : (k : ℕ) (c : Clause) → maps.get (maps.remove live slot) k ≡ Some c → maps.get live k ≡ Some c
-  still_there k c at = by_test (eqb k slot) (sym (get_remove live slot k) ∙ at)
-    where
-      by_test : (b : Bool) → cond b None (maps.get live k) ≡ Some c → maps.get live k ≡ Some c
-      by_test true e = absurd (none-some c e)
-      by_test false e = e
-
-  not_removed : (k : ℕ) → k ≢ slot → maps.get (maps.remove live slot) k ≡ maps.get live k
-  not_removed k ne = get_remove live slot k ∙ ap (λ b. cond b None (maps.get live k)) (false_from_ne_true (eqb k slot) (λ e. ne (eqb-true k slot e)))
-
   fewer_closed : (passes : Literal → Bool) → IsClosed (maps.get live) passes → IsClosed (maps.get (maps.remove live slot)) passes
-  fewer_closed passes closed = record { unit = λ k c at. closed.unit k c (still_there k c at) }
+  fewer_closed passes closed = record { unit = λ k c at. closed.unit k c (after_remove live slot k c at) }
 
   forced_grows : (l : Literal) → Forced (maps.get (maps.remove live slot)) [] l → Forced (maps.get live) [] l
   forced_grows l forced = record { in_each = λ passes closed start. forced.in_each passes (fewer_closed passes closed) start }
@@ -232,7 +222,7 @@ module _ (live : FinMap nat_cmp Clause) (slot : ℕ) where
                   takes m (ap (λ x. has x m) (sym same) ∙ member) (λ l h ne. known l (ap (λ x. has x l) same ∙ h) ne)
               | inr ne ↦
                   has_begun lits next m begins
-                  (whole.all m (forced_unit (maps.get (maps.remove live slot)) [] k d (not_removed k ne ∙ here) m member (λ l h apart. whole.sound (complement l) (known l h apart))))
+                  (whole.all m (forced_unit (maps.get (maps.remove live slot)) [] k d (remove_other live slot k ne ∙ here) m member (λ l h apart. whole.sound (complement l) (known l h apart))))
             ];
       }
 
@@ -252,7 +242,7 @@ module _ (live : FinMap nat_cmp Clause) (slot : ℕ) where
                     forced = whole.sound m follows;
                     others = λ l h ne. whole.sound (complement l) (known l (ap (λ x. has x l) same ∙ h) ne).0;
                   }))
-              | inr ne ↦ ap (λ b. b && passes m) follows ∙ closed.unit k d (not_removed k ne ∙ here) m member (λ l h apart. (known l h apart).1)
+              | inr ne ↦ ap (λ b. b && passes m) follows ∙ closed.unit k d (remove_other live slot k ne ∙ here) m member (λ l h apart. (known l h apart).1)
             ];
       }
 

@@ -13,7 +13,7 @@ use Rattle.std.proofs.lemmas.Option.{none-some}
 use Rattle.cnf_base.specs.Literals.{Literal, Clause, has}
 use Rattle.propagation.specs.Assumptions.{HasAt}
 use Rattle.clause_db.specs.Store.{copies_with}
-use Rattle.clause_db.proofs.StoreLemmas.Sums.{sum_remove}
+use Rattle.cnf_base.proofs.MapLemmas.{sum_remove}
 
 -- ---- One that is there is counted
 

@@ -26,7 +26,7 @@ use Rattle.propagation.proofs.PropagationLemmas.Exact.{answer_through, exact_not
 use Rattle.propagation.proofs.PropagationLemmas.Exact.{nothing_true, sound_before, start_before}
 use Rattle.propagation.proofs.PropagationLemmas.Exact.{conflict_clashes, answer_from, exact_after}
 use Rattle.theory.proofs.PropagationLemmas.Forced.{forced_assumed}
-use Rattle.clause_db.proofs.StoreLemmas.Sums.{get_remove, sum_empty}
+use Rattle.cnf_base.proofs.MapLemmas.{get_remove, sum_empty}
 
 pub scan_empty : (live : FinMap nat_cmp Clause) (held : AssumptionsState) → live ≡ maps.empty → held.trail.lits ≡ [] → held.assumptions ≡ [] → IsScan live held
 scan_empty live held none unset nothing = record {

@@ -21,7 +21,7 @@ use Rattle.root_literals.specs.declared.roots.Kept.TheVariants.{Clash as KeptCla
 use Rattle.root_literals.specs.declared.roots.Roots.{Roots}
 use Rattle.trail.specs.Trail.{HasNoVariableTwice}
 use Rattle.root_literals.proofs.RootLemmas.Order.{get_ordered, has-in_order, seen_there}
-use Rattle.clause_db.proofs.StoreLemmas.Sums.{get_remove}
+use Rattle.cnf_base.proofs.MapLemmas.{remove_here, remove_other}
 use Rattle.cnf_base.proofs.SetLemmas.{has_head}
 use Rattle.root_literals.proofs.RootLemmas.History.{history_among, history_cut, history_none}
 use Rattle.root_literals.proofs.RootLemmas.History.{watched_cut, watched_none}
@@ -160,10 +160,10 @@ kept_nothing live roots lits noted cut unseen none = record {
 
 module _ (live : FinMap nat_cmp Clause) (slot : ℕ) where
   pub elsewhere : (s : ℕ) → s ≢ slot → maps.get (maps.remove live slot) s ≡ maps.get live s
-  elsewhere s ne = get_remove live slot s ∙ ap (λ b. cond b None (maps.get live s)) (ne_eqb s slot ne)
+  elsewhere s ne = remove_other live slot s ne
 
   pub gone : (s : ℕ) → s ≡ slot → maps.get (maps.remove live slot) s ≡ None
-  gone s e = get_remove live slot s ∙ ap (λ b. cond b None (maps.get live s)) (eq-eqb s slot e)
+  gone s e = remove_here live slot s e
 
   pub was_there : (s : ℕ) (d : Clause) → maps.get (maps.remove live slot) s ≡ Some d → maps.get live s ≡ Some d
   was_there s d is = elim (cases_eq s slot) [

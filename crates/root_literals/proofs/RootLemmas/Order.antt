@@ -1,5 +1,5 @@
 -- Clauses in order are the same sets.
-use Rattle.std.proofs.Common.{◌≡◌, ◌≢◌, ℕ, ◌+◌, Bool, true, false, cond, eqb, eqb-true, eq-eqb}
+use Rattle.std.proofs.Common.{◌≡◌, ◌≢◌, ℕ, ◌+◌, Bool, true, false, cond, eqb, eqb-true}
 use Rattle.std.proofs.Common.{filter, ◌&&◌, ◌||◌, T, Option, Some, None, option_map, is_some, List}
 use Rattle.std.proofs.Common.{[], ◌∷◌, length, map, sum_by, refl, sym, ap, ◌∙◌, subst, arith}
 use Rattle.std.specs.Ordering.{nat_cmp, is_lt, eq_by_cmp}
@@ -19,13 +19,14 @@ use Rattle.cnf_base.proofs.LiteralLemmas.{complement-complement}
 use Rattle.cnf_base.proofs.SetLemmas.{both_pass, complements_has, filter_has, has-complements}
 use Rattle.cnf_base.proofs.SetLemmas.{has-filter, same_from}
 use Rattle.propagation.specs.Assumptions.{HasAt}
-use Rattle.clause_db.specs.Store.{IsTouchedAt, sum_over, literals_in, copies_with}
+use Rattle.clause_db.specs.Store.{IsTouchedAt, literals_in, copies_with}
+use Rattle.cnf_base.specs.Maps.{sum_over}
 use Rattle.root_literals.specs.Order.{set_of, in_order, each_in_order}
 use Rattle.cnf_base.proofs.SizeLemmas.{size_same}
-use Rattle.clause_db.proofs.StoreLemmas.Sums.{get_insert, get_remove, same_maps}
+use Rattle.cnf_base.proofs.MapLemmas.{get_insert, get_remove, inserted_is, same_maps}
 
-tie_is : (k q : ℕ) → eq_by_cmp nat_cmp k q ≡ eqb q k
-tie_is k q = grind (arith, nat_tests)
+tie_back : (k q : ℕ) → eq_by_cmp nat_cmp k q ≡ eqb q k
+tie_back k q = grind (arith, nat_tests)
 
 -- ---- One clause
 
@@ -33,7 +34,7 @@ in_set : (c : Clause) (l : Literal) → is_some (maps.get (set_of c) l) ≡ has 
 in_set [] l = ap is_some (maps.get-empty nat_cmp l)
 in_set (k ∷ c) l =
     ap is_some (maps.get-insert nat_cmp_total (set_of c) k tt l)
-    ∙ by_test (eq_by_cmp nat_cmp l k) (eqb k l) (tie_is l k) (maps.get (set_of c) l) (in_set c l)
+    ∙ by_test (eq_by_cmp nat_cmp l k) (eqb k l) (tie_back l k) (maps.get (set_of c) l) (in_set c l)
   where
     by_test : (a b : Bool) → a ≡ b → (o : Option Unit) → is_some o ≡ has c l → is_some (cond a (Some tt) o) ≡ (b || has c l)
     by_test true true e o f = refl
@@ -44,7 +45,7 @@ in_set (k ∷ c) l =
 -- the same literals
 pub has-in_order : (c : Clause) (l : Literal) → has (in_order c) l ≡ has c l
 has-in_order c l =
-    ap (λ p. list_any p (in_order c)) (λ i k. sym (tie_is l k) i) ∙ sym (maps.contains_key-keys (set_of c) l) ∙ in_set c l
+    ap (λ p. list_any p (in_order c)) (λ i k. sym (tie_back l k) i) ∙ sym (maps.contains_key-keys (set_of c) l) ∙ in_set c l
 
 pub same-in_order : (c : Clause) → same_clause (in_order c) c ≡ true
 same-in_order c = same_from (in_order c) c (λ l h. sym (has-in_order c l) ∙ h) (λ l h. has-in_order c l ∙ h)
@@ -68,7 +69,7 @@ length-in_order c = length-map (maps.entries (set_of c)) (λ e. e.0) ∙ sym (ma
 
 -- clauses with the same literals are shown alike
 pub alike_in_order : (c d : Clause) → ((l : Literal) → has c l ≡ has d l) → in_order c ≡ in_order d
-alike_in_order c d alike = ap maps.keys (maps.same_map nat_cmp_total maps.nat_cmp-IsAntisymmetric (set_of c) (set_of d) (λ l. one_value _ _ (in_set c l ∙ alike l ∙ sym (in_set d l))))
+alike_in_order c d alike = ap maps.keys (same_maps (set_of c) (set_of d) (λ l. one_value _ _ (in_set c l ∙ alike l ∙ sym (in_set d l))))
   where
     one_value : (o p : Option Unit) → is_some o ≡ is_some p → o ≡ p
     one_value None None e = refl
@@ -201,24 +202,9 @@ touched_seen live lits s h = record { clause = in_order h.clause; at = seen_ther
 pub seen_touched : (live : FinMap nat_cmp Clause) (lits : List Literal) (s : ℕ) → IsTouchedAt (each_in_order live) lits s → IsTouchedAt live lits s
 seen_touched live lits s h = let w = there_seen live s h.clause h.at in record { clause = w.0; at = w.1; touched = sym (ap (touches lits) (λ i l. w.2 l i)) ∙ h.touched }
 
--- a clause in a slot that was free, and is free again
-pub inserted_is : (live after : FinMap nat_cmp Clause) (slot : ℕ) (c : Clause) → maps.get after slot ≡ Some c → ((s : ℕ) → s ≢ slot → maps.get after s ≡ maps.get live s) → after ≡ maps.insert live slot c
-inserted_is live after slot c here others = same_maps _ _ (λ s. by_test s (eqb s slot) refl ∙ sym (get_insert live slot c s))
-  where
-    by_test : (s : ℕ) (b : Bool) → eqb s slot ≡ b → maps.get after s ≡ cond b (Some c) (maps.get live s)
-    by_test s true e = ap (maps.get after) (eqb-true s slot e) ∙ here
-    by_test s false e = others s (λ same. true≢false (sym (eq-eqb s slot same) ∙ e))
-
 -- the literals of the clause in a slot were put in another order
 pub ordered_alike : (live after : FinMap nat_cmp Clause) (slot : ℕ) (c d : Clause) → maps.get live slot ≡ Some c → maps.get after slot ≡ Some d → ((l : Literal) → has d l ≡ has c l) → ((s : ℕ) → s ≢ slot → maps.get after s ≡ maps.get live s) → each_in_order after ≡ each_in_order live
 ordered_alike live after slot c d here there alike others = ap each_in_order (inserted_is live after slot d there others) ∙ ordered_same live slot c d here alike
-
-pub removed_back : (live after : FinMap nat_cmp Clause) (slot : ℕ) → maps.get live slot ≡ None → ((s : ℕ) → s ≢ slot → maps.get after s ≡ maps.get live s) → maps.remove after slot ≡ live
-removed_back live after slot free others = same_maps _ _ (λ s. get_remove after slot s ∙ by_test s (eqb s slot) refl)
-  where
-    by_test : (s : ℕ) (b : Bool) → eqb s slot ≡ b → cond b None (maps.get after s) ≡ maps.get live s
-    by_test s true e = sym free ∙ ap (maps.get live) (sym (eqb-true s slot e))
-    by_test s false e = others s (λ same. true≢false (sym (eq-eqb s slot same) ∙ e))
 
 -- ---- Parts
 

@@ -12,7 +12,7 @@ use Rattle.std.proofs.lemmas.Bool.{cases_Bool, false_from_ne_true}
 use Rattle.cnf_base.specs.Literals.{Literal, Clause, same_clause}
 use Rattle.theory.specs.Propagation.{Clash, HasRat, HasPr, IsRootReason}
 use Rattle.theory.specs.Drat.{take_off, copies_of, SameLive}
-use Rattle.clause_db.proofs.StoreLemmas.Sums.{sum_insert, sum_remove}
+use Rattle.cnf_base.proofs.MapLemmas.{sum_insert, sum_remove}
 use Rattle.cnf_base.proofs.SetLemmas.{both_pass, same_itself, same_symm, same_trans}
 use Rattle.propagation.proofs.PropagationLemmas.Counts.{below_found, both, tied}
 use Rattle.theory.proofs.PropagationLemmas.Covers.{Covers, clash_covers, reason_covers}

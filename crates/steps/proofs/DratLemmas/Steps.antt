@@ -1,13 +1,12 @@
 -- The answers to a DRAT step, from what propagation over the slots says.
 use Rattle.std.proofs.Common.{◌≡◌, ◌≢◌, ℕ, Bool, true, false, cond, Some, None, Ok, Err, List, []}
 use Rattle.std.proofs.Common.{◌∷◌, ◌++◌, slice_get, ◌+◌, refl, sym, ap, ◌∙◌, subst, inl, inr}
-use Rattle.std.proofs.Common.{eq-eqb, ◌||◌, ◌⊎◌}
+use Rattle.std.proofs.Common.{◌||◌, ◌⊎◌}
 use Rattle.std.specs.List.{list_any}
-use Rattle.std.specs.Ordering.{nat_cmp, eq_by_cmp}
+use Rattle.std.specs.Ordering.{nat_cmp}
 use Rattle.std.specs.FinMap as maps
-use Rattle.std.specs.FinMap.{FinMap, get-insert, same_map, nat_cmp-IsAntisymmetric}
-use Rattle.std.specs.Cmp.{nat_cmp_total, unsigned_tied}
-use Rattle.std.proofs.lemmas.Bool.{false_from_ne_true, or_cases, true≢false}
+use Rattle.std.specs.FinMap.{FinMap}
+use Rattle.std.proofs.lemmas.Bool.{false_from_ne_true, or_cases}
 use Rattle.std.proofs.lemmas.List.{map-append}
 use Rattle.std.proofs.lemmas.List.Folds.{list_any_at}
 use Rattle.std.proofs.lemmas.Option.{slice_get_within, get_or_from_slice_get, none-some}
@@ -15,6 +14,7 @@ use Rattle.cnf_base.specs.Literals.{Literal, Clause, complement, complements, ha
 use Rattle.cnf_base.specs.Literals.{same_clause}
 use Rattle.cnf_base.proofs.SetLemmas.{has_append_left, has_append_right, has_append_cases, has_head}
 use Rattle.cnf_base.proofs.SetLemmas.{both_pass, same_symm, same_trans}
+use Rattle.cnf_base.proofs.MapLemmas.{inserted_is}
 use Rattle.theory.specs.Sets.{SameSet}
 use Rattle.theory.specs.declared.accepted.Accepted.{Accepted}
 use Rattle.theory.specs.declared.accepted.Accepted.TheVariants.{Rat, Deleted, Ignored}
@@ -28,7 +28,6 @@ use Rattle.theory.specs.Drat.{AnswersAdd, AnswersDelete, take_off, copies_of, Sa
 use Rattle.theory.proofs.PropagationLemmas.Forced.{forced_assumed, clash_through}
 use Rattle.theory.proofs.DratLemmas.Copies.{copies-cons, alive_at}
 use Rattle.steps.proofs.LratLemmas.Starts.{first_is}
-use Rattle.propagation.proofs.PropagationLemmas.Counts.{tied}
 use Rattle.steps.proofs.DratLemmas.Slots.{slots-insert, slots-remove, slots-clash, slots-rat}
 use Rattle.steps.proofs.DratLemmas.Slots.{slots_covered, covered_by_slots, slots-reason}
 use Rattle.steps.proofs.DratLemmas.Slots.{reason-slots}
@@ -114,11 +113,7 @@ no_clash first second c assumed is none same rup =
 module _ (old new : FinMap nat_cmp Clause) (slot : ℕ) (c lits : Clause) (free : maps.get old slot ≡ None) (at : maps.get new slot ≡ Some c) (same : same_clause c lits ≡ true)
     (others : (s : ℕ) → s ≢ slot → maps.get new s ≡ maps.get old s) where
   is_insert : new ≡ maps.insert old slot c
-  is_insert = same_map nat_cmp_total nat_cmp-IsAntisymmetric new (maps.insert old slot c) (λ q. by_test q (eq_by_cmp nat_cmp q slot) refl ∙ sym (get-insert nat_cmp_total old slot c q))
-    where
-      by_test : (q : ℕ) (b : Bool) → eq_by_cmp nat_cmp q slot ≡ b → maps.get new q ≡ cond b (Some c) (maps.get old q)
-      by_test q true e = subst (λ s. maps.get new s ≡ Some c) (sym (tied q e)) at
-      by_test q false e = others q (λ is. absurd (true≢false (sym (unsigned_tied q slot ∙ eq-eqb q slot is) ∙ e)))
+  is_insert = inserted_is old new slot c at others
 
   -- a clause in a slot that was free is one copy more
   pub one_more : SameLive (maps.values new) (lits ∷ maps.values old)

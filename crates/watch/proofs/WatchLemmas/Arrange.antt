@@ -1,5 +1,5 @@
 -- Clauses whose literals that are not false are brought to the front.
-use Rattle.std.proofs.Common.{◌≡◌, ℕ, ◌<◌, ◌≤◌, true, false, eq-eqb, cond, Some, List, [], ◌∷◌}
+use Rattle.std.proofs.Common.{◌≡◌, ℕ, ◌<◌, ◌≤◌, true, false, Some, List, [], ◌∷◌}
 use Rattle.std.proofs.Common.{length, get_or, set, swap, refl, sym, ap, ◌∙◌, subst, arith, inl, inr}
 use Rattle.std.specs.Ordering.{nat_cmp}
 use Rattle.std.specs.FinMap as maps
@@ -12,7 +12,7 @@ use Rattle.cnf_base.specs.Literals.{Literal, complement, Clause, has}
 use Rattle.root_literals.specs.Roots.{IsArranged, IsBrought}
 use Rattle.trail.specs.declared.left.Left.TheVariants.{Nothing, One, More}
 use Rattle.cnf_base.proofs.MemberLemmas.{has_place, place_of}
-use Rattle.clause_db.proofs.StoreLemmas.Sums.{get_insert}
+use Rattle.cnf_base.proofs.MapLemmas.{insert_here}
 use Rattle.clause_db.proofs.StoreLemmas.Swap.{has_swapped}
 
 swap_first : (c : Clause) (i j : ℕ) → i ≤ j → j < length c → get_or (swap c i j) i 0 ≡ get_or c j 0
@@ -43,7 +43,7 @@ module _ (live : FinMap nat_cmp Clause) (slot : ℕ) (trues : List Literal) (pla
   brought after found low inside is_open is d there =
       let same = same_Some c d (sym here ∙ there) in (
         swap c place found,
-        ap (λ m. maps.get m slot) is ∙ get_insert live slot (swap c place found) slot ∙ ap (λ b. cond b (Some (swap c place found)) (maps.get live slot)) (eq-eqb slot slot refl),
+        ap (λ m. maps.get m slot) is ∙ insert_here live slot slot (swap c place found) refl,
         subst (λ x. IsBrought trues x (swap c place found) place true) same
             (record {
               alike = has_swapped c (swap c place found) place found (omega (arith, low, inside)) inside refl;

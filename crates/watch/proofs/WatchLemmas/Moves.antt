@@ -23,7 +23,7 @@ use Rattle.watch_lists.proofs.WatchListsLemmas.Lists.{entry_fits, eqb_turned, un
 use Rattle.watch_lists.proofs.WatchListsLemmas.Lists.{unfit_none, unfit_pushed}
 use Rattle.watch_lists.specs.declared.watcher.Watcher.{Watcher}
 use Rattle.cnf_base.proofs.SizeLemmas.{distinct_parts, distinct_before}
-use Rattle.clause_db.proofs.StoreLemmas.Sums.{get_insert, same_maps}
+use Rattle.cnf_base.proofs.MapLemmas.{insert_here, insert_other, insert_same, insert_twice}
 
 -- three literals, two of which differ from the third
 one_moved : (a b m x : Literal) → a ≢ b → m ≢ b → cond (eqb m x || eqb b x) 1 0 + cond {A = ℕ} (eqb x a) 1 0 ≡ cond (eqb a x || eqb b x) 1 0 + cond {A = ℕ} (eqb x m) 1 0
@@ -170,9 +170,6 @@ module _ (lists after : Literal → List Watcher) (l m : ℕ) (w : Watcher) (oth
         ])
   ]
 
-pub others_moved : (live : FinMap nat_cmp Clause) (slot : ℕ) (d : Clause) (s : ℕ) → s ≢ slot → maps.get (maps.insert live slot d) s ≡ maps.get live s
-others_moved live slot d s ne = get_insert live slot d s ∙ ap (λ b. cond b (Some d) (maps.get live s)) (ne_eqb s slot ne)
-
 -- two literals that were exchanged twice
 pub swap_back : (c : Clause) (a b : ℕ) → a < b → b < length c → swap (swap c a b) b a ≡ c
 swap_back c a b low inside =
@@ -188,32 +185,21 @@ swap_back c a b low inside =
       ]
     ])
 
-pub at_inserted : (live : FinMap nat_cmp Clause) (slot : ℕ) (d : Clause) → maps.get (maps.insert live slot d) slot ≡ Some d
-at_inserted live slot d = get_insert live slot d slot ∙ ap (λ b. cond b (Some d) (maps.get live slot)) (eq-eqb slot slot refl)
-
--- a clause that is put back
-pub put_back : (live : FinMap nat_cmp Clause) (slot : ℕ) (c d : Clause) → maps.get live slot ≡ Some c → maps.insert (maps.insert live slot d) slot c ≡ live
-put_back live slot c d here = same_maps (maps.insert (maps.insert live slot d) slot c) live (λ q. elim (cases_eq q slot) [
-  | inl e ↦
-      get_insert (maps.insert live slot d) slot c q ∙ ap (λ b. cond b (Some c) (maps.get (maps.insert live slot d) q)) (eq-eqb q slot e) ∙ sym (ap (maps.get live) e ∙ here)
-  | inr ne ↦ others_moved (maps.insert live slot d) slot c q ne ∙ others_moved live slot d q ne
-])
-
 -- literals of a clause that are exchanged, and back
 pub exchanged_back : (live after back : FinMap nat_cmp Clause) (slot from to : ℕ) (c : Clause) → maps.get live slot ≡ Some c → from < 2 → 2 ≤ to → to < length c →
     after ≡ maps.insert live slot (swap c from to) → ((d : Clause) → maps.get after slot ≡ Some d → back ≡ maps.insert after slot (swap d to from)) → back ≡ live
 exchanged_back live after back slot from to c here low past inside moved again =
     let d = swap c from to in
-    again d (ap (λ m. maps.get m slot) moved ∙ at_inserted live slot d) ∙ ap (λ m. maps.insert m slot (swap d to from)) moved
-    ∙ ap (maps.insert (maps.insert live slot d) slot) (swap_back c from to (omega (arith, low, past)) inside) ∙ put_back live slot c d here
+    again d (ap (λ m. maps.get m slot) moved ∙ insert_here live slot slot d refl) ∙ ap (λ m. maps.insert m slot (swap d to from)) moved
+    ∙ ap (maps.insert (maps.insert live slot d) slot) (swap_back c from to (omega (arith, low, past)) inside) ∙ insert_twice live slot d c ∙ insert_same live slot c here
 
 module _ (live : FinMap nat_cmp Clause) (slot : ℕ) (c d : Clause) (here : maps.get live slot ≡ Some c) (l m : Literal)
     (entries : (x : Literal) → cond (watches d x) 1 0 + cond {A = ℕ} (eqb x l) 1 0 ≡ cond (watches c x) 1 0 + cond {A = ℕ} (eqb x m) 1 0) where
   at_slot : maps.get (maps.insert live slot d) slot ≡ Some d
-  at_slot = at_inserted live slot d
+  at_slot = insert_here live slot slot d refl
 
   at_others : (s : ℕ) → s ≢ slot → maps.get (maps.insert live slot d) s ≡ maps.get live s
-  at_others = others_moved live slot d
+  at_others s ne = insert_other live slot s d ne
 
   pub listed_moved : (lists after : Literal → List Watcher) → IsListed (maps.get live) lists →
       ((x s : ℕ) → entries_of s (after x) + cond (eqb x l && eqb s slot) 1 0 ≡ entries_of s (lists x) + cond (eqb x m && eqb s slot) 1 0) → ((k : Literal) → has d k ≡ has c k) → length d ≡ length c →

@@ -44,8 +44,8 @@ use Rattle.root_literals.proofs.RootLemmas.Kept.{kept_nothing}
 use Rattle.watch.proofs.WatchLemmas.Moves.{and_false, and_true}
 use Rattle.root_literals.proofs.RootLemmas.Order.{length-in_order, ordered_empty, size-in_order, sum_ordered}
 use Rattle.root_literals.proofs.RootLemmas.Reasons.{reasoned_same, reasoned_some}
-use Rattle.clause_db.proofs.StoreLemmas.Sums.{get_insert, get_remove, sum_insert, sum_remove}
-use Rattle.clause_db.proofs.StoreLemmas.Sums.{sum_alike, sum_empty}
+use Rattle.cnf_base.proofs.MapLemmas.{insert_here, insert_other, remove_here, remove_other}
+use Rattle.cnf_base.proofs.MapLemmas.{sum_alike, sum_empty, sum_insert, sum_remove}
 
 -- ---- Numbers
 
@@ -337,10 +337,10 @@ module _ (live after : FinMap nat_cmp Clause) (lists lists2 : WatchLists) (short
       }) (record { listed = λ s. short_times s ∙ added short_for refl (is_short c) refl s (times_in s short) (watch.rest.listed s) })
     where
       others : (s : ℕ) → s ≢ slot → maps.get after s ≡ maps.get live s
-      others s ne = ap (λ m. maps.get m s) is ∙ get_insert live slot c s ∙ ap (λ b. cond b (Some c) (maps.get live s)) (ne_eqb s slot ne)
+      others s ne = ap (λ m. maps.get m s) is ∙ insert_other live slot s c ne
 
       here : (s : ℕ) → s ≡ slot → maps.get after s ≡ Some c
-      here s e = ap (λ m. maps.get m s) is ∙ get_insert live slot c s ∙ ap (λ b. cond b (Some c) (maps.get live s)) (eq-eqb s slot e)
+      here s e = ap (λ m. maps.get m s) is ∙ insert_here live slot s c e
 
       added : (f : Option Clause → ℕ) → f None ≡ 0 → (b : Bool) → f (Some c) ≡ cond b 1 0 → (s n : ℕ) → n ≡ f (maps.get live s) → n + cond {A = ℕ} (b && eqb s slot) 1 0 ≡ f (maps.get after s)
       added f zero b one s n was = elim (cases_eq s slot) [
@@ -384,10 +384,10 @@ module _ (live after : FinMap nat_cmp Clause) (lists lists2 : WatchLists) (short
       }) (record { listed = λ s. removed short_for refl (is_short c) refl s (times_in s short2) (short_times s ∙ watch.rest.listed s) })
     where
       others : (s : ℕ) → s ≢ slot → maps.get after s ≡ maps.get live s
-      others s ne = ap (λ m. maps.get m s) is ∙ get_remove live slot s ∙ ap (λ b. cond b None (maps.get live s)) (ne_eqb s slot ne)
+      others s ne = ap (λ m. maps.get m s) is ∙ remove_other live slot s ne
 
       gone : (s : ℕ) → s ≡ slot → maps.get after s ≡ None
-      gone s e = ap (λ m. maps.get m s) is ∙ get_remove live slot s ∙ ap (λ b. cond b None (maps.get live s)) (eq-eqb s slot e)
+      gone s e = ap (λ m. maps.get m s) is ∙ remove_here live slot s e
 
       removed : (f : Option Clause → ℕ) → f None ≡ 0 → (b : Bool) → f (Some c) ≡ cond b 1 0 → (s n : ℕ) → n + cond {A = ℕ} (b && eqb s slot) 1 0 ≡ f (maps.get live s) → n ≡ f (maps.get after s)
       removed f zero b one s n was = elim (cases_eq s slot) [

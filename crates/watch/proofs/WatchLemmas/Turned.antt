@@ -1,8 +1,7 @@
 -- A clause whose first two literals are put in the order in which a given one is the second.
 use Rattle.std.proofs.Common.{◌≡◌, ℕ, zero, suc, ◌+◌, ◌-◌, ◌<◌, ◌≤◌, Bool, true, false, cond, eqb}
 use Rattle.std.proofs.Common.{◌||◌, Option, Some, List, [], ◌∷◌, length, get_or, swap, refl, sym, ap}
-use Rattle.std.proofs.Common.{◌∙◌, arith, inl, inr}
-use Rattle.std.proofs.lemmas.Bool.{cases_eq}
+use Rattle.std.proofs.Common.{◌∙◌, arith}
 use Rattle.std.specs.Ordering.{nat_cmp}
 use Rattle.std.specs.FinMap as maps
 use Rattle.std.specs.FinMap.{FinMap}
@@ -10,7 +9,7 @@ use Rattle.std.proofs.lemmas.List.Edits.{length-swap}
 use Rattle.cnf_base.specs.Literals.{Literal, Clause, has, size}
 use Rattle.cnf_base.proofs.MemberLemmas.{has_place}
 use Rattle.cnf_base.proofs.SizeLemmas.{size_same}
-use Rattle.clause_db.proofs.StoreLemmas.Sums.{same_maps}
+use Rattle.cnf_base.proofs.MapLemmas.{insert_here, insert_twice}
 use Rattle.clause_db.proofs.StoreLemmas.Swap.{has_swapped}
 use Rattle.propagation.specs.Assumptions.{AssumptionsState}
 use Rattle.root_literals.specs.Watched.{IsListed, is_short, watches}
@@ -20,17 +19,9 @@ use Rattle.watch.specs.Code.Visits.{IsExchange, IsExchangeAt, PropagatesTo}
 use Rattle.watch.specs.declared.visit.Exchange.{Exchange}
 use Rattle.watch_lists.specs.declared.watcher.Watcher.{Watcher}
 use Rattle.root_literals.specs.Order.{each_in_order}
-use Rattle.watch.proofs.WatchLemmas.Moves.{at_inserted, listed_moved, others_moved, shorts_moved}
+use Rattle.watch.proofs.WatchLemmas.Moves.{listed_moved, shorts_moved}
 use Rattle.watch.proofs.WatchLemmas.Moves.{watched_moved}
 use Rattle.watch.proofs.WatchLemmas.PropagatesTo.{extends_none}
-
-inserted_twice : (live : FinMap nat_cmp Clause) (slot : ℕ) (c d : Clause) → maps.insert (maps.insert live slot c) slot d ≡ maps.insert live slot d
-inserted_twice live slot c d = same_maps (maps.insert (maps.insert live slot c) slot d) (maps.insert live slot d) (λ q. elim (cases_eq q slot) [
-  | inl e ↦
-      ap (maps.get (maps.insert (maps.insert live slot c) slot d)) e ∙ at_inserted (maps.insert live slot c) slot d
-      ∙ sym (ap (maps.get (maps.insert live slot d)) e ∙ at_inserted live slot d)
-  | inr ne ↦ others_moved (maps.insert live slot c) slot d q ne ∙ others_moved live slot c q ne ∙ sym (others_moved live slot d q ne)
-])
 
 or_turned : (a b : Bool) → (b || a) ≡ (a || b)
 or_turned true true = refl
@@ -142,7 +133,7 @@ module _ {live : FinMap nat_cmp Clause} {slot : ℕ} {l : Literal} {x : Exchange
   abbrev pub turned_at : IsExchangeAt turned_live slot l x
   turned_at = record {
     clause = turned_clause;
-    at = at_inserted live slot turned_clause;
+    at = insert_here live slot slot turned_clause refl;
     different = turned_size w.clause w.exchange.from w.exchange.from_low (exchange_long w.exchange) w.different;
     exchange = exchange_turned w.exchange;
   }
@@ -156,4 +147,4 @@ module _ {live : FinMap nat_cmp Clause} {slot : ℕ} {l : Literal} {x : Exchange
   -- as it is written in one
   pub turned_moved : (after : FinMap nat_cmp Clause) (k : ℕ) → k ≡ slot → after ≡ maps.insert live k (swap turned_clause 1 x.to) → after ≡ maps.insert turned_live slot (swap turned_clause 1 x.to)
   turned_moved after k of_slot is =
-      is ∙ ap (λ s. maps.insert live s (swap turned_clause 1 x.to)) of_slot ∙ sym (inserted_twice live slot turned_clause (swap turned_clause 1 x.to))
+      is ∙ ap (λ s. maps.insert live s (swap turned_clause 1 x.to)) of_slot ∙ sym (insert_twice live slot turned_clause (swap turned_clause 1 x.to))

@@ -7,7 +7,7 @@ use Rattle.tables.specs.declared.filled.Filled.{Filled}
 use Rattle.clause_db.specs.Code.Counts.{AreCounted}
 use Rattle.clause_db.specs.Code.Kept.{AreKept}
 use Rattle.clause_db.proofs.StoreLemmas.Kept.{insert_undone}
-use Rattle.clause_index.proofs.IndexLemmas.Maps.{insert_here}
+use Rattle.cnf_base.proofs.MapLemmas.{insert_here}
 use Rattle.clause_db.proofs.store.list_up.Goals as goal
 
 pub count_in-requires-clause-few : goal.count_in-requires-clause-few

@@ -7,7 +7,7 @@ use Rattle.cnf_base.proofs.SizeLemmas.{size_same}
 use Rattle.clause_memory.specs.Memory as memory
 use Rattle.clause_memory.specs.Memory.{AddsFewBlocks, MemoryState, units_for}
 use Rattle.clause_db.specs.Code.Fields.{IsTakenIn}
-use Rattle.clause_db.proofs.StoreLemmas.Sums.{len_with}
+use Rattle.cnf_base.proofs.MapLemmas.{len_with}
 use Rattle.clause_db.proofs.store.put_in.Goals as goal
 
 -- what the memory says of a clause that it takes

@@ -1,12 +1,12 @@
 use Rattle.std.proofs.Common.{sym, ap, ◌∙◌}
 use Rattle.std.specs.FinMap as maps
+use Rattle.cnf_base.proofs.MapLemmas.{insert_other}
 use Rattle.watch.proofs.WatchLemmas.Arrange.{brought, not_brought}
-use Rattle.watch.proofs.WatchLemmas.Moves.{others_moved}
 use Rattle.watch.proofs.arrange.bring.Goals as goal
 
 pub returns-in-Some-clause-others : goal.returns-in-Some-clause-others
 returns-in-Some-clause-others c s ne =
-    ap (λ m. maps.get m s) (c.swap.ensures.live c.clause.result.now (sym c.clause.ensures.clause)) ∙ others_moved c.args.store.now.live c.args.slot _ s ne
+    ap (λ m. maps.get m s) (c.swap.ensures.live c.clause.result.now (sym c.clause.ensures.clause)) ∙ insert_other c.args.store.now.live c.args.slot s _ ne
 
 pub returns-in-Some-clause-brought : goal.returns-in-Some-clause-brought
 returns-in-Some-clause-brought c =

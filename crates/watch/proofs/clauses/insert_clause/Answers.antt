@@ -5,7 +5,7 @@ use Rattle.clause_memory.specs.Memory.{AddsFewBlocks, units_for}
 use Rattle.clause_db.specs.Store.{literals_in}
 use Rattle.propagation.specs.Closure.{IsClosure}
 use Rattle.root_literals.specs.Order.{each_in_order}
-use Rattle.root_literals.proofs.RootLemmas.Order.{removed_back}
+use Rattle.cnf_base.proofs.MapLemmas.{removed_back}
 use Rattle.watch.proofs.WatchLemmas.Shown.{closure_held, closure_shown}
 use Rattle.watch.proofs.WatchLemmas.State.{few_shown}
 use Rattle.watch.proofs.clauses.insert_clause.Goals as goal

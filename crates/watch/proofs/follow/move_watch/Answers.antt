@@ -4,6 +4,7 @@ use Rattle.std.specs.List.{remove, swap}
 use Rattle.std.specs.FinMap as maps
 use Rattle.std.proofs.lemmas.List.Edits.{length-remove, length-swap}
 use Rattle.clause_db.proofs.StoreLemmas.Swap.{has_swapped}
+use Rattle.cnf_base.proofs.MapLemmas.{insert_here, insert_other}
 use Rattle.cnf_base.specs.Literals.{Literal}
 use Rattle.watch_lists.specs.Lists.{list_at}
 use Rattle.watch.specs.Code.Visits.{IsInHand, PropagatesTo, with_list}
@@ -13,8 +14,8 @@ use Rattle.watch.proofs.WatchLemmas.Cursor.{same_cursor}
 use Rattle.watch.proofs.WatchLemmas.Follow.{listed_alike}
 use Rattle.watch_lists.proofs.WatchListsLemmas.Lists.{entries_removed, unfit_removed}
 use Rattle.watch.proofs.WatchLemmas.Entries.{longer_fits}
-use Rattle.watch.proofs.WatchLemmas.Moves.{at_inserted, entries_moved, exchanged_back, listed_moved}
-use Rattle.watch.proofs.WatchLemmas.Moves.{others_moved, places_apart, times_moved, unfit_moved}
+use Rattle.watch.proofs.WatchLemmas.Moves.{entries_moved, exchanged_back, listed_moved}
+use Rattle.watch.proofs.WatchLemmas.Moves.{places_apart, times_moved, unfit_moved}
 use Rattle.watch.proofs.WatchLemmas.PropagatesTo.{propagates_moved, propagates_on}
 use Rattle.watch.proofs.WatchLemmas.Turned.{exchange_member, turned_at, turned_clause, turned_listed}
 use Rattle.watch.proofs.WatchLemmas.Turned.{turned_live, turned_moved, turned_propagates}
@@ -38,7 +39,7 @@ swap-requires c =
     let inside = w.exchange.to_inside in
     let d = swap w.clause 1 to in
     let len = length-swap w.clause 1 to in
-    (d, ap (maps.get after) c.at-at.ensures ∙ ap (λ m. maps.get m c.args.slot) moved ∙ at_inserted (turned_live was) c.args.slot d, omega (arith, len, inside), omega (arith, len, past, inside))
+    (d, ap (maps.get after) c.at-at.ensures ∙ ap (λ m. maps.get m c.args.slot) moved ∙ insert_here (turned_live was) c.args.slot c.args.slot d refl, omega (arith, len, inside), omega (arith, len, past, inside))
 
 pub returns-in-Ok : goal.returns-in-Ok
 returns-in-Ok c =
@@ -85,7 +86,7 @@ returns-in-Ok c =
             (propagates_moved live held slot w.clause w.at 1 x.to l x.next w.different w.exchange.from_low w.exchange.from_is past within w.exchange.to_is is_open reason_of));
       };
       taken = same_cursor c.take_out.new.self (remove list place) place c.take_out.ensures.entries c.take_out.ensures.visited;
-      others = λ s ne. ap (λ m. maps.get m s) moved ∙ others_moved live slot d s ne ∙ others_moved before slot (turned_clause was) s ne;
+      others = λ s ne. ap (λ m. maps.get m s) moved ∙ insert_other live slot s d ne ∙ insert_other before slot s (turned_clause was) ne;
       blocks = cc;
     }
 
@@ -116,6 +117,6 @@ returns-in-Err c =
         propagates = subst (λ m. PropagatesTo before m held held reason_of reason_of) (sym back) (turned_propagates was held reason_of);
       };
       taken = tt;
-      others = λ s ne. ap (λ m. maps.get m s) back ∙ others_moved before c.args.slot (turned_clause was) s ne;
+      others = λ s ne. ap (λ m. maps.get m s) back ∙ insert_other before c.args.slot s (turned_clause was) ne;
       blocks = cc;
     }

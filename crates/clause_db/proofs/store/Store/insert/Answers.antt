@@ -16,7 +16,7 @@ use Rattle.clause_index.proofs.IndexLemmas.Results.{on_err_from}
 use Rattle.clause_db.proofs.StoreLemmas.Fields.{live_alone, sound_same, sound_with}
 use Rattle.clause_db.proofs.StoreLemmas.Fields.{sum_fits}
 use Rattle.clause_db.proofs.StoreLemmas.Kept.{insert_undone}
-use Rattle.clause_index.proofs.IndexLemmas.Maps.{insert_here, insert_other}
+use Rattle.cnf_base.proofs.MapLemmas.{insert_here, insert_other}
 use Rattle.clause_db.proofs.store.Store.insert.Goals as goal
 
 -- the blocks of the memory are those that are seen

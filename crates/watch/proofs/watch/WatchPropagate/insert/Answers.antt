@@ -14,8 +14,9 @@ use Rattle.clause_memory.specs.Memory.{AddsFewBlocks, units_for}
 use Rattle.propagation.proofs.PropagationLemmas.Scan.{room_added}
 use Rattle.propagation.specs.Closure.{IsClosure}
 use Rattle.watch.proofs.WatchLemmas.Follow.{times_has}
-use Rattle.root_literals.proofs.RootLemmas.Order.{get_ordered, inserted_is, literals_ordered}
-use Rattle.root_literals.proofs.RootLemmas.Order.{ordered_alike, removed_back, same-in_order}
+use Rattle.cnf_base.proofs.MapLemmas.{inserted_is, removed_back}
+use Rattle.root_literals.proofs.RootLemmas.Order.{get_ordered, literals_ordered, ordered_alike}
+use Rattle.root_literals.proofs.RootLemmas.Order.{same-in_order}
 use Rattle.root_literals.proofs.RootLemmas.Order.{seen_there}
 use Rattle.watch.proofs.WatchLemmas.State.{alone_kept, same_state, watch_added, watch_room}
 use Rattle.watch.proofs.WatchLemmas.State.{watch_same}
