@@ -9,6 +9,7 @@ ghost use Rattle.std.specs.Prelude.{IsSome, OnOk, Some, None, length, slice_get}
 ghost use Rattle.tables.specs.Code.Filled.{IsFilled};
 ghost use Rattle.tables.specs.Table as table;
 
+use crate::growth::Growth;
 use crate::table::Table;
 use cnf_base::OutOfMemory;
 use std::alloc::Global;
@@ -25,17 +26,12 @@ pub struct Filled<T> {
     count: usize,
 }
 
-/// The length from which `near` grows.
-const LEAST: usize = 8192;
-
-/// A key below this is near, however few were met.
-const NEAR: usize = 131072;
-
-/// So is one that is below so many times the number of keys that were met outside `near`, and this.
-const SPARSE: usize = 32;
-
-/// The key past the greatest one.
-const MOST: usize = 4294967296;
+/// How `near` grows with the keys that were met outside it.
+const GROWTH: Growth = Growth {
+    least: 8192,
+    near: 131072,
+    sparse: 32,
+};
 
 #[tactic(auto, unfolding(crate::specs::Filled::at))]
 impl<T: Copy + Drop> Filled<T> {
@@ -151,16 +147,6 @@ impl<T: Copy + Drop> Filled<T> {
         self.set(other, other_value);
     }
 
-    /// The first key from one on that has a value in `far`, or the end where none before has.
-    fn next_far(&self, from: usize, end: usize) -> usize
-        requires { end ≤ 4294967296 }
-        ensures none { (k : ℕ) → from ≤ k → k < result → table.at self.now.far k ≡ None }
-        ensures most { result ≤ end }
-        ensures least { from ≤ end → from ≤ result }
-    {
-        self.far.first_key(from, end).unwrap_or(end)
-    }
-
     /// Lengthens `near` up to the next key that `far` has, and by that one, but to no more than
     /// this length.
     fn widen_once(&mut self, len: usize, first: T) -> Result<(), OutOfMemory>
@@ -169,7 +155,7 @@ impl<T: Copy + Drop> Filled<T> {
         ensures filled { IsFilled first self.old self.new }
         ensures longer { OnOk result (vec_len self.old.near < vec_len self.new.near) }
     {
-        let next = self.next_far(self.near.len(), len);
+        let next = self.far.next_key(self.near.len(), len);
         self.near.resize(next, first)?;
         if next < len {
             let value = self.far.get(next as u32).unwrap_or(first);
@@ -214,13 +200,11 @@ impl<T: Copy + Drop> Filled<T> {
     {
         let is_new = self.far.get(key).is_none();
         self.count = self.count.saturating_add(usize::from(is_new));
-        let place = key as usize;
-        let limit = self.count.saturating_mul(SPARSE).saturating_add(NEAR);
-        if place < limit {
-            let len = self.near.len().saturating_mul(2).max(LEAST).max(place + 1);
-            self.widen(len.min(MOST), first)?;
+        if GROWTH.is_near(key, self.count) {
+            let len = GROWTH.len_for(self.near.len(), key);
+            self.widen(len, first)?;
         }
-        if place < self.near.len() {
+        if (key as usize) < self.near.len() {
             return Ok(());
         }
         self.far.reserve(key, first)

@@ -2,6 +2,7 @@
 #![tactic(auto)]
 
 mod filled;
+mod growth;
 mod lists;
 mod table;
 

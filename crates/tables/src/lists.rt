@@ -11,6 +11,7 @@ ghost use Rattle.tables.specs.Table.{at};
 ghost use Rattle.tables.specs.Lists.{AreApart, entries_in, far_at, has_list_at, list_at, total};
 ghost use Rattle.tables.specs.Code.Lists.{AreSame, Pushes};
 
+use crate::growth::Growth;
 use crate::table::Table;
 use cnf_base::OutOfMemory;
 use std::alloc::Global;
@@ -31,17 +32,12 @@ pub struct Lists<T> {
     count: usize,
 }
 
-/// The length from which `near` grows.
-const LEAST: usize = 16384;
-
-/// A key below this is near, however few were met.
-const NEAR: usize = 131072;
-
-/// So is one that is below so many times the number of keys that were met, and this.
-const SPARSE: usize = 8;
-
-/// The key past the greatest one.
-const MOST: usize = 4294967296;
+/// How `near` grows with the keys that were met.
+const GROWTH: Growth = Growth {
+    least: 16384,
+    near: 131072,
+    sparse: 8,
+};
 
 /// By how many entries a list grows at least.
 const LEAST_GROWTH: usize = 3;
@@ -188,14 +184,6 @@ impl<T: Copy + Drop> Lists<T> {
         }
     }
 
-    /// The first key from one on that has a list in `far`, or the end where none before it has one.
-    fn next_far(&self, from: usize, end: usize) -> usize
-        requires { end ≤ 4294967296 }
-        ensures { (k : ℕ) → from ≤ k → k < result → at self.now.numbers k ≡ None }
-    {
-        self.numbers.first_key(from, end).unwrap_or(end)
-    }
-
     /// Lengthens `near`, with the lists that `far` has there.
     fn widen(&mut self, len: usize) -> Result<(), OutOfMemory>
         requires len { len ≤ 4294967296 }
@@ -203,7 +191,7 @@ impl<T: Copy + Drop> Lists<T> {
         ensures same { AreSame self.old self.new }
         ensures long { OnOk result (len ≤ vec_len self.new.near) }
     {
-        let mut next = self.next_far(self.near.len(), len);
+        let mut next = self.numbers.next_key(self.near.len(), len);
         for key in self.near.len()..len {
             self.near.reserve(1)?;
             if key < next {
@@ -212,7 +200,7 @@ impl<T: Copy + Drop> Lists<T> {
             }
             let list = self.take_far(key as u32);
             self.near.push_reserved(list);
-            next = self.next_far(key + 1, len);
+            next = self.numbers.next_key(key + 1, len);
         }
         Ok(())
     }
@@ -258,10 +246,8 @@ impl<T: Copy + Drop> Lists<T> {
         let is_new = !self.has_list(key);
         self.count = self.count.saturating_add(usize::from(is_new));
         let len = self.near.len();
-        let place = key as usize;
-        let limit = self.count.saturating_mul(SPARSE).saturating_add(NEAR);
-        if len <= place && place < limit {
-            self.widen(len.saturating_mul(2).max(LEAST).max(place + 1).min(MOST))
+        if len <= key as usize && GROWTH.is_near(key, self.count) {
+            self.widen(GROWTH.len_for(len, key))
         } else if is_new {
             self.add_far(key)
         } else {

@@ -16,6 +16,7 @@ ghost use Rattle.std.specs.Ordering.{nat_cmp};
 ghost use Rattle.std.specs.BTreeMap.{get};
 ghost use Rattle.tables.specs.Parts.{looked_up, IsFirst};
 
+use crate::growth::Growth;
 use cnf_base::{Lit, OutOfMemory};
 use std::alloc::Global;
 use std::collections::BTreeMap;
@@ -35,14 +36,12 @@ pub struct Table<T> {
         IsSome (slice_index_or dense.items k None) },
 }
 
-/// The length from which `dense` grows.
-const LEAST: usize = 8192;
-
-/// A key below this is near, however few were met.
-const NEAR: usize = 65536;
-
-/// So is one that is below so many times the number of keys that were met, and this.
-const SPARSE: usize = 16;
+/// How `dense` grows with the keys that were met.
+const GROWTH: Growth = Growth {
+    least: 8192,
+    near: 65536,
+    sparse: 16,
+};
 
 /// The key of a literal.
 pub fn key(l: Lit) -> u32
@@ -171,6 +170,16 @@ impl<T: Copy + Drop> Table<T> {
         }
     }
 
+    /// The least key from one on, and before another one, that has a value; else the other one.
+    pub(crate) fn next_key(&self, from: usize, to: usize) -> usize
+        requires { to ≤ 4294967296 }
+        ensures none { (k : ℕ) → from ≤ k → k < result → at self.now k ≡ None }
+        ensures most { result ≤ to }
+        ensures least { from ≤ to → from ≤ result }
+    {
+        self.first_key(from, to).unwrap_or(to)
+    }
+
     /// Writes the value at the key, which was reserved.
     #[inline(always)]
     pub fn set(&mut self, key: u32, value: T)
@@ -264,13 +273,11 @@ impl<T: Copy + Drop> Table<T> {
         ensures err { OnErr result ((k : ℕ) → at self.new k ≡ at self.old k) }
     {
         let len = self.dense.len();
-        let place = key as usize;
-        let limit = self.count.saturating_mul(SPARSE).saturating_add(NEAR);
-        let is_near = len <= place && place < limit;
+        let is_near = len <= key as usize && GROWTH.is_near(key, self.count);
         // Keys that fell from high to low would else stay in the sparse part.
         let is_short = len > 0 && len < self.count;
         if is_near {
-            self.widen(len.saturating_mul(2).max(LEAST).max(place + 1))?;
+            self.widen(GROWTH.len_for(len, key))?;
         } else if is_short {
             self.widen(len.saturating_mul(2))?;
         }

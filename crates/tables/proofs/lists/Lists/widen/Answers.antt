@@ -57,5 +57,5 @@ loop-key-preserved g c =
         known = λ k h. known_more k (length near) _ (is_some (at before.numbers k)) (is_some (at after.numbers k)) (omega (arith, len)) (ap (λ t. is_some (at t k)) e.numbers) (so_far.same.known k h);
         apart = e.apart;
       };
-      none = c.next_far-next-in-loop-key.ensures;
+      none = c.next_key-next-in-loop-key.ensures.none;
     }
