@@ -2,7 +2,7 @@
 //!
 //! To remove a clause takes no memory: its two lists are searched for its entries. Solvers delete
 //! clauses in the order in which they have them, or in the opposite one, so a long list is first
-//! searched around the place where its last entry was taken out. There are 64 such places, by the
+//! searched around the place where its last entry was taken out. There are 1024 such places, by the
 //! last bits of the literal's key: two long lists that share one only cost a search.
 
 ghost use Rattle.std.specs.Prelude.{◌≡◌, ℕ, ◌+◌, ◌==◌, ◌&&◌, ◌++◌, ◌∷◌, [], length, min};
@@ -26,7 +26,7 @@ pub struct WatchLists {
 }
 
 /// How many places are noted.
-const PLACES: usize = 64;
+const PLACES: usize = 1024;
 
 impl WatchLists {
     /// No lists.

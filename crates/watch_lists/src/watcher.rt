@@ -13,7 +13,7 @@
 //! A removal searches a list for an entry: 64 entries at once, then 16, then one by one. The more
 //! at once, the fewer instructions an entry, up to what a processor's registers allow. It compares
 //! slot and mark in one number, so that no slot is worked out. In a long list it looks around a
-//! noted place first, and farther around it in a very long one.
+//! noted place first, and in a very long one then behind it.
 
 ghost use Rattle.std.specs.Prelude.{◌≡◌, ℕ, ◌+◌, ◌==◌, length, if◌then◌else◌, IsTrue, IfSome, take};
 ghost use Rattle.std.specs.Prelude.{◌<◌, ◌≤◌};
@@ -171,9 +171,9 @@ fn place_from(list: &[Watcher], code: u32, from: usize) -> usize
 fn pass_over(list: &[Watcher], code: u32, from: usize, at_once: usize) -> usize
     requires some { 0 < at_once }
     requires inside { from ≤ length list.now }
-    requires absent { entries_with code (take from list.now) ≡ 0 }
     ensures inside { result ≤ length list.now }
-    ensures absent { entries_with code (take result list.now) ≡ 0 }
+    ensures absent { entries_with code (take from list.now) ≡ 0 →
+        entries_with code (take result list.now) ≡ 0 }
 {
     let mut place = from;
     while list.len() - place >= at_once && lacks(&list[place..place + at_once], code) {
@@ -220,8 +220,8 @@ fn place_around(list: &[Watcher], code: u32, middle: usize) -> Option<usize>
     place_between(list, code, middle.saturating_sub(AROUND), end)
 }
 
-/// The same farther around this place: in the chunk of entries that ends there, and in the one that
-/// begins there.
+/// The same farther around this place: in the chunk of entries that ends there, and in all that
+/// come behind it.
 #[inline(never)]
 fn place_farther(list: &[Watcher], code: u32, middle: usize) -> Option<usize>
     ensures inside { IfSome result (λ place. place < length list.now) }
@@ -232,12 +232,14 @@ fn place_farther(list: &[Watcher], code: u32, middle: usize) -> Option<usize>
     if before.is_some() {
         return before;
     }
-    let end = middle.saturating_add(MANY_AT_ONCE).min(list.len());
-    place_within(list, code, middle, end)
+    let chunk = pass_over(list, code, middle, MANY_AT_ONCE);
+    let end = chunk.saturating_add(MANY_AT_ONCE).min(list.len());
+    place_between(list, code, chunk, end)
 }
 
 /// The place of an entry with this code in a list that has one. Where the list is long, it is
-/// looked for around a place first, and farther around it where it is very long.
+/// looked for around a place first, and farther around it where it is very long. For an entry that
+/// may stand anywhere, that takes as long in the mean as to begin at the front.
 fn place_in(list: &[Watcher], code: u32, middle: usize) -> usize
     requires { 0 < entries_with code list.now }
     ensures inside { result < length list.now }

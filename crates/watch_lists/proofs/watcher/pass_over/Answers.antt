@@ -5,5 +5,5 @@ use Rattle.watch_lists.proofs.watcher.pass_over.Goals as goal
 pub loop-place-preserved : goal.loop-place-preserved
 loop-place-preserved c = record {
   inside = let low = c.loop-place-test.true in let so_far = c.loop-place.invariant.inside in omega (arith, low, so_far);
-  none = coded_chunk c.args.list.now c.loop-place.place c.args.at_once c.args.code c.loop-place.invariant.none (c.lacks.ensures c.if-lacks.true);
+  none = λ at. coded_chunk c.args.list.now c.loop-place.place c.args.at_once c.args.code (c.loop-place.invariant.none at) (c.lacks.ensures c.if-lacks.true);
 }

@@ -5,7 +5,7 @@ use Rattle.watch_lists.proofs.watcher.pass_over.Given as goal
 abbrev pub invariant-loop-place : goal.invariant-loop-place
 invariant-loop-place l = record {
   inside : l.place ≤ length l.list;
-  none : entries_with l.code (take l.place l.list) ≡ 0;
+  none : entries_with l.code (take l.from l.list) ≡ 0 → entries_with l.code (take l.place l.list) ≡ 0;
 }
 
 abbrev pub decreases-loop-place : goal.decreases-loop-place
