@@ -1,5 +1,5 @@
 -- What the other lemmas use of literals.
-use Rattle.std.proofs.Common.{◌≡◌, ◌≢◌, ℕ, ◌%◌, arith}
+use Rattle.std.proofs.Common.{◌≡◌, ◌≢◌, ℕ, ◌%◌, ◌<◌, ◌≤◌, arith}
 use Rattle.std.specs.Int.Bits.{bit_and, bit_xor, xor_add_and}
 use Rattle.std.proofs.lemmas.Nat.{and_mask}
 use Rattle.std.proofs.lemmas.Bool.Decides.{nat_tests}
@@ -20,3 +20,10 @@ xor_one l =
     let sum = xor_add_and l 1 in
     let low : bit_and l 1 ≡ l % 2 = and_mask l 1 in
     grind (arith, nat_tests, sum, low)
+
+-- the complement of a literal is one
+pub complement_range : (l : ℕ) → 2 ≤ l → l < 536870912 → (2 ≤ complement l) × (complement l < 536870912)
+unfolding complement
+complement_range l low high = (grind (arith, nat_tests), grind (arith, nat_tests))
+
+pub ruleset xor_steps = (xor_one, complement_range)

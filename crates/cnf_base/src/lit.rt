@@ -76,7 +76,7 @@ impl Lit {
 
     /// The complement.
     #[inline(always)]
-    #[tactic(auto, using(std::proofs::lemmas::Bool::Decides::nat_tests, crate::proofs::LiteralLemmas::xor_one), unfolding(crate::specs::Literals::complement))]
+    #[tactic(auto, using(crate::proofs::LiteralLemmas::xor_steps))]
     pub fn neg(self) -> Lit
         ensures { result ≡ complement self }
     {

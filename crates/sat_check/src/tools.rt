@@ -1,7 +1,8 @@
 //! Each tool, as the words of its command line ask for it.
 //!
-//! A program ends when its check has, and the system takes all its memory at once. To free clause by
-//! clause and list by list before would take up to a twentieth of its time. So the session is left.
+//! A program ends when its check has, and the system takes all its memory at once. To free clause
+//! by clause and list by list before would take up to a twentieth of its time. So the session is
+//! left.
 
 ghost use Rattle.sat_check.specs.Options.{drat_options, lrat_options};
 ghost use Rattle.sat_check.specs.Runs.{RunsDrat, RunsLrat};

@@ -204,8 +204,8 @@ fn next_clause(alloc: Global, text: &[u8]) -> Result<Told, Fault> {
 const CLAUSE: &[u8] =
     b"1 2 3 4 5 6 7 8 9 10 11 12 13 14 15 16 17 18 19 20 21 22 23 24 25 26 27 28 29 30 0\n";
 
-const BINARY: &[u8] =
-    b"a\x02\x04\x06\x08\x0a\x0c\x0e\x10\x12\x14\x16\x18\x1a\x1c\x1e\x20\x22\x24\x26\x28\x2a\x2c\x2e\x30\x00";
+const BINARY: &[u8] = b"a\x02\x04\x06\x08\x0a\x0c\x0e\x10\x12\x14\x16\x18\x1a\x1c\x1e\
+        \x20\x22\x24\x26\x28\x2a\x2c\x2e\x30\x00";
 
 // A definition: the new variable is the pivot.
 const ADDITION: &[u8] = b"33 34 35 36 37 38 39 40 41 42 43 44 45 46 47 48 49 50 0\n";
@@ -358,5 +358,5 @@ pub fn carry_out(
     by_reader(alloc, name)
 }
 
-const LRAT: &[u8] =
-    b"1 2 3 4 5 6 7 8 9 10 11 12 13 14 15 16 17 18 19 20 0 1 2 3 4 5 6 7 8 9 10 11 12 13 14 15 16 17 0\n";
+const LRAT: &[u8] = b"1 2 3 4 5 6 7 8 9 10 11 12 13 14 15 16 17 18 19 20 0 1 2 3 4 \
+        5 6 7 8 9 10 11 12 13 14 15 16 17 0\n";

@@ -28,7 +28,8 @@ const ROWS: [Row<'static>; 20] = [
         name: "eight_clauses",
         formula: EIGHT,
         second: b"1 2 0\n1 0\n2 0\n0\n",
-        lines: "c formula 3 variables 8 clauses\nc 1 add rup\nc 2 add rup\nc 3 add rup\nc 4 add rup\nc steps 4 peak 28",
+        lines: "c formula 3 variables 8 clauses\nc 1 add rup\nc 2 add rup\nc 3 add rup\n\
+            c 4 add rup\nc steps 4 peak 28",
         status: 0,
         ..DRAT_TRACED
     },
@@ -36,7 +37,8 @@ const ROWS: [Row<'static>; 20] = [
         name: "eight_clauses, with a deletion",
         formula: EIGHT,
         second: b"1 2 0\n1 0\nd 1 2 0\n2 0\n0\n",
-        lines: "c formula 3 variables 8 clauses\nc 1 add rup\nc 2 add rup\nc 3 delete\nc 4 add rup\nc 5 add rup\nc steps 5 peak 27",
+        lines: "c formula 3 variables 8 clauses\nc 1 add rup\nc 2 add rup\nc 3 delete\n\
+            c 4 add rup\nc 5 add rup\nc steps 5 peak 27",
         status: 0,
         ..DRAT_TRACED
     },

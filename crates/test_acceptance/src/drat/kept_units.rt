@@ -20,7 +20,8 @@ const DELETIONS: [Row<'static>; 8] = [
         name: "one_copy_deleted, and the other one",
         formula: TWO_COPIES,
         second: b"d 1 0\nd 1 0\n0\n",
-        lines: "c formula 1 variables 3 clauses\nc 1 ignored\nc 2 ignored\nc 3 add rup\nc steps 3 peak 3",
+        lines: "c formula 1 variables 3 clauses\nc 1 ignored\nc 2 ignored\nc 3 add rup\n\
+            c steps 3 peak 3",
         status: 0,
         ..DRAT_KEEP_UNITS
     },
@@ -60,7 +61,8 @@ const DELETIONS: [Row<'static>; 8] = [
         name: "a clause that was added is kept",
         formula: G,
         second: b"1 0\nd 1 0\nd 1 2 0\nd 1 2 0\n",
-        lines: "c formula 2 variables 1 clauses\nc 1 add rat\nc 2 ignored\nc 3 delete\nc 4 ignored\nc end: no empty clause",
+        lines: "c formula 2 variables 1 clauses\nc 1 add rat\nc 2 ignored\nc 3 delete\n\
+            c 4 ignored\nc end: no empty clause",
         status: 1,
         ..DRAT_KEEP_UNITS
     },

@@ -31,7 +31,8 @@ const ROWS: [Row<'static>; 6] = [
         name: "a clause that is no reason is deleted",
         formula: CHAIN,
         second: b"2 0\nd -1 2 0\n0\n",
-        lines: "c formula 3 variables 4 clauses\nc 1 add rup\nc 2 delete\nc 3 add rup\nc steps 3 peak 8",
+        lines: "c formula 3 variables 4 clauses\nc 1 add rup\nc 2 delete\nc 3 add rup\n\
+            c steps 3 peak 8",
         status: 0,
         ..DRAT_TRACED
     },
@@ -39,7 +40,8 @@ const ROWS: [Row<'static>; 6] = [
         name: "a reason is deleted after what it gave was used",
         formula: QUIET_CHAIN,
         second: b"3 4 0\nd -1 2 0\n3 0\n",
-        lines: "c formula 4 variables 3 clauses\nc 1 add rup\nc 2 delete\nc 3 add rat\nc end: no empty clause",
+        lines: "c formula 4 variables 3 clauses\nc 1 add rup\nc 2 delete\nc 3 add rat\n\
+            c end: no empty clause",
         status: 1,
         ..DRAT_TRACED
     },
@@ -47,7 +49,8 @@ const ROWS: [Row<'static>; 6] = [
         name: "a unit clause that became the reason is deleted too",
         formula: QUIET_CHAIN,
         second: b"2 0\nd -1 2 0\nd 2 0\n3 0\n",
-        lines: "c formula 4 variables 3 clauses\nc 1 add rup\nc 2 delete\nc 3 delete\nc 4 add rat\nc end: no empty clause",
+        lines: "c formula 4 variables 3 clauses\nc 1 add rup\nc 2 delete\nc 3 delete\n\
+            c 4 add rat\nc end: no empty clause",
         status: 1,
         ..DRAT_TRACED
     },
@@ -55,7 +58,8 @@ const ROWS: [Row<'static>; 6] = [
         name: "a unit clause that became the reason stays",
         formula: QUIET_CHAIN,
         second: b"2 0\nd -1 2 0\n3 0\n",
-        lines: "c formula 4 variables 3 clauses\nc 1 add rup\nc 2 delete\nc 3 add rup\nc end: no empty clause",
+        lines: "c formula 4 variables 3 clauses\nc 1 add rup\nc 2 delete\nc 3 add rup\n\
+            c end: no empty clause",
         status: 1,
         ..DRAT_TRACED
     },

@@ -21,7 +21,8 @@ pub const E_BINARY: &[u8] = b"a\x04\x00a\x00";
 
 // All eight clauses of three variables, which have no model.
 pub const EIGHT: &str =
-    "p cnf 3 8\n1 2 3 0\n1 2 -3 0\n1 -2 3 0\n1 -2 -3 0\n-1 2 3 0\n-1 2 -3 0\n-1 -2 3 0\n-1 -2 -3 0\n";
+    "p cnf 3 8\n1 2 3 0\n1 2 -3 0\n1 -2 3 0\n1 -2 -3 0\n-1 2 3 0\n-1 2 -3 0\n-1 -2 3 0\n\
+        -1 -2 -3 0\n";
 
 // 1, so 2 and -2.
 pub const UNIT: &str = "p cnf 2 3\n1 0\n-1 2 0\n-1 -2 0\n";

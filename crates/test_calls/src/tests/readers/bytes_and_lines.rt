@@ -85,8 +85,8 @@ fn expect_tokens(rt: &impl Abort, scanner: &mut Scanner<FromRead<Pieces<'_>>>, t
 
 #[test]
 fn tokens(rt: HostRuntime) -> Result<(), Fail> {
-    let text =
-        "p\tcnf 12 -7\nc a comment\n d s v -0\r0\nSATISFIABLE UNSATISFIABLE UNKNOWN\n18446744073709551615";
+    let text = "p\tcnf 12 -7\nc a comment\n d s v -0\r0\nSATISFIABLE UNSATISFIABLE UNKNOWN\n\
+            18446744073709551615";
     let tokens = [
         word_token(1, 1, Word::P),
         word_token(1, 3, Word::Cnf),

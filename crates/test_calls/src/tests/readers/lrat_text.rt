@@ -31,8 +31,8 @@ fn all_kinds(rt: HostRuntime) -> Result<(), Fail> {
         (StepKind::Delete, 7, &[], &[]),
         (StepKind::Add, 8, &[], &[]),
     ];
-    let text =
-        "9223372036854775807 268435455 -268435455 -1 -1 0 0\n1 d 9223372036854775807 3 3 0\n1 0 -1 2 2 -9223372036854775807 0 7\nd\nc x\n0 8 0 0";
+    let text = "9223372036854775807 268435455 -268435455 -1 -1 0 0\n1 d 9223372036854775807 3 3 0\n\
+            1 0 -1 2 2 -9223372036854775807 0 7\nd\nc x\n0 8 0 0";
     let proof = (text.as_bytes(), Cut::Ends);
     expect_proof(&rt, rt.alloc(), Form::Lrat, proof, &steps, Ok(false))
 }
