@@ -2,6 +2,7 @@ pub mod Literals
 pub mod Maps
 pub mod Marks
 pub mod Stream
+pub mod Calls
 pub mod Words
 pub mod Text
 pub mod Grammar

@@ -12,7 +12,6 @@ use Rattle.cnf_base.specs.declared.input.ReadFailed.{ReadFailed}
 use Rattle.cnf_base.specs.declared.place.Place.{Place}
 use Rattle.cnf_base.specs.declared.token.Token as tokens
 use Rattle.cnf_base.specs.declared.token.Token.TheVariants as token
-use Rattle.cnf_base.specs.declared.word.Word.{Word}
 
 -- space, tab, CR and LF
 abbrev pub is_separator : ℕ → Bool

@@ -1,10 +1,15 @@
 //! Readers of bytes: the trait `In`, and readers of the standard library that meet it.
-ghost use Rattle.std.specs.Prelude.{◌≡◌, ◌+◌, ◌-◌, ◌^◌, ℕ, List, [], ◌∷◌, None, Some, is_some};
+ghost use Rattle.std.specs.Prelude.{◌≡◌, ◌<◌, ◌+◌, ◌-◌, ◌^◌, ℕ, List, [], ◌∷◌, None, Some, is_some};
+ghost use Rattle.std.specs.Prelude.{length, Result};
+ghost use Rattle.std.specs.declared.io.Error.{Error};
 ghost use Rattle.std.specs.Io.{ReadsAtMost};
 ghost use Rattle.std.specs.Io.KnownBytes.{ReadConsumes};
+ghost use Rattle.cnf_base.specs.Calls.{below_after, last_after, last_error};
+ghost use Rattle.cnf_base.specs.Calls.{no_reads, IsTooLarge};
 ghost use Rattle.cnf_base.specs.Marks.{given_by, over_after, AnswersAgain};
 ghost use Rattle.cnf_base.specs.Stream.{Reader, tells_failure};
 
+use crate::counted_reader::CountedReader;
 use std::io;
 use std::io::Read;
 use std::marker::Model;
@@ -58,35 +63,41 @@ impl<R: In> In for &mut R {
 /// past the first `u64::MAX` bytes fails.
 #[derive(Drop)]
 pub struct FromRead<R: Read> {
-    inner: R,
+    below: CountedReader<R>,
     // The answer that it gives from now on.
     last: Option<io::Result<usize>>,
     most_left: u64,
 }
 
 impl<R: Read> Model for FromRead<R> {
+    ghost use Rattle.cnf_base.specs.Calls.{OverStdReader};
     ghost use Rattle.cnf_base.specs.Code.Marks.{ending_of, IsKept};
-    ghost use Rattle.cnf_base.specs.Stream.{Reader};
 
-    ghost Value = { Reader };
+    ghost Value = { OverStdReader };
 
     ghost view = { λ r. record {
-      left = R.remaining r.inner;
-      over = ending_of r.last;
-      most_left = r.most_left;
+      shown = record {
+        left = r.below.left;
+        over = ending_of r.last;
+        most_left = r.most_left;
+      };
+      last = r.last;
+      below = r.below.reads;
     } };
 
-    ghost invariant = { λ r. IsKept r.last (R.remaining r.inner) };
+    ghost invariant = { λ r. IsKept r.last r.below.left };
 }
 
 impl<R: Read> FromRead<R> {
     /// A reader that gave neither its end nor an error. It takes no memory.
     pub fn new(inner: R) -> Self
-        ensures { result ≡
+        ensures shown { result.shown ≡
             record { left = R.remaining inner; over = None; most_left = 2 ^ 64 - 1 } }
+        ensures last { result.last ≡ None }
+        ensures below { result.below ≡ no_reads }
     {
         FromRead {
-            inner,
+            below: CountedReader::new(inner),
             last: None,
             most_left: u64::MAX,
         }
@@ -94,7 +105,8 @@ impl<R: Read> FromRead<R> {
 
     /// The error that it keeps, where a read has failed.
     pub fn failure(&self) -> Option<io::Error>
-        ensures { is_some result ≡ tells_failure self.now }
+        ensures error { result ≡ last_error self.now.last }
+        ensures failed { is_some result ≡ tells_failure self.now.shown }
     {
         match self.last {
             Some(Err(error)) => Some(error),
@@ -104,9 +116,23 @@ impl<R: Read> FromRead<R> {
 }
 
 impl<R: Read> In for FromRead<R> {
-    ghost shown = { λ r. r };
+    ghost shown = { λ r. r.shown };
 
-    fn read(&mut self, buf: &mut [u8]) -> io::Result<usize> {
+    // It asks the one below once, and its answer is the answer, but where the reader is over, and
+    // where the read might go past the first `u64::MAX` bytes.
+    fn read(&mut self, buf: &mut [u8]) -> io::Result<usize>
+        ensures bound { ReadsAtMost result buf.new }
+        ensures bytes { ReadConsumes self.old.shown.left self.new.shown.left result buf.new }
+        ensures over { self.new.shown.over ≡ over_after self.old.shown.over buf.new result }
+        ensures again { AnswersAgain self.old.shown.over result }
+        ensures still { (e : Ending) → self.old.shown.over ≡ Some e → self.new ≡ self.old }
+        ensures count { self.new.shown.most_left + given_by result ≡ self.old.shown.most_left }
+        ensures kept { (last : Result ℕ Error) → self.old.last ≡ Some last → result ≡ last }
+        ensures last { self.new.last ≡ last_after self.old.last buf.new result }
+        ensures below { self.new.below ≡ below_after self.old buf.old result }
+        ensures limit { self.old.shown.over ≡ None →
+            self.old.shown.most_left < length buf.old → IsTooLarge result }
+    {
         if let Some(last) = self.last {
             return last;
         }
@@ -115,7 +141,7 @@ impl<R: Read> In for FromRead<R> {
             self.last = Some(refused);
             return refused;
         }
-        let result = self.inner.read(buf);
+        let result = self.below.read(buf);
         match result {
             Ok(0) if buf.is_empty() => {}
             Ok(0) | Err(_) => self.last = Some(result),

@@ -1,6 +1,8 @@
 //! Literals, bytes in and out, tokens with places, and lines.
 #![tactic(auto)]
 
+mod counted_reader;
+mod counted_writer;
 mod fault;
 mod input;
 pub mod laws;

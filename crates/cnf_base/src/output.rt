@@ -2,10 +2,13 @@
 ghost use Rattle.std.specs.Prelude.{◌≡◌, ℕ, Bool, true, false, List, [], ◌∷◌, Option, OnOk, OnErr};
 ghost use Rattle.std.specs.Io.{WritesAtMost};
 ghost use Rattle.std.specs.Io.KnownBytes.{Keeps, WriteAppends};
+ghost use Rattle.cnf_base.specs.Calls.{flushed_once, none_handed, written_once};
 ghost use Rattle.cnf_base.specs.Marks.{marked_by_flush, marked_by_write};
 
+use crate::counted_writer::CountedWriter;
 use std::io;
 use std::io::Write;
+use std::marker::Model;
 
 /// A write or a flush has failed.
 #[derive(Clone, Copy, Debug, PartialEq, Eq)]
@@ -65,10 +68,23 @@ impl<W: Out> Out for &mut W {
 /// A writer of the standard library, which remembers whether a write or a flush has failed, and
 /// whether a flush has succeeded since the last write.
 #[derive(Drop)]
-pub struct ToWrite<W> {
-    inner: W,
+pub struct ToWrite<W: Write> {
+    below: CountedWriter<W>,
     has_failed: bool,
     is_flushed: bool,
+}
+
+impl<W: Write> Model for ToWrite<W> {
+    ghost use Rattle.cnf_base.specs.Calls.{OverStdWriter};
+
+    ghost Value = { OverStdWriter };
+
+    ghost view = { λ w. record {
+      held = w.below.held;
+      has_failed = w.has_failed;
+      is_flushed = w.is_flushed;
+      below = w.below.handed;
+    } };
 }
 
 impl<W: Write> ToWrite<W> {
@@ -77,9 +93,10 @@ impl<W: Write> ToWrite<W> {
         ensures held { ⟦<ToWrite<W> as Out>⟧.held result ≡ W.contents inner }
         ensures mark { ⟦<ToWrite<W> as Out>⟧.has_failed result ≡ false }
         ensures unflushed { ⟦<ToWrite<W> as Out>⟧.is_flushed result ≡ false }
+        ensures below { result.below ≡ none_handed }
     {
         ToWrite {
-            inner,
+            below: CountedWriter::new(inner),
             has_failed: false,
             is_flushed: false,
         }
@@ -87,15 +104,23 @@ impl<W: Write> ToWrite<W> {
 }
 
 impl<W: Write> Out for ToWrite<W> {
-    ghost held = { λ w. W.contents w.inner };
+    ghost held = { λ w. w.held };
 
     ghost has_failed = { λ w. w.has_failed };
 
     ghost is_flushed = { λ w. w.is_flushed };
 
-    fn write(&mut self, buf: &[u8]) -> io::Result<usize> {
+    // It asks the one below once, and its answer is the answer.
+    fn write(&mut self, buf: &[u8]) -> io::Result<usize>
+        ensures bound { WritesAtMost result buf.now }
+        ensures bytes { WriteAppends self.old.held self.new.held result buf.now }
+        ensures mark { self.new.has_failed ≡
+            marked_by_write self.old.has_failed buf.now result }
+        ensures unflushed { self.new.is_flushed ≡ false }
+        ensures below { self.new.below ≡ written_once self.old.below buf.now result }
+    {
         self.is_flushed = false;
-        let result = self.inner.write(buf);
+        let result = self.below.write(buf);
         match &result {
             Ok(0) if !buf.is_empty() => self.has_failed = true,
             Ok(_) => {}
@@ -104,8 +129,14 @@ impl<W: Write> Out for ToWrite<W> {
         result
     }
 
-    fn flush(&mut self) -> io::Result<()> {
-        let result = self.inner.flush();
+    fn flush(&mut self) -> io::Result<()>
+        ensures bytes { Keeps self.old.held self.new.held }
+        ensures mark { self.new.has_failed ≡ marked_by_flush self.old.has_failed result }
+        ensures flushed { OnOk result (self.new.is_flushed ≡ true) }
+        ensures unflushed { OnErr result (self.new.is_flushed ≡ self.old.is_flushed) }
+        ensures below { self.new.below ≡ flushed_once self.old.below result }
+    {
+        let result = self.below.flush();
         match &result {
             Ok(()) => self.is_flushed = true,
             Err(_) => self.has_failed = true,

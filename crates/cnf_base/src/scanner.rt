@@ -21,22 +21,34 @@ use whole::whole_number;
 #[derive(Drop)]
 pub struct Scanner<R: In> {
     source: Source<R>,
+    // The first bytes of a word that is read byte by byte.
+    name: Name,
 }
 
 impl<R: In> Model for Scanner<R> {
+    ghost use Rattle.std.specs.Prelude.{◌≤◌, length};
     ghost use Rattle.cnf_base.specs.Stream.{Stream};
 
     ghost Value = { Stream };
 
-    // Each field has to be named here: from call to call a scanner holds nothing beside its source.
-    ghost view = { λ record { source = source }. source };
+    ghost view = { λ s. s.source };
+
+    // Each field has to be named here, those of the name too: beside its source a scanner holds at
+    // most 16 bytes of a token.
+    ghost invariant = { λ record {
+      source = _;
+      name = record { bytes = bytes; len = _; is_longer = _; most = _ };
+    }. length bytes ≤ 16 };
 }
 
 impl<R: In> Scanner<R> {
     pub fn new(source: Source<R>) -> Self
         ensures { result ≡ source }
     {
-        Scanner { source }
+        Scanner {
+            source,
+            name: Name::new(),
+        }
     }
 
     /// The next token. A failed read, and the end, are given at each further call.
@@ -49,7 +61,7 @@ impl<R: In> Scanner<R> {
         ensures mark { OnOk result
             (tells_failure self.new.reader ≡ tells_failure self.old.reader) }
     {
-        next_token(&mut self.source)
+        next_token(&mut self.source, &mut self.name)
     }
 
     /// Gives the reader back.
@@ -85,7 +97,7 @@ fn spaced_number<R: In>(source: &mut Source<R>) -> Option<Token>
 
 // The text's next token.
 #[inline(always)]
-fn next_token<R: In>(source: &mut Source<R>) -> Result<Token, ReadFailed>
+fn next_token<R: In>(source: &mut Source<R>, name: &mut Name) -> Result<Token, ReadFailed>
     ensures tokens { Along source.old source.new
         (λ i j. Gives result (listing_at source.old.place i) (listing_at source.new.place j) j) }
     ensures fewer { MovesOn result source.old source.new }
@@ -116,7 +128,7 @@ fn next_token<R: In>(source: &mut Source<R>) -> Result<Token, ReadFailed>
                         source.skip_in_line(count);
                         return Ok(Token::Word(place, Word::Number(number)));
                     }
-                    return Ok(Token::Word(place, read_word(source, byte)?));
+                    return Ok(Token::Word(place, read_word(source, name, byte)?));
                 }
             }
             Ok(None) => return Ok(Token::End(source.place())),
@@ -146,25 +158,29 @@ fn skip_comment<R: In>(source: &mut Source<R>) -> Result<(), ReadFailed>
 
 // The run that begins with the byte that was shown.
 #[inline(never)]
-fn read_word<R: In>(source: &mut Source<R>, first: u8) -> Result<Word, ReadFailed>
+fn read_word<R: In>(source: &mut Source<R>, name: &mut Name, first: u8) -> Result<Word, ReadFailed>
     requires { BeginsRun source.old first }
     ensures { TakesWord result source.old source.new }
 {
     if may_begin_number(first) {
-        read_run::<R, Numeral>(source, first)
+        read_run(source, &mut Numeral::new(), first)
     } else {
-        read_run::<R, Name>(source, first)
+        read_run(source, name, first)
     }
 }
 
 // The run that begins with the byte that was shown, byte by byte.
-fn read_run<R: In, W: Run>(source: &mut Source<R>, first: u8) -> Result<Word, ReadFailed>
+fn read_run<R: In, W: Run>(
+    source: &mut Source<R>,
+    run: &mut W,
+    first: u8,
+) -> Result<Word, ReadFailed>
     requires run { BeginsRun source.old first }
     requires kind { W.begins first }
     ensures { TakesWord result source.old source.new }
 {
     source.bump();
-    let mut run = W::of(first);
+    run.begin(first);
     loop {
         match source.peek() {
             Ok(Some(byte)) => {

@@ -7,7 +7,6 @@ use Rattle.cnf_base.specs.Text.{listed, is_separator, skips_at, listing_at}
 use Rattle.cnf_base.specs.declared.input.Ending.TheVariants.{Failed}
 use Rattle.cnf_base.specs.declared.input.ReadFailed.{ReadFailed}
 use Rattle.cnf_base.specs.declared.place.Place.{Place}
-use Rattle.cnf_base.specs.declared.token.Token as tokens
 use Rattle.cnf_base.specs.declared.token.Token.TheVariants as token
 use Rattle.cnf_base.specs.declared.word.Word.{Word}
 

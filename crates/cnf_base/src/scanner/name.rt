@@ -15,12 +15,12 @@ pub struct Name {
     bytes: [u8; ROOM],
     len: usize,
     is_longer: bool,
+    ghost most: { length bytes ≤ 16 },
 }
 
 impl Name {
     pub fn new() -> Name
-        ensures empty { AreKept result.bytes result.len result.is_longer [] }
-        ensures most { length result.bytes ≤ 16 }
+        ensures { AreKept result.bytes result.len result.is_longer [] }
     {
         Name {
             bytes: [0; ROOM],
@@ -31,10 +31,9 @@ impl Name {
 
     /// Takes one more byte of the run.
     pub fn push(&mut self, byte: u8)
-        ensures more { (run : List ℕ) →
+        ensures { (run : List ℕ) →
             AreKept self.old.bytes self.old.len self.old.is_longer run →
             AreKept self.new.bytes self.new.len self.new.is_longer (run ++ byte ∷ []) }
-        ensures most { length self.new.bytes ≤ 16 }
     {
         if self.len < ROOM {
             self.bytes[self.len] = byte;

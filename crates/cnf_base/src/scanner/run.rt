@@ -9,16 +9,17 @@ use super::name::Name;
 use crate::Word;
 
 /// What is kept of a run so far.
-pub trait Run: Copy {
+pub trait Run {
     /// One of its kind may begin with the byte.
     ghost begins: { ℕ → Type 0 };
 
     /// These are its bytes so far.
     ghost is_of: { Self → List ℕ → Type 0 };
 
-    fn of(first: u8) -> Self
+    /// Forgets what was kept, and begins with this byte.
+    fn begin(&mut self, first: u8)
         requires { begins first }
-        ensures { is_of result (first ∷ []) };
+        ensures { is_of self.new (first ∷ []) };
 
     /// Takes one more byte of the run.
     fn add(&mut self, byte: u8)
@@ -30,10 +31,20 @@ pub trait Run: Copy {
 }
 
 /// A run that begins with a digit or a `-`.
-#[derive(Clone, Copy)]
+#[derive(Drop)]
 pub struct Numeral {
     is_negative: bool,
     digits: Digits,
+}
+
+impl Numeral {
+    /// Nothing so far.
+    pub fn new() -> Numeral {
+        Numeral {
+            is_negative: false,
+            digits: Digits::Nothing,
+        }
+    }
 }
 
 impl Run for Numeral {
@@ -41,11 +52,9 @@ impl Run for Numeral {
 
     ghost is_of = { λ n run. Spells n.is_negative n.digits run };
 
-    fn of(first: u8) -> Numeral {
-        Numeral {
-            is_negative: first == b'-',
-            digits: first_digits(first),
-        }
+    fn begin(&mut self, first: u8) {
+        self.is_negative = first == b'-';
+        self.digits = first_digits(first);
     }
 
     fn add(&mut self, byte: u8) {
@@ -74,10 +83,9 @@ impl Run for Name {
 
     ghost is_of = { λ n run. IsKept n.bytes n.len n.is_longer run };
 
-    fn of(first: u8) -> Name {
-        let mut name = Name::new();
-        name.push(first);
-        name
+    fn begin(&mut self, first: u8) {
+        *self = Name::new();
+        self.push(first);
     }
 
     fn add(&mut self, byte: u8) {

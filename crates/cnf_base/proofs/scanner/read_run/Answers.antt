@@ -8,7 +8,7 @@ pub loop-byte-init : goal.loop-byte-init
 loop-byte-init g c =
     let here = c.requires.run in
     rw c.bump.ensures
-    (c.args.first ∷ [], InRun-first _ _ here.ahead here.first here.run here.text, c.of-run.ensures)
+    (c.args.first ∷ [], InRun-first _ _ here.ahead here.first here.run here.text, c.begin.ensures)
 
 pub loop-byte-preserved : goal.loop-byte-preserved
 loop-byte-preserved g c =

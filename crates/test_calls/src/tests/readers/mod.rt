@@ -1,5 +1,6 @@
 //! The calls that read, and the literals and lines that they and the tools are made of.
 
+mod below;
 mod bytes_and_lines;
 mod claims;
 mod drat_binary;

@@ -1,8 +1,8 @@
 use Rattle.std.proofs.Common.{[], refl}
-use Rattle.cnf_base.proofs.scanner.run.NameRun.of.Goals as goal
+use Rattle.cnf_base.proofs.scanner.run.NameRun.begin.Goals as goal
 
 pub returns : goal.returns
 returns c = record {
-  kept = c.push.ensures.more [] c.new-name.ensures.empty;
+  kept = c.push.ensures [] c.new.ensures;
   is_name = record { first = c.args.first; others = []; is = refl; begins = c.requires };
 }
