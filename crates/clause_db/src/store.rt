@@ -74,7 +74,8 @@ impl<I: Indexing> Model for Store<I> {
 
     ghost coded = { store_code };
 
-    // Each field has to be named here. Of them the memory alone keeps literals of clauses.
+    // Each field has to be named here. Of them the memory alone keeps literals of clauses: the
+    // index and the occurrences have slots, and the marks and the counts are tables by literal.
     ghost view = { λ record {
       alloc = _;
       memory = memory;

@@ -46,7 +46,8 @@ impl Model for ClauseMemory {
 
     ghost coded = { memory_code };
 
-    // Each field has to be named here. Of them the words alone hold literals.
+    // Each field has to be named here. Of them the words alone hold literals: the others say what
+    // the units are, and where free blocks begin.
     ghost view = { λ record { kinds = kinds; words = words; heads = _ }.
         seen_as kinds.items words.items };
 

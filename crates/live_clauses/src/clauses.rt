@@ -40,8 +40,15 @@ impl Model for LiveClauses {
 
     ghost coded = { live_clauses_code };
 
-    // Each field has to be named here. Of them the store alone has lists of literals.
-    ghost view = { λ record { store = store; ids = ids; top = top; owners = _; slots = _ }. record {
+    // Each field has to be named here, those of the owners too. Of them the store alone has lists
+    // of literals: the others have identifiers and slots.
+    ghost view = { λ record {
+      store = store;
+      ids = ids;
+      top = top;
+      owners = record { by_slot = _; is_kept = _ };
+      slots = _;
+    }. record {
       live = joined ids store.live;
       top = top;
       stored = store.stored;

@@ -23,7 +23,8 @@ impl Model for IdSet {
 
     ghost coded = { coded_list coded_ℕ };
 
-    ghost view = { λ s. s.ids.keys };
+    // Each field has to be named here.
+    ghost view = { λ record { ids = ids }. ids.keys };
 }
 
 impl IdSet {

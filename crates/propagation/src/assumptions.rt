@@ -49,10 +49,11 @@ impl Model for Assumptions {
 
     ghost coded = { assumptions_code };
 
-    ghost view = { λ a. record {
-      trail = a.trail;
-      assumptions = assumptions_of (number_at a.numbers) a.trail.lits a.levels;
-      starts = starts_of a.levels;
+    // Each field has to be named here. Of them the trail alone has a list of literals, and shows it.
+    ghost view = { λ record { trail = trail; numbers = numbers; made = _; levels = levels }. record {
+      trail = trail;
+      assumptions = assumptions_of (number_at numbers) trail.lits levels;
+      starts = starts_of levels;
     } };
 
     ghost invariant = { λ a. IsNumbered a.trail a.numbers a.made a.levels };

@@ -32,19 +32,20 @@ use std::marker::Model;
 #[derive(Drop)]
 pub struct Closure {
     alloc: Global,
-    found: Found,
-    /// Whether all that follow were found.
-    is_whole: bool,
+    /// All that follow, where they are kept.
+    found: Option<Found>,
     /// The slots of the clauses to be looked at again, in a room that is used again.
     slots: Vec<u32>,
 }
 
 impl Model for Closure {
-    ghost use Rattle.std.specs.Prelude.{ℕ, List, Option, Some, None, if◌then◌else◌};
+    ghost use Rattle.std.specs.Prelude.{ℕ, List, Option};
 
     ghost Value = { Option (List ℕ) };
 
-    ghost view = { λ c. if c.is_whole then Some c.found else None };
+    // Each field has to be named here. The list of literals is shown, so that what does not follow
+    // is not kept; the other one has slots.
+    ghost view = { λ record { alloc = _; found = found; slots = _ }. found };
 }
 
 /// Adds what follows from each clause.
@@ -106,27 +107,25 @@ impl Closure {
     {
         Closure {
             alloc,
-            found: Found::new(alloc),
-            is_whole: false,
+            found: None,
             slots: Vec::new(alloc),
         }
     }
 
-    /// Seeks all that follows, where it is not kept.
-    fn make(&mut self, store: &mut Store) -> Result<(), OutOfMemory>
+    /// All that follows, sought where it is not kept, and taken out.
+    fn take_whole(&mut self, store: &mut Store) -> Result<Found, OutOfMemory>
         requires { IsClosure (maps.get store.old.live) self.old }
-        ensures made { OnOk result (IsSome self.new) }
-        ensures closure { IsClosure (maps.get store.old.live) self.new }
+        ensures whole { IfOk result (λ found. IsWhole (maps.get store.old.live) found) }
+        ensures taken { self.new ≡ None }
         ensures same { store.new ≡ store.old }
     {
-        if self.is_whole {
-            return Ok(());
+        if let Some(found) = self.found.take() {
+            return Ok(found);
         }
-        self.found = Found::new(self.alloc);
-        take_all(&mut self.found, store)?;
-        follow(&mut self.found, store, &mut self.slots, 0)?;
-        self.is_whole = true;
-        Ok(())
+        let mut found = Found::new(self.alloc);
+        take_all(&mut found, store)?;
+        follow(&mut found, store, &mut self.slots, 0)?;
+        Ok(found)
     }
 
     /// Whether the clause in the slot makes a literal of it hold for good: that literal follows
@@ -149,9 +148,11 @@ impl Closure {
         ensures closure { IsClosure (maps.get store.old.live) self.new }
         ensures same { store.new ≡ store.old }
     {
-        self.make(store)?;
+        let found = self.take_whole(store)?;
         let clause = store.clause(slot);
-        Ok(self.found.left(clause).is_one_at_most(clause))
+        let is_reason = found.left(clause).is_one_at_most(clause);
+        self.found = Some(found);
+        Ok(is_reason)
     }
 
     /// Takes note of a clause that was added: adds what follows by it, where what follows without
@@ -166,14 +167,13 @@ impl Closure {
         ensures closure { IsClosure (maps.get store.old.live) self.new }
         ensures same { store.new ≡ store.old }
     {
-        if !self.is_whole {
+        let Some(mut found) = self.found.take() else {
             return Ok(());
-        }
-        let known = self.found.lits().len();
-        self.is_whole = false;
-        self.found.take(store.clause(slot))?;
-        follow(&mut self.found, store, &mut self.slots, known)?;
-        self.is_whole = true;
+        };
+        let known = found.lits().len();
+        found.take(store.clause(slot))?;
+        follow(&mut found, store, &mut self.slots, known)?;
+        self.found = Some(found);
         Ok(())
     }
 
@@ -184,12 +184,12 @@ impl Closure {
         requires closure { IsClosure (maps.get store.now.live) self.old }
         ensures closure { IsClosure (maps.get (maps.remove store.now.live slot)) self.new }
     {
-        if !self.is_whole {
+        let Some(found) = &self.found else {
             return;
-        }
+        };
         let clause = store.clause(slot);
-        if self.found.left(clause).is_one_at_most(clause) {
-            self.is_whole = false;
+        if found.left(clause).is_one_at_most(clause) {
+            self.found = None;
         }
     }
 }

@@ -17,7 +17,6 @@ use clause_db::{Slot, Store};
 use cnf_base::{Lit, OutOfMemory};
 use std::alloc::Global;
 use std::marker::Model;
-use std::mem;
 use trail::{Except, LiteralSet, Part, Unless, Value, Whole};
 
 /// Live clauses, and unit propagation by plain passes over all of them: slow, and in little memory.
@@ -26,8 +25,6 @@ pub struct Scan {
     alloc: Global,
     store: Store,
     assumptions: Assumptions,
-    /// The set that the last call was given, if it was given one.
-    set: LiteralSet,
     has_refused: bool,
 }
 
@@ -48,7 +45,6 @@ impl Model for Scan {
       alloc = _;
       store = store;
       assumptions = assumptions;
-      set = _;
       has_refused = has_refused;
     }. record {
       propagation = record {
@@ -128,7 +124,6 @@ impl Scan {
             alloc,
             store: Store::new(alloc)?,
             assumptions: Assumptions::new(alloc)?,
-            set: LiteralSet::new(alloc),
             has_refused: false,
         })
     }
@@ -217,14 +212,12 @@ impl Propagate for Scan {
     }
 
     fn assume_unless(&mut self, slot: Slot, set: &[Lit]) -> Result<Answer, OutOfMemory> {
-        if self.set.fill(set).is_err() {
+        let mut filled = LiteralSet::new(self.alloc);
+        if filled.fill(set).is_err() {
             self.has_refused = true;
             return Err(OutOfMemory);
         }
-        let filled = mem::replace(&mut self.set, LiteralSet::new(self.alloc));
-        let assumed = self.assume_reduced(slot, &filled);
-        self.set = filled;
-        assumed
+        self.assume_reduced(slot, &filled)
     }
 
     fn is_root_reason(&mut self, slot: Slot) -> Result<bool, OutOfMemory> {

@@ -4,10 +4,11 @@ mod addition;
 mod candidates;
 mod step;
 
-ghost use Rattle.std.specs.Prelude.{◌≡◌, [], false};
+ghost use Rattle.std.specs.Prelude.{◌≡◌, ℕ, [], false, IsFalse};
 ghost use Rattle.std.specs.FinMap as maps;
 ghost use Rattle.theory.specs.Rules.{drat};
 ghost use Rattle.steps.specs.Session.{fresh};
+ghost use Rattle.trail.specs.LiteralSet.{in_set};
 
 use crate::drat::addition::Examiner;
 use crate::drat::step::{add_copy, delete, parts_of};
@@ -29,6 +30,10 @@ pub struct DratJudge<P: Propagate> {
     has_deleted_reason: bool,
     /// Whether a deletion since the last addition found the literals that hold for good.
     is_settled: bool,
+    ghost no_slots: { examiner.slots.items ≡ [] },
+    ghost no_rest: { examiner.last.rest.items ≡ [] },
+    ghost none_looked_at: { (l : ℕ) → IsFalse (in_set examiner.looked_at l) },
+    ghost no_witness: { (l : ℕ) → IsFalse (in_set examiner.witness l) },
 }
 
 impl<P: Propagate> Session<DratJudge<P>> {
@@ -55,12 +60,29 @@ impl<P: Propagate> Judge for DratJudge<P> {
     ghost use Rattle.theory.specs.Rules.{drat};
     ghost use Rattle.steps.specs.Code.Ready.{IsIdle};
 
-    ghost held = { λ s. record {
-      rule = drat s.rules;
-      live = (P.state s.examiner.clauses).live;
+    // Each field has to be named here, those of the examiner too. Of them the clauses alone have
+    // lists of literals; what the examiner has beside them is empty.
+    ghost held = { λ record {
+      examiner = record {
+        slots = _;
+        last = record { alloc = _; rest = _ };
+        looked_at = _;
+        witness = _;
+        clauses = clauses;
+      };
+      rules = rules;
+      has_deleted_reason = has_deleted_reason;
+      is_settled = _;
+      no_slots = _;
+      no_rest = _;
+      none_looked_at = _;
+      no_witness = _;
+    }. record {
+      rule = drat rules;
+      live = (P.state clauses).live;
       top = 0;
-      stored = (P.state s.examiner.clauses).stored;
-      has_deleted_reason = s.has_deleted_reason;
+      stored = (P.state clauses).stored;
+      has_deleted_reason = has_deleted_reason;
     } };
 
     ghost is_ready = { λ s. IsIdle (P.state s.examiner.clauses) };

@@ -5,7 +5,7 @@ mod candidates;
 mod deletions;
 mod walk;
 
-ghost use Rattle.std.specs.Prelude.{◌≡◌, ◌≢◌, ◌≤◌, IfOk, OnOk, OnErr};
+ghost use Rattle.std.specs.Prelude.{◌≡◌, ◌≢◌, ◌≤◌, [], IfOk, OnOk, OnErr};
 ghost use Rattle.std.specs.FinMap as maps;
 ghost use Rattle.cnf_base.specs.Literals.{complements};
 ghost use Rattle.theory.specs.Lrat.{chain, units_of, groups_of, AnswersChain, AnswersLrat};
@@ -37,8 +37,9 @@ pub type LratSession = Session<LratJudge>;
 pub struct LratJudge {
     room: HintsRoom,
     held: LiveClauses,
-    // empty between steps, with room for the variables of all live clauses
+    // with room for the variables of all live clauses
     trues: Trail,
+    ghost none_true: { trues.lits ≡ [] },
 }
 
 /// Judges an addition whose identifier is right. The walk over its hints takes no memory.
@@ -78,6 +79,7 @@ fn take_addition(
     ensures top { OnOk result (held.new.top ≡ (after_lrat (lrat_state held.old)
         (lrat_step step.now)).top) }
     ensures ready { OnOk result (IsReady (maps.get held.new.live) trues.new) }
+    ensures none_true { trues.new.lits ≡ [] }
     ensures refused { OnErr result (held.new.stored ≤ held.old.stored) }
     ensures never_ended { result ≢ Err Refusal.Ended }
 {
@@ -108,11 +110,18 @@ impl Judge for LratJudge {
     ghost use Rattle.theory.specs.Rules.{lrat};
     ghost use Rattle.steps.specs.Code.Ready.{IsReady};
 
-    ghost held = { λ s. record {
+    // Each field has to be named here, those of the room too. Of them the clauses alone have lists
+    // of literals: the room has identifiers, and the trail is empty.
+    ghost held = { λ record {
+      room = record { alloc = _; ids = _ };
+      held = held;
+      trues = _;
+      none_true = _;
+    }. record {
       rule = lrat;
-      live = s.held.live;
-      top = s.held.top;
-      stored = s.held.stored;
+      live = held.live;
+      top = held.top;
+      stored = held.stored;
       has_deleted_reason = false;
     } };
 

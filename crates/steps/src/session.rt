@@ -29,13 +29,22 @@ impl<J: Judge> Model for Session<J> {
 
     ghost coded = { session_code };
 
-    // Each field has to be named here. Of them the judge alone has lists of literals.
-    ghost view = { λ record { judge = judge; progress = progress }. record {
+    // Each field has to be named here, those of the progress too. Of them the judge alone has lists
+    // of literals.
+    ghost view = { λ record {
+      judge = judge;
+      progress = record {
+        has_stepped = has_stepped;
+        is_verified = is_verified;
+        is_ended = is_ended;
+        peak = peak;
+      };
+    }. record {
       held = J.held judge;
-      has_stepped = progress.has_stepped;
-      is_verified = progress.is_verified;
-      is_ended = progress.is_ended;
-      peak = progress.peak;
+      has_stepped = has_stepped;
+      is_verified = is_verified;
+      is_ended = is_ended;
+      peak = peak;
     } };
 
     ghost invariant = { λ s. s.progress.is_ended ≡ false → J.is_ready s.judge };

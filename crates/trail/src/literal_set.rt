@@ -1,6 +1,7 @@
 //! A set of literals in which each literal is looked up at once.
 
 ghost use Rattle.std.specs.Prelude.{◌≡◌, ℕ, ◌≤◌, if◌then◌else◌, IsFalse, IsSome, IsTrue, OnOk};
+ghost use Rattle.std.specs.Prelude.{OnErr};
 ghost use Rattle.std.specs.List.{list_any};
 ghost use Rattle.cnf_base.specs.Literals.{complement, has};
 ghost use Rattle.trail.specs.Reduced.{is_reduced};
@@ -17,6 +18,7 @@ use tables::{Filled, key};
 /// walk.
 #[derive(Drop)]
 pub struct LiteralSet {
+    alloc: Global,
     numbers: Filled<u64>,
     /// The number of the last filling.
     last: u64,
@@ -55,8 +57,21 @@ impl LiteralSet {
         ensures { (l : ℕ) → IsFalse (in_set result l) }
     {
         LiteralSet {
+            alloc,
             numbers: Filled::new(alloc),
             last: 1,
+        }
+    }
+
+    /// Has no literals from now on. It takes no memory, and its room stays unless the numbers of
+    /// fillings run out.
+    #[tactic(auto, unfolding(crate::specs::LiteralSet::in_set))]
+    pub fn clear(&mut self)
+        ensures { (l : ℕ) → IsFalse (in_set self.new l) }
+    {
+        match self.last.checked_add(1) {
+            Some(number) => self.last = number,
+            None => *self = LiteralSet::new(self.alloc),
         }
     }
 
@@ -64,18 +79,15 @@ impl LiteralSet {
     ///
     /// # Errors
     ///
-    /// Where memory runs out, or the numbers of fillings, after 2^64 - 2 of them. It is open then
-    /// what it has.
+    /// Where memory runs out. It has none then.
     #[tactic(auto, unfolding(crate::specs::LiteralSet::in_set))]
     pub fn fill(&mut self, lits: &[Lit]) -> Result<(), OutOfMemory>
-        ensures { OnOk result ((l : ℕ) → in_set self.new l ≡ has lits.now l) }
+        ensures ok { OnOk result ((l : ℕ) → in_set self.new l ≡ has lits.now l) }
+        ensures err { OnErr result ((l : ℕ) → IsFalse (in_set self.new l)) }
     {
-        let Some(number) = self.last.checked_add(1) else {
-            return Err(OutOfMemory);
-        };
+        self.clear();
         reserve_literals(&mut self.numbers, lits)?;
-        number_literals(&mut self.numbers, lits, number);
-        self.last = number;
+        number_literals(&mut self.numbers, lits, self.last);
         Ok(())
     }
 

@@ -58,9 +58,11 @@ impl Model for Trail {
 
     ghost Value = { TrailState };
 
-    ghost view = { λ t. record {
-      lits = t.lits.items;
-      reserved = t.reserved.items;
+    // Each field has to be named here. The list of the true literals is shown; the tables by
+    // variable and by literal have entries only for variables that were met.
+    ghost view = { λ record { lits = lits; reserved = reserved; seen = _; values = _ }. record {
+      lits = lits.items;
+      reserved = reserved.items;
     } };
 
     ghost invariant = { λ t.

@@ -32,7 +32,6 @@ use propagation::{Answer, Assumptions, Closure, Propagate, first_with};
 use root_literals::Roots;
 use std::alloc::Global;
 use std::marker::Model;
-use std::mem;
 use trail::{Except, LiteralSet, Part, Unless, Value, Whole};
 use watch_lists::{SlotList, WatchLists};
 
@@ -53,8 +52,6 @@ pub struct Watch {
     roots: Roots,
     /// All that follows with nothing assumed, from when it is first asked for past a clash.
     closure: Closure,
-    /// The set that the last call was given, if it was given one.
-    set: LiteralSet,
     has_refused: bool,
     /// They are dropped last: a large block that is given back behind so many small ones makes the
     /// C library join all of these.
@@ -78,16 +75,23 @@ impl Model for Watch {
     ghost coded = { watch_code };
 
     // The order of a clause's literals changes with each move, so it is not shown. Each field has
-    // to be named here. Of them the store alone has lists of literals of clauses.
+    // to be named here, those of the roots too. Of them the store alone has lists of literals of
+    // clauses; the roots have slots and places. Of the literals that are true or follow, the trail
+    // and the closure have lists: the trail's length is shown, and the closure's list has what
+    // follows from the live clauses and nothing else.
     ghost view = { λ record {
       alloc = _;
       store = store;
       lists = lists;
       short = short;
       assumptions = assumptions;
-      roots = roots;
+      roots = record {
+        kept = kept;
+        history = record { visited = _; floor = _ };
+        reasons = _;
+        places = record { by_variable = _; noted = _ };
+      };
       closure = _;
-      set = _;
       has_refused = has_refused;
     }. record {
       propagation = record {
@@ -102,8 +106,8 @@ impl Model for Watch {
       trues = length assumptions.trail.lits;
       variables = variables_in assumptions.trail.reserved;
       roots = roots_in assumptions.trail.lits assumptions.assumptions assumptions.starts;
-      is_up_to_date = is_up_to_date roots.kept;
-      has_clash = has_clash roots.kept;
+      is_up_to_date = is_up_to_date kept;
+      has_clash = has_clash kept;
     } };
 
     ghost invariant = { λ w.
@@ -180,7 +184,6 @@ impl Watch {
             assumptions: Assumptions::new(alloc)?,
             roots: Roots::new(alloc),
             closure: Closure::new(alloc),
-            set: LiteralSet::new(alloc),
             has_refused: false,
         })
     }
@@ -421,14 +424,12 @@ impl Propagate for Watch {
     }
 
     fn assume_unless(&mut self, slot: Slot, set: &[Lit]) -> Result<Answer, OutOfMemory> {
-        if self.set.fill(set).is_err() {
+        let mut filled = LiteralSet::new(self.alloc);
+        if filled.fill(set).is_err() {
             self.has_refused = true;
             return Err(OutOfMemory);
         }
-        let filled = mem::replace(&mut self.set, LiteralSet::new(self.alloc));
-        let assumed = self.assume_reduced(slot, &filled);
-        self.set = filled;
-        assumed
+        self.assume_reduced(slot, &filled)
     }
 
     fn is_root_reason(&mut self, slot: Slot) -> Result<bool, OutOfMemory> {

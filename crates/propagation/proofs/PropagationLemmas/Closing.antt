@@ -1,6 +1,6 @@
 -- All that follows with nothing assumed, and the clauses that make a literal hold for good.
 use Rattle.std.proofs.Common.{◌≡◌, ◌≢◌, ℕ, Result, OnOk, ◌+◌, ◌<◌, ◌≤◌, Bool, true, false, ◌&&◌}
-use Rattle.std.proofs.Common.{cond, eqb, eqb-true, Option, Some, None, is_some, List, [], ◌∷◌, ◌++◌}
+use Rattle.std.proofs.Common.{eqb, eqb-true, Some, None, List, [], ◌∷◌, ◌++◌}
 use Rattle.std.proofs.Common.{take}
 use Rattle.std.proofs.Common.{length, get_or, refl, sym, ap, ◌∙◌, subst, arith, inl, inr}
 use Rattle.std.specs.Ordering.{nat_cmp}
@@ -18,7 +18,7 @@ use Rattle.cnf_base.proofs.SetLemmas.{has_cases, has_head}
 use Rattle.cnf_base.proofs.WalkLemmas.{has_more, has_take}
 use Rattle.cnf_base.proofs.MapLemmas.{after_remove, remove_other}
 use Rattle.clause_db.specs.Store.{IsTouchedAt}
-use Rattle.propagation.specs.Closure.{IsClosure, IsWhole}
+use Rattle.propagation.specs.Closure.{IsWhole}
 use Rattle.propagation.specs.Code.Closure.{AreForced, FollowsFrom, IsFollowed, TakesIn}
 use Rattle.propagation.specs.Code.Closure.{is_old, by_unit}
 use Rattle.theory.specs.Code.Propagation.{IsClosedAt, OthersFail}
@@ -183,20 +183,6 @@ followed_whole live done lits followed over = record { sound = followed.sound; a
     closed = record { unit = λ k c at m member others. followed.takes k c at m member (λ l h ne. ap (λ ls. has ls (complement l)) (take_all done lits over) ∙ others l h ne) }
 
 -- ---- Clauses come and go
-
--- what is kept is the whole least set where it is known to be
-pub kept_whole : (live : Live) (is_whole : Bool) (lits : List Literal) (o : Option (List Literal)) → cond is_whole (Some lits) None ≡ o → is_whole ≡ true → IsClosure live o → IsWhole live lits
-kept_whole live true lits o is known closure = subst (IsClosure live) (sym is) closure
-kept_whole live false lits o is known closure = absurd (false≢true known)
-
--- so it is where something is known to be kept
-pub some_whole : (live : Live) (is_whole : Bool) (lits : List Literal) (o : Option (List Literal)) → cond is_whole (Some lits) None ≡ o → is_some o ≡ true → IsClosure live o → IsWhole live lits
-some_whole live true lits o is some closure = subst (IsClosure live) (sym is) closure
-some_whole live false lits o is some closure = absurd (false≢true (ap is_some is ∙ some))
-
-pub whole_kept : (live : Live) (is_whole : Bool) (lits : List Literal) (o : Option (List Literal)) → cond is_whole (Some lits) None ≡ o → is_whole ≡ true → IsWhole live lits → IsClosure live o
-whole_kept live true lits o is known whole = subst (IsClosure live) is whole
-whole_kept live false lits o is known whole = absurd (false≢true known)
 
 module _ (live : FinMap nat_cmp Clause) (slot : ℕ) where
   fewer_closed : (passes : Literal → Bool) → IsClosed (maps.get live) passes → IsClosed (maps.get (maps.remove live slot)) passes

@@ -30,7 +30,9 @@ impl Model for Found {
 
     ghost Value = { List ℕ };
 
-    ghost view = { λ f. f.lits.items };
+    // Each field has to be named here. The list is shown; the table has a mark for each literal of
+    // the list and no other.
+    ghost view = { λ record { lits = lits; marks = _ }. lits.items };
 
     ghost invariant = { λ f. (l : ℕ) → is_some (at f.marks l) ≡ has f.lits.items l };
 }

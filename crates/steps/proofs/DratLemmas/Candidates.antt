@@ -78,15 +78,6 @@ clashed_after before after same them last known = record {
       (subst (λ assumed. Clash (maps.get before.live) (assumed_by assumed ++ complements last.rest.items)) (sym same.assumptions) (known.clashes some));
 }
 
--- it notes the same, whatever its set was filled with
-pub clashed_with : (clauses : Propagation) (them : Candidates) (last other : Clashed) → other.rest ≡ last.rest → HasClashed clauses them last → HasClashed clauses them other
-clashed_with clauses them last other is known = record {
-  left = λ l h. known.left l (subst (λ v. has v.items l ≡ true) is h);
-  clashes = λ some.
-      subst (λ v. Clash (maps.get clauses.live) (assumed_by clauses.assumptions ++ complements v.items)) (sym is)
-      (known.clashes (λ none. some (ap (λ v. v.items) is ∙ none)));
-}
-
 -- more literals assumed false clash too
 clash_more : (live : Live) (assumed rest more : List Literal) → ((l : Literal) → has rest l ≡ true → has more l ≡ true) → Clash live (assumed ++ complements rest) → Clash live (assumed ++ complements more)
 clash_more live assumed rest more all = clash_same live (assumed ++ complements rest) (assumed ++ complements more) (λ a h. elim (has_append_cases assumed (complements rest) a h) [

@@ -1,16 +1,26 @@
 -- What the judges of a session need between calls.
 use Rattle.std.specs.FinMap as maps
-use Rattle.std.specs.Prelude.{◌≡◌, []}
-use Rattle.cnf_base.specs.Literals.{Clause, complements}
+use Rattle.std.specs.Prelude.{◌≡◌, ℕ, List, [], IsFalse}
+use Rattle.cnf_base.specs.Literals.{Literal, Clause, complements}
 use Rattle.propagation.specs.Assumptions.{Propagation, HoldsLiveAlone, MayAssume, assumed_by}
 use Rattle.theory.specs.Propagation.{Live, HasRup}
 use Rattle.theory.specs.Sets.{SameSet}
+use Rattle.trail.specs.LiteralSet.{in_set}
+use Rattle.trail.specs.declared.literal_set.LiteralSet.{LiteralSet}
 use Rattle.trail.specs.Trail.{TrailState, HasRoomForAll}
 
 -- in DRAT: nothing is assumed, and no literals are kept but those of the live clauses
 pub record IsIdle (clauses : Propagation) : Type 0 where
   pub nothing_assumed : clauses.assumptions ≡ []
   pub live_alone : HoldsLiveAlone clauses
+
+-- in DRAT: of what a step was judged with, no slot and no literal is kept
+pub record IsEmptied (slots : List ℕ) (rest : List Literal) (looked_at witness : LiteralSet)
+    : Type 0 where
+  pub no_slots : slots ≡ []
+  pub no_rest : rest ≡ []
+  pub none_looked_at : (l : Literal) → IsFalse (in_set looked_at l)
+  pub no_witness : (l : Literal) → IsFalse (in_set witness l)
 
 -- in DRAT, where a clause lacks RUP: the complements of its literals are assumed, and more may be
 pub record IsAssumed (clauses : Propagation) (c : Clause) : Type 0 where

@@ -5,7 +5,7 @@ ghost use Rattle.std.specs.FinMap as maps;
 ghost use Rattle.cnf_base.specs.Literals.{Literal, has};
 ghost use Rattle.theory.specs.Drat.{AnswersAdd, AnswersListed, AnswersWithWitness};
 ghost use Rattle.steps.specs.Code.Candidates.{IsListed, MeetsIfListed};
-ghost use Rattle.steps.specs.Code.Ready.{IsIdle, IsAssumed, IsAsBefore};
+ghost use Rattle.steps.specs.Code.Ready.{IsIdle, IsAssumed, IsAsBefore, IsEmptied};
 ghost use Rattle.theory.specs.Answers.{UnlessOutOfMemory};
 
 use crate::drat::candidates::{Candidates, Clashed};
@@ -16,12 +16,14 @@ use theory::{Accepted, Refusal};
 use trail::LiteralSet;
 
 /// Live clauses by which additions are judged, with the room that this needs, which is kept from
-/// step to step.
+/// step to step. Between steps it is empty.
 #[derive(Drop)]
 pub(crate) struct Examiner<P: Propagate> {
     /// The slots of the clauses that are touched.
     slots: Vec<u32>,
     last: Clashed,
+    /// The literals of the candidate that is looked at.
+    looked_at: LiteralSet,
     /// The witness that is tried.
     witness: LiteralSet,
     pub(crate) clauses: P,
@@ -30,13 +32,16 @@ pub(crate) struct Examiner<P: Propagate> {
 impl<P: Propagate> Examiner<P> {
     /// With room for nothing yet. It takes no memory.
     pub(crate) fn new(clauses: P) -> Self
-        ensures { P.state result.clauses ≡ P.state clauses }
+        ensures clauses { P.state result.clauses ≡ P.state clauses }
+        ensures emptied { IsEmptied result.slots.items result.last.rest.items result.looked_at
+            result.witness }
     {
         let alloc = clauses.alloc();
         Examiner {
             clauses,
             slots: Vec::new(alloc),
             last: Clashed::new(alloc),
+            looked_at: LiteralSet::new(alloc),
             witness: LiteralSet::new(alloc),
         }
     }
@@ -54,7 +59,8 @@ impl<P: Propagate> Examiner<P> {
         };
         let first = [*pivot];
         let candidates = Candidates::Holding(pivot.neg());
-        match candidates.all_clash(&mut self.clauses, &first, &mut self.slots, &mut self.last) {
+        let (slots, last, looked_at) = (&mut self.slots, &mut self.last, &mut self.looked_at);
+        match candidates.all_clash(&mut self.clauses, &first, slots, last, looked_at) {
             Ok(true) => Ok(Accepted::Rat),
             Ok(false) => Err(Refusal::NeitherRupNorRat(*pivot)),
             Err(_) => Err(Refusal::OutOfMemory),
@@ -72,7 +78,8 @@ impl<P: Propagate> Examiner<P> {
         ensures same { IsAsBefore (P.state self.old.clauses) (P.state self.new.clauses) }
     {
         let candidates = Candidates::ReducedBy(&self.witness);
-        match candidates.all_clash(&mut self.clauses, witness, &mut self.slots, &mut self.last) {
+        let (slots, last, looked_at) = (&mut self.slots, &mut self.last, &mut self.looked_at);
+        match candidates.all_clash(&mut self.clauses, witness, slots, last, looked_at) {
             Ok(true) => Ok(Accepted::Pr),
             Ok(false) => Err(Refusal::NeitherRupNorPr),
             Err(_) => Err(Refusal::OutOfMemory),
@@ -119,7 +126,7 @@ impl<P: Propagate> Examiner<P> {
 
     /// The answer to an addition, whether it lists a witness or not, over the clauses that are
     /// alive before it.
-    pub(crate) fn judge(&mut self, lits: &[Lit], witness: &[Lit]) -> Result<Accepted, Refusal>
+    fn judge_listed(&mut self, lits: &[Lit], witness: &[Lit]) -> Result<Accepted, Refusal>
         requires idle { IsIdle (P.state self.old.clauses) }
         requires meets { MeetsIfListed lits.now witness.now }
         ensures answers { UnlessOutOfMemory result (AnswersListed
@@ -132,5 +139,24 @@ impl<P: Propagate> Examiner<P> {
             return Err(Refusal::InconsistentSet);
         }
         self.judge_consistent(lits, witness)
+    }
+
+    /// The same. What it was found with is emptied again.
+    pub(crate) fn judge(&mut self, lits: &[Lit], witness: &[Lit]) -> Result<Accepted, Refusal>
+        requires idle { IsIdle (P.state self.old.clauses) }
+        requires meets { MeetsIfListed lits.now witness.now }
+        ensures answers { UnlessOutOfMemory result (AnswersListed
+            (maps.values (P.state self.old.clauses).live) lits.now witness.now result) }
+        ensures live { (P.state self.new.clauses).live ≡ (P.state self.old.clauses).live }
+        ensures idle { IsIdle (P.state self.new.clauses) }
+        ensures emptied { IsEmptied self.new.slots.items self.new.last.rest.items
+            self.new.looked_at self.new.witness }
+    {
+        let answer = self.judge_listed(lits, witness);
+        self.slots.clear();
+        self.last.clear();
+        self.looked_at.clear();
+        self.witness.clear();
+        answer
     }
 }

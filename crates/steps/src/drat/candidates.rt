@@ -24,13 +24,15 @@ pub(crate) enum Candidates<'a> {
     ReducedBy(&'a LiteralSet),
 }
 
+/// For so many literals room is kept from step to step; more is given back.
+const MOST_KEPT: usize = 1024;
+
 /// What is left of the last candidate that clashed. Another one that has all of it clashes too.
 #[derive(Drop)]
 pub(crate) struct Clashed {
+    alloc: Global,
     /// Nothing, where none has: no candidate is tried where nothing more has to be assumed.
     rest: Vec<Lit>,
-    /// The literals of the candidate that is looked at.
-    looked_at: LiteralSet,
 }
 
 impl Clashed {
@@ -39,8 +41,19 @@ impl Clashed {
         ensures { result.rest.items ≡ [] }
     {
         Clashed {
+            alloc,
             rest: Vec::new(alloc),
-            looked_at: LiteralSet::new(alloc),
+        }
+    }
+
+    /// Of no candidate again. Much room is given back, and little stays.
+    pub(crate) fn clear(&mut self)
+        ensures { self.new.rest.items ≡ [] }
+    {
+        if self.rest.capacity() > MOST_KEPT {
+            self.rest = Vec::new(self.alloc);
+        } else {
+            self.rest.clear();
         }
     }
 
@@ -57,11 +70,11 @@ impl Clashed {
         Ok(())
     }
 
-    /// Whether some has, and the clause has all that is left of it.
-    fn is_within(&mut self, clause: &[Lit]) -> Result<bool, OutOfMemory>
-        ensures within { IfOk result (λ is_within. is_within ≡ true →
-            IsWithin self.old.rest.items clause.now) }
-        ensures same { self.new.rest ≡ self.old.rest }
+    /// Whether some has, and the clause has all that is left of it. The set is filled with the
+    /// clause where that is looked up.
+    fn is_within(&self, clause: &[Lit], looked_at: &mut LiteralSet) -> Result<bool, OutOfMemory>
+        ensures { IfOk result (λ is_within. is_within ≡ true →
+            IsWithin self.now.rest.items clause.now) }
     {
         let Some(first) = self.rest.first() else {
             return Ok(false);
@@ -69,8 +82,8 @@ impl Clashed {
         if !clause.contains(first) {
             return Ok(false);
         }
-        self.looked_at.fill(clause)?;
-        Ok(self.rest.iter().all(|l| self.looked_at.has(*l)))
+        looked_at.fill(clause)?;
+        Ok(self.rest.iter().all(|l| looked_at.has(*l)))
     }
 }
 
@@ -131,6 +144,7 @@ impl Candidates<'_> {
         clauses: &mut P,
         slot: Slot,
         last: &mut Clashed,
+        looked_at: &mut LiteralSet,
     ) -> Result<bool, OutOfMemory>
         requires can_try { CanTry (P.state clauses.old) slot }
         requires clashed { HasClashed (P.state clauses.old) self.now last.old }
@@ -139,7 +153,7 @@ impl Candidates<'_> {
         ensures same { IsAsBefore (P.state clauses.old) (P.state clauses.new) }
     {
         let clause = clauses.clause(slot);
-        if !self.includes(clause) || last.is_within(clause)? {
+        if !self.includes(clause) || last.is_within(clause, looked_at)? {
             return Ok(true);
         }
         match self.answer_with(clauses, slot)? {
@@ -152,13 +166,14 @@ impl Candidates<'_> {
     }
 
     /// Whether each of them clashes with what is assumed, where the literals touch all that can be
-    /// one.
+    /// one. It is open what `slots`, `last` and `looked_at` have then.
     pub(crate) fn all_clash<P: Propagate>(
         &self,
         clauses: &mut P,
         lits: &[Lit],
         slots: &mut Vec<u32>,
         last: &mut Clashed,
+        looked_at: &mut LiteralSet,
     ) -> Result<bool, OutOfMemory>
         requires room { MayAssume (P.state clauses.old).assumptions }
         requires touched { (c : Clause) → IsTrue (is_candidate self.now c) →
@@ -170,9 +185,9 @@ impl Candidates<'_> {
             return Ok(true);
         }
         clauses.touched(lits, slots)?;
-        last.rest.clear();
+        last.clear();
         for slot in slots.as_slice() {
-            if !self.passes(clauses, Slot::at(*slot as usize), last)? {
+            if !self.passes(clauses, Slot::at(*slot as usize), last, looked_at)? {
                 return Ok(false);
             }
         }

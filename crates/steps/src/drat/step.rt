@@ -9,7 +9,7 @@ ghost use Rattle.theory.specs.Drat.{AnswersDelete, AnswersListed, addition_of};
 ghost use Rattle.theory.specs.Drat.{after_drat, SameLive};
 ghost use Rattle.theory.specs.Drat as drat;
 ghost use Rattle.steps.specs.Code.Candidates.{MeetsIfListed};
-ghost use Rattle.steps.specs.Code.Ready.{IsIdle};
+ghost use Rattle.steps.specs.Code.Ready.{IsIdle, IsEmptied};
 ghost use Rattle.theory.specs.Answers.{UnlessOutOfMemory};
 
 use crate::drat::addition::Examiner;
@@ -41,6 +41,8 @@ impl<P: Propagate> Examiner<P> {
         ensures live { OnOk result (SameLive (maps.values (P.state self.new.clauses).live)
             (lits.now ∷ maps.values (P.state self.old.clauses).live)) }
         ensures idle { IsIdle (P.state self.new.clauses) }
+        ensures emptied { IsEmptied self.new.slots.items self.new.last.rest.items
+            self.new.looked_at self.new.witness }
         ensures refused { OnErr result
             ((P.state self.new.clauses).live ≡ (P.state self.old.clauses).live) }
     {

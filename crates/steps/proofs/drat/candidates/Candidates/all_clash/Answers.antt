@@ -17,7 +17,7 @@ pub loop-slot-init : goal.loop-slot-init
 loop-slot-init g c = record {
   passed = λ s none. absurd (false≢true none);
   same = record { live = ap (λ p. p.live) c.touched.ensures.same; assumptions = ap (λ p. p.assumptions) c.touched.ensures.same };
-  clashed = none_clashed (g.P.Propagate.state c.touched.new.self) c.args.self.now _ c.clear.ensures.items;
+  clashed = none_clashed (g.P.Propagate.state c.touched.new.self) c.args.self.now _ c.clear.ensures;
 }
 
 pub passes-requires-clause-can_try : goal.passes-requires-clause-can_try

@@ -4,8 +4,8 @@ use Rattle.std.specs.FinMap as maps
 use Rattle.std.proofs.lemmas.Bool.{false≢true}
 use Rattle.cnf_base.specs.Literals.{complements}
 use Rattle.propagation.specs.Assumptions.{IsAnswer, assumed_by}
-use Rattle.steps.specs.Code.Candidates.{HasClashed, rest_of}
-use Rattle.steps.proofs.DratLemmas.Candidates.{clashed_now, clashed_with, clashes_within, looked_at}
+use Rattle.steps.specs.Code.Candidates.{rest_of}
+use Rattle.steps.proofs.DratLemmas.Candidates.{clashed_now, clashes_within, looked_at}
 use Rattle.steps.proofs.drat.candidates.Candidates.passes.Goals as goal
 
 pub returns-then-not-includes-clause-passes : goal.returns-then-not-includes-clause-passes
@@ -15,16 +15,7 @@ returns-then-not-includes-clause-passes g c =
       | goal.then-not-includes-via-then-not-includes w ↦ λ d at test.
           absurd (false≢true (sym w.if-not-includes.true ∙ sym (looked_at _ c.args.self.now c.clause-clause.result.now c.includes.result c.clause-clause.ensures.clause c.includes.ensures d at) ∙ test))
       | goal.then-not-includes-via-else-not-includes+in_ok-is_within+then-branch w ↦
-          clashes_within now c.args.self.now c.args.slot c.clause-clause.result.now c.clause-clause.ensures.clause c.args.last.now c.requires.clashed (w.in_ok-is_within.ensures.within w.if-branch.true)
-    ]
-
-pub returns-then-not-includes-clause-clashed : goal.returns-then-not-includes-clause-clashed
-returns-then-not-includes-clause-clashed g c =
-    let now = g.P.Propagate.state c.args.clauses.now in
-    elim c.then-not-includes.branch [
-      | goal.then-not-includes-via-then-not-includes w ↦ subst (HasClashed now c.args.self.now) (sym w.last-is) c.requires.clashed
-      | goal.then-not-includes-via-else-not-includes+in_ok-is_within+then-branch w ↦
-          subst (HasClashed now c.args.self.now) (sym w.last-is) (clashed_with now c.args.self.now c.args.last.now w.is_within.new.self w.is_within.ensures.same c.requires.clashed)
+          clashes_within now c.args.self.now c.args.slot c.clause-clause.result.now c.clause-clause.ensures.clause c.args.last.now c.requires.clashed (w.in_ok-is_within.ensures w.if-branch.true)
     ]
 
 pub returns-in_ok-note-in-Clash-clause-passes : goal.returns-in_ok-note-in-Clash-clause-passes
@@ -46,7 +37,3 @@ returns-in-Quiet-clause-passes g c = λ d at.
       looked_at _ c.args.self.now c.clause-clause.result.now c.includes.result c.clause-clause.ensures.clause c.includes.ensures d at ∙ c.if-not-includes.false,
       subst (IsAnswer (maps.get now.live) (assumed_by now.assumptions ++ complements (rest_of c.args.self.now d))) c.in-Quiet.is (c.in_ok-answer_with.ensures.answer d at),
     )
-
-pub returns-in-Quiet-clause-clashed : goal.returns-in-Quiet-clause-clashed
-returns-in-Quiet-clause-clashed g c =
-    clashed_with (g.P.Propagate.state c.args.clauses.now) c.args.self.now c.args.last.now c.is_within.new.self c.is_within.ensures.same c.requires.clashed
