@@ -15,7 +15,7 @@ pub struct Args {
     pub trace: bool,
     /// `--strict`: a deletion of a clause that is not alive is refused.
     pub strict: bool,
-    /// `--pr`: an addition may list a set after its clause.
+    /// `--pr`: an addition may list a witness after its clause.
     pub pr: bool,
     /// `--keep-units`: a deletion of a live clause that makes a literal of it hold for good is
     /// ignored.

@@ -19,10 +19,10 @@ use clap::{Arg, ArgAction, Command};
 use std::alloc::{AllocError, Global};
 
 /// What is shown of a proof that may be named.
-const PROOF: &str = "The proof (standard input if absent)";
+const PROOF: &str = "The proof ('-' or absent: standard input)";
 
 /// What is shown of a solver's output that may be named.
-const OUTPUT: &str = "The solver's output (standard input if absent)";
+const OUTPUT: &str = "The solver's output ('-' or absent: standard input)";
 
 /// The flag `--name`.
 fn flag<'a>(alloc: Global, name: &'a str, help: &'a str) -> Arg<'a>
@@ -51,7 +51,7 @@ fn formula<'a>(alloc: Global) -> Arg<'a>
         .value_name("FORMULA")
         .action(ArgAction::Set)
         .required(true)
-        .help("The formula, in DIMACS CNF")
+        .help("The formula, in DIMACS CNF ('-': standard input)")
 }
 
 /// The file that may be named.
@@ -93,7 +93,7 @@ fn command<'a>(alloc: Global, tool: Tool) -> Result<Command<'a>, AllocError>
         Tool::Drat => {
             let binary = flag(alloc, "binary", "Read the proof in the binary form");
             let strict = "Refuse a deletion of a clause that is not alive";
-            let pr = "Take additions that list a set, by propagation redundancy";
+            let pr = "Accept additions with a witness, by propagation redundancy (PR)";
             let keep_units = "Ignore deletions of reason clauses of root-level literals";
             let drat = new_command(alloc, "drat-forward", DRAT_PURPOSE)
                 .arg(binary)?

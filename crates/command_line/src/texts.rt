@@ -2,7 +2,6 @@
 
 ghost use Rattle.std.specs.Prelude.{◌≡◌};
 ghost use Rattle.clap.specs.Words.{kind_of};
-ghost use Rattle.command_line.specs.Texts.{name_of};
 
 use crate::{ArgsFault, Tool};
 use clap::Error;
@@ -28,17 +27,6 @@ const STATUSES: &str = "\n\
     \x20 4  out of memory\n\
     \x20 5  a write failed\n\
     \x20 6  the command line is wrong, or asks for help or the version\n";
-
-/// The name of the tool's program.
-fn name_of(tool: Tool) -> &'static str
-    ensures { result.now ≡ name_of tool }
-{
-    match tool {
-        Tool::Drat => "drat-forward",
-        Tool::Lrat => "lrat-check",
-        Tool::Model => "model-check",
-    }
-}
 
 /// What may follow the program's name.
 fn usage_of(tool: Tool) -> &'static str {
@@ -79,7 +67,7 @@ fn hyphen_tip(message: &str) -> &'static str {
 /// What is told of a command line that is wrong: this, how the program is used, and where more is
 /// said.
 pub(crate) fn wrong_words(alloc: Global, tool: Tool, message: &str) -> ArgsFault {
-    let (name, usage, tip) = (name_of(tool), usage_of(tool), hyphen_tip(message));
+    let (name, usage, tip) = (tool.name(), usage_of(tool), hyphen_tip(message));
     refusal(format!(in alloc;
         "{name}: {message}\n{tip}Usage: {name} {usage}\nTry '{name} --help'.\n"
     ))
@@ -93,7 +81,7 @@ pub(crate) fn fault_from(alloc: Global, tool: Tool, error: &Error) -> ArgsFault
     match error.kind() {
         ErrorKind::OutOfMemory => ArgsFault::OutOfMemory,
         ErrorKind::DisplayHelp => {
-            let name = name_of(tool);
+            let name = tool.name();
             refusal(format!(in alloc; "{error}{STATUSES}\nManual page: man {name}\n"))
         }
         ErrorKind::DisplayVersion => refusal(format!(in alloc; "{error}")),

@@ -227,10 +227,10 @@ reports_nothing rule trace steps formula proof new checked was now same none qui
 
 -- memory ran out before either was read
 pub runs_nothing : (rule : Rule) (trace : Bool) (steps : Input → Proof) (formula proof new : Reader) (checked : Checked) (was now : Sink) → proof ≡ new
-    → checked ≡ record { status = NoMemory; refused = None; reason_deleted = false; fault = None } → ((r : Report) → Outcome NoMemory was.held now.held r) → LeavesWriter NoMemory was now
+    → checked ≡ record { status = NoMemory; refused = None; reason_deleted = false; fault = None; unmet = None } → ((r : Report) → Outcome NoMemory was.held now.held r) → LeavesWriter NoMemory was now
     → RunsInto rule trace steps formula formula proof new was now checked
 runs_nothing rule trace steps formula proof new checked was now same is o writer =
-    let gone : Checked = record { status = NoMemory; refused = None; reason_deleted = false; fault = None } in
+    let gone : Checked = record { status = NoMemory; refused = None; reason_deleted = false; fault = None; unmet = None } in
     let P : Checked → Type 0 = λ c. RunsInto rule trace steps formula formula proof new was now c in
     subst P (sym is) (record {
       report = reports_nothing rule trace steps formula proof new gone was now same refl refl o refl (λ e. let bad : NoMemory ≡ Malformed = e in cc);

@@ -20,15 +20,16 @@ use Rattle.sat_check.specs.Lines.{a_model, fault_line, fault_status}
 use Rattle.sat_check.specs.Report.{Outcome, Report, concluded}
 use Rattle.sat_check.specs.ModelReport.{meets, first_unmet, met_report, clauses_report}
 use Rattle.sat_check.specs.ModelReport.{claim_report, model_report, Satisfies, ChecksModel}
-use Rattle.sat_check.specs.ModelReport.{ReadsFormulaNoFurther, TellsModelFault, first_model_fault}
+use Rattle.sat_check.specs.ModelReport.{ReadsFormulaNoFurther, TellsModelFault, TellsUnmet, first_model_fault}
 use Rattle.sat_check.specs.Reach.{TellsFault, first_fault}
 use Rattle.sat_check.specs.declared.checked.Checked.{Checked}
 use Rattle.sat_check.specs.declared.input_fault.InputFault.TheVariants as of
-use Rattle.sat_check.specs.Code.Judging.{Judges, ReadsToUnmet, judged_report}
+use Rattle.sat_check.specs.Code.Judging.{Judges, ReadsToUnmet, judged_report, unmet_in}
 use Rattle.sat_check.specs.declared.judgement.Judgement.{Judgement}
 use Rattle.sat_check.specs.declared.judgement.Judgement.TheVariants.{Met, Unmet}
 use Rattle.sat_check.specs.declared.status.Status.{Status}
 use Rattle.sat_check.specs.declared.status.Status.TheVariants.{Verified, NotVerified, Malformed}
+use Rattle.sat_check.specs.declared.status.Status.TheVariants.{OutOfMemory as NoMemory}
 use Rattle.sat_check.proofs.JudgeLemmas.{unread_unmet}
 use Rattle.sat_check.proofs.OutcomeLemmas.{both_told}
 use Rattle.sat_check.proofs.SoundLemmas.{fault_is_no_verdict, outcome_verified, outcome_complete}
@@ -62,6 +63,18 @@ pub judged_as : (listed : List Literal) (j : Judgement) (f : Formula) → Judges
 judged_as listed (Met n) f j =
     ap (λ m. met_report m None) j.1 ∙ ap (met_report (length f.clauses)) (sym j.2) ∙ ap (λ u. clauses_report u f) (sym j.0)
 judged_as listed (Unmet k) f j = ap (λ u. clauses_report u f) (sym j)
+
+-- and the first clause that isn't met is the one that it has
+pub judged_unmet : (listed : List Literal) (j : Judgement) (f : Formula) → Judges listed (Ok j) f.clauses f.fault → unmet_in j ≡ first_unmet 1 listed f.clauses
+judged_unmet listed (Met n) f j = sym j.0
+judged_unmet listed (Unmet k) f j = sym j
+
+-- where the formula has a fault, each clause before it is met
+pub fault_unmet : (listed : List Literal) (e : Fault) (f : Formula) → Judges listed (Err e) f.clauses f.fault → (e ≡ OutOfMemory → ⊥) → first_unmet 1 listed f.clauses ≡ None
+fault_unmet listed (Text k p) f j room = j.0
+fault_unmet listed (Binary k n) f j room = j.0
+fault_unmet listed ReadFailed f j room = j.0
+fault_unmet listed OutOfMemory f j room = absurd (room refl)
 
 -- a fault's lines, or want of memory
 abbrev pub WritesFault : List ℕ → Fault → Status → Sink → Sink → Type 0
@@ -213,26 +226,51 @@ both_check_model formula formula_new output output_new Told status old new first
 
 -- ---- What is told of a fault
 
--- a claim without a fault leaves the formula's
-pub claimed_tells : (model : List Literal) (claim : Result (List Literal) Fault) (f : Formula) (checked : Checked) → IsClaim (Ok model) claim → TellsFault f.fault None checked
-    → TellsModelFault claim f checked
-claimed_tells model (Ok listed) f checked same tells = record { malformed = tells.malformed; only = tells.only }
-claimed_tells model (Err e) f checked none tells = absurd none
+of_ok : (a b : List Literal) (r : Result (List Literal) Fault) → r ≡ Ok a → r ≡ Ok b → a ≡ b
+of_ok a b r is also = cc
 
-module _ (f : Formula) (checked : Checked) (only : (checked.status ≡ Malformed → ⊥) → checked.fault ≡ None) where
+not_malformed : NoMemory ≡ Malformed → ⊥
+not_malformed is = cc
+
+not_err : (a : List Literal) (e : Fault) (r : Result (List Literal) Fault) → r ≡ Ok a → r ≡ Err e → ⊥
+not_err a e r is also = cc
+
+-- a claim without a fault leaves the formula's
+pub claimed_tells : (model : List Literal) (claim : Result (List Literal) Fault) (f : Formula) (checked : Checked) → IsClaim (Ok model) claim → TellsFault f.fault None checked → TellsUnmet model f.clauses checked
+    → TellsModelFault claim f checked
+claimed_tells model (Ok listed) f checked same tells unmet = record {
+  malformed = tells.malformed;
+  only = tells.only;
+  unmet = λ other is room. unmet room ∙ first_unmet_same 1 model listed same f.clauses
+      ∙ ap (λ l. first_unmet 1 l f.clauses) (of_ok listed other (Ok listed) refl is);
+  unclaimed = λ e is. absurd (not_err listed e (Ok listed) refl is);
+}
+claimed_tells model (Err e) f checked none tells unmet = absurd none
+
+module _ (f : Formula) (checked : Checked) (none : checked.unmet ≡ None) (only : (checked.status ≡ Malformed → ⊥) → checked.fault ≡ None) where
   -- the output has this fault
-  pub output_tells : (e : Fault) (claim : Result (List Literal) Fault) → IsClaim (Err e) claim → (e ≡ OutOfMemory → checked.status ≡ Malformed → ⊥)
+  pub output_tells : (e : Fault) (claim : Result (List Literal) Fault) → IsClaim (Err e) claim → (e ≡ OutOfMemory → checked.status ≡ NoMemory)
       → (checked.status ≡ Malformed → checked.fault ≡ Some (of.Second e)) → TellsModelFault claim f checked
   output_tells e claim is memory told = by e is memory told
     where
       other : (e : Fault) → claim ≡ Err e → (checked.status ≡ Malformed → checked.fault ≡ Some (of.Second e)) → TellsModelFault claim f checked
-      other e is told = record { malformed = λ m. told m ∙ sym (ap (λ x. first_model_fault x f) is); only = only }
+      other e is told = record {
+        malformed = λ m. told m ∙ sym (ap (λ x. first_model_fault x f) is);
+        only = only;
+        unmet = λ listed ok. absurd (not_err listed e claim ok is);
+        unclaimed = λ _ _. none;
+      }
 
-      by : (e : Fault) → IsClaim (Err e) claim → (e ≡ OutOfMemory → checked.status ≡ Malformed → ⊥) → (checked.status ≡ Malformed → checked.fault ≡ Some (of.Second e)) → TellsModelFault claim f checked
+      by : (e : Fault) → IsClaim (Err e) claim → (e ≡ OutOfMemory → checked.status ≡ NoMemory) → (checked.status ≡ Malformed → checked.fault ≡ Some (of.Second e)) → TellsModelFault claim f checked
       by (Text k p) is memory told = other (Text k p) is told
       by (Binary k n) is memory told = other (Binary k n) is told
       by ReadFailed is memory told = other ReadFailed is told
-      by OutOfMemory is memory told = record { malformed = λ m. absurd (memory refl m); only = only }
+      by OutOfMemory is memory told = record {
+        malformed = λ m. absurd (not_malformed (sym (memory refl) ∙ m));
+        only = only;
+        unmet = λ listed ok room. absurd (room (memory refl));
+        unclaimed = λ _ _. none;
+      }
 
   -- the formula has it
   pub formula_tells : (listed : List Literal) (e : Fault) → Judges listed (Err e) f.clauses f.fault → (e ≡ OutOfMemory → checked.status ≡ Malformed → ⊥)

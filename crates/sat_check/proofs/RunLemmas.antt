@@ -21,4 +21,5 @@ weakened status P Q formula formula_new second second_new had_failed has_failed 
       write_failed = run.write_failed;
       no_failure = run.no_failure;
       flushed = run.flushed;
+      gave_up = run.gave_up;
     }

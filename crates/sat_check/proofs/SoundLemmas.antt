@@ -19,7 +19,7 @@ use Rattle.sat_check.specs.Code.Checking.{AllReports, RunsInto}
 use Rattle.sat_check.specs.Lines.{fault_status, text_status}
 use Rattle.sat_check.specs.Reach.{ReadsNoFurther, TellsWhy}
 use Rattle.sat_check.specs.Report.{Report, Outcome, ReportsFormula, ProofReport, Verifies, Reports}
-use Rattle.sat_check.specs.Report.{ChecksProof, IsUnlessBroken, bare_steps, peak_of, verdict_report}
+use Rattle.sat_check.specs.Report.{ChecksProof, IsFlushedOrFailed, IsUnlessBroken, bare_steps, peak_of, verdict_report}
 use Rattle.sat_check.specs.Runs.{RunsPlaced}
 use Rattle.sat_check.specs.declared.checked.Checked.{Checked}
 use Rattle.sat_check.specs.declared.status.Status.{Status}
@@ -118,6 +118,14 @@ both_check_proof rule trace steps formula formula_new proof proof_new checked ol
     × ReadsNoFurther rule (formula_of i) (steps j) proof proof_new × TellsWhy rule (formula_of i).fault (formula_of i).clauses (steps j) checked)
     _ old new first last before after (λ i j x. (checks_proof rule trace i (steps j) first last checked.status x.0, x.1, x.2))
 
+-- of the writer that lines are written to
+is_flushed_or_failed : (now : Sink) (has_failed is_flushed : Bool) → now.has_failed ≡ has_failed → now.is_flushed ≡ is_flushed
+    → IsFlushedOrFailed now.is_flushed now.has_failed → IsFlushedOrFailed is_flushed has_failed
+is_flushed_or_failed now has_failed is_flushed has flushed is =
+    let First : Bool → Type 0 = λ b. IsFlushedOrFailed b now.has_failed in
+    let Second : Bool → Type 0 = λ b. IsFlushedOrFailed is_flushed b in
+    subst Second has (subst First flushed is)
+
 -- a run into lines over a writer, said of the writer
 pub runs_placed : (rule : Rule) (trace : Bool) (steps : Input → Proof) (formula formula_new proof proof_new : Reader) (checked : Checked) (was now : Sink) (old new : Option (List ℕ)) (had_failed has_failed is_flushed : Bool)
     → was.held ≡ old → now.held ≡ new → was.has_failed ≡ had_failed → now.has_failed ≡ has_failed → now.is_flushed ≡ is_flushed
@@ -129,4 +137,5 @@ runs_placed rule trace steps formula formula_new proof proof_new checked was now
   write_failed = λ is. sym has ∙ runs.write_failed is;
   no_failure = λ is. sym has ∙ (runs.writer.no_failure is ∙ had);
   flushed = λ is. sym flushed ∙ runs.writer.flushed is;
+  gave_up = λ is. is_flushed_or_failed now has_failed is_flushed has flushed (runs.writer.gave_up is);
 }

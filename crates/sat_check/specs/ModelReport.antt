@@ -17,6 +17,7 @@ use Rattle.sat_check.specs.declared.input_fault.InputFault.{InputFault}
 use Rattle.sat_check.specs.declared.input_fault.InputFault.TheVariants.{Second}
 use Rattle.sat_check.specs.declared.status.Status.{Status}
 use Rattle.sat_check.specs.declared.status.Status.TheVariants.{Verified, NotVerified, Malformed}
+use Rattle.sat_check.specs.declared.status.Status.TheVariants.{OutOfMemory}
 
 -- some literal of the clause is listed
 abbrev pub meets : List Literal → Clause → Bool
@@ -71,11 +72,20 @@ abbrev pub first_model_fault : Result (List Literal) Fault → Formula → Optio
 first_model_fault (Err f) formula = Some (Second f)
 first_model_fault (Ok listed) formula = first_fault formula.fault None
 
--- A check of a model tells what is wrong with an input: exactly where the status is `Malformed`.
+-- A check tells which clause has no listed literal first, if one has none; unless memory ran out.
+abbrev pub TellsUnmet : (listed : List Literal) → List Clause → Checked → Type 0
+TellsUnmet listed clauses checked =
+    (checked.status ≡ OutOfMemory → ⊥) → checked.unmet ≡ first_unmet 1 listed clauses
+
+-- A check of a model tells what is wrong with an input, exactly where the status is `Malformed`;
+-- and of a claim without a fault, which clause isn't satisfied.
 pub record TellsModelFault (claim : Result (List Literal) Fault) (formula : Formula)
     (checked : Checked) : Type 0 where
   pub malformed : checked.status ≡ Malformed → checked.fault ≡ first_model_fault claim formula
   pub only : (checked.status ≡ Malformed → ⊥) → checked.fault ≡ None
+  pub unmet : (listed : List Literal) → claim ≡ Ok listed →
+      TellsUnmet listed formula.clauses checked
+  pub unclaimed : (f : Fault) → claim ≡ Err f → checked.unmet ≡ None
 
 -- A run checked the model that this output claims of this formula: what it wrote and its status are
 -- those of the report. Status 0 is answered exactly where the formula has no fault and the claim

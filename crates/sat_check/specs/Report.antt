@@ -139,6 +139,10 @@ pub record HasWritten (line : List ℕ) (old new : Option (List ℕ)) : Type 0 w
   pub after : new ≡ Some (held ++ bytes)
   pub written : list_any (bytes_eq line) (lines_of bytes) ≡ true
 
+-- all was flushed, or the writer tells of a failure
+abbrev pub IsFlushedOrFailed : (is_flushed has_failed : Bool) → Type 0
+IsFlushedOrFailed is_flushed has_failed = (is_flushed ≡ true) ⊎ (has_failed ≡ true)
+
 -- the status is this one, unless memory or the writer failed
 abbrev pub IsUnlessBroken : Status → Status → Type 0
 IsUnlessBroken expected status =

@@ -10,14 +10,16 @@ use Rattle.theory.specs.Rules.{Rule, drat, lrat}
 use Rattle.sat_check.specs.ModelReport.{ChecksModel, ReadsFormulaNoFurther, TellsModelFault}
 use Rattle.sat_check.specs.Reach.{ReadsNoFurther, TellsWhy}
 use Rattle.sat_check.specs.Report.{ChecksProof, drat_proof, is_cut_short, rules_of}
+use Rattle.sat_check.specs.Report.{IsFlushedOrFailed}
 use Rattle.sat_check.specs.declared.checked.Checked.{Checked}
 use Rattle.sat_check.specs.declared.options.DratOptions.{DratOptions}
 use Rattle.sat_check.specs.declared.status.Status.{Status}
-use Rattle.sat_check.specs.declared.status.Status.TheVariants.{ReadFailed, WriteFailed}
+use Rattle.sat_check.specs.declared.status.Status.TheVariants.{ReadFailed, WriteFailed, OutOfMemory}
 
 -- What was seen of the two readers in a run is one pair of inputs, and of this the fact is true. A
 -- reader or the writer tells of each failure. Unless memory or the writer failed, the writer tells
--- of no new failure, and all was flushed.
+-- of no new failure, and all was flushed. Where memory ran out, all was flushed, or the writer tells
+-- of a failure.
 pub record Runs (formula formula_new second second_new : Reader)
     (had_failed has_failed is_flushed : Bool) (status : Status) (Fact : Input → Input → Type 0)
     : Type 0 where
@@ -26,6 +28,7 @@ pub record Runs (formula formula_new second second_new : Reader)
   pub write_failed : status ≡ WriteFailed → has_failed ≡ true
   pub no_failure : is_cut_short status ≡ false → has_failed ≡ had_failed
   pub flushed : is_cut_short status ≡ false → is_flushed ≡ true
+  pub gave_up : status ≡ OutOfMemory → IsFlushedOrFailed is_flushed has_failed
 
 -- A run checked a proof of a formula, and read no more of the proof than the check takes. `steps`
 -- are those of an input; the writer held `old`, and then `new`.

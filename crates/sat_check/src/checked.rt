@@ -16,6 +16,8 @@ pub struct Checked {
     pub reason_deleted: bool,
     /// What is wrong with an input. None where the status isn't `Malformed`.
     pub fault: Option<InputFault>,
+    /// Which clause of the formula, from 1, is the first that the model doesn't satisfy, if one is.
+    pub unmet: Option<u64>,
 }
 
 impl Checked {
@@ -26,6 +28,7 @@ impl Checked {
           refused = None;
           reason_deleted = false;
           fault = None;
+          unmet = None;
         } }
     {
         Checked {
@@ -33,6 +36,23 @@ impl Checked {
             refused: None,
             reason_deleted: false,
             fault: None,
+            unmet: None,
+        }
+    }
+
+    /// The model satisfies all clauses, or not the one of this number.
+    pub(crate) fn by_clause(status: Status, unmet: Option<u64>) -> Checked
+        ensures { result ≡ record {
+          status = status;
+          refused = None;
+          reason_deleted = false;
+          fault = None;
+          unmet = unmet;
+        } }
+    {
+        Checked {
+            unmet,
+            ..Checked::without_step(status)
         }
     }
 
@@ -51,6 +71,7 @@ impl Checked {
                 refused: end,
                 reason_deleted,
                 fault: None,
+                unmet: None,
             },
             _ => Checked::without_step(status),
         }
@@ -61,6 +82,7 @@ impl Checked {
         ensures status { result.status ≡ status }
         ensures refused { result.refused ≡ None }
         ensures no_reason { result.reason_deleted ≡ false }
+        ensures no_clause { result.unmet ≡ None }
         ensures malformed { status ≡ Status.Malformed → result.fault ≡ Some fault }
         ensures only { status ≢ Status.Malformed → result.fault ≡ None }
     {
@@ -70,6 +92,7 @@ impl Checked {
                 refused: None,
                 reason_deleted: false,
                 fault: Some(fault),
+                unmet: None,
             },
             _ => Checked::without_step(status),
         }

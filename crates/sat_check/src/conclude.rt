@@ -4,6 +4,7 @@ ghost use Rattle.std.specs.Prelude.{◌≡◌, ◌⊎◌, false, true, [], ◌�
 ghost use Rattle.cnf_base.specs.Lines.{Writes, line_of};
 ghost use Rattle.sat_check.specs.Lines.{fault_line, fault_status};
 ghost use Rattle.sat_check.specs.Report.{Report, Outcome, concluded, is_cut_short, with_lines};
+ghost use Rattle.sat_check.specs.Report.{IsFlushedOrFailed};
 ghost use Rattle.sat_check.specs.Code.Writer.{LeavesWriter};
 ghost use Rattle.sat_check.specs.Code.Subjects.{certificate_of};
 
@@ -89,6 +90,8 @@ pub fn write_line<O: Out>(
     ensures status { IfErr result (λ status. (status ≡ Status.OutOfMemory)
         ⊎ ((status ≡ Status.WriteFailed) × (lines.new.has_failed ≡ true))) }
     ensures cut_short { IfErr result (λ status. is_cut_short status ≡ true) }
+    ensures gave_up { IfErr result (λ status. status ≡ Status.OutOfMemory →
+        IsFlushedOrFailed lines.new.is_flushed lines.new.has_failed) }
     ensures same_writer { lines.new.borrows ≡ lines.old.borrows }
 {
     let Ok(line) = line else {

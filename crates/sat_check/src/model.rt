@@ -10,7 +10,7 @@ ghost use Rattle.sat_check.specs.Report.{Outcome};
 ghost use Rattle.sat_check.specs.Code.Writer.{LeavesWriter};
 ghost use Rattle.sat_check.specs.ModelReport.{claim_report, model_report};
 ghost use Rattle.sat_check.specs.ModelReport.{ChecksModel, ReadsFormulaNoFurther};
-ghost use Rattle.sat_check.specs.ModelReport.{TellsModelFault};
+ghost use Rattle.sat_check.specs.ModelReport.{TellsModelFault, TellsUnmet};
 ghost use Rattle.sat_check.specs.Reach.{TellsFault};
 ghost use Rattle.sat_check.specs.Runs.{Runs, RunsModel};
 ghost use Rattle.sat_check.specs.Code.Judging.{judged_report, ReadsToUnmet};
@@ -116,7 +116,8 @@ fn check_formula<F: In, O: Out>(
         Outcome result.status lines.old.held lines.new.held
         (claim_report (Ok model.now) (formula_of i))
         × ReadsToUnmet model.now i (F.shown formula.old) (F.shown formula.new)
-        × TellsFault (formula_of i).fault None result) }
+        × TellsFault (formula_of i).fault None result
+        × TellsUnmet model.now (formula_of i).clauses result) }
     ensures read_failed { result.status ≡ Status.ReadFailed →
         tells_failure (F.shown formula.new) ≡ true }
     ensures write_failed { result.status ≡ Status.WriteFailed → lines.new.has_failed ≡ true }
@@ -125,7 +126,7 @@ fn check_formula<F: In, O: Out>(
     match judge(alloc, formula, model) {
         Ok(judgement) => {
             let status = conclude_judgement(alloc, judgement, lines);
-            Checked::without_step(status)
+            Checked::by_clause(status, judgement.unmet())
         }
         Err(fault) => {
             let status = break_off(alloc, lines, Subject::Model, b"formula", fault);

@@ -26,7 +26,7 @@ use Rattle.sat_check.specs.Lines.{trace_line}
 use Rattle.sat_check.specs.Reach.{deciding_step, refused_end, NeedsNoProof, TellsWhy}
 use Rattle.sat_check.specs.Reach.{ReadsNoFurther, TellsFault}
 use Rattle.sat_check.specs.Report.{Report, bare_steps, peak_of, proof_report, Reports, text_of}
-use Rattle.sat_check.specs.Report.{Outcome, is_cut_short, with_lines}
+use Rattle.sat_check.specs.Report.{Outcome, is_cut_short, IsFlushedOrFailed, with_lines}
 use Rattle.sat_check.specs.declared.checked.Checked.{Checked}
 use Rattle.sat_check.specs.declared.status.Status.TheVariants.{NotVerified, OutOfMemory as NoMemory}
 use Rattle.sat_check.specs.declared.status.Status.TheVariants.{WriteFailed, ReadFailed}
@@ -179,6 +179,8 @@ pub record Traces (trace : Bool) (number : ℕ) (word : Accepted) (was now : Sin
   pub no_failure : OnOk result (now.has_failed ≡ was.has_failed)
   pub broke : IfErr result (λ status. IsBreak status now)
   pub cut_short : IfErr result (λ status. is_cut_short status ≡ true)
+  pub gave_up : IfErr result (λ status.
+      status ≡ NoMemory → IsFlushedOrFailed now.is_flushed now.has_failed)
   pub same_writer : now.borrows ≡ was.borrows
 
 -- neither a malformed input or a failed read, nor a failed write that the writer doesn't tell of

@@ -22,6 +22,11 @@ Judges listed (Ok (Unmet k)) clauses fault = first_unmet 1 listed clauses ≡ So
 Judges listed (Err OutOfMemory) clauses fault = Unit {0}
 Judges listed (Err f) clauses fault = (first_unmet 1 listed clauses ≡ None) × (fault ≡ Some f)
 
+-- the number of the clause that isn't met
+abbrev pub unmet_in : Judgement → Option ℕ
+unmet_in (Met n) = None
+unmet_in (Unmet k) = Some k
+
 -- The `0` of the first clause that isn't met wasn't passed: that clause ends where what is still to
 -- come begins, or later. `offsets` is where each clause ends.
 abbrev pub LeavesUnmet : List Literal → List Clause → List ℕ → Suffix → Type 0

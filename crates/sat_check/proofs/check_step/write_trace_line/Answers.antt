@@ -12,5 +12,6 @@ returns g c = record {
   no_failure = search rules;
   broke = search rules;
   cut_short = c.write_line.ensures.cut_short;
+  gave_up = c.write_line.ensures.gave_up;
   same_writer = c.write_line.ensures.same_writer;
 }

@@ -5,7 +5,8 @@ use Rattle.dimacs.specs.Formula.{formula_of}
 use Rattle.sat_check.specs.declared.checked.Checked.{Checked}
 use Rattle.sat_check.specs.declared.status.Status.TheVariants.{Malformed}
 use Rattle.sat_check.specs.declared.status.Status.TheVariants.{OutOfMemory as NoMemory}
-use Rattle.sat_check.proofs.ModelLemmas.{judged_as, formula_fault, formula_tells}
+use Rattle.sat_check.proofs.ModelLemmas.{judged_as, judged_unmet, fault_unmet}
+use Rattle.sat_check.proofs.ModelLemmas.{formula_fault, formula_tells}
 use Rattle.sat_check.proofs.ReachLemmas.{TellsFault-none}
 use Rattle.sat_check.proofs.model.check_formula.Goals as goal
 
@@ -16,10 +17,11 @@ returns-in-Ok-clause-report g c =
     record {
       seen = judges.seen;
       fact = λ i seen. (
-        rw c.without_step.ensures (subst P (judged_as c.args.model.now c.in-Ok.judgement (formula_of i) (judges.fact i seen).0) c.conclude_judgement-status.ensures.outcome),
+        rw c.by_clause.ensures (subst P (judged_as c.args.model.now c.in-Ok.judgement (formula_of i) (judges.fact i seen).0) c.conclude_judgement-status.ensures.outcome),
         (judges.fact i seen).1,
-        TellsFault-none (formula_of i).fault None c.without_step.result (search rules)
-            (λ m. c.conclude_judgement-status.ensures.well_formed (sym (ap (λ (x : Checked). x.status) c.without_step.ensures) ∙ m)),
+        TellsFault-none (formula_of i).fault None c.by_clause.result (search rules)
+            (λ m. c.conclude_judgement-status.ensures.well_formed (sym (ap (λ (x : Checked). x.status) c.by_clause.ensures) ∙ m)),
+        λ _. ap (λ (x : Checked). x.unmet) c.by_clause.ensures ∙ c.unmet.ensures ∙ judged_unmet c.args.model.now c.in-Ok.judgement (formula_of i) (judges.fact i seen).0,
       );
     }
 
@@ -32,8 +34,10 @@ returns-in-Err-clause-report g c =
       fact = λ i seen. (
         rw status (formula_fault c.break_off-status.result c.args.lines.now c.break_off-status.new.lines c.args.model.now c.in-Err.fault (formula_of i) (judges.fact i seen).0 (c.break_off-status.ensures.memory, c.break_off-status.ensures.told)),
         (judges.fact i seen).1,
-        formula_tells (formula_of i) c.by_fault.result (λ not. c.by_fault.ensures.only (λ m. not (status ∙ m))) c.args.model.now c.in-Err.fault (judges.fact i seen).0
+        formula_tells (formula_of i) c.by_fault.result c.by_fault.ensures.no_clause (λ not. c.by_fault.ensures.only (λ m. not (status ∙ m))) c.args.model.now c.in-Err.fault (judges.fact i seen).0
             (λ is m. let bad : NoMemory ≡ Malformed = sym (c.break_off-status.ensures.gave_up is) ∙ (sym status ∙ m) in cc)
             (λ m. c.by_fault.ensures.malformed (sym status ∙ m)),
+        λ room. c.by_fault.ensures.no_clause ∙ sym (fault_unmet c.args.model.now c.in-Err.fault (formula_of i) (judges.fact i seen).0
+            (λ is. room (status ∙ c.break_off-status.ensures.gave_up is))),
       );
     }

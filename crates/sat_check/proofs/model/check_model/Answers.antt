@@ -7,8 +7,6 @@ use Rattle.sat_check.specs.Report.{Report, Outcome}
 use Rattle.sat_check.proofs.ModelLemmas.{claimed_report, claimed_consistent, formula_left}
 use Rattle.sat_check.proofs.ModelLemmas.{formula_needed, output_fault, fault_unverified}
 use Rattle.sat_check.proofs.ModelLemmas.{claimed_tells, output_tells}
-use Rattle.sat_check.specs.declared.status.Status.TheVariants.{Malformed}
-use Rattle.sat_check.specs.declared.status.Status.TheVariants.{OutOfMemory as NoMemory}
 use Rattle.sat_check.proofs.model.check_model.Goals as goal
 
 pub returns-in-Ok-clause-report : goal.returns-in-Ok-clause-report
@@ -23,7 +21,7 @@ returns-in-Ok-clause-report g c =
         subst P (claimed_report c.in-Ok.model (claim_of j) (formula_of i) (claims.fact j t)) (checked.fact i s).0,
         λ is. claimed_consistent c.in-Ok.model (claim_of j) (claims.fact j t) c.in-Ok.ensures.consistent,
         formula_needed c.in-Ok.model (claim_of j) i _ _ (claims.fact j t) (checked.fact i s).1,
-        claimed_tells c.in-Ok.model (claim_of j) (formula_of i) c.check_formula.result (claims.fact j t) (checked.fact i s).2,
+        claimed_tells c.in-Ok.model (claim_of j) (formula_of i) c.check_formula.result (claims.fact j t) (checked.fact i s).2 (checked.fact i s).3,
       );
     }
 
@@ -38,8 +36,8 @@ returns-in-Err-clause-report g c =
         rw status (output_fault c.break_off-status.result c.args.lines.now c.break_off-status.new.lines c.in-Err.fault (claim_of j) (formula_of i) (claims.fact j t) (c.break_off-status.ensures.memory, c.break_off-status.ensures.told)),
         λ is. absurd (fault_unverified c.break_off-status.result c.args.lines.now c.break_off-status.new.lines (codes "output") c.in-Err.fault (c.break_off-status.ensures.memory, c.break_off-status.ensures.told) (sym status ∙ is)),
         formula_left (claim_of j) i _,
-        output_tells (formula_of i) c.by_fault.result (λ not. c.by_fault.ensures.only (λ m. not (status ∙ m))) c.in-Err.fault (claim_of j) (claims.fact j t)
-            (λ is m. let bad : NoMemory ≡ Malformed = sym (c.break_off-status.ensures.gave_up is) ∙ (sym status ∙ m) in cc)
+        output_tells (formula_of i) c.by_fault.result c.by_fault.ensures.no_clause (λ not. c.by_fault.ensures.only (λ m. not (status ∙ m))) c.in-Err.fault (claim_of j) (claims.fact j t)
+            (λ is. status ∙ c.break_off-status.ensures.gave_up is)
             (λ m. c.by_fault.ensures.malformed (sym status ∙ m)),
       );
     }

@@ -15,4 +15,5 @@ returns g c = record {
   write_failed = search rules;
   no_failure = search rules;
   flushed = search rules;
+  gave_up = search rules;
 }
