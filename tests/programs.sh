@@ -4,7 +4,7 @@
 #
 # LRAT_CHECK, DRAT_FORWARD and MODEL_CHECK name the programs; they are those in bin/ otherwise.
 set -uo pipefail
-cd "$(dirname "$0")/.."
+cd "$(dirname "$0")/.." || exit 1
 
 lrat_check=${LRAT_CHECK:-bin/lrat-check}
 drat_forward=${DRAT_FORWARD:-bin/drat-forward}
@@ -229,32 +229,42 @@ of_every_tool() {
     told "$1_closed_standard_input_as_formula" <<< "$2: standard input: Bad file descriptor (os error 9)"
 
     # what the inputs look like that are malformed, and others that look alike and are not it
-    local gz="this is compressed by gzip: pipe it through zcat, and name it '-'"
+    local gz="this is compressed by gzip: zcat" unnamed=PROOF
+    if [ "$2" = model-check ]; then
+        unnamed=OUTPUT
+    fi
     gzip -c "$3" > "$room/formula.gz"
     gzip -c "$4" > "$room/second.gz"
-    malformed "$1_formula_by_gzip" "$2" 'line 1, column 1: bad header' "$gz" "$room/formula.gz" "$room/formula.gz" "$4"
-    malformed "$1_second_input_by_gzip" "$2" "line 1, column 1: $5" "$gz" "$room/second.gz" "$3" "$room/second.gz"
-    on_stdin=$room/second.gz malformed "$1_standard_input_by_gzip" "$2" "line 1, column 1: $5" "$gz" 'standard input' "$3"
+    malformed "$1_formula_by_gzip" "$2" 'line 1, column 1: bad header' "$gz $room/formula.gz | $2 - $4" \
+        "$room/formula.gz" "$room/formula.gz" "$4"
+    malformed "$1_second_input_by_gzip" "$2" "line 1, column 1: $5" "$gz $room/second.gz | $2 $3" \
+        "$room/second.gz" "$3" "$room/second.gz"
+    on_stdin=$room/second.gz malformed "$1_standard_input_by_gzip" "$2" "line 1, column 1: $5" "$gz $unnamed | $2 $3" \
+        'standard input' "$3"
     printf '\x1f1 2 0\n' > "$room/no_gzip"
     malformed "$1_no_gzip" "$2" "line 1, column 1: $5" '' "$room/no_gzip" "$3" "$room/no_gzip"
     printf '\xfd7zXZ\0\0' > "$room/second.xz"
-    malformed "$1_by_xz" "$2" "line 1, column 1: $5" "this is compressed by xz: pipe it through xzcat, and name it '-'" \
+    malformed "$1_by_xz" "$2" "line 1, column 1: $5" "this is compressed by xz: xzcat $room/second.xz | $2 $3" \
         "$room/second.xz" "$3" "$room/second.xz"
     printf '\xfd7zX \0\0' > "$room/no_xz"
     malformed "$1_no_xz" "$2" "line 1, column 1: $5" '' "$room/no_xz" "$3" "$room/no_xz"
     printf 'BZh91AY' > "$room/second.bz2"
-    malformed "$1_by_bzip2" "$2" "line 1, column 1: $5" "this is compressed by bzip2: pipe it through bzcat, and name it '-'" \
+    malformed "$1_by_bzip2" "$2" "line 1, column 1: $5" "this is compressed by bzip2: bzcat $room/second.bz2 | $2 $3" \
         "$room/second.bz2" "$3" "$room/second.bz2"
     printf 'BZ 91AY' > "$room/no_bz2"
     malformed "$1_no_bzip2" "$2" "line 1, column 1: $5" '' "$room/no_bz2" "$3" "$room/no_bz2"
     printf '\x28\xb5\x2f\xfd\0' > "$room/second.zst"
-    malformed "$1_by_zstd" "$2" "line 1, column 1: $5" "this is compressed by zstd: pipe it through zstdcat, and name it '-'" \
+    malformed "$1_by_zstd" "$2" "line 1, column 1: $5" "this is compressed by zstd: zstdcat $room/second.zst | $2 $3" \
         "$room/second.zst" "$3" "$room/second.zst"
     printf '\x28\xb5\x2f \0' > "$room/no_zst"
     malformed "$1_no_zstd" "$2" "line 1, column 1: $5" '' "$room/no_zst" "$3" "$room/no_zst"
 
-    local first="the formula, which begins with 'p cnf', is named first"
-    malformed "$1_formula_twice" "$2" "line 1, column 1: $5" "$first" "$3" "$3" "$3"
+    local second='this is a formula, not a proof' first
+    first="no line 'p cnf VARIABLES CLAUSES' stands before the first number: add it, or name the formula first"
+    if [ "$2" = model-check ]; then
+        second="this is a formula, which is named first: $2 $3 $3" first="this is a solver's output, not a formula"
+    fi
+    malformed "$1_formula_twice" "$2" "line 1, column 1: $5" "$second" "$3" "$3" "$3"
     malformed "$1_second_input_twice" "$2" 'line 1, column 1: bad header' "$first" "$4" "$4" "$4"
     printf 'p dnf 1 1\n1 0\n' > "$room/no_header"
     malformed "$1_no_formula_second" "$2" "line 1, column 1: $5" '' "$room/no_header" "$3" "$room/no_header"
@@ -264,20 +274,21 @@ of_every_tool() {
     printf 'p cnf 2 1\n1 2 0\n%%\n0\n\n' > "$room/satlib.cnf"
     printf 'p cnf 2 2\n1 2 0\n%%\n2 0\n' > "$room/percent.cnf"
     printf 'p cnf 2 1\n1 3 0\n%%\n0\n\n' > "$room/range.cnf"
-    malformed "$1_satlib" "$2" 'line 3, column 1: bad token' "cut the end off by sed '/^%/,\$d', and name the formula '-'" \
+    malformed "$1_satlib" "$2" 'line 3, column 1: bad token' "the end is SATLIB's: sed '/^%/,\$d' $room/satlib.cnf | $2 - $6" \
         "$room/satlib.cnf" "$room/satlib.cnf" "$6"
     malformed "$1_percent" "$2" 'line 3, column 1: bad token' '' "$room/percent.cnf" "$room/percent.cnf" "$6"
     malformed "$1_satlib_out_of_range" "$2" "line 2, column 3: literal out of range: the header's number of variables is 2" '' \
         "$room/range.cnf" "$room/range.cnf" "$6"
 
-    # the range of a literal is told where the first 1024 bytes have the header, and only where a literal is out of it
+    # the range of a literal is told, also where long comments stand before the header, and only where a literal is out of it
     printf 'c p cnf 7 1\n\n\tp  cnf 25 1\n-26 0\n' > "$room/past.cnf"
     malformed "$1_past_a_header" "$2" "line 4, column 1: literal out of range: the header's number of variables is 25" '' \
         "$room/past.cnf" "$room/past.cnf" "$6"
     { printf 'c %01020d\n' 0; printf 'p cnf 25 1\n-26 0\n'; } > "$room/late.cnf"
-    malformed "$1_past_a_late_header" "$2" 'line 3, column 1: literal out of range' '' "$room/late.cnf" "$room/late.cnf" "$6"
-    { printf 'c %01014d\n' 0; printf 'p cnf 25 1\n-26 0\n'; } > "$room/cut.cnf"
-    malformed "$1_past_a_cut_header" "$2" 'line 3, column 1: literal out of range' '' "$room/cut.cnf" "$room/cut.cnf" "$6"
+    malformed "$1_past_a_late_header" "$2" "line 3, column 1: literal out of range: the header's number of variables is 25" '' \
+        "$room/late.cnf" "$room/late.cnf" "$6"
+    { printf 'p%01024d cnf 25 1\n' 0 | tr 0 ' '; printf -- '-26 0\n'; } > "$room/cut.cnf"
+    malformed "$1_past_a_cut_header" "$2" 'line 2, column 1: literal out of range' '' "$room/cut.cnf" "$room/cut.cnf" "$6"
     printf 'p cnf 25 1\n268435456 0\n' > "$room/large.cnf"
     malformed "$1_past_the_greatest" "$2" 'line 2, column 1: number too large' '' "$room/large.cnf" "$room/large.cnf" "$6"
 }
@@ -420,7 +431,7 @@ c formula 2 variables 4 clauses
 c end: no empty clause
 s NOT VERIFIED
 LINES
-told no_empty_clause < /dev/null
+told no_empty_clause <<< "lrat-check: $x/no_empty_clause.lrat: the proof ends without the empty clause"
 
 row definition_by_groups 1 --trace $x/g.cnf $x/definition_by_groups.lrat <<'LINES'
 c formula 2 variables 1 clauses
@@ -516,10 +527,12 @@ LINES
 
 # the binary form, and a text that begins alike
 printf 'a\x0c\x04\0\x02\x04\0' > "$room/binary.lrat"
-malformed binary_lrat lrat-check 'line 1, column 1: bad token' 'LRAT in the binary form is not read, only text' \
+malformed binary_lrat lrat-check 'line 1, column 1: bad token' 'this is a proof in a binary form, and LRAT is read as text alone' \
     "$room/binary.lrat" $x/e.cnf "$room/binary.lrat"
 printf 'a 5 2 0 1 2 0\n' > "$room/no_binary.lrat"
-malformed no_binary_lrat lrat-check 'line 1, column 1: bad token' '' "$room/no_binary.lrat" $x/e.cnf "$room/no_binary.lrat"
+malformed no_binary_lrat lrat-check 'line 1, column 1: bad token' \
+    "this is FRAT: sed -n 's/ l .*//; s/^a [0-9]* //p; s/^d [0-9]* /d /p' $room/no_binary.lrat | drat-forward $x/e.cnf" \
+    "$room/no_binary.lrat" $x/e.cnf "$room/no_binary.lrat"
 
 row literal_out_of_range 2 $x/literal_out_of_range.cnf $x/e.lrat <<'LINES'
 c formula 2:3: literal out of range
@@ -807,7 +820,7 @@ c formula 2 variables 4 clauses
 c end: no empty clause
 s NOT VERIFIED
 LINES
-told drat_no_empty_clause < /dev/null
+told drat_no_empty_clause <<< "drat-forward: $x/no_empty_clause.drat: the proof ends without the empty clause"
 
 row definition_by_rat 1 --trace $x/g.cnf $x/definition_by_rat.drat <<'LINES'
 c formula 2 variables 1 clauses
@@ -902,13 +915,15 @@ malformed drat_unterminated_in_binary drat-forward 'byte 3: unterminated step' \
     'the proof ends inside a step, so it may have been cut short' "$room/cut.bin" --binary $x/e.cnf "$room/cut.bin"
 
 # the binary form as text and a text in the binary form, and others that look alike
-malformed binary_as_text drat-forward 'line 1, column 1: bad token' 'a proof in the binary form is read with --binary' \
-    $x/e.bin $x/e.cnf $x/e.bin
+malformed binary_as_text drat-forward 'line 1, column 1: bad token' \
+    "this is a proof in the binary form: drat-forward --binary $x/e.cnf $x/e.bin" $x/e.bin $x/e.cnf $x/e.bin
 printf 'd 1 x 0\n' > "$room/deletion.drat"
 malformed deletion_as_text drat-forward 'line 1, column 5: bad token' '' "$room/deletion.drat" $x/e.cnf "$room/deletion.drat"
 printf 'a 1 2 0\n' > "$room/addition.drat"
-malformed addition_as_text drat-forward 'line 1, column 1: bad token' '' "$room/addition.drat" $x/e.cnf "$room/addition.drat"
-malformed text_in_binary drat-forward 'byte 1: bad tag' 'a proof that is text is read without --binary' \
+malformed addition_as_text drat-forward 'line 1, column 1: bad token' \
+    "this is FRAT: sed -n 's/ l .*//; s/^a [0-9]* //p; s/^d [0-9]* /d /p' $room/addition.drat | drat-forward $x/e.cnf" \
+    "$room/addition.drat" $x/e.cnf "$room/addition.drat"
+malformed text_in_binary drat-forward 'byte 1: bad tag' "this is a proof as text: drat-forward $x/e.cnf $x/e.drat" \
     $x/e.drat --binary $x/e.cnf $x/e.drat
 printf 'a\x04\x00x' > "$room/tag.bin"
 malformed bad_tag_in_binary drat-forward 'byte 4: bad tag' '' "$room/tag.bin" --binary $x/e.cnf "$room/tag.bin"
@@ -917,7 +932,7 @@ malformed empty_group_in_binary drat-forward 'byte 2: bad number' '' $x/empty_la
 # FRAT, and a word that begins alike
 printf 'o 1 1 2 0\na 5 2 0\nf 5 2 0\n' > "$room/e.frat"
 malformed frat drat-forward 'line 1, column 1: bad token' \
-    "FRAT is read once it is made DRAT by sed -n 's/ l .*//; s/^a [0-9]* //p; s/^d [0-9]* /d /p'" \
+    "this is FRAT: sed -n 's/ l .*//; s/^a [0-9]* //p; s/^d [0-9]* /d /p' $room/e.frat | drat-forward $x/e.cnf" \
     "$room/e.frat" $x/e.cnf "$room/e.frat"
 printf 'o1 1 2 0\n' > "$room/no.frat"
 malformed no_frat drat-forward 'line 1, column 1: bad token' '' "$room/no.frat" $x/e.cnf "$room/no.frat"
@@ -957,24 +972,31 @@ row clause_not_satisfied 1 $x/models.cnf $x/clause_not_satisfied.out <<'LINES'
 c clause 2 is not satisfied
 s MODEL NOT VERIFIED
 LINES
+told clause_not_satisfied <<< "model-check: $x/models.cnf: clause 2 has no literal of the model"
 
 row no_model_claimed 1 $x/e.cnf $x/unsatisfiable.out <<'LINES'
 c output 1:3: no model claimed
 s MODEL NOT VERIFIED
 LINES
-told no_model_claimed < /dev/null
+told no_model_claimed <<< "model-check: $x/unsatisfiable.out: no consistent model is claimed"
 
 row no_output 2 $x/models.cnf /dev/null <<'LINES'
 c output 1:1: no status line
 s MODEL NOT VERIFIED
 LINES
-told no_output <<< "model-check: /dev/null: line 1, column 1: no status line"
+told no_output <<LINES
+model-check: /dev/null: line 1, column 1: no status line
+model-check: /dev/null: hint: this is empty, or has comments alone
+LINES
 
 row proof_as_output 2 $x/e.cnf $x/e.lrat <<'LINES'
 c output 1:1: bad line
 s MODEL NOT VERIFIED
 LINES
-told proof_as_output <<< "model-check: $x/e.lrat: line 1, column 1: bad line"
+told proof_as_output <<LINES
+model-check: $x/e.lrat: line 1, column 1: bad line
+model-check: $x/e.lrat: hint: the lines of a model begin with 'v', and a line 's SATISFIABLE' stands with them
+LINES
 
 row model_literal_out_of_range 2 $x/literal_out_of_range.cnf $x/models.out <<'LINES'
 c formula 2:3: literal out of range

@@ -19,6 +19,9 @@ FORMULA = f"{TOP}/examples/e.cnf"
 REPORT = "c formula 2 variables 4 clauses\n"
 GONE = "\r\x1b[K"
 # the second input, by pieces that come so many seconds after one another
+# what is told of these inputs once they are read
+AFTER = {"model-check": "model-check: standard input: no consistent model is claimed\n"}
+
 SLOW = {
     "drat-forward": [(0, "c slow\n"), (2.2, "c slower\n"), (1.1, "1 0\n0\n")],
     "lrat-check": [(0, "c slow\n"), (2.2, "c slower\n"), (1.1, "5 1 0 1 3 0\n6 0 5 2 4 0\n")],
@@ -61,7 +64,7 @@ def rows():
         on_terminal, elsewhere = run(name, pieces, ["stderr"])
         told = re.findall(line, on_terminal)
         yield f"{name} tells each second once", told == ["2", "3"], on_terminal
-        yield f"{name} takes its line away", re.sub(line, "", on_terminal) == GONE, on_terminal
+        yield f"{name} takes its line away", re.sub(line, "", on_terminal) == GONE + AFTER.get(name, ""), on_terminal
         yield f"{name} writes its report elsewhere", "MB" not in elsewhere and "c " in elsewhere, elsewhere
     on_terminal, _ = run("drat-forward", SLOW["drat-forward"], ["stdout", "stderr"])
     ends = f"{GONE}c steps 2 peak 9\ns VERIFIED\n"
@@ -71,7 +74,7 @@ def rows():
     on_terminal, _ = run("drat-forward", QUICK, ["stderr"])
     yield "nothing is told of a quick run", on_terminal == "", on_terminal
     on_terminal, _ = run("drat-forward", QUICK, ["stdin", "stderr"])
-    says = "drat-forward: reads from the terminal"
+    says = "drat-forward: reads the proof from the terminal"
     yield "a proof from a terminal is announced", on_terminal.startswith(says), on_terminal
 
 

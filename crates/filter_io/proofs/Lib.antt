@@ -1,1 +1,2 @@
+pub mod OpenLemmas
 pub mod RunLemmas

@@ -1,120 +1,113 @@
 //! The two inputs of a program.
 
-ghost use Rattle.std.specs.Prelude.{◌≡◌, Some, IfOk, IfErr, option_map, string_bytes};
-ghost use Rattle.command_line.specs.Words.{asked_by, is_standard};
+ghost use Rattle.std.specs.Prelude.{◌≡◌, ℕ, List, Option, false, Some, IfOk, option_map};
+ghost use Rattle.std.specs.Prelude.{string_bytes};
+ghost use Rattle.command_line.specs.Words.{asked_by, is_read_twice, is_standard};
+ghost use Rattle.filter_io.specs.Inputs.{reader};
+ghost use Rattle.filter_io.specs.Origins.{left_of, unread};
+ghost use Rattle.filter_io.specs.Runs.{Opens};
 
-use crate::hints::refusal_hint;
+use crate::input::Input;
+use crate::origin::Origin;
 use crate::system::System;
-use sat_check::{Args, Checked, InputFault, Status, Tool};
+use cnf_base::OutOfMemory;
+use sat_check::{Args, Tool};
+use std::io;
+
+/// An input of a program that runs on this system.
+pub type InputOf<'a, S> = Input<'a, <S as System>::File, <S as System>::Standard>;
 
 /// The formula and the second input, before a byte of either is read.
-pub(crate) fn open_both<S: System>(system: &S, args: &Args) -> Result<(S::Input, S::Input), Status>
-    ensures formula { IfOk result (λ inputs. S.Input.shown inputs.0 ≡
-        S.holds system.now (asked_by (Some (string_bytes args.now.formula)))) }
-    ensures second { IfOk result (λ inputs. S.Input.shown inputs.1 ≡
-        S.holds system.now (asked_by (option_map string_bytes args.now.second))) }
-    ensures refused { IfErr result (λ status. status ≡ Status.OutOfMemory) }
-{
-    let formula = Some(args.formula.as_str());
-    let second = second_name(args);
-    // A closed standard input is seen for as long as no file has taken its number.
-    if is_standard(formula) {
-        let formula = open(system, formula)?;
-        let second = open(system, second)?;
-        return Ok((formula, second));
-    }
-    let second = open(system, second)?;
-    let formula = open(system, formula)?;
-    Ok((formula, second))
-}
-
-// The input of this name.
-fn open<S: System>(system: &S, name: Option<&str>) -> Result<S::Input, Status>
-    ensures holds { IfOk result (λ input. S.Input.shown input ≡
-        S.holds system.now (asked_by (option_map (λ name. name.now) name.entry))) }
-    ensures refused { IfErr result (λ status. status ≡ Status.OutOfMemory) }
-{
-    match name {
-        Some(name) if name != "-" => system.open(name),
-        _ => system.standard_input(),
-    }
-}
-
-// Whether standard input is meant.
-fn is_standard(name: Option<&str>) -> bool
-    ensures { result ≡ is_standard (option_map (λ name. name.now) name.entry) }
-{
-    match name {
-        Some(name) => name == "-",
-        None => true,
-    }
-}
-
-/// Explains why a read failed, where the check ended for that: once, by the name that the command
-/// line gave.
-pub(crate) fn explain_failures<S: System>(
-    system: &S,
-    args: &Args,
-    inputs: (&S::Input, &S::Input),
-    status: Status,
-) {
-    if status != Status::ReadFailed {
-        return;
-    }
-    let (formula, second) = inputs;
-    system.tell_failure(shown_name(Some(args.formula.as_str())), formula);
-    system.tell_failure(shown_name(second_name(args)), second);
-}
-
-/// Explains where the step ends that was refused, if one was, and what may help.
-pub(crate) fn explain_refusal<S: System>(system: &S, args: &Args, checked: Checked) {
-    if let Some(end) = checked.refused {
-        system.tell_refusal(shown_name(second_name(args)), end, refusal_hint(checked));
-    }
-}
-
-/// Explains what is wrong with an input, where one is malformed.
-pub(crate) fn explain_fault<S: System>(
-    system: &S,
+pub(crate) fn open_both<'a, S: System>(
+    system: &'a S,
     tool: Tool,
     args: &Args,
-    inputs: (&S::Input, &S::Input),
-    checked: Checked,
-) {
-    let (formula, second) = inputs;
-    match checked.fault {
-        Some(InputFault::Formula(fault)) => {
-            system.tell_fault(tool, args, InputFault::Formula(fault), formula);
+    standard: io::Result<S::Standard>,
+) -> Result<(InputOf<'a, S>, InputOf<'a, S>), OutOfMemory>
+    requires apart { is_read_twice (Some (string_bytes args.now.formula))
+        (option_map string_bytes args.now.second) ≡ false }
+    ensures formula { IfOk result (λ inputs. Opens (S.holds system.now) (S.may_refuse system.now)
+        (left_of S.Standard.remaining standard) (asked_by (Some (string_bytes args.now.formula)))
+        (reader inputs.0)) }
+    ensures second { IfOk result (λ inputs. Opens (S.holds system.now) (S.may_refuse system.now)
+        (left_of S.Standard.remaining standard)
+        (asked_by (option_map string_bytes args.now.second)) (reader inputs.1)) }
+{
+    let formula = asked_by(Some(args.formula.as_str()));
+    let second = asked_by(second_name(args));
+    match (formula, second) {
+        (Some(formula), Some(second)) => {
+            let formula = open_file(system, formula)?;
+            Ok((formula, open_file(system, second)?))
         }
-        Some(InputFault::Second(fault)) => {
-            system.tell_fault(tool, args, InputFault::Second(fault), second);
+        (Some(formula), None) => {
+            let formula = open_file(system, formula)?;
+            Ok((formula, open_standard(system, second_kind(tool), standard)?))
         }
-        None => {}
+        (None, Some(second)) => {
+            let formula = open_standard(system, "formula", standard)?;
+            Ok((formula, open_file(system, second)?))
+        }
+        (None, None) => unreachable!(),
     }
 }
 
-/// What the input is called that has the fault.
-pub(crate) fn faulty_name(args: &Args, fault: InputFault) -> &str {
-    match fault {
-        InputFault::Formula(_) => shown_name(Some(args.formula.as_str())),
-        InputFault::Second(_) => shown_name(second_name(args)),
+// The file of this name.
+fn open_file<'a, S: System>(system: &'a S, name: &str) -> Result<InputOf<'a, S>, OutOfMemory>
+    ensures { IfOk result (λ input. (standard : Option (List ℕ)) → Opens (S.holds system.now)
+        (S.may_refuse system.now) standard (Some name.now) (reader input)) }
+{
+    let opened = system.open(name);
+    let size = match &opened {
+        Ok(file) => system.size(file),
+        Err(_) => None,
+    };
+    let origin = Origin::of_file(opened)?;
+    Input::new(system.alloc(), origin, system.progress(), size)
+}
+
+// Standard input, or why there is none.
+fn open_standard<'a, S: System>(
+    system: &'a S,
+    what: &str,
+    standard: io::Result<S::Standard>,
+) -> Result<InputOf<'a, S>, OutOfMemory>
+    ensures { IfOk result (λ input.
+        reader input ≡ unread (left_of S.Standard.remaining standard)) }
+{
+    let origin = Origin::of_standard(standard)?;
+    let progress = system.progress();
+    if let Some(progress) = progress {
+        progress.begin_standard(what);
+    }
+    Input::new(system.alloc(), origin, progress, None)
+}
+
+// What the second input of a tool is.
+fn second_kind(tool: Tool) -> &'static str {
+    match tool {
+        Tool::Drat | Tool::Lrat => "proof",
+        Tool::Model => "output",
     }
 }
 
-// The name of the second input on the command line.
-fn second_name(args: &Args) -> Option<&str>
+// The name of a file; none stands for standard input.
+fn asked_by(name: Option<&str>) -> Option<&str>
+    ensures { option_map (λ name. name.now) result ≡
+        asked_by (option_map (λ name. name.now) name.entry) }
+{
+    match name {
+        Some(name) if name != "-" => Some(name),
+        _ => None,
+    }
+}
+
+/// The name of the second input on the command line.
+pub(crate) fn second_name(args: &Args) -> Option<&str>
     ensures { option_map (λ name. name.now) result ≡ option_map string_bytes args.now.second }
 {
     match &args.second {
         Some(name) => Some(name.as_str()),
         None => None,
-    }
-}
-
-// What an input is called: its name on the command line, or standard input.
-fn shown_name(name: Option<&str>) -> &str {
-    match name {
-        Some(name) if name != "-" => name,
-        _ => "standard input",
     }
 }

@@ -1,35 +1,34 @@
 //! What the programs have in common: their words, their files, and how they end.
 //!
-//! What a program does from its words to its status is one function a tool (`programs.rt`), over
-//! any `System`. `main` has the program's name and that call, and hands the answer to `exit_code`.
+//! What a tool does from its words to its status is one function over any `System`, `run_tool`. The
+//! programs are one function too, `run_program`: it runs the tool on the machine, tells what is to
+//! be told, and gives the exit status.
 #![tactic(auto)]
 
-mod ending;
-mod header;
-mod hint;
-mod hints;
 mod host;
 mod input;
 mod inputs;
-mod metered;
+mod origin;
 mod output;
-mod programs;
+mod program;
 mod progress;
 mod randomness;
-mod sample;
-mod sampled;
+mod run;
 mod system;
+mod tell;
 mod terminal;
+mod told;
 mod words;
 
-pub use ending::exit_code;
-pub use hint::Hint;
-pub use hints::{hint_of, refusal_hint};
+pub use hints::{Evidence, Hint};
 pub use host::Host;
 pub use input::Input;
-pub use metered::Metered;
-pub use output::{Output, standard_output};
-pub use programs::{run_drat_forward, run_lrat_check, run_model_check};
+pub use inputs::InputOf;
+pub use origin::{Origin, Unopened};
+pub use output::Output;
+pub use program::{exit_code, run_program};
 pub use progress::Progress;
+pub use run::{Ended, run_tool};
+pub use sat_check::Tool;
 pub use system::System;
-pub use words::words_of;
+pub use told::Told;

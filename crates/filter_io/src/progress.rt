@@ -3,7 +3,7 @@
 //! It belongs to no contract: nothing of it is in the report, and a run reads and writes the same
 //! bytes with it.
 
-ghost use Rattle.std.specs.Prelude.{◌≤◌};
+ghost use Rattle.std.specs.Prelude.{◌<◌, ◌≤◌};
 
 use crate::terminal::is_terminal;
 use std::cell::Cell;
@@ -48,7 +48,8 @@ impl<'a> Progress<'a> {
 
     /// How many bytes are to be read at once, of so many.
     pub(crate) fn piece(&self, room: usize) -> usize
-        ensures { result ≤ room }
+        ensures at_most { result ≤ room }
+        ensures some { 0 < room → 0 < result }
     {
         match self.start {
             Some(_) => room.min(PIECE),
@@ -82,6 +83,17 @@ impl<'a> Progress<'a> {
             return None;
         }
         Some(seconds)
+    }
+
+    /// Standard input is read as this from now on: where that is a terminal, how to end it is
+    /// told.
+    pub(crate) fn begin_standard(&self, what: &str) {
+        if is_terminal(self.rt, "/dev/stdin") {
+            let _ = eprintln!(self.rt;
+                "{}: reads the {what} from the terminal, up to Ctrl-D at the start of a line",
+                self.program
+            );
+        }
     }
 
     /// Takes the line away, where it is shown.

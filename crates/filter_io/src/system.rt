@@ -1,53 +1,44 @@
 //! The trait `System`: what a program has of the system that it runs on.
 //!
-//! It opens inputs by name, and says of each name what the input gives. So the contract of a
-//! program can say which input is the formula, and that the status is the report's, of every
-//! system; and a test can stand in for the machine.
+//! It opens files by name, and says of each name what its file holds and whether it may refuse to
+//! open it. So the contract of a program can say which input is the formula, and that a read failed
+//! only where the system let one fail; and a test can stand in for the machine.
 
-ghost use Rattle.std.specs.Prelude.{◌≡◌, ℕ, List, Option, None, Some, IfOk, IfErr};
-ghost use Rattle.cnf_base.specs.Stream.{Reader};
+ghost use Rattle.std.specs.Prelude.{◌≡◌, ℕ, Bool, List, Option, IfOk, IsErr, true};
 
-use crate::hint::Hint;
-use cnf_base::In;
-use proofs::StepEnd;
-use sat_check::{Args, InputFault, Status, Tool};
+use crate::progress::Progress;
 use std::alloc::Global;
+use std::io::{self, Read};
 
-/// The system that a program runs on: its inputs, by name, and what is told beside the report.
+/// The system that a program runs on.
 pub trait System {
-    /// What an input is read by.
-    type Input: In + Drop;
+    /// What a file is read by.
+    type File: Read + Drop;
 
-    /// What an input gives, before a byte of it is read: that of a name, or standard input where
-    /// there is none.
-    ghost holds: { Self → Option (List ℕ) → Reader };
+    /// What standard input is read by.
+    type Standard: Read + Drop;
 
-    /// Opens the file of this name. One that can't be opened is an input whose first read fails.
-    fn open(&self, name: &str) -> Result<Self::Input, Status>
-        ensures holds { IfOk result (λ input.
-            Self.Input.shown input ≡ holds self.now (Some name.now)) }
-        ensures refused { IfErr result (λ status. status ≡ Status.OutOfMemory) };
+    /// The bytes of the file of a name, where they are known.
+    ghost holds: { Self → List ℕ → Option (List ℕ) };
 
-    /// Standard input. One that is closed is an input whose first read fails.
-    fn standard_input(&self) -> Result<Self::Input, Status>
-        ensures holds { IfOk result (λ input. Self.Input.shown input ≡ holds self.now None) }
-        ensures refused { IfErr result (λ status. status ≡ Status.OutOfMemory) };
+    /// Whether the system may refuse to open the file of a name.
+    ghost may_refuse: { Self → List ℕ → Bool };
+
+    /// Opens the file of this name.
+    fn open(&self, name: &str) -> io::Result<Self::File>
+        ensures opened { IfOk result (λ file.
+            Self.File.remaining file ≡ holds self.now name.now) }
+        ensures refused { IsErr result → may_refuse self.now name.now ≡ true };
+
+    /// How many bytes a file has, where that is known.
+    fn size(&self, file: &Self::File) -> Option<u64>;
+
+    /// Where it is told how far a run is, if anywhere.
+    fn progress(&self) -> Option<&Progress<'_>>;
 
     /// Where memory comes from.
     fn alloc(&self) -> Global;
 
     /// A number that whoever writes the inputs doesn't know.
     fn seed(&self) -> u64;
-
-    /// Tells why there is no check: how the program is called, its help or its version.
-    fn tell_usage(&self, text: &str);
-
-    /// Tells why a read of the input of this name failed, if one did.
-    fn tell_failure(&self, name: &str, input: &Self::Input);
-
-    /// Tells where the step of the proof of this name ends that was refused, and what may help.
-    fn tell_refusal(&self, name: &str, end: StepEnd, hint: Option<Hint>);
-
-    /// Tells what is wrong with this input of a tool, and where, and what may help.
-    fn tell_fault(&self, tool: Tool, args: &Args, fault: InputFault, input: &Self::Input);
 }

@@ -1,40 +1,44 @@
 //! The programs from their words to their status, over a system in memory.
 
-ghost use Rattle.std.specs.Prelude.{◌^◌, ◌-◌, None, Some, is_some, if◌then◌else◌};
+ghost use Rattle.std.specs.Prelude.{Some, false};
 
 use crate::support::{E, E_DRAT, E_PROOF, MODELS, MODELS_OUTPUT, expect_equal};
-use cnf_base::{FromRead, ToWrite};
-use filter_io::{Hint, System, run_drat_forward, run_lrat_check, run_model_check};
+use cnf_base::{Fault, Place, TextFault, ToWrite};
+use filter_io::{Hint, Progress, System, Told, Tool, run_tool};
 use proofs::StepEnd;
-use sat_check::{Args, InputFault, Status, Tool};
+use sat_check::{ArgsFault, InputFault, Status};
 use std::alloc::Global;
+use std::io;
 use std::process::Abort;
 use std::test::Fail;
 use test_inputs::{Stop, Writer};
 
-/// A file, which has any name, and standard input.
+/// A system with one file, which has any name.
 #[derive(Drop)]
-struct TwoInputs<'a> {
+struct OneFile<'a> {
     alloc: Global,
     file: &'a [u8],
-    standard: &'a [u8],
 }
 
-impl<'a> System for TwoInputs<'a> {
-    type Input = FromRead<&'a [u8]>;
+impl<'a> System for OneFile<'a> {
+    type File = &'a [u8];
 
-    ghost holds = { λ s name. record {
-      left = Some (if is_some name then s.file.now else s.standard.now);
-      over = None;
-      most_left = 2 ^ 64 - 1;
-    } };
+    type Standard = &'a [u8];
 
-    fn open(&self, _name: &str) -> Result<FromRead<&'a [u8]>, Status> {
-        Ok(FromRead::new(self.file))
+    ghost holds = { λ s _. Some s.file.now };
+
+    ghost may_refuse = { λ _ _. false };
+
+    fn open(&self, _name: &str) -> io::Result<&'a [u8]> {
+        Ok(self.file)
     }
 
-    fn standard_input(&self) -> Result<FromRead<&'a [u8]>, Status> {
-        Ok(FromRead::new(self.standard))
+    fn size(&self, file: &&'a [u8]) -> Option<u64> {
+        Some(file.len() as u64)
+    }
+
+    fn progress(&self) -> Option<&Progress<'_>> {
+        None
     }
 
     fn alloc(&self) -> Global {
@@ -44,20 +48,6 @@ impl<'a> System for TwoInputs<'a> {
     fn seed(&self) -> u64 {
         1
     }
-
-    fn tell_usage(&self, _text: &str) {}
-
-    fn tell_failure(&self, _name: &str, _input: &FromRead<&'a [u8]>) {}
-
-    fn tell_refusal(&self, _name: &str, _end: StepEnd, _hint: Option<Hint>) {}
-
-    fn tell_fault(
-        &self,
-        _tool: Tool,
-        _args: &Args,
-        _fault: InputFault,
-        _input: &FromRead<&'a [u8]>,
-    ) {}
 }
 
 fn words_of(alloc: Global, line: &str) -> Result<Vec<String>, Fail> {
@@ -68,19 +58,6 @@ fn words_of(alloc: Global, line: &str) -> Result<Vec<String>, Fail> {
     Ok(words)
 }
 
-fn run(
-    tool: Tool,
-    system: &TwoInputs<'_>,
-    words: &[String],
-    out: &mut ToWrite<&mut Writer>,
-) -> Result<Status, Status> {
-    match tool {
-        Tool::Drat => run_drat_forward(system, words, out),
-        Tool::Lrat => run_lrat_check(system, words, out),
-        Tool::Model => run_model_check(system, words, out),
-    }
-}
-
 // A run of a program on its words.
 #[derive(Clone, Copy)]
 struct Program<'a> {
@@ -89,30 +66,35 @@ struct Program<'a> {
     file: &'a str,
     standard_input: &'a [u8],
     written: &'a str,
-    // The status of a check, or why there was none.
-    ended: Result<Status, Status>,
+    // The status of a check and what is told of it, or why there was none.
+    ended: Result<(Status, Told), Status>,
 }
 
 fn expect_run(rt: &impl Abort, alloc: Global, row: &Program<'_>) -> Result<(), Fail> {
     let words = words_of(alloc, row.words)?;
-    let system = TwoInputs {
+    let system = OneFile {
         alloc,
         file: row.file.as_bytes(),
-        standard: row.standard_input,
     };
     let mut writer = Writer::new(alloc, usize::MAX, Stop::TakesNone);
-    let found = run(
-        row.tool,
+    let ended = run_tool(
         &system,
+        row.tool,
         words.as_slice(),
+        Ok(row.standard_input),
         &mut ToWrite::new(&mut writer),
     );
+    let found = match &ended {
+        Ok(ended) => Ok((ended.checked.status, ended.told)),
+        Err(ArgsFault::Words(_)) => Err(Status::Usage),
+        Err(ArgsFault::OutOfMemory) => Err(Status::OutOfMemory),
+    };
     expect_equal(rt, found, row.ended);
     expect_equal(rt, writer.taken.as_slice(), row.written.as_bytes());
     Ok(())
 }
 
-const ROWS: [Program<'static>; 4] = [
+const ROWS: [Program<'static>; 8] = [
     Program {
         tool: Tool::Drat,
         words: "drat-forward --trace e.cnf",
@@ -120,7 +102,7 @@ const ROWS: [Program<'static>; 4] = [
         standard_input: E_DRAT,
         written: "c formula 2 variables 4 clauses\n\
             c 1 add rup\nc 2 add rup\nc steps 2 peak 9\ns VERIFIED\n",
-        ended: Ok(Status::Verified),
+        ended: Ok((Status::Verified, Told::Nothing)),
     },
     Program {
         tool: Tool::Lrat,
@@ -128,7 +110,7 @@ const ROWS: [Program<'static>; 4] = [
         file: E,
         standard_input: E_PROOF,
         written: "c formula 2 variables 4 clauses\nc steps 2 peak 9\ns VERIFIED\n",
-        ended: Ok(Status::Verified),
+        ended: Ok((Status::Verified, Told::Nothing)),
     },
     Program {
         tool: Tool::Model,
@@ -136,7 +118,53 @@ const ROWS: [Program<'static>; 4] = [
         file: MODELS,
         standard_input: MODELS_OUTPUT,
         written: "c clauses 2\ns MODEL VERIFIED\n",
-        ended: Ok(Status::Verified),
+        ended: Ok((Status::Verified, Told::Nothing)),
+    },
+    // A proof that ends without the empty clause.
+    Program {
+        tool: Tool::Drat,
+        words: "drat-forward e.cnf",
+        file: E,
+        standard_input: b"",
+        written: "c formula 2 variables 4 clauses\nc end: no empty clause\ns NOT VERIFIED\n",
+        ended: Ok((Status::NotVerified, Told::NoEmptyClause(Some(Hint::Empty)))),
+    },
+    // A step that is refused, which ends at the `0` in column 3.
+    Program {
+        tool: Tool::Drat,
+        words: "drat-forward e.cnf",
+        file: "p cnf 2 1\n1 2 0\n",
+        standard_input: b"1 0\n0\n",
+        written: "c formula 2 variables 1 clauses\nc step 2: not RUP\n\
+            s NOT VERIFIED\n",
+        ended: Ok((
+            Status::NotVerified,
+            Told::Refused(StepEnd::Text(Place { line: 2, col: 1 }), None),
+        )),
+    },
+    // A model that leaves a clause without a true literal.
+    Program {
+        tool: Tool::Model,
+        words: "model-check m.cnf",
+        file: "p cnf 1 1\n1 0\n",
+        standard_input: b"s SATISFIABLE\nv -1 0\n",
+        written: "c clause 1 is not satisfied\ns MODEL NOT VERIFIED\n",
+        ended: Ok((Status::NotVerified, Told::NotSatisfied(1))),
+    },
+    // A formula whose header is wrong at its second word.
+    Program {
+        tool: Tool::Lrat,
+        words: "lrat-check e.cnf",
+        file: "p dnf 1 1\n1 0\n",
+        standard_input: b"",
+        written: "c formula 1:3: bad header\ns NOT VERIFIED\n",
+        ended: Ok((
+            Status::Malformed,
+            Told::Malformed(
+                InputFault::Formula(Fault::Text(TextFault::BadHeader, Place { line: 1, col: 3 })),
+                None,
+            ),
+        )),
     },
     // The words of another tool: nothing is read and nothing written.
     Program {

@@ -37,6 +37,7 @@ fn run_placed<F: In, P: In, O: Out>(
             refused: None,
             reason_deleted: false,
             fault: None,
+            unmet: None,
         },
     }
 }
