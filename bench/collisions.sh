@@ -32,9 +32,9 @@ fi
 
 # seconds STATUS COMMAND..: the least time of three runs, each of which ends with this status
 seconds() {
-    local wanted=$1 least='' run status start time
+    local wanted=$1 least='' status start time
     shift
-    for run in 1 2 3; do
+    for _ in 1 2 3; do
         status=0
         start=$(date +%s%N)
         timeout "$limit" "$@" > "$out/report" 2>&1 || status=$?

@@ -254,7 +254,7 @@ def units_of_clauses(n):
 def written(made, formula, proof):
     """Writes an input."""
     clauses, lines = made
-    top = max(abs(l) for c in clauses for l in c)
+    top = max(abs(lit) for c in clauses for lit in c)
     with open(formula, "w", encoding="ascii") as it:
         it.write(f"p cnf {top} {len(clauses)}\n")
         it.writelines(clause(*c) + "\n" for c in clauses)

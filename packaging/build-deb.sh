@@ -22,7 +22,10 @@ room=$(mktemp -d)
 trap 'rm -rf "$room"' EXIT
 tree=$room/gazhumbe-$version
 mkdir "$tree"
-git ls-files -z --cached --others --exclude-standard | tar --null --files-from=- -cf - | tar -xf - -C "$tree"
+# git lists what was removed and not yet committed, too
+git ls-files -z --cached --others --exclude-standard | while IFS= read -rd '' path; do
+    [ ! -e "$path" ] || printf '%s\0' "$path"
+done | tar --null --files-from=- -cf - | tar -xf - -C "$tree"
 mv "$tree/packaging/debian" "$tree/debian"
 mkdir "$tree/bin"
 cp bin/drat-forward bin/lrat-check bin/model-check "$tree/bin"

@@ -7,7 +7,7 @@
 #
 # LRAT_CHECK, DRAT_FORWARD and MODEL_CHECK name the programs; they are those in bin/ otherwise.
 set -uo pipefail
-cd "$(dirname "$0")/.."
+cd "$(dirname "$0")/.." || exit 1
 
 size=${1:-10000000000}
 lrat_check=${LRAT_CHECK:-bin/lrat-check}

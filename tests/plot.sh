@@ -5,7 +5,7 @@
 #
 # LRAT_CHECK and DRAT_FORWARD name the programs; they are those in bin/ otherwise.
 set -uo pipefail
-cd "$(dirname "$0")/.."
+cd "$(dirname "$0")/.." || exit 1
 
 lrat_check=$(realpath "${LRAT_CHECK:-bin/lrat-check}")
 drat_forward=$(realpath "${DRAT_FORWARD:-bin/drat-forward}")
@@ -95,9 +95,10 @@ grep -v '^c [0-9]' "$room/trace" > "$room/report"
 trace=$room/report says "a report without --trace" \
     "plot.py: the peak is 180 here, and 402 in the report: was there --trace?" \
     pigeonhole-5.cnf pigeonhole-5.drat "$picture"
-for words in "pigeonhole-5.cnf pigeonhole-5.drat $room/run.pdf" "--lrat --pr a b c.svg" "--trace a b c.svg" "a c.svg"; do
-    says "usage: $words" "usage: plot.py [--lrat | [--binary] [--pr]] FORMULA PROOF PICTURE.png|PICTURE.svg, with the trace on\
- standard input" $words
+for line in "pigeonhole-5.cnf pigeonhole-5.drat $room/run.pdf" "--lrat --pr a b c.svg" "--trace a b c.svg" "a c.svg"; do
+    read -ra words <<< "$line"
+    says "usage: $line" "usage: plot.py [--lrat | [--binary] [--pr]] FORMULA PROOF PICTURE.png|PICTURE.svg, with the trace on\
+ standard input" "${words[@]}"
 done
 
 echo "$passed passed, $failed failed"

@@ -1,15 +1,15 @@
 #!/usr/bin/env bash
 # All tests: whether the mutants of tests/mutants can still be made, docs/THEOREM.md quotes what is there, the pages are short and
-# spelled right, and what is promised is said by the upper floor of specs/ alone; the proofs of the programs; the gate (the
-# proofs of the tests and what else isn't kept, the mutants, the crates' tests and the programs' stored runs); whether each
-# mutant was refused by the clause that it names; then the programs as users run them, also on a folder of many proofs, pictures
-# of runs, their manual pages, what they tell on a terminal, counts of allocations, runs in which each allocation is refused, and
-# instructions on inputs that were made to be dear. At the end stands what each part took. The last line is "N passed, M failed"
-# over all.
+# spelled right, what is promised is said by the upper floor of specs/ alone, and shellcheck and ruff find nothing in the scripts;
+# the proofs of the programs; the gate (the proofs of the tests and what else isn't kept, the mutants, the crates' tests and the
+# programs' stored runs); whether each mutant was refused by the clause that it names; then the programs as users run them, also on
+# many proofs at once, pictures of runs, their manual pages, how they are installed, what they tell on a terminal, counts of
+# allocations, runs in which each allocation is refused, and instructions on inputs that were made to be dear. At the end stands what
+# each part took. The last line is "N passed, M failed" over all.
 #
 # RT names the command rt, where it isn't on the PATH.
 set -uo pipefail
-cd "$(dirname "$0")/.."
+cd "$(dirname "$0")/.." || exit 1
 
 passed=0 failed=0 taken=""
 log=$(mktemp) gate=$(mktemp) times=$(mktemp)
@@ -43,7 +43,7 @@ count() {
     fi
 }
 
-for script in tests/mutants_apply.py tests/quotes.py tests/words.py tests/floors.py; do
+for script in tests/mutants_apply.py tests/quotes.py tests/words.py tests/floors.py tests/lint.sh; do
     part "$script" "$script"
     count $?
 done
@@ -80,7 +80,12 @@ if [ "$ended" -eq 0 ] && [ -x "$LRAT_CHECK" ] && [ -x "$DRAT_FORWARD" ] && [ -x 
     cp "$MODEL_CHECK" bin/model-check
 fi
 
-for script in tests/programs.sh examples/worked.py tests/folder.sh tests/plot.sh tests/manual.sh tests/completions.sh tests/terminal.py tests/allocations.py tests/refusals.py; do
+for script in tests/programs.sh examples/worked.py tests/check_all.py tests/check_all_many.py tests/plot.sh tests/manual.sh tests/completions.sh packaging/test-install.sh tests/terminal.py tests/allocations.py tests/refusals.py; do
+    part "$script" "$script"
+    count $?
+done
+
+for script in tests/pages.py tests/misuse.py; do
     part "$script" "$script"
     count $?
 done

@@ -11,7 +11,7 @@
 # Each command is taken only if README has it, so that README shows nothing that was not run; but Glucose's proofs are made by
 # examples/make-glucose-proof.sh. DRAT_FORWARD, LRAT_CHECK and MODEL_CHECK name the programs; they are those in bin/ otherwise.
 set -uo pipefail
-cd "$(dirname "$0")/.."
+cd "$(dirname "$0")/.." || exit 1
 root=$PWD
 
 passed=0 failed=0
@@ -90,7 +90,7 @@ fail() {
 runs() {
     local name=$1 status=$2 ended
     if ! grep -qF -- "$3" "$root/README.md"; then
-        : > out > err
+        : > out; : > err
         fail "$name: README does not have: $3"
         return
     fi
