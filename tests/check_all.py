@@ -258,9 +258,11 @@ def foreign(room):
     with open(f"{room}/theirs/lrat-check", "w", encoding="utf-8") as text:
         text.write("#!/bin/sh\necho c VERIFIED\necho s VERIFIED\n")
     os.chmod(f"{room}/theirs/lrat-check", 0o755)
-    path = {"LRAT_CHECK": None, "PATH": f"{room}/theirs:{os.environ['PATH']}"}
-    none_of_ours = path["PATH"] if not shutil.which("lrat-check") else f"{room}/theirs:{os.path.dirname(sys.executable)}"
-    found = check(room, env={**path, "PATH": none_of_ours})
+    # where ours are installed, the folder of Python may have them too
+    os.mkdir(f"{room}/bare")
+    os.symlink(sys.executable, f"{room}/bare/python3")
+    path = {"LRAT_CHECK": None}
+    found = check(room, env={**path, "PATH": f"{room}/theirs:{room}/bare"})
     yield "another lrat-check alone", found.status == 3 and "no lrat-check of ours" in found.errors
     yield "it leaves no verdict", not os.path.exists(f"{room}/lrat.lrat.verdict")
     found = check(room, env={"LRAT_CHECK": f"{room}/theirs/lrat-check"})
