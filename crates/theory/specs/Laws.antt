@@ -1,6 +1,6 @@
 -- What holds of the definitions. Each is the contract of a function of `laws`. That RUP, RAT and
 -- PR keep satisfiability is known of DRAT and DPR proofs; the other laws are our own.
-use Rattle.std.specs.Prelude.{◌≡◌, ℕ, List, [], ◌∷◌, Ok, IsTrue, slice_get, sum_by}
+use Rattle.std.specs.Prelude.{◌≡◌, ℕ, List, [], ◌∷◌, Ok, IsTrue, slice_get, sum_by, map}
 use Rattle.theory.specs.declared.accepted.Accepted.{Accepted}
 use Rattle.theory.specs.declared.accepted.Accepted.TheVariants.{Rup, Rat, Pr, Empty}
 use Rattle.cnf_base.specs.Literals.{Literal, Clause, has, same_clause, size}
@@ -15,6 +15,8 @@ use Rattle.theory.specs.Rules.{Rule, drat, State, start, Answers, after, IsSatis
 use Rattle.theory.specs.Verdicts.{Ending, verified, Verdict, DeletedReason}
 use Rattle.proofs.specs.Steps.{Step}
 use Rattle.theory.specs.declared.drat_rules.DratRules.{DratRules}
+use Rattle.theory.specs.Renaming.{renamed, step_renamed, answer_renamed, ending_renamed, IsRenamed}
+use Rattle.theory.specs.Renaming.{IsUndone, AreUndone, StepsAreUndone}
 
 -- Under every assignment that makes the live clauses and the assumed literals true, what is forced
 -- is true.
@@ -146,3 +148,23 @@ EqualSetsEqualTotals = (first second : LratState) →
 abbrev pub EqualCopiesEqualSums : Type 0
 EqualCopiesEqualSums = (first second : List Clause) →
     SameLive first second → sum_by size first ≡ sum_by size second
+
+-- Names don't matter: over clauses with new names a step with new names has the same answer, whose
+-- pivot has its new name, and leaves the same clauses with new names. No two variables of the
+-- clauses and the step may get one name.
+abbrev pub NamesDontMatter : Type 0
+NamesDontMatter =
+    (name back : ℕ → ℕ) (first second : State) (step : Step) (answer : StepAnswer) →
+    IsRenamed name back first second → IsUndone name back step.lits → Answers first step answer →
+    Answers second (step_renamed (renamed name) step) (answer_renamed (renamed name) answer)
+    × ((word : Accepted) → answer ≡ Ok word → IsRenamed name back (after first step word)
+    (after second (step_renamed (renamed name) step) word))
+
+-- A proof with new names has the same verdict on the formula with new names.
+abbrev pub VerdictsKeepUnderNames : Type 0
+VerdictsKeepUnderNames = (name back : ℕ → ℕ) (rule : Rule) (formula : List Clause)
+    (steps : List Step) (words : List Accepted) (ending : Ending) →
+    AreUndone name back (slice_get formula) → StepsAreUndone name back steps →
+    Verdict rule formula steps words ending →
+    Verdict rule (map (map (renamed name)) formula) (map (step_renamed (renamed name)) steps) words
+    (ending_renamed (renamed name) ending)

@@ -4,6 +4,7 @@ pub mod Laws
 pub mod Lrat
 pub mod Models
 pub mod Propagation
+pub mod Renaming
 pub mod Rules
 pub mod Sets
 pub mod Sizes

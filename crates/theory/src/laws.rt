@@ -11,6 +11,7 @@ ghost use Rattle.theory.specs.Laws.{VerdictsAreUnique, VerdictsExist, UnitsAreKe
 ghost use Rattle.theory.specs.Laws.{ReasonsAreKept};
 ghost use Rattle.theory.specs.Laws.{OnlyCopiesCount, OnlySetsCount, EqualSetsEqualTotals};
 ghost use Rattle.theory.specs.Laws.{EqualCopiesEqualSums};
+ghost use Rattle.theory.specs.Laws.{NamesDontMatter, VerdictsKeepUnderNames};
 
 /// Every literal that is forced is true in each model that makes the assumed literals true.
 pub fn forced_is_true()
@@ -101,4 +102,14 @@ pub fn equal_sets_equal_totals()
 /// The sum of the sizes of the live clauses depends only on how many copies of each set there are.
 pub fn equal_copies_equal_sums()
     ensures { EqualCopiesEqualSums }
+{}
+
+/// A step has the same answer under other names.
+pub fn names_do_not_matter()
+    ensures { NamesDontMatter }
+{}
+
+/// A proof has the same verdict under other names.
+pub fn verdicts_keep_under_names()
+    ensures { VerdictsKeepUnderNames }
 {}

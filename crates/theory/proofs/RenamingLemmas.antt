@@ -1,0 +1,5 @@
+pub mod Clauses
+pub mod Forced
+pub mod Drat
+pub mod Lrat
+pub mod Verdicts

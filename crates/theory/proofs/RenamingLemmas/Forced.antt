@@ -1,0 +1,128 @@
+-- What is forced under other names, and the clauses that are redundant.
+use Rattle.std.proofs.Common.{◌≡◌, ◌≢◌, ℕ, Bool, true, false, Some, List, [], ◌∷◌, ◌++◌}
+use Rattle.std.proofs.Common.{map, refl, sym, ap, ◌∙◌, subst, inl, inr, ◌⊎◌}
+use Rattle.std.proofs.lemmas.Option.{same_Some}
+use Rattle.std.proofs.lemmas.List.{map-append}
+use Rattle.cnf_base.specs.Literals.{Literal, complement, Clause, has, complements, without}
+use Rattle.theory.specs.Propagation.{Live, IsClosed, Forced, Clash, by_empty, by_both, open_literals}
+use Rattle.theory.specs.Propagation.{IsRootReason, HasRup, HasRat, HasPr}
+use Rattle.theory.proofs.RenamingLemmas.Clauses.{AreAmong, Renames, GoesTo, reversed, has_mapped}
+use Rattle.theory.proofs.RenamingLemmas.Clauses.{mapped_has, has_is}
+use Rattle.theory.proofs.RenamingLemmas.Clauses.{without_mapped, open_mapped, mapped_among}
+
+-- each clause of the one has its image in the other
+abbrev pub HasImages : (Literal → Literal) → Live → Live → Type 0
+HasImages f live other = (k : ℕ) (c : Clause) → live k ≡ Some c → other k ≡ Some (map f c)
+
+module _ (f : Literal → Literal) (commutes : (l : Literal) → complement (f l) ≡ f (complement l)) (live other : Live) (images : HasImages f live other) where
+  closed_image : (passes : Literal → Bool) → IsClosed other passes → IsClosed live (λ l. passes (f l))
+  closed_image passes closed = record { unit = go }
+    where
+      go : (k : ℕ) (c : Clause) → live k ≡ Some c → (m : Literal) → has c m ≡ true → ((l : Literal) → has c l ≡ true → l ≢ m → passes (f (complement l)) ≡ true) → passes (f m) ≡ true
+      go k c at m member others =
+          closed.unit k (map f c) (images k c at) (f m) (has_mapped f c m member) (λ x inside ne.
+          let w = mapped_has f c x inside in
+          subst (λ y. passes (complement y) ≡ true) w.2
+          (ap passes (commutes w.0) ∙ others w.0 w.1 (λ e. ne (sym w.2 ∙ ap f e))))
+
+  pub forced_image : (assumed : List Literal) (l : Literal) → Forced live assumed l → Forced other (map f assumed) (f l)
+  forced_image assumed l forced = record {
+    in_each = λ passes closed start. forced.in_each (λ l. passes (f l)) (closed_image passes closed) (λ a member. start (f a) (has_mapped f assumed a member));
+  }
+
+  pub clash_image : (assumed : List Literal) → Clash live assumed → Clash other (map f assumed)
+  clash_image assumed (by_empty k at) = by_empty k (images k [] at)
+  clash_image assumed (by_both l x y) =
+      by_both (f l) (forced_image assumed l x) (subst (Forced other (map f assumed)) (sym (commutes l)) (forced_image assumed (complement l) y))
+
+  complements_image : (c : Clause) → map f (complements c) ≡ complements (map f c)
+  complements_image [] = refl
+  complements_image (k ∷ c) = λ i. sym (commutes k) i ∷ complements_image c i
+
+  pub rup_image : (c : Clause) → HasRup live c → HasRup other (map f c)
+  rup_image c clash = subst (Clash other) (complements_image c) (clash_image (complements c) clash)
+
+-- Live clauses under other names: each has its image, and is the image of that one.
+pub record Carries (there back : Literal → Literal) (among : Literal → Type 0) (live other : Live) : Type 0 where
+  pub renames : Renames there back among
+  pub images : HasImages there live other
+  pub images_back : HasImages back other live
+  pub within : (k : ℕ) (c : Clause) → live k ≡ Some c → AreAmong among c
+
+module _ (there back : Literal → Literal) (among : Literal → Type 0) (live other : Live) (s : Carries there back among live other) where
+  -- a clause of the other is an image
+  pub is_image : (k : ℕ) (d : Clause) → other k ≡ Some d → d ≡ map there (map back d)
+  is_image k d at = same_Some d (map there (map back d)) (sym at ∙ s.images k (map back d) (s.images_back k d at))
+
+  pub carries_back : ((l : Literal) → complement (back l) ≡ back (complement l)) → Carries back there (GoesTo there among) other live
+  carries_back commutes = record {
+    renames = reversed there back among s.renames commutes;
+    images = s.images_back;
+    images_back = s.images;
+    within = λ k d at. subst (AreAmong (GoesTo there among)) (sym (is_image k d at)) (mapped_among there back among s.renames (map back d) (s.within k (map back d) (s.images_back k d at)));
+  }
+
+  pub rup_of : (c : Clause) → HasRup live c → HasRup other (map there c)
+  rup_of c = rup_image there s.renames.commutes live other s.images c
+
+  pub rat_image : (c : Clause) (pivot : Literal) → among pivot → HasRat live c pivot → HasRat other (map there c) (there pivot)
+  rat_image c pivot a rat = record {
+    holds_pivot = has_mapped there c pivot rat.holds_pivot;
+    candidates = candidate;
+  }
+    where
+      candidate : (k : ℕ) (d : Clause) → other k ≡ Some d → has d (complement (there pivot)) ≡ true → HasRup other (map there c ++ without d (complement (there pivot)))
+      candidate k d at member =
+          let e = map back d in
+          let at_back = s.images_back k d at in
+          let within = s.within k e at_back in
+          let opposite = s.renames.opposite pivot a in
+          let image = is_image k d at in
+          let name = s.renames.commutes pivot in
+          let inside : has e (complement pivot) ≡ true =
+          sym (has_is there back among s.renames e within (complement pivot) opposite)
+          ∙ ap (has (map there e)) (sym name) ∙ ap (λ x. has x (complement (there pivot))) (sym image) ∙ member in
+          let left : map there (c ++ without e (complement pivot)) ≡ map there c ++ without d (complement (there pivot)) =
+          map-append there c (without e (complement pivot))
+          ∙ ap (λ x. map there c ++ x) (sym (without_mapped there back among s.renames e within (complement pivot) opposite)
+          ∙ (λ i. without (sym image i) (sym name i))) in
+          subst (HasRup other) left (rup_of (c ++ without e (complement pivot)) (rat.candidates k e at_back inside))
+
+  pub pr_image : (c : Clause) (witness : List Literal) → AreAmong among witness → HasPr live c witness → HasPr other (map there c) (map there witness)
+  pr_image c witness w_within pr = record {
+    consistent = consistent;
+    meets = (there pr.meets.0, has_mapped there c pr.meets.0 pr.meets.1, has_mapped there witness pr.meets.0 pr.meets.2);
+    others = others;
+  }
+    where
+      consistent : (m : Literal) → has (map there witness) m ≡ true → has (map there witness) (complement m) ≡ false
+      consistent m h =
+          let w = mapped_has there witness m h in
+          let a = w_within w.0 w.1 in
+          subst (λ x. has (map there witness) (complement x) ≡ false) w.2
+          (ap (has (map there witness)) (s.renames.commutes w.0)
+          ∙ has_is there back among s.renames witness w_within (complement w.0) (s.renames.opposite w.0 a) ∙ pr.consistent w.0 w.1)
+
+      others : (k : ℕ) (d : Clause) → other k ≡ Some d → ((l : Literal) × (has d l ≡ true) × (has (map there witness) l ≡ true)) ⊎ HasRup other (map there c ++ open_literals (map there witness) d)
+      others k d at =
+          let e = map back d in
+          let at_back = s.images_back k d at in
+          let image = is_image k d at in
+          elim (pr.others k e at_back) [
+            | inl m ↦ inl (there m.0, ap (λ x. has x (there m.0)) image ∙ has_mapped there e m.0 m.1, has_mapped there witness m.0 m.2)
+            | inr rup ↦ inr (subst (HasRup other) (map-append there c (open_literals witness e)
+                ∙ ap (λ x. map there c ++ x) (sym (open_mapped there back among s.renames witness e w_within (s.within k e at_back))
+                ∙ ap (open_literals (map there witness)) (sym image))) (rup_of (c ++ open_literals witness e) rup))
+          ]
+
+  pub reason_image : (c : Clause) → IsRootReason live c → IsRootReason other (map there c)
+  reason_image c r = record {
+    literal = there r.literal;
+    member = has_mapped there c r.literal r.member;
+    forced = forced_image there s.renames.commutes live other s.images [] r.literal r.forced;
+    others = λ x h ne.
+        let w = mapped_has there c x h in
+        subst (λ y. Forced other [] (complement y)) w.2
+        (subst (Forced other []) (sym (s.renames.commutes w.0))
+        (forced_image there s.renames.commutes live other s.images [] (complement w.0) (r.others w.0 w.1 (λ e. ne (sym w.2 ∙ ap there e)))));
+  }

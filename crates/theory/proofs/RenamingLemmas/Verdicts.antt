@@ -1,0 +1,219 @@
+-- States, steps and proofs under other names.
+use Rattle.std.proofs.Common.{◌≡◌, ℕ, zero, suc, ◌+◌, ◌*◌, ◌%◌, Bool, true, false, ◌||◌, cond, eqb}
+use Rattle.std.proofs.Common.{Some, None, Ok, Err, List, [], ◌∷◌, map, slice_get, length}
+use Rattle.std.proofs.Common.{refl, sym, ap, ◌∙◌, subst, arith, not}
+use Rattle.std.specs.Bool.{MatchBool}
+use Rattle.std.specs.List.{list_any, prefix_len}
+use Rattle.std.specs.Prelude.{nat_abs}
+use Rattle.std.proofs.lemmas.Bool.{false≢true}
+use Rattle.std.proofs.lemmas.Bool.Decides.{nat_tests}
+use Rattle.std.proofs.lemmas.List.{length-map}
+use Rattle.std.proofs.lemmas.Option.{none-some, same_Some, slice_get-map}
+use Rattle.cnf_base.specs.Literals.{Literal, complement, Clause, variable, same_clause}
+use Rattle.cnf_base.proofs.MemberLemmas.{variable-complement}
+use Rattle.proofs.specs.Steps.{Step, clause_part}
+use Rattle.proofs.specs.declared.step_buf.StepKind.{StepKind}
+use Rattle.proofs.specs.declared.step_buf.StepKind.TheVariants as kinds
+use Rattle.theory.specs.declared.accepted.Accepted.{Accepted}
+use Rattle.theory.specs.declared.accepted.Accepted.TheVariants.{Rup, Rat, Pr, Empty, Deleted}
+use Rattle.theory.specs.declared.accepted.Accepted.TheVariants.{Ignored}
+use Rattle.theory.specs.declared.drat_rules.DratRules.{DratRules}
+use Rattle.theory.specs.Answers.{StepAnswer}
+use Rattle.theory.specs.Propagation.{Live}
+use Rattle.theory.specs.Drat as d
+use Rattle.theory.specs.Drat.{DratStep, AnswersDrat, drat_step, drat_step_of, take_off, after_drat}
+use Rattle.theory.specs.Lrat.{AnswersLrat, step_of, with_clause, without_id}
+use Rattle.theory.specs.Lrat.{without_ids, numbered, after_lrat}
+use Rattle.theory.specs.Rules.{Rule, lrat, drat, State, by_ids, by_copies, start, Answers, after}
+use Rattle.theory.specs.Verdicts.{Ending, verified, is_last, Ends}
+use Rattle.theory.specs.Verdicts.{is_empty, Verdict}
+use Rattle.theory.specs.Renaming.{renamed, step_renamed, answer_renamed, ending_renamed, AreRenamed}
+use Rattle.theory.specs.Renaming.{IsUndone, AreUndone, StepsAreUndone, IsRenamed}
+use Rattle.theory.proofs.RenamingLemmas.Clauses.{Renames, take_has, drop_has}
+use Rattle.theory.proofs.RenamingLemmas.Drat.{IsOf, drat_answers_mapped, after_mapped}
+use Rattle.theory.proofs.RenamingLemmas.Drat.{drat_step_mapped}
+use Rattle.theory.proofs.RenamingLemmas.Lrat.{lrat_answers_mapped, with_mapped}
+use Rattle.theory.proofs.RenamingLemmas.Lrat.{without_all_mapped}
+
+-- ---- Names
+
+pub renamed_complement : (name : ℕ → ℕ) (l : Literal) → complement (renamed name l) ≡ renamed name (complement l)
+unfolding complement
+renamed_complement name l =
+    by (name (variable l)) ∙ ap (λ n. 2 * n + complement l % 2) (ap name (sym (variable-complement l)))
+  where
+    by : (n : ℕ) → complement (2 * n + l % 2) ≡ 2 * n + complement l % 2
+    by n = grind (arith, nat_tests)
+
+variable_renamed : (n l : ℕ) → variable (2 * n + l % 2) ≡ n
+variable_renamed n l = grind arith
+
+sign_renamed : (n l : ℕ) → (2 * n + l % 2) % 2 ≡ l % 2
+sign_renamed n l = grind arith
+
+whole_literal : (l : ℕ) → 2 * variable l + l % 2 ≡ l
+whole_literal l = grind arith
+
+-- literals whose names can be told
+abbrev IsTold : (name back : ℕ → ℕ) → Literal → Type 0
+IsTold name back l = back (name (variable l)) ≡ variable l
+
+pub renames : (name back : ℕ → ℕ) → Renames (renamed name) (renamed back) (IsTold name back)
+renames name back = record {
+  commutes = renamed_complement name;
+  opposite = λ l told. ap (λ v. back (name v)) (variable-complement l) ∙ told ∙ sym (variable-complement l);
+  undone = λ l told.
+      ap (λ v. 2 * back v + (2 * name (variable l) + l % 2) % 2) (variable_renamed (name (variable l)) l)
+      ∙ ap (λ b. 2 * back (name (variable l)) + b) (sign_renamed (name (variable l)) l)
+      ∙ ap (λ v. 2 * v + l % 2) told ∙ whole_literal l;
+}
+
+-- ---- One step
+
+module _ (name back : ℕ → ℕ) where
+  of_step : (rules : DratRules) (kind : StepKind) (lits : List Literal) → IsUndone name back lits → IsOf (IsTold name back) (drat_step_of rules kind lits)
+  of_step rules kinds.Delete lits told = told
+  of_step rules kinds.Add lits told = by rules.pr
+    where
+      part_told : (lits : List Literal) → IsUndone name back lits → IsUndone name back (clause_part lits)
+      part_told [] told = told
+      part_told (first ∷ rest) told = λ l h. told l (take_has (suc (prefix_len (λ k. not (eqb k first)) rest)) (first ∷ rest) l h)
+
+      by : (pr : Bool) → IsOf (IsTold name back) (d.addition_of pr lits)
+      by true = (part_told lits told, λ l h. told l (drop_has (length (clause_part lits)) lits l h))
+      by false = (told, λ l h. absurd (false≢true h))
+
+  pub step_answers : (first second : State) (step : Step) (answer : StepAnswer) → IsRenamed name back first second → IsUndone name back step.lits → Answers first step answer →
+      Answers second (step_renamed (renamed name) step) (answer_renamed (renamed name) answer)
+  step_answers (by_ids s) (by_ids t) step answer r told a =
+      subst (λ top. AnswersLrat (record { live = t.live; top = top }) (step_of step.kind step.id (map (renamed name) step.lits) step.hints) (answer_renamed (renamed name) answer)) (sym r.1)
+      (by step.kind a)
+    where
+      by : (kind : StepKind) → AnswersLrat s (step_of kind step.id step.lits step.hints) answer →
+          AnswersLrat (record { live = t.live; top = s.top }) (step_of kind step.id (map (renamed name) step.lits) step.hints) (answer_renamed (renamed name) answer)
+      by kinds.Add a = lrat_answers_mapped (renamed name) (renamed back) (IsTold name back) (renames name back) s.live t.live s.top r.0 r.2 (step_of kinds.Add step.id step.lits step.hints) answer told a
+      by kinds.Delete a = lrat_answers_mapped (renamed name) (renamed back) (IsTold name back) (renames name back) s.live t.live s.top r.0 r.2 (step_of kinds.Delete step.id step.lits step.hints) answer tt a
+  step_answers (by_copies rules live) (by_copies rules_too other) step answer r told a =
+      subst (λ q. AnswersDrat q other (drat_step_of q step.kind (map (renamed name) step.lits)) (answer_renamed (renamed name) answer)) (sym r.0)
+      (subst (λ o. AnswersDrat rules o (drat_step_of rules step.kind (map (renamed name) step.lits)) (answer_renamed (renamed name) answer)) (sym r.1)
+      (subst (λ st. AnswersDrat rules (map (map (renamed name)) live) st (answer_renamed (renamed name) answer)) (sym (drat_step_mapped (renamed name) (renamed back) (IsTold name back) (renames name back) (renamed_complement back) rules step.kind step.lits told))
+      (drat_answers_mapped (renamed name) (renamed back) (IsTold name back) (renames name back) (renamed_complement back) live r.2 rules (drat_step_of rules step.kind step.lits) answer (of_step rules step.kind step.lits told) a)))
+  step_answers (by_ids s) (by_copies rules other) step answer r told a = absurd r
+  step_answers (by_copies rules live) (by_ids t) step answer r told a = absurd r
+
+  -- ---- What it leaves
+
+  taken_undone : (c : Clause) (live : List Clause) → AreUndone name back (slice_get live) → AreUndone name back (slice_get (take_off c live))
+  taken_undone c [] undone = undone
+  taken_undone c (e ∷ live) undone = by (same_clause c e) (taken_undone c live (λ k. undone (suc k)))
+    where
+      kept : AreUndone name back (slice_get (take_off c live)) → AreUndone name back (slice_get (e ∷ take_off c live))
+      kept rest zero x at = undone zero x at
+      kept rest (suc k) x at = rest k x at
+
+      by : (b : Bool) → AreUndone name back (slice_get (take_off c live)) → AreUndone name back (slice_get (cond b live (e ∷ take_off c live)))
+      by true rest = λ k. undone (suc k)
+      by false rest = kept rest
+
+  added_undone : (c : Clause) (live : List Clause) → IsUndone name back c → AreUndone name back (slice_get live) → AreUndone name back (slice_get (c ∷ live))
+  added_undone c live told undone zero x e = subst (IsUndone name back) (same_Some c x e) told
+  added_undone c live told undone (suc k) x e = undone k x e
+
+  drat_undone : (live : List Clause) (step : DratStep) (word : Accepted) → IsOf (IsTold name back) step → AreUndone name back (slice_get live) → AreUndone name back (slice_get (after_drat live step word))
+  drat_undone live (d.add c witness) word of undone = added_undone c live of.0 undone
+  drat_undone live (d.delete c) Ignored of undone = undone
+  drat_undone live (d.delete c) Deleted of undone = taken_undone c live undone
+  drat_undone live (d.delete c) Rup of undone = taken_undone c live undone
+  drat_undone live (d.delete c) Rat of undone = taken_undone c live undone
+  drat_undone live (d.delete c) Pr of undone = taken_undone c live undone
+  drat_undone live (d.delete c) Empty of undone = taken_undone c live undone
+
+  with_undone : (live : Live) (id : ℕ) (c : Clause) → IsUndone name back c → AreUndone name back live → AreUndone name back (with_clause live id c)
+  with_undone live id c told undone k x = by (eqb k id)
+    where
+      by : (b : Bool) → cond b (Some c) (live k) ≡ Some x → IsUndone name back x
+      by true e = subst (IsUndone name back) (same_Some c x e) told
+      by false e = undone k x e
+
+  without_undone : (ids : List ℕ) (live : Live) → AreUndone name back live → AreUndone name back (without_ids live ids)
+  without_undone [] live undone = undone
+  without_undone (id ∷ ids) live undone = without_undone ids (without_id live id) (λ k x. by k x (eqb k id))
+    where
+      by : (k : ℕ) (x : Clause) (b : Bool) → cond b None (live k) ≡ Some x → IsUndone name back x
+      by k x true e = absurd (none-some x e)
+      by k x false e = undone k x e
+
+  pub step_leaves : (first second : State) (step : Step) (word : Accepted) → IsRenamed name back first second → IsUndone name back step.lits →
+      IsRenamed name back (after first step word) (after second (step_renamed (renamed name) step) word)
+  step_leaves (by_ids s) (by_ids t) step word r told = by step.kind
+    where
+      by : (kind : StepKind) → IsRenamed name back (by_ids (after_lrat s (step_of kind step.id step.lits step.hints))) (by_ids (after_lrat t (step_of kind step.id (map (renamed name) step.lits) step.hints)))
+      by kinds.Add = (
+        with_mapped (renamed name) (renamed back) (IsTold name back) (renames name back) s.live t.live r.0 step.id step.lits,
+        refl,
+        with_undone s.live step.id step.lits told r.2,
+      )
+      by kinds.Delete = (
+        without_all_mapped (renamed name) (renamed back) (IsTold name back) (renames name back) (map nat_abs step.hints) s.live t.live r.0,
+        r.1,
+        without_undone (map nat_abs step.hints) s.live r.2,
+      )
+  step_leaves (by_copies rules live) (by_copies rules_too other) step word r told = (
+    r.0,
+    (λ i. after_drat (r.1 i) (drat_step_of (r.0 i) step.kind (map (renamed name) step.lits)) word)
+        ∙ ap (λ st. after_drat (map (map (renamed name)) live) st word) (drat_step_mapped (renamed name) (renamed back) (IsTold name back) (renames name back) (renamed_complement back) rules step.kind step.lits told)
+        ∙ after_mapped (renamed name) (renamed back) (IsTold name back) (renames name back) (renamed_complement back) live (drat_step_of rules step.kind step.lits) word r.2 (of_step rules step.kind step.lits told),
+    drat_undone live (drat_step_of rules step.kind step.lits) word (of_step rules step.kind step.lits told) r.2,
+  )
+  step_leaves (by_ids s) (by_copies rules other) step word r told = absurd r
+  step_leaves (by_copies rules live) (by_ids t) step word r told = absurd r
+
+  -- ---- A proof
+
+  ends_renamed : (steps : List Step) (words : List Accepted) (ending : Ending) (first second : State) → IsRenamed name back first second → StepsAreUndone name back steps → Ends first steps words ending →
+      Ends second (map (step_renamed (renamed name)) steps) words (ending_renamed (renamed name) ending)
+  ends_renamed [] [] ending first second r told e = ap (ending_renamed (renamed name)) e
+  ends_renamed [] (word ∷ words) ending first second r told e = absurd e
+  ends_renamed (step ∷ steps) [] ending first second r told e =
+      (_, ap (ending_renamed (renamed name)) e.1, step_answers first second step (Err e.0) r (told zero step refl) e.2)
+  ends_renamed (step ∷ steps) (word ∷ words) ending first second r told e = (
+    step_answers first second step (Ok word) r (told zero step refl) e.0,
+    by (is_last word) (ends_renamed steps words ending (after first step word) (after second (step_renamed (renamed name) step) word) (step_leaves first second step word r (told zero step refl)) (λ k. told (suc k))) e.1,
+  )
+    where
+      by : (b : Bool) → (Ends (after first step word) steps words ending → Ends (after second (step_renamed (renamed name) step) word) (map (step_renamed (renamed name)) steps) words (ending_renamed (renamed name) ending)) →
+          MatchBool b ((words ≡ []) × (ending ≡ verified)) (Ends (after first step word) steps words ending) →
+          MatchBool b ((words ≡ []) × (ending_renamed (renamed name) ending ≡ verified)) (Ends (after second (step_renamed (renamed name) step) word) (map (step_renamed (renamed name)) steps) words (ending_renamed (renamed name) ending))
+      by true rest h = (h.0, ap (ending_renamed (renamed name)) h.1)
+      by false rest h = rest h
+
+  empties : (formula : List Clause) → list_any is_empty (map (map (renamed name)) formula) ≡ list_any is_empty formula
+  empties [] = refl
+  empties (c ∷ formula) = ap (λ b. b || list_any is_empty (map (map (renamed name)) formula)) (by c) ∙ ap (λ b. is_empty c || b) (empties formula)
+    where
+      by : (c : Clause) → is_empty (map (renamed name) c) ≡ is_empty c
+      by [] = refl
+      by (l ∷ c) = refl
+
+  started : (rule : Rule) (formula : List Clause) → AreUndone name back (slice_get formula) → IsRenamed name back (start rule formula) (start rule (map (map (renamed name)) formula))
+  started lrat formula undone = (at, length-map formula (map (renamed name)), undone_at)
+    where
+      at : AreRenamed (renamed name) (numbered formula) (numbered (map (map (renamed name)) formula))
+      at zero = refl
+      at (suc k) = slice_get-map (map (renamed name)) formula k
+
+      undone_at : AreUndone name back (numbered formula)
+      undone_at zero c e = absurd (none-some c e)
+      undone_at (suc k) c e = undone k c e
+  started (drat rules) formula undone = (refl, refl, undone)
+
+  pub verdict_renamed : (rule : Rule) (formula : List Clause) (steps : List Step) (words : List Accepted) (ending : Ending) → AreUndone name back (slice_get formula) → StepsAreUndone name back steps →
+      Verdict rule formula steps words ending → Verdict rule (map (map (renamed name)) formula) (map (step_renamed (renamed name)) steps) words (ending_renamed (renamed name) ending)
+  verdict_renamed rule formula steps words ending undone told v =
+      subst (λ b. MatchBool b ((words ≡ []) × (ending_renamed (renamed name) ending ≡ verified)) (Ends (start rule (map (map (renamed name)) formula)) (map (step_renamed (renamed name)) steps) words (ending_renamed (renamed name) ending))) (sym (empties formula))
+      (by (list_any is_empty formula) v)
+    where
+      by : (b : Bool) → MatchBool b ((words ≡ []) × (ending ≡ verified)) (Ends (start rule formula) steps words ending) →
+          MatchBool b ((words ≡ []) × (ending_renamed (renamed name) ending ≡ verified)) (Ends (start rule (map (map (renamed name)) formula)) (map (step_renamed (renamed name)) steps) words (ending_renamed (renamed name) ending))
+      by true h = (h.0, ap (ending_renamed (renamed name)) h.1)
+      by false h = ends_renamed steps words ending (start rule formula) (start rule (map (map (renamed name)) formula)) (started rule formula undone) told h
