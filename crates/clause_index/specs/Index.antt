@@ -7,6 +7,8 @@ use Rattle.clause_index.specs.declared.index.Waiting.{Waiting}
 abbrev pub seed_of : Index → ℕ
 seed_of index = index.seed
 
--- the slots that wait in it
+-- the slots that wait in it; each field has to be named here
 abbrev pub waiting_in : Index → List Waiting
-waiting_in index = index.waiting.items
+waiting_in index =
+    let record { seed = _; placed = _; waiting = waiting; at_once = _; low = _ } = index in
+    waiting.items

@@ -47,7 +47,9 @@ impl Model for Ids {
 
     ghost coded = { maps.code coded_ℕ coded_ℕ };
 
-    ghost view = { λ i. as_map (entry_for i.directory i.pages i.far) };
+    // Each field has to be named here. No identifier and no slot is a literal.
+    ghost view = { λ record { directory = directory; pages = pages; far = far; credit = _ }.
+        as_map (entry_for directory pages far) };
 
     ghost invariant = { λ i. IsHeld i.directory i.pages i.far };
 }

@@ -4,6 +4,8 @@ use Rattle.std.specs.Prelude.{ℕ, Option, slice_get}
 use Rattle.tables.specs.Table as table
 use Rattle.tables.specs.declared.filled.Filled.{Filled}
 
--- the value at the key
+-- the value at the key; each field has to be named here
 unfoldable pub at : {T : Type 0} → Filled T → ℕ → Option T
-at f k = option_or (slice_get f.near.items k) (table.at f.far k)
+at f k =
+    let record { near = near; far = far; count = _ } = f in
+    option_or (slice_get near.items k) (table.at far k)

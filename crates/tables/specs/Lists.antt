@@ -31,9 +31,11 @@ has_list_at lists k = nat_lt k (length lists.near.items) || is_some (at lists.nu
 abbrev pub total : {T : Type 0} → List (Vec T Global) → ℕ
 total lists = sum_by (λ list. length list.items) lists
 
--- how many all lists have
+-- how many all lists have; each field has to be named here, and has lists, numbers or none
 abbrev pub entries_in : {T : Type 0} → Lists T → ℕ
-entries_in lists = total lists.near.items + total lists.far.items
+entries_in lists =
+    let record { alloc = _; near = near; far = far; numbers = _; count = _ } = lists in
+    total near.items + total far.items
 
 -- each number is that of one of so many lists, and of one key
 pub record AreNumbered (number_of : ℕ → Option ℕ) (count : ℕ) : Type 0 where

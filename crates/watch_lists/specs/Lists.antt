@@ -50,9 +50,9 @@ list_at watches l = by_key.list_at watches.lists l
 abbrev pub has_list_at : WatchLists → Literal → Bool
 has_list_at watches l = by_key.has_list_at watches.lists l
 
--- the entries of all lists
+-- the entries of all lists; each field has to be named here
 abbrev pub entries_in : WatchLists → ℕ
-entries_in watches = by_key.entries_in watches.lists
+entries_in watches = let record { lists = lists; places = _ } = watches in by_key.entries_in lists
 
 -- no two lists are one
 abbrev pub AreApart : WatchLists → Type 0

@@ -43,9 +43,10 @@ impl Model for Cursor {
 
     ghost Value = { CursorState };
 
-    ghost view = { λ c. record {
-      entries = take c.kept c.list.items ++ drop c.next c.list.items;
-      visited = c.kept;
+    // Each field has to be named here. What stands between the two places was taken out.
+    ghost view = { λ record { list = list; kept = kept; next = next }. record {
+      entries = take kept list.items ++ drop next list.items;
+      visited = kept;
     } };
 
     ghost invariant = { λ c. (c.kept ≤ c.next) × (c.next ≤ length c.list.items) };

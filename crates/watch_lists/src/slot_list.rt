@@ -30,7 +30,8 @@ impl Model for SlotList {
 
     ghost coded = { coded_list coded_ℕ };
 
-    ghost view = { λ s. s.slots.items };
+    // Each field has to be named here. The places are numbers by slot.
+    ghost view = { λ record { slots = slots; places = _ }. slots.items };
 
     ghost invariant = { λ s. IsPlaced s.slots.items (at s.places) };
 }

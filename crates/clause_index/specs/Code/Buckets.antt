@@ -11,6 +11,8 @@ bucket_of (Some slots) single = slots.items
 bucket_of None (Some slot) = slot ∷ []
 bucket_of None None = []
 
--- the slots in the bucket of a hash, in the order of their places
+-- the slots in the bucket of a hash, in the order of their places; each field has to be named here
 abbrev pub bucket_at : Buckets → ℕ → List ℕ
-bucket_at buckets h = bucket_of (get nat_eq buckets.many h) (slot_at buckets.single h)
+bucket_at buckets h =
+    let record { alloc = _; single = single; many = many; covered = _ } = buckets in
+    bucket_of (get nat_eq many h) (slot_at single h)

@@ -11,9 +11,9 @@ use Rattle.clause_index.specs.Hashes.{hash}
 use Rattle.clause_index.specs.Code.Indexed.{IsIndexed}
 use Rattle.clause_index.specs.declared.placed.Placed.{Placed}
 
--- the slots with this hash, in the order of their places
+-- the slots with this hash, in the order of their places; each field has to be named here
 abbrev pub under : Placed → ℕ → List ℕ
-under placed h = bucket_at placed.buckets h
+under placed h = let record { buckets = buckets; places = _ } = placed in bucket_at buckets h
 
 -- the place that is noted for a slot, and 0 where none is
 abbrev pub place_in : Table ℕ → ℕ → ℕ

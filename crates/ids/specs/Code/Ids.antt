@@ -15,11 +15,11 @@ far_at far key = unwrap_or (get nat_cmp far key) 0
 
 -- ---- The directory: pages count from 1, and 0 is none
 
--- the near page of a page number, or else the far one
+-- the near page of a page number, or else the far one; each field has to be named here
 unfoldable pub page_at : Directory → ℕ → ℕ
 page_at directory number =
-    if slice_index directory.near.items number == 0 then far_at directory.far number
-    else slice_index directory.near.items number
+    let record { near = near; far = far; opened = _ } = directory in
+    if slice_index near.items number == 0 then far_at far number else slice_index near.items number
 
 -- ---- Entries: a slot's number and 1, or 0 where nothing is bound
 
@@ -35,8 +35,11 @@ abbrev pub entry_in : (ℕ → ℕ) → List ℕ → ℕ → ℕ
 entry_in page entries id =
     if page (id / 1024) == 0 then 0 else slice_index entries (place (page (id / 1024)) id)
 
+-- by a directory and its pages; each field of these has to be named here
 abbrev pub entry_at : Directory → Pages → ℕ → ℕ
-entry_at directory pages id = entry_in (page_at directory) pages.entries.items id
+entry_at directory pages id =
+    let record { entries = entries; live = _; numbers = _; free = _ } = pages in
+    entry_in (page_at directory) entries.items id
 
 -- the entry of an identifier: in its page, or else the far one
 abbrev pub entry_for : Directory → Pages → BTreeMap ℕ ℕ → ℕ → ℕ
