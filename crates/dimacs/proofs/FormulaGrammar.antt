@@ -30,7 +30,8 @@ use Rattle.cnf_base.proofs.GrammarLemmas.{listing_says, number_spelled, p_spelle
 use Rattle.cnf_base.proofs.LineLemmas.{append_nil}
 use Rattle.cnf_base.proofs.PrintLemmas.{both, count_word}
 use Rattle.dimacs.specs.Formula.{and_then, word_of_token, next_word, is_p, is_cnf, fixed, count_of}
-use Rattle.dimacs.specs.Formula.{count, line_end_of_token, line_end_at_end, line_end, header_of}
+use Rattle.dimacs.specs.Formula.{count, line_end_of_token, line_end_at_end, line_end, first_end}
+use Rattle.dimacs.specs.Formula.{and_then_at, part, header_of}
 use Rattle.dimacs.specs.Formula.{judged, Body, faulty_body, whole, with_first_clause, body_at_end}
 use Rattle.dimacs.specs.Formula.{body_on_word, body_on_token, body_among, body_of, Formula}
 use Rattle.dimacs.specs.Formula.{formula_with, formula_of}
@@ -184,7 +185,7 @@ lines_header ((w ∷ ws) ∷ lines) = line_header lines (w ∷ ws)
 -- ---- What the tokens say of it
 
 -- both went wrong, or both went on, and so
-abbrev Agree : {A B : Type 0} → (A → B → Type 0) → Result A Fault → Option B → Type 0
+abbrev Agree : {A B E : Type 0} → (A → B → Type 0) → Result A E → Option B → Type 0
 Agree R (Ok a) (Some b) = R a b
 Agree R (Err f) None = Unit {0}
 Agree R (Ok a) None = ⊥
@@ -199,6 +200,20 @@ agree_then R S (Ok a) (Some b) f g r next = next a b r
 agree_then R S (Err e) None f g r next = tt
 agree_then R S (Ok a) None f g r next = absurd r
 agree_then R S (Err e) (Some b) f g r next = absurd r
+
+agree_part : {A B C D : Type 0} (R : A → B → Type 0) (S : C → D → Type 0)
+    (test : Listing → Result A Fault) (l : Listing) (y : Option B)
+    (f : A → Result C (Fault × List ℕ)) (g : B → Option D)
+    → Agree R (test l) y → ((a : A) (b : B) → R a b → Agree S (f a) (g b))
+    → Agree S (part test l f) (and_so y g)
+agree_part {A = A} {B = B} R S test l y f g r next = by (test l) y r
+  where
+    by : (x : Result A Fault) (y : Option B) → Agree R x y
+        → Agree S (and_then_at (first_end l.tokens) x f) (and_so y g)
+    by (Ok a) (Some b) r = next a b r
+    by (Err e) None r = tt
+    by (Ok a) None r = absurd r
+    by (Err e) (Some b) r = absurd r
 
 -- a text in the midst of a line, and after one
 record IsIn (lines : Lines) (l : Listing) (line : List (List ℕ)) : Type 0 where
@@ -307,17 +322,17 @@ abbrev IsHead : Header × Listing → Header × Lines → Type 0
 IsHead x y = (x.0 ≡ y.0) × IsAfter y.1 x.1
 
 line_agrees : (lines : Lines) (l : Listing) (line : List (List ℕ)) → IsIn lines l line
-    → Agree IsHead (and_then (fixed is_p l) after_p) (line_header lines line)
+    → Agree IsHead (part (fixed is_p) l after_p) (line_header lines line)
 line_agrees lines l line is =
-    agree_then _ _ (fixed is_p l) (fixed_in is_p line) _ _ (fixed_agrees lines l line is is_p)
+    agree_part _ _ (fixed is_p) l (fixed_in is_p line) _ _ (fixed_agrees lines l line is is_p)
     (λ l line is.
-    agree_then _ _ (fixed is_cnf l) (fixed_in is_cnf line) _ _ (fixed_agrees lines l line is is_cnf)
+    agree_part _ _ (fixed is_cnf) l (fixed_in is_cnf line) _ _ (fixed_agrees lines l line is is_cnf)
     (λ l line is.
-    agree_then _ _ (count 268435455 l) (count_in 268435455 line) _ _
+    agree_part _ _ (count 268435455) l (count_in 268435455 line) _ _
     (count_agrees lines l line is 268435455) (λ v w r.
-    agree_then _ _ (count 4294967295 v.1) (count_in 4294967295 w.1) _ _
+    agree_part _ _ (count 4294967295) v.1 (count_in 4294967295 w.1) _ _
     (count_agrees lines v.1 w.1 r.1 4294967295) (λ c d s.
-    agree_then _ _ (line_end c.1) (end_in d.1) _ _
+    agree_part _ _ line_end c.1 (end_in d.1) _ _
     (end_agrees lines c.1.tokens c.1.end c.1.ending d.1 s.1.ending s.1.said) (λ m u after.
     (ap₂ (λ vars clauses. record { vars = vars; clauses = clauses }) r.0 s.0, after))))))
 
@@ -346,7 +361,7 @@ header_agrees ((w ∷ ws) ∷ lines) (t ∷ ts) p s =
     (line_agrees lines (listing (t ∷ ts) p End) (w ∷ ws) (record { said = s; ending = refl }))
   where
     by : (t : Listed) (k : tokens.Token) → t.token ≡ k → IsSaid k (Some (word_of w))
-        → Agree IsHead (and_then (fixed is_p (listing (t ∷ ts) p End)) after_p)
+        → Agree IsHead (part (fixed is_p) (listing (t ∷ ts) p End) after_p)
         (line_header lines (w ∷ ws))
         → Agree IsHead (header_of (listing (t ∷ ts) p End)) (line_header lines (w ∷ ws))
     by t (token.Word q v) e s a = rw e (rw e at a)
@@ -650,7 +665,7 @@ text_clauses h l lines is =
     ap (λ e. clean (body_among h 0 [] l.tokens l.end e)) is.ending
     ∙ lines_clauses h l.end l.tokens lines is.said
 
-formula_words : (h : Header) (clauses : List Clause) (r : Result (Header × Listing) Fault)
+formula_words : (h : Header) (clauses : List Clause) (r : Result (Header × Listing) (Fault × List ℕ))
     (o : Option (Header × Lines))
     → Agree IsHead r o → formula_with r ≡ faultless_formula h clauses
     → (rest : Lines) × (o ≡ Some (h, rest)) × (clauses_in h 0 [] (all_words rest) ≡ Some clauses)
@@ -669,7 +684,7 @@ formula_words h clauses (Ok x) (Some y) a e =
           ∙ ap (λ f. faultless f.fault f.clauses) e,
     )
 
-formula_taken : (h : Header) (clauses : List Clause) (r : Result (Header × Listing) Fault)
+formula_taken : (h : Header) (clauses : List Clause) (r : Result (Header × Listing) (Fault × List ℕ))
     (o : Option (Header × Lines))
     (rest : Lines) → Agree IsHead r o → o ≡ Some (h, rest) → clauses_in h 0 [] (all_words rest)
     ≡ Some clauses

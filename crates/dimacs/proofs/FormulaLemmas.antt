@@ -17,12 +17,12 @@ use Rattle.cnf_base.specs.declared.fault.TextFault.{TextFault}
 use Rattle.cnf_base.proofs.ListingLemmas.{Gives-from, listing_at-from}
 use Rattle.cnf_base.proofs.StreamLemmas.{Along-then, Along-map, Along-none}
 use Rattle.dimacs.specs.Reading.{FormulaReading, clauses_to_come, body_unless_ended, GivesClause}
-use Rattle.dimacs.specs.Reading.{offsets_unless_ended, offsets_to_come, PassesNoZero, GivesOffset}
-use Rattle.dimacs.specs.Code.Reading.{body_left, EndsBody, offsets_left}
+use Rattle.dimacs.specs.Reading.{ends_unless_ended, ends_to_come, PassesNoEnd, GivesEnd}
+use Rattle.dimacs.specs.Code.Reading.{body_left, EndsBody, ends_left}
 use Rattle.dimacs.specs.Formula.{Body, body_of, judged, body_on_word, body_at_end, faulty_body}
-use Rattle.dimacs.specs.Formula.{whole, offsets_on_word, offsets_of}
+use Rattle.dimacs.specs.Formula.{whole, ends_on_word, ends_after}
 use Rattle.dimacs.specs.declared.header.Header.{Header}
-use Rattle.dimacs.proofs.OffsetLemmas.{from-none, on_word-from, offsets_among-from, gives_no_offset}
+use Rattle.dimacs.proofs.OffsetLemmas.{from-none, on_word-from, ends_among-from, gives_no_end}
 
 -- a fault is what comes, and it stays
 pub gives_fault : (f : Fault) (c : List Literal) (b : Body) → b ≡ faulty_body f → GivesClause (Err f) c b (faulty_body f)
@@ -42,18 +42,18 @@ kept_gives (Err ReadFailed) c before after none b a = (b ∙ sym a, b)
 kept_gives (Err OutOfMemory) c before after none b a = a
 
 pub Kept-clause : (r : FormulaReading) (answer : Result Bool Fault) (c : List Literal) → r.kept ≡ Some answer → (r.kept ≡ Some (Ok true) → ⊥)
-    → Along r.stream r.stream (λ i j. GivesClause answer c (clauses_to_come r i) (clauses_to_come r j) × GivesOffset answer (offsets_to_come r i) (offsets_to_come r j) j)
+    → Along r.stream r.stream (λ i j. GivesClause answer c (clauses_to_come r i) (clauses_to_come r j) × GivesEnd answer (ends_to_come r i) (ends_to_come r j) j)
 Kept-clause r answer c is none =
     let told : (i : Suffix) → clauses_to_come r i ≡ body_unless_ended (Some answer) whole =
     λ i. ap (λ k. body_unless_ended k (body_of r.header r.complete [] (listing_at r.stream.place i))) is ∙ same answer _ in
     Along-map r.stream r.stream _ _ (Along-none r.stream) (λ i j m e. (
       kept_gives answer c _ _ (λ ok. none (is ∙ ap Some ok)) (told i) (told j),
-      gives_no_offset answer (offsets_to_come r i) (offsets_to_come r j) j (λ ok. none (is ∙ ap Some ok)) (no_offsets i j),
+      gives_no_end answer (ends_to_come r i) (ends_to_come r j) j (λ ok. none (is ∙ ap Some ok)) (no_ends i j),
     ))
   where
-    no_offsets : (i j : Suffix) → PassesNoZero (offsets_to_come r i) j
-    no_offsets i j =
-        let P : Option (Result Bool Fault) → Type 0 = λ k. PassesNoZero (offsets_unless_ended k (offsets_of r.header r.complete (listing_at r.stream.place i))) j in
+    no_ends : (i j : Suffix) → PassesNoEnd (ends_to_come r i) j
+    no_ends i j =
+        let P : Option (Result Bool Fault) → Type 0 = λ k. PassesNoEnd (ends_unless_ended k (ends_after r.header r.complete (listing_at r.stream.place i))) j in
         subst P (sym is) (from-none j.offset)
 
     same : (answer : Result Bool Fault) (b : Body) → body_unless_ended (Some answer) b ≡ body_unless_ended (Some answer) whole
@@ -76,13 +76,13 @@ ends_no_clause (Err f) b ends is = cc
 -- from one moment to another literals of one clause were read
 pub record Between (h : Header) (complete : ℕ) (old now : Stream) (before at_hand : List Literal) : Type 0 where
   pub text : Along old now (λ i j. (body_of h complete before (listing_at old.place i) ≡ body_of h complete at_hand (listing_at now.place j))
-      × (offsets_of h complete (listing_at old.place i) ≡ offsets_of h complete (listing_at now.place j)))
+      × (ends_after h complete (listing_at old.place i) ≡ ends_after h complete (listing_at now.place j)))
   pub fewer : most_to_come now ≤ most_to_come old
   pub mark : tells_failure now.reader ≡ tells_failure old.reader
 
 pub Between-start : (h : Header) (complete : ℕ) (s : Stream) (at_hand : List Literal) → Between h complete s s at_hand at_hand
 Between-start h complete s at_hand = record {
-  text = Along-map s s _ _ (Along-none s) (λ i j m e. (ap (λ x. body_of h complete at_hand (listing_at s.place x)) e, ap (λ x. offsets_of h complete (listing_at s.place x)) e));
+  text = Along-map s s _ _ (Along-none s) (λ i j m e. (ap (λ x. body_of h complete at_hand (listing_at s.place x)) e, ap (λ x. ends_after h complete (listing_at s.place x)) e));
   fewer = omega arith;
   mark = refl;
 }
@@ -91,7 +91,7 @@ module _ (h : Header) (complete : ℕ) (old now new : Stream) (before at_hand : 
   pub Between-line : (p : Place) → Along now new (λ i j. Gives (Ok (token.LineEnd p)) (listing_at now.place i) (listing_at new.place j) j)
       → most_to_come new < most_to_come now → tells_failure new.reader ≡ tells_failure now.reader → Between h complete old new before at_hand
   Between-line p gives fewer mark = record {
-    text = Along-then old now new _ _ _ so_far.text gives (λ i j k m q r. (q.0 ∙ ap (body_of h complete at_hand) r, q.1 ∙ ap (offsets_of h complete) r));
+    text = Along-then old now new _ _ _ so_far.text gives (λ i j k m q r. (q.0 ∙ ap (body_of h complete at_hand) r, q.1 ∙ ap (ends_after h complete) r));
     fewer = omega (arith, so_far.fewer, fewer);
     mark = mark ∙ so_far.mark;
   }
@@ -99,58 +99,58 @@ module _ (h : Header) (complete : ℕ) (old now new : Stream) (before at_hand : 
   -- an answer, what is to come, and how far the input was read
   abbrev Gave : Result Bool Fault → List Literal → Type 0
   Gave result c = Along old new (λ i j. GivesClause result c (body_of h complete before (listing_at old.place i)) (body_left result h complete (listing_at new.place j))
-      × GivesOffset result (offsets_of h complete (listing_at old.place i)) (offsets_left result h complete (listing_at new.place j)) j)
+      × GivesEnd result (ends_after h complete (listing_at old.place i)) (ends_left result h complete (listing_at new.place j)) j)
 
   -- so it is of numbers that are so
-  passes : (xs ys : List ℕ) (j : Suffix) → xs ≡ ys → PassesNoZero ys j → PassesNoZero xs j
-  passes xs ys j is h = let P : List ℕ → Type 0 = λ x. PassesNoZero x j in subst P (sym is) h
+  passes : (xs ys : List ℕ) (j : Suffix) → xs ≡ ys → PassesNoEnd ys j → PassesNoEnd xs j
+  passes xs ys j is h = let P : List ℕ → Type 0 = λ x. PassesNoEnd x j in subst P (sym is) h
 
   module _ (p : Place) (w : Word) (gives : Along now new (λ i j. Gives (Ok (token.Word p w)) (listing_at now.place i) (listing_at new.place j) j)) where
     abbrev follows : Suffix → Result (Option Literal) TextFault → Body
     follows j r = body_on_word complete at_hand p r (λ c ls. body_of h c ls (listing_at new.place j))
 
-    abbrev offsets : Suffix → Result (Option Literal) TextFault → List ℕ
-    offsets j r = offsets_on_word complete j.offset r (λ c. offsets_of h c (listing_at new.place j))
+    abbrev ends : Suffix → Result (Option Literal) TextFault → List ℕ
+    ends j r = ends_on_word complete j.offset r (λ c. ends_after h c (listing_at new.place j))
 
     word_text : Along old new (λ i j. (body_of h complete before (listing_at old.place i) ≡ follows j (judged h complete w))
-        × (offsets_of h complete (listing_at old.place i) ≡ offsets j (judged h complete w)))
-    word_text = Along-then old now new _ _ _ so_far.text gives (λ i j k m q r. (q.0 ∙ ap (body_of h complete at_hand) r, q.1 ∙ ap (offsets_of h complete) r))
+        × (ends_after h complete (listing_at old.place i) ≡ ends j (judged h complete w)))
+    word_text = Along-then old now new _ _ _ so_far.text gives (λ i j k m q r. (q.0 ∙ ap (body_of h complete at_hand) r, q.1 ∙ ap (ends_after h complete) r))
 
-    -- whatever the word is, no clause that was to come ends before what is left
-    offsets-from : (i j : Suffix) → offsets_of h complete (listing_at old.place i) ≡ offsets j (judged h complete w) → PassesNoZero (offsets_of h complete (listing_at old.place i)) j
-    offsets-from i j is = passes _ (offsets j (judged h complete w)) j is
-        (on_word-from h j.offset complete j.offset (judged h complete w) (λ c. offsets_of h c (listing_at new.place j)) (omega arith)
-        (λ c. offsets_among-from h j.offset c _ (listing_at-from new.place j)))
+    -- whatever the word is, no end that was to come was passed
+    ends-from : (i j : Suffix) → ends_after h complete (listing_at old.place i) ≡ ends j (judged h complete w) → PassesNoEnd (ends_after h complete (listing_at old.place i)) j
+    ends-from i j is = passes _ (ends j (judged h complete w)) j is
+        (on_word-from h j.offset complete j.offset (judged h complete w) (λ c. ends_after h c (listing_at new.place j)) (omega arith)
+        (λ c. ends_among-from h j.offset c _ (listing_at-from new.place j)))
 
     pub Between-literal : (l : Literal) → Ok (Some l) ≡ judged h complete w → most_to_come new < most_to_come now → tells_failure new.reader ≡ tells_failure now.reader
         → Between h complete old new before (at_hand ++ l ∷ [])
     Between-literal l is fewer mark = record {
-      text = Along-map old new _ _ word_text (λ i j m q. (q.0 ∙ ap (follows j) (sym is), q.1 ∙ ap (offsets j) (sym is)));
+      text = Along-map old new _ _ word_text (λ i j m q. (q.0 ∙ ap (follows j) (sym is), q.1 ∙ ap (ends j) (sym is)));
       fewer = omega (arith, so_far.fewer, fewer);
       mark = mark ∙ so_far.mark;
     }
 
     pub Between-clause : Ok None ≡ judged h complete w → Gave (Ok true) at_hand
-    Between-clause is = Along-map old new _ _ word_text (λ i j m q. (q.0 ∙ ap (follows j) (sym is), (q.1 ∙ ap (offsets j) (sym is), offsets-from i j q.1)))
+    Between-clause is = Along-map old new _ _ word_text (λ i j m q. (q.0 ∙ ap (follows j) (sym is), (q.1 ∙ ap (ends j) (sym is), ends-from i j q.1)))
 
     pub Between-fault : (f : TextFault) → Err f ≡ judged h complete w → Gave (Err (Text f p)) at_hand
-    Between-fault f is = Along-map old new _ _ word_text (λ i j m q. (gives_fault (Text f p) at_hand _ (q.0 ∙ ap (follows j) (sym is)), offsets-from i j q.1))
+    Between-fault f is = Along-map old new _ _ word_text (λ i j m q. (gives_fault (Text f p) at_hand _ (q.0 ∙ ap (follows j) (sym is)), ends-from i j q.1))
 
     pub Between-refused : (c : List Literal) → Gave (Err OutOfMemory) c
-    Between-refused c = Along-map old new _ _ word_text (λ i j m q. (refl, offsets-from i j q.1))
+    Between-refused c = Along-map old new _ _ word_text (λ i j m q. (refl, ends-from i j q.1))
 
   -- and none before the rest
   rest-from : (result : Result Token Cut) (i j k : Suffix) → Gives result (listing_at now.place j) (listing_at new.place k) k
-      → offsets_of h complete (listing_at old.place i) ≡ offsets_of h complete (listing_at now.place j) → PassesNoZero (offsets_of h complete (listing_at old.place i)) k
+      → ends_after h complete (listing_at old.place i) ≡ ends_after h complete (listing_at now.place j) → PassesNoEnd (ends_after h complete (listing_at old.place i)) k
   rest-from result i j k gives is =
-      passes _ (offsets_of h complete (listing_at now.place j)) k is
-      (offsets_among-from h k.offset complete _ (Gives-from result (listing_at now.place j) new.place k gives))
+      passes _ (ends_after h complete (listing_at now.place j)) k is
+      (ends_among-from h k.offset complete _ (Gives-from result (listing_at now.place j) new.place k gives))
 
   pub Between-end : (p : Place) (result : Result Bool Fault) → Along now new (λ i j. Gives (Ok (token.End p)) (listing_at now.place i) (listing_at new.place j) j)
       → EndsBody result (body_at_end h complete at_hand p End) → Gave result at_hand
   Between-end p result gives ends = Along-then old now new _ _ _ so_far.text gives (λ i j k m q r. (
     ends_so h complete p result at_hand _ _ ends (q.0 ∙ ap (body_of h complete at_hand) r.1),
-    gives_no_offset result _ (offsets_left result h complete (listing_at new.place k)) k (ends_no_clause result (body_at_end h complete at_hand p End) ends) (rest-from (Ok (token.End p)) i j k r q.1),
+    gives_no_end result _ (ends_left result h complete (listing_at new.place k)) k (ends_no_clause result (body_at_end h complete at_hand p End) ends) (rest-from (Ok (token.End p)) i j k r q.1),
   ))
 
   pub Between-failed : (cut : Cut) → Along now new (λ i j. Gives (Err cut) (listing_at now.place i) (listing_at new.place j) j) → Gave (Err ReadFailed) at_hand

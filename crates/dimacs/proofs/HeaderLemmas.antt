@@ -1,57 +1,119 @@
 -- A header's parts, one after another.
-use Rattle.std.proofs.Common.{◌≡◌, ℕ, [], refl, ap, ◌∙◌}
-use Rattle.std.specs.Prelude.{Result, Ok, Err}
-use Rattle.cnf_base.specs.Stream.{Stream, Along}
-use Rattle.cnf_base.specs.Text.{Listing, listing_at, Gives}
-use Rattle.cnf_base.specs.declared.input.Ending.TheVariants.{Failed}
+use Rattle.std.proofs.Common.{◌≡◌, ℕ, cond, Bool, true, false, List, [], ◌∷◌, refl, sym, ap, subst}
+use Rattle.std.proofs.Common.{◌∙◌}
+use Rattle.std.specs.Prelude.{if◌then◌else◌, Result, Ok, Err}
+use Rattle.cnf_base.specs.Stream.{Suffix, Stream, Along}
+use Rattle.cnf_base.specs.Text.{Listed, Listing, listing_at, Gives}
 use Rattle.cnf_base.specs.declared.input.ReadFailed.{ReadFailed as Cut}
 use Rattle.cnf_base.specs.declared.place.Place.{Place}
 use Rattle.cnf_base.specs.declared.word.Word.{Word}
+use Rattle.cnf_base.specs.declared.token.Token.{Token}
 use Rattle.cnf_base.specs.declared.token.Token.TheVariants as token
 use Rattle.cnf_base.specs.declared.fault.Fault.{Fault}
 use Rattle.cnf_base.specs.declared.fault.Fault.TheVariants.{Text, ReadFailed}
 use Rattle.cnf_base.specs.declared.fault.TextFault.TheVariants.{BadHeader}
+use Rattle.cnf_base.proofs.ListingLemmas.{EndFrom, Gives-from}
 use Rattle.cnf_base.proofs.StreamLemmas.{Along-then, Along-map, Along-none}
-use Rattle.dimacs.specs.Formula.{and_then, skip_blank, next_word, is_p, is_cnf, fixed, count}
-use Rattle.dimacs.specs.Formula.{line_end, header_of}
+use Rattle.dimacs.specs.Formula.{is_line_end, drop_line_ends, skip_blank, next_word, is_p, is_cnf}
+use Rattle.dimacs.specs.Formula.{fixed, count_of, count, line_end, first_end, and_then, and_then_at, part}
+use Rattle.dimacs.specs.Formula.{header_of, formula_with, formula_at, ends_with, ends_at}
+use Rattle.dimacs.specs.Reading.{PassesNoEnd, unopened}
+use Rattle.dimacs.specs.Code.Reading.{GivesHeader, GivesPart}
 use Rattle.dimacs.specs.declared.header.Header.{Header}
+use Rattle.dimacs.proofs.OffsetLemmas.{AreFrom, from-none, from-clause}
+
+-- ---- No token's end was passed
+
+drop_line_ends-from : (n : ℕ) (ts : List Listed) → EndFrom n ts → EndFrom n (drop_line_ends ts)
+drop_line_ends-from n [] ends = tt
+drop_line_ends-from n (t ∷ ts) ends = by (is_line_end t.token) (drop_line_ends-from n ts ends.1)
+  where
+    by : (b : Bool) → EndFrom n (drop_line_ends ts) → EndFrom n (cond b (drop_line_ends ts) (t ∷ ts))
+    by true later = later
+    by false later = ends
+
+first_end-from : (n : ℕ) (ts : List Listed) → EndFrom n ts → AreFrom n (first_end ts)
+first_end-from n [] ends = from-none n
+first_end-from n (t ∷ ts) ends = from-clause n t.offset [] ends.0 (from-none n)
+
+-- where a token was given, the first one after blank lines isn't passed
+blank_passed : (result : Result Token Cut) (before : Listing) (p : Place) (rest : Suffix) → Gives result before (listing_at p rest) rest
+    → PassesNoEnd (first_end (skip_blank before).tokens) rest
+blank_passed result before p rest gives =
+    first_end-from rest.offset (drop_line_ends before.tokens) (drop_line_ends-from rest.offset before.tokens (Gives-from result before p rest gives))
+
+-- ---- A word's meaning
+
+-- a part was read so, and its token's end wasn't passed
+abbrev pub Part : {A : Type 0} → Stream → Stream → (Listing → Listing) → (Listing → Result A Fault) → (Listing → Result A Fault) → Type 0
+Part old new start test result =
+    Along old new (λ i j. GivesPart test (start (listing_at old.place i)) (result (listing_at new.place j)) j)
+
+-- a count begins where the part before it ended
+abbrev pub before_count : Listing → Listing
+before_count l = l
+
+-- the word, or the fault, makes the part
+pub Part-map : {A B : Type 0} (old new : Stream) (start : Listing → Listing) (test result : Listing → Result A Fault) (next : A → Result B Fault) (answer : Listing → Result B Fault)
+    → Part old new start test result → ((l : Listing) → and_then (result l) next ≡ answer l) → Part old new start (λ l. and_then (test l) next) answer
+Part-map old new start test result next answer run is = Along-map old new _ _ run (λ i j m p. (ap (λ r. and_then r next) p.0 ∙ is (listing_at new.place j), p.1))
+
+-- what a word means where another has to stand, or a number
+abbrev pub fixed_word : (Word → Bool) → Place × Word × Listing → Result Listing Fault
+fixed_word test w = if test w.1 then Ok w.2 else Err (Text BadHeader w.0)
+
+abbrev pub counted_word : ℕ → Place × Word × Listing → Result (ℕ × Listing) Fault
+counted_word limit w = and_then (count_of limit w.0 w.1) (λ n. Ok (n, w.2))
+
+pub fixed_told : (b : Bool) (p : Place) (l : Listing)
+    → cond b (Ok l) (Err (Text BadHeader p)) ≡ and_then (cond b (Ok tt) (Err (Text BadHeader p))) (λ (u : Unit {0}). Ok l)
+fixed_told true p l = refl
+fixed_told false p l = refl
+
+-- ---- The parts in turn
 
 -- what follows each part
 abbrev pub Rest : Type 0
-Rest = Result (Header × Listing) Fault
+Rest = Result (Header × Listing) (Fault × List ℕ)
 
 abbrev pub done : ℕ → ℕ → Listing → Rest
 done vars clauses l = Ok (record { vars = vars; clauses = clauses }, l)
 
 abbrev pub after_clauses : ℕ → ℕ × Listing → Rest
-after_clauses vars clauses = and_then (line_end clauses.1) (done vars clauses.0)
+after_clauses vars clauses = part line_end clauses.1 (done vars clauses.0)
 
 abbrev pub after_vars : ℕ × Listing → Rest
-after_vars vars = and_then (count 4294967295 vars.1) (after_clauses vars.0)
+after_vars vars = part (count 4294967295) vars.1 (after_clauses vars.0)
 
 abbrev pub after_cnf : Listing → Rest
-after_cnf l = and_then (count 268435455 l) after_vars
+after_cnf l = part (count 268435455) l after_vars
 
 abbrev pub after_p : Listing → Rest
-after_p l = and_then (fixed is_cnf l) after_cnf
+after_p l = part (fixed is_cnf) l after_cnf
 
 -- the header of what might come before is that of what follows now
 abbrev pub Heads : Stream → Stream → (Listing → Rest) → Type 0
 Heads old now follows = Along old now (λ i j. header_of (listing_at old.place i) ≡ follows (listing_at now.place j))
 
-pub Heads-start : (s : Stream) → Heads s s (λ l. and_then (fixed is_p (skip_blank l)) after_p)
+pub Heads-start : (s : Stream) → Heads s s (λ l. part (fixed is_p) (skip_blank l) after_p)
 Heads-start s = Along-map s s _ _ (Along-none s) (λ i j m e. ap (λ x. header_of (listing_at s.place x)) e)
 
-module _ {A : Type 0} (old now new : Stream) (part : Listing → Result A Fault) (next : A → Rest) (so_far : Heads old now (λ l. and_then (part l) next)) where
+module _ {A : Type 0} (old now new : Stream) (test : Listing → Result A Fault) (start : Listing → Listing) (next : A → Rest)
+    (so_far : Heads old now (λ l. part test (start l) next)) where
   -- the part was right
-  pub Heads-part : (x : Listing → A) → Along now new (λ i j. part (listing_at now.place i) ≡ Ok (x (listing_at new.place j)))
-      → Heads old new (λ l. next (x l))
-  Heads-part x run = Along-then old now new _ _ _ so_far run (λ i j k m p q. p ∙ ap (λ r. and_then r next) q)
+  pub Heads-part : (x : Listing → A) → Part now new start test (λ l. Ok (x l)) → Heads old new (λ l. next (x l))
+  Heads-part x run =
+      Along-then old now new _ _ _ so_far run (λ i j k m p q. p ∙ ap (λ r. and_then_at (first_end (start (listing_at now.place j)).tokens) r next) q.0)
 
   -- or wrong
-  pub Heads-fault : (f : Fault) → Along now new (λ i j. part (listing_at now.place i) ≡ Err f)
-      → Heads old new (λ l. Err f)
-  Heads-fault f run = Along-then old now new _ _ _ so_far run (λ i j k m p q. p ∙ ap (λ r. and_then r next) q)
+  pub Heads-fault : (f : Fault) → Part now new start test (λ l. Err f)
+      → Along old new (λ i j. GivesHeader (Err f) (header_of (listing_at old.place i)) (listing_at new.place j) j)
+  Heads-fault f run =
+      Along-then old now new _ _ _ so_far run (λ i j k m p q. (
+        first_end (start (listing_at now.place j)).tokens,
+        p ∙ ap (λ r. and_then_at (first_end (start (listing_at now.place j)).tokens) r next) q.0,
+        q.1,
+      ))
 
 -- ---- Blank lines
 
@@ -62,17 +124,36 @@ module _ (old now new : Stream) (so_far : Blank old now) where
   pub Blank-line : (p : Place) → Along now new (λ i j. Gives (Ok (token.LineEnd p)) (listing_at now.place i) (listing_at new.place j) j) → Blank old new
   Blank-line p gives = Along-then old now new _ _ _ so_far gives (λ i j k m q r. q ∙ ap skip_blank r)
 
-  pub Blank-word : (p : Place) (w : Word) → Along now new (λ i j. Gives (Ok (token.Word p w)) (listing_at now.place i) (listing_at new.place j) j)
-      → Along old new (λ i j. next_word (skip_blank (listing_at old.place i)) ≡ Ok (p, w, listing_at new.place j))
-  Blank-word p w gives = Along-then old now new _ _ _ so_far gives (λ i j k m q r. ap next_word (q ∙ ap skip_blank r))
+  module _ (result : Result Token Cut) (gives : Along now new (λ i j. Gives result (listing_at now.place i) (listing_at new.place j) j)) where
+    -- what the first word after blank lines is, and that its end wasn't passed
+    abbrev First : Result Token Cut → (Listing → Result (Place × Word × Listing) Fault) → Type 0
+    First t x = (l m : Listing) (k : Suffix) → Gives t l m k → next_word (skip_blank l) ≡ x m
 
-  pub Blank-end : (p : Place) → Along now new (λ i j. Gives (Ok (token.End p)) (listing_at now.place i) (listing_at new.place j) j)
-      → Along old new (λ i j. next_word (skip_blank (listing_at old.place i)) ≡ Err (Text BadHeader p))
-  Blank-end p gives = Along-then old now new _ _ _ so_far gives (λ i j k m q r. ap next_word (q ∙ ap skip_blank r.1))
+    pub Blank-first : (x : Listing → Result (Place × Word × Listing) Fault) → First result x
+        → Along old new (λ i j. (next_word (skip_blank (listing_at old.place i)) ≡ x (listing_at new.place j)) × PassesNoEnd (first_end (skip_blank (listing_at old.place i)).tokens) j)
+    Blank-first x is = Along-then old now new _ _ _ so_far gives (λ i j k m q r. (
+      ap next_word q ∙ is (listing_at now.place j) (listing_at new.place k) k r,
+      (let P : Listing → Type 0 = λ l. PassesNoEnd (first_end l.tokens) k in
+          subst P (sym q) (blank_passed result (listing_at now.place j) new.place k r)),
+    ))
 
-  pub Blank-failed : (cut : Cut) → Along now new (λ i j. Gives (Err cut) (listing_at now.place i) (listing_at new.place j) j)
-      → Along old new (λ i j. next_word (skip_blank (listing_at old.place i)) ≡ Err ReadFailed)
-  Blank-failed cut gives = Along-then old now new _ _ _ so_far gives (λ i j k m q r. ap next_word q ∙ empty (listing_at now.place j) r.1 r.2)
-    where
-      empty : (l : Listing) → l.tokens ≡ [] → l.ending ≡ Failed → next_word (skip_blank l) ≡ Err ReadFailed
-      empty l none failed = rw (none, failed) refl
+pub first_word : (p : Place) (w : Word) (l m : Listing) (k : Suffix) → Gives (Ok (token.Word p w)) l m k → next_word (skip_blank l) ≡ Ok (p, w, m)
+first_word p w l m k g = ap (λ x. next_word (skip_blank x)) g
+
+pub first_end_of_input : (p : Place) (l m : Listing) (k : Suffix) → Gives (Ok (token.End p)) l m k → next_word (skip_blank l) ≡ Err (Text BadHeader p)
+first_end_of_input p l m k g = ap (λ x. next_word (skip_blank x)) g.1
+
+pub first_failed : (cut : Cut) (l m : Listing) (k : Suffix) → Gives (Err cut) l m k → next_word (skip_blank l) ≡ Err ReadFailed
+first_failed cut l m k g = let none = g.1 in let failed = g.2 in rw (none, failed) refl
+
+-- ---- A fault in the header is the formula's
+
+pub header_refused : (source old new : Stream) → old ≡ source → (f : Fault)
+    → Along old new (λ i j. GivesHeader (Err f) (header_of (listing_at old.place i)) (listing_at new.place j) j)
+    → Along source new (λ i j. (formula_at source.place i ≡ unopened f) × PassesNoEnd (ends_at source.place i) j)
+header_refused source old new is f gives =
+    let P : Stream → Type 0 = λ s. Along s new (λ i j. (formula_at s.place i ≡ unopened f) × PassesNoEnd (ends_at s.place i) j) in
+    subst P is (Along-map old new _ _ gives (λ i j m h. (
+      ap formula_with h.1,
+      (let Q : List ℕ → Type 0 = λ ends. PassesNoEnd ends j in subst Q (sym (ap ends_with h.1)) h.2),
+    )))

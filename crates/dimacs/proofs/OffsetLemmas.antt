@@ -1,6 +1,6 @@
--- Where the clauses of a formula end.
+-- Where the clauses of a formula end, and the token at fault.
 use Rattle.std.proofs.Common.{◌≡◌, ℕ, zero, suc, ◌+◌, ◌≤◌, List, [], ◌∷◌, length, Option, None}
-use Rattle.std.proofs.Common.{Some, refl, sym, ap, arith}
+use Rattle.std.proofs.Common.{Some, refl, arith}
 use Rattle.std.specs.Prelude.{Bool, true, false, Result, Ok, Err, slice_get}
 use Rattle.std.proofs.lemmas.Option.{none-some}
 use Rattle.cnf_base.specs.Literals.{Literal}
@@ -15,12 +15,12 @@ use Rattle.cnf_base.specs.declared.fault.Fault.{Fault}
 use Rattle.cnf_base.specs.declared.fault.TextFault.{TextFault}
 use Rattle.cnf_base.proofs.ListingLemmas.{EndFrom}
 use Rattle.dimacs.specs.Formula.{judged, Body, body_at_end, body_on_word, body_on_token, body_among}
-use Rattle.dimacs.specs.Formula.{header_of, formula_with, formula_of, offsets_on_word}
-use Rattle.dimacs.specs.Formula.{offsets_on_token, offsets_among, offsets_with, clause_offsets}
-use Rattle.dimacs.specs.Reading.{PassesNoZero, GivesOffset}
+use Rattle.dimacs.specs.Formula.{header_of, formula_with, formula_of, ends_on_word}
+use Rattle.dimacs.specs.Formula.{ends_on_token, ends_among, ends_with, ends_of}
+use Rattle.dimacs.specs.Reading.{PassesNoEnd, GivesEnd}
 use Rattle.dimacs.specs.declared.header.Header.{Header}
 
--- each clause ends at this offset or later
+-- each of these is this offset or a later one
 abbrev pub AreFrom : ℕ → List ℕ → Type 0
 AreFrom n offsets = (k offset : ℕ) → slice_get offsets k ≡ Some offset → n ≤ offset
 
@@ -36,23 +36,23 @@ from-clause n first offsets h later = by
 
 module _ (h : Header) (n : ℕ) where
   pub on_word-from : (complete offset : ℕ) (r : Result (Option Literal) TextFault) (rest : ℕ → List ℕ) → n ≤ offset → ((complete : ℕ) → AreFrom n (rest complete))
-      → AreFrom n (offsets_on_word complete offset r rest)
+      → AreFrom n (ends_on_word complete offset r rest)
   on_word-from complete offset (Ok (Some l)) rest here later = later complete
   on_word-from complete offset (Ok None) rest here later = from-clause n offset (rest (complete + 1)) here (later (complete + 1))
-  on_word-from complete offset (Err f) rest here later = from-none n
+  on_word-from complete offset (Err f) rest here later = from-clause n offset [] here (from-none n)
 
   on_token-from : (complete : ℕ) (t : tokens.Token) (offset : ℕ) (rest : ℕ → List ℕ) → n ≤ offset → ((complete : ℕ) → AreFrom n (rest complete))
-      → AreFrom n (offsets_on_token h complete t offset rest)
+      → AreFrom n (ends_on_token h complete t offset rest)
   on_token-from complete (token.Word p w) offset rest here later = on_word-from complete offset (judged h complete w) rest here later
   on_token-from complete (token.LineEnd p) offset rest here later = later complete
   on_token-from complete (token.End p) offset rest here later = later complete
 
-  pub offsets_among-from : (complete : ℕ) (ts : List Listed) → EndFrom n ts → AreFrom n (offsets_among h complete ts)
-  offsets_among-from complete [] ends = from-none n
-  offsets_among-from complete (t ∷ ts) ends =
-      on_token-from complete t.token t.offset (λ complete. offsets_among h complete ts) ends.0 (λ complete. offsets_among-from complete ts ends.1)
+  pub ends_among-from : (complete : ℕ) (ts : List Listed) → EndFrom n ts → AreFrom n (ends_among h complete ts)
+  ends_among-from complete [] ends = from-none n
+  ends_among-from complete (t ∷ ts) ends =
+      on_token-from complete t.token t.offset (λ complete. ends_among h complete ts) ends.0 (λ complete. ends_among-from complete ts ends.1)
 
--- ---- There are as many as clauses
+-- ---- There is one for each clause
 
 module _ (h : Header) where
   none_at_end : (complete : ℕ) (literals : List Literal) (p : Place) (ending : Ending) → length (body_at_end h complete literals p ending).clauses ≡ 0
@@ -60,38 +60,38 @@ module _ (h : Header) where
   none_at_end complete (l ∷ ls) p End = refl
   none_at_end complete [] p End = grind arith
 
-  on_word-length : (complete offset : ℕ) (literals : List Literal) (p : Place) (r : Result (Option Literal) TextFault) (offsets : ℕ → List ℕ) (bodies : ℕ → List Literal → Body)
-      → ((complete : ℕ) (literals : List Literal) → length (offsets complete) ≡ length (bodies complete literals).clauses)
-      → length (offsets_on_word complete offset r offsets) ≡ length (body_on_word complete literals p r bodies).clauses
-  on_word-length complete offset literals p (Ok (Some l)) offsets bodies same = same complete _
-  on_word-length complete offset literals p (Ok None) offsets bodies same = ap (λ n. suc n) (same (complete + 1) [])
-  on_word-length complete offset literals p (Err f) offsets bodies same = refl
+  on_word-length : (complete offset : ℕ) (literals : List Literal) (p : Place) (r : Result (Option Literal) TextFault) (ends : ℕ → List ℕ) (bodies : ℕ → List Literal → Body)
+      → ((complete : ℕ) (literals : List Literal) → length (bodies complete literals).clauses ≤ length (ends complete))
+      → length (body_on_word complete literals p r bodies).clauses ≤ length (ends_on_word complete offset r ends)
+  on_word-length complete offset literals p (Ok (Some l)) ends bodies few = few complete _
+  on_word-length complete offset literals p (Ok None) ends bodies few = let later = few (complete + 1) [] in omega (arith, later)
+  on_word-length complete offset literals p (Err f) ends bodies few = omega arith
 
-  on_token-length : (complete offset : ℕ) (literals : List Literal) (t : tokens.Token) (offsets : ℕ → List ℕ) (bodies : ℕ → List Literal → Body)
-      → ((complete : ℕ) (literals : List Literal) → length (offsets complete) ≡ length (bodies complete literals).clauses)
-      → length (offsets_on_token h complete t offset offsets) ≡ length (body_on_token h complete literals t bodies).clauses
-  on_token-length complete offset literals (token.Word p w) offsets bodies same = on_word-length complete offset literals p (judged h complete w) offsets bodies same
-  on_token-length complete offset literals (token.LineEnd p) offsets bodies same = same complete literals
-  on_token-length complete offset literals (token.End p) offsets bodies same = same complete literals
+  on_token-length : (complete offset : ℕ) (literals : List Literal) (t : tokens.Token) (ends : ℕ → List ℕ) (bodies : ℕ → List Literal → Body)
+      → ((complete : ℕ) (literals : List Literal) → length (bodies complete literals).clauses ≤ length (ends complete))
+      → length (body_on_token h complete literals t bodies).clauses ≤ length (ends_on_token h complete t offset ends)
+  on_token-length complete offset literals (token.Word p w) ends bodies few = on_word-length complete offset literals p (judged h complete w) ends bodies few
+  on_token-length complete offset literals (token.LineEnd p) ends bodies few = few complete literals
+  on_token-length complete offset literals (token.End p) ends bodies few = few complete literals
 
-  offsets_among-length : (complete : ℕ) (literals : List Literal) (ts : List Listed) (p : Place) (ending : Ending)
-      → length (offsets_among h complete ts) ≡ length (body_among h complete literals ts p ending).clauses
-  offsets_among-length complete literals [] p ending = sym (none_at_end complete literals p ending)
-  offsets_among-length complete literals (t ∷ ts) p ending =
-      on_token-length complete t.offset literals t.token (λ complete. offsets_among h complete ts) (λ complete literals. body_among h complete literals ts p ending)
-      (λ complete literals. offsets_among-length complete literals ts p ending)
+  ends_among-length : (complete : ℕ) (literals : List Literal) (ts : List Listed) (p : Place) (ending : Ending)
+      → length (body_among h complete literals ts p ending).clauses ≤ length (ends_among h complete ts)
+  ends_among-length complete literals [] p ending = let none = none_at_end complete literals p ending in omega (arith, none)
+  ends_among-length complete literals (t ∷ ts) p ending =
+      on_token-length complete t.offset literals t.token (λ complete. ends_among h complete ts) (λ complete literals. body_among h complete literals ts p ending)
+      (λ complete literals. ends_among-length complete literals ts p ending)
 
-offsets_with-length : (r : Result (Header × Listing) Fault) → length (offsets_with r) ≡ length (formula_with r).clauses
-offsets_with-length (Ok h) = offsets_among-length h.0 0 [] h.1.tokens h.1.end h.1.ending
-offsets_with-length (Err f) = refl
+ends_with-length : (r : Result (Header × Listing) (Fault × List ℕ)) → length (formula_with r).clauses ≤ length (ends_with r)
+ends_with-length (Ok h) = ends_among-length h.0 0 [] h.1.tokens h.1.end h.1.ending
+ends_with-length (Err f) = omega arith
 
-pub clause_offsets-length : (i : Input) → length (clause_offsets i) ≡ length (formula_of i).clauses
-clause_offsets-length i = offsets_with-length (header_of (listing_of i))
+pub ends_of-length : (i : Input) → length (formula_of i).clauses ≤ length (ends_of i)
+ends_of-length i = ends_with-length (header_of (listing_of i))
 
 -- ---- After an end
 
 -- of an answer that ends the reader no clause is to come
-pub gives_no_offset : (answer : Result Bool Fault) (before after : List ℕ) (j : Suffix) → (answer ≡ Ok true → ⊥) → PassesNoZero before j → GivesOffset answer before after j
-gives_no_offset (Ok true) before after j none h = absurd (none refl)
-gives_no_offset (Ok false) before after j none h = h
-gives_no_offset (Err f) before after j none h = h
+pub gives_no_end : (answer : Result Bool Fault) (before after : List ℕ) (j : Suffix) → (answer ≡ Ok true → ⊥) → PassesNoEnd before j → GivesEnd answer before after j
+gives_no_end (Ok true) before after j none h = absurd (none refl)
+gives_no_end (Ok false) before after j none h = h
+gives_no_end (Err f) before after j none h = h

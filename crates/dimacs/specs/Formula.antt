@@ -1,7 +1,7 @@
 -- The formula of an input (DIMACS CNF; the faults, their places and the order of judging are our
 -- own profile).
 use Rattle.std.specs.Prelude.{ℕ, ◌+◌, nat_le, Bool, true, false, if◌then◌else◌, List, [], ◌∷◌, ◌++◌}
-use Rattle.std.specs.Prelude.{Option, None, Some, Result, Ok, Err}
+use Rattle.std.specs.Prelude.{Option, None, Some, Result, Ok, Err, length, slice_get}
 use Rattle.cnf_base.specs.Literals.{Literal, Clause}
 use Rattle.cnf_base.specs.Stream.{Input, Suffix}
 use Rattle.cnf_base.specs.Words.{number_literal}
@@ -113,12 +113,28 @@ line_end_among (t ∷ ts) l = line_end_of_token t.token (rest_of ts l)
 abbrev pub line_end : Listing → Result Listing Fault
 line_end l = line_end_among l.tokens l
 
--- `p cnf VARIABLES CLAUSES`, and what follows
-abbrev pub header_of : Listing → Result (Header × Listing) Fault
+-- the offset of the byte after the first of these tokens, if there is one
+abbrev pub first_end : List Listed → List ℕ
+first_end [] = []
+first_end (t ∷ ts) = t.offset ∷ []
+
+-- as `and_then`, and a fault comes with where the token at fault ends
+abbrev pub and_then_at : {A B : Type 0} → List ℕ → Result A Fault →
+    (A → Result B (Fault × List ℕ)) → Result B (Fault × List ℕ)
+and_then_at ends (Ok x) next = next x
+and_then_at ends (Err f) next = Err (f, ends)
+
+-- a part of the header, which is one token, and then what follows it
+abbrev pub part : {A B : Type 0} → (Listing → Result A Fault) → Listing →
+    (A → Result B (Fault × List ℕ)) → Result B (Fault × List ℕ)
+part test l next = and_then_at (first_end l.tokens) (test l) next
+
+-- `p cnf VARIABLES CLAUSES`, and what follows; or the fault, and where the token at fault ends
+abbrev pub header_of : Listing → Result (Header × Listing) (Fault × List ℕ)
 header_of l =
-    and_then (fixed is_p (skip_blank l)) (λ l. and_then (fixed is_cnf l)
-    (λ l. and_then (count 268435455 l) (λ vars. and_then (count 4294967295 vars.1)
-    (λ clauses. and_then (line_end clauses.1)
+    part (fixed is_p) (skip_blank l) (λ l. part (fixed is_cnf) l
+    (λ l. part (count 268435455) l (λ vars. part (count 4294967295) vars.1
+    (λ clauses. part line_end clauses.1
     (λ l. Ok (record { vars = vars.0; clauses = clauses.0 }, l))))))
 
 -- ---- The clauses: literals ended by `0`, over any number of lines
@@ -194,14 +210,14 @@ pub record Formula : Type 0 where
   pub fault : Option Fault
 
 -- the formula of a header, or of a fault in the header
-abbrev pub formula_with : Result (Header × Listing) Fault → Formula
+abbrev pub formula_with : Result (Header × Listing) (Fault × List ℕ) → Formula
 formula_with (Ok h) =
     record {
       header = Some h.0;
       clauses = (body_of h.0 0 [] h.1).clauses;
       fault = (body_of h.0 0 [] h.1).fault;
     }
-formula_with (Err f) = record { header = None; clauses = []; fault = Some f }
+formula_with (Err f) = record { header = None; clauses = []; fault = Some f.0 }
 
 -- the formula that is read from a place on
 abbrev pub formula_at : Place → Suffix → Formula
@@ -211,40 +227,45 @@ formula_at p i = formula_with (header_of (listing_at p i))
 abbrev pub formula_of : Input → Formula
 formula_of i = formula_with (header_of (listing_of i))
 
--- ---- Where each clause before the first fault ends: the offset of the byte after its `0`
+-- ---- Where the clauses before the first fault end, and then the token at fault: the offset of the
+-- byte after each `0`, and after that token, if a token is at fault
 
 -- what a judged word adds; `offset` is that of the byte after it, and `rest` what the others add
-abbrev pub offsets_on_word : ℕ → ℕ → Result (Option Literal) TextFault → (ℕ → List ℕ) → List ℕ
-offsets_on_word complete offset (Ok (Some l)) rest = rest complete
-offsets_on_word complete offset (Ok None) rest = offset ∷ rest (complete + 1)
-offsets_on_word complete offset (Err f) rest = []
+abbrev pub ends_on_word : ℕ → ℕ → Result (Option Literal) TextFault → (ℕ → List ℕ) → List ℕ
+ends_on_word complete offset (Ok (Some l)) rest = rest complete
+ends_on_word complete offset (Ok None) rest = offset ∷ rest (complete + 1)
+ends_on_word complete offset (Err f) rest = offset ∷ []
 
 -- what a token adds
-abbrev pub offsets_on_token : Header → ℕ → tokens.Token → ℕ → (ℕ → List ℕ) → List ℕ
-offsets_on_token h complete (token.Word p w) offset rest =
-    offsets_on_word complete offset (judged h complete w) rest
-offsets_on_token h complete (token.LineEnd p) offset rest = rest complete
-offsets_on_token h complete (token.End p) offset rest = rest complete
+abbrev pub ends_on_token : Header → ℕ → tokens.Token → ℕ → (ℕ → List ℕ) → List ℕ
+ends_on_token h complete (token.Word p w) offset rest =
+    ends_on_word complete offset (judged h complete w) rest
+ends_on_token h complete (token.LineEnd p) offset rest = rest complete
+ends_on_token h complete (token.End p) offset rest = rest complete
 
 -- what these tokens add, after so many complete clauses
-abbrev pub offsets_among : Header → ℕ → List Listed → List ℕ
-offsets_among h complete [] = []
-offsets_among h complete (t ∷ ts) =
-    offsets_on_token h complete t.token t.offset (λ complete. offsets_among h complete ts)
+abbrev pub ends_among : Header → ℕ → List Listed → List ℕ
+ends_among h complete [] = []
+ends_among h complete (t ∷ ts) =
+    ends_on_token h complete t.token t.offset (λ complete. ends_among h complete ts)
 
--- those of the clauses after so many complete ones
-abbrev pub offsets_of : Header → ℕ → Listing → List ℕ
-offsets_of h complete l = offsets_among h complete l.tokens
+-- those after so many complete clauses
+abbrev pub ends_after : Header → ℕ → Listing → List ℕ
+ends_after h complete l = ends_among h complete l.tokens
 
--- those of a header's clauses; none where the header has a fault
-abbrev pub offsets_with : Result (Header × Listing) Fault → List ℕ
-offsets_with (Ok h) = offsets_of h.0 0 h.1
-offsets_with (Err f) = []
+-- those of a header's clauses, or that of the header's token at fault
+abbrev pub ends_with : Result (Header × Listing) (Fault × List ℕ) → List ℕ
+ends_with (Ok h) = ends_after h.0 0 h.1
+ends_with (Err f) = f.1
 
 -- those of a formula that is read from a place on
-abbrev pub clause_offsets_at : Place → Suffix → List ℕ
-clause_offsets_at p i = offsets_with (header_of (listing_at p i))
+abbrev pub ends_at : Place → Suffix → List ℕ
+ends_at p i = ends_with (header_of (listing_at p i))
 
 -- those of a whole formula
-abbrev pub clause_offsets : Input → List ℕ
-clause_offsets i = offsets_with (header_of (listing_of i))
+abbrev pub ends_of : Input → List ℕ
+ends_of i = ends_with (header_of (listing_of i))
+
+-- where the token at fault ends, if a token is: it comes after the clauses
+abbrev pub fault_end : Input → Option ℕ
+fault_end i = slice_get (ends_of i) (length (formula_of i).clauses)

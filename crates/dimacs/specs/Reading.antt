@@ -7,7 +7,7 @@ use Rattle.cnf_base.specs.Text.{listing_at}
 use Rattle.cnf_base.specs.declared.fault.Fault.TheVariants.{OutOfMemory}
 use Rattle.cnf_base.specs.declared.fault.Fault.{Fault}
 use Rattle.dimacs.specs.Formula.{Body, faulty_body, whole, body_of, with_first_clause, Formula}
-use Rattle.dimacs.specs.Formula.{offsets_of}
+use Rattle.dimacs.specs.Formula.{ends_after}
 use Rattle.dimacs.specs.declared.header.Header.{Header}
 
 -- a reader of a formula: where it stands in its input, the header, how many clauses were given, the
@@ -49,24 +49,24 @@ unopened f = record { header = None; clauses = []; fault = Some f }
 
 -- ---- How far the input is read
 
--- after an end no clause is to come
-abbrev pub offsets_unless_ended : Option (Result Bool Fault) → List ℕ → List ℕ
-offsets_unless_ended None offsets = offsets
-offsets_unless_ended (Some answer) offsets = []
+-- after an end nothing is to come
+abbrev pub ends_unless_ended : Option (Result Bool Fault) → List ℕ → List ℕ
+ends_unless_ended None ends = ends
+ends_unless_ended (Some answer) ends = []
 
--- the offset of the byte after each clause that is still to come
-abbrev pub offsets_to_come : FormulaReading → Suffix → List ℕ
-offsets_to_come r i =
-    offsets_unless_ended r.kept (offsets_of r.header r.complete (listing_at r.stream.place i))
+-- where the clauses end that are still to come, and the token at fault
+abbrev pub ends_to_come : FormulaReading → Suffix → List ℕ
+ends_to_come r i =
+    ends_unless_ended r.kept (ends_after r.header r.complete (listing_at r.stream.place i))
 
--- the `0` of no clause was passed: each ends where what is still to come begins, or later
-abbrev pub PassesNoZero : List ℕ → Suffix → Type 0
-PassesNoZero offsets rest =
-    (k offset : ℕ) → slice_get offsets k ≡ Some offset → rest.offset ≤ offset
+-- none of these ends was passed: each is where what is still to come begins, or later
+abbrev pub PassesNoEnd : List ℕ → Suffix → Type 0
+PassesNoEnd ends rest =
+    (k offset : ℕ) → slice_get ends k ≡ Some offset → rest.offset ≤ offset
 
 -- What is still to come begins after the clause that was given. After every other answer, and that
--- is after want of memory too, the `0` of no clause that was to come was passed. `rest` is what
--- follows of the input.
-abbrev pub GivesOffset : Result Bool Fault → List ℕ → List ℕ → Suffix → Type 0
-GivesOffset (Ok true) before after rest = (before ≡ rest.offset ∷ after) × PassesNoZero before rest
-GivesOffset _ before after rest = PassesNoZero before rest
+-- is after want of memory too, no end of a clause that was to come was passed, nor that of the
+-- token at fault. `rest` is what follows of the input.
+abbrev pub GivesEnd : Result Bool Fault → List ℕ → List ℕ → Suffix → Type 0
+GivesEnd (Ok true) before after rest = (before ≡ rest.offset ∷ after) × PassesNoEnd before rest
+GivesEnd _ before after rest = PassesNoEnd before rest

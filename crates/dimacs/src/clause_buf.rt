@@ -20,7 +20,8 @@ impl Model for ClauseBuf {
 
     ghost Value = { List Literal };
 
-    ghost view = { λ c. c.lits.items };
+    // Each field has to be named here.
+    ghost view = { λ record { lits = lits }. lits.items };
 }
 
 impl ClauseBuf {

@@ -6,12 +6,12 @@ ghost use Rattle.cnf_base.specs.Stream.{Stream, Along, most_to_come, tells_failu
 ghost use Rattle.cnf_base.specs.Text.{listing_at};
 ghost use Rattle.cnf_base.specs.declared.input.Ending.TheVariants.{End};
 ghost use Rattle.cnf_base.specs.Readers.{Advances, IsLeft, Keeps, Tells, TellsOf};
-ghost use Rattle.dimacs.specs.Formula.{body_at_end, body_of, clause_offsets_at, formula_at, judged};
-ghost use Rattle.dimacs.specs.Formula.{offsets_of};
+ghost use Rattle.dimacs.specs.Formula.{body_at_end, body_of, ends_after, ends_at, formula_at};
+ghost use Rattle.dimacs.specs.Formula.{judged};
 ghost use Rattle.dimacs.specs.Reading.{clauses_to_come, GivesClause, opened, unopened};
 ghost use Rattle.dimacs.specs.Code.Reading.{body_left, EndsBody};
-ghost use Rattle.dimacs.specs.Reading.{GivesOffset, offsets_to_come};
-ghost use Rattle.dimacs.specs.Code.Reading.{offsets_left};
+ghost use Rattle.dimacs.specs.Reading.{GivesEnd, PassesNoEnd, ends_to_come};
+ghost use Rattle.dimacs.specs.Code.Reading.{ends_left};
 
 use crate::ClauseBuf;
 use crate::header::{Header, read_header};
@@ -54,17 +54,19 @@ impl<R: In> FormulaReader<R> {
         // clauses.
         ensures opened { IfOk result (λ r. Along source r.stream
             (λ i j. (formula_at source.place i ≡ opened r.header (clauses_to_come r j))
-            × (clause_offsets_at source.place i ≡ offsets_to_come r j))) }
+            × (ends_at source.place i ≡ ends_to_come r j))) }
         ensures started { IfOk result (λ r. (r.complete ≡ 0) × (r.kept ≡ None)) }
         ensures stored { IfOk result (λ r. r.stored ≡ 0) }
         ensures fewer { IfOk result (λ r. most_to_come r.stream ≤ most_to_come source) }
         ensures mark { IfOk result (λ r.
             tells_failure r.stream.reader ≡ tells_failure source.reader) }
 
-        // The formula is this fault, whatever may follow.
+        // The formula is this fault, whatever may follow, and past the token at fault nothing was
+        // taken.
         ensures refused { IfErr result (λ e. (last : Stream)
             × IsLeft last (R.shown e.1) (R.borrows e.1)
-            × Along source last (λ i j. formula_at source.place i ≡ unopened e.0)
+            × Along source last (λ i j. (formula_at source.place i ≡ unopened e.0)
+            × PassesNoEnd (ends_at source.place i) j)
             × Tells e.0 source.reader last.reader) }
     {
         let mut scanner = Scanner::new(source);
@@ -103,12 +105,12 @@ impl<R: In> FormulaReader<R> {
 
     /// Puts the next clause into the buffer. After the last one it answers false, at every call;
     /// after a fault, that fault. After a fault or false the buffer's content is open. No more than
-    /// the clause is taken of the input, also where memory is refused.
+    /// the clause, or the token at fault, is taken of the input, also where memory is refused.
     pub fn next(&mut self, clause: &mut ClauseBuf) -> Result<bool, Fault>
         ensures clause { Along self.old.stream self.new.stream
             (λ i j. GivesClause result clause.new (clauses_to_come self.old i)
             (clauses_to_come self.new j)
-            × GivesOffset result (offsets_to_come self.old i) (offsets_to_come self.new j) j) }
+            × GivesEnd result (ends_to_come self.old i) (ends_to_come self.new j) j) }
         ensures header { self.new.header ≡ self.old.header }
         ensures counts { result ≡ Ok true → (self.new.complete ≡ self.old.complete + 1)
             × (self.new.complete ≤ self.old.header.clauses)
@@ -152,8 +154,8 @@ fn read_clause<R: In>(
     ensures clause { Along scanner.old scanner.new (λ i j. GivesClause result clause.new
         (body_of header complete clause.old (listing_at scanner.old.place i))
         (body_left result header complete (listing_at scanner.new.place j))
-        × GivesOffset result (offsets_of header complete (listing_at scanner.old.place i))
-        (offsets_left result header complete (listing_at scanner.new.place j)) j) }
+        × GivesEnd result (ends_after header complete (listing_at scanner.old.place i))
+        (ends_left result header complete (listing_at scanner.new.place j)) j) }
     ensures counts { result ≡ Ok true → complete < header.clauses }
     ensures fewer { Advances result scanner.old scanner.new }
     ensures tells { TellsOf result scanner.old.reader scanner.new.reader }

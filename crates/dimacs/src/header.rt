@@ -8,6 +8,7 @@ ghost use Rattle.cnf_base.specs.Text.{listing_at};
 ghost use Rattle.cnf_base.specs.Readers.{TellsOf};
 ghost use Rattle.dimacs.specs.Formula.{and_then, skip_blank, next_word, is_p, is_cnf, fixed};
 ghost use Rattle.dimacs.specs.Formula.{count_of, count, line_end, header_of};
+ghost use Rattle.dimacs.specs.Code.Reading.{GivesHeader, GivesPart};
 
 use cnf_base::{Fault, In, Place, ReadFailed, Scanner, TextFault, Token, Word};
 
@@ -25,8 +26,8 @@ const MOST_CLAUSES: u64 = 4294967295;
 // `p cnf VARIABLES CLAUSES`, up to the line's end.
 pub(crate) fn read_header<R: In>(scanner: &mut Scanner<R>) -> Result<Header, Fault>
     ensures header { Along scanner.old scanner.new (λ i j.
-        header_of (listing_at scanner.old.place i)
-        ≡ and_then result (λ h. Ok (h, listing_at scanner.new.place j))) }
+        GivesHeader result (header_of (listing_at scanner.old.place i))
+        (listing_at scanner.new.place j) j) }
     ensures fewer { most_to_come scanner.new ≤ most_to_come scanner.old }
     ensures tells { TellsOf result scanner.old.reader scanner.new.reader }
     ensures limit { IfOk result (λ h. h.vars ≤ 268435455) }
@@ -57,8 +58,8 @@ pub(crate) fn read_header<R: In>(scanner: &mut Scanner<R>) -> Result<Header, Fau
 // The word `p`, at the start of the first line that is no comment and not blank.
 fn read_p<R: In>(scanner: &mut Scanner<R>) -> Result<(), Fault>
     ensures text { Along scanner.old scanner.new (λ i j.
-        fixed is_p (skip_blank (listing_at scanner.old.place i))
-        ≡ and_then result (λ _. Ok (listing_at scanner.new.place j))) }
+        GivesPart (fixed is_p) (skip_blank (listing_at scanner.old.place i))
+        (and_then result (λ _. Ok (listing_at scanner.new.place j))) j) }
     ensures fewer { most_to_come scanner.new ≤ most_to_come scanner.old }
     ensures tells { TellsOf result scanner.old.reader scanner.new.reader }
 {
@@ -69,8 +70,8 @@ fn read_p<R: In>(scanner: &mut Scanner<R>) -> Result<(), Fault>
 // The word `cnf`.
 fn read_cnf<R: In>(scanner: &mut Scanner<R>) -> Result<(), Fault>
     ensures text { Along scanner.old scanner.new (λ i j.
-        fixed is_cnf (listing_at scanner.old.place i)
-        ≡ and_then result (λ _. Ok (listing_at scanner.new.place j))) }
+        GivesPart (fixed is_cnf) (listing_at scanner.old.place i)
+        (and_then result (λ _. Ok (listing_at scanner.new.place j))) j) }
     ensures fewer { most_to_come scanner.new ≤ most_to_come scanner.old }
     ensures tells { TellsOf result scanner.old.reader scanner.new.reader }
 {
@@ -81,21 +82,21 @@ fn read_cnf<R: In>(scanner: &mut Scanner<R>) -> Result<(), Fault>
 // A number of variables or clauses.
 fn read_count<R: In>(scanner: &mut Scanner<R>, limit: u64) -> Result<u64, Fault>
     ensures text { Along scanner.old scanner.new (λ i j.
-        count limit (listing_at scanner.old.place i)
-        ≡ and_then result (λ n. Ok (n, listing_at scanner.new.place j))) }
+        GivesPart (count limit) (listing_at scanner.old.place i)
+        (and_then result (λ n. Ok (n, listing_at scanner.new.place j))) j) }
     ensures fewer { most_to_come scanner.new ≤ most_to_come scanner.old }
     ensures tells { TellsOf result scanner.old.reader scanner.new.reader }
     ensures limit { IfOk result (λ n. n ≤ limit) }
 {
-    let (place, word) = next_word(scanner)?;
-    count_of(limit, place, word)
+    let (place, number) = next_word(scanner)?;
+    count_of(limit, place, number)
 }
 
 // The line's end, or the input's.
 fn read_line_end<R: In>(scanner: &mut Scanner<R>) -> Result<(), Fault>
     ensures text { Along scanner.old scanner.new (λ i j.
-        line_end (listing_at scanner.old.place i)
-        ≡ and_then result (λ _. Ok (listing_at scanner.new.place j))) }
+        GivesPart line_end (listing_at scanner.old.place i)
+        (and_then result (λ _. Ok (listing_at scanner.new.place j))) j) }
     ensures fewer { most_to_come scanner.new ≤ most_to_come scanner.old }
     ensures tells { TellsOf result scanner.old.reader scanner.new.reader }
 {
@@ -109,8 +110,8 @@ fn read_line_end<R: In>(scanner: &mut Scanner<R>) -> Result<(), Fault>
 // The first word of the first line that isn't blank.
 fn first_word<R: In>(scanner: &mut Scanner<R>) -> Result<(Place, Word), Fault>
     ensures text { Along scanner.old scanner.new (λ i j.
-        next_word (skip_blank (listing_at scanner.old.place i))
-        ≡ and_then result (λ w. Ok (w.0, w.1, listing_at scanner.new.place j))) }
+        GivesPart next_word (skip_blank (listing_at scanner.old.place i))
+        (and_then result (λ w. Ok (w.0, w.1, listing_at scanner.new.place j))) j) }
     ensures fewer { most_to_come scanner.new ≤ most_to_come scanner.old }
     ensures tells { TellsOf result scanner.old.reader scanner.new.reader }
 {
@@ -127,8 +128,8 @@ fn first_word<R: In>(scanner: &mut Scanner<R>) -> Result<(Place, Word), Fault>
 // The line's next word.
 fn next_word<R: In>(scanner: &mut Scanner<R>) -> Result<(Place, Word), Fault>
     ensures text { Along scanner.old scanner.new (λ i j.
-        next_word (listing_at scanner.old.place i)
-        ≡ and_then result (λ w. Ok (w.0, w.1, listing_at scanner.new.place j))) }
+        GivesPart next_word (listing_at scanner.old.place i)
+        (and_then result (λ w. Ok (w.0, w.1, listing_at scanner.new.place j))) j) }
     ensures fewer { most_to_come scanner.new ≤ most_to_come scanner.old }
     ensures tells { TellsOf result scanner.old.reader scanner.new.reader }
 {

@@ -28,7 +28,8 @@ impl marker::Model for Model {
 
     ghost Value = { List Literal };
 
-    ghost view = { λ m. m.lits.items };
+    // Each field has to be named here. What the table has of a literal has no size.
+    ghost view = { λ record { lits = lits; listed = _ }. lits.items };
 
     ghost invariant = { λ m.
         IsConsistent m.lits.items × IsListed (at m.listed) m.lits.items };

@@ -28,11 +28,17 @@ impl marker::Model for Said {
 
     ghost Value = { Said };
 
-    ghost view = { λ s. record {
-      position = line_position s.position;
-      has_status = s.has_status;
-      is_ended = s.is_ended;
-      listed = s.model;
+    // Each field has to be named here.
+    ghost view = { λ record {
+      position = position;
+      has_status = has_status;
+      is_ended = is_ended;
+      model = model;
+    }. record {
+      position = line_position position;
+      has_status = has_status;
+      is_ended = is_ended;
+      listed = model;
     } };
 
     ghost invariant = { λ s. IsConsistent s.model };

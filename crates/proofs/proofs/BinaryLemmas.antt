@@ -26,7 +26,7 @@ use Rattle.proofs.specs.declared.moved.Moved.{Moved}
 use Rattle.proofs.specs.declared.drat_binary.part.BinaryPart.{BinaryPart}
 use Rattle.proofs.specs.declared.drat_binary.stopped.Stopped.{Stopped}
 use Rattle.proofs.proofs.ReachLemmas.{on_binary_move-from, binary_steps_among-from}
-use Rattle.proofs.proofs.TextLemmas.{gives_fault}
+use Rattle.proofs.proofs.TextLemmas.{gives_fault, IsFaulty-from}
 
 -- from one moment to another bytes of one step were read
 pub record Between (old now : Stream) (spot : BinarySpot) (s : Step) : Type 0 where
@@ -48,14 +48,14 @@ ends_so : (last : Proof) (result : Result Bool Fault) (end : Option StepEnd) (s 
     → EndsProof result last → before ≡ last → GivesStep result end s before (binary_left result at j) j
 ends_so last (Ok true) end s before at j ends e = absurd ends
 ends_so last (Ok false) end s before at j ends e = (e ∙ ends, e ∙ ends)
-ends_so last (Err f) end s before at j ends e = gives_fault f end s before j (e ∙ ends)
+ends_so last (Err f) end s before at j ends e = gives_fault f end s before _ j (IsFaulty-from f None before (e ∙ ends)) refl
 
 module _ (old now new : Stream) (spot : BinarySpot) (s : Step) (so_far : Between old now spot s) (look : IsLook now new) where
   looked : Along old new (λ i j. binary_steps_at old.byte_no i ≡ binary_steps_from spot s new.byte_no j)
   looked = Along-then old now new _ _ _ so_far.text (Along-look now new look) (λ i j k m q r.
       q ∙ ap (binary_steps_from spot s now.byte_no) r ∙ ap (λ n. binary_steps_from spot s n k) (sym look.byte_no))
 
-  -- an answer at a moment, what is to come, and that the end of no step was passed
+  -- an answer at a moment, what is to come, and that no end was passed
   abbrev Gave : Stream → Result Bool Fault → Option StepEnd → Step → Type 0
   Gave last result end t = Along old last (λ i j. GivesStep result end t (binary_steps_at old.byte_no i) (binary_left result last.byte_no j) j
       × PassesNoEnd (binary_steps_at old.byte_no i) j)
@@ -74,7 +74,7 @@ module _ (old now new : Stream) (spot : BinarySpot) (s : Step) (so_far : Between
         q ∙ ap (binary_steps_from spot s new.byte_no) (Splits-first j (b ∷ []) k r)
         ∙ ap (λ t. follows t (binary_move_of spot s new.byte_no b)) (Splits-byte j b k r))
 
-    -- whatever the byte did, no step that was to come ends before what is left
+    -- whatever the byte did, nothing that was to come ends before what is left
     follows-from : (j : Suffix) (move : BinaryMove) → PassesNoEnd (follows j move) j
     follows-from j move = on_binary_move-from j.offset new.byte_no j.offset move (λ spot s. binary_steps_from spot s (next_count new.byte_no) j) (omega arith)
         (λ spot s. binary_steps_among-from j.offset spot s (next_count new.byte_no) j.offset j.bytes j.ending (omega arith))
@@ -101,7 +101,8 @@ module _ (old now new : Stream) (spot : BinarySpot) (s : Step) (so_far : Between
     Between-step end at t is = gave (Ok true) end t (λ i j q. (Byte new.byte_no, at, q ∙ ap (follows j) is))
 
     pub Between-fault : (f : BinaryFault) (at : ℕ) (t : Step) → binary_move_of spot s new.byte_no b ≡ faults f at → Gave (bumped new) (Err (Binary f at)) None t
-    Between-fault f at t is = gave (Err (Binary f at)) None t (λ i j q. gives_fault (Binary f at) None t _ j (q ∙ ap (follows j) is))
+    Between-fault f at t is = gave (Err (Binary f at)) None t (λ i j q.
+        gives_fault (Binary f at) None t _ _ j (IsFaulty-from (Binary f at) (Some j.offset) _ (q ∙ ap (follows j) is)) refl)
 
     pub Between-refused : (t : Step) → Gave (bumped new) (Err OutOfMemory) None t
     Between-refused t = gave (Err OutOfMemory) None t (λ i j q. refl)
@@ -121,7 +122,7 @@ module _ (old now new : Stream) (spot : BinarySpot) (s : Step) (so_far : Between
 
   pub Between-failed : new.ahead ≡ [] → new.met ≡ Some Failed → Gave new (Err ReadFailed) None s
   Between-failed nothing met = Along-map old new _ _ looked (λ i j m q. (
-    gives_fault ReadFailed None s _ j (q ∙ ap (binary_steps_from spot s new.byte_no) (shown_end new Failed j nothing met m)),
+    gives_fault ReadFailed None s _ _ j (IsFaulty-from ReadFailed None _ (q ∙ ap (binary_steps_from spot s new.byte_no) (shown_end new Failed j nothing met m))) refl,
     rest-from i j q,
   ))
 

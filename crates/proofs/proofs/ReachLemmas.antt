@@ -1,4 +1,4 @@
--- Where the steps of a proof end.
+-- Where the steps of a proof end, and its fault.
 use Rattle.std.proofs.Common.{◌≡◌, ℕ, zero, suc, ◌≤◌, List, [], ◌∷◌, Option, None, Some, sym, ap}
 use Rattle.std.proofs.Common.{subst, arith}
 use Rattle.std.specs.Prelude.{Bool, true, false, Result, Ok, Err, slice_get, if◌then◌else◌}
@@ -19,8 +19,8 @@ use Rattle.cnf_base.proofs.StreamLemmas.{Along-map}
 use Rattle.proofs.specs.declared.step_end.StepEnd.{StepEnd}
 use Rattle.proofs.specs.declared.step_end.StepEnd.TheVariants as ends
 use Rattle.proofs.specs.Steps.{Step, named}
-use Rattle.proofs.specs.Reading.{PlacedStep, Proof, clean, faulty_proof, with_step, GivesStep}
-use Rattle.proofs.specs.Reading.{PassesNoEnd}
+use Rattle.proofs.specs.Reading.{PlacedStep, Proof, clean, faulty_proof, faulty_at, with_step}
+use Rattle.proofs.specs.Reading.{GivesStep, EndsFrom, PassesNoEnd}
 use Rattle.proofs.specs.Code.Reading.{proof_unless_ended}
 use Rattle.proofs.specs.TextSteps.{Move, goes, completes, faults, Format, move_of, on_move}
 use Rattle.proofs.specs.TextSteps.{on_token, at_end, steps_among}
@@ -28,15 +28,17 @@ use Rattle.proofs.specs.Binary as binary
 use Rattle.proofs.specs.Binary.{BinarySpot, at_tag, in_step, in_number, BinaryMove, binary_move_of}
 use Rattle.proofs.specs.Binary.{on_binary_move, binary_at_end, binary_steps_among}
 
--- each step ends at this offset or later
-abbrev pub StepsFrom : ℕ → Proof → Type 0
-StepsFrom n p = (k : ℕ) (placed : PlacedStep) → slice_get p.steps k ≡ Some placed → n ≤ placed.offset
+pub from-none : (n : ℕ) (fault : Option Fault) → EndsFrom n (record { steps = []; fault = fault; fault_end = None })
+from-none n fault = record { steps = λ k placed at. absurd (none-some placed at); fault = λ offset at. absurd (none-some offset at) }
 
-pub from-none : (n : ℕ) (fault : Option Fault) → StepsFrom n (record { steps = []; fault = fault })
-from-none n fault k placed at = absurd (none-some placed at)
+from-fault : (n offset : ℕ) (f : Fault) → n ≤ offset → EndsFrom n (faulty_at f offset)
+from-fault n offset f h = record { steps = λ k placed at. absurd (none-some placed at); fault = λ end at. by end at }
+  where
+    by : (end : ℕ) → Some offset ≡ Some end → n ≤ end
+    by end at = let same : offset ≡ end = cc in omega (arith, same, h)
 
-pub from-step : (n offset : ℕ) (s : Step) (end : StepEnd) (p : Proof) → n ≤ offset → StepsFrom n p → StepsFrom n (with_step s end offset p)
-from-step n offset s end p h later = by
+pub from-step : (n offset : ℕ) (s : Step) (end : StepEnd) (p : Proof) → n ≤ offset → EndsFrom n p → EndsFrom n (with_step s end offset p)
+from-step n offset s end p h later = record { steps = by; fault = later.fault }
   where
     by : (k : ℕ) (placed : PlacedStep) → slice_get (with_step s end offset p).steps k ≡ Some placed → n ≤ placed.offset
     by zero placed at =
@@ -44,52 +46,52 @@ from-step n offset s end p h later = by
         let same : record { step = s; end = end; offset = offset } ≡ placed = cc in
         let is : offset ≡ placed.offset = ap (λ x. x.offset) same in
         omega (arith, is, h)
-    by (suc k) placed at = later k placed at
+    by (suc k) placed at = later.steps k placed at
 
 -- ---- As text
 
 module _ {Part : Type 0} (format : Format Part) (n : ℕ) where
-  at_end-from : (part : Part) (p : Place) (ending : Ending) → StepsFrom n (at_end format part p ending)
+  at_end-from : (part : Part) (p : Place) (ending : Ending) → EndsFrom n (at_end format part p ending)
   at_end-from part p Failed = from-none n (Some ReadFailed)
   at_end-from part p End = by (format.is_start part)
     where
-      by : (v : Bool) → StepsFrom n (if v then clean else faulty_proof (Text UnterminatedStep p))
+      by : (v : Bool) → EndsFrom n (if v then clean else faulty_proof (Text UnterminatedStep p))
       by true = from-none n None
       by false = from-none n (Some (Text UnterminatedStep p))
 
-  pub on_move-from : (p : Place) (offset : ℕ) (move : Move Part) (rest : Part → Step → Proof) → n ≤ offset → ((part : Part) (s : Step) → StepsFrom n (rest part s))
-      → StepsFrom n (on_move format p offset move rest)
+  pub on_move-from : (p : Place) (offset : ℕ) (move : Move Part) (rest : Part → Step → Proof) → n ≤ offset → ((part : Part) (s : Step) → EndsFrom n (rest part s))
+      → EndsFrom n (on_move format p offset move rest)
   on_move-from p offset (goes part s) rest h later = later part s
   on_move-from p offset (completes s) rest h later = from-step n offset s (ends.Text p) (rest format.start (named 0)) h (later format.start (named 0))
-  on_move-from p offset (faults f) rest h later = from-none n (Some (Text f p))
+  on_move-from p offset (faults f) rest h later = from-fault n offset (Text f p) h
 
-  on_token-from : (part : Part) (s : Step) (t : tokens.Token) (offset : ℕ) (rest : Part → Step → Proof) → n ≤ offset → ((part : Part) (s : Step) → StepsFrom n (rest part s))
-      → StepsFrom n (on_token format part s t offset rest)
+  on_token-from : (part : Part) (s : Step) (t : tokens.Token) (offset : ℕ) (rest : Part → Step → Proof) → n ≤ offset → ((part : Part) (s : Step) → EndsFrom n (rest part s))
+      → EndsFrom n (on_token format part s t offset rest)
   on_token-from part s (token.Word p w) offset rest h later = on_move-from p offset (move_of format part s w) rest h later
   on_token-from part s (token.LineEnd p) offset rest h later = later part s
   on_token-from part s (token.End p) offset rest h later = later part s
 
-  pub steps_among-from : (part : Part) (s : Step) (ts : List Listed) (p : Place) (ending : Ending) → EndFrom n ts → StepsFrom n (steps_among format part s ts p ending)
+  pub steps_among-from : (part : Part) (s : Step) (ts : List Listed) (p : Place) (ending : Ending) → EndFrom n ts → EndsFrom n (steps_among format part s ts p ending)
   steps_among-from part s [] p ending h = at_end-from part p ending
   steps_among-from part s (t ∷ ts) p ending h =
       on_token-from part s t.token t.offset (λ part s. steps_among format part s ts p ending) h.0 (λ part s. steps_among-from part s ts p ending h.1)
 
 -- ---- In binary
 
-binary_at_end-from : (n : ℕ) (spot : BinarySpot) (at : ℕ) (ending : Ending) → StepsFrom n (binary_at_end spot at ending)
+binary_at_end-from : (n : ℕ) (spot : BinarySpot) (at : ℕ) (ending : Ending) → EndsFrom n (binary_at_end spot at ending)
 binary_at_end-from n spot at Failed = from-none n (Some ReadFailed)
 binary_at_end-from n at_tag at End = from-none n None
 binary_at_end-from n in_step at End = from-none n (Some (Binary binary_fault.UnterminatedStep at))
 binary_at_end-from n (in_number first bytes) at End = from-none n (Some (Binary binary_fault.UnterminatedStep at))
 
-pub on_binary_move-from : (n at offset : ℕ) (move : BinaryMove) (rest : BinarySpot → Step → Proof) → n ≤ offset → ((spot : BinarySpot) (s : Step) → StepsFrom n (rest spot s))
-    → StepsFrom n (on_binary_move at offset move rest)
+pub on_binary_move-from : (n at offset : ℕ) (move : BinaryMove) (rest : BinarySpot → Step → Proof) → n ≤ offset → ((spot : BinarySpot) (s : Step) → EndsFrom n (rest spot s))
+    → EndsFrom n (on_binary_move at offset move rest)
 on_binary_move-from n at offset (binary.goes spot s) rest h later = later spot s
 on_binary_move-from n at offset (binary.completes s) rest h later = from-step n offset s (ends.Byte at) (rest at_tag (named 0)) h (later at_tag (named 0))
-on_binary_move-from n at offset (binary.faults f first) rest h later = from-none n (Some (Binary f first))
+on_binary_move-from n at offset (binary.faults f first) rest h later = from-fault n offset (Binary f first) h
 
 pub binary_steps_among-from : (n : ℕ) (spot : BinarySpot) (s : Step) (at offset : ℕ) (bs : List ℕ) (ending : Ending) → n ≤ offset
-    → StepsFrom n (binary_steps_among spot s at offset bs ending)
+    → EndsFrom n (binary_steps_among spot s at offset bs ending)
 binary_steps_among-from n spot s at offset [] ending h = binary_at_end-from n spot at ending
 binary_steps_among-from n spot s at offset (b ∷ bs) ending h =
     let further : n ≤ suc offset = omega (arith, h) in
@@ -99,7 +101,7 @@ binary_steps_among-from n spot s at offset (b ∷ bs) ending h =
 -- ---- After an end
 
 -- no step is to come
-pub ended-from : (n : ℕ) (answer : Result Bool Fault) → StepsFrom n (proof_unless_ended (Some answer) clean)
+pub ended-from : (n : ℕ) (answer : Result Bool Fault) → EndsFrom n (proof_unless_ended (Some answer) clean)
 ended-from n (Ok v) = from-none n None
 ended-from n (Err f) = from-none n (Some f)
 

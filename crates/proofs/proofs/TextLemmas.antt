@@ -1,5 +1,5 @@
 -- A proof's tokens, one at a time.
-use Rattle.std.proofs.Common.{◌≡◌, ◌<◌, ◌≤◌, [], length, Option, None, Some, refl, sym, ap, ◌∙◌}
+use Rattle.std.proofs.Common.{◌≡◌, ℕ, ◌<◌, ◌≤◌, [], Option, None, Some, refl, sym, ap, ◌∙◌}
 use Rattle.std.proofs.Common.{subst, arith}
 use Rattle.std.specs.Prelude.{Bool, true, false, Result, Ok, Err}
 use Rattle.cnf_base.specs.Stream.{Suffix, Stream, Along, most_to_come, tells_failure}
@@ -19,7 +19,7 @@ use Rattle.cnf_base.proofs.StreamLemmas.{Along-then, Along-map, Along-none, Alon
 use Rattle.proofs.specs.declared.step_end.StepEnd.{StepEnd}
 use Rattle.proofs.specs.declared.step_end.StepEnd.TheVariants as ends
 use Rattle.proofs.specs.Steps.{Step, named}
-use Rattle.proofs.specs.Reading.{Proof, clean, faulty_proof, GivesStep, PassesNoEnd}
+use Rattle.proofs.specs.Reading.{Proof, clean, faulty_proof, IsFaulty, GivesStep, PassesNoEnd}
 use Rattle.proofs.specs.Code.Reading.{proof_unless_ended}
 use Rattle.proofs.specs.TextSteps.{Move, goes, completes, faults, Format, move_of, on_move, at_end}
 use Rattle.proofs.specs.TextSteps.{steps_from, steps_listed}
@@ -29,21 +29,22 @@ use Rattle.proofs.specs.declared.stopped.Stopped.{Stopped}
 use Rattle.proofs.proofs.ReachLemmas.{steps_among-from, on_move-from, ended-from}
 
 -- a fault is what comes, and it stays
-pub gives_fault : (f : Fault) (end : Option StepEnd) (s : Step) (p : Proof) (rest : Suffix) → p ≡ faulty_proof f → GivesStep (Err f) end s p (faulty_proof f) rest
-gives_fault (Text k p) end s b rest e = (e, e)
-gives_fault (Binary k n) end s b rest e = (e, e)
-gives_fault ReadFailed end s b rest e = (e, e)
-gives_fault OutOfMemory end s b rest e = refl
+pub gives_fault : (f : Fault) (end : Option StepEnd) (s : Step) (p q : Proof) (rest : Suffix) → IsFaulty f p → q ≡ faulty_proof f → GivesStep (Err f) end s p q rest
+gives_fault (Text k p) end s b a rest is stays = (is, stays)
+gives_fault (Binary k n) end s b a rest is stays = (is, stays)
+gives_fault ReadFailed end s b a rest is stays = (is, stays)
+gives_fault OutOfMemory end s b a rest is stays = stays
+
+-- so it is, wherever the fault ends
+pub IsFaulty-from : (f : Fault) (end : Option ℕ) (p : Proof) → p ≡ record { steps = []; fault = Some f; fault_end = end } → IsFaulty f p
+IsFaulty-from f end p is = record { no_step = ap (λ x. x.steps) is; fault = ap (λ x. x.fault) is }
 
 -- an answer that is kept is what comes, and it stays
 kept_gives : (answer : Result Bool Fault) (end : Option StepEnd) (s : Step) (before after : Proof) (rest : Suffix) → (answer ≡ Ok true → ⊥)
     → before ≡ proof_unless_ended (Some answer) clean → after ≡ proof_unless_ended (Some answer) clean → GivesStep answer end s before after rest
 kept_gives (Ok true) end s before after rest none b a = absurd (none refl)
 kept_gives (Ok false) end s before after rest none b a = (b ∙ sym a, b)
-kept_gives (Err (Text k p)) end s before after rest none b a = (b ∙ sym a, b)
-kept_gives (Err (Binary k n)) end s before after rest none b a = (b ∙ sym a, b)
-kept_gives (Err ReadFailed) end s before after rest none b a = (b ∙ sym a, b)
-kept_gives (Err OutOfMemory) end s before after rest none b a = a
+kept_gives (Err f) end s before after rest none b a = gives_fault f end s before after rest (IsFaulty-from f None before b) a
 
 pub Kept-step : (stream : Stream) (kept : Option (Result Bool Fault)) (coming : Suffix → Proof) (answer : Result Bool Fault) (end : Option StepEnd) (s : Step)
     → kept ≡ Some answer → (kept ≡ Some (Ok true) → ⊥)
@@ -74,7 +75,7 @@ ends_so : {P : Type 0} (format : Format P) (last : Proof) (result : Result Bool 
     → GivesStep result end s before (text_left format result l) rest
 ends_so format last (Ok true) end s before l rest ends e = absurd ends
 ends_so format last (Ok false) end s before l rest ends e = (e ∙ ends, e ∙ ends)
-ends_so format last (Err f) end s before l rest ends e = gives_fault f end s before rest (e ∙ ends)
+ends_so format last (Err f) end s before l rest ends e = gives_fault f end s before _ rest (IsFaulty-from f None before (e ∙ ends)) refl
 
 -- from one moment to another words of one step were read
 pub record Between {P : Type 0} (format : Format P) (old now : Stream) (part : P) (s : Step) : Type 0 where
@@ -98,7 +99,7 @@ module _ {P : Type 0} (format : Format P) (old now new : Stream) (part : P) (s :
     mark = mark ∙ so_far.mark;
   }
 
-  -- an answer, what is to come, and that the end of no step was passed
+  -- an answer, what is to come, and that no end was passed
   abbrev Gave : Result Bool Fault → Option StepEnd → Step → Type 0
   Gave result end t = Along old new (λ i j. GivesStep result end t (steps_listed format (listing_at old.place i)) (text_left format result (listing_at new.place j)) j
       × PassesNoEnd (steps_listed format (listing_at old.place i)) j)
@@ -114,7 +115,7 @@ module _ {P : Type 0} (format : Format P) (old now new : Stream) (part : P) (s :
     word_text : Along old new (λ i j. steps_listed format (listing_at old.place i) ≡ follows j (move_of format part s w))
     word_text = Along-then old now new _ _ _ so_far.text gives (λ i j k m q r. q ∙ ap (steps_from format part s) r)
 
-    -- whatever the word did, no step that was to come ends before what is left
+    -- whatever the word did, nothing that was to come ends before what is left
     follows-from : (j : Suffix) (move : Move P) → PassesNoEnd (follows j move) j
     follows-from j move = on_move-from format j.offset p j.offset move (λ part s. steps_from format part s (listing_at new.place j)) (omega arith)
         (λ part s. steps_among-from format j.offset part s _ _ _ (listing_at-from new.place j))
@@ -137,7 +138,8 @@ module _ {P : Type 0} (format : Format P) (old now new : Stream) (part : P) (s :
     Between-step end at t is = gave (Ok true) end t (λ i j q. (ends.Text p, at, q ∙ ap (follows j) is))
 
     pub Between-fault : (f : TextFault) (t : Step) → move_of format part s w ≡ faults f → Gave (Err (Text f p)) None t
-    Between-fault f t is = gave (Err (Text f p)) None t (λ i j q. gives_fault (Text f p) None t _ j (q ∙ ap (follows j) is))
+    Between-fault f t is = gave (Err (Text f p)) None t (λ i j q.
+        gives_fault (Text f p) None t _ _ j (IsFaulty-from (Text f p) (Some j.offset) _ (q ∙ ap (follows j) is)) refl)
 
     pub Between-refused : (t : Step) → Gave (Err OutOfMemory) None t
     Between-refused t = gave (Err OutOfMemory) None t (λ i j q. refl)
@@ -158,7 +160,7 @@ module _ {P : Type 0} (format : Format P) (old now new : Stream) (part : P) (s :
 
   pub Between-failed : (cut : Cut) → Along now new (λ i j. Gives (Err cut) (listing_at now.place i) (listing_at new.place j) j) → Gave (Err ReadFailed) None s
   Between-failed cut gives = Along-then old now new _ _ _ so_far.text gives (λ i j k m q r. (
-    gives_fault ReadFailed None s _ k (q ∙ empty (listing_at now.place j) r.1 r.2),
+    gives_fault ReadFailed None s _ _ k (IsFaulty-from ReadFailed None _ (q ∙ empty (listing_at now.place j) r.1 r.2)) refl,
     rest-from (Err cut) i j k r q,
   ))
     where

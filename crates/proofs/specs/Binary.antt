@@ -12,7 +12,7 @@ use Rattle.cnf_base.specs.declared.fault.BinaryFault.{BinaryFault}
 use Rattle.cnf_base.specs.declared.fault.Fault.TheVariants.{Binary, ReadFailed}
 use Rattle.cnf_base.specs.declared.input.Ending.TheVariants.{End, Failed}
 use Rattle.cnf_base.specs.declared.input.Ending.{Ending}
-use Rattle.proofs.specs.Reading.{Proof, clean, faulty_proof, with_step}
+use Rattle.proofs.specs.Reading.{Proof, clean, faulty_proof, faulty_at, with_step}
 use Rattle.proofs.specs.Steps.{Step, deleting, with_literal, named}
 use Rattle.proofs.specs.declared.step_end.StepEnd.TheVariants.{Byte}
 
@@ -77,7 +77,7 @@ binary_at_end _ at End = faulty_proof (Binary UnterminatedStep at)
 abbrev pub on_binary_move : ℕ → ℕ → BinaryMove → (BinarySpot → Step → Proof) → Proof
 on_binary_move at offset (goes spot s) rest = rest spot s
 on_binary_move at offset (completes s) rest = with_step s (Byte at) offset (rest at_tag (named 0))
-on_binary_move at offset (faults f first) rest = faulty_proof (Binary f first)
+on_binary_move at offset (faults f first) rest = faulty_at (Binary f first) offset
 
 -- the steps of bytes, of which the first has this number and this offset; the number goes no
 -- further than the greatest one

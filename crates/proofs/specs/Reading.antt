@@ -13,23 +13,39 @@ pub record PlacedStep : Type 0 where
   pub end : StepEnd
   pub offset : ℕ
 
--- the steps before the first fault, and that fault; none where the proof ends cleanly
+-- The steps before the first fault, and that fault; none where the proof ends cleanly. Where a word
+-- or a byte is at fault, the offset of the byte after it; none where the input's end or a failed
+-- read is, since nothing follows that could be read.
 pub record Proof : Type 0 where
   pub steps : List PlacedStep
   pub fault : Option Fault
+  pub fault_end : Option ℕ
 
 -- no step, and a clean end
 abbrev pub clean : Proof
-clean = record { steps = []; fault = None }
+clean = record { steps = []; fault = None; fault_end = None }
 
--- no step, and a fault
+-- no step, and a fault after which nothing is to be read
 abbrev pub faulty_proof : Fault → Proof
-faulty_proof f = record { steps = []; fault = Some f }
+faulty_proof f = record { steps = []; fault = Some f; fault_end = None }
+
+-- no step, and the fault of a word or a byte, which ends before the byte at this offset
+abbrev pub faulty_at : Fault → ℕ → Proof
+faulty_at f offset = record { steps = []; fault = Some f; fault_end = Some offset }
+
+-- no step, and this fault
+pub record IsFaulty (f : Fault) (p : Proof) : Type 0 where
+  pub no_step : p.steps ≡ []
+  pub fault : p.fault ≡ Some f
 
 -- a step before the others
 abbrev pub with_step : Step → StepEnd → ℕ → Proof → Proof
 with_step s end offset p =
-    record { steps = record { step = s; end = end; offset = offset } ∷ p.steps; fault = p.fault }
+    record {
+      steps = record { step = s; end = end; offset = offset } ∷ p.steps;
+      fault = p.fault;
+      fault_end = p.fault_end;
+    }
 
 -- where a reader stands in its input, the answer that it gives from now on where it has come to an
 -- end, where the step ends that it gave last, and how many literals and hints it keeps of what it
@@ -48,10 +64,15 @@ GivesStep (Ok true) end s before after rest =
     (at : StepEnd) × (end ≡ Some at) × (before ≡ with_step s at rest.offset after)
 GivesStep (Ok false) end s before after rest = (before ≡ after) × (before ≡ clean)
 GivesStep (Err OutOfMemory) end s before after rest = after ≡ faulty_proof OutOfMemory
-GivesStep (Err f) end s before after rest = (before ≡ after) × (before ≡ faulty_proof f)
+GivesStep (Err f) end s before after rest = IsFaulty f before × (after ≡ faulty_proof f)
 
--- The end of no step that was to come was passed: each ends where what is still to come begins, or
--- later.
+-- each step ends at this offset or later, and so does the fault
+pub record EndsFrom (n : ℕ) (p : Proof) : Type 0 where
+  pub steps : (k : ℕ) (placed : PlacedStep) → slice_get p.steps k ≡ Some placed →
+      n ≤ placed.offset
+  pub fault : (offset : ℕ) → p.fault_end ≡ Some offset → n ≤ offset
+
+-- No end that was to come was passed, a step's or the fault's: each is where what is still to come
+-- begins, or later.
 abbrev pub PassesNoEnd : Proof → Suffix → Type 0
-PassesNoEnd p rest =
-    (k : ℕ) (placed : PlacedStep) → slice_get p.steps k ≡ Some placed → rest.offset ≤ placed.offset
+PassesNoEnd p rest = EndsFrom rest.offset p

@@ -16,7 +16,7 @@ use Rattle.cnf_base.specs.declared.token.Token.TheVariants as token
 use Rattle.cnf_base.specs.declared.word.Number.{Number}
 use Rattle.cnf_base.specs.declared.word.Word.TheVariants as words
 use Rattle.cnf_base.specs.declared.word.Word.{Word}
-use Rattle.proofs.specs.Reading.{Proof, clean, faulty_proof, with_step}
+use Rattle.proofs.specs.Reading.{Proof, clean, faulty_proof, faulty_at, with_step}
 use Rattle.proofs.specs.Steps.{Step, with_literal, named}
 use Rattle.proofs.specs.declared.step_end.StepEnd.TheVariants as ends
 
@@ -64,7 +64,7 @@ abbrev pub on_move : {Part : Type 0} → Format Part → Place → ℕ → Move 
 on_move format p offset (goes part s) rest = rest part s
 on_move format p offset (completes s) rest =
     with_step s (ends.Text p) offset (rest format.start (named 0))
-on_move format p offset (faults f) rest = faulty_proof (Text f p)
+on_move format p offset (faults f) rest = faulty_at (Text f p) offset
 
 -- what a token means; a line's end means nothing
 abbrev pub on_token : {Part : Type 0} → Format Part → Part → Step → tokens.Token → ℕ →

@@ -34,12 +34,9 @@ impl Model for StepBuf {
 
     ghost Value = { Step };
 
-    ghost view = { λ s. record {
-      kind = s.kind;
-      id = s.id;
-      lits = s.lits.items;
-      hints = s.hints.items;
-    } };
+    // Each field has to be named here: a step holds no literals and hints but those that it shows.
+    ghost view = { λ record { kind = kind; id = id; lits = lits; hints = hints }.
+        record { kind = kind; id = id; lits = lits.items; hints = hints.items } };
 
     ghost invariant = { λ s.
         (IsTrue (is_small s.id)) × (IsTrue (list_all (is_hint s.kind) s.hints.items)) };

@@ -34,7 +34,8 @@ pub trait StepReader {
 
     /// Puts the next step into the buffer. At a clean end it answers false, at every call; after a
     /// fault, that fault. After a fault or false the buffer's content is open, and so is where the
-    /// last step ended. No more than the step is taken of the input, also where memory is refused.
+    /// last step ended. No more than the step is taken of the input, also where memory is refused,
+    /// and nothing past a word or a byte that is at fault.
     fn next(&mut self, step: &mut StepBuf) -> Result<bool, Fault>
         ensures step { Along (stream self.old) (stream self.new)
             (λ i j. GivesStep result (end self.new) step.new

@@ -15,10 +15,10 @@ use Rattle.cnf_base.proofs.SeenLemmas.{Seen-nothing, Seen-run, Seen-fact}
 use Rattle.dimacs.specs.Formula.{formula_of}
 use Rattle.proofs.specs.Steps.{Step}
 use Rattle.proofs.specs.declared.step_end.StepEnd.{StepEnd}
-use Rattle.proofs.specs.Reading.{ProofReading, PlacedStep, Proof, faulty_proof, with_step}
-use Rattle.proofs.specs.Reading.{GivesStep, PassesNoEnd}
+use Rattle.proofs.specs.Reading.{ProofReading, Proof, with_step, IsFaulty, GivesStep, PassesNoEnd}
 use Rattle.steps.specs.ProofSession.{View, is_over}
 use Rattle.theory.specs.Rules.{Rule, after, sum_of, IsFinite}
+use Rattle.sat_check.specs.FormulaReach.{ReadsNoFurtherThanFault}
 use Rattle.sat_check.specs.Code.Reach.{IsVerdict}
 use Rattle.sat_check.specs.Reach.{ReadsNoFurther, TellsFault, TellsWhy}
 use Rattle.sat_check.specs.Report.{Report, Outcome, Reports, text_of, with_lines, end_report}
@@ -32,6 +32,7 @@ use Rattle.sat_check.specs.declared.status.Status.TheVariants.{NotVerified, Malf
 use Rattle.sat_check.specs.declared.status.Status.TheVariants.{OutOfMemory as NoMemory, WriteFailed}
 use Rattle.sat_check.specs.declared.status.Status.TheVariants.{ReadFailed as NoRead}
 use Rattle.sat_check.proofs.OutcomeLemmas.{Outcome-after, Writes-all, Writes-still, text_of-append}
+use Rattle.sat_check.proofs.ReadLemmas.{unread_fault}
 use Rattle.sat_check.proofs.ReachLemmas.{no_verdict, LeavesRest-none, LeavesRest-broken}
 use Rattle.sat_check.proofs.ReachLemmas.{TellsFault-none, TellsReason-none}
 use Rattle.sat_check.proofs.ReachLemmas.{LeavesRest-decided, LeavesRest-step}
@@ -61,6 +62,12 @@ pub record Checking (trace : Bool) (start now : Standing) (first session : View)
   pub least : sum_of session.state ≤ session.peak
   pub no_failure : lines.has_failed ≡ was.has_failed
 
+-- what has this fault, wherever that ends
+IsFaulty-is : (f : Fault) (p : Proof) → IsFaulty f p → p ≡ record { steps = []; fault = Some f; fault_end = p.fault_end }
+IsFaulty-is f p is =
+    ap (λ s. record { steps = s; fault = p.fault; fault_end = p.fault_end }) is.no_step
+    ∙ ap (λ x. record { steps = []; fault = x; fault_end = p.fault_end }) is.fault
+
 pub Checking-start : (trace : Bool) (start : Standing) (first : View) (was : Sink) → was.is_broken ≡ false → is_over first ≡ false
     → IsFinite first.state → sum_of first.state ≤ first.peak → Checking trace start start first first 0 was was
 Checking-start trace start first was whole sound finite least = record {
@@ -88,7 +95,7 @@ module _ (trace : Bool) (start now new : Standing) (first session : View) (accep
   Ended checked last i j =
       (r : Report) × Rest trace first.state 0 first.peak (start.to_come i) r × Outcome checked.status was.held last.held r × LeavesRest first (start.to_come i) j checked
 
-  -- what a call gave, and that it passed the end of no step
+  -- what a call gave, and that it passed no end
   abbrev Gave : Result Bool Fault → Option StepEnd → Step → Suffix → Suffix → Type 0
   Gave result end step i j = GivesStep result end step (now.to_come i) (new.to_come j) j × PassesNoEnd (now.to_come i) j
 
@@ -164,8 +171,9 @@ module _ (trace : Bool) (start now new : Standing) (first session : View) (accep
     Checking-end gives o tells = Along-then _ _ _ _ _ _ so_far.run gives (λ i j k m p q.
         let Q : Proof → Type 0 = λ x. Rest trace session.state so_far.count session.peak x (end_report None) in
         let R : Proof → Type 0 = λ x. LeavesRest session x k checked in
+        let S : Proof → Type 0 = λ x. PassesNoEnd x k in
         ended checked last i j k (end_report None) p (subst Q (sym q.0.1) (Rest-clean trace session.state so_far.count session.peak)) o
-        (subst R (sym q.0.1) (LeavesRest-none session None k checked none quiet tells)))
+        (subst R (sym q.0.1) (LeavesRest-none session None None k checked none quiet tells (subst S q.0.1 q.1))))
 
     -- what is told where the proof has this fault
     abbrev TellsOf : Fault → Type 0
@@ -177,19 +185,22 @@ module _ (trace : Bool) (start now new : Standing) (first session : View) (accep
         → TellsOf f → Along start.stream new.stream (λ i j. Ended checked last i j)
     Checking-fault end f gives refused other tells = by f gives refused other tells
       where
-        met : (f : Fault) (i j k : Suffix) → SoFar i j → now.to_come j ≡ faulty_proof f → Outcome checked.status lines.held last.held (end_report (Some f)) → TellsOf f → Ended checked last i k
-        met f i j k p e o tells =
+        met : (f : Fault) (i j k : Suffix) → SoFar i j → IsFaulty f (now.to_come j) × PassesNoEnd (now.to_come j) k → Outcome checked.status lines.held last.held (end_report (Some f)) → TellsOf f → Ended checked last i k
+        met f i j k p q o tells =
+            let end = (now.to_come j).fault_end in
+            let e = IsFaulty-is f (now.to_come j) q.0 in
             let Q : Proof → Type 0 = λ x. Rest trace session.state so_far.count session.peak x (end_report (Some f)) in
             let R : Proof → Type 0 = λ x. LeavesRest session x k checked in
-            ended checked last i j k (end_report (Some f)) p (subst Q (sym e) (Rest-fault trace session.state so_far.count session.peak f)) o
-            (subst R (sym e) (LeavesRest-none session (Some f) k checked none quiet (record { malformed = tells.0; only = tells.1 })))
+            let S : Proof → Type 0 = λ x. PassesNoEnd x k in
+            ended checked last i j k (end_report (Some f)) p (subst Q (sym e) (Rest-fault trace session.state so_far.count session.peak f end)) o
+            (subst R (sym e) (LeavesRest-none session (Some f) end k checked none quiet (record { malformed = tells.0; only = tells.1 }) (subst S e q.1)))
 
         by : (f : Fault) → Along now.stream new.stream (Gave (Err f) end step)
             → (f ≡ OutOfMemory → (r : Report) → Outcome checked.status lines.held last.held r) → ((f ≡ OutOfMemory → ⊥) → Outcome checked.status lines.held last.held (end_report (Some f)))
             → TellsOf f → Along start.stream new.stream (λ i j. Ended checked last i j)
-        by (Text k x) gives refused other tells = Along-then _ _ _ _ _ _ so_far.run gives (λ i j n m p q. met (Text k x) i j n p q.0.1 (other (λ e. cc)) tells)
-        by (Binary k x) gives refused other tells = Along-then _ _ _ _ _ _ so_far.run gives (λ i j n m p q. met (Binary k x) i j n p q.0.1 (other (λ e. cc)) tells)
-        by ReadFailed gives refused other tells = Along-then _ _ _ _ _ _ so_far.run gives (λ i j n m p q. met ReadFailed i j n p q.0.1 (other (λ e. cc)) tells)
+        by (Text k x) gives refused other tells = Along-then _ _ _ _ _ _ so_far.run gives (λ i j n m p q. met (Text k x) i j n p (q.0.0, q.1) (other (λ e. cc)) tells)
+        by (Binary k x) gives refused other tells = Along-then _ _ _ _ _ _ so_far.run gives (λ i j n m p q. met (Binary k x) i j n p (q.0.0, q.1) (other (λ e. cc)) tells)
+        by ReadFailed gives refused other tells = Along-then _ _ _ _ _ _ so_far.run gives (λ i j n m p q. met ReadFailed i j n p (q.0.0, q.1) (other (λ e. cc)) tells)
         by OutOfMemory gives refused other tells = Along-then _ _ _ _ _ _ so_far.run gives (λ i j n m p q.
             let some = Rest-some trace session.state so_far.count session.peak so_far.finite (now.to_come j) in
             ended checked last i j n some.0 p some.1 (refused refl some.0)
@@ -217,8 +228,9 @@ reports_nothing rule trace steps formula proof new checked was now same none qui
       fact = λ i j s t.
           let some = some_report rule trace i (steps j) in (
             record { report = some.0; reports = some.1; outcome = o some.0 },
-            record { unread = λ n. refl; past = λ words ending last whole e d. omega arith },
+            record { unread = λ n. refl; past = λ words ending last whole e d. omega arith; fault = λ offset e. omega arith },
             record { unread = λ n. none; refused = λ words ending whole is e. absurd (broken (inr is)); only = λ _. none; reason = TellsReason-none rule (formula_of i).clauses (steps j) checked quiet; malformed = TellsFault-none (formula_of i).fault (steps j).fault checked sound not },
+            unread_fault i formula formula refl,
           );
     })
   where
@@ -244,14 +256,15 @@ reads_no_further : (rule : Rule) (i : Input) (k : Suffix) (p : Proof) (old new :
     → bytes_read old new + 0 ≤ k.offset + 65536 → ReadsNoFurther rule (formula_of i) p old new
 reads_no_further rule i k p old new checked leaves within = record {
   unread = leaves.unread;
-  past = λ words ending last whole e d. by last (leaves.past words ending last whole e d);
+  past = λ words ending last whole e d. by last.offset (leaves.past words ending last whole e d);
+  fault = λ offset e. by offset (leaves.past_fault offset e);
 }
   where
-    by : (last : PlacedStep) → (new ≡ old) ⊎ (k.offset ≤ last.offset) → bytes_read old new ≤ last.offset + 65536
-    by last (inl same) =
-        let P : Reader → Type 0 = λ r. bytes_read old r ≤ last.offset + 65536 in
+    by : (offset : ℕ) → (new ≡ old) ⊎ (k.offset ≤ offset) → bytes_read old new ≤ offset + 65536
+    by offset (inl same) =
+        let P : Reader → Type 0 = λ r. bytes_read old r ≤ offset + 65536 in
         subst P (sym same) (omega arith)
-    by last (inr left) = omega (arith, left, within)
+    by offset (inr left) = omega (arith, left, within)
 
 -- a reader that was fresh was read
 module _ (rule : Rule) (trace : Bool) (to_come : ProofReading → Suffix → Proof) (steps : Input → Proof) (formula formula_new proof : Reader) (borrows : List ℕ) (source last : Stream) (new : Reader) (checked : Checked) (was now : Sink)
@@ -262,6 +275,7 @@ module _ (rule : Rule) (trace : Bool) (to_come : ProofReading → Suffix → Pro
   Did f x j k =
       (i : Input) → IsSeen f i → Reports rule trace i (to_come x j) was.held now.held checked.status
       × LeavesProof rule (formula_of i).fault (formula_of i).clauses (to_come x j) x.stream.reader last.reader k checked
+      × ReadsNoFurtherThanFault i formula formula_new
 
   pub reports_run : (reader : ProofReading) → reader ≡ fresh_reading source → (f : Seen formula formula_new)
       → Along reader.stream last (Did f reader)
@@ -278,10 +292,11 @@ module _ (rule : Rule) (trace : Bool) (to_come : ProofReading → Suffix → Pro
         second = Seen-run proof borrows last Q within;
         fact = λ i j s t.
             let S : Proof → Type 0 = λ p. Reports rule trace i p was.held now.held checked.status
-            × ReadsNoFurther rule (formula_of i) p proof last.reader × TellsWhy rule (formula_of i).fault (formula_of i).clauses p checked in
+            × ReadsNoFurther rule (formula_of i) p proof last.reader × TellsWhy rule (formula_of i).fault (formula_of i).clauses p checked
+            × ReadsNoFurtherThanFault i formula formula_new in
             let seen = Seen-fact proof borrows last Q within j t in
             let did = seen.2.0 i s in
-            subst S (all j) (did.0, reads_no_further rule i seen.0 (to_come fresh (from_start j)) proof last.reader checked did.1 seen.2.1, did.1.told);
+            subst S (all j) (did.0, reads_no_further rule i seen.0 (to_come fresh (from_start j)) proof last.reader checked did.1 seen.2.1, did.1.told, did.2);
       })
 
 -- the same report by the same rule of the same steps
@@ -292,7 +307,8 @@ reports_as rule other trace steps others formula formula_new proof new checked w
   second = reports.second;
   fact = λ i j s t.
       let P : Rule → Proof → Type 0 = λ q p. Reports q trace i p was.held now.held checked.status
-      × ReadsNoFurther q (formula_of i) p proof new × TellsWhy q (formula_of i).fault (formula_of i).clauses p checked in
+      × ReadsNoFurther q (formula_of i) p proof new × TellsWhy q (formula_of i).fault (formula_of i).clauses p checked
+      × ReadsNoFurtherThanFault i formula formula_new in
       let Q : Rule → Type 0 = λ q. P q (steps j) in
       subst (P other) (all j) (subst Q is (reports.fact i j s t));
 }

@@ -1,5 +1,5 @@
 -- A formula is judged by listed literals, clause by clause.
-use Rattle.std.proofs.Common.{◌≡◌, ℕ, zero, suc, ◌+◌, ◌-◌, ◌≤◌, cond, Bool, true, false, List, []}
+use Rattle.std.proofs.Common.{◌≡◌, ℕ, ◌+◌, ◌-◌, ◌≤◌, cond, Bool, true, false, List, []}
 use Rattle.std.proofs.Common.{◌∷◌, ◌++◌, length, Option, None, Some, refl, sym, ap, ◌∙◌, subst}
 use Rattle.std.proofs.Common.{arith}
 use Rattle.std.specs.Prelude.{Result, Ok, Err, slice_get}
@@ -10,13 +10,17 @@ use Rattle.cnf_base.specs.Stream.{Input, Suffix, Reader, Stream, Along, unread_s
 use Rattle.cnf_base.specs.declared.fault.Fault.{Fault}
 use Rattle.cnf_base.specs.declared.fault.Fault.TheVariants.{Text, Binary, ReadFailed, OutOfMemory}
 use Rattle.cnf_base.proofs.StreamLemmas.{Along-then, Along-map}
-use Rattle.dimacs.specs.Formula.{Body, Formula, formula_at, formula_of, clause_offsets_at}
-use Rattle.dimacs.specs.Reading.{FormulaReading, clauses_to_come, offsets_to_come, opened, unopened}
+use Rattle.dimacs.specs.Formula.{Body, Formula, formula_at, formula_of, ends_at}
+use Rattle.dimacs.specs.Reading.{FormulaReading, clauses_to_come, ends_to_come, opened, unopened}
+use Rattle.dimacs.specs.Reading.{PassesNoEnd}
+use Rattle.sat_check.specs.FormulaReach.{ReadsNoFurtherThanFault}
 use Rattle.sat_check.specs.ModelReport.{meets, first_unmet}
+use Rattle.sat_check.specs.Code.FormulaReach.{LeavesFault}
 use Rattle.sat_check.specs.Code.Judging.{Judges, LeavesUnmet, ReadsToUnmet}
 use Rattle.sat_check.specs.declared.judgement.Judgement.{Judgement}
 use Rattle.sat_check.specs.declared.judgement.Judgement.TheVariants.{Met, Unmet}
-use Rattle.sat_check.proofs.ReadLemmas.{length_push, with_clauses, seen_nothing, seen_run}
+use Rattle.sat_check.proofs.ReadLemmas.{length_push, with_clauses, seen_nothing, past_first}
+use Rattle.sat_check.proofs.ReadLemmas.{fault_left, unread_fault}
 use Rattle.sat_check.proofs.ReadLemmas.{seen_within, seen_map, Reads, Gave, NonePassed, FaultAfter}
 use Rattle.sat_check.proofs.ReadLemmas.{Reads-start, Reads-clause, Reads-done, Reads-fault}
 
@@ -41,18 +45,12 @@ unmet_least k listed (c ∷ cs) m h = by (meets listed c) h (λ g. unmet_least (
     by true h next = let later = next h in omega (arith, later)
     by false h next = let e : Some k ≡ Some m = h in let same : k ≡ m = cc in omega (arith, same)
 
--- past the first numbers stand the others
-past_first : (xs ys : List ℕ) (n m : ℕ) → n ≡ length xs + m → slice_get (xs ++ ys) n ≡ slice_get ys m
-past_first [] ys n m e = ap (slice_get ys) (let same : n ≡ m = omega (arith, e) in same)
-past_first (x ∷ xs) ys zero m e = absurd (omega (arith, e))
-past_first (x ∷ xs) ys (suc n) m e = past_first xs ys n m (omega (arith, e))
-
 -- after clauses that are met, where no end of the others was passed, that of the first one that isn't met wasn't
 not_passed : (listed : List Literal) (read : List Clause) (old : FormulaReading) (i k : Suffix) → first_unmet 1 listed read ≡ None → NonePassed old read i k
-    → LeavesUnmet listed (clauses_to_come old i).clauses (offsets_to_come old i) k
+    → LeavesUnmet listed (clauses_to_come old i).clauses (ends_to_come old i) k
 not_passed listed read old i k met passed m offset unmet at =
     let later = passed.0 in
-    let offsets = passed.1 in
+    let ends = passed.1 in
     let on = passed.2 in
     let first = on.1.0 in
     let among : first_unmet (1 + length read) listed later.clauses ≡ Some m =
@@ -60,7 +58,7 @@ not_passed listed read old i k met passed m offset unmet at =
     let least : 1 + length read ≤ m = unmet_least (1 + length read) listed later.clauses m among in
     let same : length first ≡ length read = on.1.1 in
     let index : m - 1 ≡ length first + (m - 1 - length first) = omega (arith, least, same) in
-    passed.3 (m - 1 - length first) offset (sym (past_first first offsets (m - 1) (m - 1 - length first) index) ∙ sym (ap (λ r. slice_get r (m - 1)) on.1.2) ∙ at)
+    passed.3 (m - 1 - length first) offset (sym (past_first first ends (m - 1) (m - 1 - length first) index) ∙ sym (ap (λ r. slice_get r (m - 1)) on.1.2) ∙ at)
 
 -- from one moment to another so many clauses were read, and are met
 pub record Judging (listed : List Literal) (old now : FormulaReading) (met : ℕ) : Type 0 where
@@ -86,10 +84,10 @@ module _ (listed : List Literal) (old now new : FormulaReading) (met : ℕ) (so_
     count = ap (λ n. n + 1) so_far.count ∙ sym (length_push so_far.clauses c);
   }
 
-  -- what is found of the clauses, and that no more was read than the first that isn't met
+  -- what is found of the clauses, and that no more was read than the first that isn't met, nor than the token at fault
   abbrev Judged : Result Judgement Fault → Type 0
   Judged result = Along old.stream new.stream (λ i j. Judges listed result (clauses_to_come old i).clauses (clauses_to_come old i).fault
-      × LeavesUnmet listed (clauses_to_come old i).clauses (offsets_to_come old i) j)
+      × LeavesUnmet listed (clauses_to_come old i).clauses (ends_to_come old i) j × LeavesFault (clauses_to_come old i).clauses (ends_to_come old i) j)
 
   pub Judging-unmet : Gave now new (Ok true) c → meets listed c ≡ false → Judged (Ok (Unmet (met + 1)))
   Judging-unmet gives is = Along-then _ _ _ _ _ _ so_far.reads.run gives (λ i j k m p q. (
@@ -97,7 +95,8 @@ module _ (listed : List Literal) (old now new : FormulaReading) (met : ℕ) (so_
         ∙ first_unmet-append 1 listed so_far.clauses (c ∷ (clauses_to_come new k).clauses) so_far.all
         ∙ ap (λ b. cond b (first_unmet (1 + length so_far.clauses + 1) listed (clauses_to_come new k).clauses) (Some (1 + length so_far.clauses))) is
         ∙ ap Some number,
-    not_passed listed so_far.clauses old i k so_far.all (clauses_to_come now j, offsets_to_come now j, p, q.1.1),
+    not_passed listed so_far.clauses old i k so_far.all (clauses_to_come now j, ends_to_come now j, p, q.1.1),
+    fault_left so_far.clauses old i k (clauses_to_come now j, ends_to_come now j, p, q.1.1),
   ))
     where
       number : 1 + length so_far.clauses ≡ met + 1
@@ -107,6 +106,7 @@ module _ (listed : List Literal) (old now new : FormulaReading) (met : ℕ) (so_
   Judging-done gives = Along-map _ _ _ _ (Reads-done old now new so_far.clauses so_far.reads c gives) (λ i j m e. (
     (ap (λ b. first_unmet 1 listed b.clauses) e.0 ∙ so_far.all, so_far.count ∙ sym (ap (λ b. length b.clauses) e.0), ap (λ b. b.fault) e.0),
     not_passed listed so_far.clauses old i j so_far.all e.1,
+    fault_left so_far.clauses old i j e.1,
   ))
 
   pub Judging-fault : (f : Fault) (result : Result Judgement Fault) → result ≡ Err f
@@ -115,6 +115,7 @@ module _ (listed : List Literal) (old now new : FormulaReading) (met : ℕ) (so_
       subst Judged (sym is) (Along-map _ _ _ _ (Reads-fault old now new so_far.clauses so_far.reads c f gives) (λ i j m e. (
         by f (clauses_to_come old i) e.0,
         not_passed listed so_far.clauses old i j so_far.all e.1,
+        fault_left so_far.clauses old i j e.1,
       )))
     where
       by : (f : Fault) (b : Body) → FaultAfter so_far.clauses f b → Judges listed (Err f) b.clauses b.fault
@@ -129,7 +130,7 @@ abbrev pub JudgesFormula : List Literal → Result Judgement Fault → Formula �
 JudgesFormula listed result f = Judges listed result f.clauses f.fault
 
 abbrev pub AllJudges : List Literal → Reader → Reader → Result Judgement Fault → Type 0
-AllJudges listed left new result = OfSeen left new (λ i. JudgesFormula listed result (formula_of i) × ReadsToUnmet listed i left new)
+AllJudges listed left new result = OfSeen left new (λ i. JudgesFormula listed result (formula_of i) × ReadsToUnmet listed i left new × ReadsNoFurtherThanFault i left new)
 
 -- where nothing was read no end was passed
 pub unread_unmet : (listed : List Literal) (i : Input) (left new : Reader) → left ≡ new → ReadsToUnmet listed i left new
@@ -141,18 +142,23 @@ unread_unmet listed i left new same k offset unmet at =
 pub judges_refused : (listed : List Literal) (left new : Reader) (result : Result Judgement Fault) → left ≡ new → result ≡ Err OutOfMemory → AllJudges listed left new result
 judges_refused listed left new result same is =
     let P : Result Judgement Fault → Type 0 = AllJudges listed left new in
-    subst P (sym is) (seen_nothing (λ i. JudgesFormula listed (Err OutOfMemory) (formula_of i) × ReadsToUnmet listed i left new) left new same
-    (λ i. (tt, unread_unmet listed i left new same)))
+    subst P (sym is) (seen_nothing (λ i. JudgesFormula listed (Err OutOfMemory) (formula_of i) × ReadsToUnmet listed i left new × ReadsNoFurtherThanFault i left new) left new same
+    (λ i. (tt, unread_unmet listed i left new same, unread_fault i left new same)))
 
 module _ (listed : List Literal) (left : Reader) (borrows : List ℕ) (source : Stream) (is : source ≡ unread_stream left borrows)
     (last : Stream) (new : Reader) (kept : new ≡ last.reader) where
   -- the header has a fault
-  pub judges_fault : (f : Fault) → Along source last (λ i j. formula_at source.place i ≡ unopened f) → AllJudges listed left new (Err f)
+  pub judges_fault : (f : Fault) → Along source last (λ i j. (formula_at source.place i ≡ unopened f) × PassesNoEnd (ends_at source.place i) j) → AllJudges listed left new (Err f)
   judges_fault f run =
       let P : Formula → Type 0 = λ x. JudgesFormula listed (Err f) x × (first_unmet 1 listed x.clauses ≡ None) in
-      seen_map left new (λ i. P (formula_of i)) (λ i. JudgesFormula listed (Err f) (formula_of i) × ReadsToUnmet listed i left new)
-      (seen_run (λ p i. P (formula_at p i)) left borrows source last new is kept (Along-map _ _ _ _ run (λ i j m e. subst P (sym e) (by f, refl))))
-      (λ i x. (x.0, λ k offset unmet at. absurd (none-some k (sym x.1 ∙ unmet))))
+      seen_map left new _ (λ i. JudgesFormula listed (Err f) (formula_of i) × ReadsToUnmet listed i left new × ReadsNoFurtherThanFault i left new)
+      (seen_within (λ p i j. P (formula_at p i) × LeavesFault (formula_at p i).clauses (ends_at p i) j) left borrows source last new is kept
+      (Along-map _ _ _ _ run (λ i j m e. (subst P (sym e.0) (by f, refl), λ offset at. e.1 _ offset at))))
+      (λ i x. (
+        x.1.0.0,
+        λ k offset unmet at. absurd (none-some k (sym x.1.0.1 ∙ unmet)),
+        λ offset at. let rest = x.1.1 offset at in omega (arith, rest, x.2),
+      ))
     where
       by : (f : Fault) → JudgesFormula listed (Err f) (unopened f)
       by (Text k p) = (refl, refl)
@@ -161,15 +167,20 @@ module _ (listed : List Literal) (left : Reader) (borrows : List ℕ) (source : 
       by OutOfMemory = tt
 
   -- the clauses were judged
-  pub judges_body : (r : FormulaReading) (result : Result Judgement Fault) → Along source r.stream (λ i j. (formula_at source.place i ≡ opened r.header (clauses_to_come r j)) × (clause_offsets_at source.place i ≡ offsets_to_come r j))
-      → Along r.stream last (λ i j. Judges listed result (clauses_to_come r i).clauses (clauses_to_come r i).fault × LeavesUnmet listed (clauses_to_come r i).clauses (offsets_to_come r i) j)
+  pub judges_body : (r : FormulaReading) (result : Result Judgement Fault) → Along source r.stream (λ i j. (formula_at source.place i ≡ opened r.header (clauses_to_come r j)) × (ends_at source.place i ≡ ends_to_come r j))
+      → Along r.stream last (λ i j. Judges listed result (clauses_to_come r i).clauses (clauses_to_come r i).fault × LeavesUnmet listed (clauses_to_come r i).clauses (ends_to_come r i) j
+      × LeavesFault (clauses_to_come r i).clauses (ends_to_come r i) j)
       → AllJudges listed left new result
   judges_body r result opens body =
-      let P : Formula → List ℕ → Suffix → Type 0 = λ x offsets j. JudgesFormula listed result x × LeavesUnmet listed x.clauses offsets j in
-      seen_map left new _ (λ i. JudgesFormula listed result (formula_of i) × ReadsToUnmet listed i left new)
-      (seen_within (λ p i j. P (formula_at p i) (clause_offsets_at p i) j) left borrows source last new is kept
+      let P : Formula → List ℕ → Suffix → Type 0 = λ x ends j. JudgesFormula listed result x × LeavesUnmet listed x.clauses ends j × LeavesFault x.clauses ends j in
+      seen_map left new _ (λ i. JudgesFormula listed result (formula_of i) × ReadsToUnmet listed i left new × ReadsNoFurtherThanFault i left new)
+      (seen_within (λ p i j. P (formula_at p i) (ends_at p i) j) left borrows source last new is kept
       (Along-then _ _ _ _ _ _ opens body (λ i j k m e q.
-      let Q : Formula → Type 0 = λ x. P x (offsets_to_come r j) k in
-      let R : List ℕ → Type 0 = λ offsets. P (formula_at source.place i) offsets k in
+      let Q : Formula → Type 0 = λ x. P x (ends_to_come r j) k in
+      let R : List ℕ → Type 0 = λ ends. P (formula_at source.place i) ends k in
       subst R (sym e.1) (subst Q (sym e.0) q))))
-      (λ i x. (x.1.0, λ k offset unmet at. let later = x.1.1 k offset unmet at in omega (arith, later, x.2)))
+      (λ i x. (
+        x.1.0,
+        λ k offset unmet at. let later = x.1.1 k offset unmet at in omega (arith, later, x.2),
+        λ offset at. let later = x.1.2 offset at in omega (arith, later, x.2),
+      ))

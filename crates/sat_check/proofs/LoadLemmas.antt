@@ -11,13 +11,15 @@ use Rattle.std.proofs.lemmas.List.Folds.{list_any-append}
 use Rattle.std.proofs.lemmas.List.Sums.{sum_by-append}
 use Rattle.cnf_base.specs.Literals.{Clause, same_clause, size}
 use Rattle.cnf_base.specs.Code.Seen.{OfSeen}
-use Rattle.cnf_base.specs.Stream.{Reader, Stream, Along, unread_stream}
+use Rattle.cnf_base.specs.Stream.{Suffix, Reader, Stream, Along, unread_stream}
+use Rattle.cnf_base.specs.declared.place.Place.{Place}
 use Rattle.cnf_base.specs.declared.fault.Fault.{Fault}
 use Rattle.cnf_base.specs.declared.fault.Fault.TheVariants.{Text, Binary, ReadFailed, OutOfMemory}
 use Rattle.cnf_base.proofs.StreamLemmas.{Along-then, Along-map}
-use Rattle.dimacs.specs.Formula.{Body, Formula, formula_at, formula_of, clause_offsets_at}
+use Rattle.dimacs.specs.Formula.{Body, Formula, formula_at, formula_of, ends_at}
 use Rattle.dimacs.specs.declared.header.Header.{Header}
-use Rattle.dimacs.specs.Reading.{FormulaReading, clauses_to_come, offsets_to_come, opened, unopened}
+use Rattle.dimacs.specs.Reading.{FormulaReading, clauses_to_come, ends_to_come, opened, unopened}
+use Rattle.dimacs.specs.Reading.{PassesNoEnd}
 use Rattle.steps.specs.Session.{SessionState, fresh, view_of}
 use Rattle.theory.specs.Rules.{Rule, lrat, drat, State, by_ids, by_copies, start, with_input}
 use Rattle.theory.specs.Rules.{sum_of, Same, rule_of}
@@ -34,10 +36,12 @@ use Rattle.theory.proofs.LawLemmas.Rules.{same_trans, sum_same}
 use Rattle.theory.proofs.LratLemmas.SameSets.{with_same}
 use Rattle.theory.proofs.LratLemmas.States.{numbered_push}
 use Rattle.theory.proofs.LratLemmas.Sums.{sum_with}
+use Rattle.sat_check.specs.FormulaReach.{ReadsNoFurtherThanFault}
 use Rattle.sat_check.specs.Code.Checking.{IsLoaded, LoadsBody, Loads}
-use Rattle.sat_check.proofs.ReadLemmas.{length_push, seen_nothing, seen_run, Reads, Gave}
-use Rattle.sat_check.proofs.ReadLemmas.{FaultAfter, Reads-start, Reads-clause, Reads-done}
-use Rattle.sat_check.proofs.ReadLemmas.{Reads-fault}
+use Rattle.sat_check.specs.Code.FormulaReach.{LeavesFault}
+use Rattle.sat_check.proofs.ReadLemmas.{length_push, seen_nothing, seen_within, seen_map, Reads}
+use Rattle.sat_check.proofs.ReadLemmas.{Gave, FaultAfter, Reads-start, Reads-clause, Reads-done}
+use Rattle.sat_check.proofs.ReadLemmas.{Reads-fault, fault_left, opened_left, unread_fault}
 
 -- no clause has a number past the last
 -- one clause more, and its size more
@@ -151,18 +155,22 @@ module _ (rule : Rule) (old now new : FormulaReading) (s : View) (so_far : Loadi
       → IsLoaded rule t (so_far.clauses ++ c ∷ []) → new.complete ≡ now.complete + 1 → new.header ≡ now.header → Loading rule old new t
   Loading-clause t c gives loaded count header = record { clauses = so_far.clauses ++ c ∷ []; reads = Reads-clause old now new so_far.clauses so_far.reads c gives count header; loaded = loaded }
 
+  -- what was loaded of the clauses that were to come, and that the token at fault wasn't passed
+  abbrev pub Body-loaded : View → Result (Unit {0}) Fault → Suffix → Suffix → Type 0
+  Body-loaded t result i j = LoadsBody rule t result (clauses_to_come old i) × LeavesFault (clauses_to_come old i).clauses (ends_to_come old i) j
+
   pub Loading-done : (c : Clause) → Gave now new (Ok false) c
-      → Along old.stream new.stream (λ i j. LoadsBody rule s (Ok tt) (clauses_to_come old i))
+      → Along old.stream new.stream (Body-loaded s (Ok tt))
   Loading-done c gives = Along-map _ _ _ _ (Reads-done old now new so_far.clauses so_far.reads c gives) (λ i j m e.
       let P : List Clause → Type 0 = IsLoaded rule s in
-      (ap (λ b. b.fault) e.0, subst P (sym (ap (λ b. b.clauses) e.0)) so_far.loaded))
+      ((ap (λ b. b.fault) e.0, subst P (sym (ap (λ b. b.clauses) e.0)) so_far.loaded), fault_left so_far.clauses old i j e.1))
 
   pub Loading-fault : (t : View) (c : Clause) (f : Fault) (result : Result (Unit {0}) Fault) → result ≡ Err f
       → Gave now new (Err f) c
-      → Along old.stream new.stream (λ i j. LoadsBody rule t result (clauses_to_come old i))
+      → Along old.stream new.stream (Body-loaded t result)
   Loading-fault t c f result is gives =
-      let P : Result (Unit {0}) Fault → Type 0 = λ r. Along old.stream new.stream (λ i j. LoadsBody rule t r (clauses_to_come old i)) in
-      subst P (sym is) (Along-map _ _ _ _ (Reads-fault old now new so_far.clauses so_far.reads c f gives) (λ i j m e. by f (clauses_to_come old i) e.0))
+      let P : Result (Unit {0}) Fault → Type 0 = λ r. Along old.stream new.stream (Body-loaded t r) in
+      subst P (sym is) (Along-map _ _ _ _ (Reads-fault old now new so_far.clauses so_far.reads c f gives) (λ i j m e. (by f (clauses_to_come old i) e.0, fault_left so_far.clauses old i j e.1)))
     where
       by : (f : Fault) (b : Body) → FaultAfter so_far.clauses f b → LoadsBody rule t (Err f) b
       by (Text k p) b e = ap (λ b. b.fault) e
@@ -171,24 +179,33 @@ module _ (rule : Rule) (old now new : FormulaReading) (s : View) (so_far : Loadi
       by OutOfMemory b e = tt
 
   pub Loading-refused : (t : View) (c : Clause) → Gave now new (Ok true) c
-      → Along old.stream new.stream (λ i j. LoadsBody rule t (Err OutOfMemory) (clauses_to_come old i))
-  Loading-refused t c gives = Along-then _ _ _ _ _ _ so_far.reads.run gives (λ i j k m p q. tt)
+      → Along old.stream new.stream (Body-loaded t (Err OutOfMemory))
+  Loading-refused t c gives =
+      Along-then _ _ _ _ _ _ so_far.reads.run gives (λ i j k m p q. (tt, fault_left so_far.clauses old i k (clauses_to_come now j, ends_to_come now j, p, q.1.1)))
 
 -- ---- A whole formula
 
 abbrev pub AllLoads : Rule → View → Reader → Reader → Result Header Fault → Type 0
-AllLoads rule s left new result = OfSeen left new (λ i. Loads rule s result (formula_of i))
+AllLoads rule s left new result = OfSeen left new (λ i. Loads rule s result (formula_of i) × ReadsNoFurtherThanFault i left new)
 
 -- nothing was read
 pub loads_refused : (rule : Rule) (s : View) (left new : Reader) (result : Result Header Fault) → left ≡ new → result ≡ Err OutOfMemory → AllLoads rule s left new result
 loads_refused rule s left new result same is =
     let P : Result Header Fault → Type 0 = AllLoads rule s left new in
-    subst P (sym is) (seen_nothing (λ i. Loads rule s (Err OutOfMemory) (formula_of i)) left new same (λ i. tt))
+    subst P (sym is) (seen_nothing (λ i. Loads rule s (Err OutOfMemory) (formula_of i) × ReadsNoFurtherThanFault i left new) left new same
+    (λ i. (tt, unread_fault i left new same)))
 
 module _ (rule : Rule) (s : View) (left : Reader) (borrows : List ℕ) (source : Stream) (is : source ≡ unread_stream left borrows) where
+  -- what was loaded of a formula from a place on, and that the token at fault wasn't passed
+  abbrev Loaded : Result Header Fault → Place → Suffix → Suffix → Type 0
+  Loaded result p i j = Loads rule s result (formula_at p i) × LeavesFault (formula_at p i).clauses (ends_at p i) j
+
   all_loads : (last : Stream) (new : Reader) (result : Result Header Fault) → new ≡ last.reader
-      → Along source last (λ i j. Loads rule s result (formula_at source.place i)) → AllLoads rule s left new result
-  all_loads last new result kept run = seen_run (λ p i. Loads rule s result (formula_at p i)) left borrows source last new is kept run
+      → Along source last (Loaded result source.place) → AllLoads rule s left new result
+  all_loads last new result kept run =
+      seen_map left new _ (λ i. Loads rule s result (formula_of i) × ReadsNoFurtherThanFault i left new)
+      (seen_within (Loaded result) left borrows source last new is kept run)
+      (λ i x. (x.1.0, λ offset at. let left = x.1.1 offset at in omega (arith, left, x.2)))
 
   fault_loads : (f : Fault) (x : Formula) → x.fault ≡ Some f → Loads rule s (Err f) x
   fault_loads (Text k p) x e = e
@@ -202,18 +219,31 @@ module _ (rule : Rule) (s : View) (left : Reader) (borrows : List ℕ) (source :
   body_fault ReadFailed x h b e l = ap (λ y. y.fault) e ∙ l
   body_fault OutOfMemory x h b e l = tt
 
-  pub loads_fault : (f : Fault) (last : Stream) (new : Reader) → new ≡ last.reader → Along source last (λ i j. formula_at source.place i ≡ unopened f) → AllLoads rule s left new (Err f)
-  loads_fault f last new kept run = all_loads last new (Err f) kept (Along-map _ _ _ _ run (λ i j m p. fault_loads f _ (ap (λ y. y.fault) p)))
+  pub loads_fault : (f : Fault) (last : Stream) (new : Reader) → new ≡ last.reader
+      → Along source last (λ i j. (formula_at source.place i ≡ unopened f) × PassesNoEnd (ends_at source.place i) j) → AllLoads rule s left new (Err f)
+  loads_fault f last new kept run = all_loads last new (Err f) kept (Along-map _ _ _ _ run (λ i j m p. (
+    fault_loads f _ (ap (λ y. y.fault) p.0),
+    λ offset at. p.1 _ offset at,
+  )))
 
   module _ (r : FormulaReading) (last : Stream) (new : Reader) (kept : new ≡ last.reader)
-      (opens : Along source r.stream (λ i j. (formula_at source.place i ≡ opened r.header (clauses_to_come r j)) × (clause_offsets_at source.place i ≡ offsets_to_come r j))) where
-    pub loads_body : (h : Header) → h ≡ r.header → Along r.stream last (λ i j. LoadsBody rule s (Ok tt) (clauses_to_come r i)) → AllLoads rule s left new (Ok h)
-    loads_body h same body = all_loads last new (Ok h) kept (Along-then _ _ _ _ _ _ opens body (λ i j k m p q.
-        let P : List Clause → Type 0 = IsLoaded rule s in
-        (ap (λ y. y.header) p.0 ∙ ap Some (sym same), ap (λ y. y.fault) p.0 ∙ q.0, subst P (sym (ap (λ y. y.clauses) p.0)) q.1)))
+      (opens : Along source r.stream (λ i j. (formula_at source.place i ≡ opened r.header (clauses_to_come r j)) × (ends_at source.place i ≡ ends_to_come r j))) where
+    -- what was loaded of the clauses that were to come
+    abbrev Rest : Result (Unit {0}) Fault → Type 0
+    Rest result = Along r.stream last (λ i j. LoadsBody rule s result (clauses_to_come r i) × LeavesFault (clauses_to_come r i).clauses (ends_to_come r i) j)
 
-    pub loads_body_fault : (f : Fault) (result : Result Header Fault) → result ≡ Err f → Along r.stream last (λ i j. LoadsBody rule s (Err f) (clauses_to_come r i))
+    pub loads_body : (h : Header) → h ≡ r.header → Rest (Ok tt) → AllLoads rule s left new (Ok h)
+    loads_body h same body = all_loads last new (Ok h) kept (Along-then _ _ _ _ _ _ opens body (λ i j k m p q.
+        let P : List Clause → Type 0 = IsLoaded rule s in (
+          (ap (λ y. y.header) p.0 ∙ ap Some (sym same), ap (λ y. y.fault) p.0 ∙ q.0.0, subst P (sym (ap (λ y. y.clauses) p.0)) q.0.1),
+          opened_left _ r.header (clauses_to_come r j) _ (ends_to_come r j) k p.0 p.1 q.1,
+        )))
+
+    pub loads_body_fault : (f : Fault) (result : Result Header Fault) → result ≡ Err f → Rest (Err f)
         → AllLoads rule s left new result
     loads_body_fault f result is body =
         let P : Result Header Fault → Type 0 = AllLoads rule s left new in
-        subst P (sym is) (all_loads last new (Err f) kept (Along-then _ _ _ _ _ _ opens body (λ i j k m p q. body_fault f _ r.header _ p.0 q)))
+        subst P (sym is) (all_loads last new (Err f) kept (Along-then _ _ _ _ _ _ opens body (λ i j k m p q. (
+          body_fault f _ r.header _ p.0 q.0,
+          opened_left _ r.header (clauses_to_come r j) _ (ends_to_come r j) k p.0 p.1 q.1,
+        ))))

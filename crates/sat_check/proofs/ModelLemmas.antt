@@ -13,9 +13,10 @@ use Rattle.cnf_base.proofs.SetLemmas.{any_from, any_some}
 use Rattle.cnf_base.specs.Seen.{OfBothSeen}
 use Rattle.cnf_base.specs.Stream.{Input, Reader, bytes_read}
 use Rattle.dimacs.specs.Claim.{claim_of, IsClaim, IsConsistent}
-use Rattle.dimacs.specs.Formula.{Formula, formula_of, clause_offsets}
-use Rattle.dimacs.proofs.OffsetLemmas.{clause_offsets-length}
+use Rattle.dimacs.specs.Formula.{Formula, formula_of, ends_of}
+use Rattle.dimacs.proofs.OffsetLemmas.{ends_of-length}
 use Rattle.theory.specs.Models.{Assignment, holds, satisfies, HasModel}
+use Rattle.sat_check.specs.FormulaReach.{ReadsNoFurtherThanFault}
 use Rattle.sat_check.specs.Lines.{a_model, fault_line, fault_status}
 use Rattle.sat_check.specs.Report.{Outcome, Report, concluded}
 use Rattle.sat_check.specs.ModelReport.{meets, first_unmet, met_report, clauses_report}
@@ -31,6 +32,7 @@ use Rattle.sat_check.specs.declared.status.Status.{Status}
 use Rattle.sat_check.specs.declared.status.Status.TheVariants.{Verified, NotVerified, Malformed}
 use Rattle.sat_check.specs.declared.status.Status.TheVariants.{OutOfMemory as NoMemory}
 use Rattle.sat_check.proofs.JudgeLemmas.{unread_unmet}
+use Rattle.sat_check.proofs.ReadLemmas.{unread_fault}
 use Rattle.sat_check.proofs.OutcomeLemmas.{both_told}
 use Rattle.sat_check.proofs.SoundLemmas.{fault_is_no_verdict, outcome_verified, outcome_complete}
 
@@ -306,15 +308,15 @@ unmet_bound k listed (c ∷ cs) m h = by (meets listed c) h (λ g. unmet_bound (
 
 -- and it ends with a `0`
 unmet_offset : (listed : List Literal) (i : Input) (k : ℕ) → first_unmet 1 listed (formula_of i).clauses ≡ Some k
-    → (offset : ℕ) × (slice_get (clause_offsets i) (k - 1) ≡ Some offset)
+    → (offset : ℕ) × (slice_get (ends_of i) (k - 1) ≡ Some offset)
 unmet_offset listed i k unmet =
     let bound = unmet_bound 1 listed (formula_of i).clauses k unmet in
-    let many = clause_offsets-length i in
-    some_at (clause_offsets i) (k - 1) (omega (arith, bound.0, bound.1, many))
+    let many = ends_of-length i in
+    some_at (ends_of i) (k - 1) (omega (arith, bound.0, bound.1, many))
 
 -- how far a formula was read of which the claim's literals are judged
 reads_no_further : (listed : List Literal) (i : Input) (old new : Reader) → ReadsToUnmet listed i old new → (k : ℕ) → first_unmet 1 listed (formula_of i).clauses ≡ Some k
-    → (offset : ℕ) × (slice_get (clause_offsets i) (k - 1) ≡ Some offset) × (bytes_read old new ≤ offset + 65536)
+    → (offset : ℕ) × (slice_get (ends_of i) (k - 1) ≡ Some offset) × (bytes_read old new ≤ offset + 65536)
 reads_no_further listed i old new reads k unmet = let at = unmet_offset listed i k unmet in (at.0, at.1, reads k at.0 unmet at.1)
 
 -- the formula is left where it isn't looked at
@@ -322,15 +324,17 @@ pub formula_left : (claim : Result (List ℕ) Fault) (i : Input) (reader : Reade
 formula_left claim i reader = record {
   unread = λ f is. refl;
   past = λ listed k is unmet. reads_no_further listed i reader reader (unread_unmet listed i reader reader refl) k unmet;
+  fault = unread_fault i reader reader refl;
 }
 
 -- a model that was claimed is no fault, and its literals are the claim's
 pub formula_needed : (model : List ℕ) (claim : Result (List ℕ) Fault) (i : Input) (old new : Reader) → IsClaim (Ok model) claim → ReadsToUnmet model i old new
-    → ReadsFormulaNoFurther claim i old new
-formula_needed model claim i old new same reads = record {
+    → ReadsNoFurtherThanFault i old new → ReadsFormulaNoFurther claim i old new
+formula_needed model claim i old new same reads fault = record {
   unread = λ f is. absurd (let P : Result (List ℕ) Fault → Type 0 = IsClaim (Ok model) in subst P is same);
   past = λ listed k is unmet.
       let P : Result (List ℕ) Fault → Type 0 = IsClaim (Ok model) in
       let alike = first_unmet_same 1 model listed (subst P is same) (formula_of i).clauses in
       reads_no_further listed i old new (λ m offset e at. reads m offset (alike ∙ e) at) k unmet;
+  fault = fault;
 }

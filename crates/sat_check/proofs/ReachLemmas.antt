@@ -74,7 +74,7 @@ pub not_passed : (p : Proof) (rest : Suffix) → PassesNoEnd p rest → (words :
     → deciding_step p.steps words ending ≡ Some last → rest.offset ≤ last.offset
 not_passed p rest reach words ending last d =
     let at = deciding_among p.steps words ending last d in
-    reach at.0 last at.1
+    reach.steps at.0 last at.1
 
 -- no fault is told where no input is malformed
 pub TellsFault-none : (formula second : Option Fault) (checked : Checked) → checked.fault ≡ None → (checked.status ≡ Malformed → ⊥) → TellsFault formula second checked
@@ -103,9 +103,11 @@ pub told_not : (s : Status) (now : Sink) → IsTold s now → s ≡ Malformed �
 told_not s now told m = let P : Status → Type 0 = λ x. IsTold x now in subst P m told
 
 -- no step decides where none is to come
-pub LeavesRest-none : (s : View) (fault : Option Fault) (rest : Suffix) (checked : Checked) → checked.refused ≡ None → checked.reason_deleted ≡ false → TellsFault None fault checked → LeavesRest s (record { steps = []; fault = fault }) rest checked
-LeavesRest-none s fault rest checked none quiet tells = record {
+pub LeavesRest-none : (s : View) (fault : Option Fault) (end : Option ℕ) (rest : Suffix) (checked : Checked) → checked.refused ≡ None → checked.reason_deleted ≡ false → TellsFault None fault checked
+    → PassesNoEnd (record { steps = []; fault = fault; fault_end = end }) rest → LeavesRest s (record { steps = []; fault = fault; fault_end = end }) rest checked
+LeavesRest-none s fault end rest checked none quiet tells reach = record {
   past = λ words ending last e d. by words ending last e d;
+  past_fault = reach.fault;
   refused = λ words ending is e. none ∙ no_end words ending e;
   only = λ _. none;
   reason = λ told. absurd (not_told checked quiet told);
@@ -130,6 +132,7 @@ pub LeavesRest-broken : (s : View) (p : Proof) (rest : Suffix) (checked : Checke
     → LeavesRest s p rest checked
 LeavesRest-broken s p rest checked none quiet broken tells reach = record {
   past = λ words ending last e d. not_passed p rest reach words ending last d;
+  past_fault = reach.fault;
   refused = λ words ending is e. absurd (broken (inr is));
   only = λ _. none;
   reason = λ told. absurd (not_told checked quiet told);
@@ -148,6 +151,7 @@ module _ (s : View) (step : Step) (end : StepEnd) (offset : ℕ) (p : Proof) (re
       → PassesNoEnd (with_step step end offset p) rest → LeavesRest s (with_step step end offset p) rest checked
   LeavesRest-decided refuses told only reason tells reach = record {
     past = λ words ending last e d. not_passed (with_step step end offset p) rest reach words ending last d;
+    past_fault = reach.fault;
     refused = λ words ending v e. told v ∙ ended (refuses v) words ending e;
     only = only;
     reason = λ t. ap is_some (told (reason t).0);
@@ -166,6 +170,7 @@ module _ (s : View) (step : Step) (end : StepEnd) (offset : ℕ) (p : Proof) (re
       → LeavesRest t p rest checked → LeavesRest s (with_step step end offset p) rest checked
   LeavesRest-step t word a not_last same reason later = record {
     past = λ words ending last e d. by words ending last e d;
+    past_fault = later.past_fault;
     refused = λ words ending v e. ended words ending v e;
     only = later.only;
     reason = later.reason;
@@ -174,7 +179,7 @@ module _ (s : View) (step : Step) (end : StepEnd) (offset : ℕ) (p : Proof) (re
   }
     where
       -- the same step decides among the later ones
-      later_step : (ps : List PlacedStep) (w : Accepted) (ws : List Accepted) (ending : Ending) → Ends t.state (bare_steps (record { steps = ps; fault = p.fault })) ws ending
+      later_step : (ps : List PlacedStep) (w : Accepted) (ws : List Accepted) (ending : Ending) → Ends t.state (bare_steps (record { steps = ps; fault = p.fault; fault_end = p.fault_end })) ws ending
           → deciding_step (here ∷ ps) (w ∷ ws) ending ≡ deciding_step ps ws ending
       later_step [] w [] verified e = absurd (cc)
       later_step (x ∷ ps) w [] verified e = absurd (let bad = e.1 in cc)
@@ -229,6 +234,7 @@ module _ (rule : Rule) (fault : Option Fault) (clauses : List Clause) (p : Proof
   LeavesProof-broken broken = record {
     unread = λ n. refl;
     past = λ words ending last whole e d. inl refl;
+    past_fault = λ offset e. inl refl;
     told = record { unread = λ n. none; refused = λ words ending whole is e. absurd (broken (inr is)); only = λ _. none; reason = TellsReason-none rule clauses p checked quiet; malformed = tells };
   }
 
@@ -237,6 +243,7 @@ module _ (rule : Rule) (fault : Option Fault) (clauses : List Clause) (p : Proof
   LeavesProof-empty empty = record {
     unread = λ n. refl;
     past = λ words ending last whole e d. inl refl;
+    past_fault = λ offset e. inl refl;
     told = record {
       unread = λ n. none;
       refused = λ words ending whole v e.
@@ -254,6 +261,7 @@ pub LeavesProof-checked : (rule : Rule) (s : View) (clauses : List Clause) (l : 
 LeavesProof-checked rule s clauses l p old new rest checked unverified leaves = record {
   unread = λ n. absurd (needed n);
   past = λ words ending last whole e d. inr (leaves.past words ending last (ends words ending e) d);
+  past_fault = λ offset e. inr (leaves.past_fault offset e);
   told = record {
     unread = λ n. absurd (needed n);
     refused = λ words ending whole v e. leaves.refused words ending v (ends words ending e);
@@ -291,6 +299,7 @@ LeavesProof-fault rule s f i p reader rest checked none quiet loads broken malfo
     faulty f is malformed = record {
       unread = λ n. refl;
       past = λ words ending last whole e d. inl refl;
+      past_fault = λ offset e. inl refl;
       told = record {
         unread = λ n. none;
         refused = λ words ending whole v e. absurd (none-some f (sym whole ∙ is));

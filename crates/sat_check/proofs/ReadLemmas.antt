@@ -1,8 +1,8 @@
 -- What was read of an input, and of a formula clause by clause.
-use Rattle.std.proofs.Common.{◌≡◌, ℕ, ◌+◌, ◌≤◌, Bool, true, false, List, [], ◌∷◌, ◌++◌, length}
+use Rattle.std.proofs.Common.{◌≡◌, ℕ, zero, suc, ◌+◌, ◌≤◌, Bool, true, false, List, [], ◌∷◌, ◌++◌}
 use Rattle.std.proofs.Common.{Option, None, Some, refl, sym, ap, ◌∙◌, subst, append_assoc}
-use Rattle.std.proofs.Common.{length-append, arith}
-use Rattle.std.specs.Prelude.{Result, Ok, Err}
+use Rattle.std.proofs.Common.{length, length-append, arith}
+use Rattle.std.specs.Prelude.{Result, Ok, Err, slice_get}
 use Rattle.cnf_base.specs.Literals.{Clause}
 use Rattle.cnf_base.specs.Stream.{Input, Suffix, from_start, Reader, Stream, Along, unread_stream}
 use Rattle.cnf_base.specs.Stream.{bytes_read}
@@ -12,9 +12,12 @@ use Rattle.cnf_base.specs.declared.fault.Fault.TheVariants.{Text, Binary, ReadFa
 use Rattle.cnf_base.specs.declared.place.Place.{Place}
 use Rattle.cnf_base.proofs.SeenLemmas.{Seen-nothing, Seen-run, Seen-fact}
 use Rattle.cnf_base.proofs.StreamLemmas.{Along-then, Along-map, Along-none, Along-within}
-use Rattle.dimacs.specs.Formula.{Body}
-use Rattle.dimacs.specs.Reading.{FormulaReading, clauses_to_come, GivesClause, offsets_to_come}
-use Rattle.dimacs.specs.Reading.{PassesNoZero, GivesOffset}
+use Rattle.dimacs.specs.Formula.{Body, Formula}
+use Rattle.dimacs.specs.declared.header.Header.{Header}
+use Rattle.dimacs.specs.Reading.{FormulaReading, clauses_to_come, GivesClause, ends_to_come}
+use Rattle.dimacs.specs.Reading.{PassesNoEnd, GivesEnd, opened}
+use Rattle.sat_check.specs.FormulaReach.{ReadsNoFurtherThanFault}
+use Rattle.sat_check.specs.Code.FormulaReach.{LeavesFault}
 
 -- ---- A whole input
 
@@ -66,28 +69,50 @@ length_push cs c = length-append cs (c ∷ [])
 abbrev pub with_clauses : List Clause → Body → Body
 with_clauses cs b = record { clauses = cs ++ b.clauses; fault = b.fault }
 
--- these clauses came first, with where each ends, and then the others
+-- these clauses came first, with where each ends, and then what else there is
 abbrev pub ReadsOn : List Clause → Body → Body → List ℕ → List ℕ → Type 0
-ReadsOn clauses before after offsets offsets_after =
-    (before ≡ with_clauses clauses after) × ((passed : List ℕ) × (length passed ≡ length clauses) × (offsets ≡ passed ++ offsets_after))
+ReadsOn clauses before after ends ends_after =
+    (before ≡ with_clauses clauses after) × ((passed : List ℕ) × (length passed ≡ length clauses) × (ends ≡ passed ++ ends_after))
 
 -- from one moment to another these clauses were read
 pub record Reads (old now : FormulaReading) (clauses : List Clause) : Type 0 where
   pub count : length clauses ≡ now.complete
-  pub run : Along old.stream now.stream (λ i j. ReadsOn clauses (clauses_to_come old i) (clauses_to_come now j) (offsets_to_come old i) (offsets_to_come now j))
+  pub run : Along old.stream now.stream (λ i j. ReadsOn clauses (clauses_to_come old i) (clauses_to_come now j) (ends_to_come old i) (ends_to_come now j))
   pub header : now.header ≡ old.header
 
 -- what a call of the reader gave
 abbrev pub Gave : FormulaReading → FormulaReading → Result Bool Fault → Clause → Type 0
 Gave now new result c = Along now.stream new.stream (λ i j. GivesClause result c (clauses_to_come now i) (clauses_to_come new j)
-    × GivesOffset result (offsets_to_come now i) (offsets_to_come new j) j)
+    × GivesEnd result (ends_to_come now i) (ends_to_come new j) j)
 
--- the `0` of no clause after these was passed
+-- after these clauses no end was passed
 abbrev pub NonePassed : FormulaReading → List Clause → Suffix → Suffix → Type 0
-NonePassed old clauses i k = (later : Body) × (offsets : List ℕ) × ReadsOn clauses (clauses_to_come old i) later (offsets_to_come old i) offsets × PassesNoZero offsets k
+NonePassed old clauses i k = (later : Body) × (ends : List ℕ) × ReadsOn clauses (clauses_to_come old i) later (ends_to_come old i) ends × PassesNoEnd ends k
 
--- whatever was given, the `0` of no clause that was to come was passed
-pub none_passed : (result : Result Bool Fault) (before after : List ℕ) (rest : Suffix) → GivesOffset result before after rest → PassesNoZero before rest
+-- past the first numbers stand the others
+pub past_first : (xs ys : List ℕ) (n m : ℕ) → n ≡ length xs + m → slice_get (xs ++ ys) n ≡ slice_get ys m
+past_first [] ys n m e = ap (slice_get ys) (let same : n ≡ m = omega (arith, e) in same)
+past_first (x ∷ xs) ys zero m e = absurd (omega (arith, e))
+past_first (x ∷ xs) ys (suc n) m e = past_first xs ys n m (omega (arith, e))
+
+-- so the token at fault wasn't
+pub fault_left : (read : List Clause) (old : FormulaReading) (i k : Suffix) → NonePassed old read i k
+    → LeavesFault (clauses_to_come old i).clauses (ends_to_come old i) k
+fault_left read old i k passed offset at =
+    let later = passed.0 in
+    let ends = passed.1 in
+    let on = passed.2 in
+    let first = on.1.0 in
+    let all : length (clauses_to_come old i).clauses ≡ length read + length later.clauses =
+    ap (λ b. length b.clauses) on.0 ∙ length-append read later.clauses in
+    let same : length first ≡ length read = on.1.1 in
+    let index : length (clauses_to_come old i).clauses ≡ length first + length later.clauses = omega (arith, all, same) in
+    passed.3 (length later.clauses) offset
+    (sym (past_first first ends (length (clauses_to_come old i).clauses) (length later.clauses) index)
+    ∙ sym (ap (λ r. slice_get r (length (clauses_to_come old i).clauses)) on.1.2) ∙ at)
+
+-- whatever was given, no end that was to come was passed
+pub none_passed : (result : Result Bool Fault) (before after : List ℕ) (rest : Suffix) → GivesEnd result before after rest → PassesNoEnd before rest
 none_passed (Ok true) before after rest gives = gives.1
 none_passed (Ok false) before after rest gives = gives
 none_passed (Err f) before after rest gives = gives
@@ -100,7 +125,7 @@ FaultAfter cs f b = b ≡ record { clauses = cs; fault = Some f }
 pub Reads-start : (r : FormulaReading) → r.complete ≡ 0 → Reads r r []
 Reads-start r none = record {
   count = sym none;
-  run = Along-map _ _ _ _ (Along-none r.stream) (λ i j m e. (ap (clauses_to_come r) e, ([], refl, ap (offsets_to_come r) e)));
+  run = Along-map _ _ _ _ (Along-none r.stream) (λ i j m e. (ap (clauses_to_come r) e, ([], refl, ap (ends_to_come r) e)));
   header = refl;
 }
 
@@ -115,7 +140,7 @@ module _ (old now new : FormulaReading) (clauses : List Clause) (so_far : Reads 
       (
         p.1.0 ++ k.offset ∷ [],
         length-append p.1.0 (k.offset ∷ []) ∙ ap (λ n. n + 1) p.1.1 ∙ sym (length_push clauses c),
-        p.1.2 ∙ ap (λ r. p.1.0 ++ r) q.1.0 ∙ sym (append_assoc p.1.0 (k.offset ∷ []) (offsets_to_come new k)),
+        p.1.2 ∙ ap (λ r. p.1.0 ++ r) q.1.0 ∙ sym (append_assoc p.1.0 (k.offset ∷ []) (ends_to_come new k)),
       ),
     ));
     header = header ∙ so_far.header;
@@ -135,9 +160,9 @@ module _ (old now new : FormulaReading) (clauses : List Clause) (so_far : Reads 
       no_more (b ∷ cs) = ap (λ t. b ∷ t) (no_more cs)
 
   -- so it is where a call gave anything
-  passed : (result : Result Bool Fault) (i j k : Suffix) → ReadsOn clauses (clauses_to_come old i) (clauses_to_come now j) (offsets_to_come old i) (offsets_to_come now j)
-      → GivesOffset result (offsets_to_come now j) (offsets_to_come new k) k → NonePassed old clauses i k
-  passed result i j k p gives = (clauses_to_come now j, offsets_to_come now j, p, none_passed result _ (offsets_to_come new k) k gives)
+  passed : (result : Result Bool Fault) (i j k : Suffix) → ReadsOn clauses (clauses_to_come old i) (clauses_to_come now j) (ends_to_come old i) (ends_to_come now j)
+      → GivesEnd result (ends_to_come now j) (ends_to_come new k) k → NonePassed old clauses i k
+  passed result i j k p gives = (clauses_to_come now j, ends_to_come now j, p, none_passed result _ (ends_to_come new k) k gives)
 
   pub Reads-done : Gave now new (Ok false) c
       → Along old.stream new.stream (λ i j. (clauses_to_come old i ≡ record { clauses = clauses; fault = None }) × NonePassed old clauses i j)
@@ -158,3 +183,19 @@ pub clause_told : (now new : FormulaReading) (result answer : Result Bool Fault)
 clause_told now new result answer c gives is =
     let P : Result Bool Fault → Type 0 = λ r. Gave now new r c in
     subst P is gives
+
+-- ---- The token at fault
+
+-- what is left of a formula is what is left of what is to come after its header
+pub opened_left : (x : Formula) (h : Header) (b : Body) (ends to_come : List ℕ) (rest : Suffix) → x ≡ opened h b → ends ≡ to_come
+    → LeavesFault b.clauses to_come rest → LeavesFault x.clauses ends rest
+opened_left x h b ends to_come rest is same leaves =
+    let P : Formula → Type 0 = λ y. LeavesFault y.clauses to_come rest in
+    let Q : List ℕ → Type 0 = λ e. LeavesFault x.clauses e rest in
+    subst Q (sym same) (subst P (sym is) leaves)
+
+-- where nothing was read it wasn't passed
+pub unread_fault : (i : Input) (old new : Reader) → old ≡ new → ReadsNoFurtherThanFault i old new
+unread_fault i old new same offset at =
+    let P : Reader → Type 0 = λ r. bytes_read old r ≤ offset + 65536 in
+    subst P same (omega arith)

@@ -115,7 +115,7 @@ checks_any rule trace h clauses p =
     let v = some_verdict rule clauses (bare_steps p) in
     (_, record { words = v.0; ending = v.1; verdict = v.2; report = refl })
 
-pub report_any : (rule : Rule) (trace : Bool) (h : Result (Header × Listing) Fault) (p : Proof)
+pub report_any : (rule : Rule) (trace : Bool) (h : Result (Header × Listing) (Fault × List ℕ)) (p : Proof)
     → (r : Report) × ReportsFormula rule trace (formula_with h).header (formula_with h).clauses (formula_with h).fault p r
 report_any rule trace (Err f) p = (_, refl)
 report_any rule trace (Ok h) p = by (formula_with (Ok h)).fault

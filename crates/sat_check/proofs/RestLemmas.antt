@@ -1,10 +1,10 @@
 -- The rest of a report, step by step.
-use Rattle.std.proofs.Common.{◌≡◌, ℕ, ◌+◌, ◌≤◌, max, cond, Bool, true, false, None, Some, List, []}
-use Rattle.std.proofs.Common.{◌∷◌, length, refl, sym, ap, ◌∙◌, subst, arith, Ok, Err}
+use Rattle.std.proofs.Common.{◌≡◌, ℕ, ◌+◌, ◌≤◌, max, cond, Bool, true, false, Option, None, Some}
+use Rattle.std.proofs.Common.{List, [], ◌∷◌, length, refl, sym, ap, ◌∙◌, subst, arith, Ok, Err}
 use Rattle.std.specs.Bool.{MatchBool}
 use Rattle.cnf_base.specs.declared.fault.Fault.{Fault}
 use Rattle.proofs.specs.Steps.{Step}
-use Rattle.proofs.specs.Reading.{Proof, clean, faulty_proof, with_step}
+use Rattle.proofs.specs.Reading.{Proof, clean, with_step}
 use Rattle.proofs.specs.declared.step_end.StepEnd.{StepEnd}
 use Rattle.theory.specs.declared.accepted.Accepted.{Accepted}
 use Rattle.theory.specs.declared.accepted.Accepted.TheVariants.{Empty}
@@ -44,8 +44,8 @@ module _ (trace : Bool) (s : State) (n peak : ℕ) where
   pub Rest-clean : Rest trace s n peak clean (end_report None)
   Rest-clean = record { words = []; ending = no_empty_clause; verdict = refl; report = sym (no_trace trace (end_report None)) }
 
-  pub Rest-fault : (f : Fault) → Rest trace s n peak (faulty_proof f) (end_report (Some f))
-  Rest-fault f = record { words = []; ending = no_empty_clause; verdict = refl; report = sym (no_trace trace (end_report (Some f))) }
+  pub Rest-fault : (f : Fault) (end : Option ℕ) → Rest trace s n peak (record { steps = []; fault = Some f; fault_end = end }) (end_report (Some f))
+  Rest-fault f end = record { words = []; ending = no_empty_clause; verdict = refl; report = sym (no_trace trace (end_report (Some f))) }
 
   pub Rest-some : IsFinite s → (p : Proof) → (r : Report) × Rest trace s n peak p r
   Rest-some b p =

@@ -16,6 +16,7 @@ use Rattle.theory.specs.Rules.{Rule, start}
 use Rattle.theory.specs.Verdicts.{Ending, verified, refused, no_empty_clause, Verdict}
 use Rattle.theory.proofs.LawLemmas.Verdicts.{verdict_sound, verdict_unique}
 use Rattle.sat_check.specs.Code.Checking.{AllReports, RunsInto}
+use Rattle.sat_check.specs.FormulaReach.{ReadsNoFurtherThanFault}
 use Rattle.sat_check.specs.Lines.{fault_status, text_status}
 use Rattle.sat_check.specs.Reach.{ReadsNoFurther, TellsWhy}
 use Rattle.sat_check.specs.Report.{Report, Outcome, ReportsFormula, ProofReport, Verifies, Reports}
@@ -109,14 +110,16 @@ checks_proof rule trace i p old new status x = record {
 abbrev AllChecks : Rule → Bool → (Input → Proof) → Reader → Reader → Reader → Reader → Checked → Option (List ℕ) → Option (List ℕ) → Type 0
 AllChecks rule trace steps formula formula_new proof proof_new checked old new =
     OfBothSeen formula formula_new proof proof_new (λ i j. ChecksProof rule trace i (steps j) old new checked.status
-    × ReadsNoFurther rule (formula_of i) (steps j) proof proof_new × TellsWhy rule (formula_of i).fault (formula_of i).clauses (steps j) checked)
+    × ReadsNoFurther rule (formula_of i) (steps j) proof proof_new × TellsWhy rule (formula_of i).fault (formula_of i).clauses (steps j) checked
+    × ReadsNoFurtherThanFault i formula formula_new)
 
 both_check_proof : (rule : Rule) (trace : Bool) (steps : Input → Proof) (formula formula_new proof proof_new : Reader) (checked : Checked) (old new first last : Option (List ℕ)) → old ≡ first → new ≡ last
     → AllReports rule trace steps formula formula_new proof proof_new checked old new → AllChecks rule trace steps formula formula_new proof proof_new checked first last
 both_check_proof rule trace steps formula formula_new proof proof_new checked old new first last before after =
     both_told formula formula_new proof proof_new (λ x y i j. Reports rule trace i (steps j) x y checked.status
-    × ReadsNoFurther rule (formula_of i) (steps j) proof proof_new × TellsWhy rule (formula_of i).fault (formula_of i).clauses (steps j) checked)
-    _ old new first last before after (λ i j x. (checks_proof rule trace i (steps j) first last checked.status x.0, x.1, x.2))
+    × ReadsNoFurther rule (formula_of i) (steps j) proof proof_new × TellsWhy rule (formula_of i).fault (formula_of i).clauses (steps j) checked
+    × ReadsNoFurtherThanFault i formula formula_new)
+    _ old new first last before after (λ i j x. (checks_proof rule trace i (steps j) first last checked.status x.0, x.1, x.2, x.3))
 
 -- of the writer that lines are written to
 is_flushed_or_failed : (now : Sink) (has_failed is_flushed : Bool) → now.has_failed ≡ has_failed → now.is_flushed ≡ is_flushed

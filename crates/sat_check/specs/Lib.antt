@@ -1,3 +1,4 @@
+pub mod FormulaReach
 pub mod Lines
 pub mod ModelReport
 pub mod Options

@@ -7,7 +7,8 @@ use Rattle.cnf_base.specs.Literals.{Literal, Clause, has}
 use Rattle.cnf_base.specs.Stream.{Input, Reader, bytes_read}
 use Rattle.cnf_base.specs.declared.fault.Fault.{Fault}
 use Rattle.dimacs.specs.Claim.{claim_of, IsConsistent}
-use Rattle.dimacs.specs.Formula.{Formula, formula_of, clause_offsets}
+use Rattle.dimacs.specs.Formula.{Formula, formula_of, ends_of}
+use Rattle.sat_check.specs.FormulaReach.{ReadsNoFurtherThanFault}
 use Rattle.sat_check.specs.Lines.{a_model, unmet_line, clauses_line, fault_line, fault_status}
 use Rattle.sat_check.specs.Report.{Report, Outcome, IsUnlessBroken, concluded}
 use Rattle.sat_check.specs.Reach.{first_fault}
@@ -57,14 +58,16 @@ pub record Satisfies (claim : Result (List Literal) Fault) (clauses : List Claus
 
 -- No more of a formula was read than a claim takes, also where memory or the writer failed: where
 -- the output has a fault the formula's reader is as it was, and where some clause isn't met, the
--- first such clause ends with a `0`, and at most 65536 bytes past that were read.
+-- first such clause ends with a `0`, and at most 65536 bytes past that were read. Nor was more read
+-- than a fault of the formula takes.
 pub record ReadsFormulaNoFurther (claim : Result (List Literal) Fault) (formula : Input)
     (old new : Reader) : Type 0 where
   pub unread : (f : Fault) → claim ≡ Err f → new ≡ old
   pub past : (listed : List Literal) (k : ℕ) → claim ≡ Ok listed →
       first_unmet 1 listed (formula_of formula).clauses ≡ Some k
-      → (offset : ℕ) × (slice_get (clause_offsets formula) (k - 1) ≡ Some offset)
+      → (offset : ℕ) × (slice_get (ends_of formula) (k - 1) ≡ Some offset)
       × (bytes_read old new ≤ offset + 65536)
+  pub fault : ReadsNoFurtherThanFault formula old new
 
 -- what is wrong with an input, by the claim of an output and the formula: the output's fault comes
 -- first

@@ -2,7 +2,7 @@
 -- reason was deleted before it, and what is wrong with an input.
 use Rattle.std.specs.List.{list_any}
 use Rattle.std.specs.Prelude.{List, [], ◌∷◌, length, slice_get, Option, None, Some, ◌≡◌, ◌⊎◌, true}
-use Rattle.std.specs.Prelude.{◌+◌, ◌≤◌, IsTrue, IsSome}
+use Rattle.std.specs.Prelude.{ℕ, ◌+◌, ◌≤◌, IsTrue, IsSome}
 use Rattle.cnf_base.specs.Literals.{Clause}
 use Rattle.cnf_base.specs.Stream.{Reader, bytes_read}
 use Rattle.cnf_base.specs.declared.fault.Fault.{Fault}
@@ -44,13 +44,14 @@ NeedsNoProof fault clauses = (¬ (fault ≡ None)) ⊎ (list_any is_empty clause
 
 -- No more of a proof was read than it takes, also where memory or the writer failed: where the
 -- formula decides alone the reader is as it was, and where a step decides, at most 65536 bytes past
--- its end were read.
+-- its end were read; and no more past the first word or byte of the proof that is at fault.
 pub record ReadsNoFurther (rule : Rule) (f : Formula) (p : Proof) (old new : Reader) : Type 0 where
   pub unread : NeedsNoProof f.fault f.clauses → new ≡ old
   pub past : (words : List Accepted) (ending : Ending) (last : PlacedStep) → f.fault ≡ None
       → Verdict rule f.clauses (bare_steps p) words ending →
       deciding_step p.steps words ending ≡ Some last
       → bytes_read old new ≤ last.offset + 65536
+  pub fault : (offset : ℕ) → p.fault_end ≡ Some offset → bytes_read old new ≤ offset + 65536
 
 -- what is wrong with an input, by the faults of the formula and of the second one: the formula's
 -- comes first

@@ -7,6 +7,7 @@ use Rattle.dimacs.specs.Claim.{claim_of}
 use Rattle.proofs.specs.Lrat.{lrat_steps}
 use Rattle.proofs.specs.Reading.{Proof}
 use Rattle.theory.specs.Rules.{Rule, drat, lrat}
+use Rattle.sat_check.specs.FormulaReach.{ReadsNoFurtherThanFault}
 use Rattle.sat_check.specs.ModelReport.{ChecksModel, ReadsFormulaNoFurther, TellsModelFault}
 use Rattle.sat_check.specs.Reach.{ReadsNoFurther, TellsWhy}
 use Rattle.sat_check.specs.Report.{ChecksProof, drat_proof, is_cut_short, rules_of}
@@ -30,8 +31,9 @@ pub record Runs (formula formula_new second second_new : Reader)
   pub flushed : is_cut_short status ≡ false → is_flushed ≡ true
   pub gave_up : status ≡ OutOfMemory → IsFlushedOrFailed is_flushed has_failed
 
--- A run checked a proof of a formula, and read no more of the proof than the check takes. `steps`
--- are those of an input; the writer held `old`, and then `new`.
+-- A run checked a proof of a formula. It read no more of the proof than the check takes, and no
+-- more of the formula than its fault takes. `steps` are those of an input; the writer held `old`,
+-- and then `new`.
 abbrev pub RunsProof : Rule → (trace : Bool) → (steps : Input → Proof) →
     (formula formula_new proof proof_new : Reader) → (old new : Option (List ℕ)) →
     (had_failed has_failed is_flushed : Bool) → Status → Type 0
@@ -39,7 +41,8 @@ RunsProof rule trace steps formula formula_new proof proof_new old new had_faile
     is_flushed status =
     Runs formula formula_new proof proof_new had_failed has_failed is_flushed status
     (λ i j. ChecksProof rule trace i (steps j) old new status
-    × ReadsNoFurther rule (formula_of i) (steps j) proof proof_new)
+    × ReadsNoFurther rule (formula_of i) (steps j) proof proof_new
+    × ReadsNoFurtherThanFault i formula formula_new)
 
 -- The same, and of the same inputs it tells where the refused step ends, or what is wrong with one.
 abbrev pub RunsPlaced : Rule → (trace : Bool) → (steps : Input → Proof) →
@@ -50,7 +53,8 @@ RunsPlaced rule trace steps formula formula_new proof proof_new old new had_fail
     Runs formula formula_new proof proof_new had_failed has_failed is_flushed checked.status
     (λ i j. ChecksProof rule trace i (steps j) old new checked.status
     × ReadsNoFurther rule (formula_of i) (steps j) proof proof_new
-    × TellsWhy rule (formula_of i).fault (formula_of i).clauses (steps j) checked)
+    × TellsWhy rule (formula_of i).fault (formula_of i).clauses (steps j) checked
+    × ReadsNoFurtherThanFault i formula formula_new)
 
 -- of a proof in DRAT, by the options
 abbrev pub RunsDrat : DratOptions → (formula formula_new proof proof_new : Reader) →

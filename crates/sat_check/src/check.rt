@@ -6,6 +6,7 @@ ghost use Rattle.cnf_base.specs.Stream.{Input, Along, tells_failure};
 ghost use Rattle.cnf_base.specs.Seen.{Seen, IsSeen, OneHasFailed};
 ghost use Rattle.dimacs.specs.Formula.{formula_of};
 ghost use Rattle.theory.specs.Rules.{Rule, rule_of};
+ghost use Rattle.sat_check.specs.FormulaReach.{ReadsNoFurtherThanFault};
 ghost use Rattle.sat_check.specs.Report.{Report, Outcome, Checks, Reports};
 ghost use Rattle.sat_check.specs.Code.Writer.{LeavesWriter};
 ghost use Rattle.sat_check.specs.Code.Checking.{IsLoaded, LeavesProof};
@@ -39,7 +40,8 @@ pub fn check<F: In, S: ProofSession, R: StepReader, O: Out>(
         lines.old.held lines.new.held result.status
         × LeavesProof (rule_of (S.shown session.old).state) (formula_of i).fault
         (formula_of i).clauses (R.to_come reader.old j) (R.stream reader.old).reader
-        (R.stream reader.new).reader k result) }
+        (R.stream reader.new).reader k result
+        × ReadsNoFurtherThanFault i (F.shown formula.old) (F.shown formula.new)) }
     ensures read_failed { result.status ≡ Status.ReadFailed →
         OneHasFailed (F.shown formula.new) (R.stream reader.new).reader }
     ensures write_failed { result.status ≡ Status.WriteFailed → lines.new.has_failed ≡ true }

@@ -23,7 +23,8 @@ use watch::Watch;
 /// flushed.
 ///
 /// The proof isn't read where the formula has a fault or an empty clause. Past the step that
-/// decides nothing is looked at, and no more than a piece of 65536 bytes was read.
+/// decides, or the first word or byte at fault, nothing is looked at, and no more than a piece of
+/// 65536 bytes was read.
 pub fn run_drat<F: In, P: In, O: Out>(
     alloc: Global,
     options: &DratOptions,

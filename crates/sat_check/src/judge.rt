@@ -4,8 +4,10 @@ ghost use Rattle.std.specs.Prelude.{◌≡◌, true, IfErr};
 ghost use Rattle.cnf_base.specs.Stream.{Along, tells_failure};
 ghost use Rattle.cnf_base.specs.Code.Seen.{OfSeen};
 ghost use Rattle.dimacs.specs.Formula.{formula_of};
-ghost use Rattle.dimacs.specs.Reading.{clauses_to_come, offsets_to_come};
+ghost use Rattle.dimacs.specs.Reading.{clauses_to_come, ends_to_come};
+ghost use Rattle.sat_check.specs.FormulaReach.{ReadsNoFurtherThanFault};
 ghost use Rattle.sat_check.specs.ModelReport.{meets};
+ghost use Rattle.sat_check.specs.Code.FormulaReach.{LeavesFault};
 ghost use Rattle.sat_check.specs.Code.Judging.{Judges, LeavesUnmet, ReadsToUnmet};
 
 use crate::judgement::Judgement;
@@ -18,7 +20,8 @@ use std::alloc::Global;
 pub fn judge<F: In>(alloc: Global, formula: &mut F, model: &Model) -> Result<Judgement, Fault>
     ensures judges { OfSeen (F.shown formula.old) (F.shown formula.new) (λ i.
         Judges model.now result (formula_of i).clauses (formula_of i).fault
-        × ReadsToUnmet model.now i (F.shown formula.old) (F.shown formula.new)) }
+        × ReadsToUnmet model.now i (F.shown formula.old) (F.shown formula.new)
+        × ReadsNoFurtherThanFault i (F.shown formula.old) (F.shown formula.new)) }
     ensures tells { IfErr result (λ f. f ≡ Fault.ReadFailed →
         tells_failure (F.shown formula.new) ≡ true) }
 {
@@ -49,7 +52,8 @@ fn judge_clauses<F: In>(
         Judges model.now result (clauses_to_come reader.old i).clauses
         (clauses_to_come reader.old i).fault
         × LeavesUnmet model.now (clauses_to_come reader.old i).clauses
-        (offsets_to_come reader.old i) j) }
+        (ends_to_come reader.old i) j
+        × LeavesFault (clauses_to_come reader.old i).clauses (ends_to_come reader.old i) j) }
     ensures tells { IfErr result (λ f. f ≡ Fault.ReadFailed →
         tells_failure reader.new.stream.reader ≡ true) }
 {

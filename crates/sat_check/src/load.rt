@@ -4,9 +4,11 @@ ghost use Rattle.std.specs.Prelude.{◌≡◌, true, [], IfErr};
 ghost use Rattle.cnf_base.specs.Stream.{Along, tells_failure};
 ghost use Rattle.cnf_base.specs.Code.Seen.{OfSeen};
 ghost use Rattle.dimacs.specs.Formula.{formula_of};
-ghost use Rattle.dimacs.specs.Reading.{clauses_to_come};
+ghost use Rattle.dimacs.specs.Reading.{clauses_to_come, ends_to_come};
 ghost use Rattle.theory.specs.Rules.{rule_of};
+ghost use Rattle.sat_check.specs.FormulaReach.{ReadsNoFurtherThanFault};
 ghost use Rattle.sat_check.specs.Code.Checking.{IsLoaded, Loads, LoadsBody};
+ghost use Rattle.sat_check.specs.Code.FormulaReach.{LeavesFault};
 
 use cnf_base::{Fault, In, Piece, Source};
 use dimacs::{ClauseBuf, FormulaReader, Header};
@@ -21,7 +23,8 @@ pub fn load<F: In, S: ProofSession>(
 ) -> Result<Header, Fault>
     requires { IsLoaded (rule_of (S.shown session.old).state) (S.shown session.old) [] }
     ensures loads { OfSeen (F.shown formula.old) (F.shown formula.new) (λ i.
-        Loads (rule_of (S.shown session.old).state) (S.shown session.new) result (formula_of i)) }
+        Loads (rule_of (S.shown session.old).state) (S.shown session.new) result (formula_of i)
+        × ReadsNoFurtherThanFault i (F.shown formula.old) (F.shown formula.new)) }
     ensures tells { IfErr result (λ f. f ≡ Fault.ReadFailed →
         tells_failure (F.shown formula.new) ≡ true) }
 {
@@ -53,7 +56,8 @@ fn load_clauses<F: In, S: ProofSession>(
     requires unused { IsLoaded (rule_of (S.shown session.old).state) (S.shown session.old) [] }
     ensures loads { Along reader.old.stream reader.new.stream
         (λ i j. LoadsBody (rule_of (S.shown session.old).state) (S.shown session.new) result
-        (clauses_to_come reader.old i)) }
+        (clauses_to_come reader.old i)
+        × LeavesFault (clauses_to_come reader.old i).clauses (ends_to_come reader.old i) j) }
     ensures tells { IfErr result (λ f. f ≡ Fault.ReadFailed →
         tells_failure reader.new.stream.reader ≡ true) }
 {

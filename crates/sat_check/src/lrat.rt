@@ -19,7 +19,8 @@ use steps::LratSession;
 /// flushed.
 ///
 /// The proof isn't read where the formula has a fault or an empty clause. Past the step that
-/// decides nothing is looked at, and no more than a piece of 65536 bytes was read.
+/// decides, or the first word or byte at fault, nothing is looked at, and no more than a piece of
+/// 65536 bytes was read.
 pub fn run_lrat<F: In, P: In, O: Out>(
     alloc: Global,
     options: &LratOptions,

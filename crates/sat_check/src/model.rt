@@ -6,6 +6,7 @@ ghost use Rattle.cnf_base.specs.Code.Seen.{OfSeen};
 ghost use Rattle.cnf_base.specs.Seen.{OfBothSeen, OneHasFailed};
 ghost use Rattle.dimacs.specs.Claim.{claim_of, IsClaim, IsConsistent};
 ghost use Rattle.dimacs.specs.Formula.{formula_of};
+ghost use Rattle.sat_check.specs.FormulaReach.{ReadsNoFurtherThanFault};
 ghost use Rattle.sat_check.specs.Report.{Outcome};
 ghost use Rattle.sat_check.specs.Code.Writer.{LeavesWriter};
 ghost use Rattle.sat_check.specs.ModelReport.{claim_report, model_report};
@@ -117,7 +118,8 @@ fn check_formula<F: In, O: Out>(
         (claim_report (Ok model.now) (formula_of i))
         × ReadsToUnmet model.now i (F.shown formula.old) (F.shown formula.new)
         × TellsFault (formula_of i).fault None result
-        × TellsUnmet model.now (formula_of i).clauses result) }
+        × TellsUnmet model.now (formula_of i).clauses result
+        × ReadsNoFurtherThanFault i (F.shown formula.old) (F.shown formula.new)) }
     ensures read_failed { result.status ≡ Status.ReadFailed →
         tells_failure (F.shown formula.new) ≡ true }
     ensures write_failed { result.status ≡ Status.WriteFailed → lines.new.has_failed ≡ true }

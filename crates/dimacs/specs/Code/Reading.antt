@@ -1,9 +1,12 @@
 -- How the code follows a formula, clause by clause.
 use Rattle.std.specs.Prelude.{Bool, true, false, List, [], ◌∷◌, ℕ, ◌+◌, Result, Ok, Err, ◌≡◌}
 use Rattle.cnf_base.specs.Literals.{Literal}
+use Rattle.cnf_base.specs.Stream.{Suffix}
 use Rattle.cnf_base.specs.Text.{Listing}
 use Rattle.cnf_base.specs.declared.fault.Fault.{Fault}
-use Rattle.dimacs.specs.Formula.{Body, body_of, faulty_body, whole, offsets_of}
+use Rattle.dimacs.specs.Formula.{Body, body_of, faulty_body, whole, ends_after}
+use Rattle.dimacs.specs.Formula.{first_end}
+use Rattle.dimacs.specs.Reading.{PassesNoEnd}
 use Rattle.dimacs.specs.declared.header.Header.{Header}
 
 abbrev pub is_nil : List Literal → Bool
@@ -24,7 +27,20 @@ EndsBody (Err f) b = b ≡ faulty_body f
 
 -- ---- How far the input is read
 
--- where the clauses end that come after the one that was given next
-abbrev pub offsets_left : Result Bool Fault → Header → ℕ → Listing → List ℕ
-offsets_left (Ok true) h complete l = offsets_of h (complete + 1) l
-offsets_left _ h complete l = []
+-- the ends that come after the clause that was given next
+abbrev pub ends_left : Result Bool Fault → Header → ℕ → Listing → List ℕ
+ends_left (Ok true) h complete l = ends_after h (complete + 1) l
+ends_left _ h complete l = []
+
+-- a part of the header is read so, and the end of its token isn't passed
+abbrev pub GivesPart : {A : Type 0} → (Listing → Result A Fault) → Listing → Result A Fault →
+    Suffix → Type 0
+GivesPart test l answer rest = (test l ≡ answer) × PassesNoEnd (first_end l.tokens) rest
+
+-- The header is this, and `left` follows it; or it has this fault, and the end of the token at
+-- fault wasn't passed. `rest` is what follows of the input.
+abbrev pub GivesHeader : Result Header Fault → Result (Header × Listing) (Fault × List ℕ) →
+    Listing → Suffix → Type 0
+GivesHeader (Ok h) header left rest = header ≡ Ok (h, left)
+GivesHeader (Err f) header left rest =
+    (ends : List ℕ) × (header ≡ Err (f, ends)) × PassesNoEnd ends rest

@@ -22,6 +22,7 @@ use Rattle.theory.specs.declared.refusal.Refusal.TheVariants.{OutOfMemory as Ref
 use Rattle.theory.specs.declared.refusal.Refusal.{Refusal}
 use Rattle.steps.specs.ProofSession.{View, is_over}
 use Rattle.sat_check.specs.Code.Writer.{LeavesWriter}
+use Rattle.sat_check.specs.FormulaReach.{ReadsNoFurtherThanFault}
 use Rattle.sat_check.specs.Lines.{trace_line}
 use Rattle.sat_check.specs.Reach.{deciding_step, refused_end, NeedsNoProof, TellsWhy}
 use Rattle.sat_check.specs.Reach.{ReadsNoFurther, TellsFault}
@@ -76,12 +77,13 @@ pub record Rest (trace : Bool) (state : State) (n : ℕ) (peak : ℕ) (proof : P
       (max peak (peak_of state (bare_steps proof) words)) words ending proof.fault
 
 -- What is left of the steps of a proof from a session on: all that follows the step that decides,
--- whatever the status; and where that ends, if it was refused, and whether a reason was deleted
--- before, or what is wrong with the proof.
+-- and all that follows the fault, whatever the status; and where that step ends, if it was refused,
+-- and whether a reason was deleted before, or what is wrong with the proof.
 pub record LeavesRest (s : View) (p : Proof) (rest : Suffix) (checked : Checked) : Type 0 where
   pub past : (words : List Accepted) (ending : Ending) (last : PlacedStep) →
       Ends s.state (bare_steps p) words ending
       → deciding_step p.steps words ending ≡ Some last → rest.offset ≤ last.offset
+  pub past_fault : (offset : ℕ) → p.fault_end ≡ Some offset → rest.offset ≤ offset
   pub refused : (words : List Accepted) (ending : Ending) → checked.status ≡ NotVerified →
       Ends s.state (bare_steps p) words ending
       → checked.refused ≡ refused_end p.steps words ending
@@ -93,16 +95,17 @@ pub record LeavesRest (s : View) (p : Proof) (rest : Suffix) (checked : Checked)
   pub malformed : TellsFault None p.fault checked
 
 -- What is left of a proof: all of it where the formula decides alone, and else all of it, or all
--- that follows the step that decides; and why the check ended so.
+-- that follows the step that decides, and the fault; and why the check ended so.
 pub record LeavesProof (rule : Rule) (fault : Option Fault) (clauses : List Clause) (p : Proof)
     (old new : Reader) (rest : Suffix) (checked : Checked) : Type 0 where
   pub unread : NeedsNoProof fault clauses → new ≡ old
   pub past : (words : List Accepted) (ending : Ending) (last : PlacedStep) → fault ≡ None
       → Verdict rule clauses (bare_steps p) words ending →
       deciding_step p.steps words ending ≡ Some last → (new ≡ old) ⊎ (rest.offset ≤ last.offset)
+  pub past_fault : (offset : ℕ) → p.fault_end ≡ Some offset → (new ≡ old) ⊎ (rest.offset ≤ offset)
   pub told : TellsWhy rule fault clauses p checked
 
--- what was written, by all that was seen of the formula and of the proof, how far this was read,
+-- what was written, by all that was seen of the formula and of the proof, how far these were read,
 -- and why the check ended so
 abbrev pub AllReports : Rule → Bool → (Input → Proof) → Reader → Reader → Reader → Reader →
     Checked → Option (List ℕ) → Option (List ℕ) → Type 0
@@ -110,7 +113,8 @@ AllReports rule trace steps formula formula_new proof proof_new checked old new 
     OfBothSeen formula formula_new proof proof_new
     (λ i j. Reports rule trace i (steps j) old new checked.status
     × ReadsNoFurther rule (formula_of i) (steps j) proof proof_new
-    × TellsWhy rule (formula_of i).fault (formula_of i).clauses (steps j) checked)
+    × TellsWhy rule (formula_of i).fault (formula_of i).clauses (steps j) checked
+    × ReadsNoFurtherThanFault i formula formula_new)
 
 -- A run from readers to the writer of the lines: what was written, and which of them failed.
 pub record RunsInto (rule : Rule) (trace : Bool) (steps : Input → Proof)

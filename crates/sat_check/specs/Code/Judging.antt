@@ -5,7 +5,7 @@ use Rattle.cnf_base.specs.Literals.{Literal, Clause}
 use Rattle.cnf_base.specs.Stream.{Input, Suffix, Reader, bytes_read}
 use Rattle.cnf_base.specs.declared.fault.Fault.TheVariants.{OutOfMemory}
 use Rattle.cnf_base.specs.declared.fault.Fault.{Fault}
-use Rattle.dimacs.specs.Formula.{formula_of, clause_offsets}
+use Rattle.dimacs.specs.Formula.{formula_of, ends_of}
 use Rattle.sat_check.specs.Lines.{a_model, unmet_line, clauses_line}
 use Rattle.sat_check.specs.ModelReport.{first_unmet}
 use Rattle.sat_check.specs.Report.{Report, concluded}
@@ -28,17 +28,17 @@ unmet_in (Met n) = None
 unmet_in (Unmet k) = Some k
 
 -- The `0` of the first clause that isn't met wasn't passed: that clause ends where what is still to
--- come begins, or later. `offsets` is where each clause ends.
+-- come begins, or later. `ends` is where each clause ends.
 abbrev pub LeavesUnmet : List Literal → List Clause → List ℕ → Suffix → Type 0
-LeavesUnmet listed clauses offsets rest =
+LeavesUnmet listed clauses ends rest =
     (k offset : ℕ) → first_unmet 1 listed clauses ≡ Some k →
-    slice_get offsets (k - 1) ≡ Some offset → rest.offset ≤ offset
+    slice_get ends (k - 1) ≡ Some offset → rest.offset ≤ offset
 
 -- at most 65536 bytes past it were read
 abbrev pub ReadsToUnmet : List Literal → Input → Reader → Reader → Type 0
 ReadsToUnmet listed formula old new =
     (k offset : ℕ) → first_unmet 1 listed (formula_of formula).clauses ≡ Some k →
-    slice_get (clause_offsets formula) (k - 1) ≡ Some offset
+    slice_get (ends_of formula) (k - 1) ≡ Some offset
     → bytes_read old new ≤ offset + 65536
 
 -- the report of a formula that was judged so

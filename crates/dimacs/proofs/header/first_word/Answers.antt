@@ -1,12 +1,14 @@
 -- A word, or the end, after blank lines.
 use Rattle.std.proofs.Common.{rules}
-use Rattle.std.specs.Prelude.{Ok}
+use Rattle.std.specs.Prelude.{Ok, Err}
+use Rattle.cnf_base.specs.declared.fault.Fault.TheVariants.{Text, ReadFailed}
+use Rattle.cnf_base.specs.declared.fault.TextFault.TheVariants.{BadHeader}
 use Rattle.cnf_base.specs.declared.token.Token.TheVariants as token
 use Rattle.cnf_base.specs.Text.{listing_at}
 use Rattle.cnf_base.proofs.StreamLemmas.{Along-still}
 use Rattle.cnf_base.proofs.TokenLemmas.{told}
 use Rattle.dimacs.specs.Formula.{skip_blank}
-use Rattle.dimacs.proofs.HeaderLemmas.{Blank-line, Blank-word, Blank-end, Blank-failed}
+use Rattle.dimacs.proofs.HeaderLemmas.{Blank-line, Blank-first, first_word, first_end_of_input, first_failed}
 use Rattle.dimacs.proofs.header.first_word.Goals as goal
 
 pub loop-place-init : goal.loop-place-init
@@ -18,7 +20,8 @@ loop-place-init g c = record {
 
 pub returns-in-Ok-Word-clause-text : goal.returns-in-Ok-Word-clause-text
 returns-in-Ok-Word-clause-text g c =
-    Blank-word _ _ _ c.loop-place.invariant.text c.in-Ok-Word.place c.in-Ok-Word.word (told _ _ _ (Ok (token.Word c.in-Ok-Word.place c.in-Ok-Word.word)) c.next.ensures.tokens (search rules))
+    Blank-first _ _ _ c.loop-place.invariant.text (Ok (token.Word c.in-Ok-Word.place c.in-Ok-Word.word)) (told _ _ _ (Ok (token.Word c.in-Ok-Word.place c.in-Ok-Word.word)) c.next.ensures.tokens (search rules))
+    (λ l. Ok (c.in-Ok-Word.place, c.in-Ok-Word.word, l)) (first_word c.in-Ok-Word.place c.in-Ok-Word.word)
 
 pub loop-place-preserved : goal.loop-place-preserved
 loop-place-preserved g c = record {
@@ -29,8 +32,9 @@ loop-place-preserved g c = record {
 
 pub returns-in-Ok-End-clause-text : goal.returns-in-Ok-End-clause-text
 returns-in-Ok-End-clause-text g c =
-    Blank-end _ _ _ c.loop-place.invariant.text c.in-Ok-End.place (told _ _ _ (Ok (token.End c.in-Ok-End.place)) c.next.ensures.tokens (search rules))
+    Blank-first _ _ _ c.loop-place.invariant.text (Ok (token.End c.in-Ok-End.place)) (told _ _ _ (Ok (token.End c.in-Ok-End.place)) c.next.ensures.tokens (search rules))
+    (λ l. Err (Text BadHeader c.in-Ok-End.place)) (first_end_of_input c.in-Ok-End.place)
 
 pub returns-in-Err-clause-text : goal.returns-in-Err-clause-text
 returns-in-Err-clause-text g c =
-    Blank-failed _ _ _ c.loop-place.invariant.text _ c.in-Err.ensures.tokens
+    Blank-first _ _ _ c.loop-place.invariant.text (Err _) c.in-Err.ensures.tokens (λ l. Err ReadFailed) (first_failed _)

@@ -16,18 +16,20 @@ pub check_loaded-requires-clause-loaded : goal.check_loaded-requires-clause-load
 check_loaded-requires-clause-loaded g c =
     let loads = c.in-Ok.ensures.loads in
     let some = seen_is_some _ _ loads.seen in
-    (rule_of (g.S.ProofSession.shown c.args.session.now).state, (formula_of some.0).clauses, (loads.fact some.0 some.1).2)
+    (rule_of (g.S.ProofSession.shown c.args.session.now).state, (formula_of some.0).clauses, (loads.fact some.0 some.1).0.2)
 
 pub returns-in-Ok-clause-report : goal.returns-in-Ok-clause-report
 returns-in-Ok-clause-report g c =
     let rule = rule_of (g.S.ProofSession.shown c.args.session.now).state in (
       c.in-Ok.ensures.loads.seen,
       Along-map _ _ _ _ c.check_loaded.ensures.report (λ j k m x i s.
-          let l = c.in-Ok.ensures.loads.fact i s in
+          let loaded = c.in-Ok.ensures.loads.fact i s in
+          let l = loaded.0 in
           let y = x rule (formula_of i).clauses l.2 in
           let P : Option Fault → Type 0 = λ f. LeavesProof rule f (formula_of i).clauses (g.R.StepReader.to_come c.args.reader.now j) (g.R.StepReader.stream c.args.reader.now).reader (g.R.StepReader.stream c.check_loaded.new.reader).reader k c.check_loaded.result in (
             record { report = y.0; reports = reports_checked rule c.args.trace (formula_of i) _ _ y.0 l.0 l.1 y.1; outcome = y.2 },
             subst P (sym l.1) y.3,
+            loaded.1,
           )),
     )
 
@@ -36,13 +38,14 @@ returns-in-Err-clause-report g c =
     let rule = rule_of (g.S.ProofSession.shown c.args.session.now).state in (
       c.in-Err.ensures.loads.seen,
       Along-map _ _ _ _ (Along-none _) (λ j k m e i s. (
-        rw c.by_fault.ensures.status (err_report rule (g.S.ProofSession.shown c.load.new.session) c.args.trace c.in-Err.fault i _ c.break_off-status.result c.args.lines.now c.break_off-status.new.lines (c.in-Err.ensures.loads.fact i s) c.break_off-status.ensures.memory c.break_off-status.ensures.told),
-        LeavesProof-fault rule (g.S.ProofSession.shown c.load.new.session) c.in-Err.fault i _ _ k c.by_fault.result c.by_fault.ensures.refused c.by_fault.ensures.no_reason (c.in-Err.ensures.loads.fact i s)
+        rw c.by_fault.ensures.status (err_report rule (g.S.ProofSession.shown c.load.new.session) c.args.trace c.in-Err.fault i _ c.break_off-status.result c.args.lines.now c.break_off-status.new.lines (c.in-Err.ensures.loads.fact i s).0 c.break_off-status.ensures.memory c.break_off-status.ensures.told),
+        LeavesProof-fault rule (g.S.ProofSession.shown c.load.new.session) c.in-Err.fault i _ _ k c.by_fault.result c.by_fault.ensures.refused c.by_fault.ensures.no_reason (c.in-Err.ensures.loads.fact i s).0
             (λ is. (
               rw c.by_fault.ensures.status (no_verdict c.break_off-status.result c.args.lines.now.held c.break_off-status.new.lines.held [] (c.break_off-status.ensures.memory is (record { lines = []; status = Malformed }))),
               λ m. let bad : NoMemory ≡ Malformed = sym (c.break_off-status.ensures.gave_up is) ∙ (sym c.by_fault.ensures.status ∙ m) in cc,
             ))
             (λ m. c.by_fault.ensures.malformed (sym c.by_fault.ensures.status ∙ m))
             (λ not. c.by_fault.ensures.only (λ m. not (c.by_fault.ensures.status ∙ m))),
+        (c.in-Err.ensures.loads.fact i s).1,
       )),
     )

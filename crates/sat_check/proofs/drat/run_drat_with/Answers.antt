@@ -11,4 +11,4 @@ returns g c =
     weakened _ _ _ _ _ _ _ _ _ _
     (runs_placed (drat (rules_of c.args.options.now)) c.args.options.now.trace (drat_proof c.args.options.now.binary) _ _ _ _ c.check_with-checked.result _ _ _ _ _ _ _
     (search rules) (search rules) (search rules) (search rules) (search rules) c.check_with-checked.ensures)
-    (λ i j x. (x.0, x.1))
+    (λ i j x. (x.0, x.1, x.3))

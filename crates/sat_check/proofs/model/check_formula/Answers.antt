@@ -22,6 +22,7 @@ returns-in-Ok-clause-report g c =
         TellsFault-none (formula_of i).fault None c.by_clause.result (search rules)
             (λ m. c.conclude_judgement-status.ensures.well_formed (sym (ap (λ (x : Checked). x.status) c.by_clause.ensures) ∙ m)),
         λ _. ap (λ (x : Checked). x.unmet) c.by_clause.ensures ∙ c.unmet.ensures ∙ judged_unmet c.args.model.now c.in-Ok.judgement (formula_of i) (judges.fact i seen).0,
+        (judges.fact i seen).2,
       );
     }
 
@@ -39,5 +40,6 @@ returns-in-Err-clause-report g c =
             (λ m. c.by_fault.ensures.malformed (sym status ∙ m)),
         λ room. c.by_fault.ensures.no_clause ∙ sym (fault_unmet c.args.model.now c.in-Err.fault (formula_of i) (judges.fact i seen).0
             (λ is. room (status ∙ c.break_off-status.ensures.gave_up is))),
+        (judges.fact i seen).2,
       );
     }
