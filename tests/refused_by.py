@@ -8,9 +8,11 @@ of a function where one proof has all, is called `ensures`; `loop` is the invari
 that of a type, `requires` the condition of a call that is made wrongly. A mutant for a law names a lemma of the law's proof, as
 FILE.LEMMA.
 
-LOG is what rt ci or rt must-fail wrote: of each refusal it tells the first goal that stays open, or that its proof isn't one
-any more. Where it cuts the goal's name short, the clause has to begin as what is left of it. That a proof names what the mutant
-took away is no refusal by a clause. A mutant that LOG doesn't tell of is left out. One that names no clause fails.
+LOG is what rt ci or rt must-fail wrote: of each refusal it tells the first goal that stays open, or where a proof isn't one any
+more. Only an open goal shows something, or for a law a lemma: a function's proof may not fit although the clause holds. So a
+mutant has `search` in the place that doesn't fit, and what is open there is what the wrong body breaks; or it takes the text out,
+and the prover is asked afresh. Where LOG cuts the goal's name short, the clause has to begin as what is left of it. A mutant that
+LOG doesn't tell of is left out. One that names no clause fails.
 
 The last line is "N passed, M failed".
 """
@@ -24,7 +26,8 @@ ROOT = os.path.dirname(os.path.dirname(os.path.abspath(__file__)))
 SAYS = "# refused by: "
 TOLD = re.compile(r"rt: must-fail (\w+/\S+\.edit): refused, as it must be(.*)")
 OPEN = re.compile(r": note: (\S+\.rt):(\d+):\d+: (.*)")
-UNFIT = re.compile(r": \./proofs/(\S+)\.antt:\d+:\d+: error: (?:\d+ declarations? that depends? on )?`([^`]*)`?")
+SOUGHT = re.compile(r": \./proofs/(?:\S+/)?(\w+)/(?:Answers|Invariants)\.antt:\d+:\d+: error: `([^`]*)`: `search`")
+LEMMA = re.compile(r": \./proofs/(?:\S+/)?([A-Z]\w*)\.antt:\d+:\d+: error: (?:\d+ declarations? that depends? on )?`([^`]*)`?")
 FUNCTION = re.compile(r"\s*(?:pub(?:\(\w+\))? )?(?:const )?fn (\w+)")
 
 
@@ -62,12 +65,13 @@ def clause_of(goal):
 
 
 def refuser(folder, told):
-    """The clause that is told to refuse, and whether it is told whole; nothing where no clause is."""
-    unfit = UNFIT.match(told)
-    if unfit:
-        path, goal = unfit.group(1).split("/"), unfit.group(2)
-        of_a_function = path[-1] in ("Answers", "Invariants")
-        return (f"{path[-2]}.{clause_of(goal)}" if of_a_function else f"{path[-1]}.{goal}"), True
+    """The clause whose goal is told to stay open, or a law's lemma, and whether it is told whole; nothing where none is."""
+    sought = SOUGHT.match(told)
+    if sought:
+        return f"{sought.group(1)}.{clause_of(sought.group(2))}", True
+    lemma = LEMMA.match(told)
+    if lemma and lemma.group(1) not in ("Answers", "Invariants"):
+        return f"{lemma.group(1)}.{lemma.group(2)}", True
     place = OPEN.match(told)
     if not place:
         return "", True
