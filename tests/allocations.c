@@ -2,13 +2,15 @@
 // C library (glibc):
 //     cc -shared -fPIC -o allocations.so allocations.c
 //     LD_PRELOAD=./allocations.so COUNT_INTO=FILE [REFUSED=N] PROGRAM
-// At the end the number is written into FILE, and on a second line the most bytes that were held at once. The Nth one is refused.
+// At the end the number is written into FILE, on a second line the most bytes that were held at once, and on a third those that
+// were held when the program last asked to read. The Nth one is refused.
 #include <errno.h>
 #include <fcntl.h>
 #include <malloc.h>
 #include <stddef.h>
 #include <stdio.h>
 #include <stdlib.h>
+#include <sys/syscall.h>
 #include <unistd.h>
 
 void *__libc_malloc(size_t size);
@@ -21,6 +23,7 @@ static unsigned long long count;
 static unsigned long long refused;
 static unsigned long long held;
 static unsigned long long most_held;
+static unsigned long long held_at_a_read;
 
 static int is_refused(void) {
     count++;
@@ -64,6 +67,11 @@ void free(void *block) {
     __libc_free(block);
 }
 
+ssize_t read(int file, void *bytes, size_t size) {
+    held_at_a_read = held;
+    return syscall(SYS_read, file, bytes, size);
+}
+
 // What was asked for before the program began is not counted.
 __attribute__((constructor)) static void begin(void) {
     const char *word = getenv("REFUSED");
@@ -72,10 +80,10 @@ __attribute__((constructor)) static void begin(void) {
 }
 
 __attribute__((destructor)) static void end(void) {
-    unsigned long long counted = count, most = most_held;
+    unsigned long long counted = count, most = most_held, last = held_at_a_read;
     const char *name = getenv("COUNT_INTO");
     int file = name == NULL ? -1 : open(name, O_WRONLY | O_CREAT | O_TRUNC, 0600);
     if (file < 0) return;
-    dprintf(file, "%llu\n%llu\n", counted, most);
+    dprintf(file, "%llu\n%llu\n%llu\n", counted, most, last);
     close(file);
 }

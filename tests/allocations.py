@@ -3,11 +3,12 @@
 
 The number of allocations inside a whole check of DRAT and of LRAT, and inside the calls of the readers, of the store, of the
 identifiers and of a session of LRAT, is the same for 1000 as for 100000 pairs of steps, steps, clauses, insertions or
-identifiers of one form. And shows that identifiers, however far apart, take at most 64 bytes each.
+identifiers of one form. And shows that identifiers, however far apart, take at most 64 bytes each; and that a step by PR which
+looks at a large clause leaves no more held, once that clause is deleted, than a step that looks at none.
 
 The programs run as they were compiled, with tests/allocations.c before the C library: it refuses the Nth allocation of a
 run. What is counted goes from the least N whose refusal is met inside these calls to the greatest. It also tells the most bytes
-that a run held at once.
+that a run held at once, and those that it held when it last asked to read, which is at the proof's end.
 
 DRAT_FORWARD, LRAT_CHECK and ALLOCATIONS name the programs; they are those in bin/ and that of crates/test_allocations otherwise. CC
 names a C compiler, which is cc otherwise. The last line is "N passed, M failed".
@@ -50,6 +51,9 @@ HELD = {
     "held_in_pairs": 64,
     "held_by_turns": 64,
 }
+# The literals of a clause that a step by PR looks at, and how many bytes more than after a step that looks at none may be held in
+# the end: a quarter of what its literals take.
+LARGE, ROOM = 100000, 100000
 
 
 class Run:
@@ -63,7 +67,8 @@ class Run:
         self.last_line = last_line
 
     def answer(self, room, refused=0):
-        """The status and what was written, where this allocation is refused, and the number of all and the most bytes held."""
+        """The status and what was written, where this allocation is refused; the number of all; and the most bytes held, and those
+        at the last read."""
         counted = f"{room}/count"
         settings = {
             "LD_PRELOAD": f"{room}/allocations.so",
@@ -79,25 +84,26 @@ class Run:
             timeout=60,
         )
         with open(counted, encoding="ascii") as text:
-            total, held = [int(line) for line in text]
+            total, most, last = [int(line) for line in text]
         os.remove(counted)
-        return (ended.returncode, ended.stdout.decode("latin-1")), total, held
+        return (ended.returncode, ended.stdout.decode("latin-1")), total, most, last
 
     def is_met(self, room, refused):
         """Whether the calls say that memory was refused, where this allocation is."""
-        (status, written), _, _ = self.answer(room, refused)
+        (status, written), *_ = self.answer(room, refused)
         return status == self.status and written.endswith(self.last_line)
 
     def checked(self, room):
-        """The number of all allocations and the most bytes held at once, where the answer is as wanted."""
-        answer, total, held = self.answer(room)
+        """The number of all allocations, and the most bytes held at once and those at the last read, where the answer is as
+        wanted."""
+        answer, *counts = self.answer(room)
         if answer != self.wanted:
             raise ValueError(f"the answer is {answer}, and not {self.wanted}")
-        return total, held
+        return counts
 
     def allocations(self, room):
         """The number of allocations inside the calls."""
-        total, _ = self.checked(room)
+        total, *_ = self.checked(room)
         greatest = total
         while greatest > 0 and not self.is_met(room, greatest):
             greatest -= 1
@@ -152,10 +158,38 @@ def as_many(name, room):
 
 def within_bytes(name, room):
     """That identifiers which stay bound take no more bytes than they may."""
-    _, held = calls(name, MANY).checked(room)
+    _, held, _ = calls(name, MANY).checked(room)
     told = f"{held / MANY:.1f} bytes for each of {MANY}"
     if held > HELD[name] * MANY:
         raise ValueError(f"{told}, and {HELD[name]} are allowed")
+    return told
+
+
+def held_after(room, step, word):
+    """The bytes that a check holds at the end of a proof whose last addition is this step, accepted with this word. Before it come a
+    step by PR that looks at a small clause, and a clause that assumes each literal of a large one and is deleted; behind it the
+    large clause is deleted, which has the complement of the step's first literal."""
+    large = " ".join(str(number) for number in [-1, *range(3, LARGE + 2)])
+    more, low, high = LARGE + 2, LARGE + 3, LARGE + 4
+    formula, proof = f"{room}/large.cnf", f"{room}/large.drat"
+    with open(formula, "w", encoding="ascii") as out:
+        out.write(f"p cnf {high} 4\n{large} 0\n1 3 0\n{-low} {high} 0\n{low} {high} 0\n")
+    with open(proof, "w", encoding="ascii") as out:
+        out.write(f"{low} {low} 0\n{large} {more} 0\nd {large} {more} 0\n{step} 0\nd {large} 0\n")
+    run = Run([DRAT_FORWARD, "--pr", "--trace", formula, proof], "", 4, "")
+    steps = f"c 1 add pr\nc 2 add rup\nc 3 delete\nc 4 add {word}\nc 5 delete\nc end: no empty clause\n"
+    run.wanted = (1, f"c formula {high} variables 4 clauses\n{steps}s NOT VERIFIED\n")
+    _, _, held = run.checked(room)
+    return held
+
+
+def held_after_pr(room):
+    """That a step by PR leaves nothing of the large clause it looked at. The other step is of a variable of no other clause."""
+    other = LARGE + 2
+    more = held_after(room, "1 1", "pr") - held_after(room, f"{other} {other}", "pr")
+    told = f"{more} bytes more than after a step that looks at no clause"
+    if more > ROOM:
+        raise ValueError(f"{told}, and {ROOM} are allowed")
     return told
 
 
@@ -165,6 +199,7 @@ def judges(room):
         yield name, lambda name=name: as_many(name, room)
     for name in HELD:
         yield name, lambda name=name: within_bytes(name, room)
+    yield "held_after_pr", lambda: held_after_pr(room)
 
 
 def compile_shim(room):
