@@ -3,8 +3,9 @@
 
 The number of allocations inside a whole check of DRAT and of LRAT, and inside the calls of the readers, of the store, of the
 identifiers and of a session of LRAT, is the same for 1000 as for 100000 pairs of steps, steps, clauses, insertions or
-identifiers of one form. And shows that identifiers, however far apart, take at most 64 bytes each; and that a step by PR which
-looks at a large clause leaves no more held, once that clause is deleted, than a step that looks at none.
+identifiers of one form. And shows that identifiers, however far apart, take at most 64 bytes each; and that after a step
+by PR which looks at a large clause, once that clause is deleted, less than a quarter of what its literals take is held beyond
+what is held after a step that looks at none.
 
 The programs run as they were compiled, with tests/allocations.c before the C library: it refuses the Nth allocation of a
 run. What is counted goes from the least N whose refusal is met inside these calls to the greatest. It also tells the most bytes
@@ -184,7 +185,8 @@ def held_after(room, step, word):
 
 
 def held_after_pr(room):
-    """That a step by PR leaves nothing of the large clause it looked at. The other step is of a variable of no other clause."""
+    """That a step by PR doesn't keep the literals of the large clause it looked at. The other step is of a variable of no other
+    clause."""
     other = LARGE + 2
     more = held_after(room, "1 1", "pr") - held_after(room, f"{other} {other}", "pr")
     told = f"{more} bytes more than after a step that looks at no clause"
