@@ -713,8 +713,15 @@ lost reason_deleted_after_an_addition 'line 3, column 3' "$chain" '-1 3 4 0\nd -
 lost both_copies_of_a_reason_deleted 'line 3, column 3' "$copies" 'd -1 2 0\nd -1 2 0\n2 0'
 lost reason_deleted_after_another_deletion 'line 3, column 3' "$chain" 'd -2 3 4 0\nd -1 2 0\n2 0'
 lost reason_of_an_added_unit_deleted 'line 4, column 4' '1 2 0\n1 -2 0\n-1 3 0\n1 4 0' 'd 1 4 0\n1 0\nd -1 3 0\n-1 0'
+# 1 and 2 can't both be false: past that conflict all follows
+conflict='1 2 0\n-1 0\n-2 0\n3 4 0'
+lost reason_deleted_past_a_conflict 'line 2, column 4' "$conflict" 'd 1 2 0\n-3 0'
+lost reason_deleted_past_a_conflict_that_stays 'line 2, column 5' '1 0\n-1 0\n2 0\n3 4 0' 'd 2 0\nd 2 0' --strict
 kept no_deletion 'line 1, column 4' "$chain" '-3 0'
 kept copy_of_a_reason_left 'line 2, column 4' "$copies" 'd -1 2 0\n-3 0'
+kept copy_of_a_unit_clause_left 'line 2, column 4' '1 0\n1 0\n-1 2 0\n-2 3 4 0' 'd 1 0\n-3 0'
+kept other_clause_left 'line 2, column 4' '1 0\n-1 2 0\n-1 -3 2 0\n3 0' 'd -1 2 0\n-2 0'
+kept no_reason_deleted_past_a_conflict 'line 2, column 7' "$conflict" 'd 3 4 0\nd 3 4 0' --strict
 kept unit_clause_added_before 'line 3, column 4' "$chain" '2 0\nd -1 2 0\n-3 0'
 kept no_reason_deleted 'line 2, column 4' "$chain" 'd -2 3 4 0\n-3 0'
 kept no_root_level_literal 'line 2, column 3' '1 2 0\n3 4 0\n-1 2 0\n-3 4 0' 'd 1 2 0\n1 0'

@@ -28,7 +28,7 @@ impl marker::Model for Model {
 
     ghost Value = { List Literal };
 
-    // Each field has to be named here. What the table has of a literal has no size.
+    // Each field has to be named here. The keys of the table are literals of the model.
     ghost view = { λ record { lits = lits; listed = _ }. lits.items };
 
     ghost invariant = { λ m.

@@ -1,5 +1,4 @@
 -- What is known of an input of a program.
-use Rattle.std.specs.Prelude.{ℕ, List}
 use Rattle.cnf_base.specs.Stream.{Reader}
 use Rattle.filter_io.specs.Origins.{reader_of}
 use Rattle.filter_io.specs.declared.input.Input.{Input}

@@ -2,7 +2,7 @@
 use Rattle.std.specs.Prelude.{ℕ, Option, None, Some}
 use Rattle.command_line.specs.declared.args.Args.{Args}
 use Rattle.command_line.specs.declared.tool.Tool.{Tool}
-use Rattle.command_line.specs.declared.tool.Tool.TheVariants.{Drat, Lrat, Model}
+use Rattle.command_line.specs.declared.tool.Tool.TheVariants.{Model}
 use Rattle.proofs.specs.declared.step_end.StepEnd.{StepEnd}
 use Rattle.sat_check.specs.declared.checked.Checked.{Checked}
 use Rattle.sat_check.specs.declared.input_fault.InputFault.{InputFault}
@@ -25,7 +25,7 @@ unproved tool args unmet second =
 
 abbrev pub refused_at : Tool → Args → Checked → (second : Evidence) → Option StepEnd → Told
 refused_at tool args checked second (Some end) =
-    told.Refused end (hint_of tool args (finding.Refused checked.reason_deleted) second)
+    told.Refused end (hint_of tool args (finding.Refused checked.literal_lost) second)
 refused_at tool args checked second None = unproved tool args checked.unmet second
 
 abbrev pub refused : Tool → Args → Checked → (second : Evidence) → Told

@@ -52,8 +52,8 @@ fn refused(tool: Tool, args: &Args, checked: Checked, second: &Evidence) -> Told
     ensures { result ≡ refused tool args.now checked second.now }
 {
     if let Some(end) = checked.refused {
-        let reason_deleted = checked.reason_deleted;
-        let finding = Finding::Refused { reason_deleted };
+        let literal_lost = checked.literal_lost;
+        let finding = Finding::Refused { literal_lost };
         return Told::Refused(end, hint_of(tool, args, finding, second));
     }
     match (tool, checked.unmet) {

@@ -175,10 +175,10 @@ witness_hint args (Some kind.DratText) repeats =
 witness_hint args _ repeats = None
 
 -- with a refused step
-abbrev pub step_hint : Tool → Args → (reason_deleted : Bool) → Evidence → Option Hint
+abbrev pub step_hint : Tool → Args → (literal_lost : Bool) → Evidence → Option Hint
 step_hint Drat args true shown = Some hint.KeepUnits
 step_hint Drat args false shown = witness_hint args shown.kind shown.repeats
-step_hint _ args reason_deleted shown = None
+step_hint _ args literal_lost shown = None
 
 -- with a proof of which nothing is wrong but that it ends
 abbrev pub empty_hint : Option Kind → Option Hint
@@ -190,7 +190,7 @@ empty_hint _ = None
 abbrev pub hint_of : Tool → Args → Finding → Evidence → Option Hint
 hint_of tool args (Formula f) shown = formula_hint tool f shown
 hint_of tool args (Second f) shown = second_hint tool args f shown
-hint_of tool args (Refused reason_deleted) shown =
-    or_else (reads_as_hint tool shown) (step_hint tool args reason_deleted shown)
+hint_of tool args (Refused literal_lost) shown =
+    or_else (reads_as_hint tool shown) (step_hint tool args literal_lost shown)
 hint_of tool args NoEmptyClause shown =
     or_else (reads_as_hint tool shown) (empty_hint shown.kind)

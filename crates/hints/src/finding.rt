@@ -9,9 +9,9 @@ pub enum Finding {
     Formula(Fault),
     /// The proof has it, or the solver's output.
     Second(Fault),
-    /// A step was refused; before it the reason clause of a root-level literal may have been
-    /// deleted.
-    Refused { reason_deleted: bool },
+    /// A step was refused; before it a root-level literal may have been lost with its reason
+    /// clause.
+    Refused { literal_lost: bool },
     /// The proof ended without the empty clause.
     NoEmptyClause,
 }

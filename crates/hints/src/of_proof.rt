@@ -82,12 +82,12 @@ fn cut_hint(fault: Fault) -> Option<Hint>
 pub(crate) fn step_hint(
     tool: Tool,
     args: &Args,
-    reason_deleted: bool,
+    literal_lost: bool,
     shown: &Evidence,
 ) -> Option<Hint>
-    ensures { result ≡ step_hint tool args.now reason_deleted shown.now }
+    ensures { result ≡ step_hint tool args.now literal_lost shown.now }
 {
-    match (tool, reason_deleted) {
+    match (tool, literal_lost) {
         (Tool::Drat, true) => Some(Hint::KeepUnits),
         (Tool::Drat, false) => witness_hint(args, shown.kind, shown.repeats),
         _ => None,

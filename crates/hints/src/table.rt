@@ -22,8 +22,8 @@ pub fn hint_of(tool: Tool, args: &Args, finding: Finding, shown: &Evidence) -> O
     match finding {
         Finding::Formula(fault) => formula_hint(tool, fault, shown),
         Finding::Second(fault) => second_hint(tool, args, fault, shown),
-        Finding::Refused { reason_deleted } => {
-            let step = step_hint(tool, args, reason_deleted, shown);
+        Finding::Refused { literal_lost } => {
+            let step = step_hint(tool, args, literal_lost, shown);
             or_else(reads_as_hint(tool, shown), step)
         }
         Finding::NoEmptyClause => or_else(reads_as_hint(tool, shown), empty_hint(shown.kind)),

@@ -65,15 +65,9 @@ pub trait Propagate {
 
     /// Takes the clause out of its slot, where nothing is assumed. Other copies of it stay. It
     /// takes no memory.
-    ///
-    /// It tells whether a literal that was known to hold with nothing assumed is known no more,
-    /// since the clause was its reason. Who keeps no such literals never tells so.
-    fn remove(&mut self, slot: Slot) -> bool
+    fn remove(&mut self, slot: Slot)
         requires alive { IsSome (maps.get (state self.old).live slot) }
         requires nothing_assumed { (state self.old).assumptions ≡ [] }
-        ensures root_reason { result ≡ true → (c : Clause) →
-            maps.get (state self.old).live slot ≡ Some c →
-            IsRootReason (maps.get (state self.old).live) c }
         ensures live { (state self.new).live ≡ maps.remove (state self.old).live slot }
         ensures live_alone { HoldsLiveAlone (state self.new) }
         ensures nothing_assumed { (state self.new).assumptions ≡ [] }

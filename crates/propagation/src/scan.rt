@@ -164,9 +164,8 @@ impl Propagate for Scan {
         self.store.insert(lits)
     }
 
-    fn remove(&mut self, slot: Slot) -> bool {
+    fn remove(&mut self, slot: Slot) {
         self.store.remove(slot);
-        false
     }
 
     fn find(&mut self, lits: &[Lit]) -> Option<Slot> {

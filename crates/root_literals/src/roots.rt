@@ -18,10 +18,8 @@ ghost use Rattle.std.specs.FinMap as maps;
 ghost use Rattle.cnf_base.specs.Literals.{Literal, Clause, complement, has};
 ghost use Rattle.tables.specs.Filled.{at};
 ghost use Rattle.trail.specs.Trail.{HasRoom};
-ghost use Rattle.theory.specs.Propagation.{IsRootReason};
 ghost use Rattle.theory.specs.Sets.{SameSet, conflicts};
 ghost use Rattle.root_literals.specs.History.{IsRewound};
-ghost use Rattle.root_literals.specs.Order.{each_in_order};
 ghost use Rattle.root_literals.specs.Roots.{HasReasons, IsArranged, IsKept, has_clash, is_cut};
 ghost use Rattle.root_literals.specs.Roots.{is_up_to_date};
 ghost use Rattle.root_literals.specs.Watched.{AreUnchanged};
@@ -283,14 +281,8 @@ impl Roots {
     }
 
     /// Gives the literal that is true by the clause in the slot another reason, where one is found.
-    /// Tells whether the literal still rests on that clause. It takes no memory.
-    fn change_reason(
-        &mut self,
-        store: &Store,
-        lists: &mut WatchLists,
-        trail: &Trail,
-        slot: Slot,
-    ) -> bool
+    /// It takes no memory.
+    fn change_reason(&mut self, store: &Store, lists: &mut WatchLists, trail: &Trail, slot: Slot)
         requires alive { IsSome (maps.get store.now.live slot) }
         requires apart { AreApart lists.old }
         requires kept { IsKept store.now.live self.old trail.now.lits }
@@ -298,25 +290,21 @@ impl Roots {
         ensures noted { (l : Literal) → IsSome (at self.old.reasons l) →
             IsSome (at self.new.reasons l) }
         ensures lists { AreUnchanged lists.old lists.new }
-        ensures rests { result ≡ true → (l : Literal) × IsTrue (has trail.now.lits l)
-            × (at self.new.reasons l ≡ Some slot) }
     {
         let Some(l) = made_true_by(&self.reasons, trail, store.clause(slot), slot.number()) else {
-            return false;
+            return;
         };
         if !lists.has_list(l) {
-            return true;
+            return;
         }
         let lits = trail.lits();
         self.places.note(lits);
         let list = lists.take_out(l);
         let found = other_reason(store, &self.places, &list, lits, l, slot.number());
         lists.put_back(l, list);
-        let Some(other) = found else {
-            return true;
-        };
-        self.reasons.set(key(l), other);
-        false
+        if let Some(other) = found {
+            self.reasons.set(key(l), other);
+        }
     }
 
     /// Takes back the literal of a clause that is to be removed, and no other, where no other
@@ -327,9 +315,6 @@ impl Roots {
         requires kept { IsKept store.now.live self.old assumptions.old.trail.lits }
         ensures kept { result ≡ true → IsKept (maps.remove store.now.live slot) self.new
             assumptions.new.trail.lits }
-        ensures root_reason { result ≡ true → (c : Clause) →
-            maps.get (each_in_order store.now.live) slot ≡ Some c →
-            IsRootReason (maps.get (each_in_order store.now.live)) c }
         ensures same { result ≡ false →
             (self.new ≡ self.old) × (assumptions.new ≡ assumptions.old) }
         ensures reasons { self.new.reasons ≡ self.old.reasons }
@@ -356,22 +341,18 @@ impl Roots {
     }
 
     /// Takes note of a clause that is to be removed: what is kept by it is kept by another clause,
-    /// or is cut back to the place from which on it rests on it. Tells whether a literal rested on
-    /// it. It takes no memory.
+    /// or is cut back to the place from which on it rests on it. It takes no memory.
     pub fn leave(
         &mut self,
         store: &Store,
         lists: &mut WatchLists,
         assumptions: &mut Assumptions,
         slot: Slot,
-    ) -> bool
+    )
         requires alive { IsSome (maps.get store.now.live slot) }
         requires apart { AreApart lists.old }
         requires nothing_assumed { assumptions.old.assumptions ≡ [] }
         requires kept { IsKept store.now.live self.old assumptions.old.trail.lits }
-        ensures root_reason { result ≡ true → (c : Clause) →
-            maps.get (each_in_order store.now.live) slot ≡ Some c →
-            IsRootReason (maps.get (each_in_order store.now.live)) c }
         ensures kept { IsKept (maps.remove store.now.live slot) self.new
             assumptions.new.trail.lits }
         ensures noted { (l : Literal) → IsSome (at self.old.reasons l) →
@@ -382,13 +363,12 @@ impl Roots {
         ensures starts { assumptions.new.starts ≡ assumptions.old.starts }
     {
         if self.take_back_alone(store, assumptions, slot) {
-            return true;
+            return;
         }
-        let is_reason = self.change_reason(store, lists, assumptions.trail(), slot);
+        self.change_reason(store, lists, assumptions.trail(), slot);
         let clause = store.clause(slot);
         while let Some(place) = self.rests_from(assumptions.trail(), clause, slot.number()) {
             self.cut(assumptions, place);
         }
-        is_reason
     }
 }

@@ -2,7 +2,7 @@
 use Rattle.std.proofs.Common.{◌≡◌, ℕ, ◌+◌, ◌≤◌, Bool, true, false, Option, None, Some, List, []}
 use Rattle.std.proofs.Common.{◌++◌, refl, sym, ap, ◌∙◌, subst, arith, append_assoc, ◌⊎◌}
 use Rattle.std.proofs.Common.{inl, inr}
-use Rattle.std.specs.Prelude.{Result, Ok, Err, IsTrue}
+use Rattle.std.specs.Prelude.{Result, Ok, Err}
 use Rattle.cnf_base.specs.Stream.{Input, Suffix, from_start, Reader, Stream, Along, unread_stream}
 use Rattle.cnf_base.specs.Stream.{bytes_read}
 use Rattle.cnf_base.specs.Seen.{Seen, IsSeen}
@@ -34,7 +34,7 @@ use Rattle.sat_check.specs.declared.status.Status.TheVariants.{ReadFailed as NoR
 use Rattle.sat_check.proofs.OutcomeLemmas.{Outcome-after, Writes-all, Writes-still, text_of-append}
 use Rattle.sat_check.proofs.ReadLemmas.{unread_fault}
 use Rattle.sat_check.proofs.ReachLemmas.{no_verdict, LeavesRest-none, LeavesRest-broken}
-use Rattle.sat_check.proofs.ReachLemmas.{TellsFault-none, TellsReason-none}
+use Rattle.sat_check.proofs.ReachLemmas.{TellsFault-none, TellsLoss-none}
 use Rattle.sat_check.proofs.ReachLemmas.{LeavesRest-decided, LeavesRest-step}
 use Rattle.sat_check.proofs.ReportLemmas.{some_report}
 use Rattle.sat_check.proofs.RestLemmas.{Rest-clean, Rest-fault, Rest-some, Rest-step}
@@ -113,7 +113,7 @@ module _ (trace : Bool) (start now new : Standing) (first session : View) (accep
             subst P (with_both so_far.written (traced trace number goes.word) r) (p.0 (with_lines (traced trace number goes.word) r) (subst Q (sym q.0.2) (front k q.0.0 r rest)))),
         (λ left checked leaves.
             let Q : Proof → Type 0 = λ x. LeavesRest session x left checked in
-            p.1 left checked (subst Q (sym q.0.2) (LeavesRest-step session step q.0.0 k.offset (new.to_come k) left checked t goes.word goes.answers goes.not_last goes.state goes.deleted_reason leaves))),
+            p.1 left checked (subst Q (sym q.0.2) (LeavesRest-step session step q.0.0 k.offset (new.to_come k) left checked t goes.word goes.answers goes.not_last goes.state goes.lost leaves))),
       ));
       wrote = let P : List ℕ → Type 0 = Writes was last in
           subst P (sym (text_of-append so_far.written (traced trace number goes.word))) (Writes-then _ _ _ _ _ so_far.wrote goes.wrote);
@@ -136,10 +136,10 @@ module _ (trace : Bool) (start now new : Standing) (first session : View) (accep
     pub Checking-stop : (checked : Checked) (last : Sink) → Stops trace number session step lines last checked.status
         → (checked.status ≡ NotVerified → IsRefused session.state step)
         → (checked.status ≡ NotVerified → checked.refused ≡ end) → ((checked.status ≡ NotVerified → ⊥) → checked.refused ≡ None)
-        → (IsTrue checked.reason_deleted → (checked.status ≡ NotVerified) × IsTrue session.has_deleted_reason)
+        → (checked.status ≡ NotVerified → checked.literal_lost ≡ session.has_lost_literal) → ((checked.status ≡ NotVerified → ⊥) → checked.literal_lost ≡ false)
         → checked.fault ≡ None → (checked.status ≡ Malformed → ⊥)
         → Along start.stream new.stream (λ i j. Ended checked last i j)
-    Checking-stop checked last stops refuses told only reason none not = Along-then _ _ _ _ _ _ so_far.run gives (λ i j k m p q.
+    Checking-stop checked last stops refuses told only loss none_lost none not = Along-then _ _ _ _ _ _ so_far.run gives (λ i j k m p q.
         let s = stops so_far.count k.offset q.0.0 (new.to_come k) counts so_far.least so_far.finite in
         let Q : Proof → Type 0 = λ x. Rest trace session.state so_far.count session.peak x s.0 in
         let R : Proof → Type 0 = λ x. LeavesRest session x k checked in
@@ -147,7 +147,7 @@ module _ (trace : Bool) (start now new : Standing) (first session : View) (accep
           with_lines so_far.written s.0,
           p.0 s.0 (subst Q (sym q.0.2) s.1),
           Outcome-after checked.status was.held lines.held last.held so_far.written s.0 (Writes-all was lines (text_of so_far.written) so_far.wrote so_far.whole) s.2,
-          p.1 k checked (subst R (sym q.0.2) (LeavesRest-decided session step q.0.0 k.offset (new.to_come k) k checked refuses (λ v. told v ∙ q.0.1) only reason (TellsFault-none None (new.to_come k).fault checked none not) (subst S q.0.2 q.1))),
+          p.1 k checked (subst R (sym q.0.2) (LeavesRest-decided session step q.0.0 k.offset (new.to_come k) k checked refuses (λ v. told v ∙ q.0.1) only loss none_lost (TellsFault-none None (new.to_come k).fault checked none not) (subst S q.0.2 q.1))),
         ))
 
   -- what is known so far of the report, and of the step that decides
@@ -165,7 +165,7 @@ module _ (trace : Bool) (start now new : Standing) (first session : View) (accep
     p.1 k checked leaves,
   )
 
-  module _ (step : Step) (checked : Checked) (none : checked.refused ≡ None) (quiet : checked.reason_deleted ≡ false) (last : Sink) where
+  module _ (step : Step) (checked : Checked) (none : checked.refused ≡ None) (quiet : checked.literal_lost ≡ false) (last : Sink) where
     pub Checking-end : Along now.stream new.stream (Gave (Ok false) None step)
         → Outcome checked.status lines.held last.held (end_report None) → TellsFault None None checked → Along start.stream new.stream (λ i j. Ended checked last i j)
     Checking-end gives o tells = Along-then _ _ _ _ _ _ so_far.run gives (λ i j k m p q.
@@ -219,7 +219,7 @@ step_told now new result answer end s gives is =
 
 -- neither was read
 reports_nothing : (rule : Rule) (trace : Bool) (steps : Input → Proof) (formula proof new : Reader) (checked : Checked) (was now : Sink) → proof ≡ new
-    → checked.refused ≡ None → checked.reason_deleted ≡ false → ((r : Report) → Outcome checked.status was.held now.held r) → checked.fault ≡ None → (checked.status ≡ Malformed → ⊥) → AllReports rule trace steps formula formula proof new checked was.held now.held
+    → checked.refused ≡ None → checked.literal_lost ≡ false → ((r : Report) → Outcome checked.status was.held now.held r) → checked.fault ≡ None → (checked.status ≡ Malformed → ⊥) → AllReports rule trace steps formula formula proof new checked was.held now.held
 reports_nothing rule trace steps formula proof new checked was now same none quiet o sound not =
     let P : Reader → Type 0 = λ r. AllReports rule trace steps formula formula proof r checked was.held now.held in
     subst P same (record {
@@ -229,7 +229,7 @@ reports_nothing rule trace steps formula proof new checked was now same none qui
           let some = some_report rule trace i (steps j) in (
             record { report = some.0; reports = some.1; outcome = o some.0 },
             record { unread = λ n. refl; past = λ words ending last whole e d. omega arith; fault = λ offset e. omega arith },
-            record { unread = λ n. none; refused = λ words ending whole is e. absurd (broken (inr is)); only = λ _. none; reason = TellsReason-none rule (formula_of i).clauses (steps j) checked quiet; malformed = TellsFault-none (formula_of i).fault (steps j).fault checked sound not },
+            record { unread = λ n. none; refused = λ words ending whole is e. absurd (broken (inr is)); only = λ _. none; loss = TellsLoss-none rule (formula_of i).fault (formula_of i).clauses (steps j) checked none quiet; malformed = TellsFault-none (formula_of i).fault (steps j).fault checked sound not },
             unread_fault i formula formula refl,
           );
     })
@@ -239,10 +239,10 @@ reports_nothing rule trace steps formula proof new checked was now same none qui
 
 -- memory ran out before either was read
 pub runs_nothing : (rule : Rule) (trace : Bool) (steps : Input → Proof) (formula proof new : Reader) (checked : Checked) (was now : Sink) → proof ≡ new
-    → checked ≡ record { status = NoMemory; refused = None; reason_deleted = false; fault = None; unmet = None } → ((r : Report) → Outcome NoMemory was.held now.held r) → LeavesWriter NoMemory was now
+    → checked ≡ record { status = NoMemory; refused = None; literal_lost = false; fault = None; unmet = None } → ((r : Report) → Outcome NoMemory was.held now.held r) → LeavesWriter NoMemory was now
     → RunsInto rule trace steps formula formula proof new was now checked
 runs_nothing rule trace steps formula proof new checked was now same is o writer =
-    let gone : Checked = record { status = NoMemory; refused = None; reason_deleted = false; fault = None; unmet = None } in
+    let gone : Checked = record { status = NoMemory; refused = None; literal_lost = false; fault = None; unmet = None } in
     let P : Checked → Type 0 = λ c. RunsInto rule trace steps formula formula proof new was now c in
     subst P (sym is) (record {
       report = reports_nothing rule trace steps formula proof new gone was now same refl refl o refl (λ e. let bad : NoMemory ≡ Malformed = e in cc);

@@ -83,13 +83,13 @@ input_same (by_copies a x) (by_ids t) c same = absurd same
 pub loaded_more : (rule : Rule) (old new : View) (cs : List Clause) (c : Clause) → IsLoaded rule old cs
     → Same new.state (with_input old.state c)
     → new.is_verified ≡ (old.is_verified || is_empty c) → new.peak ≡ max old.peak (sum_of new.state)
-    → new.has_stepped ≡ false → new.is_ended ≡ false → new.has_deleted_reason ≡ old.has_deleted_reason → old.room ≤ new.room + 1 → IsLoaded rule new (cs ++ c ∷ [])
+    → new.has_stepped ≡ false → new.is_ended ≡ false → new.has_lost_literal ≡ old.has_lost_literal → old.room ≤ new.room + 1 → IsLoaded rule new (cs ++ c ∷ [])
 loaded_more rule old new cs c l state verified peak unstepped sound reason room = record {
   state = same;
   verified = verified ∙ ap (λ b. b || is_empty c) l.verified ∙ or_false (list_any is_empty cs) (is_empty c) ∙ sym (list_any-append is_empty cs (c ∷ []));
   sound = sound;
   unstepped = unstepped;
-  none_deleted = reason ∙ l.none_deleted;
+  none_lost = reason ∙ l.none_lost;
   peak =
       let new_sum = sum_same new.state (start rule (cs ++ c ∷ [])) same in
       let more = sum_push rule cs c in
@@ -125,7 +125,7 @@ unused rule s is = let P : SessionState → Type 0 = λ s. IsLoaded (rule_of (vi
       verified = refl;
       sound = refl;
       unstepped = refl;
-      none_deleted = refl;
+      none_lost = refl;
       peak = refl;
       room = omega arith;
     }
@@ -134,7 +134,7 @@ unused rule s is = let P : SessionState → Type 0 = λ s. IsLoaded (rule_of (vi
       verified = refl;
       sound = refl;
       unstepped = refl;
-      none_deleted = refl;
+      none_lost = refl;
       peak = refl;
       room = omega arith;
     }

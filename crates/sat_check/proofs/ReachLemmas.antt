@@ -1,6 +1,6 @@
 -- How far a proof is read, step by step.
 use Rattle.std.proofs.Common.{◌≡◌, ℕ, ◌≤◌, true, false, Option, None, Some, List, [], ◌∷◌, length}
-use Rattle.std.proofs.Common.{refl, sym, ap, ◌∙◌, subst, inl, inr, ◌⊎◌, Ok, Err, is_some}
+use Rattle.std.proofs.Common.{refl, sym, ap, ◌∙◌, subst, inl, inr, ◌⊎◌, ◌↔◌, Ok, Err, is_some, IsSome}
 use Rattle.std.specs.Prelude.{slice_get, IsTrue}
 use Rattle.std.specs.List.{list_any}
 use Rattle.std.proofs.lemmas.Bool.{false≢true, MatchBool-at_true, MatchBool-at_false}
@@ -17,14 +17,16 @@ use Rattle.proofs.specs.declared.step_end.StepEnd.{StepEnd}
 use Rattle.steps.specs.ProofSession.{View}
 use Rattle.theory.specs.Rules.{Rule, State, by_ids, by_copies, start, Answers, after, Same}
 use Rattle.theory.specs.Verdicts.{Ending, verified, refused, no_empty_clause, Ends, Verdict}
-use Rattle.theory.specs.Verdicts.{is_last, is_empty, DeletesReason, DeletedReason}
+use Rattle.theory.specs.Losses.{StepLoses, HasLost}
+use Rattle.theory.specs.Verdicts.{is_last, is_empty}
 use Rattle.theory.specs.declared.accepted.Accepted.{Accepted}
 use Rattle.theory.proofs.LratLemmas.LiveSets.{SameClauses-sym}
 use Rattle.theory.proofs.LratLemmas.Steps.{ok_is, ok_err}
 use Rattle.theory.proofs.LawLemmas.Rules.{answer_unique}
-use Rattle.theory.proofs.LawLemmas.Verdicts.{ends_same, deleted_same}
+use Rattle.theory.proofs.LawLemmas.Losses.{lost_same}
+use Rattle.theory.proofs.LawLemmas.Verdicts.{ends_same}
 use Rattle.sat_check.specs.Reach.{deciding_step, refused_end, NeedsNoProof, TellsFault, first_fault}
-use Rattle.sat_check.specs.Reach.{TellsReason}
+use Rattle.sat_check.specs.Reach.{TellsLoss}
 use Rattle.sat_check.specs.Code.Reach.{IsVerdict}
 use Rattle.sat_check.specs.Report.{Outcome, bare_steps, is_cut_short}
 use Rattle.sat_check.specs.Code.Checking.{IsLoaded, Loads, IsRefused, IsTold, LeavesRest}
@@ -80,14 +82,14 @@ not_passed p rest reach words ending last d =
 pub TellsFault-none : (formula second : Option Fault) (checked : Checked) → checked.fault ≡ None → (checked.status ≡ Malformed → ⊥) → TellsFault formula second checked
 TellsFault-none formula second checked none not = record { malformed = λ m. absurd (not m); only = λ _. none }
 
--- nor a reason where none is told of
-not_told : (checked : Checked) → checked.reason_deleted ≡ false → IsTrue checked.reason_deleted → ⊥
-not_told checked quiet told = false≢true (sym quiet ∙ told)
+-- nor a loss where no step was refused
+no_loss : (checked : Checked) (X : Type 0) → checked.refused ≡ None → checked.literal_lost ≡ false → IsTrue checked.literal_lost ↔ (IsSome checked.refused × X)
+no_loss checked X none quiet = (λ told. absurd (false≢true (sym quiet ∙ told)), λ p. absurd (false≢true (sym (ap is_some none) ∙ p.0)))
 
-pub TellsReason-none : (rule : Rule) (clauses : List Clause) (p : Proof) (checked : Checked) → checked.reason_deleted ≡ false → TellsReason rule clauses p checked
-TellsReason-none rule clauses p checked quiet = record {
-  refused = λ told. absurd (not_told checked quiet told);
-  deleted = λ words ending told e. absurd (not_told checked quiet told);
+pub TellsLoss-none : (rule : Rule) (fault : Option Fault) (clauses : List Clause) (p : Proof) (checked : Checked) → checked.refused ≡ None → checked.literal_lost ≡ false → TellsLoss rule fault clauses p checked
+TellsLoss-none rule fault clauses p checked none quiet = record {
+  lost = λ words ending whole is e. no_loss checked _ none quiet;
+  only = λ not. quiet;
 }
 
 -- no input is malformed where a run was cut short, or a verdict was written
@@ -103,15 +105,15 @@ pub told_not : (s : Status) (now : Sink) → IsTold s now → s ≡ Malformed �
 told_not s now told m = let P : Status → Type 0 = λ x. IsTold x now in subst P m told
 
 -- no step decides where none is to come
-pub LeavesRest-none : (s : View) (fault : Option Fault) (end : Option ℕ) (rest : Suffix) (checked : Checked) → checked.refused ≡ None → checked.reason_deleted ≡ false → TellsFault None fault checked
+pub LeavesRest-none : (s : View) (fault : Option Fault) (end : Option ℕ) (rest : Suffix) (checked : Checked) → checked.refused ≡ None → checked.literal_lost ≡ false → TellsFault None fault checked
     → PassesNoEnd (record { steps = []; fault = fault; fault_end = end }) rest → LeavesRest s (record { steps = []; fault = fault; fault_end = end }) rest checked
 LeavesRest-none s fault end rest checked none quiet tells reach = record {
   past = λ words ending last e d. by words ending last e d;
   past_fault = reach.fault;
   refused = λ words ending is e. none ∙ no_end words ending e;
   only = λ _. none;
-  reason = λ told. absurd (not_told checked quiet told);
-  deleted = λ words ending told e. absurd (not_told checked quiet told);
+  lost = λ words ending is e. no_loss checked _ none quiet;
+  none_lost = λ not. quiet;
   malformed = tells;
 }
   where
@@ -128,15 +130,15 @@ LeavesRest-none s fault end rest checked none quiet tells reach = record {
     no_end (w ∷ ws) ending e = absurd e
 
 -- no verdict was answered
-pub LeavesRest-broken : (s : View) (p : Proof) (rest : Suffix) (checked : Checked) → checked.refused ≡ None → checked.reason_deleted ≡ false → (IsVerdict checked.status → ⊥) → TellsFault None p.fault checked → PassesNoEnd p rest
+pub LeavesRest-broken : (s : View) (p : Proof) (rest : Suffix) (checked : Checked) → checked.refused ≡ None → checked.literal_lost ≡ false → (IsVerdict checked.status → ⊥) → TellsFault None p.fault checked → PassesNoEnd p rest
     → LeavesRest s p rest checked
 LeavesRest-broken s p rest checked none quiet broken tells reach = record {
   past = λ words ending last e d. not_passed p rest reach words ending last d;
   past_fault = reach.fault;
   refused = λ words ending is e. absurd (broken (inr is));
   only = λ _. none;
-  reason = λ told. absurd (not_told checked quiet told);
-  deleted = λ words ending told e. absurd (not_told checked quiet told);
+  lost = λ words ending is e. no_loss checked _ none quiet;
+  none_lost = λ not. quiet;
   malformed = tells;
 }
 
@@ -147,15 +149,21 @@ module _ (s : View) (step : Step) (end : StepEnd) (offset : ℕ) (p : Proof) (re
   -- the check ended with this step, which was refused or not
   pub LeavesRest-decided : (checked.status ≡ NotVerified → IsRefused s.state step)
       → (checked.status ≡ NotVerified → checked.refused ≡ Some end) → ((checked.status ≡ NotVerified → ⊥) → checked.refused ≡ None)
-      → (IsTrue checked.reason_deleted → (checked.status ≡ NotVerified) × IsTrue s.has_deleted_reason) → TellsFault None p.fault checked
+      → (checked.status ≡ NotVerified → checked.literal_lost ≡ s.has_lost_literal) → ((checked.status ≡ NotVerified → ⊥) → checked.literal_lost ≡ false) → TellsFault None p.fault checked
       → PassesNoEnd (with_step step end offset p) rest → LeavesRest s (with_step step end offset p) rest checked
-  LeavesRest-decided refuses told only reason tells reach = record {
+  LeavesRest-decided refuses told only loss none_lost tells reach = record {
     past = λ words ending last e d. not_passed (with_step step end offset p) rest reach words ending last d;
     past_fault = reach.fault;
     refused = λ words ending v e. told v ∙ ended (refuses v) words ending e;
     only = only;
-    reason = λ t. ap is_some (told (reason t).0);
-    deleted = λ words ending t e. inl (reason t).1;
+    lost = λ words ending v e. (
+      λ t. (ap is_some (told v), inl (sym (loss v) ∙ t)),
+      λ q. elim q.1 [
+        | inl had ↦ loss v ∙ had
+        | inr now ↦ absurd (none_taken (refuses v) words ending e now)
+      ],
+    );
+    none_lost = none_lost;
     malformed = tells;
   }
     where
@@ -164,17 +172,21 @@ module _ (s : View) (step : Step) (end : StepEnd) (offset : ℕ) (p : Proof) (re
       ended a [] ending e = sym (ap (refused_end (here ∷ p.steps) []) e.1)
       ended a (w ∷ ws) ending e = absurd (ok_err w a.0 (answer_unique s.state step _ _ e.0 a.1))
 
+      none_taken : IsRefused s.state step → (words : List Accepted) (ending : Ending) → Ends s.state (step ∷ bare_steps p) words ending → HasLost s.state (step ∷ bare_steps p) words → ⊥
+      none_taken a [] ending e lost = lost
+      none_taken a (w ∷ ws) ending e lost = ok_err w a.0 (answer_unique s.state step _ _ e.0 a.1)
+
   -- it was accepted, and the check went on
   pub LeavesRest-step : (t : View) (word : Accepted) → Answers s.state step (Ok word) → is_last word ≡ false → Same t.state (after s.state step word)
-      → (IsTrue t.has_deleted_reason → IsTrue s.has_deleted_reason ⊎ DeletesReason s.state step word)
+      → IsTrue t.has_lost_literal ↔ (IsTrue s.has_lost_literal ⊎ StepLoses s.state step word)
       → LeavesRest t p rest checked → LeavesRest s (with_step step end offset p) rest checked
-  LeavesRest-step t word a not_last same reason later = record {
+  LeavesRest-step t word a not_last same loss later = record {
     past = λ words ending last e d. by words ending last e d;
     past_fault = later.past_fault;
     refused = λ words ending v e. ended words ending v e;
     only = later.only;
-    reason = later.reason;
-    deleted = λ words ending told e. before words ending told e;
+    lost = λ words ending v e. before words ending v e;
+    none_lost = later.none_lost;
     malformed = later.malformed;
   }
     where
@@ -200,19 +212,32 @@ module _ (s : View) (step : Step) (end : StepEnd) (offset : ℕ) (p : Proof) (re
           let ends = subst P is (MatchBool-at_false _ _ (ap is_last is ∙ not_last) e.1) in
           ends_same (bare_steps p) ws ending (after s.state step word) t.state (same_sym t.state (after s.state step word) same) ends
 
-      -- a reason was deleted before this step, by it or after it
-      before : (words : List Accepted) (ending : Ending) → IsTrue checked.reason_deleted → Ends s.state (step ∷ bare_steps p) words ending
-          → IsTrue s.has_deleted_reason ⊎ DeletedReason s.state (step ∷ bare_steps p) words
-      before [] ending told e = absurd (ok_err word e.0 (answer_unique s.state step _ _ a e.2))
-      before (w ∷ ws) ending told e =
-          let P : Accepted → Type 0 = λ x. IsTrue s.has_deleted_reason ⊎ DeletedReason s.state (step ∷ bare_steps p) (x ∷ ws) in
-          subst P (sym (ok_is w word (answer_unique s.state step _ _ e.0 a))) (elim (later.deleted ws ending told (goes_on w ws ending e)) [
-            | inl had ↦ elim (reason had) [
-              | inl earlier ↦ inl earlier
-              | inr now ↦ inr (inl now)
-            ]
-            | inr d ↦ inr (inr (deleted_same (bare_steps p) ws t.state (after s.state step word) same d))
-          ])
+      -- a literal was lost before this step, by it or after it
+      over : (ws : List Accepted) → (IsTrue t.has_lost_literal ⊎ HasLost t.state (bare_steps p) ws) ↔ (IsTrue s.has_lost_literal ⊎ HasLost s.state (step ∷ bare_steps p) (word ∷ ws))
+      over ws = (
+        λ q. elim q [
+          | inl had ↦ elim (loss.0 had) [
+            | inl earlier ↦ inl earlier
+            | inr now ↦ inr (inl now)
+          ]
+          | inr d ↦ inr (inr (lost_same (bare_steps p) ws t.state (after s.state step word) same d))
+        ],
+        λ q. elim q [
+          | inl earlier ↦ inl (loss.1 (inl earlier))
+          | inr d ↦ elim d [
+            | inl now ↦ inl (loss.1 (inr now))
+            | inr later ↦ inr (lost_same (bare_steps p) ws (after s.state step word) t.state (same_sym t.state (after s.state step word) same) later)
+          ]
+        ],
+      )
+
+      before : (words : List Accepted) (ending : Ending) → checked.status ≡ NotVerified → Ends s.state (step ∷ bare_steps p) words ending
+          → IsTrue checked.literal_lost ↔ (IsSome checked.refused × (IsTrue s.has_lost_literal ⊎ HasLost s.state (step ∷ bare_steps p) words))
+      before [] ending v e = absurd (ok_err word e.0 (answer_unique s.state step _ _ a e.2))
+      before (w ∷ ws) ending v e =
+          let P : Accepted → Type 0 = λ x. IsTrue checked.literal_lost ↔ (IsSome checked.refused × (IsTrue s.has_lost_literal ⊎ HasLost s.state (step ∷ bare_steps p) (x ∷ ws))) in
+          let tells = later.lost ws ending v (goes_on w ws ending e) in
+          subst P (sym (ok_is w word (answer_unique s.state step _ _ e.0 a))) (λ t. let q = tells.0 t in (q.0, (over ws).0 q.1), λ q. tells.1 (q.0, (over ws).1 q.1))
 
       by : (words : List Accepted) (ending : Ending) (last : PlacedStep) → Ends s.state (step ∷ bare_steps p) words ending
           → deciding_step (here ∷ p.steps) words ending ≡ Some last → rest.offset ≤ last.offset
@@ -228,14 +253,14 @@ module _ (s : View) (step : Step) (end : StepEnd) (offset : ℕ) (p : Proof) (re
 
 -- ---- A whole proof
 
-module _ (rule : Rule) (fault : Option Fault) (clauses : List Clause) (p : Proof) (reader : Reader) (rest : Suffix) (checked : Checked) (none : checked.refused ≡ None) (quiet : checked.reason_deleted ≡ false) (tells : TellsFault fault p.fault checked) where
+module _ (rule : Rule) (fault : Option Fault) (clauses : List Clause) (p : Proof) (reader : Reader) (rest : Suffix) (checked : Checked) (none : checked.refused ≡ None) (quiet : checked.literal_lost ≡ false) (tells : TellsFault fault p.fault checked) where
   -- no verdict was answered, and nothing was read
   pub LeavesProof-broken : (IsVerdict checked.status → ⊥) → LeavesProof rule fault clauses p reader reader rest checked
   LeavesProof-broken broken = record {
     unread = λ n. refl;
     past = λ words ending last whole e d. inl refl;
     past_fault = λ offset e. inl refl;
-    told = record { unread = λ n. none; refused = λ words ending whole is e. absurd (broken (inr is)); only = λ _. none; reason = TellsReason-none rule clauses p checked quiet; malformed = tells };
+    told = record { unread = λ n. none; refused = λ words ending whole is e. absurd (broken (inr is)); only = λ _. none; loss = TellsLoss-none rule fault clauses p checked none quiet; malformed = tells };
   }
 
   -- some clause is empty
@@ -250,7 +275,7 @@ module _ (rule : Rule) (fault : Option Fault) (clauses : List Clause) (p : Proof
           let q = MatchBool-at_true _ _ empty e in
           none ∙ sym (ap (refused_end p.steps words) q.1);
       only = λ _. none;
-      reason = TellsReason-none rule clauses p checked quiet;
+      loss = TellsLoss-none rule fault clauses p checked none quiet;
       malformed = tells;
     };
   }
@@ -266,12 +291,9 @@ LeavesProof-checked rule s clauses l p old new rest checked unverified leaves = 
     unread = λ n. absurd (needed n);
     refused = λ words ending whole v e. leaves.refused words ending v (ends words ending e);
     only = leaves.only;
-    reason = record {
-      refused = leaves.reason;
-      deleted = λ words ending told e. elim (leaves.deleted words ending told (ends words ending e)) [
-        | inl had ↦ absurd (false≢true (sym l.none_deleted ∙ had))
-        | inr d ↦ deleted_same (bare_steps p) words s.state (start rule clauses) l.state d
-      ];
+    loss = record {
+      lost = λ words ending whole v e. loaded words (leaves.lost words ending v (ends words ending e));
+      only = leaves.none_lost;
     };
     malformed = leaves.malformed;
   };
@@ -279,6 +301,20 @@ LeavesProof-checked rule s clauses l p old new rest checked unverified leaves = 
   where
     none : list_any is_empty clauses ≡ false
     none = sym l.verified ∙ unverified
+
+    -- the clauses that were input lost none
+    loaded : (words : List Accepted) → IsTrue checked.literal_lost ↔ (IsSome checked.refused × (IsTrue s.has_lost_literal ⊎ HasLost s.state (bare_steps p) words))
+        → IsTrue checked.literal_lost ↔ (IsSome checked.refused × HasLost (start rule clauses) (bare_steps p) words)
+    loaded words tells = (
+      λ t. let q = tells.0 t in (
+        q.0,
+        elim q.1 [
+          | inl had ↦ absurd (false≢true (sym l.none_lost ∙ had))
+          | inr d ↦ lost_same (bare_steps p) words s.state (start rule clauses) l.state d
+        ],
+      ),
+      λ q. tells.1 (q.0, inr (lost_same (bare_steps p) words (start rule clauses) s.state (same_sym s.state (start rule clauses) l.state) q.1)),
+    )
 
     needed : NeedsNoProof None clauses → ⊥
     needed (inl fault) = fault refl
@@ -288,7 +324,7 @@ LeavesProof-checked rule s clauses l p old new rest checked unverified leaves = 
     ends words ending e = ends_same (bare_steps p) words ending (start rule clauses) s.state (same_sym s.state (start rule clauses) l.state) (MatchBool-at_false _ _ none e)
 
 -- the formula has a fault, or memory ran out
-pub LeavesProof-fault : (rule : Rule) (s : View) (f : Fault) (i : Input) (p : Proof) (reader : Reader) (rest : Suffix) (checked : Checked) → checked.refused ≡ None → checked.reason_deleted ≡ false
+pub LeavesProof-fault : (rule : Rule) (s : View) (f : Fault) (i : Input) (p : Proof) (reader : Reader) (rest : Suffix) (checked : Checked) → checked.refused ≡ None → checked.literal_lost ≡ false
     → Loads rule s (Err f) (formula_of i) → (f ≡ OutOfMemory → (IsVerdict checked.status → ⊥) × (checked.status ≡ Malformed → ⊥))
     → (checked.status ≡ Malformed → checked.fault ≡ Some (of.Formula f)) → ((checked.status ≡ Malformed → ⊥) → checked.fault ≡ None)
     → LeavesProof rule (formula_of i).fault (formula_of i).clauses p reader reader rest checked
@@ -304,7 +340,7 @@ LeavesProof-fault rule s f i p reader rest checked none quiet loads broken malfo
         unread = λ n. none;
         refused = λ words ending whole v e. absurd (none-some f (sym whole ∙ is));
         only = λ _. none;
-        reason = TellsReason-none rule (formula_of i).clauses p checked quiet;
+        loss = TellsLoss-none rule (formula_of i).fault (formula_of i).clauses p checked none quiet;
         malformed = record { malformed = λ m. malformed m ∙ sym (ap (λ o. first_fault o p.fault) is); only = only };
       };
     }

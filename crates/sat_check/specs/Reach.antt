@@ -1,17 +1,17 @@
 -- How far a proof is read, and why a check ended so: where the step ends that is refused, whether a
--- reason was deleted before it, and what is wrong with an input.
+-- root-level literal was lost before it, and what is wrong with an input.
 use Rattle.std.specs.List.{list_any}
-use Rattle.std.specs.Prelude.{List, [], ◌∷◌, length, slice_get, Option, None, Some, ◌≡◌, ◌⊎◌, true}
-use Rattle.std.specs.Prelude.{ℕ, ◌+◌, ◌≤◌, IsTrue, IsSome}
+use Rattle.std.specs.Prelude.{List, [], ◌∷◌, length, slice_get, Option, None, Some, ◌≡◌, ◌⊎◌, true, false}
+use Rattle.std.specs.Prelude.{◌↔◌, ℕ, ◌+◌, ◌≤◌, IsTrue, IsSome}
 use Rattle.cnf_base.specs.Literals.{Clause}
 use Rattle.cnf_base.specs.Stream.{Reader, bytes_read}
 use Rattle.cnf_base.specs.declared.fault.Fault.{Fault}
 use Rattle.dimacs.specs.Formula.{Formula}
 use Rattle.proofs.specs.Reading.{PlacedStep, Proof}
 use Rattle.proofs.specs.declared.step_end.StepEnd.{StepEnd}
+use Rattle.theory.specs.Losses.{HasLost}
 use Rattle.theory.specs.Rules.{Rule, start}
 use Rattle.theory.specs.Verdicts.{Ending, verified, refused, no_empty_clause, is_empty, Verdict}
-use Rattle.theory.specs.Verdicts.{DeletedReason}
 use Rattle.theory.specs.declared.accepted.Accepted.{Accepted}
 use Rattle.sat_check.specs.Report.{bare_steps}
 use Rattle.sat_check.specs.declared.checked.Checked.{Checked}
@@ -65,18 +65,19 @@ pub record TellsFault (formula second : Option Fault) (checked : Checked) : Type
   pub malformed : checked.status ≡ Malformed → checked.fault ≡ first_fault formula second
   pub only : (checked.status ≡ Malformed → ⊥) → checked.fault ≡ None
 
--- A check tells that a reason was deleted only where a step was refused, and one of those that were
--- accepted before had deleted a clause that made a literal hold for good.
-pub record TellsReason (rule : Rule) (clauses : List Clause) (p : Proof) (checked : Checked)
-    : Type 0 where
-  pub refused : IsTrue checked.reason_deleted → IsSome checked.refused
-  pub deleted : (words : List Accepted) (ending : Ending) → IsTrue checked.reason_deleted
-      → Verdict rule clauses (bare_steps p) words ending →
-      DeletedReason (start rule clauses) (bare_steps p) words
+-- A check tells that a root-level literal was lost exactly where a step was refused, and one of
+-- those that were accepted before lost one.
+pub record TellsLoss (rule : Rule) (fault : Option Fault) (clauses : List Clause) (p : Proof)
+    (checked : Checked) : Type 0 where
+  pub lost : (words : List Accepted) (ending : Ending) → fault ≡ None →
+      checked.status ≡ NotVerified
+      → Verdict rule clauses (bare_steps p) words ending → IsTrue checked.literal_lost ↔
+      (IsSome checked.refused × HasLost (start rule clauses) (bare_steps p) words)
+  pub only : (checked.status ≡ NotVerified → ⊥) → checked.literal_lost ≡ false
 
 -- A check tells why it ended so: where the refused step ends, exactly where the status is
--- `NotVerified` since a step of the proof was refused; that a reason was deleted; and what is wrong
--- with an input.
+-- `NotVerified` since a step of the proof was refused; whether a root-level literal was lost before;
+-- and what is wrong with an input.
 pub record TellsWhy (rule : Rule) (fault : Option Fault) (clauses : List Clause) (p : Proof)
     (checked : Checked) : Type 0 where
   pub unread : NeedsNoProof fault clauses → checked.refused ≡ None
@@ -85,5 +86,5 @@ pub record TellsWhy (rule : Rule) (fault : Option Fault) (clauses : List Clause)
       → Verdict rule clauses (bare_steps p) words ending →
       checked.refused ≡ refused_end p.steps words ending
   pub only : (checked.status ≡ NotVerified → ⊥) → checked.refused ≡ None
-  pub reason : TellsReason rule clauses p checked
+  pub loss : TellsLoss rule fault clauses p checked
   pub malformed : TellsFault fault p.fault checked

@@ -42,9 +42,9 @@ pub fn check_proof<S: ProofSession, R: StepReader, O: Out>(
         match reader.next(&mut step) {
             Ok(true) => {
                 let number = accepted.saturating_add(1);
-                let reason_deleted = session.has_deleted_reason();
+                let literal_lost = session.has_lost_literal();
                 if let Some(status) = check_step(alloc, trace, session, &step, number, lines) {
-                    return Checked::by_step(status, reader.step_end(), reason_deleted);
+                    return Checked::by_step(status, reader.step_end(), literal_lost);
                 }
                 accepted = number;
             }

@@ -1,6 +1,6 @@
 //! How a check ended.
 
-ghost use Rattle.std.specs.Prelude.{◌≡◌, ◌≢◌, Some, None, false, IsTrue};
+ghost use Rattle.std.specs.Prelude.{◌≡◌, ◌≢◌, Some, None, false};
 
 use crate::{InputFault, Status};
 use proofs::StepEnd;
@@ -11,9 +11,9 @@ pub struct Checked {
     pub status: Status,
     /// Where the `0` stands that ends the refused step. None where no step was refused.
     pub refused: Option<StepEnd>,
-    /// Whether the proof is known to have deleted a clause that made a literal hold for good. False
-    /// where no step was refused.
-    pub reason_deleted: bool,
+    /// Whether the proof had lost a root-level literal by a deletion. False where no step was
+    /// refused.
+    pub literal_lost: bool,
     /// What is wrong with an input. None where the status isn't `Malformed`.
     pub fault: Option<InputFault>,
     /// Which clause of the formula, from 1, is the first that the model doesn't satisfy, if one is.
@@ -26,7 +26,7 @@ impl Checked {
         ensures { result ≡ record {
           status = status;
           refused = None;
-          reason_deleted = false;
+          literal_lost = false;
           fault = None;
           unmet = None;
         } }
@@ -34,7 +34,7 @@ impl Checked {
         Checked {
             status,
             refused: None,
-            reason_deleted: false,
+            literal_lost: false,
             fault: None,
             unmet: None,
         }
@@ -45,7 +45,7 @@ impl Checked {
         ensures { result ≡ record {
           status = status;
           refused = None;
-          reason_deleted = false;
+          literal_lost = false;
           fault = None;
           unmet = unmet;
         } }
@@ -57,19 +57,19 @@ impl Checked {
     }
 
     /// The last step, which ends there, was refused if the proof wasn't verified.
-    pub(crate) fn by_step(status: Status, end: Option<StepEnd>, reason_deleted: bool) -> Checked
+    pub(crate) fn by_step(status: Status, end: Option<StepEnd>, literal_lost: bool) -> Checked
         ensures status { result.status ≡ status }
         ensures refused { status ≡ Status.NotVerified → result.refused ≡ end }
         ensures only { status ≢ Status.NotVerified → result.refused ≡ None }
-        ensures reason { IsTrue result.reason_deleted →
-            (status ≡ Status.NotVerified) × IsTrue reason_deleted }
+        ensures lost { status ≡ Status.NotVerified → result.literal_lost ≡ literal_lost }
+        ensures none_lost { status ≢ Status.NotVerified → result.literal_lost ≡ false }
         ensures well_formed { result.fault ≡ None }
     {
         match status {
             Status::NotVerified => Checked {
                 status,
                 refused: end,
-                reason_deleted,
+                literal_lost,
                 fault: None,
                 unmet: None,
             },
@@ -81,7 +81,7 @@ impl Checked {
     pub(crate) fn by_fault(status: Status, fault: InputFault) -> Checked
         ensures status { result.status ≡ status }
         ensures refused { result.refused ≡ None }
-        ensures no_reason { result.reason_deleted ≡ false }
+        ensures none_lost { result.literal_lost ≡ false }
         ensures no_clause { result.unmet ≡ None }
         ensures malformed { status ≡ Status.Malformed → result.fault ≡ Some fault }
         ensures only { status ≢ Status.Malformed → result.fault ≡ None }
@@ -90,7 +90,7 @@ impl Checked {
             Status::Malformed => Checked {
                 status,
                 refused: None,
-                reason_deleted: false,
+                literal_lost: false,
                 fault: Some(fault),
                 unmet: None,
             },

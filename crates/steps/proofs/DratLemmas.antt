@@ -1,4 +1,5 @@
 pub mod Candidates
+pub mod Losses
 pub mod Slots
 pub mod Steps
 pub mod Witnesses

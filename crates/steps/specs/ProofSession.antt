@@ -10,8 +10,8 @@ pub record View : Type 0 where
   -- whether an empty clause was input or accepted
   pub is_verified : Bool
   pub is_ended : Bool
-  -- whether it knows of a deleted clause that made a literal hold for good
-  pub has_deleted_reason : Bool
+  -- whether an accepted deletion lost a root-level literal
+  pub has_lost_literal : Bool
   -- the greatest sum of the sizes, after each clause that was input and each accepted step
   pub peak : ℕ
   -- the sum of the lengths of all lists of literals that it keeps
@@ -28,5 +28,5 @@ pub record IsCutOff (old new : View) : Type 0 where
   pub ended : new.is_ended ≡ true
   pub verified : new.is_verified ≡ old.is_verified
   pub stepped : new.has_stepped ≡ old.has_stepped
-  pub deleted_reason : new.has_deleted_reason ≡ old.has_deleted_reason
+  pub lost : new.has_lost_literal ≡ old.has_lost_literal
   pub peak : new.peak ≡ old.peak

@@ -16,8 +16,8 @@ pub record Held : Type 0 where
   pub top : ℕ
   -- the sum of the lengths of all lists of literals that are kept
   pub stored : ℕ
-  -- whether a deleted clause is known that made a literal hold for good
-  pub has_deleted_reason : Bool
+  -- whether an accepted deletion lost a root-level literal
+  pub has_lost_literal : Bool
 
 -- what contracts see of a session
 pub record SessionState : Type 0 where
@@ -39,7 +39,7 @@ fresh rule = record {
     live = maps.empty;
     top = 0;
     stored = 0;
-    has_deleted_reason = false;
+    has_lost_literal = false;
   };
   has_stepped = false;
   is_verified = false;
@@ -62,7 +62,7 @@ view_of s = record {
   has_stepped = s.has_stepped;
   is_verified = s.is_verified;
   is_ended = s.is_ended;
-  has_deleted_reason = s.held.has_deleted_reason;
+  has_lost_literal = s.held.has_lost_literal;
   peak = s.peak;
   stored = s.held.stored;
   room = 4294967295 - s.held.top;

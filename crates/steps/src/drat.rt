@@ -2,6 +2,7 @@
 
 mod addition;
 mod candidates;
+mod deletion;
 mod step;
 
 ghost use Rattle.std.specs.Prelude.{◌≡◌, ℕ, [], false, IsFalse};
@@ -11,7 +12,8 @@ ghost use Rattle.steps.specs.Session.{fresh};
 ghost use Rattle.trail.specs.LiteralSet.{in_set};
 
 use crate::drat::addition::Examiner;
-use crate::drat::step::{add_copy, delete, parts_of};
+use crate::drat::deletion::delete;
+use crate::drat::step::{add_copy, parts_of};
 use crate::judge::Judge;
 use crate::session::Session;
 use cnf_base::{Lit, OutOfMemory};
@@ -27,9 +29,7 @@ pub type DratSession<P> = Session<DratJudge<P>>;
 pub struct DratJudge<P: Propagate> {
     examiner: Examiner<P>,
     rules: DratRules,
-    has_deleted_reason: bool,
-    /// Whether a deletion since the last addition found the literals that hold for good.
-    is_settled: bool,
+    has_lost_literal: bool,
     ghost no_slots: { examiner.slots.items ≡ [] },
     ghost no_rest: { examiner.last.rest.items ≡ [] },
     ghost none_looked_at: { (l : ℕ) → IsFalse (in_set examiner.looked_at l) },
@@ -50,8 +50,7 @@ impl<P: Propagate> Session<DratJudge<P>> {
         Session::over(DratJudge {
             examiner,
             rules,
-            has_deleted_reason: false,
-            is_settled: false,
+            has_lost_literal: false,
         })
     }
 }
@@ -71,8 +70,7 @@ impl<P: Propagate> Judge for DratJudge<P> {
         clauses = clauses;
       };
       rules = rules;
-      has_deleted_reason = has_deleted_reason;
-      is_settled = _;
+      has_lost_literal = has_lost_literal;
       no_slots = _;
       no_rest = _;
       none_looked_at = _;
@@ -82,35 +80,30 @@ impl<P: Propagate> Judge for DratJudge<P> {
       live = (P.state clauses).live;
       top = 0;
       stored = (P.state clauses).stored;
-      has_deleted_reason = has_deleted_reason;
+      has_lost_literal = has_lost_literal;
     } };
 
     ghost is_ready = { λ s. IsIdle (P.state s.examiner.clauses) };
 
     fn input(&mut self, lits: &[Lit]) -> Result<(), OutOfMemory> {
-        self.is_settled = false;
         add_copy(&mut self.examiner.clauses, lits)
     }
 
     fn step(&mut self, step: &StepBuf) -> Result<Accepted, Refusal> {
         match step.kind() {
             StepKind::Add => {
-                self.is_settled = false;
                 let (clause, witness) = parts_of(self.rules, step);
                 self.examiner.add(clause, witness)
             }
             StepKind::Delete => {
                 let clauses = &mut self.examiner.clauses;
-                let lost = &mut self.has_deleted_reason;
-                let answer = delete(clauses, self.rules, step.lits(), self.is_settled, lost);
-                self.is_settled |= matches!(answer, Ok(Accepted::Deleted));
-                answer
+                delete(clauses, self.rules, step.lits(), &mut self.has_lost_literal)
             }
         }
     }
 
-    fn has_deleted_reason(&self) -> bool {
-        self.has_deleted_reason
+    fn has_lost_literal(&self) -> bool {
+        self.has_lost_literal
     }
 
     fn literals(&self) -> u64 {

@@ -1,11 +1,11 @@
 //! What a session has of its rule.
 
-ghost use Rattle.std.specs.Prelude.{◌≡◌, ◌≢◌, ◌⊎◌, ◌+◌, ◌<◌, ◌≤◌, IsTrue, IfOk, OnOk, OnErr};
+ghost use Rattle.std.specs.Prelude.{◌≡◌, ◌≢◌, ◌⊎◌, ◌↔◌, ◌+◌, ◌<◌, ◌≤◌, IsTrue, IfOk, OnOk, OnErr};
 ghost use Rattle.steps.specs.Session.{Held, state_of};
 ghost use Rattle.theory.specs.Rules.{Same, with_input, Answers, after, literals_of, sum_of};
 ghost use Rattle.theory.specs.Rules.{IsSatisfiable};
 ghost use Rattle.theory.specs.Answers.{UnlessOutOfMemory};
-ghost use Rattle.theory.specs.Verdicts.{DeletesReason};
+ghost use Rattle.theory.specs.Losses.{StepLoses};
 
 use cnf_base::{Lit, OutOfMemory};
 use proofs::StepBuf;
@@ -28,8 +28,8 @@ pub trait Judge {
             (with_input (state_of (held self.old)) lits.now)) }
         ensures top { OnOk result ((held self.new).top ≤ (held self.old).top + 1) }
         ensures refused { OnErr result ((held self.new).stored ≤ (held self.old).stored) }
-        ensures reason_stays { (held self.new).has_deleted_reason
-            ≡ (held self.old).has_deleted_reason }
+        ensures lost_stays { (held self.new).has_lost_literal
+            ≡ (held self.old).has_lost_literal }
         ensures rule_stays { (held self.new).rule ≡ (held self.old).rule };
 
     /// Judges a step and, where it is accepted, takes it.
@@ -44,16 +44,16 @@ pub trait Judge {
         ensures keeps_models { OnOk result (IsSatisfiable (state_of (held self.old)) →
             IsSatisfiable (state_of (held self.new))) }
         ensures refused { OnErr result ((held self.new).stored ≤ (held self.old).stored) }
-        ensures deleted_reason { IfOk result (λ word. IsTrue (held self.new).has_deleted_reason →
-            IsTrue (held self.old).has_deleted_reason
-            ⊎ DeletesReason (state_of (held self.old)) step.now word) }
-        ensures reason_stays { OnErr result
-            ((held self.new).has_deleted_reason ≡ (held self.old).has_deleted_reason) }
+        ensures lost { IfOk result (λ word. IsTrue (held self.new).has_lost_literal ↔
+            (IsTrue (held self.old).has_lost_literal
+            ⊎ StepLoses (state_of (held self.old)) step.now word)) }
+        ensures lost_stays { OnErr result
+            ((held self.new).has_lost_literal ≡ (held self.old).has_lost_literal) }
         ensures rule_stays { (held self.new).rule ≡ (held self.old).rule };
 
-    /// Whether it knows of a deleted clause that made a literal hold for good.
-    fn has_deleted_reason(&self) -> bool
-        ensures { result ≡ (held self.now).has_deleted_reason };
+    /// Whether an accepted deletion lost a root-level literal.
+    fn has_lost_literal(&self) -> bool
+        ensures { result ≡ (held self.now).has_lost_literal };
 
     /// The sum of the sizes of the live clauses, which is that of all lists of literals that it
     /// keeps. It saturates.

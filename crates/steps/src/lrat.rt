@@ -122,7 +122,7 @@ impl Judge for LratJudge {
       live = held.live;
       top = held.top;
       stored = held.stored;
-      has_deleted_reason = false;
+      has_lost_literal = false;
     } };
 
     ghost is_ready = { λ s. IsReady (maps.get s.held.live) s.trues };
@@ -143,7 +143,7 @@ impl Judge for LratJudge {
         }
     }
 
-    fn has_deleted_reason(&self) -> bool {
+    fn has_lost_literal(&self) -> bool {
         false
     }
 

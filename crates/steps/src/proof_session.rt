@@ -11,7 +11,8 @@ ghost use Rattle.steps.specs.ProofSession.{View, is_over, IsCutOff};
 ghost use Rattle.theory.specs.Rules.{Same, with_input, Answers, after, literals_of, sum_of};
 ghost use Rattle.theory.specs.Rules.{rule_of, IsSatisfiable};
 ghost use Rattle.theory.specs.Answers.{UnlessOutOfMemory};
-ghost use Rattle.theory.specs.Verdicts.{is_empty, is_last, DeletesReason};
+ghost use Rattle.theory.specs.Verdicts.{is_empty, is_last};
+ghost use Rattle.theory.specs.Losses.{StepLoses};
 
 use cnf_base::Lit;
 use proofs::StepBuf;
@@ -51,8 +52,8 @@ pub trait ProofSession {
         ensures room { OnOk result ((shown self.old).room ≤ (shown self.new).room + 1) }
         ensures steps { OnOk result ((shown self.new).has_stepped ≡ false) }
         ensures goes_on { OnOk result ((shown self.new).is_ended ≡ false) }
-        ensures reason_stays { OnOk result
-            ((shown self.new).has_deleted_reason ≡ (shown self.old).has_deleted_reason) }
+        ensures lost_stays { OnOk result
+            ((shown self.new).has_lost_literal ≡ (shown self.old).has_lost_literal) }
         ensures refused { OnErr result (IsCutOff (shown self.old) (shown self.new)) }
         ensures rule_stays { rule_of (shown self.new).state ≡ rule_of (shown self.old).state };
 
@@ -81,10 +82,10 @@ pub trait ProofSession {
             (shown self.old).stored + length step.now.lits) }
         ensures held_stays { result ≡ Err Refusal.Ended →
             (shown self.new).stored ≡ (shown self.old).stored }
-        // It is told of no other clause that it made a literal hold for good and was deleted.
-        ensures deleted_reason { IfOk result (λ word. IsTrue (shown self.new).has_deleted_reason →
-            IsTrue (shown self.old).has_deleted_reason
-            ⊎ DeletesReason (shown self.old).state step.now word) }
+        // It takes note of a root-level literal that the step loses.
+        ensures lost { IfOk result (λ word. IsTrue (shown self.new).has_lost_literal ↔
+            (IsTrue (shown self.old).has_lost_literal
+            ⊎ StepLoses (shown self.old).state step.now word)) }
         // It keeps satisfiability.
         ensures keeps_models { OnOk result (IsSatisfiable (shown self.old).state →
             IsSatisfiable (shown self.new).state) }
@@ -95,9 +96,9 @@ pub trait ProofSession {
     fn verified(&self) -> bool
         ensures { result ≡ (shown self.now).is_verified };
 
-    /// Whether it knows of a deleted clause that made a literal hold for good.
-    fn has_deleted_reason(&self) -> bool
-        ensures { result ≡ (shown self.now).has_deleted_reason };
+    /// Whether an accepted deletion lost a root-level literal.
+    fn has_lost_literal(&self) -> bool
+        ensures { result ≡ (shown self.now).has_lost_literal };
 
     /// How many literals it keeps: the sum of the lengths of all lists of literals of clauses or of
     /// steps in it; `2^64 - 1` where it is greater. After an accepted call that is the sum of the

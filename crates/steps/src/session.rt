@@ -56,7 +56,7 @@ impl<J: Judge> Session<J> {
         requires ready { J.is_ready judge }
         requires empty { (J.held judge).live ≡ maps.empty }
         requires none_before { (J.held judge).top ≡ 0 }
-        requires none_deleted { (J.held judge).has_deleted_reason ≡ false }
+        requires none_lost { (J.held judge).has_lost_literal ≡ false }
         ensures { result ≡ fresh (J.held judge).rule }
     {
         let progress = Progress::new(judge.literals());
@@ -96,8 +96,8 @@ impl<J: Judge> ProofSession for Session<J> {
         self.progress.is_verified
     }
 
-    fn has_deleted_reason(&self) -> bool {
-        self.judge.has_deleted_reason()
+    fn has_lost_literal(&self) -> bool {
+        self.judge.has_lost_literal()
     }
 
     fn held(&self) -> u64 {

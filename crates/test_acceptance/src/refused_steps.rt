@@ -35,7 +35,7 @@ fn run_placed<F: In, P: In, O: Out>(
         Request::Model => Checked {
             status: Status::Usage,
             refused: None,
-            reason_deleted: false,
+            literal_lost: false,
             fault: None,
             unmet: None,
         },

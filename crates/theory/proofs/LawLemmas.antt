@@ -4,6 +4,7 @@ pub mod Growth
 pub mod Holds
 pub mod Keeping
 pub mod KeptUnits
+pub mod Losses
 pub mod Reasons
 pub mod Rules
 pub mod Scans

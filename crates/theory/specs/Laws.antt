@@ -12,7 +12,8 @@ use Rattle.theory.specs.Lrat.{Group, LratState, LratStep, add, AnswersLrat, chai
 use Rattle.theory.specs.Lrat.{with_clause, without_ids, SameClauses}
 use Rattle.theory.specs.Sizes.{total}
 use Rattle.theory.specs.Rules.{Rule, drat, State, start, Answers, after, IsSatisfiable, IsFinite}
-use Rattle.theory.specs.Verdicts.{Ending, verified, Verdict, DeletedReason}
+use Rattle.theory.specs.Losses.{StepLoses}
+use Rattle.theory.specs.Verdicts.{Ending, verified, Verdict, DeletesReason, DeletedReason}
 use Rattle.proofs.specs.Steps.{Step}
 use Rattle.theory.specs.declared.drat_rules.DratRules.{DratRules}
 use Rattle.theory.specs.Renaming.{renamed, step_renamed, answer_renamed, ending_renamed, IsRenamed}
@@ -92,6 +93,12 @@ ReasonsAreKept = (rules : DratRules) (formula : List Clause) (steps : List Step)
     (words : List Accepted) (ending : Ending) →
     IsTrue rules.keep_units → Verdict (drat rules) formula steps words ending →
     ¬ DeletedReason (start (drat rules) formula) steps words
+
+-- A deletion that loses a root-level literal is of a clause that made one hold for good (our own
+-- profile).
+abbrev pub LostWithReason : Type 0
+LostWithReason = (state : State) (step : Step) (word : Accepted) →
+    StepLoses state step word → DeletesReason state step word
 
 -- A step has at most one answer.
 abbrev pub AnswersAreUnique : Type 0

@@ -1,6 +1,7 @@
 pub mod Answers
 pub mod Drat
 pub mod Laws
+pub mod Losses
 pub mod Lrat
 pub mod Models
 pub mod Propagation

@@ -8,7 +8,7 @@ ghost use Rattle.theory.specs.Laws.{ForcedIsTrue, RupIsImplied, RatKeepsModels, 
 ghost use Rattle.theory.specs.Laws.{ChainShowsClash, LratShowsRedundant, KeepsModels};
 ghost use Rattle.theory.specs.Laws.{IsSoundVerdict, AnswersAreUnique, AnswersExist};
 ghost use Rattle.theory.specs.Laws.{VerdictsAreUnique, VerdictsExist, UnitsAreKept};
-ghost use Rattle.theory.specs.Laws.{ReasonsAreKept};
+ghost use Rattle.theory.specs.Laws.{ReasonsAreKept, LostWithReason};
 ghost use Rattle.theory.specs.Laws.{OnlyCopiesCount, OnlySetsCount, EqualSetsEqualTotals};
 ghost use Rattle.theory.specs.Laws.{EqualCopiesEqualSums};
 ghost use Rattle.theory.specs.Laws.{NamesDontMatter, VerdictsKeepUnderNames};
@@ -62,6 +62,11 @@ pub fn units_are_kept()
 /// Where the rules keep units, no clause is deleted that makes a literal hold for good.
 pub fn reasons_are_kept()
     ensures { ReasonsAreKept }
+{}
+
+/// A deletion that loses a root-level literal is of a clause that made one hold for good.
+pub fn lost_with_reason()
+    ensures { LostWithReason }
 {}
 
 /// A step has at most one answer.

@@ -378,13 +378,11 @@ impl Propagate for Watch {
         }
     }
 
-    fn remove(&mut self, slot: Slot) -> bool {
-        let is_lost = self
-            .roots
+    fn remove(&mut self, slot: Slot) {
+        self.roots
             .leave(&self.store, &mut self.lists, &mut self.assumptions, slot);
         remove_entries(&self.store, &mut self.lists, &mut self.short, slot);
         remove_clause(&mut self.store, &mut self.closure, slot);
-        is_lost
     }
 
     fn find(&mut self, lits: &[Lit]) -> Option<Slot> {

@@ -1,13 +1,12 @@
 -- Literals that follow from their reasons.
 use Rattle.std.proofs.Common.{◌≡◌, ◌≢◌, ℕ, Bool, true, Option, Some, is_some, List, [], ◌∷◌, ◌++◌}
-use Rattle.std.proofs.Common.{length, take, sym, ap, ◌∙◌, subst, arith, inl, inr, ◌≤◌, ◌&&◌, cond}
-use Rattle.std.proofs.Common.{eqb, eq-eqb, ne_eqb, refl}
-use Rattle.std.proofs.lemmas.Bool.{and_from, and_parts, cases_eq, cases_lt, false≢true}
+use Rattle.std.proofs.Common.{length, take, sym, ap, ◌∙◌, subst, arith, inl, inr, ◌≤◌}
+use Rattle.std.proofs.lemmas.Bool.{cases_eq, cases_lt, false≢true}
 use Rattle.std.proofs.lemmas.List.{length-append, length-take, take-append-le, take-take, take_all}
 use Rattle.std.proofs.lemmas.Option.{same_Some}
 use Rattle.cnf_base.specs.Literals.{Literal, complement, Clause, has, variable}
 use Rattle.cnf_base.proofs.SetLemmas.{has_append_left, has_append_right, has_head}
-use Rattle.theory.specs.Propagation.{Live, Forced, IsRootReason}
+use Rattle.theory.specs.Propagation.{Live, Forced}
 use Rattle.propagation.specs.Assumptions.{HasAt}
 use Rattle.cnf_base.proofs.MemberLemmas.{place_in_front}
 use Rattle.trail.specs.Trail.{HasNoVariableTwice}
@@ -59,34 +58,6 @@ module _ (live : Live) (reason_of : Literal → Option ℕ) (lits : List Literal
     has_it = λ l s member is. let w = are.has_it l s member is in record { clause = w.clause; at = among l s w.clause member is w.at; member = w.member };
     in_each = λ n passes follows. are.in_each n passes (λ l s c member is at. follows l s c member is (among l s c (front_part n lits l member) is at));
   }
-
-  -- the clause that is the reason of a literal makes it hold for good
-  module _ (m : Literal) (slot : ℕ) (c : Clause) (m_true : has lits m ≡ true) (set : reason_of m ≡ Some slot) (there : live slot ≡ Some c) where
-    others_false : (k : Literal) → has c k ≡ true → k ≢ m → has lits (complement k) ≡ true
-    others_false k member ne =
-        ap (λ b. cond b (has lits (complement k)) true) (sym (eq-eqb m m refl)) ∙ (and_parts (has lits m) _ (in_all passes follows m m_true)).1
-      where
-        passes : Literal → Bool
-        passes x = has lits x && cond (eqb x m) (has lits (complement k)) true
-
-        follows : FollowsReasons live reason_of lits passes
-        follows l s d l_true is at others = elim (cases_eq l m) [
-          | inl e ↦
-              let same_slot = same_Some slot s (sym set ∙ ap reason_of (sym e) ∙ is) in
-              let same_clause = same_Some c d (sym there ∙ ap live same_slot ∙ at) in
-              let other = others k (ap (λ x. has x k) (sym same_clause) ∙ member) (λ same. ne (same ∙ e)) in
-              and_from (has lits l) _ l_true (ap (λ b. cond b (has lits (complement k)) true) (eq-eqb l m e) ∙ (and_parts (has lits (complement k)) _ other).0)
-          | inr different ↦ and_from (has lits l) _ l_true (ap (λ b. cond b (has lits (complement k)) true) (ne_eqb l m different))
-        ]
-
-    pub reasoned_root : IsRootReason live c
-    reasoned_root =
-        let it = are.has_it m slot m_true set in record {
-          literal = m;
-          member = ap (λ d. has d m) (same_Some c it.clause (sym there ∙ it.at)) ∙ it.member;
-          forced = reasoned_forced m m_true;
-          others = λ k member ne. reasoned_forced (complement k) (others_false k member ne);
-        }
 
   -- the first of them
   pub reasoned_cut : (place : ℕ) → AreReasoned live reason_of (take place lits)

@@ -1,7 +1,7 @@
 -- The parts of a check.
 use Rattle.std.specs.List.{list_any}
 use Rattle.std.specs.Prelude.{◌≡◌, ◌+◌, ◌≤◌, false, List, length, None, Some, Result, Ok, Err, ℕ}
-use Rattle.std.specs.Prelude.{max, Bool, ◌⊎◌, Option, true, ◌-◌, ◌^◌, min, if◌then◌else◌, [], ◌∷◌}
+use Rattle.std.specs.Prelude.{max, Bool, ◌⊎◌, ◌↔◌, Option, true, ◌-◌, ◌^◌, min, if◌then◌else◌, [], ◌∷◌}
 use Rattle.std.specs.Prelude.{IsTrue, IsSome, OnOk, IfErr}
 use Rattle.cnf_base.specs.Lines.{Sink, Writes}
 use Rattle.cnf_base.specs.Literals.{Clause}
@@ -14,9 +14,9 @@ use Rattle.dimacs.specs.declared.header.Header.{Header}
 use Rattle.proofs.specs.Reading.{Proof, PlacedStep, with_step}
 use Rattle.proofs.specs.Steps.{Step}
 use Rattle.proofs.specs.declared.step_end.StepEnd.{StepEnd}
+use Rattle.theory.specs.Losses.{StepLoses, HasLost}
 use Rattle.theory.specs.Rules.{Rule, start, sum_of, Same, State, Answers, after, IsFinite}
 use Rattle.theory.specs.Verdicts.{is_empty, Ending, Ends, Verdict, is_last}
-use Rattle.theory.specs.Verdicts.{DeletesReason, DeletedReason}
 use Rattle.theory.specs.declared.accepted.Accepted.{Accepted}
 use Rattle.theory.specs.declared.refusal.Refusal.TheVariants.{OutOfMemory as RefusedMemory}
 use Rattle.theory.specs.declared.refusal.Refusal.{Refusal}
@@ -45,7 +45,7 @@ pub record IsLoaded (rule : Rule) (s : View) (clauses : List Clause) : Type 0 wh
   pub verified : s.is_verified ≡ list_any is_empty clauses
   pub sound : s.is_ended ≡ false
   pub unstepped : s.has_stepped ≡ false
-  pub none_deleted : s.has_deleted_reason ≡ false
+  pub none_lost : s.has_lost_literal ≡ false
   pub peak : s.peak ≡ sum_of (start rule clauses)
   pub room : 4294967295 ≤ s.room + length clauses
 
@@ -78,7 +78,7 @@ pub record Rest (trace : Bool) (state : State) (n : ℕ) (peak : ℕ) (proof : P
 
 -- What is left of the steps of a proof from a session on: all that follows the step that decides,
 -- and all that follows the fault, whatever the status; and where that step ends, if it was refused,
--- and whether a reason was deleted before, or what is wrong with the proof.
+-- and whether a root-level literal was lost before, or what is wrong with the proof.
 pub record LeavesRest (s : View) (p : Proof) (rest : Suffix) (checked : Checked) : Type 0 where
   pub past : (words : List Accepted) (ending : Ending) (last : PlacedStep) →
       Ends s.state (bare_steps p) words ending
@@ -88,10 +88,11 @@ pub record LeavesRest (s : View) (p : Proof) (rest : Suffix) (checked : Checked)
       Ends s.state (bare_steps p) words ending
       → checked.refused ≡ refused_end p.steps words ending
   pub only : (checked.status ≡ NotVerified → ⊥) → checked.refused ≡ None
-  pub reason : IsTrue checked.reason_deleted → IsSome checked.refused
-  pub deleted : (words : List Accepted) (ending : Ending) → IsTrue checked.reason_deleted →
-      Ends s.state (bare_steps p) words ending
-      → IsTrue s.has_deleted_reason ⊎ DeletedReason s.state (bare_steps p) words
+  pub lost : (words : List Accepted) (ending : Ending) → checked.status ≡ NotVerified →
+      Ends s.state (bare_steps p) words ending → IsTrue checked.literal_lost ↔
+      (IsSome checked.refused
+      × (IsTrue s.has_lost_literal ⊎ HasLost s.state (bare_steps p) words))
+  pub none_lost : (checked.status ≡ NotVerified → ⊥) → checked.literal_lost ≡ false
   pub malformed : TellsFault None p.fault checked
 
 -- What is left of a proof: all of it where the formula decides alone, and else all of it, or all
@@ -151,8 +152,8 @@ pub record GoesOn (trace : Bool) (number : ℕ) (old new : View) (step : Step) (
   pub answers : Answers old.state step (Ok word)
   pub not_last : is_last word ≡ false
   pub state : Same new.state (after old.state step word)
-  pub deleted_reason : IsTrue new.has_deleted_reason →
-      IsTrue old.has_deleted_reason ⊎ DeletesReason old.state step word
+  pub lost : IsTrue new.has_lost_literal ↔
+      (IsTrue old.has_lost_literal ⊎ StepLoses old.state step word)
   pub peak : new.peak ≡ max old.peak (sum_of new.state)
   pub sound : is_over new ≡ false
   pub wrote : Writes was now (text_of (traced trace number word))

@@ -1,12 +1,11 @@
 -- The answers to a DRAT step, from what propagation over the slots says.
 use Rattle.std.proofs.Common.{◌≡◌, ◌≢◌, ℕ, Bool, true, false, cond, Some, None, Ok, Err, List, []}
 use Rattle.std.proofs.Common.{◌∷◌, ◌++◌, slice_get, ◌+◌, refl, sym, ap, ◌∙◌, subst, inl, inr}
-use Rattle.std.proofs.Common.{◌||◌, ◌⊎◌}
 use Rattle.std.specs.List.{list_any}
 use Rattle.std.specs.Ordering.{nat_cmp}
 use Rattle.std.specs.FinMap as maps
 use Rattle.std.specs.FinMap.{FinMap}
-use Rattle.std.proofs.lemmas.Bool.{false_from_ne_true, or_cases}
+use Rattle.std.proofs.lemmas.Bool.{false_from_ne_true}
 use Rattle.std.proofs.lemmas.List.{map-append}
 use Rattle.std.proofs.lemmas.List.Folds.{list_any_at}
 use Rattle.std.proofs.lemmas.Option.{slice_get_within, get_or_from_slice_get, none-some}
@@ -160,14 +159,3 @@ module _ (before after : Propagation) (same : after ≡ before) (rules : DratRul
         subst (λ s. (c : Clause) → maps.get s.live slot ≡ Some c → ¬ ((rules.keep_units ≡ true) × IsRootReason (maps.get s.live) c)) same leaves found.0 found.1
         (kept.0, reason-slots before.live lits found.0 (same_symm found.0 lits found.2) kept.1),
   )
-
--- the clause was found, and taking it off told whether a literal was lost with it
-pub lost_told : (before now : FinMap nat_cmp Clause) → now ≡ before → (lits : Clause) (slot : ℕ) → ((c : Clause) × (maps.get before slot ≡ Some c) × (same_clause c lits ≡ true)) → (had told : Bool)
-    → (told ≡ true → (c : Clause) → maps.get now slot ≡ Some c → IsRootReason (maps.get now) c)
-    → (had || told) ≡ true → (had ≡ true) ⊎ ((◌≡◌ {A = Accepted} Deleted Deleted) × IsRootReason (slice_get (maps.values before)) lits)
-lost_told before now same lits slot found had told reason h = elim (or_cases had told h) [
-  | inl was ↦ inl was
-  | inr is ↦
-      let P : FinMap nat_cmp Clause → Type 0 = λ m. (c : Clause) → maps.get m slot ≡ Some c → IsRootReason (maps.get m) c in
-      inr (refl, slots-reason before found.0 lits found.2 (subst P same (reason is) found.0 found.1))
-]

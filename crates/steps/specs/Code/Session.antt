@@ -33,13 +33,13 @@ held_code =
     (coded× rule_code
     (coded× (maps.code coded_ℕ (coded_list coded_ℕ))
     (coded× coded_ℕ (coded× coded_ℕ coded_bool))))
-    (λ h. (h.rule, (h.live, (h.top, (h.stored, h.has_deleted_reason)))))
+    (λ h. (h.rule, (h.live, (h.top, (h.stored, h.has_lost_literal)))))
     (λ p. record {
       rule = p.0;
       live = p.1.0;
       top = p.1.1.0;
       stored = p.1.1.1.0;
-      has_deleted_reason = p.1.1.1.1;
+      has_lost_literal = p.1.1.1.1;
     })
     (λ _. refl)
 

@@ -1,6 +1,6 @@
 -- Where the rules keep units, what follows with nothing assumed follows after every accepted step,
 -- and no reason is deleted.
-use Rattle.std.proofs.Common.{◌≡◌, ℕ, zero, suc, Bool, true, false, cond, Some, Ok, List, [], ◌∷◌}
+use Rattle.std.proofs.Common.{◌≡◌, ◌≢◌, ℕ, zero, suc, Bool, true, false, cond, Some, Ok, List, [], ◌∷◌}
 use Rattle.std.proofs.Common.{slice_get, sym, subst, inl, inr, ◌⊎◌}
 use Rattle.std.specs.List.{list_any}
 use Rattle.std.specs.Prelude.{IsTrue}
@@ -64,30 +64,40 @@ module _ (c : Clause) where
     | inr other ↦ further e live (take_off c live) d (λ i. was_in live i d) j (subst (λ b. slice_get (cond b live (e ∷ take_off c live)) j ≡ Some d) other at)
   ]
 
-  -- A clause that makes no literal hold for good takes nothing with it: all that follows without it is closed under its unit
-  -- rule too.
-  forced_without : (live : List Clause) → (IsRootReason (slice_get live) c → ⊥) → (l : Literal) → Forced (slice_get live) [] l
-      → Forced (slice_get (take_off c live)) [] l
-  forced_without live none l f = all.1.sound l (f.in_each (λ x. has all.0 x) closed (λ a h. absurd (false≢true h)))
+  -- what follows without it followed
+  pub fewer_forced : (live : List Clause) (l : Literal) → Forced (slice_get (take_off c live)) [] l → Forced (slice_get live) [] l
+  fewer_forced live = forced_more (slice_get (take_off c live)) (slice_get live) (was_in live)
+
+  -- Where each literal that the clause makes hold still holds without it, so does all that held: what follows without the
+  -- clause is closed under its unit rule too.
+  pub forced_still : (live : List Clause) → ((m : Literal) → has c m ≡ true → Forced (slice_get live) [] m → ((k : Literal) → has c k ≡ true → k ≢ m → Forced (slice_get live) [] (complement k)) → Forced (slice_get (take_off c live)) [] m)
+      → (l : Literal) → Forced (slice_get live) [] l → Forced (slice_get (take_off c live)) [] l
+  forced_still live still l f = all.1.sound l (f.in_each (λ x. has all.0 x) closed (λ a h. absurd (false≢true h)))
     where
       all : (found : List Literal) × IsAll (slice_get (take_off c live)) found
       all = all_that_follows (take_off c live)
 
       back : (x : Literal) → has all.0 x ≡ true → Forced (slice_get live) [] x
-      back x h = forced_more (slice_get (take_off c live)) (slice_get live) (was_in live) x (all.1.sound x h)
+      back x h = fewer_forced live x (all.1.sound x h)
+
+      found : (x : Literal) → Forced (slice_get (take_off c live)) [] x → has all.0 x ≡ true
+      found x g = g.in_each (λ k. has all.0 k) all.1.closed (λ a h. absurd (false≢true h))
 
       closed : IsClosed (slice_get live) (λ x. has all.0 x)
       closed = record {
         unit = λ k d at m member others. elim (left_of live k d at) [
           | inr w ↦ all.1.closed.unit w.0 d w.1 m member others
-          | inl same ↦ absurd (none (record {
-            literal = m;
-            member = same_back c d same m member;
-            forced = forced_unit (slice_get live) [] k d at m member (λ x inside ne. back (complement x) (others x inside ne));
-            others = λ x inside ne. back (complement x) (others x (same_there c d same x inside) ne);
-          }))
+          | inl same ↦ found m (still m (same_back c d same m member)
+              (forced_unit (slice_get live) [] k d at m member (λ x inside ne. back (complement x) (others x inside ne)))
+              (λ x inside ne. back (complement x) (others x (same_there c d same x inside) ne)))
         ];
       }
+
+  -- a clause that makes no literal hold for good takes nothing with it
+  pub forced_without : (live : List Clause) → (IsRootReason (slice_get live) c → ⊥) → (l : Literal) → Forced (slice_get live) [] l
+      → Forced (slice_get (take_off c live)) [] l
+  forced_without live none =
+      forced_still live (λ m member forced others. absurd (none (record { literal = m; member = member; forced = forced; others = others })))
 
 -- ---- Steps
 

@@ -5,7 +5,6 @@ use Rattle.std.specs.Bool.{MatchBool}
 use Rattle.std.specs.List.{list_any}
 use Rattle.std.proofs.lemmas.Bool.{false≢true, cases_Bool, MatchBool-at_true, MatchBool-at_false}
 use Rattle.cnf_base.specs.Literals.{Clause}
-use Rattle.cnf_base.proofs.SetLemmas.{same_itself}
 use Rattle.proofs.specs.Steps.{Step}
 use Rattle.theory.specs.declared.accepted.Accepted.{Accepted}
 use Rattle.theory.specs.declared.accepted.Accepted.TheVariants.{Rup, Rat, Pr, Empty, Deleted}
@@ -14,12 +13,9 @@ use Rattle.theory.specs.declared.refusal.Refusal.{Refusal}
 use Rattle.theory.specs.Answers.{StepAnswer}
 use Rattle.theory.specs.Models.{HasModel}
 use Rattle.theory.specs.Rules.{Rule, State, start, Answers, after, Same, IsSatisfiable, IsFinite}
-use Rattle.theory.specs.Rules.{by_ids, by_copies}
 use Rattle.theory.specs.Verdicts.{Ending, verified, refused, no_empty_clause, is_last, Ends}
-use Rattle.theory.specs.Verdicts.{is_empty, Verdict, DeletesReason, DeletedReason}
+use Rattle.theory.specs.Verdicts.{is_empty, Verdict}
 use Rattle.theory.proofs.LawLemmas.Existence.{some_answer, after_finite, start_finite}
-use Rattle.theory.proofs.DratLemmas.Copies.{covers_of}
-use Rattle.theory.proofs.PropagationLemmas.Covers.{reason_covers}
 use Rattle.theory.proofs.LratLemmas.Steps.{ok_is, ok_err}
 use Rattle.theory.proofs.LawLemmas.Rules.{answers_same, after_same, answer_unique, keeps, refutes}
 use Rattle.theory.proofs.LawLemmas.Rules.{started}
@@ -37,20 +33,6 @@ ends_same (step ∷ steps) (word ∷ words) ending first second same e =
         → MatchBool b ((words ≡ []) × (ending ≡ verified)) (Ends (after first step word) steps words ending) → MatchBool b ((words ≡ []) × (ending ≡ verified)) (Ends (after second step word) steps words ending)
     by_word true rest h = h
     by_word false rest h = rest h
-
-deletes_same : (step : Step) (word : Accepted) (first second : State) → Same first second → DeletesReason first step word → DeletesReason second step word
-deletes_same step Deleted (by_copies a x) (by_copies b y) same d = reason_covers _ _ (covers_of x y same.1) step.lits step.lits (same_itself step.lits) d
-deletes_same step Deleted (by_copies a x) (by_ids t) same d = absurd same
-deletes_same step word (by_ids s) second same d = absurd d
-deletes_same step word (by_copies a x) second same d = absurd d
-
-pub deleted_same : (steps : List Step) (words : List Accepted) (first second : State) → Same first second → DeletedReason first steps words → DeletedReason second steps words
-deleted_same [] words first second same d = absurd d
-deleted_same (step ∷ steps) [] first second same d = absurd d
-deleted_same (step ∷ steps) (word ∷ words) first second same d = elim d [
-  | inl now ↦ inl (deletes_same step word first second same now)
-  | inr later ↦ inr (deleted_same steps words (after first step word) (after second step word) (after_same first second step word same) later)
-]
 
 -- ---- At most one verdict
 

@@ -39,7 +39,7 @@ returns-in-Err-clause-report g c =
       c.in-Err.ensures.loads.seen,
       Along-map _ _ _ _ (Along-none _) (λ j k m e i s. (
         rw c.by_fault.ensures.status (err_report rule (g.S.ProofSession.shown c.load.new.session) c.args.trace c.in-Err.fault i _ c.break_off-status.result c.args.lines.now c.break_off-status.new.lines (c.in-Err.ensures.loads.fact i s).0 c.break_off-status.ensures.memory c.break_off-status.ensures.told),
-        LeavesProof-fault rule (g.S.ProofSession.shown c.load.new.session) c.in-Err.fault i _ _ k c.by_fault.result c.by_fault.ensures.refused c.by_fault.ensures.no_reason (c.in-Err.ensures.loads.fact i s).0
+        LeavesProof-fault rule (g.S.ProofSession.shown c.load.new.session) c.in-Err.fault i _ _ k c.by_fault.result c.by_fault.ensures.refused c.by_fault.ensures.none_lost (c.in-Err.ensures.loads.fact i s).0
             (λ is. (
               rw c.by_fault.ensures.status (no_verdict c.break_off-status.result c.args.lines.now.held c.break_off-status.new.lines.held [] (c.break_off-status.ensures.memory is (record { lines = []; status = Malformed }))),
               λ m. let bad : NoMemory ≡ Malformed = sym (c.break_off-status.ensures.gave_up is) ∙ (sym c.by_fault.ensures.status ∙ m) in cc,

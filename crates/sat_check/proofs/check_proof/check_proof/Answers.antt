@@ -25,7 +25,7 @@ returns-in-Some-clause-report g c =
     Checking-stop c.args.trace start now new _ _ _ _ _ c.loop-number.invariant c.saturating_add-number.result counts c.next.new.step _ (step_told now new _ (Ok true) _ _ c.next.ensures.step (search rules))
     c.by_step.result c.check_step.new.lines (rw c.by_step.ensures.status c.in-Some.ensures.stops) (rw c.by_step.ensures.status c.in-Some.ensures.refused)
     (λ v. c.by_step.ensures.refused (search rules) ∙ search rules) (λ v. c.by_step.ensures.only (search rules))
-    (λ t. let r = c.by_step.ensures.reason t in (c.by_step.ensures.status ∙ r.0, search rules))
+    (λ v. c.by_step.ensures.lost (search rules) ∙ search rules) (λ v. c.by_step.ensures.none_lost (search rules))
     c.by_step.ensures.well_formed (λ m. told_not c.in-Some.status c.check_step.new.lines c.in-Some.ensures.told (sym c.by_step.ensures.status ∙ m))
 
 pub loop-number-preserved : goal.loop-number-preserved
@@ -52,7 +52,7 @@ returns-in-Err-clause-report g c =
     let start : Standing = record { stream = g.R.StepReader.stream c.args.reader.now; to_come = g.R.StepReader.to_come c.args.reader.now } in
     let now : Standing = record { stream = g.R.StepReader.stream c.loop-number.reader; to_come = g.R.StepReader.to_come c.loop-number.reader } in
     let new : Standing = record { stream = g.R.StepReader.stream c.next.new.self; to_come = g.R.StepReader.to_come c.next.new.self } in
-    Checking-fault c.args.trace start now new _ _ _ _ _ c.loop-number.invariant c.next.new.step c.by_fault.result c.by_fault.ensures.refused c.by_fault.ensures.no_reason c.break_off-status.new.lines _ c.in-Err.fault c.in-Err.ensures.step (rw c.by_fault.ensures.status c.break_off-status.ensures.memory) (rw c.by_fault.ensures.status c.break_off-status.ensures.told) (
+    Checking-fault c.args.trace start now new _ _ _ _ _ c.loop-number.invariant c.next.new.step c.by_fault.result c.by_fault.ensures.refused c.by_fault.ensures.none_lost c.break_off-status.new.lines _ c.in-Err.fault c.in-Err.ensures.step (rw c.by_fault.ensures.status c.break_off-status.ensures.memory) (rw c.by_fault.ensures.status c.break_off-status.ensures.told) (
       λ m. c.by_fault.ensures.malformed (sym c.by_fault.ensures.status ∙ m),
       λ not. c.by_fault.ensures.only (λ m. not (c.by_fault.ensures.status ∙ m)),
       λ is m. let bad : NoMemory ≡ Malformed = sym (c.break_off-status.ensures.gave_up is) ∙ (sym c.by_fault.ensures.status ∙ m) in cc,

@@ -24,7 +24,7 @@ loop-clause-preserved g c =
     let peak : new.peak ≡ max old.peak (sum_of new.state) = search rules in
     let unstepped : new.has_stepped ≡ false = search rules in
     let sound : new.is_ended ≡ false = search rules in
-    let reason : new.has_deleted_reason ≡ old.has_deleted_reason = search rules in
+    let reason : new.has_lost_literal ≡ old.has_lost_literal = search rules in
     let room : old.room ≤ new.room + 1 = search rules in
     Loading-clause _ _ _ c.next.new.self _ c.loop-clause.invariant _ c.next.new.clause (clause_told c.loop-clause.reader c.next.new.self _ (Ok true) _ c.next.ensures.clause (search rules))
     (loaded_more _ old new _ _ c.loop-clause.invariant.loaded state verified peak unstepped sound reason room)

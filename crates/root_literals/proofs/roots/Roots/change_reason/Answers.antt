@@ -5,8 +5,8 @@ use Rattle.root_literals.specs.Roots.{IsReasonAt}
 use Rattle.root_literals.proofs.RootLemmas.Kept.{kept_instead}
 use Rattle.root_literals.proofs.roots.Roots.change_reason.Goals as goal
 
-pub returns-clause-kept : goal.returns-clause-kept
-returns-clause-kept c =
+pub returns-in-Some-found-clause-kept : goal.returns-in-Some-found-clause-kept
+returns-in-Some-found-clause-kept c =
     let roots = c.args.self.now in
     let l = c.in-Some.l in
     let other = c.in-Some-found.other in

@@ -5,7 +5,6 @@ use Rattle.cnf_base.specs.Literals.{has}
 use Rattle.tables.specs.Filled.{at}
 use Rattle.root_literals.specs.declared.roots.Kept.TheVariants.{Clash}
 use Rattle.root_literals.proofs.RootLemmas.Kept.{kept_cut, kept_left}
-use Rattle.root_literals.proofs.RootLemmas.Reasons.{reasoned_root}
 use Rattle.root_literals.proofs.roots.Roots.leave.Goals as goal
 
 pub loop-place-preserved : goal.loop-place-preserved
@@ -26,8 +25,3 @@ returns-clause-kept c =
     kept_left c.args.store.now.live c.args.slot c.loop-place.self c.loop-place.assumptions.trail.lits c.loop-place.invariant.kept c.clause-clause.result.now (sym c.clause-clause.ensures.clause)
     (λ e. c.in_default.ensures.clash (e ∙ ap Clash (sym c.number.ensures)))
     (λ l there member e. c.in_default.ensures.reasons l there (ap (λ t. has t.lits l) c.trail-in-loop-place.ensures ∙ member) (e ∙ ap Some (sym c.number.ensures)))
-
-pub returns-clause-root_reason : goal.returns-clause-root_reason
-returns-clause-root_reason c is_reason clause there =
-    let rests = c.change_reason-is_reason.ensures.rests is_reason in
-    reasoned_root _ _ _ c.change_reason-is_reason.ensures.kept.reasoned rests.0 c.args.slot clause rests.1 rests.2 there

@@ -1,11 +1,9 @@
-use Rattle.std.proofs.Common.{◌<◌, Some, get_or, length, refl, sym, ap, ◌∙◌, subst}
+use Rattle.std.proofs.Common.{◌<◌, get_or, length, refl, sym, ap, ◌∙◌, subst}
 use Rattle.std.specs.FinMap as maps
-use Rattle.cnf_base.specs.Literals.{has}
 use Rattle.trail.specs.Trail.{HasNoVariableTwice}
 use Rattle.tables.specs.Filled.{at}
 use Rattle.root_literals.specs.Roots.{IsKept, IsUnneeded}
 use Rattle.root_literals.proofs.RootLemmas.Lone.{kept_out}
-use Rattle.root_literals.proofs.RootLemmas.Reasons.{reasoned_root}
 use Rattle.root_literals.proofs.roots.Roots.take_back_alone.Goals as goal
 
 pub returns-clause-kept : goal.returns-clause-kept
@@ -17,9 +15,3 @@ returns-clause-kept c is =
     (kept_out live c.args.slot place c.in-Some.l c.args.assumptions.now.trail.lits (subst (λ ls. place < length ls) shown c.place_of-place.ensures.inside) (ap (λ ls. get_or ls place 0) (sym shown) ∙ c.place_of-place.ensures.literal)
     (subst HasNoVariableTwice shown (subst HasNoVariableTwice (sym c.lits-lits.ensures.value) c.lits-lits.ensures.different)) c.in-Some.ensures.unit c.in-Some.ensures.alone c.args.self.now _ (subst (λ ls. IsUnneeded (maps.get live) (at c.args.self.now.reasons) ls place c.in-Some.l) shown (c.is_needed.ensures c.if-is_needed.false)) c.requires.kept (sym c.has_clash.ensures ∙ c.if-has_clash.false) refl refl
     c.take_out.ensures.gone c.take_out.ensures.stays c.take_out.ensures.floor)
-
-pub returns-clause-root_reason : goal.returns-clause-root_reason
-returns-clause-root_reason c is clause there =
-    let l = c.in-Some.l in
-    let l_true = ap (λ t. has t.lits l) (sym c.trail.ensures) ∙ sym c.if-not-is_true.ensures in
-    reasoned_root _ _ _ c.requires.kept.reasoned l c.args.slot clause l_true (c.if-not-is_reason.ensures.yes refl ∙ ap Some c.number.ensures) there

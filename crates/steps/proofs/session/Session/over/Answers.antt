@@ -9,7 +9,7 @@ returns g c =
     let stored = c.literals.ensures.live_alone ∙ none in
     let peak : c.new-progress.result.peak ≡ 0 = ap (λ r. r.peak) c.new-progress.ensures ∙ c.literals.ensures.value ∙ ap (λ n. min n 18446744073709551615) none in
     λ i. record {
-      held = record { rule = held.rule; live = c.requires.empty i; top = c.requires.none_before i; stored = stored i; has_deleted_reason = c.requires.none_deleted i };
+      held = record { rule = held.rule; live = c.requires.empty i; top = c.requires.none_before i; stored = stored i; has_lost_literal = c.requires.none_lost i };
       has_stepped = (c.new-progress.ensures i).has_stepped;
       is_verified = (c.new-progress.ensures i).is_verified;
       is_ended = (c.new-progress.ensures i).is_ended;

@@ -1,6 +1,5 @@
 use Rattle.std.proofs.Common.{◌/◌, is_some, sym, ap, ◌∙◌, subst}
 use Rattle.std.specs.FinMap as maps
-use Rattle.theory.specs.Propagation.{IsRootReason}
 use Rattle.root_literals.specs.Order.{each_in_order}
 use Rattle.root_literals.specs.Roots.{IsKept}
 use Rattle.propagation.proofs.PropagationLemmas.Scan.{room_removed}
@@ -17,22 +16,22 @@ pub remove_clause-requires-clause-alive : goal.remove_clause-requires-clause-ali
 remove_clause-requires-clause-alive c =
     sym (alive_alike c.self.inside.store.live c.args.slot) ∙ ap (λ w. is_some (maps.get w.propagation.live c.args.slot)) c.self.view_is ∙ c.requires.alive
 
-pub leave-is_lost-requires-clause-alive : goal.leave-is_lost-requires-clause-alive
-leave-is_lost-requires-clause-alive c =
+pub leave-requires-clause-alive : goal.leave-requires-clause-alive
+leave-requires-clause-alive c =
     sym (alive_alike c.self.inside.store.live c.args.slot) ∙ ap (λ w. is_some (maps.get w.propagation.live c.args.slot)) c.self.view_is ∙ c.requires.alive
 
-pub leave-is_lost-requires-clause-kept : goal.leave-is_lost-requires-clause-kept
-leave-is_lost-requires-clause-kept c =
+pub leave-requires-clause-kept : goal.leave-requires-clause-kept
+leave-requires-clause-kept c =
     let i = c.self.inside in
     alone_kept i.store.live i.lists i.short i.roots i.assumptions c.self.invariant.0 (ap (λ w. w.propagation.assumptions) c.self.view_is ∙ c.requires.nothing_assumed)
 
 pub remove_entries-requires-clause-listed : goal.remove_entries-requires-clause-listed
 remove_entries-requires-clause-listed c =
     let i = c.self.inside in
-    (watch_put_back i.store.live i.lists c.leave-is_lost.new.lists i.short i.roots i.assumptions c.leave-is_lost.ensures.lists c.self.invariant.0).listed
+    (watch_put_back i.store.live i.lists c.leave.new.lists i.short i.roots i.assumptions c.leave.ensures.lists c.self.invariant.0).listed
 
 pub remove_entries-requires-clause-apart : goal.remove_entries-requires-clause-apart
-remove_entries-requires-clause-apart c = c.leave-is_lost.ensures.lists.apart
+remove_entries-requires-clause-apart c = c.leave.ensures.lists.apart
 
 pub invariant_of-self : goal.invariant_of-self
 invariant_of-self c =
@@ -40,16 +39,16 @@ invariant_of-self c =
     let live = i.store.live in
     let after = c.remove_clause.new.store.live in
     let slot = c.args.slot in
-    let left = c.leave-is_lost.ensures in
-    let watch = watch_put_back live i.lists c.leave-is_lost.new.lists i.short i.roots i.assumptions left.lists c.self.invariant.0 in
-    let held = c.leave-is_lost.new.assumptions in
+    let left = c.leave.ensures in
+    let watch = watch_put_back live i.lists c.leave.new.lists i.short i.roots i.assumptions left.lists c.self.invariant.0 in
+    let held = c.leave.new.assumptions in
     let e = c.remove_entries.ensures in
     let d = alive_clause live slot (sym (alive_alike live slot) ∙ ap (λ w. is_some (maps.get w.propagation.live slot)) c.self.view_is ∙ c.requires.alive) in
     let gone = ap each_in_order c.remove_clause.ensures.live ∙ ordered_remove live slot in
     let room = room_removed i.assumptions.trail.reserved (each_in_order live) (each_in_order after) slot gone watch.scan.room in (
-      watch_removed live after c.leave-is_lost.new.lists c.remove_entries.new.lists i.short c.remove_entries.new.short i.roots c.leave-is_lost.new.self i.assumptions held watch left.assumptions
+      watch_removed live after c.leave.new.lists c.remove_entries.new.lists i.short c.remove_entries.new.short i.roots c.leave.new.self i.assumptions held watch left.assumptions
           slot d.0 (e.different d.0 d.1) e.apart (record { each = λ k x here l member. left.reserved (l / 2) ∙ room.each k x here l member })
-          (subst (λ m. IsKept m c.leave-is_lost.new.self held.trail.lits) (sym c.remove_clause.ensures.live) left.kept)
+          (subst (λ m. IsKept m c.leave.new.self held.trail.lits) (sym c.remove_clause.ensures.live) left.kept)
           (λ l h. left.noted l (watch.noted l (sym (left.reserved (l / 2)) ∙ h)))
           d.1 c.remove_clause.ensures.live (e.watched d.0 d.1) (e.fitting d.0 d.1) (e.rest d.0 d.1) (e.fewer d.0 d.1) (e.shorter d.0 d.1),
       c.remove_clause.ensures.live_alone ∙ sym (literals_ordered after),
@@ -62,8 +61,3 @@ returns-clause-live c =
 
 pub returns-clause-live_alone : goal.returns-clause-live_alone
 returns-clause-live_alone c = c.remove_clause.ensures.live_alone ∙ sym (literals_ordered c.remove_clause.new.store.live)
-
-pub returns-clause-root_reason : goal.returns-clause-root_reason
-returns-clause-root_reason c is_lost clause there =
-    subst (λ w. IsRootReason (maps.get w.propagation.live) clause) c.self.view_is
-    (c.leave-is_lost.ensures.root_reason is_lost clause (ap (λ w. maps.get w.propagation.live c.args.slot) c.self.view_is ∙ there))
