@@ -12,7 +12,7 @@ the turned body too, the goal of the clause on models has to stay open.
 
     tests/controls.py [CRATE..]        the mutants of these crates, all where none is named
 
-By hand, with make test-mutants: it works on copies, over what earlier checks kept in crates/*/out. RT names the command rt,
+By hand, with make test-mutants: it works on copies, over what the kit kept of earlier checks. RT names the command rt,
 where it isn't on the PATH. The last line is "N passed, M failed".
 """
 
@@ -111,7 +111,7 @@ def main(names):
     left_out = [path for path in changed if "\n# without a control: " in texts_of(path)]
     with tempfile.TemporaryDirectory() as base, concurrent.futures.ThreadPoolExecutor() as pool:
         # What stands below these crates is proved once, and all have what that leaves.
-        shutil.copytree(f"{ROOT}/crates", f"{base}/crates", symlinks=True)
+        shutil.copytree(f"{ROOT}/crates", f"{base}/crates", symlinks=True, ignore=shutil.ignore_patterns("out"))
         for name in ["crates.txt", "HANDLES"]:
             shutil.copy(f"{ROOT}/{name}", base)
         for crate in models:

@@ -61,7 +61,8 @@ def clause_of(goal):
     if "-clause-" in goal:
         return goal.rsplit("-clause-", 1)[1].split("-")[0]
     kinds = [kind for kind in ("loop", "invariant", "requires") if re.match(rf"(.*-)?{kind}", goal)]
-    return kinds[0] if kinds else "ensures"
+    # any other goal, as that a sum fits, is no clause
+    return kinds[0] if kinds else "ensures" if goal.startswith("returns") else goal
 
 
 def refuser(folder, told):
