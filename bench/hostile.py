@@ -5,12 +5,13 @@
     bench/hostile.py --write KIND N FORMULA PROOF   writes one input
 
 Of each kind a line gives the seconds of a processor at the three sizes, and the exponent of the growth from the first to the
-last: 1 where the cost grows as the input does, 2 where it grows with its square.
+last: 1 where the cost grows as the input does, 2 where it grows with its square. Other kinds are proofs whose variables have
+other names than 1, 2, ..: a line gives the seconds with the usual names and with these, and their ratio.
 
 With --count it runs the kinds that have to grow as the input does, and no others, at small sizes, and counts instructions
-by valgrind, which a busy machine doesn't change. Where there is no valgrind, seconds are taken in their place, at the sizes
-n and 4 n, and less than a twentieth counts as that. A kind passes where its exponent is below 1.3 and the answer is right.
-The last line is "N passed, M failed".
+by valgrind, which a busy machine doesn't change. Where there is no valgrind, seconds are taken in their place, the least of
+three runs, at the sizes n and 4 n, and less than a twentieth counts as that. A kind passes where its exponent is below 1.3, or its ratio below 1.5, and
+the answer is right. The last line is "N passed, M failed".
 
 DRAT_FORWARD and LRAT_CHECK name the programs; they are those in bin/ otherwise.
 """
@@ -23,12 +24,20 @@ import shutil
 import subprocess
 import sys
 import tempfile
+from functools import cache, partial
+from itertools import accumulate
+
+from generate import numbers
 
 TOP = os.path.dirname(os.path.dirname(os.path.abspath(__file__)))
 DRAT, LRAT = "DRAT_FORWARD", "LRAT_CHECK"
 PROGRAMS = {DRAT: os.path.abspath(os.environ.get(DRAT, f"{TOP}/bin/drat-forward")),
             LRAT: os.path.abspath(os.environ.get(LRAT, f"{TOP}/bin/lrat-check"))}
 LIMIT, LEAST = 1.3, 0.05
+# What other names may cost in instructions: longer words are read, and each variable is looked up once, as its word is read. To
+# look it up by its name whenever its value is asked for takes up to twenty times. Time, which has cache misses besides, is to
+# stay below this too.
+NAMES_LIMIT = 1.5
 PAGE = 1024
 KINDS = {}
 
@@ -36,12 +45,13 @@ KINDS = {}
 class Kind:
     """A kind of input: what makes it at a size, and how it is run."""
 
-    def __init__(self, make, program, options, size, is_linear):
+    def __init__(self, make, program, options, size, is_linear, usual=None):
         self.make = make
         self.program = program
         self.options = options
         self.size = size
         self.is_linear = is_linear
+        self.usual = usual  # where names are other ones, what makes the same with the usual names
 
 
 def kind(program, size, *options, is_linear=True):
@@ -251,6 +261,81 @@ def units_of_clauses(n):
     return units + [(i, n + i, 2 * n + 1) for i in range(1, n + 1)], deletions(units[n - 1:0:-1], clause(1, 2 * n + 2))
 
 
+def scattered(count):
+    """Names of up to 28 bits, at random and in no order."""
+    names, source = {}, numbers(1)
+    while len(names) < count:
+        names[1 + (next(source) >> 3) % (2**28 - 1)] = None
+    return list(names)
+
+
+def spread(count):
+    """Names in the order of the variables, each 15 to 64 after the one before."""
+    source = numbers(1)
+    return list(accumulate(15 + (next(source) >> 8) % 50 for _ in range(count)))
+
+
+def usual(count):
+    return list(range(1, count + 1))
+
+
+def proof_of(formula, proof, is_lrat):
+    """The clauses of a formula, and the steps of a proof with a step a line: the words before the literals, the literals, and the
+    words behind their 0."""
+    with open(formula, encoding="ascii") as it:
+        clauses = [tuple(map(int, line.split()[:-1])) for line in it if line[0] not in "cp"]
+    steps = []
+    with open(proof, encoding="ascii") as it:
+        for words in map(str.split, it):
+            end = words.index("0")
+            first = end if is_lrat and words[1] == "d" else int(is_lrat or words[0] == "d")
+            steps.append((words[:first], list(map(int, words[first:end])), words[end + 1:]))
+    return clauses, steps
+
+
+def moved(literals, by):
+    return [it + by if it > 0 else it - by for it in literals]
+
+
+@cache
+def drat(n):
+    """What CaDiCaL wrote of five holes, n times over variables of their own. The proofs go on by turns, a step each, since nothing
+    is left to show once one of them has come to its end."""
+    clauses, steps = proof_of(f"{TOP}/examples/pigeonhole-5.cnf", f"{TOP}/examples/pigeonhole-5.drat", is_lrat=False)
+    all_of = [by * 30 for by in range(n)]
+    turns = [(before, moved(lits, by), behind) for before, lits, behind in steps[:-1] for by in all_of]
+    return [tuple(moved(c, by)) for by in all_of for c in clauses], [*turns, steps[-1]]
+
+
+@cache
+def lrat(n):
+    """Cook's proof for n holes, whose definitions have new variables."""
+    with tempfile.TemporaryDirectory() as room:
+        files = f"{room}/formula", f"{room}/proof"
+        subprocess.run([sys.executable, f"{TOP}/examples/pigeonhole.py", str(n), *files], check=True)
+        return proof_of(*files, is_lrat=True)
+
+
+def by_names(of, names_of, n):
+    """The clauses and lines of a proof by other names of its variables. What is met first has the last names, so that few were met
+    when the greatest one is."""
+    clauses, steps = of(n)
+    names = names_of(max(abs(lit) for lits in (*clauses, *(step[1] for step in steps)) for lit in lits))[::-1]
+
+    def named(lits):
+        return [names[lit - 1] if lit > 0 else -names[-lit - 1] for lit in lits]
+
+    lines = [" ".join([*before, *map(str, named(lits)), "0", *behind]) for before, lits, behind in steps]
+    return [named(c) for c in clauses], lines
+
+
+for one_of, its_program, its_size in ((drat, DRAT, 200), (lrat, LRAT, 22)):
+    as_usual = partial(by_names, one_of, usual)
+    for names_by in (scattered, spread):
+        KINDS[f"{one_of.__name__}_{names_by.__name__}"] = Kind(
+            partial(by_names, one_of, names_by), its_program, [], its_size, True, as_usual)
+
+
 def written(made, formula, proof):
     """Writes an input."""
     clauses, lines = made
@@ -279,30 +364,49 @@ def is_right(ran):
     return ran.returncode == 1 and "c end: no empty clause" in ran.stdout
 
 
-def times_of(one, room, factors=(1, 2, 4), least=0.0):
-    """The seconds at each size, and whether each answer is right."""
-    files, costs, well = (f"{room}/formula", f"{room}/proof"), [], True
-    for factor in factors:
-        written(one.make(factor * one.size), *files)
-        seconds, ran = run([PROGRAMS[one.program], *one.options, *files])
-        costs.append(max(seconds, least))
-        well = well and is_right(ran)
-    return costs, well
+def seconds_of(words, _):
+    """The seconds of a processor that a command took, and what came of it."""
+    return run(words)
 
 
-def counts_of(one, room):
-    """The instructions at two small sizes, and whether each answer is right."""
-    if not shutil.which("valgrind"):
-        return times_of(one, room, (1, 4), LEAST)
+def least_seconds_of(words, _):
+    """The least of three runs, and what came of it."""
+    seconds, ran = min((run(words) for _ in range(3)), key=lambda it: it[0])
+    return max(seconds, LEAST), ran
+
+
+def instructions_of(words, room):
+    """The instructions of a command, and what came of it."""
+    _, ran = run(["valgrind", "--tool=cachegrind", "--cache-sim=no", f"--cachegrind-out-file={room}/counts", *words])
+    found = re.search(r"I\s+refs:\s+([\d,]+)", ran.stderr)
+    return int(found[1].replace(",", "")) if found else math.inf, ran
+
+
+def costs_of(one, room, sizes, cost_of):
+    """The cost at each size, and whether each answer is right."""
     files, costs, well = (f"{room}/formula", f"{room}/proof"), [], True
-    for size in (one.size // 4, one.size):
+    for size in sizes:
         written(one.make(size), *files)
-        _, ran = run(["valgrind", "--tool=cachegrind", "--cache-sim=no", f"--cachegrind-out-file={room}/counts",
-                      PROGRAMS[one.program], *one.options, *files])
-        found = re.search(r"I\s+refs:\s+([\d,]+)", ran.stderr)
-        costs.append(int(found[1].replace(",", "")) if found else math.inf)
+        cost, ran = cost_of([PROGRAMS[one.program], *one.options, *files], room)
+        costs.append(cost)
         well = well and is_right(ran)
     return costs, well
+
+
+def costs_of_names(one, room, cost_of, known):
+    """The cost with the usual names, which may be known, and with others, and whether both proofs are verified with the same lines
+    but the first, which has the greatest variable."""
+    files = f"{room}/formula", f"{room}/proof"
+
+    def cost_and_lines(make):
+        written(make(one.size), *files)
+        cost, ran = cost_of([PROGRAMS[one.program], *one.options, *files], room)
+        return cost, ran.stdout.split("\n")[1:]
+
+    if one.usual not in known:
+        known[one.usual] = cost_and_lines(one.usual)
+    pairs = known[one.usual], cost_and_lines(one.make)
+    return [cost for cost, _ in pairs], pairs[0][1] == pairs[1][1] and "s VERIFIED" in pairs[0][1]
 
 
 def shown(cost):
@@ -315,15 +419,24 @@ def main(words):
         written(KINDS[words[1]].make(int(words[2])), words[3], words[4])
         return 0
     is_counted = words[:1] == ["--count"]
+    has_valgrind = is_counted and shutil.which("valgrind")
+    cost_of = instructions_of if has_valgrind else least_seconds_of if is_counted else seconds_of
+    factors = (0.25, 1) if has_valgrind else (1, 4) if is_counted else (1, 2, 4)
     names = words[is_counted:] or [name for name, one in KINDS.items() if one.is_linear or not is_counted]
     passed = failed = 0
+    known = {}
     with tempfile.TemporaryDirectory() as room:
         for name in names:
-            costs, well = (counts_of if is_counted else times_of)(KINDS[name], room)
-            grows = exponent(costs)
-            well = well and (grows < LIMIT or not is_counted)
+            one = KINDS[name]
+            if one.usual:
+                costs, well = costs_of_names(one, room, cost_of, known)
+                measure, grows, limit = "ratio", costs[1] / max(costs[0], 1e-3), NAMES_LIMIT
+            else:
+                costs, well = costs_of(one, room, [int(one.size * factor) for factor in factors], cost_of)
+                measure, grows, limit = "exponent", exponent(costs), LIMIT
+            well = well and (grows < limit or not is_counted)
             passed, failed = passed + well, failed + (not well)
-            print(f"{name:26} {' '.join(map(shown, costs))}   exponent {grows:4.2f}{'' if well else '   FAILED'}", flush=True)
+            print(f"{name:26} {' '.join(map(shown, costs))}   {measure} {grows:4.2f}{'' if well else '   FAILED'}", flush=True)
     if is_counted:
         print(f"{passed} passed, {failed} failed")
     return 0 if not failed else 1

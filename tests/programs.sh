@@ -728,6 +728,9 @@ kept no_root_level_literal 'line 2, column 3' '1 2 0\n3 4 0\n-1 2 0\n-3 4 0' 'd 
 kept reason_deleted_after_the_refused_step 'line 1, column 4' "$chain" '-3 0\nd -1 2 0'
 kept deletion_refused 'line 1, column 7' "$chain" 'd 1 2 0' --strict
 kept refused_with_units_kept 'line 2, column 4' "$chain" 'd -1 2 0\n-3 0' --keep-units
+# a variable that no clause has is not the first one, of which 1 is the literal that holds
+kept new_variable_deleted 'line 2, column 4' "$chain" 'd 268435455 0\n-3 0'
+lost reason_deleted_after_a_new_variable 'line 3, column 3' "$chain" 'd 268435455 0\nd -1 2 0\n2 0'
 checker=$lrat_check refused_after lrat_reason_deleted lrat-check 'line 2, column 9' '' "$chain" '5 d 2 0\n6 2 0 1 0'
 
 row reason_kept 1 --keep-units --trace "$room/lost.cnf" <(printf '%s\n' 'd -1 2 0' '2 0') <<'LINES'

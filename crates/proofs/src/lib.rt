@@ -15,6 +15,6 @@ mod text;
 pub use drat_binary::DratBinary;
 pub use drat_text::DratText;
 pub use lrat_text::LratText;
-pub use step_buf::{StepBuf, StepKind};
+pub use step_buf::{StepBuf, StepKind, parts_of};
 pub use step_end::StepEnd;
 pub use step_reader::StepReader;

@@ -60,6 +60,15 @@ fn clause_len(lits: &[Lit]) -> usize
     len
 }
 
+/// The clause and the set that these literals list: the clause ends before its first literal stands
+/// a second time, and the set begins there. No literal is copied, and it takes no memory.
+pub fn parts_of(lits: &[Lit]) -> (&[Lit], &[Lit])
+    ensures clause { result.0.now ≡ clause_part lits.now }
+    ensures set { result.1.now ≡ witness_part lits.now }
+{
+    lits.split_at(clause_len(lits))
+}
+
 impl StepBuf {
     /// A step without literals, which takes no memory.
     pub fn new(alloc: Global) -> Self
@@ -95,15 +104,12 @@ impl StepBuf {
         self.lits.as_slice()
     }
 
-    /// The clause and the set that the literals list: the clause ends before its first literal
-    /// stands a second time, and the set begins there. No literal is copied, and it takes no
-    /// memory.
+    /// The clause and the set that its literals list, as [`parts_of`] has them.
     pub fn parts(&self) -> (&[Lit], &[Lit])
         ensures clause { result.0.now ≡ clause_part self.now.lits }
         ensures set { result.1.now ≡ witness_part self.now.lits }
     {
-        let lits = self.lits();
-        lits.split_at(clause_len(lits))
+        parts_of(self.lits())
     }
 
     /// Its hints, or the identifiers that it deletes, in written order.

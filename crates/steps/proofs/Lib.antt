@@ -1,3 +1,4 @@
 pub mod DratLemmas
 pub mod LratLemmas
+pub mod NamingLemmas
 pub mod SessionLemmas

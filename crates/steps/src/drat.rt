@@ -13,8 +13,9 @@ ghost use Rattle.trail.specs.LiteralSet.{in_set};
 
 use crate::drat::addition::Examiner;
 use crate::drat::deletion::delete;
-use crate::drat::step::{add_copy, parts_of};
+use crate::drat::step::{add_copy, parts_under};
 use crate::judge::Judge;
+use crate::named::Named;
 use crate::session::Session;
 use cnf_base::{Lit, OutOfMemory};
 use proofs::{StepBuf, StepKind};
@@ -22,7 +23,7 @@ use propagation::Propagate;
 use theory::{Accepted, DratRules, Refusal};
 
 /// A check of a DRAT proof over any clauses that propagate.
-pub type DratSession<P> = Session<DratJudge<P>>;
+pub type DratSession<P> = Session<Named<DratJudge<P>>>;
 
 /// The live clauses of a DRAT proof, and its rules.
 #[derive(Drop)]
@@ -36,7 +37,7 @@ pub struct DratJudge<P: Propagate> {
     ghost no_witness: { (l : ℕ) → IsFalse (in_set examiner.witness l) },
 }
 
-impl<P: Propagate> Session<DratJudge<P>> {
+impl<P: Propagate> Session<Named<DratJudge<P>>> {
     /// A session without clauses, under these rules.
     pub fn new(clauses: P, rules: DratRules) -> Self
         requires empty { (P.state clauses).live ≡ maps.empty }
@@ -46,12 +47,14 @@ impl<P: Propagate> Session<DratJudge<P>> {
     {
         // so it is known that no literals are kept
         let _ = clauses.literals();
+        let alloc = clauses.alloc();
         let examiner = Examiner::new(clauses);
-        Session::over(DratJudge {
+        let judge = DratJudge {
             examiner,
             rules,
             has_lost_literal: false,
-        })
+        };
+        Session::over(Named::new(judge, alloc))
     }
 }
 
@@ -89,15 +92,15 @@ impl<P: Propagate> Judge for DratJudge<P> {
         add_copy(&mut self.examiner.clauses, lits)
     }
 
-    fn step(&mut self, step: &StepBuf) -> Result<Accepted, Refusal> {
+    fn step(&mut self, lits: &[Lit], step: &StepBuf) -> Result<Accepted, Refusal> {
         match step.kind() {
             StepKind::Add => {
-                let (clause, witness) = parts_of(self.rules, step);
+                let (clause, witness) = parts_under(self.rules, lits);
                 self.examiner.add(clause, witness)
             }
             StepKind::Delete => {
                 let clauses = &mut self.examiner.clauses;
-                delete(clauses, self.rules, step.lits(), &mut self.has_lost_literal)
+                delete(clauses, self.rules, lits, &mut self.has_lost_literal)
             }
         }
     }

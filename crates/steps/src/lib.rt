@@ -4,6 +4,7 @@
 mod drat;
 mod judge;
 mod lrat;
+mod named;
 mod proof_session;
 mod session;
 mod word;

@@ -14,6 +14,7 @@ ghost use Rattle.trail.specs.Trail.{HasRoom};
 ghost use Rattle.live_clauses.specs.LiveClauses.{lrat_state};
 ghost use Rattle.theory.specs.Rules.{lrat};
 ghost use Rattle.steps.specs.Session.{fresh};
+ghost use Rattle.steps.specs.Code.Naming.{with_lits};
 ghost use Rattle.steps.specs.Code.Ready.{IsReady};
 ghost use Rattle.theory.specs.Answers.{UnlessOutOfMemory};
 
@@ -21,6 +22,7 @@ use crate::judge::Judge;
 use crate::lrat::addition::judge_addition;
 use crate::lrat::candidates::HintsRoom;
 use crate::lrat::deletions::delete_all;
+use crate::named::Named;
 use crate::session::Session;
 use cnf_base::{Lit, OutOfMemory};
 use live_clauses::LiveClauses;
@@ -30,7 +32,7 @@ use theory::{Accepted, Refusal};
 use trail::Trail;
 
 /// A check of an LRAT proof.
-pub type LratSession = Session<LratJudge>;
+pub type LratSession = Session<Named<LratJudge>>;
 
 /// The live clauses of an LRAT proof, each at its identifier.
 #[derive(Drop)]
@@ -47,18 +49,19 @@ fn judge(
     room: &mut HintsRoom,
     held: &mut LiveClauses,
     trues: &mut Trail,
-    step: &StepBuf,
+    lits: &[Lit],
+    hints: &[i64],
 ) -> Result<Accepted, Refusal>
     requires ready { IsReady (maps.get held.old.live) trues.old }
-    ensures answer { UnlessOutOfMemory result (AnswersChain (maps.get held.old.live) step.now.lits
-        (groups_of step.now.hints) (chain (maps.get held.old.live) (complements step.now.lits)
-        (units_of step.now.hints)) result) }
+    ensures answer { UnlessOutOfMemory result (AnswersChain (maps.get held.old.live) lits.now
+        (groups_of hints.now) (chain (maps.get held.old.live) (complements lits.now)
+        (units_of hints.now)) result) }
     ensures ready { IsReady (maps.get held.old.live) trues.new }
-    ensures room { OnOk result (HasRoom trues.new.reserved step.now.lits) }
+    ensures room { OnOk result (HasRoom trues.new.reserved lits.now) }
     ensures same { held.new ≡ held.old }
 {
-    trues.reserve_all(step.lits())?;
-    let answer = judge_addition(room, held, trues, step.lits(), step.hints());
+    trues.reserve_all(lits)?;
+    let answer = judge_addition(room, held, trues, lits, hints);
     trues.undo_to(0);
     answer
 }
@@ -68,16 +71,17 @@ fn take_addition(
     room: &mut HintsRoom,
     held: &mut LiveClauses,
     trues: &mut Trail,
+    lits: &[Lit],
     step: &StepBuf,
 ) -> Result<Accepted, Refusal>
     requires addition { step.now.kind ≡ StepKind.Add }
     requires ready { IsReady (maps.get held.old.live) trues.old }
     ensures answers { UnlessOutOfMemory result
-        (AnswersLrat (lrat_state held.old) (lrat_step step.now) result) }
+        (AnswersLrat (lrat_state held.old) (lrat_step (with_lits lits.now step.now)) result) }
     ensures live { OnOk result (SameClauses (maps.get held.new.live)
-        (after_lrat (lrat_state held.old) (lrat_step step.now)).live) }
+        (after_lrat (lrat_state held.old) (lrat_step (with_lits lits.now step.now))).live) }
     ensures top { OnOk result (held.new.top ≡ (after_lrat (lrat_state held.old)
-        (lrat_step step.now)).top) }
+        (lrat_step (with_lits lits.now step.now))).top) }
     ensures ready { OnOk result (IsReady (maps.get held.new.live) trues.new) }
     ensures none_true { trues.new.lits ≡ [] }
     ensures refused { OnErr result (held.new.stored ≤ held.old.stored) }
@@ -87,12 +91,12 @@ fn take_addition(
     if id <= held.top() {
         return Err(Refusal::IdOutOfOrder);
     }
-    let word = judge(room, held, trues, step)?;
-    held.add(id, step.lits())?;
+    let word = judge(room, held, trues, lits, step.hints())?;
+    held.add(id, lits)?;
     Ok(word)
 }
 
-impl Session<LratJudge> {
+impl Session<Named<LratJudge>> {
     /// A session without clauses.
     pub fn new(alloc: Global) -> Result<Self, OutOfMemory>
         ensures { IfOk result (λ session. session ≡ fresh lrat) }
@@ -100,7 +104,8 @@ impl Session<LratJudge> {
         let held = LiveClauses::new(alloc)?;
         let trues = Trail::new(alloc)?;
         let room = HintsRoom::new(alloc);
-        Ok(Session::over(LratJudge { room, held, trues }))
+        let judge = LratJudge { room, held, trues };
+        Ok(Session::over(Named::new(judge, alloc)))
     }
 }
 
@@ -133,10 +138,11 @@ impl Judge for LratJudge {
         self.held.add(id, lits)
     }
 
-    fn step(&mut self, step: &StepBuf) -> Result<Accepted, Refusal> {
+    fn step(&mut self, lits: &[Lit], step: &StepBuf) -> Result<Accepted, Refusal> {
+        let (room, held, trues) = (&mut self.room, &mut self.held, &mut self.trues);
         match step.kind() {
-            StepKind::Add => take_addition(&mut self.room, &mut self.held, &mut self.trues, step),
-            StepKind::Delete => match delete_all(&mut self.held, step.hints()) {
+            StepKind::Add => take_addition(room, held, trues, lits, step),
+            StepKind::Delete => match delete_all(held, step.hints()) {
                 Some(id) => Err(Refusal::UnknownId(id)),
                 None => Ok(Accepted::Deleted),
             },

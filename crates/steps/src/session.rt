@@ -84,7 +84,7 @@ impl<J: Judge> ProofSession for Session<J> {
             self.progress.end();
             return Err(Refusal::Ended);
         }
-        let answer = self.judge.step(step);
+        let answer = self.judge.step(step.lits(), step);
         match answer {
             Ok(word) => self.progress.step(word, self.judge.literals()),
             Err(_) => self.progress.end(),

@@ -10,7 +10,7 @@ ghost use Rattle.theory.specs.Answers.{UnlessOutOfMemory};
 
 use crate::drat::addition::Examiner;
 use cnf_base::{Lit, OutOfMemory};
-use proofs::StepBuf;
+use proofs::parts_of;
 use propagation::Propagate;
 use theory::{Accepted, DratRules, Refusal};
 
@@ -48,13 +48,13 @@ impl<P: Propagate> Examiner<P> {
 }
 
 /// The clause of an addition, and the witness that it lists where the rules have PR.
-pub(crate) fn parts_of(rules: DratRules, step: &StepBuf) -> (&[Lit], &[Lit])
-    ensures parts { addition_of rules.pr step.now.lits ≡ drat.add result.0.now result.1.now }
+pub(crate) fn parts_under(rules: DratRules, lits: &[Lit]) -> (&[Lit], &[Lit])
+    ensures parts { addition_of rules.pr lits.now ≡ drat.add result.0.now result.1.now }
     ensures meets { MeetsIfListed result.0.now result.1.now }
 {
     if rules.pr {
-        step.parts()
+        parts_of(lits)
     } else {
-        (step.lits(), &[])
+        (lits, &[])
     }
 }

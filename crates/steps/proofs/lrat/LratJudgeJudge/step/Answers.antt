@@ -1,6 +1,7 @@
 use Rattle.std.proofs.Common.{◌≡◌, map, nat_abs, sym, ◌∙◌, rules, Ok}
 use Rattle.theory.specs.declared.accepted.Accepted.TheVariants.{Deleted}
 use Rattle.theory.specs.Rules.{by_ids}
+use Rattle.steps.specs.Code.Naming.{with_lits}
 use Rattle.steps.proofs.SessionLemmas.{keeps_taken}
 use Rattle.std.specs.FinMap as maps
 use Rattle.theory.specs.Lrat.{LratState, after_lrat, lrat_step, SameClauses}
@@ -10,9 +11,9 @@ use Rattle.steps.proofs.lrat.LratJudgeJudge.step.Goals as goal
 use Rattle.steps.proofs.lrat.LratJudgeJudge.step.Goals.{In-None}
 
 -- what is left
-left : (c : In-None) → SameClauses (maps.get c.delete_all.new.live.live) (after_lrat (lrat_state c.args.self.now.held) (lrat_step c.args.step.now)).live × (c.delete_all.new.live.top ≡ (after_lrat (lrat_state c.args.self.now.held) (lrat_step c.args.step.now)).top)
+left : (c : In-None) → SameClauses (maps.get c.delete_all.new.live.live) (after_lrat (lrat_state c.args.self.now.held) (lrat_step (with_lits c.args.lits.now c.args.step.now))).live × (c.delete_all.new.live.top ≡ (after_lrat (lrat_state c.args.self.now.held) (lrat_step (with_lits c.args.lits.now c.args.step.now))).top)
 left c =
-    deleted_same (lrat_state c.args.self.now.held) c.args.step.now c.hints.result.now (maps.get c.delete_all.new.live.live) c.delete_all.new.live.top (sym c.kind.ensures ∙ c.in-Delete.is) c.hints.ensures.value
+    deleted_same (lrat_state c.args.self.now.held) (with_lits c.args.lits.now c.args.step.now) c.hints.result.now (maps.get c.delete_all.new.live.live) c.delete_all.new.live.top (sym c.kind.ensures ∙ c.in-Delete.is) c.hints.ensures.value
     c.in-None.ensures.live c.in-None.ensures.top
 
 pub returns-in-None-clause-state : goal.returns-in-None-clause-state
@@ -24,9 +25,9 @@ returns-in-None-clause-ready c =
 
 pub returns-in-Add-clause-keeps_models : goal.returns-in-Add-clause-keeps_models
 returns-in-Add-clause-keeps_models c =
-    keeps_taken (by_ids (lrat_state c.args.self.now.held)) (by_ids (lrat_state c.take_addition.new.held)) c.args.step.now c.take_addition.result c.take_addition.ensures.answers (search rules)
+    keeps_taken (by_ids (lrat_state c.args.self.now.held)) (by_ids (lrat_state c.take_addition.new.held)) (with_lits c.args.lits.now c.args.step.now) c.take_addition.result c.take_addition.ensures.answers (search rules)
 
 pub returns-in-None-clause-keeps_models : goal.returns-in-None-clause-keeps_models
 returns-in-None-clause-keeps_models c =
     let new : LratState = record { live = maps.get c.delete_all.new.live.live; top = c.delete_all.new.live.top } in
-    keeps_taken (by_ids (lrat_state c.args.self.now.held)) (by_ids new) c.args.step.now (Ok Deleted) (search rules) (left c)
+    keeps_taken (by_ids (lrat_state c.args.self.now.held)) (by_ids new) (with_lits c.args.lits.now c.args.step.now) (Ok Deleted) (search rules) (left c)

@@ -1,0 +1,241 @@
+-- Numbers by variable, and the list of the variables in the order of their numbers.
+use Rattle.std.proofs.Common.{◌≡◌, ◌≢◌, ℕ, zero, suc, ◌+◌, ◌≤◌, ◌<◌, true, false, cond, eqb}
+use Rattle.std.proofs.Common.{List, [], ◌∷◌, ◌++◌, length, length-append, refl, sym, ap, ◌∙◌}
+use Rattle.std.proofs.Common.{arith, inl, inr, eq-eqb, ne_eqb, add-one, ◌*◌, ◌↔◌, Bool, Option, Some, None}
+use Rattle.std.proofs.Common.{unwrap_or, IsSome, IfSome}
+use Rattle.std.proofs.lemmas.Bool.{cases_eq, false≢true}
+use Rattle.std.proofs.lemmas.Bool.Decides.{nat_tests}
+use Rattle.cnf_base.specs.Literals.{has}
+use Rattle.numbering.specs.Names.{number_in}
+use Rattle.numbering.specs.Code.Numbers.{name_up_to, names_of, counted_as, met_up_to, number_or}
+use Rattle.numbering.specs.Code.Numbers.{IsNumbering}
+
+-- ---- A list of variables
+
+number_unmet : (names : List ℕ) (v : ℕ) → has names v ≡ false → number_in names v ≡ 1 + length names
+number_unmet [] v none = refl
+number_unmet (n ∷ ns) v none = let e = number_unmet ns v in grind (arith, nat_tests)
+
+number_most : (names : List ℕ) (v : ℕ) → number_or names v ≤ length names
+number_most [] v = omega arith
+number_most (n ∷ ns) v = let e = number_most ns v in grind (arith, nat_tests)
+
+number_push : (names : List ℕ) (w v : ℕ) → has names w ≡ false → number_or (names ++ w ∷ []) v ≡ cond (eqb v w) (1 + length names) (number_or names v)
+number_push [] w v none = grind (arith, nat_tests)
+number_push (n ∷ ns) w v none = let e = number_push ns w v in grind (arith, nat_tests)
+
+has_number : (names : List ℕ) (v : ℕ) → number_or names v ≢ 0 → has names v ≡ true
+has_number names v some = grind (arith, nat_tests)
+
+has_none : (names : List ℕ) (v : ℕ) → number_or names v ≡ 0 → has names v ≡ false
+has_none names v none = grind (arith, nat_tests)
+
+-- ---- Variables by their numbers
+
+name_same : (f g : ℕ → ℕ) (n : ℕ) → ((v : ℕ) → eqb (g v) n ≡ eqb (f v) n) → (b : ℕ) → name_up_to g n b ≡ name_up_to f n b
+unfolding name_up_to
+name_same f g n same zero = refl
+name_same f g n same (suc b) =
+    ap (λ t. cond t (suc b) (name_up_to g n b)) (same (suc b)) ∙ ap (cond (eqb (f (suc b)) n) (suc b)) (name_same f g n same b)
+
+names_same : (f g : ℕ → ℕ) (count : ℕ) → ((n v : ℕ) → 1 ≤ n → n ≤ count → eqb (g v) n ≡ eqb (f v) n) → names_of g count ≡ names_of f count
+unfolding names_of
+names_same f g zero same = refl
+names_same f g (suc n) same =
+    ap (λ ns. ns ++ name_up_to g (suc n) 268435455 ∷ []) (names_same f g n (λ k v from to. same k v from (omega arith)))
+    ∙ ap (λ v. names_of f n ++ v ∷ []) (name_same f g (suc n) (λ v. same (suc n) v (omega arith) (omega arith)) 268435455)
+
+names_step : (f : ℕ → ℕ) (count : ℕ) → names_of f (count + 1) ≡ names_of f count ++ name_up_to f (count + 1) 268435455 ∷ []
+unfolding names_of
+names_step f count = rw add-one refl
+
+names_length : (f : ℕ → ℕ) (count : ℕ) → length (names_of f count) ≡ count
+unfolding names_of
+names_length f zero = refl
+names_length f (suc n) = let e = names_length f n in omega (arith, length-append (names_of f n) (name_up_to f (suc n) 268435455 ∷ []))
+
+-- the one variable at which the number stands
+name_is : (f : ℕ → ℕ) (n w : ℕ) → f w ≡ n → 1 ≤ w → ((v : ℕ) → f v ≡ n → v ≡ w) → (b : ℕ) → w ≤ b → name_up_to f n b ≡ w
+unfolding name_up_to
+name_is f n w here from one zero to = absurd (let wrong : ⊥ = omega arith in wrong)
+name_is f n w here from one (suc b) to = elim (cases_eq (f (suc b)) n) [
+  | inl is ↦ ap (λ t. cond t (suc b) (name_up_to f n b)) (eq-eqb (f (suc b)) n is) ∙ one (suc b) is
+  | inr apart ↦
+      let other : suc b ≢ w = λ e. apart (ap f e ∙ here) in
+      ap (λ t. cond t (suc b) (name_up_to f n b)) (ne_eqb (f (suc b)) n apart) ∙ name_is f n w here from one b (omega (arith, other))
+]
+
+-- ---- How many were met
+
+met_same : (f g : ℕ → ℕ) (b : ℕ) → ((v : ℕ) → v ≤ b → g v ≡ f v) → met_up_to g b ≡ met_up_to f b
+unfolding met_up_to
+met_same f g zero same = refl
+met_same f g (suc b) same =
+    ap (λ m. m + counted_as (g (suc b))) (met_same f g b (λ v to. same v (omega arith)))
+    ∙ ap (λ n. met_up_to f b + counted_as n) (same (suc b) (omega arith))
+
+met_most : (f : ℕ → ℕ) (b : ℕ) → met_up_to f b ≤ b
+unfolding met_up_to
+met_most f zero = omega arith
+met_most f (suc b) = let e = met_most f b in grind (arith, nat_tests)
+
+met_below : (f : ℕ → ℕ) (w : ℕ) → f w ≡ 0 → 1 ≤ w → (b : ℕ) → w ≤ b → met_up_to f b < b
+unfolding met_up_to
+met_below f w none from zero to = absurd (let wrong : ⊥ = omega arith in wrong)
+met_below f w none from (suc b) to = elim (cases_eq w (suc b)) [
+  | inl is ↦ let here = ap f (sym is) ∙ none in let e = met_most f b in grind (arith, nat_tests)
+  | inr apart ↦ let e = met_below f w none from b (omega (arith, apart)) in grind (arith, nat_tests)
+]
+
+met_more : (f g : ℕ → ℕ) (w n : ℕ) → f w ≡ 0 → n ≢ 0 → 1 ≤ w → ((v : ℕ) → g v ≡ cond (eqb v w) n (f v)) → (b : ℕ) → w ≤ b → met_up_to g b ≡ met_up_to f b + 1
+unfolding met_up_to
+met_more f g w n none some from writes zero to = absurd (let wrong : ⊥ = omega arith in wrong)
+met_more f g w n none some from writes (suc b) to = elim (cases_eq w (suc b)) [
+  | inl is ↦
+      let before = met_same f g b (λ v to. writes v ∙ ap (λ t. cond t n (f v)) (ne_eqb v w (λ e. absurd (let wrong : ⊥ = omega arith in wrong)))) in
+      let old = ap f (sym is) ∙ none in
+      let new = writes (suc b) ∙ ap (λ t. cond t n (f (suc b))) (eq-eqb (suc b) w (sym is)) in
+      grind (arith, nat_tests)
+  | inr apart ↦
+      let before = met_more f g w n none some from writes b (omega (arith, apart)) in
+      let same = writes (suc b) ∙ ap (λ t. cond t n (f (suc b))) (ne_eqb (suc b) w (λ e. apart (sym e))) in
+      grind (arith, nat_tests)
+]
+
+-- ---- The code's values
+
+written_at : (b : Bool) (o : Option ℕ) (n : ℕ) → unwrap_or (cond b (Some n) o) 0 ≡ cond b n (unwrap_or o 0)
+written_at true o n = refl
+written_at false o n = refl
+
+-- room is made, and then a number is written at one variable
+all_written : (first room last : ℕ → Option ℕ) (key w n : ℕ) → key ≡ w → ((v : ℕ) → unwrap_or (room v) 0 ≡ unwrap_or (first v) 0) → ((v : ℕ) → last v ≡ cond (eqb v key) (Some n) (room v)) → (v : ℕ) →
+    unwrap_or (last v) 0 ≡ cond (eqb v w) n (unwrap_or (first v) 0)
+all_written first room last key w n is same writes v =
+    ap (λ o. unwrap_or o 0) (writes v) ∙ written_at (eqb v key) (room v) n ∙ ap (λ k. cond (eqb v k) n (unwrap_or (room v) 0)) is
+    ∙ ap (cond (eqb v w) n) (same v)
+
+-- a literal under the number of a variable
+pub under_is : (o : Option ℕ) (n m s d : ℕ) → (IsSome o ↔ ((1 ≤ n) × (n ≤ 268435455))) → IfSome o (λ l. l ≡ 2 * n + s) → n ≡ m → 1 ≤ m → m ≤ 268435455 → unwrap_or o d ≡ 2 * m + s
+under_is (Some l) n m s d some value is from to = value ∙ ap (λ k. 2 * k + s) is
+under_is None n m s d some value is from to = absurd (false≢true (some.1 (omega (arith, is, from), omega (arith, is, to))))
+
+-- ---- A numbering
+
+met_none : (f : ℕ → ℕ) → ((v : ℕ) → f v ≡ 0) → (b : ℕ) → met_up_to f b ≡ 0
+unfolding met_up_to
+met_none f none zero = refl
+met_none f none (suc b) = let e = met_none f none b in let here = none (suc b) in grind (arith, nat_tests)
+
+pub numbering_empty : (f : ℕ → ℕ) → ((v : ℕ) → f v ≡ 0) → IsNumbering f 0
+unfolding names_of
+numbering_empty f none = record { counted = sym (met_none f none 268435455); stands = none }
+
+pub names_empty : (f : ℕ → ℕ) → names_of f 0 ≡ []
+unfolding names_of
+names_empty f = refl
+
+module _ (f : ℕ → ℕ) (count : ℕ) (is : IsNumbering f count) where
+  at_most : (v : ℕ) → f v ≤ count
+  at_most v = let e = is.stands v in omega (arith, number_most (names_of f count) v, names_length f count)
+
+  pub is_unmet : (v : ℕ) → f v ≡ 0 → has (names_of f count) v ≡ false
+  is_unmet v none = has_none (names_of f count) v (sym (is.stands v) ∙ none)
+
+  is_met : (v : ℕ) → f v ≢ 0 → has (names_of f count) v ≡ true
+  is_met v some = has_number (names_of f count) v (λ e. some (is.stands v ∙ e))
+
+  pub unmet_at : (v : ℕ) → has (names_of f count) v ≡ false → f v ≡ 0
+  unmet_at v none = is.stands v ∙ ap (λ t. cond t (number_in (names_of f count) v) 0) none
+
+  number_is : (v : ℕ) → f v ≢ 0 → number_in (names_of f count) v ≡ f v
+  number_is v some = sym (is.stands v ∙ ap (λ t. cond t (number_in (names_of f count) v) 0) (is_met v some))
+
+  pub next_is : (v : ℕ) → f v ≡ 0 → number_in (names_of f count) v ≡ count + 1
+  next_is v none = let e = number_unmet (names_of f count) v (is_unmet v none) in omega (arith, names_length f count)
+
+  pub count_most : count ≤ 268435455
+  count_most = omega (arith, is.counted, met_most f 268435455)
+
+  pub is_none : (v n : ℕ) → n ≡ f v → (1 ≤ n → n ≤ 268435455 → ⊥) → f v ≡ 0
+  is_none v n is_at none = elim (cases_eq (f v) 0) [
+    | inl e ↦ e
+    | inr some ↦ absurd (none (omega (arith, some, is_at)) (omega (arith, is_at, at_most v, count_most)))
+  ]
+
+  pub count_below : (v : ℕ) → f v ≡ 0 → 1 ≤ v → v ≤ 268435455 → count < 268435455
+  count_below v none from to = omega (arith, is.counted, met_below f v none from 268435455 to)
+
+  -- a new number
+  module _ (g : ℕ → ℕ) (w : ℕ) (none : f w ≡ 0) (from : 1 ≤ w) (to : w ≤ 268435455) (writes : (v : ℕ) → g v ≡ cond (eqb v w) (count + 1) (f v)) where
+    written : g w ≡ count + 1
+    written = writes w ∙ ap (λ t. cond t (count + 1) (f w)) (eq-eqb w w refl)
+
+    one : (v : ℕ) → g v ≡ count + 1 → v ≡ w
+    one v is_new = elim (cases_eq v w) [
+      | inl e ↦ e
+      | inr apart ↦
+          let old = writes v ∙ ap (λ t. cond t (count + 1) (f v)) (ne_eqb v w apart) in
+          let most = at_most v in
+          absurd (let wrong : ⊥ = omega arith in wrong)
+    ]
+
+    same_number : (n v : ℕ) → 1 ≤ n → n ≤ count → eqb (g v) n ≡ eqb (f v) n
+    same_number n v low high = elim (cases_eq v w) [
+      | inl e ↦
+          let at = ap f e ∙ none in
+          let new = ap g e ∙ written in
+          grind (arith, nat_tests)
+      | inr apart ↦ ap (λ k. eqb k n) (writes v ∙ ap (λ t. cond t (count + 1) (f v)) (ne_eqb v w apart))
+    ]
+
+    names_new : names_of g (count + 1) ≡ names_of f count ++ w ∷ []
+    names_new =
+        names_step g count
+        ∙ ap (λ ns. ns ++ name_up_to g (count + 1) 268435455 ∷ []) (names_same f g count same_number)
+        ∙ ap (λ v. names_of f count ++ v ∷ []) (name_is g (count + 1) w written from one 268435455 to)
+
+    numbering_new : IsNumbering g (count + 1)
+    numbering_new = record {
+      counted = ap (λ n. n + 1) is.counted ∙ sym (met_more f g w (count + 1) none (omega arith) from writes 268435455 to);
+      stands = λ v.
+          writes v ∙ ap (cond (eqb v w) (count + 1)) (is.stands v)
+          ∙ ap (λ n. cond (eqb v w) n (number_or (names_of f count) v)) (omega (arith, names_length f count))
+          ∙ sym (number_push (names_of f count) w v (is_unmet w none))
+          ∙ ap (λ ns. number_or ns v) (sym names_new);
+    }
+
+-- a variable that wasn't met has the next number: room is made, and the number is written
+module _ (first room last : ℕ → Option ℕ) (count : ℕ) (is : IsNumbering (λ v. unwrap_or (first v) 0) count) (key w : ℕ) (w_is : key ≡ w) (range : (1 ≤ key) × (key ≤ 268435455)) (unmet : has (names_of (λ v. unwrap_or (first v) 0) count) w ≡ false)
+    (same : (v : ℕ) → unwrap_or (room v) 0 ≡ unwrap_or (first v) 0) (writes : (v : ℕ) → last v ≡ cond (eqb v key) (Some (count + 1)) (room v)) where
+  abbrev before : ℕ → ℕ
+  before v = unwrap_or (first v) 0
+
+  abbrev after : ℕ → ℕ
+  after v = unwrap_or (last v) 0
+
+  none : before w ≡ 0
+  none = unmet_at before count is w unmet
+
+  from : 1 ≤ w
+  from = omega (arith, w_is, range.0)
+
+  to : w ≤ 268435455
+  to = omega (arith, w_is, range.1)
+
+  wrote : (v : ℕ) → after v ≡ cond (eqb v w) (count + 1) (before v)
+  wrote = all_written first room last key w (count + 1) w_is same writes
+
+  pub next_invariant : IsNumbering after (count + 1)
+  next_invariant = numbering_new before count is after w none from to wrote
+
+  pub next_names : names_of after (count + 1) ≡ names_of before count ++ w ∷ []
+  next_names = names_new before count is after w none from to wrote
+
+  pub next_low : count < 268435455
+  next_low = count_below before count is w none from to
+
+  pub next_number : number_in (names_of after (count + 1)) w ≡ count + 1
+  next_number =
+      let new = wrote w ∙ ap (λ t. cond t (count + 1) (before w)) (eq-eqb w w refl) in
+      number_is after (count + 1) next_invariant w (omega (arith, new)) ∙ new

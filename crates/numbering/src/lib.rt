@@ -1,0 +1,6 @@
+//! Variables under numbers, in the order in which they are met.
+#![tactic(auto)]
+
+mod numbering;
+
+pub use numbering::Numbering;

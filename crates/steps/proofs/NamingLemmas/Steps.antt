@@ -1,0 +1,389 @@
+-- A step under numbers is the step under the names that were given.
+use Rattle.std.specs.FinMap as maps
+use Rattle.std.specs.Ordering.{nat_cmp}
+use Rattle.std.proofs.Common.{◌≡◌, ℕ, suc, ◌+◌, ◌*◌, ◌%◌, Bool, true, false, Option, Some, None, Ok, Err, List, []}
+use Rattle.std.proofs.Common.{◌∷◌, map, option_map, slice_get, length, refl, sym, ap, ◌∙◌, subst, arith}
+use Rattle.std.proofs.Common.{Result, OnOk, IfOk, ◌↔◌, ◌⊎◌, ◌&&◌, inl, inr}
+use Rattle.std.specs.List.{list_all, list_any}
+use Rattle.std.proofs.lemmas.Bool.{false≢true, false_from_ne_true, and_parts}
+use Rattle.std.proofs.lemmas.Option.{same_Some, none-some, slice_get-map}
+use Rattle.cnf_base.specs.Literals.{Literal, Clause, variable, has, same_clause}
+use Rattle.cnf_base.proofs.SetLemmas.{has_head, has_tail, has_cases}
+use Rattle.numbering.specs.Names.{number_in, name_in, with_names}
+use Rattle.proofs.specs.Steps.{Step}
+use Rattle.proofs.specs.declared.step_buf.StepKind.{StepKind}
+use Rattle.proofs.specs.declared.step_buf.StepKind.TheVariants as kinds
+use Rattle.theory.specs.Answers.{StepAnswer, UnlessOutOfMemory}
+use Rattle.theory.specs.Losses.{StepLoses}
+use Rattle.theory.specs.Renaming.{renamed, IsUndone, IsRenamed, step_renamed}
+use Rattle.theory.specs.Rules.{Rule, lrat, drat, State, by_ids, by_copies, Same, with_input, Answers}
+use Rattle.theory.specs.Rules.{after, literals_of}
+use Rattle.theory.specs.declared.accepted.Accepted.{Accepted}
+use Rattle.theory.specs.declared.refusal.Refusal.{Refusal}
+use Rattle.theory.specs.declared.refusal.Refusal.TheVariants.{NeitherRupNorRat, OutOfMemory}
+use Rattle.theory.proofs.RenamingLemmas.Clauses.{has_mapped, mapped_has}
+use Rattle.theory.proofs.RenamingLemmas.Verdicts.{renames, step_answers, step_leaves}
+use Rattle.steps.specs.Code.Naming.{with_lits, answer_with, under_names, mapped_values, AreAmong}
+use Rattle.steps.specs.Code.Naming.{LiveAmong, AreAllAmong, IsGiven, IsAbsent, names_after}
+use Rattle.steps.specs.Session.{Held, state_of, state_under}
+use Rattle.steps.proofs.NamingLemmas.Absent.{absent_step, absent_after, absent_loses}
+use Rattle.steps.proofs.NamingLemmas.Among.{same_among, after_among, input_among, lacks, deleted_among}
+use Rattle.steps.proofs.NamingLemmas.Maps.{mapped_get, mapped_list, mapped_empty}
+use Rattle.steps.proofs.NamingLemmas.Names.{told, kept_has_all, kept_number_all, has_new_all}
+use Rattle.steps.proofs.NamingLemmas.Names.{given_undone, next_is_not_given}
+use Rattle.steps.proofs.NamingLemmas.Pivots.{answer_named, deletion_names_none, plain_stays}
+use Rattle.steps.proofs.NamingLemmas.States.{renamed_same, renamed_input, renamed_size, renamed_loses}
+
+-- each variable that was met keeps its number
+abbrev pub Extends : (names more : List ℕ) → Type 0
+Extends names more = (v : ℕ) → has names v ≡ true → (has more v ≡ true) × (number_in more v ≡ number_in names v)
+
+pub extends_itself : (names : List ℕ) → Extends names names
+extends_itself names v h = (h, refl)
+
+pub extends_new : (names : List ℕ) (lits : List Literal) → Extends names (with_names names lits)
+extends_new names lits v h = (kept_has_all names v lits h, kept_number_all names v lits h)
+
+variable_under : (n l : ℕ) → variable (2 * n + l % 2) ≡ n
+variable_under n l = grind arith
+
+-- the literals of this list have variables that were met
+abbrev pub AreMet : List ℕ → List Literal → Type 0
+AreMet names lits = (l : Literal) → has lits l ≡ true → has names (variable l) ≡ true
+
+module _ (names : List ℕ) where
+  abbrev numbered : List Literal → List Literal
+  numbered lits = map (renamed (number_in names)) lits
+
+  named_back : (lits : List Literal) → AreMet names lits → map (renamed (name_in names)) (numbered lits) ≡ lits
+  named_back [] met = refl
+  named_back (l ∷ lits) met = λ i.
+      (renames (number_in names) (name_in names)).undone l (told names (variable l) (met l (has_head l lits))) i
+      ∷ named_back lits (λ k h. met k (has_tail l lits k h)) i
+
+  numbered_given : (lits : List Literal) → AreMet names lits → AreAmong (IsGiven names) (numbered lits)
+  numbered_given lits met m h =
+      let w = mapped_has (renamed (number_in names)) lits m h in
+      (variable w.0, met w.0 w.1, sym (variable_under (number_in names (variable w.0)) w.0) ∙ ap variable w.2)
+
+-- ---- What is held, under names
+
+module _ (names more : List ℕ) (extends : Extends names more) where
+  extended_given : (l : Literal) → IsGiven names l → IsGiven more l
+  extended_given l given = (given.0, (extends given.0 given.1).0, (extends given.0 given.1).1 ∙ given.2)
+
+  name_kept : (l : Literal) → IsGiven names l → name_in names (variable l) ≡ name_in more (variable l)
+  name_kept l given =
+      ap (name_in names) (sym given.2) ∙ told names given.0 given.1
+      ∙ sym (ap (name_in more) (sym given.2 ∙ sym (extends given.0 given.1).1) ∙ told more given.0 (extends given.0 given.1).0)
+
+  clause_kept : (c : Clause) → AreAmong (IsGiven names) c → map (renamed (name_in names)) c ≡ map (renamed (name_in more)) c
+  clause_kept [] given = refl
+  clause_kept (l ∷ c) given = λ i.
+      (2 * name_kept l (given l (has_head l c)) i + l % 2) ∷ clause_kept c (λ k h. given k (has_tail l c k h)) i
+
+  at_kept : (o : Option Clause) → ((c : Clause) → o ≡ Some c → AreAmong (IsGiven names) c) → option_map (map (renamed (name_in names))) o ≡ option_map (map (renamed (name_in more))) o
+  at_kept None given = refl
+  at_kept (Some c) given = ap Some (clause_kept c (given c refl))
+
+  list_kept : (live : List Clause) → LiveAmong (IsGiven names) (slice_get live) → map (map (renamed (name_in names))) live ≡ map (map (renamed (name_in more))) live
+  list_kept [] given = refl
+  list_kept (c ∷ live) given = λ i. clause_kept c (given 0 c refl) i ∷ list_kept live (λ k. given (suc k)) i
+
+  -- what is held under numbers is, renamed, what is held under names
+  pub held_renamed : (held : Held) (beside : ℕ) → AreAllAmong (IsGiven names) (state_of held) → IsRenamed (name_in more) (number_in more) (state_of held) (state_of (under_names names beside held))
+  held_renamed held beside = by held.rule
+    where
+      undone : (c : Clause) → AreAmong (IsGiven names) c → IsUndone (name_in more) (number_in more) c
+      undone c given l h = given_undone more l (extended_given l (given l h))
+
+      by : (rule : Rule) → AreAllAmong (IsGiven names) (state_under rule held) → IsRenamed (name_in more) (number_in more) (state_under rule held) (state_under rule (under_names names beside held))
+      by lrat given = (
+        λ k. mapped_get (map (renamed (name_in names))) held.live k ∙ at_kept (maps.get held.live k) (given k),
+        refl,
+        λ k c at. undone c (given k c at),
+      )
+      by (drat rules) given = (
+        refl,
+        mapped_list (map (renamed (name_in names))) held.live ∙ list_kept (maps.values held.live) given,
+        λ k c at. undone c (given k c at),
+      )
+
+  pub all_given : (s : State) → AreAllAmong (IsGiven names) s → AreAllAmong (IsGiven more) s
+  all_given (by_ids s) given = λ k c at l h. extended_given l (given k c at l h)
+  all_given (by_copies rules live) given = λ k c at l h. extended_given l (given k c at l h)
+
+pub named_size : (names : List ℕ) (held : Held) (beside : ℕ) → AreAllAmong (IsGiven names) (state_of held) → literals_of (state_of (under_names names beside held)) ≡ literals_of (state_of held)
+named_size names held beside given =
+    renamed_size (name_in names) (number_in names) (state_of held) (state_of (under_names names beside held)) (held_renamed names names (extends_itself names) held beside given)
+
+-- ---- A clause of the formula
+
+module _ (names : List ℕ) (lits : List Literal) (old new : Held) (given : AreAllAmong (IsGiven names) (state_of old)) (beside more_beside : ℕ) where
+  abbrev later : List ℕ
+  later = with_names names lits
+
+  met_now : AreMet later lits
+  met_now l h = has_new_all names lits l h
+
+  pub input_given : Same (state_of new) (with_input (state_of old) (numbered later lits)) → AreAllAmong (IsGiven later) (state_of new)
+  input_given same =
+      same_among (IsGiven later) (state_of new) (with_input (state_of old) (numbered later lits)) same
+      (input_among (IsGiven later) (state_of old) (numbered later lits) (all_given names later (extends_new names lits) (state_of old) given) (numbered_given later lits met_now))
+
+  pub input_named : Same (state_of new) (with_input (state_of old) (numbered later lits)) → Same (state_of (under_names later more_beside new)) (with_input (state_of (under_names names beside old)) lits)
+  input_named same =
+      let own = state_of (under_names names beside old) in
+      let before = held_renamed names later (extends_new names lits) old beside given in
+      let after = held_renamed later later (extends_itself later) new more_beside (input_given same) in
+      let told_all = λ (l : Literal) (h : has (numbered later lits) l ≡ true). given_undone later l (numbered_given later lits met_now l h) in
+      subst (λ c. Same (state_of (under_names later more_beside new)) (with_input own c)) (named_back later lits met_now)
+      (renamed_same (name_in later) (number_in later) (state_of new) (with_input (state_of old) (numbered later lits)) (state_of (under_names later more_beside new)) (with_input own (map (renamed (name_in later)) (numbered later lits))) after
+      (renamed_input (name_in later) (number_in later) (state_of old) own (numbered later lits) before told_all) same)
+
+-- ---- A step
+
+-- What a step under numbers shows of the step under names.
+pub record IsShown (names more : List ℕ) (old : Held) (beside : ℕ) (lits : List Literal) (step : Step) (answer : StepAnswer) : Type 0 where
+  pub answers : Answers (state_of (under_names names beside old)) (with_lits lits step) (answer_with lits answer)
+  pub renamed_after : (word : Accepted) → answer ≡ Ok word → IsRenamed (name_in more) (number_in more)
+      (after (state_of old) (with_lits (numbered more lits) step) word) (after (state_of (under_names names beside old)) (with_lits lits step) word)
+  pub given_after : (word : Accepted) → AreAllAmong (IsGiven more) (after (state_of old) (with_lits (numbered more lits) step) word)
+  pub loses : (word : Accepted) → answer ≡ Ok word → StepLoses (state_of old) (with_lits (numbered more lits) step) word → StepLoses (state_of (under_names names beside old)) (with_lits lits step) word
+  pub loses_back : (word : Accepted) → answer ≡ Ok word → StepLoses (state_of (under_names names beside old)) (with_lits lits step) word → StepLoses (state_of old) (with_lits (numbered more lits) step) word
+
+module _ (names more : List ℕ) (extends : Extends names more) (old : Held) (beside : ℕ) (lits : List Literal) (step : Step) (given : AreAllAmong (IsGiven names) (state_of old)) where
+  abbrev inner : State
+  inner = state_of old
+
+  abbrev outer : State
+  outer = state_of (under_names names beside old)
+
+  before : IsRenamed (name_in more) (number_in more) inner outer
+  before = held_renamed names more extends old beside given
+
+  -- each variable was met: this is a step under other names
+  shown_met : AreMet more lits → (answer : StepAnswer) → Answers inner (with_lits (numbered more lits) step) answer → IsShown names more old beside lits step answer
+  shown_met met answer a =
+      let under = with_lits (numbered more lits) step in
+      let back = named_back more lits met in
+      let told_all = λ (l : Literal) (h : has (numbered more lits) l ≡ true). given_undone more l (numbered_given more lits met l h) in
+      record {
+        answers =
+            subst (λ c. Answers outer (with_lits c step) (answer_with lits answer)) back
+            (subst (Answers outer (step_renamed (renamed (name_in more)) under)) (answer_named (renamed (name_in more)) (renamed (number_in more)) inner lits step answer back a)
+            (step_answers (name_in more) (number_in more) inner outer under answer before told_all a));
+        renamed_after = λ word is.
+            subst (λ c. IsRenamed (name_in more) (number_in more) (after inner under word) (after outer (with_lits c step) word)) back
+            (step_leaves (name_in more) (number_in more) inner outer under word before told_all);
+        given_after = λ word. after_among (IsGiven more) inner (numbered more lits) step word (all_given names more extends inner given) (numbered_given more lits met);
+        loses = λ word is loses.
+            subst (λ c. StepLoses outer (with_lits c step) word) back
+            ((renamed_loses (name_in more) (number_in more) inner outer under word before told_all).0 loses);
+        loses_back = λ word is loses.
+            (renamed_loses (name_in more) (number_in more) inner outer under word before told_all).1
+            (subst (λ c. StepLoses outer (with_lits c step) word) (sym back) loses);
+      }
+
+-- a deletion with a variable that wasn't met is of no live clause
+module _ (names : List ℕ) (old : Held) (beside : ℕ) (lits : List Literal) (step : Step) (given : AreAllAmong (IsGiven names) (state_of old)) (unmet : Literal) (member : has lits unmet ≡ true) (new : has names (variable unmet) ≡ false) (deletes : step.kind ≡ kinds.Delete) where
+  none_numbered : (c : Clause) → AreAmong (IsGiven names) c → has c (renamed (number_in names) unmet) ≡ false
+  none_numbered c c_given = false_from_ne_true (has c (renamed (number_in names) unmet)) (λ h.
+      let g = c_given (renamed (number_in names) unmet) h in
+      next_is_not_given names (variable unmet) new g.0 g.1 (g.2 ∙ variable_under (number_in names (variable unmet)) unmet))
+
+  none_named : (c : Clause) → AreAmong (IsGiven names) c → has (map (renamed (name_in names)) c) unmet ≡ false
+  none_named c c_given = false_from_ne_true (has (map (renamed (name_in names)) c) unmet) (λ h.
+      let w = mapped_has (renamed (name_in names)) c unmet h in
+      let g = c_given w.0 w.1 in
+      let is : g.0 ≡ variable unmet =
+      sym (told names g.0 g.1) ∙ ap (name_in names) g.2 ∙ sym (variable_under (name_in names (variable w.0)) w.0) ∙ ap variable w.2 in
+      false≢true (sym new ∙ subst (λ v. has names v ≡ true) is g.1))
+
+  absent_numbered : IsAbsent (state_of old) (numbered names lits)
+  absent_numbered = by old.rule given
+    where
+      by : (rule : Rule) → AreAllAmong (IsGiven names) (state_under rule old) → IsAbsent (state_under rule old) (numbered names lits)
+      by lrat g = tt
+      by (drat rules) g =
+          lacks (numbered names lits) (renamed (number_in names) unmet) (maps.values old.live) (has_mapped (renamed (number_in names)) lits unmet member) (λ k c at. none_numbered c (g k c at))
+
+  absent_named : IsAbsent (state_of (under_names names beside old)) lits
+  absent_named = by old.rule given
+    where
+      from : (o : Option Clause) → ((d : Clause) → o ≡ Some d → AreAmong (IsGiven names) d) → (c : Clause) → option_map (map (renamed (name_in names))) o ≡ Some c → has c unmet ≡ false
+      from None g c at = absurd (none-some c at)
+      from (Some d) g c at = subst (λ x. has x unmet ≡ false) (same_Some (map (renamed (name_in names)) d) c at) (none_named d (g d refl))
+
+      by : (rule : Rule) → AreAllAmong (IsGiven names) (state_under rule old) → IsAbsent (state_under rule (under_names names beside old)) lits
+      by lrat g = tt
+      by (drat rules) g = subst (λ live. list_any (same_clause lits) live ≡ false) (sym (mapped_list (map (renamed (name_in names))) old.live))
+          (lacks lits unmet (map (map (renamed (name_in names))) (maps.values old.live)) member
+          (λ k c at. from (slice_get (maps.values old.live) k) (g k) c (sym (slice_get-map (map (renamed (name_in names))) (maps.values old.live) k) ∙ at)))
+
+  shown_absent : (answer : StepAnswer) → Answers (state_of old) (with_lits (numbered names lits) step) answer → IsShown names names old beside lits step answer
+  shown_absent answer a =
+      let own = with_lits lits step in
+      let outer = state_of (under_names names beside old) in
+      let before = held_renamed names names (extends_itself names) old beside given in
+      let answers = absent_step (name_in names) (number_in names) (state_of old) outer own (numbered names lits) answer before deletes absent_numbered absent_named a in
+      let accepted = λ (word : Accepted) (is : answer ≡ Ok word). subst (Answers (state_of old) (with_lits (numbered names lits) step)) is a in
+      let none = λ (word : Accepted) (is : answer ≡ Ok word).
+      absent_loses (name_in names) (number_in names) (state_of old) outer own (numbered names lits) word before deletes absent_numbered absent_named (accepted word is) in
+      record {
+        answers = subst (Answers outer own) (sym (plain_stays lits answer (deletion_names_none outer own answer deletes answers))) answers;
+        renamed_after = λ word is. absent_after (name_in names) (number_in names) (state_of old) outer own (numbered names lits) word before deletes absent_numbered absent_named (accepted word is);
+        given_after = λ word. deleted_among (IsGiven names) (state_of old) (numbered names lits) step word deletes given;
+        loses = λ word is loses. absurd ((none word is).0 loses);
+        loses_back = λ word is loses. absurd ((none word is).1 loses);
+      }
+
+-- ---- All that a call leaves
+
+pub on_ok : {X Y : Type 0} (r : Result X Y) (P Q : Type 0) → (P → Q) → OnOk r P → OnOk r Q
+on_ok (Ok x) P Q f p = f p
+on_ok (Err y) P Q f p = tt
+
+pub both_ok : {X Y : Type 0} (r : Result X Y) (P Q S : Type 0) → (P → Q → S) → OnOk r P → OnOk r Q → OnOk r S
+both_ok (Ok x) P Q S f p q = f p q
+both_ok (Err y) P Q S f p q = tt
+
+-- a clause of the formula was put under numbers
+pub inputs : (names more : List ℕ) (lits numbered : List Literal) (old new : Held) (beside : ℕ) → AreAllAmong (IsGiven names) (state_of old) → more ≡ with_names names lits → numbered ≡ map (renamed (number_in more)) lits →
+    Same (state_of new) (with_input (state_of old) numbered) →
+    AreAllAmong (IsGiven more) (state_of new) × Same (state_of (under_names more 0 new)) (with_input (state_of (under_names names beside old)) lits)
+inputs names more lits numbered old new beside given more_is numbered_is same =
+    let same_too = subst (λ ns. Same (state_of new) (with_input (state_of old) (map (renamed (number_in ns)) lits))) more_is
+    (subst (λ ls. Same (state_of new) (with_input (state_of old) ls)) numbered_is same) in
+    subst (λ ns. AreAllAmong (IsGiven ns) (state_of new) × Same (state_of (under_names ns 0 new)) (with_input (state_of (under_names names beside old)) lits)) (sym more_is)
+    (input_given names lits old new given beside 0 same_too, input_named names lits old new given beside 0 same_too)
+
+all_met : (names : List ℕ) (c : List Literal) → list_all (λ l. has names (variable l)) c ≡ true → AreMet names c
+all_met names [] all l h = absurd (false≢true h)
+all_met names (k ∷ c) all l h = elim (has_cases k c l h) [
+  | inl e ↦ subst (λ x. has names (variable x) ≡ true) e (and_parts (has names (variable k)) _ all).0
+  | inr t ↦ all_met names c (and_parts (has names (variable k)) _ all).1 l t
+]
+
+some_unmet : (names : List ℕ) (c : List Literal) → list_all (λ l. has names (variable l)) c ≡ false → (l : Literal) × (has c l ≡ true) × (has names (variable l) ≡ false)
+some_unmet names [] some = absurd (false≢true (sym some))
+some_unmet names (k ∷ c) some = at (has names (variable k)) refl (some_unmet names c)
+  where
+    at : (b : Bool) → has names (variable k) ≡ b → (list_all (λ l. has names (variable l)) c ≡ false → (l : Literal) × (has c l ≡ true) × (has names (variable l) ≡ false)) →
+        (l : Literal) × (has (k ∷ c) l ≡ true) × (has names (variable l) ≡ false)
+    at false e rest = (k, has_head k c, e)
+    at true e rest =
+        let w = rest (sym (ap (λ b. b && list_all (λ l. has names (variable l)) c) e) ∙ some) in
+        (w.0, has_tail k c w.0 w.1, w.2)
+
+-- a step was put under numbers
+shown : (names more : List ℕ) (old : Held) (beside : ℕ) (lits : List Literal) (step : Step) (answer : StepAnswer) → AreAllAmong (IsGiven names) (state_of old) → more ≡ names_after step.kind names lits →
+    Answers (state_of old) (with_lits (map (renamed (number_in more)) lits) step) answer → IsShown names more old beside lits step answer
+shown names more old beside lits step answer given more_is a = by step.kind refl more_is
+  where
+    by : (kind : StepKind) → step.kind ≡ kind → more ≡ names_after kind names lits → IsShown names more old beside lits step answer
+    by kinds.Add is m =
+        let extends = subst (Extends names) (sym m) (extends_new names lits) in
+        shown_met names more extends old beside lits step given (λ l h. subst (λ ns. has ns (variable l) ≡ true) (sym m) (has_new_all names lits l h)) answer a
+    by kinds.Delete is m = met_or_not (list_all (λ l. has names (variable l)) lits) refl
+      where
+        under_first : Answers (state_of old) (with_lits (map (renamed (number_in names)) lits) step) answer
+        under_first = subst (λ ns. Answers (state_of old) (with_lits (map (renamed (number_in ns)) lits) step) answer) m a
+
+        met_or_not : (b : Bool) → list_all (λ l. has names (variable l)) lits ≡ b → IsShown names more old beside lits step answer
+        met_or_not true all = subst (λ ns. IsShown names ns old beside lits step answer) (sym m)
+            (shown_met names names (extends_itself names) old beside lits step given (all_met names lits all) answer under_first)
+        met_or_not false some =
+            let w = some_unmet names lits some in
+            subst (λ ns. IsShown names ns old beside lits step answer) (sym m)
+            (shown_absent names old beside lits step given w.0 w.1 w.2 is answer under_first)
+
+unless_taken : (answer : StepAnswer) {P Q : Type 0} → (P → Q) → UnlessOutOfMemory answer P → UnlessOutOfMemory answer Q
+unless_taken (Ok word) f p = f p
+unless_taken (Err OutOfMemory) f p = tt
+unless_taken (Err _) f p = f p
+
+named_unless : (lits : List Literal) (answer : StepAnswer) (P : Type 0) → UnlessOutOfMemory answer P → UnlessOutOfMemory (answer_with lits answer) P
+named_unless lits (Ok word) P p = p
+named_unless lits (Err (NeitherRupNorRat pivot)) P p = p
+named_unless lits (Err _) P p = p
+
+named_err : (lits : List Literal) (refusal : Refusal) (P : Accepted → Type 0) → IfOk (answer_with lits (Err refusal)) P
+named_err lits (NeitherRupNorRat pivot) P = tt
+named_err lits _ P = tt
+
+-- what the call leaves
+pub record Steps (names more : List ℕ) (old new : Held) (beside : ℕ) (lits : List Literal) (step : Step) (answer : StepAnswer) : Type 0 where
+  pub given : OnOk answer (AreAllAmong (IsGiven more) (state_of new))
+  pub answers : UnlessOutOfMemory (answer_with lits answer) (Answers (state_of (under_names names beside old)) (with_lits lits step) (answer_with lits answer))
+  pub state : IfOk (answer_with lits answer) (λ word. Same (state_of (under_names more 0 new)) (after (state_of (under_names names beside old)) (with_lits lits step) word))
+  pub loses : IfOk (answer_with lits answer) (λ word. StepLoses (state_of old) (with_lits (map (renamed (number_in more)) lits) step) word ↔ StepLoses (state_of (under_names names beside old)) (with_lits lits step) word)
+
+pub steps : (names more : List ℕ) (old new : Held) (beside : ℕ) (lits numbered : List Literal) (step : Step) (answer : StepAnswer) → AreAllAmong (IsGiven names) (state_of old) → more ≡ names_after step.kind names lits → numbered ≡ map (renamed (number_in more)) lits →
+    UnlessOutOfMemory answer (Answers (state_of old) (with_lits numbered step) answer) → IfOk answer (λ word. Same (state_of new) (after (state_of old) (with_lits numbered step) word)) →
+    Steps names more old new beside lits step answer
+steps names more old new beside lits numbered step answer given more_is numbered_is = by answer
+  where
+    under : List Literal
+    under = map (renamed (number_in more)) lits
+
+    by : (answer : StepAnswer) → UnlessOutOfMemory answer (Answers (state_of old) (with_lits numbered step) answer) → IfOk answer (λ word. Same (state_of new) (after (state_of old) (with_lits numbered step) word)) → Steps names more old new beside lits step answer
+    by (Ok word) a same =
+        let s = shown names more old beside lits step (Ok word) given more_is (subst (λ ls. Answers (state_of old) (with_lits ls step) (Ok word)) numbered_is a) in
+        let same_under = subst (λ ls. Same (state_of new) (after (state_of old) (with_lits ls step) word)) numbered_is same in
+        let given_new = same_among (IsGiven more) (state_of new) (after (state_of old) (with_lits under step) word) same_under (s.given_after word) in
+        record {
+          given = given_new;
+          answers = s.answers;
+          state =
+              renamed_same (name_in more) (number_in more) (state_of new) (after (state_of old) (with_lits under step) word) (state_of (under_names more 0 new)) (after (state_of (under_names names beside old)) (with_lits lits step) word)
+              (held_renamed more more (extends_itself more) new 0 given_new) (s.renamed_after word refl) same_under;
+          loses = (s.loses word refl, s.loses_back word refl);
+        }
+    by (Err refusal) a same = record {
+      given = tt;
+      answers =
+          named_unless lits (Err refusal) _ (unless_taken (Err refusal) (λ b. (shown names more old beside lits step (Err refusal) given more_is b).answers)
+          (subst (λ ls. UnlessOutOfMemory (Err refusal) (Answers (state_of old) (with_lits ls step) (Err refusal))) numbered_is a));
+      state = named_err lits refusal _;
+      loses = named_err lits refusal _;
+    }
+
+-- whether a literal was lost
+pub lost_named : (lits : List Literal) (answer : StepAnswer) (A B : Type 0) (P Q : Accepted → Type 0) → IfOk answer (λ word. A ↔ (B ⊎ P word)) → IfOk (answer_with lits answer) (λ word. P word ↔ Q word) → IfOk (answer_with lits answer) (λ word. A ↔ (B ⊎ Q word))
+lost_named lits (Ok word) A B P Q lost same = (
+  λ a. elim (lost.0 a) [ inl b ↦ inl b | inr p ↦ inr (same.0 p) ],
+  λ d. lost.1 (elim d [ inl b ↦ inl b | inr q ↦ inr (same.1 q) ]),
+)
+lost_named lits (Err refusal) A B P Q lost same = named_err lits refusal _
+
+-- what is said where a step is accepted
+pub ok_named : (lits : List Literal) (answer : StepAnswer) (P : Type 0) → OnOk answer P → OnOk (answer_with lits answer) P
+ok_named lits (Ok word) P p = p
+ok_named lits (Err (NeitherRupNorRat pivot)) P p = tt
+ok_named lits (Err _) P p = tt
+
+-- ---- At first
+
+pub empty_named : (names : List ℕ) (held : Held) → held.live ≡ maps.empty → mapped_values (map (renamed (name_in names))) held.live ≡ maps.empty
+empty_named names held empty = ap (mapped_values (map (renamed (name_in names)))) empty ∙ mapped_empty (map (renamed (name_in names)))
+
+nothing : (es : List (ℕ × Clause)) → length es ≡ 0 → es ≡ []
+nothing [] e = refl
+nothing (x ∷ es) e = absurd (let wrong : ⊥ = omega arith in wrong)
+
+no_values : maps.values (maps.empty {X = Clause} {R = nat_cmp}) ≡ []
+no_values = ap (map (λ e. e.1)) (nothing (maps.entries maps.empty) (sym (maps.len-entries maps.empty) ∙ maps.len-empty nat_cmp Clause))
+
+pub none_given : (names : List ℕ) (held : Held) → held.live ≡ maps.empty → AreAllAmong (IsGiven names) (state_of held)
+none_given names held empty = by held.rule
+  where
+    no_value : (k : ℕ) (c : Clause) → maps.get held.live k ≡ Some c → ⊥
+    no_value k c at = none-some c (sym (maps.get-empty nat_cmp k) ∙ ap (λ m. maps.get m k) (sym empty) ∙ at)
+
+    no_place : (live : List Clause) → live ≡ [] → (k : ℕ) (c : Clause) → slice_get live k ≡ Some c → ⊥
+    no_place live is k c at = none-some c (sym (ap (λ ls. slice_get ls k) is) ∙ at)
+
+    by : (rule : Rule) → AreAllAmong (IsGiven names) (state_under rule held)
+    by lrat = λ k c at. absurd (no_value k c at)
+    by (drat rules) = λ k c at. absurd (no_place (maps.values held.live) (ap maps.values empty ∙ no_values) k c at)

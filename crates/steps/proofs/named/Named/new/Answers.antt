@@ -1,0 +1,11 @@
+use Rattle.steps.proofs.NamingLemmas.Steps.{empty_named, none_given}
+use Rattle.steps.proofs.named.Named.new.Goals as goal
+
+pub returns-clause-named : goal.returns-clause-named
+returns-clause-named g c = record {
+  given = none_given _ (g.J.Judge.held c.args.judge) c.requires.empty;
+  none_beside = search;
+}
+
+pub returns-clause-empty : goal.returns-clause-empty
+returns-clause-empty g c = empty_named _ (g.J.Judge.held c.args.judge) c.requires.empty

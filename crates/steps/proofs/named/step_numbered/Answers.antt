@@ -1,0 +1,45 @@
+use Rattle.std.proofs.Common.{◌⊎◌, ◌↔◌, IfOk, OnOk, IsTrue, sym, ap, ◌∙◌, subst}
+use Rattle.theory.specs.Answers.{UnlessOutOfMemory}
+use Rattle.theory.specs.Losses.{StepLoses}
+use Rattle.theory.specs.Rules.{Answers, Same, after}
+use Rattle.steps.specs.Code.Naming.{answer_with, names_after, named_state, with_lits, AreAllAmong}
+use Rattle.steps.specs.Code.Naming.{IsGiven}
+use Rattle.steps.specs.Session.{state_of}
+use Rattle.steps.proofs.NamingLemmas.Steps.{Steps, steps, lost_named, ok_named}
+use Rattle.steps.proofs.named.step_numbered.Given.{Over}
+use Rattle.steps.proofs.named.step_numbered.Goals as goal
+
+module _ (g : Over) (c : goal.After-with_pivot g) where
+  abbrev all : Type 0
+  all = Steps c.args.numbering.now c.number_step.new.numbering (g.J.Judge.held c.args.judge.now) (g.J.Judge.held c.step-answer.new.self) 0 c.args.lits.now c.args.step.now c.step-answer.result
+
+  shown : all
+  shown =
+      steps c.args.numbering.now c.number_step.new.numbering (g.J.Judge.held c.args.judge.now) (g.J.Judge.held c.step-answer.new.self) 0 c.args.lits.now c.as_slice.result.now c.args.step.now c.step-answer.result c.requires.named.given
+      (c.in_ok-number_step.ensures.names ∙ ap (λ kind. names_after kind c.args.numbering.now c.args.lits.now) c.kind.ensures)
+      (c.as_slice.ensures.value ∙ c.in_ok-number_step.ensures.literals) c.step-answer.ensures.answers c.step-answer.ensures.state
+
+pub returns-clause-answers : goal.returns-clause-answers
+returns-clause-answers g c =
+    subst (λ a. UnlessOutOfMemory a (Answers (named_state c.args.numbering.now (g.J.Judge.held c.args.judge.now)) (with_lits c.args.lits.now c.args.step.now) a)) (sym c.with_pivot.ensures) (shown g c).answers
+
+pub returns-clause-given : goal.returns-clause-given
+returns-clause-given g c =
+    subst (λ a. OnOk a (AreAllAmong (IsGiven c.number_step.new.numbering) (state_of (g.J.Judge.held c.step-answer.new.self)))) (sym c.with_pivot.ensures)
+    (ok_named c.args.lits.now c.step-answer.result _ (shown g c).given)
+
+pub returns-clause-state : goal.returns-clause-state
+returns-clause-state g c =
+    subst (λ a. IfOk a (λ word. Same (named_state c.number_step.new.numbering (g.J.Judge.held c.step-answer.new.self))
+    (after (named_state c.args.numbering.now (g.J.Judge.held c.args.judge.now)) (with_lits c.args.lits.now c.args.step.now) word))) (sym c.with_pivot.ensures) (shown g c).state
+
+pub returns-clause-lost : goal.returns-clause-lost
+returns-clause-lost g c =
+    let old = g.J.Judge.held c.args.judge.now in
+    let new = g.J.Judge.held c.step-answer.new.self in
+    let under = with_lits c.as_slice.result.now c.args.step.now in
+    let named = with_lits c.args.lits.now c.args.step.now in
+    let numbered = c.as_slice.ensures.value ∙ c.in_ok-number_step.ensures.literals in
+    subst (λ a. IfOk a (λ word. IsTrue new.has_lost_literal ↔ (IsTrue old.has_lost_literal ⊎ StepLoses (named_state c.args.numbering.now old) named word))) (sym c.with_pivot.ensures)
+    (lost_named c.args.lits.now c.step-answer.result _ _ (λ word. StepLoses (state_of old) under word) (λ word. StepLoses (named_state c.args.numbering.now old) named word) c.step-answer.ensures.lost
+    (subst (λ ls. IfOk (answer_with c.args.lits.now c.step-answer.result) (λ word. StepLoses (state_of old) (with_lits ls c.args.step.now) word ↔ StepLoses (named_state c.args.numbering.now old) named word)) (sym numbered) (shown g c).loses))
