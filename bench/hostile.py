@@ -10,8 +10,8 @@ other names than 1, 2, ..: a line gives the seconds with the usual names and wit
 
 With --count it runs the kinds that have to grow as the input does, and no others, at small sizes, and counts instructions
 by valgrind, which a busy machine doesn't change. Where there is no valgrind, seconds are taken in their place, the least of
-three runs, at the sizes n and 4 n, and less than a twentieth counts as that. A kind passes where its exponent is below 1.3, or its ratio below 1.5, and
-the answer is right. The last line is "N passed, M failed".
+three runs, at the sizes n and 4 n, and less than a twentieth counts as that. A kind passes where its exponent is below 1.3,
+or its ratio below 1.5, and the answer is right. The last line is "N passed, M failed".
 
 DRAT_FORWARD and LRAT_CHECK name the programs; they are those in bin/ otherwise.
 """
@@ -35,8 +35,7 @@ PROGRAMS = {DRAT: os.path.abspath(os.environ.get(DRAT, f"{TOP}/bin/drat-forward"
             LRAT: os.path.abspath(os.environ.get(LRAT, f"{TOP}/bin/lrat-check"))}
 LIMIT, LEAST = 1.3, 0.05
 # What other names may cost in instructions: longer words are read, and each variable is looked up once, as its word is read. To
-# look it up by its name whenever its value is asked for takes up to twenty times. Time, which has cache misses besides, is to
-# stay below this too.
+# look it up by its name whenever its value is asked for takes up to twenty times. Seconds have cache misses besides.
 NAMES_LIMIT = 1.5
 PAGE = 1024
 KINDS = {}
