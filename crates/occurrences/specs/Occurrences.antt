@@ -10,5 +10,5 @@ use Rattle.occurrences.specs.declared.by_literal.Occurrences.{Occurrences}
 -- here: the lists have slots, and none has literals.
 unfoldable pub occurs : Occurrences → Literal → ℕ → Bool
 occurs o l s =
-    let record { births = births; lists = lists; apart = _; low = _; known = _ } = o in
+    let record { births = births; lists = lists; low = _; known = _ } = o in
     list_any (is_of births s) (list_at lists l)

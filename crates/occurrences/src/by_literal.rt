@@ -6,9 +6,9 @@ ghost use Rattle.std.specs.Prelude.{IsSome, ◌≢◌, map};
 ghost use Rattle.std.specs.List.{list_any, list_all};
 ghost use Rattle.std.specs.List.Sorted.{IsStrictlyIncreasing};
 ghost use Rattle.cnf_base.specs.Literals.{complement, has};
-ghost use Rattle.tables.specs.Lists.{AreApart, list_at};
+ghost use Rattle.tables.specs.Lists.{list_at};
 ghost use Rattle.tables.specs.Table.{at};
-ghost use Rattle.occurrences.specs.Code.Known.{AreApart-prop, is_known};
+ghost use Rattle.occurrences.specs.Code.Known.{is_known};
 
 use crate::occurrence::{Occurrence, add, births_at, clean, rid_all};
 use cnf_base::{Lit, OutOfMemory};
@@ -24,7 +24,6 @@ pub struct Occurrences {
     /// By slot how often it was forgotten.
     births: Table<u32>,
     lists: Lists<Occurrence>,
-    ghost apart: { AreApart lists } by { AreApart-prop lists },
     ghost low: { (l : ℕ) → 4294967296 ≤ l → list_at lists l ≡ [] },
     ghost known: { (l : ℕ) → list_all (is_known births) (list_at lists l) ≡ true },
 }

@@ -3,7 +3,7 @@
 ghost use Rattle.std.specs.Prelude.{◌≡◌, ℕ, ◌==◌, ◌<◌, ◌≤◌, ◌++◌, ◌∷◌, []};
 ghost use Rattle.std.specs.Prelude.{filter, not, OnOk, OnErr};
 ghost use Rattle.std.specs.Prelude.{vec_len, vec_capacity, if◌then◌else◌};
-ghost use Rattle.tables.specs.Lists.{AreApart, list_at};
+ghost use Rattle.tables.specs.Lists.{list_at};
 ghost use Rattle.occurrences.specs.Entries.{births_of, counts};
 ghost use Rattle.occurrences.specs.Code.Known.{AreAlike};
 
@@ -93,11 +93,9 @@ fn rid(list: &mut Vec<Occurrence>, slot: u32)
 
 /// Takes the entries of a slot out of the list of a key.
 fn rid_at(lists: &mut Lists<Occurrence>, key: u32, slot: u32)
-    requires { AreApart lists.old }
     ensures lists { (k : ℕ) → list_at lists.new k ≡
         (if k == key then filter (λ e. not (e.slot == slot)) (list_at lists.old k)
         else list_at lists.old k) }
-    ensures apart { AreApart lists.new }
 {
     if lists.has_list(key) {
         let mut list = lists.take_out(key);
@@ -108,11 +106,9 @@ fn rid_at(lists: &mut Lists<Occurrence>, key: u32, slot: u32)
 
 /// Takes the entries of a slot out of all lists.
 pub(crate) fn rid_all(lists: &mut Lists<Occurrence>, slot: u32)
-    requires { AreApart lists.old }
     ensures lists { (k : ℕ) → k < 4294967296 → list_at lists.new k ≡
         filter (λ e. not (e.slot == slot)) (list_at lists.old k) }
     ensures beyond { (k : ℕ) → 4294967296 ≤ k → list_at lists.new k ≡ list_at lists.old k }
-    ensures apart { AreApart lists.new }
 {
     for key in 0..4294967296u64 {
         rid_at(lists, key as u32, slot);

@@ -6,7 +6,7 @@ use Rattle.cnf_base.specs.Literals.{Literal, Clause, has, complement}
 use Rattle.theory.specs.Propagation.{Live}
 use Rattle.propagation.specs.Assumptions.{Assumption}
 use Rattle.propagation.specs.declared.answer.Answer.TheVariants.{Quiet}
-use Rattle.watch_lists.specs.Lists.{AreApart, entries_in, entries_of, list_at, times_in}
+use Rattle.watch_lists.specs.Lists.{entries_in, entries_of, list_at, times_in}
 use Rattle.watch_lists.specs.Lists.{unfit_entries}
 use Rattle.watch_lists.specs.declared.lists.WatchLists.{WatchLists}
 use Rattle.watch_lists.specs.declared.watcher.Watcher.{Watcher}
@@ -63,7 +63,6 @@ AddsFitting c slot before after =
 pub record AreUnchanged (before after : WatchLists) : Type 0 where
   pub lists : (l : Literal) → list_at after l ≡ list_at before l
   pub entries : entries_in after ≡ entries_in before
-  pub apart : AreApart after
 
 -- ---- Where literals are false
 

@@ -23,7 +23,6 @@ ghost use Rattle.root_literals.specs.History.{IsRewound};
 ghost use Rattle.root_literals.specs.Roots.{HasReasons, IsArranged, IsKept, has_clash, is_cut};
 ghost use Rattle.root_literals.specs.Roots.{is_up_to_date};
 ghost use Rattle.root_literals.specs.Watched.{AreUnchanged};
-ghost use Rattle.watch_lists.specs.Lists.{AreApart};
 ghost use Rattle.trail.specs.declared.left.Left.TheVariants.{More};
 ghost use Rattle.root_literals.specs.declared.roots.Kept.TheVariants.{Behind, Clash, Cut};
 
@@ -284,7 +283,6 @@ impl Roots {
     /// It takes no memory.
     fn change_reason(&mut self, store: &Store, lists: &mut WatchLists, trail: &Trail, slot: Slot)
         requires alive { IsSome (maps.get store.now.live slot) }
-        requires apart { AreApart lists.old }
         requires kept { IsKept store.now.live self.old trail.now.lits }
         ensures kept { IsKept store.now.live self.new trail.now.lits }
         ensures noted { (l : Literal) → IsSome (at self.old.reasons l) →
@@ -350,7 +348,6 @@ impl Roots {
         slot: Slot,
     )
         requires alive { IsSome (maps.get store.now.live slot) }
-        requires apart { AreApart lists.old }
         requires nothing_assumed { assumptions.old.assumptions ≡ [] }
         requires kept { IsKept store.now.live self.old assumptions.old.trail.lits }
         ensures kept { IsKept (maps.remove store.now.live slot) self.new

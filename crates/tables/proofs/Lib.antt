@@ -1,3 +1,1 @@
-pub mod FilledLemmas
 pub mod ListsLemmas
-pub mod TableLemmas

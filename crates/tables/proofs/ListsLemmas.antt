@@ -1,17 +1,20 @@
 -- Lists that are found at once, and the others.
 use Rattle.std.proofs.Common.{◌≡◌, ℕ, ◌+◌, ◌<◌, ◌≤◌, Bool, true, false, ◌||◌, nat_lt, cond, eqb}
 use Rattle.std.proofs.Common.{eq-eqb, ne_eqb, Option, Some, None, List, [], ◌∷◌, ◌++◌, length}
-use Rattle.std.proofs.Common.{get_or}
+use Rattle.std.proofs.Common.{is_some, get_or, unwrap_or, option_map, Result, OnOk, OnErr, Ok, Err}
 use Rattle.std.proofs.Common.{set, take, min, slice_get, Vec, refl, sym, ap, ◌∙◌, subst, arith, inl}
 use Rattle.std.proofs.Common.{inr}
+use Rattle.std.specs.BTreeMap.{BTreeMap, Updates, get}
 use Rattle.std.specs.Global.{Global}
-use Rattle.std.proofs.lemmas.Bool.{cases_eq, cases_lt, or_right}
+use Rattle.std.specs.Ordering.{nat_cmp}
+use Rattle.std.proofs.lemmas.Bool.{cases_eq, cases_lt, or_right, true≢false}
+use Rattle.std.proofs.lemmas.Grind.{common_steps}
 use Rattle.std.proofs.lemmas.Bool.Decides.{nat_tests}
 use Rattle.std.proofs.lemmas.List.{get_or_append_left, get_or_push, get_or-set_other}
 use Rattle.std.proofs.lemmas.List.{get_or-set_same, length-append, length-set, take_all}
 use Rattle.std.proofs.lemmas.List.Sums.{sum_by-set, sum_by_more}
-use Rattle.std.proofs.lemmas.Option.{same_Some, slice_get-get_or, slice_get_past}
-use Rattle.tables.specs.Lists.{AreNumbered, items_at, items_or, total}
+use Rattle.std.proofs.lemmas.Option.{slice_get-get_or, slice_get_past}
+use Rattle.tables.specs.Lists.{items_or, total}
 
 module _ {T : Type 0} where
   same_place : (xs ys : List (Vec T Global)) (k : ℕ) (d : Vec T Global) → length ys ≡ length xs → get_or ys k d ≡ get_or xs k d → slice_get ys k ≡ slice_get xs k
@@ -68,79 +71,20 @@ module _ {T : Type 0} where
         ]
       ]
 
-  -- one more is found at once, which was empty
-  pub near_more_empty : (near : List (Vec T Global)) (list : Vec T Global) (rest : ℕ → List T) → list.items ≡ [] → rest (length near) ≡ [] → (k : ℕ) → items_or (slice_get (near ++ list ∷ []) k) (rest k) ≡ items_or (slice_get near k) (rest k)
-  near_more_empty near list rest empty none = near_more near list rest rest (empty ∙ sym none) (λ k. elim (cases_eq k (length near)) [
-    | inl e ↦ ap rest e ∙ none ∙ sym (ap (λ b. cond b [] (rest k)) (eq-eqb k (length near) e))
-    | inr ne ↦ sym (ap (λ b. cond b [] (rest k)) (ne_eqb k (length near) ne))
-  ])
+  -- a list of a far key is written
+  pub far_written : (far after : BTreeMap ℕ (Vec T Global)) (key : ℕ) (list : Vec T Global) → Updates nat_cmp far after key (Some list) → (k : ℕ) → items_or (get nat_cmp after k) [] ≡ cond (eqb k key) list.items (items_or (get nat_cmp far k) [])
+  far_written far after key list u k = let e = u.0 k in grind (arith, common_steps, nat_tests, e)
 
-  -- a list that is found by number is written
-  pub far_written : (lists : List (Vec T Global)) (number_of : ℕ → Option ℕ) → AreNumbered number_of (length lists) → (key n : ℕ) (list : Vec T Global) → number_of key ≡ Some n → (k : ℕ) →
-      items_at (set lists n list) (number_of k) ≡ cond (eqb k key) list.items (items_at lists (number_of k))
-  far_written lists number_of apart key n list here k = elim (cases_eq k key) [
-    | inl e ↦
-        ap (items_at (set lists n list)) (ap number_of e ∙ here)
-        ∙ ap (λ o. items_or o []) (slice_get-get_or (set lists n list) n list (subst (λ m. n < m) (sym (length-set lists n list)) (apart.inside key n here)) ∙ ap Some (get_or-set_same lists n list list (apart.inside key n here)))
-        ∙ sym (ap (λ b. cond b list.items (items_at lists (number_of k))) (eq-eqb k key e))
-    | inr ne ↦ by_number (number_of k) (λ there. ne (apart.apart k key n there here)) ∙ sym (ap (λ b. cond b list.items (items_at lists (number_of k))) (ne_eqb k key ne))
+  -- an empty list comes to a far key that has none
+  pub far_added : (far after : BTreeMap ℕ (Vec T Global)) (key : ℕ) (list : Vec T Global) → Updates nat_cmp far after key (Some list) → get nat_cmp far key ≡ None → list.items ≡ [] → (k : ℕ) → items_or (get nat_cmp after k) [] ≡ items_or (get nat_cmp far k) []
+  far_added far after key list u none empty k = elim (cases_eq k key) [
+    | inl e ↦ far_written far after key list u k ∙ ap (λ b. cond b list.items (items_or (get nat_cmp far k) [])) (eq-eqb k key e) ∙ empty ∙ sym (ap (λ j. items_or (get nat_cmp far j) []) e ∙ ap (λ o. items_or o []) none)
+    | inr ne ↦ far_written far after key list u k ∙ ap (λ b. cond b list.items (items_or (get nat_cmp far k) [])) (ne_eqb k key ne)
   ]
-    where
-      by_number : (o : Option ℕ) → (o ≡ Some n → ⊥) → items_at (set lists n list) o ≡ items_at lists o
-      by_number None other = refl
-      by_number (Some m) other = ap (λ o. items_or o []) (same_place lists (set lists n list) m list (length-set lists n list) (get_or-set_other lists n m list list (λ e. other (ap Some e))))
 
-  -- an empty list gets the next number
-  module _ (lists : List (Vec T Global)) (list : Vec T Global) (number_of number_of2 : ℕ → Option ℕ) (key : ℕ) (apart : AreNumbered number_of (length lists)) (none : number_of key ≡ None)
-      (is : (k : ℕ) → number_of2 k ≡ cond (eqb k key) (Some (length lists)) (number_of k)) where
-    at_key : (k : ℕ) → k ≡ key → number_of2 k ≡ Some (length lists)
-    at_key k e = is k ∙ ap (λ b. cond b (Some (length lists)) (number_of k)) (eq-eqb k key e)
-
-    elsewhere : (k : ℕ) → (k ≡ key → ⊥) → number_of2 k ≡ number_of k
-    elsewhere k ne = is k ∙ ap (λ b. cond b (Some (length lists)) (number_of k)) (ne_eqb k key ne)
-
-    pub added_lists : list.items ≡ [] → (k : ℕ) → items_at (lists ++ list ∷ []) (number_of2 k) ≡ items_at lists (number_of k)
-    added_lists empty k = elim (cases_eq k key) [
-      | inl e ↦
-          ap (items_at (lists ++ list ∷ [])) (at_key k e)
-          ∙ ap (λ o. items_or o []) (slice_get-get_or (lists ++ list ∷ []) (length lists) list (let len = length-append lists (list ∷ []) in omega (arith, len)) ∙ ap Some (get_or_push lists list list (length lists) refl)) ∙ empty
-          ∙ sym (ap (items_at lists) (ap number_of e ∙ none))
-      | inr ne ↦ ap (items_at (lists ++ list ∷ [])) (elsewhere k ne) ∙ by_number (number_of k) refl
-    ]
-      where
-        by_number : (o : Option ℕ) → number_of k ≡ o → items_at (lists ++ list ∷ []) o ≡ items_at lists o
-        by_number None there = refl
-        by_number (Some n) there =
-            let low = apart.inside k n there in
-            ap (λ o. items_or o [])
-            (slice_get-get_or (lists ++ list ∷ []) n list (let len = length-append lists (list ∷ []) in omega (arith, len, low)) ∙ ap Some (get_or_append_left lists (list ∷ []) list n low) ∙ sym (slice_get-get_or lists n list low))
-
-    pub added_apart : (count : ℕ) → count ≡ length lists + 1 → AreNumbered number_of2 count
-    added_apart count more = record { inside = inside; apart = apart2 }
-      where
-        inside : (k n : ℕ) → number_of2 k ≡ Some n → n < count
-        inside k n there = elim (cases_eq k key) [
-          | inl e ↦ let same = same_Some (length lists) n (sym (at_key k e) ∙ there) in omega (arith, more, same)
-          | inr ne ↦ let low = apart.inside k n (sym (elsewhere k ne) ∙ there) in omega (arith, more, low)
-        ]
-
-        new : (j k n : ℕ) → j ≡ key → (k ≡ key → ⊥) → number_of2 j ≡ Some n → number_of2 k ≡ Some n → ⊥
-        new j k n e ne at_j at_k =
-            let same = same_Some (length lists) n (sym (at_key j e) ∙ at_j) in
-            let low = apart.inside k n (sym (elsewhere k ne) ∙ at_k) in
-            omega (arith, same, low)
-
-        apart2 : (j k n : ℕ) → number_of2 j ≡ Some n → number_of2 k ≡ Some n → j ≡ k
-        apart2 j k n at_j at_k = elim (cases_eq j key) [
-          | inl e ↦ elim (cases_eq k key) [
-            | inl e2 ↦ e ∙ sym e2
-            | inr ne ↦ absurd (new j k n e ne at_j at_k)
-          ]
-          | inr ne ↦ elim (cases_eq k key) [
-            | inl e ↦ absurd (new k j n e ne at_k at_j)
-            | inr ne2 ↦ apart.apart j k n (sym (elsewhere j ne) ∙ at_j) (sym (elsewhere k ne2) ∙ at_k)
-          ]
-        ]
+  -- each far key that has a list has one still
+  pub far_known : (far after : BTreeMap ℕ (Vec T Global)) (key : ℕ) (list : Vec T Global) → Updates nat_cmp far after key (Some list) → (b : Bool) (k : ℕ) → (b || is_some (get nat_cmp far k)) ≡ true → (b || is_some (get nat_cmp after k)) ≡ true
+  far_known far after key list u b k known = let e = u.0 k in grind (arith, common_steps, nat_tests, e, known)
 
   -- a list in the place of an empty one
   pub total_put : (lists : List (Vec T Global)) (n : ℕ) (list : Vec T Global) → n < length lists → items_or (slice_get lists n) [] ≡ [] → total (set lists n list) ≡ total lists + length list.items
@@ -157,6 +101,11 @@ module _ {T : Type 0} where
       let was = ap (λ v. length v.items) (get_or-set_same lists n list list inside) in
       omega (arith, put, was, len)
 
+  -- a list that isn't there, or is empty, has no entries
+  pub was_empty : (o : Option (Vec T Global)) → items_or o [] ≡ [] → unwrap_or (option_map (λ v. length v.items) o) 0 ≡ 0
+  was_empty None e = refl
+  was_empty (Some v) e = ap length e
+
   -- one more list is counted
   pub counted_more : (lists : List (Vec T Global)) (n so_far len sum : ℕ) (list : Vec T Global) → n < length lists → list ≡ get_or lists n list → so_far ≡ min (total (take n lists)) 18446744073709551615 →
       len ≡ length list.items → sum ≡ min (so_far + len) 18446744073709551615 → sum ≡ min (total (take (n + 1) lists)) 18446744073709551615
@@ -167,6 +116,15 @@ module _ {T : Type 0} where
 
   pub counted_all : (lists : List (Vec T Global)) (n so_far : ℕ) → length lists ≤ n → so_far ≡ min (total (take n lists)) 18446744073709551615 → so_far ≡ min (total lists) 18446744073709551615
   counted_all lists n so_far past is = is ∙ ap (λ xs. min (total xs) 18446744073709551615) (take_all n lists past)
+
+-- a key that was found is not absent
+pub found_far : {X : Type 0} (key len : ℕ) (o : Option X) → len ≤ key → (nat_lt key len || is_some o) ≡ true → o ≡ None → ⊥
+found_far key len o past found none = true≢false (sym found ∙ ap (λ p. nat_lt key len || is_some p) none ∙ grind (arith, common_steps, nat_tests, past))
+
+-- a result that isn't refused
+pub unless_refused : {A E P Q : Type 0} (r : Result A E) → OnOk r P → OnErr r Q → (Q → ⊥) → P
+unless_refused (Ok _) p _ _ = p
+unless_refused (Err _) _ q never = absurd (never q)
 
 pub known_more : (key len len2 : ℕ) (some some2 : Bool) → len ≤ len2 → some2 ≡ some → (nat_lt key len || some) ≡ true → (nat_lt key len2 || some2) ≡ true
 known_more key len len2 some some2 longer same known = by_test (nat_lt key len) refl known

@@ -1,4 +1,3 @@
-pub mod Parts
 pub mod Table
 pub mod Filled
 pub mod Lists

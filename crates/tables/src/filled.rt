@@ -1,37 +1,29 @@
 //! Values by small numbers, of which all that are near have one.
 //!
 //! A value in the array takes its own size, as nothing else is noted of its key, and a key below
-//! the array's length has room without a look. The array is at most sixty-four times as long as
-//! there were keys outside it, and two hundred and sixty thousand.
+//! the array's length has room without a look. Keys come densely numbered: those that lie far from
+//! the others stand in a balanced tree, where no choice of keys makes a look-up long.
 
 ghost use Rattle.std.specs.Prelude.{◌≡◌, ℕ, ◌==◌, ◌<◌, ◌≤◌, if◌then◌else◌, unwrap_or, vec_len};
 ghost use Rattle.std.specs.Prelude.{IsSome, OnOk, Some, None, length, slice_get};
+ghost use Rattle.std.specs.Ordering.{nat_cmp};
+ghost use Rattle.std.specs.BTreeMap as tree;
 ghost use Rattle.tables.specs.Code.Filled.{IsFilled};
-ghost use Rattle.tables.specs.Table as table;
 
-use crate::growth::Growth;
-use crate::table::Table;
+use crate::growth::len_for;
 use cnf_base::OutOfMemory;
 use std::alloc::Global;
+use std::collections::BTreeMap;
 
 /// Values by keys. Room for one key may make room for others that are near.
 ///
-/// The keys below `near.len()` have their values in `near`, all others in `far`, where no choice of
-/// keys makes a look-up long. A value in `near` hides one in `far`.
+/// The keys below `near.len()` have their values in `near`, all others in `far`. A value in `near`
+/// hides one in `far`.
 #[derive(Drop)]
 pub struct Filled<T> {
     near: Vec<T>,
-    far: Table<T>,
-    /// How often room was made for a key that was not in `near`.
-    count: usize,
+    far: BTreeMap<u32, T>,
 }
-
-/// How `near` grows with the keys that were met outside it.
-const GROWTH: Growth = Growth {
-    least: 8192,
-    near: 131072,
-    sparse: 32,
-};
 
 #[tactic(auto, unfolding(crate::specs::Filled::at))]
 impl<T: Copy + Drop> Filled<T> {
@@ -43,8 +35,7 @@ impl<T: Copy + Drop> Filled<T> {
     {
         Filled {
             near: Vec::new(alloc),
-            far: Table::new(alloc),
-            count: 0,
+            far: BTreeMap::new(alloc),
         }
     }
 
@@ -73,17 +64,18 @@ impl<T: Copy + Drop> Filled<T> {
     #[cold]
     #[inline(never)]
     fn get_far(&self, key: u32) -> Option<T>
-        ensures { result ≡ table.at self.now.far key }
+        ensures { result ≡ tree.get nat_cmp self.now.far key }
     {
-        self.far.get(key)
+        let value = self.far.get(&key)?;
+        Some(*value)
     }
 
     #[cold]
     #[inline(never)]
     fn get_far_or(&self, key: u32, first: T) -> T
-        ensures { result ≡ unwrap_or (table.at self.now.far key) first }
+        ensures { result ≡ unwrap_or (tree.get nat_cmp self.now.far key) first }
     {
-        self.far.get(key).unwrap_or(first)
+        self.get_far(key).unwrap_or(first)
     }
 
     /// The values of the keys below the length of this, in their order.
@@ -114,7 +106,7 @@ impl<T: Copy + Drop> Filled<T> {
         requires room { IsSome (at self.old key) }
         ensures { (k : ℕ) → at self.new k ≡ (if k == key then Some value else at self.old k) }
     {
-        self.far.set(key, value);
+        let _ = self.far.insert(key, value);
     }
 
     /// Writes the values at two keys, for which there is room: at the same key the second one.
@@ -147,32 +139,15 @@ impl<T: Copy + Drop> Filled<T> {
         self.set(other, other_value);
     }
 
-    /// Lengthens `near` up to the next key that `far` has, and by that one, but to no more than
-    /// this length.
-    fn widen_once(&mut self, len: usize, first: T) -> Result<(), OutOfMemory>
-        requires short { vec_len self.old.near < len }
-        requires most { len ≤ 4294967296 }
-        ensures filled { IsFilled first self.old self.new }
-        ensures longer { OnOk result (vec_len self.old.near < vec_len self.new.near) }
-    {
-        let next = self.far.next_key(self.near.len(), len);
-        self.near.resize(next, first)?;
-        if next < len {
-            let value = self.far.get(next as u32).unwrap_or(first);
-            self.near.push(value)?;
-        }
-        Ok(())
-    }
-
     /// Lengthens `near`, with what `far` has there.
     fn widen(&mut self, len: usize, first: T) -> Result<(), OutOfMemory>
         requires { len ≤ 4294967296 }
-        ensures { IsFilled first self.old self.new }
+        ensures filled { IsFilled first self.old self.new }
+        ensures long { OnOk result (len ≤ vec_len self.new.near) }
     {
-        self.near
-            .reserve_exact(len.saturating_sub(self.near.len()))?;
-        while self.near.len() < len {
-            self.widen_once(len, first)?;
+        for key in self.near.len()..len {
+            let value = self.get_far_or(key as u32, first);
+            self.near.push(value)?;
         }
         Ok(())
     }
@@ -198,15 +173,12 @@ impl<T: Copy + Drop> Filled<T> {
         ensures filled { IsFilled first self.old self.new }
         ensures room { OnOk result (IsSome (at self.new key)) }
     {
-        let is_new = self.far.get(key).is_none();
-        self.count = self.count.saturating_add(usize::from(is_new));
-        if GROWTH.is_near(key, self.count) {
-            let len = GROWTH.len_for(self.near.len(), key);
-            self.widen(len, first)?;
+        if let Some(len) = len_for(key, self.near.len(), self.far.len()) {
+            return self.widen(len, first);
         }
-        if (key as usize) < self.near.len() {
-            return Ok(());
+        if !self.far.contains_key(&key) {
+            self.far.insert(key, first)?;
         }
-        self.far.reserve(key, first)
+        Ok(())
     }
 }

@@ -1,33 +1,28 @@
-//! How an array by key grows with the keys that were met: a few far ones take little memory.
+//! How an array by key grows, so that a few far keys take little memory.
 
-ghost use Rattle.std.specs.Prelude.{◌<◌, ◌≤◌};
+ghost use Rattle.std.specs.Prelude.{◌<◌, ◌≤◌, IfSome};
 
 /// The key past the greatest one.
 const KEYS: usize = 4294967296;
 
-/// How an array grows that has the near keys, where all others are kept apart.
-#[derive(Clone, Copy, Drop)]
-pub(crate) struct Growth {
-    /// The length from which the array grows.
-    pub(crate) least: usize,
-    /// A key below this is near, however few were met.
-    pub(crate) near: usize,
-    /// So is one that is below so many times the number of keys that were met, and `near`.
-    pub(crate) sparse: usize,
-}
+/// A key below this is near, however few were met.
+const NEAR: usize = 131072;
 
-impl Growth {
-    /// Whether the key is near, now that so many were met.
-    pub(crate) fn is_near(self, key: u32, met: usize) -> bool {
-        (key as usize) < met.saturating_mul(self.sparse).saturating_add(self.near)
-    }
+/// So is one below so many times the number of far keys, and `NEAR`.
+const SPARSE: usize = 16;
 
-    /// How long an array of this length becomes for a key behind its end.
-    pub(crate) fn len_for(self, len: usize, key: u32) -> usize
-        ensures most { result ≤ 4294967296 }
-        ensures reach { key < result }
-    {
-        let twice = len.saturating_mul(2).max(self.least);
-        twice.max(key as usize + 1).min(KEYS)
+/// And one that is no further behind the end of the array. It gets as many keys behind it.
+const STEP: usize = 16;
+
+/// How long an array of this length becomes for a key behind its end; none where the key is far.
+pub(crate) fn len_for(key: u32, len: usize, far: usize) -> Option<usize>
+    ensures { IfSome result (λ n. (key < n) × (n ≤ 4294967296)) }
+{
+    let sparse = far.saturating_mul(SPARSE).saturating_add(NEAR);
+    let dense = len.saturating_add(STEP);
+    if (key as usize) < sparse.max(dense) {
+        Some((key as usize + STEP).min(KEYS))
+    } else {
+        None
     }
 }

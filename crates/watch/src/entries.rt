@@ -4,7 +4,7 @@ ghost use Rattle.std.specs.Prelude.{◌≡◌, ℕ, ◌+◌, ◌<◌, ◌==◌, 
 ghost use Rattle.std.specs.Prelude.{if◌then◌else◌, IsTrue, IsFalse, IsSome, OnOk, OnErr};
 ghost use Rattle.std.specs.FinMap as maps;
 ghost use Rattle.cnf_base.specs.Literals.{Clause, has, size};
-ghost use Rattle.watch_lists.specs.Lists.{AreApart, entries_in, entries_of};
+ghost use Rattle.watch_lists.specs.Lists.{entries_in, entries_of};
 ghost use Rattle.watch_lists.specs.Lists.{list_at, times_in};
 ghost use Rattle.root_literals.specs.Watched.{AddsFitting, HasEntry, IsListed, IsShortList};
 ghost use Rattle.root_literals.specs.Watched.{is_short};
@@ -22,7 +22,6 @@ pub(crate) fn add_entries(
     slot: Slot,
 ) -> Result<(), OutOfMemory>
     requires alive { IsSome (maps.get store.now.live slot) }
-    requires apart { AreApart lists.old }
     requires absent { IsFalse (has short.old slot) }
     ensures watched { OnOk result ((c : Clause) → maps.get store.now.live slot ≡ Some c →
         HasEntry c slot lists.new lists.old) }
@@ -42,7 +41,6 @@ pub(crate) fn add_entries(
     ensures err_rest { OnErr result (short.new ≡ short.old) }
     ensures different { OnOk result ((c : Clause) → maps.get store.now.live slot ≡ Some c →
         size c ≡ length c) }
-    ensures apart { AreApart lists.new }
 {
     if slot.number() > Watcher::MAX_SLOT as usize {
         return Err(OutOfMemory);
@@ -64,7 +62,6 @@ pub(crate) fn remove_entries(
     slot: Slot,
 )
     requires alive { IsSome (maps.get store.now.live slot) }
-    requires apart { AreApart lists.old }
     requires listed { IsListed (maps.get store.now.live) (list_at lists.old) }
     requires rest { IsShortList (maps.get store.now.live) short.old }
     ensures watched { (c : Clause) → maps.get store.now.live slot ≡ Some c →
@@ -80,7 +77,6 @@ pub(crate) fn remove_entries(
         length short.new + (if is_short c then 1 else 0) ≡ length short.old }
     ensures different { (c : Clause) → maps.get store.now.live slot ≡ Some c →
         size c ≡ length c }
-    ensures apart { AreApart lists.new }
 {
     let clause = store.clause(slot);
     if clause.len() < 2 {

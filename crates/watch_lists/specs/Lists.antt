@@ -53,7 +53,3 @@ has_list_at watches l = by_key.has_list_at watches.lists l
 -- the entries of all lists; each field has to be named here
 abbrev pub entries_in : WatchLists → ℕ
 entries_in watches = let record { lists = lists; places = _ } = watches in by_key.entries_in lists
-
--- no two lists are one
-abbrev pub AreApart : WatchLists → Type 0
-AreApart watches = by_key.AreApart watches.lists

@@ -8,7 +8,7 @@
 ghost use Rattle.std.specs.Prelude.{◌≡◌, ℕ, ◌+◌, ◌==◌, ◌&&◌, ◌++◌, ◌∷◌, [], length, min};
 ghost use Rattle.std.specs.Prelude.{if◌then◌else◌, IsTrue, OnOk, OnErr, true, false, ◌≢◌, ◌<◌, ◌≤◌};
 ghost use Rattle.cnf_base.specs.Literals.{Literal, Clause, has};
-ghost use Rattle.watch_lists.specs.Lists.{AreApart, entries_in, entries_of, fits, has_list_at};
+ghost use Rattle.watch_lists.specs.Lists.{entries_in, entries_of, fits, has_list_at};
 ghost use Rattle.watch_lists.specs.Lists.{list_at, marked_entries, unfit_entries};
 
 use crate::watcher::{Watcher, take_off};
@@ -33,7 +33,6 @@ impl WatchLists {
     pub fn new(alloc: Global) -> Self
         ensures lists { (l : Literal) → list_at result l ≡ [] }
         ensures entries { entries_in result ≡ 0 }
-        ensures apart { AreApart result }
     {
         WatchLists {
             lists: Lists::new(alloc),
@@ -51,7 +50,6 @@ impl WatchLists {
     /// Puts an entry at the end of the list of a literal.
     #[inline(always)]
     pub fn push(&mut self, l: Lit, watcher: Watcher) -> Result<(), OutOfMemory>
-        requires { AreApart self.old }
         ensures ok { OnOk result ((k : Literal) → list_at self.new k ≡
             (if k == l then list_at self.old k ++ watcher ∷ [] else list_at self.old k)) }
         ensures more { OnOk result (entries_in self.new ≡ entries_in self.old + 1) }
@@ -59,7 +57,6 @@ impl WatchLists {
         ensures as_many { OnErr result (entries_in self.new ≡ entries_in self.old) }
         ensures known { (k : Literal) → IsTrue (has_list_at self.old k) →
             IsTrue (has_list_at self.new k) }
-        ensures apart { AreApart self.new }
     {
         self.lists.push(key(l), watcher)
     }
@@ -76,14 +73,12 @@ impl WatchLists {
     /// Takes the list of a literal out, and leaves an empty one in its place.
     #[inline]
     pub fn take_out(&mut self, l: Lit) -> Vec<Watcher>
-        requires apart { AreApart self.old }
         requires known { IsTrue (has_list_at self.old l) }
         ensures list { result.items ≡ list_at self.old l }
         ensures others { (k : Literal) → list_at self.new k ≡
             (if k == l then [] else list_at self.old k) }
         ensures entries { entries_in self.new + length result.items ≡ entries_in self.old }
         ensures known { (k : Literal) → has_list_at self.new k ≡ has_list_at self.old k }
-        ensures apart { AreApart self.new }
     {
         self.lists.take_out(key(l))
     }
@@ -91,14 +86,12 @@ impl WatchLists {
     /// Puts a list in the place of the empty one of a literal.
     #[inline(always)]
     pub fn put_back(&mut self, l: Lit, list: Vec<Watcher>)
-        requires apart { AreApart self.old }
         requires known { IsTrue (has_list_at self.old l) }
         requires taken { list_at self.old l ≡ [] }
         ensures lists { (k : Literal) → list_at self.new k ≡
             (if k == l then list.items else list_at self.old k) }
         ensures entries { entries_in self.new ≡ entries_in self.old + length list.items }
         ensures known { (k : Literal) → has_list_at self.new k ≡ has_list_at self.old k }
-        ensures apart { AreApart self.new }
     {
         self.lists.put_back(key(l), list);
     }
@@ -106,7 +99,6 @@ impl WatchLists {
     /// Takes the entry of a slot with this mark out of the list of a literal, which has one. It
     /// takes no memory.
     pub fn take_off(&mut self, l: Lit, slot: u32, is_binary: bool)
-        requires apart { AreApart self.old }
         requires low { slot < 2147483648 }
         requires there { 0 < marked_entries slot is_binary (list_at self.old l) }
         ensures others { (k : Literal) → k ≢ l → list_at self.new k ≡ list_at self.old k }
@@ -115,7 +107,6 @@ impl WatchLists {
         ensures unfit { (k s : ℕ) (c : Clause) →
             unfit_entries s c k (list_at self.new k) ≤ unfit_entries s c k (list_at self.old k) }
         ensures entries { entries_in self.new + 1 ≡ entries_in self.old }
-        ensures apart { AreApart self.new }
     {
         let noted = l.index() % PLACES;
         let mut watchers = self.lists.take_out(key(l));
@@ -132,7 +123,6 @@ impl WatchLists {
         slot: u32,
         is_binary: bool,
     ) -> Result<(), OutOfMemory>
-        requires apart { AreApart self.old }
         requires low { slot < 2147483648 }
         ensures ok { OnOk result ((k s : ℕ) → entries_of s (list_at self.new k) ≡
             entries_of s (list_at self.old k) + (if k == first && s == slot then 1 else 0)
@@ -145,7 +135,6 @@ impl WatchLists {
         ensures err { OnErr result ((k s : ℕ) → entries_of s (list_at self.new k) ≡
             entries_of s (list_at self.old k)) }
         ensures as_many { OnErr result (entries_in self.new ≡ entries_in self.old) }
-        ensures apart { AreApart self.new }
     {
         self.push(first, Watcher::new(slot, second, is_binary))?;
         let watcher = Watcher::new(slot, first, is_binary);

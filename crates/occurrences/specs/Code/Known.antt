@@ -1,9 +1,6 @@
 -- What is so of the entries of each list.
 use Rattle.std.specs.List.{list_any, list_all}
-use Rattle.std.specs.Coded.{Coded-set, coded_ℕ, le_prop}
 use Rattle.std.specs.Prelude.{◌≡◌, ℕ, ◌&&◌, nat_le, List, Bool, true, is_some}
-use Rattle.tables.specs.Lists.{AreApart}
-use Rattle.tables.specs.declared.lists.Lists.{Lists}
 use Rattle.tables.specs.Table.{at}
 use Rattle.tables.specs.declared.table.Table.{Table}
 use Rattle.occurrences.specs.Entries.{births_of, is_of}
@@ -18,10 +15,3 @@ is_known births e =
 pub record AreAlike (births : Table ℕ) (xs ys : List Occurrence) : Type 0 where
   pub occurs : (s : ℕ) → list_any (is_of births s) ys ≡ list_any (is_of births s) xs
   pub known : list_all (is_known births) xs ≡ true → list_all (is_known births) ys ≡ true
-
--- no two proofs that lists are apart differ
-pub AreApart-prop : (lists : Lists Occurrence) → IsProp (AreApart lists)
-AreApart-prop lists a b = λ i. record {
-  inside = λ k n e. le_prop (a.inside k n e) (b.inside k n e) i;
-  apart = λ j k n d e. Coded-set coded_ℕ j k (a.apart j k n d e) (b.apart j k n d e) i;
-}

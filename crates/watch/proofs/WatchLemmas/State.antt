@@ -15,7 +15,7 @@ use Rattle.propagation.specs.Code.Exact.{AreExact}
 use Rattle.propagation.specs.Code.Scan.{IsHeld}
 use Rattle.theory.specs.Sets.{SameSet}
 use Rattle.trail.specs.Trail.{HasRoomForAll}
-use Rattle.watch_lists.specs.Lists.{AreApart, entries_in, entries_of, list_at, unfit_entries}
+use Rattle.watch_lists.specs.Lists.{entries_in, entries_of, list_at, unfit_entries}
 use Rattle.watch_lists.specs.Lists.{times_in}
 use Rattle.root_literals.specs.History.{IsHistory, visits}
 use Rattle.root_literals.specs.Order.{each_in_order}
@@ -91,7 +91,7 @@ same_roots before after lits_are assumptions_are starts_are =
 -- ---- One more assumption
 
 module _ (live live2 : FinMap nat_cmp Clause) (lists lists2 : WatchLists) (short : List ℕ) (roots roots2 : Roots) (before after found : AssumptionsState) (watch : IsWatch live lists short roots before)
-    (carried : PropagatesTo live live2 after found (at roots.reasons) (at roots2.reasons)) (as_before : roots2 ≡ record roots { reasons = roots2.reasons }) (apart : AreApart lists2) (listed : IsListed (maps.get live2) (list_at lists2)) (entries : entries_in lists2 ≡ entries_in lists)
+    (carried : PropagatesTo live live2 after found (at roots.reasons) (at roots2.reasons)) (as_before : roots2 ≡ record roots { reasons = roots2.reasons }) (listed : IsListed (maps.get live2) (list_at lists2)) (entries : entries_in lists2 ≡ entries_in lists)
     (begins : take (length before.trail.lits) after.trail.lits ≡ before.trail.lits) where
   as_known : roots2.kept ≡ roots.kept
   as_known = ap (λ r. r.kept) as_before
@@ -111,7 +111,6 @@ module _ (live live2 : FinMap nat_cmp Clause) (lists lists2 : WatchLists) (short
       IsKept live2 roots2 (roots_in last.trail.lits last.assumptions last.starts) → IsStanding roots2.kept last.assumptions → IsWatch live2 lists2 short roots2 last
   watch_with last reserved scan watched kept standing = record {
     scan = subst (λ m. IsHeld m (AreForced (maps.get m)) last) (sym carried.same) scan;
-    apart = apart;
     listed = listed;
     rest = record { listed = λ s. watch.rest.listed s ∙ sym (carried.short s) };
     watched = watched;
@@ -159,7 +158,6 @@ watch_reserved : (live : FinMap nat_cmp Clause) (lists : WatchLists) (short : Li
     ((v : ℕ) → has before.trail.reserved v ≡ true → has after.trail.reserved v ≡ true) → HaveReasons after.trail.reserved (at roots.reasons) → IsWatch live lists short roots before → IsWatch live lists short roots after
 watch_reserved live lists short roots before after lits_are assumptions_are starts_are within noted watch = record {
   scan = held_reserved (each_in_order live) (AreForced (maps.get (each_in_order live))) before after lits_are assumptions_are starts_are within watch.scan;
-  apart = watch.apart;
   listed = watch.listed;
   rest = watch.rest;
   watched =
@@ -178,7 +176,6 @@ watch_noted : (live : FinMap nat_cmp Clause) (lists : WatchLists) (short : List 
     ((l : Literal) → is_some (at roots.reasons l) ≡ true → at after.reasons l ≡ at roots.reasons l) → IsWatch live lists short roots held → IsWatch live lists short after held
 watch_noted live lists short roots after held kept_is history_is old watch = record {
   scan = watch.scan;
-  apart = watch.apart;
   listed = watch.listed;
   rest = watch.rest;
   watched = watch.watched;
@@ -205,11 +202,10 @@ pub watch_room : (live : FinMap nat_cmp Clause) (lists : WatchLists) (short : Li
 watch_room live lists short roots roots2 held held2 more noted watch =
     watch_reserved live lists short roots2 held held2 more.lits more.assumptions more.starts more.reserved noted (watch_noted live lists short roots roots2 held more.kept more.history more.reasons watch)
 
-pub watch_same : (live : FinMap nat_cmp Clause) (lists after : WatchLists) (short : List ℕ) (roots : Roots) (held : AssumptionsState) → AreApart after → ((l s : ℕ) → entries_of s (list_at after l) ≡ entries_of s (list_at lists l)) →
+pub watch_same : (live : FinMap nat_cmp Clause) (lists after : WatchLists) (short : List ℕ) (roots : Roots) (held : AssumptionsState) → ((l s : ℕ) → entries_of s (list_at after l) ≡ entries_of s (list_at lists l)) →
     ((l s : ℕ) (c : Clause) → maps.get live s ≡ Some c → unfit_entries s c l (list_at after l) ≤ unfit_entries s c l (list_at lists l)) → entries_in after ≡ entries_in lists → IsWatch live lists short roots held → IsWatch live after short roots held
-watch_same live lists after short roots held apart times fewer entries watch = record {
+watch_same live lists after short roots held times fewer entries watch = record {
   scan = watch.scan;
-  apart = apart;
   listed = record { watched = λ l s. times l s ∙ watch.listed.watched l s; low = watch.listed.low; fitting = λ l s c is. let none = watch.listed.fitting l s c is in let left = fewer l s c is in omega (arith, none, left) };
   rest = watch.rest;
   watched = watch.watched;
@@ -223,19 +219,18 @@ watch_same live lists after short roots held apart times fewer entries watch = r
 -- the lists were taken out and put back
 pub watch_put_back : (live : FinMap nat_cmp Clause) (lists after : WatchLists) (short : List ℕ) (roots : Roots) (held : AssumptionsState) → AreUnchanged lists after → IsWatch live lists short roots held → IsWatch live after short roots held
 watch_put_back live lists after short roots held same watch =
-    watch_same live lists after short roots held same.apart (λ l s. ap (entries_of s) (same.lists l)) (λ l s c _. let e = ap (unfit_entries s c l) (same.lists l) in omega (arith, e)) same.entries watch
+    watch_same live lists after short roots held (λ l s. ap (entries_of s) (same.lists l)) (λ l s c _. let e = ap (unfit_entries s c l) (same.lists l) in omega (arith, e)) same.entries watch
 
 -- ---- Where nothing is assumed
 
 pub watch_alone : (live : FinMap nat_cmp Clause) (lists : WatchLists) (short : List ℕ) (roots : Roots) (held : AssumptionsState) → held.assumptions ≡ [] → HasRoomForAll held.trail.reserved (maps.get (each_in_order live)) →
-    AreApart lists → IsListed (maps.get live) (list_at lists) → IsShortList (maps.get live) short → entries_in lists ≡ 2 * long_clauses live → length short ≡ short_clauses live → IsKept live roots held.trail.lits → HaveReasons held.trail.reserved (at roots.reasons) →
+    IsListed (maps.get live) (list_at lists) → IsShortList (maps.get live) short → entries_in lists ≡ 2 * long_clauses live → length short ≡ short_clauses live → IsKept live roots held.trail.lits → HaveReasons held.trail.reserved (at roots.reasons) →
     IsWatch live lists short roots held
-watch_alone live lists short roots held nothing room apart listed rest two_each one_each kept noted = record {
+watch_alone live lists short roots held nothing room listed rest two_each one_each kept noted = record {
   scan = record {
     room = room;
     exact = subst (λ xs. AreExact (maps.get (each_in_order live)) (AreForced (maps.get (each_in_order live))) held.trail.lits xs held.starts) (sym nothing) (kept_forced live roots held.trail.lits kept);
   };
-  apart = apart;
   listed = listed;
   rest = rest;
   watched = subst (λ xs. AreWatched (maps.get live) held.trail.lits xs held.starts) (sym nothing) tt;
@@ -252,22 +247,22 @@ alone_kept live lists short roots held watch nothing = subst (IsKept live roots)
 
 -- it is brought up to date
 pub watch_refreshed : (live live2 : FinMap nat_cmp Clause) (lists lists2 : WatchLists) (short : List ℕ) (roots roots2 : Roots) (held held2 : AssumptionsState) → IsWatch live lists short roots held → held2.assumptions ≡ [] → SameSet held2.trail.reserved held.trail.reserved →
-    each_in_order live2 ≡ each_in_order live → ((s : ℕ) → short_for (maps.get live2 s) ≡ short_for (maps.get live s)) → AreApart lists2 → IsListed (maps.get live2) (list_at lists2) → entries_in lists2 ≡ entries_in lists →
+    each_in_order live2 ≡ each_in_order live → ((s : ℕ) → short_for (maps.get live2 s) ≡ short_for (maps.get live s)) → IsListed (maps.get live2) (list_at lists2) → entries_in lists2 ≡ entries_in lists →
     IsKept live2 roots2 held2.trail.lits → ((l : Literal) → is_some (at roots.reasons l) ≡ true → is_some (at roots2.reasons l) ≡ true) → IsWatch live2 lists2 short roots2 held2
-watch_refreshed live live2 lists lists2 short roots roots2 held held2 watch nothing reserved same shorts apart listed entries kept noted =
-    watch_alone live2 lists2 short roots2 held2 nothing (record { each = λ k c here l member. reserved (l / 2) ∙ watch.scan.room.each k c (ap (λ m. maps.get m k) (sym same) ∙ here) l member }) apart listed
+watch_refreshed live live2 lists lists2 short roots roots2 held held2 watch nothing reserved same shorts listed entries kept noted =
+    watch_alone live2 lists2 short roots2 held2 nothing (record { each = λ k c here l member. reserved (l / 2) ∙ watch.scan.room.each k c (ap (λ m. maps.get m k) (sym same) ∙ here) l member }) listed
     (record { listed = λ s. watch.rest.listed s ∙ sym (shorts s) }) (entries ∙ watch.two_each ∙ ap (λ n. 2 * n) (sym (long_alike live live2 same))) (watch.one_each ∙ sym (short_alike live live2 same)) kept
     (λ l h. noted l (watch.noted l (sym (reserved (variable l)) ∙ h)))
 
 -- ---- No clauses
 
-pub watch_empty : (live : FinMap nat_cmp Clause) (lists : WatchLists) (short : List ℕ) (roots : Roots) (held : AssumptionsState) → live ≡ maps.empty → ((l : Literal) → list_at lists l ≡ []) → entries_in lists ≡ 0 → AreApart lists → short ≡ [] →
+pub watch_empty : (live : FinMap nat_cmp Clause) (lists : WatchLists) (short : List ℕ) (roots : Roots) (held : AssumptionsState) → live ≡ maps.empty → ((l : Literal) → list_at lists l ≡ []) → entries_in lists ≡ 0 → short ≡ [] →
     roots.kept ≡ Cut → roots.history.visited.items ≡ [] → held.trail.lits ≡ [] → held.trail.reserved ≡ [] → held.assumptions ≡ [] →
     IsWatch live lists short roots held
-watch_empty live lists short roots held none empty no_entries apart no_short cut unseen unset no_room nothing =
+watch_empty live lists short roots held none empty no_entries no_short cut unseen unset no_room nothing =
     let gone = λ (s : ℕ). ap (λ m. maps.get m s) none ∙ maps.get-empty nat_cmp s in
     let gone_shown = λ (s : ℕ). ap (λ m. maps.get m s) (ap each_in_order none ∙ ordered_empty) ∙ maps.get-empty nat_cmp s in
-    watch_alone live lists short roots held nothing (record { each = λ k c here. absurd (none-some c (sym (gone_shown k) ∙ here)) }) apart
+    watch_alone live lists short roots held nothing (record { each = λ k c here. absurd (none-some c (sym (gone_shown k) ∙ here)) })
     (record {
       watched = λ l s. ap (entries_of s) (empty l) ∙ sym (ap (λ o. entries_for o l) (gone s));
       low = λ s is. absurd (false≢true (sym (ap is_some (gone s)) ∙ is));
@@ -303,9 +298,9 @@ short_weight c different = ap (λ b. cond b 0 1) (long_is c different) ∙ by_te
     by_test false = refl
 
 module _ (live after : FinMap nat_cmp Clause) (lists lists2 : WatchLists) (short short2 : List ℕ) (roots roots2 : Roots) (held held2 : AssumptionsState) (watch : IsWatch live lists short roots held) (nothing : held2.assumptions ≡ [])
-    (slot : ℕ) (c : Clause) (different : size c ≡ length c) (apart : AreApart lists2) (room : HasRoomForAll held2.trail.reserved (maps.get (each_in_order after))) (kept : IsKept after roots2 held2.trail.lits) (noted : HaveReasons held2.trail.reserved (at roots2.reasons)) where
+    (slot : ℕ) (c : Clause) (different : size c ≡ length c) (room : HasRoomForAll held2.trail.reserved (maps.get (each_in_order after))) (kept : IsKept after roots2 held2.trail.lits) (noted : HaveReasons held2.trail.reserved (at roots2.reasons)) where
   two : entries_in lists2 ≡ 2 * long_clauses after → length short2 ≡ short_clauses after → IsListed (maps.get after) (list_at lists2) → IsShortList (maps.get after) short2 → IsWatch after lists2 short2 roots2 held2
-  two two_each one_each listed rest = watch_alone after lists2 short2 roots2 held2 nothing room apart listed rest two_each one_each kept noted
+  two two_each one_each listed rest = watch_alone after lists2 short2 roots2 held2 nothing room listed rest two_each one_each kept noted
 
   pub watch_added : maps.get live slot ≡ None → after ≡ maps.insert live slot c → slot < 2147483648 →
       HasEntry c slot lists2 lists → AddsFitting c slot lists lists2 → ((s : ℕ) → times_in s short2 ≡ times_in s short + cond (is_short c && eqb s slot) 1 0) →

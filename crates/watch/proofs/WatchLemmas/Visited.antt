@@ -63,15 +63,14 @@ false_at trues {shown} {place} {p} inside same read is =
 -- ---- All lists
 
 pub followed_none : {a : FinMap nat_cmp Clause} {lists : WatchLists} {x : AssumptionsState} {r : Literal → Option ℕ} → CanFollow a lists x r → Followed a a lists lists x x r r
-followed_none {a} {lists} {x} {r} can = record { apart = can.apart; listed = can.listed; entries = refl; propagates = propagates_none a x r }
+followed_none {a} {lists} {x} {r} can = record { listed = can.listed; entries = refl; propagates = propagates_none a x r }
 
 module _ {a b : FinMap nat_cmp Clause} {lists lists_b : WatchLists} {x y : AssumptionsState} {r s : Literal → Option ℕ} where
   pub can_follow_on : CanFollow a lists x r → Followed a b lists lists_b x y r s → CanFollow b lists_b y s
-  can_follow_on can first = record { apart = first.apart; listed = first.listed; can_set = can_set_on can.can_set first.propagates }
+  can_follow_on can first = record { listed = first.listed; can_set = can_set_on can.can_set first.propagates }
 
   pub followed_on : {c : FinMap nat_cmp Clause} {lists_c : WatchLists} {z : AssumptionsState} {t : Literal → Option ℕ} → Followed a b lists lists_b x y r s → Followed b c lists_b lists_c y z s t → Followed a c lists lists_c x z r t
   followed_on {c} {lists_c} {z} {t} first second = record {
-    apart = second.apart;
     listed = second.listed;
     entries = second.entries ∙ first.entries;
     propagates = propagates_on a b c x y z r s t first.propagates second.propagates;

@@ -9,7 +9,7 @@ use Rattle.tables.specs.Filled.{at}
 use Rattle.propagation.specs.Assumptions.{Propagation, AssumptionsState, roots_in}
 use Rattle.propagation.specs.Code.Coding.{propagation_code}
 use Rattle.propagation.specs.Code.Scan.{IsHeld}
-use Rattle.watch_lists.specs.Lists.{AreApart, entries_in, list_at}
+use Rattle.watch_lists.specs.Lists.{entries_in, list_at}
 use Rattle.root_literals.specs.Order.{each_in_order}
 use Rattle.root_literals.specs.Roots.{IsKept, IsStanding}
 use Rattle.propagation.specs.Code.Closure.{AreForced}
@@ -73,7 +73,6 @@ pub record AddsRoom (held now : AssumptionsState) (roots roots_now : Roots) : Ty
 pub record IsWatch (live : FinMap nat_cmp Clause) (lists : WatchLists) (short : List ℕ)
     (roots : Roots) (held : AssumptionsState) : Type 0 where
   pub scan : IsHeld (each_in_order live) (AreForced (maps.get (each_in_order live))) held
-  pub apart : AreApart lists
   pub listed : IsListed (maps.get live) (list_at lists)
   pub rest : IsShortList (maps.get live) short
   pub watched : AreWatched (maps.get live) held.trail.lits held.assumptions held.starts

@@ -10,7 +10,7 @@ use Rattle.trail.specs.Trail.{HasRoomForAll, TrailState}
 use Rattle.propagation.specs.Assumptions.{AssumptionsState}
 use Rattle.propagation.specs.Code.Exact.{Extends}
 use Rattle.watch_lists.specs.Cursor.{CursorState}
-use Rattle.watch_lists.specs.Lists.{AreApart, entries_in, entries_of, fits, has_list_at, list_at}
+use Rattle.watch_lists.specs.Lists.{entries_in, entries_of, fits, has_list_at, list_at}
 use Rattle.watch_lists.specs.Lists.{slot_at}
 use Rattle.root_literals.specs.Order.{each_in_order}
 use Rattle.root_literals.specs.Roots.{AreNoted, AreReasoned}
@@ -96,7 +96,6 @@ pub record CanSet (live : FinMap nat_cmp Clause) (held : AssumptionsState)
 pub record CanFollow (live : FinMap nat_cmp Clause) (lists : WatchLists) (held : AssumptionsState)
     (reason_of : Literal → Option ℕ) : Type 0 where
   -- no two literals share a list
-  pub apart : AreApart lists
   -- each clause stands in the lists where it should
   pub listed : IsListed (maps.get live) (list_at lists)
   -- more literals can become true
@@ -105,7 +104,6 @@ pub record CanFollow (live : FinMap nat_cmp Clause) (lists : WatchLists) (held :
 -- visits moved clauses from list to list and made literals true, and no more
 pub record Followed (before after : FinMap nat_cmp Clause) (lists lists_now : WatchLists)
     (held now : AssumptionsState) (reason_of reason_now : Literal → Option ℕ) : Type 0 where
-  pub apart : AreApart lists_now
   pub listed : IsListed (maps.get after) (list_at lists_now)
   -- there are as many entries as before
   pub entries : entries_in lists_now ≡ entries_in lists
@@ -126,7 +124,6 @@ pub record IsInHand (live : FinMap nat_cmp Clause) (lists : WatchLists) (list : 
   -- an empty one stands in its place
   pub taken : list_at lists l ≡ []
   -- no two literals share a list
-  pub apart : AreApart lists
   -- with it each clause stands in the lists where it should
   pub listed : IsListed (maps.get live) (with_list lists l list)
 

@@ -1,5 +1,5 @@
 use Rattle.std.proofs.Common.{◌≡◌, ℕ, ◌<◌, ◌≤◌, ◌==◌, not, filter}
-use Rattle.tables.specs.Lists.{AreApart, list_at}
+use Rattle.tables.specs.Lists.{list_at}
 use Rattle.occurrences.proofs.occurrence.rid_all.Given as goal
 
 abbrev pub invariant-loop-key : goal.invariant-loop-key
@@ -7,5 +7,4 @@ invariant-loop-key l = record {
   done : (k : ℕ) → k < l.key → list_at l.lists k
       ≡ filter (λ e. not (e.slot == l.slot)) (list_at l.fn.lists k);
   left : (k : ℕ) → l.key ≤ k → list_at l.lists k ≡ list_at l.fn.lists k;
-  apart : AreApart l.lists;
 }

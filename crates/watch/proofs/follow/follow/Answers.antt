@@ -21,7 +21,6 @@ visit_all-found-requires c =
         hand = record {
           known = e.known l ∙ c.has_list.ensures.yes c.if-not-has_list.false;
           taken = e.others l ∙ ap (λ b. cond b [] (lists l)) (eq-eqb l l refl);
-          apart = e.apart;
           listed = listed_alike (maps.get c.args.store.now.live) lists (with_list taken l list) (hand_taken lists (list_at taken) l list e.list e.others) c.requires.can.listed;
         };
         is_false = c.requires.is_false;
@@ -42,7 +41,6 @@ returns-clause-followed c =
     let l = c.args.l in
     let list = c.into_list.result.items in
     let same = c.into_list.ensures in record {
-      apart = c.put_back.ensures.apart;
       listed =
           listed_alike (maps.get c.visit_all-found.new.store.live) (with_list c.visit_all-found.new.lists l list) (list_at c.put_back.new.self)
           c.put_back.ensures.lists (subst (λ xs. IsListed (maps.get c.visit_all-found.new.store.live) (with_list c.visit_all-found.new.lists l xs)) (sym same) visited.hand.listed);

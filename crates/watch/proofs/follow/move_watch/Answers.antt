@@ -69,7 +69,6 @@ returns-in-Ok c =
     let hand : IsInHand c.rewatch.new.self.live c.push.new.self left l = record {
       known = c.push.ensures.known l c.requires.hand.known;
       taken = put l ∙ ap (λ b. cond b (lists l ++ entry ∷ []) (lists l)) (ne_eqb l x.next other) ∙ c.requires.hand.taken;
-      apart = c.push.ensures.apart;
       listed = subst (λ m. IsListed (maps.get m) (with_list c.push.new.self l left)) (sym moved)
           (listed_moved live slot w.clause d w.at l x.next (entries_moved l x.next w.clause 1 x.to w.different w.exchange.from_low w.exchange.from_is past within w.exchange.to_is)
           (with_list c.args.lists.now l list) (with_list c.push.new.self l left) (turned_listed was (with_list c.args.lists.now l list) c.requires.hand.listed)
@@ -108,7 +107,6 @@ returns-in-Err c =
         hand = record {
           known = c.push.ensures.known l c.requires.hand.known;
           taken = c.in-Err.ensures.err l ∙ c.requires.hand.taken;
-          apart = c.push.ensures.apart;
           listed = subst (λ m. IsListed (maps.get m) (with_list c.push.new.self l list)) (sym back)
               (listed_alike (maps.get (turned_live was)) (with_list c.args.lists.now l list) (with_list c.push.new.self l list) (λ y. ap (cond (eqb y l) list) (c.in-Err.ensures.err y))
               (turned_listed was (with_list c.args.lists.now l list) c.requires.hand.listed));

@@ -105,7 +105,6 @@ returns-in-Stays c =
         hand = subst (λ xs. IsInHand c.args.store.now.live c.args.lists.now xs c.args.l) (sym entries) (record {
           known = hand.known;
           taken = hand.taken;
-          apart = hand.apart;
           listed = listed_written live (list_at c.args.lists.now) c.args.l list hand.listed cursor.visited e entry r.0 r.1 refl
               (λ x there. ap (λ y. fits y c.args.l other e.is_binary) (same_Some x w.clause (sym there ∙ w.at)) ∙ fitting);
         });

@@ -13,7 +13,7 @@ use Rattle.watch.proofs.refresh.refresh.Goals as goal
 pub catch_up-requires-clause-can : goal.catch_up-requires-clause-can
 catch_up-requires-clause-can c =
     let watch = c.requires.watch in
-    record { apart = watch.apart; listed = watch.listed; can_set = record { room = record { each = λ k d here l member. c.start.ensures.reserved (l / 2) ∙ watch.scan.room.each k d here l member }; noted = c.start.ensures.kept.noted } }
+    record { listed = watch.listed; can_set = record { room = record { each = λ k d here l member. c.start.ensures.reserved (l / 2) ∙ watch.scan.room.each k d here l member }; noted = c.start.ensures.kept.noted } }
 
 pub returns-in-Ok-clause-watch : goal.returns-in-Ok-clause-watch
 returns-in-Ok-clause-watch c =
@@ -21,7 +21,7 @@ returns-in-Ok-clause-watch c =
     let p = e.propagates in
     watch_refreshed c.args.store.now.live c.catch_up.new.store.live c.args.lists.now c.catch_up.new.lists c.args.short.now c.args.roots.now c.catch_up.new.roots c.args.assumptions.now c.catch_up.new.assumptions c.requires.watch
     (p.extends.assumptions ∙ c.start.ensures.assumptions ∙ nothing_stands c.args.roots.now.kept c.args.assumptions.now.assumptions c.requires.watch.standing (sym c.is_up_to_date.ensures ∙ c.if-is_up_to_date.false))
-    (λ v. p.extends.reserved v ∙ c.start.ensures.reserved v) p.same p.short e.apart e.listed e.entries c.in-Ok.ensures.kept
+    (λ v. p.extends.reserved v ∙ c.start.ensures.reserved v) p.same p.short e.listed e.entries c.in-Ok.ensures.kept
     (λ l h. p.noted l (c.start.ensures.noted l h))
 
 pub returns-in-Err-clause-watch : goal.returns-in-Err-clause-watch
@@ -34,7 +34,7 @@ returns-in-Err-clause-watch c =
     let fewer = u.fewer in
     let zero : length c.cut.new.assumptions.trail.lits ≡ 0 = omega (arith, fewer) in
     watch_refreshed c.args.store.now.live after c.args.lists.now c.catch_up.new.lists c.args.short.now c.args.roots.now c.cut.new.self c.args.assumptions.now c.cut.new.assumptions c.requires.watch u.assumptions
-    (λ v. u.reserved v ∙ p.extends.reserved v ∙ c.start.ensures.reserved v) p.same p.short e.apart e.listed e.entries
+    (λ v. u.reserved v ∙ p.extends.reserved v ∙ c.start.ensures.reserved v) p.same p.short e.listed e.entries
     (kept_nothing after c.cut.new.self c.cut.new.assumptions.trail.lits
     (subst (λ t. AreNoted (maps.get (each_in_order after)) (at t)) (sym u.reasons)
     (noted_carried c.args.store.now.live after c.start.new.assumptions c.catch_up.new.assumptions (at c.start.new.roots.reasons) (at roots.reasons) p c.start.ensures.kept.noted)) u.kept (rewound_none (subst (IsRewound roots.history c.cut.new.self.history) zero u.history)) (u.lits ∙ ap (λ n. take n c.catch_up.new.assumptions.trail.lits) zero))

@@ -11,7 +11,7 @@ pub invariant_of-self : goal.invariant_of-self
 invariant_of-self c =
     let old = c.args.self.now in
     let same = reserved old.births c.reserve.new.self c.args.slot c.reserve.result c.reserve.ensures.ok c.reserve.ensures.err in
-    record { apart = old.apart; low = old.low; known = λ l. all_weaker (is_known old.births) (is_known c.reserve.new.self) (reserved_known old.births c.reserve.new.self same) (list_at old.lists l) (old.known l) }
+    record { low = old.low; known = λ l. all_weaker (is_known old.births) (is_known c.reserve.new.self) (reserved_known old.births c.reserve.new.self same) (list_at old.lists l) (old.known l) }
 
 pub returns-in-Err-clause-err : goal.returns-in-Err-clause-err
 unfolding occurs

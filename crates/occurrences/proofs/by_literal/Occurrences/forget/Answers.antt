@@ -13,7 +13,6 @@ pub invariant_of-self : goal.invariant_of-self
 invariant_of-self c =
     let old = c.args.self.now in
     record {
-      apart = old.apart;
       low = old.low;
       known = λ l. all_weaker (is_known old.births) (is_known c.set.new.self)
           (noted_known old.births c.set.new.self c.args.slot c.in-Some.births c.in-Some-checked_add.more (sym c.get.ensures ∙ c.in-Some.is) c.in-Some-checked_add.ensures.1 c.set.ensures)
@@ -25,7 +24,6 @@ invariant_of-self-in-None c =
     let old = c.args.self.now in
     let left = rid_lists (list_at old.lists) (list_at c.rid_all.new.lists) c.args.slot 4294967296 c.rid_all.ensures.lists c.rid_all.ensures.beyond old.low in
     record {
-      apart = c.rid_all.ensures.apart;
       low = λ l past. c.rid_all.ensures.beyond l past ∙ old.low l past;
       known = λ l. subst (λ xs. list_all (is_known c.set-in-None.new.self) xs ≡ true) (sym (left l))
           (rid_known old.births c.set-in-None.new.self c.args.slot (written_others old.births c.set-in-None.new.self c.args.slot 0 c.set-in-None.ensures) (list_at old.lists l) (old.known l));

@@ -17,7 +17,6 @@ invariant_of-self c =
     let low : key < 4294967296 = omega arith in
     let cleaned = subst (AreAlike old.births (list_at old.lists key)) (sym (c.clean.ensures.items ∙ ap (λ xs. filter (counts old.births) xs) c.take_out-list.ensures.list)) (alike_cleaned old.births (list_at old.lists key)) in
     record {
-      apart = c.put_back.ensures.apart;
       low = put_beyond (list_at old.lists) (list_at c.put_back.new.self) key 4294967296 list low (put_over (list_at old.lists) (list_at c.take_out-list.new.self) (list_at c.put_back.new.self) key list took put) old.low;
       known = λ l. (put_alike old.births (list_at old.lists) (list_at c.take_out-list.new.self) (list_at c.put_back.new.self) key list took put cleaned l).known (old.known l);
     }

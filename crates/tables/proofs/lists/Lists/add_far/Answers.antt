@@ -1,24 +1,24 @@
-use Rattle.std.proofs.Common.{◌≡◌, ℕ, None, cond, eqb, unwrap_or, Some, length, ◌∷◌, ◌++◌, []}
-use Rattle.std.proofs.Common.{rules, arith, ap, ◌∙◌, slice_get}
+use Rattle.std.proofs.Common.{◌≡◌, None, length, arith, ap, rules, slice_get, [], nat_lt}
 use Rattle.std.proofs.lemmas.Grind.{common_steps}
-use Rattle.std.proofs.lemmas.List.{length-append}
-use Rattle.tables.specs.Table.{at}
-use Rattle.tables.specs.Lists.{items_at, items_or}
-use Rattle.tables.proofs.ListsLemmas.{added_apart, added_lists}
+use Rattle.std.proofs.lemmas.Cmp.{nat_cmp_total}
+use Rattle.std.proofs.lemmas.Map.Entries.{sum_by-insert_entry}
+use Rattle.std.specs.BTreeMap.{get}
+use Rattle.std.specs.Map.{values_of}
+use Rattle.std.specs.Ordering.{nat_cmp}
+use Rattle.tables.specs.Lists.{items_or, total}
+use Rattle.tables.proofs.ListsLemmas.{far_added, far_known, was_empty}
 use Rattle.tables.proofs.lists.Lists.add_far.Goals as goal
 
-pub returns-clause-same : goal.returns-clause-same
-returns-clause-same g c =
+pub returns-in_ok-insert-clause-same : goal.returns-in_ok-insert-clause-same
+returns-in_ok-insert-clause-same g c =
     let old = c.args.self.now in
-    let far = old.far.items in
-    let none : at old.numbers c.args.key ≡ None = search (rules, common_steps) in
-    let number : c.in-Ok.number ≡ length far = search (rules, common_steps) in
-    let numbers = at c.reserve-2.new.self in
-    let is = λ (k : ℕ). c.in_ok-reserve-2.ensures.ok k ∙ ap (λ o. cond (eqb k c.args.key) (Some (unwrap_or o c.in-Ok.number)) (at old.numbers k)) none ∙ ap (λ n. cond (eqb k c.args.key) (Some n) (at old.numbers k)) number in
-    let items = c.push_reserved.ensures.items ∙ ap (λ xs. xs ++ c.new.result ∷ []) c.reserve.ensures.items in
-    let len = ap length items ∙ length-append far (c.new.result ∷ []) in record {
-      lists = λ k. ap (items_or (slice_get old.near.items k)) (ap (λ xs. items_at xs (numbers k)) items ∙ added_lists far c.new.result (at old.numbers) numbers c.args.key c.requires.apart none is c.new.ensures.items k);
-      entries = search (rules, common_steps);
-      known = λ k h. grind (arith, common_steps);
-      apart = added_apart far c.new.result (at old.numbers) numbers c.args.key c.requires.apart none is _ (omega (arith, len));
+    let e = c.in_ok-insert.ensures in
+    let none : get nat_cmp old.far c.args.key ≡ None = search (rules, common_steps) in
+    let written = ap (λ es. total (values_of es)) e.entries in
+    let put = sum_by-insert_entry (λ v. length v.items) nat_cmp_total old.far.entries c.args.key c.new.result e.was_ordered in
+    let was = was_empty (get nat_cmp old.far c.args.key) (ap (λ o. items_or o []) none) in
+    let empty = ap length c.new.ensures.items in record {
+      lists = λ k. ap (items_or (slice_get old.near.items k)) (far_added old.far c.insert.new.self c.args.key c.new.result e.updates none c.new.ensures.items k);
+      entries = omega (arith, written, put, was, empty);
+      known = λ k h. far_known old.far c.insert.new.self c.args.key c.new.result e.updates (nat_lt k (length old.near.items)) k h;
     }

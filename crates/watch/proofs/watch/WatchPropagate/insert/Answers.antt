@@ -85,7 +85,7 @@ invariant_of-self-in-Ok c =
     let room = room_added held.trail.reserved (each_in_order live) (each_in_order after) slot c.args.lits.now watch.scan.room c.in_ok-reserve_room.ensures.room
     (in_order w.0, seen_there after slot w.0 w.1, is_same) (λ s ne. get_ordered after s ∙ ap (option_map in_order) (others s ne) ∙ sym (get_ordered live s)) in (
       watch_added live after i.lists c.add_entries.new.lists i.short c.add_entries.new.short c.reserve_room.new.roots c.enter.new.self held now watch (n.assumptions ∙ r.more.assumptions ∙ ap (λ w. w.propagation.assumptions) c.self.view_is ∙ c.requires)
-          slot w.0 (e.different w.0 w.1) e.apart (record { each = λ k x here l member. n.reserved (l / 2) ∙ room.each k x here l member }) n.kept
+          slot w.0 (e.different w.0 w.1) (record { each = λ k x here l member. n.reserved (l / 2) ∙ room.each k x here l member }) n.kept
           (λ l h. n.noted l (watch.noted l (sym (n.reserved (l / 2)) ∙ h)))
           c.in_ok-slot.ensures.free (inserted_is live after slot w.0 w.1 others) e.low (e.watched w.0 w.1) (e.fitting w.0 w.1) (e.rest w.0 w.1) (e.more w.0 w.1) (e.longer w.0 w.1),
       c.arrange-left.ensures.live_alone ∙ sym (literals_ordered after),
@@ -112,7 +112,7 @@ invariant_of-self-in-Err c =
     let fewer = λ (l s : ℕ) (x : Clause) (is : maps.get live s ≡ Some x). e.fitting w.0 w.1 l s x (λ same. absurd (none-some x (sym (ap (maps.get live) same ∙ c.in_ok-slot.ensures.free) ∙ is))) in
     let back = c.remove_clause.ensures.live ∙ removed_back live c.arrange-left.new.store.live c.in_ok-slot.slot c.in_ok-slot.ensures.free (λ s ne. c.arrange-left.ensures.others s ne ∙ c.in_ok-slot.ensures.others s ne) in (
       subst (λ m. IsWatch m c.add_entries.new.lists c.add_entries.new.short roots held) (sym back)
-          (subst (λ xs. IsWatch live c.add_entries.new.lists xs roots held) (sym e.err_rest) (watch_same live i.lists c.add_entries.new.lists i.short roots held e.apart e.err_watched fewer e.err_entries watch)),
+          (subst (λ xs. IsWatch live c.add_entries.new.lists xs roots held) (sym e.err_rest) (watch_same live i.lists c.add_entries.new.lists i.short roots held e.err_watched fewer e.err_entries watch)),
       c.remove_clause.ensures.live_alone ∙ sym (literals_ordered c.remove_clause.new.store.live),
       c.remove_clause.ensures.closure,
     )

@@ -30,9 +30,6 @@ remove_entries-requires-clause-listed c =
     let i = c.self.inside in
     (watch_put_back i.store.live i.lists c.leave.new.lists i.short i.roots i.assumptions c.leave.ensures.lists c.self.invariant.0).listed
 
-pub remove_entries-requires-clause-apart : goal.remove_entries-requires-clause-apart
-remove_entries-requires-clause-apart c = c.leave.ensures.lists.apart
-
 pub invariant_of-self : goal.invariant_of-self
 invariant_of-self c =
     let i = c.self.inside in
@@ -47,7 +44,7 @@ invariant_of-self c =
     let gone = ap each_in_order c.remove_clause.ensures.live ∙ ordered_remove live slot in
     let room = room_removed i.assumptions.trail.reserved (each_in_order live) (each_in_order after) slot gone watch.scan.room in (
       watch_removed live after c.leave.new.lists c.remove_entries.new.lists i.short c.remove_entries.new.short i.roots c.leave.new.self i.assumptions held watch left.assumptions
-          slot d.0 (e.different d.0 d.1) e.apart (record { each = λ k x here l member. left.reserved (l / 2) ∙ room.each k x here l member })
+          slot d.0 (e.different d.0 d.1) (record { each = λ k x here l member. left.reserved (l / 2) ∙ room.each k x here l member })
           (subst (λ m. IsKept m c.leave.new.self held.trail.lits) (sym c.remove_clause.ensures.live) left.kept)
           (λ l h. left.noted l (watch.noted l (sym (left.reserved (l / 2)) ∙ h)))
           d.1 c.remove_clause.ensures.live (e.watched d.0 d.1) (e.fitting d.0 d.1) (e.rest d.0 d.1) (e.fewer d.0 d.1) (e.shorter d.0 d.1),

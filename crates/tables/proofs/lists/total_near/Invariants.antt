@@ -1,6 +1,6 @@
 use Rattle.std.proofs.Common.{◌≡◌, min, take}
 use Rattle.tables.specs.Lists.{total}
-use Rattle.tables.proofs.lists.total_len.Given as goal
+use Rattle.tables.proofs.lists.total_near.Given as goal
 
 abbrev pub invariant-loop-number : goal.invariant-loop-number
 invariant-loop-number g l =

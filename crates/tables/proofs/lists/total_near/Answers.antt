@@ -1,6 +1,6 @@
 use Rattle.std.proofs.Common.{◌≤◌, length, arith}
 use Rattle.tables.proofs.ListsLemmas.{counted_all}
-use Rattle.tables.proofs.lists.total_len.Goals as goal
+use Rattle.tables.proofs.lists.total_near.Goals as goal
 
 pub returns : goal.returns
 returns g c =
