@@ -11,7 +11,7 @@ use Rattle.cnf_base.specs.Stream.{Input, Suffix, suffix, from_offset, preceded, 
 use Rattle.cnf_base.specs.Stream.{MayGive, MayFollow, MayCome, Meets, Moves, Along, IsLook}
 use Rattle.cnf_base.specs.Stream.{IsSilent, is_failure, tells_failure, bumped, bytes_read}
 use Rattle.cnf_base.specs.Stream.{most_to_come}
-use Rattle.cnf_base.specs.Code.Stream.{skipped}
+use Rattle.cnf_base.specs.Stream.{skipped}
 use Rattle.cnf_base.specs.declared.input.Ending.{Ending}
 use Rattle.cnf_base.specs.declared.input.Ending.TheVariants.{End, Failed}
 

@@ -113,6 +113,14 @@ bumped s =
       byte_no = next_count s.byte_no;
     }
 
+-- the source with so many bytes taken, as if all were of one line
+abbrev pub skipped : ℕ → Stream → Stream
+skipped n s = record s {
+  ahead = drop n s.ahead;
+  place = record { line = s.place.line; col = more_count s.place.col n };
+  byte_no = more_count s.byte_no n;
+}
+
 -- a source of which nothing was read
 abbrev pub unread_stream : Reader → List ℕ → Stream
 unread_stream reader borrows =

@@ -4,8 +4,7 @@ ghost use Rattle.std.specs.Prelude.{slice_index, take, Some, IsSome, IfSome, IfN
 ghost use Rattle.std.specs.Prelude.{OnOk, OnErr};
 ghost use Rattle.std.specs.Io.KnownBytes.{Keeps, Consumes, IsAtEnd};
 ghost use Rattle.cnf_base.specs.Stream.{IsLook, IsSilent, Shows, most_to_come, tells_failure};
-ghost use Rattle.cnf_base.specs.Stream.{bumped, unread_stream};
-ghost use Rattle.cnf_base.specs.Code.Stream.{skipped};
+ghost use Rattle.cnf_base.specs.Stream.{bumped, skipped, unread_stream};
 
 use crate::{Ending, In, OutOfMemory, Piece, Place, ReadFailed};
 use std::alloc::Global;
@@ -165,17 +164,18 @@ impl<R: In> Source<R> {
         }
     }
 
-    // What is ahead in the piece.
+    /// The bytes that were read and not yet taken.
     #[inline(always)]
-    pub(crate) fn ahead(&self) -> &[u8]
+    pub fn ahead(&self) -> &[u8]
         ensures { result.now ≡ self.now.ahead }
     {
         &self.piece[self.at..self.end]
     }
 
-    // Takes so many bytes of a line.
+    /// Takes so many bytes at once. A line feed among them counts as a byte of its line, so that
+    /// places are right only where there is none, or where no place is asked for.
     #[inline(always)]
-    pub(crate) fn skip_in_line(&mut self, count: usize)
+    pub fn skip_in_line(&mut self, count: usize)
         requires { count ≤ length self.old.ahead }
         ensures { self.new ≡ skipped count self.old }
     {

@@ -12,12 +12,14 @@ use Rattle.cnf_base.specs.declared.fault.BinaryFault.{BinaryFault}
 use Rattle.cnf_base.proofs.StreamLemmas.{Splits-first, Splits-byte, Along-then, Along-map}
 use Rattle.cnf_base.proofs.StreamLemmas.{Along-look, Along-bumped, Along-still, shown_end}
 use Rattle.cnf_base.proofs.StreamLemmas.{most_to_come-bumped, most_to_come-look}
+use Rattle.cnf_base.proofs.StreamLemmas.{IsLook-still}
 use Rattle.proofs.specs.declared.step_end.StepEnd.{StepEnd}
 use Rattle.proofs.specs.declared.step_end.StepEnd.TheVariants.{Byte}
 use Rattle.proofs.specs.Steps.{Step, named}
 use Rattle.proofs.specs.Reading.{Proof, GivesStep, PassesNoEnd}
 use Rattle.proofs.specs.Code.Reading.{proof_unless_ended}
 use Rattle.proofs.specs.Code.TextMoves.{EndsProof}
+use Rattle.proofs.specs.Code.Whole.{RunsOn}
 use Rattle.proofs.specs.Binary.{BinarySpot, at_tag, BinaryMove, goes, completes, faults}
 use Rattle.proofs.specs.Binary.{binary_move_of, on_binary_move, binary_at_end, binary_steps_from}
 use Rattle.proofs.specs.Binary.{binary_steps_at}
@@ -125,6 +127,19 @@ module _ (old now new : Stream) (spot : BinarySpot) (s : Step) (so_far : Between
     gives_fault ReadFailed None s _ _ j (IsFaulty-from ReadFailed None _ (q ∙ ap (binary_steps_from spot s new.byte_no) (shown_end new Failed j nothing met m))) refl,
     rest-from i j q,
   ))
+
+-- literals were taken at once
+pub Between-on : (old now new : Stream) (spot : BinarySpot) (s t : Step) → Between old now spot s → RunsOn spot now new s t → Between old new spot t
+Between-on old now new spot s t so_far on = record {
+  text = Along-then old now new _ _ _ so_far.text on.text (λ i j k m q r. q ∙ r);
+  fewer = let less = on.fewer in omega (arith, so_far.fewer, less);
+  mark = on.mark ∙ so_far.mark;
+}
+
+-- memory was refused there
+pub Between-out : (old now : Stream) (spot : BinarySpot) (s t : Step) → Between old now spot s
+    → Along old now (λ i j. GivesStep (Err OutOfMemory) None t (binary_steps_at old.byte_no i) (binary_left (Err OutOfMemory) now.byte_no j) j × PassesNoEnd (binary_steps_at old.byte_no i) j)
+Between-out old now spot s t so_far = Along-map old now _ _ so_far.text (λ i j m q. (refl, rest-from old now now spot s so_far (IsLook-still now) i j q))
 
 -- what a byte was found to do, by the answer's pattern, and by the byte's number
 pub moves_told : (result answer : Result (Moved BinaryPart) Stopped) (spot : BinarySpot) (s t : Step) (at known b : ℕ)

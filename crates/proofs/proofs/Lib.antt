@@ -11,3 +11,4 @@ pub mod LratGrammar
 pub mod BinaryPrinting
 pub mod BinaryGrammar
 pub mod PrintExamples
+pub mod WholeLemmas

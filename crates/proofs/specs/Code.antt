@@ -8,3 +8,4 @@ pub mod LratMoves
 pub mod Reading
 pub mod TextMoves
 pub mod TextSteps
+pub mod Whole

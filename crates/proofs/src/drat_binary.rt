@@ -14,6 +14,7 @@ mod groups;
 mod moves;
 mod part;
 mod stopped;
+mod whole;
 
 use crate::moved::Moved;
 use crate::{StepBuf, StepEnd, StepReader};
@@ -22,6 +23,7 @@ use moves::move_on;
 use part::BinaryPart;
 use std::marker::Model;
 use stopped::Stopped;
+use whole::run_on;
 
 /// A proof in binary DRAT. It holds no more than the literals of one step, in the buffer that the
 /// caller lends.
@@ -121,7 +123,12 @@ fn read_step<R: In>(
             Ok(Some(byte)) => {
                 source.bump();
                 match move_on(part, step, byte_no, byte) {
-                    Ok(Moved::To(next)) => part = next,
+                    Ok(Moved::To(next)) => {
+                        part = next;
+                        if run_on(part, source, step).is_err() {
+                            return Err(Fault::OutOfMemory);
+                        }
+                    }
                     Ok(Moved::Complete) => {
                         *end = Some(StepEnd::Byte(byte_no));
                         return Ok(true);

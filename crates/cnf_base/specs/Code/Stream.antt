@@ -1,17 +1,9 @@
 -- How the code follows an input: what holds of a source's fields.
 use Rattle.std.specs.Io.KnownBytes.{IsAtEnd}
-use Rattle.std.specs.Prelude.{ℕ, drop, ◌≡◌, Option, None, Some, ◌<◌, ◌≤◌, List, length}
-use Rattle.cnf_base.specs.Stream.{Stream, more_count, Reader}
+use Rattle.std.specs.Prelude.{ℕ, ◌≡◌, Option, None, Some, ◌<◌, ◌≤◌, List, length}
+use Rattle.cnf_base.specs.Stream.{Reader}
 use Rattle.cnf_base.specs.declared.input.Ending.TheVariants.{End, Failed}
 use Rattle.cnf_base.specs.declared.input.Ending.{Ending}
-
--- the source with so many bytes of a line taken
-abbrev pub skipped : ℕ → Stream → Stream
-skipped n s = record s {
-  ahead = drop n s.ahead;
-  place = record { line = s.place.line; col = more_count s.place.col n };
-  byte_no = more_count s.byte_no n;
-}
 
 -- what was met is what the reader gave
 abbrev pub IsMet : Option Ending → Reader → Type 0

@@ -1,11 +1,14 @@
 -- A byte of a step.
-use Rattle.std.proofs.Common.{◌≡◌, ℕ, refl, subst, rules}
+use Rattle.std.proofs.Common.{◌≡◌, ℕ, refl, subst, sym, rules}
+use Rattle.cnf_base.specs.Stream.{Stream}
+use Rattle.proofs.specs.Steps.{Step}
 use Rattle.std.specs.Prelude.{Ok, Err}
 use Rattle.proofs.specs.declared.moved.Moved.TheVariants.{To, Complete}
 use Rattle.proofs.specs.declared.drat_binary.stopped.Stopped.TheVariants.{Binary}
 use Rattle.cnf_base.specs.declared.input.Ending.TheVariants.{End}
 use Rattle.proofs.specs.Code.TextMoves.{EndsProof}
 use Rattle.proofs.specs.Binary.{at_tag, binary_at_end}
+use Rattle.proofs.proofs.BinaryLemmas.{Between, Between-on, Between-out}
 use Rattle.proofs.proofs.BinaryLemmas.{Between-none, Between-end, Between-byte, Between-step}
 use Rattle.proofs.proofs.BinaryLemmas.{Between-fault, Between-refused, moves_told}
 use Rattle.proofs.proofs.drat_binary.read_step.Goals as goal
@@ -24,7 +27,21 @@ pub loop-byte-preserved : goal.loop-byte-preserved
 loop-byte-preserved g c =
     let so_far = c.loop-byte.invariant in
     let moves = moves_told _ (Ok (To c.in-Ok-To.next)) so_far.0 _ _ c.byte_no-byte_no.result c.peek.new.self.byte_no _ (c.move_on.ensures so_far.0 so_far.2) (search rules) (search rules) in
-    rw c.bump.ensures (moves.0, Between-byte _ _ _ _ _ so_far.1 c.in-Ok-Some.ensures.look c.in-Ok-Some.byte (search rules) (search rules) moves.0 c.move_on.new.step moves.1 (search rules), moves.2)
+    let P : Stream → Type 0 = λ x. Between c.args.source.now x moves.0 c.move_on.new.step in
+    let after = subst P (sym c.bump.ensures) (Between-byte _ _ _ _ _ so_far.1 c.in-Ok-Some.ensures.look c.in-Ok-Some.byte (search rules) (search rules) moves.0 c.move_on.new.step moves.1 (search rules)) in
+    let on = c.run_on.ensures moves.0 moves.2 in
+    let same : c.run_on.new.step ≡ on.0 = search rules in
+    let Q : Step → Type 0 = λ x. Between c.args.source.now c.run_on.new.source moves.0 x in
+    (moves.0, subst Q (sym same) (Between-on _ _ _ _ _ _ after on.1), moves.2)
+
+pub returns-then-is_err-clause-step : goal.returns-then-is_err-clause-step
+returns-then-is_err-clause-step g c =
+    let so_far = c.loop-byte.invariant in
+    let moves = moves_told _ (Ok (To c.in-Ok-To.next)) so_far.0 _ _ c.byte_no-byte_no.result c.peek.new.self.byte_no _ (c.move_on.ensures so_far.0 so_far.2) (search rules) (search rules) in
+    let P : Stream → Type 0 = λ x. Between c.args.source.now x moves.0 c.move_on.new.step in
+    let after = subst P (sym c.bump.ensures) (Between-byte _ _ _ _ _ so_far.1 c.in-Ok-Some.ensures.look c.in-Ok-Some.byte (search rules) (search rules) moves.0 c.move_on.new.step moves.1 (search rules)) in
+    let on = c.run_on.ensures moves.0 moves.2 in
+    Between-out _ _ _ _ c.run_on.new.step (Between-on _ _ _ _ _ _ after on.1)
 
 pub returns-in-Ok-Complete-clause-step : goal.returns-in-Ok-Complete-clause-step
 returns-in-Ok-Complete-clause-step g c =

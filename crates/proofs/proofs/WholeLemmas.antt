@@ -1,0 +1,169 @@
+-- Numbers that stand whole, and what they do to a step.
+use Rattle.std.proofs.Common.{◌≡◌, ◌≢◌, ℕ, suc, ◌+◌, ◌*◌, ◌%◌, ◌<◌, ◌≤◌, Bool, true, false, List, []}
+use Rattle.std.proofs.Common.{◌∷◌, ◌++◌, length, take, refl, sym, ap, ◌∙◌, arith, subst}
+use Rattle.std.proofs.Common.{append_assoc}
+use Rattle.std.specs.List.{list_all}
+use Rattle.std.specs.Prelude.{nat_le, slice_index, if◌then◌else◌, ◌==◌}
+use Rattle.std.proofs.lemmas.Bool.Decides.{nat_tests}
+use Rattle.std.proofs.lemmas.Grind.{common_steps}
+use Rattle.std.proofs.lemmas.List.{take-append-le, length-drop, length-take-le}
+use Rattle.cnf_base.specs.Stream.{Stream, next_count, more_count, most_to_come, skipped}
+use Rattle.cnf_base.proofs.StreamLemmas.{Along-still, Along-then, Along-skipped, Splits-first, Splits-second}
+use Rattle.cnf_base.specs.declared.input.Ending.{Ending}
+use Rattle.proofs.specs.Steps.{Step, with_literal}
+use Rattle.proofs.specs.Binary.{groups_value, in_step, in_number, binary_steps_among, group_move}
+use Rattle.proofs.specs.Binary.{goes, faults, binary_number_move, on_binary_move, completes}
+use Rattle.proofs.specs.Binary.{BinarySpot, binary_move_of, binary_steps_from}
+use Rattle.cnf_base.specs.declared.fault.BinaryFault.TheVariants.{BadNumber, LiteralTooLarge}
+use Rattle.std.proofs.lemmas.Bool.{and_parts, true≢false}
+use Rattle.proofs.specs.Code.Whole.{spelled, IsWhole, RunsOn}
+use Rattle.proofs.specs.declared.drat_binary.whole.Spelled.{Spelled}
+
+-- ---- A number at the front
+
+record Ends (bs : List ℕ) (s : Spelled) : Type 0 where
+  init : List ℕ
+  last : ℕ
+  are : take s.count bs ≡ init ++ last ∷ []
+  count_is : s.count ≡ length init + 1
+  high : list_all (nat_le 128) init ≡ true
+  low : nat_le 128 last ≡ false
+  says : s.value ≡ groups_value (init ++ last ∷ [])
+  at : slice_index bs (length init) ≡ last
+
+ends : (bs : List ℕ) → (spelled bs).count ≤ length bs → Ends bs (spelled bs)
+ends [] within = absurd (omega (arith, within))
+ends (b ∷ bs) within = by (λ w. ends bs w) (nat_le 128 b) refl
+  where
+    more : Spelled
+    more = record { count = suc (spelled bs).count; value = b % 128 + 128 * (spelled bs).value }
+
+    by : ((spelled bs).count ≤ length bs → Ends bs (spelled bs)) → (t : Bool) → nat_le 128 b ≡ t → Ends (b ∷ bs) (spelled (b ∷ bs))
+    by rest true e =
+        let is : spelled (b ∷ bs) ≡ more = ap (λ t. if t then more else record { count = 1; value = b % 128 }) e in
+        let r = rest (let n = ap (λ s. s.count) is in omega (arith, n, within)) in
+        let P : Spelled → Type 0 = λ s. Ends (b ∷ bs) s in
+        let it : Ends (b ∷ bs) more = record {
+          init = b ∷ r.init;
+          last = r.last;
+          are = ap (λ xs. b ∷ xs) r.are;
+          count_is = let c = r.count_is in omega (arith, c);
+          high = let h = r.high in grind (arith, common_steps, e, h);
+          low = r.low;
+          says = ap (λ n. b % 128 + 128 * n) r.says;
+          at = r.at;
+        } in
+        subst P (sym is) it
+    by rest false e =
+        let one : Spelled = record { count = 1; value = b % 128 } in
+        let is : spelled (b ∷ bs) ≡ one = ap (λ t. if t then more else record { count = 1; value = b % 128 }) e in
+        let P : Spelled → Type 0 = λ s. Ends (b ∷ bs) s in
+        let it : Ends (b ∷ bs) one = record { init = []; last = b; are = refl; count_is = refl; high = refl; low = e; says = omega arith; at = refl } in
+        subst P (sym is) it
+
+in_five : (xs ys : List ℕ) (n : ℕ) → n < length xs → slice_index (xs ++ ys) n ≡ slice_index xs n
+in_five xs ys n low = grind (arith, common_steps, low)
+
+pub whole_of : (bytes : List ℕ) → 5 ≤ length bytes → (s : Spelled) (l : ℕ) → s ≡ spelled (slice_index bytes 0 ∷ slice_index bytes 1 ∷ slice_index bytes 2 ∷ slice_index bytes 3 ∷ slice_index bytes 4 ∷ []) → s.count ≤ 5
+    → ((n : ℕ) → s.count ≡ n + 1 → slice_index bytes n ≢ 0) → l ≡ s.value → 2 ≤ l → l ≤ 536870911 → IsWhole bytes s.count l
+whole_of (a ∷ b ∷ c ∷ d ∷ e ∷ rest) long s l is few some same least most =
+    let five = a ∷ b ∷ c ∷ d ∷ e ∷ [] in
+    let P : Spelled → Type 0 = λ x. Ends five x in
+    let r : Ends five s = subst P (sym is) (ends five (let n = ap (λ x. x.count) is in omega (arith, n, few))) in record {
+      init = r.init;
+      last = r.last;
+      are = take-append-le s.count five rest few ∙ r.are;
+      count_is = r.count_is;
+      within = omega (arith, few, long);
+      high = r.high;
+      low = let low = r.low in grind (arith, nat_tests, low);
+      not_empty = λ zero_last. some (length r.init) r.count_is (in_five five rest (length r.init) (let c = r.count_is in omega (arith, c, few)) ∙ r.at ∙ zero_last);
+      says = same ∙ r.says;
+      least = least;
+      most = most;
+    }
+whole_of [] long s l is few some same least most = absurd (omega (arith, long))
+whole_of (a ∷ []) long s l is few some same least most = absurd (omega (arith, long))
+whole_of (a ∷ b ∷ []) long s l is few some same least most = absurd (omega (arith, long))
+whole_of (a ∷ b ∷ c ∷ []) long s l is few some same least most = absurd (omega (arith, long))
+whole_of (a ∷ b ∷ c ∷ d ∷ []) long s l is few some same least most = absurd (omega (arith, long))
+
+-- ---- What it does to a step
+
+-- so many more, and then some more
+more_more : (at n k : ℕ) → n ≡ k + 1 → more_count (next_count at) k ≡ more_count at n
+more_more at n k is = omega (arith, is)
+
+-- the literal is put into the step
+ended : (s : Step) (first last value : ℕ) (before : List ℕ) → nat_le 128 last ≡ false → last ≢ 0 → value ≡ groups_value (before ++ last ∷ []) → 2 ≤ value → value ≤ 536870911
+    → group_move s first before last ≡ goes in_step (with_literal s value)
+ended s first last value before low some says least most =
+    ap (λ t. if t then goes (in_number first (before ++ last ∷ [])) s else binary_number_move s first last (groups_value (before ++ last ∷ []))) low
+    ∙ ap (binary_number_move s first last) (sym says)
+    ∙ (let a : (last == 0) ≡ false = grind (arith, nat_tests, some) in let b : nat_le value 1 ≡ false = grind (arith, nat_tests, least) in let c : nat_le value 536870911 ≡ true = grind (arith, nat_tests, most) in
+    ap (λ t. if t then faults BadNumber first else (if nat_le value 1 then faults BadNumber first else (if nat_le value 536870911 then goes in_step (with_literal s value) else faults LiteralTooLarge first))) a
+    ∙ ap (λ t. if t then faults BadNumber first else (if nat_le value 536870911 then goes in_step (with_literal s value) else faults LiteralTooLarge first)) b
+    ∙ ap (λ t. if t then goes in_step (with_literal s value) else faults LiteralTooLarge first) c)
+
+goes_on : (s : Step) (first b : ℕ) (before : List ℕ) → nat_le 128 b ≡ true → group_move s first before b ≡ goes (in_number first (before ++ b ∷ [])) s
+goes_on s first b before high =
+    ap (λ t. if t then goes (in_number first (before ++ b ∷ [])) s else binary_number_move s first b (groups_value (before ++ b ∷ []))) high
+
+number_steps : (s : Step) (first last value : ℕ) (init before : List ℕ) (at offset : ℕ) (rest : List ℕ) (ending : Ending) → list_all (nat_le 128) init ≡ true → nat_le 128 last ≡ false → last ≢ 0
+    → value ≡ groups_value (before ++ (init ++ last ∷ [])) → 2 ≤ value → value ≤ 536870911
+    → binary_steps_among (in_number first before) s at offset ((init ++ last ∷ []) ++ rest) ending
+    ≡ binary_steps_among in_step (with_literal s value) (more_count at (length init + 1)) (offset + (length init + 1)) rest ending
+number_steps s first last value [] before at offset rest ending high low some says least most =
+    ap (λ m. on_binary_move at (suc offset) m (λ spot t. binary_steps_among spot t (next_count at) (suc offset) rest ending)) (ended s first last value before low some says least most)
+    ∙ ap (λ o. binary_steps_among in_step (with_literal s value) (next_count at) o rest ending) (omega arith)
+number_steps s first last value (b ∷ init) before at offset rest ending high low some says least most =
+    let parts = and_parts (nat_le 128 b) (list_all (nat_le 128) init) high in
+    ap (λ m. on_binary_move at (suc offset) m (λ spot t. binary_steps_among spot t (next_count at) (suc offset) ((init ++ last ∷ []) ++ rest) ending)) (goes_on s first b before parts.0)
+    ∙ number_steps s first last value init (before ++ b ∷ []) (next_count at) (suc offset) rest ending parts.1 low some (says ∙ ap groups_value (sym (append_assoc before (b ∷ []) (init ++ last ∷ [])))) least most
+    ∙ ap (λ n. binary_steps_among in_step (with_literal s value) n (suc offset + (length init + 1)) rest ending) (more_more at (length (b ∷ init) + 1) (length init + 1) (omega arith))
+    ∙ ap (λ o. binary_steps_among in_step (with_literal s value) (more_count at (length (b ∷ init) + 1)) o rest ending) (omega arith)
+
+-- at a step's literals a number begins with any byte but 0
+begins : (s : Step) (at b : ℕ) → b ≢ 0 → binary_move_of in_step s at b ≡ group_move s at [] b
+begins s at b some = let e : (b == 0) ≡ false = grind (arith, nat_tests, some) in ap (λ t. if t then completes s else group_move s at [] b) e
+
+pub whole_steps : (s : Step) (bytes : List ℕ) (count value at offset : ℕ) (rest : List ℕ) (ending : Ending) → IsWhole bytes count value
+    → binary_steps_among in_step s at offset (take count bytes ++ rest) ending ≡ binary_steps_among in_step (with_literal s value) (more_count at count) (offset + count) rest ending
+whole_steps s bytes count value at offset rest ending w =
+    ap (λ xs. binary_steps_among in_step s at offset (xs ++ rest) ending) w.are ∙ by w.init w.last w.high (let low = w.low in grind (arith, nat_tests, low)) w.not_empty w.says w.least w.most
+    ∙ ap (λ n. binary_steps_among in_step (with_literal s value) (more_count at n) (offset + n) rest ending) (sym w.count_is)
+  where
+    by : (init : List ℕ) (last : ℕ) → list_all (nat_le 128) init ≡ true → nat_le 128 last ≡ false → last ≢ 0 → value ≡ groups_value (init ++ last ∷ []) → 2 ≤ value → value ≤ 536870911
+        → binary_steps_among in_step s at offset ((init ++ last ∷ []) ++ rest) ending ≡ binary_steps_among in_step (with_literal s value) (more_count at (length init + 1)) (offset + (length init + 1)) rest ending
+    by [] last high low some says least most = ap (λ m. on_binary_move at (suc offset) m (λ spot t. binary_steps_among spot t (next_count at) (suc offset) rest ending)) (begins s at last some)
+        ∙ number_steps s at last value [] [] at offset rest ending high low some says least most
+    by (b ∷ init) last high low some says least most = ap (λ m. on_binary_move at (suc offset) m (λ spot t. binary_steps_among spot t (next_count at) (suc offset) ((init ++ last ∷ []) ++ rest) ending)) (begins s at b (λ none. true≢false (sym (and_parts (nat_le 128 b) (list_all (nat_le 128) init) high).0 ∙ ap (nat_le 128) none)))
+        ∙ number_steps s at last value (b ∷ init) [] at offset rest ending high low some says least most
+
+-- ---- Many of them
+
+pub RunsOn-none : (spot : BinarySpot) (s : Stream) (t : Step) → RunsOn spot s s t t
+RunsOn-none spot s t = record { text = Along-still s (binary_steps_from spot t s.byte_no); fewer = omega arith; mark = refl }
+
+-- one more literal
+pub RunsOn-more : (old now : Stream) (first s : Step) (count value : ℕ) → RunsOn in_step old now first s → IsWhole now.ahead count value → RunsOn in_step old (skipped count now) first (with_literal s value)
+RunsOn-more old now first s count value so_far whole =
+    let taken = take count now.ahead in
+    let len : length taken ≡ count = length-take-le count now.ahead whole.within in
+    let t = with_literal s value in
+    let at = more_count now.byte_no count in record {
+      text = Along-then old now (skipped count now) _ _ _ so_far.text (Along-skipped now count) (λ i j k m q r.
+          q ∙ ap (binary_steps_from in_step s now.byte_no) (Splits-first j taken k r)
+          ∙ whole_steps s now.ahead count value now.byte_no j.offset k.bytes k.ending whole
+          ∙ ap (λ n. binary_steps_among in_step t at (j.offset + n) k.bytes k.ending) (sym len)
+          ∙ ap (binary_steps_from in_step t at) (Splits-second j taken k r));
+      fewer = let less = length-drop count now.ahead in let was = so_far.fewer in omega (arith, was, less);
+      mark = so_far.mark;
+    }
+
+pub whole_fewer : (now : Stream) (count value : ℕ) → IsWhole now.ahead count value → most_to_come (skipped count now) < most_to_come now
+whole_fewer now count value whole =
+    let less = length-drop count now.ahead in
+    let some = whole.count_is in
+    let within = whole.within in
+    omega (arith, less, some, within)

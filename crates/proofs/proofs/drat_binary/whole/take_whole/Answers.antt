@@ -1,0 +1,25 @@
+use Rattle.std.proofs.Common.{◌≡◌, sym, subst, rules}
+use Rattle.cnf_base.specs.Stream.{Stream, skipped}
+use Rattle.proofs.specs.Binary.{in_step}
+use Rattle.proofs.specs.Code.Whole.{IsWhole, RunsOn}
+use Rattle.proofs.specs.Steps.{Step, with_literal}
+use Rattle.proofs.proofs.WholeLemmas.{RunsOn-more, RunsOn-none}
+use Rattle.proofs.proofs.drat_binary.whole.take_whole.Goals as goal
+
+pub loop-count-init : goal.loop-count-init
+loop-count-init g c = RunsOn-none in_step c.args.source.now c.args.step.now
+
+pub loop-count-preserved : goal.loop-count-preserved
+loop-count-preserved g c =
+    let old = c.args.source.now in
+    let first = c.args.step.now in
+    let now = c.loop-count.source in
+    let step = c.loop-count.step in
+    let count = c.in-Some.count in
+    let lit = c.in-Some.lit in
+    let whole : IsWhole now.ahead count lit = search rules in
+    let source : c.skip_in_line.new.self ≡ skipped count now = search rules in
+    let pushed : c.push_literal.new.self ≡ with_literal step lit = search rules in
+    let P : Stream → Type 0 = λ x. RunsOn in_step old x first c.push_literal.new.self in
+    let Q : Step → Type 0 = λ x. RunsOn in_step old (skipped count now) first x in
+    subst P (sym source) (subst Q (sym pushed) (RunsOn-more old now first step count lit c.loop-count.invariant whole))
