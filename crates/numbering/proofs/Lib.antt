@@ -1,1 +1,3 @@
+pub mod NameLemmas
 pub mod NumberLemmas
+pub mod RecentLemmas

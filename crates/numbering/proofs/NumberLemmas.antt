@@ -3,7 +3,9 @@ use Rattle.std.proofs.Common.{◌≡◌, ◌≢◌, ℕ, zero, suc, ◌+◌, ◌
 use Rattle.std.proofs.Common.{List, [], ◌∷◌, ◌++◌, length, length-append, refl, sym, ap, ◌∙◌}
 use Rattle.std.proofs.Common.{arith, inl, inr, eq-eqb, ne_eqb, add-one, ◌*◌, ◌↔◌, Bool, Option, Some, None}
 use Rattle.std.proofs.Common.{unwrap_or, IsSome, IfSome}
-use Rattle.std.proofs.lemmas.Bool.{cases_eq, false≢true}
+use Rattle.std.proofs.Common.{slice_get}
+use Rattle.std.proofs.lemmas.Bool.{cases_eq, cases_lt, false≢true}
+use Rattle.std.proofs.lemmas.Option.{slice_get_past}
 use Rattle.std.proofs.lemmas.Bool.Decides.{nat_tests}
 use Rattle.cnf_base.specs.Literals.{has}
 use Rattle.numbering.specs.Names.{number_in}
@@ -115,6 +117,13 @@ all_written first room last key w n is same writes v =
     ap (λ o. unwrap_or o 0) (writes v) ∙ written_at (eqb v key) (room v) n ∙ ap (λ k. cond (eqb v k) n (unwrap_or (room v) 0)) is
     ∙ ap (cond (eqb v w) n) (same v)
 
+-- the number of a variable that stands among the first ones
+pub number_near : (all : ℕ → Option ℕ) (near : List ℕ) → ((k : ℕ) → k < length near → slice_get near k ≡ all k) → (v n : ℕ) → n ≡ unwrap_or (slice_get near v) 0 → n ≢ 0 → unwrap_or (all v) 0 ≡ n
+number_near all near is v n at some = elim (cases_lt v (length near)) [
+  | inl low ↦ ap (λ o. unwrap_or o 0) (sym (is v low)) ∙ sym at
+  | inr high ↦ absurd (some (at ∙ ap (λ o. unwrap_or o 0) (slice_get_past near v high)))
+]
+
 -- a literal under the number of a variable
 pub under_is : (o : Option ℕ) (n m s d : ℕ) → (IsSome o ↔ ((1 ≤ n) × (n ≤ 268435455))) → IfSome o (λ l. l ≡ 2 * n + s) → n ≡ m → 1 ≤ m → m ≤ 268435455 → unwrap_or o d ≡ 2 * m + s
 under_is (Some l) n m s d some value is from to = value ∙ ap (λ k. 2 * k + s) is
@@ -142,13 +151,13 @@ module _ (f : ℕ → ℕ) (count : ℕ) (is : IsNumbering f count) where
   pub is_unmet : (v : ℕ) → f v ≡ 0 → has (names_of f count) v ≡ false
   is_unmet v none = has_none (names_of f count) v (sym (is.stands v) ∙ none)
 
-  is_met : (v : ℕ) → f v ≢ 0 → has (names_of f count) v ≡ true
+  pub is_met : (v : ℕ) → f v ≢ 0 → has (names_of f count) v ≡ true
   is_met v some = has_number (names_of f count) v (λ e. some (is.stands v ∙ e))
 
   pub unmet_at : (v : ℕ) → has (names_of f count) v ≡ false → f v ≡ 0
   unmet_at v none = is.stands v ∙ ap (λ t. cond t (number_in (names_of f count) v) 0) none
 
-  number_is : (v : ℕ) → f v ≢ 0 → number_in (names_of f count) v ≡ f v
+  pub number_is : (v : ℕ) → f v ≢ 0 → number_in (names_of f count) v ≡ f v
   number_is v some = sym (is.stands v ∙ ap (λ t. cond t (number_in (names_of f count) v) 0) (is_met v some))
 
   pub next_is : (v : ℕ) → f v ≡ 0 → number_in (names_of f count) v ≡ count + 1
@@ -214,7 +223,7 @@ module _ (first room last : ℕ → Option ℕ) (count : ℕ) (is : IsNumbering 
   abbrev after : ℕ → ℕ
   after v = unwrap_or (last v) 0
 
-  none : before w ≡ 0
+  pub none : before w ≡ 0
   none = unmet_at before count is w unmet
 
   from : 1 ≤ w
@@ -223,7 +232,7 @@ module _ (first room last : ℕ → Option ℕ) (count : ℕ) (is : IsNumbering 
   to : w ≤ 268435455
   to = omega (arith, w_is, range.1)
 
-  wrote : (v : ℕ) → after v ≡ cond (eqb v w) (count + 1) (before v)
+  pub wrote : (v : ℕ) → after v ≡ cond (eqb v w) (count + 1) (before v)
   wrote = all_written first room last key w (count + 1) w_is same writes
 
   pub next_invariant : IsNumbering after (count + 1)
@@ -235,7 +244,8 @@ module _ (first room last : ℕ → Option ℕ) (count : ℕ) (is : IsNumbering 
   pub next_low : count < 268435455
   next_low = count_below before count is w none from to
 
+  pub next_at : after w ≡ count + 1
+  next_at = wrote w ∙ ap (λ t. cond t (count + 1) (before w)) (eq-eqb w w refl)
+
   pub next_number : number_in (names_of after (count + 1)) w ≡ count + 1
-  next_number =
-      let new = wrote w ∙ ap (λ t. cond t (count + 1) (before w)) (eq-eqb w w refl) in
-      number_is after (count + 1) next_invariant w (omega (arith, new)) ∙ new
+  next_number = number_is after (count + 1) next_invariant w (omega (arith, next_at)) ∙ next_at

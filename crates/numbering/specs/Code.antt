@@ -1,2 +1,3 @@
 -- How the parts of the code fit together. No public contract speaks of it.
 pub mod Numbers
+pub mod Recents

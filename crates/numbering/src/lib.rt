@@ -2,5 +2,6 @@
 #![tactic(auto)]
 
 mod numbering;
+mod recent;
 
 pub use numbering::Numbering;

@@ -6,7 +6,7 @@
 ghost use Rattle.std.specs.Prelude.{◌≡◌, ◌≢◌, ◌⊎◌, ◌↔◌, ◌+◌, ◌<◌, ◌≤◌, [], map, IsTrue};
 ghost use Rattle.std.specs.Prelude.{IfOk, OnOk, OnErr, length};
 ghost use Rattle.std.specs.FinMap as maps;
-ghost use Rattle.numbering.specs.Names.{number_in, with_names};
+ghost use Rattle.numbering.specs.Names.{number_in};
 ghost use Rattle.theory.specs.Answers.{UnlessOutOfMemory};
 ghost use Rattle.theory.specs.Losses.{StepLoses};
 ghost use Rattle.theory.specs.Renaming.{renamed};
@@ -29,37 +29,6 @@ pub struct Named<J: Judge> {
     numbering: Numbering,
     /// The literals that the judge looks at; none between calls.
     numbered: Vec<Lit>,
-}
-
-/// Puts the literals under numbers, new ones where their variables weren't met.
-fn number_all(
-    numbering: &mut Numbering,
-    lits: &[Lit],
-    numbered: &mut Vec<Lit>,
-) -> Result<(), OutOfMemory>
-    requires { numbered.old.items ≡ [] }
-    ensures names { OnOk result (numbering.new ≡ with_names numbering.old lits.now) }
-    ensures literals { OnOk result (numbered.new.items ≡
-        map (renamed (number_in numbering.new)) lits.now) }
-{
-    for l in lits {
-        let l = numbering.number(*l)?;
-        numbered.push(l)?;
-    }
-    Ok(())
-}
-
-/// Puts the literals under numbers. Variables that weren't met get none: they stand under the next
-/// one, which no live clause has.
-fn find_all(numbering: &Numbering, lits: &[Lit], numbered: &mut Vec<Lit>) -> Result<(), OutOfMemory>
-    requires { numbered.old.items ≡ [] }
-    ensures literals { OnOk result (numbered.new.items ≡
-        map (renamed (number_in numbering.now)) lits.now) }
-{
-    for l in lits {
-        numbered.push(numbering.find(*l))?;
-    }
-    Ok(())
 }
 
 /// The answer with the pivot as the step names it.
@@ -87,8 +56,8 @@ fn number_step(
         map (renamed (number_in numbering.new)) lits.now) }
 {
     match kind {
-        StepKind::Add => number_all(numbering, lits, numbered),
-        StepKind::Delete => find_all(numbering, lits, numbered),
+        StepKind::Add => numbering.number_all(lits, numbered),
+        StepKind::Delete => numbering.find_all(lits, numbered),
     }
 }
 
@@ -113,7 +82,7 @@ fn input_numbered<J: Judge>(
         ≡ (J.held judge.old).has_lost_literal }
     ensures rule_stays { (J.held judge.new).rule ≡ (J.held judge.old).rule }
 {
-    number_all(numbering, lits, numbered)?;
+    numbering.number_all(lits, numbered)?;
     judge.input(numbered.as_slice())
 }
 

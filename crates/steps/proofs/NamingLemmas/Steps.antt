@@ -29,8 +29,9 @@ use Rattle.steps.specs.Session.{Held, state_of, state_under}
 use Rattle.steps.proofs.NamingLemmas.Absent.{absent_step, absent_after, absent_loses}
 use Rattle.steps.proofs.NamingLemmas.Among.{same_among, after_among, input_among, lacks, deleted_among}
 use Rattle.steps.proofs.NamingLemmas.Maps.{mapped_get, mapped_list, mapped_empty}
-use Rattle.steps.proofs.NamingLemmas.Names.{told, kept_has_all, kept_number_all, has_new_all}
-use Rattle.steps.proofs.NamingLemmas.Names.{given_undone, next_is_not_given}
+use Rattle.numbering.proofs.NameLemmas.{told, kept_has_all, kept_number_all, has_new_all}
+use Rattle.numbering.proofs.NameLemmas.{next_is_not_given}
+use Rattle.steps.proofs.NamingLemmas.Names.{given_undone}
 use Rattle.steps.proofs.NamingLemmas.Pivots.{answer_named, deletion_names_none, plain_stays}
 use Rattle.steps.proofs.NamingLemmas.States.{renamed_same, renamed_input, renamed_size, renamed_loses}
 

@@ -8,7 +8,7 @@ use Rattle.numbering.proofs.numbering.Numbering.find_next.Goals as goal
 pub overflow_add-next : goal.overflow_add-next
 overflow_add-next c =
     let n = c.self.inside in
-    omega (arith, count_most (number_at n.numbers) n.count c.self.invariant)
+    omega (arith, count_most (number_at n.numbers) n.count c.self.invariant.0)
 
 pub returns : goal.returns
 returns c =
@@ -16,8 +16,8 @@ returns c =
     let l = c.args.l in
     let v = variable l in
     let f = number_at n.numbers in
-    let none = unmet_at f n.count c.self.invariant v (ap (λ ns. has ns v) c.self.view_is ∙ c.requires) in
-    let low = count_below f n.count c.self.invariant v none (omega arith) (omega arith) in
+    let none = unmet_at f n.count c.self.invariant.0 v (ap (λ ns. has ns v) c.self.view_is ∙ c.requires) in
+    let low = count_below f n.count c.self.invariant.0 v none (omega arith) (omega arith) in
     c.unwrap_or.ensures
     ∙ under_is c.under.result _ (n.count + 1) (l % 2) l c.under.ensures.some c.under.ensures.value refl (omega arith) (omega (arith, low))
-    ∙ ap (λ k. 2 * k + l % 2) (sym (next_is f n.count c.self.invariant v none) ∙ ap (λ ns. number_in ns v) c.self.view_is)
+    ∙ ap (λ k. 2 * k + l % 2) (sym (next_is f n.count c.self.invariant.0 v none) ∙ ap (λ ns. number_in ns v) c.self.view_is)

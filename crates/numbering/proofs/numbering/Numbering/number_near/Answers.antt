@@ -1,0 +1,46 @@
+use Rattle.std.proofs.Common.{◌≡◌, ◌≢◌, ◌+◌, ◌*◌, ◌%◌, ◌++◌, ◌∷◌, [], ◌<◌, map, take, length, sym, ap, ◌∙◌, refl, arith}
+use Rattle.std.proofs.Common.{unwrap_or, slice_get, true, vec_len, slice_index_or}
+use Rattle.std.proofs.lemmas.List.{map-append}
+use Rattle.cnf_base.specs.Literals.{has, variable}
+use Rattle.cnf_base.proofs.WalkLemmas.{take_is}
+use Rattle.theory.specs.Renaming.{renamed}
+use Rattle.numbering.specs.Names.{number_in, with_name, with_names}
+use Rattle.numbering.specs.Code.Numbers.{number_at}
+use Rattle.numbering.proofs.NameLemmas.{with_names_push, same_names}
+use Rattle.numbering.proofs.NumberLemmas.{is_met, number_is, number_near}
+use Rattle.tables.specs.Filled.{at}
+use Rattle.numbering.proofs.numbering.Numbering.number_near.Goals as goal
+
+pub loop-near-preserved : goal.loop-near-preserved
+loop-near-preserved c =
+    let n = c.self.inside in
+    let names = c.args.self.now in
+    let lits = c.args.lits.now in
+    let i = vec_len c.loop-near.known in
+    let l = c.index-lits-len.result in
+    let v = variable l in
+    let near = c.near-near.result.now in
+    let number = c.number_among.result in
+    let inside : i < length lits = omega arith in
+    let before = take i lits in
+    let split = ap (λ k. take k lits) c.push_reserved.ensures.len ∙ take_is lits i inside l (c.index-lits-len.is ∙ ap (λ k. slice_index_or lits k l) c.len-in-loop-near.ensures) in
+    let from = (c.in-Some.ensures.some.0 refl).0 in
+    let some : number ≢ 0 = omega (arith, from) in
+    let stands = number_near (at n.numbers) near c.near-near.ensures v number (c.number_among.ensures ∙ ap (λ k. unwrap_or (slice_get near k) 0) c.var.ensures.value) some in
+    let met_there = is_met (number_at n.numbers) n.count c.self.invariant.0 v (λ none. some (sym stands ∙ none)) in
+    let met : has names v ≡ true = ap (λ ns. has ns v) (sym c.self.view_is) ∙ met_there in
+    let number_there = number_is (number_at n.numbers) n.count c.self.invariant.0 v (λ none. some (sym stands ∙ none)) ∙ stands in
+    let numbered : number_in names v ≡ number = ap (λ ns. number_in ns v) (sym c.self.view_is) ∙ number_there in
+    let literal : c.in-Some.l ≡ renamed (number_in names) l = c.in-Some.ensures.value ∙ ap (λ k. 2 * k + l % 2) (sym numbered) in
+    record {
+      met =
+          ap (with_names names) split ∙ with_names_push names before l ∙ ap (λ ns. with_name ns v) c.loop-near.invariant.met
+          ∙ same_names names v met;
+      literals =
+          c.push_reserved.ensures.items
+          ∙ (λ j. c.loop-near.invariant.literals j ++ literal j ∷ [])
+          ∙ sym (map-append (renamed (number_in names)) before (l ∷ []))
+          ∙ ap (map (renamed (number_in names))) (sym split);
+      within = omega (arith, c.push_reserved.ensures.len);
+      room = omega (arith, c.push_reserved.ensures.capacity, c.loop-near.invariant.room);
+    }
