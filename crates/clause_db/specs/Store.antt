@@ -11,14 +11,12 @@ use Rattle.cnf_base.specs.Maps.{sum_over}
 pub record StoreState : Type 0 where
   -- the live clauses, each in its slot
   pub live : FinMap nat_cmp Clause
-  -- by slot the number of units of its block, whether it has a clause or is free
-  pub blocks : FinMap nat_cmp ℕ
   -- the sum of the lengths of all lists of literals that it keeps
   pub stored : ℕ
 
 -- a store with nothing in it
 abbrev pub no_clauses : StoreState
-no_clauses = record { live = maps.empty; blocks = maps.empty; stored = 0 }
+no_clauses = record { live = maps.empty; stored = 0 }
 
 -- the sum of the sizes of the clauses
 abbrev pub literals_in : FinMap nat_cmp Clause → ℕ

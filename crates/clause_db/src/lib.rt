@@ -4,5 +4,6 @@
 mod store;
 
 pub use clause_index::{Index, Indexing, NoIndex};
+pub use clause_memory::{Blocks, Memory, Slots};
 pub use ids::{Ids, Slot};
 pub use store::Store;

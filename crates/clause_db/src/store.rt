@@ -22,8 +22,7 @@ ghost use Rattle.std.specs.Ordering.{nat_cmp};
 ghost use Rattle.std.specs.FinMap as maps;
 ghost use Rattle.std.specs.FinMap.{FinMap};
 ghost use Rattle.cnf_base.specs.Literals.{Clause, has, same_clause, size};
-ghost use Rattle.clause_memory.specs.Memory.{AddsFewBlocks, CanRewatch, IsRewatched};
-ghost use Rattle.clause_memory.specs.Memory.{units_for, units_in};
+ghost use Rattle.clause_memory.specs.Blocks.{CanRewatch, IsRewatched};
 ghost use Rattle.clause_db.specs.Store.{literals_in, copies_with, no_clauses, IsTouchedAt};
 ghost use Rattle.clause_db.specs.Code.Counts.{AreCounted};
 ghost use Rattle.clause_db.specs.Code.Fields.{IsTakenIn};
@@ -36,7 +35,7 @@ use crate::store::kept::{find_slots, forget, note};
 use crate::store::marks::{all_known, gather, mark_all, mark_new, unmark_all};
 use crate::store::search::find_marked;
 use clause_index::{Index, Indexing, NoIndex};
-use clause_memory::ClauseMemory;
+use clause_memory::{Blocks, Memory};
 use cnf_base::{Lit, OutOfMemory};
 use ids::Slot;
 use occurrences::Occurrences;
@@ -46,14 +45,14 @@ use tables::Filled;
 
 /// The live clauses of a proof checker, each in a slot that the store picks.
 ///
-/// Contracts see it as finite maps from the numbers of the slots to the clauses and to the sizes of
-/// their blocks of memory, and the number of literals that it keeps. A clause is the set of its
-/// literals: the store keeps each literal once, in an order that it picks. One with
+/// Contracts see it as a finite map from the numbers of the slots to the clauses, and the number of
+/// literals that it keeps. A clause is the set of its literals: the store keeps each literal once,
+/// in an order that it picks. They stand in a memory of either kind. One with
 /// [`NoIndex`](crate::NoIndex) finds no clause by its literals, and takes less memory.
 #[derive(Drop)]
-pub struct Store<I: Indexing = Index> {
+pub struct Store<M: Memory = Blocks, I: Indexing = Index> {
     alloc: Global,
-    memory: ClauseMemory,
+    memory: M,
     index: I,
     /// By literal whether a call has marked it.
     marks: Filled<bool>,
@@ -64,7 +63,7 @@ pub struct Store<I: Indexing = Index> {
     occurrences: Option<Occurrences>,
 }
 
-impl<I: Indexing> Model for Store<I> {
+impl<M: Memory, I: Indexing> Model for Store<M, I> {
     ghost use Rattle.clause_db.specs.Store.{StoreState};
     ghost use Rattle.clause_db.specs.Code.Counts.{AreCounted};
     ghost use Rattle.clause_db.specs.Code.Fields.{IsStore, store_code};
@@ -85,15 +84,14 @@ impl<I: Indexing> Model for Store<I> {
       sum = _;
       occurrences = _;
     }. record {
-      live = memory.live;
-      blocks = memory.blocks;
-      stored = memory.stored;
+      live = (M.seen memory).live;
+      stored = (M.seen memory).stored;
     } };
 
     ghost invariant = { λ s.
-        IsStore s.memory.live s.memory.stored s.marks s.sum
-        × I.indexes s.index s.memory.live × AreKept s.occurrences s.memory.live
-        × AreCounted s.counts s.memory.live };
+        IsStore (M.seen s.memory).live (M.seen s.memory).stored s.marks s.sum
+        × I.indexes s.index (M.seen s.memory).live × AreKept s.occurrences (M.seen s.memory).live
+        × AreCounted s.counts (M.seen s.memory).live };
 }
 
 /// The marked literals, each once, where so many are marked. Their marks are taken off.
@@ -116,20 +114,18 @@ fn without_repeats(
 }
 
 /// Marks literals of a clause, and puts it into the memory, without repeated ones.
-fn put_in(
+fn put_in<M: Memory>(
     alloc: Global,
-    memory: &mut ClauseMemory,
+    memory: &mut M,
     marks: &mut Filled<bool>,
     lits: &[Lit],
 ) -> Result<usize, OutOfMemory>
     requires { (l : ℕ) → is_marked (at marks.old l) ≡ false }
-    ensures taken { IfOk result (λ slot. IsTakenIn memory.old memory.new slot lits.now) }
+    ensures taken { IfOk result (λ slot. IsTakenIn (M.seen memory.old) (M.seen memory.new) slot lits.now) }
     ensures known { OnOk result ((l : ℕ) → has lits.now l ≡ true → IsSome (at marks.new l)) }
     ensures still_known { (l : ℕ) → IsSome (at marks.old l) → IsSome (at marks.new l) }
     ensures some { (l : ℕ) → is_marked (at marks.new l) ≡ true → has lits.now l ≡ true }
-    ensures few_blocks { AddsFewBlocks memory.old.blocks memory.new.blocks memory.old.live
-        (units_for (size lits.now)) }
-    ensures err { OnErr result (memory.new ≡ memory.old) }
+    ensures err { OnErr result (M.seen memory.new ≡ M.seen memory.old) }
 {
     let len = mark_new(marks, lits)?;
     if len == lits.len() {
@@ -181,14 +177,14 @@ fn list_up<I: Indexing>(
     }
 }
 
-impl<I: Indexing> Store<I> {
+impl<M: Memory, I: Indexing> Store<M, I> {
     fn empty(alloc: Global, seed: u64, counts: Option<Filled<u32>>) -> Self
         requires { AreCounted counts maps.empty }
         ensures { result ≡ no_clauses }
     {
         Store {
             alloc,
-            memory: ClauseMemory::new(alloc),
+            memory: M::new(alloc),
             index: I::new(alloc, seed),
             marks: Filled::new(alloc),
             counts,
@@ -198,16 +194,13 @@ impl<I: Indexing> Store<I> {
     }
 
     /// Stores a clause in a slot that is free, and fails only where memory is refused. A repeated
-    /// literal is kept once. A further block of memory is made only where each that has as many
-    /// units has a clause; one that was made for a clause that is then refused stays, and is free.
+    /// literal is kept once.
     pub fn insert(&mut self, lits: &[Lit]) -> Result<Slot, OutOfMemory>
         ensures free { IfOk result (λ slot. maps.get self.old.live slot ≡ None) }
         ensures stored { IfOk result (λ slot. (c : Clause) ×
             (maps.get self.new.live slot ≡ Some c) × IsTrue (same_clause c lits.now)) }
         ensures others { IfOk result (λ slot. (s : ℕ) → s ≢ slot →
             maps.get self.new.live s ≡ maps.get self.old.live s) }
-        ensures few_blocks { AddsFewBlocks self.old.blocks self.new.blocks self.old.live
-            (units_for (size lits.now)) }
         ensures live_alone { self.new.stored ≡ literals_in self.new.live }
         ensures err_live { OnErr result (self.new.live ≡ self.old.live) }
         ensures err_stored { OnErr result (self.new.stored ≡ self.old.stored) }
@@ -238,7 +231,6 @@ impl<I: Indexing> Store<I> {
     pub fn remove(&mut self, slot: Slot)
         requires { IsSome (maps.get self.old.live slot) }
         ensures live { self.new.live ≡ maps.remove self.old.live slot }
-        ensures blocks { self.new.blocks ≡ self.old.blocks }
         ensures live_alone { self.new.stored ≡ literals_in self.new.live }
     {
         let number = slot.number();
@@ -292,14 +284,6 @@ impl<I: Indexing> Store<I> {
         self.sum.min(18446744073709551615) as u64
     }
 
-    /// How many words of four bytes the clauses and the blocks that are free take: four for each
-    /// unit of a block.
-    pub fn words(&self) -> usize
-        ensures { result ≡ 4 * units_in self.now.blocks }
-    {
-        self.memory.words()
-    }
-
     /// Gathers the slots of the clauses that the literals touch, in ascending order: that have the
     /// complement of one of them. `into` is emptied first.
     ///
@@ -342,7 +326,7 @@ impl<I: Indexing> Store<I> {
     }
 }
 
-impl Store<NoIndex> {
+impl<M: Memory> Store<M, NoIndex> {
     /// No clauses, and none will be searched for by its literals. The clauses with each literal are
     /// counted from when [`Store::keep_counts`] is called.
     pub fn without_index(alloc: Global) -> Result<Self, OutOfMemory>
@@ -353,7 +337,7 @@ impl Store<NoIndex> {
     }
 }
 
-impl Store {
+impl<M: Memory> Store<M, Index> {
     /// No clauses. Whoever chooses them can choose some with one hash, which makes the searches
     /// long: see [`Store::seeded`].
     pub fn new(alloc: Global) -> Result<Self, OutOfMemory>
@@ -392,14 +376,15 @@ impl Store {
             None => None,
         }
     }
+}
 
+impl Store {
     /// Puts two literals of the clause in the slot in each other's place. It takes no memory.
     pub fn swap(&mut self, slot: Slot, a: usize, b: usize)
         requires { (c : Clause) × (maps.get self.old.live slot ≡ Some c)
             × (a < length c) × (b < length c) }
         ensures live { (c : Clause) → maps.get self.old.live slot ≡ Some c →
             self.new.live ≡ maps.insert self.old.live slot (swap c a b) }
-        ensures blocks { self.new.blocks ≡ self.old.blocks }
         ensures live_alone { self.new.stored ≡ literals_in self.new.live }
     {
         self.memory.swap(slot.number(), a, b);
@@ -412,7 +397,6 @@ impl Store {
     pub fn rewatch(&mut self, slot: Slot, other: Lit, next: Lit, to: usize, l: Lit)
         requires { CanRewatch self.old.live slot other next to l }
         ensures live { IsRewatched self.old.live self.new.live slot other to l }
-        ensures blocks { self.new.blocks ≡ self.old.blocks }
         ensures live_alone { self.new.stored ≡ literals_in self.new.live }
     {
         self.memory.rewatch(slot.number(), other, next, to, l);

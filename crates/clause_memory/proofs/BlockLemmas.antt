@@ -7,7 +7,7 @@ use Rattle.std.specs.FinMap as maps
 use Rattle.std.specs.FinMap.{FinMap}
 use Rattle.std.proofs.lemmas.Bool.{cases_Bool, false≢true, true≢false}
 use Rattle.std.proofs.lemmas.List.{drop-append-le, get_or-drop, get_or_past, length-drop}
-use Rattle.clause_memory.specs.Memory.{units_in}
+use Rattle.clause_memory.specs.Blocks.{units_in}
 use Rattle.clause_memory.specs.Code.Units.{IsBlock, blocks_from, blocks_in, is_rest, kind_at, rests}
 use Rattle.clause_memory.specs.Code.Units.{start_of}
 use Rattle.clause_memory.specs.declared.kind.Kind.{Kind}

@@ -9,7 +9,8 @@ use Rattle.std.proofs.lemmas.Bool.{cases_eq, false≢true}
 use Rattle.std.proofs.lemmas.List.{length-drop, length-take}
 use Rattle.std.proofs.lemmas.Option.{same_Some}
 use Rattle.cnf_base.specs.Literals.{Clause}
-use Rattle.clause_memory.specs.Memory.{MemoryState, literals_in}
+use Rattle.clause_memory.specs.Blocks.{BlocksState}
+use Rattle.clause_memory.specs.Memory.{literals_in}
 use Rattle.cnf_base.specs.Maps.{sum_over}
 use Rattle.clause_memory.specs.Code.Fields.{IsMemory, seen_as}
 use Rattle.clause_memory.specs.Code.Units.{clause_at, clauses_from, clauses_in, is_rest, kept_as}
@@ -110,8 +111,8 @@ module _ (kinds : List Kind) (words : List ℕ) where
   few_clauses = few_from words kinds 0
 
 -- a slot of a live clause
-pub alive_in : (kinds : List Kind) (words : List ℕ) (state : MemoryState) → seen_as kinds words ≡ state → (s : ℕ) → is_some (maps.get state.live s) ≡ true → kind_at kinds s ≡ Live
-alive_in kinds words state view s alive = alive_kind kinds words s (ap (λ (v : MemoryState). is_some (maps.get v.live s)) view ∙ alive)
+pub alive_in : (kinds : List Kind) (words : List ℕ) (state : BlocksState) → seen_as kinds words ≡ state → (s : ℕ) → is_some (maps.get state.live s) ≡ true → kind_at kinds s ≡ Live
+alive_in kinds words state view s alive = alive_kind kinds words s (ap (λ (v : BlocksState). is_some (maps.get v.live s)) view ∙ alive)
 
 -- maps of memories that agree but in one slot
 pub clauses_with : (ks ls : List Kind) (words now : List ℕ) (s : ℕ) → kind_at ls s ≡ Live → ((t : ℕ) → (t ≡ s → ⊥) → clause_if (kind_at ls t) (clause_at now t) ≡ clause_if (kind_at ks t) (clause_at words t)) →
@@ -170,8 +171,8 @@ module _ {kinds : List Kind} {words : List ℕ} {heads : ℕ → Option ℕ} (me
       kept_live k live = ap (λ x. kept_as x (kind_at kinds (start_of kinds k)) words k) live
 
   -- what is seen in a slot
-  pub seen_in : (state : MemoryState) → seen_as kinds words ≡ state → (s : ℕ) (c : Clause) → maps.get state.live s ≡ Some c → (kind_at kinds s ≡ Live) × (c ≡ clause_at words s) × (length c ≡ size_at words s)
+  pub seen_in : (state : BlocksState) → seen_as kinds words ≡ state → (s : ℕ) (c : Clause) → maps.get state.live s ≡ Some c → (kind_at kinds s ≡ Live) × (c ≡ clause_at words s) × (length c ≡ size_at words s)
   seen_in state view s c here =
       let live = alive_in kinds words state view s (ap is_some here) in
-      let same : c ≡ clause_at words s = same_Some _ _ (sym here ∙ ap (λ (v : MemoryState). maps.get v.live s) (sym view) ∙ get_live kinds words s live) in
+      let same : c ≡ clause_at words s = same_Some _ _ (sym here ∙ ap (λ (v : BlocksState). maps.get v.live s) (sym view) ∙ get_live kinds words s live) in
       (live, same, ap length same ∙ clause_len s live)

@@ -1,5 +1,5 @@
 -- How many blocks and how many clauses there are of one size.
-use Rattle.std.proofs.Common.{◌≡◌, ◌≢◌, ℕ, ◌+◌, ◌-◌, ◌≤◌, true, cond, eqb, eq-eqb, ne_eqb}
+use Rattle.std.proofs.Common.{◌≡◌, ◌≢◌, ℕ, ◌+◌, ◌≤◌, true, cond, eqb, eq-eqb, ne_eqb}
 use Rattle.std.proofs.Common.{Option, Some, None, is_some, List, length, sym, ap, ◌∙◌, subst, arith, inl, inr}
 use Rattle.std.specs.Ordering.{nat_cmp}
 use Rattle.std.specs.FinMap as maps
@@ -7,7 +7,7 @@ use Rattle.std.specs.FinMap.{FinMap}
 use Rattle.std.proofs.lemmas.Bool.{cases_eq}
 use Rattle.std.proofs.lemmas.Option.{same_Some}
 use Rattle.cnf_base.specs.Literals.{Clause}
-use Rattle.clause_memory.specs.Memory.{AddsFewBlocks, blocks_with, clauses_with, units_for}
+use Rattle.clause_memory.specs.Blocks.{AddsFewBlocks, blocks_with, clauses_with, units_for}
 use Rattle.clause_memory.specs.Code.Fields.{IsMemory}
 use Rattle.clause_memory.specs.Code.Units.{blocks_in, clause_at, clauses_in}
 use Rattle.clause_memory.specs.declared.kind.Kind.{Kind}

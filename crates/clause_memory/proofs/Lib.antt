@@ -6,4 +6,5 @@ mod FreeLemmas
 mod MemoryLemmas
 mod RewatchLemmas
 mod RoomLemmas
+mod SlotLemmas
 mod SwapLemmas

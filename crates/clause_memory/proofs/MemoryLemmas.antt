@@ -11,7 +11,7 @@ use Rattle.std.proofs.lemmas.List.{get_or-take}
 use Rattle.std.proofs.lemmas.List.Edits.{length-swap, swap_is}
 use Rattle.cnf_base.specs.Literals.{Clause, has}
 use Rattle.cnf_base.proofs.SetLemmas.{has_head, has_tail}
-use Rattle.clause_memory.specs.Memory.{units_for}
+use Rattle.clause_memory.specs.Blocks.{units_for}
 use Rattle.clause_memory.specs.Code.Fields.{IsMemory}
 use Rattle.clause_memory.specs.Code.Free.{LeadsTo, link_at, link_of}
 use Rattle.clause_memory.specs.Code.Units.{IsBlock, blocks_in, clause_at, clauses_in, kept_as, kept_in}

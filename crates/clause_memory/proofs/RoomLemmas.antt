@@ -15,7 +15,7 @@ use Rattle.std.proofs.Math.ListN.{set}
 use Rattle.std.proofs.Math.Seq.{drop-append-add, set-append_seam, take-append_seam}
 use Rattle.cnf_base.specs.Literals.{Clause, has}
 use Rattle.cnf_base.proofs.SetLemmas.{has_cases, has_head}
-use Rattle.clause_memory.specs.Memory.{units_for}
+use Rattle.clause_memory.specs.Blocks.{units_for}
 use Rattle.clause_memory.specs.Code.Fields.{IsMemory}
 use Rattle.clause_memory.specs.Code.Free.{AreListed, IsOnce, LeadsTo, link_at, link_of}
 use Rattle.clause_memory.specs.Code.Units.{IsBlock, blanks, blocks_in, clause_at, clauses_in, is_rest, kept_as}

@@ -8,7 +8,7 @@ use Rattle.std.proofs.lemmas.List.{ext_get_or, get_or-drop, get_or-set_other, ge
 use Rattle.std.proofs.lemmas.List.{get_or-append_right, get_or-replicate, get_or-take}
 use Rattle.std.proofs.lemmas.List.{get_or_append_left, get_or_past, length-append, length-drop}
 use Rattle.std.proofs.lemmas.List.{length-replicate, length-set, length-take}
-use Rattle.clause_memory.specs.Memory.{units_for}
+use Rattle.clause_memory.specs.Blocks.{units_for}
 use Rattle.clause_memory.specs.Code.Units.{IsBlock, blanks, clause_at, is_rest, kept_as, kept_in}
 use Rattle.clause_memory.specs.Code.Units.{kind_at, size_at, start_of, written}
 use Rattle.clause_memory.specs.declared.kind.Kind.{Kind}

@@ -1,61 +1,165 @@
-//! Blocks that get a clause, and lose it.
+//! A memory of clauses, in one array of words.
 
-ghost use Rattle.std.specs.Prelude.{◌≡◌, ℕ, ◌+◌, ◌≤◌, length, Some, None};
+ghost use Rattle.std.specs.Prelude.{◌≡◌, ◌≢◌, ℕ, ◌*◌, ◌<◌, ◌≤◌, length};
+ghost use Rattle.std.specs.Prelude.{Some, None, IsSome, IfOk, OnErr};
 ghost use Rattle.std.specs.FinMap as maps;
-ghost use Rattle.tables.specs.Table.{at};
-ghost use Rattle.clause_memory.specs.Memory.{units_for};
-ghost use Rattle.clause_memory.specs.Code.Fields.{IsMemory};
-ghost use Rattle.clause_memory.specs.Code.Units.{blocks_in, clauses_in, kind_at};
-ghost use Rattle.clause_memory.specs.declared.kind.Kind.TheVariants.{Live};
+ghost use Rattle.std.specs.List.{swap};
+ghost use Rattle.cnf_base.specs.Literals.{Clause};
+ghost use Rattle.clause_memory.specs.Blocks.{AddsFewBlocks, CanRewatch, IsRewatched};
+ghost use Rattle.clause_memory.specs.Blocks.{memory_of, units_for, units_in};
+ghost use Rattle.clause_memory.specs.Memory.{literals_in};
 
-use crate::kind::Kind;
-use crate::words::{UNIT, link, size, units, wipe, write_clause, write_link};
-use cnf_base::Lit;
+use crate::Memory;
+use crate::kind::{Kind, kind_of};
+use crate::reuse::take_out;
+use crate::room::place;
+use crate::words::{exchange, literals, rewrite};
+use cnf_base::{Lit, OutOfMemory};
+use std::alloc::Global;
+use std::marker::Model;
 use tables::Table;
 
-/// Puts a clause into the first block of the list of free ones that have its number of units.
-pub(crate) fn put_in(
-    kinds: &mut Vec<Kind>,
-    words: &mut Vec<Lit>,
-    heads: &mut Table<u32>,
-    slot: usize,
-    lits: &[Lit],
-)
-    requires memory { IsMemory kinds.old.items words.old.items (at heads.old) }
-    requires first { at heads.old (units_for (length lits.now)) ≡ Some (slot + 1) }
-    requires short { length lits.now ≤ 536870909 }
-    ensures memory { IsMemory kinds.new.items words.new.items (at heads.new) }
-    ensures free { maps.get (clauses_in kinds.old.items words.old.items) slot ≡ None }
-    ensures block { maps.get (blocks_in kinds.old.items) slot ≡
-        Some (units_for (length lits.now)) }
-    ensures blocks { blocks_in kinds.new.items ≡ blocks_in kinds.old.items }
-    ensures clauses { clauses_in kinds.new.items words.new.items ≡
-        maps.insert (clauses_in kinds.old.items words.old.items) slot lits.now }
-{
-    heads.set(units(lits.len()) as u32, link(words, slot) as u32);
-    kinds[slot] = Kind::Live;
-    write_clause(words, slot, lits);
+/// The live clauses of a proof checker, each in a slot that the memory picks: the literals of a
+/// clause behind its header, in one array of words. A slot says where the block of its clause
+/// begins, so a look at a clause is one look at memory, and a clause stays where it is.
+///
+/// Contracts see it as finite maps from slots to clauses and to the sizes of blocks, and how many
+/// words hold a literal.
+///
+/// - A block has as many units of four words as its clause needs. The slot is the number of the
+///   first one, so slots are as dense as short clauses.
+/// - The block of a clause that was removed is overwritten and waits, in a list for its number of
+///   units, for the next clause that needs as many. A further block is made only where none waits.
+#[derive(Drop)]
+pub struct Blocks {
+    /// What each unit is, for look-ups of slots that may have no clause.
+    kinds: Vec<Kind>,
+    words: Vec<Lit>,
+    /// By number of units the link to the first free block.
+    heads: Table<u32>,
 }
 
-/// Takes the clause out of a block, overwrites it, and puts the block at the front of the list of
-/// free ones that have as many units.
-pub(crate) fn take_out(
-    kinds: &mut Vec<Kind>,
-    words: &mut Vec<Lit>,
-    heads: &mut Table<u32>,
-    slot: usize,
-)
-    requires memory { IsMemory kinds.old.items words.old.items (at heads.old) }
-    requires alive { kind_at kinds.old.items slot ≡ Live }
-    ensures memory { IsMemory kinds.new.items words.new.items (at heads.new) }
-    ensures blocks { blocks_in kinds.new.items ≡ blocks_in kinds.old.items }
-    ensures clauses { clauses_in kinds.new.items words.new.items ≡
-        maps.remove (clauses_in kinds.old.items words.old.items) slot }
-{
-    let count = units(size(words, slot));
-    let first = heads.get(count as u32).unwrap_or(0);
-    wipe(words, slot * UNIT, count * UNIT);
-    write_link(words, slot, first as usize);
-    kinds[slot] = Kind::Free;
-    heads.set(count as u32, slot as u32 + 1);
+impl Model for Blocks {
+    ghost use Rattle.tables.specs.Table.{at};
+    ghost use Rattle.clause_memory.specs.Blocks.{BlocksState};
+    ghost use Rattle.clause_memory.specs.Code.Fields.{IsMemory, blocks_code, seen_as};
+
+    ghost Value = { BlocksState };
+
+    ghost coded = { blocks_code };
+
+    // Each field has to be named here. Of them the words alone hold literals: the others say what
+    // the units are, and where free blocks begin.
+    ghost view = { λ record { kinds = kinds; words = words; heads = _ }.
+        seen_as kinds.items words.items };
+
+    ghost invariant = { λ m. IsMemory m.kinds.items m.words.items (at m.heads) };
+}
+
+impl Blocks {
+    /// How many words the array has: four for each unit of a block.
+    pub fn words(&self) -> usize
+        ensures { result ≡ 4 * units_in self.now.blocks }
+    {
+        self.words.len()
+    }
+
+    /// Puts two literals of the clause in the slot in each other's place. It takes no memory.
+    #[inline(always)]
+    pub fn swap(&mut self, slot: usize, a: usize, b: usize)
+        requires { (c : Clause) × (maps.get self.old.live slot ≡ Some c)
+            × (a < length c) × (b < length c) }
+        ensures live { (c : Clause) → maps.get self.old.live slot ≡ Some c →
+            self.new.live ≡ maps.insert self.old.live slot (swap c a b) }
+        ensures blocks { self.new.blocks ≡ self.old.blocks }
+        ensures live_alone { self.new.stored ≡ literals_in self.new.live }
+    {
+        exchange(&mut self.words, slot, a, b);
+    }
+
+    /// Puts the literal `next` of the clause in the slot among its first two, in the place of `l`,
+    /// which goes to where `next` stood. The other one of the two, `other`, comes first. Nothing is
+    /// read, and it takes no memory.
+    #[inline(always)]
+    pub fn rewatch(&mut self, slot: usize, other: Lit, next: Lit, to: usize, l: Lit)
+        requires { CanRewatch self.old.live slot other next to l }
+        ensures live { IsRewatched self.old.live self.new.live slot other to l }
+        ensures blocks { self.new.blocks ≡ self.old.blocks }
+        ensures live_alone { self.new.stored ≡ literals_in self.new.live }
+    {
+        rewrite(&mut self.words, slot, other, next, to, l);
+    }
+}
+
+impl Memory for Blocks {
+    ghost seen = { memory_of };
+
+    fn new(alloc: Global) -> Self
+        ensures live { result.live ≡ maps.empty }
+        ensures stored { result.stored ≡ 0 }
+        ensures blocks { result.blocks ≡ maps.empty }
+    {
+        Blocks {
+            kinds: Vec::new(alloc),
+            words: Vec::new(alloc),
+            heads: Table::new(alloc),
+        }
+    }
+
+    /// Puts a clause into a slot that is free. No other clause is moved. A further block is made
+    /// only where each that has as many units has a clause.
+    ///
+    /// # Errors
+    ///
+    /// Where memory runs out.
+    fn insert(&mut self, lits: &[Lit]) -> Result<usize, OutOfMemory>
+        ensures free { IfOk result (λ slot. maps.get self.old.live slot ≡ None) }
+        ensures live { IfOk result (λ slot.
+            self.new.live ≡ maps.insert self.old.live slot lits.now) }
+        ensures low { IfOk result (λ slot. slot < 4294967295) }
+        ensures few { maps.len self.new.live ≤ 4294967295 }
+        ensures live_alone { self.new.stored ≡ literals_in self.new.live }
+        ensures err { OnErr result (self.new ≡ self.old) }
+        ensures block { IfOk result (λ slot.
+            maps.get self.new.blocks slot ≡ Some (units_for (length lits.now))) }
+        ensures other_blocks { IfOk result (λ slot. (s : ℕ) → s ≢ slot →
+            maps.get self.new.blocks s ≡ maps.get self.old.blocks s) }
+        ensures none_was_free { IfOk result (λ slot. maps.get self.old.blocks slot ≡ None →
+            (s : ℕ) → maps.get self.old.blocks s ≡ Some (units_for (length lits.now)) →
+            IsSome (maps.get self.old.live s)) }
+        ensures few_blocks { AddsFewBlocks self.old.blocks self.new.blocks self.old.live
+            (units_for (length lits.now)) }
+    {
+        place(&mut self.kinds, &mut self.words, &mut self.heads, lits)
+    }
+
+    /// Removes the clause in the slot. Its block waits. It takes no memory.
+    fn remove(&mut self, slot: usize)
+        requires { IsSome (maps.get self.old.live slot) }
+        ensures live { self.new.live ≡ maps.remove self.old.live slot }
+        ensures live_alone { self.new.stored ≡ literals_in self.new.live }
+        ensures blocks { self.new.blocks ≡ self.old.blocks }
+    {
+        take_out(&mut self.kinds, &mut self.words, &mut self.heads, slot);
+    }
+
+    #[inline(always)]
+    fn clause(&self, slot: usize) -> &[Lit] {
+        literals(&self.words, slot)
+    }
+
+    fn at(&self, number: usize) -> Option<&[Lit]> {
+        match kind_of(&self.kinds, number) {
+            Kind::Live => Some(literals(&self.words, number)),
+            _ => None,
+        }
+    }
+
+    fn end(&self) -> usize {
+        self.kinds.len()
+    }
+
+    fn recall_invariant(&self) {
+        let _len = self.kinds.len();
+    }
 }

@@ -1,10 +1,15 @@
-//! A memory of clauses: the literals of each behind its header, in one array.
+//! Memories of clauses: what one is (`Memory`), and two: the literals of each clause behind its header
+//! in one array (`Blocks`), and each clause in a slot of its own (`Slots`).
 #![tactic(auto)]
 
 mod blocks;
 mod kind;
 mod memory;
+mod reuse;
 mod room;
+mod slots;
 mod words;
 
-pub use memory::ClauseMemory;
+pub use blocks::Blocks;
+pub use memory::Memory;
+pub use slots::Slots;

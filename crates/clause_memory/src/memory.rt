@@ -1,176 +1,63 @@
-//! A memory of clauses.
+//! What a memory of clauses is.
+//!
+//! `Blocks` keeps clauses in one array, so that a look at one is one look at memory, and can put a
+//! clause's literals in another order without reading them: that is for watched literals. `Slots`
+//! are the plain choice for all others.
 
-ghost use Rattle.std.specs.Prelude.{◌≡◌, ◌≢◌, ℕ, ◌*◌, ◌<◌, ◌≤◌, length, option_map};
-ghost use Rattle.std.specs.Prelude.{Some, None, IsSome, IfOk, OnOk, OnErr};
+ghost use Rattle.std.specs.Prelude.{◌≡◌, ℕ, ◌<◌, ◌≤◌, option_map, Some, None, IsSome, IfOk, OnErr};
 ghost use Rattle.std.specs.FinMap as maps;
-ghost use Rattle.std.specs.List.{swap};
-ghost use Rattle.cnf_base.specs.Literals.{Clause};
-ghost use Rattle.clause_memory.specs.Memory.{AddsFewBlocks, CanRewatch, IsRewatched};
-ghost use Rattle.clause_memory.specs.Memory.{literals_in, units_for, units_in};
+ghost use Rattle.clause_memory.specs.Memory.{MemoryState, literals_in};
 
-use crate::blocks::take_out;
-use crate::kind::{Kind, kind_of};
-use crate::room::place;
-use crate::words::{exchange, literals, rewrite};
 use cnf_base::{Lit, OutOfMemory};
 use std::alloc::Global;
-use std::marker::Model;
-use tables::Table;
 
-/// The live clauses of a proof checker, each in a slot that the memory picks: the literals of a
-/// clause behind its header, in one array of words. A slot says where the block of its clause
-/// begins, so a look at a clause is one look at memory, and a clause stays where it is.
-///
-/// Contracts see it as finite maps from slots to clauses and to the sizes of blocks, and how many
-/// words hold a literal.
-///
-/// - A block has as many units of four words as its clause needs. The slot is the number of the
-///   first one, so slots are as dense as short clauses.
-/// - The block of a clause that was removed is overwritten and waits, in a list for its number of
-///   units, for the next clause that needs as many. A further block is made only where none waits.
-#[derive(Drop)]
-pub struct ClauseMemory {
-    /// What each unit is, for look-ups of slots that may have no clause.
-    kinds: Vec<Kind>,
-    words: Vec<Lit>,
-    /// By number of units the link to the first free block.
-    heads: Table<u32>,
-}
+/// The live clauses of a proof checker, each in a slot that the memory picks.
+pub trait Memory: Sized {
+    /// The live clauses by their slots, and how many literals are kept.
+    ghost seen: { Self → MemoryState };
 
-impl Model for ClauseMemory {
-    ghost use Rattle.tables.specs.Table.{at};
-    ghost use Rattle.clause_memory.specs.Memory.{MemoryState};
-    ghost use Rattle.clause_memory.specs.Code.Fields.{IsMemory, memory_code, seen_as};
-
-    ghost Value = { MemoryState };
-
-    ghost coded = { memory_code };
-
-    // Each field has to be named here. Of them the words alone hold literals: the others say what
-    // the units are, and where free blocks begin.
-    ghost view = { λ record { kinds = kinds; words = words; heads = _ }.
-        seen_as kinds.items words.items };
-
-    ghost invariant = { λ m. IsMemory m.kinds.items m.words.items (at m.heads) };
-}
-
-impl ClauseMemory {
     /// No clauses. It takes no memory.
-    pub fn new(alloc: Global) -> Self
-        ensures live { result.live ≡ maps.empty }
-        ensures blocks { result.blocks ≡ maps.empty }
-        ensures stored { result.stored ≡ 0 }
-    {
-        ClauseMemory {
-            kinds: Vec::new(alloc),
-            words: Vec::new(alloc),
-            heads: Table::new(alloc),
-        }
-    }
+    fn new(alloc: Global) -> Self
+        ensures live { (seen result).live ≡ maps.empty }
+        ensures stored { (seen result).stored ≡ 0 };
 
-    /// Puts a clause into a slot that is free. No other clause is moved. A further block is made
-    /// only where each that has as many units has a clause.
+    /// Puts a clause into a slot that is free. No other clause is moved.
     ///
     /// # Errors
     ///
-    /// Where memory runs out.
-    pub fn insert(&mut self, lits: &[Lit]) -> Result<usize, OutOfMemory>
-        ensures free { IfOk result (λ slot. maps.get self.old.live slot ≡ None) }
+    /// Where memory runs out, and then the memory is as it was.
+    fn insert(&mut self, lits: &[Lit]) -> Result<usize, OutOfMemory>
+        ensures free { IfOk result (λ slot. maps.get (seen self.old).live slot ≡ None) }
         ensures live { IfOk result (λ slot.
-            self.new.live ≡ maps.insert self.old.live slot lits.now) }
-        ensures block { IfOk result (λ slot.
-            maps.get self.new.blocks slot ≡ Some (units_for (length lits.now))) }
-        ensures other_blocks { IfOk result (λ slot. (s : ℕ) → s ≢ slot →
-            maps.get self.new.blocks s ≡ maps.get self.old.blocks s) }
-        ensures none_was_free { IfOk result (λ slot. maps.get self.old.blocks slot ≡ None →
-            (s : ℕ) → maps.get self.old.blocks s ≡ Some (units_for (length lits.now)) →
-            IsSome (maps.get self.old.live s)) }
-        ensures few_blocks { AddsFewBlocks self.old.blocks self.new.blocks self.old.live
-            (units_for (length lits.now)) }
+            (seen self.new).live ≡ maps.insert (seen self.old).live slot lits.now) }
         ensures low { IfOk result (λ slot. slot < 4294967295) }
-        ensures few { OnOk result (maps.len self.new.live ≤ 4294967295) }
-        ensures live_alone { self.new.stored ≡ literals_in self.new.live }
-        ensures err { OnErr result (self.new ≡ self.old) }
-    {
-        place(&mut self.kinds, &mut self.words, &mut self.heads, lits)
-    }
+        ensures few { maps.len (seen self.new).live ≤ 4294967295 }
+        ensures live_alone { (seen self.new).stored ≡ literals_in (seen self.new).live }
+        ensures err { OnErr result (seen self.new ≡ seen self.old) };
 
     /// Removes the clause in the slot. It takes no memory.
-    pub fn remove(&mut self, slot: usize)
-        requires { IsSome (maps.get self.old.live slot) }
-        ensures live { self.new.live ≡ maps.remove self.old.live slot }
-        ensures blocks { self.new.blocks ≡ self.old.blocks }
-        ensures live_alone { self.new.stored ≡ literals_in self.new.live }
-    {
-        take_out(&mut self.kinds, &mut self.words, &mut self.heads, slot);
-    }
+    fn remove(&mut self, slot: usize)
+        requires { IsSome (maps.get (seen self.old).live slot) }
+        ensures live { (seen self.new).live ≡ maps.remove (seen self.old).live slot }
+        ensures live_alone { (seen self.new).stored ≡ literals_in (seen self.new).live };
 
     /// The literals of the clause in the slot.
-    #[inline(always)]
-    pub fn clause(&self, slot: usize) -> &[Lit]
-        requires { IsSome (maps.get self.now.live slot) }
-        ensures { Some result.now ≡ maps.get self.now.live slot }
-    {
-        literals(&self.words, slot)
-    }
+    fn clause(&self, slot: usize) -> &[Lit]
+        requires { IsSome (maps.get (seen self.now).live slot) }
+        ensures { Some result.now ≡ maps.get (seen self.now).live slot };
 
     /// The literals of the clause in the slot with this number, if there is one.
-    pub fn at(&self, number: usize) -> Option<&[Lit]>
-        ensures { option_map (λ c. c.now) result ≡ maps.get self.now.live number }
-    {
-        match kind_of(&self.kinds, number) {
-            Kind::Live => Some(literals(&self.words, number)),
-            _ => None,
-        }
-    }
+    fn at(&self, number: usize) -> Option<&[Lit]>
+        ensures { option_map (λ c. c.now) result ≡ maps.get (seen self.now).live number };
 
     /// No slot from this number on has a clause.
-    pub fn end(&self) -> usize
-        ensures { (s : ℕ) → IsSome (maps.get self.now.live s) → s < result }
-    {
-        self.kinds.len()
-    }
+    fn end(&self) -> usize
+        ensures { (s : ℕ) → IsSome (maps.get (seen self.now).live s) → s < result };
 
-    /// How many words the array has: four for each unit of a block.
-    pub fn words(&self) -> usize
-        ensures { result ≡ 4 * units_in self.now.blocks }
-    {
-        self.words.len()
-    }
-
-    /// Puts two literals of the clause in the slot in each other's place. It takes no memory.
-    #[inline(always)]
-    pub fn swap(&mut self, slot: usize, a: usize, b: usize)
-        requires { (c : Clause) × (maps.get self.old.live slot ≡ Some c)
-            × (a < length c) × (b < length c) }
-        ensures live { (c : Clause) → maps.get self.old.live slot ≡ Some c →
-            self.new.live ≡ maps.insert self.old.live slot (swap c a b) }
-        ensures blocks { self.new.blocks ≡ self.old.blocks }
-        ensures live_alone { self.new.stored ≡ literals_in self.new.live }
-    {
-        exchange(&mut self.words, slot, a, b);
-    }
-
-    /// Puts the literal `next` of the clause in the slot among its first two, in the place of `l`,
-    /// which goes to where `next` stood. The other one of the two, `other`, comes first. Nothing is
-    /// read, and it takes no memory.
-    #[inline(always)]
-    pub fn rewatch(&mut self, slot: usize, other: Lit, next: Lit, to: usize, l: Lit)
-        requires { CanRewatch self.old.live slot other next to l }
-        ensures live { IsRewatched self.old.live self.new.live slot other to l }
-        ensures blocks { self.new.blocks ≡ self.old.blocks }
-        ensures live_alone { self.new.stored ≡ literals_in self.new.live }
-    {
-        rewrite(&mut self.words, slot, other, next, to, l);
-    }
-
-    /// What holds of each memory: its words hold no literals but those of the live clauses, and
-    /// slots have four bytes.
-    pub fn recall_invariant(&self)
-        ensures live_alone { self.now.stored ≡ literals_in self.now.live }
-        ensures few { maps.len self.now.live ≤ 4294967295 }
-        ensures low { (s : ℕ) → IsSome (maps.get self.now.live s) → s < 4294967295 }
-    {
-        let _len = self.kinds.len();
-    }
+    /// What holds of each memory: it keeps no literals but those of the live clauses, and slots
+    /// have four bytes.
+    fn recall_invariant(&self)
+        ensures live_alone { (seen self.now).stored ≡ literals_in (seen self.now).live }
+        ensures few { maps.len (seen self.now).live ≤ 4294967295 }
+        ensures low { (s : ℕ) → IsSome (maps.get (seen self.now).live s) → s < 4294967295 };
 }

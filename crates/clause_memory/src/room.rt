@@ -4,14 +4,14 @@ ghost use Rattle.std.specs.Prelude.{◌≡◌, ◌≢◌, ℕ, ◌+◌, ◌*◌,
 ghost use Rattle.std.specs.Prelude.{IsSome, IfOk, OnErr, replicate, vec_len, vec_capacity};
 ghost use Rattle.std.specs.FinMap as maps;
 ghost use Rattle.tables.specs.Table.{at};
-ghost use Rattle.clause_memory.specs.Memory.{AddsFewBlocks, units_for};
+ghost use Rattle.clause_memory.specs.Blocks.{AddsFewBlocks, units_for};
 ghost use Rattle.clause_memory.specs.Code.Fields.{IsMemory};
 ghost use Rattle.clause_memory.specs.Code.Free.{link_of};
 ghost use Rattle.clause_memory.specs.Code.Units.{blocks_in, clauses_in};
 ghost use Rattle.clause_memory.specs.declared.kind.Kind.TheVariants.{Live, Rest};
 
-use crate::blocks::put_in;
 use crate::kind::Kind;
+use crate::reuse::put_in;
 use crate::words::{MOST, UNIT, append_clause, grow, units};
 use cnf_base::{Lit, OutOfMemory};
 use tables::Table;

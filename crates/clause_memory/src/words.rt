@@ -6,7 +6,7 @@
 ghost use Rattle.std.specs.Prelude.{◌≡◌, ℕ, ◌+◌, ◌-◌, ◌*◌, ◌<◌, ◌≤◌, ◌++◌, ◌∷◌, length, take, drop};
 ghost use Rattle.std.specs.Prelude.{vec_len, vec_capacity, OnOk, slice_index, slice_set};
 ghost use Rattle.std.specs.List.{swap};
-ghost use Rattle.clause_memory.specs.Memory.{units_for};
+ghost use Rattle.clause_memory.specs.Blocks.{units_for};
 ghost use Rattle.clause_memory.specs.Code.Free.{link_at};
 ghost use Rattle.clause_memory.specs.Code.Units.{blanks, clause_at, size_at};
 

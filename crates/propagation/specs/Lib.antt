@@ -1,4 +1,3 @@
 pub mod Assumptions
 pub mod Closure
-pub mod State
 pub mod Code

@@ -18,7 +18,7 @@ ghost use Rattle.propagation.specs.Code.Closure.{AreForced, IsFollowed, TakesIn}
 ghost use Rattle.theory.specs.Propagation.{IsRootReason};
 
 use crate::closure::found::Found;
-use clause_db::{Slot, Store};
+use clause_db::{Memory, Slot, Store};
 use cnf_base::OutOfMemory;
 use std::alloc::Global;
 use std::marker::Model;
@@ -49,7 +49,7 @@ impl Model for Closure {
 }
 
 /// Adds what follows from each clause.
-fn take_all(found: &mut Found, store: &Store) -> Result<(), OutOfMemory>
+fn take_all<M: Memory>(found: &mut Found, store: &Store<M>) -> Result<(), OutOfMemory>
     requires sound { AreForced (maps.get store.now.live) found.old }
     ensures sound { OnOk result (AreForced (maps.get store.now.live) found.new) }
     ensures takes { OnOk result ((k : ℕ) (c : Clause) → maps.get store.now.live k ≡ Some c →
@@ -64,7 +64,11 @@ fn take_all(found: &mut Found, store: &Store) -> Result<(), OutOfMemory>
 }
 
 /// Adds what follows from each of the clauses in these slots.
-fn take_each(found: &mut Found, store: &Store, slots: &[u32]) -> Result<(), OutOfMemory>
+fn take_each<M: Memory>(
+    found: &mut Found,
+    store: &Store<M>,
+    slots: &[u32],
+) -> Result<(), OutOfMemory>
     requires alive { (s : ℕ) → IsTrue (has slots.now s) → IsSome (maps.get store.now.live s) }
     requires sound { AreForced (maps.get store.now.live) found.old }
     ensures sound { OnOk result (AreForced (maps.get store.now.live) found.new) }
@@ -80,9 +84,9 @@ fn take_each(found: &mut Found, store: &Store, slots: &[u32]) -> Result<(), OutO
 
 /// Adds all that follows, where nothing more follows from those before the place `from`. It looks
 /// at the clauses in which a further literal is false, once for each.
-fn follow(
+fn follow<M: Memory>(
     found: &mut Found,
-    store: &mut Store,
+    store: &mut Store<M>,
     slots: &mut Vec<u32>,
     from: usize,
 ) -> Result<(), OutOfMemory>
@@ -113,7 +117,7 @@ impl Closure {
     }
 
     /// All that follows, sought where it is not kept, and taken out.
-    fn take_whole(&mut self, store: &mut Store) -> Result<Found, OutOfMemory>
+    fn take_whole<M: Memory>(&mut self, store: &mut Store<M>) -> Result<Found, OutOfMemory>
         requires { IsClosure (maps.get store.old.live) self.old }
         ensures whole { IfOk result (λ found. IsWhole (maps.get store.old.live) found) }
         ensures taken { self.new ≡ None }
@@ -137,7 +141,11 @@ impl Closure {
     /// # Errors
     ///
     /// Where memory runs out.
-    pub fn is_root_reason(&mut self, store: &mut Store, slot: Slot) -> Result<bool, OutOfMemory>
+    pub fn is_root_reason<M: Memory>(
+        &mut self,
+        store: &mut Store<M>,
+        slot: Slot,
+    ) -> Result<bool, OutOfMemory>
         requires alive { IsSome (maps.get store.old.live slot) }
         requires closure { IsClosure (maps.get store.old.live) self.old }
         ensures yes { IfOk result (λ is_reason. is_reason ≡ true → (c : Clause) →
@@ -161,7 +169,7 @@ impl Closure {
     /// # Errors
     ///
     /// Where memory runs out. Nothing is kept then.
-    pub fn enter(&mut self, store: &mut Store, slot: Slot) -> Result<(), OutOfMemory>
+    pub fn enter<M: Memory>(&mut self, store: &mut Store<M>, slot: Slot) -> Result<(), OutOfMemory>
         requires alive { IsSome (maps.get store.old.live slot) }
         requires closure { IsClosure (maps.get (maps.remove store.old.live slot)) self.old }
         ensures closure { IsClosure (maps.get store.old.live) self.new }
@@ -179,7 +187,7 @@ impl Closure {
 
     /// Takes note of a clause that is to be removed: nothing is kept any more where it is a reason
     /// clause of a literal that follows. It takes no memory.
-    pub fn leave(&mut self, store: &Store, slot: Slot)
+    pub fn leave<M: Memory>(&mut self, store: &Store<M>, slot: Slot)
         requires alive { IsSome (maps.get store.now.live slot) }
         requires closure { IsClosure (maps.get store.now.live) self.old }
         ensures closure { IsClosure (maps.get (maps.remove store.now.live slot)) self.new }

@@ -12,10 +12,7 @@ ghost use Rattle.std.specs.Prelude.{length, Some, None, List, IsTrue, IsSome, If
 ghost use Rattle.std.specs.Prelude.{OnOk, OnErr};
 ghost use Rattle.std.specs.List.Sorted.{IsStrictlyIncreasing};
 ghost use Rattle.std.specs.FinMap as maps;
-ghost use Rattle.std.specs.FinMap.{FinMap};
-ghost use Rattle.std.specs.Ordering.{nat_cmp};
 ghost use Rattle.cnf_base.specs.Literals.{Clause, has, same_clause, complement, complements, size};
-ghost use Rattle.clause_memory.specs.Memory.{AddsFewBlocks, units_for};
 ghost use Rattle.clause_db.specs.Store.{IsTouchedAt, copies_with};
 ghost use Rattle.propagation.specs.Assumptions.{Propagation, Assumption, Assuming, AssumingPart};
 ghost use Rattle.propagation.specs.Assumptions.{HoldsLiveAlone, HasAt, LastIsAnswered};
@@ -38,17 +35,11 @@ pub trait Propagate {
     /// assumption was refused.
     ghost state: { Self → Propagation };
 
-    /// By slot the number of units of its block of memory, whether it has a clause or is free.
-    ghost blocks: { Self → FinMap nat_cmp ℕ };
-
     /// The allocator that its memory comes from.
     fn alloc(&self) -> Global;
 
     /// Stores a clause in a slot that is free, where nothing is assumed. It fails only where memory
     /// is refused.
-    ///
-    /// A further block of memory is made only where each that has as many units has a clause. One
-    /// that was made for a clause that is then refused stays, and is free.
     fn insert(&mut self, lits: &[Lit]) -> Result<Slot, OutOfMemory>
         requires { (state self.old).assumptions ≡ [] }
         ensures free { IfOk result (λ slot. maps.get (state self.old).live slot ≡ None) }
@@ -56,8 +47,6 @@ pub trait Propagate {
             (maps.get (state self.new).live slot ≡ Some c) × IsTrue (same_clause c lits.now)) }
         ensures others { IfOk result (λ slot. (s : ℕ) → s ≢ slot →
             maps.get (state self.new).live s ≡ maps.get (state self.old).live s) }
-        ensures few_blocks { AddsFewBlocks (blocks self.old) (blocks self.new)
-            (state self.old).live (units_for (size lits.now)) }
         ensures nothing_assumed { (state self.new).assumptions ≡ [] }
         ensures live_alone { HoldsLiveAlone (state self.new) }
         ensures refused { (state self.new).has_refused ≡ (state self.old).has_refused }
@@ -71,8 +60,7 @@ pub trait Propagate {
         ensures live { (state self.new).live ≡ maps.remove (state self.old).live slot }
         ensures live_alone { HoldsLiveAlone (state self.new) }
         ensures nothing_assumed { (state self.new).assumptions ≡ [] }
-        ensures refused { (state self.new).has_refused ≡ (state self.old).has_refused }
-        ensures blocks { blocks self.new ≡ blocks self.old };
+        ensures refused { (state self.new).has_refused ≡ (state self.old).has_refused };
 
     /// A slot with the same clause as a set, if there is one. It takes no memory.
     fn find(&mut self, lits: &[Lit]) -> Option<Slot>
@@ -81,8 +69,7 @@ pub trait Propagate {
         ensures none { IfNone result ((s : ℕ) (c : Clause) →
             maps.get (state self.old).live s ≡ Some c → IsTrue (same_clause c lits.now) →
             ⊥) }
-        ensures same { state self.new ≡ state self.old }
-        ensures blocks { blocks self.new ≡ blocks self.old };
+        ensures same { state self.new ≡ state self.old };
 
     /// The different literals of the clause in the slot, in any order. It takes no memory.
     fn clause(&self, slot: Slot) -> &[Lit]
@@ -129,8 +116,7 @@ pub trait Propagate {
             IsTouchedAt (state self.old).live lits.now s) }
         ensures all { OnOk result ((s : ℕ) → IsTouchedAt (state self.old).live lits.now s →
             IsTrue (has slots.new.items s)) }
-        ensures same { state self.new ≡ state self.old }
-        ensures blocks { blocks self.new ≡ blocks self.old };
+        ensures same { state self.new ≡ state self.old };
 
     /// Assumes the complements of the literals, beside what is assumed, and propagates.
     ///
@@ -139,8 +125,7 @@ pub trait Propagate {
     /// Where memory runs out, and ever after. What is assumed is then as it was.
     fn assume(&mut self, lits: &[Lit]) -> Result<Answer, OutOfMemory>
         requires { MayAssume (state self.old).assumptions }
-        ensures assumed { Assuming (state self.old) (state self.new) (complements lits.now) result }
-        ensures blocks { blocks self.new ≡ blocks self.old };
+        ensures { Assuming (state self.old) (state self.new) (complements lits.now) result };
 
     /// Assumes the complements of the literals of a live clause but for one, beside what is
     /// assumed, and propagates.
@@ -151,9 +136,8 @@ pub trait Propagate {
     fn assume_rest(&mut self, slot: Slot, l: Lit) -> Result<Answer, OutOfMemory>
         requires may { MayAssume (state self.old).assumptions }
         requires alive { IsSome (maps.get (state self.old).live slot) }
-        ensures assumed { AssumingPart (state self.old) (state self.new) slot
-            (λ k. not (k == l)) result }
-        ensures blocks { blocks self.new ≡ blocks self.old };
+        ensures { AssumingPart (state self.old) (state self.new) slot
+            (λ k. not (k == l)) result };
 
     /// Assumes the complements of the literals of a live clause but for those whose complement is
     /// in the set, beside what is assumed, and propagates.
@@ -164,9 +148,8 @@ pub trait Propagate {
     fn assume_unless(&mut self, slot: Slot, set: &[Lit]) -> Result<Answer, OutOfMemory>
         requires may { MayAssume (state self.old).assumptions }
         requires alive { IsSome (maps.get (state self.old).live slot) }
-        ensures assumed { AssumingPart (state self.old) (state self.new) slot
-            (λ k. not (has set.now (complement k))) result }
-        ensures blocks { blocks self.new ≡ blocks self.old };
+        ensures { AssumingPart (state self.old) (state self.new) slot
+            (λ k. not (has set.now (complement k))) result };
 
     /// The same as `assume_unless`, with a set that was filled before. Each look-up in the set
     /// costs the same, however large it is.
@@ -177,9 +160,8 @@ pub trait Propagate {
     fn assume_reduced(&mut self, slot: Slot, set: &LiteralSet) -> Result<Answer, OutOfMemory>
         requires may { MayAssume (state self.old).assumptions }
         requires alive { IsSome (maps.get (state self.old).live slot) }
-        ensures assumed { AssumingPart (state self.old) (state self.new) slot
-            (λ k. not (in_set set.now (complement k))) result }
-        ensures blocks { blocks self.new ≡ blocks self.old };
+        ensures { AssumingPart (state self.old) (state self.new) slot
+            (λ k. not (in_set set.now (complement k))) result };
 
     /// Whether the clause in the slot makes a literal of it hold for good, where nothing is
     /// assumed: that literal follows, and so do the complements of all its others. It is asked of
@@ -202,8 +184,7 @@ pub trait Propagate {
         ensures nothing_assumed { (state self.new).assumptions ≡ [] }
         ensures never_refused { OnOk result ((state self.old).has_refused ≡ false) }
         ensures not_refused { OnOk result ((state self.new).has_refused ≡ false) }
-        ensures refused { OnErr result ((state self.new).has_refused ≡ true) }
-        ensures blocks { blocks self.new ≡ blocks self.old };
+        ensures refused { OnErr result ((state self.new).has_refused ≡ true) };
 
     /// Takes back the last assumption. It takes no memory.
     fn undo(&mut self)
@@ -214,8 +195,7 @@ pub trait Propagate {
             (state self.new).assumptions ≡ rest }
         ensures live { (state self.new).live ≡ (state self.old).live }
         ensures live_alone { HoldsLiveAlone (state self.new) }
-        ensures refused { (state self.new).has_refused ≡ (state self.old).has_refused }
-        ensures blocks { blocks self.new ≡ blocks self.old };
+        ensures refused { (state self.new).has_refused ≡ (state self.old).has_refused };
 
     /// What propagation says of a literal, after an assumption that was quiet. It takes no memory.
     fn value(&self, l: Lit) -> Value

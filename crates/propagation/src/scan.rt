@@ -13,7 +13,7 @@ ghost use Rattle.trail.specs.Trail.{HasRoom};
 use crate::assumptions::Assumptions;
 use crate::scan::unit::propagate;
 use crate::{Answer, Closure, Propagate};
-use clause_db::{Slot, Store};
+use clause_db::{Memory, Slot, Slots, Store};
 use cnf_base::{Lit, OutOfMemory};
 use std::alloc::Global;
 use std::marker::Model;
@@ -23,18 +23,18 @@ use trail::{Except, LiteralSet, Part, Unless, Value, Whole};
 #[derive(Drop)]
 pub struct Scan {
     alloc: Global,
-    store: Store,
+    store: Store<Slots>,
     assumptions: Assumptions,
     has_refused: bool,
 }
 
 impl Model for Scan {
-    ghost use Rattle.propagation.specs.State.{ScanState};
-    ghost use Rattle.propagation.specs.Code.Coding.{scan_code};
+    ghost use Rattle.propagation.specs.Assumptions.{Propagation};
+    ghost use Rattle.propagation.specs.Code.Coding.{propagation_code};
 
-    ghost Value = { ScanState };
+    ghost Value = { Propagation };
 
-    ghost coded = { scan_code };
+    ghost coded = { propagation_code };
 
     ghost use Rattle.std.specs.Prelude.{◌≡◌};
     ghost use Rattle.clause_db.specs.Store.{literals_in};
@@ -47,13 +47,10 @@ impl Model for Scan {
       assumptions = assumptions;
       has_refused = has_refused;
     }. record {
-      propagation = record {
-        live = store.live;
-        assumptions = assumptions.assumptions;
-        stored = store.stored;
-        has_refused = has_refused;
-      };
-      blocks = store.blocks;
+      live = store.live;
+      assumptions = assumptions.assumptions;
+      stored = store.stored;
+      has_refused = has_refused;
     } };
 
     ghost invariant = { λ s.
@@ -61,7 +58,7 @@ impl Model for Scan {
 }
 
 /// Whether there is a clause in the slot with this number, and it has the literal.
-fn has_at(store: &Store, number: usize, l: Lit) -> bool
+fn has_at<M: Memory>(store: &Store<M>, number: usize, l: Lit) -> bool
     ensures yes { result ≡ true → HasAt (maps.get store.now.live) l number }
     ensures no { result ≡ false → ¬ HasAt (maps.get store.now.live) l number }
 {
@@ -72,7 +69,7 @@ fn has_at(store: &Store, number: usize, l: Lit) -> bool
 }
 
 /// The first slot from this one on whose clause has the literal.
-pub fn first_with(store: &Store, l: Lit, from: Slot) -> Option<Slot>
+pub fn first_with<M: Memory>(store: &Store<M>, l: Lit, from: Slot) -> Option<Slot>
     ensures found { IfSome result
         (λ slot. (from ≤ slot) × HasAt (maps.get store.now.live) l slot) }
     ensures passed_over { IfSome result (λ slot. (s : ℕ) → from ≤ s → s < slot →
@@ -92,7 +89,7 @@ pub fn first_with(store: &Store, l: Lit, from: Slot) -> Option<Slot>
 
 /// Assumes the complements of a part of a clause, beside what is assumed, and propagates.
 fn assume_part<P: Part>(
-    store: &Store,
+    store: &Store<Slots>,
     assumptions: &mut Assumptions,
     clause: &[Lit],
     part: &P,
@@ -115,10 +112,9 @@ fn assume_part<P: Part>(
 impl Scan {
     /// No clauses, and nothing is assumed.
     pub fn new(alloc: Global) -> Result<Self, OutOfMemory>
-        ensures live { IfOk result (λ s. s.propagation.live ≡ maps.empty) }
-        ensures blocks { IfOk result (λ s. s.blocks ≡ maps.empty) }
-        ensures nothing_assumed { IfOk result (λ s. s.propagation.assumptions ≡ []) }
-        ensures refused { IfOk result (λ s. s.propagation.has_refused ≡ false) }
+        ensures live { IfOk result (λ s. s.live ≡ maps.empty) }
+        ensures nothing_assumed { IfOk result (λ s. s.assumptions ≡ []) }
+        ensures refused { IfOk result (λ s. s.has_refused ≡ false) }
     {
         Ok(Scan {
             alloc,
@@ -134,11 +130,10 @@ impl Scan {
     ///
     /// Where memory runs out, and ever after. What is assumed is then as it was.
     fn assume_stored<P: Part>(&mut self, slot: Slot, part: &P) -> Result<Answer, OutOfMemory>
-        requires may { MayAssume self.old.propagation.assumptions }
-        requires alive { IsSome (maps.get self.old.propagation.live slot) }
-        ensures assumed { AssumingPart self.old.propagation self.new.propagation slot
+        requires may { MayAssume self.old.assumptions }
+        requires alive { IsSome (maps.get self.old.live slot) }
+        ensures { AssumingPart self.old self.new slot
             (P.keeps part.now) result }
-        ensures blocks { self.new.blocks ≡ self.old.blocks }
     {
         if self.has_refused {
             return Err(OutOfMemory);
@@ -151,9 +146,7 @@ impl Scan {
 }
 
 impl Propagate for Scan {
-    ghost state = { λ s. s.propagation };
-
-    ghost blocks = { λ s. s.blocks };
+    ghost state = { λ s. s };
 
     fn alloc(&self) -> Global {
         self.alloc

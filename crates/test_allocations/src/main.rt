@@ -126,7 +126,7 @@ fn read_formula(alloc: Global, header: &str, times: u64) -> Result<u64, Fault> {
 
 /// Stores the clause and takes it out again, so many times.
 fn store_and_remove(alloc: Global, lits: &[Lit], times: u64) -> Result<u64, Fault> {
-    let mut store = Store::new(alloc)?;
+    let mut store: Store = Store::new(alloc)?;
     let mut count = 0u64;
     for _ in 0..times {
         let slot = store.insert(lits)?;
@@ -151,7 +151,7 @@ fn store_pair_and_remove(store: &mut Store, lits: &[Lit], number: u64) -> Result
 /// Does so with many clauses of 400 variables, of which the first 160000 are all different.
 fn store_many_and_remove(alloc: Global, times: u64) -> Result<u64, Fault> {
     let lits = literals_of(alloc, 1, 401)?;
-    let mut store = Store::new(alloc)?;
+    let mut store: Store = Store::new(alloc)?;
     let mut count = 0u64;
     for number in 0..times {
         if store_pair_and_remove(&mut store, lits.as_slice(), number)? {

@@ -143,7 +143,7 @@ fn remove(store: &mut Store, lits: &[Lit]) {
 }
 
 fn store(alloc: Global, few: &[Lit], many: &[Lit], is_called: bool) -> Result<bool, Fault> {
-    let mut store = Store::new(alloc)?;
+    let mut store: Store = Store::new(alloc)?;
     store.insert(few)?;
     store.insert(many)?;
     if !is_called {

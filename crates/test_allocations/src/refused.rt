@@ -30,7 +30,7 @@ fn judged(is_kept: bool) -> Told {
 
 /// A store is as it was, and takes the clause later.
 fn insert(alloc: Global, few: &[Lit], many: &[Lit]) -> Result<Told, Fault> {
-    let mut store = Store::new(alloc)?;
+    let mut store: Store = Store::new(alloc)?;
     let slot = store.insert(few)?;
     let literals = store.literals();
     if store.insert(many).is_ok() {

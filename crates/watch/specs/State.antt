@@ -1,18 +1,14 @@
 -- What is seen of `Watch`.
-use Rattle.std.specs.FinMap.{FinMap}
-use Rattle.std.specs.Ordering.{nat_cmp}
 use Rattle.std.specs.Prelude.{ℕ, Bool, List}
 use Rattle.cnf_base.specs.Literals.{Literal}
 use Rattle.propagation.specs.Assumptions.{Propagation}
 
--- What contracts see of `Watch`: what is seen of any propagation; by slot the number of units of
--- its block of memory; how many entries all watch lists have, and the list of the clauses of one
--- literal and of none (`short_entries`); how many literals are true, and how many variables were
--- reserved; the literals that are kept as true with nothing assumed, whether these are known to be
--- all or a clash is known, and whether a clash is.
+-- What contracts see of `Watch`: what is seen of any propagation; how many entries all watch lists
+-- have, and the list of the clauses of one literal and of none (`short_entries`); how many literals
+-- are true, and how many variables were reserved; the literals that are kept as true with nothing
+-- assumed, whether these are known to be all or a clash is known, and whether a clash is.
 pub record WatchState : Type 0 where
   pub propagation : Propagation
-  pub blocks : FinMap nat_cmp ℕ
   pub entries : ℕ
   pub short_entries : ℕ
   pub trues : ℕ

@@ -17,7 +17,6 @@ fn bring(store: &mut Store, trail: &Trail, slot: Slot, place: usize) -> bool
         maps.get store.new.live s ≡ maps.get store.old.live s }
     ensures brought { (c : Clause) → maps.get store.old.live slot ≡ Some c → (d : Clause) ×
         (maps.get store.new.live slot ≡ Some d) × IsBrought trail.now.lits c d place result }
-    ensures blocks { store.new.blocks ≡ store.old.blocks }
 {
     match trail.first_open(store.clause(slot), place) {
         Some(found) => {
@@ -38,7 +37,6 @@ pub(crate) fn arrange(store: &mut Store, trail: &Trail, slot: Slot) -> Left
         (maps.get store.new.live slot ≡ Some d) × ((l : Literal) → has d l ≡ has c l)
         × IsArranged trail.now.lits d result }
     ensures live_alone { store.new.stored ≡ literals_in store.new.live }
-    ensures blocks { store.new.blocks ≡ store.old.blocks }
 {
     if !bring(store, trail, slot, 0) {
         store.recall_invariant();

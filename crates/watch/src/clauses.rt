@@ -3,7 +3,6 @@
 ghost use Rattle.std.specs.Prelude.{◌≡◌, ◌≢◌, ℕ, Some, None, IsTrue, IsSome, IfOk, OnErr};
 ghost use Rattle.std.specs.FinMap as maps;
 ghost use Rattle.cnf_base.specs.Literals.{Clause, same_clause, size};
-ghost use Rattle.clause_memory.specs.Memory.{AddsFewBlocks, units_for};
 ghost use Rattle.clause_db.specs.Store.{literals_in};
 ghost use Rattle.propagation.specs.Closure.{IsClosure};
 ghost use Rattle.root_literals.specs.Order.{each_in_order};
@@ -24,8 +23,6 @@ pub(crate) fn insert_clause(
         (maps.get store.new.live slot ≡ Some c) × IsTrue (same_clause c lits.now)) }
     ensures others { IfOk result (λ slot. (s : ℕ) → s ≢ slot →
         maps.get store.new.live s ≡ maps.get store.old.live s) }
-    ensures few_blocks { AddsFewBlocks store.old.blocks store.new.blocks
-        (each_in_order store.old.live) (units_for (size lits.now)) }
     ensures err_live { OnErr result (store.new.live ≡ store.old.live) }
     ensures err_stored { OnErr result (store.new.stored ≡ store.old.stored) }
     ensures closure { IsClosure (maps.get (each_in_order store.new.live)) closure.new }
@@ -48,7 +45,6 @@ pub(crate) fn remove_clause(store: &mut Store, closure: &mut Closure, slot: Slot
     ensures live { store.new.live ≡ maps.remove store.old.live slot }
     ensures live_alone { store.new.stored ≡ literals_in store.new.live }
     ensures closure { IsClosure (maps.get (each_in_order store.new.live)) closure.new }
-    ensures blocks { store.new.blocks ≡ store.old.blocks }
 {
     closure.leave(store, slot);
     store.remove(slot);

@@ -54,7 +54,6 @@ fn move_watch(
     }) }
     ensures others { (s : ℕ) → s ≢ slot →
         maps.get store.new.live s ≡ maps.get store.old.live s }
-    ensures blocks { store.new.blocks ≡ store.old.blocks }
 {
     let at = Slot::at(slot as usize);
     // Before anything else is written, what was read of the clause need not be read again.
@@ -115,7 +114,6 @@ fn visit(
         (entries_left cursor.new + 1 ≡ entries_left cursor.old)) }
     ensures as_many { IfOk result (λ found. IfSome found (λ _.
         entries_left cursor.new ≡ entries_left cursor.old)) }
-    ensures blocks { store.new.blocks ≡ store.old.blocks }
 {
     if trail.is_true_near(near, entry.blocking()) {
         cursor.keep(entry);
@@ -155,7 +153,6 @@ fn next_found(
     ensures end { IfOk result (λ found. IfNone found
         (length cursor.new.entries ≤ cursor.new.visited)) }
     ensures no_more { OnOk result (entries_left cursor.new ≤ entries_left cursor.old) }
-    ensures blocks { store.new.blocks ≡ store.old.blocks }
 {
     let near = trail.near();
     while let Some(entry) = cursor.next() {
@@ -187,7 +184,6 @@ fn visit_all(
     ensures visited { Visited store.old.live store.new.live lists.old lists.new
         cursor.old.entries cursor.new.entries assumptions.old assumptions.new
         (at reasons.old) (at reasons.new) l }
-    ensures blocks { store.new.blocks ≡ store.old.blocks }
 {
     while let Some(at) = next_found(store, lists, assumptions.trail(), cursor, l)? {
         let entry = at.entry;
@@ -220,7 +216,6 @@ pub(crate) fn follow(
         maps.get store.new.live s ≡ Some c → IsMet c l assumptions.new.trail.lits)) }
     ensures followed { Followed store.old.live store.new.live lists.old lists.new
         assumptions.old assumptions.new (at reasons.old) (at reasons.new) }
-    ensures blocks { store.new.blocks ≡ store.old.blocks }
 {
     if !lists.has_list(l) {
         return Ok(None);
@@ -252,7 +247,6 @@ pub(crate) fn propagate(
         (IsFalse (conflicts assumptions.new.trail.lits))) }
     ensures followed { Followed store.old.live store.new.live lists.old lists.new
         assumptions.old assumptions.new (at reasons.old) (at reasons.new) }
-    ensures blocks { store.new.blocks ≡ store.old.blocks }
 {
     let mut done = from;
     while done < assumptions.trail().len() {

@@ -63,7 +63,6 @@ fn catch_up(
     ensures up_to_date { OnOk result (is_up_to_date roots.new.kept ≡ true) }
     ensures followed { Followed store.old.live store.new.live lists.old lists.new assumptions.old
         assumptions.new (at roots.old.reasons) (at roots.new.reasons) }
-    ensures blocks { store.new.blocks ≡ store.old.blocks }
 {
     let Kept::Behind = roots.kept else {
         return Ok(());
@@ -102,7 +101,6 @@ pub(crate) fn refresh(
     ensures same { each_in_order store.new.live ≡ each_in_order store.old.live }
     ensures reserved { SameSet assumptions.new.trail.reserved assumptions.old.trail.reserved }
     ensures assumptions { assumptions.new.assumptions ≡ assumptions.old.assumptions }
-    ensures blocks { store.new.blocks ≡ store.old.blocks }
 {
     if roots.is_up_to_date() {
         return Ok(());

@@ -41,7 +41,6 @@ pub(crate) fn run(
         assumptions.new.trail.lits assumptions.new.trail.lits) }
     ensures followed { Followed store.old.live store.new.live lists.old lists.new
         assumptions.old assumptions.new (at reasons.old) (at reasons.new) }
-    ensures blocks { store.new.blocks ≡ store.old.blocks }
 {
     let found = propagate(store, lists, assumptions, reasons, from)?;
     store.recall_invariant();

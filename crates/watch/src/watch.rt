@@ -8,7 +8,6 @@ ghost use Rattle.std.specs.Prelude.{false, IsTrue, IfOk, OnOk, OnErr, IfSome, If
 ghost use Rattle.std.specs.FinMap as maps;
 ghost use Rattle.cnf_base.specs.Literals.{Literal, complements, has};
 ghost use Rattle.theory.specs.Propagation.{Clash, Forced};
-ghost use Rattle.clause_memory.specs.Memory.{units_in};
 ghost use Rattle.propagation.specs.Assumptions.{AssumingPart, HasAt, HoldsLiveAlone, MayAssume};
 ghost use Rattle.propagation.specs.Code.Scan.{AssumesOn};
 ghost use Rattle.trail.specs.Trail.{HasRoom};
@@ -38,8 +37,7 @@ use watch_lists::{SlotList, WatchLists};
 /// Live clauses, and unit propagation with two watched literals a clause: what follows from an
 /// assumption is found without a look at the clauses that have nothing to do with it.
 ///
-/// Contracts see what they see of any propagation, the sizes of the blocks of its memory, and how
-/// many entries its lists have.
+/// Contracts see what they see of any propagation, and how many entries its lists have.
 #[derive(Drop)]
 pub struct Watch {
     alloc: Global,
@@ -100,7 +98,6 @@ impl Model for Watch {
         stored = store.stored;
         has_refused = has_refused;
       };
-      blocks = store.blocks;
       entries = entries_in lists;
       short_entries = length short;
       trues = length assumptions.trail.lits;
@@ -135,7 +132,6 @@ fn assume_part<P: Part>(
         (complements (filter (P.keeps part.now) (clause_of store.old.live source.now))) result }
     ensures watch { IsWatch store.new.live lists.new short.now roots.new assumptions.new }
     ensures same { each_in_order store.new.live ≡ each_in_order store.old.live }
-    ensures blocks { store.new.blocks ≡ store.old.blocks }
 {
     let from = assumptions.trail().len();
     if assume_from(store, assumptions, source, part)? {
@@ -160,7 +156,6 @@ impl Watch {
     /// No clauses, and nothing is assumed.
     pub fn new(alloc: Global) -> Result<Self, OutOfMemory>
         ensures live { IfOk result (λ w. w.propagation.live ≡ maps.empty) }
-        ensures blocks { IfOk result (λ w. w.blocks ≡ maps.empty) }
         ensures nothing_assumed { IfOk result (λ w. w.propagation.assumptions ≡ []) }
         ensures refused { IfOk result (λ w. w.propagation.has_refused ≡ false) }
     {
@@ -172,7 +167,6 @@ impl Watch {
     /// answer depends on it.
     pub fn seeded(alloc: Global, seed: u64) -> Result<Self, OutOfMemory>
         ensures live { IfOk result (λ w. w.propagation.live ≡ maps.empty) }
-        ensures blocks { IfOk result (λ w. w.blocks ≡ maps.empty) }
         ensures nothing_assumed { IfOk result (λ w. w.propagation.assumptions ≡ []) }
         ensures refused { IfOk result (λ w. w.propagation.has_refused ≡ false) }
     {
@@ -203,13 +197,6 @@ impl Watch {
         ensures one_each { self.now.short_entries ≡ short_clauses self.now.propagation.live }
     {
         self.short.slots().len()
-    }
-
-    /// How many words of four bytes its memory of clauses has: four for each unit of a block.
-    pub fn words(&self) -> usize
-        ensures value { result ≡ 4 * units_in self.now.blocks }
-    {
-        self.store.words()
     }
 
     /// How many literals are true: at most one of each variable that was reserved.
@@ -270,7 +257,6 @@ impl Watch {
         ensures never_refused { OnOk result (self.old.propagation.has_refused ≡ false) }
         ensures not_refused { OnOk result (self.new.propagation.has_refused ≡ false) }
         ensures refused { OnErr result (self.new.propagation.has_refused ≡ true) }
-        ensures blocks { self.new.blocks ≡ self.old.blocks }
     {
         if self.has_refused {
             self.store.recall_invariant();
@@ -300,9 +286,8 @@ impl Watch {
     ) -> Result<Answer, OutOfMemory>
         requires may { MayAssume self.old.propagation.assumptions }
         requires alive { IsThere self.old.propagation.live source.now }
-        ensures assumed { AssumingFrom self.old.propagation self.new.propagation source.now
+        ensures { AssumingFrom self.old.propagation self.new.propagation source.now
             (P.keeps part.now) result }
-        ensures blocks { self.new.blocks ≡ self.old.blocks }
     {
         self.prepare()?;
         if reserve_given(&mut self.assumptions, &mut self.roots, source).is_err() {
@@ -327,9 +312,8 @@ impl Watch {
     fn assume_stored<P: Part>(&mut self, slot: Slot, part: &P) -> Result<Answer, OutOfMemory>
         requires may { MayAssume self.old.propagation.assumptions }
         requires alive { IsSome (maps.get self.old.propagation.live slot) }
-        ensures assumed { AssumingPart self.old.propagation self.new.propagation slot
+        ensures { AssumingPart self.old.propagation self.new.propagation slot
             (P.keeps part.now) result }
-        ensures blocks { self.new.blocks ≡ self.old.blocks }
     {
         self.assume_source(&ClauseSource::Stored(slot), part)
     }
@@ -346,7 +330,6 @@ impl Watch {
         ensures up_to_date { self.new.is_up_to_date ≡ true }
         ensures roots { self.new.roots ≡ self.old.roots }
         ensures clash { self.new.has_clash ≡ self.old.has_clash }
-        ensures blocks { self.new.blocks ≡ self.old.blocks }
     {
         self.assumptions.undo();
     }
@@ -354,8 +337,6 @@ impl Watch {
 
 impl Propagate for Watch {
     ghost state = { λ w. w.propagation };
-
-    ghost blocks = { λ w. w.blocks };
 
     fn alloc(&self) -> Global {
         self.alloc

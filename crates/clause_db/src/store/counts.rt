@@ -14,7 +14,7 @@ ghost use Rattle.clause_db.specs.Code.Counts.{AreCounted, count_of};
 ghost use Rattle.clause_db.specs.Code.Kept.{has_in};
 ghost use Rattle.tables.specs.Filled.{at};
 
-use clause_memory::ClauseMemory;
+use clause_memory::Memory;
 use cnf_base::{Lit, OutOfMemory};
 use std::alloc::Global;
 use tables::{Filled, key};
@@ -83,17 +83,17 @@ fn count_all(counts: &mut Filled<u32>, lits: &[Lit]) -> Result<(), OutOfMemory>
 }
 
 /// Counts the literals of the clause in a slot, if there is one.
-fn count_slot(
+fn count_slot<M: Memory>(
     counts: &mut Filled<u32>,
-    memory: &ClauseMemory,
+    memory: &M,
     slot: usize,
 ) -> Result<(), OutOfMemory>
-    requires different { (c : Clause) → maps.get memory.now.live slot ≡ Some c →
+    requires different { (c : Clause) → maps.get (M.seen memory.now).live slot ≡ Some c →
         size c ≡ length c }
-    requires few { IsSome (maps.get memory.now.live slot) →
+    requires few { IsSome (maps.get (M.seen memory.now).live slot) →
         (l : ℕ) → count_of (at counts.old l) < 4294967295 }
     ensures { OnOk result ((l : ℕ) → count_of (at counts.new l) ≡
-        count_of (at counts.old l) + (if has_in (maps.get memory.now.live slot) l then 1 else 0)) }
+        count_of (at counts.old l) + (if has_in (maps.get (M.seen memory.now).live slot) l then 1 else 0)) }
 {
     match memory.at(slot) {
         Some(lits) => count_all(counts, lits),
@@ -102,9 +102,9 @@ fn count_slot(
 }
 
 /// By literal how many of the clauses have it.
-fn counts_in(alloc: Global, memory: &ClauseMemory) -> Result<Filled<u32>, OutOfMemory>
-    requires { (s : ℕ) (c : Clause) → maps.get memory.now.live s ≡ Some c → size c ≡ length c }
-    ensures { IfOk result (λ counts. AreCounted (Some counts) memory.now.live) }
+fn counts_in<M: Memory>(alloc: Global, memory: &M) -> Result<Filled<u32>, OutOfMemory>
+    requires { (s : ℕ) (c : Clause) → maps.get (M.seen memory.now).live s ≡ Some c → size c ≡ length c }
+    ensures { IfOk result (λ counts. AreCounted (Some counts) (M.seen memory.now).live) }
 {
     memory.recall_invariant();
     let mut counts = Filled::new(alloc);
@@ -115,8 +115,8 @@ fn counts_in(alloc: Global, memory: &ClauseMemory) -> Result<Filled<u32>, OutOfM
 }
 
 /// Whether there is a clause in the slot, and it has the literal.
-fn has_at(memory: &ClauseMemory, slot: usize, l: Lit) -> bool
-    ensures { result ≡ has_in (maps.get memory.now.live slot) l }
+fn has_at<M: Memory>(memory: &M, slot: usize, l: Lit) -> bool
+    ensures { result ≡ has_in (maps.get (M.seen memory.now).live slot) l }
 {
     match memory.at(slot) {
         Some(lits) => lits.contains(&l),
@@ -125,8 +125,8 @@ fn has_at(memory: &ClauseMemory, slot: usize, l: Lit) -> bool
 }
 
 /// How many of the clauses have the literal, found by going over all.
-fn copies_in(memory: &ClauseMemory, l: Lit) -> u64
-    ensures { result ≡ copies_with memory.now.live l }
+fn copies_in<M: Memory>(memory: &M, l: Lit) -> u64
+    ensures { result ≡ copies_with (M.seen memory.now).live l }
 {
     let mut count = 0;
     for slot in 0..memory.end() {
@@ -138,15 +138,15 @@ fn copies_in(memory: &ClauseMemory, l: Lit) -> u64
 }
 
 /// Keeps the counts from now on.
-pub(crate) fn keep(
+pub(crate) fn keep<M: Memory>(
     counts: &mut Option<Filled<u32>>,
     alloc: Global,
-    memory: &ClauseMemory,
+    memory: &M,
 ) -> Result<(), OutOfMemory>
-    requires different { (s : ℕ) (c : Clause) → maps.get memory.now.live s ≡ Some c →
+    requires different { (s : ℕ) (c : Clause) → maps.get (M.seen memory.now).live s ≡ Some c →
         size c ≡ length c }
-    requires counted { AreCounted counts.old memory.now.live }
-    ensures counted { AreCounted counts.new memory.now.live }
+    requires counted { AreCounted counts.old (M.seen memory.now).live }
+    ensures counted { AreCounted counts.new (M.seen memory.now).live }
     ensures kept { OnOk result (IsSome counts.new) }
 {
     if counts.is_none() {
@@ -156,9 +156,9 @@ pub(crate) fn keep(
 }
 
 /// How many of the clauses have the literal.
-pub(crate) fn count_with(counts: &Option<Filled<u32>>, memory: &ClauseMemory, l: Lit) -> u64
-    requires { AreCounted counts.now memory.now.live }
-    ensures { result ≡ copies_with memory.now.live l }
+pub(crate) fn count_with<M: Memory>(counts: &Option<Filled<u32>>, memory: &M, l: Lit) -> u64
+    requires { AreCounted counts.now (M.seen memory.now).live }
+    ensures { result ≡ copies_with (M.seen memory.now).live l }
 {
     match counts {
         Some(counts) => u64::from(count_at(counts, l)),

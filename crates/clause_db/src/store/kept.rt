@@ -14,21 +14,21 @@ ghost use Rattle.cnf_base.specs.Literals.{Clause, complement, has};
 ghost use Rattle.occurrences.specs.Occurrences.{occurs};
 ghost use Rattle.clause_db.specs.Code.Kept.{AreKept, AreOf, has_in};
 
-use clause_memory::ClauseMemory;
+use clause_memory::Memory;
 use cnf_base::{Lit, OutOfMemory};
 use occurrences::Occurrences;
 use std::alloc::Global;
 
 /// Notes the clause of a slot, if there is one.
-fn note_slot(
+fn note_slot<M: Memory>(
     occurrences: &mut Occurrences,
-    memory: &ClauseMemory,
+    memory: &M,
     slot: usize,
 ) -> Result<(), OutOfMemory>
     requires absent { (l : ℕ) → occurs occurrences.old l slot ≡ false }
-    requires low { IsSome (maps.get memory.now.live slot) → slot < 4294967296 }
+    requires low { IsSome (maps.get (M.seen memory.now).live slot) → slot < 4294967296 }
     ensures { OnOk result ((l s : ℕ) → occurs occurrences.new l s ≡
-        (occurs occurrences.old l s || (s == slot && has_in (maps.get memory.now.live s) l))) }
+        (occurs occurrences.old l s || (s == slot && has_in (maps.get (M.seen memory.now).live s) l))) }
 {
     match memory.at(slot) {
         Some(lits) => occurrences.add(slot as u32, lits),
@@ -37,8 +37,8 @@ fn note_slot(
 }
 
 /// The occurrences in the clauses.
-fn occurrences_in(alloc: Global, memory: &ClauseMemory) -> Result<Occurrences, OutOfMemory>
-    ensures { IfOk result (λ o. AreOf o memory.now.live) }
+fn occurrences_in<M: Memory>(alloc: Global, memory: &M) -> Result<Occurrences, OutOfMemory>
+    ensures { IfOk result (λ o. AreOf o (M.seen memory.now).live) }
 {
     memory.recall_invariant();
     let mut occurrences = Occurrences::new(alloc);
@@ -49,18 +49,18 @@ fn occurrences_in(alloc: Global, memory: &ClauseMemory) -> Result<Occurrences, O
 }
 
 /// Gathers the slots of the clauses that the literals touch, in ascending order.
-pub(crate) fn find_slots(
+pub(crate) fn find_slots<M: Memory>(
     kept: &mut Option<Occurrences>,
     alloc: Global,
-    memory: &ClauseMemory,
+    memory: &M,
     lits: &[Lit],
     into: &mut Vec<u32>,
 ) -> Result<(), OutOfMemory>
-    requires { AreKept kept.old memory.now.live }
+    requires { AreKept kept.old (M.seen memory.now).live }
     ensures ascending { OnOk result (IsStrictlyIncreasing into.new.items) }
     ensures slots { OnOk result ((s : ℕ) → has into.new.items s ≡
-        list_any (λ l. has_in (maps.get memory.now.live s) (complement l)) lits.now) }
-    ensures kept { AreKept kept.new memory.now.live }
+        list_any (λ l. has_in (maps.get (M.seen memory.now).live s) (complement l)) lits.now) }
+    ensures kept { AreKept kept.new (M.seen memory.now).live }
 {
     match kept {
         Some(occurrences) => occurrences.slots_touched(lits, into),

@@ -17,7 +17,7 @@ ghost use Rattle.tables.specs.Filled.{at};
 
 use crate::store::marks::{Digest, all_marked};
 use clause_index::{Index, Indexing, Waiting};
-use clause_memory::ClauseMemory;
+use clause_memory::Memory;
 use cnf_base::Lit;
 use tables::Filled;
 
@@ -29,18 +29,18 @@ fn matches(marks: &Filled<bool>, len: usize, lits: &[Lit]) -> bool
 }
 
 /// The first slot of the bucket that has a clause of this many literals, each of them marked.
-fn first_match(
-    memory: &ClauseMemory,
+fn first_match<M: Memory>(
+    memory: &M,
     bucket: &[u32],
     marks: &Filled<bool>,
     len: usize,
 ) -> Option<usize>
     requires { (i s : ℕ) → slice_get bucket.now i ≡ Some s →
-        IsSome (maps.get memory.now.live s) }
-    ensures found { IfSome result (λ s. (c : Clause) × (maps.get memory.now.live s ≡ Some c)
+        IsSome (maps.get (M.seen memory.now).live s) }
+    ensures found { IfSome result (λ s. (c : Clause) × (maps.get (M.seen memory.now).live s ≡ Some c)
         × (is_match (λ l. is_marked (at marks.now l)) len c ≡ true)) }
     ensures none { IfNone result ((i s : ℕ) (c : Clause) → slice_get bucket.now i ≡ Some s →
-        maps.get memory.now.live s ≡ Some c →
+        maps.get (M.seen memory.now).live s ≡ Some c →
         is_match (λ l. is_marked (at marks.now l)) len c ≡ false) }
 {
     for i in 0..bucket.len() {
@@ -54,19 +54,19 @@ fn first_match(
 
 /// The first slot that waits with the hash of the digest and has a clause of so many literals, each
 /// of them marked.
-fn first_waiting(
-    memory: &ClauseMemory,
+fn first_waiting<M: Memory>(
+    memory: &M,
     waiting: &[Waiting],
     marks: &Filled<bool>,
     digest: &Digest,
 ) -> Option<usize>
     requires { (i : ℕ) → i < length waiting.now →
-        IsSome (maps.get memory.now.live (waiting_at waiting.now i).slot) }
-    ensures found { IfSome result (λ s. (c : Clause) × (maps.get memory.now.live s ≡ Some c)
+        IsSome (maps.get (M.seen memory.now).live (waiting_at waiting.now i).slot) }
+    ensures found { IfSome result (λ s. (c : Clause) × (maps.get (M.seen memory.now).live s ≡ Some c)
         × (is_match (λ l. is_marked (at marks.now l)) digest.now.len c ≡ true)) }
     ensures none { IfNone result ((i : ℕ) (c : Clause) → i < length waiting.now →
         (waiting_at waiting.now i).hash ≡ digest.now.hash →
-        maps.get memory.now.live (waiting_at waiting.now i).slot ≡ Some c →
+        maps.get (M.seen memory.now).live (waiting_at waiting.now i).slot ≡ Some c →
         is_match (λ l. is_marked (at marks.now l)) digest.now.len c ≡ false) }
 {
     for i in 0..waiting.len() {
@@ -79,16 +79,16 @@ fn first_waiting(
 }
 
 /// A slot with the hash of the digest that has a clause of so many literals, each of them marked.
-pub(crate) fn find_marked(
-    memory: &ClauseMemory,
+pub(crate) fn find_marked<M: Memory>(
+    memory: &M,
     index: &Index,
     marks: &Filled<bool>,
     digest: &Digest,
 ) -> Option<usize>
-    requires { ⟦<Index as Indexing>⟧.indexes index.now memory.now.live }
-    ensures found { IfSome result (λ s. (c : Clause) × (maps.get memory.now.live s ≡ Some c)
+    requires { ⟦<Index as Indexing>⟧.indexes index.now (M.seen memory.now).live }
+    ensures found { IfSome result (λ s. (c : Clause) × (maps.get (M.seen memory.now).live s ≡ Some c)
         × (is_match (λ l. is_marked (at marks.now l)) digest.now.len c ≡ true)) }
-    ensures none { IfNone result ((s : ℕ) (c : Clause) → maps.get memory.now.live s ≡ Some c →
+    ensures none { IfNone result ((s : ℕ) (c : Clause) → maps.get (M.seen memory.now).live s ≡ Some c →
         hash (seed_of index.now) c ≡ digest.now.hash →
         is_match (λ l. is_marked (at marks.now l)) digest.now.len c ≡ false) }
 {

@@ -5,7 +5,7 @@ use Rattle.std.specs.FinMap.{FinMap}
 use Rattle.std.specs.Ordering.{nat_cmp}
 use Rattle.std.specs.Prelude.{◌≡◌, ◌≢◌, ℕ, ◌*◌, ◌<◌, ◌≤◌, List, Option, IsSome, length, refl}
 use Rattle.cnf_base.specs.Literals.{Clause}
-use Rattle.clause_memory.specs.Memory.{MemoryState, units_for}
+use Rattle.clause_memory.specs.Blocks.{BlocksState, units_for}
 use Rattle.clause_memory.specs.Code.Free.{AreListed}
 use Rattle.clause_memory.specs.Code.Units.{IsBlock, blocks_in, clauses_in, kept_in, kind_at}
 use Rattle.clause_memory.specs.Code.Units.{literal_words, rests, size_at}
@@ -13,8 +13,8 @@ use Rattle.clause_memory.specs.declared.kind.Kind.{Kind}
 use Rattle.clause_memory.specs.declared.kind.Kind.TheVariants.{Live}
 
 -- a memory is kept as the tuple of its fields
-abbrev pub memory_code : Coded MemoryState
-memory_code =
+abbrev pub blocks_code : Coded BlocksState
+blocks_code =
     code_by (FinMap nat_cmp Clause × (FinMap nat_cmp ℕ × ℕ))
     (coded× (maps.code coded_ℕ (coded_list coded_ℕ))
     (coded× (maps.code coded_ℕ coded_ℕ) coded_ℕ))
@@ -22,7 +22,7 @@ memory_code =
     (λ p. record { live = p.0; blocks = p.1.0; stored = p.1.1 }) (λ _. refl)
 
 -- what a memory with these fields is seen as
-abbrev pub seen_as : List Kind → List ℕ → MemoryState
+abbrev pub seen_as : List Kind → List ℕ → BlocksState
 seen_as kinds words = record {
   live = clauses_in kinds words;
   blocks = blocks_in kinds;

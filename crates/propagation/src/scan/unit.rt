@@ -12,7 +12,7 @@ ghost use Rattle.propagation.specs.declared.answer.Answer.TheVariants.{Quiet};
 
 use crate::Answer;
 use crate::assumptions::Assumptions;
-use clause_db::Store;
+use clause_db::{Slots, Store};
 use trail::Left;
 
 /// What a pass over all clauses ends in.
@@ -27,7 +27,7 @@ enum Pass {
 }
 
 /// One pass over all clauses, which sets what follows from each.
-fn run_pass(store: &Store, assumptions: &mut Assumptions) -> Pass
+fn run_pass(store: &Store<Slots>, assumptions: &mut Assumptions) -> Pass
     requires { HasRoomForAll assumptions.old.trail.reserved (maps.get store.now.live) }
     ensures sound { (l : Literal) → IsTrue (has assumptions.new.trail.lits l) →
         Forced (maps.get store.now.live) assumptions.old.trail.lits l }
@@ -53,7 +53,7 @@ fn run_pass(store: &Store, assumptions: &mut Assumptions) -> Pass
 }
 
 /// Sets all that follows from the literals that are true, or stops at a clash.
-pub(crate) fn propagate(store: &Store, assumptions: &mut Assumptions) -> Answer
+pub(crate) fn propagate(store: &Store<Slots>, assumptions: &mut Assumptions) -> Answer
     requires { HasRoomForAll assumptions.old.trail.reserved (maps.get store.now.live) }
     ensures answer { IsAnswer (maps.get store.now.live) assumptions.old.trail.lits result }
     ensures sound { (l : Literal) → IsTrue (has assumptions.new.trail.lits l) →

@@ -26,7 +26,6 @@ use Rattle.watch.specs.Code.Visits.{PropagatesTo}
 use Rattle.root_literals.specs.Watched.{IsPart, AreUnchanged, AreWatched, HasEntry, IsListed}
 use Rattle.root_literals.specs.Watched.{AddsFitting, IsShortList, IsWatched, is_short, entries_for}
 use Rattle.root_literals.specs.Watched.{short_for, watches}
-use Rattle.clause_memory.specs.Memory.{AddsFewBlocks, blocks_with, clauses_with, units_for}
 use Rattle.watch.specs.Watched.{long_clauses, short_clauses}
 use Rattle.propagation.specs.declared.answer.Answer.{Answer}
 use Rattle.propagation.specs.declared.answer.Answer.TheVariants.{Quiet}
@@ -54,16 +53,6 @@ long_shown = sum_ordered (λ c. cond (nat_le 2 (size c)) 1 0) (λ c. cond (nat_l
 
 pub short_shown : (live : FinMap nat_cmp Clause) → short_clauses (each_in_order live) ≡ short_clauses live
 short_shown = sum_ordered (λ c. cond (nat_le 2 (size c)) 0 1) (λ c. cond (nat_le 2 (size c)) 0 1) (λ c. ap (λ n. cond (nat_le 2 n) 0 1) (size-in_order c))
-
--- clauses that repeat no literal need the same units
-clauses_shown : (live : FinMap nat_cmp Clause) → ((s : ℕ) (c : Clause) → maps.get live s ≡ Some c → size c ≡ length c) → (n : ℕ) → clauses_with n (each_in_order live) ≡ clauses_with n live
-clauses_shown live different n =
-    sum_ordered (λ c. cond (eqb (units_for (length c)) n) 1 0) (λ c. cond (eqb (units_for (size c)) n) 1 0) (λ c. ap (λ k. cond (eqb (units_for k) n) 1 0) (length-in_order c)) live
-    ∙ sum_alike (λ c. cond (eqb (units_for (size c)) n) 1 0) (λ c. cond (eqb (units_for (length c)) n) 1 0) live (λ s c is. ap (λ k. cond (eqb (units_for k) n) 1 0) (different s c is))
-
-pub few_shown : (live : FinMap nat_cmp Clause) → ((s : ℕ) (c : Clause) → maps.get live s ≡ Some c → size c ≡ length c) → (old new : FinMap nat_cmp ℕ) (added : ℕ) → AddsFewBlocks old new live added → AddsFewBlocks old new (each_in_order live) added
-few_shown live different old new added few n =
-    subst (λ k. blocks_with n new ≤ max (blocks_with n old) (k + cond (eqb n added) 1 0)) (sym (clauses_shown live different n)) (few n)
 
 pub long_alike : (before after : FinMap nat_cmp Clause) → each_in_order after ≡ each_in_order before → long_clauses after ≡ long_clauses before
 long_alike before after same = sym (long_shown after) ∙ ap long_clauses same ∙ long_shown before

@@ -27,20 +27,19 @@ variables_in reserved = size reserved
 abbrev pub watch_code : Coded WatchState
 watch_code =
     code_by
-    ((Propagation × FinMap nat_cmp ℕ) × (((ℕ × ℕ) × (ℕ × ℕ)) × (List ℕ × (Bool × Bool))))
-    (coded× (coded× propagation_code (maps.code coded_ℕ coded_ℕ))
+    (Propagation × (((ℕ × ℕ) × (ℕ × ℕ)) × (List ℕ × (Bool × Bool))))
+    (coded× propagation_code
     (coded× (coded× (coded× coded_ℕ coded_ℕ) (coded× coded_ℕ coded_ℕ))
     (coded× (coded_list coded_ℕ) (coded× coded_bool coded_bool))))
     (λ s. (
-      (s.propagation, s.blocks),
+      s.propagation,
       (
         ((s.entries, s.short_entries), (s.trues, s.variables)),
         (s.roots, (s.is_up_to_date, s.has_clash)),
       ),
     ))
     (λ p. record {
-      propagation = p.0.0;
-      blocks = p.0.1;
+      propagation = p.0;
       entries = p.1.0.0.0;
       short_entries = p.1.0.0.1;
       trues = p.1.0.1.0;

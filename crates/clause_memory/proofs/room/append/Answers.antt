@@ -1,7 +1,7 @@
 use Rattle.std.proofs.Common.{◌≡◌, ◌+◌, ◌-◌, ◌*◌, ◌++◌, ◌∷◌, length, arith, sym, ap, ◌∙◌, subst, replicate}
 use Rattle.std.specs.FinMap as maps
 use Rattle.tables.specs.Table.{at}
-use Rattle.clause_memory.specs.Memory.{AddsFewBlocks, units_for}
+use Rattle.clause_memory.specs.Blocks.{AddsFewBlocks, units_for}
 use Rattle.clause_memory.specs.Code.Fields.{IsMemory}
 use Rattle.clause_memory.specs.Code.Free.{link_of}
 use Rattle.clause_memory.specs.Code.Units.{blanks, blocks_in, clauses_in}

@@ -1,6 +1,6 @@
 use Rattle.std.proofs.Common.{◌≡◌, ℕ, Option, Some, None, Result, Ok, Err, IfOk, arith, length, refl, sym, ap, ◌∙◌}
 use Rattle.tables.specs.Table.{at}
-use Rattle.clause_memory.specs.Memory.{units_for}
+use Rattle.clause_memory.specs.Blocks.{units_for}
 use Rattle.clause_memory.specs.Code.Free.{link_of}
 use Rattle.clause_memory.proofs.RoomLemmas.{none_free}
 use Rattle.clause_memory.proofs.room.place.Goals as goal

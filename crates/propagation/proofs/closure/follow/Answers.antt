@@ -7,7 +7,7 @@ use Rattle.propagation.proofs.PropagationLemmas.Closing.{followed_more, followed
 use Rattle.propagation.proofs.closure.follow.Goals as goal
 
 pub loop-done-preserved : goal.loop-done-preserved
-loop-done-preserved c =
+loop-done-preserved g c =
     let live = c.args.store.now.live in
     let lits = c.loop-done.found in
     let after = c.take_each.new.found in
@@ -27,6 +27,6 @@ loop-done-preserved c =
     }
 
 pub returns-clause-whole : goal.returns-clause-whole
-returns-clause-whole c =
+returns-clause-whole g c =
     let over : length c.lits.result.now ≤ c.loop-done.done = let ended = c.loop-done-test.false in omega arith in
     followed_whole (maps.get c.args.store.now.live) c.loop-done.done c.loop-done.found c.loop-done.invariant.followed (subst (λ ls. length ls ≤ c.loop-done.done) c.lits.ensures over)

@@ -4,10 +4,10 @@ use Rattle.propagation.specs.Code.Closure.{IsFollowed}
 use Rattle.propagation.proofs.closure.follow.Given as goal
 
 abbrev pub invariant-loop-done : goal.invariant-loop-done
-invariant-loop-done l = record {
+invariant-loop-done g l = record {
   followed : IsFollowed (maps.get l.fn.store.live) l.done l.found;
   same : l.store ≡ l.fn.store;
 }
 
 abbrev pub decreases-loop-done : goal.decreases-loop-done
-decreases-loop-done l = 18446744073709551616 - l.done
+decreases-loop-done g l = 18446744073709551616 - l.done

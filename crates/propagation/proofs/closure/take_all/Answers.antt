@@ -6,7 +6,7 @@ use Rattle.propagation.proofs.closure.take_all.Goals as goal
 use Rattle.propagation.proofs.closure.take_all.Goals.{in-Some+in_ok-take, in_default}
 
 pub loop-number-preserved : goal.loop-number-preserved
-loop-number-preserved c =
+loop-number-preserved g c =
     let live = maps.get c.args.store.now.live in
     let before = c.args.found.now in
     let now = c.loop-number.found in

@@ -5,7 +5,7 @@ use Rattle.propagation.specs.Code.Closure.{AreForced, TakesIn}
 use Rattle.propagation.proofs.closure.take_all.Given as goal
 
 abbrev pub invariant-loop-number : goal.invariant-loop-number
-invariant-loop-number l = record {
+invariant-loop-number g l = record {
   sound : AreForced (maps.get l.store.live) l.found;
   begins : take (length l.fn.found) l.found ≡ l.fn.found;
   takes : (k : ℕ) (c : Clause) → k < l.number → maps.get l.store.live k ≡ Some c →

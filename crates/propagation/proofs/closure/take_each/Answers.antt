@@ -6,7 +6,7 @@ use Rattle.propagation.proofs.PropagationLemmas.Exact.{begins_on, longer_from}
 use Rattle.propagation.proofs.closure.take_each.Goals as goal
 
 pub loop-slot-preserved : goal.loop-slot-preserved
-loop-slot-preserved c =
+loop-slot-preserved g c =
     let live = maps.get c.args.store.now.live in
     let before = c.args.found.now in
     let now = c.loop-slot.found in

@@ -5,7 +5,7 @@ use Rattle.propagation.specs.Code.Closure.{AreForced, TakesIn}
 use Rattle.propagation.proofs.closure.take_each.Given as goal
 
 abbrev pub invariant-loop-slot : goal.invariant-loop-slot
-invariant-loop-slot l = record {
+invariant-loop-slot g l = record {
   sound : AreForced (maps.get l.store.live) l.found;
   begins : take (length l.fn.found) l.found ≡ l.fn.found;
   takes : (s : ℕ) (c : Clause) → has (take l.slot-index l.slots) s ≡ true →

@@ -4,10 +4,10 @@ use Rattle.propagation.proofs.PropagationLemmas.HasAt.{lacks_none, lacks_more}
 use Rattle.propagation.proofs.scan.has_at.Goals as goal
 
 pub returns-in-Some-clause-yes : goal.returns-in-Some-clause-yes
-returns-in-Some-clause-yes c = λ yes. record { clause = c.in-Some.clause.now; at = sym c.in-Some.ensures; member = sym c.contains.ensures.value ∙ yes }
+returns-in-Some-clause-yes g c = λ yes. record { clause = c.in-Some.clause.now; at = sym c.in-Some.ensures; member = sym c.contains.ensures.value ∙ yes }
 
 pub returns-in-Some-clause-no : goal.returns-in-Some-clause-no
-returns-in-Some-clause-no c = λ no. lacks_more (maps.get c.args.store.now.live) c.args.l c.args.number c.in-Some.clause.now c.in-Some.ensures (sym c.contains.ensures.value ∙ no)
+returns-in-Some-clause-no g c = λ no. lacks_more (maps.get c.args.store.now.live) c.args.l c.args.number c.in-Some.clause.now c.in-Some.ensures (sym c.contains.ensures.value ∙ no)
 
 pub returns-in-None-clause-no : goal.returns-in-None-clause-no
-returns-in-None-clause-no c = λ _. lacks_none (maps.get c.args.store.now.live) c.args.l c.args.number c.in-None.ensures
+returns-in-None-clause-no g c = λ _. lacks_none (maps.get c.args.store.now.live) c.args.l c.args.number c.in-None.ensures

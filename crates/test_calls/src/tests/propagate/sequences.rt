@@ -198,25 +198,3 @@ fn counts_entries(rt: HostRuntime) -> Result<(), Fail> {
     expect_equal(&rt, counts_of(rt.alloc(), &mut watch)?, (4, 1, 2));
     Ok(())
 }
-
-/// How many words three clauses take, two of them, and three again.
-fn words_of(alloc: Global, watch: &mut Watch) -> Result<(usize, usize, usize), Fail>
-    requires { watch.old.propagation.assumptions ≡ [] }
-{
-    fill(alloc, watch, &[[1, 2], [-1, 3], [1, 1]])?;
-    let filled = watch.words();
-    let clause = literals(alloc, &[-1, 3])?;
-    if let Some(slot) = watch.find(clause.as_slice()) {
-        watch.remove(slot);
-    }
-    let left = watch.words();
-    fill(alloc, watch, &[[2, 3]])?;
-    Ok((filled, left, watch.words()))
-}
-
-#[test]
-fn uses_the_words_of_a_removed_clause(rt: HostRuntime) -> Result<(), Fail> {
-    let mut watch = Watch::new(rt.alloc())?;
-    expect_equal(&rt, words_of(rt.alloc(), &mut watch)?, (12, 12, 12));
-    Ok(())
-}

@@ -2,7 +2,7 @@
 
 use crate::tests::asserts::{expect_equal, expect_true, expect_true_at};
 use crate::tests::literals::{literal, literals};
-use clause_db::{NoIndex, Slot, Store};
+use clause_db::{Blocks, Memory, NoIndex, Slot, Slots, Store};
 use cnf_base::{Lit, OutOfMemory};
 use std::alloc::Global;
 use std::process::Abort;
@@ -22,7 +22,7 @@ enum Call<'a> {
 }
 
 /// Takes a copy of the clause out, if there is one.
-fn take_out(store: &mut Store, lits: &[Lit]) -> bool {
+fn take_out<M: Memory>(store: &mut Store<M>, lits: &[Lit]) -> bool {
     match store.find(lits) {
         Some(slot) => {
             store.remove(slot);
@@ -33,7 +33,7 @@ fn take_out(store: &mut Store, lits: &[Lit]) -> bool {
 }
 
 /// How many literals the store keeps of the clause, if it is there.
-fn kept_len(store: &mut Store, lits: &[Lit]) -> Option<usize> {
+fn kept_len<M: Memory>(store: &mut Store<M>, lits: &[Lit]) -> Option<usize> {
     match store.find(lits) {
         Some(slot) => Some(store.clause(slot).len()),
         None => None,
@@ -42,14 +42,19 @@ fn kept_len(store: &mut Store, lits: &[Lit]) -> Option<usize> {
 
 /// What can be seen of a store: how many literals it has, in how many clauses this one is, and
 /// whether the clause is there.
-fn seen(store: &mut Store, lits: &[Lit], l: Lit) -> (u64, u64, bool) {
+fn seen<M: Memory>(store: &mut Store<M>, lits: &[Lit], l: Lit) -> (u64, u64, bool) {
     let is_there = store.find(lits).is_some();
     (store.literals(), store.count_with(l), is_there)
 }
 
 /// Inserts the clause. Where memory is refused, it sees that nothing has changed, and tries once
 /// more.
-fn insert_again(rt: &impl Abort, store: &mut Store, lits: &[Lit], l: Lit) -> Result<Slot, Fail> {
+fn insert_again<M: Memory>(
+    rt: &impl Abort,
+    store: &mut Store<M>,
+    lits: &[Lit],
+    l: Lit,
+) -> Result<Slot, Fail> {
     let before = seen(store, lits, l);
     match store.insert(lits) {
         Ok(slot) => Ok(slot),
@@ -60,7 +65,11 @@ fn insert_again(rt: &impl Abort, store: &mut Store, lits: &[Lit], l: Lit) -> Res
     }
 }
 
-fn is_answered(alloc: Global, store: &mut Store, call: &Call<'_>) -> Result<bool, Fail> {
+fn is_answered<M: Memory>(
+    alloc: Global,
+    store: &mut Store<M>,
+    call: &Call<'_>,
+) -> Result<bool, Fail> {
     let is_answered = match call {
         Call::Insert(..) => false,
         Call::Literals(count) => store.literals() == *count,
@@ -77,8 +86,12 @@ fn is_answered(alloc: Global, store: &mut Store, call: &Call<'_>) -> Result<bool
     Ok(is_answered)
 }
 
-fn expect_calls(rt: &impl Abort, alloc: Global, calls: &[Call<'_>]) -> Result<(), Fail> {
-    let mut store = Store::new(alloc)?;
+fn expect_calls<M: Memory + Drop>(
+    rt: &impl Abort,
+    alloc: Global,
+    calls: &[Call<'_>],
+) -> Result<(), Fail> {
+    let mut store = Store::<M>::new(alloc)?;
     let mut last = None;
     for call in calls {
         if let Call::Insert(numbers, with) = call {
@@ -125,7 +138,8 @@ const CALLS: [Call<'static>; 21] = [
 
 #[test]
 fn stores_finds_and_removes(rt: HostRuntime) -> Result<(), Fail> {
-    expect_calls(&rt, rt.alloc(), &CALLS)
+    expect_calls::<Blocks>(&rt, rt.alloc(), &CALLS)?;
+    expect_calls::<Slots>(&rt, rt.alloc(), &CALLS)
 }
 
 #[test]
@@ -161,29 +175,6 @@ fn keeps_its_room(rt: HostRuntime) -> Result<(), Fail> {
     Ok(())
 }
 
-/// How many words the store has with three clauses, without one of them, and with another one that
-/// is as long.
-fn words_again(store: &mut Store, lits: [Lit; 4]) -> Result<(usize, usize, usize), Fail> {
-    let [a, b, c, d] = lits;
-    store.insert(&[a])?;
-    let slot = store.insert(&[a, b, c, d])?;
-    store.insert(&[b, c, d])?;
-    let filled = store.words();
-    store.remove(slot);
-    let left = store.words();
-    store.insert(&[d, c, b, a])?;
-    Ok((filled, left, store.words()))
-}
-
-#[test]
-fn uses_the_words_of_a_removed_clause(rt: HostRuntime) -> Result<(), Fail> {
-    let mut store = Store::new(rt.alloc())?;
-    expect_equal(&rt, store.words(), 0);
-    let lits = [literal(1)?, literal(-2)?, literal(3)?, literal(4)?];
-    expect_equal(&rt, words_again(&mut store, lits)?, (16, 16, 16));
-    Ok(())
-}
-
 fn insert_copies(store: &mut Store, lits: &[Lit], count: u32) -> Result<(), OutOfMemory> {
     for _ in 0..count {
         store.insert(lits)?;
@@ -215,7 +206,7 @@ fn removes_many_copies(rt: HostRuntime) -> Result<(), Fail> {
 }
 
 /// In how many clauses each of the two literals is.
-fn counts_of(store: &Store<NoIndex>, lits: [Lit; 2]) -> (u64, u64) {
+fn counts_of(store: &Store<Slots, NoIndex>, lits: [Lit; 2]) -> (u64, u64) {
     let [a, b] = lits;
     (store.count_with(a), store.count_with(b))
 }
@@ -223,7 +214,7 @@ fn counts_of(store: &Store<NoIndex>, lits: [Lit; 2]) -> (u64, u64) {
 /// The counts of the two literals once there are a clause with both and one with the first, and
 /// once the former is removed.
 fn counts_around(
-    store: &mut Store<NoIndex>,
+    store: &mut Store<Slots, NoIndex>,
     lits: [Lit; 2],
 ) -> Result<((u64, u64), (u64, u64)), Fail> {
     let [a, b] = lits;

@@ -4,4 +4,5 @@ mod clauses;
 mod filled;
 mod identifiers;
 mod lists;
+mod memories;
 mod table;

@@ -1,13 +1,10 @@
 use Rattle.std.proofs.Common.{is_some, sym, ap, ◌∙◌, subst}
 use Rattle.std.specs.FinMap as maps
-use Rattle.cnf_base.specs.Literals.{size}
-use Rattle.clause_memory.specs.Memory.{AddsFewBlocks, units_for}
 use Rattle.clause_db.specs.Store.{literals_in}
 use Rattle.propagation.specs.Closure.{IsClosure}
 use Rattle.root_literals.specs.Order.{each_in_order}
 use Rattle.cnf_base.proofs.MapLemmas.{removed_back}
 use Rattle.watch.proofs.WatchLemmas.Shown.{closure_held, closure_shown}
-use Rattle.watch.proofs.WatchLemmas.State.{few_shown}
 use Rattle.watch.proofs.clauses.insert_clause.Goals as goal
 
 pub enter-requires-clause-alive : goal.enter-requires-clause-alive
@@ -40,19 +37,3 @@ returns-in-Err-clause-err_stored c =
     let gone = c.remove_clause.ensures.live ∙ ap (λ s. maps.remove s.live c.in_ok-slot.slot) c.enter.ensures.same in
     let back = gone ∙ removed_back c.args.store.now.live c.insert.new.self.live c.in_ok-slot.slot c.in_ok-slot.ensures.free c.in_ok-slot.ensures.others in
     c.remove_clause.ensures.live_alone ∙ ap literals_in back ∙ sym c.recall_invariant.ensures.live_alone
-
--- ---- Blocks
-
-pub returns-in_err-slot-clause-few_blocks : goal.returns-in_err-slot-clause-few_blocks
-returns-in_err-slot-clause-few_blocks c =
-    few_shown c.args.store.now.live c.recall_invariant.ensures.different c.args.store.now.blocks c.insert.new.self.blocks (units_for (size c.args.lits.now)) c.insert.ensures.few_blocks
-
-pub returns-in-Ok-clause-few_blocks : goal.returns-in-Ok-clause-few_blocks
-returns-in-Ok-clause-few_blocks c =
-    subst (λ s. AddsFewBlocks c.args.store.now.blocks s.blocks (each_in_order c.args.store.now.live) (units_for (size c.args.lits.now))) (sym c.enter.ensures.same)
-    (few_shown c.args.store.now.live c.recall_invariant.ensures.different c.args.store.now.blocks c.insert.new.self.blocks (units_for (size c.args.lits.now)) c.insert.ensures.few_blocks)
-
-pub returns-in-Err-clause-few_blocks : goal.returns-in-Err-clause-few_blocks
-returns-in-Err-clause-few_blocks c =
-    subst (λ b. AddsFewBlocks c.args.store.now.blocks b (each_in_order c.args.store.now.live) (units_for (size c.args.lits.now))) (sym (c.remove_clause.ensures.blocks ∙ ap (λ s. s.blocks) c.enter.ensures.same))
-    (few_shown c.args.store.now.live c.recall_invariant.ensures.different c.args.store.now.blocks c.insert.new.self.blocks (units_for (size c.args.lits.now)) c.insert.ensures.few_blocks)

@@ -9,7 +9,6 @@ invariant-loop-entry l = record {
       l.cursor.entries l.l;
   met : AreMet l.store.live l.cursor l.l l.trail.lits;
   no_more : entries_left l.cursor ≤ entries_left l.fn.cursor;
-  blocks : l.store.blocks ≡ l.fn.store.blocks;
 }
 
 abbrev pub decreases-loop-entry : goal.decreases-loop-entry

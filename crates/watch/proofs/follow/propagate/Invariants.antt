@@ -14,7 +14,6 @@ invariant-loop-done l = record {
   followed :
       Followed l.fn.store.live l.store.live l.fn.lists l.lists l.fn.assumptions l.assumptions
       (at l.fn.reasons) (at l.reasons);
-  blocks : l.store.blocks ≡ l.fn.store.blocks;
 }
 
 abbrev pub decreases-loop-done : goal.decreases-loop-done

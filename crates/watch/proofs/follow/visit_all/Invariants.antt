@@ -9,7 +9,6 @@ invariant-loop-at l = record {
       Visited l.fn.store.live l.store.live l.fn.lists l.lists l.fn.cursor.entries l.cursor.entries
       l.fn.assumptions l.assumptions (at l.fn.reasons) (at l.reasons) l.l;
   met : AreMet l.store.live l.cursor l.l l.assumptions.trail.lits;
-  blocks : l.store.blocks ≡ l.fn.store.blocks;
 }
 
 abbrev pub decreases-loop-at : goal.decreases-loop-at

@@ -28,7 +28,6 @@ loop-done-init c =
       history = kept.history;
       watched = subst (λ n. IsWatched (maps.get c.args.store.now.live) (take n c.args.assumptions.now.trail.lits) c.args.assumptions.now.trail.lits) (sym c.len-done.ensures) (kept.visited (ap has_clash c.in-Behind.is));
       followed = followed_none c.requires.can;
-      blocks = refl;
     }
 
 pub follow-requires-clause-is_false : goal.follow-requires-clause-is_false
@@ -88,7 +87,6 @@ loop-done-preserved c =
       history = visited.1;
       watched = visited_more before.store.live b x y (at before.roots.reasons) (at c.follow.new.reasons) e.followed.propagates before.done inside so_far.watched (λ s d is. subst (λ p. IsMet d p y.trail.lits) (c.neg-l.ensures ∙ ap complement read) (partners s d is));
       followed = followed_on so_far.followed e.followed;
-      blocks = c.follow.ensures.blocks ∙ so_far.blocks;
     }
 
 pub returns-in-Some-clause-kept : goal.returns-in-Some-clause-kept

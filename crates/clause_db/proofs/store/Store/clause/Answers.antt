@@ -8,7 +8,7 @@ clause-requires g c =
 
 pub returns-clause-clause : goal.returns-clause-clause
 returns-clause-clause g c =
-    c.clause.ensures ∙ ap (maps.get c.self.inside.memory.live) c.number.ensures ∙ ap (λ v. maps.get v.live c.args.slot) c.self.view_is
+    c.clause.ensures ∙ ap (maps.get (g.M.Memory.seen c.self.inside.memory).live) c.number.ensures ∙ ap (λ v. maps.get v.live c.args.slot) c.self.view_is
 
 pub returns-clause-different : goal.returns-clause-different
 returns-clause-different g c = sym (c.self.invariant.0.different c.number.result c.clause.result.now (sym c.clause.ensures))

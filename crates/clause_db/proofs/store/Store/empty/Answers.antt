@@ -9,11 +9,11 @@ pub invariant_of-result : goal.invariant_of-result
 invariant_of-result g c =
     let live = c.new.ensures.live in
     let sound = sound_empty c.new-3.result c.new-3.ensures in (
-      subst (λ m. IsStore m c.new.result.stored c.new-3.result 0) (sym live) (subst (λ n. IsStore maps.empty n c.new-3.result 0) (sym c.new.ensures.stored) sound),
+      subst (λ m. IsStore m (g.M.Memory.seen c.new.result).stored c.new-3.result 0) (sym live) (subst (λ n. IsStore maps.empty n c.new-3.result 0) (sym c.new.ensures.stored) sound),
       subst (g.I.Indexing.indexes c.new-2.result) (sym live) c.new-2.ensures,
       tt,
       subst (AreCounted c.args.counts) (sym live) c.requires,
     )
 
 pub returns : goal.returns
-returns g c = λ t. record { live = c.new.ensures.live t; blocks = c.new.ensures.blocks t; stored = c.new.ensures.stored t }
+returns g c = λ t. record { live = c.new.ensures.live t; stored = c.new.ensures.stored t }

@@ -7,8 +7,7 @@ use Rattle.std.proofs.lemmas.Option.{same_Some}
 use Rattle.cnf_base.specs.Literals.{Clause, has, size}
 use Rattle.cnf_base.proofs.SetLemmas.{same_there}
 use Rattle.clause_memory.specs.Memory as memory
-use Rattle.clause_memory.specs.Memory.{AddsFewBlocks, MemoryState, units_for}
-use Rattle.clause_db.specs.Store.{StoreState}
+use Rattle.clause_memory.specs.Memory.{MemoryState}
 use Rattle.clause_db.specs.Code.Counts.{AreCounted}
 use Rattle.clause_db.specs.Code.Fields.{IsStore, IsTakenIn}
 use Rattle.clause_db.specs.Code.Kept.{AreKept}
@@ -19,22 +18,18 @@ use Rattle.clause_db.proofs.StoreLemmas.Kept.{insert_undone}
 use Rattle.cnf_base.proofs.MapLemmas.{insert_here, insert_other}
 use Rattle.clause_db.proofs.store.Store.insert.Goals as goal
 
--- the blocks of the memory are those that are seen
-few_seen : (m : MemoryState) (state : StoreState) → record { live = m.live; blocks = m.blocks; stored = m.stored } ≡ state → (blocks : FinMap nat_cmp ℕ) (added : ℕ) → AddsFewBlocks m.blocks blocks m.live added → AddsFewBlocks state.blocks blocks state.live added
-few_seen m state is blocks added few = subst (λ (v : StoreState). AddsFewBlocks v.blocks blocks v.live added) is few
-
 -- ---- Where no memory is left for the clause
 
 pub invariant_of-self : goal.invariant_of-self
 invariant_of-self g c =
     let i = c.self.inside in
     let marks = c.unmark_all.new.marks in
-    let same = sound_same i.memory.live i.memory.stored i.marks i.sum c.self.invariant.0 marks (λ l h. c.unmark_all.ensures.known l ∙ c.put_in-taken.ensures.still_known l h) c.unmark_all.ensures.clear in
+    let same = sound_same (g.M.Memory.seen i.memory).live (g.M.Memory.seen i.memory).stored i.marks i.sum c.self.invariant.0 marks (λ l h. c.unmark_all.ensures.known l ∙ c.put_in-taken.ensures.still_known l h) c.unmark_all.ensures.clear in
     subst (λ (m : MemoryState). IsStore m.live m.stored marks i.sum × g.I.Indexing.indexes i.index m.live × AreKept i.occurrences m.live × AreCounted i.counts m.live) (sym c.in_err-slot.ensures.err)
     (same, c.self.invariant.1, c.self.invariant.2, c.self.invariant.3)
 
 pub returns-in_err-slot-clause-live_alone : goal.returns-in_err-slot-clause-live_alone
-returns-in_err-slot-clause-live_alone g c = live_alone c.put_in-taken.new.memory.live c.put_in-taken.new.memory.stored c.unmark_all.new.marks _ (invariant_of-self g c).0
+returns-in_err-slot-clause-live_alone g c = live_alone (g.M.Memory.seen c.put_in-taken.new.memory).live (g.M.Memory.seen c.put_in-taken.new.memory).stored c.unmark_all.new.marks _ (invariant_of-self g c).0
 
 pub returns-in_err-slot-clause-err_live : goal.returns-in_err-slot-clause-err_live
 returns-in_err-slot-clause-err_live g c =
@@ -44,20 +39,17 @@ pub returns-in_err-slot-clause-err_stored : goal.returns-in_err-slot-clause-err_
 returns-in_err-slot-clause-err_stored g c =
     on_err_from c.from_residual.result _ (ap (λ (m : MemoryState). m.stored) c.in_err-slot.ensures.err ∙ ap (λ v. v.stored) c.self.view_is)
 
-pub returns-in_err-slot-clause-few_blocks : goal.returns-in_err-slot-clause-few_blocks
-returns-in_err-slot-clause-few_blocks g c = few_seen c.self.inside.memory c.args.self.now c.self.view_is c.put_in-taken.new.memory.blocks (units_for (size c.args.lits.now)) c.put_in-taken.ensures.few_blocks
-
 -- ---- Where it is told to the index
 
 pub clause-kept-requires : goal.clause-kept-requires
 clause-kept-requires g c =
     let taken = c.in_ok-slot.ensures.taken in
-    ap (λ m. is_some (maps.get m c.in_ok-slot.slot)) taken.live ∙ ap is_some (insert_here c.self.inside.memory.live c.in_ok-slot.slot c.in_ok-slot.slot taken.clause refl)
+    ap (λ m. is_some (maps.get m c.in_ok-slot.slot)) taken.live ∙ ap is_some (insert_here (g.M.Memory.seen c.self.inside.memory).live c.in_ok-slot.slot c.in_ok-slot.slot taken.clause refl)
 
 pub list_up-requires-clause-free : goal.list_up-requires-clause-free
 list_up-requires-clause-free g c =
     let taken = c.in_ok-slot.ensures.taken in
-    (c.self.inside.memory.live, c.self.invariant.2, c.self.invariant.3, taken.free, taken.few)
+    ((g.M.Memory.seen c.self.inside.memory).live, c.self.invariant.2, c.self.invariant.3, taken.free, taken.few)
 
 -- the literals that the memory hands out are those that were taken in
 taken_is : {m n : MemoryState} {slot : ℕ} {lits kept : Clause} → (taken : IsTakenIn m n slot lits) → Some kept ≡ maps.get n.live slot → kept ≡ taken.clause
@@ -72,7 +64,7 @@ pub overflow_add-self : goal.overflow_add-self
 overflow_add-self g c =
     let i = c.self.inside in
     let taken = c.in_ok-slot.ensures.taken in
-    let fits = sum_fits i.memory.live i.memory.stored i.marks i.sum c.self.invariant.0 in
+    let fits = sum_fits (g.M.Memory.seen i.memory).live (g.M.Memory.seen i.memory).stored i.marks i.sum c.self.invariant.0 in
     let few = taken.few in
     let short = taken.short in
     let as_long = ap length (taken_is taken c.clause-kept.ensures) in
@@ -81,19 +73,19 @@ overflow_add-self g c =
 pub invariant_of-self-in-Ok : goal.invariant_of-self-in-Ok
 invariant_of-self-in-Ok g c =
     let i = c.self.inside in
-    let m = c.put_in-taken.new.memory in
+    let m = g.M.Memory.seen c.put_in-taken.new.memory in
     let slot = c.in_ok-slot.slot in
     let marks = c.unmark_all.new.marks in
     let taken = c.in_ok-slot.ensures.taken in
     let x = taken.clause in
     let kept_is = taken_is taken c.clause-kept.ensures in
     let known = λ (l : ℕ) (h : has x l ≡ true). c.unmark_all.ensures.known l ∙ c.in_ok-slot.ensures.known l (same_there x c.args.lits.now taken.same l h) in
-    let live_is = ap (maps.insert i.memory.live slot) kept_is ∙ sym taken.live in
-    let sound = sound_with i.memory.live i.memory.stored i.marks i.sum c.self.invariant.0 slot x taken.free taken.different taken.short marks known (λ l h. c.unmark_all.ensures.known l ∙ c.put_in-taken.ensures.still_known l h) c.unmark_all.ensures.clear m.stored (taken.stored ∙ ap memory.literals_in taken.live) in (
+    let live_is = ap (maps.insert (g.M.Memory.seen i.memory).live slot) kept_is ∙ sym taken.live in
+    let sound = sound_with (g.M.Memory.seen i.memory).live (g.M.Memory.seen i.memory).stored i.marks i.sum c.self.invariant.0 slot x taken.free taken.different taken.short marks known (λ l h. c.unmark_all.ensures.known l ∙ c.put_in-taken.ensures.still_known l h) c.unmark_all.ensures.clear m.stored (taken.stored ∙ ap memory.literals_in taken.live) in (
       subst (λ n. IsStore m.live m.stored marks (i.sum + n)) (ap length (sym kept_is)) (subst (λ l. IsStore l m.stored marks (i.sum + length x)) (sym taken.live) sound),
-      subst (g.I.Indexing.indexes c.list_up.new.index) live_is (c.in-Ok.ensures.index i.memory.live c.self.invariant.1 taken.free),
-      subst (AreKept c.list_up.new.kept) live_is (c.in-Ok.ensures.kept i.memory.live c.self.invariant.2 taken.free),
-      subst (AreCounted c.list_up.new.counts) live_is (c.in-Ok.ensures.counts i.memory.live c.self.invariant.3 taken.free),
+      subst (g.I.Indexing.indexes c.list_up.new.index) live_is (c.in-Ok.ensures.index (g.M.Memory.seen i.memory).live c.self.invariant.1 taken.free),
+      subst (AreKept c.list_up.new.kept) live_is (c.in-Ok.ensures.kept (g.M.Memory.seen i.memory).live c.self.invariant.2 taken.free),
+      subst (AreCounted c.list_up.new.counts) live_is (c.in-Ok.ensures.counts (g.M.Memory.seen i.memory).live c.self.invariant.3 taken.free),
     )
 
 pub returns-in-Ok-clause-free : goal.returns-in-Ok-clause-free
@@ -105,27 +97,24 @@ returns-in-Ok-clause-stored g c =
     let taken = c.in_ok-slot.ensures.taken in
     let slot = c.in_ok-slot.slot in (
       taken.clause,
-      ap (maps.get c.put_in-taken.new.memory.live) c.at.ensures ∙ ap (λ l. maps.get l slot) taken.live ∙ insert_here c.self.inside.memory.live slot slot taken.clause refl,
+      ap (maps.get (g.M.Memory.seen c.put_in-taken.new.memory).live) c.at.ensures ∙ ap (λ l. maps.get l slot) taken.live ∙ insert_here (g.M.Memory.seen c.self.inside.memory).live slot slot taken.clause refl,
       taken.same,
     )
 
 pub returns-in-Ok-clause-others : goal.returns-in-Ok-clause-others
 returns-in-Ok-clause-others g c s apart =
     let taken = c.in_ok-slot.ensures.taken in
-    ap (λ l. maps.get l s) taken.live ∙ insert_other c.self.inside.memory.live c.in_ok-slot.slot s taken.clause (λ e. apart (e ∙ sym c.at.ensures)) ∙ ap (λ v. maps.get v.live s) c.self.view_is
+    ap (λ l. maps.get l s) taken.live ∙ insert_other (g.M.Memory.seen c.self.inside.memory).live c.in_ok-slot.slot s taken.clause (λ e. apart (e ∙ sym c.at.ensures)) ∙ ap (λ v. maps.get v.live s) c.self.view_is
 
 pub returns-in-Ok-clause-live_alone : goal.returns-in-Ok-clause-live_alone
-returns-in-Ok-clause-live_alone g c = live_alone c.put_in-taken.new.memory.live c.put_in-taken.new.memory.stored c.unmark_all.new.marks _ (invariant_of-self-in-Ok g c).0
-
-pub returns-in-Ok-clause-few_blocks : goal.returns-in-Ok-clause-few_blocks
-returns-in-Ok-clause-few_blocks g c = few_seen c.self.inside.memory c.args.self.now c.self.view_is c.put_in-taken.new.memory.blocks (units_for (size c.args.lits.now)) c.put_in-taken.ensures.few_blocks
+returns-in-Ok-clause-live_alone g c = live_alone (g.M.Memory.seen c.put_in-taken.new.memory).live (g.M.Memory.seen c.put_in-taken.new.memory).stored c.unmark_all.new.marks _ (invariant_of-self-in-Ok g c).0
 
 -- ---- Where no memory is left for the index
 
 pub remove-requires : goal.remove-requires
 remove-requires g c =
     let taken = c.in_ok-slot.ensures.taken in
-    ap (λ m. is_some (maps.get m c.in_ok-slot.slot)) taken.live ∙ ap is_some (insert_here c.self.inside.memory.live c.in_ok-slot.slot c.in_ok-slot.slot taken.clause refl)
+    ap (λ m. is_some (maps.get m c.in_ok-slot.slot)) taken.live ∙ ap is_some (insert_here (g.M.Memory.seen c.self.inside.memory).live c.in_ok-slot.slot c.in_ok-slot.slot taken.clause refl)
 
 -- the clauses are those from before the call
 undone : {m n : MemoryState} {live : FinMap nat_cmp Clause} {slot : ℕ} {lits : Clause} → IsTakenIn m n slot lits → live ≡ maps.remove n.live slot → live ≡ m.live
@@ -134,16 +123,16 @@ undone {m} {slot = slot} taken is = is ∙ ap (λ l. maps.remove l slot) taken.l
 pub invariant_of-self-in-Err : goal.invariant_of-self-in-Err
 invariant_of-self-in-Err g c =
     let i = c.self.inside in
-    let m = c.remove.new.self in
+    let m = g.M.Memory.seen c.remove.new.self in
     let marks = c.unmark_all.new.marks in
     let taken = c.in_ok-slot.ensures.taken in
     let live = undone taken c.remove.ensures.live in
     let stored = c.remove.ensures.live_alone ∙ ap memory.literals_in live ∙ sym c.self.invariant.0.stored_is in
-    let same = sound_same i.memory.live i.memory.stored i.marks i.sum c.self.invariant.0 marks (λ l h. c.unmark_all.ensures.known l ∙ c.put_in-taken.ensures.still_known l h) c.unmark_all.ensures.clear in (
-      subst (λ n. IsStore m.live n marks i.sum) (sym stored) (subst (λ l. IsStore l i.memory.stored marks i.sum) (sym live) same),
-      subst (g.I.Indexing.indexes c.list_up.new.index) (sym live) (c.in-Err.ensures.same_index i.memory.live c.self.invariant.1),
-      subst (AreKept c.list_up.new.kept) (sym live) (c.in-Err.ensures.same_kept i.memory.live c.self.invariant.2 taken.free),
-      subst (AreCounted c.list_up.new.counts) (sym live) (c.in-Err.ensures.same_counts i.memory.live c.self.invariant.3 taken.free),
+    let same = sound_same (g.M.Memory.seen i.memory).live (g.M.Memory.seen i.memory).stored i.marks i.sum c.self.invariant.0 marks (λ l h. c.unmark_all.ensures.known l ∙ c.put_in-taken.ensures.still_known l h) c.unmark_all.ensures.clear in (
+      subst (λ n. IsStore m.live n marks i.sum) (sym stored) (subst (λ l. IsStore l (g.M.Memory.seen i.memory).stored marks i.sum) (sym live) same),
+      subst (g.I.Indexing.indexes c.list_up.new.index) (sym live) (c.in-Err.ensures.same_index (g.M.Memory.seen i.memory).live c.self.invariant.1),
+      subst (AreKept c.list_up.new.kept) (sym live) (c.in-Err.ensures.same_kept (g.M.Memory.seen i.memory).live c.self.invariant.2 taken.free),
+      subst (AreCounted c.list_up.new.counts) (sym live) (c.in-Err.ensures.same_counts (g.M.Memory.seen i.memory).live c.self.invariant.3 taken.free),
     )
 
 pub returns-in-Err-clause-err_live : goal.returns-in-Err-clause-err_live
@@ -153,9 +142,5 @@ pub returns-in-Err-clause-err_stored : goal.returns-in-Err-clause-err_stored
 returns-in-Err-clause-err_stored g c =
     c.remove.ensures.live_alone ∙ ap memory.literals_in (undone c.in_ok-slot.ensures.taken c.remove.ensures.live) ∙ sym c.self.invariant.0.stored_is ∙ ap (λ v. v.stored) c.self.view_is
 
-pub returns-in-Err-clause-few_blocks : goal.returns-in-Err-clause-few_blocks
-returns-in-Err-clause-few_blocks g c =
-    few_seen c.self.inside.memory c.args.self.now c.self.view_is c.remove.new.self.blocks (units_for (size c.args.lits.now)) (subst (λ b. AddsFewBlocks c.self.inside.memory.blocks b c.self.inside.memory.live (units_for (size c.args.lits.now))) (sym c.remove.ensures.blocks) c.put_in-taken.ensures.few_blocks)
-
 pub returns-in-Err-clause-live_alone : goal.returns-in-Err-clause-live_alone
-returns-in-Err-clause-live_alone g c = live_alone c.remove.new.self.live c.remove.new.self.stored c.unmark_all.new.marks _ (invariant_of-self-in-Err g c).0
+returns-in-Err-clause-live_alone g c = live_alone (g.M.Memory.seen c.remove.new.self).live (g.M.Memory.seen c.remove.new.self).stored c.unmark_all.new.marks _ (invariant_of-self-in-Err g c).0

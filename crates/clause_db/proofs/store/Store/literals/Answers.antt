@@ -9,4 +9,4 @@ returns-clause-value g c = c.min.ensures ∙ ap (λ n. min n 1844674407370955161
 pub returns-clause-live_alone : goal.returns-clause-live_alone
 returns-clause-live_alone g c =
     let i = c.self.inside in
-    ap (λ v. v.stored) (sym c.self.view_is) ∙ live_alone i.memory.live i.memory.stored i.marks i.sum c.self.invariant.0 ∙ ap (λ v. literals_in v.live) c.self.view_is
+    ap (λ v. v.stored) (sym c.self.view_is) ∙ live_alone (g.M.Memory.seen i.memory).live (g.M.Memory.seen i.memory).stored i.marks i.sum c.self.invariant.0 ∙ ap (λ v. literals_in v.live) c.self.view_is

@@ -15,21 +15,21 @@ pub count_out-requires-clause-different : goal.count_out-requires-clause-differe
 count_out-requires-clause-different g c = c.self.invariant.0.different c.number-number.result c.clause-lits.result.now (sym c.clause-lits.ensures)
 
 pub count_out-requires-clause-there : goal.count_out-requires-clause-there
-count_out-requires-clause-there g c = (c.self.inside.memory.live, c.number-number.result, c.self.invariant.3, sym c.clause-lits.ensures)
+count_out-requires-clause-there g c = ((g.M.Memory.seen c.self.inside.memory).live, c.number-number.result, c.self.invariant.3, sym c.clause-lits.ensures)
 
 pub overflow_sub-self : goal.overflow_sub-self
 overflow_sub-self g c =
     let i = c.self.inside in
-    within_sum i.memory.live i.memory.stored i.marks i.sum c.self.invariant.0 c.number-number.result c.clause-lits.result.now (sym c.clause-lits.ensures)
+    within_sum (g.M.Memory.seen i.memory).live (g.M.Memory.seen i.memory).stored i.marks i.sum c.self.invariant.0 c.number-number.result c.clause-lits.result.now (sym c.clause-lits.ensures)
 
 pub remove-requires-clause-different : goal.remove-requires-clause-different
 remove-requires-clause-different g c = c.self.invariant.0.different c.number-number.result c.clause-lits.result.now (sym c.clause-lits.ensures)
 
 pub remove-requires-clause-there : goal.remove-requires-clause-there
-remove-requires-clause-there g c = (c.self.inside.memory.live, c.self.invariant.1, sym c.clause-lits.ensures)
+remove-requires-clause-there g c = ((g.M.Memory.seen c.self.inside.memory).live, c.self.invariant.1, sym c.clause-lits.ensures)
 
 pub forget-requires : goal.forget-requires
-forget-requires g c = (c.self.inside.memory.live, c.self.invariant.2, ap is_some (sym c.clause-lits.ensures))
+forget-requires g c = ((g.M.Memory.seen c.self.inside.memory).live, c.self.invariant.2, ap is_some (sym c.clause-lits.ensures))
 
 pub remove-requires-2 : goal.remove-requires-2
 remove-requires-2 g c = ap is_some (sym c.clause-lits.ensures)
@@ -37,20 +37,20 @@ remove-requires-2 g c = ap is_some (sym c.clause-lits.ensures)
 pub invariant_of-self : goal.invariant_of-self
 invariant_of-self g c =
     let i = c.self.inside in
-    let m = c.remove-2.new.self in
+    let m = g.M.Memory.seen c.remove-2.new.self in
     let here = sym c.clause-lits.ensures in
     let is = c.remove-2.ensures in
     let kept_is = is.live_alone ∙ ap memory.literals_in is.live in (
       subst (λ l. IsStore l m.stored i.marks (i.sum - length c.clause-lits.result.now)) (sym is.live)
-          (sound_without i.memory.live i.memory.stored i.marks i.sum c.self.invariant.0 c.number-number.result c.clause-lits.result.now here m.stored kept_is),
-      subst (g.I.Indexing.indexes c.remove.new.self) (sym is.live) (c.remove.ensures i.memory.live c.self.invariant.1 here),
-      subst (AreKept c.forget.new.kept) (sym is.live) (c.forget.ensures i.memory.live c.self.invariant.2),
-      subst (AreCounted c.count_out.new.counts) (sym is.live) (c.count_out.ensures i.memory.live c.number-number.result c.self.invariant.3 here),
+          (sound_without (g.M.Memory.seen i.memory).live (g.M.Memory.seen i.memory).stored i.marks i.sum c.self.invariant.0 c.number-number.result c.clause-lits.result.now here m.stored kept_is),
+      subst (g.I.Indexing.indexes c.remove.new.self) (sym is.live) (c.remove.ensures (g.M.Memory.seen i.memory).live c.self.invariant.1 here),
+      subst (AreKept c.forget.new.kept) (sym is.live) (c.forget.ensures (g.M.Memory.seen i.memory).live c.self.invariant.2),
+      subst (AreCounted c.count_out.new.counts) (sym is.live) (c.count_out.ensures (g.M.Memory.seen i.memory).live c.number-number.result c.self.invariant.3 here),
     )
 
 pub returns-clause-live : goal.returns-clause-live
 returns-clause-live g c =
-    c.remove-2.ensures.live ∙ ap (maps.remove c.self.inside.memory.live) c.number-number.ensures ∙ ap (λ v. maps.remove v.live c.args.slot) c.self.view_is
+    c.remove-2.ensures.live ∙ ap (maps.remove (g.M.Memory.seen c.self.inside.memory).live) c.number-number.ensures ∙ ap (λ v. maps.remove v.live c.args.slot) c.self.view_is
 
 pub returns-clause-live_alone : goal.returns-clause-live_alone
-returns-clause-live_alone g c = live_alone c.remove-2.new.self.live c.remove-2.new.self.stored c.self.inside.marks _ (invariant_of-self g c).0
+returns-clause-live_alone g c = live_alone (g.M.Memory.seen c.remove-2.new.self).live (g.M.Memory.seen c.remove-2.new.self).stored c.self.inside.marks _ (invariant_of-self g c).0

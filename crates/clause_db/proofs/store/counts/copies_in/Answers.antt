@@ -4,11 +4,11 @@ use Rattle.clause_db.proofs.store.counts.copies_in.Goals as goal
 use Rattle.clause_db.proofs.store.counts.copies_in.Goals.{then-has_at, else-has_at}
 
 pub loop-slot-init : goal.loop-slot-init
-loop-slot-init c = count_none c.args.memory.now.live c.args.l 0 refl
+loop-slot-init g c = count_none (g.M.Memory.seen c.args.memory.now).live c.args.l 0 refl
 
 pub loop-slot-preserved : goal.loop-slot-preserved
-loop-slot-preserved c =
-    let live = c.args.memory.now.live in
+loop-slot-preserved g c =
+    let live = (g.M.Memory.seen c.args.memory.now).live in
     let weighs = ap (λ b. cond {A = ℕ} b 1 0) c.has_at.ensures in
     let next = count_next live c.loop-slot.slot c.args.l c.loop-slot.count c.if-has_at.count c.loop-slot.invariant in
     elim c.if-has_at.branch [
@@ -17,5 +17,5 @@ loop-slot-preserved c =
     ]
 
 pub returns : goal.returns
-returns c = count_whole c.args.memory.now.live c.loop-slot.slot c.args.l c.loop-slot.count
+returns g c = count_whole (g.M.Memory.seen c.args.memory.now).live c.loop-slot.slot c.args.l c.loop-slot.count
     (λ s some. let below = c.end-slot-end.ensures s some in omega arith) c.loop-slot.invariant

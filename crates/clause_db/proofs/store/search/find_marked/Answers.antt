@@ -9,14 +9,14 @@ use Rattle.clause_db.proofs.StoreLemmas.Options.{if_none_then}
 use Rattle.clause_db.proofs.store.search.find_marked.Goals as goal
 
 pub first_waiting-requires : goal.first_waiting-requires
-first_waiting-requires c i inside = ap is_some (c.waiting.ensures.each c.args.memory.now.live i c.requires inside).1
+first_waiting-requires g c i inside = ap is_some (c.waiting.ensures.each (g.M.Memory.seen c.args.memory.now).live i c.requires inside).1
 
 pub first_match-requires : goal.first_match-requires
-first_match-requires c i s stands = c.placed.ensures.each c.args.memory.now.live i s c.requires stands
+first_match-requires g c i s stands = c.placed.ensures.each (g.M.Memory.seen c.args.memory.now).live i s c.requires stands
 
 pub returns-in-None-clause-none : goal.returns-in-None-clause-none
-returns-in-None-clause-none c =
-    let live = c.args.memory.now.live in
+returns-in-None-clause-none g c =
+    let live = (g.M.Memory.seen c.args.memory.now).live in
     if_none_then c.first_match.result c.first_match.ensures.none (λ none s d is hash_is. elim (waits_or_not c.waiting.result.now s) [
       | inl w ↦
           let held = c.waiting.ensures.each live w.0 c.requires w.1 in

@@ -7,5 +7,5 @@ use Rattle.tables.specs.Filled.{at}
 use Rattle.clause_db.proofs.store.search.first_match.Given as goal
 
 abbrev pub invariant-loop-i : goal.invariant-loop-i
-invariant-loop-i l = (k s : ℕ) (c : Clause) → k < l.i → slice_get l.bucket k ≡ Some s →
-    maps.get l.memory.live s ≡ Some c → is_match (λ m. is_marked (at l.marks m)) l.len c ≡ false
+invariant-loop-i g l = (k s : ℕ) (c : Clause) → k < l.i → slice_get l.bucket k ≡ Some s →
+    maps.get (g.M.Memory.seen l.memory).live s ≡ Some c → is_match (λ m. is_marked (at l.marks m)) l.len c ≡ false

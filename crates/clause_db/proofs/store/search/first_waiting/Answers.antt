@@ -11,17 +11,17 @@ use Rattle.clause_db.proofs.store.search.first_waiting.Goals.{else-waiting-i-via
 use Rattle.clause_db.proofs.store.search.first_waiting.Goals as goal
 
 pub loop-i-preserved : goal.loop-i-preserved
-loop-i-preserved c k d low hash_is live = elim (cases_lt k c.loop-i.i) [
+loop-i-preserved g c k d low hash_is live = elim (cases_lt k c.loop-i.i) [
   | inl before ↦ c.loop-i.invariant k d before hash_is live
   | inr here ↦
       let e : k ≡ c.loop-i.i = omega arith in
       elim c.else-waiting-i.branch [
         | else-waiting-i-via-then-waiting-i+else-matches w ↦
-            let clause_is : d ≡ w.clause.result.now = same_Some _ _ (sym live ∙ ap (λ i. maps.get c.args.memory.now.live (waiting_at c.args.waiting.now i).slot) e ∙ sym w.clause.ensures) in
+            let clause_is : d ≡ w.clause.result.now = same_Some _ _ (sym live ∙ ap (λ i. maps.get (g.M.Memory.seen c.args.memory.now).live (waiting_at c.args.waiting.now i).slot) e ∙ sym w.clause.ensures) in
             ap (is_match (λ (m : ℕ). is_marked (at c.args.marks.now m)) c.args.digest.now.len) clause_is ∙ sym w.matches.ensures ∙ w.if-matches.false
         | else-waiting-i-via-else-waiting-i w ↦ absurd (w.if-waiting-i.false (ap (λ i. (waiting_at c.args.waiting.now i).hash) (sym e) ∙ hash_is))
       ]
 ]
 
 pub returns-clause-none : goal.returns-clause-none
-returns-clause-none c k d low hash_is live = c.loop-i.invariant k d (omega arith) hash_is live
+returns-clause-none g c k d low hash_is live = c.loop-i.invariant k d (omega arith) hash_is live

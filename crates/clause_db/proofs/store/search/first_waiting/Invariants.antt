@@ -8,7 +8,7 @@ use Rattle.tables.specs.Filled.{at}
 use Rattle.clause_db.proofs.store.search.first_waiting.Given as goal
 
 abbrev pub invariant-loop-i : goal.invariant-loop-i
-invariant-loop-i l = (k : ℕ) (c : Clause) → k < l.i →
+invariant-loop-i g l = (k : ℕ) (c : Clause) → k < l.i →
     (waiting_at l.waiting k).hash ≡ l.digest.hash →
-    maps.get l.memory.live (waiting_at l.waiting k).slot ≡ Some c →
+    maps.get (g.M.Memory.seen l.memory).live (waiting_at l.waiting k).slot ≡ Some c →
     is_match (λ m. is_marked (at l.marks m)) l.digest.len c ≡ false

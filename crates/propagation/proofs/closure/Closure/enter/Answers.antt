@@ -6,7 +6,7 @@ use Rattle.propagation.proofs.PropagationLemmas.Closing.{added_followed}
 use Rattle.propagation.proofs.closure.Closure.enter.Goals as goal
 
 pub follow-requires : goal.follow-requires
-follow-requires c =
+follow-requires g c =
     let live = c.args.store.now.live in
     let slot = c.args.slot in
     let found = c.in-Some.found in

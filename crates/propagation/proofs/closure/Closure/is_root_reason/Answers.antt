@@ -7,7 +7,7 @@ use Rattle.propagation.proofs.PropagationLemmas.Closing.{no_reason_left, reason_
 use Rattle.propagation.proofs.closure.Closure.is_root_reason.Goals as goal
 
 pub returns-clause-yes : goal.returns-clause-yes
-returns-clause-yes c is_reason clause here =
+returns-clause-yes g c is_reason clause here =
     let live = maps.get c.args.store.now.live in
     let found = c.in_ok-found.found in
     let kept = c.clause-clause.result.now in
@@ -16,7 +16,7 @@ returns-clause-yes c is_reason clause here =
     subst (IsRootReason live) (same_Some kept clause (at ∙ here)) (reason_left live found c.args.slot kept (sym at) c.in_ok-found.ensures.whole.sound left)
 
 pub returns-clause-no : goal.returns-clause-no
-returns-clause-no c is_none clause here =
+returns-clause-no g c is_none clause here =
     let live = maps.get c.args.store.now.live in
     let found = c.in_ok-found.found in
     let kept = c.clause-clause.result.now in

@@ -6,7 +6,7 @@ use Rattle.propagation.proofs.PropagationLemmas.Closing.{no_reason_left, removed
 use Rattle.propagation.proofs.closure.Closure.leave.Goals as goal
 
 pub returns-else-is_one_at_most : goal.returns-else-is_one_at_most
-returns-else-is_one_at_most c =
+returns-else-is_one_at_most g c =
     let live = c.args.store.now.live in
     let slot = c.args.slot in
     let found = c.in-Some.found in

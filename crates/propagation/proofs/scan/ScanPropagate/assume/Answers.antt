@@ -4,10 +4,10 @@ use Rattle.trail.proofs.TrailLemmas.MakesFalse.{whole_is}
 use Rattle.propagation.proofs.PropagationLemmas.Scan.{assuming_from}
 use Rattle.propagation.proofs.scan.ScanPropagate.assume.Goals as goal
 
-pub returns-clause-assumed : goal.returns-clause-assumed
-returns-clause-assumed c =
+pub returns : goal.returns
+returns c =
     let view = c.self.view_is in
     let e = c.assume_part-assumed.ensures in
-    assuming_from c.args.self.now.propagation _ c.self.inside.store.live c.reserve.new.self c.assume_part-assumed.new.assumptions _ (complements c.args.lits.now) c.assume_part-assumed.result
-    (ap (λ p. p.propagation.live) view) (c.reserve.ensures.assumptions ∙ ap (λ p. p.propagation.assumptions) view) (ap complements (whole_is c.args.lits.now)) (ap (λ p. p.propagation.has_refused) (sym view) ∙ c.if-self.false)
+    assuming_from c.args.self.now _ c.self.inside.store.live c.reserve.new.self c.assume_part-assumed.new.assumptions _ (complements c.args.lits.now) c.assume_part-assumed.result
+    (ap (λ p. p.live) view) (c.reserve.ensures.assumptions ∙ ap (λ p. p.assumptions) view) (ap complements (whole_is c.args.lits.now)) (ap (λ p. p.has_refused) (sym view) ∙ c.if-self.false)
     refl c.self.invariant.1 refl c.is_err-self-inside.ensures.value e.assumed

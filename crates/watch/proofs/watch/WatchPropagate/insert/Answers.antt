@@ -10,7 +10,6 @@ use Rattle.watch.specs.Code.State.{IsWatch}
 use Rattle.std.proofs.lemmas.Option.{none-some, same_Some}
 use Rattle.root_literals.specs.Watched.{short_for}
 use Rattle.clause_db.specs.Store.{literals_in}
-use Rattle.clause_memory.specs.Memory.{AddsFewBlocks, units_for}
 use Rattle.propagation.proofs.PropagationLemmas.Scan.{room_added}
 use Rattle.propagation.specs.Closure.{IsClosure}
 use Rattle.watch.proofs.WatchLemmas.Follow.{times_has}
@@ -168,23 +167,3 @@ invariant_of-self-in_err-slot c =
       c.in_err-slot.ensures.err_stored ∙ c.self.invariant.1 ∙ ap (λ m. literals_in (each_in_order m)) same,
       c.insert_clause.ensures.closure,
     )
-
--- ---- Blocks
-
-pub returns-in-Ok-clause-few_blocks : goal.returns-in-Ok-clause-few_blocks
-returns-in-Ok-clause-few_blocks c =
-    let added = units_for (size c.args.lits.now) in
-    let store = c.self.inside.store in
-    subst (λ w. AddsFewBlocks w.blocks c.arrange-left.new.store.blocks w.propagation.live added) c.self.view_is
-    (subst (λ b. AddsFewBlocks store.blocks b (each_in_order store.live) added) (sym c.arrange-left.ensures.blocks) c.insert_clause.ensures.few_blocks)
-
-pub returns-in-Err-clause-few_blocks : goal.returns-in-Err-clause-few_blocks
-returns-in-Err-clause-few_blocks c =
-    let added = units_for (size c.args.lits.now) in
-    let store = c.self.inside.store in
-    subst (λ w. AddsFewBlocks w.blocks c.remove_clause.new.store.blocks w.propagation.live added) c.self.view_is
-    (subst (λ b. AddsFewBlocks store.blocks b (each_in_order store.live) added) (sym (c.remove_clause.ensures.blocks ∙ c.arrange-left.ensures.blocks)) c.insert_clause.ensures.few_blocks)
-
-pub returns-in_err-slot-clause-few_blocks : goal.returns-in_err-slot-clause-few_blocks
-returns-in_err-slot-clause-few_blocks c =
-    subst (λ w. AddsFewBlocks w.blocks c.insert_clause.new.store.blocks w.propagation.live (units_for (size c.args.lits.now))) c.self.view_is c.insert_clause.ensures.few_blocks

@@ -12,8 +12,8 @@ undo-requires g c =
     let new = g.P.Propagate.state c.match-self.clauses in
     let found = clause_there _ c.requires.alive in
     let assumed : Assuming old new (complements (rest_of c.args.self.now found.0)) c.match-self.branch' = elim c.match-self.branch [
-      | goal.in-Holding w ↦ rw (w.clauses-is, w.branch'-is, w.in-Holding.is) (w.assume_rest.ensures.assumed found.0 found.1)
-      | goal.in-ReducedBy w ↦ rw (w.clauses-is, w.branch'-is, w.in-ReducedBy.is) (w.assume_reduced.ensures.assumed found.0 found.1)
+      | goal.in-Holding w ↦ rw (w.clauses-is, w.branch'-is, w.in-Holding.is) (w.assume_rest.ensures found.0 found.1)
+      | goal.in-ReducedBy w ↦ rw (w.clauses-is, w.branch'-is, w.in-ReducedBy.is) (w.assume_reduced.ensures found.0 found.1)
     ] in
     let stands = (subst (Assuming old new (complements (rest_of c.args.self.now found.0))) c.in_ok-answer.was assumed).stands in
     (record { answer = c.in_ok-answer.answer; assumed = stands.all }, old.assumptions, stands.stands)
@@ -24,8 +24,8 @@ returns-in_err-answer-clause-same g c =
     let new = g.P.Propagate.state c.match-self.clauses in
     let found = clause_there _ c.requires.alive in
     let assumed : Assuming old new (complements (rest_of c.args.self.now found.0)) c.match-self.branch' = elim c.match-self.branch [
-      | goal.in-Holding w ↦ rw (w.clauses-is, w.branch'-is, w.in-Holding.is) (w.assume_rest.ensures.assumed found.0 found.1)
-      | goal.in-ReducedBy w ↦ rw (w.clauses-is, w.branch'-is, w.in-ReducedBy.is) (w.assume_reduced.ensures.assumed found.0 found.1)
+      | goal.in-Holding w ↦ rw (w.clauses-is, w.branch'-is, w.in-Holding.is) (w.assume_rest.ensures found.0 found.1)
+      | goal.in-ReducedBy w ↦ rw (w.clauses-is, w.branch'-is, w.in-ReducedBy.is) (w.assume_reduced.ensures found.0 found.1)
     ] in
     let failed = subst (Assuming old new (complements (rest_of c.args.self.now found.0))) c.in_err-answer.was assumed in
     record { live = failed.live; assumptions = failed.stays }
@@ -36,8 +36,8 @@ returns-clause-same g c =
     let new = g.P.Propagate.state c.match-self.clauses in
     let found = clause_there _ c.requires.alive in
     let assumed : Assuming old new (complements (rest_of c.args.self.now found.0)) c.match-self.branch' = elim c.match-self.branch [
-      | goal.in-Holding w ↦ rw (w.clauses-is, w.branch'-is, w.in-Holding.is) (w.assume_rest.ensures.assumed found.0 found.1)
-      | goal.in-ReducedBy w ↦ rw (w.clauses-is, w.branch'-is, w.in-ReducedBy.is) (w.assume_reduced.ensures.assumed found.0 found.1)
+      | goal.in-Holding w ↦ rw (w.clauses-is, w.branch'-is, w.in-Holding.is) (w.assume_rest.ensures found.0 found.1)
+      | goal.in-ReducedBy w ↦ rw (w.clauses-is, w.branch'-is, w.in-ReducedBy.is) (w.assume_reduced.ensures found.0 found.1)
     ] in
     let stands = (subst (Assuming old new (complements (rest_of c.args.self.now found.0))) c.in_ok-answer.was assumed).stands in
     record { live = c.undo.ensures.live ∙ assumed.live; assumptions = c.undo.ensures.assumptions _ _ stands.stands }
@@ -47,7 +47,7 @@ returns-clause-answer g c = λ clause there.
     let old = g.P.Propagate.state c.args.clauses.now in
     let new = g.P.Propagate.state c.match-self.clauses in
     let assumed : Assuming old new (complements (rest_of c.args.self.now clause)) c.match-self.branch' = elim c.match-self.branch [
-      | goal.in-Holding w ↦ rw (w.clauses-is, w.branch'-is, w.in-Holding.is) (w.assume_rest.ensures.assumed clause there)
-      | goal.in-ReducedBy w ↦ rw (w.clauses-is, w.branch'-is, w.in-ReducedBy.is) (w.assume_reduced.ensures.assumed clause there)
+      | goal.in-Holding w ↦ rw (w.clauses-is, w.branch'-is, w.in-Holding.is) (w.assume_rest.ensures clause there)
+      | goal.in-ReducedBy w ↦ rw (w.clauses-is, w.branch'-is, w.in-ReducedBy.is) (w.assume_reduced.ensures clause there)
     ] in
     (subst (Assuming old new (complements (rest_of c.args.self.now clause))) c.in_ok-answer.was assumed).answer

@@ -1,0 +1,5 @@
+use Rattle.clause_memory.proofs.SlotLemmas.{has_slot}
+use Rattle.clause_memory.proofs.slots.SlotsMemory.end.Goals as goal
+
+pub returns : goal.returns
+returns c s alive = c.self.invariant.below s (has_slot c.self.inside.clauses.slots c.args.self.now c.self.view_is s alive)
