@@ -12,7 +12,7 @@ ghost use Rattle.live_clauses.specs.LiveClauses.{no_live_clauses, lrat_state, Ho
 ghost use Rattle.live_clauses.specs.Code.LiveClauses.{AreOwners};
 
 use crate::owners::Owners;
-use clause_db::{Ids, NoIndex, Slot, Store};
+use clause_db::{Ids, NoIndex, Slot, Slots, Store};
 use cnf_base::{Lit, OutOfMemory};
 use std::alloc::Global;
 use std::marker::Model;
@@ -21,7 +21,7 @@ use std::marker::Model;
 /// what is kept.
 #[derive(Drop)]
 pub struct LiveClauses {
-    store: Store<NoIndex>,
+    store: Store<Slots, NoIndex>,
     ids: Ids,
     top: u64,
     owners: Owners,
