@@ -27,8 +27,8 @@ WORDS = {
     "man/lrat-check.1": 700,
     "man/model-check.1": 700,
 }
-# what codespell takes for other words: a crate, literals, a step "\nd" in a string, and a name of a lemma
-KNOWN = "crate,lits,nd,somes"
+# what codespell takes for other words: a checker, a crate, literals, a step "\nd" in a string, and a name of a lemma
+KNOWN = "grat,crate,lits,nd,somes"
 BUILT = "./.git,./bin,*/out,*/__pycache__"
 
 
