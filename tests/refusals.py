@@ -110,6 +110,7 @@ WRONG_WORDS = {
 # readers.
 CALLS = [
     "refused_insert",
+    "refused_insert_into_slots",
     "refused_bind",
     "refused_bind_far",
     "refused_reserve",
@@ -139,6 +140,7 @@ QUIET = [
     "readers",
     "trail",
     "store",
+    "slots",
     "ids",
     "far_ids",
     "scan",

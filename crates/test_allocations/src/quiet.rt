@@ -7,7 +7,7 @@ ghost use Rattle.std.specs.FinMap as maps;
 use crate::pairs::read_and_step;
 use crate::refused::{PAGES, bind_in_pages, bind_new};
 use crate::{Literals, PLAIN_RULES, open};
-use clause_db::{Slot, Store};
+use clause_db::{Blocks, Memory, Slot, Slots, Store};
 use cnf_base::{Fault, FromRead, LineOut, Lit, Scanner, ToWrite};
 use dimacs::{ClauseBuf, FormulaReader, read_claim};
 use proofs::{DratBinary, DratText, LratText, StepBuf, StepReader};
@@ -135,15 +135,20 @@ fn trail(alloc: Global, lits: &[Lit], is_called: bool) -> Result<bool, Fault> {
 }
 
 /// Finds the clause in the store and removes it.
-fn remove(store: &mut Store, lits: &[Lit]) {
+fn remove<M: Memory>(store: &mut Store<M>, lits: &[Lit]) {
     if let Some(slot) = store.find(lits) {
         let _ = store.clause(slot).len();
         store.remove(slot);
     }
 }
 
-fn store(alloc: Global, few: &[Lit], many: &[Lit], is_called: bool) -> Result<bool, Fault> {
-    let mut store: Store = Store::new(alloc)?;
+fn store<M: Memory + Drop>(
+    alloc: Global,
+    few: &[Lit],
+    many: &[Lit],
+    is_called: bool,
+) -> Result<bool, Fault> {
+    let mut store = Store::<M>::new(alloc)?;
     store.insert(few)?;
     store.insert(many)?;
     if !is_called {
@@ -332,7 +337,8 @@ pub fn carry_out(
         "quiet_scanner" => scanner(alloc, is_called)?,
         "quiet_readers" => readers(alloc, is_called)?,
         "quiet_trail" => trail(alloc, many, is_called)?,
-        "quiet_store" => store(alloc, &few, many, is_called)?,
+        "quiet_store" => store::<Blocks>(alloc, &few, many, is_called)?,
+        "quiet_slots" => store::<Slots>(alloc, &few, many, is_called)?,
         "quiet_ids" => ids(alloc, 1, is_called)?,
         "quiet_far_ids" => ids(alloc, PAGES, is_called)?,
         "quiet_scan" => clauses(Scan::new(alloc)?, &few, many, l, is_called)?,

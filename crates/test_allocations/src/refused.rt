@@ -4,7 +4,7 @@ ghost use Rattle.std.specs.Prelude.{◌≡◌, ◌≤◌, [], false};
 ghost use Rattle.std.specs.FinMap as maps;
 
 use crate::{Literals, PLAIN_RULES, open};
-use clause_db::{Ids, Slot, Store};
+use clause_db::{Blocks, Ids, Memory, Slot, Slots, Store};
 use cnf_base::{Fault, Lit, OutOfMemory};
 use dimacs::{ClauseBuf, FormulaReader};
 use proofs::{DratBinary, DratText, LratText, StepBuf, StepReader};
@@ -29,8 +29,8 @@ fn judged(is_kept: bool) -> Told {
 }
 
 /// A store is as it was, and takes the clause later.
-fn insert(alloc: Global, few: &[Lit], many: &[Lit]) -> Result<Told, Fault> {
-    let mut store: Store = Store::new(alloc)?;
+fn insert<M: Memory + Drop>(alloc: Global, few: &[Lit], many: &[Lit]) -> Result<Told, Fault> {
+    let mut store = Store::<M>::new(alloc)?;
     let slot = store.insert(few)?;
     let literals = store.literals();
     if store.insert(many).is_ok() {
@@ -275,7 +275,8 @@ fn lrat_input(alloc: Global, many: &[Lit]) -> Result<Told, Fault> {
 fn by_store(alloc: Global, name: &str, literals: &Literals<'_>) -> Result<Option<Told>, Fault> {
     let Literals { few, many, far } = *literals;
     let told = match name {
-        "refused_insert" => insert(alloc, &few, many),
+        "refused_insert" => insert::<Blocks>(alloc, &few, many),
+        "refused_insert_into_slots" => insert::<Slots>(alloc, &few, many),
         "refused_bind" => bind(alloc, 1),
         "refused_bind_far" => bind(alloc, PAGES),
         "refused_reserve" => reserve(alloc, &few, far),
