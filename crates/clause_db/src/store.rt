@@ -121,7 +121,8 @@ fn put_in<M: Memory>(
     lits: &[Lit],
 ) -> Result<usize, OutOfMemory>
     requires { (l : ℕ) → is_marked (at marks.old l) ≡ false }
-    ensures taken { IfOk result (λ slot. IsTakenIn (M.seen memory.old) (M.seen memory.new) slot lits.now) }
+    ensures taken { IfOk result (λ slot.
+        IsTakenIn (M.seen memory.old) (M.seen memory.new) slot lits.now) }
     ensures known { OnOk result ((l : ℕ) → has lits.now l ≡ true → IsSome (at marks.new l)) }
     ensures still_known { (l : ℕ) → IsSome (at marks.old l) → IsSome (at marks.new l) }
     ensures some { (l : ℕ) → is_marked (at marks.new l) ≡ true → has lits.now l ≡ true }

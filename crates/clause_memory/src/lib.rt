@@ -1,5 +1,5 @@
-//! Memories of clauses: what one is (`Memory`), and two: the literals of each clause behind its header
-//! in one array (`Blocks`), and each clause in a slot of its own (`Slots`).
+//! Memories of clauses: what one is (`Memory`), and two of them. `Blocks` has the literals of each
+//! clause behind its header in one array, `Slots` each clause in a slot of its own.
 #![tactic(auto)]
 
 mod blocks;

@@ -16,8 +16,8 @@ const SHORT: usize = 4;
 /// There are no more slots than this, so that their numbers have four bytes.
 const MOST: usize = 4294967295;
 
-/// The live clauses of a proof checker, each in a slot that the memory picks: a short clause lies in
-/// its slot, of 40 bytes, and a longer one in an allocation of its own.
+/// The live clauses of a proof checker, each in a slot that the memory picks: a short clause lies
+/// in its slot, of 40 bytes, and a longer one in an allocation of its own.
 ///
 /// Contracts see it as a finite map from slots to clauses, and how many literals it keeps.
 #[derive(Drop)]

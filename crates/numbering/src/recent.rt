@@ -1,8 +1,8 @@
 //! The names that were looked up last, of those that are not in an array.
 //!
-//! A look-up in a tree takes hundreds of instructions, and here a dozen. A name has one place, where
-//! only the two that came last are, so no choice of names makes this long: where three names take
-//! turns at one place, the tree is asked each time.
+//! A look-up in a tree takes hundreds of instructions, and here some thirty. A name has one place,
+//! where only the two that came last are, so no choice of names makes this long: where three names
+//! take turns at one place, the tree is asked each time.
 
 ghost use Rattle.std.specs.Prelude.{◌≡◌, ◌≢◌, ℕ, OnOk};
 ghost use Rattle.numbering.specs.Code.Recents.{AreRecent};

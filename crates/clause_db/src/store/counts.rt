@@ -93,7 +93,8 @@ fn count_slot<M: Memory>(
     requires few { IsSome (maps.get (M.seen memory.now).live slot) →
         (l : ℕ) → count_of (at counts.old l) < 4294967295 }
     ensures { OnOk result ((l : ℕ) → count_of (at counts.new l) ≡
-        count_of (at counts.old l) + (if has_in (maps.get (M.seen memory.now).live slot) l then 1 else 0)) }
+        count_of (at counts.old l)
+        + (if has_in (maps.get (M.seen memory.now).live slot) l then 1 else 0)) }
 {
     match memory.at(slot) {
         Some(lits) => count_all(counts, lits),
@@ -103,7 +104,8 @@ fn count_slot<M: Memory>(
 
 /// By literal how many of the clauses have it.
 fn counts_in<M: Memory>(alloc: Global, memory: &M) -> Result<Filled<u32>, OutOfMemory>
-    requires { (s : ℕ) (c : Clause) → maps.get (M.seen memory.now).live s ≡ Some c → size c ≡ length c }
+    requires { (s : ℕ) (c : Clause) → maps.get (M.seen memory.now).live s ≡ Some c →
+        size c ≡ length c }
     ensures { IfOk result (λ counts. AreCounted (Some counts) (M.seen memory.now).live) }
 {
     memory.recall_invariant();

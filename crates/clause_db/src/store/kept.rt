@@ -28,7 +28,8 @@ fn note_slot<M: Memory>(
     requires absent { (l : ℕ) → occurs occurrences.old l slot ≡ false }
     requires low { IsSome (maps.get (M.seen memory.now).live slot) → slot < 4294967296 }
     ensures { OnOk result ((l s : ℕ) → occurs occurrences.new l s ≡
-        (occurs occurrences.old l s || (s == slot && has_in (maps.get (M.seen memory.now).live s) l))) }
+        (occurs occurrences.old l s
+        || (s == slot && has_in (maps.get (M.seen memory.now).live s) l))) }
 {
     match memory.at(slot) {
         Some(lits) => occurrences.add(slot as u32, lits),

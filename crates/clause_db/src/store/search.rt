@@ -37,7 +37,8 @@ fn first_match<M: Memory>(
 ) -> Option<usize>
     requires { (i s : ℕ) → slice_get bucket.now i ≡ Some s →
         IsSome (maps.get (M.seen memory.now).live s) }
-    ensures found { IfSome result (λ s. (c : Clause) × (maps.get (M.seen memory.now).live s ≡ Some c)
+    ensures found { IfSome result (λ s. (c : Clause)
+        × (maps.get (M.seen memory.now).live s ≡ Some c)
         × (is_match (λ l. is_marked (at marks.now l)) len c ≡ true)) }
     ensures none { IfNone result ((i s : ℕ) (c : Clause) → slice_get bucket.now i ≡ Some s →
         maps.get (M.seen memory.now).live s ≡ Some c →
@@ -62,7 +63,8 @@ fn first_waiting<M: Memory>(
 ) -> Option<usize>
     requires { (i : ℕ) → i < length waiting.now →
         IsSome (maps.get (M.seen memory.now).live (waiting_at waiting.now i).slot) }
-    ensures found { IfSome result (λ s. (c : Clause) × (maps.get (M.seen memory.now).live s ≡ Some c)
+    ensures found { IfSome result (λ s. (c : Clause)
+        × (maps.get (M.seen memory.now).live s ≡ Some c)
         × (is_match (λ l. is_marked (at marks.now l)) digest.now.len c ≡ true)) }
     ensures none { IfNone result ((i : ℕ) (c : Clause) → i < length waiting.now →
         (waiting_at waiting.now i).hash ≡ digest.now.hash →
@@ -86,9 +88,11 @@ pub(crate) fn find_marked<M: Memory>(
     digest: &Digest,
 ) -> Option<usize>
     requires { ⟦<Index as Indexing>⟧.indexes index.now (M.seen memory.now).live }
-    ensures found { IfSome result (λ s. (c : Clause) × (maps.get (M.seen memory.now).live s ≡ Some c)
+    ensures found { IfSome result (λ s. (c : Clause)
+        × (maps.get (M.seen memory.now).live s ≡ Some c)
         × (is_match (λ l. is_marked (at marks.now l)) digest.now.len c ≡ true)) }
-    ensures none { IfNone result ((s : ℕ) (c : Clause) → maps.get (M.seen memory.now).live s ≡ Some c →
+    ensures none { IfNone result ((s : ℕ) (c : Clause) →
+        maps.get (M.seen memory.now).live s ≡ Some c →
         hash (seed_of index.now) c ≡ digest.now.hash →
         is_match (λ l. is_marked (at marks.now l)) digest.now.len c ≡ false) }
 {
