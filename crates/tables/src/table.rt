@@ -71,9 +71,7 @@ impl<T: Copy + Drop> Table<T> {
             (if k == key then Some value else at self.old k)) }
         ensures err { OnErr result ((k : ℕ) → at self.new k ≡ at self.old k) }
     {
-        self.values.reserve(key, None)?;
         let entry = Some(value);
-        self.values.set(key, entry);
-        Ok(())
+        self.values.put(key, entry, None)
     }
 }
