@@ -10,7 +10,7 @@ mod value;
 
 pub use left::Left;
 pub use literal_set::LiteralSet;
-pub use part::{Except, Part, Unless, Whole};
+pub use part::{Except, Part, Unless, UnlessListed, Whole};
 pub use trail::Trail;
 pub use truths::{Truths, left_of};
 pub use value::Value;

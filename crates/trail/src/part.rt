@@ -1,10 +1,10 @@
-//! Parts of clauses: all literals, all but one, or all but those that a set makes false.
+//! Parts of clauses: all literals, all but one, or all but those that a set or a list makes false.
 //!
 //! A part is a test on literals: RUP leaves out none, RAT one, and PR those that a witness makes
 //! false. A rule that leaves out others is one more type.
 
 ghost use Rattle.std.specs.Prelude.{◌≡◌, ◌==◌, Bool, not, true};
-ghost use Rattle.cnf_base.specs.Literals.{Literal, complement};
+ghost use Rattle.cnf_base.specs.Literals.{Literal, complement, has};
 ghost use Rattle.trail.specs.LiteralSet.{in_set};
 
 use crate::LiteralSet;
@@ -53,5 +53,18 @@ impl Part for Unless<'_> {
 
     fn keeps_literal(&self, l: Lit) -> bool {
         !self.0.has(l.neg())
+    }
+}
+
+/// All literals of a clause but those whose complement is listed. A look at each literal costs a
+/// walk over the list, and no memory.
+#[derive(Clone, Copy)]
+pub struct UnlessListed<'a>(pub &'a [Lit]);
+
+impl Part for UnlessListed<'_> {
+    ghost keeps = { λ part l. not (has part.0.now (complement l)) };
+
+    fn keeps_literal(&self, l: Lit) -> bool {
+        !self.0.contains(&l.neg())
     }
 }

@@ -42,17 +42,19 @@ use tables::{Filled, Table, key};
 pub struct Trail {
     /// It has room for one literal of each variable that was reserved.
     lits: Vec<Lit>,
-    reserved: Vec<u32>,
     /// The variables that were reserved.
     seen: Table<()>,
+    /// How many these are.
+    count: usize,
     /// By literal, for both literals of each variable that was reserved.
     values: Filled<Value>,
 }
 
 impl Model for Trail {
     ghost use Rattle.std.specs.Prelude.{vec_capacity};
+    ghost use Rattle.std.specs.Prelude.{◌≡◌, length};
     ghost use Rattle.trail.specs.Trail.{TrailState};
-    ghost use Rattle.trail.specs.Code.Values.{IsTrail};
+    ghost use Rattle.trail.specs.Code.Values.{IsTrail, reserved_in};
     ghost use Rattle.tables.specs.Filled as filled;
     ghost use Rattle.tables.specs.Table.{at};
 
@@ -60,14 +62,14 @@ impl Model for Trail {
 
     // Each field has to be named here. The list of the true literals is shown; the tables by
     // variable and by literal have entries only for variables that were met.
-    ghost view = { λ record { lits = lits; reserved = reserved; seen = _; values = _ }. record {
+    ghost view = { λ record { lits = lits; seen = seen; count = _; values = _ }. record {
       lits = lits.items;
-      reserved = reserved.items;
+      reserved = reserved_in (at seen);
     } };
 
     ghost invariant = { λ t.
-        IsTrail t.lits.items t.reserved.items (vec_capacity t.lits) (at t.seen)
-        (filled.at t.values) };
+        IsTrail t.lits.items (reserved_in (at t.seen)) (vec_capacity t.lits) (at t.seen)
+        (filled.at t.values) × (t.count ≡ length (reserved_in (at t.seen))) };
 }
 
 /// The literal that says that the variable is true; none for 0 and past the greatest variable.
@@ -97,8 +99,8 @@ impl Trail {
     {
         Ok(Trail {
             lits: Vec::new(alloc),
-            reserved: Vec::new(alloc),
             seen: Table::new(alloc),
+            count: 0,
             values: Filled::new(alloc),
         })
     }
@@ -143,11 +145,10 @@ impl Trail {
         let Some(lit) = positive(var) else {
             return Ok(());
         };
-        self.lits.reserve(self.reserved.len() + 1)?;
-        self.reserved.reserve(1)?;
+        self.lits.reserve(self.count + 1)?;
         reserve_both(&mut self.values, lit)?;
         self.seen.reserve(var, ())?;
-        self.reserved.push_reserved(var);
+        self.count += 1;
         Ok(())
     }
 

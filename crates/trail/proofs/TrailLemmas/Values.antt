@@ -206,13 +206,14 @@ module _ {T : Type 0} (lits reserved : List ℕ) (capacity : ℕ) (seen : ℕ �
   }
 
   -- one more variable is reserved
-  module _ (v : ℕ) (value : T) (seen_too : ℕ → Option T) (puts : (k : ℕ) → seen_too k ≡ cond (eqb k v) (Some value) (seen k)) (room : length reserved < capacity)
+  module _ (v : ℕ) (value : T) (reserved_too : List ℕ) (seen_too : ℕ → Option T) (adds : (w : ℕ) → has reserved_too w ≡ (has reserved w || eqb v w))
+      (noted : (w : ℕ) → is_some (seen_too w) ≡ has reserved_too w) (room : length reserved_too ≤ capacity)
       (positive : is_some (value_of (2 * v)) ≡ true) (negative : is_some (value_of (2 * v + 1)) ≡ true) where
     of_v : (l : ℕ) → variable l ≡ v → (l ≡ 2 * v) ⊎ (l ≡ 2 * v + 1)
     of_v l e = grind (arith, nat_tests, e)
 
-    known_both : (l : ℕ) → has (reserved ++ v ∷ []) (variable l) ≡ true → is_some (value_of l) ≡ true
-    known_both l h = elim (or_cases (has reserved (variable l)) (eqb v (variable l)) (sym (has_push reserved v (variable l)) ∙ h)) [
+    known_both : (l : ℕ) → has reserved_too (variable l) ≡ true → is_some (value_of l) ≡ true
+    known_both l h = elim (or_cases (has reserved (variable l)) (eqb v (variable l)) (sym (adds (variable l)) ∙ h)) [
       | inl old ↦ trail.known l old
       | inr new ↦ elim (of_v l (sym (eqb-true v (variable l) new))) [
         | inl even ↦ ap (λ k. is_some (value_of k)) even ∙ positive
@@ -220,20 +221,12 @@ module _ {T : Type 0} (lits reserved : List ℕ) (capacity : ℕ) (seen : ℕ �
       ]
     ]
 
-    noted_too : (w : ℕ) → is_some (seen_too w) ≡ has (reserved ++ v ∷ []) w
-    noted_too w = elim (cases_eq w v) [
-      | inl same ↦ ap is_some (puts w ∙ ap (λ b. cond b (Some value) (seen w)) (eq-eqb w v same)) ∙ sym (has_push reserved v w ∙ or_right (has reserved w) (eqb v w) (eq-eqb v w (sym same)))
-      | inr other ↦
-          ap is_some (puts w ∙ ap (λ b. cond b (Some value) (seen w)) (ne_eqb w v other)) ∙ trail.noted w
-          ∙ sym (has_push reserved v w ∙ ap (λ b. has reserved w || b) (ne_eqb v w (λ e. other (sym e))) ∙ or_nothing (has reserved w))
-    ]
-
-    pub trail_reserved : IsTrail lits (reserved ++ v ∷ []) capacity seen_too value_of
+    pub trail_reserved : IsTrail lits reserved_too capacity seen_too value_of
     trail_reserved = record {
       different = trail.different;
-      within = λ w h. has_append_left reserved (v ∷ []) w (trail.within w h);
-      fits = let e = length-append reserved (v ∷ []) in omega (arith, e, room);
-      noted = noted_too;
+      within = λ w h. adds w ∙ or_left (has reserved w) (eqb v w) (trail.within w h);
+      fits = room;
+      noted = noted;
       known = known_both;
       values = trail.values;
     }

@@ -1,10 +1,20 @@
 -- How the code holds a trail: a value by literal.
-use Rattle.std.specs.Prelude.{ℕ, Option, unwrap_or, ◌≡◌, ◌≤◌, List, map, length, is_some}
-use Rattle.std.specs.Prelude.{IsTrue, IsSome, ◌||◌, if◌then◌else◌}
+use Rattle.std.specs.Prelude.{ℕ, zero, suc, Option, unwrap_or, ◌≡◌, ◌≤◌, List, [], ◌∷◌, map, length}
+use Rattle.std.specs.Prelude.{is_some, IsTrue, IsSome, ◌||◌, if◌then◌else◌}
 use Rattle.cnf_base.specs.Literals.{Literal, complement, variable, has}
 use Rattle.trail.specs.Trail.{value_under, HasNoVariableTwice}
 use Rattle.trail.specs.declared.value.Value.TheVariants.{Open}
 use Rattle.trail.specs.declared.value.Value.{Value}
+
+-- the variables up to a bound at which something stands, the greatest first
+unfoldable pub seen_up_to : {T : Type 0} → (ℕ → Option T) → ℕ → List ℕ
+seen_up_to seen zero = []
+seen_up_to seen (suc v) =
+    if is_some (seen (suc v)) then suc v ∷ seen_up_to seen v else seen_up_to seen v
+
+-- the variables at which something stands
+abbrev pub reserved_in : {T : Type 0} → (ℕ → Option T) → List ℕ
+reserved_in seen = seen_up_to seen 268435455
 
 -- a literal without a value is open
 abbrev pub known_value : Option Value → Value

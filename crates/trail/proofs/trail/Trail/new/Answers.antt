@@ -1,9 +1,19 @@
+use Rattle.std.proofs.Common.{length, ap, sym}
 use Rattle.std.specs.Vec.{vec_capacity}
 use Rattle.tables.specs.Table.{at}
 use Rattle.tables.specs.Filled as filled
+use Rattle.trail.specs.Code.Values.{reserved_in}
+use Rattle.trail.proofs.TrailLemmas.Reserved.{seen_none}
 use Rattle.trail.proofs.TrailLemmas.Values.{trail_empty}
 use Rattle.trail.proofs.trail.Trail.new.Goals as goal
 
 pub invariant_of-result : goal.invariant_of-result
 invariant_of-result c =
-    trail_empty c.new.result.items c.new-2.result.items (vec_capacity c.new.result) (at c.new-3.result) (filled.at c.new-4.result) c.new.ensures.items c.new-2.ensures.items c.new-3.ensures c.new-4.ensures
+    let none = seen_none (at c.new-2.result) c.new-2.ensures 268435455 in (
+      trail_empty c.new.result.items (reserved_in (at c.new-2.result)) (vec_capacity c.new.result) (at c.new-2.result)
+          (filled.at c.new-3.result) c.new.ensures.items none c.new-2.ensures c.new-3.ensures,
+      ap length (sym none),
+    )
+
+pub returns-clause-reserved : goal.returns-clause-reserved
+returns-clause-reserved c = seen_none (at c.new-2.result) c.new-2.ensures 268435455

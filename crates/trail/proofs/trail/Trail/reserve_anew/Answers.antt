@@ -1,23 +1,70 @@
-use Rattle.std.proofs.Common.{◌<◌, ◌++◌, ◌∷◌, [], ◌∙◌, is_some, length, sym, ap, subst, arith, refl}
+use Rattle.std.proofs.Common.{◌≡◌, ℕ, ◌≤◌, ◌∙◌, true, is_some, inl, inr}
+use Rattle.std.proofs.Common.{length, refl, sym, ap, subst, arith}
+use Rattle.std.proofs.lemmas.Bool.{cases_eq}
+use Rattle.std.proofs.lemmas.Bool.Decides.{nat_tests}
 use Rattle.std.specs.Vec.{vec_capacity}
 use Rattle.tables.specs.Table.{at}
 use Rattle.tables.specs.Filled as filled
-use Rattle.trail.specs.Code.Values.{IsTrail}
+use Rattle.trail.specs.Code.Values.{IsTrail, reserved_in}
+use Rattle.cnf_base.specs.Literals.{has}
+use Rattle.trail.specs.Trail.{is_variable}
+use Rattle.trail.proofs.TrailLemmas.Reserved.{seen_adds, seen_more, seen_noted, seen_same}
 use Rattle.trail.proofs.TrailLemmas.Values.{negative_key, trail_wider, trail_reserved}
 use Rattle.trail.proofs.trail.Trail.reserve_anew.Goals as goal
+
+in_range : (v : ℕ) → is_variable v ≡ true → (1 ≤ v) × (v ≤ 268435455)
+in_range v h = grind (arith, nat_tests)
+
+pub invariant_of-self-in_err-reserve-2 : goal.invariant_of-self-in_err-reserve-2
+invariant_of-self-in_err-reserve-2 c =
+    let t = c.self.inside in
+    let made = c.reserve_both.ensures in
+    let kept = c.in_err-reserve-2.ensures.err in
+    let same = seen_same (at t.seen) (at c.reserve-2.new.self) (λ k. ap is_some (kept k)) 268435455 in
+    let wide = trail_wider t.lits.items (reserved_in (at t.seen)) (vec_capacity t.lits) (at t.seen)
+    (filled.at t.values) c.self.invariant.0 (vec_capacity c.reserve.new.self) (at c.reserve-2.new.self)
+    (filled.at c.reserve_both.new.values) c.reserve.ensures.capacity (λ k. ap is_some (kept k)) made.same made.kept in (
+      subst (λ ls. IsTrail ls (reserved_in (at c.reserve-2.new.self)) (vec_capacity c.reserve.new.self) (at c.reserve-2.new.self) (filled.at c.reserve_both.new.values)) (sym c.reserve.ensures.items)
+          (subst (λ vs. IsTrail t.lits.items vs (vec_capacity c.reserve.new.self) (at c.reserve-2.new.self) (filled.at c.reserve_both.new.values)) (sym same) wide),
+      c.self.invariant.1 ∙ ap length (sym same),
+    )
 
 pub invariant_of-self-2 : goal.invariant_of-self-2
 invariant_of-self-2 c =
     let t = c.self.inside in
     let v = c.args.var in
     let lit_is = c.in-Some.ensures.some in
+    let range = in_range v (sym c.positive.ensures.variant ∙ ap is_some c.in-Some.is) in
+    let before = reserved_in (at t.seen) in
+    let after = reserved_in (at c.reserve-2.new.self) in
     let values = c.reserve_both.new.values in
     let capacity = vec_capacity c.reserve.new.self in
     let made = c.in_ok-reserve_both.ensures in
-    let wide = trail_wider t.lits.items t.reserved.items (vec_capacity t.lits) (at t.seen) (filled.at t.values) c.self.invariant capacity (at t.seen) (filled.at values) c.reserve.ensures.capacity (λ k. refl) made.same made.kept in
-    let room : length t.reserved.items < capacity = omega (arith, c.in_ok-reserve.ensures.ok, c.len.ensures) in
+    let puts = c.in_ok-reserve-2.ensures.ok in
+    let wide = trail_wider t.lits.items before (vec_capacity t.lits) (at t.seen) (filled.at t.values)
+    c.self.invariant.0 capacity (at t.seen) (filled.at values) c.reserve.ensures.capacity (λ k. refl) made.same made.kept in
+    let none = c.self.invariant.0.noted v ∙ ap (λ s. has s.reserved v) c.self.view_is ∙ c.requires in
+    let more = seen_more (at t.seen) (at c.reserve-2.new.self) v _ none range.0 puts 268435455 range.1 in
+    let room : length after ≤ capacity = omega (arith, more, c.in_ok-reserve.ensures.ok, c.self.invariant.1) in
     let positive = ap (λ k. is_some (filled.at values k)) (sym lit_is) ∙ made.room in
     let negative = ap (λ k. is_some (filled.at values k)) (sym (negative_key v c.in-Some.lit lit_is)) ∙ made.other in
-    let reserved = trail_reserved t.lits.items t.reserved.items capacity (at t.seen) (filled.at values) wide v _ (at c.reserve-3.new.self) c.in_ok-reserve-3.ensures.ok room positive negative in
-    subst (λ ls. IsTrail ls c.push_reserved.new.self.items capacity (at c.reserve-3.new.self) (filled.at values)) (sym c.reserve.ensures.items)
-    (subst (λ ms. IsTrail t.lits.items ms capacity (at c.reserve-3.new.self) (filled.at values)) (sym (c.push_reserved.ensures.items ∙ ap (λ xs. xs ++ v ∷ []) c.reserve-2.ensures.items)) reserved)
+    let reserved = trail_reserved t.lits.items before capacity (at t.seen) (filled.at values) wide v _ after
+    (at c.reserve-2.new.self) (seen_adds (at t.seen) (at c.reserve-2.new.self) 268435455 v _ range.0 range.1 puts)
+    (seen_noted (at t.seen) (at c.reserve-2.new.self) 268435455 v _ range.0 range.1 puts c.self.invariant.0.noted)
+    room positive negative in (
+      subst (λ ls. IsTrail ls after capacity (at c.reserve-2.new.self) (filled.at values)) (sym c.reserve.ensures.items) reserved,
+      omega (arith, more, c.self.invariant.1),
+    )
+
+pub returns-clause-reserved : goal.returns-clause-reserved
+returns-clause-reserved c w =
+    let t = c.self.inside in
+    let v = c.args.var in
+    let variable = sym c.positive.ensures.variant ∙ ap is_some c.in-Some.is in
+    let range = in_range v variable in
+    let adds = seen_adds (at t.seen) (at c.reserve-2.new.self) 268435455 v _ range.0 range.1 c.in_ok-reserve-2.ensures.ok w in
+    let old = ap (λ s. has s.reserved w) c.self.view_is in
+    elim (cases_eq w v) [
+      | inl same ↦ let here = ap is_variable same ∙ variable in grind (arith, nat_tests)
+      | inr apart ↦ grind (arith, nat_tests)
+    ]

@@ -4,7 +4,7 @@ use Rattle.cnf_base.specs.Literals.{has, variable}
 use Rattle.tables.specs.Table.{at}
 use Rattle.tables.specs.Filled as filled
 use Rattle.trail.specs.Trail.{value_under}
-use Rattle.trail.specs.Code.Values.{IsTrail}
+use Rattle.trail.specs.Code.Values.{IsTrail, reserved_in}
 use Rattle.trail.specs.declared.value.Value.{Value}
 use Rattle.trail.specs.declared.value.Value.TheVariants.{True}
 use Rattle.trail.proofs.TrailLemmas.Values.{room_for, both_known, trail_set}
@@ -15,14 +15,14 @@ push_reserved-requires c =
     let t = c.self.inside in
     let open_now = ap (λ s. value_under s.lits c.args.l) c.self.view_is ∙ c.requires.open in
     let here = ap (λ s. has s.reserved (variable c.args.l)) c.self.view_is ∙ c.requires.reserved in
-    let room = room_for t.lits.items t.reserved.items (vec_capacity t.lits) (at t.seen) (filled.at t.values) c.self.invariant c.args.l open_now here in
+    let room = room_for t.lits.items (reserved_in (at t.seen)) (vec_capacity t.lits) (at t.seen) (filled.at t.values) c.self.invariant.0 c.args.l open_now here in
     omega (arith, room, t.lits.ok.0)
 
 pub set_both-requires-clause-complement : goal.set_both-requires-clause-complement
 set_both-requires-clause-complement c =
     let t = c.self.inside in
     let here = ap (λ s. has s.reserved (variable c.args.l)) c.self.view_is ∙ c.requires.reserved in
-    (both_known t.lits.items t.reserved.items (vec_capacity t.lits) (at t.seen) (filled.at t.values) c.self.invariant c.args.l here).1
+    (both_known t.lits.items (reserved_in (at t.seen)) (vec_capacity t.lits) (at t.seen) (filled.at t.values) c.self.invariant.0 c.args.l here).1
 
 pub invariant_of-self : goal.invariant_of-self
 invariant_of-self c =
@@ -31,6 +31,8 @@ invariant_of-self c =
     let open_now = ap (λ s. value_under s.lits l) c.self.view_is ∙ c.requires.open in
     let here = ap (λ s. has s.reserved (variable l)) c.self.view_is ∙ c.requires.reserved in
     let first : ℕ → Option Value = λ k. cond (eqb k l) (Some True) (filled.at t.values k) in
-    let set = trail_set t.lits.items t.reserved.items (vec_capacity t.lits) (at t.seen) (filled.at t.values) c.self.invariant l open_now here first (filled.at c.set_both.new.values) (λ k. refl) c.set_both.ensures in
-    subst (λ n. IsTrail c.push_reserved.new.self.items t.reserved.items n (at t.seen) (filled.at c.set_both.new.values)) (sym c.push_reserved.ensures.capacity)
-    (subst (λ ls. IsTrail ls t.reserved.items (vec_capacity t.lits) (at t.seen) (filled.at c.set_both.new.values)) (sym c.push_reserved.ensures.items) set)
+    let set = trail_set t.lits.items (reserved_in (at t.seen)) (vec_capacity t.lits) (at t.seen) (filled.at t.values) c.self.invariant.0 l open_now here first (filled.at c.set_both.new.values) (λ k. refl) c.set_both.ensures in (
+      subst (λ n. IsTrail c.push_reserved.new.self.items (reserved_in (at t.seen)) n (at t.seen) (filled.at c.set_both.new.values)) (sym c.push_reserved.ensures.capacity)
+          (subst (λ ls. IsTrail ls (reserved_in (at t.seen)) (vec_capacity t.lits) (at t.seen) (filled.at c.set_both.new.values)) (sym c.push_reserved.ensures.items) set),
+      c.self.invariant.1,
+    )

@@ -4,7 +4,7 @@ use Rattle.std.specs.Vec.{vec_capacity}
 use Rattle.std.proofs.lemmas.Grind.{get_or_default_zero}
 use Rattle.tables.specs.Table.{at}
 use Rattle.tables.specs.Filled as filled
-use Rattle.trail.specs.Code.Values.{IsTrail}
+use Rattle.trail.specs.Code.Values.{IsTrail, reserved_in}
 use Rattle.trail.specs.declared.value.Value.{Value}
 use Rattle.trail.specs.declared.value.Value.TheVariants.{Open}
 use Rattle.trail.proofs.TrailLemmas.Without.{out_known, trail_out}
@@ -15,7 +15,7 @@ set_both-requires-clause-complement c =
     let t = c.self.inside in
     let inside = subst (λ s. c.args.place < length s.lits) (sym c.self.view_is) c.requires in
     let stands = sym (get_or_default_zero t.lits.items c.args.place c.remove-l.result inside) ∙ sym c.remove-l.ensures.value in
-    (out_known t.lits.items c.args.place inside c.remove-l.result stands t.reserved.items (vec_capacity t.lits) (at t.seen) (filled.at t.values) c.self.invariant).1
+    (out_known t.lits.items c.args.place inside c.remove-l.result stands (reserved_in (at t.seen)) (vec_capacity t.lits) (at t.seen) (filled.at t.values) c.self.invariant.0).1
 
 pub invariant_of-self : goal.invariant_of-self
 invariant_of-self c =
@@ -24,6 +24,8 @@ invariant_of-self c =
     let inside = subst (λ s. c.args.place < length s.lits) (sym c.self.view_is) c.requires in
     let stands = sym (get_or_default_zero t.lits.items c.args.place l inside) ∙ sym c.remove-l.ensures.value in
     let first : ℕ → Option Value = λ k. cond (eqb k l) (Some Open) (filled.at t.values k) in
-    let out = trail_out t.lits.items c.args.place inside l stands t.reserved.items (vec_capacity t.lits) (at t.seen) (filled.at t.values) c.self.invariant first (filled.at c.set_both.new.values) (λ k. refl) c.set_both.ensures in
-    subst (λ n. IsTrail c.remove-l.new.self.items t.reserved.items n (at t.seen) (filled.at c.set_both.new.values)) (sym c.remove-l.ensures.capacity)
-    (subst (λ ls. IsTrail ls t.reserved.items (vec_capacity t.lits) (at t.seen) (filled.at c.set_both.new.values)) (sym c.remove-l.ensures.items) out)
+    let out = trail_out t.lits.items c.args.place inside l stands (reserved_in (at t.seen)) (vec_capacity t.lits) (at t.seen) (filled.at t.values) c.self.invariant.0 first (filled.at c.set_both.new.values) (λ k. refl) c.set_both.ensures in (
+      subst (λ n. IsTrail c.remove-l.new.self.items (reserved_in (at t.seen)) n (at t.seen) (filled.at c.set_both.new.values)) (sym c.remove-l.ensures.capacity)
+          (subst (λ ls. IsTrail ls (reserved_in (at t.seen)) (vec_capacity t.lits) (at t.seen) (filled.at c.set_both.new.values)) (sym c.remove-l.ensures.items) out),
+      c.self.invariant.1,
+    )
