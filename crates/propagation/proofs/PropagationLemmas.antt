@@ -6,4 +6,5 @@ pub mod HasAt
 pub mod Levels
 pub mod Passes
 pub mod Reduced
+pub mod SameClauses
 pub mod Scan

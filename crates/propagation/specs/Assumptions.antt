@@ -1,16 +1,18 @@
 -- Clauses in slots, and what is assumed of their literals (our own profile).
 use Rattle.std.specs.Prelude.{◌≡◌, ℕ, Bool, true, false, List, [], ◌∷◌, ◌++◌, filter, Some, Result}
-use Rattle.std.specs.Prelude.{IfOk, OnOk, OnErr, ⊤, take, IsTrue}
+use Rattle.std.specs.Prelude.{IfOk, OnOk, OnErr, ⊤, take, IsTrue, IsSome}
 use Rattle.std.specs.Ordering.{nat_cmp}
 use Rattle.std.specs.FinMap as maps
 use Rattle.std.specs.FinMap.{FinMap}
-use Rattle.cnf_base.specs.Literals.{Literal, Clause, has, complement, complements}
+use Rattle.cnf_base.specs.Literals.{Literal, Clause, has, same_clause, complement, complements}
 use Rattle.theory.specs.Propagation.{Live, Forced, Clash}
 use Rattle.clause_db.specs.Store.{literals_in}
 use Rattle.trail.specs.Trail.{TrailState}
 use Rattle.theory.specs.Sets.{SameSet}
 use Rattle.propagation.specs.declared.answer.Answer.{Answer}
 use Rattle.propagation.specs.declared.answer.Answer.TheVariants.{Clash as AnswersClash, Quiet}
+use Rattle.propagation.specs.declared.clause_source.ClauseSource.TheVariants.{Given, Stored}
+use Rattle.propagation.specs.declared.clause_source.ClauseSource.{ClauseSource}
 use Rattle.trail.specs.declared.value.Value.{Value}
 use Rattle.trail.specs.declared.value.Value.TheVariants.{True, False, Open}
 
@@ -34,6 +36,12 @@ pub record Propagation : Type 0 where
 -- no literals are kept but those of the live clauses
 abbrev pub HoldsLiveAlone : Propagation → Type 0
 HoldsLiveAlone p = p.stored ≡ literals_in p.live
+
+-- the same clauses, each as a set, are in the same slots
+pub record AreSameClauses (live kept : FinMap nat_cmp Clause) : Type 0 where
+  pub each : (slot : ℕ) (c : Clause) → maps.get kept slot ≡ Some c →
+      (d : Clause) × (maps.get live slot ≡ Some d) × IsTrue (same_clause d c)
+  pub no_other : (slot : ℕ) → IsSome (maps.get live slot) → IsSome (maps.get kept slot)
 
 -- what the assumptions that stand are seen as, with the literals that are true
 pub record AssumptionsState : Type 0 where
@@ -93,6 +101,19 @@ abbrev pub AssumingPart : {E : Type 0} → Propagation → Propagation → ℕ �
 AssumingPart before after slot keeps result =
     (c : Clause) → maps.get before.live slot ≡ Some c →
     Assuming before after (complements (filter keeps c)) result
+
+-- the clause is given, or the slot has one
+abbrev pub IsThere : FinMap nat_cmp Clause → ClauseSource → Type 0
+IsThere live (Given lits) = ⊤
+IsThere live (Stored slot) = IsSome (maps.get live slot)
+
+-- so it is with those of its literals that the test keeps
+abbrev pub AssumingFrom : {E : Type 0} → Propagation → Propagation → ClauseSource →
+    (Literal → Bool) → Result Answer E → Type 0
+AssumingFrom before after (Given lits) keeps result =
+    Assuming before after (complements (filter keeps lits.now)) result
+AssumingFrom before after (Stored slot) keeps result =
+    AssumingPart before after slot keeps result
 
 -- what propagation from these literals says of one
 abbrev pub IsValue : Live → List Literal → Literal → Value → Type 0

@@ -3,14 +3,17 @@
 
 mod answer;
 mod assumptions;
+mod clause_source;
 mod closure;
+mod first_with;
 mod levels;
 mod propagate;
 mod scan;
 
 pub use answer::Answer;
 pub use assumptions::Assumptions;
+pub use clause_source::ClauseSource;
 pub use closure::Closure;
 pub use propagate::Propagate;
-pub use scan::{Scan, first_with};
+pub use scan::Scan;
 pub use trail::Value;

@@ -6,6 +6,9 @@
 //! - An assumption that memory was refused to ends all later ones: what it had begun to mark need
 //!   not be known, and a session is over then anyhow.
 //! - `next_with` takes no memory, and so goes over all slots. Sessions use `touched`.
+//! - What is only looked up is asked of `store`, for every propagation by one body. A search marks
+//!   literals, and the first call of `touched` notes where each occurs: so both change the store,
+//!   which nobody else may.
 
 ghost use Rattle.std.specs.Prelude.{◌≡◌, ◌≢◌, [], ◌≤◌, ◌<◌, ◌∷◌, ℕ, min, not, true, false, ◌==◌};
 ghost use Rattle.std.specs.Prelude.{length, Some, None, List, IsTrue, IsSome, IfSome, IfNone, IfOk};
@@ -14,29 +17,41 @@ ghost use Rattle.std.specs.List.Sorted.{IsStrictlyIncreasing};
 ghost use Rattle.std.specs.FinMap as maps;
 ghost use Rattle.cnf_base.specs.Literals.{Clause, has, same_clause, complement, complements, size};
 ghost use Rattle.clause_db.specs.Store.{IsTouchedAt, copies_with};
-ghost use Rattle.propagation.specs.Assumptions.{Propagation, Assumption, Assuming, AssumingPart};
-ghost use Rattle.propagation.specs.Assumptions.{HoldsLiveAlone, HasAt, LastIsAnswered};
+ghost use Rattle.propagation.specs.Assumptions.{Propagation, Assumption, Assuming, AssumingPart, AssumingFrom};
+ghost use Rattle.propagation.specs.Assumptions.{AreSameClauses, HoldsLiveAlone, HasAt, IsThere};
+ghost use Rattle.propagation.specs.Assumptions.{LastIsAnswered};
 ghost use Rattle.propagation.specs.Assumptions.{IsValue, MayAssume, assumed_by};
 ghost use Rattle.theory.specs.Propagation.{IsRootReason};
 ghost use Rattle.trail.specs.LiteralSet.{in_set};
 ghost use Rattle.propagation.specs.declared.answer.Answer.TheVariants.{Quiet};
 
-use crate::Answer;
-use clause_db::Slot;
+use crate::first_with::first_with;
+use crate::{Answer, ClauseSource};
+use clause_db::{Memory, Slot, Store};
 use cnf_base::{Lit, OutOfMemory};
 use std::alloc::Global;
-use trail::{LiteralSet, Value};
+use trail::{Except, LiteralSet, Part, Unless, UnlessListed, Value, Whole};
 
 /// Live clauses, each in a slot, and unit propagation from literals that are assumed.
 ///
 /// At most two assumptions stand, the second on the first. One that adds no literal stands too.
 pub trait Propagate {
+    /// The memory that its clauses stand in.
+    type Clauses: Memory;
+
     /// The live clauses, the assumptions that stand, how many literals are kept, and whether an
     /// assumption was refused.
     ghost state: { Self → Propagation };
 
     /// The allocator that its memory comes from.
     fn alloc(&self) -> Global;
+
+    /// The store of the live clauses, in which the literals of each may stand in another order. It
+    /// takes no memory.
+    fn store(&self) -> &Store<Self::Clauses>
+        ensures live { AreSameClauses (state self.now).live result.now.live }
+        ensures stored { (state self.now).stored ≡ result.now.stored }
+        ensures live_alone { HoldsLiveAlone (state self.now) };
 
     /// Stores a clause in a slot that is free, where nothing is assumed. It fails only where memory
     /// is refused.
@@ -71,38 +86,6 @@ pub trait Propagate {
             ⊥) }
         ensures same { state self.new ≡ state self.old };
 
-    /// The different literals of the clause in the slot, in any order. It takes no memory.
-    fn clause(&self, slot: Slot) -> &[Lit]
-        requires { IsSome (maps.get (state self.now).live slot) }
-        ensures clause { (c : Clause) × (maps.get (state self.now).live slot ≡ Some c) ×
-            IsTrue (same_clause c result.now) }
-        ensures different { length result.now ≡ size result.now };
-
-    /// The sum of the lengths of the lists of literals that it keeps, which is that of the sizes of
-    /// the clauses; `2^64 - 1` where it is greater. It takes no memory.
-    fn literals(&self) -> u64
-        ensures value { result ≡ min (state self.now).stored 18446744073709551615 }
-        ensures live_alone { HoldsLiveAlone (state self.now) };
-
-    /// The first slot from this one on whose clause has the literal, if there is one. It takes no
-    /// memory.
-    fn next_with(&self, l: Lit, from: Slot) -> Option<Slot>
-        ensures found { IfSome result (λ slot. (from ≤ slot) ×
-            HasAt (maps.get (state self.now).live) l slot) }
-        ensures passed_over { IfSome result (λ slot. (s : ℕ) → from ≤ s → s < slot →
-            ¬ HasAt (maps.get (state self.now).live) l s) }
-        ensures none { IfNone result ((s : ℕ) → from ≤ s →
-            ¬ HasAt (maps.get (state self.now).live) l s) }
-        ensures slots { (s : ℕ) → IsSome (maps.get (state self.now).live s) →
-            s ≤ 18446744073709551615 };
-
-    /// How many of the live clauses have the literal, each copy counted. It takes no memory.
-    fn count_with(&self, l: Lit) -> u64
-        ensures value { result ≡ copies_with (state self.now).live l }
-        ensures none { result ≡ 0 → (s : ℕ) →
-            ¬ HasAt (maps.get (state self.now).live) l s }
-        ensures some { result ≢ 0 → (s : ℕ) × HasAt (maps.get (state self.now).live) l s };
-
     /// The slots of the live clauses that the literals touch: that have the complement of one of
     /// them. It costs what these clauses cost, however many others are alive, but for the first
     /// call.
@@ -118,50 +101,21 @@ pub trait Propagate {
             IsTrue (has slots.new.items s)) }
         ensures same { state self.new ≡ state self.old };
 
-    /// Assumes the complements of the literals, beside what is assumed, and propagates.
-    ///
-    /// # Errors
-    ///
-    /// Where memory runs out, and ever after. What is assumed is then as it was.
-    fn assume(&mut self, lits: &[Lit]) -> Result<Answer, OutOfMemory>
-        requires { MayAssume (state self.old).assumptions }
-        ensures { Assuming (state self.old) (state self.new) (complements lits.now) result };
-
-    /// Assumes the complements of the literals of a live clause but for one, beside what is
+    /// Assumes the complements of a part of a clause, which is given or alive, beside what is
     /// assumed, and propagates.
     ///
     /// # Errors
     ///
     /// Where memory runs out, and ever after. What is assumed is then as it was.
-    fn assume_rest(&mut self, slot: Slot, l: Lit) -> Result<Answer, OutOfMemory>
+    fn assume_part<P: Part>(
+        &mut self,
+        source: &ClauseSource<'_>,
+        part: &P,
+    ) -> Result<Answer, OutOfMemory>
         requires may { MayAssume (state self.old).assumptions }
-        requires alive { IsSome (maps.get (state self.old).live slot) }
-        ensures { AssumingPart (state self.old) (state self.new) slot
-            (λ k. not (k == l)) result };
-
-    /// Assumes the complements of the literals of a live clause but for those whose complement is
-    /// in the set, beside what is assumed, and propagates.
-    ///
-    /// # Errors
-    ///
-    /// Where memory runs out, and ever after. What is assumed is then as it was.
-    fn assume_unless(&mut self, slot: Slot, set: &[Lit]) -> Result<Answer, OutOfMemory>
-        requires may { MayAssume (state self.old).assumptions }
-        requires alive { IsSome (maps.get (state self.old).live slot) }
-        ensures { AssumingPart (state self.old) (state self.new) slot
-            (λ k. not (has set.now (complement k))) result };
-
-    /// The same as `assume_unless`, with a set that was filled before. Each look-up in the set
-    /// costs the same, however large it is.
-    ///
-    /// # Errors
-    ///
-    /// Where memory runs out, and ever after. What is assumed is then as it was.
-    fn assume_reduced(&mut self, slot: Slot, set: &LiteralSet) -> Result<Answer, OutOfMemory>
-        requires may { MayAssume (state self.old).assumptions }
-        requires alive { IsSome (maps.get (state self.old).live slot) }
-        ensures { AssumingPart (state self.old) (state self.new) slot
-            (λ k. not (in_set set.now (complement k))) result };
+        requires alive { IsThere (state self.old).live source.now }
+        ensures { AssumingFrom (state self.old) (state self.new) source.now (P.keeps part.now)
+            result };
 
     /// Whether the clause in the slot makes a literal of it hold for good, where nothing is
     /// assumed: that literal follows, and so do the complements of all its others. It is asked of
@@ -202,4 +156,105 @@ pub trait Propagate {
         requires { LastIsAnswered Quiet (state self.now).assumptions }
         ensures { IsValue (maps.get (state self.now).live)
             (assumed_by (state self.now).assumptions) l result };
+
+    /// The different literals of the clause in the slot, in any order. It takes no memory.
+    fn clause(&self, slot: Slot) -> &[Lit]
+        requires { IsSome (maps.get (state self.now).live slot) }
+        ensures clause { (c : Clause) × (maps.get (state self.now).live slot ≡ Some c) ×
+            IsTrue (same_clause c result.now) }
+        ensures different { length result.now ≡ size result.now }
+    {
+        self.store().clause(slot)
+    }
+
+    /// The sum of the lengths of the lists of literals that it keeps, which is that of the sizes of
+    /// the clauses; `2^64 - 1` where it is greater. It takes no memory.
+    fn literals(&self) -> u64
+        ensures value { result ≡ min (state self.now).stored 18446744073709551615 }
+        ensures live_alone { HoldsLiveAlone (state self.now) }
+    {
+        self.store().literals()
+    }
+
+    /// The first slot from this one on whose clause has the literal, if there is one. It takes no
+    /// memory.
+    fn next_with(&self, l: Lit, from: Slot) -> Option<Slot>
+        ensures found { IfSome result (λ slot. (from ≤ slot) ×
+            HasAt (maps.get (state self.now).live) l slot) }
+        ensures passed_over { IfSome result (λ slot. (s : ℕ) → from ≤ s → s < slot →
+            ¬ HasAt (maps.get (state self.now).live) l s) }
+        ensures none { IfNone result ((s : ℕ) → from ≤ s →
+            ¬ HasAt (maps.get (state self.now).live) l s) }
+        ensures slots { (s : ℕ) → IsSome (maps.get (state self.now).live s) →
+            s ≤ 18446744073709551615 }
+    {
+        first_with(self.store(), l, from)
+    }
+
+    /// How many of the live clauses have the literal, each copy counted. It takes no memory.
+    fn count_with(&self, l: Lit) -> u64
+        ensures value { result ≡ copies_with (state self.now).live l }
+        ensures none { result ≡ 0 → (s : ℕ) →
+            ¬ HasAt (maps.get (state self.now).live) l s }
+        ensures some { result ≢ 0 → (s : ℕ) × HasAt (maps.get (state self.now).live) l s }
+    {
+        self.store().count_with(l)
+    }
+
+    /// Assumes the complements of the literals, beside what is assumed, and propagates.
+    ///
+    /// # Errors
+    ///
+    /// Where memory runs out, and ever after. What is assumed is then as it was.
+    fn assume(&mut self, lits: &[Lit]) -> Result<Answer, OutOfMemory>
+        requires { MayAssume (state self.old).assumptions }
+        ensures { Assuming (state self.old) (state self.new) (complements lits.now) result }
+    {
+        self.assume_part(&ClauseSource::Given(lits), &Whole)
+    }
+
+    /// Assumes the complements of the literals of a live clause but for one, beside what is
+    /// assumed, and propagates.
+    ///
+    /// # Errors
+    ///
+    /// Where memory runs out, and ever after. What is assumed is then as it was.
+    fn assume_rest(&mut self, slot: Slot, l: Lit) -> Result<Answer, OutOfMemory>
+        requires may { MayAssume (state self.old).assumptions }
+        requires alive { IsSome (maps.get (state self.old).live slot) }
+        ensures { AssumingPart (state self.old) (state self.new) slot
+            (λ k. not (k == l)) result }
+    {
+        self.assume_part(&ClauseSource::Stored(slot), &Except(l))
+    }
+
+    /// Assumes the complements of the literals of a live clause but for those whose complement is
+    /// in the set, beside what is assumed, and propagates.
+    ///
+    /// # Errors
+    ///
+    /// Where memory runs out, and ever after. What is assumed is then as it was.
+    fn assume_unless(&mut self, slot: Slot, set: &[Lit]) -> Result<Answer, OutOfMemory>
+        requires may { MayAssume (state self.old).assumptions }
+        requires alive { IsSome (maps.get (state self.old).live slot) }
+        ensures { AssumingPart (state self.old) (state self.new) slot
+            (λ k. not (has set.now (complement k))) result }
+    {
+        self.assume_part(&ClauseSource::Stored(slot), &UnlessListed(set))
+    }
+
+    /// The same as `assume_unless`, with a set that was filled before. Each look-up in the set
+    /// costs the same, however large it is.
+    ///
+    /// # Errors
+    ///
+    /// Where memory runs out, and ever after. What is assumed is then as it was.
+    fn assume_reduced(&mut self, slot: Slot, set: &LiteralSet) -> Result<Answer, OutOfMemory>
+        requires may { MayAssume (state self.old).assumptions }
+        requires alive { IsSome (maps.get (state self.old).live slot) }
+        ensures { AssumingPart (state self.old) (state self.new) slot
+            (λ k. not (in_set set.now (complement k))) result }
+    {
+        self.assume_part(&ClauseSource::Stored(slot), &Unless(set))
+    }
 }

@@ -2,22 +2,21 @@
 
 mod unit;
 
-ghost use Rattle.std.specs.Prelude.{◌≡◌, ℕ, [], ◌≤◌, ◌<◌, filter, true, false, IfOk, IfSome};
-ghost use Rattle.std.specs.Prelude.{IfNone, IsSome};
+ghost use Rattle.std.specs.Prelude.{◌≡◌, [], filter, false, IfOk, IsSome};
 ghost use Rattle.std.specs.FinMap as maps;
 ghost use Rattle.cnf_base.specs.Literals.{complements};
-ghost use Rattle.propagation.specs.Assumptions.{AssumingPart, HasAt, MayAssume};
+ghost use Rattle.propagation.specs.Assumptions.{Assuming, AssumingPart, MayAssume};
 ghost use Rattle.propagation.specs.Code.Scan.{AssumesOn, IsScan};
 ghost use Rattle.trail.specs.Trail.{HasRoom};
 
 use crate::assumptions::Assumptions;
 use crate::scan::unit::propagate;
-use crate::{Answer, Closure, Propagate};
-use clause_db::{Memory, Slot, Slots, Store};
+use crate::{Answer, ClauseSource, Closure, Propagate};
+use clause_db::{Slot, Slots, Store};
 use cnf_base::{Lit, OutOfMemory};
 use std::alloc::Global;
 use std::marker::Model;
-use trail::{Except, LiteralSet, Part, Unless, Value, Whole};
+use trail::{Part, Value};
 
 /// Live clauses, and unit propagation by plain passes over all of them: slow, and in little memory.
 #[derive(Drop)]
@@ -57,36 +56,6 @@ impl Model for Scan {
         IsScan s.store.live s.assumptions × (s.store.stored ≡ literals_in s.store.live) };
 }
 
-/// Whether there is a clause in the slot with this number, and it has the literal.
-fn has_at<M: Memory>(store: &Store<M>, number: usize, l: Lit) -> bool
-    ensures yes { result ≡ true → HasAt (maps.get store.now.live) l number }
-    ensures no { result ≡ false → ¬ HasAt (maps.get store.now.live) l number }
-{
-    match store.at(number) {
-        Some(clause) => clause.contains(&l),
-        None => false,
-    }
-}
-
-/// The first slot from this one on whose clause has the literal.
-pub fn first_with<M: Memory>(store: &Store<M>, l: Lit, from: Slot) -> Option<Slot>
-    ensures found { IfSome result
-        (λ slot. (from ≤ slot) × HasAt (maps.get store.now.live) l slot) }
-    ensures passed_over { IfSome result (λ slot. (s : ℕ) → from ≤ s → s < slot →
-        ¬ HasAt (maps.get store.now.live) l s) }
-    ensures none { IfNone result
-        ((s : ℕ) → from ≤ s → ¬ HasAt (maps.get store.now.live) l s) }
-    ensures slots { (s : ℕ) → IsSome (maps.get store.now.live s) →
-        s ≤ 18446744073709551615 }
-{
-    for number in from.number()..store.end() {
-        if has_at(store, number, l) {
-            return Some(Slot::at(number));
-        }
-    }
-    None
-}
-
 /// Assumes the complements of a part of a clause, beside what is assumed, and propagates.
 fn assume_part<P: Part>(
     store: &Store<Slots>,
@@ -124,11 +93,26 @@ impl Scan {
         })
     }
 
-    /// Assumes the complements of a part of a live clause, beside what is assumed, and propagates.
+    /// Assumes the complements of a part of these literals, beside what is assumed, and propagates.
     ///
     /// # Errors
     ///
     /// Where memory runs out, and ever after. What is assumed is then as it was.
+    fn assume_given<P: Part>(&mut self, lits: &[Lit], part: &P) -> Result<Answer, OutOfMemory>
+        requires { MayAssume self.old.assumptions }
+        ensures { Assuming self.old self.new
+            (complements (filter (P.keeps part.now) lits.now)) result }
+    {
+        if self.has_refused || self.assumptions.reserve(lits).is_err() {
+            self.has_refused = true;
+            return Err(OutOfMemory);
+        }
+        let assumed = assume_part(&self.store, &mut self.assumptions, lits, part);
+        self.has_refused = assumed.is_err();
+        assumed
+    }
+
+    /// The same with a part of a live clause.
     fn assume_stored<P: Part>(&mut self, slot: Slot, part: &P) -> Result<Answer, OutOfMemory>
         requires may { MayAssume self.old.assumptions }
         requires alive { IsSome (maps.get self.old.live slot) }
@@ -146,10 +130,16 @@ impl Scan {
 }
 
 impl Propagate for Scan {
+    type Clauses = Slots;
+
     ghost state = { λ s. s };
 
     fn alloc(&self) -> Global {
         self.alloc
+    }
+
+    fn store(&self) -> &Store<Slots> {
+        &self.store
     }
 
     fn insert(&mut self, lits: &[Lit]) -> Result<Slot, OutOfMemory> {
@@ -165,51 +155,19 @@ impl Propagate for Scan {
         self.store.find(lits)
     }
 
-    fn clause(&self, slot: Slot) -> &[Lit] {
-        self.store.clause(slot)
-    }
-
-    fn literals(&self) -> u64 {
-        self.store.literals()
-    }
-
-    fn next_with(&self, l: Lit, from: Slot) -> Option<Slot> {
-        first_with(&self.store, l, from)
-    }
-
-    fn count_with(&self, l: Lit) -> u64 {
-        self.store.count_with(l)
-    }
-
     fn touched(&mut self, lits: &[Lit], slots: &mut Vec<u32>) -> Result<(), OutOfMemory> {
         self.store.slots_touched(lits, slots)
     }
 
-    fn assume(&mut self, lits: &[Lit]) -> Result<Answer, OutOfMemory> {
-        if self.has_refused || self.assumptions.reserve(lits).is_err() {
-            self.has_refused = true;
-            return Err(OutOfMemory);
+    fn assume_part<P: Part>(
+        &mut self,
+        source: &ClauseSource<'_>,
+        part: &P,
+    ) -> Result<Answer, OutOfMemory> {
+        match *source {
+            ClauseSource::Given(lits) => self.assume_given(lits, part),
+            ClauseSource::Stored(slot) => self.assume_stored(slot, part),
         }
-        let assumed = assume_part(&self.store, &mut self.assumptions, lits, &Whole);
-        self.has_refused = assumed.is_err();
-        assumed
-    }
-
-    fn assume_rest(&mut self, slot: Slot, l: Lit) -> Result<Answer, OutOfMemory> {
-        self.assume_stored(slot, &Except(l))
-    }
-
-    fn assume_reduced(&mut self, slot: Slot, set: &LiteralSet) -> Result<Answer, OutOfMemory> {
-        self.assume_stored(slot, &Unless(set))
-    }
-
-    fn assume_unless(&mut self, slot: Slot, set: &[Lit]) -> Result<Answer, OutOfMemory> {
-        let mut filled = LiteralSet::new(self.alloc);
-        if filled.fill(set).is_err() {
-            self.has_refused = true;
-            return Err(OutOfMemory);
-        }
-        self.assume_reduced(slot, &filled)
     }
 
     fn is_root_reason(&mut self, slot: Slot) -> Result<bool, OutOfMemory> {

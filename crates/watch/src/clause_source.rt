@@ -1,32 +1,23 @@
-//! Where the clause stands of which a part is assumed.
+//! The assumption of a part of a clause, wherever the clause stands, and the room for it.
 
 ghost use Rattle.std.specs.Prelude.{◌≡◌, ℕ, ◌++◌, ◌∷◌, filter, length, take, List, IsTrue, IfOk};
 ghost use Rattle.std.specs.Prelude.{IsSome, OnOk, OnErr};
 ghost use Rattle.std.specs.Bool.{OnFalse};
 ghost use Rattle.cnf_base.specs.Literals.{Literal, complements, has};
-ghost use Rattle.propagation.specs.Assumptions.{Assumption, MayAssume, assumed_by};
+ghost use Rattle.propagation.specs.Assumptions.{Assumption, IsThere, MayAssume, assumed_by};
 ghost use Rattle.trail.specs.Trail.{HasRoom};
 ghost use Rattle.theory.specs.Sets.{SameSet, conflicts};
 ghost use Rattle.tables.specs.Filled.{at};
-ghost use Rattle.watch.specs.Code.ClauseSource.{HasRoomGiven, IsThere, clause_of};
+ghost use Rattle.watch.specs.Code.ClauseSource.{HasRoomGiven, clause_of};
 ghost use Rattle.watch.specs.Code.State.{AddsRoom, HaveReasons};
 ghost use Rattle.propagation.specs.declared.answer.Answer.TheVariants.{Clash};
 
 use crate::room::reserve_room;
-use clause_db::{Slot, Store};
-use cnf_base::{Lit, OutOfMemory};
-use propagation::Assumptions;
+use clause_db::Store;
+use cnf_base::OutOfMemory;
+use propagation::{Assumptions, ClauseSource};
 use root_literals::Roots;
 use trail::Part;
-
-/// A clause that is given, or that of a slot.
-#[derive(Clone, Copy)]
-pub(crate) enum ClauseSource<'a> {
-    /// These literals.
-    Given(&'a [Lit]),
-    /// Those of the clause in this slot.
-    Stored(Slot),
-}
 
 /// Makes room for the literals that are given. For those of a slot there is room.
 pub(crate) fn reserve_given(

@@ -8,30 +8,30 @@ ghost use Rattle.std.specs.Prelude.{false, IsTrue, IfOk, OnOk, OnErr, IfSome, If
 ghost use Rattle.std.specs.FinMap as maps;
 ghost use Rattle.cnf_base.specs.Literals.{Literal, complements, has};
 ghost use Rattle.theory.specs.Propagation.{Clash, Forced};
-ghost use Rattle.propagation.specs.Assumptions.{AssumingPart, HasAt, HoldsLiveAlone, MayAssume};
+ghost use Rattle.propagation.specs.Assumptions.{HoldsLiveAlone, IsThere, MayAssume};
 ghost use Rattle.propagation.specs.Code.Scan.{AssumesOn};
 ghost use Rattle.trail.specs.Trail.{HasRoom};
 ghost use Rattle.root_literals.specs.Order.{each_in_order};
 ghost use Rattle.root_literals.specs.Roots.{is_up_to_date};
-ghost use Rattle.watch.specs.Code.ClauseSource.{AssumingFrom, IsThere, clause_of};
+ghost use Rattle.watch.specs.Code.ClauseSource.{clause_of};
 ghost use Rattle.watch.specs.Code.State.{IsWatch};
 ghost use Rattle.watch.specs.Watched.{long_clauses, short_clauses};
 
 use crate::arrange::arrange;
-use crate::clause_source::{ClauseSource, assume_from, reserve_given};
+use crate::clause_source::{assume_from, reserve_given};
 use crate::clauses::{insert_clause, remove_clause};
 use crate::entries::{add_entries, remove_entries};
 use crate::reason::is_reason_for_good;
 use crate::refresh::refresh;
 use crate::room::reserve_room;
 use crate::run::run;
-use clause_db::{Slot, Store};
+use clause_db::{Blocks, Slot, Store};
 use cnf_base::{Lit, OutOfMemory};
-use propagation::{Answer, Assumptions, Closure, Propagate, first_with};
+use propagation::{Answer, Assumptions, ClauseSource, Closure, Propagate};
 use root_literals::Roots;
 use std::alloc::Global;
 use std::marker::Model;
-use trail::{Except, LiteralSet, Part, Unless, Value, Whole};
+use trail::{Part, Value};
 use watch_lists::{SlotList, WatchLists};
 
 /// Live clauses, and unit propagation with two watched literals a clause: what follows from an
@@ -274,50 +274,6 @@ impl Watch {
         refreshed
     }
 
-    /// Assumes the complements of a part of a clause, beside what is assumed, and propagates.
-    ///
-    /// # Errors
-    ///
-    /// Where memory runs out, and ever after. What is assumed is then as it was.
-    fn assume_source<P: Part>(
-        &mut self,
-        source: &ClauseSource<'_>,
-        part: &P,
-    ) -> Result<Answer, OutOfMemory>
-        requires may { MayAssume self.old.propagation.assumptions }
-        requires alive { IsThere self.old.propagation.live source.now }
-        ensures { AssumingFrom self.old.propagation self.new.propagation source.now
-            (P.keeps part.now) result }
-    {
-        self.prepare()?;
-        if reserve_given(&mut self.assumptions, &mut self.roots, source).is_err() {
-            self.has_refused = true;
-            return Err(OutOfMemory);
-        }
-        let assumed = assume_part(
-            &mut self.store,
-            &mut self.lists,
-            &self.short,
-            &mut self.assumptions,
-            &mut self.roots,
-            source,
-            part,
-        );
-        self.store.recall_invariant();
-        self.has_refused = assumed.is_err();
-        assumed
-    }
-
-    /// The same with a part of a live clause.
-    fn assume_stored<P: Part>(&mut self, slot: Slot, part: &P) -> Result<Answer, OutOfMemory>
-        requires may { MayAssume self.old.propagation.assumptions }
-        requires alive { IsSome (maps.get self.old.propagation.live slot) }
-        ensures { AssumingPart self.old.propagation self.new.propagation slot
-            (P.keeps part.now) result }
-    {
-        self.assume_source(&ClauseSource::Stored(slot), part)
-    }
-
     /// Takes back the last assumption. What is known with nothing assumed stays. It takes no
     /// memory.
     pub fn take_back(&mut self)
@@ -336,10 +292,16 @@ impl Watch {
 }
 
 impl Propagate for Watch {
+    type Clauses = Blocks;
+
     ghost state = { λ w. w.propagation };
 
     fn alloc(&self) -> Global {
         self.alloc
+    }
+
+    fn store(&self) -> &Store {
+        &self.store
     }
 
     fn insert(&mut self, lits: &[Lit]) -> Result<Slot, OutOfMemory> {
@@ -370,45 +332,32 @@ impl Propagate for Watch {
         self.store.find(lits)
     }
 
-    fn clause(&self, slot: Slot) -> &[Lit] {
-        self.store.clause(slot)
-    }
-
-    fn literals(&self) -> u64 {
-        self.store.literals()
-    }
-
-    fn next_with(&self, l: Lit, from: Slot) -> Option<Slot> {
-        first_with(&self.store, l, from)
-    }
-
-    fn count_with(&self, l: Lit) -> u64 {
-        self.store.count_with(l)
-    }
-
     fn touched(&mut self, lits: &[Lit], slots: &mut Vec<u32>) -> Result<(), OutOfMemory> {
         self.store.slots_touched(lits, slots)
     }
 
-    fn assume(&mut self, lits: &[Lit]) -> Result<Answer, OutOfMemory> {
-        self.assume_source(&ClauseSource::Given(lits), &Whole)
-    }
-
-    fn assume_rest(&mut self, slot: Slot, l: Lit) -> Result<Answer, OutOfMemory> {
-        self.assume_stored(slot, &Except(l))
-    }
-
-    fn assume_reduced(&mut self, slot: Slot, set: &LiteralSet) -> Result<Answer, OutOfMemory> {
-        self.assume_stored(slot, &Unless(set))
-    }
-
-    fn assume_unless(&mut self, slot: Slot, set: &[Lit]) -> Result<Answer, OutOfMemory> {
-        let mut filled = LiteralSet::new(self.alloc);
-        if filled.fill(set).is_err() {
+    fn assume_part<P: Part>(
+        &mut self,
+        source: &ClauseSource<'_>,
+        part: &P,
+    ) -> Result<Answer, OutOfMemory> {
+        self.prepare()?;
+        if reserve_given(&mut self.assumptions, &mut self.roots, source).is_err() {
             self.has_refused = true;
             return Err(OutOfMemory);
         }
-        self.assume_reduced(slot, &filled)
+        let assumed = assume_part(
+            &mut self.store,
+            &mut self.lists,
+            &self.short,
+            &mut self.assumptions,
+            &mut self.roots,
+            source,
+            part,
+        );
+        self.store.recall_invariant();
+        self.has_refused = assumed.is_err();
+        assumed
     }
 
     fn is_root_reason(&mut self, slot: Slot) -> Result<bool, OutOfMemory> {

@@ -11,14 +11,15 @@ use Rattle.std.proofs.lemmas.Bool.{false≢true}
 use Rattle.cnf_base.specs.Literals.{Clause, Literal, complements, has}
 use Rattle.clause_db.specs.Store.{literals_in}
 use Rattle.trail.specs.Trail.{HasRoom, HasRoomForAll}
-use Rattle.propagation.specs.Assumptions.{Assuming, AssumptionsState, Propagation}
+use Rattle.propagation.specs.Assumptions.{Assuming, AssumingFrom, AssumptionsState, IsThere}
+use Rattle.propagation.specs.Assumptions.{Propagation}
 use Rattle.propagation.specs.Code.Scan.{AssumesOn}
 use Rattle.propagation.specs.declared.answer.Answer.{Answer}
 use Rattle.propagation.proofs.PropagationLemmas.Scan.{assuming_alike, assuming_from}
-use Rattle.watch.specs.Code.ClauseSource.{AssumingFrom, HasRoomGiven, IsThere, clause_of}
+use Rattle.watch.specs.Code.ClauseSource.{HasRoomGiven, clause_of}
 use Rattle.root_literals.specs.Order.{each_in_order, in_order}
-use Rattle.watch.specs.declared.clause_source.ClauseSource.TheVariants.{Given, Stored}
-use Rattle.watch.specs.declared.clause_source.ClauseSource.{ClauseSource}
+use Rattle.propagation.specs.declared.clause_source.ClauseSource.TheVariants.{Given, Stored}
+use Rattle.propagation.specs.declared.clause_source.ClauseSource.{ClauseSource}
 use Rattle.root_literals.proofs.RootLemmas.Order.{alive_alike, alive_clause, has-in_order}
 use Rattle.root_literals.proofs.RootLemmas.Order.{part_alike, seen_there, there_seen}
 

@@ -2,7 +2,7 @@
 use Rattle.std.proofs.Common.{◌≡◌, ◌≢◌, ℕ, suc, ◌+◌, ◌*◌, ◌/◌, ◌<◌, ◌≤◌, Bool, true, false, not}
 use Rattle.std.proofs.Common.{◌&&◌, cond, eqb, eq-eqb, ne_eqb, Option, Some, None, is_some, nat_le}
 use Rattle.std.proofs.Common.{drop, slice_index, List, [], ◌∷◌, length, take, refl, sym, ap, ◌∙◌}
-use Rattle.std.proofs.Common.{subst, arith, inl, inr, max}
+use Rattle.std.proofs.Common.{subst, arith, inl, inr}
 use Rattle.std.specs.Ordering.{nat_cmp}
 use Rattle.std.specs.FinMap as maps
 use Rattle.std.specs.FinMap.{FinMap}
@@ -41,10 +41,10 @@ use Rattle.watch_lists.proofs.WatchListsLemmas.Lists.{unfit_absent}
 use Rattle.watch.proofs.WatchLemmas.Kept.{kept_carried, kept_forced, roots_alone, roots_part}
 use Rattle.root_literals.proofs.RootLemmas.Kept.{kept_nothing}
 use Rattle.watch.proofs.WatchLemmas.Moves.{and_false, and_true}
-use Rattle.root_literals.proofs.RootLemmas.Order.{length-in_order, ordered_empty, size-in_order, sum_ordered}
+use Rattle.root_literals.proofs.RootLemmas.Order.{ordered_empty, size-in_order, sum_ordered}
 use Rattle.root_literals.proofs.RootLemmas.Reasons.{reasoned_same, reasoned_some}
 use Rattle.cnf_base.proofs.MapLemmas.{insert_here, insert_other, remove_here, remove_other}
-use Rattle.cnf_base.proofs.MapLemmas.{sum_alike, sum_empty, sum_insert, sum_remove}
+use Rattle.cnf_base.proofs.MapLemmas.{sum_empty, sum_insert, sum_remove}
 
 -- ---- Numbers
 

@@ -1,4 +1,4 @@
-use Rattle.std.proofs.Common.{◌≡◌, ◌≤◌}
+use Rattle.std.proofs.Common.{◌≤◌}
 use Rattle.watch.specs.Code.Visits.{AreMet, IsInHand, VisitsUnder, entries_left}
 use Rattle.watch.proofs.follow.next_found.Given as goal
 

@@ -1,4 +1,4 @@
-use Rattle.std.proofs.Common.{◌≡◌, ◌<◌, Some, IfNone, length, false, ℕ, refl, ap, ◌∙◌, subst, arith}
+use Rattle.std.proofs.Common.{◌≡◌, ◌<◌, Some, IfNone, length, false, ℕ, ap, ◌∙◌, subst, arith}
 use Rattle.std.specs.FinMap as maps
 use Rattle.cnf_base.specs.Literals.{Clause, complement}
 use Rattle.tables.specs.Filled.{at}

@@ -1,4 +1,3 @@
-use Rattle.std.proofs.Common.{◌≡◌}
 use Rattle.tables.specs.Filled.{at}
 use Rattle.watch.specs.Code.Visits.{AreMet, Visited, entries_left}
 use Rattle.watch.proofs.follow.visit_all.Given as goal

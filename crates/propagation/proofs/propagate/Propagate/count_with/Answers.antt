@@ -1,0 +1,16 @@
+use Rattle.std.proofs.Common.{sym, ◌∙◌}
+use Rattle.propagation.proofs.PropagationLemmas.Counts.{none_with, some_with}
+use Rattle.propagation.proofs.PropagationLemmas.SameClauses.{kept_copies}
+use Rattle.propagation.proofs.propagate.Propagate.count_with.Goals as goal
+
+pub returns-clause-value : goal.returns-clause-value
+returns-clause-value g c =
+    c.count_with.ensures ∙ kept_copies (g.Self.Propagate.state c.args.self.now).live c.store.result.now.live c.store.ensures.live c.args.l
+
+pub returns-clause-none : goal.returns-clause-none
+returns-clause-none g c none =
+    none_with (g.Self.Propagate.state c.args.self.now).live c.args.l (sym (returns-clause-value g c) ∙ none)
+
+pub returns-clause-some : goal.returns-clause-some
+returns-clause-some g c some =
+    some_with (g.Self.Propagate.state c.args.self.now).live c.args.l (λ zero. some (returns-clause-value g c ∙ zero))

@@ -1,0 +1,11 @@
+use Rattle.std.proofs.Common.{is_some, sym, ap, ◌∙◌}
+use Rattle.std.specs.FinMap as maps
+use Rattle.cnf_base.proofs.SetLemmas.{same_itself}
+use Rattle.propagation.proofs.scan.ScanPropagate.store.Goals as goal
+
+pub returns-clause-live : goal.returns-clause-live
+returns-clause-live c =
+    let view = ap (λ p. p.live) c.self.view_is in record {
+      each = λ slot d at. (d, ap (λ live. maps.get live slot) (sym view) ∙ at, same_itself d);
+      no_other = λ slot alive. ap (λ live. is_some (maps.get live slot)) view ∙ alive;
+    }

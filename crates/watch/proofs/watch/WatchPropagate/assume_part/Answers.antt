@@ -1,0 +1,62 @@
+use Rattle.std.proofs.Common.{rules, refl, sym, ap, ◌∙◌, subst}
+use Rattle.std.specs.FinMap as maps
+use Rattle.propagation.specs.Closure.{IsClosure}
+use Rattle.propagation.proofs.PropagationLemmas.Reduced.{unless_refused}
+use Rattle.watch.proofs.WatchLemmas.Assumed.{assuming_source, refused_source, source_room}
+use Rattle.watch.proofs.WatchLemmas.Assumed.{source_there}
+use Rattle.root_literals.proofs.RootLemmas.Order.{literals_ordered}
+use Rattle.watch.proofs.WatchLemmas.State.{watch_room}
+use Rattle.watch.proofs.watch.WatchPropagate.assume_part.Goals as goal
+
+pub invariant_of-self : goal.invariant_of-self
+invariant_of-self g c =
+    let i = c.self.inside in
+    let r = c.reserve_given.ensures in (
+      watch_room i.store.live i.lists i.short i.roots c.reserve_given.new.roots i.assumptions c.reserve_given.new.assumptions r.more r.noted c.self.invariant.0,
+      c.self.invariant.1,
+      c.self.invariant.2,
+    )
+
+pub assume_part-assumed-requires-clause-watch : goal.assume_part-assumed-requires-clause-watch
+assume_part-assumed-requires-clause-watch g c =
+    let i = c.self.inside in
+    let r = c.reserve_given.ensures in
+    watch_room i.store.live i.lists i.short i.roots c.reserve_given.new.roots i.assumptions c.reserve_given.new.assumptions r.more r.noted c.self.invariant.0
+
+pub assume_part-assumed-requires-clause-alive : goal.assume_part-assumed-requires-clause-alive
+assume_part-assumed-requires-clause-alive g c =
+    source_there c.self.inside.store.live c.args.source.now _ (ap (λ w. w.propagation.live) c.self.view_is ∙ c.in_ok-prepare.ensures.live) c.requires.alive
+
+pub assume_part-assumed-requires-clause-room : goal.assume_part-assumed-requires-clause-room
+assume_part-assumed-requires-clause-room g c =
+    let live = c.self.inside.store.live in
+    let source = c.args.source.now in
+    source_room live source c.reserve_given.new.assumptions.trail.reserved (record { each = λ k d here l member. c.reserve_given.ensures.more.reserved _ (c.self.invariant.0.scan.room.each k d here l member) })
+    (source_there live source _ (ap (λ w. w.propagation.live) c.self.view_is ∙ c.in_ok-prepare.ensures.live) c.requires.alive) (unless_refused c.reserve_given.result (sym c.is_err.ensures.value ∙ c.if-is_err.false) c.reserve_given.ensures.room)
+
+pub invariant_of-self-2 : goal.invariant_of-self-2
+invariant_of-self-2 g c = (
+  c.assume_part-assumed.ensures.watch,
+  c.recall_invariant.ensures.live_alone ∙ sym (literals_ordered c.assume_part-assumed.new.store.live),
+  subst (λ m. IsClosure (maps.get m) c.self.inside.closure) (sym c.assume_part-assumed.ensures.same) c.self.invariant.2,
+)
+
+pub returns-in_err-prepare : goal.returns-in_err-prepare
+returns-in_err-prepare g c =
+    let ready = c.in_err-prepare.ensures in
+    refused_source c.args.self.now.propagation _ _ c.from_residual.result (search rules) ready.live ready.live_alone ready.refused ready.assumptions c.args.source.now
+
+pub returns-then-is_err : goal.returns-then-is_err
+returns-then-is_err g c =
+    let view = c.self.view_is in
+    let ready = c.in_ok-prepare.ensures in
+    refused_source c.args.self.now.propagation _ _ _ refl (ap (λ w. w.propagation.live) view ∙ ready.live) c.self.invariant.1 refl (c.reserve_given.ensures.more.assumptions ∙ ap (λ w. w.propagation.assumptions) view ∙ ready.assumptions) c.args.source.now
+
+pub returns : goal.returns
+returns g c =
+    let view = c.self.view_is in
+    let ready = c.in_ok-prepare.ensures in
+    let e = c.assume_part-assumed.ensures in
+    assuming_source c.self.inside.store.live c.args.source.now c.args.self.now.propagation _ c.reserve_given.new.assumptions c.assume_part-assumed.new.assumptions (g.P.Part.keeps c.args.part.now) c.assume_part-assumed.result
+    (ap (λ w. w.propagation.live) view ∙ ready.live) (c.reserve_given.ensures.more.assumptions ∙ ap (λ w. w.propagation.assumptions) view ∙ ready.assumptions) ready.never_refused
+    e.same (c.recall_invariant.ensures.live_alone ∙ sym (literals_ordered c.assume_part-assumed.new.store.live)) refl c.is_err-self-inside.ensures.value e.assumed
