@@ -9,7 +9,7 @@ const KEYS: usize = 4294967296;
 const NEAR: usize = 131072;
 
 /// So is one below so many times the number of far keys, and `NEAR`.
-const SPARSE: usize = 16;
+const SPARSE: usize = 8;
 
 /// And one that is no further behind the end of the array. It gets as many keys behind it.
 const STEP: usize = 16;
