@@ -301,6 +301,13 @@ s NOT VERIFIED
 LINES
     told "$1_missing_formula" <<< "$2: $x/there_is_no_such_file: No such file or directory (os error 2)"
 
+    # no name writes a line of its own, or in colours
+    row "$1_control_characters_in_a_name" 3 $'no\nsuch \e[31m\xc2\x85file' "$3" <<'LINES'
+c cannot read formula
+s NOT VERIFIED
+LINES
+    told "$1_control_characters_in_a_name" <<< "$2: no\\u{a}such \\u{1b}[31m\\u{85}file: No such file or directory (os error 2)"
+
     row "$1_missing_proof" 3 $x/e.cnf $x/there_is_no_such_file <<'LINES'
 c formula 2 variables 4 clauses
 c cannot read proof

@@ -5,6 +5,7 @@
 //! be told, and gives the exit status.
 #![tactic(auto)]
 
+mod file_name;
 mod host;
 mod input;
 mod inputs;

@@ -1,5 +1,6 @@
 //! Tells on standard error what is to be told of a run.
 
+use crate::file_name::FileName;
 use crate::input::Input;
 use crate::inputs::second_name;
 use crate::run::Ended;
@@ -14,7 +15,7 @@ use std::io::Read;
 /// Tells what is to be told of a check.
 pub(crate) fn tell<S: System>(rt: &HostRuntime, tool: Tool, ended: &Ended<'_, S>) {
     let (name, args) = (tool.name(), &ended.args);
-    let second = shown_name(second_name(args));
+    let second = FileName::given(second_name(args));
     match ended.told {
         Told::Nothing => {}
         Told::OutOfMemory => tell_line(rt, name, "out of memory"),
@@ -60,7 +61,7 @@ fn tell_line(rt: &HostRuntime, name: &str, text: &str) {
 fn tell_failure<F: Read + Drop, S: Read + Drop>(
     rt: &HostRuntime,
     name: &str,
-    file: &str,
+    file: FileName<'_>,
     input: &Input<'_, F, S>,
 ) {
     if let Some(error) = input.failure() {
@@ -69,7 +70,7 @@ fn tell_failure<F: Read + Drop, S: Read + Drop>(
 }
 
 // Where the step ends that was refused.
-fn tell_end(rt: &HostRuntime, name: &str, file: &str, end: StepEnd) {
+fn tell_end(rt: &HostRuntime, name: &str, file: FileName<'_>, end: StepEnd) {
     let _ = match end {
         StepEnd::Text(Place { line, col }) => {
             eprintln!(rt; "{name}: {file}: the refused step ends at line {line}, column {col}")
@@ -112,7 +113,7 @@ fn tell_malformed<S: System>(
 fn tell_text_fault(
     rt: &HostRuntime,
     name: &str,
-    file: &str,
+    file: FileName<'_>,
     kind: TextFault,
     place: Place,
     header: Option<Header>,
@@ -150,21 +151,13 @@ fn tell_hint(rt: &HostRuntime, tool: Tool, args: &Args, argument: Argument, hint
 }
 
 // What an input is called.
-fn name_of(args: &Args, argument: Argument) -> &str {
+fn name_of(args: &Args, argument: Argument) -> FileName<'_> {
     match argument {
         Argument::Formula => formula_name(args),
-        Argument::Second => shown_name(second_name(args)),
+        Argument::Second => FileName::given(second_name(args)),
     }
 }
 
-fn formula_name(args: &Args) -> &str {
-    shown_name(Some(args.formula.as_str()))
-}
-
-// What an input is called: its name on the command line, or standard input.
-fn shown_name(name: Option<&str>) -> &str {
-    match name {
-        Some(name) if name != "-" => name,
-        _ => "standard input",
-    }
+fn formula_name(args: &Args) -> FileName<'_> {
+    FileName::given(Some(args.formula.as_str()))
 }
