@@ -8,8 +8,9 @@
 
 ghost use Rattle.std.specs.Prelude.{◌<◌};
 
-use clause_db::{Ids, Slot, Store};
+use clause_db::{Slot, Store};
 use cnf_base::{Lit, OutOfMemory};
+use ids::Ids;
 use std::alloc::Global;
 use std::env;
 use trail::{Trail, Value};

@@ -30,6 +30,7 @@ ghost use Rattle.clause_db.specs.Code.Kept.{AreKept};
 ghost use Rattle.clause_db.specs.Code.LiteralMarks.{is_marked};
 ghost use Rattle.tables.specs.Filled.{at};
 
+use crate::Slot;
 use crate::store::counts::{count_in, count_out, count_with, keep};
 use crate::store::kept::{find_slots, forget, note};
 use crate::store::marks::{all_known, gather, mark_all, mark_new, unmark_all};
@@ -37,7 +38,6 @@ use crate::store::search::find_marked;
 use clause_index::{Index, Indexing, NoIndex};
 use clause_memory::{Blocks, Memory};
 use cnf_base::{Lit, OutOfMemory};
-use ids::Slot;
 use occurrences::Occurrences;
 use std::alloc::Global;
 use std::marker::Model;

@@ -7,7 +7,5 @@ mod far;
 mod map;
 mod pages;
 mod row;
-mod slot;
 
 pub use map::Ids;
-pub use slot::Slot;

@@ -10,12 +10,12 @@ ghost use Rattle.std.specs.FinMap as maps;
 ghost use Rattle.ids.specs.Code.Ids.{entry_at, entry_for, far_at, page_at, slot_from};
 ghost use Rattle.ids.specs.Code.Ids.{IsPaged, IsFirst};
 
-use crate::Slot;
 use crate::credit::Credit;
 use crate::directory::Directory;
 use crate::far::{far_number, first_far, put_far, take_far};
 use crate::pages::{PAGE, Pages, place_in};
 use crate::row::first_set;
+use clause_db::Slot;
 use cnf_base::OutOfMemory;
 use std::alloc::Global;
 use std::collections::BTreeMap;

@@ -12,8 +12,9 @@ ghost use Rattle.live_clauses.specs.LiveClauses.{no_live_clauses, lrat_state, Ho
 ghost use Rattle.live_clauses.specs.Code.LiveClauses.{AreOwners};
 
 use crate::owners::Owners;
-use clause_db::{Ids, NoIndex, Slot, Slots, Store};
+use clause_db::{NoIndex, Slot, Slots, Store};
 use cnf_base::{Lit, OutOfMemory};
+use ids::Ids;
 use std::alloc::Global;
 use std::marker::Model;
 

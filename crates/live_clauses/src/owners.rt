@@ -9,8 +9,9 @@ ghost use Rattle.std.specs.FinMap as maps;
 ghost use Rattle.std.specs.FinMap.{FinMap};
 ghost use Rattle.live_clauses.specs.Code.LiveClauses.{owner_at, AreNoted, AreOwners};
 
-use clause_db::{Ids, Slot};
+use clause_db::Slot;
 use cnf_base::OutOfMemory;
+use ids::Ids;
 use std::alloc::Global;
 
 /// By slot the identifier of its clause, kept from when it is first asked for.

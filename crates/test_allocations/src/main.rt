@@ -20,9 +20,10 @@ mod quiet;
 mod refused;
 
 use crate::refused::bind_new;
-use clause_db::{Ids, Slot, Store};
+use clause_db::{Slot, Store};
 use cnf_base::{Fault, FromRead, Lit, OutOfMemory, Source};
 use dimacs::{ClauseBuf, FormulaReader};
+use ids::Ids;
 use proofs::{DratBinary, DratText, LratText, StepBuf, StepReader};
 use std::alloc::Global;
 use std::io::Read;

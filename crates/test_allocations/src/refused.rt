@@ -4,9 +4,10 @@ ghost use Rattle.std.specs.Prelude.{◌≡◌, ◌≤◌, [], false};
 ghost use Rattle.std.specs.FinMap as maps;
 
 use crate::{Literals, PLAIN_RULES, open};
-use clause_db::{Blocks, Ids, Memory, Slot, Slots, Store};
+use clause_db::{Blocks, Memory, Slot, Slots, Store};
 use cnf_base::{Fault, Lit, OutOfMemory};
 use dimacs::{ClauseBuf, FormulaReader};
+use ids::Ids;
 use proofs::{DratBinary, DratText, LratText, StepBuf, StepReader};
 use propagation::{Propagate, Scan};
 use std::alloc::Global;

@@ -1,8 +1,9 @@
 //! Identifiers, each with the number of its slot.
 
 use crate::tests::asserts::{expect_equal, expect_equal_at, expect_true_at};
-use clause_db::{Ids, Slot};
+use clause_db::Slot;
 use cnf_base::OutOfMemory;
+use ids::Ids;
 use std::alloc::Global;
 use std::process::Abort;
 use std::test::Fail;
