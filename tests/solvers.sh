@@ -1,6 +1,7 @@
 #!/usr/bin/env bash
-# Runs real SAT solvers as README shows, and the checkers on what these wrote. By hand, with make test-solvers: the gate needs
-# no solver. A solver that isn't installed is skipped, and said. The last line is "N passed, M failed".
+# Runs real SAT solvers as README shows, and the checkers on what these wrote; and, by tests/drat_trim.py, ours beside
+# DRAT-trim's. By hand, with make test-solvers: the gate needs no solver. A solver that isn't installed is skipped, and said. The
+# last line is "N passed, M failed".
 #
 # Debian 12: apt-get install cadical cryptominisat picosat minisat clasp sat4j z3 berkeley-abc gdb
 # Debian 13: kissat and drat-trim too, and its cadical writes LRAT
@@ -351,6 +352,18 @@ if has drat-trim && has cadical; then
         cadical -q --no-binary "$which.cnf" proof.drat > /dev/null
         of_lrat DRAT-trim "$which" 0 "drat-trim formula.cnf proof.drat -L proof.lrat"
     done
+fi
+
+# ---- DRAT-trim's programs beside ours, on the rows of docs/RULES.md
+
+DRAT_FORWARD=$room/bin/drat-forward LRAT_CHECK=$room/bin/lrat-check "$root/tests/drat_trim.py" > out 2> err
+ended=$?
+cat out err
+if [[ $(tail -n 1 out) =~ ^([0-9]+)\ passed,\ ([0-9]+)\ failed$ ]]; then
+    passed=$((passed + BASH_REMATCH[1]))
+    failed=$((failed + BASH_REMATCH[2]))
+else
+    fail "tests/drat_trim.py: status $ended"
 fi
 
 echo "$passed passed, $failed failed"
