@@ -16,7 +16,11 @@ use Rattle.cnf_base.proofs.SetLemmas.{complements_has, filter_has, has-complemen
 use Rattle.cnf_base.proofs.SetLemmas.{has_append_cases, has_append_left, has_append_right}
 use Rattle.cnf_base.proofs.WalkLemmas.{has_more, is_in}
 use Rattle.clause_db.specs.Store.{IsTouchedAt}
-use Rattle.propagation.specs.Assumptions.{HasAt, MayAssume, Propagation, assumed_by}
+use Rattle.propagation.specs.Assumptions.{HasAt, LastIsAnswered, MayAssume, Propagation}
+use Rattle.propagation.specs.Assumptions.{assumed_by}
+use Rattle.propagation.specs.declared.answer.Answer.TheVariants.{Quiet}
+use Rattle.theory.specs.Propagation.{Forced, by_both}
+use Rattle.theory.proofs.PropagationLemmas.Forced.{forced_assumed, forced_through}
 use Rattle.trail.specs.LiteralSet.{in_set}
 use Rattle.theory.specs.Propagation.{Live, Clash}
 use Rattle.steps.specs.Code.Candidates.{AllClash, CanTry, HasClashed, IsWithin, PassesAt, PassesIn}
@@ -86,6 +90,16 @@ clash_more live assumed rest more all = clash_same live (assumed ++ complements 
       (subst (λ l. has (complements more) l ≡ true) (complement-complement a) (has-complements more (complement a) (all (complement a) (complements_has rest a e))))
 ])
 
+-- a literal that is left of a clause is forced, so that the rest clashes
+pub clashes_by_true : (live : Live) (assumed : List Literal) (them : Candidates) (c : Clause) (l : Literal) → has c l ≡ true → is_left them l ≡ true → Forced live assumed l →
+    Clash live (assumed ++ complements (rest_of them c))
+clashes_by_true live assumed them c l member left forced =
+    let all = assumed ++ complements (rest_of them c) in
+    by_both l
+    (forced_through live assumed all (λ a h. forced_assumed live all a (has_append_left assumed (complements (rest_of them c)) a h)) l forced)
+    (forced_assumed live all (complement l)
+    (has_append_right assumed (complements (rest_of them c)) (complement l) (has-complements (rest_of them c) l (has-filter (is_left them) c l member left))))
+
 module _ (clauses : Propagation) (them : Candidates) (slot : ℕ) (seen : Clause) (there : (c : Clause) × (maps.get clauses.live slot ≡ Some c) × (same_clause c seen ≡ true)) where
   seen_is : (d : Clause) → maps.get clauses.live slot ≡ Some d → same_clause d seen ≡ true
   seen_is d at = subst (λ c. same_clause c seen ≡ true) (ap (λ x. unwrap_or x []) (sym there.1 ∙ at)) there.2
@@ -94,6 +108,12 @@ module _ (clauses : Propagation) (them : Candidates) (slot : ℕ) (seen : Clause
   clashes_within last known within d at _ =
       clash_more (maps.get clauses.live) (assumed_by clauses.assumptions) last.rest.items (rest_of them d)
       (λ l h. has-filter (is_left them) d l (same_back d seen (seen_is d at) l (within.all l h)) (known.left l h)) (known.clashes within.some)
+
+  -- what is left of the clause as it was looked at clashes
+  pub clashes_seen : Clash (maps.get clauses.live) (assumed_by clauses.assumptions ++ complements (rest_of them seen)) → PassesIn clauses them slot true
+  clashes_seen clash d at _ =
+      clash_more (maps.get clauses.live) (assumed_by clauses.assumptions) (rest_of them seen) (rest_of them d)
+      (λ l h. let w = filter_has (is_left them) seen l h in has-filter (is_left them) d l (same_back d seen (seen_is d at) l w.0) w.1) clash
 
   -- what is left of the clause as it was looked at
   pub clashed_now : ((d : Clause) → maps.get clauses.live slot ≡ Some d → Clash (maps.get clauses.live) (assumed_by clauses.assumptions ++ complements (rest_of them d)))
@@ -147,10 +167,11 @@ module _ (before after : Propagation) (same : IsAsBefore before after) (candidat
 pub touched_alive : (live : FinMap nat_cmp Clause) (lits slots items : List ℕ) → items ≡ slots → ((s : ℕ) → has slots s ≡ true → IsTouchedAt live lits s) → (s : ℕ) → has items s ≡ true → IsSome (maps.get live s)
 touched_alive live lits slots items is each s h = ap is_some (each s (subst (λ ls. has ls s ≡ true) is h)).at
 
-pub can_try : (before after : Propagation) → IsAsBefore before after → MayAssume before.assumptions → (slots : List ℕ) (i slot : ℕ) → i < length slots → slot ≡ slice_index slots i
+pub can_try : (before after : Propagation) → IsAsBefore before after → MayAssume before.assumptions → LastIsAnswered Quiet before.assumptions → (slots : List ℕ) (i slot : ℕ) → i < length slots → slot ≡ slice_index slots i
     → ((s : ℕ) → has slots s ≡ true → IsSome (maps.get before.live s)) → CanTry after slot
-can_try before after same room slots i slot inside is alive = record {
+can_try before after same room quiet slots i slot inside is alive = record {
   room = subst MayAssume (sym same.assumptions) room;
+  quiet = subst (LastIsAnswered Quiet) (sym same.assumptions) quiet;
   alive = subst (λ m. IsSome (maps.get m slot)) (sym same.live) (alive slot (is_in slots i inside slot (is ∙ sym (get_or_default_zero slots i slot inside))));
 }
 

@@ -3,7 +3,8 @@ use Rattle.std.specs.FinMap as maps
 use Rattle.std.specs.Prelude.{◌≡◌, ◌≢◌, ℕ, Some, List, [], ◌++◌, ◌⊎◌, IsTrue, Bool, true, false}
 use Rattle.std.specs.Prelude.{◌==◌, not, filter, IsFalse, IsSome}
 use Rattle.cnf_base.specs.Literals.{Literal, Clause, complement, complements, has}
-use Rattle.propagation.specs.Assumptions.{Propagation, MayAssume, assumed_by}
+use Rattle.propagation.specs.Assumptions.{LastIsAnswered, MayAssume, Propagation, assumed_by}
+use Rattle.propagation.specs.declared.answer.Answer.TheVariants.{Quiet}
 use Rattle.theory.specs.Propagation.{Live, Clash}
 use Rattle.theory.specs.Sets.{conflicts}
 use Rattle.trail.specs.LiteralSet.{in_set}
@@ -81,9 +82,10 @@ pub record IsWithin (rest : List Literal) (c : Clause) : Type 0 where
   pub some : rest ≢ []
   pub all : (l : Literal) → IsTrue (has rest l) → IsTrue (has c l)
 
--- a further assumption can stand, and the slot has a clause
+-- the last assumption was quiet, a further one can stand, and the slot has a clause
 pub record CanTry (clauses : Propagation) (slot : ℕ) : Type 0 where
   pub room : MayAssume clauses.assumptions
+  pub quiet : LastIsAnswered Quiet clauses.assumptions
   pub alive : IsSome (maps.get clauses.live slot)
 
 -- what an addition of the clause lists is no witness or a consistent one, and the set is filled

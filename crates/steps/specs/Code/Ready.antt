@@ -2,7 +2,9 @@
 use Rattle.std.specs.FinMap as maps
 use Rattle.std.specs.Prelude.{◌≡◌, ℕ, List, [], IsFalse}
 use Rattle.cnf_base.specs.Literals.{Literal, Clause, complements}
-use Rattle.propagation.specs.Assumptions.{Propagation, HoldsLiveAlone, MayAssume, assumed_by}
+use Rattle.propagation.specs.Assumptions.{HoldsLiveAlone, LastIsAnswered, MayAssume, Propagation}
+use Rattle.propagation.specs.Assumptions.{assumed_by}
+use Rattle.propagation.specs.declared.answer.Answer.TheVariants.{Quiet}
 use Rattle.theory.specs.Propagation.{Live, HasRup}
 use Rattle.theory.specs.Sets.{SameSet}
 use Rattle.trail.specs.LiteralSet.{in_set}
@@ -25,6 +27,7 @@ pub record IsEmptied (slots : List ℕ) (rest : List Literal) (looked_at witness
 -- in DRAT, where a clause lacks RUP: the complements of its literals are assumed, and more may be
 pub record IsAssumed (clauses : Propagation) (c : Clause) : Type 0 where
   pub room : MayAssume clauses.assumptions
+  pub quiet : LastIsAnswered Quiet clauses.assumptions
   pub assumed : SameSet (assumed_by clauses.assumptions) (complements c)
   pub no_rup : ¬ HasRup (maps.get clauses.live) c
 

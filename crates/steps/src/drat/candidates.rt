@@ -4,14 +4,17 @@ ghost use Rattle.std.specs.Prelude.{◌≡◌, ◌++◌, ℕ, Some, [], IsSome, 
 ghost use Rattle.std.specs.List.{list_any};
 ghost use Rattle.std.specs.FinMap as maps;
 ghost use Rattle.cnf_base.specs.Literals.{Clause, Literal, complement, complements, has};
-ghost use Rattle.propagation.specs.Assumptions.{HasAt, IsAnswer, MayAssume, assumed_by};
+ghost use Rattle.propagation.specs.Assumptions.{HasAt, IsAnswer, LastIsAnswered, MayAssume};
+ghost use Rattle.propagation.specs.Assumptions.{assumed_by};
+ghost use Rattle.propagation.specs.declared.answer.Answer.TheVariants.{Quiet};
+ghost use Rattle.theory.specs.Propagation.{Clash};
 ghost use Rattle.steps.specs.Code.Candidates.{CanTry, HasClashed, IsWithin, PassesIn, SearchedIn};
 ghost use Rattle.steps.specs.Code.Candidates.{is_candidate, is_left, rest_of};
 ghost use Rattle.steps.specs.Code.Ready.{IsAsBefore};
 
 use clause_db::Slot;
 use cnf_base::{Lit, OutOfMemory};
-use propagation::{Answer, Propagate};
+use propagation::{Answer, Propagate, Value};
 use std::alloc::Global;
 use trail::LiteralSet;
 
@@ -138,6 +141,22 @@ impl Candidates<'_> {
         Ok(answer)
     }
 
+    /// Whether a literal that is left of the clause is true already, so that its rest clashes with
+    /// what is assumed. It takes no memory.
+    fn clashes_at_once<P: Propagate>(&self, clauses: &P, clause: &[Lit]) -> bool
+        requires { LastIsAnswered Quiet (P.state clauses.now).assumptions }
+        ensures { result ≡ true → Clash (maps.get (P.state clauses.now).live)
+            (assumed_by (P.state clauses.now).assumptions
+            ++ complements (rest_of self.now clause.now)) }
+    {
+        for l in clause {
+            if matches!(clauses.value(*l), Value::True) && self.is_left(*l) {
+                return true;
+            }
+        }
+        false
+    }
+
     /// Whether the clause in the slot is none of them, or clashes with what is assumed.
     fn passes<P: Propagate>(
         &self,
@@ -153,6 +172,9 @@ impl Candidates<'_> {
         ensures same { IsAsBefore (P.state clauses.old) (P.state clauses.new) }
     {
         let clause = clauses.clause(slot);
+        if self.clashes_at_once(clauses, clause) {
+            return Ok(true);
+        }
         if !self.includes(clause) || last.is_within(clause, looked_at)? {
             return Ok(true);
         }
@@ -176,6 +198,7 @@ impl Candidates<'_> {
         looked_at: &mut LiteralSet,
     ) -> Result<bool, OutOfMemory>
         requires room { MayAssume (P.state clauses.old).assumptions }
+        requires quiet { LastIsAnswered Quiet (P.state clauses.old).assumptions }
         requires touched { (c : Clause) → IsTrue (is_candidate self.now c) →
             IsTrue (list_any (λ l. has c (complement l)) lits.now) }
         ensures searched { IfOk result (SearchedIn (P.state clauses.old) self.now) }

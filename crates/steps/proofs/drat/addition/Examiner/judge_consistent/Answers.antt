@@ -13,6 +13,7 @@ judge_without_rup-judged-requires-clause-assumed g c =
     let lits = c.args.lits.now in
     let assumed = assumed_by old.assumptions ++ complements lits in record {
       room = search rules;
+      quiet = search rules;
       assumed = search rules;
       no_rup = no_clash old.live (g.P.Propagate.state c.assume.new.self).live lits assumed c.in-Ok-Quiet.ensures.live
           (subst (IsAnswer (maps.get old.live) assumed) c.in-Ok-Quiet.field-0-is c.in-Ok-Quiet.ensures.answer)

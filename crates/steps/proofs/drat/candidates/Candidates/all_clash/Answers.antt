@@ -22,7 +22,7 @@ loop-slot-init g c = record {
 
 pub passes-requires-clause-can_try : goal.passes-requires-clause-can_try
 passes-requires-clause-can_try g c =
-    can_try (g.P.Propagate.state c.args.clauses.now) (g.P.Propagate.state c.loop-slot.clauses) c.loop-slot.invariant.same c.requires.room
+    can_try (g.P.Propagate.state c.args.clauses.now) (g.P.Propagate.state c.loop-slot.clauses) c.loop-slot.invariant.same c.requires.room c.requires.quiet
     c.as_slice-slot-items.result.now c.loop-slot.slot-index c.at.result c.loop-slot-test.true c.at.ensures
     (touched_alive (g.P.Propagate.state c.args.clauses.now).live c.args.lits.now _ _ c.as_slice-slot-items.ensures.value c.in_ok-touched.ensures.each)
 

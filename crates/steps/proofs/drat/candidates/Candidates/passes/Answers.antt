@@ -5,7 +5,7 @@ use Rattle.std.proofs.lemmas.Bool.{false≢true}
 use Rattle.cnf_base.specs.Literals.{complements}
 use Rattle.propagation.specs.Assumptions.{IsAnswer, assumed_by}
 use Rattle.steps.specs.Code.Candidates.{rest_of}
-use Rattle.steps.proofs.DratLemmas.Candidates.{clashed_now, clashes_within, looked_at}
+use Rattle.steps.proofs.DratLemmas.Candidates.{clashed_now, clashes_seen, clashes_within, looked_at}
 use Rattle.steps.proofs.drat.candidates.Candidates.passes.Goals as goal
 
 pub returns-then-not-includes-clause-passes : goal.returns-then-not-includes-clause-passes
@@ -37,3 +37,8 @@ returns-in-Quiet-clause-passes g c = λ d at.
       looked_at _ c.args.self.now c.clause-clause.result.now c.includes.result c.clause-clause.ensures.clause c.includes.ensures d at ∙ c.if-not-includes.false,
       subst (IsAnswer (maps.get now.live) (assumed_by now.assumptions ++ complements (rest_of c.args.self.now d))) c.in-Quiet.is (c.in_ok-answer_with.ensures.answer d at),
     )
+
+pub returns-then-clashes_at_once-clause-passes : goal.returns-then-clashes_at_once-clause-passes
+returns-then-clashes_at_once-clause-passes g c =
+    let now = g.P.Propagate.state c.args.clauses.now in
+    clashes_seen now c.args.self.now c.args.slot c.clause-clause.result.now c.clause-clause.ensures.clause (c.clashes_at_once.ensures c.if-clashes_at_once.true)
