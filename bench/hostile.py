@@ -155,6 +155,17 @@ def far_identifiers(n):
     return [(1,)], proof
 
 
+@kind(LRAT, 4000)
+def far_below_deleted(n):
+    """n clauses alive at identifiers that are far from each other, and 2 n behind them that were deleted, before the first step that
+    needs the identifiers of candidates. The first clause is deleted too, so that its page can go to those behind."""
+    ids = [PAGE * (i + 1) for i in range(3 * n + 2)]
+    proof = [f"{i} 5 6 0 1 0" for i in ids[:n]] + [f"{ids[n]} d {ids[0]} 0"]
+    for i in ids[n:-2]:
+        proof += [f"{i} 5 6 0 1 0", f"{i} d {i} 0"]
+    return [(5, 6), (8, 7)], [*proof, f"{ids[-2]} -1 2 7 0 0", f"{ids[-1]} 1 -2 0 0"]
+
+
 @kind(DRAT, 5000)
 def far_variables(n):
     """n clauses of variables that are far from each other."""

@@ -122,11 +122,10 @@ def drat_pairs(times):
 
 
 def lrat_pairs(times):
-    """The same in LRAT. Identifiers rise to the same one, however many there are: the directory of their pages doubles as they
-    rise, and keeps no literals."""
-    ids = range(MANY // times, MANY + 1, MANY // times)
-    pairs = "".join(f"{4 + i} -1 -2 0 4 0\n{4 + i} d {4 + i} 0\n" for i in ids)
-    return pairs + f"{MANY + 5} 2 0 1 2 0\n{MANY + 6} 0 {MANY + 5} 3 4 0\n"
+    """The same in LRAT, under identifiers that rise. All are past the page that has those of the formula."""
+    last = 2048 + times
+    pairs = "".join(f"{i} -1 -2 0 4 0\n{i} d {i} 0\n" for i in range(2048, last))
+    return pairs + f"{last} 2 0 1 2 0\n{last + 1} 0 {last} 3 4 0\n"
 
 
 def check_of_pairs(name, room, times):

@@ -1,7 +1,8 @@
 #!/usr/bin/env bash
 # Streams long inputs through a pipe into the three programs: a proof in DRAT, one in LRAT, and a formula for model-check. What
 # is alive at once stays small in them, and so has the memory of each program to stay: below 4 MB, as GNU time tells the
-# greatest resident set. The last line is "N passed, M failed". It takes long, and is no part of `make test`.
+# greatest resident set. The last line is "N passed, M failed". 10 GB take long; `make test` gives 100 MB, which is enough to show
+# four bytes that are kept for each 1024 identifiers up to those of the proof.
 #
 #   tests/long.sh [SIZE]        about SIZE bytes for each program, 10000000000 where it isn't said
 #

@@ -5,8 +5,8 @@
 # gate (the proofs of the tests and what else isn't kept, the mutants, the crates' tests and the programs' stored runs); whether
 # each mutant was refused by the clause that it names; then the programs as users run them, also on many proofs at once, pictures
 # of runs, their manual pages, how they are installed, what they tell on a terminal, counts of allocations, runs in which each
-# allocation is refused, and instructions on inputs that were made to be dear. At the end stands what each part took. The last line
-# is "N passed, M failed" over all.
+# allocation is refused, long inputs in little memory, and instructions on inputs that were made to be dear. At the end stands what
+# each part took. The last line is "N passed, M failed" over all.
 #
 # RT names the command rt, where it isn't on the PATH.
 set -uo pipefail
@@ -90,6 +90,9 @@ for script in tests/pages.py tests/misuse.py; do
     part "$script" "$script"
     count $?
 done
+
+part tests/long.sh tests/long.sh 100000000
+count $?
 
 part bench/hostile.py bench/hostile.py --count
 count $?

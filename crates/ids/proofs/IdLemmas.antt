@@ -1,2 +1,4 @@
+pub mod BySlot
+pub mod Cache
 pub mod Map
 pub mod Pages

@@ -1,2 +1,4 @@
 -- How the parts of the code fit together. No public contract speaks of it.
+pub mod Cache
+pub mod Far
 pub mod Ids

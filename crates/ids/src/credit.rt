@@ -1,8 +1,8 @@
 //! When a page is made for an identifier, and what identifiers cost.
 //!
 //! A page has 4096 bytes of entries and 16 in other lists. Lists have room for up to twice what
-//! they hold, and the directory takes up to 47 bytes for a page, so that it costs at most 8300 in
-//! all. An identifier in the tree costs at most 31: a leaf has 192 bytes and at least 7
+//! they hold, and the directory takes up to 95 bytes for a page: up to eight lines of 8 bytes, and
+//! 31 in its tree. So it costs at most 8320 in all. An identifier in the tree costs at most 31: a leaf has 192 bytes and at least 7
 //! identifiers, an inner node 320 and at least 7 with 8 nodes below it.
 //!
 //! The first 64 pages, half a megabyte at most, are made for any identifier. 256 identifiers that
@@ -48,6 +48,11 @@ impl Credit {
         if self.saved < MOST {
             self.saved += 1;
         }
+    }
+
+    /// The identifier that was bound last.
+    pub(crate) fn last(&self) -> u64 {
+        self.last
     }
 
     /// Pays for a page, if one is worth making for an identifier and enough is saved.

@@ -2,7 +2,8 @@
 
 ghost use Rattle.std.specs.Prelude.{◌≡◌, ℕ, ◌<◌, ◌≤◌, ◌^◌, IfSome, IfNone};
 ghost use Rattle.std.specs.Prelude.{◌==◌, if◌then◌else◌, OnOk, OnErr};
-ghost use Rattle.ids.specs.Code.Ids.{far_at, IsFirst};
+ghost use Rattle.ids.specs.Code.Far.{far_at};
+ghost use Rattle.ids.specs.Code.Ids.{IsFirst};
 
 use cnf_base::OutOfMemory;
 use std::collections::BTreeMap;

@@ -7,9 +7,11 @@
 ghost use Rattle.std.specs.Prelude.{◌≡◌, ◌≢◌, ℕ, ◌+◌, ◌-◌, ◌*◌, ◌/◌, ◌^◌, ◌<◌, ◌≤◌, slice_index};
 ghost use Rattle.std.specs.Prelude.{Some, None, IfSome, IfNone, IfOk, OnOk, OnErr};
 ghost use Rattle.std.specs.FinMap as maps;
-ghost use Rattle.ids.specs.Code.Ids.{entry_at, entry_for, far_at, page_at, slot_from};
+ghost use Rattle.ids.specs.Code.Far.{far_at};
+ghost use Rattle.ids.specs.Code.Ids.{entry_at, entry_for, page_at, slot_from};
 ghost use Rattle.ids.specs.Code.Ids.{IsPaged, IsFirst};
 
+use crate::by_slot::{note_far, note_paged};
 use crate::credit::Credit;
 use crate::directory::Directory;
 use crate::far::{far_number, first_far, put_far, take_far};
@@ -118,6 +120,24 @@ fn open(directory: &mut Directory, pages: &mut Pages, number: u64) -> Result<u32
     Ok(page)
 }
 
+/// Takes the page from a page number, where nothing is bound in it and another number is the one
+/// that keeps its page. It takes no memory.
+fn close(directory: &mut Directory, pages: &mut Pages, number: u64, kept: u64)
+    requires paged { IsPaged directory.old pages.old }
+    ensures paged { IsPaged directory.new pages.new }
+    ensures same { (id : ℕ) → entry_at directory.new pages.new id ≡
+        entry_at directory.old pages.old id }
+{
+    if number == kept {
+        return;
+    }
+    let page = directory.page(number);
+    if page != 0 && pages.is_empty(page) {
+        directory.remove(number);
+        pages.release(page);
+    }
+}
+
 /// The page that an identifier goes to, 0 where it goes to none. One is made where there is credit
 /// for it.
 fn page_for(
@@ -132,25 +152,33 @@ fn page_for(
         entry_at directory.old pages.old k }
     ensures ok { IfOk result (λ page. page_at directory.new (id / 1024) ≡ page) }
 {
-    let page = directory.page(id / PAGE);
+    let number = id / PAGE;
+    close(directory, pages, credit.last() / PAGE, number);
+    let page = directory.page(number);
     if page != 0 || !(pages.has_spare() || credit.pay(id)) {
         return Ok(page);
     }
-    open(directory, pages, id / PAGE)
+    open(directory, pages, number)
 }
 
-/// Takes a page from its page number where nothing is bound in it. It takes no memory.
-fn close(directory: &mut Directory, pages: &mut Pages, number: u64, page: u32)
-    requires paged { IsPaged directory.old pages.old }
-    requires page { page_at directory.old number ≡ page }
-    requires some { page ≢ 0 }
-    ensures paged { IsPaged directory.new pages.new }
-    ensures same { (id : ℕ) → entry_at directory.new pages.new id ≡
-        entry_at directory.old pages.old id }
+/// The least page number from `from` on that has a page.
+fn next_number(directory: &Directory, pages: &Pages, from: u64) -> Option<u64>
+    requires { IsPaged directory.now pages.now }
+    ensures some { IfSome result (λ q. IsFirst (page_at directory.now) from (2 ^ 64) q) }
+    ensures none { IfNone result
+        ((k : ℕ) → from ≤ k → k < 2 ^ 64 → page_at directory.now k ≡ 0) }
 {
-    if pages.is_empty(page) {
-        directory.remove(number);
-        pages.release(page);
+    let mut least = u64::MAX;
+    for i in 0..pages.numbers.len() {
+        let next = pages.numbers[i];
+        if next > from && next < least && directory.page(next - 1) != 0 {
+            least = next;
+        }
+    }
+    if least == u64::MAX {
+        None
+    } else {
+        Some(least - 1)
     }
 }
 
@@ -172,21 +200,22 @@ fn first_in(directory: &Directory, pages: &Pages, from: u64) -> Option<u64>
     Some(from + (place - start) as u64)
 }
 
-/// The least identifier from one on that is bound in a page.
-fn first_paged(directory: &Directory, pages: &Pages, from: u64) -> Option<u64>
+/// The least identifier from one on that is bound in a page. Pages past `to` aren't looked at.
+fn first_paged(directory: &Directory, pages: &Pages, from: u64, to: u64) -> Option<u64>
     requires { IsPaged directory.now pages.now }
     ensures some { IfSome result (λ q. IsFirst (entry_at directory.now pages.now) from
         (2 ^ 64) q) }
-    ensures none { IfNone result ((k : ℕ) → from ≤ k → k < 2 ^ 64 →
+    ensures none { IfNone result ((k : ℕ) → from ≤ k → k ≤ to →
         entry_at directory.now pages.now k ≡ 0) }
 {
     let mut start = from;
-    loop {
+    while start <= to {
         if let Some(found) = first_in(directory, pages, start) {
             return Some(found);
         }
-        start = directory.next(start / PAGE + 1)? * PAGE;
+        start = next_number(directory, pages, start / PAGE + 1)? * PAGE;
     }
+    None
 }
 
 /// The least identifier from one on that is bound.
@@ -202,7 +231,11 @@ fn first_bound(
     ensures none { IfNone result ((k : ℕ) → from ≤ k → k < 2 ^ 64 →
         entry_for directory.now pages.now far.now k ≡ 0) }
 {
-    match (first_paged(directory, pages, from), first_far(far, from)) {
+    let far = first_far(far, from);
+    match (
+        first_paged(directory, pages, from, far.unwrap_or(u64::MAX)),
+        far,
+    ) {
         (Some(paged), Some(id)) => Some(paged.min(id)),
         (Some(paged), None) => Some(paged),
         (None, far) => far,
@@ -214,8 +247,9 @@ impl Ids {
     pub fn new(alloc: Global) -> Result<Self, OutOfMemory>
         ensures { IfOk result (λ ids. ids ≡ maps.empty) }
     {
+        let directory = Directory::new(alloc)?;
         Ok(Ids {
-            directory: Directory::new(alloc),
+            directory,
             pages: Pages::new(alloc),
             far: BTreeMap::new(alloc),
             credit: Credit::new(),
@@ -263,14 +297,16 @@ impl Ids {
         }
         let page = self.directory.page(id / PAGE);
         self.pages.clear(page, id);
-        close(&mut self.directory, &mut self.pages, id / PAGE, page);
+        // The next one is likely to come to the page of the last one.
+        let kept = self.credit.last() / PAGE;
+        close(&mut self.directory, &mut self.pages, id / PAGE, kept);
         slot_in(entry)
     }
 
     /// The least bound identifier that is not below `from`, with its slot. It takes no memory.
     ///
-    /// To walk over all, go on from one past the last: a call that starts lower may pass many
-    /// identifiers that are bound no more.
+    /// Where none is bound in the page of `from`, it goes over the numbers of all pages. So to go
+    /// over all identifiers takes `put_by_slot` less.
     pub fn next_bound(&self, from: u64) -> Option<(u64, Slot)>
         ensures above { IfSome result (λ p. from ≤ p.0) }
         ensures bound { IfSome result (λ p. maps.get self.now p.0 ≡ Some p.1) }
@@ -281,5 +317,20 @@ impl Ids {
         let id = first_bound(&self.directory, &self.pages, &self.far, from)?;
         let slot = slot_in(entry(&self.directory, &self.pages, &self.far, id))?;
         Some((id, slot))
+    }
+
+    /// Puts in, for each slot that an identifier is bound to, an identifier that is bound to it. It
+    /// goes over what is bound once.
+    ///
+    /// # Errors
+    ///
+    /// Where memory runs out.
+    pub fn put_by_slot(&self, by_slot: &mut Vec<u64>) -> Result<(), OutOfMemory>
+        ensures { OnOk result ((k slot : ℕ) → maps.get self.now k ≡ Some slot →
+            maps.get self.now (slice_index by_slot.new.items slot) ≡ Some slot) }
+    {
+        note_paged(by_slot, &self.directory, &self.pages)?;
+        note_far(by_slot, &self.far)?;
+        Ok(())
     }
 }

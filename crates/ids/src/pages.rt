@@ -25,7 +25,7 @@ pub(crate) struct Pages {
     /// How many identifiers are bound in each page.
     live: Vec<u32>,
     /// The page number of each page and 1, or 0 where it has none.
-    numbers: Vec<u64>,
+    pub(crate) numbers: Vec<u64>,
     /// Pages to be used again, with room for all.
     free: Vec<u32>,
 }

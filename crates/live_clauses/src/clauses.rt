@@ -146,7 +146,7 @@ impl LiveClauses {
             IsTrue (has into.new.items k)) }
         ensures same { self.new ≡ self.old }
     {
-        self.owners.keep(&self.ids, self.top)?;
+        self.owners.keep(&self.ids)?;
         self.store.slots_touched(&[l], &mut self.slots)?;
         self.owners.identify(self.slots.as_slice(), into)
     }

@@ -37,24 +37,6 @@ fn put(by_slot: &mut Vec<u64>, slot: usize, id: u64) -> Result<(), OutOfMemory>
     Ok(())
 }
 
-/// Puts in each identifier that is bound.
-fn put_all(by_slot: &mut Vec<u64>, ids: &Ids, top: u64) -> Result<(), OutOfMemory>
-    requires own { (j k slot : ℕ) → maps.get ids.now j ≡ Some slot →
-        maps.get ids.now k ≡ Some slot → j ≡ k }
-    requires none_above { (k : ℕ) → top < k → maps.get ids.now k ≡ None }
-    ensures { OnOk result (AreNoted by_slot.new.items ids.now) }
-{
-    let mut from = 0;
-    while let Some((id, slot)) = ids.next_bound(from) {
-        put(by_slot, slot.number(), id)?;
-        if id >= top {
-            return Ok(());
-        }
-        from = id + 1;
-    }
-    Ok(())
-}
-
 impl Owners {
     /// None are kept. It takes no memory.
     pub(crate) fn new(alloc: Global) -> Self
@@ -67,15 +49,14 @@ impl Owners {
     }
 
     /// From now on they are kept.
-    pub(crate) fn keep(&mut self, ids: &Ids, top: u64) -> Result<(), OutOfMemory>
-        requires own { (j k slot : ℕ) → maps.get ids.now j ≡ Some slot →
+    pub(crate) fn keep(&mut self, ids: &Ids) -> Result<(), OutOfMemory>
+        requires { (j k slot : ℕ) → maps.get ids.now j ≡ Some slot →
             maps.get ids.now k ≡ Some slot → j ≡ k }
-        requires none_above { (k : ℕ) → top < k → maps.get ids.now k ≡ None }
         ensures owners { AreOwners self.old ids.now → AreOwners self.new ids.now }
         ensures kept { OnOk result (self.new.is_kept ≡ true) }
     {
         if !self.is_kept {
-            put_all(&mut self.by_slot, ids, top)?;
+            ids.put_by_slot(&mut self.by_slot)?;
             self.is_kept = true;
         }
         Ok(())

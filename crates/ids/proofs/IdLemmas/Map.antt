@@ -13,7 +13,8 @@ use Rattle.std.proofs.lemmas.Bool.Decides.{nat_tests}
 use Rattle.cnf_base.proofs.MapLemmas.{get_insert, get_remove, insert_here, insert_other, same_maps}
 use Rattle.ids.specs.declared.directory.Directory.{Directory}
 use Rattle.ids.specs.declared.pages.Pages.{Pages}
-use Rattle.ids.specs.Code.Ids.{page_at, far_at, slot_from, place, entry_in, entry_at}
+use Rattle.ids.specs.Code.Far.{far_at}
+use Rattle.ids.specs.Code.Ids.{page_at, slot_from, place, entry_in, entry_at}
 use Rattle.ids.specs.Code.Ids.{entry_for, with_slot, map_below, as_map, IsOwned, IsPaged}
 
 -- ---- As a finite map

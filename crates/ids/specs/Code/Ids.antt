@@ -1,25 +1,23 @@
 -- Identifiers of clauses, by pages of 1024.
-use Rattle.std.specs.BTreeMap.{BTreeMap, get}
+use Rattle.std.specs.BTreeMap.{BTreeMap}
 use Rattle.std.specs.FinMap as maps
 use Rattle.std.specs.FinMap.{FinMap}
 use Rattle.std.specs.Ordering.{nat_cmp}
-use Rattle.std.specs.Prelude.{ℕ, unwrap_or, ◌==◌, if◌then◌else◌, slice_index, ◌-◌, Option, Some}
+use Rattle.std.specs.Prelude.{ℕ, ◌==◌, if◌then◌else◌, slice_index, ◌-◌, Option, Some}
 use Rattle.std.specs.Prelude.{None, ◌+◌, ◌*◌, ◌%◌, ◌/◌, List, zero, suc, ◌^◌, ◌≡◌, ◌≤◌, length, ◌≢◌}
 use Rattle.std.specs.Prelude.{◌<◌}
+use Rattle.ids.specs.Code.Cache.{cached_at}
+use Rattle.ids.specs.Code.Far.{far_at}
 use Rattle.ids.specs.declared.directory.Directory.{Directory}
 use Rattle.ids.specs.declared.pages.Pages.{Pages}
 
--- the number at a far key, or 0
-abbrev pub far_at : BTreeMap ℕ ℕ → ℕ → ℕ
-far_at far key = unwrap_or (get nat_cmp far key) 0
-
 -- ---- The directory: pages count from 1, and 0 is none
 
--- the near page of a page number, or else the far one; each field has to be named here
+-- the page of a page number in its line, or else the far one; each field has to be named here
 unfoldable pub page_at : Directory → ℕ → ℕ
 page_at directory number =
-    let record { near = near; far = far; opened = _ } = directory in
-    if slice_index near.items number == 0 then far_at far number else slice_index near.items number
+    let record { cache = cache; far = far; held = _ } = directory in
+    if cached_at cache number == 0 then far_at far number else cached_at cache number
 
 -- ---- Entries: a slot's number and 1, or 0 where nothing is bound
 

@@ -2,12 +2,12 @@ use Rattle.std.proofs.Common.{◌≡◌, ℕ, ◌-◌, ◌<◌, ◌≤◌}
 use Rattle.ids.specs.Code.Ids.{entry_at}
 use Rattle.ids.proofs.map.first_paged.Given as goal
 
-abbrev pub invariant-loop-found : goal.invariant-loop-found
-invariant-loop-found l = record {
+abbrev pub invariant-loop-start : goal.invariant-loop-start
+invariant-loop-start l = record {
   fits : l.start < 18446744073709551616;
   rises : l.from ≤ l.start;
   passed : (k : ℕ) → l.from ≤ k → k < l.start → entry_at l.directory l.pages k ≡ 0;
 }
 
-abbrev pub decreases-loop-found : goal.decreases-loop-found
-decreases-loop-found l = 18446744073709551616 - l.start
+abbrev pub decreases-loop-start : goal.decreases-loop-start
+decreases-loop-start l = 18446744073709551616 - l.start

@@ -110,6 +110,28 @@ const FAR_AND_NEAR: [Call; 22] = [
     Call::NextBound(8202, Some((1024 * 70 + 8, 0))),
 ];
 
+// The pages whose numbers are 64 apart have one line at first, and there is none for numbers from 2^32.
+const ONE_LINE: [Call; 18] = [
+    Call::Bind(1024 + 9, 0),
+    Call::Bind(1024 * 65 + 9, 1),
+    Call::Bind(1024 * 129 + 9, 2),
+    Call::Bind((1 << 42) + 1024 + 9, 3),
+    Call::SlotOf(1024 + 9, Some(0)),
+    Call::SlotOf(1024 * 65 + 9, Some(1)),
+    Call::SlotOf(1024 * 129 + 9, Some(2)),
+    Call::SlotOf((1 << 42) + 1024 + 9, Some(3)),
+    Call::NextBound(1024 + 10, Some((1024 * 65 + 9, 1))),
+    Call::Unbind(1024 + 9, Some(0)),
+    Call::SlotOf(1024 + 9, None),
+    Call::SlotOf(1024 * 65 + 9, Some(1)),
+    Call::Bind(1024 + 8, 4),
+    Call::SlotOf(1024 + 8, Some(4)),
+    Call::Unbind(1024 * 65 + 9, Some(1)),
+    Call::SlotOf(1024 * 65 + 9, None),
+    Call::NextBound(1024 + 9, Some((1024 * 129 + 9, 2))),
+    Call::NextBound(1024 * 129 + 10, Some(((1 << 42) + 1024 + 9, 3))),
+];
+
 const FOUR_BYTES: [Call; 4] = [
     Call::Bind(1, 4294967294),
     Call::SlotOf(1, Some(4294967294)),
@@ -125,6 +147,11 @@ fn binds_and_unbinds(rt: HostRuntime) -> Result<(), Fail> {
 #[test]
 fn walks_over_far_and_near(rt: HostRuntime) -> Result<(), Fail> {
     expect_calls(&rt, rt.alloc(), &FAR_AND_NEAR)
+}
+
+#[test]
+fn tells_pages_of_one_line_apart(rt: HostRuntime) -> Result<(), Fail> {
+    expect_calls(&rt, rt.alloc(), &ONE_LINE)
 }
 
 #[test]
@@ -202,6 +229,33 @@ fn stays_where_memory_runs_out(rt: HostRuntime) -> Result<(), Fail> {
     let mut ids = Ids::new(rt.alloc())?;
     for id in [5, 9, 2, 7, 1, 8, 3, 6, 4] {
         bind_again(&rt, &mut ids, id)?;
+    }
+    Ok(())
+}
+
+/// Binds so many identifiers, each so far past the one before, to slots in a row, and puts them in by
+/// their slots.
+fn expect_by_slot(rt: &impl Abort, alloc: Global, apart: u64, count: usize) -> Result<(), Fail> {
+    let mut ids = Ids::new(alloc)?;
+    for slot in 0..count {
+        bind_new(&mut ids, (slot as u64).wrapping_mul(apart), slot)?;
+    }
+    let mut by_slot = Vec::new(alloc);
+    ids.put_by_slot(&mut by_slot)?;
+    expect_equal(rt, by_slot.len(), count);
+    for slot in 0..by_slot.len() {
+        let id = (slot as u64).wrapping_mul(apart);
+        expect_equal_at(rt, slot, by_slot[slot], id);
+        expect_equal_at(rt, slot, slot_of(&ids, id), Some(slot));
+    }
+    Ok(())
+}
+
+/// Side by side, in pages of a line each, in pages of one line, and far ones past the first pages.
+#[test]
+fn puts_identifiers_in_by_their_slots(rt: HostRuntime) -> Result<(), Fail> {
+    for apart in [1, 1024, 1024 * 64, 1 << 50] {
+        expect_by_slot(&rt, rt.alloc(), apart, 3000)?;
     }
     Ok(())
 }

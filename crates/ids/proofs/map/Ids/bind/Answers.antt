@@ -1,6 +1,7 @@
 use Rattle.std.proofs.Common.{cond, eqb, subst, sym, ap, ◌∙◌, arith}
 use Rattle.std.specs.FinMap as maps
-use Rattle.ids.specs.Code.Ids.{page_at, entry_at, entry_for, far_at, IsOwned}
+use Rattle.ids.specs.Code.Far.{far_at}
+use Rattle.ids.specs.Code.Ids.{page_at, entry_at, entry_for, IsOwned}
 use Rattle.ids.proofs.IdLemmas.Map.{as_map-insert, unbound_entry, both_none, once-paged}
 use Rattle.ids.proofs.IdLemmas.Map.{page_empty, page_filled, entry_for-far, entry_for-paged}
 use Rattle.ids.proofs.map.Ids.bind.Goals as goal
