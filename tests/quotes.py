@@ -1,8 +1,8 @@
 #!/usr/bin/env python3
 """Shows that docs/THEOREM.md quotes definitions as they are.
 
-Each quotation, the lines between two ```, stands in the file to which the last link before it points, line by line. The last
-line is "N passed, M failed".
+Each quotation, the lines between two ```, stands in the file to which the last link before it points, line by line, but for
+comments. The last line is "N passed, M failed".
 """
 
 import os
@@ -24,13 +24,18 @@ def quotations(page):
             source = (LINK.findall(part) or [source])[-1]
 
 
+def bare(text):
+    """A text without its comments, with one blank line where there are more."""
+    return re.sub(r"\n{3,}", "\n\n", re.sub(r"^ *--.*\n", "", text, flags=re.M))
+
+
 def main():
     with open(f"{ROOT}/{PAGE}", encoding="utf-8") as text:
         page = text.read()
     passed = failed = 0
     for source, quoted in quotations(page):
         with open(f"{ROOT}/docs/{source}", encoding="utf-8") as text:
-            stands = f"\n{quoted}\n" in f"\n{text.read()}"
+            stands = bare(f"\n{quoted}\n") in bare(f"\n{text.read()}")
         passed, failed = passed + stands, failed + (not stands)
         if not stands:
             print(f"FAILED: {PAGE} quotes what {source} doesn't have: {quoted.splitlines()[0]}")

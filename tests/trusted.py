@@ -1,7 +1,7 @@
 #!/usr/bin/env python3
 """Shows that docs/THEOREM.md tells the sizes of the library crates that are trusted as they are.
 
-Each row of its table that begins with names of crates ends with their lines of source in the kit, of which `rt doc` tells the
+Each row of its table that begins with names of crates tells their lines of source in the kit, of which `rt doc` tells the
 place. RT names the command rt, where it isn't on the PATH. The last line is "N passed, M failed".
 """
 
@@ -13,7 +13,7 @@ import sys
 
 ROOT = os.path.dirname(os.path.dirname(os.path.abspath(__file__)))
 PAGE = "docs/THEOREM.md"
-ROW = re.compile(r"^\| (`\w+`(?:, `\w+`)*)(?: \([^|]*\))? \| ([0-9,]+) \|$", re.MULTILINE)
+ROW = re.compile(r"^\| (`\w+`(?:, `\w+`)*)(?: \([^|]*\))? \| ([0-9,]+) \|[^|]*\|$", re.MULTILINE)
 
 
 def lines_of(kit, crate):

@@ -3,8 +3,9 @@ use Rattle.std.proofs.Common.{◌≡◌, ℕ, Bool, List, Option, subst, sym}
 use Rattle.cnf_base.specs.Stream.{Reader}
 use Rattle.command_line.specs.declared.args.Args.{Args}
 use Rattle.command_line.specs.declared.tool.Tool.{Tool}
-use Rattle.filter_io.specs.Runs.{Checks}
+use Rattle.filter_io.specs.Runs.{Answers, Checks}
 use Rattle.sat_check.specs.declared.checked.Checked.{Checked}
+use Rattle.sat_check.specs.declared.status.Status.{Status}
 
 pub of_tool : (tool known : Tool) (args : Args)
     (formula formula_new second second_new : Reader) (old new : Option (List ℕ))
@@ -19,3 +20,10 @@ of_tool tool known args formula formula_new second second_new old new had_failed
     λ t. Checks t args formula formula_new second second_new old new had_failed has_failed
     is_flushed checked in
     subst Does (sym is) does
+
+pub answers_of_tool : (tool known : Tool) (formula second : Option (List ℕ)) (status : Status)
+    (old new : Option (List ℕ)) → tool ≡ known → Answers known formula second status old new
+    → Answers tool formula second status old new
+answers_of_tool tool known formula second status old new is says =
+    let Says : Tool → Type 0 = λ t. Answers t formula second status old new in
+    subst Says (sym is) says

@@ -9,7 +9,9 @@ use Rattle.command_line.specs.declared.tool.Tool.{Tool}
 use Rattle.command_line.specs.declared.tool.Tool.TheVariants.{Drat, Lrat, Model}
 use Rattle.sat_check.specs.Options.{drat_options}
 use Rattle.sat_check.specs.Runs.{RunsDrat, RunsLrat, RunsModel}
+use Rattle.sat_check.specs.Theorem.{ShowsUnsatisfiable, ShowsSatisfied}
 use Rattle.sat_check.specs.declared.checked.Checked.{Checked}
+use Rattle.sat_check.specs.declared.status.Status.{Status}
 use Rattle.filter_io.specs.Origins.{unread}
 
 -- What an input is read by, by its name: the file of that name, or one that the system may refuse
@@ -28,6 +30,13 @@ Checks Drat args = RunsDrat (drat_options args 0)
 Checks Lrat args = RunsLrat args.trace
 Checks Model args = RunsModel
 
+-- what a positive answer of the tool says of the bytes that its inputs have, where these are known
+abbrev pub Answers : Tool → (formula second : Option (List ℕ)) → Status →
+    (old new : Option (List ℕ)) → Type 0
+Answers Drat formula second = ShowsUnsatisfiable formula
+Answers Lrat formula second = ShowsUnsatisfiable formula
+Answers Model formula second = ShowsSatisfied formula second
+
 -- The words ask for these arguments, and the inputs of the names that these have were checked, the
 -- formula and the second one, each read up to some point.
 pub record RunsTool {Z : Type 0} (tool : Tool) (words : List (String Z)) (args : Args)
@@ -41,3 +50,4 @@ pub record RunsTool {Z : Type 0} (tool : Tool) (words : List (String Z)) (args :
   pub opens_second : opens (asked_by (option_map string_bytes args.second)) second_unread
   pub checks : Checks tool args formula_unread formula second_unread second old new had_failed
       has_failed is_flushed checked
+  pub answers : Answers tool formula_unread.left second_unread.left checked.status old new

@@ -4,7 +4,7 @@ ghost use Rattle.std.specs.Prelude.{◌≡◌, IfOk, IfErr, OnErr};
 ghost use Rattle.command_line.specs.Words.{Accepts, said_by};
 ghost use Rattle.filter_io.specs.Inputs.{kept, reader};
 ghost use Rattle.filter_io.specs.Origins.{left_of};
-ghost use Rattle.filter_io.specs.Runs.{Checks, Opens, RunsTool};
+ghost use Rattle.filter_io.specs.Runs.{Answers, Checks, Opens, RunsTool};
 ghost use Rattle.filter_io.specs.Told.{told_of};
 ghost use Rattle.hints.specs.Kinds.{Shows};
 
@@ -89,9 +89,11 @@ fn check<S: System, I: In, O: Out>(
     second: &mut I,
     out: &mut O,
 ) -> Checked
-    ensures { Checks tool args.now (I.shown formula.old) (I.shown formula.new)
+    ensures checks { Checks tool args.now (I.shown formula.old) (I.shown formula.new)
         (I.shown second.old) (I.shown second.new) (O.held out.old) (O.held out.new)
         (O.has_failed out.old) (O.has_failed out.new) (O.is_flushed out.new) result }
+    ensures answers { Answers tool (I.shown formula.old).left (I.shown second.old).left
+        result.status (O.held out.old) (O.held out.new) }
 {
     let alloc = system.alloc();
     match tool {

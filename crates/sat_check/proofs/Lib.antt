@@ -1,4 +1,6 @@
 pub mod CheckLemmas
+pub mod ClaimLemmas
+pub mod EndingLemmas
 pub mod JudgeLemmas
 pub mod LoadLemmas
 pub mod ModelLemmas
@@ -11,5 +13,6 @@ pub mod ShownLemmas
 pub mod RunLemmas
 pub mod SoundLemmas
 pub mod StepLemmas
+pub mod TheoremLemmas
 pub mod UniqueLemmas
 pub mod WrittenLemmas

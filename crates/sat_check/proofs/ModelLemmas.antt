@@ -21,6 +21,7 @@ use Rattle.sat_check.specs.Lines.{a_model, fault_line, fault_status}
 use Rattle.sat_check.specs.Report.{Outcome, Report, concluded}
 use Rattle.sat_check.specs.ModelReport.{meets, first_unmet, met_report, clauses_report}
 use Rattle.sat_check.specs.ModelReport.{claim_report, model_report, Satisfies, ChecksModel}
+use Rattle.sat_check.specs.ModelReport.{ModelConsequences}
 use Rattle.sat_check.specs.ModelReport.{ReadsFormulaNoFurther, TellsModelFault, TellsUnmet, first_model_fault}
 use Rattle.sat_check.specs.Reach.{TellsFault, first_fault}
 use Rattle.sat_check.specs.declared.checked.Checked.{Checked}
@@ -34,6 +35,8 @@ use Rattle.sat_check.specs.declared.status.Status.TheVariants.{OutOfMemory as No
 use Rattle.sat_check.proofs.JudgeLemmas.{unread_unmet}
 use Rattle.sat_check.proofs.ReadLemmas.{unread_fault}
 use Rattle.sat_check.proofs.OutcomeLemmas.{both_told}
+use Rattle.sat_check.proofs.ClaimLemmas.{claim_consistent}
+use Rattle.sat_check.proofs.WrittenLemmas.{written_model}
 use Rattle.sat_check.proofs.SoundLemmas.{fault_is_no_verdict, outcome_verified, outcome_complete}
 
 -- ---- Literals that are the same set meet the same clauses
@@ -181,7 +184,7 @@ unfolding complement
 odd_half l h = grind (arith, nat_tests)
 
 -- under it each listed literal is true
-listed_holds : (listed : List Literal) → IsConsistent listed → (l : Literal) → has listed l ≡ true → holds (assigned listed) l ≡ true
+pub listed_holds : (listed : List Literal) → IsConsistent listed → (l : Literal) → has listed l ≡ true → holds (assigned listed) l ≡ true
 unfolding holds
 listed_holds listed consistent l h = by (l % 2 == 0) refl
   where
@@ -199,18 +202,22 @@ met_satisfied listed consistent c h =
 satisfied_model : (claim : Result (List Literal) Fault) (clauses : List Clause) → Satisfies claim clauses → HasModel (slice_get clauses)
 satisfied_model claim clauses s = (assigned s.listed, λ k c at. met_satisfied s.listed s.consistent c (s.met k c at))
 
--- all that is promised of a check of a model
-pub checks_model : (i j : Input) (old new : Option (List ℕ)) (status : Status) → Outcome status old new (model_report i j) → (status ≡ Verified → IfOk (claim_of j) IsConsistent) → ChecksModel i j old new status
-checks_model i j old new status o consistent = record {
-  outcome = o;
-  whole = λ is. (said is).1;
-  satisfied = λ is. (said is).0;
+-- what follows from the report of a model
+model_consequences : (i j : Input) (old new : Option (List ℕ)) (status : Status) → Outcome status old new (model_report i j) → ModelConsequences i j old new status
+model_consequences i j old new status o = record {
+  whole = λ is. (said (outcome_verified status old new (model_report i j) is o)).1;
+  satisfied = λ is. (said (outcome_verified status old new (model_report i j) is o)).0;
   complete = λ whole s. outcome_complete status old new (model_report i j) (satisfied_verified (claim_of j) (formula_of i) whole s) o;
-  has_model = λ is. satisfied_model (claim_of j) (formula_of i).clauses (said is).0;
+  has_model = λ is. satisfied_model (claim_of j) (formula_of i).clauses (said (outcome_verified status old new (model_report i j) is o)).0;
+  written = λ w. satisfied_model (claim_of j) (formula_of i).clauses (said (written_model (claim_of j) (formula_of i) status old new o w)).0;
 }
   where
-    said : status ≡ Verified → Satisfies (claim_of j) (formula_of i).clauses × ((formula_of i).fault ≡ None)
-    said is = verified_satisfied (claim_of j) (formula_of i) (outcome_verified status old new (model_report i j) is o) (consistent is)
+    said : (model_report i j).status ≡ Verified → Satisfies (claim_of j) (formula_of i).clauses × ((formula_of i).fault ≡ None)
+    said is = verified_satisfied (claim_of j) (formula_of i) is (claim_consistent j)
+
+-- all that is promised of a check of a model
+pub checks_model : (i j : Input) (old new : Option (List ℕ)) (status : Status) → Outcome status old new (model_report i j) → ChecksModel i j old new status
+checks_model i j old new status o = record { outcome = o; consequences = model_consequences i j old new status o }
 
 -- what a run made of the inputs that it saw, and what it told of them
 abbrev pub Made : Reader → Reader → (Input → Input → Type 0) → Status → Option (List ℕ) → Option (List ℕ) → Input → Input → Type 0
@@ -224,7 +231,7 @@ pub both_check_model : (formula formula_new output output_new : Reader) (Told : 
 both_check_model formula formula_new output output_new Told status old new first last before after =
     both_told formula formula_new output output_new (Made formula formula_new Told status)
     (λ i j. ChecksModel i j first last status × ReadsFormulaNoFurther (claim_of j) i formula formula_new × Told i j)
-    old new first last before after (λ i j x. (checks_model i j first last status x.0 x.1, x.2, x.3))
+    old new first last before after (λ i j x. (checks_model i j first last status x.0, x.2, x.3))
 
 -- ---- What is told of a fault
 

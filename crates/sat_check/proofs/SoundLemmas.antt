@@ -20,7 +20,7 @@ use Rattle.sat_check.specs.FormulaReach.{ReadsNoFurtherThanFault}
 use Rattle.sat_check.specs.Lines.{fault_status, text_status}
 use Rattle.sat_check.specs.Reach.{ReadsNoFurther, TellsWhy}
 use Rattle.sat_check.specs.Report.{Report, Outcome, ReportsFormula, ProofReport, Verifies, Reports}
-use Rattle.sat_check.specs.Report.{ChecksProof, IsFlushedOrFailed, IsUnlessBroken, bare_steps, peak_of, verdict_report}
+use Rattle.sat_check.specs.Report.{ProofConsequences, ChecksProof, IsFlushedOrFailed, IsUnlessBroken, bare_steps, peak_of, verdict_report}
 use Rattle.sat_check.specs.Runs.{RunsPlaced}
 use Rattle.sat_check.specs.declared.checked.Checked.{Checked}
 use Rattle.sat_check.specs.declared.status.Status.{Status}
@@ -93,10 +93,9 @@ outcome_complete Malformed old new r is o = absurd (let bad : Malformed ≡ Veri
 outcome_complete ReadFailed old new r is o = absurd (let bad : ReadFailed ≡ Verified = o.0 ∙ is in cc)
 outcome_complete Usage old new r is o = absurd (let bad : Usage ≡ Verified = o.0 ∙ is in cc)
 
--- all that is promised of a check of a proof
-pub checks_proof : (rule : Rule) (trace : Bool) (i : Input) (p : Proof) (old new : Option (List ℕ)) (status : Status) → Reports rule trace i p old new status → ChecksProof rule trace i p old new status
-checks_proof rule trace i p old new status x = record {
-  reports = x;
+-- what follows from the report of a proof
+proof_consequences : (rule : Rule) (trace : Bool) (i : Input) (p : Proof) (old new : Option (List ℕ)) (status : Status) → Reports rule trace i p old new status → ProofConsequences rule i p old new status
+proof_consequences rule trace i p old new status x = record {
   verified = λ is. report_verified rule trace i p x.report x.reports (outcome_verified status old new x.report is x.outcome);
   complete = λ v. outcome_complete status old new x.report (verifies_reported rule trace i p x.report v x.reports) x.outcome;
   sound = λ is. refuted (outcome_verified status old new x.report is x.outcome);
@@ -105,6 +104,10 @@ checks_proof rule trace i p old new status x = record {
   where
     refuted : x.report.status ≡ Verified → ¬ HasModel (slice_get (formula_of i).clauses)
     refuted is = verifies_sound rule (formula_of i) p (report_verified rule trace i p x.report x.reports is)
+
+-- all that is promised of a check of a proof
+pub checks_proof : (rule : Rule) (trace : Bool) (i : Input) (p : Proof) (old new : Option (List ℕ)) (status : Status) → Reports rule trace i p old new status → ChecksProof rule trace i p old new status
+checks_proof rule trace i p old new status x = record { reports = x; consequences = proof_consequences rule trace i p old new status x }
 
 -- and by all that was seen of the formula and of the proof
 abbrev AllChecks : Rule → Bool → (Input → Proof) → Reader → Reader → Reader → Reader → Checked → Option (List ℕ) → Option (List ℕ) → Type 0

@@ -3,7 +3,7 @@ use Rattle.std.proofs.Common.{◌≡◌, ℕ, zero, suc, ◌+◌, ◌-◌, ◌/�
 use Rattle.std.proofs.Common.{if◌then◌else◌, cond, Bool, true, false, not, Option, None, Some, List}
 use Rattle.std.proofs.Common.{[], ◌∷◌, ◌++◌, length, codes, refl, sym, ap, ◌∙◌, subst, append_assoc}
 use Rattle.std.proofs.Common.{arith}
-use Rattle.std.specs.Prelude.{decimal}
+use Rattle.std.specs.Prelude.{decimal, Result, Ok, Err}
 use Rattle.std.specs.Fmt.{digits, digits_onto, digit_glyph}
 use Rattle.std.specs.List.{list_all, list_any, onto_first}
 use Rattle.std.specs.Str.{bytes_eq}
@@ -22,7 +22,7 @@ use Rattle.cnf_base.specs.declared.fault.TextFault.{TextFault}
 use Rattle.cnf_base.specs.declared.fault.TextFault.TheVariants as text
 use Rattle.cnf_base.specs.declared.fault.BinaryFault.{BinaryFault}
 use Rattle.cnf_base.specs.declared.fault.BinaryFault.TheVariants as binary
-use Rattle.dimacs.specs.Formula.{formula_of}
+use Rattle.dimacs.specs.Formula.{Formula, formula_of}
 use Rattle.dimacs.specs.declared.header.Header.{Header}
 use Rattle.proofs.specs.Reading.{Proof}
 use Rattle.theory.specs.Rules.{Rule}
@@ -31,9 +31,11 @@ use Rattle.theory.specs.declared.accepted.Accepted.{Accepted}
 use Rattle.theory.specs.declared.accepted.Accepted.TheVariants.{Rup}
 use Rattle.theory.specs.declared.refusal.Refusal.{Refusal}
 use Rattle.theory.specs.declared.refusal.Refusal.TheVariants as refusal
-use Rattle.sat_check.specs.Lines.{a_proof, shown, formula_line, kind_text, binary_text, fault_line}
+use Rattle.sat_check.specs.Lines.{Certificate, a_proof, a_model, unmet_line, clauses_line}
+use Rattle.sat_check.specs.Lines.{shown, formula_line, kind_text, binary_text, fault_line}
 use Rattle.sat_check.specs.Lines.{fault_status, word_text, trace_line, sign_text, with_cause}
 use Rattle.sat_check.specs.Lines.{refusal_line, steps_line, end_line, sentence}
+use Rattle.sat_check.specs.ModelReport.{first_unmet, met_report, clauses_report, claim_report}
 use Rattle.sat_check.specs.Report.{Report, Outcome, text_of, concluded, with_lines, trace_lines}
 use Rattle.sat_check.specs.Report.{verdict_report, proof_report, ReportsFormula, ProofReport}
 use Rattle.sat_check.specs.Report.{HasWritten}
@@ -171,26 +173,31 @@ among_lines b bs (line ∷ lines) part rest all whole written =
 
 -- ---- The lines of a report
 
-abbrev positive : List ℕ
-positive = codes "s VERIFIED"
+-- the sentence of a positive verdict
+abbrev positive : Certificate → List ℕ
+positive certificate = sentence certificate Verified
 
--- a line that begins with `s VERIFIED` is among the lines under status 0 alone
-record Tells (r : Report) : Type 0 where
+-- a line that begins with that sentence is among the lines under status 0 alone
+record Tells (certificate : Certificate) (r : Report) : Type 0 where
   plain : list_all has_no_feed r.lines ≡ true
-  told : list_any (begins positive) r.lines ≡ true → r.status ≡ Verified
+  told : list_any (begins (positive certificate)) r.lines ≡ true → r.status ≡ Verified
 
-sentence_plain : (s : Status) → Plain (sentence a_proof s)
-sentence_plain Verified = fixed _ refl
-sentence_plain _ = fixed _ refl
+sentence_plain : (certificate : Certificate) (s : Status) → Plain (sentence certificate s)
+sentence_plain a_proof Verified = fixed _ refl
+sentence_plain a_proof _ = fixed _ refl
+sentence_plain a_model Verified = fixed _ refl
+sentence_plain a_model _ = fixed _ refl
 
-sentence_told : (s : Status) → (begins positive (sentence a_proof s) || false) ≡ true → s ≡ Verified
-sentence_told Verified e = refl
-sentence_told _ e = absurd (let bad : false ≡ true = e in cc)
+sentence_told : (certificate : Certificate) (s : Status) → (begins (positive certificate) (sentence certificate s) || false) ≡ true → s ≡ Verified
+sentence_told a_proof Verified e = refl
+sentence_told a_proof _ e = absurd (let bad : false ≡ true = e in cc)
+sentence_told a_model Verified e = refl
+sentence_told a_model _ e = absurd (let bad : false ≡ true = e in cc)
 
-concluded_tells : (line : List ℕ) (s : Status) → Plain line → begins positive line ≡ false → Tells (concluded a_proof line s)
-concluded_tells line s e other = record {
-  plain = ap (λ v. v && (has_no_feed (sentence a_proof s) && true)) e.test ∙ ap (λ v. v && true) (sentence_plain s).test;
-  told = λ h. sentence_told s (sym (ap (λ v. v || (begins positive (sentence a_proof s) || false)) other) ∙ h);
+concluded_tells : (certificate : Certificate) (line : List ℕ) (s : Status) → Plain line → begins (positive certificate) line ≡ false → Tells certificate (concluded certificate line s)
+concluded_tells certificate line s e other = record {
+  plain = ap (λ v. v && (has_no_feed (sentence certificate s) && true)) e.test ∙ ap (λ v. v && true) (sentence_plain certificate s).test;
+  told = λ h. sentence_told certificate s (sym (ap (λ v. v || (begins (positive certificate) (sentence certificate s) || false)) other) ∙ h);
 }
 
 kind_plain : (k : TextFault) → Plain (kind_text k)
@@ -209,12 +216,14 @@ fault_plain name (fault.Binary kind n) e =
 fault_plain name fault.ReadFailed e = fixed (codes "c cannot read ") refl ⊕ e
 fault_plain name fault.OutOfMemory e = fixed [] refl
 
-fault_other : (name : List ℕ) (f : Fault) → begins positive (fault_line name f) ≡ false
-fault_other name fault.ReadFailed = refl
-fault_other name _ = refl
+fault_other : (certificate : Certificate) (name : List ℕ) (f : Fault) → begins (positive certificate) (fault_line name f) ≡ false
+fault_other a_proof name fault.ReadFailed = refl
+fault_other a_proof name _ = refl
+fault_other a_model name fault.ReadFailed = refl
+fault_other a_model name _ = refl
 
-fault_tells : (name : List ℕ) (f : Fault) → Plain name → Tells (concluded a_proof (fault_line name f) (fault_status f))
-fault_tells name f e = concluded_tells (fault_line name f) (fault_status f) (fault_plain name f e) (fault_other name f)
+fault_tells : (certificate : Certificate) (name : List ℕ) (f : Fault) → Plain name → Tells certificate (concluded certificate (fault_line name f) (fault_status f))
+fault_tells certificate name f e = concluded_tells certificate (fault_line name f) (fault_status f) (fault_plain name f e) (fault_other certificate name f)
 
 word_plain : (w : Accepted) → Plain (word_text w)
 word_plain Rup = fixed _ refl
@@ -244,7 +253,7 @@ cause_plain front refusal.NoConflict e = e ⊕ fixed (codes "no conflict") refl
 cause_plain front refusal.OutOfMemory e = e
 cause_plain front refusal.Ended e = e
 
-refusal_other : (n : ℕ) (r : Refusal) → begins positive (refusal_line n r) ≡ false
+refusal_other : (n : ℕ) (r : Refusal) → begins (positive a_proof) (refusal_line n r) ≡ false
 refusal_other n refusal.NotRup = refl
 refusal_other n _ = refl
 
@@ -257,17 +266,17 @@ refusal_plain n r = cause_plain (codes "c step " ++ shown n ++ codes ": ") r (fi
 steps_plain : (n peak : ℕ) → Plain (steps_line n peak)
 steps_plain n peak = fixed (codes "c steps ") refl ⊕ shown_plain n ⊕ fixed (codes " peak ") refl ⊕ shown_plain peak
 
-verdict_tells : (n peak : ℕ) (ending : Ending) (fault : Option Fault) → Tells (verdict_report n peak ending fault)
-verdict_tells n peak verified fault = concluded_tells (steps_line n peak) Verified (steps_plain n peak) refl
-verdict_tells n peak (refused r) fault = concluded_tells (refusal_line (n + 1) r) NotVerified (refusal_plain (n + 1) r) (refusal_other (n + 1) r)
-verdict_tells n peak no_empty_clause None = concluded_tells end_line NotVerified (fixed _ refl) refl
-verdict_tells n peak no_empty_clause (Some f) = fault_tells (codes "proof") f (fixed _ refl)
+verdict_tells : (n peak : ℕ) (ending : Ending) (fault : Option Fault) → Tells a_proof (verdict_report n peak ending fault)
+verdict_tells n peak verified fault = concluded_tells a_proof (steps_line n peak) Verified (steps_plain n peak) refl
+verdict_tells n peak (refused r) fault = concluded_tells a_proof (refusal_line (n + 1) r) NotVerified (refusal_plain (n + 1) r) (refusal_other (n + 1) r)
+verdict_tells n peak no_empty_clause None = concluded_tells a_proof end_line NotVerified (fixed _ refl) refl
+verdict_tells n peak no_empty_clause (Some f) = fault_tells a_proof (codes "proof") f (fixed _ refl)
 
 -- lines in front of a report
-front_tells : (lines : List (List ℕ)) (r : Report) → list_all has_no_feed lines ≡ true → list_any (begins positive) lines ≡ false → Tells r → Tells (with_lines lines r)
+front_tells : (lines : List (List ℕ)) (r : Report) → list_all has_no_feed lines ≡ true → list_any (begins (positive a_proof)) lines ≡ false → Tells a_proof r → Tells a_proof (with_lines lines r)
 front_tells lines r e other t = record {
   plain = list_all-append has_no_feed lines r.lines ∙ ap (λ v. v && list_all has_no_feed r.lines) e ∙ t.plain;
-  told = λ h. t.told (sym (list_any-append (begins positive) lines r.lines ∙ ap (λ v. v || list_any (begins positive) r.lines) other) ∙ h);
+  told = λ h. t.told (sym (list_any-append (begins (positive a_proof)) lines r.lines ∙ ap (λ v. v || list_any (begins (positive a_proof)) r.lines) other) ∙ h);
 }
 
 trace_plain : (n : ℕ) (words : List Accepted) → list_all has_no_feed (trace_lines n words) ≡ true
@@ -276,25 +285,39 @@ trace_plain n (w ∷ ws) =
     let line : Plain (trace_line n w) = fixed (codes "c ") refl ⊕ shown_plain n ⊕ word_plain w in
     ap (λ v. v && list_all has_no_feed (trace_lines (n + 1) ws)) line.test ∙ trace_plain (n + 1) ws
 
-trace_other : (n : ℕ) (words : List Accepted) → list_any (begins positive) (trace_lines n words) ≡ false
+trace_other : (n : ℕ) (words : List Accepted) → list_any (begins (positive a_proof)) (trace_lines n words) ≡ false
 trace_other n [] = refl
 trace_other n (w ∷ ws) = trace_other (n + 1) ws
 
-proof_tells : (trace : Bool) (n peak : ℕ) (words : List Accepted) (ending : Ending) (fault : Option Fault) → Tells (proof_report trace n peak words ending fault)
+proof_tells : (trace : Bool) (n peak : ℕ) (words : List Accepted) (ending : Ending) (fault : Option Fault) → Tells a_proof (proof_report trace n peak words ending fault)
 proof_tells true n peak words ending fault = front_tells (trace_lines (n + 1) words) _ (trace_plain (n + 1) words) (trace_other (n + 1) words) (verdict_tells (n + length words) peak ending fault)
 proof_tells false n peak words ending fault = front_tells [] _ refl refl (verdict_tells (n + length words) peak ending fault)
 
 formula_plain : (h : Header) → Plain (formula_line h)
 formula_plain h = fixed (codes "c formula ") refl ⊕ number_plain h.vars ⊕ fixed (codes " variables ") refl ⊕ number_plain h.clauses ⊕ fixed (codes " clauses") refl
 
-report_tells : (rule : Rule) (trace : Bool) (i : Input) (p : Proof) (r : Report) → ProofReport rule trace i p r → Tells r
+report_tells : (rule : Rule) (trace : Bool) (i : Input) (p : Proof) (r : Report) → ProofReport rule trace i p r → Tells a_proof r
 report_tells rule trace i p r reports = by (formula_of i).header (formula_of i).clauses (formula_of i).fault reports
   where
-    by : (header : Option Header) (clauses : List Clause) (fault : Option Fault) → ReportsFormula rule trace header clauses fault p r → Tells r
-    by header clauses (Some f) e = subst Tells (sym e) (fault_tells (codes "formula") f (fixed _ refl))
+    by : (header : Option Header) (clauses : List Clause) (fault : Option Fault) → ReportsFormula rule trace header clauses fault p r → Tells a_proof r
+    by header clauses (Some f) e = subst (Tells a_proof) (sym e) (fault_tells a_proof (codes "formula") f (fixed _ refl))
     by (Some h) clauses None c =
-        subst Tells (sym c.report) (front_tells (formula_line h ∷ []) _ (ap (λ v. v && true) (formula_plain h).test) refl (proof_tells trace 0 _ c.words c.ending p.fault))
+        subst (Tells a_proof) (sym c.report) (front_tells (formula_line h ∷ []) _ (ap (λ v. v && true) (formula_plain h).test) refl (proof_tells trace 0 _ c.words c.ending p.fault))
     by None clauses None c = absurd c
+
+-- the lines of a model's report
+met_tells : (n : ℕ) (fault : Option Fault) → Tells a_model (met_report n fault)
+met_tells n None = concluded_tells a_model (clauses_line n) Verified (fixed (codes "c clauses ") refl ⊕ shown_plain n) refl
+met_tells n (Some f) = fault_tells a_model (codes "formula") f (fixed _ refl)
+
+unmet_tells : (unmet : Option ℕ) (f : Formula) → Tells a_model (clauses_report unmet f)
+unmet_tells (Some k) f =
+    concluded_tells a_model (unmet_line k) NotVerified (fixed (codes "c clause ") refl ⊕ shown_plain k ⊕ fixed (codes " is not satisfied") refl) refl
+unmet_tells None f = met_tells (length f.clauses) f.fault
+
+claim_tells : (claim : Result (List Literal) Fault) (f : Formula) → Tells a_model (claim_report claim f)
+claim_tells (Ok listed) f = unmet_tells (first_unmet 1 listed f.clauses) f
+claim_tells (Err e) f = fault_tells a_model (codes "output") e (fixed _ refl)
 
 -- ---- What a run wrote
 
@@ -324,11 +347,22 @@ appended old new held bytes part before after a =
     let same : held ++ bytes ≡ held ++ part = subst Q after (subst P before a) in
     append_cancel_left held bytes part same
 
--- where `s VERIFIED` was written, the report has status 0
+-- where that sentence was written, the report has status 0
+sentence_written : (b : ℕ) (bs : List ℕ) (r : Report) (status : Status) (old new : Option (List ℕ)) → list_all has_no_feed r.lines ≡ true
+    → (list_any (begins (b ∷ bs)) r.lines ≡ true → r.status ≡ Verified) → Outcome status old new r → HasWritten (b ∷ bs) old new → r.status ≡ Verified
+sentence_written b bs r status old new plain told o w =
+    let begun = outcome_begins status old new r o in
+    let same = appended old new w.held w.bytes begun.0 w.before w.after begun.3 in
+    told (among_lines b bs r.lines begun.0 begun.1 plain begun.2 (sym (ap (λ x. list_any (bytes_eq (b ∷ bs)) (lines_of x)) same) ∙ w.written))
+
 pub written_verified : (rule : Rule) (trace : Bool) (i : Input) (p : Proof) (r : Report) (status : Status) (old new : Option (List ℕ))
     → ProofReport rule trace i p r → Outcome status old new r → HasWritten (codes "s VERIFIED") old new → r.status ≡ Verified
 written_verified rule trace i p r status old new reports o w =
     let t = report_tells rule trace i p r reports in
-    let b = outcome_begins status old new r o in
-    let same = appended old new w.held w.bytes b.0 w.before w.after b.3 in
-    t.told (among_lines 115 (codes " VERIFIED") r.lines b.0 b.1 t.plain b.2 (sym (ap (λ x. list_any (bytes_eq positive) (lines_of x)) same) ∙ w.written))
+    sentence_written 115 (codes " VERIFIED") r status old new t.plain t.told o w
+
+pub written_model : (claim : Result (List Literal) Fault) (f : Formula) (status : Status) (old new : Option (List ℕ))
+    → Outcome status old new (claim_report claim f) → HasWritten (codes "s MODEL VERIFIED") old new → (claim_report claim f).status ≡ Verified
+written_model claim f status old new o w =
+    let t = claim_tells claim f in
+    sentence_written 115 (codes " MODEL VERIFIED") (claim_report claim f) status old new t.plain t.told o w

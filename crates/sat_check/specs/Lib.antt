@@ -6,4 +6,5 @@ pub mod Reach
 pub mod Report
 pub mod Runs
 pub mod Status
+pub mod Theorem
 pub mod Code

@@ -10,7 +10,7 @@ use Rattle.dimacs.specs.Claim.{claim_of, IsConsistent}
 use Rattle.dimacs.specs.Formula.{Formula, formula_of, ends_of}
 use Rattle.sat_check.specs.FormulaReach.{ReadsNoFurtherThanFault}
 use Rattle.sat_check.specs.Lines.{a_model, unmet_line, clauses_line, fault_line, fault_status}
-use Rattle.sat_check.specs.Report.{Report, Outcome, IsUnlessBroken, concluded}
+use Rattle.sat_check.specs.Report.{Report, Outcome, IsUnlessBroken, HasWritten, concluded}
 use Rattle.sat_check.specs.Reach.{first_fault}
 use Rattle.theory.specs.Models.{HasModel}
 use Rattle.sat_check.specs.declared.checked.Checked.{Checked}
@@ -90,14 +90,22 @@ pub record TellsModelFault (claim : Result (List Literal) Fault) (formula : Form
       TellsUnmet listed formula.clauses checked
   pub unclaimed : (f : Fault) → claim ≡ Err f → checked.unmet ≡ None
 
--- A run checked the model that this output claims of this formula: what it wrote and its status are
--- those of the report. Status 0 is answered exactly where the formula has no fault and the claim
--- satisfies its clauses, unless memory or the writer failed. Where it is, the formula has a model.
-pub record ChecksModel (formula output : Input) (old new : Option (List ℕ)) (status : Status)
+-- What follows from the report of a model. Status 0 is answered exactly where the formula has no
+-- fault and the claim satisfies its clauses, unless memory or the writer failed. Where it is, and
+-- where the line `s MODEL VERIFIED` was written, under whatever status, the formula has a model.
+pub record ModelConsequences (formula output : Input) (old new : Option (List ℕ)) (status : Status)
     : Type 0 where
-  pub outcome : Outcome status old new (model_report formula output)
   pub whole : status ≡ Verified → (formula_of formula).fault ≡ None
   pub satisfied : status ≡ Verified → Satisfies (claim_of output) (formula_of formula).clauses
   pub complete : (formula_of formula).fault ≡ None →
       Satisfies (claim_of output) (formula_of formula).clauses → IsUnlessBroken Verified status
   pub has_model : status ≡ Verified → HasModel (slice_get (formula_of formula).clauses)
+  pub written : HasWritten (codes "s MODEL VERIFIED") old new →
+      HasModel (slice_get (formula_of formula).clauses)
+
+-- A run checked the model that this output claims of this formula: what it wrote and its status are
+-- those of the report.
+pub record ChecksModel (formula output : Input) (old new : Option (List ℕ)) (status : Status)
+    : Type 0 where
+  pub outcome : Outcome status old new (model_report formula output)
+  pub consequences : ModelConsequences formula output old new status

@@ -162,18 +162,22 @@ pub record Reports (rule : Rule) (trace : Bool) (formula : Input) (proof : Proof
   pub reports : ProofReport rule trace formula proof report
   pub outcome : Outcome status old new report
 
--- A run checked this proof of this formula: what it wrote and its status are those of the report.
--- Status 0 is answered exactly where the proof verifies the formula, unless memory or the writer
--- failed. Where it is, and where the line `s VERIFIED` was written, under whatever status, no
--- assignment satisfies the formula.
-pub record ChecksProof (rule : Rule) (trace : Bool) (formula : Input) (proof : Proof)
+-- What follows from that. Status 0 is answered exactly where the proof verifies the formula, unless
+-- memory or the writer failed. Where it is, and where the line `s VERIFIED` was written, under
+-- whatever status, no assignment satisfies the formula.
+pub record ProofConsequences (rule : Rule) (formula : Input) (proof : Proof)
     (old new : Option (List ℕ)) (status : Status) : Type 0 where
-  pub reports : Reports rule trace formula proof old new status
   pub verified : status ≡ Verified → Verifies rule (formula_of formula) proof
   pub complete : Verifies rule (formula_of formula) proof → IsUnlessBroken Verified status
   pub sound : status ≡ Verified → ¬ HasModel (slice_get (formula_of formula).clauses)
   pub written : HasWritten (codes "s VERIFIED") old new →
       ¬ HasModel (slice_get (formula_of formula).clauses)
+
+-- A run checked this proof of this formula.
+pub record ChecksProof (rule : Rule) (trace : Bool) (formula : Input) (proof : Proof)
+    (old new : Option (List ℕ)) (status : Status) : Type 0 where
+  pub reports : Reports rule trace formula proof old new status
+  pub consequences : ProofConsequences rule formula proof old new status
 
 -- ---- Laws
 

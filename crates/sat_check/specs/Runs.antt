@@ -1,17 +1,23 @@
 -- What is promised of a run of a check, by its readers, its writer and its status.
-use Rattle.std.specs.Prelude.{◌≡◌, ℕ, Bool, true, false, List, Option}
+use Rattle.std.specs.Prelude.{◌≡◌, ℕ, Bool, true, false, List, Option, MatchBool}
+use Rattle.cnf_base.specs.Literals.{Clause}
 use Rattle.cnf_base.specs.Seen.{OfBothSeen, OneHasFailed}
-use Rattle.cnf_base.specs.Stream.{Input, Reader}
+use Rattle.cnf_base.specs.Stream.{Input, Reader, tells_failure}
 use Rattle.dimacs.specs.Formula.{formula_of}
 use Rattle.dimacs.specs.Claim.{claim_of}
+use Rattle.proofs.specs.Grammar.{IsDratText, IsBinaryProof, IsLratText}
 use Rattle.proofs.specs.Lrat.{lrat_steps}
 use Rattle.proofs.specs.Reading.{Proof}
+use Rattle.proofs.specs.Steps.{Step}
 use Rattle.theory.specs.Rules.{Rule, drat, lrat}
+use Rattle.theory.specs.Verdicts.{verified, Verdict}
+use Rattle.theory.specs.declared.accepted.Accepted.{Accepted}
 use Rattle.sat_check.specs.FormulaReach.{ReadsNoFurtherThanFault}
 use Rattle.sat_check.specs.ModelReport.{ChecksModel, ReadsFormulaNoFurther, TellsModelFault}
 use Rattle.sat_check.specs.Reach.{ReadsNoFurther, TellsWhy}
 use Rattle.sat_check.specs.Report.{ChecksProof, drat_proof, is_cut_short, rules_of}
 use Rattle.sat_check.specs.Report.{IsFlushedOrFailed}
+use Rattle.sat_check.specs.Theorem.{StepsVerify}
 use Rattle.sat_check.specs.declared.checked.Checked.{Checked}
 use Rattle.sat_check.specs.declared.options.DratOptions.{DratOptions}
 use Rattle.sat_check.specs.declared.status.Status.{Status}
@@ -76,3 +82,28 @@ RunsModel formula formula_new output output_new old new had_failed has_failed is
     (λ i j. ChecksModel i j old new checked.status
     × ReadsFormulaNoFurther (claim_of j) i formula formula_new
     × TellsModelFault (claim_of j) (formula_of i) checked)
+
+-- ---- The theorem's step further, by rules and formats
+
+-- the steps verify the clauses
+abbrev pub IsVerifiedBy : Rule → List Clause → List Step → Type 0
+IsVerifiedBy rule clauses steps =
+    (words : List Accepted) × Verdict rule clauses steps words verified
+
+-- the bytes are the text of these steps in DRAT, or spell them in the binary form
+abbrev pub IsDratProof : (binary : Bool) → List ℕ → List Step → Type 0
+IsDratProof binary bytes steps =
+    MatchBool binary (IsBinaryProof bytes steps) (IsDratText bytes steps)
+
+-- a proof in DRAT, by the options
+abbrev pub DratStepsVerify : DratOptions → (formula proof proof_new : Reader) → Status →
+    (old new : Option (List ℕ)) → Type 0
+DratStepsVerify options formula proof proof_new =
+    StepsVerify (IsDratProof options.binary) (IsVerifiedBy (drat (rules_of options))) formula.left
+    proof.left (tells_failure proof_new)
+
+-- one in LRAT
+abbrev pub LratStepsVerify : (formula proof proof_new : Reader) → Status →
+    (old new : Option (List ℕ)) → Type 0
+LratStepsVerify formula proof proof_new =
+    StepsVerify IsLratText (IsVerifiedBy lrat) formula.left proof.left (tells_failure proof_new)

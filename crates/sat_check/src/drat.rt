@@ -7,7 +7,8 @@ ghost use Rattle.theory.specs.Rules.{drat};
 ghost use Rattle.steps.specs.Session.{fresh};
 ghost use Rattle.sat_check.specs.Code.Checking.{RunsInto};
 ghost use Rattle.sat_check.specs.Report.{drat_proof, rules_of};
-ghost use Rattle.sat_check.specs.Runs.{RunsDrat, RunsProof};
+ghost use Rattle.sat_check.specs.Runs.{RunsDrat, RunsProof, DratStepsVerify};
+ghost use Rattle.sat_check.specs.Theorem.{ShowsUnsatisfiable};
 
 use crate::check::check;
 use crate::conclude::give_up;
@@ -32,10 +33,14 @@ pub fn run_drat<F: In, P: In, O: Out>(
     proof: &mut P,
     out: &mut O,
 ) -> Status
-    ensures { RunsProof (drat (rules_of options.now)) options.now.trace
+    ensures runs { RunsProof (drat (rules_of options.now)) options.now.trace
         (drat_proof options.now.binary) (F.shown formula.old) (F.shown formula.new)
         (P.shown proof.old) (P.shown proof.new) (O.held out.old) (O.held out.new)
         (O.has_failed out.old) (O.has_failed out.new) (O.is_flushed out.new) result }
+    ensures unsatisfiable { ShowsUnsatisfiable (F.shown formula.old).left result
+        (O.held out.old) (O.held out.new) }
+    ensures steps_verify { DratStepsVerify options.now (F.shown formula.old)
+        (P.shown proof.old) (P.shown proof.new) result (O.held out.old) (O.held out.new) }
 {
     run_drat_placed(alloc, options, formula, proof, out).status
 }
@@ -48,9 +53,13 @@ pub fn run_drat_placed<F: In, P: In, O: Out>(
     proof: &mut P,
     out: &mut O,
 ) -> Checked
-    ensures { RunsDrat options.now (F.shown formula.old) (F.shown formula.new)
+    ensures runs { RunsDrat options.now (F.shown formula.old) (F.shown formula.new)
         (P.shown proof.old) (P.shown proof.new) (O.held out.old) (O.held out.new)
         (O.has_failed out.old) (O.has_failed out.new) (O.is_flushed out.new) result }
+    ensures unsatisfiable { ShowsUnsatisfiable (F.shown formula.old).left result.status
+        (O.held out.old) (O.held out.new) }
+    ensures steps_verify { DratStepsVerify options.now (F.shown formula.old)
+        (P.shown proof.old) (P.shown proof.new) result.status (O.held out.old) (O.held out.new) }
 {
     run_drat_kept(alloc, options, formula, proof, out).0
 }
@@ -102,10 +111,14 @@ pub fn run_drat_with<C: Propagate + Drop, F: In, P: In, O: Out>(
     requires empty { (C.state clauses).live ≡ maps.empty }
     requires nothing_assumed { (C.state clauses).assumptions ≡ [] }
     requires none_refused { (C.state clauses).has_refused ≡ false }
-    ensures { RunsProof (drat (rules_of options.now)) options.now.trace
+    ensures runs { RunsProof (drat (rules_of options.now)) options.now.trace
         (drat_proof options.now.binary) (F.shown formula.old) (F.shown formula.new)
         (P.shown proof.old) (P.shown proof.new) (O.held out.old) (O.held out.new)
         (O.has_failed out.old) (O.has_failed out.new) (O.is_flushed out.new) result }
+    ensures unsatisfiable { ShowsUnsatisfiable (F.shown formula.old).left result
+        (O.held out.old) (O.held out.new) }
+    ensures steps_verify { DratStepsVerify options.now (F.shown formula.old)
+        (P.shown proof.old) (P.shown proof.new) result (O.held out.old) (O.held out.new) }
 {
     let mut lines = LineOut::new(&mut *out);
     let mut session = DratSession::new(clauses, options.rules());

@@ -1,8 +1,9 @@
 //! Whole checks, from bytes to bytes.
 //!
-//! An engine's contract has one clause on its inputs, since two, each with a pair of inputs of its
-//! own, might be true of different pairs. So the report, the verdict in both directions and what it
-//! means stand in one record of one pair: `ChecksProof` or `ChecksModel`.
+//! An engine's contract has one clause on the inputs that it saw, `runs`, since two, each with a
+//! pair of inputs of its own, might be true of different pairs. So the report and what follows from
+//! it stand in one record of one pair: `ChecksProof` or `ChecksModel`. The theorem is beside it, in
+//! clauses on the bytes that the readers have.
 #![tactic(auto)]
 
 mod check;

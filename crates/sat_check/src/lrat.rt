@@ -5,7 +5,8 @@ ghost use Rattle.proofs.specs.Lrat.{lrat_steps};
 ghost use Rattle.theory.specs.Rules.{lrat};
 ghost use Rattle.steps.specs.Session.{fresh};
 ghost use Rattle.sat_check.specs.Code.Checking.{RunsInto};
-ghost use Rattle.sat_check.specs.Runs.{RunsLrat, RunsProof};
+ghost use Rattle.sat_check.specs.Runs.{RunsLrat, RunsProof, LratStepsVerify};
+ghost use Rattle.sat_check.specs.Theorem.{ShowsUnsatisfiable};
 
 use crate::check::check;
 use crate::conclude::give_up;
@@ -28,10 +29,14 @@ pub fn run_lrat<F: In, P: In, O: Out>(
     proof: &mut P,
     out: &mut O,
 ) -> Status
-    ensures { RunsProof lrat options.now.trace lrat_steps
+    ensures runs { RunsProof lrat options.now.trace lrat_steps
         (F.shown formula.old) (F.shown formula.new) (P.shown proof.old) (P.shown proof.new)
         (O.held out.old) (O.held out.new) (O.has_failed out.old) (O.has_failed out.new)
         (O.is_flushed out.new) result }
+    ensures unsatisfiable { ShowsUnsatisfiable (F.shown formula.old).left result
+        (O.held out.old) (O.held out.new) }
+    ensures steps_verify { LratStepsVerify (F.shown formula.old) (P.shown proof.old)
+        (P.shown proof.new) result (O.held out.old) (O.held out.new) }
 {
     run_lrat_placed(alloc, options, formula, proof, out).status
 }
@@ -44,9 +49,13 @@ pub fn run_lrat_placed<F: In, P: In, O: Out>(
     proof: &mut P,
     out: &mut O,
 ) -> Checked
-    ensures { RunsLrat options.now.trace (F.shown formula.old) (F.shown formula.new)
+    ensures runs { RunsLrat options.now.trace (F.shown formula.old) (F.shown formula.new)
         (P.shown proof.old) (P.shown proof.new) (O.held out.old) (O.held out.new)
         (O.has_failed out.old) (O.has_failed out.new) (O.is_flushed out.new) result }
+    ensures unsatisfiable { ShowsUnsatisfiable (F.shown formula.old).left result.status
+        (O.held out.old) (O.held out.new) }
+    ensures steps_verify { LratStepsVerify (F.shown formula.old) (P.shown proof.old)
+        (P.shown proof.new) result.status (O.held out.old) (O.held out.new) }
 {
     run_lrat_kept(alloc, options, formula, proof, out).0
 }

@@ -14,6 +14,7 @@ ghost use Rattle.sat_check.specs.ModelReport.{ChecksModel, ReadsFormulaNoFurther
 ghost use Rattle.sat_check.specs.ModelReport.{TellsModelFault, TellsUnmet};
 ghost use Rattle.sat_check.specs.Reach.{TellsFault};
 ghost use Rattle.sat_check.specs.Runs.{Runs, RunsModel};
+ghost use Rattle.sat_check.specs.Theorem.{ShowsSatisfied};
 ghost use Rattle.sat_check.specs.Code.Judging.{judged_report, ReadsToUnmet};
 
 use crate::conclude::{break_off, conclude};
@@ -38,11 +39,13 @@ pub fn run_model<F: In, M: In, O: Out>(
     out: &mut O,
 ) -> Status
     // The model was checked, and no more of the formula was read than that takes.
-    ensures { Runs (F.shown formula.old) (F.shown formula.new)
+    ensures runs { Runs (F.shown formula.old) (F.shown formula.new)
         (M.shown output.old) (M.shown output.new)
         (O.has_failed out.old) (O.has_failed out.new) (O.is_flushed out.new) result (λ i j.
         ChecksModel i j (O.held out.old) (O.held out.new) result
         × ReadsFormulaNoFurther (claim_of j) i (F.shown formula.old) (F.shown formula.new)) }
+    ensures satisfied { ShowsSatisfied (F.shown formula.old).left (M.shown output.old).left
+        result (O.held out.old) (O.held out.new) }
 {
     run_model_placed(alloc, formula, output, out).status
 }
@@ -54,9 +57,11 @@ pub fn run_model_placed<F: In, M: In, O: Out>(
     output: &mut M,
     out: &mut O,
 ) -> Checked
-    ensures { RunsModel (F.shown formula.old) (F.shown formula.new)
+    ensures runs { RunsModel (F.shown formula.old) (F.shown formula.new)
         (M.shown output.old) (M.shown output.new) (O.held out.old) (O.held out.new)
         (O.has_failed out.old) (O.has_failed out.new) (O.is_flushed out.new) result }
+    ensures satisfied { ShowsSatisfied (F.shown formula.old).left (M.shown output.old).left
+        result.status (O.held out.old) (O.held out.new) }
 {
     let mut lines = LineOut::new(&mut *out);
     let checked = check_model(alloc, formula, output, &mut lines);

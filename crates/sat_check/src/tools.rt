@@ -5,7 +5,8 @@
 //! left.
 
 ghost use Rattle.sat_check.specs.Options.{drat_options, lrat_options};
-ghost use Rattle.sat_check.specs.Runs.{RunsDrat, RunsLrat};
+ghost use Rattle.sat_check.specs.Runs.{RunsDrat, RunsLrat, DratStepsVerify, LratStepsVerify};
+ghost use Rattle.sat_check.specs.Theorem.{ShowsUnsatisfiable};
 
 use crate::drat::run_drat_kept;
 use crate::lrat::run_lrat_kept;
@@ -24,9 +25,13 @@ pub fn drat_forward<F: In, P: In, O: Out>(
     proof: &mut P,
     out: &mut O,
 ) -> Checked
-    ensures { RunsDrat (drat_options args.now seed) (F.shown formula.old) (F.shown formula.new)
+    ensures runs { RunsDrat (drat_options args.now seed) (F.shown formula.old) (F.shown formula.new)
         (P.shown proof.old) (P.shown proof.new) (O.held out.old) (O.held out.new)
         (O.has_failed out.old) (O.has_failed out.new) (O.is_flushed out.new) result }
+    ensures unsatisfiable { ShowsUnsatisfiable (F.shown formula.old).left result.status
+        (O.held out.old) (O.held out.new) }
+    ensures steps_verify { DratStepsVerify (drat_options args.now seed) (F.shown formula.old)
+        (P.shown proof.old) (P.shown proof.new) result.status (O.held out.old) (O.held out.new) }
 {
     let options = DratOptions::of(args, seed);
     let (checked, session) = run_drat_kept(alloc, &options, formula, proof, out);
@@ -43,9 +48,13 @@ pub fn lrat_check<F: In, P: In, O: Out>(
     proof: &mut P,
     out: &mut O,
 ) -> Checked
-    ensures { RunsLrat (lrat_options args.now).trace (F.shown formula.old) (F.shown formula.new)
+    ensures runs { RunsLrat (lrat_options args.now).trace (F.shown formula.old) (F.shown formula.new)
         (P.shown proof.old) (P.shown proof.new) (O.held out.old) (O.held out.new)
         (O.has_failed out.old) (O.has_failed out.new) (O.is_flushed out.new) result }
+    ensures unsatisfiable { ShowsUnsatisfiable (F.shown formula.old).left result.status
+        (O.held out.old) (O.held out.new) }
+    ensures steps_verify { LratStepsVerify (F.shown formula.old) (P.shown proof.old)
+        (P.shown proof.new) result.status (O.held out.old) (O.held out.new) }
 {
     let (checked, session) = run_lrat_kept(alloc, &LratOptions::of(args), formula, proof, out);
     let _left = ManuallyDrop::new(session);

@@ -1,14 +1,29 @@
--- What the lines hold is what the writer holds, without the place.
+-- What the lines hold is what the writer holds, without the place, and what that means for the bytes.
 use Rattle.std.proofs.Common.{rules}
 use Rattle.sat_check.specs.Report.{drat_proof, rules_of}
+use Rattle.sat_check.specs.Runs.{IsDratProof}
 use Rattle.theory.specs.Rules.{drat}
 use Rattle.sat_check.proofs.RunLemmas.{weakened}
 use Rattle.sat_check.proofs.SoundLemmas.{runs_placed}
+use Rattle.sat_check.proofs.TheoremLemmas.{into_unsatisfiable, into_steps, drat_read}
 use Rattle.sat_check.proofs.drat.run_drat_with.Goals as goal
 
-pub returns : goal.returns
-returns g c =
+pub returns-clause-runs : goal.returns-clause-runs
+returns-clause-runs g c =
     weakened _ _ _ _ _ _ _ _ _ _
     (runs_placed (drat (rules_of c.args.options.now)) c.args.options.now.trace (drat_proof c.args.options.now.binary) _ _ _ _ c.check_with-checked.result _ _ _ _ _ _ _
     (search rules) (search rules) (search rules) (search rules) (search rules) c.check_with-checked.ensures)
     (λ i j x. (x.0, x.1, x.3))
+
+pub returns-clause-unsatisfiable : goal.returns-clause-unsatisfiable
+returns-clause-unsatisfiable g c =
+    let options = c.args.options.now in
+    into_unsatisfiable (drat (rules_of options)) options.trace (drat_proof options.binary)
+    _ _ _ _ _ _ _ _ _ (search rules) (search rules) c.check_with-checked.ensures
+
+pub returns-clause-steps_verify : goal.returns-clause-steps_verify
+returns-clause-steps_verify g c =
+    let options = c.args.options.now in
+    into_steps (drat (rules_of options)) options.trace (drat_proof options.binary)
+    _ _ _ _ _ _ _ _ _ (search rules) (search rules)
+    c.check_with-checked.ensures (IsDratProof options.binary) (drat_read options.binary)

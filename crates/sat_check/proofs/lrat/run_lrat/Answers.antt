@@ -2,5 +2,5 @@
 use Rattle.sat_check.proofs.RunLemmas.{weakened}
 use Rattle.sat_check.proofs.lrat.run_lrat.Goals as goal
 
-pub returns : goal.returns
-returns g c = weakened _ _ _ _ _ _ _ _ _ _ c.run_lrat_placed.ensures (λ i j x. (x.0, x.1, x.3))
+pub returns-clause-runs : goal.returns-clause-runs
+returns-clause-runs g c = weakened _ _ _ _ _ _ _ _ _ _ c.run_lrat_placed.ensures.runs (λ i j x. (x.0, x.1, x.3))

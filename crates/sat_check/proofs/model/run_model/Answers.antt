@@ -2,5 +2,5 @@
 use Rattle.sat_check.proofs.RunLemmas.{weakened}
 use Rattle.sat_check.proofs.model.run_model.Goals as goal
 
-pub returns : goal.returns
-returns g c = weakened _ _ _ _ _ _ _ _ _ _ c.run_model_placed.ensures (λ i j x. (x.0, x.1))
+pub returns-clause-runs : goal.returns-clause-runs
+returns-clause-runs g c = weakened _ _ _ _ _ _ _ _ _ _ c.run_model_placed.ensures.runs (λ i j x. (x.0, x.1))

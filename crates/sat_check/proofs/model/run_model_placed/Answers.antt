@@ -1,13 +1,14 @@
--- What the lines hold is what the writer holds.
+-- What the lines hold is what the writer holds, and what that means for the bytes.
 use Rattle.std.proofs.Common.{rules}
 use Rattle.dimacs.specs.Claim.{claim_of}
 use Rattle.dimacs.specs.Formula.{formula_of}
 use Rattle.sat_check.specs.ModelReport.{TellsModelFault}
 use Rattle.sat_check.proofs.ModelLemmas.{both_check_model}
+use Rattle.sat_check.proofs.TheoremLemmas.{lines_satisfied}
 use Rattle.sat_check.proofs.model.run_model_placed.Goals as goal
 
-pub returns : goal.returns
-returns g c = record {
+pub returns-clause-runs : goal.returns-clause-runs
+returns-clause-runs g c = record {
   checks =
       both_check_model _ _ _ _ (λ i j. TellsModelFault (claim_of j) (formula_of i) c.check_model-checked.result) c.check_model-checked.result.status
       _ _ _ _ (search rules) (search rules) c.check_model-checked.ensures.report;
@@ -17,3 +18,8 @@ returns g c = record {
   flushed = search rules;
   gave_up = search rules;
 }
+
+pub returns-clause-satisfied : goal.returns-clause-satisfied
+returns-clause-satisfied g c =
+    lines_satisfied _ _ _ _ (λ i j. TellsModelFault (claim_of j) (formula_of i) c.check_model-checked.result)
+    _ _ _ _ _ (search rules) (search rules) c.check_model-checked.ensures.report

@@ -1,0 +1,316 @@
+-- The theorem, by the report and the grammars.
+use Rattle.std.proofs.Common.{◌≡◌, ℕ, suc, ◌++◌, ◌||◌, Bool, true, false, List, [], ◌∷◌, reverse}
+use Rattle.std.proofs.Common.{Option, None, Some, refl, sym, ap, ◌∙◌, subst, append-nil, slice_get}
+use Rattle.std.proofs.Common.{inl, inr, codes}
+use Rattle.std.specs.List.{list_all}
+use Rattle.std.specs.Prelude.{IsFalse}
+use Rattle.std.proofs.lemmas.Bool.{and_parts, and_from, false_from_ne_true}
+use Rattle.std.specs.Io.KnownBytes.{Consumes, IsAtEnd}
+use Rattle.cnf_base.specs.Lines.{Sink}
+use Rattle.cnf_base.specs.Literals.{Literal, Clause, has}
+use Rattle.cnf_base.specs.Printing.{input_of}
+use Rattle.cnf_base.specs.Seen.{Seen, IsSeen, OfBothSeen}
+use Rattle.cnf_base.specs.Stream.{Input, Reader, MayFollow, is_failure, tells_failure}
+use Rattle.cnf_base.specs.declared.input.Ending.{Ending}
+use Rattle.cnf_base.specs.declared.input.Ending.TheVariants.{End, Failed}
+use Rattle.cnf_base.proofs.SeenLemmas.{seen_is_some}
+use Rattle.cnf_base.proofs.SetLemmas.{any_from, any_some, all_each, each_all}
+use Rattle.dimacs.specs.Claim.{claim_of}
+use Rattle.dimacs.specs.Formula.{Formula, formula_of}
+use Rattle.dimacs.specs.declared.header.Header.{Header}
+use Rattle.dimacs.proofs.FormulaGrammar.{formula_grammar}
+use Rattle.proofs.specs.Grammar.{IsLratText}
+use Rattle.proofs.specs.Lrat.{lrat_steps}
+use Rattle.proofs.specs.Reading.{Proof}
+use Rattle.proofs.specs.Steps.{Step}
+use Rattle.proofs.proofs.BinaryGrammar.{binary_both_ways}
+use Rattle.proofs.proofs.DratGrammar.{drat_both_ways}
+use Rattle.proofs.proofs.LratGrammar.{lrat_both_ways}
+use Rattle.theory.specs.Models.{Assignment, holds, satisfies, HasModel}
+use Rattle.theory.specs.Rules.{Rule}
+use Rattle.theory.specs.Verdicts.{verified, Verdict}
+use Rattle.sat_check.specs.Code.Checking.{RunsInto}
+use Rattle.sat_check.specs.ModelReport.{meets, model_report, Satisfies}
+use Rattle.sat_check.specs.Report.{Outcome, Reports, Verifies, bare_steps, drat_proof}
+use Rattle.sat_check.specs.Runs.{IsVerifiedBy, IsDratProof}
+use Rattle.sat_check.specs.Theorem.{IsAnswered, IsFormulaText, ShowsUnsatisfiable}
+use Rattle.sat_check.specs.Theorem.{StepsVerify, IsSatisfied, ShowsSatisfied}
+use Rattle.sat_check.specs.declared.checked.Checked.{Checked}
+use Rattle.sat_check.specs.declared.status.Status.{Status}
+use Rattle.sat_check.specs.declared.status.Status.TheVariants.{Verified}
+use Rattle.sat_check.proofs.ClaimLemmas.{claim_consistent, claim_text, has_reverse}
+use Rattle.sat_check.proofs.EndingLemmas.{claim_ends, formula_ends, formula_header}
+use Rattle.sat_check.proofs.ModelLemmas.{Made, assigned, listed_holds, verified_satisfied}
+use Rattle.sat_check.proofs.SoundLemmas.{outcome_verified, report_verified, verifies_sound}
+use Rattle.sat_check.proofs.WrittenLemmas.{written_model, written_verified}
+
+-- ---- What was seen of a reader that has these bytes
+
+not_an_end : Failed ≡ End → ⊥
+not_an_end e = cc
+
+module _ (old new : Reader) (seen : Seen old new) (bytes : List ℕ)
+    (has_these : old.left ≡ Some bytes) where
+  -- where no read failed, they are an input that fits
+  seen_unless : (seen.met ≡ Some Failed → ⊥) → IsSeen seen (input_of bytes)
+  seen_unless unfailed =
+      let P : Option (List ℕ) → Type 0 = λ left. Consumes left new.left seen.handed in
+      by seen.met new.left unfailed seen.ended (subst P has_these seen.lost)
+    where
+      by : (met : Option Ending) (left : Option (List ℕ)) → (met ≡ Some Failed → ⊥) →
+          (met ≡ Some End → IsAtEnd left)
+          → Consumes (Some bytes) left seen.handed → MayFollow met left seen.handed bytes End
+      by met None unfailed ended lost = absurd lost
+      by None (Some later) unfailed ended lost = (later, lost, refl)
+      by (Some End) (Some later) unfailed ended lost =
+          (lost ∙ ap (λ x. seen.handed ++ x) (ended refl) ∙ append-nil seen.handed, refl)
+      by (Some Failed) (Some later) unfailed ended lost = absurd (unfailed refl)
+
+  -- so they are where each input that fits has an end
+  seen_whole : ((i : Input) → IsSeen seen i → i.ending ≡ End) → IsSeen seen (input_of bytes)
+  seen_whole ends = seen_unless failed
+    where
+      failed : seen.met ≡ Some Failed → ⊥
+      failed is =
+          let P : Option Ending → Type 0 =
+          λ met. MayFollow met new.left seen.handed seen.handed Failed in
+          not_an_end
+          (ends (record { bytes = seen.handed; ending = Failed })
+          (subst P (sym is) (refl, refl)))
+
+  -- and where the reader tells of no failure
+  seen_unfailed : tells_failure new ≡ false → IsSeen seen (input_of bytes)
+  seen_unfailed quiet =
+      seen_unless
+      (λ is. by
+      (sym (ap (λ met. is_failure met || tells_failure old) is) ∙ sym seen.told ∙ quiet))
+    where
+      by : true ≡ false → ⊥
+      by e = cc
+
+-- ---- Formulas
+
+-- a formula without a fault is the text of its header and its clauses
+formula_text : (bytes : List ℕ) → (formula_of (input_of bytes)).fault ≡ None
+    → (h : Header) × IsFormulaText bytes h (formula_of (input_of bytes)).clauses
+formula_text bytes whole =
+    let read = formula_header (input_of bytes) whole in
+    let written = formula_grammar.read_is_written bytes read.0 _ read.1 in
+    (read.0, record { within = written.0; text = written.1 })
+
+-- and a text is read as those
+text_read : (bytes : List ℕ) (h : Header) (clauses : List Clause) →
+    IsFormulaText bytes h clauses → (formula_of (input_of bytes)).clauses ≡ clauses
+text_read bytes h clauses t =
+    ap (λ (f : Formula). f.clauses)
+    (formula_grammar.written_is_read bytes h clauses t.within t.text)
+
+-- ---- All clauses of a list
+
+all_at : (p : Clause → Bool) (cs : List Clause) → list_all p cs ≡ true → (k : ℕ) (c : Clause) →
+    slice_get cs k ≡ Some c → p c ≡ true
+all_at p [] all k c at = absurd (let e : ◌≡◌ {A = Option Clause} None (Some c) = at in cc)
+all_at p (d ∷ cs) all k c at =
+    by k (and_parts (p d) (list_all p cs) all) (λ rest. all_at p cs rest) at
+  where
+    by : (k : ℕ) → (p d ≡ true) × (list_all p cs ≡ true) →
+        (list_all p cs ≡ true → (k : ℕ) (c : Clause) → slice_get cs k ≡ Some c → p c ≡ true) →
+        slice_get (d ∷ cs) k ≡ Some c → p c ≡ true
+    by Prim.Native.Nat.zero both next at = let e : ◌≡◌ {A = Option Clause} (Some d) (Some c) =
+        at in let same : d ≡ c = cc in ap p (sym same) ∙ both.0
+    by (Prim.Native.Nat.suc k) both next at = next both.1 k c at
+
+at_all : (p : Clause → Bool) (cs : List Clause) →
+    ((k : ℕ) (c : Clause) → slice_get cs k ≡ Some c → p c ≡ true) → list_all p cs ≡ true
+at_all p [] each = refl
+at_all p (d ∷ cs) each =
+    and_from (p d) (list_all p cs) (each 0 d refl) (at_all p cs (λ k c at. each (suc k) c at))
+
+-- no assignment satisfies clauses that have no model
+no_model_refuted : (clauses : List Clause) → ¬ HasModel (slice_get clauses) → (v : Assignment) →
+    IsFalse (list_all (satisfies v) clauses)
+no_model_refuted clauses none v =
+    false_from_ne_true _ (λ all. none (v, all_at (satisfies v) clauses all))
+
+-- ---- Proofs
+
+-- a positive answer is that of a proof which verifies the formula
+answered_proof : (rule : Rule) (trace : Bool) (i : Input) (p : Proof) (old new : Option (List ℕ))
+    (status : Status)
+    → Reports rule trace i p old new status → IsAnswered (codes "s VERIFIED") status old new →
+    Verifies rule (formula_of i) p
+answered_proof rule trace i p old new status x (inl is) =
+    report_verified rule trace i p x.report x.reports
+    (outcome_verified status old new x.report is x.outcome)
+answered_proof rule trace i p old new status x (inr w) =
+    report_verified rule trace i p x.report x.reports
+    (written_verified rule trace i p x.report status old new x.reports x.outcome w)
+
+module _ (rule : Rule) (trace : Bool) (steps : Input → Proof)
+    (formula formula_new proof proof_new : Reader) (old new : Option (List ℕ)) (status : Status)
+    (Fact : Input → Input → Type 0) (both : OfBothSeen formula formula_new proof proof_new Fact)
+    (told : (i j : Input) → Fact i j → Reports rule trace i (steps j) old new status) where
+  verifies : IsAnswered (codes "s VERIFIED") status old new → (i j : Input) →
+      IsSeen both.first i → IsSeen both.second j → Verifies rule (formula_of i) (steps j)
+  verifies answer i j seen also =
+      answered_proof rule trace i (steps j) old new status (told i j (both.fact i j seen also))
+      answer
+
+  -- so the formula was read whole
+  whole_formula : IsAnswered (codes "s VERIFIED") status old new → (bytes : List ℕ) →
+      formula.left ≡ Some bytes → IsSeen both.first (input_of bytes)
+  whole_formula answer bytes holds =
+      let j = seen_is_some proof proof_new both.second in
+      seen_whole formula formula_new both.first bytes holds
+      (λ i seen. formula_ends i (verifies answer i j.0 seen j.1).whole)
+
+  pub shows_unsatisfiable : ShowsUnsatisfiable formula.left status old new
+  shows_unsatisfiable bytes holds answer =
+      let j = seen_is_some proof proof_new both.second in
+      let v = verifies answer (input_of bytes) j.0 (whole_formula answer bytes holds) j.1 in
+      let text = formula_text bytes v.whole in
+      record {
+        header = text.0;
+        clauses = (formula_of (input_of bytes)).clauses;
+        text = text.1;
+        refuted =
+            no_model_refuted _ (verifies_sound rule (formula_of (input_of bytes)) (steps j.0) v);
+      }
+
+  pub shows_steps : (IsText : List ℕ → List Step → Type 0) →
+      ((bytes : List ℕ) (ss : List Step) → IsText bytes ss →
+      bare_steps (steps (input_of bytes)) ≡ ss)
+      → StepsVerify IsText (IsVerifiedBy rule) formula.left proof.left (tells_failure proof_new)
+      status old new
+  shows_steps IsText is_read bytes proof_bytes h clauses ss holds also_holds quiet text steps_text
+      answer =
+      let v = verifies answer (input_of bytes) (input_of proof_bytes)
+      (whole_formula answer bytes holds)
+      (seen_unfailed proof proof_new both.second proof_bytes also_holds quiet) in
+      let P : List Clause → Type 0 =
+      λ cs. Verdict rule cs (bare_steps (steps (input_of proof_bytes))) v.words verified in
+      let Q : List Step → Type 0 = λ ss. Verdict rule clauses ss v.words verified in (
+        v.words,
+        subst Q (is_read proof_bytes ss steps_text)
+            (subst P (text_read bytes h clauses text) v.verdict),
+      )
+
+-- the same of what the lines hold, where the writer holds it
+module _ (rule : Rule) (trace : Bool) (steps : Input → Proof)
+    (formula formula_new proof proof_new : Reader) (was now : Sink) (checked : Checked)
+    (old new : Option (List ℕ)) (before : was.held ≡ old) (after : now.held ≡ new)
+    (runs : RunsInto rule trace steps formula formula_new proof proof_new was now checked) where
+  pub into_unsatisfiable : ShowsUnsatisfiable formula.left checked.status old new
+  into_unsatisfiable =
+      let P : Option (List ℕ) → Type 0 =
+      λ x. ShowsUnsatisfiable formula.left checked.status x now.held in
+      let Q : Option (List ℕ) → Type 0 =
+      λ y. ShowsUnsatisfiable formula.left checked.status old y in
+      subst Q after (subst P before (shows_unsatisfiable rule trace steps formula formula_new proof
+      proof_new was.held now.held checked.status _ runs.report (λ i j x. x.0)))
+
+  pub into_steps : (IsText : List ℕ → List Step → Type 0) →
+      ((bytes : List ℕ) (ss : List Step) → IsText bytes ss →
+      bare_steps (steps (input_of bytes)) ≡ ss)
+      → StepsVerify IsText (IsVerifiedBy rule) formula.left proof.left (tells_failure proof_new)
+      checked.status old new
+  into_steps IsText is_read =
+      let P : Option (List ℕ) → Type 0 = λ x. StepsVerify IsText (IsVerifiedBy rule) formula.left
+      proof.left (tells_failure proof_new) checked.status x now.held in
+      let Q : Option (List ℕ) → Type 0 = λ y. StepsVerify IsText (IsVerifiedBy rule) formula.left
+      proof.left (tells_failure proof_new) checked.status old y in
+      subst Q after (subst P before (shows_steps rule trace steps formula formula_new proof
+      proof_new was.held now.held checked.status _ runs.report (λ i j x. x.0) IsText is_read))
+
+-- the text of steps is read as those
+pub drat_read : (binary : Bool) (bytes : List ℕ) (ss : List Step) → IsDratProof binary bytes ss →
+    bare_steps (drat_proof binary (input_of bytes)) ≡ ss
+drat_read true bytes ss text = (binary_both_ways.written_is_read bytes ss text).all
+drat_read false bytes ss text = (drat_both_ways.written_is_read bytes ss text).all
+
+pub lrat_read : (bytes : List ℕ) (ss : List Step) → IsLratText bytes ss →
+    bare_steps (lrat_steps (input_of bytes)) ≡ ss
+lrat_read bytes ss text = (lrat_both_ways.written_is_read bytes ss text).all
+
+-- ---- Models
+
+-- a positive answer is that of a claim which satisfies the formula
+answered_model : (i j : Input) (old new : Option (List ℕ)) (status : Status) →
+    Outcome status old new (model_report i j)
+    → IsAnswered (codes "s MODEL VERIFIED") status old new →
+    Satisfies (claim_of j) (formula_of i).clauses × ((formula_of i).fault ≡ None)
+answered_model i j old new status o answer =
+    verified_satisfied (claim_of j) (formula_of i) (by answer) (claim_consistent j)
+  where
+    by : IsAnswered (codes "s MODEL VERIFIED") status old new →
+        (model_report i j).status ≡ Verified
+    by (inl is) = outcome_verified status old new (model_report i j) is o
+    by (inr w) = written_model (claim_of j) (formula_of i) status old new o w
+
+-- a clause with a listed literal is satisfied where these are true
+met_true : (v : Assignment) (listed : List Literal) → list_all (holds v) (reverse listed) ≡ true →
+    (c : Clause) → meets listed c ≡ true → satisfies v c ≡ true
+met_true v listed trues c h =
+    let w = any_some (has listed) c h in
+    any_from (holds v) c w.0 w.1
+    (all_each (holds v) (reverse listed) w.0 trues (has_reverse listed w.0 ∙ w.2))
+
+satisfied_by : (bytes output_bytes : List ℕ) →
+    Satisfies (claim_of (input_of output_bytes)) (formula_of (input_of bytes)).clauses
+    → (formula_of (input_of bytes)).fault ≡ None → IsSatisfied bytes output_bytes
+satisfied_by bytes output_bytes s whole =
+    let text = formula_text bytes whole in
+    let claim = claim_text output_bytes s.listed s.claimed in
+    record {
+      header = text.0;
+      clauses = (formula_of (input_of bytes)).clauses;
+      text = text.1;
+      literals = reverse s.listed;
+      within = claim.0.literals;
+      listed = claim.1;
+      some = (
+        assigned (reverse s.listed),
+        each_all _ (reverse s.listed)
+            (listed_holds (reverse s.listed) claim.0.consistent),
+      );
+      each = λ v trues. at_all (satisfies v) _
+          (λ k c at. met_true v s.listed trues c (s.met k c at));
+    }
+
+module _ (formula formula_new output output_new : Reader) (old new : Option (List ℕ))
+    (status : Status)
+    (Fact : Input → Input → Type 0) (both : OfBothSeen formula formula_new output output_new Fact)
+    (told : (i j : Input) → Fact i j → Outcome status old new (model_report i j)) where
+  confirms : IsAnswered (codes "s MODEL VERIFIED") status old new → (i j : Input) →
+      IsSeen both.first i → IsSeen both.second j
+      → Satisfies (claim_of j) (formula_of i).clauses × ((formula_of i).fault ≡ None)
+  confirms answer i j seen also =
+      answered_model i j old new status (told i j (both.fact i j seen also)) answer
+
+  pub shows_satisfied : ShowsSatisfied formula.left output.left status old new
+  shows_satisfied bytes output_bytes holds also_holds answer =
+      let some_i = seen_is_some formula formula_new both.first in
+      let some_j = seen_is_some output output_new both.second in
+      let seen =
+      seen_whole formula formula_new both.first bytes holds
+      (λ i seen. formula_ends i (confirms answer i some_j.0 seen some_j.1).1) in
+      let also = seen_whole output output_new both.second output_bytes also_holds
+      (λ j also. let s =
+      (confirms answer some_i.0 j some_i.1 also).0 in claim_ends j s.listed s.claimed) in
+      let said = confirms answer (input_of bytes) (input_of output_bytes) seen also in
+      satisfied_by bytes output_bytes said.0 said.1
+
+-- the same of what the lines hold, where the writer holds it
+pub lines_satisfied : (formula formula_new output output_new : Reader)
+    (Told : Input → Input → Type 0) (status : Status) (old new first last : Option (List ℕ)) →
+    old ≡ first → new ≡ last → OfBothSeen formula formula_new output output_new
+    (Made formula formula_new Told status old new) →
+    ShowsSatisfied formula.left output.left status first last
+lines_satisfied formula formula_new output output_new Told status old new first last before after
+    both =
+    let P : Option (List ℕ) → Type 0 =
+    λ x. ShowsSatisfied formula.left output.left status x new in
+    let Q : Option (List ℕ) → Type 0 =
+    λ y. ShowsSatisfied formula.left output.left status first y in
+    subst Q after (subst P before (shows_satisfied formula formula_new output output_new old new
+    status _ both (λ i j x. x.0)))

@@ -1,0 +1,16 @@
+-- What the report means for the bytes.
+use Rattle.proofs.specs.Grammar.{IsLratText}
+use Rattle.proofs.specs.Lrat.{lrat_steps}
+use Rattle.theory.specs.Rules.{lrat}
+use Rattle.sat_check.proofs.TheoremLemmas.{shows_unsatisfiable, shows_steps, lrat_read}
+use Rattle.sat_check.proofs.lrat.run_lrat_placed.Goals as goal
+
+pub returns-clause-unsatisfiable : goal.returns-clause-unsatisfiable
+returns-clause-unsatisfiable g c =
+    shows_unsatisfiable lrat c.args.options.now.trace lrat_steps
+    _ _ _ _ _ _ _ _ c.run_lrat_kept.ensures.checks (λ i j x. x.0.reports)
+
+pub returns-clause-steps_verify : goal.returns-clause-steps_verify
+returns-clause-steps_verify g c =
+    shows_steps lrat c.args.options.now.trace lrat_steps
+    _ _ _ _ _ _ _ _ c.run_lrat_kept.ensures.checks (λ i j said. said.0.reports) IsLratText lrat_read
