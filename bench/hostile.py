@@ -110,6 +110,12 @@ def candidate_comes_and_goes(n):
     return [(i, i + 1) for i in range(3, n + 3)], step * n
 
 
+@kind(DRAT, 3000)
+def candidates_clash_at_once(n):
+    """An addition with n candidates, each with a literal that is true as soon as the added clause is assumed false."""
+    return [(-1, -2, i) for i in range(3, n + 3)], [clause(1, 2)]
+
+
 @kind(DRAT, 3000, "--pr")
 def touched_last(n):
     """Again and again an addition with a witness that touches the last of n clauses alone."""

@@ -1,12 +1,13 @@
 #!/usr/bin/env bash
 # All tests: whether the mutants of tests/mutants can still be made, docs/THEOREM.md quotes what is there and all that its theorem
-# needs, which is short, and tells how large the trusted crates are, the pages are short and spelled right, what is promised is said
-# by the upper floor of specs/ alone, docs/ARCHITECTURE.md lacks no file where a change goes, and the scripts pass shellcheck and
-# ruff; the proofs of the programs; the gate (the proofs of the tests and what else isn't kept, the mutants, the crates' tests and
-# the programs' stored runs); whether each mutant was refused by the clause that it names; then the programs as users run them, also
-# on many proofs at once, pictures of runs, their manual pages, how they are installed, what they tell on a terminal, counts of
-# allocations, runs in which each allocation is refused, long inputs in little memory, and instructions on inputs that were made to
-# be dear. At the end stands what each part took. The last line is "N passed, M failed" over all.
+# needs, which is short, and tells how large the trusted crates are, pages have the figures that were measured, and are short and
+# spelled right, what is promised is said by the upper floor of specs/ alone, docs/ARCHITECTURE.md lacks no file where a change
+# goes, and the scripts pass shellcheck and ruff; the proofs of the programs; the gate (the proofs of the tests and what else
+# isn't kept, the mutants, the crates' tests and the programs' stored runs); whether each mutant was refused by the clause that it
+# names; then the programs as users run them, also on many proofs at once, pictures of runs, their manual pages, how they are
+# installed, what they tell on a terminal, counts of allocations, runs in which each allocation is refused, long inputs in little
+# memory, and instructions on inputs that were made to be dear. At the end stands what each part took. The last line is "N passed,
+# M failed" over all.
 #
 # RT names the command rt, where it isn't on the PATH.
 set -uo pipefail
@@ -44,7 +45,7 @@ count() {
     fi
 }
 
-for script in tests/mutants_apply.py tests/quotes.py tests/closure.py tests/trusted.py tests/words.py tests/floors.py tests/places.py tests/lint.sh; do
+for script in tests/mutants_apply.py tests/quotes.py tests/closure.py tests/trusted.py tests/figures.py tests/words.py tests/floors.py tests/places.py tests/lint.sh; do
     part "$script" "$script"
     count $?
 done

@@ -1,0 +1,113 @@
+#!/usr/bin/env python3
+"""Shows that README and docs/PERFORMANCE.md have the figures of bench/TABLES.md, which bench/field.sh makes.
+
+Each sentence below is made of the tables' figures, and has to stand on its page word for word. The last line is "N passed, M failed".
+"""
+
+import os
+import re
+import sys
+
+ROOT = os.path.dirname(os.path.dirname(os.path.abspath(__file__)))
+CELL = re.compile(r"([\d.]+) s, ([\d.]+) MB")
+MEANS = re.compile(r"([\d.]+) of its time(?:, ([\d.]+) of its memory)?")
+LARGE = "pigeons hidden in 250000 clauses"
+
+
+def page(name):
+    """The text of a page."""
+    with open(f"{ROOT}/{name}", encoding="utf-8") as text:
+        return text.read()
+
+
+class Table:
+    """One table: of each formula the seconds and megabytes by column, what the solver took, and the size of the proof."""
+
+    def __init__(self, lines):
+        self.rows = {}
+        columns = [cell.strip() for cell in lines[0].strip("|").split("|")]
+        for line in lines[2:]:
+            name, *cells = [cell.strip() for cell in line.strip("|").split("|")]
+            self.rows[name] = dict(zip(columns[1:], cells))
+        self.means = self.rows.pop("geometric mean")
+
+    def took(self, formula, column):
+        """Seconds and megabytes."""
+        seconds, megabytes = CELL.fullmatch(self.rows[formula][column]).groups()
+        return float(seconds), int(megabytes)
+
+    def ratios(self, ours, theirs):
+        """What ours took over what theirs took, of each formula."""
+        return [self.took(name, ours)[0] / self.took(name, theirs)[0] for name in self.rows]
+
+    def mean(self, column):
+        """Of the column's time, and of its memory."""
+        return [float(it) for it in MEANS.fullmatch(self.means[column]).groups() if it]
+
+    def per_100_mb(self, kind, ours):
+        """The seconds that 100 MB of proof would take, of each formula."""
+        return [100 * self.took(name, ours)[0] / float(row[kind].split()[0]) for name, row in self.rows.items()]
+
+    def per_solver(self, solver, ours):
+        """The solver's seconds that a check took, of each formula."""
+        return [self.took(name, ours)[0] / float(row[solver].split()[0]) for name, row in self.rows.items()]
+
+
+def tables():
+    """CaDiCaL's proofs, Kissat's, and CaDiCaL's in LRAT."""
+    return [Table(block.splitlines()) for block in re.findall(r"(?:^\|.*\n)+", page("bench/TABLES.md"), re.MULTILINE)]
+
+
+def sentences():
+    """What the pages have to say."""
+    cadical, kissat, lrat = tables()
+    both, ours = (cadical, kissat), "`drat-forward`"
+    trim, forward, plain = "DRAT-trim", "DRAT-trim, forward", "`reference_drat.cpp`"
+
+    def means(column):
+        return [it.mean(column)[0] for it in both]
+
+    def span(of):
+        every = [ratio for table in both for ratio in of(table)]
+        return min(every), max(every)
+
+    first, last = means(trim)
+    yield "README.md", f"| `drat-forward` | {first:.1f} × DRAT-trim's time | {last:.1f} × |"
+    first, last = means(forward)
+    yield "README.md", f"| | {first:.1f} × that of its forward check | {last:.1f} × |"
+    first, last = means(plain)
+    yield "README.md", f"| | {first:.1f} × that of `bench/reference_drat.cpp` (plain, in C++) | {last:.1f} × |"
+    first = lrat.mean("DRAT-trim's `lrat-check`")[0]
+    yield "README.md", f"| `lrat-check` | {first:.1f} × the time of DRAT-trim's | |"
+    least = min(table.took(name, trim)[1] for table in both for name in table.rows)
+    yield "README.md", f"a tenth of DRAT-trim's memory, whose least is {least} MB"
+    yield "docs/PERFORMANCE.md", f"DRAT-trim takes {least} MB at least."
+    low, high = span(lambda it: it.ratios(ours, trim))
+    forward_low, forward_high = span(lambda it: it.ratios(ours, forward))
+    yield "docs/PERFORMANCE.md", (f"`drat-forward` takes {low:.1f} (orders) to {high:.2f} times (random) DRAT-trim's time, and "
+                                  f"{forward_low:.1f} to {forward_high:.1f} times its forward check's")
+    low, high = span(lambda it: it.per_100_mb("DRAT", ours))
+    yield "docs/PERFORMANCE.md", f"100 MB of DRAT take {low:.0f} to {high:.0f} seconds"
+    high = max(cadical.per_solver("CaDiCaL", ours) + kissat.per_solver("Kissat", ours))
+    yield "docs/PERFORMANCE.md", f"a tenth to {high:.1f} times the solver's time"
+    time, memory = lrat.mean("`reference.cpp`")
+    yield "docs/PERFORMANCE.md", f"{time:.2f} of the time of `reference.cpp`, and {memory:.2f} of the memory"
+    mine, theirs = ([it.took(LARGE, column)[1] for it in both] for column in (ours, trim))
+    yield "docs/PERFORMANCE.md", (f"it takes {mine[0]} and {mine[1]} MB (proofs of CaDiCaL and Kissat), "
+                                  f"DRAT-trim {theirs[0]} and {theirs[1]}")
+
+
+def main():
+    passed = failed = 0
+    for name, sentence in sentences():
+        if sentence in page(name):
+            passed += 1
+        else:
+            failed += 1
+            print(f"FAILED: {name} lacks what bench/TABLES.md has: {sentence}")
+    print(f"{passed} passed, {failed} failed")
+    return 0 if not failed else 1
+
+
+if __name__ == "__main__":
+    sys.exit(main())
