@@ -1,9 +1,12 @@
--- What the report means for the bytes.
+-- The check, and what its report means for the bytes.
 use Rattle.proofs.specs.Grammar.{IsLratText}
 use Rattle.proofs.specs.Lrat.{lrat_steps}
 use Rattle.theory.specs.Rules.{lrat}
 use Rattle.sat_check.proofs.TheoremLemmas.{shows_unsatisfiable, shows_steps, lrat_read}
 use Rattle.sat_check.proofs.lrat.run_lrat_placed.Goals as goal
+
+pub returns-clause-runs : goal.returns-clause-runs
+returns-clause-runs g c = c.run_lrat_kept.ensures
 
 pub returns-clause-unsatisfiable : goal.returns-clause-unsatisfiable
 returns-clause-unsatisfiable g c =
