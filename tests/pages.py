@@ -93,7 +93,7 @@ ELSEWHERE = {
     "make test-solvers": ("Makefile", "test-solvers:"),
     "rt version": ("tests/run.sh", "${RT:-rt}"),
     "timeout N": ("tests/pages.py", "a command with a limit of time"),
-    "ulimit -v": ("tests/programs.sh", "ulimit"),
+    "ulimit -v": ("tests/programs/rows.sh", "ulimit"),
     "examples/check-all -j8 FOLDER": ("tests/check_all.py", "-j"),
     "make-glucose-proof.sh FORMULA PROOF": ("tests/solvers.sh", "make-glucose-proof.sh"),
     "apt-get install berkeley-abc gdb": ("tests/solvers.sh", "berkeley-abc gdb"),
