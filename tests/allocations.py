@@ -26,6 +26,9 @@ LRAT_CHECK = os.environ.get("LRAT_CHECK") or "bin/lrat-check"
 ALLOCATIONS = os.environ.get("ALLOCATIONS") or "crates/test_allocations/out/test_allocations"
 CC = os.environ.get("CC") or "cc"
 FEW, MANY = 1000, 100000
+# Among so many identifiers that rise past one that stays bound, one row of 1024 meets its line in the directory, and takes a place in
+# the tree.
+LINES = 65536
 # The whole checks, and what crates/test_allocations does again and again.
 CHECKS = ["run_drat", "run_lrat"]
 CASES = [
@@ -148,12 +151,13 @@ def run_of(name, room, times):
 
 
 def as_many(name, room):
-    """That there are as many allocations for few as for many."""
+    """That there are as many allocations for few as for many, but for those of identifiers in the tree."""
     few = run_of(name, room, FEW).allocations(room)
     many = run_of(name, room, MANY).allocations(room)
-    if few != many:
+    more = MANY // LINES if name == "run_lrat" else 0
+    if not few <= many <= few + more:
         raise ValueError(f"{few} allocations for {FEW}, and {many} for {MANY}")
-    return f"{few} allocations for {FEW} and for {MANY}"
+    return f"{few} allocations for {FEW}, {many} for {MANY}"
 
 
 def within_bytes(name, room):

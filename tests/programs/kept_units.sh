@@ -4,8 +4,6 @@
 
 checker=$drat_forward
 
-units_hint='the proof deleted the reason clause of a root-level literal: --keep-units may accept it'
-
 # deletions of clauses that a literal follows by, as Glucose wrote them: by examples/make-glucose-proof.sh
 row units_kept 0 --keep-units $x/kept_units.cnf $x/kept_units.drat <<'LINES'
 c formula 20 variables 45 clauses

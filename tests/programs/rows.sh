@@ -143,6 +143,7 @@ version() {
 }
 
 x=examples
+units_hint='the proof deleted the reason clause of a root-level literal: --keep-units may accept it'
 
 # writes NAME WORD..: runs the program $checker with these words on a socket that keeps each write apart, and compares the
 # writes with the lines of standard input: one for each.
