@@ -7,15 +7,15 @@ use Rattle.std.specs.FinMap as maps
 use Rattle.std.specs.FinMap.{FinMap}
 use Rattle.std.proofs.lemmas.Bool.{cases_Bool, false≢true, true≢false}
 use Rattle.std.proofs.lemmas.List.{drop-append-le, get_or-drop, get_or_past, length-drop}
-use Rattle.clause_memory.specs.Blocks.{units_in}
-use Rattle.clause_memory.specs.Code.Units.{IsBlock, blocks_from, blocks_in, is_rest, kind_at, rests}
-use Rattle.clause_memory.specs.Code.Units.{start_of}
+use Rattle.clause_memory.specs.Blocks.{cells_in}
+use Rattle.clause_memory.specs.Code.Cells.{IsBlock, blocks_from, blocks_in, is_rest, kind_at, rests}
+use Rattle.clause_memory.specs.Code.Cells.{start_of}
 use Rattle.clause_memory.specs.declared.kind.Kind.{Kind}
 use Rattle.clause_memory.specs.declared.kind.Kind.TheVariants.{Live, Free, Rest}
 use Rattle.cnf_base.proofs.MapLemmas.{insert_here, insert_other, same_maps, sum_empty, sum_insert}
-use Rattle.clause_memory.proofs.UnitLemmas.{AreAlike, start_begins}
+use Rattle.clause_memory.proofs.CellLemmas.{AreAlike, start_begins}
 
--- a unit of a kind that begins a block has so many units
+-- a cell of a kind that begins a block has so many cells
 abbrev pub block_if : Kind → ℕ → Option ℕ
 block_if Live n = Some n
 block_if Free n = Some n
@@ -37,7 +37,7 @@ block_alike k l n same = elim (cases_Bool (is_rest k)) [
   | inr off ↦ block_begins l n (same ∙ off) ∙ sym (block_begins k n off)
 ]
 
--- ---- Units that go on
+-- ---- Cells that go on
 
 rests_cons : (k : Kind) (ks : List Kind) → rests (k ∷ ks) ≡ cond (is_rest k) (rests ks + 1) 0
 rests_cons Live ks = refl
@@ -76,7 +76,7 @@ below_block (Live ∷ ks) n q low =
 below_block (Free ∷ ks) n q low =
     insert_other (blocks_from (n + 1) ks) n q (rests ks + 1) (λ same. absurd (let wrong : ⊥ = omega arith in wrong)) ∙ below_block ks (n + 1) q (omega arith)
 
--- a unit behind the first one
+-- a cell behind the first one
 other_block_at : (m : FinMap nat_cmp ℕ) (n x q : ℕ) → n < q → maps.get (maps.insert m n x) q ≡ maps.get m q
 other_block_at m n x q more = insert_other m n q x (λ same. absurd (let wrong : ⊥ = omega arith in wrong))
 
@@ -93,11 +93,11 @@ pub get_block : (ks : List Kind) (s : ℕ) → maps.get (blocks_in ks) s ≡ blo
 unfolding blocks_in
 get_block ks s = block_from ks 0 s s (omega arith)
 
--- behind all units
+-- behind all cells
 pub block_past : (ks : List Kind) → maps.get (blocks_in ks) (length ks) ≡ None
 block_past ks = get_block ks (length ks) ∙ ap (λ k. block_if k (rests (drop (suc (length ks)) ks) + 1)) (get_or_past ks (length ks) Rest (omega arith))
 
--- a block has the number of units that is seen
+-- a block has the number of cells that is seen
 pub block_is : {ks : List Kind} {s n : ℕ} → IsBlock ks s n → maps.get (blocks_in ks) s ≡ Some n
 block_is {ks} {s} {n} is =
     let some = is.some in
@@ -145,19 +145,19 @@ block_before ks ls s low same =
     get_block (ks ++ Free ∷ ls) s ∙ ap (λ k. block_if k (rests (drop (suc s) (ks ++ Free ∷ ls)) + 1)) same
     ∙ ap (λ x. block_if (kind_at ks s) (x + 1)) (ap rests (drop-append-le (suc s) ks (Free ∷ ls) (omega arith)) ∙ rests_before (drop (suc s) ks) ls) ∙ sym (get_block ks s)
 
--- the units of the blocks are all, but for those at the front that begin none
-units_from : (ks : List Kind) (n : ℕ) → units_in (blocks_from n ks) + rests ks ≡ length ks
-units_from [] n = let none = sum_empty {X = ℕ} (λ x. x) in omega arith
-units_from (Rest ∷ ks) n = let rest = units_from ks (n + 1) in omega arith
-units_from (Live ∷ ks) n =
-    let rest = units_from ks (n + 1) in
+-- the cells of the blocks are all, but for those at the front that begin none
+cells_from : (ks : List Kind) (n : ℕ) → cells_in (blocks_from n ks) + rests ks ≡ length ks
+cells_from [] n = let none = sum_empty {X = ℕ} (λ x. x) in omega arith
+cells_from (Rest ∷ ks) n = let rest = cells_from ks (n + 1) in omega arith
+cells_from (Live ∷ ks) n =
+    let rest = cells_from ks (n + 1) in
     let more = sum_insert (λ x. x) (blocks_from (n + 1) ks) n (rests ks + 1) (below_block ks (n + 1) n (omega arith)) in
     omega arith
-units_from (Free ∷ ks) n =
-    let rest = units_from ks (n + 1) in
+cells_from (Free ∷ ks) n =
+    let rest = cells_from ks (n + 1) in
     let more = sum_insert (λ x. x) (blocks_from (n + 1) ks) n (rests ks + 1) (below_block ks (n + 1) n (omega arith)) in
     omega arith
 
-pub units_are : (ks : List Kind) → rests ks ≡ 0 → units_in (blocks_in ks) ≡ length ks
+pub cells_are : (ks : List Kind) → rests ks ≡ 0 → cells_in (blocks_in ks) ≡ length ks
 unfolding blocks_in
-units_are ks front = let all = units_from ks 0 in omega arith
+cells_are ks front = let all = cells_from ks 0 in omega arith

@@ -13,16 +13,16 @@ use Rattle.clause_memory.specs.Blocks.{BlocksState}
 use Rattle.clause_memory.specs.Memory.{literals_in}
 use Rattle.cnf_base.specs.Maps.{sum_over}
 use Rattle.clause_memory.specs.Code.Fields.{IsMemory, seen_as}
-use Rattle.clause_memory.specs.Code.Units.{clause_at, clauses_from, clauses_in, is_rest, kept_as}
-use Rattle.clause_memory.specs.Code.Units.{kept_in, kind_at, literal_words, size_at, start_of}
-use Rattle.clause_memory.specs.Code.Units.{sum_from}
+use Rattle.clause_memory.specs.Code.Cells.{clause_at, clauses_from, clauses_in, is_rest, kept_as}
+use Rattle.clause_memory.specs.Code.Cells.{kept_in, kind_at, literal_words, size_at, start_of}
+use Rattle.clause_memory.specs.Code.Cells.{sum_from}
 use Rattle.clause_memory.specs.declared.kind.Kind.{Kind}
 use Rattle.clause_memory.specs.declared.kind.Kind.TheVariants.{Live, Free, Rest}
 use Rattle.cnf_base.proofs.MapLemmas.{get_insert, get_remove, insert_here, insert_other, same_maps}
 use Rattle.cnf_base.proofs.MapLemmas.{sum_empty, sum_insert}
-use Rattle.clause_memory.proofs.UnitLemmas.{live_isnt_free, units_hold}
+use Rattle.clause_memory.proofs.CellLemmas.{live_isnt_free, cells_hold}
 
--- the clause of a unit of this kind, if it begins one's block
+-- the clause of a cell of this kind, if it begins one's block
 abbrev pub clause_if : Kind → Clause → Option Clause
 clause_if Live c = Some c
 clause_if Free c = None
@@ -64,7 +64,7 @@ module _ (words : List ℕ) where
       by_test true x m e few = omega arith
       by_test false x m e few = omega arith
 
-  -- one unit more
+  -- one cell more
   kept_more : (f : ℕ → ℕ) (k : Kind) (rest : List Kind) (n : ℕ) → sum_from f (n + 1) rest ≡ sum_over length (clauses_from words (n + 1) rest) → (k ≡ Live → f n ≡ length (clause_at words n)) →
       ((k ≡ Live → ⊥) → f n ≡ 0) → sum_from f n (k ∷ rest) ≡ sum_over length (clauses_from words n (k ∷ rest))
   kept_more f Live rest n later is differs =
@@ -147,7 +147,7 @@ module _ {kinds : List Kind} {words : List ℕ} {heads : ℕ → Option ℕ} (me
   pub clause_fits : (s : ℕ) → kind_at kinds s ≡ Live → 4 * s + 1 + size_at words s ≤ length words
   clause_fits s live =
       let fits = (memory.block s live).fits in
-      let hold = units_hold (size_at words s) in
+      let hold = cells_hold (size_at words s) in
       let whole = memory.whole in
       omega arith
 

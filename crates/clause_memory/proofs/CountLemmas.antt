@@ -7,9 +7,9 @@ use Rattle.std.specs.FinMap.{FinMap}
 use Rattle.std.proofs.lemmas.Bool.{cases_eq}
 use Rattle.std.proofs.lemmas.Option.{same_Some}
 use Rattle.cnf_base.specs.Literals.{Clause}
-use Rattle.clause_memory.specs.Blocks.{AddsFewBlocks, blocks_with, clauses_with, units_for}
+use Rattle.clause_memory.specs.Blocks.{AddsFewBlocks, blocks_with, clauses_with, cells_for}
 use Rattle.clause_memory.specs.Code.Fields.{IsMemory}
-use Rattle.clause_memory.specs.Code.Units.{blocks_in, clause_at, clauses_in}
+use Rattle.clause_memory.specs.Code.Cells.{blocks_in, clause_at, clauses_in}
 use Rattle.clause_memory.specs.declared.kind.Kind.{Kind}
 use Rattle.clause_memory.proofs.BlockLemmas.{block_is}
 use Rattle.clause_memory.proofs.ClauseLemmas.{alive_kind, clause_len, get_live}
@@ -18,20 +18,20 @@ use Rattle.cnf_base.proofs.MapLemmas.{inserted_is, sum_insert, sum_lighter, weig
 -- ---- Blocks and clauses
 
 module _ {ks : List Kind} {words : List ℕ} {heads : ℕ → Option ℕ} (memory : IsMemory ks words heads) where
-  -- the block of a clause has the units that the clause needs
+  -- the block of a clause has the cells that the clause needs
   one_for_each : (n s : ℕ) → maps.get (blocks_in ks) s ≡ Some n → is_some (maps.get (clauses_in ks words) s) ≡ true →
-      weight_at (λ c. cond (eqb (units_for (length c)) n) 1 0) (maps.get (clauses_in ks words) s) ≡ 1
+      weight_at (λ c. cond (eqb (cells_for (length c)) n) 1 0) (maps.get (clauses_in ks words) s) ≡ 1
   one_for_each n s here alive =
       let live = alive_kind ks words s alive in
-      let units : units_for (length (clause_at words s)) ≡ n = ap units_for (clause_len memory s live) ∙ same_Some _ _ (sym (block_is (memory.block s live)) ∙ here) in
-      ap (weight_at (λ c. cond (eqb (units_for (length c)) n) 1 0)) (get_live ks words s live)
-      ∙ ap (λ b. cond b 1 0) (eq-eqb (units_for (length (clause_at words s))) n units)
+      let cells : cells_for (length (clause_at words s)) ≡ n = ap cells_for (clause_len memory s live) ∙ same_Some _ _ (sym (block_is (memory.block s live)) ∙ here) in
+      ap (weight_at (λ c. cond (eqb (cells_for (length c)) n) 1 0)) (get_live ks words s live)
+      ∙ ap (λ b. cond b 1 0) (eq-eqb (cells_for (length (clause_at words s))) n cells)
 
   -- where each block of one size has a clause there are as many of these
   pub none_left : (n : ℕ) → ((s : ℕ) → maps.get (blocks_in ks) s ≡ Some n → is_some (maps.get (clauses_in ks words) s) ≡ true) → blocks_with n (blocks_in ks) ≤ clauses_with n (clauses_in ks words)
   none_left n full = sum_lighter _ _ (blocks_in ks) (clauses_in ks words) by_size
     where
-      by_size : (s m : ℕ) → maps.get (blocks_in ks) s ≡ Some m → cond (eqb m n) 1 0 ≤ weight_at (λ c. cond (eqb (units_for (length c)) n) 1 0) (maps.get (clauses_in ks words) s)
+      by_size : (s m : ℕ) → maps.get (blocks_in ks) s ≡ Some m → cond (eqb m n) 1 0 ≤ weight_at (λ c. cond (eqb (cells_for (length c)) n) 1 0) (maps.get (clauses_in ks words) s)
       by_size s m here = elim (cases_eq m n) [
         | inl e ↦
             (let is : maps.get (blocks_in ks) s ≡ Some n = here ∙ ap Some e in

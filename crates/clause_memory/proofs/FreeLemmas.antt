@@ -6,11 +6,11 @@ use Rattle.std.proofs.lemmas.Bool.{cases_eq, false_from_ne_true, true≢false}
 use Rattle.cnf_base.specs.Literals.{has}
 use Rattle.cnf_base.proofs.SetLemmas.{has_cases, has_head, has_tail}
 use Rattle.clause_memory.specs.Code.Free.{AreListed, IsOnce, LeadsTo, link_at, link_of}
-use Rattle.clause_memory.specs.Code.Units.{IsBlock, kind_at}
+use Rattle.clause_memory.specs.Code.Cells.{IsBlock, kind_at}
 use Rattle.clause_memory.specs.declared.kind.Kind.{Kind}
 use Rattle.clause_memory.specs.declared.kind.Kind.TheVariants.{Live, Free}
-use Rattle.clause_memory.proofs.UnitLemmas.{IsChanged, block_once, block_same, first_same}
-use Rattle.clause_memory.proofs.UnitLemmas.{live_isnt_free, word_same}
+use Rattle.clause_memory.proofs.CellLemmas.{IsChanged, block_once, block_same, first_same}
+use Rattle.clause_memory.proofs.CellLemmas.{live_isnt_free, word_same}
 
 -- ---- Links
 
@@ -26,7 +26,7 @@ pub none_of : (words : List ℕ) (link : ℕ) (xs : List ℕ) → LeadsTo words 
 none_of words link [] leads is = refl
 none_of words link (t ∷ rest) leads is = let first = leads.0 in absurd (let wrong : ⊥ = omega arith in wrong)
 
--- a link is a number of a unit that is listed, and 1, or 0
+-- a link is a number of a cell that is listed, and 1, or 0
 pub link_low : (words : List ℕ) (link most : ℕ) (xs : List ℕ) → LeadsTo words link xs → ((t : ℕ) → has xs t ≡ true → t < most) → link ≤ most
 link_low words link most [] leads low = omega arith
 link_low words link most (t ∷ rest) leads low =
@@ -42,7 +42,7 @@ leads_same words now link (t ∷ rest) leads same =
 
 -- ---- One list of them
 
--- the lists with another one for blocks of so many units
+-- the lists with another one for blocks of so many cells
 abbrev pub with_list : (ℕ → List ℕ) → ℕ → List ℕ → ℕ → List ℕ
 with_list list n xs k = cond (eqb k n) xs (list k)
 

@@ -1,4 +1,4 @@
-pub mod UnitLemmas
+pub mod CellLemmas
 mod BlockLemmas
 mod ClauseLemmas
 mod CountLemmas

@@ -11,11 +11,11 @@ use Rattle.std.proofs.lemmas.List.{get_or-take}
 use Rattle.std.proofs.lemmas.List.Edits.{length-swap, swap_is}
 use Rattle.cnf_base.specs.Literals.{Clause, has}
 use Rattle.cnf_base.proofs.SetLemmas.{has_head, has_tail}
-use Rattle.clause_memory.specs.Blocks.{units_for}
+use Rattle.clause_memory.specs.Blocks.{cells_for}
 use Rattle.clause_memory.specs.Code.Fields.{IsMemory}
 use Rattle.clause_memory.specs.Code.Free.{LeadsTo, link_at, link_of}
-use Rattle.clause_memory.specs.Code.Units.{IsBlock, blocks_in, clause_at, clauses_in, kept_as, kept_in}
-use Rattle.clause_memory.specs.Code.Units.{kind_at, rests, size_at, start_of, written}
+use Rattle.clause_memory.specs.Code.Cells.{IsBlock, blocks_in, clause_at, clauses_in, kept_as, kept_in}
+use Rattle.clause_memory.specs.Code.Cells.{kind_at, rests, size_at, start_of, written}
 use Rattle.clause_memory.specs.declared.kind.Kind.{Kind}
 use Rattle.clause_memory.specs.declared.kind.Kind.TheVariants.{Live, Free, Rest}
 use Rattle.clause_memory.proofs.BlockLemmas.{blocks_same, rests_alike}
@@ -25,10 +25,10 @@ use Rattle.clause_memory.proofs.FreeLemmas.{HasHead, first_of, head_here, head_k
 use Rattle.clause_memory.proofs.FreeLemmas.{listed_still, listed_with, listed_without}
 use Rattle.clause_memory.proofs.RewatchLemmas.{named_is}
 use Rattle.cnf_base.proofs.MapLemmas.{insert_twice}
-use Rattle.clause_memory.proofs.UnitLemmas.{IsChanged, alike_set, begins_inside, block_same}
-use Rattle.clause_memory.proofs.UnitLemmas.{clause_same, free_begins, kept_same}
-use Rattle.clause_memory.proofs.UnitLemmas.{live_isnt_free, part_blank, rest_by_kind, size_same}
-use Rattle.clause_memory.proofs.UnitLemmas.{start_begins, start_le, start_same, units_hold}
+use Rattle.clause_memory.proofs.CellLemmas.{IsChanged, alike_set, begins_inside, block_same}
+use Rattle.clause_memory.proofs.CellLemmas.{clause_same, free_begins, kept_same}
+use Rattle.clause_memory.proofs.CellLemmas.{live_isnt_free, part_blank, rest_by_kind, size_same}
+use Rattle.clause_memory.proofs.CellLemmas.{start_begins, start_le, start_same, cells_hold}
 
 -- heads that have room for more
 pub memory_heads : {kinds : List Kind} {words : List ℕ} {heads : ℕ → Option ℕ} → (now : ℕ → Option ℕ) → IsMemory kinds words heads → ((k : ℕ) → link_of (now k) ≡ link_of (heads k)) → ((k : ℕ) → is_some (heads k) ≡ true → is_some (now k) ≡ true) → IsMemory kinds words now
@@ -74,21 +74,21 @@ module _ {ks ls : List Kind} {words now : List ℕ} {heads : ℕ → Option ℕ}
   size_still : (t : ℕ) → (t ≡ s → ⊥) → kind_at ls t ≡ Live → size_at now t ≡ size_at words t
   size_still t ne live = size_same is (memory.block t (live_before t ne live)) ne
 
-  block_still : (t : ℕ) → (t ≡ s → ⊥) → kind_at ls t ≡ Live → IsBlock ls t (units_for (size_at now t))
-  block_still t ne live = subst (λ k. IsBlock ls t (units_for k)) (sym (size_still t ne live)) (block_same is.alike (memory.block t (live_before t ne live)))
+  block_still : (t : ℕ) → (t ≡ s → ⊥) → kind_at ls t ≡ Live → IsBlock ls t (cells_for (size_at now t))
+  block_still t ne live = subst (λ k. IsBlock ls t (cells_for k)) (sym (size_still t ne live)) (block_same is.alike (memory.block t (live_before t ne live)))
 
-  known_still : (t : ℕ) → (t ≡ s → ⊥) → kind_at ls t ≡ Live → is_some (heads (units_for (size_at now t))) ≡ true
-  known_still t ne live = ap (λ k. is_some (heads (units_for k))) (size_still t ne live) ∙ memory.known t (live_before t ne live)
+  known_still : (t : ℕ) → (t ≡ s → ⊥) → kind_at ls t ≡ Live → is_some (heads (cells_for (size_at now t))) ≡ true
+  known_still t ne live = ap (λ k. is_some (heads (cells_for k))) (size_still t ne live) ∙ memory.known t (live_before t ne live)
 
   clause_still : (t : ℕ) → (t ≡ s → ⊥) → clause_if (kind_at ls t) (clause_at now t) ≡ clause_if (kind_at ks t) (clause_at words t)
-  clause_still t ne = ap (λ k. clause_if k (clause_at now t)) (is.others t ne) ∙ by_kind (kind_at ks t) (λ e. clause_same is (memory.block t e) ne (units_hold (size_at words t)))
+  clause_still t ne = ap (λ k. clause_if k (clause_at now t)) (is.others t ne) ∙ by_kind (kind_at ks t) (λ e. clause_same is (memory.block t e) ne (cells_hold (size_at words t)))
     where
       by_kind : (k : Kind) → (k ≡ Live → clause_at now t ≡ clause_at words t) → clause_if k (clause_at now t) ≡ clause_if k (clause_at words t)
       by_kind Live same = ap Some (same refl)
       by_kind Free same = refl
       by_kind Rest same = refl
 
-  -- a unit of another block keeps nothing, and a further one of this block is one that goes on
+  -- a cell of another block keeps nothing, and a further one of this block is one that goes on
   clean_still : (u : ℕ) → u < length ls → kind_at ls u ≢ Live → (u ≡ s → ⊥) → (start_of ks u ≡ s → kind_at ls u ≡ Rest → kept_in ls now u ≡ 0) → kept_in ls now u ≡ 0
   clean_still u inside differs ne own = elim (cases_eq (start_of ks u) s) [
     | inl e ↦ own e (rest_by_kind (kind_at ls u) differs (λ free. ne (sym (start_begins ks u (sym (is.alike.rest u) ∙ free_begins (kind_at ls u) free)) ∙ e)))
@@ -99,13 +99,13 @@ module _ {ks ls : List Kind} {words now : List ℕ} {heads : ℕ → Option ℕ}
 
 pub record IsPutIn (ks : List Kind) (words now : List ℕ) (heads heads_now : ℕ → Option ℕ) (s : ℕ) (c : Clause) : Type 0 where
   pub memory : IsMemory ks words heads
-  pub first : heads (units_for (length c)) ≡ Some (s + 1)
+  pub first : heads (cells_for (length c)) ≡ Some (s + 1)
   pub same_len : length now ≡ length words
   pub header : get_or now (4 * s) 0 ≡ length c + 2
   pub literals : take (length c) (drop (4 * s + 1) now) ≡ c
   pub before : (i : ℕ) → i < 4 * s → get_or now i 0 ≡ get_or words i 0
   pub behind : (i : ℕ) → 4 * s + 1 + length c ≤ i → get_or now i 0 ≡ get_or words i 0
-  pub head : HasHead heads heads_now (units_for (length c)) (link_at words s)
+  pub head : HasHead heads heads_now (cells_for (length c)) (link_at words s)
 
 -- the first block of a list
 module _ {ks : List Kind} {words : List ℕ} {heads : ℕ → Option ℕ} (memory : IsMemory ks words heads) (n s : ℕ) (first : heads n ≡ Some (s + 1)) where
@@ -136,26 +136,26 @@ module _ {ks : List Kind} {words : List ℕ} {heads : ℕ → Option ℕ} (memor
       omega arith
 
 module _ {ks : List Kind} {words now : List ℕ} {heads heads_now : ℕ → Option ℕ} {s : ℕ} {c : Clause} (put : IsPutIn ks words now heads heads_now s c) where
-  abbrev units : ℕ
-  units = units_for (length c)
+  abbrev cells : ℕ
+  cells = cells_for (length c)
 
   abbrev filled : List Kind
   filled = set ks s Live
 
-  block : IsBlock ks s units
-  block = first_block put.memory units s put.first
+  block : IsBlock ks s cells
+  block = first_block put.memory cells s put.first
 
   live_now : kind_at filled s ≡ Live
   live_now = get_or-set_same ks s Live Rest (begins_inside ks s block.begins)
 
-  changed : IsChanged ks filled words now s units
+  changed : IsChanged ks filled words now s cells
   changed = record {
     block = block;
     alike = alike_set ks s Live block.begins refl;
     others = λ u ne. get_or-set_other ks s u Live Rest ne;
     same_len = put.same_len;
     before = put.before;
-    behind = λ i high. put.behind i (let hold = units_hold (length c) in omega arith);
+    behind = λ i high. put.behind i (let hold = cells_hold (length c) in omega arith);
   }
 
   size_now : size_at now s ≡ length c
@@ -167,15 +167,15 @@ module _ {ks : List Kind} {words now : List ℕ} {heads heads_now : ℕ → Opti
     few = few_still put.memory changed;
     front = front_still put.memory changed;
     block = λ t live. elim (cases_eq t s) [
-      | inl e ↦ subst (λ x. IsBlock filled x (units_for (size_at now x))) (sym e) (subst (λ k. IsBlock filled s (units_for k)) (sym size_now) (block_same changed.alike block))
+      | inl e ↦ subst (λ x. IsBlock filled x (cells_for (size_at now x))) (sym e) (subst (λ k. IsBlock filled s (cells_for k)) (sym size_now) (block_same changed.alike block))
       | inr ne ↦ block_still put.memory changed t ne live
     ];
     known = λ t live. elim (cases_eq t s) [
-      | inl e ↦ ap (λ x. is_some (heads_now (units_for (size_at now x)))) e ∙ ap (λ k. is_some (heads_now (units_for k))) size_now ∙ ap is_some (head_here put.head)
+      | inl e ↦ ap (λ x. is_some (heads_now (cells_for (size_at now x)))) e ∙ ap (λ k. is_some (heads_now (cells_for k))) size_now ∙ ap is_some (head_here put.head)
       | inr ne ↦ head_known put.head _ (known_still put.memory changed t ne live)
     ];
     free =
-        (let w = led put.memory units s put.first in
+        (let w = led put.memory cells s put.first in
         listed_without changed put.memory.free w.0 w.1 w.2 put.head live_now);
     clean = λ u inside differs.
         clean_still put.memory changed u inside differs (λ e. differs (ap (kind_at filled) e ∙ live_now))
@@ -186,7 +186,7 @@ module _ {ks : List Kind} {words now : List ℕ} {heads heads_now : ℕ → Opti
   put_in_blocks = blocks_same changed.alike
 
   pub was_none : maps.get (clauses_in ks words) s ≡ None
-  was_none = get_free ks words s (first_free put.memory units s put.first)
+  was_none = get_free ks words s (first_free put.memory cells s put.first)
 
   pub put_in_clauses : clauses_in filled now ≡ maps.insert (clauses_in ks words) s c
   put_in_clauses =
@@ -198,7 +198,7 @@ module _ {ks : List Kind} {words now : List ℕ} {heads heads_now : ℕ → Opti
 pub record IsTakenOut (ks : List Kind) (words now : List ℕ) (heads heads_now : ℕ → Option ℕ) (s n : ℕ) : Type 0 where
   pub memory : IsMemory ks words heads
   pub live : kind_at ks s ≡ Live
-  pub units : n ≡ units_for (size_at words s)
+  pub cells : n ≡ cells_for (size_at words s)
   pub same_len : length now ≡ length words
   pub link : link_at now s ≡ link_of (heads n)
   pub blank : (i : ℕ) → 4 * s + 2 ≤ i → i < 4 * (s + n) → get_or now i 0 ≡ 2
@@ -211,7 +211,7 @@ module _ {ks : List Kind} {words now : List ℕ} {heads heads_now : ℕ → Opti
   emptied = set ks s Free
 
   block_out : IsBlock ks s n
-  block_out = subst (IsBlock ks s) (sym out.units) (out.memory.block s out.live)
+  block_out = subst (IsBlock ks s) (sym out.cells) (out.memory.block s out.live)
 
   free_now : kind_at emptied s ≡ Free
   free_now = get_or-set_same ks s Free Rest (begins_inside ks s block_out.begins)
@@ -295,7 +295,7 @@ module _ {ks : List Kind} {words : List ℕ} {heads : ℕ → Option ℕ} (memor
   fits_in : 4 * s + 1 + size_at words s ≤ length words
   fits_in =
       let fits = (memory.block s live).fits in
-      let hold = units_hold (size_at words s) in
+      let hold = cells_hold (size_at words s) in
       let whole = memory.whole in
       omega arith
 
@@ -310,7 +310,7 @@ module _ {ks : List Kind} {words : List ℕ} {heads : ℕ → Option ℕ} (memor
       ap (λ ws. get_or ws i 0) swapped_is ∙ get_or-set_other (set words at_a (get_or words at_b 0)) at_b i (get_or words at_a 0) 0 not_b
       ∙ get_or-set_other words at_a i (get_or words at_b 0) 0 not_a
 
-  changed_by_swap : IsChanged ks ks words swapped s (units_for (size_at words s))
+  changed_by_swap : IsChanged ks ks words swapped s (cells_for (size_at words s))
   changed_by_swap = record {
     block = memory.block s live;
     alike = record { len = refl; rest = λ u. refl };
@@ -318,7 +318,7 @@ module _ {ks : List Kind} {words : List ℕ} {heads : ℕ → Option ℕ} (memor
     same_len = length-swap words at_a at_b;
     before = λ i low. other_word i (λ e. absurd (let wrong : ⊥ = omega arith in wrong)) (λ e. absurd (let wrong : ⊥ = omega arith in wrong));
     behind = λ i high.
-        let hold = units_hold (size_at words s) in
+        let hold = cells_hold (size_at words s) in
         other_word i (λ e. absurd (let wrong : ⊥ = omega arith in wrong)) (λ e. absurd (let wrong : ⊥ = omega arith in wrong));
   }
 
@@ -336,8 +336,8 @@ module _ {ks : List Kind} {words : List ℕ} {heads : ℕ → Option ℕ} (memor
     whole = whole_still memory changed_by_swap;
     few = memory.few;
     front = memory.front;
-    block = λ t alive. subst (λ k. IsBlock ks t (units_for k)) (sym (size_all t alive)) (memory.block t alive);
-    known = λ t alive. ap (λ k. is_some (heads (units_for k))) (size_all t alive) ∙ memory.known t alive;
+    block = λ t alive. subst (λ k. IsBlock ks t (cells_for k)) (sym (size_all t alive)) (memory.block t alive);
+    known = λ t alive. ap (λ k. is_some (heads (cells_for k))) (size_all t alive) ∙ memory.known t alive;
     free = listed_still changed_by_swap memory.free live live;
     clean = λ u inside differs.
         clean_still memory changed_by_swap u inside differs (λ e. differs (ap (kind_at ks) e ∙ live))

@@ -15,11 +15,11 @@ use Rattle.std.proofs.Math.ListN.{set}
 use Rattle.std.proofs.Math.Seq.{drop-append-add, set-append_seam, take-append_seam}
 use Rattle.cnf_base.specs.Literals.{Clause, has}
 use Rattle.cnf_base.proofs.SetLemmas.{has_cases, has_head}
-use Rattle.clause_memory.specs.Blocks.{units_for}
+use Rattle.clause_memory.specs.Blocks.{cells_for}
 use Rattle.clause_memory.specs.Code.Fields.{IsMemory}
 use Rattle.clause_memory.specs.Code.Free.{AreListed, IsOnce, LeadsTo, link_at, link_of}
-use Rattle.clause_memory.specs.Code.Units.{IsBlock, blanks, blocks_in, clause_at, clauses_in, is_rest, kept_as}
-use Rattle.clause_memory.specs.Code.Units.{kept_in, kind_at, rests, size_at, start_of, written}
+use Rattle.clause_memory.specs.Code.Cells.{IsBlock, blanks, blocks_in, clause_at, clauses_in, is_rest, kept_as}
+use Rattle.clause_memory.specs.Code.Cells.{kept_in, kind_at, rests, size_at, start_of, written}
 use Rattle.clause_memory.specs.declared.kind.Kind.{Kind}
 use Rattle.clause_memory.specs.declared.kind.Kind.TheVariants.{Live, Free, Rest}
 use Rattle.clause_memory.proofs.ClauseLemmas.{clause_fits, clause_if, clauses_same, get_live}
@@ -27,8 +27,8 @@ use Rattle.clause_memory.proofs.FreeLemmas.{HasHead, each_list, head_here, head_
 use Rattle.clause_memory.proofs.FreeLemmas.{leads_same, list_here, list_there, none_of, with_list}
 use Rattle.clause_memory.proofs.MemoryLemmas.{IsPutIn, memory_heads, put_in_blocks, put_in_clauses}
 use Rattle.clause_memory.proofs.MemoryLemmas.{put_in_memory, was_none}
-use Rattle.clause_memory.proofs.UnitLemmas.{begins_inside, free_begins, live_begins, live_isnt_free}
-use Rattle.clause_memory.proofs.UnitLemmas.{part_blank, start_alike, start_begins, start_le, start_run, units_hold}
+use Rattle.clause_memory.proofs.CellLemmas.{begins_inside, free_begins, live_begins, live_isnt_free}
+use Rattle.clause_memory.proofs.CellLemmas.{part_blank, start_alike, start_begins, start_le, start_run, cells_hold}
 
 pub record IsMade (ks : List Kind) (words : List ℕ) (heads heads_now : ℕ → Option ℕ) (n more : ℕ) : Type 0 where
   pub memory : IsMemory ks words heads
@@ -266,8 +266,8 @@ module _ {ks : List Kind} {words : List ℕ} {heads heads_now : ℕ → Option �
         omega arith);
     front = rests_before ks (replicate more Rest) ∙ made.memory.front;
     few = (let len = longer_len in let few = made.few in omega arith);
-    block = λ t live. let w = old_live t live in subst (λ k. IsBlock longer t (units_for k)) (sym (old_size t w.0)) (old_block (made.memory.block t w.1));
-    known = λ t live. let w = old_live t live in head_known made.head _ (ap (λ k. is_some (heads (units_for k))) (old_size t w.0) ∙ made.memory.known t w.1);
+    block = λ t live. let w = old_live t live in subst (λ k. IsBlock longer t (cells_for k)) (sym (old_size t w.0)) (old_block (made.memory.block t w.1));
+    known = λ t live. let w = old_live t live in head_known made.head _ (ap (λ k. is_some (heads (cells_for k))) (old_size t w.0) ∙ made.memory.known t w.1);
     free = made_listed;
     clean = λ u inside differs. elim (cases_lt u end) [
       | inl low ↦ old_kept u low ∙ made.memory.clean u low (λ live. differs (old_kind u low ∙ live))
@@ -305,7 +305,7 @@ module _ {ks : List Kind} {words : List ℕ} {heads heads_now : ℕ → Option �
         ∙ sym (get_block ks s ∙ ap (λ k. block_if k (rests (drop (suc s) ks) + 1)) (get_or_past ks s Rest high))
   ]
 
--- where no free block of so many units is listed, each has a clause
+-- where no free block of so many cells is listed, each has a clause
 pub none_free : {ks : List Kind} {words : List ℕ} {heads : ℕ → Option ℕ} → IsMemory ks words heads → (n : ℕ) → link_of (heads n) ≡ 0 → (s : ℕ) → maps.get (blocks_in ks) s ≡ Some n → is_some (maps.get (clauses_in ks words) s) ≡ true
 none_free {ks} {words} {heads} memory n none s here = by_kind (kind_at ks s) refl
   where
@@ -326,23 +326,23 @@ none_free {ks} {words} {heads} memory n none s here = by_kind (kind_at ks s) ref
 
 pub record IsAppended (ks : List Kind) (words : List ℕ) (heads : ℕ → Option ℕ) (c : Clause) (more : ℕ) : Type 0 where
   pub memory : IsMemory ks words heads
-  pub more_is : more + 1 ≡ units_for (length c)
-  pub none : heads (units_for (length c)) ≡ Some 0
-  pub few : length ks + units_for (length c) ≤ 4294967295
+  pub more_is : more + 1 ≡ cells_for (length c)
+  pub none : heads (cells_for (length c)) ≡ Some 0
+  pub few : length ks + cells_for (length c) ≤ 4294967295
 
 module _ {ks : List Kind} {words : List ℕ} {heads : ℕ → Option ℕ} {c : Clause} {more : ℕ} (appended : IsAppended ks words heads c more) where
-  abbrev units : ℕ
-  units = units_for (length c)
+  abbrev cells : ℕ
+  cells = cells_for (length c)
 
   -- the heads, were the block free
   abbrev with_free : ℕ → Option ℕ
-  with_free k = cond (eqb k units) (Some (length ks + 1)) (heads k)
+  with_free k = cond (eqb k cells) (Some (length ks + 1)) (heads k)
 
   abbrev free_words : List ℕ
-  free_words = words ++ blanks (4 * units)
+  free_words = words ++ blanks (4 * cells)
 
   abbrev clause_words : List ℕ
-  clause_words = (length c + 2) ∷ (c ++ blanks (4 * units - 1 - length c))
+  clause_words = (length c + 2) ∷ (c ++ blanks (4 * cells - 1 - length c))
 
   abbrev pub now_kinds : List Kind
   now_kinds = ks ++ Live ∷ replicate more Rest
@@ -350,7 +350,7 @@ module _ {ks : List Kind} {words : List ℕ} {heads : ℕ → Option ℕ} {c : C
   abbrev pub now_words : List ℕ
   now_words = words ++ clause_words
 
-  made_free : IsMade ks words heads with_free units more
+  made_free : IsMade ks words heads with_free cells more
   made_free = record {
     memory = appended.memory;
     more_is = appended.more_is;
@@ -362,15 +362,15 @@ module _ {ks : List Kind} {words : List ℕ} {heads : ℕ → Option ℕ} {c : C
   length_words : length words ≡ 4 * length ks
   length_words = appended.memory.whole
 
-  clause_words_len : length clause_words ≡ 4 * units
+  clause_words_len : length clause_words ≡ 4 * cells
   clause_words_len =
-      let hold = units_hold (length c) in
-      let sum = length-append c (blanks (4 * units - 1 - length c)) in
-      let len : length (blanks (4 * units - 1 - length c)) ≡ 4 * units - 1 - length c = length-replicate (4 * units - 1 - length c) 2 in
+      let hold = cells_hold (length c) in
+      let sum = length-append c (blanks (4 * cells - 1 - length c)) in
+      let len : length (blanks (4 * cells - 1 - length c)) ≡ 4 * cells - 1 - length c = length-replicate (4 * cells - 1 - length c) 2 in
       omega arith
 
-  free_words_len : length (blanks (4 * units)) ≡ 4 * units
-  free_words_len = length-replicate (4 * units) 2
+  free_words_len : length (blanks (4 * cells)) ≡ 4 * cells
+  free_words_len = length-replicate (4 * cells) 2
 
   now_word : (i : ℕ) → 4 * length ks ≤ i → get_or now_words i 0 ≡ get_or clause_words (i - 4 * length ks) 0
   now_word i high = get_or-append_right words clause_words (4 * length ks) i 0 length_words high
@@ -384,47 +384,47 @@ module _ {ks : List Kind} {words : List ℕ} {heads : ℕ → Option ℕ} {c : C
   literal_words_are =
       ap (λ n. take (length c) (drop (n + 1) now_words)) (sym length_words)
       ∙ ap (take (length c)) (drop-append-add words clause_words 1)
-      ∙ take-append_seam c (blanks (4 * units - 1 - length c))
+      ∙ take-append_seam c (blanks (4 * cells - 1 - length c))
 
   before_same : (i : ℕ) → i < 4 * length ks → get_or now_words i 0 ≡ get_or free_words i 0
   before_same i low =
       let long = length_words in
-      get_or_append_left words clause_words 0 i (omega arith) ∙ sym (get_or_append_left words (blanks (4 * units)) 0 i (omega arith))
+      get_or_append_left words clause_words 0 i (omega arith) ∙ sym (get_or_append_left words (blanks (4 * cells)) 0 i (omega arith))
 
   behind_same : (i : ℕ) → 4 * length ks + 1 + length c ≤ i → get_or now_words i 0 ≡ get_or free_words i 0
-  behind_same i high = elim (cases_lt i (4 * length ks + 4 * units)) [
+  behind_same i high = elim (cases_lt i (4 * length ks + 4 * cells)) [
     | inl low ↦
         now_word i (omega arith) ∙ ap (λ j. get_or clause_words j 0) (at_literals i high)
-        ∙ get_or-append_right c (blanks (4 * units - 1 - length c)) (length c) (i - 4 * length ks - 1) 0 refl (omega arith)
-        ∙ get_or-replicate (4 * units - 1 - length c) (i - 4 * length ks - 1 - length c) 2 0 (omega arith)
+        ∙ get_or-append_right c (blanks (4 * cells - 1 - length c)) (length c) (i - 4 * length ks - 1) 0 refl (omega arith)
+        ∙ get_or-replicate (4 * cells - 1 - length c) (i - 4 * length ks - 1 - length c) 2 0 (omega arith)
         ∙ sym (new_word made_free i (omega arith) (omega arith))
     | inr past ↦
         get_or_past now_words i 0 (let long = length_words in let len = clause_words_len in let sum = length-append words clause_words in omega arith)
-        ∙ sym (get_or_past free_words i 0 (let long = length_words in let len = free_words_len in let sum = length-append words (blanks (4 * units)) in omega arith))
+        ∙ sym (get_or_past free_words i 0 (let long = length_words in let len = free_words_len in let sum = length-append words (blanks (4 * cells)) in omega arith))
   ]
     where
       at_literals : (i : ℕ) → 4 * length ks + 1 + length c ≤ i → i - 4 * length ks ≡ suc (i - 4 * length ks - 1)
       at_literals i high = omega arith
 
-  heads_back : (k : ℕ) → heads k ≡ cond (eqb k units) (Some (link_at free_words (length ks))) (with_free k)
-  heads_back k = elim (cases_eq k units) [
+  heads_back : (k : ℕ) → heads k ≡ cond (eqb k cells) (Some (link_at free_words (length ks))) (with_free k)
+  heads_back k = elim (cases_eq k cells) [
     | inl e ↦
         ap heads e ∙ appended.none ∙ ap Some (sym (new_link made_free))
-        ∙ ap (λ b. cond b (Some (link_at free_words (length ks))) (with_free k)) (sym (eq-eqb k units e))
+        ∙ ap (λ b. cond b (Some (link_at free_words (length ks))) (with_free k)) (sym (eq-eqb k cells e))
     | inr ne ↦
-        ap (λ b. cond b (Some (length ks + 1)) (heads k)) (sym (ne_eqb k units ne))
-        ∙ ap (λ b. cond b (Some (link_at free_words (length ks))) (with_free k)) (sym (ne_eqb k units ne))
+        ap (λ b. cond b (Some (length ks + 1)) (heads k)) (sym (ne_eqb k cells ne))
+        ∙ ap (λ b. cond b (Some (link_at free_words (length ks))) (with_free k)) (sym (ne_eqb k cells ne))
   ]
 
   put_there : IsPutIn (ks ++ Free ∷ replicate more Rest) free_words now_words with_free heads (length ks) c
   put_there = record {
     memory = made_memory made_free;
-    first = ap (λ b. cond b (Some (length ks + 1)) (heads units)) (eq-eqb units units refl);
+    first = ap (λ b. cond b (Some (length ks + 1)) (heads cells)) (eq-eqb cells cells refl);
     same_len =
         (let len = clause_words_len in
         let blank = free_words_len in
         let sum = length-append words clause_words in
-        let free_sum = length-append words (blanks (4 * units)) in
+        let free_sum = length-append words (blanks (4 * cells)) in
         omega arith);
     header = first_word;
     literals = literal_words_are;
@@ -450,7 +450,7 @@ module _ {ks : List Kind} {words : List ℕ} {heads : ℕ → Option ℕ} {c : C
   appended_blocks : blocks_in now_kinds ≡ blocks_in (ks ++ Free ∷ replicate more Rest)
   appended_blocks = ap blocks_in (sym kinds_now) ∙ put_in_blocks put_there
 
-  pub appended_block : maps.get (blocks_in now_kinds) (length ks) ≡ Some units
+  pub appended_block : maps.get (blocks_in now_kinds) (length ks) ≡ Some cells
   appended_block = ap (λ m. maps.get m (length ks)) appended_blocks ∙ made_block made_free
 
   pub appended_other_blocks : (s : ℕ) → s ≢ length ks → maps.get (blocks_in now_kinds) s ≡ maps.get (blocks_in ks) s

@@ -13,7 +13,7 @@ use Rattle.clause_memory.specs.Memory.{MemoryState}
 pub record BlocksState : Type 0 where
   -- the live clauses, each in its slot
   pub live : FinMap nat_cmp Clause
-  -- by slot the number of units of its block, whether it has a clause or is free
+  -- by slot the number of cells of its block, whether it has a clause or is free
   pub blocks : FinMap nat_cmp ℕ
   -- how many of its words hold a literal of a clause
   pub stored : ℕ
@@ -22,23 +22,23 @@ pub record BlocksState : Type 0 where
 abbrev pub memory_of : BlocksState → MemoryState
 memory_of blocks = record { live = blocks.live; stored = blocks.stored }
 
--- how many units of four words a block for so many literals has, with its header of one word
-abbrev pub units_for : ℕ → ℕ
-units_for literals = literals / 4 + 1
+-- how many cells of four words a block for so many literals has, with its header of one word
+abbrev pub cells_for : ℕ → ℕ
+cells_for literals = literals / 4 + 1
 
--- the units of all blocks
-abbrev pub units_in : FinMap nat_cmp ℕ → ℕ
-units_in blocks = sum_over (λ n. n) blocks
+-- the cells of all blocks
+abbrev pub cells_in : FinMap nat_cmp ℕ → ℕ
+cells_in blocks = sum_over (λ n. n) blocks
 
--- how many blocks have so many units
+-- how many blocks have so many cells
 abbrev pub blocks_with : ℕ → FinMap nat_cmp ℕ → ℕ
 blocks_with n blocks = sum_over (λ m. if m == n then 1 else 0) blocks
 
--- how many clauses need so many units
+-- how many clauses need so many cells
 abbrev pub clauses_with : ℕ → FinMap nat_cmp Clause → ℕ
-clauses_with n clauses = sum_over (λ c. if units_for (length c) == n then 1 else 0) clauses
+clauses_with n clauses = sum_over (λ c. if cells_for (length c) == n then 1 else 0) clauses
 
--- A clause that needs `added` units was to come to the live ones. Of each number of units there are
+-- A clause that needs `added` cells was to come to the live ones. Of each number of cells there are
 -- no more blocks than before, or no more than clauses with it. So over all calls there are never
 -- more than clauses were alive at once, and one more where one was refused.
 abbrev pub AddsFewBlocks : FinMap nat_cmp ℕ → FinMap nat_cmp ℕ → FinMap nat_cmp Clause → ℕ → Type 0

@@ -6,7 +6,7 @@ ghost use Rattle.std.specs.FinMap as maps;
 ghost use Rattle.std.specs.List.{swap};
 ghost use Rattle.cnf_base.specs.Literals.{Clause};
 ghost use Rattle.clause_memory.specs.Blocks.{AddsFewBlocks, CanRewatch, IsRewatched};
-ghost use Rattle.clause_memory.specs.Blocks.{memory_of, units_for, units_in};
+ghost use Rattle.clause_memory.specs.Blocks.{memory_of, cells_for, cells_in};
 ghost use Rattle.clause_memory.specs.Memory.{literals_in};
 
 use crate::Memory;
@@ -26,16 +26,16 @@ use tables::Table;
 /// Contracts see it as finite maps from slots to clauses and to the sizes of blocks, and how many
 /// words hold a literal.
 ///
-/// - A block has as many units of four words as its clause needs. The slot is the number of the
+/// - A block has as many cells of four words as its clause needs. The slot is the number of the
 ///   first one, so slots are as dense as short clauses.
 /// - The block of a clause that was removed is overwritten and waits, in a list for its number of
-///   units, for the next clause that needs as many. A further block is made only where none waits.
+///   cells, for the next clause that needs as many. A further block is made only where none waits.
 #[derive(Drop)]
 pub struct Blocks {
-    /// What each unit is, for look-ups of slots that may have no clause.
+    /// What each cell is, for look-ups of slots that may have no clause.
     kinds: Vec<Kind>,
     words: Vec<Lit>,
-    /// By number of units the link to the first free block.
+    /// By number of cells the link to the first free block.
     heads: Table<u32>,
 }
 
@@ -49,7 +49,7 @@ impl Model for Blocks {
     ghost coded = { blocks_code };
 
     // Each field has to be named here. Of them the words alone hold literals: the others say what
-    // the units are, and where free blocks begin.
+    // the cells are, and where free blocks begin.
     ghost view = { λ record { kinds = kinds; words = words; heads = _ }.
         seen_as kinds.items words.items };
 
@@ -57,9 +57,9 @@ impl Model for Blocks {
 }
 
 impl Blocks {
-    /// How many words the array has: four for each unit of a block.
+    /// How many words the array has: four for each cell of a block.
     pub fn words(&self) -> usize
-        ensures { result ≡ 4 * units_in self.now.blocks }
+        ensures { result ≡ 4 * cells_in self.now.blocks }
     {
         self.words.len()
     }
@@ -107,7 +107,7 @@ impl Memory for Blocks {
     }
 
     /// Puts a clause into a slot that is free. No other clause is moved. A further block is made
-    /// only where each that has as many units has a clause.
+    /// only where each that has as many cells has a clause.
     ///
     /// # Errors
     ///
@@ -121,14 +121,14 @@ impl Memory for Blocks {
         ensures live_alone { self.new.stored ≡ literals_in self.new.live }
         ensures err { OnErr result (self.new ≡ self.old) }
         ensures block { IfOk result (λ slot.
-            maps.get self.new.blocks slot ≡ Some (units_for (length lits.now))) }
+            maps.get self.new.blocks slot ≡ Some (cells_for (length lits.now))) }
         ensures other_blocks { IfOk result (λ slot. (s : ℕ) → s ≢ slot →
             maps.get self.new.blocks s ≡ maps.get self.old.blocks s) }
         ensures none_was_free { IfOk result (λ slot. maps.get self.old.blocks slot ≡ None →
-            (s : ℕ) → maps.get self.old.blocks s ≡ Some (units_for (length lits.now)) →
+            (s : ℕ) → maps.get self.old.blocks s ≡ Some (cells_for (length lits.now)) →
             IsSome (maps.get self.old.live s)) }
         ensures few_blocks { AddsFewBlocks self.old.blocks self.new.blocks self.old.live
-            (units_for (length lits.now)) }
+            (cells_for (length lits.now)) }
     {
         place(&mut self.kinds, &mut self.words, &mut self.heads, lits)
     }

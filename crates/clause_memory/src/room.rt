@@ -4,20 +4,20 @@ ghost use Rattle.std.specs.Prelude.{◌≡◌, ◌≢◌, ℕ, ◌+◌, ◌*◌,
 ghost use Rattle.std.specs.Prelude.{IsSome, IfOk, OnErr, replicate, vec_len, vec_capacity};
 ghost use Rattle.std.specs.FinMap as maps;
 ghost use Rattle.tables.specs.Table.{at};
-ghost use Rattle.clause_memory.specs.Blocks.{AddsFewBlocks, units_for};
+ghost use Rattle.clause_memory.specs.Blocks.{AddsFewBlocks, cells_for};
 ghost use Rattle.clause_memory.specs.Code.Fields.{IsMemory};
 ghost use Rattle.clause_memory.specs.Code.Free.{link_of};
-ghost use Rattle.clause_memory.specs.Code.Units.{blocks_in, clauses_in};
+ghost use Rattle.clause_memory.specs.Code.Cells.{blocks_in, clauses_in};
 ghost use Rattle.clause_memory.specs.declared.kind.Kind.TheVariants.{Live, Rest};
 
 use crate::kind::Kind;
 use crate::reuse::put_in;
-use crate::words::{MOST, UNIT, append_clause, grow, units};
+use crate::words::{CELL, MOST, append_clause, cells, grow};
 use cnf_base::{Lit, OutOfMemory};
 use tables::Table;
 
-/// A link, which is a unit's number and 1, has four bytes.
-const MOST_UNITS: usize = 4294967295;
+/// A link, which is a cell's number and 1, has four bytes.
+const MOST_CELLS: usize = 4294967295;
 
 /// Puts the kinds of a clause's block at the end.
 fn append_kinds(kinds: &mut Vec<Kind>, count: usize)
@@ -41,36 +41,36 @@ fn append(
 ) -> Result<usize, OutOfMemory>
     requires memory { IsMemory kinds.old.items words.old.items (at heads.old) }
     requires short { length lits.now ≤ 536870909 }
-    requires none { link_of (at heads.old (units_for (length lits.now))) ≡ 0 }
+    requires none { link_of (at heads.old (cells_for (length lits.now))) ≡ 0 }
     ensures memory { IsMemory kinds.new.items words.new.items (at heads.new) }
     ensures free { IfOk result (λ slot.
         maps.get (clauses_in kinds.old.items words.old.items) slot ≡ None) }
     ensures clauses { IfOk result (λ slot. clauses_in kinds.new.items words.new.items ≡
         maps.insert (clauses_in kinds.old.items words.old.items) slot lits.now) }
     ensures block { IfOk result (λ slot.
-        maps.get (blocks_in kinds.new.items) slot ≡ Some (units_for (length lits.now))) }
+        maps.get (blocks_in kinds.new.items) slot ≡ Some (cells_for (length lits.now))) }
     ensures other_blocks { IfOk result (λ slot. (s : ℕ) → s ≢ slot →
         maps.get (blocks_in kinds.new.items) s ≡ maps.get (blocks_in kinds.old.items) s) }
     ensures few_blocks { AddsFewBlocks (blocks_in kinds.old.items) (blocks_in kinds.new.items)
-        (clauses_in kinds.old.items words.old.items) (units_for (length lits.now)) }
+        (clauses_in kinds.old.items words.old.items) (cells_for (length lits.now)) }
     ensures low { IfOk result (λ slot. slot < 4294967295) }
     ensures same_kinds { OnErr result (kinds.new.items ≡ kinds.old.items) }
     ensures same_words { OnErr result (words.new.items ≡ words.old.items) }
 {
     let slot = kinds.len();
-    let count = units(lits.len());
-    if count > MOST_UNITS - slot {
+    let count = cells(lits.len());
+    if count > MOST_CELLS - slot {
         return Err(OutOfMemory);
     }
     heads.reserve(count as u32, 0)?;
-    grow(words, count * UNIT)?;
+    grow(words, count * CELL)?;
     kinds.reserve(count)?;
     append_kinds(kinds, count);
-    append_clause(words, lits, count * UNIT);
+    append_clause(words, lits, count * CELL);
     Ok(slot)
 }
 
-/// Puts a clause into the first of the free blocks that have as many units as it needs, or else
+/// Puts a clause into the first of the free blocks that have as many cells as it needs, or else
 /// behind all others.
 pub(crate) fn place(
     kinds: &mut Vec<Kind>,
@@ -85,15 +85,15 @@ pub(crate) fn place(
     ensures clauses { IfOk result (λ slot. clauses_in kinds.new.items words.new.items ≡
         maps.insert (clauses_in kinds.old.items words.old.items) slot lits.now) }
     ensures block { IfOk result (λ slot.
-        maps.get (blocks_in kinds.new.items) slot ≡ Some (units_for (length lits.now))) }
+        maps.get (blocks_in kinds.new.items) slot ≡ Some (cells_for (length lits.now))) }
     ensures other_blocks { IfOk result (λ slot. (s : ℕ) → s ≢ slot →
         maps.get (blocks_in kinds.new.items) s ≡ maps.get (blocks_in kinds.old.items) s) }
     ensures none_was_free { IfOk result (λ slot.
         maps.get (blocks_in kinds.old.items) slot ≡ None → (s : ℕ) →
-        maps.get (blocks_in kinds.old.items) s ≡ Some (units_for (length lits.now)) →
+        maps.get (blocks_in kinds.old.items) s ≡ Some (cells_for (length lits.now)) →
         IsSome (maps.get (clauses_in kinds.old.items words.old.items) s)) }
     ensures few_blocks { AddsFewBlocks (blocks_in kinds.old.items) (blocks_in kinds.new.items)
-        (clauses_in kinds.old.items words.old.items) (units_for (length lits.now)) }
+        (clauses_in kinds.old.items words.old.items) (cells_for (length lits.now)) }
     ensures low { IfOk result (λ slot. slot < 4294967295) }
     ensures same_kinds { OnErr result (kinds.new.items ≡ kinds.old.items) }
     ensures same_words { OnErr result (words.new.items ≡ words.old.items) }
@@ -101,7 +101,7 @@ pub(crate) fn place(
     if lits.len() > MOST {
         return Err(OutOfMemory);
     }
-    match heads.get(units(lits.len()) as u32) {
+    match heads.get(cells(lits.len()) as u32) {
         Some(link) if link > 0 => {
             let slot = link as usize - 1;
             put_in(kinds, words, heads, slot, lits);

@@ -6,14 +6,14 @@
 ghost use Rattle.std.specs.Prelude.{◌≡◌, ℕ, ◌+◌, ◌-◌, ◌*◌, ◌<◌, ◌≤◌, ◌++◌, ◌∷◌, length, take, drop};
 ghost use Rattle.std.specs.Prelude.{vec_len, vec_capacity, OnOk, slice_index, slice_set};
 ghost use Rattle.std.specs.List.{swap};
-ghost use Rattle.clause_memory.specs.Blocks.{units_for};
+ghost use Rattle.clause_memory.specs.Blocks.{cells_for};
 ghost use Rattle.clause_memory.specs.Code.Free.{link_at};
-ghost use Rattle.clause_memory.specs.Code.Units.{blanks, clause_at, size_at};
+ghost use Rattle.clause_memory.specs.Code.Cells.{blanks, clause_at, size_at};
 
 use cnf_base::{Lit, OutOfMemory};
 
-/// How many words a unit has.
-pub(crate) const UNIT: usize = 4;
+/// How many words a cell has.
+pub(crate) const CELL: usize = 4;
 
 /// The greatest number that a word can be.
 pub(crate) const MOST: usize = 536870909;
@@ -47,11 +47,11 @@ fn number(word: Lit) -> usize
     word.index() - 2
 }
 
-/// How many units a block for so many literals has.
-pub(crate) fn units(literals: usize) -> usize
-    ensures { result ≡ units_for literals }
+/// How many cells a block for so many literals has.
+pub(crate) fn cells(literals: usize) -> usize
+    ensures { result ≡ cells_for literals }
 {
-    literals / UNIT + 1
+    literals / CELL + 1
 }
 
 /// How many literals follow the header of a block.
@@ -61,7 +61,7 @@ pub(crate) fn size(words: &[Lit], slot: usize) -> usize
     ensures value { result ≡ size_at words.now slot }
     ensures range { result ≤ 536870909 }
 {
-    number(words[slot * UNIT])
+    number(words[slot * CELL])
 }
 
 /// The literals of a block.
@@ -71,7 +71,7 @@ pub(crate) fn literals(words: &[Lit], slot: usize) -> &[Lit]
     ensures { result.now ≡ clause_at words.now slot }
 {
     let len = size(words, slot);
-    let from = slot * UNIT + 1;
+    let from = slot * CELL + 1;
     &words[from..from + len]
 }
 
@@ -80,7 +80,7 @@ pub(crate) fn link(words: &[Lit], slot: usize) -> usize
     requires { 4 * slot + 1 < length words.now }
     ensures { result ≡ link_at words.now slot }
 {
-    number(words[slot * UNIT]) + LOW * number(words[slot * UNIT + 1])
+    number(words[slot * CELL]) + LOW * number(words[slot * CELL + 1])
 }
 
 /// Makes room for more words. A full array grows by half and not to twice its length, since it is
@@ -154,8 +154,8 @@ pub(crate) fn write_clause(words: &mut Vec<Lit>, slot: usize, lits: &[Lit])
         slice_index words.new.items i ≡ slice_index words.old.items i }
 {
     let words = words.as_mut_slice();
-    words[slot * UNIT] = word(lits.len());
-    write(words, slot * UNIT + 1, lits);
+    words[slot * CELL] = word(lits.len());
+    write(words, slot * CELL + 1, lits);
 }
 
 /// Writes a link into a block.
@@ -170,8 +170,8 @@ pub(crate) fn write_link(words: &mut Vec<Lit>, slot: usize, link: usize)
         slice_index words.new.items i ≡ slice_index words.old.items i }
 {
     let words = words.as_mut_slice();
-    words[slot * UNIT] = word(link % LOW);
-    words[slot * UNIT + 1] = word(link / LOW);
+    words[slot * CELL] = word(link % LOW);
+    words[slot * CELL + 1] = word(link / LOW);
 }
 
 /// Puts two words in each other's place.
@@ -205,7 +205,7 @@ pub(crate) fn exchange(words: &mut Vec<Lit>, slot: usize, a: usize, b: usize)
     requires second { 4 * slot + 1 + b < length words.old.items }
     ensures { words.new.items ≡ swap words.old.items (4 * slot + 1 + a) (4 * slot + 1 + b) }
 {
-    exchange_behind(words, slot * UNIT + 1, a, b);
+    exchange_behind(words, slot * CELL + 1, a, b);
 }
 
 /// Writes the first two literals of a slice, and its last one.
@@ -240,5 +240,5 @@ pub(crate) fn rewrite(words: &mut Vec<Lit>, slot: usize, first: Lit, second: Lit
     ensures { words.new.items ≡ slice_set (slice_set (slice_set words.old.items
         (4 * slot + 1) first) (4 * slot + 2) second) (4 * slot + 1 + to) l }
 {
-    write_behind(words, slot * UNIT + 1, first, second, to, l);
+    write_behind(words, slot * CELL + 1, first, second, to, l);
 }

@@ -19,8 +19,8 @@ is_one_at_most left [] = false
 is_one_at_most left (l ∷ c) = true
 
 -- the place is this one or after it, and its literal is not false
-abbrev pub IsOpenAt : List Literal → Clause → ℕ → ℕ → Type 0
-IsOpenAt ls c from place =
+abbrev pub IsNonFalseAt : List Literal → Clause → ℕ → ℕ → Type 0
+IsNonFalseAt ls c from place =
     (from ≤ place) × (place < length c) × IsFalse (has ls (complement (slice_index c place)))
 
 -- the literals from this place on are false

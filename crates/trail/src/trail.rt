@@ -14,7 +14,7 @@ ghost use Rattle.std.specs.Prelude.{IsFalse, ◌↔◌, IfSome, IfNone, IfOk, On
 ghost use Rattle.std.specs.List.{remove};
 ghost use Rattle.cnf_base.specs.Literals.{complement, has, variable};
 ghost use Rattle.theory.specs.Propagation.{open_literals};
-ghost use Rattle.trail.specs.Left.{AreFalseFrom, IsOpenAt, how_many};
+ghost use Rattle.trail.specs.Left.{AreFalseFrom, IsNonFalseAt, how_many};
 ghost use Rattle.trail.specs.Code.Left.{IsCount};
 ghost use Rattle.trail.specs.Trail.{value_under, is_variable, HasNoVariableTwice, HasRoom};
 ghost use Rattle.trail.specs.Trail.{AreNear, MakesFalse};
@@ -372,11 +372,11 @@ impl Trail {
         Some((count, last))
     }
 
-    /// The same as `first_open`, wherever the values lie.
+    /// The same as `first_non_false`, wherever the values lie.
     #[cold]
     #[inline(never)]
-    fn first_open_far(&self, clause: &[Lit], from: usize) -> Option<usize>
-        ensures found { IfSome result (IsOpenAt self.now.lits clause.now from) }
+    fn first_non_false_far(&self, clause: &[Lit], from: usize) -> Option<usize>
+        ensures found { IfSome result (IsNonFalseAt self.now.lits clause.now from) }
         ensures none { IfNone result (AreFalseFrom self.now.lits clause.now from) }
     {
         for place in from..clause.len() {
@@ -389,21 +389,21 @@ impl Trail {
 
     /// The first place of a clause from this one on whose literal is not false. It takes no memory.
     #[inline(always)]
-    pub fn first_open(&self, clause: &[Lit], from: usize) -> Option<usize>
-        ensures found { IfSome result (IsOpenAt self.now.lits clause.now from) }
+    pub fn first_non_false(&self, clause: &[Lit], from: usize) -> Option<usize>
+        ensures found { IfSome result (IsNonFalseAt self.now.lits clause.now from) }
         ensures none { IfNone result (AreFalseFrom self.now.lits clause.now from) }
     {
-        self.first_open_in(self.near(), clause, from)
+        self.first_non_false_in(self.near(), clause, from)
     }
 
-    /// The same as [`Trail::first_open`], where these near values may say which literals are false.
+    /// The same as [`Trail::first_non_false`], where these near values may say which literals are false.
     ///
     /// It counts the places beside the slice, which takes fewer instructions than a look by each
     /// place.
     #[inline(always)]
-    pub fn first_open_in(&self, near: &[Value], clause: &[Lit], from: usize) -> Option<usize>
+    pub fn first_non_false_in(&self, near: &[Value], clause: &[Lit], from: usize) -> Option<usize>
         requires { AreNear self.now.lits near.now }
-        ensures found { IfSome result (IsOpenAt self.now.lits clause.now from) }
+        ensures found { IfSome result (IsNonFalseAt self.now.lits clause.now from) }
         ensures none { IfNone result (AreFalseFrom self.now.lits clause.now from) }
     {
         if from >= clause.len() {
@@ -414,7 +414,7 @@ impl Trail {
             match self.is_false_near(near, *l) {
                 Some(true) => place += 1,
                 Some(false) => return Some(place),
-                None => return self.first_open_far(clause, place),
+                None => return self.first_non_false_far(clause, place),
             }
         }
         None

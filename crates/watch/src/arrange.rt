@@ -18,7 +18,7 @@ fn bring(store: &mut Store, trail: &Trail, slot: Slot, place: usize) -> bool
     ensures brought { (c : Clause) → maps.get store.old.live slot ≡ Some c → (d : Clause) ×
         (maps.get store.new.live slot ≡ Some d) × IsBrought trail.now.lits c d place result }
 {
-    match trail.first_open(store.clause(slot), place) {
+    match trail.first_non_false(store.clause(slot), place) {
         Some(found) => {
             store.swap(slot, place, found);
             true

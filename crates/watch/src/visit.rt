@@ -63,7 +63,7 @@ fn look(trail: &Trail, near: &[Value], clause: &[Lit], l: Lit) -> Visit
     if matches!(trail.value_near(near, other), Value::True) {
         return Visit::Stays(other);
     }
-    match trail.first_open_in(near, clause, 2) {
+    match trail.first_non_false_in(near, clause, 2) {
         Some(to) => Visit::Moves(Exchange {
             to,
             next: clause[to],

@@ -5,10 +5,10 @@ use Rattle.std.specs.FinMap.{FinMap}
 use Rattle.std.specs.Ordering.{nat_cmp}
 use Rattle.std.specs.Prelude.{◌≡◌, ◌≢◌, ℕ, ◌*◌, ◌<◌, ◌≤◌, List, Option, IsSome, length, refl}
 use Rattle.cnf_base.specs.Literals.{Clause}
-use Rattle.clause_memory.specs.Blocks.{BlocksState, units_for}
+use Rattle.clause_memory.specs.Blocks.{BlocksState, cells_for}
 use Rattle.clause_memory.specs.Code.Free.{AreListed}
-use Rattle.clause_memory.specs.Code.Units.{IsBlock, blocks_in, clauses_in, kept_in, kind_at}
-use Rattle.clause_memory.specs.Code.Units.{literal_words, rests, size_at}
+use Rattle.clause_memory.specs.Code.Cells.{IsBlock, blocks_in, clauses_in, kept_in, kind_at}
+use Rattle.clause_memory.specs.Code.Cells.{literal_words, rests, size_at}
 use Rattle.clause_memory.specs.declared.kind.Kind.{Kind}
 use Rattle.clause_memory.specs.declared.kind.Kind.TheVariants.{Live}
 
@@ -35,7 +35,7 @@ pub record IsMemory (kinds : List Kind) (words : List ℕ) (heads : ℕ → Opti
   pub whole : length words ≡ 4 * length kinds
   pub few : length kinds ≤ 4294967295
   pub front : rests kinds ≡ 0
-  pub block : (s : ℕ) → kind_at kinds s ≡ Live → IsBlock kinds s (units_for (size_at words s))
-  pub known : (s : ℕ) → kind_at kinds s ≡ Live → IsSome (heads (units_for (size_at words s)))
+  pub block : (s : ℕ) → kind_at kinds s ≡ Live → IsBlock kinds s (cells_for (size_at words s))
+  pub known : (s : ℕ) → kind_at kinds s ≡ Live → IsSome (heads (cells_for (size_at words s)))
   pub free : AreListed kinds words heads
   pub clean : (u : ℕ) → u < length kinds → kind_at kinds u ≢ Live → kept_in kinds words u ≡ 0

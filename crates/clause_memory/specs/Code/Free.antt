@@ -1,12 +1,12 @@
--- The blocks that are free, in a list for each number of units.
+-- The blocks that are free, in a list for each number of cells.
 use Rattle.std.specs.Prelude.{◌≡◌, ℕ, ◌+◌, ◌-◌, ◌*◌, true, false, Option, Some, None, List, [], ◌∷◌}
 use Rattle.std.specs.Prelude.{slice_index, ⊤}
 use Rattle.cnf_base.specs.Literals.{has}
-use Rattle.clause_memory.specs.Code.Units.{IsBlock, kind_at}
+use Rattle.clause_memory.specs.Code.Cells.{IsBlock, kind_at}
 use Rattle.clause_memory.specs.declared.kind.Kind.{Kind}
 use Rattle.clause_memory.specs.declared.kind.Kind.TheVariants.{Free}
 
--- A link is 0, or the number of the unit at which the next block begins and 1. It stands in the
+-- A link is 0, or the number of the cell at which the next block begins and 1. It stands in the
 -- first two words of a block, its last 28 bits first.
 abbrev pub link_at : List ℕ → ℕ → ℕ
 link_at words s =
@@ -27,7 +27,7 @@ abbrev pub IsOnce : List ℕ → Type 0
 IsOnce [] = ⊤
 IsOnce (s ∷ rest) = (has rest s ≡ false) × IsOnce rest
 
--- each free block stands once in the list for its number of units, and nothing else does
+-- each free block stands once in the list for its number of cells, and nothing else does
 pub record AreListed (kinds : List Kind) (words : List ℕ) (heads : ℕ → Option ℕ) : Type 0 where
   pub list : ℕ → List ℕ
   pub leads : (n : ℕ) → LeadsTo words (link_of (heads n)) (list n)

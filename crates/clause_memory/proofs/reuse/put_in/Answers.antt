@@ -1,11 +1,11 @@
 use Rattle.std.proofs.Common.{Some, cond, eqb, length, arith, ap, ◌∙◌}
 use Rattle.tables.specs.Table.{at}
-use Rattle.clause_memory.specs.Blocks.{units_for}
+use Rattle.clause_memory.specs.Blocks.{cells_for}
 use Rattle.clause_memory.specs.Code.Free.{link_at}
 use Rattle.clause_memory.proofs.BlockLemmas.{block_is}
 use Rattle.clause_memory.proofs.MemoryLemmas.{IsPutIn, first_block, first_low, link_fits, put_in_blocks, put_in_clauses}
 use Rattle.clause_memory.proofs.MemoryLemmas.{put_in_memory, was_none}
-use Rattle.clause_memory.proofs.UnitLemmas.{block_inside, units_hold}
+use Rattle.clause_memory.proofs.CellLemmas.{block_inside, cells_hold}
 use Rattle.clause_memory.proofs.reuse.put_in.Goals as goal
 use Rattle.clause_memory.proofs.reuse.put_in.Goals.{After-write_clause}
 
@@ -21,33 +21,33 @@ put c =
       behind = c.write_clause.ensures.behind;
       head = record {
         each = λ k.
-            c.set.ensures k ∙ ap (λ n. cond (eqb k n) (Some c.link.result) (at c.args.heads.now k)) c.units.ensures
-            ∙ ap (λ x. cond (eqb k (units_for (length c.args.lits.now))) (Some x) (at c.args.heads.now k)) link_is;
+            c.set.ensures k ∙ ap (λ n. cond (eqb k n) (Some c.link.result) (at c.args.heads.now k)) c.cells.ensures
+            ∙ ap (λ x. cond (eqb k (cells_for (length c.args.lits.now))) (Some x) (at c.args.heads.now k)) link_is;
       };
     }
 
 pub link-requires : goal.link-requires
 link-requires c =
-    let low = (first_low c.requires.memory (units_for (length c.args.lits.now)) c.args.slot c.requires.first).1 in
+    let low = (first_low c.requires.memory (cells_for (length c.args.lits.now)) c.args.slot c.requires.first).1 in
     let long = ap length c.deref.ensures.value in
-    let hold = units_hold (length c.args.lits.now) in
+    let hold = cells_hold (length c.args.lits.now) in
     omega arith
 
 pub overflow_cast-link : goal.overflow_cast-link
 overflow_cast-link c =
-    let low = link_fits c.requires.memory (units_for (length c.args.lits.now)) c.args.slot c.requires.first in
+    let low = link_fits c.requires.memory (cells_for (length c.args.lits.now)) c.args.slot c.requires.first in
     let is = c.link.ensures ∙ ap (λ ws. link_at ws c.args.slot) c.deref.ensures.value in
     omega arith
 
 pub index_mut-requires : goal.index_mut-requires
 index_mut-requires c =
-    let inside = block_inside (first_block c.requires.memory (units_for (length c.args.lits.now)) c.args.slot c.requires.first) in
+    let inside = block_inside (first_block c.requires.memory (cells_for (length c.args.lits.now)) c.args.slot c.requires.first) in
     omega (arith, inside, c.args.kinds.now.ok)
 
 pub write_clause-requires-clause-inside : goal.write_clause-requires-clause-inside
 write_clause-requires-clause-inside c =
-    let low = (first_low c.requires.memory (units_for (length c.args.lits.now)) c.args.slot c.requires.first).1 in
-    let hold = units_hold (length c.args.lits.now) in
+    let low = (first_low c.requires.memory (cells_for (length c.args.lits.now)) c.args.slot c.requires.first).1 in
+    let hold = cells_hold (length c.args.lits.now) in
     omega arith
 
 pub returns-clause-memory : goal.returns-clause-memory
@@ -63,4 +63,4 @@ pub returns-clause-blocks : goal.returns-clause-blocks
 returns-clause-blocks c = put_in_blocks (put (goal.at.returns-clause-blocks c).After-write_clause)
 
 pub returns-clause-block : goal.returns-clause-block
-returns-clause-block c = block_is (first_block c.requires.memory (units_for (length c.args.lits.now)) c.args.slot c.requires.first)
+returns-clause-block c = block_is (first_block c.requires.memory (cells_for (length c.args.lits.now)) c.args.slot c.requires.first)

@@ -1,10 +1,10 @@
 use Rattle.std.proofs.Common.{◌≡◌, ◌+◌, ◌-◌, ◌*◌, ◌++◌, ◌∷◌, length, arith, sym, ap, ◌∙◌, subst, replicate}
 use Rattle.std.specs.FinMap as maps
 use Rattle.tables.specs.Table.{at}
-use Rattle.clause_memory.specs.Blocks.{AddsFewBlocks, units_for}
+use Rattle.clause_memory.specs.Blocks.{AddsFewBlocks, cells_for}
 use Rattle.clause_memory.specs.Code.Fields.{IsMemory}
 use Rattle.clause_memory.specs.Code.Free.{link_of}
-use Rattle.clause_memory.specs.Code.Units.{blanks, blocks_in, clauses_in}
+use Rattle.clause_memory.specs.Code.Cells.{blanks, blocks_in, clauses_in}
 use Rattle.clause_memory.specs.declared.kind.Kind.TheVariants.{Live, Rest}
 use Rattle.clause_memory.proofs.BlockLemmas.{block_past}
 use Rattle.clause_memory.proofs.CountLemmas.{none_left, one_more_block}
@@ -16,33 +16,33 @@ use Rattle.clause_memory.proofs.room.append.Goals.{After-append_clause}
 slot_is : (c : After-append_clause) → c.len-slot.result ≡ length c.args.kinds.now.items
 slot_is c = omega (arith, c.len-slot.ensures, c.args.kinds.now.ok)
 
-appended : (c : After-append_clause) → IsAppended c.args.kinds.now.items c.args.words.now.items (at c.reserve.new.self) c.args.lits.now (units_for (length c.args.lits.now) - 1)
+appended : (c : After-append_clause) → IsAppended c.args.kinds.now.items c.args.words.now.items (at c.reserve.new.self) c.args.lits.now (cells_for (length c.args.lits.now) - 1)
 appended c =
-    let count = c.units-count.ensures in
+    let count = c.cells-count.ensures in
     let slot = slot_is c in
     let most = c.if-count-slot.false in
     let few = c.requires.memory.few in record {
-      memory = memory_reserved (at c.reserve.new.self) c.units-count.result c.requires.memory c.in_ok-reserve.ensures.ok;
+      memory = memory_reserved (at c.reserve.new.self) c.cells-count.result c.requires.memory c.in_ok-reserve.ensures.ok;
       more_is = omega arith;
       none =
           ap (at c.reserve.new.self) (sym count)
-          ∙ none_reserved (at c.args.heads.now) (at c.reserve.new.self) c.units-count.result (ap (λ n. link_of (at c.args.heads.now n)) count ∙ c.requires.none) c.in_ok-reserve.ensures.ok;
+          ∙ none_reserved (at c.args.heads.now) (at c.reserve.new.self) c.cells-count.result (ap (λ n. link_of (at c.args.heads.now n)) count ∙ c.requires.none) c.in_ok-reserve.ensures.ok;
       few = omega arith;
     }
 
 kinds_are : (c : After-append_clause) → c.append_kinds.new.kinds.items ≡ now_kinds (appended c)
 kinds_are c =
-    let count = c.units-count.ensures in
-    c.append_kinds.ensures (units_for (length c.args.lits.now) - 1) (omega arith)
-    ∙ ap (λ ks. ks ++ Live ∷ replicate (units_for (length c.args.lits.now) - 1) Rest) c.in_ok-reserve-2.ensures.items
+    let count = c.cells-count.ensures in
+    c.append_kinds.ensures (cells_for (length c.args.lits.now) - 1) (omega arith)
+    ∙ ap (λ ks. ks ++ Live ∷ replicate (cells_for (length c.args.lits.now) - 1) Rest) c.in_ok-reserve-2.ensures.items
 
 words_are : (c : After-append_clause) → c.append_clause.new.words.items ≡ now_words (appended c)
 words_are c =
     let n = length c.args.lits.now in
-    let count = c.units-count.ensures in
-    let turned : c.units-count.result * 4 ≡ 4 * units_for n = omega arith in
+    let count = c.cells-count.ensures in
+    let turned : c.cells-count.result * 4 ≡ 4 * cells_for n = omega arith in
     c.append_clause.ensures
-    ∙ ap (λ ws. ws ++ (n + 2) ∷ (c.args.lits.now ++ blanks (c.units-count.result * 4 - 1 - n))) c.in_ok-grow.ensures.same
+    ∙ ap (λ ws. ws ++ (n + 2) ∷ (c.args.lits.now ++ blanks (c.cells-count.result * 4 - 1 - n))) c.in_ok-grow.ensures.same
     ∙ ap (λ k. c.args.words.now.items ++ (n + 2) ∷ (c.args.lits.now ++ blanks (k - 1 - n))) turned
 
 pub returns-clause-memory : goal.returns-clause-memory
@@ -74,7 +74,7 @@ returns-clause-other_blocks c s ne =
 pub returns-clause-few_blocks : goal.returns-clause-few_blocks
 returns-clause-few_blocks c =
     let a = (goal.at.returns-clause-few_blocks c).After-append_clause in
-    let n = units_for (length c.args.lits.now) in
+    let n = cells_for (length c.args.lits.now) in
     let ks = c.args.kinds.now.items in
     subst (λ ls. AddsFewBlocks (blocks_in ks) (blocks_in ls) (clauses_in ks c.args.words.now.items) n) (sym (kinds_are a))
     (one_more_block (blocks_in ks) (blocks_in (now_kinds (appended a))) (clauses_in ks c.args.words.now.items) (length ks) n

@@ -1,6 +1,6 @@
 use Rattle.std.proofs.Common.{◌≡◌, ℕ, Option, Some, None, Result, Ok, Err, IfOk, arith, length, refl, sym, ap, ◌∙◌}
 use Rattle.tables.specs.Table.{at}
-use Rattle.clause_memory.specs.Blocks.{units_for}
+use Rattle.clause_memory.specs.Blocks.{cells_for}
 use Rattle.clause_memory.specs.Code.Free.{link_of}
 use Rattle.clause_memory.proofs.RoomLemmas.{none_free}
 use Rattle.clause_memory.proofs.room.place.Goals as goal
@@ -12,9 +12,9 @@ if_ok_from (Err e) P each = tt
 
 pub returns-in_default-clause-none_was_free : goal.returns-in_default-clause-none_was_free
 returns-in_default-clause-none_was_free c =
-    let n = units_for (length c.args.lits.now) in
+    let n = cells_for (length c.args.lits.now) in
     let heads = at c.args.heads.now in
-    let link : link_of (heads n) ≡ 0 = ap (λ k. link_of (heads k)) (sym c.units.ensures) ∙ ap link_of (sym c.get.ensures) ∙ elim c.in_default.branch [
+    let link : link_of (heads n) ≡ 0 = ap (λ k. link_of (heads k)) (sym c.cells.ensures) ∙ ap link_of (sym c.get.ensures) ∙ elim c.in_default.branch [
       | in_default-via-in-Some+else-link-gt0 w ↦ ap link_of w.in-Some.is ∙ (let low = w.if-link-gt0.false in omega arith)
       | in_default-via-in_default w ↦ by_option c.get.result w.in_default.not-Some
     ] in

@@ -1,5 +1,5 @@
 use Rattle.std.proofs.Common.{◌≡◌, ◌+◌, ◌-◌, ◌≤◌, ◌++◌, vec_len, vec_capacity}
-use Rattle.clause_memory.specs.Code.Units.{blanks}
+use Rattle.clause_memory.specs.Code.Cells.{blanks}
 use Rattle.clause_memory.proofs.words.append_blanks.Given as goal
 
 abbrev pub invariant-loop-added : goal.invariant-loop-added

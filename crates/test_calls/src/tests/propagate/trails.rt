@@ -118,15 +118,19 @@ fn finds_what_is_open(rt: HostRuntime) -> Result<(), Fail> {
     let [one, two, far] = [literal(1)?, literal(2)?, literal(268435455)?];
     let mut trail = Trail::new(rt.alloc())?;
     let clause = [one, two, far, one];
-    expect_equal(&rt, trail.first_open(&clause, 0), Some(0));
+    expect_equal(&rt, trail.first_non_false(&clause, 0), Some(0));
     expect_true(&rt, !make_false(&mut trail, &[one, two.neg()], &Whole)?);
-    expect_equal(&rt, trail.first_open(&clause, 0), Some(1));
-    expect_equal(&rt, trail.first_open(&clause, 2), Some(2));
-    expect_equal(&rt, trail.first_open(&clause, 3), None);
-    expect_equal(&rt, trail.first_open(&clause, 4), None);
-    expect_equal(&rt, trail.first_open_in(trail.near(), &clause, 2), Some(2));
+    expect_equal(&rt, trail.first_non_false(&clause, 0), Some(1));
+    expect_equal(&rt, trail.first_non_false(&clause, 2), Some(2));
+    expect_equal(&rt, trail.first_non_false(&clause, 3), None);
+    expect_equal(&rt, trail.first_non_false(&clause, 4), None);
+    expect_equal(
+        &rt,
+        trail.first_non_false_in(trail.near(), &clause, 2),
+        Some(2),
+    );
     expect_true(&rt, !make_false(&mut trail, &[far], &Whole)?);
-    expect_equal(&rt, trail.first_open(&clause, 2), None);
+    expect_equal(&rt, trail.first_non_false(&clause, 2), None);
     expect_equal(&rt, trail.value_near(trail.near(), two), Value::True);
     expect_equal(&rt, trail.value_near(trail.near(), far), Value::False);
     Ok(())

@@ -4,7 +4,7 @@ use Rattle.std.specs.List.{swap}
 use Rattle.tables.specs.Table.{at}
 use Rattle.clause_memory.specs.Blocks.{BlocksState}
 use Rattle.clause_memory.specs.Code.Fields.{IsMemory}
-use Rattle.clause_memory.specs.Code.Units.{clause_at, clauses_in}
+use Rattle.clause_memory.specs.Code.Cells.{clause_at, clauses_in}
 use Rattle.clause_memory.proofs.ClauseLemmas.{seen_in, stored_is}
 use Rattle.clause_memory.proofs.MemoryLemmas.{rewrite_inside, rewritten_clauses, rewritten_memory}
 use Rattle.clause_memory.proofs.blocks.Blocks.rewatch.Goals as goal

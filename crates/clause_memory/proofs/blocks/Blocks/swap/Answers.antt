@@ -4,7 +4,7 @@ use Rattle.std.specs.List.{swap}
 use Rattle.tables.specs.Table.{at}
 use Rattle.clause_memory.specs.Blocks.{BlocksState}
 use Rattle.clause_memory.specs.Code.Fields.{IsMemory}
-use Rattle.clause_memory.specs.Code.Units.{clause_at, clauses_in}
+use Rattle.clause_memory.specs.Code.Cells.{clause_at, clauses_in}
 use Rattle.clause_memory.proofs.ClauseLemmas.{seen_in, stored_is}
 use Rattle.clause_memory.proofs.MemoryLemmas.{swap_inside, swapped_clauses, swapped_memory}
 use Rattle.clause_memory.proofs.blocks.Blocks.swap.Goals as goal

@@ -1,7 +1,7 @@
 use Rattle.std.proofs.Common.{◌≡◌, ◌+◌, ◌*◌, ◌≤◌, Some, None, length, sym, ap, ◌∙◌, subst, refl}
 use Rattle.std.specs.FinMap as maps
 use Rattle.clause_memory.specs.Blocks.{BlocksState}
-use Rattle.clause_memory.specs.Code.Units.{clause_at, kind_at, size_at}
+use Rattle.clause_memory.specs.Code.Cells.{clause_at, kind_at, size_at}
 use Rattle.clause_memory.specs.declared.kind.Kind.{Kind}
 use Rattle.clause_memory.specs.declared.kind.Kind.TheVariants.{Live, Free, Rest}
 use Rattle.cnf_base.specs.Literals.{Clause}

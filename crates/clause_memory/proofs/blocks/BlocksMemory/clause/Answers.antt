@@ -1,7 +1,7 @@
 use Rattle.std.proofs.Common.{Some, sym, ap, ◌∙◌, ◌+◌, ◌*◌, ◌≤◌, length, subst}
 use Rattle.std.specs.FinMap as maps
 use Rattle.clause_memory.specs.Blocks.{BlocksState}
-use Rattle.clause_memory.specs.Code.Units.{clause_at, size_at}
+use Rattle.clause_memory.specs.Code.Cells.{clause_at, size_at}
 use Rattle.clause_memory.proofs.ClauseLemmas.{alive_in, clause_fits, get_live}
 use Rattle.clause_memory.proofs.blocks.BlocksMemory.clause.Goals as goal
 

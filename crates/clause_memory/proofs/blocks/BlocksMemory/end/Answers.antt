@@ -1,7 +1,7 @@
 use Rattle.std.proofs.Common.{arith}
 use Rattle.clause_memory.proofs.ClauseLemmas.{alive_in}
-use Rattle.clause_memory.proofs.UnitLemmas.{begins_inside, live_begins}
-use Rattle.clause_memory.specs.Code.Units.{kind_at}
+use Rattle.clause_memory.proofs.CellLemmas.{begins_inside, live_begins}
+use Rattle.clause_memory.specs.Code.Cells.{kind_at}
 use Rattle.clause_memory.proofs.blocks.BlocksMemory.end.Goals as goal
 
 pub returns : goal.returns

@@ -3,19 +3,19 @@ use Rattle.std.proofs.lemmas.Bool.{false≢true}
 use Rattle.tables.specs.Table.{at}
 use Rattle.clause_memory.specs.Code.Fields.{IsMemory}
 use Rattle.clause_memory.specs.Code.Free.{link_of}
-use Rattle.clause_memory.specs.Code.Units.{blocks_in, clauses_in, kind_at, literal_words}
+use Rattle.clause_memory.specs.Code.Cells.{blocks_in, clauses_in, kind_at, literal_words}
 use Rattle.clause_memory.specs.declared.kind.Kind.TheVariants.{Live, Free}
-use Rattle.clause_memory.proofs.UnitLemmas.{begins_inside, free_begins, live_begins}
+use Rattle.clause_memory.proofs.CellLemmas.{begins_inside, free_begins, live_begins}
 use Rattle.clause_memory.proofs.blocks.BlocksMemory.new.Goals as goal
 
-no_unit : (s : ℕ) → s < 0 → ⊥
-no_unit s low = let wrong : ⊥ = omega arith in wrong
+no_cell : (s : ℕ) → s < 0 → ⊥
+no_cell s low = let wrong : ⊥ = omega arith in wrong
 
 none_live : (s : ℕ) → kind_at [] s ≡ Live → ⊥
-none_live s live = no_unit s (begins_inside [] s (live_begins (kind_at [] s) live))
+none_live s live = no_cell s (begins_inside [] s (live_begins (kind_at [] s) live))
 
 none_free : (s : ℕ) → kind_at [] s ≡ Free → ⊥
-none_free s free = no_unit s (begins_inside [] s (free_begins (kind_at [] s) free))
+none_free s free = no_cell s (begins_inside [] s (free_begins (kind_at [] s) free))
 
 empty_memory : (heads : ℕ → Option ℕ) → ((n : ℕ) → heads n ≡ None) → IsMemory [] [] heads
 empty_memory heads none = record {
@@ -32,7 +32,7 @@ empty_memory heads none = record {
     block = λ n s h. absurd (false≢true h);
     all = λ s free. absurd (none_free s free);
   };
-  clean = λ u inside differs. absurd (no_unit u inside);
+  clean = λ u inside differs. absurd (no_cell u inside);
 }
 
 pub invariant_of-result : goal.invariant_of-result

@@ -2,9 +2,9 @@ use Rattle.std.proofs.Common.{◌≡◌, ◌≤◌, subst, arith}
 use Rattle.std.specs.FinMap as maps
 use Rattle.clause_memory.specs.Blocks.{BlocksState}
 use Rattle.clause_memory.specs.Memory.{literals_in}
-use Rattle.clause_memory.specs.Code.Units.{kind_at}
+use Rattle.clause_memory.specs.Code.Cells.{kind_at}
 use Rattle.clause_memory.proofs.ClauseLemmas.{alive_in, few_clauses, stored_is}
-use Rattle.clause_memory.proofs.UnitLemmas.{begins_inside, live_begins}
+use Rattle.clause_memory.proofs.CellLemmas.{begins_inside, live_begins}
 use Rattle.clause_memory.proofs.blocks.BlocksMemory.recall_invariant.Goals as goal
 
 pub returns-clause-live_alone : goal.returns-clause-live_alone

@@ -1,4 +1,4 @@
--- Units, blocks and words.
+-- Cells, blocks and words.
 use Rattle.std.proofs.Common.{◌≡◌, ◌≢◌, ℕ, zero, suc, ◌+◌, ◌-◌, ◌*◌, ◌<◌, ◌≤◌, Bool, true, false}
 use Rattle.std.proofs.Common.{cond, List, ◌++◌, length, take, drop, get_or, refl, sym, ap}
 use Rattle.std.proofs.Common.{◌∙◌, subst, arith, inl, inr, ◌⊎◌, min}
@@ -8,9 +8,9 @@ use Rattle.std.proofs.lemmas.List.{ext_get_or, get_or-drop, get_or-set_other, ge
 use Rattle.std.proofs.lemmas.List.{get_or-append_right, get_or-replicate, get_or-take}
 use Rattle.std.proofs.lemmas.List.{get_or_append_left, get_or_past, length-append, length-drop}
 use Rattle.std.proofs.lemmas.List.{length-replicate, length-set, length-take}
-use Rattle.clause_memory.specs.Blocks.{units_for}
-use Rattle.clause_memory.specs.Code.Units.{IsBlock, blanks, clause_at, is_rest, kept_as, kept_in}
-use Rattle.clause_memory.specs.Code.Units.{kind_at, size_at, start_of, written}
+use Rattle.clause_memory.specs.Blocks.{cells_for}
+use Rattle.clause_memory.specs.Code.Cells.{IsBlock, blanks, clause_at, is_rest, kept_as, kept_in}
+use Rattle.clause_memory.specs.Code.Cells.{kind_at, size_at, start_of, written}
 use Rattle.clause_memory.specs.declared.kind.Kind.{Kind}
 use Rattle.clause_memory.specs.declared.kind.Kind.TheVariants.{Live, Free, Rest}
 
@@ -35,7 +35,7 @@ rest_by_kind Live a b = absurd (a refl)
 rest_by_kind Free a b = absurd (b refl)
 rest_by_kind Rest a b = refl
 
--- a unit that begins a block is inside
+-- a cell that begins a block is inside
 pub begins_inside : (kinds : List Kind) (s : ℕ) → is_rest (kind_at kinds s) ≡ false → s < length kinds
 begins_inside kinds s begins = elim (cases_lt s (length kinds)) [
   | inl low ↦ low
@@ -56,14 +56,14 @@ pub start_begins : (kinds : List Kind) (u : ℕ) → is_rest (kind_at kinds u) �
 start_begins kinds zero h = refl
 start_begins kinds (suc u) h = ap (λ b. cond b (start_of kinds u) (suc u)) h
 
--- it depends on the units up to this one alone
+-- it depends on the cells up to this one alone
 pub start_alike : (ks ls : List Kind) (u : ℕ) → ((i : ℕ) → i ≤ u → is_rest (kind_at ls i) ≡ is_rest (kind_at ks i)) → start_of ls u ≡ start_of ks u
 start_alike ks ls zero alike = refl
 start_alike ks ls (suc u) alike =
     ap (λ b. cond b (start_of ls u) (suc u)) (alike (suc u) (omega arith))
     ∙ ap (λ n. cond (is_rest (kind_at ks (suc u))) n (suc u)) (start_alike ks ls u (λ i le. alike i (omega arith)))
 
--- the units that go on with a block
+-- the cells that go on with a block
 pub start_run : (kinds : List Kind) (s k : ℕ) → is_rest (kind_at kinds s) ≡ false → ((i : ℕ) → s < i → i ≤ s + k → is_rest (kind_at kinds i) ≡ true) → (u : ℕ) → u ≡ s + k → start_of kinds u ≡ s
 start_run kinds s zero begins rests u e =
     let same : u ≡ s = omega arith in
@@ -107,16 +107,16 @@ module _ {kinds : List Kind} {s n : ℕ} (is : IsBlock kinds s n) where
   pub block_inside : s < length kinds
   block_inside = begins_inside kinds s is.begins
 
-  -- a block has one number of units
+  -- a block has one number of cells
   pub block_le : {m : ℕ} → IsBlock kinds s m → m ≤ n
   block_le {m} other =
       let some = other.some in
       let last : s + (m - 1) < s + n = is.alone (s + (m - 1)) (let fits = other.fits in omega arith) (other.own (s + (m - 1)) (omega arith) (omega arith)) in
       omega arith
 
-  -- a unit of another block is outside
-  pub unit_outside : (u : ℕ) → start_of kinds u ≢ s → (u < s) ⊎ (s + n ≤ u)
-  unit_outside u other = elim (cases_lt u s) [
+  -- a cell of another block is outside
+  pub cell_outside : (u : ℕ) → start_of kinds u ≢ s → (u < s) ⊎ (s + n ≤ u)
+  cell_outside u other = elim (cases_lt u s) [
     | inl low ↦ inl low
     | inr high ↦ elim (cases_lt u (s + n)) [ inl inside ↦ absurd (other (is.own u high inside)) | inr past ↦ inr past ]
   ]
@@ -205,8 +205,8 @@ module _ (xs : List ℕ) (a k : ℕ) (fits : a + k ≤ length xs) where
       ∙ get_or-drop (a + k) xs (i - a - k) 0 ∙ ap (λ j. get_or xs j 0) at
 
 -- a block has room for its header and its literals
-pub units_hold : (n : ℕ) → n + 1 ≤ 4 * units_for n
-units_hold n = omega arith
+pub cells_hold : (n : ℕ) → n + 1 ≤ 4 * cells_for n
+cells_hold n = omega arith
 
 -- ---- Words of one block that are written
 
@@ -220,9 +220,9 @@ pub record IsChanged (ks ls : List Kind) (words now : List ℕ) (s n : ℕ) : Ty
   pub behind : (i : ℕ) → 4 * (s + n) ≤ i → get_or now i 0 ≡ get_or words i 0
 
 module _ {ks ls : List Kind} {words now : List ℕ} {s n : ℕ} (is : IsChanged ks ls words now s n) where
-  -- a unit of another block
-  pub unit_same : (u i : ℕ) → start_of ks u ≢ s → i < 4 → get_or now (4 * u + i) 0 ≡ get_or words (4 * u + i) 0
-  unit_same u i other low = elim (unit_outside is.block u other) [
+  -- a cell of another block
+  pub cell_same : (u i : ℕ) → start_of ks u ≢ s → i < 4 → get_or now (4 * u + i) 0 ≡ get_or words (4 * u + i) 0
+  cell_same u i other low = elim (cell_outside is.block u other) [
     | inl below ↦ is.before (4 * u + i) (omega arith)
     | inr past ↦ is.behind (4 * u + i) (omega arith)
   ]
@@ -257,17 +257,17 @@ module _ {ks ls : List Kind} {words now : List ℕ} {s n : ℕ} (is : IsChanged 
       ∙ by_kinds (kind_at ks u) (kind_at ks (start_of ks u))
     where
       whole : take 4 (drop (4 * u) now) ≡ take 4 (drop (4 * u) words)
-      whole = part_same words now (4 * u) 4 is.same_len (λ i low. unit_same u i other low)
+      whole = part_same words now (4 * u) 4 is.same_len (λ i low. cell_same u i other low)
 
       half : take 2 (drop (4 * u + 2) now) ≡ take 2 (drop (4 * u + 2) words)
       half = part_same words now (4 * u + 2) 2 is.same_len (λ i low.
           let at : 4 * u + 2 + i ≡ 4 * u + (2 + i) = omega arith in
-          ap (λ k. get_or now k 0) at ∙ unit_same u (2 + i) other (omega arith) ∙ ap (λ k. get_or words k 0) (sym at))
+          ap (λ k. get_or now k 0) at ∙ cell_same u (2 + i) other (omega arith) ∙ ap (λ k. get_or words k 0) (sym at))
 
       first : size_at now u ≡ size_at words u
       first =
           let at : 4 * u ≡ 4 * u + 0 = omega arith in
-          ap (λ w. w - 2) (ap (λ k. get_or now k 0) at ∙ unit_same u 0 other (omega arith) ∙ ap (λ k. get_or words k 0) (sym at))
+          ap (λ w. w - 2) (ap (λ k. get_or now k 0) at ∙ cell_same u 0 other (omega arith) ∙ ap (λ k. get_or words k 0) (sym at))
 
       by_kinds : (k f : Kind) → kept_as k f now u ≡ kept_as k f words u
       by_kinds Live f = first
