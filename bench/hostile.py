@@ -270,6 +270,13 @@ def units_from_front(n):
     return units, deletions(units[:-1], clause(n, n + 1))
 
 
+@kind(DRAT, 1000)
+def copies_of_a_unit(n):
+    """Two copies of a unit clause, on which a chain rests, are added and two deleted, again and again, with a step after each."""
+    step, gone = clause(n, n + 1), "d " + clause(1)
+    return [(1,), *implications(1, n)], [clause(1), clause(1), gone, step, gone, step] * n
+
+
 @kind(DRAT, 1000, is_linear=False)
 def units_of_clauses(n):
     """The same from the last, where each literal satisfies a clause that a false one watches."""

@@ -34,7 +34,7 @@ use crate::Slot;
 use crate::store::counts::{count_in, count_out, count_with, keep};
 use crate::store::kept::{find_slots, forget, note};
 use crate::store::marks::{all_known, gather, mark_all, mark_new, unmark_all};
-use crate::store::search::find_marked;
+use crate::store::search::{find_marked, find_unit};
 use clause_index::{Index, Indexing, NoIndex};
 use clause_memory::{Blocks, Memory};
 use cnf_base::{Lit, OutOfMemory};
@@ -376,6 +376,15 @@ impl<M: Memory> Store<M, Index> {
             Some(slot) => Some(Slot::at(slot)),
             None => None,
         }
+    }
+
+    /// The number of a slot other than this one that has a clause of the literal alone, if one is
+    /// found. It takes no memory.
+    pub fn other_unit(&self, l: Lit, slot: Slot) -> Option<u32>
+        ensures other { IfSome result (λ s. s ≢ slot) }
+        ensures unit { IfSome result (λ s. maps.get self.now.live s ≡ Some (l ∷ [])) }
+    {
+        find_unit(&self.memory, &self.index, l, slot.number())
     }
 }
 

@@ -16,7 +16,7 @@ use cnf_base::Lit;
 use tables::{Filled, key};
 
 /// The literal of a clause that has no other.
-fn only_literal(clause: &[Lit]) -> Option<Lit>
+pub(crate) fn only_literal(clause: &[Lit]) -> Option<Lit>
     ensures { IfSome result (λ l. clause.now ≡ l ∷ []) }
 {
     match clause {

@@ -1,4 +1,5 @@
-//! Another reason of a literal that is true with nothing assumed.
+//! Another reason of a literal that is true with nothing assumed: a copy of its unit clause, which
+//! the store finds by its hash, or a clause that watches the literal.
 
 ghost use Rattle.std.specs.Prelude.{◌≡◌, ◌≢◌, ◌<◌, length, take, slice_index, true, IsTrue, IfSome};
 ghost use Rattle.std.specs.FinMap as maps;
@@ -6,7 +7,7 @@ ghost use Rattle.cnf_base.specs.Literals.{Literal, complement, has};
 ghost use Rattle.root_literals.specs.Roots.{IsReasonAt};
 
 use crate::places::Places;
-use clause_db::Store;
+use clause_db::{Slot, Store};
 use cnf_base::Lit;
 use watch_lists::Watcher;
 
@@ -63,4 +64,20 @@ pub(crate) fn other_reason(
         effort = effort.checked_sub(1)?;
     }
     None
+}
+
+/// The slot of another clause of the literal alone, if one is found. It makes the literal true by
+/// no other one.
+pub(crate) fn other_unit(
+    store: &Store,
+    places: &Places,
+    lits: &[Lit],
+    l: Lit,
+    slot: Slot,
+) -> Option<u32>
+    ensures other { IfSome result (λ s. s ≢ slot) }
+    ensures reason { IfSome result (λ s. IsReasonAt (maps.get store.now.live) s lits.now l) }
+{
+    let _place = places.place(lits, l)?;
+    store.other_unit(l, slot)
 }

@@ -2,7 +2,8 @@
 //!
 //! The removal of a clause that is no reason, nor the clause of a kept clash, changes nothing.
 //! Where a reason is removed, another clause takes its place if there is one by literals before its
-//! own. Else the literal goes alone where nothing needs it, and otherwise the kept literals are cut
+//! own: a copy, where it is a unit clause, so that copies may be deleted one after the other. Else
+//! the literal goes alone where nothing needs it, and otherwise the kept literals are cut
 //! back to it: those before it have reasons of literals before them alone. What still follows is
 //! found again at the next assumption. So a deletion costs what was cut, and a look at each unit
 //! clause.
@@ -27,8 +28,8 @@ ghost use Rattle.trail.specs.declared.left.Left.TheVariants.{More};
 ghost use Rattle.root_literals.specs.declared.roots.Kept.TheVariants.{Behind, Clash, Cut};
 
 use crate::history::History;
-use crate::lone::{is_needed, lone_literal};
-use crate::other_reason::other_reason;
+use crate::lone::{is_needed, lone_literal, only_literal};
+use crate::other_reason::{other_reason, other_unit};
 use crate::places::Places;
 use clause_db::{Slot, Store};
 use cnf_base::{Lit, OutOfMemory};
@@ -279,6 +280,29 @@ impl Roots {
         self.kept = Kept::Cut;
     }
 
+    /// Gives the literal of a unit clause another clause of it alone as its reason, where the
+    /// clause in the slot is its reason and another one is found. It takes no memory.
+    fn take_copy(&mut self, store: &Store, trail: &Trail, slot: Slot)
+        requires alive { IsSome (maps.get store.now.live slot) }
+        requires kept { IsKept store.now.live self.old trail.now.lits }
+        ensures kept { IsKept store.now.live self.new trail.now.lits }
+        ensures noted { (l : Literal) → IsSome (at self.old.reasons l) →
+            IsSome (at self.new.reasons l) }
+    {
+        let Some(l) = only_literal(store.clause(slot)) else {
+            return;
+        };
+        let is_by_it = trail.is_true(l) && is_reason(&self.reasons, l, slot.number());
+        if !is_by_it || store.count_with(l) < 2 {
+            return;
+        }
+        let lits = trail.lits();
+        self.places.note(lits);
+        if let Some(other) = other_unit(store, &self.places, lits, l, slot) {
+            self.reasons.set(key(l), other);
+        }
+    }
+
     /// Gives the literal that is true by the clause in the slot another reason, where one is found.
     /// It takes no memory.
     fn change_reason(&mut self, store: &Store, lists: &mut WatchLists, trail: &Trail, slot: Slot)
@@ -362,6 +386,7 @@ impl Roots {
         if self.take_back_alone(store, assumptions, slot) {
             return;
         }
+        self.take_copy(store, assumptions.trail(), slot);
         self.change_reason(store, lists, assumptions.trail(), slot);
         let clause = store.clause(slot);
         while let Some(place) = self.rests_from(assumptions.trail(), clause, slot.number()) {

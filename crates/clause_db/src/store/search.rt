@@ -2,10 +2,11 @@
 //!
 //! The literals that are sought are marked in a table first, and clauses are compared by the marks.
 //! So a search is linear in the clause, whatever is repeated, and takes no memory. `find` marks and
-//! unmarks literals, and so takes `&mut self`.
+//! unmarks literals, and so takes `&mut self`. A copy of a unit clause is told by its one literal,
+//! and needs no marks.
 
-ghost use Rattle.std.specs.Prelude.{◌≡◌, ℕ, ◌<◌, false, true, Some, length, slice_get};
-ghost use Rattle.std.specs.Prelude.{IsSome, IfSome, IfNone};
+ghost use Rattle.std.specs.Prelude.{◌≡◌, ◌≢◌, ℕ, ◌<◌, ◌∷◌, [], false, true, Some, length};
+ghost use Rattle.std.specs.Prelude.{IsSome, IfSome, IfNone, slice_get};
 ghost use Rattle.std.specs.FinMap as maps;
 ghost use Rattle.cnf_base.specs.Literals.{Clause};
 ghost use Rattle.clause_index.specs.Hashes.{hash};
@@ -16,7 +17,7 @@ ghost use Rattle.clause_db.specs.Code.Matches.{is_match};
 ghost use Rattle.tables.specs.Filled.{at};
 
 use crate::store::marks::{Digest, all_marked};
-use clause_index::{Index, Indexing, Waiting};
+use clause_index::{Index, Indexing, Waiting, mixed, upper_half};
 use clause_memory::Memory;
 use cnf_base::Lit;
 use tables::Filled;
@@ -99,5 +100,60 @@ pub(crate) fn find_marked<M: Memory>(
     match first_waiting(memory, index.waiting(), marks, digest) {
         Some(slot) => Some(slot),
         None => first_match(memory, index.placed(digest.hash), marks, digest.len),
+    }
+}
+
+/// Whether the clause in the slot with this number has the literal, and no other.
+fn is_unit_at<M: Memory>(memory: &M, number: u32, l: Lit) -> bool
+    ensures { result ≡ true → maps.get (M.seen memory.now).live number ≡ Some (l ∷ []) }
+{
+    match memory.at(number as usize) {
+        Some([only]) => *only == l,
+        _ => false,
+    }
+}
+
+/// The first slot of the bucket but this one that has a clause of the literal alone.
+fn first_unit<M: Memory>(memory: &M, bucket: &[u32], l: Lit, slot: usize) -> Option<u32>
+    ensures other { IfSome result (λ s. s ≢ slot) }
+    ensures unit { IfSome result (λ s. maps.get (M.seen memory.now).live s ≡ Some (l ∷ [])) }
+{
+    for number in bucket {
+        if *number as usize != slot && is_unit_at(memory, *number, l) {
+            return Some(*number);
+        }
+    }
+    None
+}
+
+/// The first slot that waits but this one that has a clause of the literal alone, with this hash.
+fn first_waiting_unit<M: Memory>(
+    memory: &M,
+    waiting: &[Waiting],
+    hash: u32,
+    l: Lit,
+    slot: usize,
+) -> Option<u32>
+    ensures other { IfSome result (λ s. s ≢ slot) }
+    ensures unit { IfSome result (λ s. maps.get (M.seen memory.now).live s ≡ Some (l ∷ [])) }
+{
+    for next in waiting {
+        let number = next.slot;
+        if next.hash == hash && number as usize != slot && is_unit_at(memory, number, l) {
+            return Some(number);
+        }
+    }
+    None
+}
+
+/// A slot other than this one that has a clause of the literal alone, if one is found.
+pub(crate) fn find_unit<M: Memory>(memory: &M, index: &Index, l: Lit, slot: usize) -> Option<u32>
+    ensures other { IfSome result (λ s. s ≢ slot) }
+    ensures unit { IfSome result (λ s. maps.get (M.seen memory.now).live s ≡ Some (l ∷ [])) }
+{
+    let hash = upper_half(mixed(index.seed(), l));
+    match first_waiting_unit(memory, index.waiting(), hash, l, slot) {
+        Some(number) => Some(number),
+        None => first_unit(memory, index.placed(hash), l, slot),
     }
 }

@@ -121,6 +121,28 @@ fn keeps_a_literal_by_another_reason(rt: HostRuntime) -> Result<(), Fail> {
     Ok(())
 }
 
+/// What is known as three copies of the unit clause 1, by which 2 follows, are taken out in turn.
+fn without_copies(alloc: Global, watch: &mut Watch) -> Result<(Known, Known, Known), Fail>
+    requires { watch.old.propagation.assumptions ≡ [] }
+{
+    fill(alloc, watch, &[[1, 1], [-1, 2], [1, 1], [1, 1]])?;
+    let _ = watch.assume(&[])?;
+    watch.take_back();
+    let two_left = take_out(alloc, watch, &[1])?;
+    let one_left = take_out(alloc, watch, &[1])?;
+    Ok((two_left, one_left, take_out(alloc, watch, &[1])?))
+}
+
+#[test]
+fn keeps_a_literal_by_a_copy(rt: HostRuntime) -> Result<(), Fail> {
+    let mut watch = Watch::new(rt.alloc())?;
+    let (two_left, one_left, none_left) = without_copies(rt.alloc(), &mut watch)?;
+    expect_equal(&rt, two_left, (true, false, 2));
+    expect_equal(&rt, one_left, (true, false, 2));
+    expect_equal(&rt, none_left, (false, false, 0));
+    Ok(())
+}
+
 #[test]
 fn takes_no_reason_from_behind(rt: HostRuntime) -> Result<(), Fail> {
     let cycle = [[1, 1], [-1, 2], [-2, 3], [-3, 2]];
