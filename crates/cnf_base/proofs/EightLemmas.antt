@@ -16,7 +16,8 @@ use Rattle.std.proofs.lemmas.List.{length-map, length-take-le, length-replicate}
 use Rattle.std.proofs.lemmas.List.Sums.{prefix_len-le-length}
 use Rattle.std.proofs.lemmas.Nat.{and_block, or_block, xor_block, and_le_r, and_mask, or_lt, xor_lt}
 use Rattle.std.proofs.lemmas.Nat.{mod_low, shr_high}
-use Rattle.cnf_base.specs.Words.{is_digit, decimal_after, decimal_value}
+use Rattle.cnf_base.specs.Words.{is_digit}
+use Rattle.cnf_base.specs.Code.Digits.{decimal_after, decimal_value}
 use Rattle.cnf_base.specs.Code.Eight.{packed, eight, from_zero, AreBelow, AreEight, AreFront}
 use Rattle.cnf_base.specs.Code.Eight.{decimal}
 

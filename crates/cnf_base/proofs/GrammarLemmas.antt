@@ -19,8 +19,10 @@ use Rattle.cnf_base.specs.Printing.{input_of}
 use Rattle.cnf_base.specs.Text.{is_separator, Spot, spot, one_on, next_line, along, Listed}
 use Rattle.cnf_base.specs.Text.{words_of, is_comment, line_tokens, with_front, Listing}
 use Rattle.cnf_base.specs.Text.{lines_listing, listing_of}
-use Rattle.cnf_base.specs.Words.{is_digit, is_counting, has_minus, decimal_value, size_of, number}
-use Rattle.cnf_base.specs.Words.{fixed_word, number_or, word_of}
+use Rattle.cnf_base.specs.Words.{is_digit, is_counting, has_minus, size_of, number}
+use Rattle.cnf_base.specs.Code.Digits.{decimal_value}
+use Rattle.cnf_base.specs.Words.{fixed_word, word_of}
+use Rattle.cnf_base.specs.Code.Digits.{number_or}
 use Rattle.cnf_base.specs.declared.input.Ending.TheVariants.{End}
 use Rattle.cnf_base.specs.declared.word.Word.{Word}
 use Rattle.cnf_base.specs.declared.word.Word.TheVariants as words
@@ -44,7 +46,7 @@ is_inside (token.LineEnd p) = true
 is_inside (token.End p) = false
 
 abbrev pub all_said : List Listed → List (Option Word)
-all_said ts = map (λ t. said t.token) ts
+all_said ts = map (λ t. said t.0) ts
 
 -- what a line's words say, and its end
 abbrev pub line_said : List (List ℕ) → List (Option Word)
@@ -56,7 +58,7 @@ text_said bytes = flat_map line_said (word_lines bytes)
 -- a listing says so, but that the last line may have no end
 pub record Says (l : Listing) (all : List (Option Word)) : Type 0 where
   pub words : (all_said l.tokens ≡ all) ⊎ (all_said l.tokens ++ None ∷ [] ≡ all)
-  pub inside : list_all (λ t. is_inside t.token) l.tokens ≡ true
+  pub inside : list_all (λ t. is_inside t.0) l.tokens ≡ true
   pub ending : l.ending ≡ End
 
 -- the words of a line
@@ -69,8 +71,8 @@ parts_said s ((b ∷ bs) ∷ parts) =
 
 -- and each is a word, before what follows
 parts_inside : (s : Spot) (parts : List (List ℕ)) (ts : List Listed)
-    → list_all (λ t. is_inside t.token) (words_of s parts ++ ts)
-    ≡ list_all (λ t. is_inside t.token) ts
+    → list_all (λ t. is_inside t.0) (words_of s parts ++ ts)
+    ≡ list_all (λ t. is_inside t.0) ts
 parts_inside s [] ts = refl
 parts_inside s ([] ∷ parts) ts = parts_inside (one_on s) parts ts
 parts_inside s ((b ∷ bs) ∷ parts) ts = parts_inside (one_on (along s (b ∷ bs))) parts ts
@@ -88,17 +90,17 @@ lines_said-cons false line rest e = rw e refl
 
 -- tokens in front
 Says-front : (front : List Listed) (l : Listing) (all : List (Option Word))
-    → list_all (λ t. is_inside t.token) front ≡ true
+    → list_all (λ t. is_inside t.0) front ≡ true
     → Says l all → Says (with_front front l) (all_said front ++ all)
 Says-front front l all are says = record {
   words = by says.words;
-  inside = list_all-append (λ t. is_inside t.token) front l.tokens
-      ∙ ap (λ v. v && list_all (λ t. is_inside t.token) l.tokens) are ∙ says.inside;
+  inside = list_all-append (λ t. is_inside t.0) front l.tokens
+      ∙ ap (λ v. v && list_all (λ t. is_inside t.0) l.tokens) are ∙ says.inside;
   ending = says.ending;
 }
   where
     joined : all_said (front ++ l.tokens) ≡ all_said front ++ all_said l.tokens
-    joined = map-append (λ t. said t.token) front l.tokens
+    joined = map-append (λ t. said t.0) front l.tokens
 
     by : (all_said l.tokens ≡ all) ⊎ (all_said l.tokens ++ None ∷ [] ≡ all)
         → (all_said (front ++ l.tokens) ≡ all_said front ++ all)
@@ -120,7 +122,7 @@ lines_say true s line [] e = record {
 lines_say false s line [] e = record {
   words = inr (ap (λ t. t ++ None ∷ []) (parts_said s (slice_split is_separator line))
       ∙ sym (append-nil (line_said (words_in line))) ∙ sym (lines_said-cons false line [] e));
-  inside = ap (λ ts. list_all (λ t. is_inside t.token) ts)
+  inside = ap (λ ts. list_all (λ t. is_inside t.0) ts)
       (sym (append-nil (words_of s (slice_split is_separator line))))
       ∙ parts_inside s (slice_split is_separator line) [];
   ending = refl;
@@ -138,7 +140,7 @@ lines_say false s line (next ∷ rest) e =
     (parts_inside s (slice_split is_separator line) _) later)
   where
     front : all_said (line_tokens false s line) ≡ line_said (words_in line)
-    front = map-append (λ t. said t.token) (words_of s (slice_split is_separator line)) _
+    front = map-append (λ t. said t.0) (words_of s (slice_split is_separator line)) _
         ∙ ap (λ t. t ++ None ∷ []) (parts_said s (slice_split is_separator line))
 
 -- a whole text
@@ -156,16 +158,16 @@ listing_says bytes =
 
 -- the words of a text, line ends aside
 pub listing_words : (bytes : List ℕ)
-    → filter_map (λ t. said t.token) (listing_of (input_of bytes)).tokens
+    → filter_map (λ t. said t.0) (listing_of (input_of bytes)).tokens
     ≡ map word_of (text_words bytes)
 listing_words bytes =
     somes (listing_of (input_of bytes)).tokens ∙ by (listing_says bytes).words
     ∙ lines (word_lines bytes)
   where
     somes : (ts : List Listed)
-        → filter_map (λ t. said t.token) ts ≡ filter_map (λ w. w) (all_said ts)
+        → filter_map (λ t. said t.0) ts ≡ filter_map (λ w. w) (all_said ts)
     somes [] = refl
-    somes (t ∷ ts) = ap (cons_option (said t.token)) (somes ts)
+    somes (t ∷ ts) = ap (cons_option (said t.0)) (somes ts)
 
     by : (all_said (listing_of (input_of bytes)).tokens ≡ text_said bytes)
         ⊎ (all_said (listing_of (input_of bytes)).tokens ++ None ∷ [] ≡ text_said bytes)

@@ -4,7 +4,8 @@ use Rattle.std.proofs.Common.{arith}
 use Rattle.std.specs.Prelude.{Result, Ok, Err}
 use Rattle.std.specs.List.{slice_split}
 use Rattle.cnf_base.specs.Stream.{Suffix}
-use Rattle.cnf_base.specs.Text.{is_separator, Spot, one_on, next_line, along, Listed, listed}
+use Rattle.cnf_base.specs.Text.{is_separator, Spot, one_on, next_line, along, Listed}
+use Rattle.cnf_base.specs.Code.Text.{listed}
 use Rattle.cnf_base.specs.Text.{words_of, but_last, is_comment, line_tokens, last_tokens}
 use Rattle.cnf_base.specs.Text.{with_front, Listing, lines_listing, lines_of, skips_at, listing_at}
 use Rattle.cnf_base.specs.Text.{Gives}
@@ -18,7 +19,7 @@ use Rattle.cnf_base.specs.declared.token.Token.TheVariants as token
 -- each token ends at this offset or later
 abbrev pub EndFrom : ℕ → List Listed → Type 0
 EndFrom n [] = Unit {0}
-EndFrom n (t ∷ ts) = (n ≤ t.offset) × EndFrom n ts
+EndFrom n (t ∷ ts) = (n ≤ t.1) × EndFrom n ts
 
 append-from : (n : ℕ) (ts us : List Listed) → EndFrom n ts → EndFrom n us → EndFrom n (ts ++ us)
 append-from n [] us h k = k

@@ -15,10 +15,12 @@ use Rattle.std.proofs.lemmas.Str.Parse.{IsDigitsTest, IsNumeralModel, numerals_b
 use Rattle.cnf_base.specs.Literals.{Literal, variable}
 use Rattle.cnf_base.specs.Printing.{words_line, is_literal, literal_text}
 use Rattle.cnf_base.specs.Stream.{suffix}
-use Rattle.cnf_base.specs.Text.{is_separator, col_after, line_after, is_comment, listed, with_front}
+use Rattle.cnf_base.specs.Text.{is_separator, is_comment, with_front}
+use Rattle.cnf_base.specs.Code.Text.{col_after, line_after, listed}
 use Rattle.cnf_base.specs.Text.{Listing, listing_at}
 use Rattle.cnf_base.specs.Code.Text.{col_along}
-use Rattle.cnf_base.specs.Words.{is_digit, is_counting, decimal_value, size_of, number}
+use Rattle.cnf_base.specs.Words.{is_digit, is_counting, size_of, number}
+use Rattle.cnf_base.specs.Code.Digits.{decimal_value}
 use Rattle.cnf_base.specs.Words.{number_literal, word_of}
 use Rattle.cnf_base.specs.declared.input.Ending.TheVariants.{End}
 use Rattle.cnf_base.specs.declared.place.Place.{Place}

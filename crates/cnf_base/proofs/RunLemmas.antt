@@ -8,7 +8,8 @@ use Rattle.std.proofs.lemmas.Bool.Decides.{nat_tests}
 use Rattle.cnf_base.specs.Stream.{Suffix, suffix, Stream, Along, IsLook, bumped, more_count}
 use Rattle.cnf_base.specs.Stream.{next_count, most_to_come, place_after, tells_failure}
 use Rattle.cnf_base.specs.Stream.{skipped}
-use Rattle.cnf_base.specs.Text.{is_separator, is_comment, col_after, line_after, listed, with_front}
+use Rattle.cnf_base.specs.Text.{is_separator, is_comment, with_front}
+use Rattle.cnf_base.specs.Code.Text.{col_after, line_after, listed}
 use Rattle.cnf_base.specs.Text.{skips_at, listing_at}
 use Rattle.cnf_base.specs.Code.Text.{col_along, comment_at, FailsAt}
 use Rattle.cnf_base.specs.Words.{word_of}

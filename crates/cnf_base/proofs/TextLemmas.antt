@@ -8,8 +8,10 @@ use Rattle.std.proofs.lemmas.Bool.{and_parts}
 use Rattle.cnf_base.specs.Stream.{more_count, suffix}
 use Rattle.std.proofs.lemmas.Bool.Decides.{nat_tests}
 use Rattle.cnf_base.specs.Words.{word_of}
-use Rattle.cnf_base.specs.Text.{is_separator, col_after, line_after, Spot, spot, one_on, next_line}
-use Rattle.cnf_base.specs.Text.{along, Listed, listed, words_of, but_last, is_comment, line_tokens}
+use Rattle.cnf_base.specs.Text.{is_separator, Spot, spot, one_on, next_line}
+use Rattle.cnf_base.specs.Code.Text.{col_after, line_after}
+use Rattle.cnf_base.specs.Text.{along, Listed, words_of, but_last, is_comment, line_tokens}
+use Rattle.cnf_base.specs.Code.Text.{listed}
 use Rattle.cnf_base.specs.Text.{last_tokens, with_front, Listing, lines_listing, lines_of, skips_at}
 use Rattle.cnf_base.specs.Text.{listing_at}
 use Rattle.cnf_base.specs.Code.Text.{col_along, comment_at}

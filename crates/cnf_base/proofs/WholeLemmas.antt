@@ -14,7 +14,8 @@ use Rattle.std.proofs.lemmas.List.Sums.{fold-append}
 use Rattle.std.proofs.lemmas.Bool.Decides.{nat_tests}
 use Rattle.std.proofs.lemmas.Grind.{common_steps}
 use Rattle.cnf_base.specs.Text.{is_separator}
-use Rattle.cnf_base.specs.Words.{is_digit, decimal_after, number, word_of}
+use Rattle.cnf_base.specs.Words.{is_digit, number, word_of}
+use Rattle.cnf_base.specs.Code.Digits.{decimal_after}
 use Rattle.cnf_base.specs.Code.Digits.{digits_word, AreDigits}
 use Rattle.cnf_base.specs.Code.Whole.{is_inner, IsEnded, IsWholeNumber, GoOn}
 use Rattle.cnf_base.specs.declared.scanner.digits.Digits.{Digits}

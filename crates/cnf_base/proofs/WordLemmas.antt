@@ -7,8 +7,10 @@ use Rattle.std.specs.List.{list_all}
 use Rattle.std.specs.Str.{bytes_eq}
 use Rattle.std.proofs.lemmas.Grind.{fold-append}
 use Rattle.std.proofs.lemmas.Bool.Decides.{nat_tests}
-use Rattle.cnf_base.specs.Words.{is_digit, is_counting, decimal_value, size_of, number, number_of}
-use Rattle.cnf_base.specs.Words.{fixed_word, number_or, word_of}
+use Rattle.cnf_base.specs.Words.{is_digit, is_counting, size_of, number, number_of}
+use Rattle.cnf_base.specs.Code.Digits.{decimal_value}
+use Rattle.cnf_base.specs.Words.{fixed_word, word_of}
+use Rattle.cnf_base.specs.Code.Digits.{number_or}
 use Rattle.cnf_base.specs.Code.Digits.{with_byte, digits_word, begins_number, first_digits}
 use Rattle.cnf_base.specs.Code.Digits.{AreDigits, Spells, negative, positive, IsName}
 use Rattle.cnf_base.specs.declared.scanner.digits.Digits.{Digits}

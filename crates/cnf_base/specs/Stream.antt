@@ -30,7 +30,7 @@ from_offset offset i = suffix offset i.bytes i.ending
 
 -- a whole input
 abbrev pub from_start : Input → Suffix
-from_start i = from_offset 0 i
+from_start i = record { offset = 0; bytes = i.bytes; ending = i.ending }
 
 -- a reader: the bytes that it has left, where they are known, its end or its failure, where it has
 -- given that, and how many bytes may still be read of it at most
@@ -41,9 +41,8 @@ pub record Reader : Type 0 where
 
 -- it is a failed read that was given
 abbrev pub is_failure : Option Ending → Bool
-is_failure None = false
-is_failure (Some End) = false
 is_failure (Some Failed) = true
+is_failure _ = false
 
 -- a read of the reader has failed
 abbrev pub tells_failure : Reader → Bool
@@ -96,7 +95,7 @@ more_count n more = min (n + more) (2 ^ 64 - 1)
 
 -- one more, up to the greatest number
 abbrev pub next_count : ℕ → ℕ
-next_count n = more_count n 1
+next_count n = min (n + 1) (2 ^ 64 - 1)
 
 -- the place after a byte
 abbrev pub place_after : ℕ → Place → Place

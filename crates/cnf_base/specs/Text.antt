@@ -4,7 +4,7 @@
 use Rattle.std.specs.List.{slice_split}
 use Rattle.std.specs.Prelude.{ℕ, ◌==◌, ◌||◌, Bool, suc, List, [], ◌∷◌, false, true, ◌++◌, ◌&&◌, ◌≡◌}
 use Rattle.std.specs.Prelude.{Result, Ok, Err, ◌<◌, ◌≤◌}
-use Rattle.cnf_base.specs.Stream.{next_count, Input, Suffix, from_start, Stream, most_to_come}
+use Rattle.cnf_base.specs.Stream.{next_count, Input, Suffix, Stream, most_to_come}
 use Rattle.cnf_base.specs.Words.{word_of}
 use Rattle.cnf_base.specs.declared.input.Ending.TheVariants.{End, Failed}
 use Rattle.cnf_base.specs.declared.input.Ending.{Ending}
@@ -17,14 +17,6 @@ use Rattle.cnf_base.specs.declared.token.Token.TheVariants as token
 abbrev pub is_separator : ℕ → Bool
 is_separator b = b == 32 || b == 9 || b == 13 || b == 10
 
--- one column on
-abbrev pub col_after : Place → Place
-col_after p = record { line = p.line; col = next_count p.col }
-
--- the start of the next line
-abbrev pub line_after : Place → Place
-line_after p = record { line = next_count p.line; col = 1 }
-
 -- a place of an input, and the offset of the byte that stands there
 pub record Spot : Type 0 where
   pub place : Place
@@ -34,13 +26,14 @@ pub record Spot : Type 0 where
 abbrev pub spot : Place → ℕ → Spot
 spot p offset = record { place = p; offset = offset }
 
--- past a byte of a line, past a line's end, and past these bytes of a line
+-- past a byte of a line: one column on
 abbrev pub one_on : Spot → Spot
-one_on s = spot (col_after s.place) (suc s.offset)
+one_on s =
+    spot (record { line = s.place.line; col = next_count s.place.col }) (suc s.offset)
 
--- past the end of a line
+-- past the end of a line: at the start of the next one
 abbrev pub next_line : Spot → Spot
-next_line s = spot (line_after s.place) (suc s.offset)
+next_line s = spot (record { line = next_count s.place.line; col = 1 }) (suc s.offset)
 
 -- past these bytes of a line
 abbrev pub along : Spot → List ℕ → Spot
@@ -48,20 +41,15 @@ along s [] = s
 along s (b ∷ bs) = along (one_on s) bs
 
 -- a token of an input, and the offset of the byte after it
-pub record Listed : Type 0 where
-  pub token : tokens.Token
-  pub offset : ℕ
-
--- a token with the offset of the byte after it
-abbrev pub listed : tokens.Token → ℕ → Listed
-listed t offset = record { token = t; offset = offset }
+abbrev pub Listed : Type 0
+Listed = tokens.Token × ℕ
 
 -- the tokens of a line's parts between separators: one for each part that isn't empty
 abbrev pub words_of : Spot → List (List ℕ) → List Listed
 words_of s [] = []
 words_of s ([] ∷ parts) = words_of (one_on s) parts
 words_of s ((b ∷ bs) ∷ parts) =
-    listed (token.Word s.place (word_of (b ∷ bs))) (along s (b ∷ bs)).offset
+    (token.Word s.place (word_of (b ∷ bs)), (along s (b ∷ bs)).offset)
     ∷ words_of (one_on (along s (b ∷ bs))) parts
 
 -- all but the last
@@ -80,7 +68,7 @@ abbrev pub line_tokens : Bool → Spot → List ℕ → List Listed
 line_tokens true s line = []
 line_tokens false s line =
     words_of s (slice_split is_separator line)
-    ++ listed (token.LineEnd (along s line).place) (next_line (along s line)).offset ∷ []
+    ++ (token.LineEnd (along s line).place, (next_line (along s line)).offset) ∷ []
 
 -- the tokens of the last line. A part that touches a failed read isn't listed.
 abbrev pub last_tokens : Bool → Spot → List ℕ → Ending → List Listed
@@ -121,13 +109,15 @@ listing_at p i = lines_listing (skips_at p i.bytes) (spot p i.offset) (lines_of 
 
 -- a whole text
 abbrev pub listing_of : Input → Listing
-listing_of i = listing_at (record { line = 1; col = 1 }) (from_start i)
+listing_of i =
+    lines_listing (is_comment i.bytes) (spot (record { line = 1; col = 1 }) 0) (lines_of i.bytes)
+    i.ending
 
 -- a token is the first of a text, and what is left is the rest; the end and a failed read stay
 abbrev pub Gives : Result tokens.Token ReadFailed → Listing → Listing → Suffix → Type 0
 Gives (Ok (token.End p)) before after rest =
     (before ≡ after) × (before ≡ record { tokens = []; end = p; ending = End })
-Gives (Ok t) before after rest = before ≡ with_front (listed t rest.offset ∷ []) after
+Gives (Ok t) before after rest = before ≡ with_front ((t, rest.offset) ∷ []) after
 Gives (Err _) before after rest = (before ≡ after) × (before.tokens ≡ []) × (before.ending ≡ Failed)
 
 -- each token but the end takes a byte

@@ -1,7 +1,7 @@
 -- What a token of a text says: a number, one of the fixed words, or something else.
 use Rattle.std.specs.Prelude.{ℕ, ◌+◌, ◌-◌, ◌*◌, ◌^◌, ◌==◌, nat_le, ◌&&◌, not, min, Bool, true}
-use Rattle.std.specs.Prelude.{false, List, [], ◌∷◌, fold, drop, Option, None, Some, codes}
-use Rattle.std.specs.Prelude.{if◌then◌else◌}
+use Rattle.std.specs.Prelude.{false, List, [], ◌∷◌, fold, drop, Option, codes}
+use Rattle.std.specs.Prelude.{if◌then◌else◌, unwrap_or, option_map}
 use Rattle.std.specs.List.{list_all}
 use Rattle.std.specs.Str.{bytes_eq}
 use Rattle.std.specs.Bool.{then_some}
@@ -20,17 +20,9 @@ abbrev pub is_counting : List ℕ → Bool
 is_counting [] = false
 is_counting (d ∷ ds) = is_digit d && not (d == 48) && list_all is_digit ds
 
--- the number that digits write after the digits of a number
-abbrev pub decimal_after : ℕ → List ℕ → ℕ
-decimal_after number digits = fold (λ n d. n * 10 + (d - 48)) number digits
-
--- the number that digits write, up to the greatest that is kept
-abbrev pub decimal_value : List ℕ → ℕ
-decimal_value digits = decimal_after 0 digits
-
 -- the number that digits write, kept up to the greatest of 64 bits
 abbrev pub size_of : List ℕ → ℕ
-size_of digits = min (decimal_value digits) (2 ^ 64 - 1)
+size_of digits = min (fold (λ n d. n * 10 + (d - 48)) 0 digits) (2 ^ 64 - 1)
 
 -- whether a `-` stands first
 abbrev pub has_minus : List ℕ → Bool
@@ -63,14 +55,9 @@ fixed_word run =
     else (if bytes_eq run (codes "UNKNOWN") then words.Unknown
     else words.Other)))))))
 
--- the number, or this word where there is none
-abbrev pub number_or : Option Number → Word → Word
-number_or (Some n) word = words.Number n
-number_or None word = word
-
 -- what a token says: a number, a fixed word, or another word
 abbrev pub word_of : List ℕ → Word
-word_of run = number_or (number_of run) (fixed_word run)
+word_of run = unwrap_or (option_map words.Number (number_of run)) (fixed_word run)
 
 -- the literal that a number names; none for 0 and past the greatest variable
 abbrev pub number_literal : Number → Option Literal

@@ -124,7 +124,7 @@ claim_alike [] place End s ls same =
     then_alike (λ s. placed place (claim_at_end s)) (λ s ls same. concluded_alike place s.position s.has_status s.is_ended s.listed ls same)
     _ _ (line_alike place s.listed ls same s.position s.has_status s.is_ended)
 claim_alike (t ∷ ts) place ending s ls same =
-    then_alike (λ s. claim_among s ts place ending) (claim_alike ts place ending) _ _ (token_alike s ls t.token same)
+    then_alike (λ s. claim_among s ts place ending) (claim_alike ts place ending) _ _ (token_alike s ls t.0 same)
 
 -- the code has come to where the output goes on
 comes_to : (now : Said) (after : Result Said Fault) → ComesTo now after → (l : Listing) → Carries (and_then after (λ s. claim_after s l)) (claim_after now l)

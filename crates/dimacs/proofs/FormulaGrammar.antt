@@ -29,11 +29,11 @@ use Rattle.cnf_base.specs.declared.fault.TextFault.TheVariants.{TooFewClauses}
 use Rattle.cnf_base.proofs.GrammarLemmas.{listing_says, number_spelled, p_spelled, cnf_spelled}
 use Rattle.cnf_base.proofs.LineLemmas.{append_nil}
 use Rattle.cnf_base.proofs.PrintLemmas.{both, count_word}
-use Rattle.dimacs.specs.Formula.{and_then, word_of_token, next_word, is_p, is_cnf, fixed, count_of}
-use Rattle.dimacs.specs.Formula.{count, line_end_of_token, line_end_at_end, line_end, first_end}
+use Rattle.dimacs.specs.Formula.{and_then, next_word, is_p, is_cnf, fixed, count_of}
+use Rattle.dimacs.specs.Formula.{count, line_end, first_end}
 use Rattle.dimacs.specs.Formula.{and_then_at, part, header_of}
 use Rattle.dimacs.specs.Formula.{judged, Body, faulty_body, whole, with_first_clause, body_at_end}
-use Rattle.dimacs.specs.Formula.{body_on_word, body_on_token, body_among, body_of, Formula}
+use Rattle.dimacs.specs.Formula.{body_on_word, body_among, body_of, Formula}
 use Rattle.dimacs.specs.Formula.{formula_with, formula_of}
 use Rattle.dimacs.specs.Grammar.{filled_lines, all_words, FormulaText, FormulaIsGrammar}
 use Rattle.dimacs.specs.Printing.{header_words, IsFormula}
@@ -94,23 +94,29 @@ with_first c b = by b.fault
     by None = refl
     by (Some f) = refl
 
-module _ (h : Header) (k : ℕ) (acc : List Literal) (f : ℕ → List Literal → Body)
+module _ (h : Header) (k : ℕ) (acc : List Literal) (ts : List Listed) (end : Place) (offset : ℕ)
     (g : ℕ → List Literal → Option (List Clause))
-    (same : (k : ℕ) (acc : List Literal) → clean (f k acc) ≡ g k acc) where
+    (same : (k : ℕ) (acc : List Literal) → clean (body_among h k acc ts end End) ≡ g k acc) where
   on_word : (t : tokens.Token) (v : Word) → IsSaid t (Some v)
-      → clean (body_on_token h k acc t f) ≡ on_judged k acc (judged h k v) g
-  on_word (token.Word p w) v is = ap (λ x. clean (body_on_word k acc p (judged h k x) f)) is
+      → clean (body_among h k acc ((t, offset) ∷ ts) end End) ≡ on_judged k acc (judged h k v) g
+  on_word (token.Word p w) v is =
+      ap (λ x. clean (body_on_word k acc p (judged h k x) (λ k acc. body_among h k acc ts end End)))
+      is
       ∙ by p (judged h k v)
     where
       by : (p : Place) (r : Result (Option Literal) TextFault)
-          → clean (body_on_word k acc p r f) ≡ on_judged k acc r g
+          → clean (body_on_word k acc p r (λ k acc. body_among h k acc ts end End))
+          ≡ on_judged k acc r g
       by p (Ok (Some l)) = same k (acc ++ l ∷ [])
-      by p (Ok None) = with_first acc (f (k + 1) []) ∙ ap (first_clause acc) (same (k + 1) [])
+      by p (Ok None) =
+          with_first acc (body_among h (k + 1) [] ts end End)
+          ∙ ap (first_clause acc) (same (k + 1) [])
       by p (Err e) = refl
   on_word (token.LineEnd p) v is = absurd is
   on_word (token.End p) v is = absurd is
 
-  on_line_end : (t : tokens.Token) → IsSaid t None → clean (body_on_token h k acc t f) ≡ g k acc
+  on_line_end : (t : tokens.Token) → IsSaid t None
+      → clean (body_among h k acc ((t, offset) ∷ ts) end End) ≡ g k acc
   on_line_end (token.Word p w) is = absurd is
   on_line_end (token.LineEnd p) is = same k acc
   on_line_end (token.End p) is = absurd is
@@ -131,16 +137,16 @@ module _ (h : Header) (p : Place) where
   line_clauses [] [] ((w ∷ ws) ∷ lines) k acc s = absurd s
   line_clauses [] (w ∷ ws) lines k acc s = absurd s
   line_clauses (t ∷ ts) [] [] k acc s =
-      on_line_end h k acc (λ k acc. body_among h k acc ts p End) (λ k acc. words_at_end h k acc)
-      (λ k acc. nothing_said k acc ts s.1) t.token s.0
+      on_line_end h k acc ts p t.1 (λ k acc. words_at_end h k acc)
+      (λ k acc. nothing_said k acc ts s.1) t.0 s.0
   line_clauses (t ∷ ts) [] (line ∷ lines) k acc s =
-      on_line_end h k acc (λ k acc. body_among h k acc ts p End)
+      on_line_end h k acc ts p t.1
       (λ k acc. clauses_in h k acc (line ++ all_words lines))
-      (λ k acc. line_clauses ts line lines k acc s.1) t.token s.0
+      (λ k acc. line_clauses ts line lines k acc s.1) t.0 s.0
   line_clauses (t ∷ ts) (w ∷ ws) lines k acc s =
-      on_word h k acc (λ k acc. body_among h k acc ts p End)
+      on_word h k acc ts p t.1
       (λ k acc. clauses_in h k acc (ws ++ all_words lines))
-      (λ k acc. line_clauses ts ws lines k acc s.1) t.token (word_of w) s.0
+      (λ k acc. line_clauses ts ws lines k acc s.1) t.0 (word_of w) s.0
 
   lines_clauses : (ts : List Listed) (lines : Lines) → AreSaid ts (said_by lines)
       → clean (body_among h 0 [] ts p End) ≡ clauses_in h 0 [] (all_words lines)
@@ -234,19 +240,20 @@ next_agrees : (lines : Lines) (ts : List Listed) (p : Place) (e : Ending) (line 
     → e ≡ End
     → AreSaid ts (line_then line (said_by lines))
     → Agree (IsWord lines) (next_word (listing ts p e)) (word_in line)
-next_agrees lines [] p e [] is s = tt
+next_agrees lines [] p End [] is s = tt
+next_agrees lines [] p Failed [] is s = tt
 next_agrees lines [] p e (w ∷ ws) is s = absurd s
-next_agrees lines (t ∷ ts) p e [] is s = by t.token s.0
+next_agrees lines (t ∷ ts) p e [] is s = by t.0 s.0
   where
-    by : (t : tokens.Token) → IsSaid t None
-        → Agree (IsWord lines) (word_of_token t (listing ts p e)) None
+    by : (u : tokens.Token) → IsSaid u None
+        → Agree (IsWord lines) (next_word (listing ((u, t.1) ∷ ts) p e)) None
     by (token.Word q v) s = absurd s
     by (token.LineEnd q) s = tt
     by (token.End q) s = tt
-next_agrees lines (t ∷ ts) p e (w ∷ ws) is s = by t.token s.0 (record { said = s.1; ending = is })
+next_agrees lines (t ∷ ts) p e (w ∷ ws) is s = by t.0 s.0 (record { said = s.1; ending = is })
   where
-    by : (t : tokens.Token) → IsSaid t (Some (word_of w)) → IsIn lines (listing ts p e) ws
-        → Agree (IsWord lines) (word_of_token t (listing ts p e)) (Some (word_of w, ws))
+    by : (u : tokens.Token) → IsSaid u (Some (word_of w)) → IsIn lines (listing ts p e) ws
+        → Agree (IsWord lines) (next_word (listing ((u, t.1) ∷ ts) p e)) (Some (word_of w, ws))
     by (token.Word q v) s i = (s, i)
     by (token.LineEnd q) s i = absurd s
     by (token.End q) s i = absurd s
@@ -295,24 +302,24 @@ end_agrees : (lines : Lines) (ts : List Listed) (p : Place) (e : Ending) (line :
 end_agrees [] [] p e [] is s = by e is
   where
     by : (e : Ending) → e ≡ End
-        → Agree (λ m (u : Unit {0}). IsAfter [] m) (line_end_at_end e (listing [] p e)) (Some tt)
+        → Agree (λ m (u : Unit {0}). IsAfter [] m) (line_end (listing [] p e)) (Some tt)
     by End is = record { said = tt; ending = is }
     by Failed is = absurd (let bad : Failed ≡ End = is in cc)
 end_agrees ([] ∷ lines) [] p e [] is s = absurd s
 end_agrees ((w ∷ ws) ∷ lines) [] p e [] is s = absurd s
 end_agrees lines [] p e (w ∷ ws) is s = absurd s
-end_agrees lines (t ∷ ts) p e [] is s = by t.token s.0 (record { said = s.1; ending = is })
+end_agrees lines (t ∷ ts) p e [] is s = by t.0 s.0 (record { said = s.1; ending = is })
   where
-    by : (t : tokens.Token) → IsSaid t None → IsAfter lines (listing ts p e)
-        → Agree (λ m (u : Unit {0}). IsAfter lines m) (line_end_of_token t (listing ts p e))
+    by : (u : tokens.Token) → IsSaid u None → IsAfter lines (listing ts p e)
+        → Agree (λ m (u : Unit {0}). IsAfter lines m) (line_end (listing ((u, t.1) ∷ ts) p e))
         (Some tt)
     by (token.Word q v) s i = absurd s
     by (token.LineEnd q) s i = i
     by (token.End q) s i = absurd s
-end_agrees lines (t ∷ ts) p e (w ∷ ws) is s = by t.token s.0
+end_agrees lines (t ∷ ts) p e (w ∷ ws) is s = by t.0 s.0
   where
-    by : (t : tokens.Token) → IsSaid t (Some (word_of w))
-        → Agree (λ m (u : Unit {0}). IsAfter lines m) (line_end_of_token t (listing ts p e)) None
+    by : (u : tokens.Token) → IsSaid u (Some (word_of w))
+        → Agree (λ m (u : Unit {0}). IsAfter lines m) (line_end (listing ((u, t.1) ∷ ts) p e)) None
     by (token.Word q v) s = tt
     by (token.LineEnd q) s = absurd s
     by (token.End q) s = absurd s
@@ -347,26 +354,26 @@ header_agrees ([] ∷ lines) [] p s = no_more lines s
     no_more [] s = tt
     no_more ([] ∷ lines) s = absurd s
     no_more ((w ∷ ws) ∷ lines) s = absurd s
-header_agrees ([] ∷ lines) (t ∷ ts) p s = by t t.token refl s.0 (header_agrees lines ts p s.1)
+header_agrees ([] ∷ lines) (t ∷ ts) p s = by t.0 s.0 (header_agrees lines ts p s.1)
   where
-    by : (t : Listed) (k : tokens.Token) → t.token ≡ k → IsSaid k None
+    by : (u : tokens.Token) → IsSaid u None
         → Agree IsHead (header_of (listing ts p End)) (lines_header lines)
-        → Agree IsHead (header_of (listing (t ∷ ts) p End)) (lines_header lines)
-    by t (token.Word q v) e s a = absurd s
-    by t (token.LineEnd q) e s a = rw e a
-    by t (token.End q) e s a = absurd s
+        → Agree IsHead (header_of (listing ((u, t.1) ∷ ts) p End)) (lines_header lines)
+    by (token.Word q v) s a = absurd s
+    by (token.LineEnd q) s a = a
+    by (token.End q) s a = absurd s
 header_agrees ((w ∷ ws) ∷ lines) [] p s = absurd s
 header_agrees ((w ∷ ws) ∷ lines) (t ∷ ts) p s =
-    by t t.token refl s.0
+    by t.0 s.0
     (line_agrees lines (listing (t ∷ ts) p End) (w ∷ ws) (record { said = s; ending = refl }))
   where
-    by : (t : Listed) (k : tokens.Token) → t.token ≡ k → IsSaid k (Some (word_of w))
-        → Agree IsHead (part (fixed is_p) (listing (t ∷ ts) p End) after_p)
+    by : (u : tokens.Token) → IsSaid u (Some (word_of w))
+        → Agree IsHead (part (fixed is_p) (listing ((u, t.1) ∷ ts) p End) after_p)
         (line_header lines (w ∷ ws))
-        → Agree IsHead (header_of (listing (t ∷ ts) p End)) (line_header lines (w ∷ ws))
-    by t (token.Word q v) e s a = rw e (rw e at a)
-    by t (token.LineEnd q) e s a = absurd s
-    by t (token.End q) e s a = absurd s
+        → Agree IsHead (header_of (listing ((u, t.1) ∷ ts) p End)) (line_header lines (w ∷ ws))
+    by (token.Word q v) s a = a
+    by (token.LineEnd q) s a = absurd s
+    by (token.End q) s a = absurd s
 
 -- ---- The header's spelling
 

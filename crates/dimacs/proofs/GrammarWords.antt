@@ -62,7 +62,7 @@ AreSaid [] [] = Unit {0}
 AreSaid [] (None ∷ []) = Unit {0}
 AreSaid [] _ = ⊥
 AreSaid (t ∷ ts) [] = ⊥
-AreSaid (t ∷ ts) (s ∷ ss) = IsSaid t.token s × AreSaid ts ss
+AreSaid (t ∷ ts) (s ∷ ss) = IsSaid t.0 s × AreSaid ts ss
 
 token_said : (t : tokens.Token) → is_inside t ≡ true → IsSaid t (said t)
 token_said (token.Word p w) h = refl
@@ -70,12 +70,12 @@ token_said (token.LineEnd p) h = tt
 token_said (token.End p) h = absurd (let bad : false ≡ true = h in cc)
 
 module _ (later : List (Option Word)) (ended : AreSaid [] later) where
-  tokens_said : (ts : List Listed) → list_all (λ t. is_inside t.token) ts ≡ true
+  tokens_said : (ts : List Listed) → list_all (λ t. is_inside t.0) ts ≡ true
       → AreSaid ts (all_said ts ++ later)
   tokens_said [] h = ended
   tokens_said (t ∷ ts) h =
-      let r = both (is_inside t.token) (list_all (λ t. is_inside t.token) ts) h in
-      (token_said t.token r.0, tokens_said ts r.1)
+      let r = both (is_inside t.0) (list_all (λ t. is_inside t.0) ts) h in
+      (token_said t.0 r.0, tokens_said ts r.1)
 
 line_then_is : (line : List (List ℕ)) (later : List (Option Word))
     → line_said line ++ later ≡ line_then line later
@@ -95,7 +95,7 @@ text_lines bytes =
     subst (AreSaid (listing_of (input_of bytes)).tokens) (said_by_is (word_lines bytes))
     (by _ s.inside s.words)
   where
-    by : (ts : List Listed) → list_all (λ t. is_inside t.token) ts ≡ true
+    by : (ts : List Listed) → list_all (λ t. is_inside t.0) ts ≡ true
         → (all_said ts ≡ text_said bytes) ⊎ (all_said ts ++ None ∷ [] ≡ text_said bytes)
         → AreSaid ts (text_said bytes)
     by ts h (inl e) = subst (AreSaid ts) (append_none (all_said ts) ∙ e) (tokens_said [] tt ts h)

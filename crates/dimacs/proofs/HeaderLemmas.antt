@@ -14,7 +14,7 @@ use Rattle.cnf_base.specs.declared.fault.Fault.TheVariants.{Text, ReadFailed}
 use Rattle.cnf_base.specs.declared.fault.TextFault.TheVariants.{BadHeader}
 use Rattle.cnf_base.proofs.ListingLemmas.{EndFrom, Gives-from}
 use Rattle.cnf_base.proofs.StreamLemmas.{Along-then, Along-map, Along-none}
-use Rattle.dimacs.specs.Formula.{is_line_end, drop_line_ends, skip_blank, next_word, is_p, is_cnf}
+use Rattle.dimacs.specs.Formula.{drop_line_ends, skip_blank, next_word, is_p, is_cnf}
 use Rattle.dimacs.specs.Formula.{fixed, count_of, count, line_end, first_end, and_then, and_then_at, part}
 use Rattle.dimacs.specs.Formula.{header_of, formula_with, formula_at, ends_with, ends_at}
 use Rattle.dimacs.specs.Reading.{PassesNoEnd, unopened}
@@ -26,15 +26,13 @@ use Rattle.dimacs.proofs.OffsetLemmas.{AreFrom, from-none, from-clause}
 
 drop_line_ends-from : (n : ℕ) (ts : List Listed) → EndFrom n ts → EndFrom n (drop_line_ends ts)
 drop_line_ends-from n [] ends = tt
-drop_line_ends-from n (t ∷ ts) ends = by (is_line_end t.token) (drop_line_ends-from n ts ends.1)
-  where
-    by : (b : Bool) → EndFrom n (drop_line_ends ts) → EndFrom n (cond b (drop_line_ends ts) (t ∷ ts))
-    by true later = later
-    by false later = ends
+drop_line_ends-from n ((token.LineEnd p, offset) ∷ ts) ends = drop_line_ends-from n ts ends.1
+drop_line_ends-from n ((token.Word p w, offset) ∷ ts) ends = ends
+drop_line_ends-from n ((token.End p, offset) ∷ ts) ends = ends
 
 first_end-from : (n : ℕ) (ts : List Listed) → EndFrom n ts → AreFrom n (first_end ts)
 first_end-from n [] ends = from-none n
-first_end-from n (t ∷ ts) ends = from-clause n t.offset [] ends.0 (from-none n)
+first_end-from n (t ∷ ts) ends = from-clause n t.1 [] ends.0 (from-none n)
 
 -- where a token was given, the first one after blank lines isn't passed
 blank_passed : (result : Result Token Cut) (before : Listing) (p : Place) (rest : Suffix) → Gives result before (listing_at p rest) rest

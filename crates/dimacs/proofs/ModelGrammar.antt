@@ -90,7 +90,7 @@ module _ (p : Place) where
   among_said [] (None ∷ x ∷ ss) s is = absurd is
   among_said [] (Some w ∷ ss) s is = absurd is
   among_said (t ∷ ts) [] s is = absurd is
-  among_said (t ∷ ts) (Some v ∷ ss) s is = by t.token is.0 (λ s. among_said ts ss s is.1)
+  among_said (t ∷ ts) (Some v ∷ ss) s is = by t.0 is.0 (λ s. among_said ts ss s is.1)
     where
       by : (k : tokens.Token) → IsSaid k (Some v)
           → ((s : Said) → known (claim_among s ts p End) ≡ claim_says s ss)
@@ -102,7 +102,7 @@ module _ (p : Place) where
           ∙ ap (λ w. claim_says s (Some w ∷ ss)) e
       by (token.LineEnd q) e later = absurd e
       by (token.End q) e later = absurd e
-  among_said (t ∷ ts) (None ∷ ss) s is = by t.token is.0 (λ s. among_said ts ss s is.1)
+  among_said (t ∷ ts) (None ∷ ss) s is = by t.0 is.0 (λ s. among_said ts ss s is.1)
     where
       by : (k : tokens.Token) → IsSaid k None
           → ((s : Said) → known (claim_among s ts p End) ≡ claim_says s ss)

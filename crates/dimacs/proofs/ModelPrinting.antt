@@ -10,7 +10,8 @@ use Rattle.cnf_base.specs.Literals.{Literal, complement, has}
 use Rattle.cnf_base.specs.Printing.{input_of, is_literal, literal_text, literal_words}
 use Rattle.cnf_base.specs.Stream.{suffix}
 use Rattle.cnf_base.specs.Code.Text.{col_along}
-use Rattle.cnf_base.specs.Text.{line_after, Listing, listing_at}
+use Rattle.cnf_base.specs.Text.{Listing, listing_at}
+use Rattle.cnf_base.specs.Code.Text.{line_after}
 use Rattle.cnf_base.specs.Words.{number, word_of}
 use Rattle.cnf_base.specs.declared.fault.Fault.{Fault}
 use Rattle.cnf_base.specs.declared.fault.TextFault.TheVariants.{Complement, LiteralTooLarge}

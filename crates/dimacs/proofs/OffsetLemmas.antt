@@ -9,14 +9,13 @@ use Rattle.cnf_base.specs.Text.{Listed, Listing, listing_of}
 use Rattle.cnf_base.specs.declared.place.Place.{Place}
 use Rattle.cnf_base.specs.declared.input.Ending.{Ending}
 use Rattle.cnf_base.specs.declared.input.Ending.TheVariants.{End, Failed}
-use Rattle.cnf_base.specs.declared.token.Token as tokens
 use Rattle.cnf_base.specs.declared.token.Token.TheVariants as token
 use Rattle.cnf_base.specs.declared.fault.Fault.{Fault}
 use Rattle.cnf_base.specs.declared.fault.TextFault.{TextFault}
 use Rattle.cnf_base.proofs.ListingLemmas.{EndFrom}
-use Rattle.dimacs.specs.Formula.{judged, Body, body_at_end, body_on_word, body_on_token, body_among}
+use Rattle.dimacs.specs.Formula.{judged, Body, body_at_end, body_on_word, body_among}
 use Rattle.dimacs.specs.Formula.{header_of, formula_with, formula_of, ends_on_word}
-use Rattle.dimacs.specs.Formula.{ends_on_token, ends_among, ends_with, ends_of}
+use Rattle.dimacs.specs.Formula.{ends_among, ends_with, ends_of}
 use Rattle.dimacs.specs.Reading.{PassesNoEnd, GivesEnd}
 use Rattle.dimacs.specs.declared.header.Header.{Header}
 
@@ -41,16 +40,12 @@ module _ (h : Header) (n : ℕ) where
   on_word-from complete offset (Ok None) rest here later = from-clause n offset (rest (complete + 1)) here (later (complete + 1))
   on_word-from complete offset (Err f) rest here later = from-clause n offset [] here (from-none n)
 
-  on_token-from : (complete : ℕ) (t : tokens.Token) (offset : ℕ) (rest : ℕ → List ℕ) → n ≤ offset → ((complete : ℕ) → AreFrom n (rest complete))
-      → AreFrom n (ends_on_token h complete t offset rest)
-  on_token-from complete (token.Word p w) offset rest here later = on_word-from complete offset (judged h complete w) rest here later
-  on_token-from complete (token.LineEnd p) offset rest here later = later complete
-  on_token-from complete (token.End p) offset rest here later = later complete
-
   pub ends_among-from : (complete : ℕ) (ts : List Listed) → EndFrom n ts → AreFrom n (ends_among h complete ts)
   ends_among-from complete [] ends = from-none n
-  ends_among-from complete (t ∷ ts) ends =
-      on_token-from complete t.token t.offset (λ complete. ends_among h complete ts) ends.0 (λ complete. ends_among-from complete ts ends.1)
+  ends_among-from complete ((token.Word p w, offset) ∷ ts) ends =
+      on_word-from complete offset (judged h complete w) (λ complete. ends_among h complete ts) ends.0 (λ complete. ends_among-from complete ts ends.1)
+  ends_among-from complete ((token.LineEnd p, offset) ∷ ts) ends = ends_among-from complete ts ends.1
+  ends_among-from complete ((token.End p, offset) ∷ ts) ends = ends_among-from complete ts ends.1
 
 -- ---- There is one for each clause
 
@@ -67,19 +62,14 @@ module _ (h : Header) where
   on_word-length complete offset literals p (Ok None) ends bodies few = let later = few (complete + 1) [] in omega (arith, later)
   on_word-length complete offset literals p (Err f) ends bodies few = omega arith
 
-  on_token-length : (complete offset : ℕ) (literals : List Literal) (t : tokens.Token) (ends : ℕ → List ℕ) (bodies : ℕ → List Literal → Body)
-      → ((complete : ℕ) (literals : List Literal) → length (bodies complete literals).clauses ≤ length (ends complete))
-      → length (body_on_token h complete literals t bodies).clauses ≤ length (ends_on_token h complete t offset ends)
-  on_token-length complete offset literals (token.Word p w) ends bodies few = on_word-length complete offset literals p (judged h complete w) ends bodies few
-  on_token-length complete offset literals (token.LineEnd p) ends bodies few = few complete literals
-  on_token-length complete offset literals (token.End p) ends bodies few = few complete literals
-
   ends_among-length : (complete : ℕ) (literals : List Literal) (ts : List Listed) (p : Place) (ending : Ending)
       → length (body_among h complete literals ts p ending).clauses ≤ length (ends_among h complete ts)
   ends_among-length complete literals [] p ending = let none = none_at_end complete literals p ending in omega (arith, none)
-  ends_among-length complete literals (t ∷ ts) p ending =
-      on_token-length complete t.offset literals t.token (λ complete. ends_among h complete ts) (λ complete literals. body_among h complete literals ts p ending)
+  ends_among-length complete literals ((token.Word q w, offset) ∷ ts) p ending =
+      on_word-length complete offset literals q (judged h complete w) (λ complete. ends_among h complete ts) (λ complete literals. body_among h complete literals ts p ending)
       (λ complete literals. ends_among-length complete literals ts p ending)
+  ends_among-length complete literals ((token.LineEnd q, offset) ∷ ts) p ending = ends_among-length complete literals ts p ending
+  ends_among-length complete literals ((token.End q, offset) ∷ ts) p ending = ends_among-length complete literals ts p ending
 
 ends_with-length : (r : Result (Header × Listing) (Fault × List ℕ)) → length (formula_with r).clauses ≤ length (ends_with r)
 ends_with-length (Ok h) = ends_among-length h.0 0 [] h.1.tokens h.1.end h.1.ending

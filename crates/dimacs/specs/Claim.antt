@@ -115,7 +115,7 @@ on_end s p Failed = Err ReadFailed
 abbrev pub claim_among : Said → List Listed → Place → Ending → Result (List Literal) Fault
 claim_among s [] p ending = on_end s p ending
 claim_among s (t ∷ ts) p ending =
-    and_then (claim_on_token s t.token) (λ s. claim_among s ts p ending)
+    and_then (claim_on_token s t.0) (λ s. claim_among s ts p ending)
 
 -- the claim of an output that has said so much, from a text on
 abbrev pub claim_after : Said → Listing → Result (List Literal) Fault

@@ -11,7 +11,6 @@ use Rattle.cnf_base.specs.declared.input.Ending.TheVariants.{End, Failed}
 use Rattle.cnf_base.specs.declared.place.Place.{Place}
 use Rattle.cnf_base.specs.declared.word.Word.{Word}
 use Rattle.cnf_base.specs.declared.word.Word.TheVariants as words
-use Rattle.cnf_base.specs.declared.token.Token as tokens
 use Rattle.cnf_base.specs.declared.token.Token.TheVariants as token
 use Rattle.cnf_base.specs.declared.fault.Fault.{Fault}
 use Rattle.cnf_base.specs.declared.fault.Fault.TheVariants.{Text, ReadFailed}
@@ -28,44 +27,31 @@ abbrev pub and_then : {A B : Type 0} → Result A Fault → (A → Result B Faul
 and_then (Ok x) next = next x
 and_then (Err f) next = Err f
 
--- a text whose first token is taken
-abbrev pub rest_of : List Listed → Listing → Listing
-rest_of tokens l = record { tokens = tokens; end = l.end; ending = l.ending }
+-- what follows of a text
+abbrev pub rest_of : List Listed → Place → Ending → Listing
+rest_of tokens end ending = record { tokens = tokens; end = end; ending = ending }
 
--- the line ends before a word
-abbrev pub cut_short : Ending → Place → Fault
-cut_short End p = Text BadHeader p
-cut_short Failed p = ReadFailed
-
--- a token as a word of the header; a line's end or the input's is a fault
-abbrev pub word_of_token : tokens.Token → Listing → Result (Place × Word × Listing) Fault
-word_of_token (token.Word p w) rest = Ok (p, w, rest)
-word_of_token (token.LineEnd p) rest = Err (Text BadHeader p)
-word_of_token (token.End p) rest = Err (Text BadHeader p)
-
--- the first of these tokens as a word of the header, and what follows it
-abbrev pub word_among : List Listed → Listing → Result (Place × Word × Listing) Fault
-word_among [] l = Err (cut_short l.ending l.end)
-word_among (t ∷ ts) l = word_of_token t.token (rest_of ts l)
+-- the first of these tokens as a word of the header, and what follows it; the end of the line or of
+-- the input is a fault
+abbrev pub word_among : List Listed → Place → Ending → Result (Place × Word × Listing) Fault
+word_among ((token.Word p w, offset) ∷ ts) end ending = Ok (p, w, rest_of ts end ending)
+word_among ((token.LineEnd p, offset) ∷ ts) end ending = Err (Text BadHeader p)
+word_among ((token.End p, offset) ∷ ts) end ending = Err (Text BadHeader p)
+word_among [] end End = Err (Text BadHeader end)
+word_among [] end Failed = Err ReadFailed
 
 -- the line's next word and what follows it
 abbrev pub next_word : Listing → Result (Place × Word × Listing) Fault
-next_word l = word_among l.tokens l
-
--- whether the token is the end of a line
-abbrev pub is_line_end : tokens.Token → Bool
-is_line_end (token.LineEnd p) = true
-is_line_end (token.Word p w) = false
-is_line_end (token.End p) = false
+next_word l = word_among l.tokens l.end l.ending
 
 -- the tokens from the first on that is no line's end
 abbrev pub drop_line_ends : List Listed → List Listed
-drop_line_ends [] = []
-drop_line_ends (t ∷ ts) = if is_line_end t.token then drop_line_ends ts else t ∷ ts
+drop_line_ends ((token.LineEnd p, offset) ∷ ts) = drop_line_ends ts
+drop_line_ends ts = ts
 
 -- from the first line on that isn't blank
 abbrev pub skip_blank : Listing → Listing
-skip_blank l = rest_of (drop_line_ends l.tokens) l
+skip_blank l = rest_of (drop_line_ends l.tokens) l.end l.ending
 
 -- the word `p`
 abbrev pub is_p : Word → Bool
@@ -93,30 +79,22 @@ count_of limit p _ = Err (Text BadHeader p)
 abbrev pub count : ℕ → Listing → Result (ℕ × Listing) Fault
 count limit l = and_then (next_word l) (λ w. and_then (count_of limit w.0 w.1) (λ n. Ok (n, w.2)))
 
--- a token where the header's line has to end
-abbrev pub line_end_of_token : tokens.Token → Listing → Result Listing Fault
-line_end_of_token (token.LineEnd p) rest = Ok rest
-line_end_of_token (token.Word p w) rest = Err (Text BadHeader p)
-line_end_of_token (token.End p) rest = Ok rest
-
--- the end of the input where the header's line has to end
-abbrev pub line_end_at_end : Ending → Listing → Result Listing Fault
-line_end_at_end End l = Ok l
-line_end_at_end Failed l = Err ReadFailed
-
--- the first of these tokens, or the input's end, where the header's line has to end
-abbrev pub line_end_among : List Listed → Listing → Result Listing Fault
-line_end_among [] l = line_end_at_end l.ending l
-line_end_among (t ∷ ts) l = line_end_of_token t.token (rest_of ts l)
+-- what follows these tokens' first, or the input's end, where the header's line has to end
+abbrev pub line_end_among : List Listed → Place → Ending → Result Listing Fault
+line_end_among ((token.Word p w, offset) ∷ ts) end ending = Err (Text BadHeader p)
+line_end_among ((token.LineEnd p, offset) ∷ ts) end ending = Ok (rest_of ts end ending)
+line_end_among ((token.End p, offset) ∷ ts) end ending = Ok (rest_of ts end ending)
+line_end_among [] end End = Ok (rest_of [] end End)
+line_end_among [] end Failed = Err ReadFailed
 
 -- the line's end, or the input's, has to follow
 abbrev pub line_end : Listing → Result Listing Fault
-line_end l = line_end_among l.tokens l
+line_end l = line_end_among l.tokens l.end l.ending
 
 -- the offset of the byte after the first of these tokens, if there is one
 abbrev pub first_end : List Listed → List ℕ
 first_end [] = []
-first_end (t ∷ ts) = t.offset ∷ []
+first_end ((t, offset) ∷ ts) = offset ∷ []
 
 -- as `and_then`, and a fault comes with where the token at fault ends
 abbrev pub and_then_at : {A B : Type 0} → List ℕ → Result A Fault →
@@ -182,20 +160,14 @@ body_on_word complete literals p (Ok None) rest =
     with_first_clause literals (rest (complete + 1) [])
 body_on_word complete literals p (Err f) rest = faulty_body (Text f p)
 
--- what a token means; `rest` is what follows
-abbrev pub body_on_token : Header → ℕ → List Literal → tokens.Token → (ℕ → List Literal → Body) →
-    Body
-body_on_token h complete literals (token.Word p w) rest =
-    body_on_word complete literals p (judged h complete w) rest
-body_on_token h complete literals (token.LineEnd p) rest = rest complete literals
-body_on_token h complete literals (token.End p) rest = rest complete literals
-
--- the clauses that these tokens have, after so many complete ones and these literals
+-- the clauses that these tokens have, after so many complete ones and these literals; the end of a
+-- line means nothing
 abbrev pub body_among : Header → ℕ → List Literal → List Listed → Place → Ending → Body
-body_among h complete literals [] p ending = body_at_end h complete literals p ending
-body_among h complete literals (t ∷ ts) p ending =
-    body_on_token h complete literals t.token
-    (λ complete literals. body_among h complete literals ts p ending)
+body_among h complete literals [] end ending = body_at_end h complete literals end ending
+body_among h complete literals ((token.Word p w, offset) ∷ ts) end ending =
+    body_on_word complete literals p (judged h complete w)
+    (λ complete literals. body_among h complete literals ts end ending)
+body_among h complete literals (t ∷ ts) end ending = body_among h complete literals ts end ending
 
 -- the clauses after so many complete ones, with these literals of a clause at hand
 abbrev pub body_of : Header → ℕ → List Literal → Listing → Body
@@ -209,14 +181,13 @@ pub record Formula : Type 0 where
   pub clauses : List Clause
   pub fault : Option Fault
 
+-- the formula of a header and of what follows it
+abbrev pub opened : Header → Body → Formula
+opened h b = record { header = Some h; clauses = b.clauses; fault = b.fault }
+
 -- the formula of a header, or of a fault in the header
 abbrev pub formula_with : Result (Header × Listing) (Fault × List ℕ) → Formula
-formula_with (Ok h) =
-    record {
-      header = Some h.0;
-      clauses = (body_of h.0 0 [] h.1).clauses;
-      fault = (body_of h.0 0 [] h.1).fault;
-    }
+formula_with (Ok h) = opened h.0 (body_of h.0 0 [] h.1)
 formula_with (Err f) = record { header = None; clauses = []; fault = Some f.0 }
 
 -- the formula that is read from a place on
@@ -236,18 +207,12 @@ ends_on_word complete offset (Ok (Some l)) rest = rest complete
 ends_on_word complete offset (Ok None) rest = offset ∷ rest (complete + 1)
 ends_on_word complete offset (Err f) rest = offset ∷ []
 
--- what a token adds
-abbrev pub ends_on_token : Header → ℕ → tokens.Token → ℕ → (ℕ → List ℕ) → List ℕ
-ends_on_token h complete (token.Word p w) offset rest =
-    ends_on_word complete offset (judged h complete w) rest
-ends_on_token h complete (token.LineEnd p) offset rest = rest complete
-ends_on_token h complete (token.End p) offset rest = rest complete
-
 -- what these tokens add, after so many complete clauses
 abbrev pub ends_among : Header → ℕ → List Listed → List ℕ
 ends_among h complete [] = []
-ends_among h complete (t ∷ ts) =
-    ends_on_token h complete t.token t.offset (λ complete. ends_among h complete ts)
+ends_among h complete ((token.Word p w, offset) ∷ ts) =
+    ends_on_word complete offset (judged h complete w) (λ complete. ends_among h complete ts)
+ends_among h complete (t ∷ ts) = ends_among h complete ts
 
 -- those after so many complete clauses
 abbrev pub ends_after : Header → ℕ → Listing → List ℕ
@@ -255,7 +220,7 @@ ends_after h complete l = ends_among h complete l.tokens
 
 -- those of a header's clauses, or that of the header's token at fault
 abbrev pub ends_with : Result (Header × Listing) (Fault × List ℕ) → List ℕ
-ends_with (Ok h) = ends_after h.0 0 h.1
+ends_with (Ok h) = ends_among h.0 0 h.1.tokens
 ends_with (Err f) = f.1
 
 -- those of a formula that is read from a place on

@@ -39,10 +39,6 @@ GivesClause (Ok false) c before after = (before ≡ after) × (before ≡ whole)
 GivesClause (Err OutOfMemory) c before after = after ≡ faulty_body OutOfMemory
 GivesClause (Err f) c before after = (before ≡ after) × (before ≡ faulty_body f)
 
--- the formula of a header and what is to come
-abbrev pub opened : Header → Body → Formula
-opened h b = record { header = Some h; clauses = b.clauses; fault = b.fault }
-
 -- the formula of a fault in the header
 abbrev pub unopened : Fault → Formula
 unopened f = record { header = None; clauses = []; fault = Some f }

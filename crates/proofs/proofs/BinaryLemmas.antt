@@ -21,8 +21,9 @@ use Rattle.proofs.specs.Code.Reading.{proof_unless_ended}
 use Rattle.proofs.specs.Code.TextMoves.{EndsProof}
 use Rattle.proofs.specs.Code.Whole.{RunsOn}
 use Rattle.proofs.specs.Binary.{BinarySpot, at_tag, BinaryMove, goes, completes, faults}
-use Rattle.proofs.specs.Binary.{binary_move_of, on_binary_move, binary_at_end, binary_steps_from}
-use Rattle.proofs.specs.Binary.{binary_steps_at}
+use Rattle.proofs.specs.Binary.{binary_move_of, on_binary_move, binary_at_end}
+use Rattle.proofs.specs.Code.Binary.{binary_steps_from}
+use Rattle.proofs.specs.Code.Binary.{binary_steps_at}
 use Rattle.proofs.specs.Code.BinaryMoves.{MovesBinary, binary_left}
 use Rattle.proofs.specs.declared.moved.Moved.{Moved}
 use Rattle.proofs.specs.declared.drat_binary.part.BinaryPart.{BinaryPart}

@@ -7,7 +7,7 @@ use Rattle.cnf_base.specs.Literals.{Literal}
 use Rattle.cnf_base.specs.Printing.{input_of, is_literal, literal_text, literal_words, words_line}
 use Rattle.cnf_base.specs.Stream.{suffix}
 use Rattle.cnf_base.specs.Code.Text.{col_along}
-use Rattle.cnf_base.specs.Text.{line_after}
+use Rattle.cnf_base.specs.Code.Text.{line_after}
 use Rattle.cnf_base.specs.Words.{word_of}
 use Rattle.cnf_base.specs.declared.fault.TextFault.TheVariants.{LiteralTooLarge}
 use Rattle.cnf_base.specs.declared.input.Ending.TheVariants.{End}

@@ -29,7 +29,7 @@ use Rattle.cnf_base.proofs.PrintLemmas.{both}
 use Rattle.proofs.specs.Steps.{Step, named, with_literal}
 use Rattle.proofs.specs.Reading.{Proof, PlacedStep, clean, faulty_proof, with_step}
 use Rattle.proofs.specs.TextSteps.{Move, goes, completes, faults, Format, move_of, on_move}
-use Rattle.proofs.specs.TextSteps.{on_token, literal_or_end, literal_or_fault, steps_among}
+use Rattle.proofs.specs.TextSteps.{literal_or_end, literal_or_fault, steps_among}
 use Rattle.proofs.specs.TextSteps.{steps_of}
 use Rattle.proofs.specs.Grammar.{ReadsAs, IsTextOf, IsGrammar}
 use Rattle.cnf_base.specs.declared.fault.Fault.{Fault}
@@ -92,35 +92,34 @@ module _ {Part : Type 0} (format : Format Part) where
   -- tokens are read as their words are
   tokens_bare : (part : Part) (s : Step) (ts : List Listed) (p : Place)
       → bare (steps_among format part s ts p End)
-      ≡ word_steps part s (filter_map (λ t. said t.token) ts)
+      ≡ word_steps part s (filter_map (λ t. said t.0) ts)
   tokens_bare part s [] p = by (format.is_start part)
     where
       by : (v : Bool) → bare (cond v clean (faulty_proof (Text UnterminatedStep p)))
           ≡ cond v (Some []) None
       by true = refl
       by false = refl
-  tokens_bare part s (t ∷ ts) p = by (λ part s. tokens_bare part s ts p) t.token
+  tokens_bare part s (t ∷ ts) p = by (λ part s. tokens_bare part s ts p) t.0
     where
       words : List Word
-      words = filter_map (λ t. said t.token) ts
+      words = filter_map (λ t. said t.0) ts
 
       IsSo : Type 0
       IsSo = (part : Part) (s : Step)
           → bare (steps_among format part s ts p End) ≡ word_steps part s words
 
       moved : IsSo → (at : Place) (m : Move Part)
-          → bare (on_move format at t.offset m (λ part s. steps_among format part s ts p End))
+          → bare (on_move format at t.1 m (λ part s. steps_among format part s ts p End))
           ≡ on_word m (λ part s. word_steps part s words)
       moved later at (goes part s) = later part s
       moved later at (completes s) =
-          bare-with_step s (ends.Text at) t.offset
+          bare-with_step s (ends.Text at) t.1
           (steps_among format format.start (named 0) ts p End)
           ∙ ap (option_map (λ ss. s ∷ ss)) (later format.start (named 0))
       moved later at (faults f) = refl
 
       by : IsSo → (token : tokens.Token)
-          → bare (on_token format part s token t.offset
-          (λ part s. steps_among format part s ts p End))
+          → bare (steps_among format part s ((token, t.1) ∷ ts) p End)
           ≡ word_steps part s (cons_option (said token) words)
       by later (token.Word at w) = moved later at (move_of format part s w)
       by later (token.LineEnd at) = later part s

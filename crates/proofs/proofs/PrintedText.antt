@@ -6,7 +6,8 @@ use Rattle.std.specs.List.{flat_map, list_all}
 use Rattle.std.proofs.lemmas.List.{append-nil}
 use Rattle.cnf_base.specs.Literals.{Literal}
 use Rattle.cnf_base.specs.Stream.{suffix}
-use Rattle.cnf_base.specs.Text.{line_after, Listing}
+use Rattle.cnf_base.specs.Text.{Listing}
+use Rattle.cnf_base.specs.Code.Text.{line_after}
 use Rattle.cnf_base.specs.Words.{number, word_of}
 use Rattle.cnf_base.specs.declared.input.Ending.TheVariants.{End}
 use Rattle.cnf_base.specs.declared.place.Place.{Place}
@@ -21,7 +22,8 @@ use Rattle.proofs.specs.declared.step_buf.StepKind.{StepKind}
 use Rattle.proofs.specs.declared.step_end.StepEnd.TheVariants as ends
 use Rattle.proofs.specs.Steps.{Step, named, with_literal, with_hint}
 use Rattle.proofs.specs.Reading.{with_step}
-use Rattle.proofs.specs.TextSteps.{goes, completes, Format, move_of, steps_from, steps_listed}
+use Rattle.proofs.specs.TextSteps.{goes, completes, Format, move_of, steps_from}
+use Rattle.proofs.specs.Code.TextSteps.{steps_listed}
 use Rattle.proofs.specs.Code.TextSteps.{steps_at}
 use Rattle.proofs.specs.Printing.{ReadProof, read_of, printed_steps, IsDratStep}
 

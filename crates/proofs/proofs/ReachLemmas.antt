@@ -8,7 +8,6 @@ use Rattle.cnf_base.specs.Text.{Listed}
 use Rattle.cnf_base.specs.declared.input.Ending.{Ending}
 use Rattle.cnf_base.specs.declared.input.Ending.TheVariants.{End, Failed}
 use Rattle.cnf_base.specs.declared.place.Place.{Place}
-use Rattle.cnf_base.specs.declared.token.Token as tokens
 use Rattle.cnf_base.specs.declared.token.Token.TheVariants as token
 use Rattle.cnf_base.specs.declared.fault.Fault.{Fault}
 use Rattle.cnf_base.specs.declared.fault.Fault.TheVariants.{Text, Binary, ReadFailed}
@@ -23,7 +22,7 @@ use Rattle.proofs.specs.Reading.{PlacedStep, Proof, clean, faulty_proof, faulty_
 use Rattle.proofs.specs.Reading.{GivesStep, EndsFrom, PassesNoEnd}
 use Rattle.proofs.specs.Code.Reading.{proof_unless_ended}
 use Rattle.proofs.specs.TextSteps.{Move, goes, completes, faults, Format, move_of, on_move}
-use Rattle.proofs.specs.TextSteps.{on_token, at_end, steps_among}
+use Rattle.proofs.specs.TextSteps.{at_end, steps_among}
 use Rattle.proofs.specs.Binary as binary
 use Rattle.proofs.specs.Binary.{BinarySpot, at_tag, in_step, in_number, BinaryMove, binary_move_of}
 use Rattle.proofs.specs.Binary.{on_binary_move, binary_at_end, binary_steps_among}
@@ -65,16 +64,12 @@ module _ {Part : Type 0} (format : Format Part) (n : ℕ) where
   on_move-from p offset (completes s) rest h later = from-step n offset s (ends.Text p) (rest format.start (named 0)) h (later format.start (named 0))
   on_move-from p offset (faults f) rest h later = from-fault n offset (Text f p) h
 
-  on_token-from : (part : Part) (s : Step) (t : tokens.Token) (offset : ℕ) (rest : Part → Step → Proof) → n ≤ offset → ((part : Part) (s : Step) → EndsFrom n (rest part s))
-      → EndsFrom n (on_token format part s t offset rest)
-  on_token-from part s (token.Word p w) offset rest h later = on_move-from p offset (move_of format part s w) rest h later
-  on_token-from part s (token.LineEnd p) offset rest h later = later part s
-  on_token-from part s (token.End p) offset rest h later = later part s
-
   pub steps_among-from : (part : Part) (s : Step) (ts : List Listed) (p : Place) (ending : Ending) → EndFrom n ts → EndsFrom n (steps_among format part s ts p ending)
   steps_among-from part s [] p ending h = at_end-from part p ending
-  steps_among-from part s (t ∷ ts) p ending h =
-      on_token-from part s t.token t.offset (λ part s. steps_among format part s ts p ending) h.0 (λ part s. steps_among-from part s ts p ending h.1)
+  steps_among-from part s ((token.Word q w, offset) ∷ ts) p ending h =
+      on_move-from q offset (move_of format part s w) (λ part s. steps_among format part s ts p ending) h.0 (λ part s. steps_among-from part s ts p ending h.1)
+  steps_among-from part s ((token.LineEnd q, offset) ∷ ts) p ending h = steps_among-from part s ts p ending h.1
+  steps_among-from part s ((token.End q, offset) ∷ ts) p ending h = steps_among-from part s ts p ending h.1
 
 -- ---- In binary
 

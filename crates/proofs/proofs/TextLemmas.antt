@@ -22,7 +22,8 @@ use Rattle.proofs.specs.Steps.{Step, named}
 use Rattle.proofs.specs.Reading.{Proof, clean, faulty_proof, IsFaulty, GivesStep, PassesNoEnd}
 use Rattle.proofs.specs.Code.Reading.{proof_unless_ended}
 use Rattle.proofs.specs.TextSteps.{Move, goes, completes, faults, Format, move_of, on_move, at_end}
-use Rattle.proofs.specs.TextSteps.{steps_from, steps_listed}
+use Rattle.proofs.specs.TextSteps.{steps_from}
+use Rattle.proofs.specs.Code.TextSteps.{steps_listed}
 use Rattle.proofs.specs.Code.TextMoves.{text_left, EndsProof, MovesText}
 use Rattle.proofs.specs.declared.moved.Moved.{Moved}
 use Rattle.proofs.specs.declared.stopped.Stopped.{Stopped}

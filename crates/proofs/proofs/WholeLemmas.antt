@@ -13,7 +13,8 @@ use Rattle.cnf_base.specs.declared.input.Ending.{Ending}
 use Rattle.proofs.specs.Steps.{Step, with_literal}
 use Rattle.proofs.specs.Binary.{groups_value, in_step, in_number, binary_steps_among, group_move}
 use Rattle.proofs.specs.Binary.{goes, faults, binary_number_move, on_binary_move, completes}
-use Rattle.proofs.specs.Binary.{BinarySpot, binary_move_of, binary_steps_from}
+use Rattle.proofs.specs.Binary.{BinarySpot, binary_move_of}
+use Rattle.proofs.specs.Code.Binary.{binary_steps_from}
 use Rattle.cnf_base.specs.declared.fault.BinaryFault.TheVariants.{BadNumber, LiteralTooLarge}
 use Rattle.std.proofs.lemmas.Bool.{and_parts, true≢false}
 use Rattle.proofs.specs.Code.Whole.{spelled, IsWhole, RunsOn}

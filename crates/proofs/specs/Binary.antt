@@ -5,7 +5,7 @@
 -- judging are our own profile.
 use Rattle.std.specs.Prelude.{ℕ, ◌+◌, ◌*◌, ◌%◌, List, [], ◌∷◌, ◌==◌, if◌then◌else◌, nat_le, ◌++◌}
 use Rattle.std.specs.Prelude.{suc}
-use Rattle.cnf_base.specs.Stream.{next_count, Input, Suffix, from_start}
+use Rattle.cnf_base.specs.Stream.{next_count, Input}
 use Rattle.cnf_base.specs.declared.fault.BinaryFault.TheVariants.{BadTag, LiteralTooLarge}
 use Rattle.cnf_base.specs.declared.fault.BinaryFault.TheVariants.{BadNumber, UnterminatedStep}
 use Rattle.cnf_base.specs.declared.fault.BinaryFault.{BinaryFault}
@@ -87,14 +87,6 @@ binary_steps_among spot s at offset (b ∷ bs) ending =
     on_binary_move at (suc offset) (binary_move_of spot s at b)
     (λ spot s. binary_steps_among spot s (next_count at) (suc offset) bs ending)
 
--- the steps from the byte with this number on, where so much of a step was read before
-abbrev pub binary_steps_from : BinarySpot → Step → ℕ → Suffix → Proof
-binary_steps_from spot s at i = binary_steps_among spot s at i.offset i.bytes i.ending
-
--- the steps from a byte on, and those of a whole input
-abbrev pub binary_steps_at : ℕ → Suffix → Proof
-binary_steps_at at i = binary_steps_from at_tag (named 0) at i
-
 -- the steps of a whole input
 abbrev pub binary_steps : Input → Proof
-binary_steps i = binary_steps_at 1 (from_start i)
+binary_steps i = binary_steps_among at_tag (named 0) 1 0 i.bytes i.ending

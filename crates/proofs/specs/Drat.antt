@@ -4,7 +4,6 @@
 use Rattle.std.specs.Prelude.{Bool, true, false}
 use Rattle.cnf_base.specs.Stream.{Input}
 use Rattle.cnf_base.specs.declared.fault.TextFault.TheVariants.{BadToken}
-use Rattle.cnf_base.specs.declared.word.Number.{Number}
 use Rattle.proofs.specs.Reading.{Proof}
 use Rattle.proofs.specs.Steps.{Step, deleting}
 use Rattle.proofs.specs.TextSteps.{Move, completes, literal_or_fault, goes, faults, Format}
@@ -14,10 +13,6 @@ use Rattle.proofs.specs.TextSteps.{steps_of}
 pub data DratSpot : Type 0 where
   at_start : DratSpot
   in_literals : DratSpot
-
--- a literal, or the `0` that ends the step
-abbrev pub drat_number_move : DratSpot → Step → Number → Move DratSpot
-drat_number_move spot s n = literal_or_fault in_literals completes s n
 
 -- `d` is a step's first word alone
 abbrev pub drat_d_move : DratSpot → Step → Move DratSpot
@@ -31,13 +26,14 @@ abbrev pub is_start : DratSpot → Bool
 is_start at_start = true
 is_start in_literals = false
 
--- a step begins as an addition, with the identifier 0 that all steps have
+-- a step begins as an addition, with the identifier 0 that all steps have; a number is a literal,
+-- or the `0` that ends the step
 abbrev pub drat : Format DratSpot
 drat =
     record {
       start = at_start;
       is_start = is_start;
-      number_move = drat_number_move;
+      number_move = λ spot. literal_or_fault in_literals completes;
       d_move = drat_d_move;
     }
 

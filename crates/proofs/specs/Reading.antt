@@ -41,11 +41,7 @@ pub record IsFaulty (f : Fault) (p : Proof) : Type 0 where
 -- a step before the others
 abbrev pub with_step : Step → StepEnd → ℕ → Proof → Proof
 with_step s end offset p =
-    record {
-      steps = record { step = s; end = end; offset = offset } ∷ p.steps;
-      fault = p.fault;
-      fault_end = p.fault_end;
-    }
+    record p { steps = record { step = s; end = end; offset = offset } ∷ p.steps }
 
 -- where a reader stands in its input, the answer that it gives from now on where it has come to an
 -- end, where the step ends that it gave last, and how many literals and hints it keeps of what it

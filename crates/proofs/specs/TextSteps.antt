@@ -11,7 +11,6 @@ use Rattle.cnf_base.specs.declared.fault.TextFault.{TextFault}
 use Rattle.cnf_base.specs.declared.input.Ending.TheVariants.{End, Failed}
 use Rattle.cnf_base.specs.declared.input.Ending.{Ending}
 use Rattle.cnf_base.specs.declared.place.Place.{Place}
-use Rattle.cnf_base.specs.declared.token.Token as tokens
 use Rattle.cnf_base.specs.declared.token.Token.TheVariants as token
 use Rattle.cnf_base.specs.declared.word.Number.{Number}
 use Rattle.cnf_base.specs.declared.word.Word.TheVariants as words
@@ -66,29 +65,20 @@ on_move format p offset (completes s) rest =
     with_step s (ends.Text p) offset (rest format.start (named 0))
 on_move format p offset (faults f) rest = faulty_at (Text f p) offset
 
--- what a token means; a line's end means nothing
-abbrev pub on_token : {Part : Type 0} → Format Part → Part → Step → tokens.Token → ℕ →
-    (Part → Step → Proof) → Proof
-on_token format part s (token.Word p w) offset rest =
-    on_move format p offset (move_of format part s w) rest
-on_token format part s (token.LineEnd p) offset rest = rest part s
-on_token format part s (token.End p) offset rest = rest part s
-
--- the steps that these tokens have, where so much of a step was read before
+-- the steps that these tokens have, where so much of a step was read before; a line's end means
+-- nothing
 abbrev pub steps_among : {Part : Type 0} → Format Part → Part → Step → List Listed → Place →
     Ending → Proof
-steps_among format part s [] p ending = at_end format part p ending
-steps_among format part s (t ∷ ts) p ending =
-    on_token format part s t.token t.offset (λ part s. steps_among format part s ts p ending)
+steps_among format part s [] end ending = at_end format part end ending
+steps_among format part s ((token.Word p w, offset) ∷ ts) end ending =
+    on_move format p offset (move_of format part s w)
+    (λ part s. steps_among format part s ts end ending)
+steps_among format part s (t ∷ ts) end ending = steps_among format part s ts end ending
 
 -- the steps of a text, where so much of a step was read before
 abbrev pub steps_from : {Part : Type 0} → Format Part → Part → Step → Listing → Proof
 steps_from format part s l = steps_among format part s l.tokens l.end l.ending
 
--- the steps of a text, those from a place on, and those of a whole input
-abbrev pub steps_listed : {Part : Type 0} → Format Part → Listing → Proof
-steps_listed format l = steps_from format format.start (named 0) l
-
 -- the steps of a whole input
 abbrev pub steps_of : {Part : Type 0} → Format Part → Input → Proof
-steps_of format i = steps_listed format (listing_of i)
+steps_of format i = steps_from format format.start (named 0) (listing_of i)

@@ -6,7 +6,8 @@ ghost use Rattle.cnf_base.specs.Readers.{Advances, TellsOf};
 ghost use Rattle.cnf_base.specs.declared.input.Ending.TheVariants.{End};
 ghost use Rattle.proofs.specs.Reading.{GivesStep, PassesNoEnd};
 ghost use Rattle.proofs.specs.Code.TextMoves.{EndsProof};
-ghost use Rattle.proofs.specs.Binary.{BinarySpot, binary_steps_at, binary_at_end};
+ghost use Rattle.proofs.specs.Binary.{BinarySpot, binary_at_end};
+ghost use Rattle.proofs.specs.Code.Binary.{binary_steps_at};
 ghost use Rattle.proofs.specs.Code.Binary.{binary_to_come};
 ghost use Rattle.proofs.specs.Code.BinaryMoves.{IsAt, binary_left};
 

@@ -7,7 +7,8 @@ ghost use Rattle.cnf_base.specs.Readers.{Advances, TellsOf};
 ghost use Rattle.cnf_base.specs.declared.input.Ending.TheVariants.{End};
 ghost use Rattle.proofs.specs.Reading.{GivesStep, PassesNoEnd};
 ghost use Rattle.proofs.specs.Steps.{Step, named};
-ghost use Rattle.proofs.specs.TextSteps.{Format, move_of, steps_listed, at_end};
+ghost use Rattle.proofs.specs.TextSteps.{Format, move_of, at_end};
+ghost use Rattle.proofs.specs.Code.TextSteps.{steps_listed};
 ghost use Rattle.proofs.specs.Code.TextSteps.{left_to};
 ghost use Rattle.proofs.specs.Code.TextMoves.{text_left, EndsProof, FitsMoved, MovesText};
 

@@ -21,7 +21,8 @@ use Rattle.theory.specs.Rules.{Rule, after, sum_of, IsFinite}
 use Rattle.sat_check.specs.FormulaReach.{ReadsNoFurtherThanFault}
 use Rattle.sat_check.specs.Code.Reach.{IsVerdict}
 use Rattle.sat_check.specs.Reach.{ReadsNoFurther, TellsFault, TellsWhy}
-use Rattle.sat_check.specs.Report.{Report, Outcome, Reports, text_of, with_lines, end_report}
+use Rattle.sat_check.specs.Report.{Report, Outcome, Reports, text_of, with_lines}
+use Rattle.sat_check.specs.Code.Checking.{end_report}
 use Rattle.sat_check.specs.Code.Checking.{Standing, Rest, GoesOn, Stops, IsRefused, LeavesRest}
 use Rattle.sat_check.specs.Code.Checking.{LeavesProof, AllReports, RunsInto, counted, traced}
 use Rattle.sat_check.specs.Code.Writer.{LeavesWriter}

@@ -17,11 +17,9 @@ use Rattle.cnf_base.specs.declared.fault.Fault.TheVariants.{Text}
 use Rattle.cnf_base.specs.declared.fault.TextFault.{TextFault}
 use Rattle.cnf_base.specs.declared.fault.TextFault.TheVariants.{BadHeader}
 use Rattle.dimacs.specs.Claim.{Said, nothing, claim_on_token, claim_among, claim_of}
-use Rattle.dimacs.specs.Formula.{and_then, rest_of, word_of_token, word_among, next_word}
-use Rattle.dimacs.specs.Formula.{skip_blank}
-use Rattle.dimacs.specs.Formula.{is_p, is_cnf, fixed, count_of, count, line_end_of_token}
-use Rattle.dimacs.specs.Formula.{line_end_at_end, line_end_among, line_end, and_then_at}
-use Rattle.dimacs.specs.Formula.{header_of, judged, body_on_word, body_on_token, body_among}
+use Rattle.dimacs.specs.Formula.{and_then, word_among, next_word, skip_blank, is_p, is_cnf}
+use Rattle.dimacs.specs.Formula.{fixed, count_of, count, line_end_among, line_end, and_then_at}
+use Rattle.dimacs.specs.Formula.{header_of, judged, body_on_word, body_among}
 use Rattle.dimacs.specs.Formula.{formula_with, formula_of}
 use Rattle.dimacs.specs.declared.header.Header.{Header}
 
@@ -55,17 +53,15 @@ module _ (e : Ending) where
   any_ok (Err f) = tt
 
   word_so : (l : Listing) → EndsSo l → IfOk (next_word l) (λ w. EndsSo w.2)
-  word_so l so = by l.tokens
+  word_so l so = by l.tokens l.ending so
     where
-      of_token : (t : tokens.Token) (ts : List Listed) →
-          IfOk (word_of_token t (rest_of ts l)) (λ w. EndsSo w.2)
-      of_token (token.Word p w) ts = so
-      of_token (token.LineEnd p) ts = tt
-      of_token (token.End p) ts = tt
-
-      by : (ts : List Listed) → IfOk (word_among ts l) (λ w. EndsSo w.2)
-      by [] = tt
-      by (t ∷ ts) = of_token t.token ts
+      by : (ts : List Listed) (ending : Ending) → ending ≡ e →
+          IfOk (word_among ts l.end ending) (λ w. EndsSo w.2)
+      by [] End so = tt
+      by [] Failed so = tt
+      by ((token.Word p w, offset) ∷ ts) ending so = so
+      by ((token.LineEnd p, offset) ∷ ts) ending so = tt
+      by ((token.End p, offset) ∷ ts) ending so = tt
 
   fixed_so : (test : Word → Bool) (l : Listing) → EndsSo l → IfOk (fixed test l) EndsSo
   fixed_so test l so =
@@ -83,21 +79,15 @@ module _ (e : Ending) where
       (any_ok (count_of limit w.0 w.1)) (λ n _. rest))
 
   line_end_so : (l : Listing) → EndsSo l → IfOk (line_end l) EndsSo
-  line_end_so l so = by l.tokens
+  line_end_so l so = by l.tokens l.ending so
     where
-      at_end : (ending : Ending) → IfOk (line_end_at_end ending l) EndsSo
-      at_end End = so
-      at_end Failed = tt
-
-      of_token : (t : tokens.Token) (ts : List Listed) →
-          IfOk (line_end_of_token t (rest_of ts l)) EndsSo
-      of_token (token.Word p w) ts = tt
-      of_token (token.LineEnd p) ts = so
-      of_token (token.End p) ts = so
-
-      by : (ts : List Listed) → IfOk (line_end_among ts l) EndsSo
-      by [] = at_end l.ending
-      by (t ∷ ts) = of_token t.token ts
+      by : (ts : List Listed) (ending : Ending) → ending ≡ e →
+          IfOk (line_end_among ts l.end ending) EndsSo
+      by [] End so = so
+      by [] Failed so = tt
+      by ((token.Word p w, offset) ∷ ts) ending so = tt
+      by ((token.LineEnd p, offset) ∷ ts) ending so = so
+      by ((token.End p, offset) ∷ ts) ending so = so
 
   header_so : (l : Listing) → EndsSo l → IfOk (header_of l) (λ h. EndsSo h.1)
   header_so l so =
@@ -127,21 +117,16 @@ module _ (h : Header) (ts : List Listed) (p : Place) where
   word_failed complete literals q (Ok None) later whole = later _ [] whole
   word_failed complete literals q (Err f) later whole = no_fault _ whole
 
-  token_failed : (complete : ℕ) (literals : List Literal) (t : tokens.Token) →
-      ((complete : ℕ) (literals : List Literal) → Later complete literals)
-      → (body_on_token h complete literals t
-      (λ complete literals. body_among h complete literals ts p Failed)).fault ≡ None → ⊥
-  token_failed complete literals (token.Word q w) later whole =
-      word_failed complete literals q (judged h complete w) later whole
-  token_failed complete literals (token.LineEnd q) later whole = later complete literals whole
-  token_failed complete literals (token.End q) later whole = later complete literals whole
-
 body_failed : (h : Header) (complete : ℕ) (literals : List Literal) (ts : List Listed) (p : Place)
     → (body_among h complete literals ts p Failed).fault ≡ None → ⊥
 body_failed h complete literals [] p whole = no_fault _ whole
-body_failed h complete literals (t ∷ ts) p whole =
-    token_failed h ts p complete literals t.token
+body_failed h complete literals ((token.Word q w, offset) ∷ ts) p whole =
+    word_failed h ts p complete literals q (judged h complete w)
     (λ complete literals. body_failed h complete literals ts p) whole
+body_failed h complete literals ((token.LineEnd q, offset) ∷ ts) p whole =
+    body_failed h complete literals ts p whole
+body_failed h complete literals ((token.End q, offset) ∷ ts) p whole =
+    body_failed h complete literals ts p whole
 
 -- a formula without a fault was read to its end
 pub formula_ends : (i : Input) → (formula_of i).fault ≡ None → i.ending ≡ End
@@ -190,7 +175,7 @@ claim_failed : (s : Said) (ts : List Listed) (p : Place) (listed : List Literal)
     claim_among s ts p Failed ≡ Ok listed → ⊥
 claim_failed s [] p listed ok = not_ok _ listed ok
 claim_failed s (t ∷ ts) p listed ok =
-    by (claim_on_token s t.token) (λ s. claim_failed s ts p listed) ok
+    by (claim_on_token s t.0) (λ s. claim_failed s ts p listed) ok
   where
     by : (r : Result Said Fault) → ((s : Said) → claim_among s ts p Failed ≡ Ok listed → ⊥) →
         and_then r (λ s. claim_among s ts p Failed) ≡ Ok listed → ⊥

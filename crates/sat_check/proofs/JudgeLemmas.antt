@@ -11,7 +11,8 @@ use Rattle.cnf_base.specs.declared.fault.Fault.{Fault}
 use Rattle.cnf_base.specs.declared.fault.Fault.TheVariants.{Text, Binary, ReadFailed, OutOfMemory}
 use Rattle.cnf_base.proofs.StreamLemmas.{Along-then, Along-map}
 use Rattle.dimacs.specs.Formula.{Body, Formula, formula_at, formula_of, ends_at}
-use Rattle.dimacs.specs.Reading.{FormulaReading, clauses_to_come, ends_to_come, opened, unopened}
+use Rattle.dimacs.specs.Reading.{FormulaReading, clauses_to_come, ends_to_come, unopened}
+use Rattle.dimacs.specs.Formula.{opened}
 use Rattle.dimacs.specs.Reading.{PassesNoEnd}
 use Rattle.sat_check.specs.FormulaReach.{ReadsNoFurtherThanFault}
 use Rattle.sat_check.specs.ModelReport.{meets, first_unmet}

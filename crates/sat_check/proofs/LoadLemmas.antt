@@ -18,7 +18,8 @@ use Rattle.cnf_base.specs.declared.fault.Fault.TheVariants.{Text, Binary, ReadFa
 use Rattle.cnf_base.proofs.StreamLemmas.{Along-then, Along-map}
 use Rattle.dimacs.specs.Formula.{Body, Formula, formula_at, formula_of, ends_at}
 use Rattle.dimacs.specs.declared.header.Header.{Header}
-use Rattle.dimacs.specs.Reading.{FormulaReading, clauses_to_come, ends_to_come, opened, unopened}
+use Rattle.dimacs.specs.Reading.{FormulaReading, clauses_to_come, ends_to_come, unopened}
+use Rattle.dimacs.specs.Formula.{opened}
 use Rattle.dimacs.specs.Reading.{PassesNoEnd}
 use Rattle.steps.specs.Session.{SessionState, fresh, view_of}
 use Rattle.theory.specs.Rules.{Rule, lrat, drat, State, by_ids, by_copies, start, with_input}

@@ -15,7 +15,8 @@ use Rattle.cnf_base.proofs.StreamLemmas.{Along-then, Along-map, Along-none, Alon
 use Rattle.dimacs.specs.Formula.{Body, Formula}
 use Rattle.dimacs.specs.declared.header.Header.{Header}
 use Rattle.dimacs.specs.Reading.{FormulaReading, clauses_to_come, GivesClause, ends_to_come}
-use Rattle.dimacs.specs.Reading.{PassesNoEnd, GivesEnd, opened}
+use Rattle.dimacs.specs.Reading.{PassesNoEnd, GivesEnd}
+use Rattle.dimacs.specs.Formula.{opened}
 use Rattle.sat_check.specs.FormulaReach.{ReadsNoFurtherThanFault}
 use Rattle.sat_check.specs.Code.FormulaReach.{LeavesFault}
 

@@ -6,7 +6,6 @@ use Rattle.cnf_base.specs.Seen.{OfBothSeen}
 use Rattle.cnf_base.specs.Stream.{Input, Reader}
 use Rattle.cnf_base.specs.declared.fault.Fault.{Fault}
 use Rattle.cnf_base.specs.declared.fault.Fault.TheVariants as faults
-use Rattle.cnf_base.specs.declared.fault.TextFault.{TextFault}
 use Rattle.cnf_base.specs.declared.fault.TextFault.TheVariants as text
 use Rattle.dimacs.specs.Formula.{Formula, formula_of}
 use Rattle.dimacs.specs.declared.header.Header.{Header}
@@ -17,7 +16,7 @@ use Rattle.theory.specs.Verdicts.{Ending, verified, refused, no_empty_clause, Ve
 use Rattle.theory.proofs.LawLemmas.Verdicts.{verdict_sound, verdict_unique}
 use Rattle.sat_check.specs.Code.Checking.{AllReports, RunsInto}
 use Rattle.sat_check.specs.FormulaReach.{ReadsNoFurtherThanFault}
-use Rattle.sat_check.specs.Lines.{fault_status, text_status}
+use Rattle.sat_check.specs.Lines.{fault_status}
 use Rattle.sat_check.specs.Reach.{ReadsNoFurther, TellsWhy}
 use Rattle.sat_check.specs.Report.{Report, Outcome, ReportsFormula, ProofReport, Verifies, Reports}
 use Rattle.sat_check.specs.Report.{ProofConsequences, ChecksProof, IsFlushedOrFailed, IsUnlessBroken, bare_steps, peak_of, verdict_report}
@@ -31,13 +30,10 @@ use Rattle.sat_check.proofs.OutcomeLemmas.{both_told}
 use Rattle.sat_check.proofs.WrittenLemmas.{written_verified}
 
 -- no fault is a positive verdict
-kind_is_no_verdict : (k : TextFault) → text_status k ≡ Verified → ⊥
-kind_is_no_verdict text.NotClaimed e = cc
-kind_is_no_verdict text.Complement e = cc
-kind_is_no_verdict _ e = cc
-
 pub fault_is_no_verdict : (f : Fault) → fault_status f ≡ Verified → ⊥
-fault_is_no_verdict (faults.Text k p) e = kind_is_no_verdict k e
+fault_is_no_verdict (faults.Text text.NotClaimed p) e = cc
+fault_is_no_verdict (faults.Text text.Complement p) e = cc
+fault_is_no_verdict (faults.Text _ p) e = cc
 fault_is_no_verdict (faults.Binary k n) e = cc
 fault_is_no_verdict faults.ReadFailed e = cc
 fault_is_no_verdict faults.OutOfMemory e = cc

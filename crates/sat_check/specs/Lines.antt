@@ -67,18 +67,13 @@ fault_line name (fault.Binary kind n) =
 fault_line name fault.ReadFailed = codes "c cannot read " ++ name
 fault_line name fault.OutOfMemory = []
 
--- the status of a fault in a text: an output that claims no model is well formed
-abbrev pub text_status : TextFault → Status
-text_status text.NotClaimed = status.NotVerified
-text_status text.Complement = status.NotVerified
-text_status _ = status.Malformed
-
--- the status of a fault
+-- the status of a fault: an output that claims no model is well formed
 abbrev pub fault_status : Fault → Status
-fault_status (fault.Text kind p) = text_status kind
-fault_status (fault.Binary kind n) = status.Malformed
+fault_status (fault.Text text.NotClaimed p) = status.NotVerified
+fault_status (fault.Text text.Complement p) = status.NotVerified
 fault_status fault.ReadFailed = status.ReadFailed
 fault_status fault.OutOfMemory = status.OutOfMemory
+fault_status _ = status.Malformed
 
 -- ---- Steps
 
@@ -119,8 +114,7 @@ with_cause front (refusal.GroupWithoutConflict k) =
 with_cause front (refusal.Unnamed k) =
     front ++ codes "clause " ++ decimal k ++ codes " holds the complement and is not named"
 with_cause front refusal.NoConflict = front ++ codes "no conflict"
-with_cause front refusal.OutOfMemory = front
-with_cause front refusal.Ended = front
+with_cause front _ = front
 
 -- the line of the refused step n
 abbrev pub refusal_line : ℕ → Refusal → List ℕ

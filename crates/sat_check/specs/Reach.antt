@@ -2,7 +2,8 @@
 -- root-level literal was lost before it, and what is wrong with an input.
 use Rattle.std.specs.List.{list_any}
 use Rattle.std.specs.Prelude.{List, [], ◌∷◌, length, slice_get, Option, None, Some, ◌≡◌, ◌⊎◌, true, false}
-use Rattle.std.specs.Prelude.{◌↔◌, ℕ, ◌+◌, ◌≤◌, IsTrue, IsSome}
+use Rattle.std.specs.Prelude.{◌↔◌, ℕ, ◌+◌, ◌≤◌, IsTrue, IsSome, option_map}
+use Rattle.std.specs.Option.{option_or}
 use Rattle.cnf_base.specs.Literals.{Clause}
 use Rattle.cnf_base.specs.Stream.{Reader, bytes_read}
 use Rattle.cnf_base.specs.declared.fault.Fault.{Fault}
@@ -28,15 +29,10 @@ deciding_step steps words (refused r) = slice_get steps (length words)
 deciding_step steps words no_empty_clause = None
 
 -- where the step ends that is refused; none where no step is
-abbrev pub end_of : Option PlacedStep → Option StepEnd
-end_of None = None
-end_of (Some placed) = Some placed.end
-
--- where the step ends that is refused, by the verdict
 abbrev pub refused_end : List PlacedStep → List Accepted → Ending → Option StepEnd
-refused_end steps words verified = None
-refused_end steps words (refused r) = end_of (slice_get steps (length words))
-refused_end steps words no_empty_clause = None
+refused_end steps words (refused r) =
+    option_map (λ placed. placed.end) (slice_get steps (length words))
+refused_end steps words ending = None
 
 -- the formula decides alone: it has a fault, or an empty clause
 abbrev pub NeedsNoProof : Option Fault → List Clause → Type 0
@@ -56,9 +52,8 @@ pub record ReadsNoFurther (rule : Rule) (f : Formula) (p : Proof) (old new : Rea
 -- what is wrong with an input, by the faults of the formula and of the second one: the formula's
 -- comes first
 abbrev pub first_fault : (formula second : Option Fault) → Option InputFault
-first_fault (Some f) second = Some (of.Formula f)
-first_fault None (Some f) = Some (of.Second f)
-first_fault None None = None
+first_fault formula second =
+    option_or (option_map of.Formula formula) (option_map of.Second second)
 
 -- A check tells what is wrong with an input: exactly where the status is `Malformed`.
 pub record TellsFault (formula second : Option Fault) (checked : Checked) : Type 0 where

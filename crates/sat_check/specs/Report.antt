@@ -68,16 +68,13 @@ abbrev pub trace_lines : ℕ → List Accepted → List (List ℕ)
 trace_lines n [] = []
 trace_lines n (word ∷ words) = trace_line n word ∷ trace_lines (n + 1) words
 
--- how a proof ends that runs out of steps
-abbrev pub end_report : Option Fault → Report
-end_report None = concluded a_proof end_line NotVerified
-end_report (Some f) = concluded a_proof (fault_line (codes "proof") f) (fault_status f)
-
--- the verdict after so many accepted steps
+-- the verdict after so many accepted steps; a proof that runs out of steps may end in a fault
 abbrev pub verdict_report : ℕ → ℕ → Ending → Option Fault → Report
 verdict_report n peak verified fault = concluded a_proof (steps_line n peak) Verified
 verdict_report n peak (refused r) fault = concluded a_proof (refusal_line (n + 1) r) NotVerified
-verdict_report n peak no_empty_clause fault = end_report fault
+verdict_report n peak no_empty_clause None = concluded a_proof end_line NotVerified
+verdict_report n peak no_empty_clause (Some f) =
+    concluded a_proof (fault_line (codes "proof") f) (fault_status f)
 
 -- the greatest sum of the sizes of the live clauses, over a state and those after accepted steps
 abbrev pub peak_of : State → List Step → List Accepted → ℕ

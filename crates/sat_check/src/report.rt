@@ -2,7 +2,7 @@
 
 ghost use Rattle.std.specs.Prelude.{◌≡◌, ◌++◌, ◌/◌, codes, decimal, IfOk};
 ghost use Rattle.sat_check.specs.Lines.{formula_line, fault_line};
-ghost use Rattle.sat_check.specs.Lines.{fault_status, text_status, word_text, trace_line};
+ghost use Rattle.sat_check.specs.Lines.{fault_status, word_text, trace_line};
 ghost use Rattle.sat_check.specs.Lines.{sign_text, with_cause, refusal_line, steps_line, end_line};
 ghost use Rattle.sat_check.specs.Lines.{unmet_line, clauses_line, sentence};
 ghost use Rattle.sat_check.specs.Code.Subjects.{certificate_of};
@@ -59,8 +59,10 @@ pub fn fault_status(fault: Fault) -> Status
     ensures { result ≡ fault_status fault }
 {
     match fault {
-        Fault::Text(kind, _) => text_status(kind),
-        Fault::Binary(_, _) => Status::Malformed,
+        Fault::Text(TextFault::NotClaimed, _) | Fault::Text(TextFault::Complement, _) => {
+            Status::NotVerified
+        }
+        Fault::Text(_, _) | Fault::Binary(_, _) => Status::Malformed,
         Fault::ReadFailed => Status::ReadFailed,
         Fault::OutOfMemory => Status::OutOfMemory,
     }
@@ -212,14 +214,5 @@ fn word_text(word: Accepted) -> &'static [u8]
         Accepted::Pr => b" add pr",
         Accepted::Deleted => b" delete",
         Accepted::Ignored => b" ignored",
-    }
-}
-
-fn text_status(kind: TextFault) -> Status
-    ensures { result ≡ text_status kind }
-{
-    match kind {
-        TextFault::NotClaimed | TextFault::Complement => Status::NotVerified,
-        _ => Status::Malformed,
     }
 }

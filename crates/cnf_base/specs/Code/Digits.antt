@@ -1,12 +1,26 @@
 -- The digits of a number, byte by byte.
 use Rattle.std.specs.Prelude.{ℕ, ◌==◌, ◌||◌, Bool, ◌+◌, ◌-◌, ◌*◌, ◌^◌, min, if◌then◌else◌, true}
 use Rattle.std.specs.Prelude.{false, ◌≡◌, ◌<◌, List, [], ◌∷◌, length, ◌≤◌, take}
+use Rattle.std.specs.Prelude.{fold, Option, unwrap_or, option_map}
 use Rattle.cnf_base.specs.Words.{is_digit, number, is_counting, size_of}
+use Rattle.cnf_base.specs.declared.word.Number.{Number}
 use Rattle.cnf_base.specs.declared.scanner.digits.Digits.TheVariants.{Nothing, Zero, Counting}
 use Rattle.cnf_base.specs.declared.scanner.digits.Digits.TheVariants.{NoNumber}
 use Rattle.cnf_base.specs.declared.scanner.digits.Digits.{Digits}
 use Rattle.cnf_base.specs.declared.word.Word.TheVariants as words
 use Rattle.cnf_base.specs.declared.word.Word.{Word}
+
+-- the number that digits write after the digits of a number
+abbrev pub decimal_after : ℕ → List ℕ → ℕ
+decimal_after number digits = fold (λ n d. n * 10 + (d - 48)) number digits
+
+-- the number that digits write
+abbrev pub decimal_value : List ℕ → ℕ
+decimal_value digits = decimal_after 0 digits
+
+-- the number, or this word where there is none
+abbrev pub number_or : Option Number → Word → Word
+number_or number word = unwrap_or (option_map words.Number number) word
 
 -- whether a number may begin with the byte
 abbrev pub begins_number : ℕ → Bool

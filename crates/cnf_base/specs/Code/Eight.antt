@@ -3,7 +3,8 @@ use Rattle.std.specs.Int.Bits.{bit_xor}
 use Rattle.std.specs.List.{list_all}
 use Rattle.std.specs.Prelude.{ℕ, ◌+◌, ◌*◌, ◌<◌, ◌≤◌, ◌≡◌, true, List, [], ◌∷◌, length, take}
 use Rattle.std.specs.Prelude.{fold, slice_index}
-use Rattle.cnf_base.specs.Words.{is_digit, decimal_value}
+use Rattle.cnf_base.specs.Words.{is_digit}
+use Rattle.cnf_base.specs.Code.Digits.{decimal_value}
 
 -- bytes as one number, the first one lowest
 abbrev pub packed : List ℕ → ℕ

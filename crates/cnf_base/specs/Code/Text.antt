@@ -2,13 +2,27 @@
 use Rattle.std.specs.Prelude.{ℕ, List, [], ◌∷◌, true, false, ◌≡◌, ◌<◌, Result, Ok, Err, OnOk, OnErr}
 use Rattle.std.specs.Prelude.{length, slice_index}
 use Rattle.cnf_base.specs.Stream.{Suffix, suffix, Stream, Along, most_to_come, tells_failure}
-use Rattle.cnf_base.specs.Text.{col_after, spot, lines_listing, Listing, lines_of, with_front}
-use Rattle.cnf_base.specs.Text.{listed, is_separator, skips_at, listing_at}
+use Rattle.cnf_base.specs.Stream.{next_count}
+use Rattle.cnf_base.specs.Text.{Listed, spot, lines_listing, Listing, lines_of, with_front}
+use Rattle.cnf_base.specs.Text.{is_separator, skips_at, listing_at}
 use Rattle.cnf_base.specs.declared.input.Ending.TheVariants.{Failed}
 use Rattle.cnf_base.specs.declared.input.ReadFailed.{ReadFailed}
 use Rattle.cnf_base.specs.declared.place.Place.{Place}
+use Rattle.cnf_base.specs.declared.token.Token as tokens
 use Rattle.cnf_base.specs.declared.token.Token.TheVariants as token
 use Rattle.cnf_base.specs.declared.word.Word.{Word}
+
+-- one column on
+abbrev pub col_after : Place → Place
+col_after p = record { line = p.line; col = next_count p.col }
+
+-- the start of the next line
+abbrev pub line_after : Place → Place
+line_after p = record { line = next_count p.line; col = 1 }
+
+-- a token with the offset of the byte after it
+abbrev pub listed : tokens.Token → ℕ → Listed
+listed t offset = (t, offset)
 
 -- the place after these bytes of a line
 abbrev pub col_along : Place → List ℕ → Place

@@ -2,7 +2,8 @@
 use Rattle.std.specs.List.{list_all}
 use Rattle.std.specs.Prelude.{ℕ, not, Bool, ◌≡◌, ◌<◌, true, List, length, slice_index, take}
 use Rattle.cnf_base.specs.Text.{is_separator}
-use Rattle.cnf_base.specs.Words.{word_of, is_digit, decimal_after}
+use Rattle.cnf_base.specs.Words.{word_of, is_digit}
+use Rattle.cnf_base.specs.Code.Digits.{decimal_after}
 use Rattle.cnf_base.specs.declared.word.Number.{Number}
 use Rattle.cnf_base.specs.declared.word.Word.TheVariants as words
 

@@ -4,7 +4,8 @@ use Rattle.std.specs.Prelude.{false}
 use Rattle.cnf_base.specs.Stream.{Suffix}
 use Rattle.cnf_base.specs.declared.fault.Fault.{Fault}
 use Rattle.proofs.specs.Binary.{groups_value, BinarySpot, at_tag, in_step, in_number, BinaryMove}
-use Rattle.proofs.specs.Binary.{goes, completes, faults, binary_steps_at}
+use Rattle.proofs.specs.Binary.{goes, completes, faults}
+use Rattle.proofs.specs.Code.Binary.{binary_steps_at}
 use Rattle.proofs.specs.Reading.{Proof, clean, faulty_proof}
 use Rattle.proofs.specs.Steps.{Step}
 use Rattle.proofs.specs.declared.drat_binary.groups.Groups.{Groups}

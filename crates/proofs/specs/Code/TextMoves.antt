@@ -4,7 +4,8 @@ use Rattle.cnf_base.specs.Text.{Listing}
 use Rattle.cnf_base.specs.declared.fault.Fault.{Fault}
 use Rattle.proofs.specs.Reading.{Proof, clean, faulty_proof}
 use Rattle.proofs.specs.Steps.{Step}
-use Rattle.proofs.specs.TextSteps.{Move, goes, completes, faults, Format, steps_listed}
+use Rattle.proofs.specs.TextSteps.{Move, goes, completes, faults, Format}
+use Rattle.proofs.specs.Code.TextSteps.{steps_listed}
 use Rattle.proofs.specs.declared.moved.Moved.TheVariants.{To, Complete}
 use Rattle.proofs.specs.declared.moved.Moved.{Moved}
 use Rattle.proofs.specs.declared.stopped.Stopped.TheVariants.{Text, OutOfMemory}

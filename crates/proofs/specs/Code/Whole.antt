@@ -3,7 +3,8 @@ use Rattle.std.specs.List.{list_all}
 use Rattle.std.specs.Prelude.{◌≡◌, ℕ, ◌+◌, ◌*◌, ◌%◌, ◌≤◌, ◌<◌, ◌≢◌, List, [], ◌∷◌, ◌++◌, take, length}
 use Rattle.std.specs.Prelude.{true, suc, nat_le, if◌then◌else◌}
 use Rattle.cnf_base.specs.Stream.{Along, Stream, most_to_come, tells_failure}
-use Rattle.proofs.specs.Binary.{BinarySpot, binary_steps_from, groups_value}
+use Rattle.proofs.specs.Binary.{BinarySpot, groups_value}
+use Rattle.proofs.specs.Code.Binary.{binary_steps_from}
 use Rattle.proofs.specs.Steps.{Step}
 use Rattle.proofs.specs.declared.drat_binary.whole.Spelled.{Spelled}
 

@@ -16,7 +16,7 @@ use Rattle.proofs.specs.Steps.{Step}
 use Rattle.proofs.specs.declared.step_end.StepEnd.{StepEnd}
 use Rattle.theory.specs.Losses.{StepLoses, HasLost}
 use Rattle.theory.specs.Rules.{Rule, start, sum_of, Same, State, Answers, after, IsFinite}
-use Rattle.theory.specs.Verdicts.{is_empty, Ending, Ends, Verdict, is_last}
+use Rattle.theory.specs.Verdicts.{is_empty, Ending, Ends, Verdict, is_last, no_empty_clause}
 use Rattle.theory.specs.declared.accepted.Accepted.{Accepted}
 use Rattle.theory.specs.declared.refusal.Refusal.TheVariants.{OutOfMemory as RefusedMemory}
 use Rattle.theory.specs.declared.refusal.Refusal.{Refusal}
@@ -27,12 +27,17 @@ use Rattle.sat_check.specs.Lines.{trace_line}
 use Rattle.sat_check.specs.Reach.{deciding_step, refused_end, NeedsNoProof, TellsWhy}
 use Rattle.sat_check.specs.Reach.{ReadsNoFurther, TellsFault}
 use Rattle.sat_check.specs.Report.{Report, bare_steps, peak_of, proof_report, Reports, text_of}
+use Rattle.sat_check.specs.Report.{verdict_report}
 use Rattle.sat_check.specs.Report.{Outcome, is_cut_short, IsFlushedOrFailed, with_lines}
 use Rattle.sat_check.specs.declared.checked.Checked.{Checked}
 use Rattle.sat_check.specs.declared.status.Status.TheVariants.{NotVerified, OutOfMemory as NoMemory}
 use Rattle.sat_check.specs.declared.status.Status.TheVariants.{WriteFailed, ReadFailed}
 use Rattle.sat_check.specs.declared.status.Status.TheVariants.{Malformed}
 use Rattle.sat_check.specs.declared.status.Status.{Status}
+
+-- how a proof ends that runs out of steps
+abbrev pub end_report : Option Fault → Report
+end_report fault = verdict_report 0 0 no_empty_clause fault
 
 -- where a reader stands, and what is still to come of an input
 pub record Standing : Type 0 where

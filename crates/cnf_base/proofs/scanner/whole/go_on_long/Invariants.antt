@@ -1,7 +1,8 @@
 -- The bytes so far are digits, and the number is theirs.
 use Rattle.std.proofs.Common.{◌≡◌, true, take}
 use Rattle.std.specs.List.{list_all}
-use Rattle.cnf_base.specs.Words.{is_digit, decimal_after}
+use Rattle.cnf_base.specs.Words.{is_digit}
+use Rattle.cnf_base.specs.Code.Digits.{decimal_after}
 use Rattle.cnf_base.proofs.scanner.whole.go_on_long.Given as goal
 
 abbrev pub invariant-loop-count : goal.invariant-loop-count

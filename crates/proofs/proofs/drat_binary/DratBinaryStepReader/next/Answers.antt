@@ -1,6 +1,6 @@
 -- An answer that is kept.
 use Rattle.std.proofs.Common.{Some, rules}
-use Rattle.proofs.specs.Binary.{binary_steps_at}
+use Rattle.proofs.specs.Code.Binary.{binary_steps_at}
 use Rattle.proofs.specs.Code.BinaryMoves.{binary_left}
 use Rattle.proofs.proofs.BinaryLemmas.{binary_kept}
 use Rattle.proofs.proofs.ReachLemmas.{Open-step}
