@@ -1,4 +1,5 @@
 -- A check, step by step.
+use Rattle.theory.specs.Verdicts.{system_of}
 use Rattle.std.proofs.Common.{◌≡◌, ℕ, ◌+◌, ◌≤◌, Bool, true, false, Option, None, Some, List, []}
 use Rattle.std.proofs.Common.{◌++◌, refl, sym, ap, ◌∙◌, subst, arith, append_assoc, ◌⊎◌}
 use Rattle.std.proofs.Common.{inl, inr}
@@ -254,7 +255,7 @@ runs_nothing rule trace steps formula proof new checked was now same is o writer
 
 -- what was left of a proof, and that no more than 65536 bytes were read past what was taken, say how far it was read
 reads_no_further : (rule : Rule) (i : Input) (k : Suffix) (p : Proof) (old new : Reader) (checked : Checked) → LeavesProof rule (formula_of i).fault (formula_of i).clauses p old new k checked
-    → bytes_read old new + 0 ≤ k.offset + 65536 → ReadsNoFurther rule (formula_of i) p old new
+    → bytes_read old new + 0 ≤ k.offset + 65536 → ReadsNoFurther (system_of rule) (formula_of i) p old new
 reads_no_further rule i k p old new checked leaves within = record {
   unread = leaves.unread;
   past = λ words ending last whole e d. by last.offset (leaves.past words ending last whole e d);
@@ -274,7 +275,7 @@ module _ (rule : Rule) (trace : Bool) (to_come : ProofReading → Suffix → Pro
   -- what a check did of a proof from where a reader stands
   abbrev Did : Seen formula formula_new → ProofReading → Suffix → Suffix → Type 0
   Did f x j k =
-      (i : Input) → IsSeen f i → Reports rule trace i (to_come x j) was.held now.held checked.status
+      (i : Input) → IsSeen f i → Reports (system_of rule) trace i (to_come x j) was.held now.held checked.status
       × LeavesProof rule (formula_of i).fault (formula_of i).clauses (to_come x j) x.stream.reader last.reader k checked
       × ReadsNoFurtherThanFault i formula formula_new
 
@@ -292,8 +293,8 @@ module _ (rule : Rule) (trace : Bool) (to_come : ProofReading → Suffix → Pro
         first = f;
         second = Seen-run proof borrows last Q within;
         fact = λ i j s t.
-            let S : Proof → Type 0 = λ p. Reports rule trace i p was.held now.held checked.status
-            × ReadsNoFurther rule (formula_of i) p proof last.reader × TellsWhy rule (formula_of i).fault (formula_of i).clauses p checked
+            let S : Proof → Type 0 = λ p. Reports (system_of rule) trace i p was.held now.held checked.status
+            × ReadsNoFurther (system_of rule) (formula_of i) p proof last.reader × TellsWhy (system_of rule) (formula_of i).fault (formula_of i).clauses p checked
             × ReadsNoFurtherThanFault i formula formula_new in
             let seen = Seen-fact proof borrows last Q within j t in
             let did = seen.2.0 i s in
@@ -307,8 +308,8 @@ reports_as rule other trace steps others formula formula_new proof new checked w
   first = reports.first;
   second = reports.second;
   fact = λ i j s t.
-      let P : Rule → Proof → Type 0 = λ q p. Reports q trace i p was.held now.held checked.status
-      × ReadsNoFurther q (formula_of i) p proof new × TellsWhy q (formula_of i).fault (formula_of i).clauses p checked
+      let P : Rule → Proof → Type 0 = λ q p. Reports (system_of q) trace i p was.held now.held checked.status
+      × ReadsNoFurther (system_of q) (formula_of i) p proof new × TellsWhy (system_of q) (formula_of i).fault (formula_of i).clauses p checked
       × ReadsNoFurtherThanFault i formula formula_new in
       let Q : Rule → Type 0 = λ q. P q (steps j) in
       subst (P other) (all j) (subst Q is (reports.fact i j s t));

@@ -13,6 +13,7 @@ pub mod ShownLemmas
 pub mod RunLemmas
 pub mod SoundLemmas
 pub mod StepLemmas
+pub mod SystemLemmas
 pub mod TheoremLemmas
 pub mod UniqueLemmas
 pub mod WrittenLemmas

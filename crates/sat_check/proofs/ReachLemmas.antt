@@ -1,4 +1,5 @@
 -- How far a proof is read, step by step.
+use Rattle.theory.specs.Verdicts.{system_of}
 use Rattle.std.proofs.Common.{◌≡◌, ℕ, ◌≤◌, true, false, Option, None, Some, List, [], ◌∷◌, length}
 use Rattle.std.proofs.Common.{refl, sym, ap, ◌∙◌, subst, inl, inr, ◌⊎◌, ◌↔◌, Ok, Err, is_some, IsSome}
 use Rattle.std.specs.Prelude.{slice_get, IsTrue}
@@ -86,7 +87,7 @@ TellsFault-none formula second checked none not = record { malformed = λ m. abs
 no_loss : (checked : Checked) (X : Type 0) → checked.refused ≡ None → checked.literal_lost ≡ false → IsTrue checked.literal_lost ↔ (IsSome checked.refused × X)
 no_loss checked X none quiet = (λ told. absurd (false≢true (sym quiet ∙ told)), λ p. absurd (false≢true (sym (ap is_some none) ∙ p.0)))
 
-pub TellsLoss-none : (rule : Rule) (fault : Option Fault) (clauses : List Clause) (p : Proof) (checked : Checked) → checked.refused ≡ None → checked.literal_lost ≡ false → TellsLoss rule fault clauses p checked
+pub TellsLoss-none : (rule : Rule) (fault : Option Fault) (clauses : List Clause) (p : Proof) (checked : Checked) → checked.refused ≡ None → checked.literal_lost ≡ false → TellsLoss (system_of rule) fault clauses p checked
 TellsLoss-none rule fault clauses p checked none quiet = record {
   lost = λ words ending whole is e. no_loss checked _ none quiet;
   only = λ not. quiet;

@@ -1,4 +1,5 @@
 -- A whole report.
+use Rattle.theory.specs.Verdicts.{system_of}
 use Rattle.std.proofs.Common.{◌≡◌, ℕ, ◌≤◌, max, Bool, true, false, ◌||◌, Option, None, Some, List}
 use Rattle.std.proofs.Common.{[], ◌∷◌, refl, sym, ap, ◌∙◌, subst, codes, arith}
 use Rattle.std.specs.Prelude.{Result, Ok, Err}
@@ -22,7 +23,8 @@ use Rattle.theory.proofs.LawLemmas.Rules.{sum_same}
 use Rattle.theory.proofs.LawLemmas.Verdicts.{ends_same, some_ending, some_verdict}
 use Rattle.sat_check.specs.Lines.{a_proof, formula_line, steps_line, fault_line, fault_status}
 use Rattle.sat_check.specs.Report.{Report, Outcome, Reports, concluded, with_lines, Checks}
-use Rattle.sat_check.specs.Report.{ReportsFormula, ProofReport, bare_steps, peak_of, proof_report}
+use Rattle.sat_check.specs.Report.{ReportsFormula, ProofReport, bare_steps, proof_report}
+use Rattle.sat_check.specs.Code.Checking.{peak_of}
 use Rattle.sat_check.specs.Code.Checking.{IsLoaded, Loads, Rest}
 use Rattle.sat_check.proofs.ShownLemmas.{steps_same}
 use Rattle.sat_check.specs.declared.status.Status.{Status}
@@ -45,7 +47,7 @@ module _ (rule : Rule) (s : View) (clauses : List Clause) (l : IsLoaded rule s c
 
   -- no clause is empty, and the steps were checked
   pub checks_rest : (trace : Bool) (h : Header) (p : Proof) (r : Report) → s.is_verified ≡ false → Rest trace s.state 0 s.peak p r
-      → Checks rule trace h clauses p (with_lines (formula_line h ∷ []) r)
+      → Checks (system_of rule) trace h clauses p (with_lines (formula_line h ∷ []) r)
   checks_rest trace h p r unverified rest = record {
     words = rest.words;
     ending = rest.ending;
@@ -63,7 +65,7 @@ module _ (rule : Rule) (s : View) (clauses : List Clause) (l : IsLoaded rule s c
 
   -- some clause is empty
   pub checks_verified : (trace : Bool) (h : Header) (p : Proof) → s.is_verified ≡ true
-      → Checks rule trace h clauses p (with_lines (formula_line h ∷ []) (concluded a_proof (steps_line 0 s.peak) Verified))
+      → Checks (system_of rule) trace h clauses p (with_lines (formula_line h ∷ []) (concluded a_proof (steps_line 0 s.peak) Verified))
   checks_verified trace h p is = record {
     words = [];
     ending = verified;
@@ -82,10 +84,10 @@ module _ (rule : Rule) (s : View) (clauses : List Clause) (l : IsLoaded rule s c
       untraced false m = refl
 
   -- there is a report in any case
-  pub checks_some : (trace : Bool) (h : Header) (p : Proof) → (r : Report) × Checks rule trace h clauses p (with_lines (formula_line h ∷ []) r)
+  pub checks_some : (trace : Bool) (h : Header) (p : Proof) → (r : Report) × Checks (system_of rule) trace h clauses p (with_lines (formula_line h ∷ []) r)
   checks_some trace h p = by s.is_verified refl
     where
-      by : (v : Bool) → s.is_verified ≡ v → (r : Report) × Checks rule trace h clauses p (with_lines (formula_line h ∷ []) r)
+      by : (v : Bool) → s.is_verified ≡ v → (r : Report) × Checks (system_of rule) trace h clauses p (with_lines (formula_line h ∷ []) r)
       by true e = (concluded a_proof (steps_line 0 s.peak) Verified, checks_verified trace h p e)
       by false e =
           let v = some_ending (bare_steps p) s.state loaded_finite in
@@ -95,44 +97,44 @@ module _ (rule : Rule) (s : View) (clauses : List Clause) (l : IsLoaded rule s c
 -- ---- From the formula to the report
 
 -- a formula without a fault
-pub reports_checked : (rule : Rule) (trace : Bool) (f : Formula) (p : Proof) (h : Header) (r : Report) → f.header ≡ Some h → f.fault ≡ None → Checks rule trace h f.clauses p r
-    → ReportsFormula rule trace f.header f.clauses f.fault p r
+pub reports_checked : (rule : Rule) (trace : Bool) (f : Formula) (p : Proof) (h : Header) (r : Report) → f.header ≡ Some h → f.fault ≡ None → Checks (system_of rule) trace h f.clauses p r
+    → ReportsFormula (system_of rule) trace f.header f.clauses f.fault p r
 reports_checked rule trace f p h r header fault checks =
-    let P : Option Header → Type 0 = λ o. ReportsFormula rule trace o f.clauses f.fault p r in
-    let Q : Option Fault → Type 0 = λ o. ReportsFormula rule trace (Some h) f.clauses o p r in
+    let P : Option Header → Type 0 = λ o. ReportsFormula (system_of rule) trace o f.clauses f.fault p r in
+    let Q : Option Fault → Type 0 = λ o. ReportsFormula (system_of rule) trace (Some h) f.clauses o p r in
     subst P (sym header) (subst Q (sym fault) checks)
 
 -- a fault of the formula
 pub reports_fault : (rule : Rule) (trace : Bool) (f : Formula) (p : Proof) (e : Fault) → f.fault ≡ Some e
-    → ReportsFormula rule trace f.header f.clauses f.fault p (concluded a_proof (fault_line (codes "formula") e) (fault_status e))
+    → ReportsFormula (system_of rule) trace f.header f.clauses f.fault p (concluded a_proof (fault_line (codes "formula") e) (fault_status e))
 reports_fault rule trace f p e fault =
-    let P : Option Fault → Type 0 = λ o. ReportsFormula rule trace f.header f.clauses o p (concluded a_proof (fault_line (codes "formula") e) (fault_status e)) in
+    let P : Option Fault → Type 0 = λ o. ReportsFormula (system_of rule) trace f.header f.clauses o p (concluded a_proof (fault_line (codes "formula") e) (fault_status e)) in
     subst P (sym fault) refl
 
 -- each formula and proof has a report
-checks_any : (rule : Rule) (trace : Bool) (h : Header) (clauses : List Clause) (p : Proof) → (r : Report) × Checks rule trace h clauses p r
+checks_any : (rule : Rule) (trace : Bool) (h : Header) (clauses : List Clause) (p : Proof) → (r : Report) × Checks (system_of rule) trace h clauses p r
 checks_any rule trace h clauses p =
     let v = some_verdict rule clauses (bare_steps p) in
     (_, record { words = v.0; ending = v.1; verdict = v.2; report = refl })
 
 pub report_any : (rule : Rule) (trace : Bool) (h : Result (Header × Listing) (Fault × List ℕ)) (p : Proof)
-    → (r : Report) × ReportsFormula rule trace (formula_with h).header (formula_with h).clauses (formula_with h).fault p r
+    → (r : Report) × ReportsFormula (system_of rule) trace (formula_with h).header (formula_with h).clauses (formula_with h).fault p r
 report_any rule trace (Err f) p = (_, refl)
 report_any rule trace (Ok h) p = by (formula_with (Ok h)).fault
   where
-    by : (o : Option Fault) → (r : Report) × ReportsFormula rule trace (Some h.0) (formula_with (Ok h)).clauses o p r
+    by : (o : Option Fault) → (r : Report) × ReportsFormula (system_of rule) trace (Some h.0) (formula_with (Ok h)).clauses o p r
     by (Some f) = (_, refl)
     by None = checks_any rule trace h.0 (formula_with (Ok h)).clauses p
 
 -- each formula and proof has a report
-pub some_report : (rule : Rule) (trace : Bool) (i : Input) (p : Proof) → (r : Report) × ProofReport rule trace i p r
+pub some_report : (rule : Rule) (trace : Bool) (i : Input) (p : Proof) → (r : Report) × ProofReport (system_of rule) trace i p r
 some_report rule trace i p = report_any rule trace (header_of (listing_of i)) p
 
 -- the formula's fault, or want of memory
 pub err_report : (rule : Rule) (s : View) (trace : Bool) (f : Fault) (i : Input) (p : Proof) (status : Status) (was now : Sink) → Loads rule s (Err f) (formula_of i)
     → (f ≡ OutOfMemory → (r : Report) → Outcome status was.held now.held r)
     → ((f ≡ OutOfMemory → ⊥) → Outcome status was.held now.held (concluded a_proof (fault_line (codes "formula") f) (fault_status f)))
-    → Reports rule trace i p was.held now.held status
+    → Reports (system_of rule) trace i p was.held now.held status
 err_report rule s trace (Text k x) i p status was now l memory told = record { report = _; reports = reports_fault rule trace (formula_of i) p (Text k x) l; outcome = told (λ e. cc) }
 err_report rule s trace (Binary k x) i p status was now l memory told = record { report = _; reports = reports_fault rule trace (formula_of i) p (Binary k x) l; outcome = told (λ e. cc) }
 err_report rule s trace ReadFailed i p status was now l memory told = record { report = _; reports = reports_fault rule trace (formula_of i) p ReadFailed l; outcome = told (λ e. cc) }
@@ -143,7 +145,7 @@ err_report rule s trace OutOfMemory i p status was now l memory told =
 pub verified_report : (rule : Rule) (s : View) (clauses : List Clause) (l : IsLoaded rule s clauses) (trace : Bool) (h : Header) (p : Proof) (status : Status) (was mid now : Sink) (m : ℕ)
     → s.is_verified ≡ true → m ≡ s.peak → Writes was mid (line_of (formula_line h)) → mid.is_broken ≡ false
     → Outcome status mid.held now.held (concluded a_proof (steps_line 0 m) Verified)
-    → (r : Report) × Checks rule trace h clauses p r × Outcome status was.held now.held r
+    → (r : Report) × Checks (system_of rule) trace h clauses p r × Outcome status was.held now.held r
 verified_report rule s clauses l trace h p status was mid now m is shown wrote whole o =
     let P : List ℕ → Type 0 = λ t. Outcome status mid.held now.held (concluded a_proof t Verified) in (
       with_lines (formula_line h ∷ []) (concluded a_proof (steps_line 0 s.peak) Verified),

@@ -15,7 +15,8 @@ use Rattle.theory.proofs.LawLemmas.Rules.{after_same, sum_same}
 use Rattle.sat_check.specs.Lines.{a_proof, refusal_line, steps_line}
 use Rattle.sat_check.specs.Report.{Report, concluded, with_lines, trace_lines}
 use Rattle.sat_check.specs.Code.Checking.{end_report}
-use Rattle.sat_check.specs.Report.{verdict_report, peak_of, bare_steps, proof_report}
+use Rattle.sat_check.specs.Report.{verdict_report, bare_steps, proof_report}
+use Rattle.sat_check.specs.Code.Checking.{peak_of}
 use Rattle.sat_check.specs.Code.Checking.{Rest, traced}
 use Rattle.sat_check.specs.declared.status.Status.TheVariants.{Verified, NotVerified}
 use Rattle.theory.proofs.LawLemmas.Verdicts.{ends_same, some_ending}

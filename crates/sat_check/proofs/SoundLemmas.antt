@@ -1,4 +1,5 @@
 -- What status 0 and a written `s VERIFIED` mean.
+use Rattle.theory.specs.Verdicts.{system_of}
 use Rattle.std.proofs.Common.{◌≡◌, ℕ, ◌+◌, Bool, Option, None, Some, List, length, refl, sym, ap}
 use Rattle.std.proofs.Common.{◌∙◌, subst, slice_get, inl, inr}
 use Rattle.cnf_base.specs.Lines.{Sink}
@@ -19,7 +20,9 @@ use Rattle.sat_check.specs.FormulaReach.{ReadsNoFurtherThanFault}
 use Rattle.sat_check.specs.Lines.{fault_status}
 use Rattle.sat_check.specs.Reach.{ReadsNoFurther, TellsWhy}
 use Rattle.sat_check.specs.Report.{Report, Outcome, ReportsFormula, ProofReport, Verifies, Reports}
-use Rattle.sat_check.specs.Report.{ProofConsequences, ChecksProof, IsFlushedOrFailed, IsUnlessBroken, bare_steps, peak_of, verdict_report}
+use Rattle.sat_check.specs.Report.{ProofConsequences, ChecksProof, IsUnlessBroken, bare_steps, verdict_report}
+use Rattle.sat_check.specs.Code.Writer.{IsFlushedOrFailed}
+use Rattle.sat_check.specs.Code.Checking.{peak_of}
 use Rattle.sat_check.specs.Runs.{RunsPlaced}
 use Rattle.sat_check.specs.declared.checked.Checked.{Checked}
 use Rattle.sat_check.specs.declared.status.Status.{Status}
@@ -46,10 +49,10 @@ verdict_is_verified n peak no_empty_clause None e = absurd (let bad : NotVerifie
 verdict_is_verified n peak no_empty_clause (Some f) e = absurd (fault_is_no_verdict f e)
 
 -- a report of status 0 is that of a proof that verifies the formula
-pub report_verified : (rule : Rule) (trace : Bool) (i : Input) (p : Proof) (r : Report) → ProofReport rule trace i p r → r.status ≡ Verified → Verifies rule (formula_of i) p
+pub report_verified : (rule : Rule) (trace : Bool) (i : Input) (p : Proof) (r : Report) → ProofReport (system_of rule) trace i p r → r.status ≡ Verified → Verifies (system_of rule) (formula_of i) p
 report_verified rule trace i p r reports is = by (formula_of i).header (formula_of i).fault refl reports
   where
-    by : (header : Option Header) (fault : Option Fault) → (formula_of i).fault ≡ fault → ReportsFormula rule trace header (formula_of i).clauses fault p r → Verifies rule (formula_of i) p
+    by : (header : Option Header) (fault : Option Fault) → (formula_of i).fault ≡ fault → ReportsFormula (system_of rule) trace header (formula_of i).clauses fault p r → Verifies (system_of rule) (formula_of i) p
     by header (Some f) whole e = absurd (fault_is_no_verdict f (sym (ap (λ x. x.status) e) ∙ is))
     by (Some h) None whole c =
         let ends : c.ending ≡ verified = verdict_is_verified _ _ c.ending p.fault (sym (ap (λ x. x.status) c.report) ∙ is) in
@@ -58,10 +61,10 @@ report_verified rule trace i p r reports is = by (formula_of i).header (formula_
     by None None whole c = absurd c
 
 -- and the report of such a proof has status 0
-pub verifies_reported : (rule : Rule) (trace : Bool) (i : Input) (p : Proof) (r : Report) → Verifies rule (formula_of i) p → ProofReport rule trace i p r → r.status ≡ Verified
+pub verifies_reported : (rule : Rule) (trace : Bool) (i : Input) (p : Proof) (r : Report) → Verifies (system_of rule) (formula_of i) p → ProofReport (system_of rule) trace i p r → r.status ≡ Verified
 verifies_reported rule trace i p r v reports = by (formula_of i).header (formula_of i).fault v.whole reports
   where
-    by : (header : Option Header) (fault : Option Fault) → fault ≡ None → ReportsFormula rule trace header (formula_of i).clauses fault p r → r.status ≡ Verified
+    by : (header : Option Header) (fault : Option Fault) → fault ≡ None → ReportsFormula (system_of rule) trace header (formula_of i).clauses fault p r → r.status ≡ Verified
     by header (Some f) whole e = absurd (cc)
     by (Some h) None whole c =
         let same = verdict_unique rule (formula_of i).clauses (bare_steps p) c.words v.words c.ending verified c.verdict v.verdict in
@@ -69,7 +72,7 @@ verifies_reported rule trace i p r v reports = by (formula_of i).header (formula
     by None None whole c = absurd c
 
 -- a formula that a proof verifies has no model
-pub verifies_sound : (rule : Rule) (f : Formula) (p : Proof) → Verifies rule f p → ¬ HasModel (slice_get f.clauses)
+pub verifies_sound : (rule : Rule) (f : Formula) (p : Proof) → Verifies (system_of rule) f p → ¬ HasModel (slice_get f.clauses)
 verifies_sound rule f p v = verdict_sound rule f.clauses (bare_steps p) v.words v.verdict
 
 -- status 0 is that of the report
@@ -90,7 +93,7 @@ outcome_complete ReadFailed old new r is o = absurd (let bad : ReadFailed ≡ Ve
 outcome_complete Usage old new r is o = absurd (let bad : Usage ≡ Verified = o.0 ∙ is in cc)
 
 -- what follows from the report of a proof
-proof_consequences : (rule : Rule) (trace : Bool) (i : Input) (p : Proof) (old new : Option (List ℕ)) (status : Status) → Reports rule trace i p old new status → ProofConsequences rule i p old new status
+proof_consequences : (rule : Rule) (trace : Bool) (i : Input) (p : Proof) (old new : Option (List ℕ)) (status : Status) → Reports (system_of rule) trace i p old new status → ProofConsequences (system_of rule) i p old new status
 proof_consequences rule trace i p old new status x = record {
   verified = λ is. report_verified rule trace i p x.report x.reports (outcome_verified status old new x.report is x.outcome);
   complete = λ v. outcome_complete status old new x.report (verifies_reported rule trace i p x.report v x.reports) x.outcome;
@@ -102,21 +105,21 @@ proof_consequences rule trace i p old new status x = record {
     refuted is = verifies_sound rule (formula_of i) p (report_verified rule trace i p x.report x.reports is)
 
 -- all that is promised of a check of a proof
-pub checks_proof : (rule : Rule) (trace : Bool) (i : Input) (p : Proof) (old new : Option (List ℕ)) (status : Status) → Reports rule trace i p old new status → ChecksProof rule trace i p old new status
+pub checks_proof : (rule : Rule) (trace : Bool) (i : Input) (p : Proof) (old new : Option (List ℕ)) (status : Status) → Reports (system_of rule) trace i p old new status → ChecksProof (system_of rule) trace i p old new status
 checks_proof rule trace i p old new status x = record { reports = x; consequences = proof_consequences rule trace i p old new status x }
 
 -- and by all that was seen of the formula and of the proof
 abbrev AllChecks : Rule → Bool → (Input → Proof) → Reader → Reader → Reader → Reader → Checked → Option (List ℕ) → Option (List ℕ) → Type 0
 AllChecks rule trace steps formula formula_new proof proof_new checked old new =
-    OfBothSeen formula formula_new proof proof_new (λ i j. ChecksProof rule trace i (steps j) old new checked.status
-    × ReadsNoFurther rule (formula_of i) (steps j) proof proof_new × TellsWhy rule (formula_of i).fault (formula_of i).clauses (steps j) checked
+    OfBothSeen formula formula_new proof proof_new (λ i j. ChecksProof (system_of rule) trace i (steps j) old new checked.status
+    × ReadsNoFurther (system_of rule) (formula_of i) (steps j) proof proof_new × TellsWhy (system_of rule) (formula_of i).fault (formula_of i).clauses (steps j) checked
     × ReadsNoFurtherThanFault i formula formula_new)
 
 both_check_proof : (rule : Rule) (trace : Bool) (steps : Input → Proof) (formula formula_new proof proof_new : Reader) (checked : Checked) (old new first last : Option (List ℕ)) → old ≡ first → new ≡ last
     → AllReports rule trace steps formula formula_new proof proof_new checked old new → AllChecks rule trace steps formula formula_new proof proof_new checked first last
 both_check_proof rule trace steps formula formula_new proof proof_new checked old new first last before after =
-    both_told formula formula_new proof proof_new (λ x y i j. Reports rule trace i (steps j) x y checked.status
-    × ReadsNoFurther rule (formula_of i) (steps j) proof proof_new × TellsWhy rule (formula_of i).fault (formula_of i).clauses (steps j) checked
+    both_told formula formula_new proof proof_new (λ x y i j. Reports (system_of rule) trace i (steps j) x y checked.status
+    × ReadsNoFurther (system_of rule) (formula_of i) (steps j) proof proof_new × TellsWhy (system_of rule) (formula_of i).fault (formula_of i).clauses (steps j) checked
     × ReadsNoFurtherThanFault i formula formula_new)
     _ old new first last before after (λ i j x. (checks_proof rule trace i (steps j) first last checked.status x.0, x.1, x.2, x.3))
 
@@ -132,7 +135,7 @@ is_flushed_or_failed now has_failed is_flushed has flushed is =
 pub runs_placed : (rule : Rule) (trace : Bool) (steps : Input → Proof) (formula formula_new proof proof_new : Reader) (checked : Checked) (was now : Sink) (old new : Option (List ℕ)) (had_failed has_failed is_flushed : Bool)
     → was.held ≡ old → now.held ≡ new → was.has_failed ≡ had_failed → now.has_failed ≡ has_failed → now.is_flushed ≡ is_flushed
     → RunsInto rule trace steps formula formula_new proof proof_new was now checked
-    → RunsPlaced rule trace steps formula formula_new proof proof_new old new had_failed has_failed is_flushed checked
+    → RunsPlaced (system_of rule) trace steps formula formula_new proof proof_new old new had_failed has_failed is_flushed checked
 runs_placed rule trace steps formula formula_new proof proof_new checked was now old new had_failed has_failed is_flushed before after had has flushed runs = record {
   checks = both_check_proof rule trace steps formula formula_new proof proof_new checked was.held now.held old new before after runs.report;
   read_failed = runs.read_failed;

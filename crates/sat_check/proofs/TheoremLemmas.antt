@@ -1,4 +1,5 @@
 -- The theorem, by the report and the grammars.
+use Rattle.theory.specs.Verdicts.{system_of}
 use Rattle.std.proofs.Common.{◌≡◌, ℕ, suc, ◌++◌, ◌||◌, Bool, true, false, List, [], ◌∷◌, reverse}
 use Rattle.std.proofs.Common.{Option, None, Some, refl, sym, ap, ◌∙◌, subst, append-nil, slice_get}
 use Rattle.std.proofs.Common.{inl, inr, codes}
@@ -137,8 +138,8 @@ no_model_refuted clauses none v =
 -- a positive answer is that of a proof which verifies the formula
 answered_proof : (rule : Rule) (trace : Bool) (i : Input) (p : Proof) (old new : Option (List ℕ))
     (status : Status)
-    → Reports rule trace i p old new status → IsAnswered (codes "s VERIFIED") status old new →
-    Verifies rule (formula_of i) p
+    → Reports (system_of rule) trace i p old new status → IsAnswered (codes "s VERIFIED") status old new →
+    Verifies (system_of rule) (formula_of i) p
 answered_proof rule trace i p old new status x (inl is) =
     report_verified rule trace i p x.report x.reports
     (outcome_verified status old new x.report is x.outcome)
@@ -149,9 +150,9 @@ answered_proof rule trace i p old new status x (inr w) =
 module _ (rule : Rule) (trace : Bool) (steps : Input → Proof)
     (formula formula_new proof proof_new : Reader) (old new : Option (List ℕ)) (status : Status)
     (Fact : Input → Input → Type 0) (both : OfBothSeen formula formula_new proof proof_new Fact)
-    (told : (i j : Input) → Fact i j → Reports rule trace i (steps j) old new status) where
+    (told : (i j : Input) → Fact i j → Reports (system_of rule) trace i (steps j) old new status) where
   verifies : IsAnswered (codes "s VERIFIED") status old new → (i j : Input) →
-      IsSeen both.first i → IsSeen both.second j → Verifies rule (formula_of i) (steps j)
+      IsSeen both.first i → IsSeen both.second j → Verifies (system_of rule) (formula_of i) (steps j)
   verifies answer i j seen also =
       answered_proof rule trace i (steps j) old new status (told i j (both.fact i j seen also))
       answer

@@ -1,4 +1,5 @@
 -- A formula and a proof have at most one report.
+use Rattle.theory.specs.Verdicts.{system_of}
 use Rattle.std.proofs.Common.{◌≡◌, Bool, Option, None, Some, List, [], ◌∷◌, sym, ap, ◌∙◌}
 use Rattle.cnf_base.specs.Literals.{Clause}
 use Rattle.cnf_base.specs.declared.fault.Fault.{Fault}
@@ -11,10 +12,11 @@ use Rattle.theory.specs.declared.accepted.Accepted.{Accepted}
 use Rattle.theory.proofs.LawLemmas.Verdicts.{verdict_unique}
 use Rattle.sat_check.specs.Lines.{formula_line}
 use Rattle.sat_check.specs.Report.{Report, Checks, ReportsFormula, ReportsAreUnique, with_lines}
-use Rattle.sat_check.specs.Report.{proof_report, peak_of, bare_steps}
+use Rattle.sat_check.specs.Report.{proof_report, bare_steps}
+use Rattle.sat_check.specs.Code.Checking.{peak_of}
 
 checks_unique : (rule : Rule) (trace : Bool) (h : Header) (clauses : List Clause) (p : Proof) (first second : Report)
-    → Checks rule trace h clauses p first → Checks rule trace h clauses p second → first ≡ second
+    → Checks (system_of rule) trace h clauses p first → Checks (system_of rule) trace h clauses p second → first ≡ second
 checks_unique rule trace h clauses p first second c d =
     let same = verdict_unique rule clauses (bare_steps p) c.words d.words c.ending d.ending c.verdict d.verdict in
     c.report ∙ ap (λ words. report_of words c.ending) same.0 ∙ ap (report_of d.words) same.1 ∙ sym d.report
@@ -25,8 +27,8 @@ checks_unique rule trace h clauses p first second c d =
 pub reports_unique : ReportsAreUnique
 reports_unique rule trace i p first second a b = by (formula_of i).header (formula_of i).clauses (formula_of i).fault a b
   where
-    by : (header : Option Header) (clauses : List Clause) (fault : Option Fault) → ReportsFormula rule trace header clauses fault p first
-        → ReportsFormula rule trace header clauses fault p second → first ≡ second
+    by : (header : Option Header) (clauses : List Clause) (fault : Option Fault) → ReportsFormula (system_of rule) trace header clauses fault p first
+        → ReportsFormula (system_of rule) trace header clauses fault p second → first ≡ second
     by header clauses (Some f) a b = a ∙ sym b
     by (Some h) clauses None a b = checks_unique rule trace h clauses p first second a b
     by None clauses None a b = absurd a

@@ -1,4 +1,5 @@
 -- A line that was written is one of the report's.
+use Rattle.theory.specs.Verdicts.{system_of}
 use Rattle.std.proofs.Common.{◌≡◌, ℕ, zero, suc, ◌+◌, ◌-◌, ◌/◌, ◌%◌, ◌^◌, ◌==◌, ◌&&◌, ◌||◌, min}
 use Rattle.std.proofs.Common.{if◌then◌else◌, cond, Bool, true, false, not, Option, None, Some, List}
 use Rattle.std.proofs.Common.{[], ◌∷◌, ◌++◌, length, codes, refl, sym, ap, ◌∙◌, subst, append_assoc}
@@ -296,10 +297,10 @@ proof_tells false n peak words ending fault = front_tells [] _ refl refl (verdic
 formula_plain : (h : Header) → Plain (formula_line h)
 formula_plain h = fixed (codes "c formula ") refl ⊕ number_plain h.vars ⊕ fixed (codes " variables ") refl ⊕ number_plain h.clauses ⊕ fixed (codes " clauses") refl
 
-report_tells : (rule : Rule) (trace : Bool) (i : Input) (p : Proof) (r : Report) → ProofReport rule trace i p r → Tells a_proof r
+report_tells : (rule : Rule) (trace : Bool) (i : Input) (p : Proof) (r : Report) → ProofReport (system_of rule) trace i p r → Tells a_proof r
 report_tells rule trace i p r reports = by (formula_of i).header (formula_of i).clauses (formula_of i).fault reports
   where
-    by : (header : Option Header) (clauses : List Clause) (fault : Option Fault) → ReportsFormula rule trace header clauses fault p r → Tells a_proof r
+    by : (header : Option Header) (clauses : List Clause) (fault : Option Fault) → ReportsFormula (system_of rule) trace header clauses fault p r → Tells a_proof r
     by header clauses (Some f) e = subst (Tells a_proof) (sym e) (fault_tells a_proof (codes "formula") f (fixed _ refl))
     by (Some h) clauses None c =
         subst (Tells a_proof) (sym c.report) (front_tells (formula_line h ∷ []) _ (ap (λ v. v && true) (formula_plain h).test) refl (proof_tells trace 0 _ c.words c.ending p.fault))
@@ -356,7 +357,7 @@ sentence_written b bs r status old new plain told o w =
     told (among_lines b bs r.lines begun.0 begun.1 plain begun.2 (sym (ap (λ x. list_any (bytes_eq (b ∷ bs)) (lines_of x)) same) ∙ w.written))
 
 pub written_verified : (rule : Rule) (trace : Bool) (i : Input) (p : Proof) (r : Report) (status : Status) (old new : Option (List ℕ))
-    → ProofReport rule trace i p r → Outcome status old new r → HasWritten (codes "s VERIFIED") old new → r.status ≡ Verified
+    → ProofReport (system_of rule) trace i p r → Outcome status old new r → HasWritten (codes "s VERIFIED") old new → r.status ≡ Verified
 written_verified rule trace i p r status old new reports o w =
     let t = report_tells rule trace i p r reports in
     sentence_written 115 (codes " VERIFIED") r status old new t.plain t.told o w

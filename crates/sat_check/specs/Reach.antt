@@ -10,9 +10,9 @@ use Rattle.cnf_base.specs.declared.fault.Fault.{Fault}
 use Rattle.dimacs.specs.Formula.{Formula}
 use Rattle.proofs.specs.Reading.{PlacedStep, Proof}
 use Rattle.proofs.specs.declared.step_end.StepEnd.{StepEnd}
-use Rattle.theory.specs.Losses.{HasLost}
-use Rattle.theory.specs.Rules.{Rule, start}
-use Rattle.theory.specs.Verdicts.{Ending, verified, refused, no_empty_clause, is_empty, Verdict}
+use Rattle.theory.specs.Losses.{LostBy}
+use Rattle.theory.specs.Systems.{ProofSystem}
+use Rattle.theory.specs.Verdicts.{Ending, verified, refused, no_empty_clause, is_empty, VerdictBy}
 use Rattle.theory.specs.declared.accepted.Accepted.{Accepted}
 use Rattle.sat_check.specs.Report.{bare_steps}
 use Rattle.sat_check.specs.declared.checked.Checked.{Checked}
@@ -41,10 +41,11 @@ NeedsNoProof fault clauses = (¬ (fault ≡ None)) ⊎ (list_any is_empty clause
 -- No more of a proof was read than it takes, also where memory or the writer failed: where the
 -- formula decides alone the reader is as it was, and where a step decides, at most 65536 bytes past
 -- its end were read; and no more past the first word or byte of the proof that is at fault.
-pub record ReadsNoFurther (rule : Rule) (f : Formula) (p : Proof) (old new : Reader) : Type 0 where
+pub record ReadsNoFurther {State : Type 0} (system : ProofSystem State) (f : Formula) (p : Proof)
+    (old new : Reader) : Type 0 where
   pub unread : NeedsNoProof f.fault f.clauses → new ≡ old
   pub past : (words : List Accepted) (ending : Ending) (last : PlacedStep) → f.fault ≡ None
-      → Verdict rule f.clauses (bare_steps p) words ending →
+      → VerdictBy system f.clauses (bare_steps p) words ending →
       deciding_step p.steps words ending ≡ Some last
       → bytes_read old new ≤ last.offset + 65536
   pub fault : (offset : ℕ) → p.fault_end ≡ Some offset → bytes_read old new ≤ offset + 65536
@@ -62,24 +63,25 @@ pub record TellsFault (formula second : Option Fault) (checked : Checked) : Type
 
 -- A check tells that a root-level literal was lost exactly where a step was refused, and one of
 -- those that were accepted before lost one.
-pub record TellsLoss (rule : Rule) (fault : Option Fault) (clauses : List Clause) (p : Proof)
-    (checked : Checked) : Type 0 where
+pub record TellsLoss {State : Type 0} (system : ProofSystem State) (fault : Option Fault)
+    (clauses : List Clause) (p : Proof) (checked : Checked) : Type 0 where
   pub lost : (words : List Accepted) (ending : Ending) → fault ≡ None →
       checked.status ≡ NotVerified
-      → Verdict rule clauses (bare_steps p) words ending → IsTrue checked.literal_lost ↔
-      (IsSome checked.refused × HasLost (start rule clauses) (bare_steps p) words)
+      → VerdictBy system clauses (bare_steps p) words ending → IsTrue checked.literal_lost ↔
+      (IsSome checked.refused
+      × LostBy system.Loses system.next (system.first clauses) (bare_steps p) words)
   pub only : (checked.status ≡ NotVerified → ⊥) → checked.literal_lost ≡ false
 
 -- A check tells why it ended so: where the refused step ends, exactly where the status is
 -- `NotVerified` since a step of the proof was refused; whether a root-level literal was lost before;
 -- and what is wrong with an input.
-pub record TellsWhy (rule : Rule) (fault : Option Fault) (clauses : List Clause) (p : Proof)
-    (checked : Checked) : Type 0 where
+pub record TellsWhy {State : Type 0} (system : ProofSystem State) (fault : Option Fault)
+    (clauses : List Clause) (p : Proof) (checked : Checked) : Type 0 where
   pub unread : NeedsNoProof fault clauses → checked.refused ≡ None
   pub refused : (words : List Accepted) (ending : Ending) → fault ≡ None →
       checked.status ≡ NotVerified
-      → Verdict rule clauses (bare_steps p) words ending →
+      → VerdictBy system clauses (bare_steps p) words ending →
       checked.refused ≡ refused_end p.steps words ending
   pub only : (checked.status ≡ NotVerified → ⊥) → checked.refused ≡ None
-  pub loss : TellsLoss rule fault clauses p checked
+  pub loss : TellsLoss system fault clauses p checked
   pub malformed : TellsFault fault p.fault checked

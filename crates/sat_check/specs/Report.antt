@@ -16,8 +16,10 @@ use Rattle.proofs.specs.Steps.{Step}
 use Rattle.proofs.specs.Binary.{binary_steps}
 use Rattle.proofs.specs.Drat.{drat_steps}
 use Rattle.theory.specs.Models.{HasModel}
-use Rattle.theory.specs.Rules.{Rule, State, start, after, sum_of}
-use Rattle.theory.specs.Verdicts.{Ending, verified, refused, no_empty_clause, Verdict}
+use Rattle.theory.specs.Rules.{Rule}
+use Rattle.theory.specs.Systems.{ProofSystem}
+use Rattle.theory.specs.Verdicts.{Ending, verified, refused, no_empty_clause, VerdictBy}
+use Rattle.theory.specs.Verdicts.{system_of}
 use Rattle.theory.specs.declared.drat_rules.DratRules.{DratRules}
 use Rattle.sat_check.specs.declared.options.DratOptions.{DratOptions}
 use Rattle.theory.specs.declared.accepted.Accepted.{Accepted}
@@ -77,11 +79,11 @@ verdict_report n peak no_empty_clause (Some f) =
     concluded a_proof (fault_line (codes "proof") f) (fault_status f)
 
 -- the greatest sum of the sizes of the live clauses, over a state and those after accepted steps
-abbrev pub peak_of : State → List Step → List Accepted → ℕ
-peak_of state [] words = sum_of state
-peak_of state (step ∷ steps) [] = sum_of state
-peak_of state (step ∷ steps) (word ∷ words) =
-    max (sum_of state) (peak_of (after state step word) steps words)
+abbrev pub peak_by : {State : Type 0} → (State → ℕ) → (State → Step → Accepted → State) →
+    State → List Step → List Accepted → ℕ
+peak_by sum next state (step ∷ steps) (word ∷ words) =
+    max (sum state) (peak_by sum next (next state step word) steps words)
+peak_by sum next state _ _ = sum state
 
 -- the steps without their places
 abbrev pub bare_steps : Proof → List Step
@@ -94,27 +96,29 @@ proof_report trace n peak words ending fault =
     (verdict_report (n + length words) peak ending fault)
 
 -- the report of a formula without a fault
-pub record Checks (rule : Rule) (trace : Bool) (h : Header) (clauses : List Clause) (proof : Proof)
-    (r : Report) : Type 0 where
+pub record Checks {State : Type 0} (system : ProofSystem State) (trace : Bool) (h : Header)
+    (clauses : List Clause) (proof : Proof) (r : Report) : Type 0 where
   pub words : List Accepted
   pub ending : Ending
-  pub verdict : Verdict rule clauses (bare_steps proof) words ending
+  pub verdict : VerdictBy system clauses (bare_steps proof) words ending
   pub report : r ≡ with_lines (formula_line h ∷ [])
       (proof_report trace 0
-      (peak_of (start rule clauses) (bare_steps proof) words) words ending proof.fault)
+      (peak_by system.sum system.next (system.first clauses) (bare_steps proof) words)
+      words ending proof.fault)
 
 -- the report of a formula with these parts: its fault comes before the proof
-abbrev pub ReportsFormula : Rule → Bool → Option Header → List Clause → Option Fault → Proof →
-    Report → Type 0
-ReportsFormula rule trace header clauses (Some f) proof r =
+abbrev pub ReportsFormula : {State : Type 0} → ProofSystem State → Bool → Option Header →
+    List Clause → Option Fault → Proof → Report → Type 0
+ReportsFormula system trace header clauses (Some f) proof r =
     r ≡ concluded a_proof (fault_line (codes "formula") f) (fault_status f)
-ReportsFormula rule trace (Some h) clauses None proof r = Checks rule trace h clauses proof r
-ReportsFormula rule trace None clauses None proof r = ⊥
+ReportsFormula system trace (Some h) clauses None proof r = Checks system trace h clauses proof r
+ReportsFormula system trace None clauses None proof r = ⊥
 
 -- the report of a formula and the steps of a proof, with the trace or without
-abbrev pub ProofReport : Rule → Bool → Input → Proof → Report → Type 0
-ProofReport rule trace formula proof r =
-    ReportsFormula rule trace (formula_of formula).header (formula_of formula).clauses
+abbrev pub ProofReport : {State : Type 0} → ProofSystem State → Bool → Input → Proof → Report →
+    Type 0
+ProofReport system trace formula proof r =
+    ReportsFormula system trace (formula_of formula).header (formula_of formula).clauses
     (formula_of formula).fault proof r
 
 -- the rules that options ask for
@@ -136,10 +140,6 @@ pub record HasWritten (line : List ℕ) (old new : Option (List ℕ)) : Type 0 w
   pub after : new ≡ Some (held ++ bytes)
   pub written : list_any (bytes_eq line) (lines_of bytes) ≡ true
 
--- all was flushed, or the writer tells of a failure
-abbrev pub IsFlushedOrFailed : (is_flushed has_failed : Bool) → Type 0
-IsFlushedOrFailed is_flushed has_failed = (is_flushed ≡ true) ⊎ (has_failed ≡ true)
-
 -- the status is this one, unless memory or the writer failed
 abbrev pub IsUnlessBroken : Status → Status → Type 0
 IsUnlessBroken expected status =
@@ -147,34 +147,35 @@ IsUnlessBroken expected status =
 
 -- The formula has no fault, and the proof verifies it: each step up to the first accepted empty
 -- clause is accepted by its definition over the clauses that are alive before it.
-pub record Verifies (rule : Rule) (f : Formula) (p : Proof) : Type 0 where
+pub record Verifies {State : Type 0} (system : ProofSystem State) (f : Formula) (p : Proof)
+    : Type 0 where
   pub whole : f.fault ≡ None
   pub words : List Accepted
-  pub verdict : Verdict rule f.clauses (bare_steps p) words verified
+  pub verdict : VerdictBy system f.clauses (bare_steps p) words verified
 
 -- What was written and the status are those of the report of this formula and this proof.
-pub record Reports (rule : Rule) (trace : Bool) (formula : Input) (proof : Proof)
-    (old new : Option (List ℕ)) (status : Status) : Type 0 where
+pub record Reports {State : Type 0} (system : ProofSystem State) (trace : Bool) (formula : Input)
+    (proof : Proof) (old new : Option (List ℕ)) (status : Status) : Type 0 where
   pub report : Report
-  pub reports : ProofReport rule trace formula proof report
+  pub reports : ProofReport system trace formula proof report
   pub outcome : Outcome status old new report
 
 -- What follows from that. Status 0 is answered exactly where the proof verifies the formula, unless
 -- memory or the writer failed. Where it is, and where the line `s VERIFIED` was written, under
 -- whatever status, no assignment satisfies the formula.
-pub record ProofConsequences (rule : Rule) (formula : Input) (proof : Proof)
-    (old new : Option (List ℕ)) (status : Status) : Type 0 where
-  pub verified : status ≡ Verified → Verifies rule (formula_of formula) proof
-  pub complete : Verifies rule (formula_of formula) proof → IsUnlessBroken Verified status
+pub record ProofConsequences {State : Type 0} (system : ProofSystem State) (formula : Input)
+    (proof : Proof) (old new : Option (List ℕ)) (status : Status) : Type 0 where
+  pub verified : status ≡ Verified → Verifies system (formula_of formula) proof
+  pub complete : Verifies system (formula_of formula) proof → IsUnlessBroken Verified status
   pub sound : status ≡ Verified → ¬ HasModel (slice_get (formula_of formula).clauses)
   pub written : HasWritten (codes "s VERIFIED") old new →
       ¬ HasModel (slice_get (formula_of formula).clauses)
 
 -- A run checked this proof of this formula.
-pub record ChecksProof (rule : Rule) (trace : Bool) (formula : Input) (proof : Proof)
-    (old new : Option (List ℕ)) (status : Status) : Type 0 where
-  pub reports : Reports rule trace formula proof old new status
-  pub consequences : ProofConsequences rule formula proof old new status
+pub record ChecksProof {State : Type 0} (system : ProofSystem State) (trace : Bool)
+    (formula : Input) (proof : Proof) (old new : Option (List ℕ)) (status : Status) : Type 0 where
+  pub reports : Reports system trace formula proof old new status
+  pub consequences : ProofConsequences system formula proof old new status
 
 -- ---- Laws
 
@@ -182,5 +183,5 @@ pub record ChecksProof (rule : Rule) (trace : Bool) (formula : Input) (proof : P
 abbrev pub ReportsAreUnique : Type 0
 ReportsAreUnique =
     (rule : Rule) (trace : Bool) (formula : Input) (proof : Proof) (first second : Report) →
-    ProofReport rule trace formula proof first → ProofReport rule trace formula proof second →
-    first ≡ second
+    ProofReport (system_of rule) trace formula proof first →
+    ProofReport (system_of rule) trace formula proof second → first ≡ second

@@ -1,5 +1,5 @@
 -- What is promised of a run of a check, by its readers, its writer and its status.
-use Rattle.std.specs.Prelude.{◌≡◌, ℕ, Bool, true, false, List, Option, MatchBool}
+use Rattle.std.specs.Prelude.{◌≡◌, ◌⊎◌, ℕ, Bool, true, false, List, Option, MatchBool}
 use Rattle.cnf_base.specs.Literals.{Clause}
 use Rattle.cnf_base.specs.Seen.{OfBothSeen, OneHasFailed}
 use Rattle.cnf_base.specs.Stream.{Input, Reader, tells_failure}
@@ -10,13 +10,13 @@ use Rattle.proofs.specs.Lrat.{lrat_steps}
 use Rattle.proofs.specs.Reading.{Proof}
 use Rattle.proofs.specs.Steps.{Step}
 use Rattle.theory.specs.Rules.{Rule, drat, lrat}
-use Rattle.theory.specs.Verdicts.{verified, Verdict}
+use Rattle.theory.specs.Systems.{ProofSystem, drat_system}
+use Rattle.theory.specs.Verdicts.{verified, Verdict, system_of}
 use Rattle.theory.specs.declared.accepted.Accepted.{Accepted}
 use Rattle.sat_check.specs.FormulaReach.{ReadsNoFurtherThanFault}
 use Rattle.sat_check.specs.ModelReport.{ChecksModel, ReadsFormulaNoFurther, TellsModelFault}
 use Rattle.sat_check.specs.Reach.{ReadsNoFurther, TellsWhy}
 use Rattle.sat_check.specs.Report.{ChecksProof, drat_proof, is_cut_short, rules_of}
-use Rattle.sat_check.specs.Report.{IsFlushedOrFailed}
 use Rattle.sat_check.specs.Theorem.{StepsVerify}
 use Rattle.sat_check.specs.declared.checked.Checked.{Checked}
 use Rattle.sat_check.specs.declared.options.DratOptions.{DratOptions}
@@ -35,43 +35,43 @@ pub record Runs (formula formula_new second second_new : Reader)
   pub write_failed : status ≡ WriteFailed → has_failed ≡ true
   pub no_failure : is_cut_short status ≡ false → has_failed ≡ had_failed
   pub flushed : is_cut_short status ≡ false → is_flushed ≡ true
-  pub gave_up : status ≡ OutOfMemory → IsFlushedOrFailed is_flushed has_failed
+  pub gave_up : status ≡ OutOfMemory → (is_flushed ≡ true) ⊎ (has_failed ≡ true)
 
 -- A run checked a proof of a formula. It read no more of the proof than the check takes, and no
 -- more of the formula than its fault takes. `steps` are those of an input; the writer held `old`,
 -- and then `new`.
-abbrev pub RunsProof : Rule → (trace : Bool) → (steps : Input → Proof) →
-    (formula formula_new proof proof_new : Reader) → (old new : Option (List ℕ)) →
-    (had_failed has_failed is_flushed : Bool) → Status → Type 0
-RunsProof rule trace steps formula formula_new proof proof_new old new had_failed has_failed
+abbrev pub RunsProof : {State : Type 0} → ProofSystem State → (trace : Bool) →
+    (steps : Input → Proof) → (formula formula_new proof proof_new : Reader) →
+    (old new : Option (List ℕ)) → (had_failed has_failed is_flushed : Bool) → Status → Type 0
+RunsProof system trace steps formula formula_new proof proof_new old new had_failed has_failed
     is_flushed status =
     Runs formula formula_new proof proof_new had_failed has_failed is_flushed status
-    (λ i j. ChecksProof rule trace i (steps j) old new status
-    × ReadsNoFurther rule (formula_of i) (steps j) proof proof_new
+    (λ i j. ChecksProof system trace i (steps j) old new status
+    × ReadsNoFurther system (formula_of i) (steps j) proof proof_new
     × ReadsNoFurtherThanFault i formula formula_new)
 
 -- The same, and of the same inputs it tells where the refused step ends, or what is wrong with one.
-abbrev pub RunsPlaced : Rule → (trace : Bool) → (steps : Input → Proof) →
-    (formula formula_new proof proof_new : Reader) → (old new : Option (List ℕ)) →
-    (had_failed has_failed is_flushed : Bool) → Checked → Type 0
-RunsPlaced rule trace steps formula formula_new proof proof_new old new had_failed has_failed
+abbrev pub RunsPlaced : {State : Type 0} → ProofSystem State → (trace : Bool) →
+    (steps : Input → Proof) → (formula formula_new proof proof_new : Reader) →
+    (old new : Option (List ℕ)) → (had_failed has_failed is_flushed : Bool) → Checked → Type 0
+RunsPlaced system trace steps formula formula_new proof proof_new old new had_failed has_failed
     is_flushed checked =
     Runs formula formula_new proof proof_new had_failed has_failed is_flushed checked.status
-    (λ i j. ChecksProof rule trace i (steps j) old new checked.status
-    × ReadsNoFurther rule (formula_of i) (steps j) proof proof_new
-    × TellsWhy rule (formula_of i).fault (formula_of i).clauses (steps j) checked
+    (λ i j. ChecksProof system trace i (steps j) old new checked.status
+    × ReadsNoFurther system (formula_of i) (steps j) proof proof_new
+    × TellsWhy system (formula_of i).fault (formula_of i).clauses (steps j) checked
     × ReadsNoFurtherThanFault i formula formula_new)
 
 -- of a proof in DRAT, by the options
 abbrev pub RunsDrat : DratOptions → (formula formula_new proof proof_new : Reader) →
     (old new : Option (List ℕ)) → (had_failed has_failed is_flushed : Bool) → Checked → Type 0
 RunsDrat options =
-    RunsPlaced (drat (rules_of options)) options.trace (drat_proof options.binary)
+    RunsPlaced (drat_system (rules_of options)) options.trace (drat_proof options.binary)
 
 -- of one in LRAT
 abbrev pub RunsLrat : (trace : Bool) → (formula formula_new proof proof_new : Reader) →
     (old new : Option (List ℕ)) → (had_failed has_failed is_flushed : Bool) → Checked → Type 0
-RunsLrat trace = RunsPlaced lrat trace lrat_steps
+RunsLrat trace = RunsPlaced (system_of lrat) trace lrat_steps
 
 -- A run checked the model that an output claims, read no more of the formula than that takes, and
 -- of the same inputs it tells what is wrong with one.

@@ -1,5 +1,6 @@
 //! A check of a proof under any rule and in any format.
 
+ghost use Rattle.theory.specs.Verdicts.{system_of};
 ghost use Rattle.std.specs.Prelude.{◌≡◌, [], true, false, List, None};
 ghost use Rattle.cnf_base.specs.Literals.{Clause};
 ghost use Rattle.cnf_base.specs.Stream.{Input, Along, tells_failure};
@@ -36,7 +37,7 @@ pub fn check<F: In, S: ProofSession, R: StepReader, O: Out>(
     requires whole { lines.old.is_broken ≡ false }
     ensures report { (f : Seen (F.shown formula.old) (F.shown formula.new))
         × Along (R.stream reader.old) (R.stream reader.new) (λ j k. (i : Input) → IsSeen f i →
-        Reports (rule_of (S.shown session.old).state) trace i (R.to_come reader.old j)
+        Reports (system_of (rule_of (S.shown session.old).state)) trace i (R.to_come reader.old j)
         lines.old.held lines.new.held result.status
         × LeavesProof (rule_of (S.shown session.old).state) (formula_of i).fault
         (formula_of i).clauses (R.to_come reader.old j) (R.stream reader.old).reader
@@ -71,7 +72,7 @@ fn check_loaded<S: ProofSession, R: StepReader, O: Out>(
     ensures report { Along (R.stream reader.old) (R.stream reader.new)
         (λ j k. (rule : Rule) (clauses : List Clause) →
         IsLoaded rule (S.shown session.old) clauses →
-        (r : Report) × Checks rule trace header clauses (R.to_come reader.old j) r
+        (r : Report) × Checks (system_of rule) trace header clauses (R.to_come reader.old j) r
         × Outcome result.status lines.old.held lines.new.held r
         × LeavesProof rule None clauses (R.to_come reader.old j) (R.stream reader.old).reader
         (R.stream reader.new).reader k result) }

@@ -4,7 +4,7 @@ ghost use Rattle.std.specs.Prelude.{◌≡◌, ◌⊎◌, false, true, [], ◌�
 ghost use Rattle.cnf_base.specs.Lines.{Writes, line_of};
 ghost use Rattle.sat_check.specs.Lines.{fault_line, fault_status};
 ghost use Rattle.sat_check.specs.Report.{Report, Outcome, concluded, is_cut_short, with_lines};
-ghost use Rattle.sat_check.specs.Report.{IsFlushedOrFailed};
+ghost use Rattle.sat_check.specs.Code.Writer.{IsFlushedOrFailed};
 ghost use Rattle.sat_check.specs.Code.Writer.{LeavesWriter};
 ghost use Rattle.sat_check.specs.Code.Subjects.{certificate_of};
 

@@ -1,6 +1,7 @@
 //! A check of a DRAT proof, from bytes to bytes. Each engine opens its reader itself: a trait for
 //! it would have to name a type over a borrow, which the language does not have.
 
+ghost use Rattle.theory.specs.Systems.{drat_system};
 ghost use Rattle.std.specs.Prelude.{◌≡◌, [], false, IfSome};
 ghost use Rattle.std.specs.FinMap as maps;
 ghost use Rattle.theory.specs.Rules.{drat};
@@ -33,7 +34,7 @@ pub fn run_drat<F: In, P: In, O: Out>(
     proof: &mut P,
     out: &mut O,
 ) -> Status
-    ensures runs { RunsProof (drat (rules_of options.now)) options.now.trace
+    ensures runs { RunsProof (drat_system (rules_of options.now)) options.now.trace
         (drat_proof options.now.binary) (F.shown formula.old) (F.shown formula.new)
         (P.shown proof.old) (P.shown proof.new) (O.held out.old) (O.held out.new)
         (O.has_failed out.old) (O.has_failed out.new) (O.is_flushed out.new) result }
@@ -111,7 +112,7 @@ pub fn run_drat_with<C: Propagate + Drop, F: In, P: In, O: Out>(
     requires empty { (C.state clauses).live ≡ maps.empty }
     requires nothing_assumed { (C.state clauses).assumptions ≡ [] }
     requires none_refused { (C.state clauses).has_refused ≡ false }
-    ensures runs { RunsProof (drat (rules_of options.now)) options.now.trace
+    ensures runs { RunsProof (drat_system (rules_of options.now)) options.now.trace
         (drat_proof options.now.binary) (F.shown formula.old) (F.shown formula.new)
         (P.shown proof.old) (P.shown proof.new) (O.held out.old) (O.held out.new)
         (O.has_failed out.old) (O.has_failed out.new) (O.is_flushed out.new) result }

@@ -1,5 +1,6 @@
 //! A check of an LRAT proof, from bytes to bytes.
 
+ghost use Rattle.theory.specs.Verdicts.{system_of};
 ghost use Rattle.std.specs.Prelude.{◌≡◌, false};
 ghost use Rattle.proofs.specs.Lrat.{lrat_steps};
 ghost use Rattle.theory.specs.Rules.{lrat};
@@ -29,7 +30,7 @@ pub fn run_lrat<F: In, P: In, O: Out>(
     proof: &mut P,
     out: &mut O,
 ) -> Status
-    ensures runs { RunsProof lrat options.now.trace lrat_steps
+    ensures runs { RunsProof (system_of lrat) options.now.trace lrat_steps
         (F.shown formula.old) (F.shown formula.new) (P.shown proof.old) (P.shown proof.new)
         (O.held out.old) (O.held out.new) (O.has_failed out.old) (O.has_failed out.new)
         (O.is_flushed out.new) result }

@@ -9,5 +9,6 @@ pub mod Renaming
 pub mod Rules
 pub mod Sets
 pub mod Sizes
+pub mod Systems
 pub mod Verdicts
 pub mod Code

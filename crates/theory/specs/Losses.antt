@@ -31,8 +31,13 @@ abbrev pub StepLoses : State → Step → Accepted → Type 0
 StepLoses (by_copies rules live) step word = DeleteLoses live step.lits word
 StepLoses _ step word = ⊥
 
--- One of the steps that are accepted with these words does.
+-- One of the steps that are accepted with these words does, from a state on.
+abbrev pub LostBy : {State : Type 0} → (State → Step → Accepted → Type 0) →
+    (State → Step → Accepted → State) → State → List Step → List Accepted → Type 0
+LostBy Loses next state (step ∷ steps) (word ∷ words) =
+    Loses state step word ⊎ LostBy Loses next (next state step word) steps words
+LostBy Loses next state _ _ = ⊥
+
+-- the same under either rule
 abbrev pub HasLost : State → List Step → List Accepted → Type 0
-HasLost state (step ∷ steps) (word ∷ words) =
-    StepLoses state step word ⊎ HasLost (after state step word) steps words
-HasLost state _ _ = ⊥
+HasLost state steps words = LostBy StepLoses after state steps words

@@ -9,7 +9,10 @@ use Rattle.theory.specs.declared.accepted.Accepted.{Accepted}
 use Rattle.theory.specs.declared.accepted.Accepted.TheVariants.{Deleted, Empty}
 use Rattle.theory.specs.declared.refusal.Refusal.{Refusal}
 use Rattle.theory.specs.Propagation.{IsRootReason}
-use Rattle.theory.specs.Rules.{Rule, State, by_copies, start, Answers, after}
+use Rattle.theory.specs.Rules.{Rule, State, by_copies, start, Answers, after, sum_of}
+use Rattle.theory.specs.Answers.{StepAnswer}
+use Rattle.theory.specs.Losses.{StepLoses}
+use Rattle.theory.specs.Systems.{ProofSystem}
 
 -- how a check ends: the formula is shown to have no model, a step is refused, or the proof ends
 -- first
@@ -23,17 +26,19 @@ abbrev pub is_last : Accepted → Bool
 is_last Empty = true
 is_last _ = false
 
--- The steps are taken in order. Each that is accepted with a word goes on, up to the accepted
--- empty clause; the first that is refused ends the check. `words` are those of the accepted steps.
-abbrev pub Ends : State → List Step → List Accepted → Ending → Type 0
-Ends state [] [] ending = ending ≡ no_empty_clause
-Ends state [] (word ∷ words) ending = ⊥
-Ends state (step ∷ steps) [] ending =
-    (r : Refusal) × (ending ≡ refused r) × Answers state step (Err r)
-Ends state (step ∷ steps) (word ∷ words) ending =
-    Answers state step (Ok word)
+-- The steps are taken in order, from a state on. Each that is accepted with a word goes on, up to
+-- the accepted empty clause; the first that is refused ends the check. `words` are those of the
+-- accepted steps.
+abbrev pub EndsBy : {State : Type 0} → (State → Step → StepAnswer → Type 0) →
+    (State → Step → Accepted → State) → State → List Step → List Accepted → Ending → Type 0
+EndsBy MayAnswer next state [] [] ending = ending ≡ no_empty_clause
+EndsBy MayAnswer next state [] (word ∷ words) ending = ⊥
+EndsBy MayAnswer next state (step ∷ steps) [] ending =
+    (r : Refusal) × (ending ≡ refused r) × MayAnswer state step (Err r)
+EndsBy MayAnswer next state (step ∷ steps) (word ∷ words) ending =
+    MayAnswer state step (Ok word)
     × MatchBool (is_last word) ((words ≡ []) × (ending ≡ verified))
-    (Ends (after state step word) steps words ending)
+    (EndsBy MayAnswer next (next state step word) steps words ending)
 
 -- whether the clause has no literal
 abbrev pub is_empty : Clause → Bool
@@ -41,10 +46,32 @@ is_empty [] = true
 is_empty (l ∷ c) = false
 
 -- A formula with an empty clause is verified before the first step.
-abbrev pub Verdict : Rule → List Clause → List Step → List Accepted → Ending → Type 0
-Verdict rule formula steps words ending =
+abbrev pub VerdictBy : {State : Type 0} → ProofSystem State → List Clause → List Step →
+    List Accepted → Ending → Type 0
+VerdictBy system formula steps words ending =
     MatchBool (list_any is_empty formula) ((words ≡ []) × (ending ≡ verified))
-    (Ends (start rule formula) steps words ending)
+    (EndsBy system.MayAnswer system.next (system.first formula) steps words ending)
+
+-- ---- Under either rule
+
+-- the proof system of a rule
+abbrev pub system_of : Rule → ProofSystem State
+system_of rule =
+    record {
+      first = start rule;
+      MayAnswer = Answers;
+      next = after;
+      sum = sum_of;
+      Loses = StepLoses;
+    }
+
+-- how a check ends that has come to a state
+abbrev pub Ends : State → List Step → List Accepted → Ending → Type 0
+Ends state steps words ending = EndsBy Answers after state steps words ending
+
+-- the verdict by a rule
+abbrev pub Verdict : Rule → List Clause → List Step → List Accepted → Ending → Type 0
+Verdict rule formula steps words ending = VerdictBy (system_of rule) formula steps words ending
 
 -- A step of DRAT, accepted with this word, deletes a clause that makes a literal of it hold for
 -- good.

@@ -1,4 +1,5 @@
 -- The parts of a check.
+use Rattle.theory.specs.Verdicts.{system_of}
 use Rattle.std.specs.List.{list_any}
 use Rattle.std.specs.Prelude.{◌≡◌, ◌+◌, ◌≤◌, false, List, length, None, Some, Result, Ok, Err, ℕ}
 use Rattle.std.specs.Prelude.{max, Bool, ◌⊎◌, ◌↔◌, Option, true, ◌-◌, ◌^◌, min, if◌then◌else◌, [], ◌∷◌}
@@ -26,9 +27,10 @@ use Rattle.sat_check.specs.FormulaReach.{ReadsNoFurtherThanFault}
 use Rattle.sat_check.specs.Lines.{trace_line}
 use Rattle.sat_check.specs.Reach.{deciding_step, refused_end, NeedsNoProof, TellsWhy}
 use Rattle.sat_check.specs.Reach.{ReadsNoFurther, TellsFault}
-use Rattle.sat_check.specs.Report.{Report, bare_steps, peak_of, proof_report, Reports, text_of}
+use Rattle.sat_check.specs.Report.{Report, bare_steps, peak_by, proof_report, Reports, text_of}
 use Rattle.sat_check.specs.Report.{verdict_report}
-use Rattle.sat_check.specs.Report.{Outcome, is_cut_short, IsFlushedOrFailed, with_lines}
+use Rattle.sat_check.specs.Report.{Outcome, is_cut_short, with_lines}
+use Rattle.sat_check.specs.Code.Writer.{IsFlushedOrFailed}
 use Rattle.sat_check.specs.declared.checked.Checked.{Checked}
 use Rattle.sat_check.specs.declared.status.Status.TheVariants.{NotVerified, OutOfMemory as NoMemory}
 use Rattle.sat_check.specs.declared.status.Status.TheVariants.{WriteFailed, ReadFailed}
@@ -38,6 +40,10 @@ use Rattle.sat_check.specs.declared.status.Status.{Status}
 -- how a proof ends that runs out of steps
 abbrev pub end_report : Option Fault → Report
 end_report fault = verdict_report 0 0 no_empty_clause fault
+
+-- the greatest sum of sizes from a state on, under either rule
+abbrev pub peak_of : State → List Step → List Accepted → ℕ
+peak_of state steps words = peak_by sum_of after state steps words
 
 -- where a reader stands, and what is still to come of an input
 pub record Standing : Type 0 where
@@ -109,7 +115,7 @@ pub record LeavesProof (rule : Rule) (fault : Option Fault) (clauses : List Clau
       → Verdict rule clauses (bare_steps p) words ending →
       deciding_step p.steps words ending ≡ Some last → (new ≡ old) ⊎ (rest.offset ≤ last.offset)
   pub past_fault : (offset : ℕ) → p.fault_end ≡ Some offset → (new ≡ old) ⊎ (rest.offset ≤ offset)
-  pub told : TellsWhy rule fault clauses p checked
+  pub told : TellsWhy (system_of rule) fault clauses p checked
 
 -- what was written, by all that was seen of the formula and of the proof, how far these were read,
 -- and why the check ended so
@@ -117,9 +123,9 @@ abbrev pub AllReports : Rule → Bool → (Input → Proof) → Reader → Reade
     Checked → Option (List ℕ) → Option (List ℕ) → Type 0
 AllReports rule trace steps formula formula_new proof proof_new checked old new =
     OfBothSeen formula formula_new proof proof_new
-    (λ i j. Reports rule trace i (steps j) old new checked.status
-    × ReadsNoFurther rule (formula_of i) (steps j) proof proof_new
-    × TellsWhy rule (formula_of i).fault (formula_of i).clauses (steps j) checked
+    (λ i j. Reports (system_of rule) trace i (steps j) old new checked.status
+    × ReadsNoFurther (system_of rule) (formula_of i) (steps j) proof proof_new
+    × TellsWhy (system_of rule) (formula_of i).fault (formula_of i).clauses (steps j) checked
     × ReadsNoFurtherThanFault i formula formula_new)
 
 -- A run from readers to the writer of the lines: what was written, and which of them failed.

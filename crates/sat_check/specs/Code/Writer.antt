@@ -1,9 +1,13 @@
 -- What a run leaves of the writer of its lines.
-use Rattle.std.specs.Prelude.{◌≡◌, true, false}
+use Rattle.std.specs.Prelude.{◌≡◌, ◌⊎◌, Bool, true, false}
 use Rattle.cnf_base.specs.Lines.{Sink}
-use Rattle.sat_check.specs.Report.{is_cut_short, IsFlushedOrFailed}
+use Rattle.sat_check.specs.Report.{is_cut_short}
 use Rattle.sat_check.specs.declared.status.Status.{Status}
 use Rattle.sat_check.specs.declared.status.Status.TheVariants.{OutOfMemory}
+
+-- all was flushed, or the writer tells of a failure
+abbrev pub IsFlushedOrFailed : (is_flushed has_failed : Bool) → Type 0
+IsFlushedOrFailed is_flushed has_failed = (is_flushed ≡ true) ⊎ (has_failed ≡ true)
 
 -- Unless memory or the writer failed, the writer tells of no new failure, and all was flushed. Where
 -- memory ran out, all was flushed, or the writer tells of a failure. It is the same writer.

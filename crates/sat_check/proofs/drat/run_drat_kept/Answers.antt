@@ -4,6 +4,7 @@ use Rattle.sat_check.specs.Report.{drat_proof, rules_of}
 use Rattle.theory.specs.Rules.{drat}
 use Rattle.sat_check.proofs.CheckLemmas.{runs_nothing}
 use Rattle.sat_check.proofs.SoundLemmas.{runs_placed}
+use Rattle.sat_check.proofs.SystemLemmas.{drat_placed}
 use Rattle.sat_check.proofs.drat.run_drat_kept.Goals as goal
 use Rattle.sat_check.proofs.drat.run_drat_kept.Goals.{in-Some, in-None}
 
@@ -12,6 +13,7 @@ returns g c =
     let rule = drat (rules_of c.args.options.now) in
     let trace = c.args.options.now.trace in
     let steps = drat_proof c.args.options.now.binary in
+    drat_placed (rules_of c.args.options.now) trace steps _ _ _ _ _ _ _ _ _ _ (
     runs_placed rule trace steps _ _ _ _ c.match-session.checked c.new-lines.result c.match-session.lines _ _ _ _ _
     (search rules) (search rules) (search rules) (search rules) (search rules)
     (elim c.match-session.branch [
@@ -19,4 +21,4 @@ returns g c =
       | in-None w ↦ rw (w.formula-is, w.proof-is, w.lines-is, w.checked-is)
           (runs_nothing rule trace steps _ _ _ w.without_step-checked.result c.new-lines.result w.give_up.new.lines refl
           (rw (w.without_step-checked.ensures, w.give_up.ensures.status) refl) w.give_up.ensures.outcome w.give_up.ensures.writer)
-    ])
+    ]))

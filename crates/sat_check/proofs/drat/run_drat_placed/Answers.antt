@@ -2,6 +2,7 @@
 use Rattle.sat_check.specs.Report.{drat_proof, rules_of}
 use Rattle.sat_check.specs.Runs.{IsDratProof}
 use Rattle.theory.specs.Rules.{drat}
+use Rattle.sat_check.proofs.SystemLemmas.{drat_reported}
 use Rattle.sat_check.proofs.TheoremLemmas.{shows_unsatisfiable, shows_steps, drat_read}
 use Rattle.sat_check.proofs.drat.run_drat_placed.Goals as goal
 
@@ -9,11 +10,13 @@ pub returns-clause-unsatisfiable : goal.returns-clause-unsatisfiable
 returns-clause-unsatisfiable g c =
     let options = c.args.options.now in
     shows_unsatisfiable (drat (rules_of options)) options.trace (drat_proof options.binary)
-    _ _ _ _ _ _ _ _ c.run_drat_kept.ensures.checks (λ i j x. x.0.reports)
+    _ _ _ _ _ _ _ _ c.run_drat_kept.ensures.checks
+    (λ i j x. drat_reported (rules_of options) options.trace i (drat_proof options.binary j) _ _ _ x.0.reports)
 
 pub returns-clause-steps_verify : goal.returns-clause-steps_verify
 returns-clause-steps_verify g c =
     let options = c.args.options.now in
     shows_steps (drat (rules_of options)) options.trace (drat_proof options.binary)
-    _ _ _ _ _ _ _ _ c.run_drat_kept.ensures.checks (λ i j said. said.0.reports)
+    _ _ _ _ _ _ _ _ c.run_drat_kept.ensures.checks
+    (λ i j said. drat_reported (rules_of options) options.trace i (drat_proof options.binary j) _ _ _ said.0.reports)
     (IsDratProof options.binary) (drat_read options.binary)

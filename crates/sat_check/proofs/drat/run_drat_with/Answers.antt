@@ -5,14 +5,16 @@ use Rattle.sat_check.specs.Runs.{IsDratProof}
 use Rattle.theory.specs.Rules.{drat}
 use Rattle.sat_check.proofs.RunLemmas.{weakened}
 use Rattle.sat_check.proofs.SoundLemmas.{runs_placed}
+use Rattle.sat_check.proofs.SystemLemmas.{drat_placed}
 use Rattle.sat_check.proofs.TheoremLemmas.{into_unsatisfiable, into_steps, drat_read}
 use Rattle.sat_check.proofs.drat.run_drat_with.Goals as goal
 
 pub returns-clause-runs : goal.returns-clause-runs
 returns-clause-runs g c =
     weakened _ _ _ _ _ _ _ _ _ _
+    (drat_placed (rules_of c.args.options.now) c.args.options.now.trace (drat_proof c.args.options.now.binary) _ _ _ _ _ _ _ _ _ _
     (runs_placed (drat (rules_of c.args.options.now)) c.args.options.now.trace (drat_proof c.args.options.now.binary) _ _ _ _ c.check_with-checked.result _ _ _ _ _ _ _
-    (search rules) (search rules) (search rules) (search rules) (search rules) c.check_with-checked.ensures)
+    (search rules) (search rules) (search rules) (search rules) (search rules) c.check_with-checked.ensures))
     (λ i j x. (x.0, x.1, x.3))
 
 pub returns-clause-unsatisfiable : goal.returns-clause-unsatisfiable

@@ -2,6 +2,7 @@
 use Rattle.sat_check.specs.Report.{drat_proof, rules_of}
 use Rattle.sat_check.specs.Runs.{IsDratProof}
 use Rattle.theory.specs.Rules.{drat}
+use Rattle.sat_check.proofs.SystemLemmas.{drat_reported}
 use Rattle.sat_check.proofs.TheoremLemmas.{shows_unsatisfiable, shows_steps, drat_read}
 use Rattle.sat_check.proofs.tools.drat_forward.Goals as goal
 
@@ -10,13 +11,18 @@ returns-clause-runs g c = rw c.of-options.ensures at c.run_drat_kept-session.ens
 
 pub returns-clause-unsatisfiable : goal.returns-clause-unsatisfiable
 returns-clause-unsatisfiable g c =
-    shows_unsatisfiable _ _ _ _ _ _ _ _ _ _ _ c.run_drat_kept-session.ensures.checks
-    (λ i j x. x.0.reports)
+    let options = c.of-options.result in
+    shows_unsatisfiable (drat (rules_of options)) options.trace (drat_proof options.binary)
+    _ _ _ _ _ _ _ _ c.run_drat_kept-session.ensures.checks
+    (λ i j x.
+    drat_reported (rules_of options) options.trace i (drat_proof options.binary j) _ _ _ x.0.reports)
 
 pub returns-clause-steps_verify : goal.returns-clause-steps_verify
 returns-clause-steps_verify g c =
-    let binary = c.of-options.result.binary in
+    let options = c.of-options.result in
     rw c.of-options.ensures at
-    (shows_steps (drat (rules_of c.of-options.result)) _ (drat_proof binary) _ _ _ _ _ _ _ _
-    c.run_drat_kept-session.ensures.checks (λ i j x. x.0.reports)
-    (IsDratProof binary) (drat_read binary))
+    (shows_steps (drat (rules_of options)) options.trace (drat_proof options.binary)
+    _ _ _ _ _ _ _ _ c.run_drat_kept-session.ensures.checks
+    (λ i j x.
+    drat_reported (rules_of options) options.trace i (drat_proof options.binary j) _ _ _ x.0.reports)
+    (IsDratProof options.binary) (drat_read options.binary))

@@ -1,0 +1,174 @@
+-- A run by DRAT's own proof system is one by the rule, and the other way round.
+use Rattle.std.proofs.Common.{◌≡◌, ℕ, ◌-◌, ◌^◌, min, max, Bool, true, false, List, [], ◌∷◌, Option}
+use Rattle.std.proofs.Common.{None, Some, refl, sym, ap, ◌∙◌, inl, inr, ◌⊎◌}
+use Rattle.std.specs.Prelude.{◌↔◌, sum_by, MatchBool}
+use Rattle.std.specs.List.{list_any}
+use Rattle.cnf_base.specs.Literals.{Clause, size}
+use Rattle.cnf_base.specs.Stream.{Input, Reader}
+use Rattle.cnf_base.specs.declared.fault.Fault.{Fault}
+use Rattle.dimacs.specs.Formula.{Formula, formula_of}
+use Rattle.dimacs.specs.declared.header.Header.{Header}
+use Rattle.proofs.specs.Reading.{Proof}
+use Rattle.proofs.specs.Steps.{Step}
+use Rattle.theory.specs.Drat.{after_drat, drat_step}
+use Rattle.theory.specs.Losses.{LostBy, HasLost}
+use Rattle.theory.specs.Rules.{drat, by_copies}
+use Rattle.theory.specs.Systems.{ProofSystem, drat_system}
+use Rattle.theory.specs.Verdicts.{Ending, verified, is_empty, is_last, EndsBy, Ends, VerdictBy}
+use Rattle.theory.specs.Verdicts.{system_of}
+use Rattle.theory.specs.declared.accepted.Accepted.{Accepted}
+use Rattle.theory.specs.declared.drat_rules.DratRules.{DratRules}
+use Rattle.sat_check.specs.Code.Checking.{peak_of}
+use Rattle.sat_check.specs.Lines.{formula_line}
+use Rattle.sat_check.specs.Reach.{ReadsNoFurther, TellsLoss, TellsWhy}
+use Rattle.sat_check.specs.Report.{Report, Checks, ReportsFormula, Reports, with_lines}
+use Rattle.sat_check.specs.Report.{ProofConsequences, ChecksProof, bare_steps, peak_by, proof_report}
+use Rattle.sat_check.specs.Runs.{RunsPlaced}
+use Rattle.sat_check.specs.declared.checked.Checked.{Checked}
+use Rattle.sat_check.proofs.RunLemmas.{weakened}
+use Rattle.sat_check.specs.declared.status.Status.{Status}
+
+-- two systems that give the same verdicts, the same peaks and the same losses
+pub record Alike {S T : Type 0} (one : ProofSystem S) (other : ProofSystem T) : Type 0 where
+  pub to : (formula : List Clause) (steps : List Step) (words : List Accepted) (ending : Ending)
+      → VerdictBy one formula steps words ending → VerdictBy other formula steps words ending
+  pub back : (formula : List Clause) (steps : List Step) (words : List Accepted) (ending : Ending)
+      → VerdictBy other formula steps words ending → VerdictBy one formula steps words ending
+  pub peak : (formula : List Clause) (steps : List Step) (words : List Accepted)
+      → peak_by one.sum one.next (one.first formula) steps words ≡ peak_by other.sum other.next (other.first formula) steps words
+  pub lost : (formula : List Clause) (steps : List Step) (words : List Accepted)
+      → LostBy one.Loses one.next (one.first formula) steps words ↔ LostBy other.Loses other.next (other.first formula) steps words
+
+pub turned : {S T : Type 0} (one : ProofSystem S) (other : ProofSystem T) → Alike one other → Alike other one
+turned one other alike = record {
+  to = alike.back;
+  back = alike.to;
+  peak = λ formula steps words. sym (alike.peak formula steps words);
+  lost = λ formula steps words. ((alike.lost formula steps words).1, (alike.lost formula steps words).0);
+}
+
+-- ---- What is said by one of them is said by the other
+
+module _ {S T : Type 0} (one : ProofSystem S) (other : ProofSystem T) (alike : Alike one other) where
+  checks_by : (trace : Bool) (h : Header) (clauses : List Clause) (p : Proof) (r : Report) → Checks one trace h clauses p r → Checks other trace h clauses p r
+  checks_by trace h clauses p r c = record {
+    words = c.words;
+    ending = c.ending;
+    verdict = alike.to clauses (bare_steps p) c.words c.ending c.verdict;
+    report = c.report ∙ ap (λ m. with_lines (formula_line h ∷ []) (proof_report trace 0 m c.words c.ending p.fault)) (alike.peak clauses (bare_steps p) c.words);
+  }
+
+  formula_by : (trace : Bool) (header : Option Header) (clauses : List Clause) (fault : Option Fault) (p : Proof) (r : Report)
+      → ReportsFormula one trace header clauses fault p r → ReportsFormula other trace header clauses fault p r
+  formula_by trace header clauses (Some f) p r x = x
+  formula_by trace (Some h) clauses None p r x = checks_by trace h clauses p r x
+  formula_by trace None clauses None p r x = x
+
+  pub reports_by : (trace : Bool) (i : Input) (p : Proof) (old new : Option (List ℕ)) (status : Status) → Reports one trace i p old new status → Reports other trace i p old new status
+  reports_by trace i p old new status x = record {
+    report = x.report;
+    reports = formula_by trace (formula_of i).header (formula_of i).clauses (formula_of i).fault p x.report x.reports;
+    outcome = x.outcome;
+  }
+
+  consequences_by : (i : Input) (p : Proof) (old new : Option (List ℕ)) (status : Status) → ProofConsequences one i p old new status → ProofConsequences other i p old new status
+  consequences_by i p old new status x = record {
+    verified = λ is. let v = x.verified is in record { whole = v.whole; words = v.words; verdict = alike.to (formula_of i).clauses (bare_steps p) v.words verified v.verdict };
+    complete = λ v. x.complete (record { whole = v.whole; words = v.words; verdict = alike.back (formula_of i).clauses (bare_steps p) v.words verified v.verdict });
+    sound = x.sound;
+    written = x.written;
+  }
+
+  pub proof_by : (trace : Bool) (i : Input) (p : Proof) (old new : Option (List ℕ)) (status : Status) → ChecksProof one trace i p old new status → ChecksProof other trace i p old new status
+  proof_by trace i p old new status x = record {
+    reports = reports_by trace i p old new status x.reports;
+    consequences = consequences_by i p old new status x.consequences;
+  }
+
+  pub reach_by : (f : Formula) (p : Proof) (old new : Reader) → ReadsNoFurther one f p old new → ReadsNoFurther other f p old new
+  reach_by f p old new x = record {
+    unread = x.unread;
+    past = λ words ending last whole v d. x.past words ending last whole (alike.back f.clauses (bare_steps p) words ending v) d;
+    fault = x.fault;
+  }
+
+  loss_by : (fault : Option Fault) (clauses : List Clause) (p : Proof) (checked : Checked) → TellsLoss one fault clauses p checked → TellsLoss other fault clauses p checked
+  loss_by fault clauses p checked x = record {
+    lost = λ words ending whole is v.
+        let told = x.lost words ending whole is (alike.back clauses (bare_steps p) words ending v) in
+        let same = alike.lost clauses (bare_steps p) words in
+        (λ t. let q = told.0 t in (q.0, same.0 q.1), λ q. told.1 (q.0, same.1 q.1));
+    only = x.only;
+  }
+
+  pub why_by : (fault : Option Fault) (clauses : List Clause) (p : Proof) (checked : Checked) → TellsWhy one fault clauses p checked → TellsWhy other fault clauses p checked
+  why_by fault clauses p checked x = record {
+    unread = x.unread;
+    refused = λ words ending whole is v. x.refused words ending whole is (alike.back clauses (bare_steps p) words ending v);
+    only = x.only;
+    loss = loss_by fault clauses p checked x.loss;
+    malformed = x.malformed;
+  }
+
+-- ---- DRAT, as a rule and by itself
+
+or_later : {A B C : Type 0} → (B → C) → A ⊎ B → A ⊎ C
+or_later f (inl a) = inl a
+or_later f (inr b) = inr (f b)
+
+module _ (rules : DratRules) where
+  abbrev EndsHere : List Clause → List Step → List Accepted → Ending → Type 0
+  EndsHere live steps words ending = EndsBy (drat_system rules).MayAnswer (drat_system rules).next live steps words ending
+
+  last_or : (A : Type 0) {B C : Type 0} (b : Bool) → (B → C) → MatchBool b A B → MatchBool b A C
+  last_or A true f x = x
+  last_or A false f x = f x
+
+  ends_to : (live : List Clause) (steps : List Step) (words : List Accepted) (ending : Ending) → Ends (by_copies rules live) steps words ending → EndsHere live steps words ending
+  ends_to live [] [] ending e = e
+  ends_to live [] (w ∷ ws) ending e = e
+  ends_to live (s ∷ ss) [] ending e = e
+  ends_to live (s ∷ ss) (w ∷ ws) ending e = (e.0, last_or ((ws ≡ []) × (ending ≡ verified)) (is_last w) (ends_to (after_drat live (drat_step rules s) w) ss ws ending) e.1)
+
+  ends_back : (live : List Clause) (steps : List Step) (words : List Accepted) (ending : Ending) → EndsHere live steps words ending → Ends (by_copies rules live) steps words ending
+  ends_back live [] [] ending e = e
+  ends_back live [] (w ∷ ws) ending e = e
+  ends_back live (s ∷ ss) [] ending e = e
+  ends_back live (s ∷ ss) (w ∷ ws) ending e = (e.0, last_or ((ws ≡ []) × (ending ≡ verified)) (is_last w) (ends_back (after_drat live (drat_step rules s) w) ss ws ending) e.1)
+
+  peaks : (live : List Clause) (steps : List Step) (words : List Accepted)
+      → peak_of (by_copies rules live) steps words ≡ peak_by (drat_system rules).sum (drat_system rules).next live steps words
+  peaks live [] words = refl
+  peaks live (s ∷ ss) [] = refl
+  peaks live (s ∷ ss) (w ∷ ws) = ap (max (min (sum_by size live) (2 ^ 64 - 1))) (peaks (after_drat live (drat_step rules s) w) ss ws)
+
+  losses : (live : List Clause) (steps : List Step) (words : List Accepted)
+      → HasLost (by_copies rules live) steps words ↔ LostBy (drat_system rules).Loses (drat_system rules).next live steps words
+  losses live [] words = (λ x. x, λ x. x)
+  losses live (s ∷ ss) [] = (λ x. x, λ x. x)
+  losses live (s ∷ ss) (w ∷ ws) = let later = losses (after_drat live (drat_step rules s) w) ss ws in (or_later later.0, or_later later.1)
+
+  pub drat_alike : Alike (system_of (drat rules)) (drat_system rules)
+  drat_alike = record {
+    to = λ formula steps words ending. last_or ((words ≡ []) × (ending ≡ verified)) (list_any is_empty formula) (ends_to formula steps words ending);
+    back = λ formula steps words ending. last_or ((words ≡ []) × (ending ≡ verified)) (list_any is_empty formula) (ends_back formula steps words ending);
+    peak = peaks;
+    lost = losses;
+  }
+
+-- what was promised of a run by the rule is promised by DRAT's own system
+pub drat_placed : (rules : DratRules) (trace : Bool) (steps : Input → Proof) (formula formula_new proof proof_new : Reader) (old new : Option (List ℕ)) (had_failed has_failed is_flushed : Bool) (checked : Checked)
+    → RunsPlaced (system_of (drat rules)) trace steps formula formula_new proof proof_new old new had_failed has_failed is_flushed checked
+    → RunsPlaced (drat_system rules) trace steps formula formula_new proof proof_new old new had_failed has_failed is_flushed checked
+drat_placed rules trace steps formula formula_new proof proof_new old new had_failed has_failed is_flushed checked runs =
+    weakened checked.status _ _ formula formula_new proof proof_new had_failed has_failed is_flushed runs
+    (λ i j x. (
+      proof_by (system_of (drat rules)) (drat_system rules) (drat_alike rules) trace i (steps j) old new checked.status x.0,
+      reach_by (system_of (drat rules)) (drat_system rules) (drat_alike rules) (formula_of i) (steps j) proof proof_new x.1,
+      why_by (system_of (drat rules)) (drat_system rules) (drat_alike rules) (formula_of i).fault (formula_of i).clauses (steps j) checked x.2,
+      x.3,
+    ))
+
+-- and so is its report by the rule
+pub drat_reported : (rules : DratRules) (trace : Bool) (i : Input) (p : Proof) (old new : Option (List ℕ)) (status : Status) → Reports (drat_system rules) trace i p old new status → Reports (system_of (drat rules)) trace i p old new status
+drat_reported rules = reports_by (drat_system rules) (system_of (drat rules)) (turned (system_of (drat rules)) (drat_system rules) (drat_alike rules))
