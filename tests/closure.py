@@ -21,7 +21,7 @@ THEOREM = "crates/sat_check/specs/Theorem.antt"
 EXACT = ("crates/sat_check/src/tools.rt", "drat_forward", "runs")
 # The most lines that may be needed. The second is what is needed today: it is to become less.
 MOST_FOR_PAGE = 120
-MOST_FOR_EXACT = 973
+MOST_FOR_EXACT = 967
 
 HEAD = re.compile(r"(?:(?:unfoldable|abbrev|pub|record|data) )*([^\s(:]+)")
 CONSTRUCTOR = re.compile(r"^  (\S+) :", re.M)

@@ -30,8 +30,10 @@ use Rattle.cnf_base.proofs.GrammarLemmas.{listing_says, number_spelled, p_spelle
 use Rattle.cnf_base.proofs.LineLemmas.{append_nil}
 use Rattle.cnf_base.proofs.PrintLemmas.{both, count_word}
 use Rattle.dimacs.specs.Formula.{and_then, next_word, is_p, is_cnf, fixed, count_of}
-use Rattle.dimacs.specs.Formula.{count, line_end, first_end}
-use Rattle.dimacs.specs.Formula.{and_then_at, part, header_of}
+use Rattle.dimacs.specs.Formula.{count, line_end}
+use Rattle.dimacs.specs.Code.Reading.{first_end}
+use Rattle.dimacs.specs.Formula.{part, header_of}
+use Rattle.dimacs.specs.Code.Reading.{and_then_at}
 use Rattle.dimacs.specs.Formula.{judged, Body, faulty_body, whole, with_first_clause, body_at_end}
 use Rattle.dimacs.specs.Formula.{body_on_word, body_among, body_of, Formula}
 use Rattle.dimacs.specs.Formula.{formula_with, formula_of}

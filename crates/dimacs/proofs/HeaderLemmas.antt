@@ -15,7 +15,8 @@ use Rattle.cnf_base.specs.declared.fault.TextFault.TheVariants.{BadHeader}
 use Rattle.cnf_base.proofs.ListingLemmas.{EndFrom, Gives-from}
 use Rattle.cnf_base.proofs.StreamLemmas.{Along-then, Along-map, Along-none}
 use Rattle.dimacs.specs.Formula.{drop_line_ends, skip_blank, next_word, is_p, is_cnf}
-use Rattle.dimacs.specs.Formula.{fixed, count_of, count, line_end, first_end, and_then, and_then_at, part}
+use Rattle.dimacs.specs.Formula.{fixed, count_of, count, line_end, and_then, part}
+use Rattle.dimacs.specs.Code.Reading.{first_end, and_then_at}
 use Rattle.dimacs.specs.Formula.{header_of, formula_with, formula_at, ends_with, ends_at}
 use Rattle.dimacs.specs.Reading.{PassesNoEnd, unopened}
 use Rattle.dimacs.specs.Code.Reading.{GivesHeader, GivesPart}

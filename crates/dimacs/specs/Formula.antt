@@ -2,6 +2,8 @@
 -- own profile).
 use Rattle.std.specs.Prelude.{ℕ, ◌+◌, nat_le, Bool, true, false, if◌then◌else◌, List, [], ◌∷◌, ◌++◌}
 use Rattle.std.specs.Prelude.{Option, None, Some, Result, Ok, Err, length, slice_get}
+use Rattle.std.specs.Prelude.{map, take}
+use Rattle.std.specs.Result.{result_map_both}
 use Rattle.cnf_base.specs.Literals.{Literal, Clause}
 use Rattle.cnf_base.specs.Stream.{Input, Suffix}
 use Rattle.cnf_base.specs.Words.{number_literal}
@@ -23,7 +25,7 @@ use Rattle.dimacs.specs.declared.header.Header.{Header}
 -- ---- The header: the first line that is no comment and not blank
 
 -- what follows where this was right
-abbrev pub and_then : {A B : Type 0} → Result A Fault → (A → Result B Fault) → Result B Fault
+abbrev pub and_then : {A B E : Type 0} → Result A E → (A → Result B E) → Result B E
 and_then (Ok x) next = next x
 and_then (Err f) next = Err f
 
@@ -91,21 +93,12 @@ line_end_among [] end Failed = Err ReadFailed
 abbrev pub line_end : Listing → Result Listing Fault
 line_end l = line_end_among l.tokens l.end l.ending
 
--- the offset of the byte after the first of these tokens, if there is one
-abbrev pub first_end : List Listed → List ℕ
-first_end [] = []
-first_end ((t, offset) ∷ ts) = offset ∷ []
-
--- as `and_then`, and a fault comes with where the token at fault ends
-abbrev pub and_then_at : {A B : Type 0} → List ℕ → Result A Fault →
-    (A → Result B (Fault × List ℕ)) → Result B (Fault × List ℕ)
-and_then_at ends (Ok x) next = next x
-and_then_at ends (Err f) next = Err (f, ends)
-
--- a part of the header, which is one token, and then what follows it
+-- a part of the header, which is one token, and then what follows it; a fault comes with where that
+-- token ends, if there is one
 abbrev pub part : {A B : Type 0} → (Listing → Result A Fault) → Listing →
     (A → Result B (Fault × List ℕ)) → Result B (Fault × List ℕ)
-part test l next = and_then_at (first_end l.tokens) (test l) next
+part test l next =
+    and_then (result_map_both (λ x. x) (λ f. (f, map (λ t. t.1) (take 1 l.tokens))) (test l)) next
 
 -- `p cnf VARIABLES CLAUSES`, and what follows; or the fault, and where the token at fault ends
 abbrev pub header_of : Listing → Result (Header × Listing) (Fault × List ℕ)

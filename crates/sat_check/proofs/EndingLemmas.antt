@@ -18,7 +18,8 @@ use Rattle.cnf_base.specs.declared.fault.TextFault.{TextFault}
 use Rattle.cnf_base.specs.declared.fault.TextFault.TheVariants.{BadHeader}
 use Rattle.dimacs.specs.Claim.{Said, nothing, claim_on_token, claim_among, claim_of}
 use Rattle.dimacs.specs.Formula.{and_then, word_among, next_word, skip_blank, is_p, is_cnf}
-use Rattle.dimacs.specs.Formula.{fixed, count_of, count, line_end_among, line_end, and_then_at}
+use Rattle.dimacs.specs.Formula.{fixed, count_of, count, line_end_among, line_end}
+use Rattle.dimacs.specs.Code.Reading.{and_then_at}
 use Rattle.dimacs.specs.Formula.{header_of, judged, body_on_word, body_among}
 use Rattle.dimacs.specs.Formula.{formula_with, formula_of}
 use Rattle.dimacs.specs.declared.header.Header.{Header}

@@ -2,10 +2,12 @@
 use Rattle.std.specs.Prelude.{Bool, true, false, List, [], ◌∷◌, ℕ, ◌+◌, Result, Ok, Err, ◌≡◌}
 use Rattle.cnf_base.specs.Literals.{Literal}
 use Rattle.cnf_base.specs.Stream.{Suffix}
-use Rattle.cnf_base.specs.Text.{Listing}
+use Rattle.std.specs.Prelude.{map, take}
+use Rattle.std.specs.Result.{result_map_both}
+use Rattle.cnf_base.specs.Text.{Listed, Listing}
 use Rattle.cnf_base.specs.declared.fault.Fault.{Fault}
 use Rattle.dimacs.specs.Formula.{Body, body_of, faulty_body, whole, ends_after}
-use Rattle.dimacs.specs.Formula.{first_end}
+use Rattle.dimacs.specs.Formula.{and_then}
 use Rattle.dimacs.specs.Reading.{PassesNoEnd}
 use Rattle.dimacs.specs.declared.header.Header.{Header}
 
@@ -31,6 +33,15 @@ EndsBody (Err f) b = b ≡ faulty_body f
 abbrev pub ends_left : Result Bool Fault → Header → ℕ → Listing → List ℕ
 ends_left (Ok true) h complete l = ends_after h (complete + 1) l
 ends_left _ h complete l = []
+
+-- where the first of these tokens ends, if there is one
+abbrev pub first_end : List Listed → List ℕ
+first_end tokens = map (λ t. t.1) (take 1 tokens)
+
+-- what follows where a part of the header was right; a fault comes with where its token ends
+abbrev pub and_then_at : {A B : Type 0} → List ℕ → Result A Fault →
+    (A → Result B (Fault × List ℕ)) → Result B (Fault × List ℕ)
+and_then_at ends r next = and_then (result_map_both (λ x. x) (λ f. (f, ends)) r) next
 
 -- a part of the header is read so, and the end of its token isn't passed
 abbrev pub GivesPart : {A : Type 0} → (Listing → Result A Fault) → Listing → Result A Fault →
