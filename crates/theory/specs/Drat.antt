@@ -1,10 +1,10 @@
 -- One step of a DRAT proof, over the list of the live clauses. Additions by RUP, or by RAT on the
--- first literal written, and deletions are those of DRAT, as DRAT-trim's page has it. Our own
--- profile: RUP is asked first, a deletion of a unit clause is done as written, and one of a clause
--- that is not alive is ignored, or refused where the rules are strict. Where they keep units, the
--- deletion of a clause that makes a literal hold for good is ignored, as DRAT-trim ignores most of
--- these. Additions that list a witness after their clause are those of DPR proofs; that they are
--- tried by RUP and PR alone is our own.
+-- first literal written, and deletions are those of DRAT, as DRAT-trim's page has it. DRAT-trim
+-- ignores the deletion of a clause that is not alive too. Our own profile: RUP is asked first, a
+-- deletion of a unit clause is done as written, and strict rules refuse one of a clause that is not
+-- alive. Where the rules keep units, the deletion of a clause that makes a literal hold for good is
+-- ignored, as DRAT-trim ignores most of these. Additions that list a witness after their clause are
+-- those of DPR proofs; that they are tried by RUP and PR alone is our own.
 use Rattle.std.specs.Prelude.{◌≡◌, ℕ, Bool, true, false, ◌⊎◌, List, [], ◌∷◌, Ok}
 use Rattle.std.specs.Prelude.{Err, count_by, slice_get, IsTrue, IsFalse, if◌then◌else◌}
 use Rattle.std.specs.List.{list_any}
