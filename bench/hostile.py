@@ -284,6 +284,36 @@ def units_of_clauses(n):
     return units + [(i, n + i, 2 * n + 1) for i in range(1, n + 1)], deletions(units[n - 1:0:-1], clause(1, 2 * n + 2))
 
 
+def sharing(n):
+    """n clauses that watch one literal."""
+    return [(1, 2 * i, 2 * i + 1) for i in range(1, n + 1)]
+
+
+def deleted_in(order, clauses):
+    """The clauses, and the lines that delete all of them in an order of their places."""
+    return clauses, ["d " + clause(*clauses[i]) for i in order]
+
+
+@kind(DRAT, 8000)
+def list_from_two_places(n):
+    """All clauses of a long watch list are deleted, by turns from its front and from its middle on. The last entries fill the gaps,
+    so that the rows of a list many times as long fall apart, and it costs more."""
+    return deleted_in([at for pair in zip(range(n), range(n, 2 * n)) for at in pair], sharing(2 * n))
+
+
+@kind(DRAT, 8000)
+def list_by_strides(n):
+    """The same, each fiftieth and then from the front again."""
+    return deleted_in([at for first in range(50) for at in range(first, n, 50)], sharing(n))
+
+
+@kind(DRAT, 8000, is_linear=False)
+def list_in_no_order(n):
+    """The same in no order."""
+    source = numbers(1)
+    return deleted_in(sorted(range(n), key=lambda _: next(source)), sharing(n))
+
+
 def scattered(count):
     """Names of up to 28 bits, at random and in no order."""
     names, source = {}, numbers(1)

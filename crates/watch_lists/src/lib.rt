@@ -4,6 +4,7 @@
 mod cursor;
 mod lists;
 mod slot_list;
+mod taken;
 mod watcher;
 
 pub use cursor::Cursor;

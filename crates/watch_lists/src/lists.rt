@@ -2,8 +2,8 @@
 //!
 //! To remove a clause takes no memory: its two lists are searched for its entries. Solvers delete
 //! clauses in the order in which they have them, or in the opposite one, so a long list is first
-//! searched around the place where its last entry was taken out. There are 1024 such places, by the
-//! last bits of the literal's key: two long lists that share one only cost a search.
+//! searched around the places where its last entries were taken out. There are 256 times four such
+//! places, by the last bits of the literal's key: two long lists that share them only cost a search.
 
 ghost use Rattle.std.specs.Prelude.{◌≡◌, ℕ, ◌+◌, ◌==◌, ◌&&◌, ◌++◌, ◌∷◌, [], length, min};
 ghost use Rattle.std.specs.Prelude.{if◌then◌else◌, IsTrue, OnOk, OnErr, true, false, ◌≢◌, ◌<◌, ◌≤◌};
@@ -11,7 +11,8 @@ ghost use Rattle.cnf_base.specs.Literals.{Literal, Clause, has};
 ghost use Rattle.watch_lists.specs.Lists.{entries_in, entries_of, fits, has_list_at};
 ghost use Rattle.watch_lists.specs.Lists.{list_at, marked_entries, unfit_entries};
 
-use crate::watcher::{Watcher, take_off};
+use crate::taken::take_off;
+use crate::watcher::Watcher;
 use cnf_base::{Lit, OutOfMemory};
 use std::alloc::Global;
 use tables::{Lists, key};
@@ -20,13 +21,17 @@ use tables::{Lists, key};
 #[derive(Drop)]
 pub struct WatchLists {
     lists: Lists<Watcher>,
-    /// Where in its list the entry stood that was taken out last, by the last bits of the literal's
-    /// key. Clauses that are deleted one after the other often stand side by side.
-    places: [usize; PLACES],
+    /// Where in its list the entries stood that were taken out last, the latest first, by the last
+    /// bits of the literal's key. Clauses that are deleted one after the other often stand side by
+    /// side, or by turns in a few such rows.
+    places: [usize; LISTS * EACH],
 }
 
-/// How many places are noted.
-const PLACES: usize = 1024;
+/// By how many last bits' numbers places are noted.
+const LISTS: usize = 256;
+
+/// How many places are noted by each.
+const EACH: usize = 4;
 
 impl WatchLists {
     /// No lists.
@@ -36,7 +41,7 @@ impl WatchLists {
     {
         WatchLists {
             lists: Lists::new(alloc),
-            places: [0; PLACES],
+            places: [0; LISTS * EACH],
         }
     }
 
@@ -108,9 +113,10 @@ impl WatchLists {
             unfit_entries s c k (list_at self.new k) ≤ unfit_entries s c k (list_at self.old k) }
         ensures entries { entries_in self.new + 1 ≡ entries_in self.old }
     {
-        let noted = l.index() % PLACES;
+        let first = l.index() % LISTS * EACH;
+        let places = &mut self.places[first..first + EACH];
         let mut watchers = self.lists.take_out(key(l));
-        self.places[noted] = take_off(&mut watchers, slot, is_binary, self.places[noted]);
+        take_off(&mut watchers, slot, is_binary, places);
         self.lists.put_back(key(l), watchers);
     }
 

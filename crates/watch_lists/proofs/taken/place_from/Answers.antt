@@ -1,7 +1,7 @@
 use Rattle.std.proofs.Common.{ap, ◌∙◌}
 use Rattle.watch_lists.specs.Code.Lists.{code_of}
 use Rattle.watch_lists.proofs.WatchListsLemmas.Lists.{coded_next, coded_none}
-use Rattle.watch_lists.proofs.watcher.place_from.Goals as goal
+use Rattle.watch_lists.proofs.taken.place_from.Goals as goal
 
 pub loop-place-preserved : goal.loop-place-preserved
 loop-place-preserved c = record { none = coded_next c.args.list.now c.loop-place.place c.args.code c.index-list-place.result c.loop-place-test.true (λ e. c.if-code.false (c.code.ensures ∙ ap (λ w. code_of w.slot w.is_binary) c.index-list-place.is ∙ e)) c.loop-place.invariant.none }

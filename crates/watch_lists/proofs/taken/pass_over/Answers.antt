@@ -1,6 +1,6 @@
 use Rattle.std.proofs.Common.{arith}
 use Rattle.watch_lists.proofs.WatchListsLemmas.Lists.{coded_chunk}
-use Rattle.watch_lists.proofs.watcher.pass_over.Goals as goal
+use Rattle.watch_lists.proofs.taken.pass_over.Goals as goal
 
 pub loop-place-preserved : goal.loop-place-preserved
 loop-place-preserved c = record {

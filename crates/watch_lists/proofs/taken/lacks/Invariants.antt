@@ -1,6 +1,6 @@
 use Rattle.std.proofs.Common.{◌≡◌, true, take}
 use Rattle.watch_lists.specs.Code.Lists.{entries_with}
-use Rattle.watch_lists.proofs.watcher.lacks.Given as goal
+use Rattle.watch_lists.proofs.taken.lacks.Given as goal
 
 abbrev pub invariant-loop-place : goal.invariant-loop-place
 invariant-loop-place l =

@@ -1,6 +1,6 @@
 use Rattle.std.proofs.Common.{◌≡◌, ◌≤◌, ◌-◌, length, take}
 use Rattle.watch_lists.specs.Code.Lists.{entries_with}
-use Rattle.watch_lists.proofs.watcher.pass_over.Given as goal
+use Rattle.watch_lists.proofs.taken.pass_over.Given as goal
 
 abbrev pub invariant-loop-place : goal.invariant-loop-place
 invariant-loop-place l = record {
