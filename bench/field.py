@@ -2,11 +2,11 @@
 """Measures proof checkers side by side, on formulas of formulas.py and examples/pigeonhole.py. bench/field.sh says how to call
 it, and has the tools.
 
-Each checker of a table checks the same proof, as text. They run by turns, three times; the least user seconds count, and the
-peak of memory (resident set). The solver ran once. The last row has geometric means over all proofs that both verify: the
-seconds of the first checker, where each took a twentieth or more, and its memory, over those of the other. Formulas and proofs
-are kept in bench/out/field/, and proofs are made again where the solver's version changes. The status is 0 only where our
-checkers verify all proofs.
+Each checker of a table checks the same proof. They run by turns, three times; the least seconds of a processor count, in user
+and system mode, and the peak of memory (resident set). The solver ran once. The last row has geometric means over all proofs
+that both verify: the seconds of the first checker, where each took a twentieth or more, and its memory, over those of the
+other. Formulas and proofs are kept in bench/out/field/, and proofs are made again where the solver's version changes. The
+status is 0 only where our checkers verify all proofs.
 """
 
 import math
@@ -46,13 +46,15 @@ def reference(name):
 
 
 class Contest:
-    """A table: whose proofs of which form, and the checkers, ours first: name, program, and the options after both files."""
+    """A table: whose proofs of which form, and the checkers, ours first: name, program, and the options after both files. Some
+    solvers have a checker of their own, and options for it."""
 
-    def __init__(self, solver, form, solve, checkers):
+    def __init__(self, solver, form, solve, checkers, own=None):
         self.solver = solver
         self.form = form
         self.solve = solve
         self.checkers = checkers
+        self.own = own
 
 
 def contests():
@@ -67,11 +69,20 @@ def contests():
         ("`reference.cpp`", reference("reference"), []),
         ("DRAT-trim's `lrat-check`", tool("DRAT_TRIM_LRAT_CHECK"), []),
     ]
-    text = ["-q", "-n", "--no-binary"]
+    # DRAT-trim and drat-forward take the binary form, which the solvers write unless they are told not to
+    binary = [
+        ("`drat-forward --binary`", tool("DRAT_FORWARD"), ["--binary"]),
+        ("DRAT-trim", tool("DRAT_TRIM"), ["-w"]),
+        ("DRAT-trim, forward", tool("DRAT_TRIM"), ["-f", "-w"]),
+    ]
+    quiet = ["-q", "-n"]
+    text = [*quiet, "--no-binary"]
     return [
-        Contest("CaDiCaL", "DRAT", [tool("CADICAL"), *text], drat),
+        Contest("CaDiCaL", "DRAT", [tool("CADICAL"), *text], drat, own=["--check", "--checkprooflrat=0"]),
         Contest("Kissat", "DRAT", [tool("KISSAT"), *text], drat),
         Contest("CaDiCaL", "LRAT", [tool("CADICAL"), *text, "--lrat"], lrat),
+        Contest("CaDiCaL", "binary DRAT", [tool("CADICAL"), *quiet], binary),
+        Contest("Kissat", "binary DRAT", [tool("KISSAT"), *quiet], binary),
     ]
 
 
@@ -112,7 +123,7 @@ def formula_of(words):
 
 def proof_of(contest, path):
     """The solver's proof of a formula, and the seconds that it took; made where it isn't there."""
-    proof = f"{path}.{contest.solver}.{contest.form}".lower()
+    proof = f"{path}.{contest.solver}.{contest.form}".lower().replace(" ", "-")
     note = f"{contest.solver} {version_of(contest.solve[0])}"
     noted = []
     if os.path.exists(f"{proof}.made"):
@@ -142,6 +153,13 @@ def least_of(checkers, formula, proof, rounds):
     return best
 
 
+def own_check(contest, path):
+    """The seconds that a solver takes longer where it checks what it learns itself, and writes no proof."""
+    solve = [contest.solve[0], "-q", "-n"]
+    plain, checked = Run([*solve, f"{path}.cnf"]), Run([*solve, *contest.own, f"{path}.cnf"])
+    return max(checked.seconds - plain.seconds, 0.0)
+
+
 def cell(run):
     if run.is_verified:
         return f"{run.seconds:.2f} s, {run.megabytes:.0f} MB"
@@ -164,10 +182,16 @@ def means(ours, others):
     return ", ".join(filter(None, parts))
 
 
+def mean_over(ours, seconds):
+    """What the last row says of a column of seconds."""
+    return mean_of_its("time", [(a.seconds, b) for a, b in zip(ours, seconds, strict=True) if min(a.seconds, b) >= LEAST])
+
+
 def table_of(contest, formulas, rounds):
     """The rows of a table, and whether our checker verified all."""
     names = [name for name, *_ in contest.checkers]
-    rows, solved, runs = [["Formula", contest.form, contest.solver, *names]], [], {it: [] for it in names}
+    last = [f"{contest.solver}'s own checker"] if contest.own else []
+    rows, solved, runs, own = [["Formula", contest.form, contest.solver, *names, *last]], [], {it: [] for it in names}, []
     for label, words in formulas:
         print(f"{contest.solver}, {contest.form}: {label}", file=sys.stderr, flush=True)
         path = formula_of(words)
@@ -176,11 +200,13 @@ def table_of(contest, formulas, rounds):
         solved.append(seconds)
         for name in names:
             runs[name].append(best[name])
+        own += [own_check(contest, path)] if contest.own else []
         size = os.path.getsize(proof) / 1e6
-        rows.append([label, f"{size:.1f} MB", f"{seconds:.2f} s", *(cell(best[it]) for it in names)])
+        cells = [*(cell(best[it]) for it in names), *(f"{it:.2f} s" for it in own[-1:])]
+        rows.append([label, f"{size:.1f} MB", f"{seconds:.2f} s", *cells])
     ours, *others = names
-    taken = [(it.seconds, seconds) for it, seconds in zip(runs[ours], solved, strict=True) if min(it.seconds, seconds) >= LEAST]
-    rows.append(["geometric mean", "", mean_of_its("time", taken), "", *(means(runs[ours], runs[it]) for it in others)])
+    rows.append(["geometric mean", "", mean_over(runs[ours], solved), "", *(means(runs[ours], runs[it]) for it in others),
+                 *([mean_over(runs[ours], own)] if own else [])])
     return rows, all(it.is_verified for it in runs[ours])
 
 

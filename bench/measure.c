@@ -8,7 +8,7 @@
 // STATUS is the exit status that is wanted. Where a run has another one, measure says so and ends with status 1.
 //
 // With --once the command runs once and keeps its standard output. The last line of standard error then has its status, or 128
-// and the signal that ended it, the user seconds, and the peak in kilobytes.
+// and the signal that ended it, the processor's seconds in user and system mode, and the peak in kilobytes.
 
 #include <fcntl.h>
 #include <stdio.h>
@@ -23,16 +23,20 @@
 
 enum { RUNS = 3 };
 
+static double seconds(struct timeval t) {
+    return (double)t.tv_sec + (double)t.tv_usec / 1e6;
+}
+
 static double now(void) {
     struct timespec t;
     clock_gettime(CLOCK_MONOTONIC, &t);
     return (double)t.tv_sec + (double)t.tv_nsec / 1e9;
 }
 
-// A run: its status as a shell says it, its seconds by the clock and in user mode, and its peak of memory in kilobytes.
+// A run: its status as a shell says it, its seconds by the clock and of a processor, and its peak of memory in kilobytes.
 struct run {
     int status;
-    double took, user;
+    double took, processor;
     long peak;
 };
 
@@ -55,7 +59,7 @@ static struct run run(char **command, int is_quiet) {
     return (struct run){
         .status = WIFEXITED(status) ? WEXITSTATUS(status) : 128 + WTERMSIG(status),
         .took = now() - start,
-        .user = (double)used.ru_utime.tv_sec + (double)used.ru_utime.tv_usec / 1e6,
+        .processor = seconds(used.ru_utime) + seconds(used.ru_stime),
         .peak = used.ru_maxrss,
     };
 }
@@ -63,7 +67,7 @@ static struct run run(char **command, int is_quiet) {
 int main(int argc, char **argv) {
     if (argc > 2 && !strcmp(argv[1], "--once")) {
         struct run it = run(argv + 2, 0);
-        fprintf(stderr, "\n%d %.3f %ld\n", it.status, it.user, it.peak);
+        fprintf(stderr, "\n%d %.3f %ld\n", it.status, it.processor, it.peak);
         return 0;
     }
     if (argc < 3) {

@@ -54,13 +54,13 @@ class Table:
 
 
 def tables():
-    """CaDiCaL's proofs, Kissat's, and CaDiCaL's in LRAT."""
+    """CaDiCaL's proofs, Kissat's, CaDiCaL's in LRAT, and the first two in the binary form."""
     return [Table(block.splitlines()) for block in re.findall(r"(?:^\|.*\n)+", page("bench/TABLES.md"), re.MULTILINE)]
 
 
 def sentences():
     """What the pages have to say."""
-    cadical, kissat, lrat = tables()
+    cadical, kissat, lrat, *binary = tables()
     both, ours = (cadical, kissat), "`drat-forward`"
     trim, forward, plain = "DRAT-trim", "DRAT-trim, forward", "`reference_drat.cpp`"
 
@@ -74,11 +74,13 @@ def sentences():
     first, last = means(trim)
     yield "README.md", f"| `drat-forward` | {first:.1f} × DRAT-trim's time | {last:.1f} × |"
     first, last = means(forward)
-    yield "README.md", f"| | {first:.1f} × that of its forward check | {last:.1f} × |"
+    yield "README.md", f"| | {first:.1f} × its forward check's | {last:.1f} × |"
     first, last = means(plain)
-    yield "README.md", f"| | {first:.1f} × that of `bench/reference_drat.cpp` (plain, in C++) | {last:.1f} × |"
+    yield "README.md", f"| | {first:.1f} × that of `bench/reference_drat.cpp` (in C++) | {last:.1f} × |"
+    first, last = (it.mean(trim)[0] for it in binary)
+    yield "README.md", f"| binary proofs | {first:.1f} × DRAT-trim's time | {last:.1f} × |"
     first = lrat.mean("DRAT-trim's `lrat-check`")[0]
-    yield "README.md", f"| `lrat-check` | {first:.1f} × the time of DRAT-trim's | |"
+    yield "README.md", f"| `lrat-check` | {first:.1f} × DRAT-trim's time | |"
     least = min(table.took(name, trim)[1] for table in both for name in table.rows)
     yield "README.md", f"a tenth of DRAT-trim's memory, whose least is {least} MB"
     yield "docs/PERFORMANCE.md", f"DRAT-trim takes {least} MB at least."
