@@ -95,7 +95,7 @@ module _ {Part : Type 0} (format : Format Part) where
       ≡ word_steps part s (filter_map (λ t. said t.0) ts)
   tokens_bare part s [] p = by (format.is_start part)
     where
-      by : (v : Bool) → bare (cond v clean (faulty_proof (Text UnterminatedStep p)))
+      by : (v : Bool) → bare (cond v clean (faulty_proof (Text UnterminatedStep p) None))
           ≡ cond v (Some []) None
       by true = refl
       by false = refl

@@ -18,7 +18,7 @@ use Rattle.cnf_base.proofs.StreamLemmas.{Along-map}
 use Rattle.proofs.specs.declared.step_end.StepEnd.{StepEnd}
 use Rattle.proofs.specs.declared.step_end.StepEnd.TheVariants as ends
 use Rattle.proofs.specs.Steps.{Step, named}
-use Rattle.proofs.specs.Reading.{PlacedStep, Proof, clean, faulty_proof, faulty_at, with_step}
+use Rattle.proofs.specs.Reading.{PlacedStep, Proof, clean, faulty_proof, with_step}
 use Rattle.proofs.specs.Reading.{GivesStep, EndsFrom, PassesNoEnd}
 use Rattle.proofs.specs.Code.Reading.{proof_unless_ended}
 use Rattle.proofs.specs.TextSteps.{Move, goes, completes, faults, Format, move_of, on_move}
@@ -30,7 +30,7 @@ use Rattle.proofs.specs.Binary.{on_binary_move, binary_at_end, binary_steps_amon
 pub from-none : (n : ℕ) (fault : Option Fault) → EndsFrom n (record { steps = []; fault = fault; fault_end = None })
 from-none n fault = record { steps = λ k placed at. absurd (none-some placed at); fault = λ offset at. absurd (none-some offset at) }
 
-from-fault : (n offset : ℕ) (f : Fault) → n ≤ offset → EndsFrom n (faulty_at f offset)
+from-fault : (n offset : ℕ) (f : Fault) → n ≤ offset → EndsFrom n (faulty_proof f (Some offset))
 from-fault n offset f h = record { steps = λ k placed at. absurd (none-some placed at); fault = λ end at. by end at }
   where
     by : (end : ℕ) → Some offset ≡ Some end → n ≤ end
@@ -54,7 +54,7 @@ module _ {Part : Type 0} (format : Format Part) (n : ℕ) where
   at_end-from part p Failed = from-none n (Some ReadFailed)
   at_end-from part p End = by (format.is_start part)
     where
-      by : (v : Bool) → EndsFrom n (if v then clean else faulty_proof (Text UnterminatedStep p))
+      by : (v : Bool) → EndsFrom n (if v then clean else faulty_proof (Text UnterminatedStep p) None)
       by true = from-none n None
       by false = from-none n (Some (Text UnterminatedStep p))
 

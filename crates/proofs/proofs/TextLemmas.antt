@@ -30,7 +30,7 @@ use Rattle.proofs.specs.declared.stopped.Stopped.{Stopped}
 use Rattle.proofs.proofs.ReachLemmas.{steps_among-from, on_move-from, ended-from}
 
 -- a fault is what comes, and it stays
-pub gives_fault : (f : Fault) (end : Option StepEnd) (s : Step) (p q : Proof) (rest : Suffix) → IsFaulty f p → q ≡ faulty_proof f → GivesStep (Err f) end s p q rest
+pub gives_fault : (f : Fault) (end : Option StepEnd) (s : Step) (p q : Proof) (rest : Suffix) → IsFaulty f p → q ≡ faulty_proof f None → GivesStep (Err f) end s p q rest
 gives_fault (Text k p) end s b a rest is stays = (is, stays)
 gives_fault (Binary k n) end s b a rest is stays = (is, stays)
 gives_fault ReadFailed end s b a rest is stays = (is, stays)
@@ -165,7 +165,7 @@ module _ {P : Type 0} (format : Format P) (old now new : Stream) (part : P) (s :
     rest-from (Err cut) i j k r q,
   ))
     where
-      empty : (l : Listing) → l.tokens ≡ [] → l.ending ≡ Failed → steps_from format part s l ≡ faulty_proof ReadFailed
+      empty : (l : Listing) → l.tokens ≡ [] → l.ending ≡ Failed → steps_from format part s l ≡ faulty_proof ReadFailed None
       empty l none failed = rw (none, failed) refl
 
 -- what a word was found to do, by the answer's pattern

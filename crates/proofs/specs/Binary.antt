@@ -4,7 +4,7 @@
 -- group is not empty, the limit of literals, the faults, their byte numbers and the order of
 -- judging are our own profile.
 use Rattle.std.specs.Prelude.{ℕ, ◌+◌, ◌*◌, ◌%◌, List, [], ◌∷◌, ◌==◌, if◌then◌else◌, nat_le, ◌++◌}
-use Rattle.std.specs.Prelude.{suc}
+use Rattle.std.specs.Prelude.{suc, None, Some}
 use Rattle.cnf_base.specs.Stream.{next_count, Input}
 use Rattle.cnf_base.specs.declared.fault.BinaryFault.TheVariants.{BadTag, LiteralTooLarge}
 use Rattle.cnf_base.specs.declared.fault.BinaryFault.TheVariants.{BadNumber, UnterminatedStep}
@@ -12,7 +12,7 @@ use Rattle.cnf_base.specs.declared.fault.BinaryFault.{BinaryFault}
 use Rattle.cnf_base.specs.declared.fault.Fault.TheVariants.{Binary, ReadFailed}
 use Rattle.cnf_base.specs.declared.input.Ending.TheVariants.{End, Failed}
 use Rattle.cnf_base.specs.declared.input.Ending.{Ending}
-use Rattle.proofs.specs.Reading.{Proof, clean, faulty_proof, faulty_at, with_step}
+use Rattle.proofs.specs.Reading.{Proof, clean, faulty_proof, with_step}
 use Rattle.proofs.specs.Steps.{Step, deleting, with_literal, named}
 use Rattle.proofs.specs.declared.step_end.StepEnd.TheVariants.{Byte}
 
@@ -68,16 +68,16 @@ binary_move_of (in_number first bytes) s at b = group_move s first bytes b
 
 -- what the end of the input means, by where it stands
 abbrev pub binary_at_end : BinarySpot → ℕ → Ending → Proof
-binary_at_end spot at Failed = faulty_proof ReadFailed
+binary_at_end spot at Failed = faulty_proof ReadFailed None
 binary_at_end at_tag at End = clean
-binary_at_end _ at End = faulty_proof (Binary UnterminatedStep at)
+binary_at_end _ at End = faulty_proof (Binary UnterminatedStep at) None
 
 -- what the move of the byte with this number means; `offset` is that of the byte after it, and
 -- `rest` what follows
 abbrev pub on_binary_move : ℕ → ℕ → BinaryMove → (BinarySpot → Step → Proof) → Proof
 on_binary_move at offset (goes spot s) rest = rest spot s
 on_binary_move at offset (completes s) rest = with_step s (Byte at) offset (rest at_tag (named 0))
-on_binary_move at offset (faults f first) rest = faulty_at (Binary f first) offset
+on_binary_move at offset (faults f first) rest = faulty_proof (Binary f first) (Some offset)
 
 -- the steps of bytes, of which the first has this number and this offset; the number goes no
 -- further than the greatest one

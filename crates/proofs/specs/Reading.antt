@@ -25,13 +25,9 @@ pub record Proof : Type 0 where
 abbrev pub clean : Proof
 clean = record { steps = []; fault = None; fault_end = None }
 
--- no step, and a fault after which nothing is to be read
-abbrev pub faulty_proof : Fault → Proof
-faulty_proof f = record { steps = []; fault = Some f; fault_end = None }
-
--- no step, and the fault of a word or a byte, which ends before the byte at this offset
-abbrev pub faulty_at : Fault → ℕ → Proof
-faulty_at f offset = record { steps = []; fault = Some f; fault_end = Some offset }
+-- no step, and a fault; where it is that of a word or a byte, the offset of the byte after that
+abbrev pub faulty_proof : Fault → Option ℕ → Proof
+faulty_proof f end = record { steps = []; fault = Some f; fault_end = end }
 
 -- no step, and this fault
 pub record IsFaulty (f : Fault) (p : Proof) : Type 0 where
@@ -59,8 +55,8 @@ abbrev pub GivesStep : Result Bool Fault → Option StepEnd → Step → Proof �
 GivesStep (Ok true) end s before after rest =
     (at : StepEnd) × (end ≡ Some at) × (before ≡ with_step s at rest.offset after)
 GivesStep (Ok false) end s before after rest = (before ≡ after) × (before ≡ clean)
-GivesStep (Err OutOfMemory) end s before after rest = after ≡ faulty_proof OutOfMemory
-GivesStep (Err f) end s before after rest = IsFaulty f before × (after ≡ faulty_proof f)
+GivesStep (Err OutOfMemory) end s before after rest = after ≡ faulty_proof OutOfMemory None
+GivesStep (Err f) end s before after rest = IsFaulty f before × (after ≡ faulty_proof f None)
 
 -- each step ends at this offset or later, and so does the fault
 pub record EndsFrom (n : ℕ) (p : Proof) : Type 0 where

@@ -15,7 +15,7 @@ use Rattle.cnf_base.specs.declared.token.Token.TheVariants as token
 use Rattle.cnf_base.specs.declared.word.Number.{Number}
 use Rattle.cnf_base.specs.declared.word.Word.TheVariants as words
 use Rattle.cnf_base.specs.declared.word.Word.{Word}
-use Rattle.proofs.specs.Reading.{Proof, clean, faulty_proof, faulty_at, with_step}
+use Rattle.proofs.specs.Reading.{Proof, clean, faulty_proof, with_step}
 use Rattle.proofs.specs.Steps.{Step, with_literal, named}
 use Rattle.proofs.specs.declared.step_end.StepEnd.TheVariants as ends
 
@@ -53,9 +53,9 @@ move_of format part s _ = faults BadToken
 
 -- what the end of the input means, by where it stands
 abbrev pub at_end : {Part : Type 0} → Format Part → Part → Place → Ending → Proof
-at_end format part p Failed = faulty_proof ReadFailed
+at_end format part p Failed = faulty_proof ReadFailed None
 at_end format part p End =
-    if format.is_start part then clean else faulty_proof (Text UnterminatedStep p)
+    if format.is_start part then clean else faulty_proof (Text UnterminatedStep p) None
 
 -- what a word's move means; `offset` is that of the byte after the word, and `rest` what follows
 abbrev pub on_move : {Part : Type 0} → Format Part → Place → ℕ → Move Part → (Part → Step → Proof) →
@@ -63,7 +63,7 @@ abbrev pub on_move : {Part : Type 0} → Format Part → Place → ℕ → Move 
 on_move format p offset (goes part s) rest = rest part s
 on_move format p offset (completes s) rest =
     with_step s (ends.Text p) offset (rest format.start (named 0))
-on_move format p offset (faults f) rest = faulty_at (Text f p) offset
+on_move format p offset (faults f) rest = faulty_proof (Text f p) (Some offset)
 
 -- the steps that these tokens have, where so much of a step was read before; a line's end means
 -- nothing

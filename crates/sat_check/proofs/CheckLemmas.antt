@@ -18,6 +18,7 @@ use Rattle.proofs.specs.Steps.{Step}
 use Rattle.proofs.specs.declared.step_end.StepEnd.{StepEnd}
 use Rattle.proofs.specs.Reading.{ProofReading, Proof, with_step, IsFaulty, GivesStep, PassesNoEnd}
 use Rattle.steps.specs.ProofSession.{View, is_over}
+use Rattle.theory.specs.Losses.{LostBySteps}
 use Rattle.theory.specs.Rules.{Rule, after, sum_of, IsFinite}
 use Rattle.sat_check.specs.FormulaReach.{ReadsNoFurtherThanFault}
 use Rattle.sat_check.specs.Code.Reach.{IsVerdict}
@@ -294,7 +295,7 @@ module _ (rule : Rule) (trace : Bool) (to_come : ProofReading → Suffix → Pro
         second = Seen-run proof borrows last Q within;
         fact = λ i j s t.
             let S : Proof → Type 0 = λ p. Reports (system_of rule) trace i p was.held now.held checked.status
-            × ReadsNoFurther (system_of rule) (formula_of i) p proof last.reader × TellsWhy (system_of rule) (formula_of i).fault (formula_of i).clauses p checked
+            × ReadsNoFurther (system_of rule) (formula_of i) p proof last.reader × TellsWhy (system_of rule) (LostBySteps rule) (formula_of i).fault (formula_of i).clauses p checked
             × ReadsNoFurtherThanFault i formula formula_new in
             let seen = Seen-fact proof borrows last Q within j t in
             let did = seen.2.0 i s in
@@ -309,7 +310,7 @@ reports_as rule other trace steps others formula formula_new proof new checked w
   second = reports.second;
   fact = λ i j s t.
       let P : Rule → Proof → Type 0 = λ q p. Reports (system_of q) trace i p was.held now.held checked.status
-      × ReadsNoFurther (system_of q) (formula_of i) p proof new × TellsWhy (system_of q) (formula_of i).fault (formula_of i).clauses p checked
+      × ReadsNoFurther (system_of q) (formula_of i) p proof new × TellsWhy (system_of q) (LostBySteps q) (formula_of i).fault (formula_of i).clauses p checked
       × ReadsNoFurtherThanFault i formula formula_new in
       let Q : Rule → Type 0 = λ q. P q (steps j) in
       subst (P other) (all j) (subst Q is (reports.fact i j s t));

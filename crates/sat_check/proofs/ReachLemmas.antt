@@ -18,7 +18,7 @@ use Rattle.proofs.specs.declared.step_end.StepEnd.{StepEnd}
 use Rattle.steps.specs.ProofSession.{View}
 use Rattle.theory.specs.Rules.{Rule, State, by_ids, by_copies, start, Answers, after, Same}
 use Rattle.theory.specs.Verdicts.{Ending, verified, refused, no_empty_clause, Ends, Verdict}
-use Rattle.theory.specs.Losses.{StepLoses, HasLost}
+use Rattle.theory.specs.Losses.{StepLoses, HasLost, LostBySteps}
 use Rattle.theory.specs.Verdicts.{is_last, is_empty}
 use Rattle.theory.specs.declared.accepted.Accepted.{Accepted}
 use Rattle.theory.proofs.LratLemmas.LiveSets.{SameClauses-sym}
@@ -87,7 +87,7 @@ TellsFault-none formula second checked none not = record { malformed = λ m. abs
 no_loss : (checked : Checked) (X : Type 0) → checked.refused ≡ None → checked.literal_lost ≡ false → IsTrue checked.literal_lost ↔ (IsSome checked.refused × X)
 no_loss checked X none quiet = (λ told. absurd (false≢true (sym quiet ∙ told)), λ p. absurd (false≢true (sym (ap is_some none) ∙ p.0)))
 
-pub TellsLoss-none : (rule : Rule) (fault : Option Fault) (clauses : List Clause) (p : Proof) (checked : Checked) → checked.refused ≡ None → checked.literal_lost ≡ false → TellsLoss (system_of rule) fault clauses p checked
+pub TellsLoss-none : (rule : Rule) (fault : Option Fault) (clauses : List Clause) (p : Proof) (checked : Checked) → checked.refused ≡ None → checked.literal_lost ≡ false → TellsLoss (system_of rule) (LostBySteps rule) fault clauses p checked
 TellsLoss-none rule fault clauses p checked none quiet = record {
   lost = λ words ending whole is e. no_loss checked _ none quiet;
   only = λ not. quiet;

@@ -23,7 +23,7 @@ use Rattle.theory.proofs.LawLemmas.Rules.{sum_same}
 use Rattle.theory.proofs.LawLemmas.Verdicts.{ends_same, some_ending, some_verdict}
 use Rattle.sat_check.specs.Lines.{a_proof, formula_line, steps_line, fault_line, fault_status}
 use Rattle.sat_check.specs.Report.{Report, Outcome, Reports, concluded, with_lines, Checks}
-use Rattle.sat_check.specs.Report.{ReportsFormula, ProofReport, bare_steps, proof_report}
+use Rattle.sat_check.specs.Report.{ReportsFormula, bare_steps, proof_report}
 use Rattle.sat_check.specs.Code.Checking.{peak_of}
 use Rattle.sat_check.specs.Code.Checking.{IsLoaded, Loads, Rest}
 use Rattle.sat_check.proofs.ShownLemmas.{steps_same}
@@ -127,7 +127,7 @@ report_any rule trace (Ok h) p = by (formula_with (Ok h)).fault
     by None = checks_any rule trace h.0 (formula_with (Ok h)).clauses p
 
 -- each formula and proof has a report
-pub some_report : (rule : Rule) (trace : Bool) (i : Input) (p : Proof) → (r : Report) × ProofReport (system_of rule) trace i p r
+pub some_report : (rule : Rule) (trace : Bool) (i : Input) (p : Proof) → (r : Report) × ReportsFormula (system_of rule) trace (formula_of i).header (formula_of i).clauses (formula_of i).fault p r
 some_report rule trace i p = report_any rule trace (header_of (listing_of i)) p
 
 -- the formula's fault, or want of memory

@@ -11,6 +11,7 @@ use Rattle.cnf_base.specs.declared.fault.TextFault.TheVariants as text
 use Rattle.dimacs.specs.Formula.{Formula, formula_of}
 use Rattle.dimacs.specs.declared.header.Header.{Header}
 use Rattle.proofs.specs.Reading.{Proof}
+use Rattle.theory.specs.Losses.{LostBySteps}
 use Rattle.theory.specs.Models.{HasModel}
 use Rattle.theory.specs.Rules.{Rule, start}
 use Rattle.theory.specs.Verdicts.{Ending, verified, refused, no_empty_clause, Verdict}
@@ -19,7 +20,7 @@ use Rattle.sat_check.specs.Code.Checking.{AllReports, RunsInto}
 use Rattle.sat_check.specs.FormulaReach.{ReadsNoFurtherThanFault}
 use Rattle.sat_check.specs.Lines.{fault_status}
 use Rattle.sat_check.specs.Reach.{ReadsNoFurther, TellsWhy}
-use Rattle.sat_check.specs.Report.{Report, Outcome, ReportsFormula, ProofReport, Verifies, Reports}
+use Rattle.sat_check.specs.Report.{Report, Outcome, ReportsFormula, Verifies, Reports}
 use Rattle.sat_check.specs.Report.{ProofConsequences, ChecksProof, IsUnlessBroken, bare_steps, verdict_report}
 use Rattle.sat_check.specs.Code.Writer.{IsFlushedOrFailed}
 use Rattle.sat_check.specs.Code.Checking.{peak_of}
@@ -49,7 +50,7 @@ verdict_is_verified n peak no_empty_clause None e = absurd (let bad : NotVerifie
 verdict_is_verified n peak no_empty_clause (Some f) e = absurd (fault_is_no_verdict f e)
 
 -- a report of status 0 is that of a proof that verifies the formula
-pub report_verified : (rule : Rule) (trace : Bool) (i : Input) (p : Proof) (r : Report) → ProofReport (system_of rule) trace i p r → r.status ≡ Verified → Verifies (system_of rule) (formula_of i) p
+pub report_verified : (rule : Rule) (trace : Bool) (i : Input) (p : Proof) (r : Report) → ReportsFormula (system_of rule) trace (formula_of i).header (formula_of i).clauses (formula_of i).fault p r → r.status ≡ Verified → Verifies (system_of rule) (formula_of i) p
 report_verified rule trace i p r reports is = by (formula_of i).header (formula_of i).fault refl reports
   where
     by : (header : Option Header) (fault : Option Fault) → (formula_of i).fault ≡ fault → ReportsFormula (system_of rule) trace header (formula_of i).clauses fault p r → Verifies (system_of rule) (formula_of i) p
@@ -61,7 +62,7 @@ report_verified rule trace i p r reports is = by (formula_of i).header (formula_
     by None None whole c = absurd c
 
 -- and the report of such a proof has status 0
-pub verifies_reported : (rule : Rule) (trace : Bool) (i : Input) (p : Proof) (r : Report) → Verifies (system_of rule) (formula_of i) p → ProofReport (system_of rule) trace i p r → r.status ≡ Verified
+pub verifies_reported : (rule : Rule) (trace : Bool) (i : Input) (p : Proof) (r : Report) → Verifies (system_of rule) (formula_of i) p → ReportsFormula (system_of rule) trace (formula_of i).header (formula_of i).clauses (formula_of i).fault p r → r.status ≡ Verified
 verifies_reported rule trace i p r v reports = by (formula_of i).header (formula_of i).fault v.whole reports
   where
     by : (header : Option Header) (fault : Option Fault) → fault ≡ None → ReportsFormula (system_of rule) trace header (formula_of i).clauses fault p r → r.status ≡ Verified
@@ -112,14 +113,14 @@ checks_proof rule trace i p old new status x = record { reports = x; consequence
 abbrev AllChecks : Rule → Bool → (Input → Proof) → Reader → Reader → Reader → Reader → Checked → Option (List ℕ) → Option (List ℕ) → Type 0
 AllChecks rule trace steps formula formula_new proof proof_new checked old new =
     OfBothSeen formula formula_new proof proof_new (λ i j. ChecksProof (system_of rule) trace i (steps j) old new checked.status
-    × ReadsNoFurther (system_of rule) (formula_of i) (steps j) proof proof_new × TellsWhy (system_of rule) (formula_of i).fault (formula_of i).clauses (steps j) checked
+    × ReadsNoFurther (system_of rule) (formula_of i) (steps j) proof proof_new × TellsWhy (system_of rule) (LostBySteps rule) (formula_of i).fault (formula_of i).clauses (steps j) checked
     × ReadsNoFurtherThanFault i formula formula_new)
 
 both_check_proof : (rule : Rule) (trace : Bool) (steps : Input → Proof) (formula formula_new proof proof_new : Reader) (checked : Checked) (old new first last : Option (List ℕ)) → old ≡ first → new ≡ last
     → AllReports rule trace steps formula formula_new proof proof_new checked old new → AllChecks rule trace steps formula formula_new proof proof_new checked first last
 both_check_proof rule trace steps formula formula_new proof proof_new checked old new first last before after =
     both_told formula formula_new proof proof_new (λ x y i j. Reports (system_of rule) trace i (steps j) x y checked.status
-    × ReadsNoFurther (system_of rule) (formula_of i) (steps j) proof proof_new × TellsWhy (system_of rule) (formula_of i).fault (formula_of i).clauses (steps j) checked
+    × ReadsNoFurther (system_of rule) (formula_of i) (steps j) proof proof_new × TellsWhy (system_of rule) (LostBySteps rule) (formula_of i).fault (formula_of i).clauses (steps j) checked
     × ReadsNoFurtherThanFault i formula formula_new)
     _ old new first last before after (λ i j x. (checks_proof rule trace i (steps j) first last checked.status x.0, x.1, x.2, x.3))
 
@@ -135,7 +136,7 @@ is_flushed_or_failed now has_failed is_flushed has flushed is =
 pub runs_placed : (rule : Rule) (trace : Bool) (steps : Input → Proof) (formula formula_new proof proof_new : Reader) (checked : Checked) (was now : Sink) (old new : Option (List ℕ)) (had_failed has_failed is_flushed : Bool)
     → was.held ≡ old → now.held ≡ new → was.has_failed ≡ had_failed → now.has_failed ≡ has_failed → now.is_flushed ≡ is_flushed
     → RunsInto rule trace steps formula formula_new proof proof_new was now checked
-    → RunsPlaced (system_of rule) trace steps formula formula_new proof proof_new old new had_failed has_failed is_flushed checked
+    → RunsPlaced (system_of rule) (LostBySteps rule) trace steps formula formula_new proof proof_new old new had_failed has_failed is_flushed checked
 runs_placed rule trace steps formula formula_new proof proof_new checked was now old new had_failed has_failed is_flushed before after had has flushed runs = record {
   checks = both_check_proof rule trace steps formula formula_new proof proof_new checked was.held now.held old new before after runs.report;
   read_failed = runs.read_failed;

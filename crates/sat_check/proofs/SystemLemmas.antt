@@ -11,7 +11,7 @@ use Rattle.dimacs.specs.declared.header.Header.{Header}
 use Rattle.proofs.specs.Reading.{Proof}
 use Rattle.proofs.specs.Steps.{Step}
 use Rattle.theory.specs.Drat.{after_drat, drat_step}
-use Rattle.theory.specs.Losses.{LostBy, HasLost}
+use Rattle.theory.specs.Losses.{HasLost, LostBySteps, LostInDrat}
 use Rattle.theory.specs.Rules.{drat, by_copies}
 use Rattle.theory.specs.Systems.{ProofSystem, drat_system}
 use Rattle.theory.specs.Verdicts.{Ending, verified, is_empty, is_last, EndsBy, Ends, VerdictBy}
@@ -28,7 +28,7 @@ use Rattle.sat_check.specs.declared.checked.Checked.{Checked}
 use Rattle.sat_check.proofs.RunLemmas.{weakened}
 use Rattle.sat_check.specs.declared.status.Status.{Status}
 
--- two systems that give the same verdicts, the same peaks and the same losses
+-- two systems that give the same verdicts and the same peaks
 pub record Alike {S T : Type 0} (one : ProofSystem S) (other : ProofSystem T) : Type 0 where
   pub to : (formula : List Clause) (steps : List Step) (words : List Accepted) (ending : Ending)
       → VerdictBy one formula steps words ending → VerdictBy other formula steps words ending
@@ -36,15 +36,12 @@ pub record Alike {S T : Type 0} (one : ProofSystem S) (other : ProofSystem T) : 
       → VerdictBy other formula steps words ending → VerdictBy one formula steps words ending
   pub peak : (formula : List Clause) (steps : List Step) (words : List Accepted)
       → peak_by one.sum one.next (one.first formula) steps words ≡ peak_by other.sum other.next (other.first formula) steps words
-  pub lost : (formula : List Clause) (steps : List Step) (words : List Accepted)
-      → LostBy one.Loses one.next (one.first formula) steps words ↔ LostBy other.Loses other.next (other.first formula) steps words
 
 pub turned : {S T : Type 0} (one : ProofSystem S) (other : ProofSystem T) → Alike one other → Alike other one
 turned one other alike = record {
   to = alike.back;
   back = alike.to;
   peak = λ formula steps words. sym (alike.peak formula steps words);
-  lost = λ formula steps words. ((alike.lost formula steps words).1, (alike.lost formula steps words).0);
 }
 
 -- ---- What is said by one of them is said by the other
@@ -92,21 +89,27 @@ module _ {S T : Type 0} (one : ProofSystem S) (other : ProofSystem T) (alike : A
     fault = x.fault;
   }
 
-  loss_by : (fault : Option Fault) (clauses : List Clause) (p : Proof) (checked : Checked) → TellsLoss one fault clauses p checked → TellsLoss other fault clauses p checked
-  loss_by fault clauses p checked x = record {
+  -- the same losses, said in two ways
+  abbrev LoseAlike : (One Other : List Clause → List Step → List Accepted → Type 0) → Type 0
+  LoseAlike One Other = (formula : List Clause) (steps : List Step) (words : List Accepted) → One formula steps words ↔ Other formula steps words
+
+  loss_by : (One Other : List Clause → List Step → List Accepted → Type 0) → LoseAlike One Other → (fault : Option Fault) (clauses : List Clause) (p : Proof) (checked : Checked)
+      → TellsLoss one One fault clauses p checked → TellsLoss other Other fault clauses p checked
+  loss_by One Other losses fault clauses p checked x = record {
     lost = λ words ending whole is v.
         let told = x.lost words ending whole is (alike.back clauses (bare_steps p) words ending v) in
-        let same = alike.lost clauses (bare_steps p) words in
+        let same = losses clauses (bare_steps p) words in
         (λ t. let q = told.0 t in (q.0, same.0 q.1), λ q. told.1 (q.0, same.1 q.1));
     only = x.only;
   }
 
-  pub why_by : (fault : Option Fault) (clauses : List Clause) (p : Proof) (checked : Checked) → TellsWhy one fault clauses p checked → TellsWhy other fault clauses p checked
-  why_by fault clauses p checked x = record {
+  pub why_by : (One Other : List Clause → List Step → List Accepted → Type 0) → LoseAlike One Other → (fault : Option Fault) (clauses : List Clause) (p : Proof) (checked : Checked)
+      → TellsWhy one One fault clauses p checked → TellsWhy other Other fault clauses p checked
+  why_by One Other losses fault clauses p checked x = record {
     unread = x.unread;
     refused = λ words ending whole is v. x.refused words ending whole is (alike.back clauses (bare_steps p) words ending v);
     only = x.only;
-    loss = loss_by fault clauses p checked x.loss;
+    loss = loss_by One Other losses fault clauses p checked x.loss;
     malformed = x.malformed;
   }
 
@@ -142,8 +145,7 @@ module _ (rules : DratRules) where
   peaks live (s ∷ ss) [] = refl
   peaks live (s ∷ ss) (w ∷ ws) = ap (max (min (sum_by size live) (2 ^ 64 - 1))) (peaks (after_drat live (drat_step rules s) w) ss ws)
 
-  losses : (live : List Clause) (steps : List Step) (words : List Accepted)
-      → HasLost (by_copies rules live) steps words ↔ LostBy (drat_system rules).Loses (drat_system rules).next live steps words
+  pub losses : (live : List Clause) (steps : List Step) (words : List Accepted) → HasLost (by_copies rules live) steps words ↔ LostInDrat rules live steps words
   losses live [] words = (λ x. x, λ x. x)
   losses live (s ∷ ss) [] = (λ x. x, λ x. x)
   losses live (s ∷ ss) (w ∷ ws) = let later = losses (after_drat live (drat_step rules s) w) ss ws in (or_later later.0, or_later later.1)
@@ -153,19 +155,18 @@ module _ (rules : DratRules) where
     to = λ formula steps words ending. last_or ((words ≡ []) × (ending ≡ verified)) (list_any is_empty formula) (ends_to formula steps words ending);
     back = λ formula steps words ending. last_or ((words ≡ []) × (ending ≡ verified)) (list_any is_empty formula) (ends_back formula steps words ending);
     peak = peaks;
-    lost = losses;
   }
 
 -- what was promised of a run by the rule is promised by DRAT's own system
 pub drat_placed : (rules : DratRules) (trace : Bool) (steps : Input → Proof) (formula formula_new proof proof_new : Reader) (old new : Option (List ℕ)) (had_failed has_failed is_flushed : Bool) (checked : Checked)
-    → RunsPlaced (system_of (drat rules)) trace steps formula formula_new proof proof_new old new had_failed has_failed is_flushed checked
-    → RunsPlaced (drat_system rules) trace steps formula formula_new proof proof_new old new had_failed has_failed is_flushed checked
+    → RunsPlaced (system_of (drat rules)) (LostBySteps (drat rules)) trace steps formula formula_new proof proof_new old new had_failed has_failed is_flushed checked
+    → RunsPlaced (drat_system rules) (LostInDrat rules) trace steps formula formula_new proof proof_new old new had_failed has_failed is_flushed checked
 drat_placed rules trace steps formula formula_new proof proof_new old new had_failed has_failed is_flushed checked runs =
     weakened checked.status _ _ formula formula_new proof proof_new had_failed has_failed is_flushed runs
     (λ i j x. (
       proof_by (system_of (drat rules)) (drat_system rules) (drat_alike rules) trace i (steps j) old new checked.status x.0,
       reach_by (system_of (drat rules)) (drat_system rules) (drat_alike rules) (formula_of i) (steps j) proof proof_new x.1,
-      why_by (system_of (drat rules)) (drat_system rules) (drat_alike rules) (formula_of i).fault (formula_of i).clauses (steps j) checked x.2,
+      why_by (system_of (drat rules)) (drat_system rules) (drat_alike rules) (LostBySteps (drat rules)) (LostInDrat rules) (losses rules) (formula_of i).fault (formula_of i).clauses (steps j) checked x.2,
       x.3,
     ))
 

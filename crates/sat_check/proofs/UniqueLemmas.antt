@@ -3,7 +3,6 @@ use Rattle.theory.specs.Verdicts.{system_of}
 use Rattle.std.proofs.Common.{◌≡◌, Bool, Option, None, Some, List, [], ◌∷◌, sym, ap, ◌∙◌}
 use Rattle.cnf_base.specs.Literals.{Clause}
 use Rattle.cnf_base.specs.declared.fault.Fault.{Fault}
-use Rattle.dimacs.specs.Formula.{formula_of}
 use Rattle.dimacs.specs.declared.header.Header.{Header}
 use Rattle.proofs.specs.Reading.{Proof}
 use Rattle.theory.specs.Rules.{Rule, start}
@@ -25,7 +24,7 @@ checks_unique rule trace h clauses p first second c d =
     report_of words ending = with_lines (formula_line h ∷ []) (proof_report trace 0 (peak_of (start rule clauses) (bare_steps p) words) words ending p.fault)
 
 pub reports_unique : ReportsAreUnique
-reports_unique rule trace i p first second a b = by (formula_of i).header (formula_of i).clauses (formula_of i).fault a b
+reports_unique rule trace f p first second a b = by f.header f.clauses f.fault a b
   where
     by : (header : Option Header) (clauses : List Clause) (fault : Option Fault) → ReportsFormula (system_of rule) trace header clauses fault p first
         → ReportsFormula (system_of rule) trace header clauses fault p second → first ≡ second

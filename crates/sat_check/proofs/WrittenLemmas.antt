@@ -38,7 +38,7 @@ use Rattle.sat_check.specs.Lines.{fault_status, word_text, trace_line, sign_text
 use Rattle.sat_check.specs.Lines.{refusal_line, steps_line, end_line, sentence}
 use Rattle.sat_check.specs.ModelReport.{first_unmet, met_report, clauses_report, claim_report}
 use Rattle.sat_check.specs.Report.{Report, Outcome, text_of, concluded, with_lines, trace_lines}
-use Rattle.sat_check.specs.Report.{verdict_report, proof_report, ReportsFormula, ProofReport}
+use Rattle.sat_check.specs.Report.{verdict_report, proof_report, ReportsFormula}
 use Rattle.sat_check.specs.Report.{HasWritten}
 use Rattle.sat_check.proofs.OutcomeLemmas.{text_of-append}
 use Rattle.sat_check.specs.declared.status.Status.{Status}
@@ -297,7 +297,7 @@ proof_tells false n peak words ending fault = front_tells [] _ refl refl (verdic
 formula_plain : (h : Header) → Plain (formula_line h)
 formula_plain h = fixed (codes "c formula ") refl ⊕ number_plain h.vars ⊕ fixed (codes " variables ") refl ⊕ number_plain h.clauses ⊕ fixed (codes " clauses") refl
 
-report_tells : (rule : Rule) (trace : Bool) (i : Input) (p : Proof) (r : Report) → ProofReport (system_of rule) trace i p r → Tells a_proof r
+report_tells : (rule : Rule) (trace : Bool) (i : Input) (p : Proof) (r : Report) → ReportsFormula (system_of rule) trace (formula_of i).header (formula_of i).clauses (formula_of i).fault p r → Tells a_proof r
 report_tells rule trace i p r reports = by (formula_of i).header (formula_of i).clauses (formula_of i).fault reports
   where
     by : (header : Option Header) (clauses : List Clause) (fault : Option Fault) → ReportsFormula (system_of rule) trace header clauses fault p r → Tells a_proof r
@@ -357,7 +357,7 @@ sentence_written b bs r status old new plain told o w =
     told (among_lines b bs r.lines begun.0 begun.1 plain begun.2 (sym (ap (λ x. list_any (bytes_eq (b ∷ bs)) (lines_of x)) same) ∙ w.written))
 
 pub written_verified : (rule : Rule) (trace : Bool) (i : Input) (p : Proof) (r : Report) (status : Status) (old new : Option (List ℕ))
-    → ProofReport (system_of rule) trace i p r → Outcome status old new r → HasWritten (codes "s VERIFIED") old new → r.status ≡ Verified
+    → ReportsFormula (system_of rule) trace (formula_of i).header (formula_of i).clauses (formula_of i).fault p r → Outcome status old new r → HasWritten (codes "s VERIFIED") old new → r.status ≡ Verified
 written_verified rule trace i p r status old new reports o w =
     let t = report_tells rule trace i p r reports in
     sentence_written 115 (codes " VERIFIED") r status old new t.plain t.told o w

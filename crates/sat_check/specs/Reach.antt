@@ -9,8 +9,8 @@ use Rattle.cnf_base.specs.Stream.{Reader, bytes_read}
 use Rattle.cnf_base.specs.declared.fault.Fault.{Fault}
 use Rattle.dimacs.specs.Formula.{Formula}
 use Rattle.proofs.specs.Reading.{PlacedStep, Proof}
+use Rattle.proofs.specs.Steps.{Step}
 use Rattle.proofs.specs.declared.step_end.StepEnd.{StepEnd}
-use Rattle.theory.specs.Losses.{LostBy}
 use Rattle.theory.specs.Systems.{ProofSystem}
 use Rattle.theory.specs.Verdicts.{Ending, verified, refused, no_empty_clause, is_empty, VerdictBy}
 use Rattle.theory.specs.declared.accepted.Accepted.{Accepted}
@@ -63,19 +63,20 @@ pub record TellsFault (formula second : Option Fault) (checked : Checked) : Type
 
 -- A check tells that a root-level literal was lost exactly where a step was refused, and one of
 -- those that were accepted before lost one.
-pub record TellsLoss {State : Type 0} (system : ProofSystem State) (fault : Option Fault)
+pub record TellsLoss {State : Type 0} (system : ProofSystem State)
+    (HasLost : List Clause → List Step → List Accepted → Type 0) (fault : Option Fault)
     (clauses : List Clause) (p : Proof) (checked : Checked) : Type 0 where
   pub lost : (words : List Accepted) (ending : Ending) → fault ≡ None →
       checked.status ≡ NotVerified
       → VerdictBy system clauses (bare_steps p) words ending → IsTrue checked.literal_lost ↔
-      (IsSome checked.refused
-      × LostBy system.Loses system.next (system.first clauses) (bare_steps p) words)
+      (IsSome checked.refused × HasLost clauses (bare_steps p) words)
   pub only : (checked.status ≡ NotVerified → ⊥) → checked.literal_lost ≡ false
 
 -- A check tells why it ended so: where the refused step ends, exactly where the status is
 -- `NotVerified` since a step of the proof was refused; whether a root-level literal was lost before;
 -- and what is wrong with an input.
-pub record TellsWhy {State : Type 0} (system : ProofSystem State) (fault : Option Fault)
+pub record TellsWhy {State : Type 0} (system : ProofSystem State)
+    (HasLost : List Clause → List Step → List Accepted → Type 0) (fault : Option Fault)
     (clauses : List Clause) (p : Proof) (checked : Checked) : Type 0 where
   pub unread : NeedsNoProof fault clauses → checked.refused ≡ None
   pub refused : (words : List Accepted) (ending : Ending) → fault ≡ None →
@@ -83,5 +84,5 @@ pub record TellsWhy {State : Type 0} (system : ProofSystem State) (fault : Optio
       → VerdictBy system clauses (bare_steps p) words ending →
       checked.refused ≡ refused_end p.steps words ending
   pub only : (checked.status ≡ NotVerified → ⊥) → checked.refused ≡ None
-  pub loss : TellsLoss system fault clauses p checked
+  pub loss : TellsLoss system HasLost fault clauses p checked
   pub malformed : TellsFault fault p.fault checked

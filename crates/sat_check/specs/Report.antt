@@ -106,20 +106,14 @@ pub record Checks {State : Type 0} (system : ProofSystem State) (trace : Bool) (
       (peak_by system.sum system.next (system.first clauses) (bare_steps proof) words)
       words ending proof.fault)
 
--- the report of a formula with these parts: its fault comes before the proof
+-- The report of a formula with these parts and the steps of a proof, with the trace or without. The
+-- formula's fault comes before the proof.
 abbrev pub ReportsFormula : {State : Type 0} → ProofSystem State → Bool → Option Header →
     List Clause → Option Fault → Proof → Report → Type 0
 ReportsFormula system trace header clauses (Some f) proof r =
     r ≡ concluded a_proof (fault_line (codes "formula") f) (fault_status f)
 ReportsFormula system trace (Some h) clauses None proof r = Checks system trace h clauses proof r
 ReportsFormula system trace None clauses None proof r = ⊥
-
--- the report of a formula and the steps of a proof, with the trace or without
-abbrev pub ProofReport : {State : Type 0} → ProofSystem State → Bool → Input → Proof → Report →
-    Type 0
-ProofReport system trace formula proof r =
-    ReportsFormula system trace (formula_of formula).header (formula_of formula).clauses
-    (formula_of formula).fault proof r
 
 -- the rules that options ask for
 abbrev pub rules_of : DratOptions → DratRules
@@ -157,7 +151,8 @@ pub record Verifies {State : Type 0} (system : ProofSystem State) (f : Formula) 
 pub record Reports {State : Type 0} (system : ProofSystem State) (trace : Bool) (formula : Input)
     (proof : Proof) (old new : Option (List ℕ)) (status : Status) : Type 0 where
   pub report : Report
-  pub reports : ProofReport system trace formula proof report
+  pub reports : ReportsFormula system trace (formula_of formula).header
+      (formula_of formula).clauses (formula_of formula).fault proof report
   pub outcome : Outcome status old new report
 
 -- What follows from that. Status 0 is answered exactly where the proof verifies the formula, unless
@@ -182,6 +177,6 @@ pub record ChecksProof {State : Type 0} (system : ProofSystem State) (trace : Bo
 -- A formula and a proof have at most one report.
 abbrev pub ReportsAreUnique : Type 0
 ReportsAreUnique =
-    (rule : Rule) (trace : Bool) (formula : Input) (proof : Proof) (first second : Report) →
-    ProofReport (system_of rule) trace formula proof first →
-    ProofReport (system_of rule) trace formula proof second → first ≡ second
+    (rule : Rule) (trace : Bool) (f : Formula) (proof : Proof) (first second : Report) →
+    ReportsFormula (system_of rule) trace f.header f.clauses f.fault proof first →
+    ReportsFormula (system_of rule) trace f.header f.clauses f.fault proof second → first ≡ second

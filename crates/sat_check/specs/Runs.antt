@@ -9,6 +9,7 @@ use Rattle.proofs.specs.Grammar.{IsDratText, IsBinaryProof, IsLratText}
 use Rattle.proofs.specs.Lrat.{lrat_steps}
 use Rattle.proofs.specs.Reading.{Proof}
 use Rattle.proofs.specs.Steps.{Step}
+use Rattle.theory.specs.Losses.{LostBySteps, LostInDrat}
 use Rattle.theory.specs.Rules.{Rule, drat, lrat}
 use Rattle.theory.specs.Systems.{ProofSystem, drat_system}
 use Rattle.theory.specs.Verdicts.{verified, Verdict, system_of}
@@ -51,27 +52,29 @@ RunsProof system trace steps formula formula_new proof proof_new old new had_fai
     × ReadsNoFurtherThanFault i formula formula_new)
 
 -- The same, and of the same inputs it tells where the refused step ends, or what is wrong with one.
-abbrev pub RunsPlaced : {State : Type 0} → ProofSystem State → (trace : Bool) →
+abbrev pub RunsPlaced : {State : Type 0} → ProofSystem State →
+    (HasLost : List Clause → List Step → List Accepted → Type 0) → (trace : Bool) →
     (steps : Input → Proof) → (formula formula_new proof proof_new : Reader) →
     (old new : Option (List ℕ)) → (had_failed has_failed is_flushed : Bool) → Checked → Type 0
-RunsPlaced system trace steps formula formula_new proof proof_new old new had_failed has_failed
-    is_flushed checked =
+RunsPlaced system HasLost trace steps formula formula_new proof proof_new old new had_failed
+    has_failed is_flushed checked =
     Runs formula formula_new proof proof_new had_failed has_failed is_flushed checked.status
     (λ i j. ChecksProof system trace i (steps j) old new checked.status
     × ReadsNoFurther system (formula_of i) (steps j) proof proof_new
-    × TellsWhy system (formula_of i).fault (formula_of i).clauses (steps j) checked
+    × TellsWhy system HasLost (formula_of i).fault (formula_of i).clauses (steps j) checked
     × ReadsNoFurtherThanFault i formula formula_new)
 
 -- of a proof in DRAT, by the options
 abbrev pub RunsDrat : DratOptions → (formula formula_new proof proof_new : Reader) →
     (old new : Option (List ℕ)) → (had_failed has_failed is_flushed : Bool) → Checked → Type 0
 RunsDrat options =
-    RunsPlaced (drat_system (rules_of options)) options.trace (drat_proof options.binary)
+    RunsPlaced (drat_system (rules_of options)) (LostInDrat (rules_of options)) options.trace
+    (drat_proof options.binary)
 
 -- of one in LRAT
 abbrev pub RunsLrat : (trace : Bool) → (formula formula_new proof proof_new : Reader) →
     (old new : Option (List ℕ)) → (had_failed has_failed is_flushed : Bool) → Checked → Type 0
-RunsLrat trace = RunsPlaced (system_of lrat) trace lrat_steps
+RunsLrat trace = RunsPlaced (system_of lrat) (LostBySteps lrat) trace lrat_steps
 
 -- A run checked the model that an output claims, read no more of the formula than that takes, and
 -- of the same inputs it tells what is wrong with one.

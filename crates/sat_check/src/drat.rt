@@ -7,8 +7,8 @@ ghost use Rattle.std.specs.FinMap as maps;
 ghost use Rattle.theory.specs.Rules.{drat};
 ghost use Rattle.steps.specs.Session.{fresh};
 ghost use Rattle.sat_check.specs.Code.Checking.{RunsInto};
-ghost use Rattle.sat_check.specs.Report.{drat_proof, rules_of};
-ghost use Rattle.sat_check.specs.Runs.{RunsDrat, RunsProof, DratStepsVerify};
+ghost use Rattle.sat_check.specs.Report.{Reports, drat_proof, rules_of};
+ghost use Rattle.sat_check.specs.Runs.{Runs, RunsDrat, RunsProof, DratStepsVerify};
 ghost use Rattle.sat_check.specs.Theorem.{ShowsUnsatisfiable};
 
 use crate::check::check;
@@ -34,6 +34,10 @@ pub fn run_drat<F: In, P: In, O: Out>(
     proof: &mut P,
     out: &mut O,
 ) -> Status
+    ensures reports { Runs (F.shown formula.old) (F.shown formula.new) (P.shown proof.old)
+        (P.shown proof.new) (O.has_failed out.old) (O.has_failed out.new) (O.is_flushed out.new)
+        result (λ i j. Reports (drat_system (rules_of options.now)) options.now.trace i
+        (drat_proof options.now.binary j) (O.held out.old) (O.held out.new) result) }
     ensures runs { RunsProof (drat_system (rules_of options.now)) options.now.trace
         (drat_proof options.now.binary) (F.shown formula.old) (F.shown formula.new)
         (P.shown proof.old) (P.shown proof.new) (O.held out.old) (O.held out.new)
@@ -112,6 +116,10 @@ pub fn run_drat_with<C: Propagate + Drop, F: In, P: In, O: Out>(
     requires empty { (C.state clauses).live ≡ maps.empty }
     requires nothing_assumed { (C.state clauses).assumptions ≡ [] }
     requires none_refused { (C.state clauses).has_refused ≡ false }
+    ensures reports { Runs (F.shown formula.old) (F.shown formula.new) (P.shown proof.old)
+        (P.shown proof.new) (O.has_failed out.old) (O.has_failed out.new) (O.is_flushed out.new)
+        result (λ i j. Reports (drat_system (rules_of options.now)) options.now.trace i
+        (drat_proof options.now.binary j) (O.held out.old) (O.held out.new) result) }
     ensures runs { RunsProof (drat_system (rules_of options.now)) options.now.trace
         (drat_proof options.now.binary) (F.shown formula.old) (F.shown formula.new)
         (P.shown proof.old) (P.shown proof.new) (O.held out.old) (O.held out.new)

@@ -6,7 +6,8 @@ ghost use Rattle.proofs.specs.Lrat.{lrat_steps};
 ghost use Rattle.theory.specs.Rules.{lrat};
 ghost use Rattle.steps.specs.Session.{fresh};
 ghost use Rattle.sat_check.specs.Code.Checking.{RunsInto};
-ghost use Rattle.sat_check.specs.Runs.{RunsLrat, RunsProof, LratStepsVerify};
+ghost use Rattle.sat_check.specs.Report.{Reports};
+ghost use Rattle.sat_check.specs.Runs.{Runs, RunsLrat, RunsProof, LratStepsVerify};
 ghost use Rattle.sat_check.specs.Theorem.{ShowsUnsatisfiable};
 
 use crate::check::check;
@@ -30,6 +31,10 @@ pub fn run_lrat<F: In, P: In, O: Out>(
     proof: &mut P,
     out: &mut O,
 ) -> Status
+    ensures reports { Runs (F.shown formula.old) (F.shown formula.new) (P.shown proof.old)
+        (P.shown proof.new) (O.has_failed out.old) (O.has_failed out.new) (O.is_flushed out.new)
+        result (λ i j. Reports (system_of lrat) options.now.trace i (lrat_steps j)
+        (O.held out.old) (O.held out.new) result) }
     ensures runs { RunsProof (system_of lrat) options.now.trace lrat_steps
         (F.shown formula.old) (F.shown formula.new) (P.shown proof.old) (P.shown proof.new)
         (O.held out.old) (O.held out.new) (O.has_failed out.old) (O.has_failed out.new)

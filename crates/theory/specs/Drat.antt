@@ -14,7 +14,7 @@ use Rattle.theory.specs.declared.accepted.Accepted.TheVariants.{Ignored}
 use Rattle.theory.specs.declared.refusal.Refusal.TheVariants.{NotRup, NeitherRupNorRat, NotAlive}
 use Rattle.theory.specs.declared.refusal.Refusal.TheVariants.{InconsistentSet, NeitherRupNorPr}
 use Rattle.cnf_base.specs.Literals.{Literal, Clause, same_clause}
-use Rattle.theory.specs.Propagation.{HasRup, HasRat, HasPr, IsRootReason}
+use Rattle.theory.specs.Propagation.{Live, HasRup, HasRat, HasPr, IsRootReason}
 use Rattle.theory.specs.Answers.{StepAnswer}
 use Rattle.theory.specs.declared.drat_rules.DratRules.{DratRules}
 use Rattle.theory.specs.Sets.{conflicts}
@@ -44,31 +44,28 @@ abbrev pub drat_step : DratRules → Step → DratStep
 drat_step rules s = drat_step_of rules s.kind s.lits
 
 -- What an addition may be answered. The pivot is the first literal written.
-abbrev pub AnswersAdd : List Clause → List Literal → StepAnswer → Type 0
-AnswersAdd live [] (Ok Empty) = HasRup (slice_get live) []
-AnswersAdd live [] (Err NotRup) = ¬ HasRup (slice_get live) []
-AnswersAdd live (pivot ∷ rest) (Ok Rup) = HasRup (slice_get live) (pivot ∷ rest)
-AnswersAdd live (pivot ∷ rest) (Ok Rat) =
-    ¬ HasRup (slice_get live) (pivot ∷ rest) × HasRat (slice_get live) (pivot ∷ rest) pivot
-AnswersAdd live (pivot ∷ rest) (Err (NeitherRupNorRat l)) =
-    (l ≡ pivot) × ¬ HasRup (slice_get live) (pivot ∷ rest)
-    × ¬ HasRat (slice_get live) (pivot ∷ rest) pivot
+abbrev pub AnswersAdd : Live → List Literal → StepAnswer → Type 0
+AnswersAdd live [] (Ok Empty) = HasRup live []
+AnswersAdd live [] (Err NotRup) = ¬ HasRup live []
+AnswersAdd live (pivot ∷ c) (Ok Rup) = HasRup live (pivot ∷ c)
+AnswersAdd live (pivot ∷ c) (Ok Rat) = ¬ HasRup live (pivot ∷ c) × HasRat live (pivot ∷ c) pivot
+AnswersAdd live (pivot ∷ c) (Err (NeitherRupNorRat l)) =
+    (l ≡ pivot) × ¬ HasRup live (pivot ∷ c) × ¬ HasRat live (pivot ∷ c) pivot
 AnswersAdd live c _ = ⊥
 
 -- What an addition may be answered that lists a witness. One with a literal and its complement is
 -- refused before all else, and RAT is not asked.
-abbrev pub AnswersWithWitness : List Clause → List Literal → List Literal → StepAnswer → Type 0
+abbrev pub AnswersWithWitness : Live → List Literal → List Literal → StepAnswer → Type 0
 AnswersWithWitness live c witness (Err InconsistentSet) = IsTrue (conflicts witness)
-AnswersWithWitness live c witness (Ok Rup) =
-    IsFalse (conflicts witness) × HasRup (slice_get live) c
+AnswersWithWitness live c witness (Ok Rup) = IsFalse (conflicts witness) × HasRup live c
 AnswersWithWitness live c witness (Ok Pr) =
-    IsFalse (conflicts witness) × ¬ HasRup (slice_get live) c × HasPr (slice_get live) c witness
+    IsFalse (conflicts witness) × ¬ HasRup live c × HasPr live c witness
 AnswersWithWitness live c witness (Err NeitherRupNorPr) =
-    IsFalse (conflicts witness) × ¬ HasRup (slice_get live) c × ¬ HasPr (slice_get live) c witness
+    IsFalse (conflicts witness) × ¬ HasRup live c × ¬ HasPr live c witness
 AnswersWithWitness live c witness _ = ⊥
 
 -- What an addition may be answered, whether it lists a witness or not.
-abbrev pub AnswersListed : List Clause → List Literal → List Literal → StepAnswer → Type 0
+abbrev pub AnswersListed : Live → List Literal → List Literal → StepAnswer → Type 0
 AnswersListed live c [] answer = AnswersAdd live c answer
 AnswersListed live c (l ∷ witness) answer = AnswersWithWitness live c (l ∷ witness) answer
 
@@ -90,7 +87,7 @@ AnswersDelete rules live c _ = ⊥
 
 -- what a step may be answered, over the live clauses before it
 abbrev pub AnswersDrat : DratRules → List Clause → DratStep → StepAnswer → Type 0
-AnswersDrat rules live (add c witness) answer = AnswersListed live c witness answer
+AnswersDrat rules live (add c witness) answer = AnswersListed (slice_get live) c witness answer
 AnswersDrat rules live (delete c) answer = AnswersDelete rules live c answer
 
 -- without one copy of the clause, if there is one

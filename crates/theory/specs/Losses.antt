@@ -5,9 +5,11 @@ use Rattle.cnf_base.specs.Literals.{Literal, Clause}
 use Rattle.proofs.specs.Steps.{Step}
 use Rattle.theory.specs.Drat.{take_off}
 use Rattle.theory.specs.Propagation.{Live, Forced, Clash, IsRootReason}
-use Rattle.theory.specs.Rules.{State, by_copies, after}
+use Rattle.theory.specs.Rules.{Rule, State, by_copies, start, after}
+use Rattle.theory.specs.Systems.{drat_system}
 use Rattle.theory.specs.declared.accepted.Accepted.{Accepted}
 use Rattle.theory.specs.declared.accepted.Accepted.TheVariants.{Deleted}
+use Rattle.theory.specs.declared.drat_rules.DratRules.{DratRules}
 
 -- with nothing assumed a literal follows before, and not after
 pub record LosesLiteral (before after : Live) : Type 0 where
@@ -38,6 +40,14 @@ LostBy Loses next state (step ∷ steps) (word ∷ words) =
     Loses state step word ⊎ LostBy Loses next (next state step word) steps words
 LostBy Loses next state _ _ = ⊥
 
--- the same under either rule
+-- from a formula on, in DRAT
+abbrev pub LostInDrat : DratRules → List Clause → List Step → List Accepted → Type 0
+LostInDrat rules = LostBy (λ live step. DeleteLoses live step.lits) (drat_system rules).next
+
+-- from a state on, under either rule
 abbrev pub HasLost : State → List Step → List Accepted → Type 0
 HasLost state steps words = LostBy StepLoses after state steps words
+
+-- from a formula on, under either rule
+abbrev pub LostBySteps : Rule → List Clause → List Step → List Accepted → Type 0
+LostBySteps rule formula = HasLost (start rule formula)

@@ -11,7 +11,6 @@ use Rattle.theory.specs.declared.refusal.Refusal.{Refusal}
 use Rattle.theory.specs.Propagation.{IsRootReason}
 use Rattle.theory.specs.Rules.{Rule, State, by_copies, start, Answers, after, sum_of}
 use Rattle.theory.specs.Answers.{StepAnswer}
-use Rattle.theory.specs.Losses.{StepLoses}
 use Rattle.theory.specs.Systems.{ProofSystem}
 
 -- how a check ends: the formula is shown to have no model, a step is refused, or the proof ends
@@ -62,7 +61,6 @@ system_of rule =
       MayAnswer = Answers;
       next = after;
       sum = sum_of;
-      Loses = StepLoses;
     }
 
 -- how a check ends that has come to a state

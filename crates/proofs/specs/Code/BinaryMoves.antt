@@ -1,6 +1,6 @@
 -- What one byte, or the end of the input, was found to do.
 use Rattle.std.specs.Prelude.{◌≡◌, ℕ, ◌-◌, ◌^◌, min, List, length, Result, Ok, Err, Bool, true}
-use Rattle.std.specs.Prelude.{false}
+use Rattle.std.specs.Prelude.{false, None}
 use Rattle.cnf_base.specs.Stream.{Suffix}
 use Rattle.cnf_base.specs.declared.fault.Fault.{Fault}
 use Rattle.proofs.specs.Binary.{groups_value, BinarySpot, at_tag, in_step, in_number, BinaryMove}
@@ -40,4 +40,4 @@ MovesBinary (Err OutOfMemory) move step = Unit {0}
 abbrev pub binary_left : Result Bool Fault → ℕ → Suffix → Proof
 binary_left (Ok true) at i = binary_steps_at at i
 binary_left (Ok false) at i = clean
-binary_left (Err f) at i = faulty_proof f
+binary_left (Err f) at i = faulty_proof f None

@@ -9,7 +9,7 @@ use Rattle.proofs.specs.Reading.{faulty_proof, Proof, clean, ProofReading}
 abbrev pub proof_unless_ended : Option (Result Bool Fault) → Proof → Proof
 proof_unless_ended None p = p
 proof_unless_ended (Some (Ok _)) p = clean
-proof_unless_ended (Some (Err f)) p = faulty_proof f
+proof_unless_ended (Some (Err f)) p = faulty_proof f None
 
 -- a step is no end, and of a failed read that ended it the reader below tells
 abbrev pub EndsRightly : ProofReading → Type 0

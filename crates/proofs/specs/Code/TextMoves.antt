@@ -1,5 +1,5 @@
 -- What one word, or the end of the input, was found to do.
-use Rattle.std.specs.Prelude.{◌≡◌, Result, Ok, Err, Bool, IsTrue, true, false}
+use Rattle.std.specs.Prelude.{◌≡◌, Result, Ok, Err, Bool, IsTrue, true, false, None}
 use Rattle.cnf_base.specs.Text.{Listing}
 use Rattle.cnf_base.specs.declared.fault.Fault.{Fault}
 use Rattle.proofs.specs.Reading.{Proof, clean, faulty_proof}
@@ -31,10 +31,10 @@ FitsMoved fits (Err e) step = Unit {0}
 abbrev pub text_left : {Part : Type 0} → Format Part → Result Bool Fault → Listing → Proof
 text_left format (Ok true) l = steps_listed format l
 text_left format (Ok false) l = clean
-text_left format (Err f) l = faulty_proof f
+text_left format (Err f) l = faulty_proof f None
 
 -- the end of the input was met between two steps, or inside one
 abbrev pub EndsProof : Result Bool Fault → Proof → Type 0
 EndsProof (Ok true) p = ⊥
 EndsProof (Ok false) p = p ≡ clean
-EndsProof (Err f) p = p ≡ faulty_proof f
+EndsProof (Err f) p = p ≡ faulty_proof f None

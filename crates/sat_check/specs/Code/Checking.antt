@@ -15,7 +15,7 @@ use Rattle.dimacs.specs.declared.header.Header.{Header}
 use Rattle.proofs.specs.Reading.{Proof, PlacedStep, with_step}
 use Rattle.proofs.specs.Steps.{Step}
 use Rattle.proofs.specs.declared.step_end.StepEnd.{StepEnd}
-use Rattle.theory.specs.Losses.{StepLoses, HasLost}
+use Rattle.theory.specs.Losses.{StepLoses, HasLost, LostBySteps}
 use Rattle.theory.specs.Rules.{Rule, start, sum_of, Same, State, Answers, after, IsFinite}
 use Rattle.theory.specs.Verdicts.{is_empty, Ending, Ends, Verdict, is_last, no_empty_clause}
 use Rattle.theory.specs.declared.accepted.Accepted.{Accepted}
@@ -115,7 +115,7 @@ pub record LeavesProof (rule : Rule) (fault : Option Fault) (clauses : List Clau
       → Verdict rule clauses (bare_steps p) words ending →
       deciding_step p.steps words ending ≡ Some last → (new ≡ old) ⊎ (rest.offset ≤ last.offset)
   pub past_fault : (offset : ℕ) → p.fault_end ≡ Some offset → (new ≡ old) ⊎ (rest.offset ≤ offset)
-  pub told : TellsWhy (system_of rule) fault clauses p checked
+  pub told : TellsWhy (system_of rule) (LostBySteps rule) fault clauses p checked
 
 -- what was written, by all that was seen of the formula and of the proof, how far these were read,
 -- and why the check ended so
@@ -125,7 +125,7 @@ AllReports rule trace steps formula formula_new proof proof_new checked old new 
     OfBothSeen formula formula_new proof proof_new
     (λ i j. Reports (system_of rule) trace i (steps j) old new checked.status
     × ReadsNoFurther (system_of rule) (formula_of i) (steps j) proof proof_new
-    × TellsWhy (system_of rule) (formula_of i).fault (formula_of i).clauses (steps j) checked
+    × TellsWhy (system_of rule) (LostBySteps rule) (formula_of i).fault (formula_of i).clauses (steps j) checked
     × ReadsNoFurtherThanFault i formula formula_new)
 
 -- A run from readers to the writer of the lines: what was written, and which of them failed.

@@ -57,12 +57,12 @@ module _ (live : FinMap nat_cmp Clause) where
   pub no_rup_listed : (c : Clause) → ¬ HasRup (maps.get live) c → ¬ HasRup (slice_get (maps.values live)) c
   no_rup_listed c none rup = none ((slots-clash live (complements c)).1 rup)
 
-  pub answers_rup : (c : Clause) (word : Accepted) → AnswersChain (λ _. None) c [] conflict (Ok word) → Clash (maps.get live) (complements c) → AnswersAdd (maps.values live) c (Ok word)
-  answers_rup [] word is clash = subst (AnswersAdd (maps.values live) []) (sym is) (rup_listed [] clash)
-  answers_rup (l ∷ c) word is clash = subst (AnswersAdd (maps.values live) (l ∷ c)) (sym is) (rup_listed (l ∷ c) clash)
+  pub answers_rup : (c : Clause) (word : Accepted) → AnswersChain (λ _. None) c [] conflict (Ok word) → Clash (maps.get live) (complements c) → AnswersAdd (slice_get (maps.values live)) c (Ok word)
+  answers_rup [] word is clash = subst (AnswersAdd (slice_get (maps.values live)) []) (sym is) (rup_listed [] clash)
+  answers_rup (l ∷ c) word is clash = subst (AnswersAdd (slice_get (maps.values live)) (l ∷ c)) (sym is) (rup_listed (l ∷ c) clash)
 
   module _ (pivot : Literal) (rest assumed : List Literal) (same : SameSet assumed (complements (pivot ∷ rest))) (none : ¬ HasRup (maps.get live) (pivot ∷ rest)) where
-    pub answers_rat : AllClash (maps.get live) assumed (λ d. has d (complement pivot)) (λ d. without d (complement pivot)) → AnswersAdd (maps.values live) (pivot ∷ rest) (Ok Rat)
+    pub answers_rat : AllClash (maps.get live) assumed (λ d. has d (complement pivot)) (λ d. without d (complement pivot)) → AnswersAdd (slice_get (maps.values live)) (pivot ∷ rest) (Ok Rat)
     answers_rat all = (
       no_rup_listed (pivot ∷ rest) none,
       (slots-rat live (pivot ∷ rest) pivot).0 (record {
@@ -71,7 +71,7 @@ module _ (live : FinMap nat_cmp Clause) where
       }),
     )
 
-    pub answers_neither : SomeQuiet (maps.get live) assumed (λ d. has d (complement pivot)) (λ d. without d (complement pivot)) → AnswersAdd (maps.values live) (pivot ∷ rest) (Err (NeitherRupNorRat pivot))
+    pub answers_neither : SomeQuiet (maps.get live) assumed (λ d. has d (complement pivot)) (λ d. without d (complement pivot)) → AnswersAdd (slice_get (maps.values live)) (pivot ∷ rest) (Err (NeitherRupNorRat pivot))
     answers_neither some = (
       refl,
       no_rup_listed (pivot ∷ rest) none,
@@ -85,19 +85,19 @@ SearchedHolding live assumed l = Searched live assumed (λ d. has d l) (λ d. wi
 
 -- the clause begins with the pivot
 answers_at : (live : FinMap nat_cmp Clause) (c : List Literal) (pivot : Literal) (rest assumed : List Literal) → c ≡ pivot ∷ rest → SameSet assumed (complements c) → ¬ HasRup (maps.get live) c →
-    (b : Bool) → SearchedHolding (maps.get live) assumed (complement pivot) b → AnswersAdd (maps.values live) c (cond b (Ok Rat) (Err (NeitherRupNorRat pivot)))
+    (b : Bool) → SearchedHolding (maps.get live) assumed (complement pivot) b → AnswersAdd (slice_get (maps.values live)) c (cond b (Ok Rat) (Err (NeitherRupNorRat pivot)))
 answers_at live c pivot rest assumed is same none true all =
-    subst (λ c. AnswersAdd (maps.values live) c (Ok Rat)) (sym is) (answers_rat live pivot rest assumed (subst (λ c. SameSet assumed (complements c)) is same) (subst (λ c. ¬ HasRup (maps.get live) c) is none) all)
+    subst (λ c. AnswersAdd (slice_get (maps.values live)) c (Ok Rat)) (sym is) (answers_rat live pivot rest assumed (subst (λ c. SameSet assumed (complements c)) is same) (subst (λ c. ¬ HasRup (maps.get live) c) is none) all)
 answers_at live c pivot rest assumed is same none false some =
-    subst (λ c. AnswersAdd (maps.values live) c (Err (NeitherRupNorRat pivot))) (sym is) (answers_neither live pivot rest assumed (subst (λ c. SameSet assumed (complements c)) is same) (subst (λ c. ¬ HasRup (maps.get live) c) is none) some)
+    subst (λ c. AnswersAdd (slice_get (maps.values live)) c (Err (NeitherRupNorRat pivot))) (sym is) (answers_neither live pivot rest assumed (subst (λ c. SameSet assumed (complements c)) is same) (subst (λ c. ¬ HasRup (maps.get live) c) is none) some)
 
-pub answers_none : (live : FinMap nat_cmp Clause) (c : List Literal) → None ≡ slice_get c 0 → ¬ HasRup (maps.get live) c → AnswersAdd (maps.values live) c (Err NotRup)
+pub answers_none : (live : FinMap nat_cmp Clause) (c : List Literal) → None ≡ slice_get c 0 → ¬ HasRup (maps.get live) c → AnswersAdd (slice_get (maps.values live)) c (Err NotRup)
 answers_none live [] first none = no_rup_listed live [] none
 answers_none live (l ∷ c) first none = absurd (none-some l first)
 
 -- the clause begins with the pivot, whose candidates were searched
 pub answers_searched : (live : FinMap nat_cmp Clause) (c : List Literal) (pivot : Literal) → Some pivot ≡ slice_get c 0 → (assumed : List Literal) → SameSet assumed (complements c) → ¬ HasRup (maps.get live) c →
-    (opposite : Literal) → opposite ≡ complement pivot → (found b : Bool) → found ≡ b → SearchedHolding (maps.get live) assumed opposite found → AnswersAdd (maps.values live) c (cond b (Ok Rat) (Err (NeitherRupNorRat pivot)))
+    (opposite : Literal) → opposite ≡ complement pivot → (found b : Bool) → found ≡ b → SearchedHolding (maps.get live) assumed opposite found → AnswersAdd (slice_get (maps.values live)) c (cond b (Ok Rat) (Err (NeitherRupNorRat pivot)))
 answers_searched live c pivot first assumed same none opposite is found b value searched =
     let split = first_is c pivot first in
     answers_at live c pivot split.0 assumed split.1 same none b

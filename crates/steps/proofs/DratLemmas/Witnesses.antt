@@ -1,6 +1,6 @@
 -- The answers to an addition that lists a witness.
 use Rattle.std.proofs.Common.{◌≡◌, ℕ, suc, ◌+◌, ◌&&◌, ◌⊎◌, not, Bool, true, false, cond}
-use Rattle.std.proofs.Common.{Some, None, Ok, Err, List, [], ◌∷◌}
+use Rattle.std.proofs.Common.{Some, None, Ok, Err, List, [], ◌∷◌, slice_get}
 use Rattle.std.proofs.Common.{◌++◌, ◌||◌, drop, eqb, filter, length, take, take_while, refl, sym}
 use Rattle.std.proofs.Common.{ap, ◌∙◌, subst, arith, inl, inr}
 use Rattle.std.specs.List.{list_any}
@@ -48,7 +48,7 @@ module _ (set : LiteralSet) (witness : List Literal) (filled : (l : Literal) →
   pub conflicts_filled : list_any (λ l. in_set set (complement l)) witness ≡ conflicts witness
   conflicts_filled = ap (λ (f : Literal → Bool). list_any (λ l. f (complement l)) witness) (λ i l. filled l i)
 
-pub listed_inconsistent : (live : List Clause) (c witness : List Literal) → conflicts witness ≡ true → AnswersListed live c witness (Err InconsistentSet)
+pub listed_inconsistent : (live : List Clause) (c witness : List Literal) → conflicts witness ≡ true → AnswersListed (slice_get live) c witness (Err InconsistentSet)
 listed_inconsistent live c [] wrong = absurd (true≢false (sym wrong))
 listed_inconsistent live c (l ∷ witness) wrong = wrong
 
@@ -101,7 +101,7 @@ module _ (live : FinMap nat_cmp Clause) (c witness assumed : List Literal) (same
   ]
 
   module _ (consistent : conflicts witness ≡ false) (meets : (l : Literal) × (has c l ≡ true) × (has witness l ≡ true)) (none : ¬ HasRup (maps.get live) c) where
-    pub answers_pr : AllClash (maps.get live) assumed (is_reduced (has witness)) (open_literals witness) → AnswersWithWitness (maps.values live) c witness (Ok Pr)
+    pub answers_pr : AllClash (maps.get live) assumed (is_reduced (has witness)) (open_literals witness) → AnswersWithWitness (slice_get (maps.values live)) c witness (Ok Pr)
     answers_pr all = (
       consistent,
       no_rup_listed live c none,
@@ -109,14 +109,14 @@ module _ (live : FinMap nat_cmp Clause) (c witness assumed : List Literal) (same
     )
 
     -- the clauses that the witness reduces were searched
-    answers_reduced : (found b : Bool) → found ≡ b → Searched (maps.get live) assumed (is_reduced (has witness)) (open_literals witness) found → AnswersWithWitness (maps.values live) c witness (cond b (Ok Pr) (Err NeitherRupNorPr))
+    answers_reduced : (found b : Bool) → found ≡ b → Searched (maps.get live) assumed (is_reduced (has witness)) (open_literals witness) found → AnswersWithWitness (slice_get (maps.values live)) c witness (cond b (Ok Pr) (Err NeitherRupNorPr))
     answers_reduced true true value all = answers_pr all
     answers_reduced false false value some = (consistent, no_rup_listed live c none, λ pr. some_not_pr some ((slots-pr live c witness).1 pr))
     answers_reduced true false value all = absurd (true≢false value)
     answers_reduced false true value some = absurd (true≢false (sym value))
 
     pub answers_filled : (set : LiteralSet) → ((l : Literal) → in_set set l ≡ has witness l) → (found b : Bool) → found ≡ b →
-        Searched (maps.get live) assumed (is_reduced (in_set set)) (λ d. filter (λ l. not (in_set set (complement l))) d) found → AnswersWithWitness (maps.values live) c witness (cond b (Ok Pr) (Err NeitherRupNorPr))
+        Searched (maps.get live) assumed (is_reduced (in_set set)) (λ d. filter (λ l. not (in_set set (complement l))) d) found → AnswersWithWitness (slice_get (maps.values live)) c witness (cond b (Ok Pr) (Err NeitherRupNorPr))
     answers_filled set filled found b value searched = answers_reduced found b value (searched_filled set witness filled (maps.get live) assumed found searched)
 
 pub parts_given : (lits c witness : List Literal) → c ≡ clause_part lits → witness ≡ witness_part lits → (witness ≡ []) ⊎ ((l : Literal) × (has c l ≡ true) × (has witness l ≡ true))
@@ -126,9 +126,9 @@ parts_given lits c witness c_is set_is =
 
 -- the clause has RUP, whether the addition lists a witness or not
 pub listed_rup : (live : FinMap nat_cmp Clause) (c witness : List Literal) (word : Accepted) → AnswersChain (λ _. None) c [] conflict (Ok word) → conflicts witness ≡ false → (witness ≡ []) ⊎ ((l : Literal) × (has c l ≡ true) × (has witness l ≡ true)) →
-    Clash (maps.get live) (complements c) → AnswersListed (maps.values live) c witness (Ok word)
+    Clash (maps.get live) (complements c) → AnswersListed (slice_get (maps.values live)) c witness (Ok word)
 listed_rup live c [] word is consistent meets clash = answers_rup live c word is clash
 listed_rup live [] (w ∷ witness) word is consistent (inl none) clash = absurd (true≢false (sym (has_head w witness) ∙ ap (λ ls. has ls w) none))
 listed_rup live [] (w ∷ witness) word is consistent (inr met) clash = absurd (true≢false (sym met.1))
 listed_rup live (l ∷ c) (w ∷ witness) word is consistent meets clash =
-    subst (AnswersWithWitness (maps.values live) (l ∷ c) (w ∷ witness)) (sym is) (consistent, rup_listed live (l ∷ c) clash)
+    subst (AnswersWithWitness (slice_get (maps.values live)) (l ∷ c) (w ∷ witness)) (sym is) (consistent, rup_listed live (l ∷ c) clash)

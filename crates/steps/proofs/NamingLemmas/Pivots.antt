@@ -1,6 +1,6 @@
 -- The pivot that a refusal names is the first literal of its step.
 use Rattle.std.proofs.Common.{◌≡◌, ℕ, Bool, true, false, not, Option, Some, None, Ok, Err, List, []}
-use Rattle.std.proofs.Common.{◌∷◌, map, refl, sym, ap, ◌∙◌, subst}
+use Rattle.std.proofs.Common.{◌∷◌, map, refl, sym, ap, ◌∙◌, subst, slice_get}
 use Rattle.std.specs.Bool.{then_some}
 use Rattle.std.specs.Option.{option_or}
 use Rattle.std.specs.Prelude.{is_none, nat_le, nat_abs, slice_index_or, MatchBool, ⊤}
@@ -103,13 +103,13 @@ lrat_plain s step answer = by step.kind
         subst IsPlain (sym a) (answered (deletion_refusal s.live (map nat_abs step.hints)) (deletion_plain s.live (map nat_abs step.hints)))
 
 -- the pivot of DRAT is the first literal
-listed_pivot : (live : List Clause) (lits : List Literal) (witness : List Literal) (pivot : Literal) → AnswersListed live (clause_part lits) witness (Err (NeitherRupNorRat pivot)) → (rest : List Literal) × (lits ≡ pivot ∷ rest)
+listed_pivot : (live : List Clause) (lits : List Literal) (witness : List Literal) (pivot : Literal) → AnswersListed (slice_get live) (clause_part lits) witness (Err (NeitherRupNorRat pivot)) → (rest : List Literal) × (lits ≡ pivot ∷ rest)
 listed_pivot live [] [] pivot a = absurd a
 listed_pivot live (l ∷ lits) [] pivot a = (lits, λ i. sym a.0 i ∷ lits)
 listed_pivot live [] (m ∷ witness) pivot a = absurd a
 listed_pivot live (l ∷ lits) (m ∷ witness) pivot a = absurd a
 
-added_pivot : (live : List Clause) (lits : List Literal) (pivot : Literal) → AnswersAdd live lits (Err (NeitherRupNorRat pivot)) → (rest : List Literal) × (lits ≡ pivot ∷ rest)
+added_pivot : (live : List Clause) (lits : List Literal) (pivot : Literal) → AnswersAdd (slice_get live) lits (Err (NeitherRupNorRat pivot)) → (rest : List Literal) × (lits ≡ pivot ∷ rest)
 added_pivot live [] pivot a = absurd a
 added_pivot live (l ∷ lits) pivot a = (lits, λ i. sym a.0 i ∷ lits)
 

@@ -1,6 +1,6 @@
 //! The answers to additions, with or without a witness, over any store of clauses that propagates.
 
-ghost use Rattle.std.specs.Prelude.{◌≡◌, IsTrue};
+ghost use Rattle.std.specs.Prelude.{◌≡◌, IsTrue, slice_get};
 ghost use Rattle.std.specs.FinMap as maps;
 ghost use Rattle.cnf_base.specs.Literals.{Literal, has};
 ghost use Rattle.theory.specs.Drat.{AnswersAdd, AnswersListed, AnswersWithWitness};
@@ -51,7 +51,7 @@ impl<P: Propagate> Examiner<P> {
     fn judge_rat(&mut self, lits: &[Lit]) -> Result<Accepted, Refusal>
         requires { IsAssumed (P.state self.old.clauses) lits.now }
         ensures answers { UnlessOutOfMemory result
-            (AnswersAdd (maps.values (P.state self.old.clauses).live) lits.now result) }
+            (AnswersAdd (slice_get (maps.values (P.state self.old.clauses).live)) lits.now result) }
         ensures same { IsAsBefore (P.state self.old.clauses) (P.state self.new.clauses) }
     {
         let Some(pivot) = lits.first() else {
@@ -74,7 +74,7 @@ impl<P: Propagate> Examiner<P> {
         requires listed { IsListed self.old.witness lits.now witness.now }
         requires meets { (l : Literal) × IsTrue (has lits.now l) × IsTrue (has witness.now l) }
         ensures answers { UnlessOutOfMemory result (AnswersWithWitness
-            (maps.values (P.state self.old.clauses).live) lits.now witness.now result) }
+            (slice_get (maps.values (P.state self.old.clauses).live)) lits.now witness.now result) }
         ensures same { IsAsBefore (P.state self.old.clauses) (P.state self.new.clauses) }
     {
         let candidates = Candidates::ReducedBy(&self.witness);
@@ -91,7 +91,7 @@ impl<P: Propagate> Examiner<P> {
         requires assumed { IsAssumed (P.state self.old.clauses) lits.now }
         requires listed { IsListed self.old.witness lits.now witness.now }
         ensures answers { UnlessOutOfMemory result (AnswersListed
-            (maps.values (P.state self.old.clauses).live) lits.now witness.now result) }
+            (slice_get (maps.values (P.state self.old.clauses).live)) lits.now witness.now result) }
         ensures same { IsAsBefore (P.state self.old.clauses) (P.state self.new.clauses) }
     {
         if witness.is_empty() {
@@ -106,7 +106,7 @@ impl<P: Propagate> Examiner<P> {
         requires idle { IsIdle (P.state self.old.clauses) }
         requires listed { IsListed self.old.witness lits.now witness.now }
         ensures answers { UnlessOutOfMemory result (AnswersListed
-            (maps.values (P.state self.old.clauses).live) lits.now witness.now result) }
+            (slice_get (maps.values (P.state self.old.clauses).live)) lits.now witness.now result) }
         ensures live { (P.state self.new.clauses).live ≡ (P.state self.old.clauses).live }
         ensures idle { IsIdle (P.state self.new.clauses) }
     {
@@ -130,7 +130,7 @@ impl<P: Propagate> Examiner<P> {
         requires idle { IsIdle (P.state self.old.clauses) }
         requires meets { MeetsIfListed lits.now witness.now }
         ensures answers { UnlessOutOfMemory result (AnswersListed
-            (maps.values (P.state self.old.clauses).live) lits.now witness.now result) }
+            (slice_get (maps.values (P.state self.old.clauses).live)) lits.now witness.now result) }
         ensures live { (P.state self.new.clauses).live ≡ (P.state self.old.clauses).live }
         ensures idle { IsIdle (P.state self.new.clauses) }
     {
@@ -146,7 +146,7 @@ impl<P: Propagate> Examiner<P> {
         requires idle { IsIdle (P.state self.old.clauses) }
         requires meets { MeetsIfListed lits.now witness.now }
         ensures answers { UnlessOutOfMemory result (AnswersListed
-            (maps.values (P.state self.old.clauses).live) lits.now witness.now result) }
+            (slice_get (maps.values (P.state self.old.clauses).live)) lits.now witness.now result) }
         ensures live { (P.state self.new.clauses).live ≡ (P.state self.old.clauses).live }
         ensures idle { IsIdle (P.state self.new.clauses) }
         ensures emptied { IsEmptied self.new.slots.items self.new.last.rest.items

@@ -1,6 +1,6 @@
 //! An addition of a DRAT proof, over any store of clauses that propagates.
 
-ghost use Rattle.std.specs.Prelude.{◌≡◌, ◌∷◌, OnOk, OnErr};
+ghost use Rattle.std.specs.Prelude.{◌≡◌, ◌∷◌, OnOk, OnErr, slice_get};
 ghost use Rattle.std.specs.FinMap as maps;
 ghost use Rattle.theory.specs.Drat.{AnswersListed, addition_of, SameLive};
 ghost use Rattle.theory.specs.Drat as drat;
@@ -32,7 +32,7 @@ impl<P: Propagate> Examiner<P> {
         requires idle { IsIdle (P.state self.old.clauses) }
         requires meets { MeetsIfListed lits.now witness.now }
         ensures answers { UnlessOutOfMemory result (AnswersListed
-            (maps.values (P.state self.old.clauses).live) lits.now witness.now result) }
+            (slice_get (maps.values (P.state self.old.clauses).live)) lits.now witness.now result) }
         ensures live { OnOk result (SameLive (maps.values (P.state self.new.clauses).live)
             (lits.now ∷ maps.values (P.state self.old.clauses).live)) }
         ensures idle { IsIdle (P.state self.new.clauses) }

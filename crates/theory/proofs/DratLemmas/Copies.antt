@@ -161,7 +161,7 @@ alive_same first second c same =
 
 -- ---- The answers
 
-add_same : (first second : List Clause) (c : List Literal) (answer : StepAnswer) → SameLive first second → AnswersAdd first c answer → AnswersAdd second c answer
+add_same : (first second : List Clause) (c : List Literal) (answer : StepAnswer) → SameLive first second → AnswersAdd (slice_get first) c answer → AnswersAdd (slice_get second) c answer
 add_same first second [] (Ok Empty) same a = clash_covers _ _ (covers_of first second same) [] a
 add_same first second [] (Err NotRup) same a = λ b. a (clash_covers _ _ (covers_of second first (same_live_symm first second same)) [] b)
 add_same first second (l ∷ c) (Ok Rup) same a = clash_covers _ _ (covers_of first second same) _ a
@@ -178,7 +178,7 @@ add_same first second [] (Err _) same a = absurd a
 add_same first second (l ∷ c) (Ok _) same a = absurd a
 add_same first second (l ∷ c) (Err _) same a = absurd a
 
-witness_same : (first second : List Clause) (c set : List Literal) (answer : StepAnswer) → SameLive first second → AnswersWithWitness first c set answer → AnswersWithWitness second c set answer
+witness_same : (first second : List Clause) (c set : List Literal) (answer : StepAnswer) → SameLive first second → AnswersWithWitness (slice_get first) c set answer → AnswersWithWitness (slice_get second) c set answer
 witness_same first second c set (Err InconsistentSet) same a = a
 witness_same first second c set (Ok Rup) same a = (a.0, clash_covers _ _ (covers_of first second same) _ a.1)
 witness_same first second c set (Ok Pr) same a =

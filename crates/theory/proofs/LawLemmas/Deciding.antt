@@ -130,7 +130,7 @@ module _ (live : List Clause) (c set : List Literal) where
 
 -- ---- Answers
 
-witness_answer : (live : List Clause) (c set : List Literal) → (answer : StepAnswer) × AnswersWithWitness live c set answer
+witness_answer : (live : List Clause) (c set : List Literal) → (answer : StepAnswer) × AnswersWithWitness (slice_get live) c set answer
 witness_answer live c set = elim (cases_Bool (conflicts set)) [
   | inl both ↦ (Err InconsistentSet, both)
   | inr consistent ↦ elim (clash_decided live (complements c)) [
@@ -142,7 +142,7 @@ witness_answer live c set = elim (cases_Bool (conflicts set)) [
   ]
 ]
 
-add_answer : (live : List Clause) (c : List Literal) → (answer : StepAnswer) × AnswersAdd live c answer
+add_answer : (live : List Clause) (c : List Literal) → (answer : StepAnswer) × AnswersAdd (slice_get live) c answer
 add_answer live [] = elim (clash_decided live []) [
   | inl clash ↦ (Ok Empty, clash)
   | inr none ↦ (Err NotRup, none)

@@ -37,7 +37,7 @@ empty_refutes live (l ∷ c) never m = never
 
 -- ---- DRAT
 
-add_redundant : (live : List Clause) (c : List Literal) (word : Accepted) → AnswersAdd live c (Ok word) → IsRedundant (slice_get live) c word
+add_redundant : (live : List Clause) (c : List Literal) (word : Accepted) → AnswersAdd (slice_get live) c (Ok word) → IsRedundant (slice_get live) c word
 add_redundant live [] Empty a = a
 add_redundant live [] Rup a = absurd a
 add_redundant live [] Rat a = absurd a
@@ -51,7 +51,7 @@ add_redundant live (l ∷ c) Pr a = absurd a
 add_redundant live (l ∷ c) Deleted a = absurd a
 add_redundant live (l ∷ c) Ignored a = absurd a
 
-listed_redundant : (live : List Clause) (c set : List Literal) (word : Accepted) → AnswersListed live c set (Ok word) → IsRedundant (slice_get live) c word
+listed_redundant : (live : List Clause) (c set : List Literal) (word : Accepted) → AnswersListed (slice_get live) c set (Ok word) → IsRedundant (slice_get live) c word
 listed_redundant live c [] word a = add_redundant live c word a
 listed_redundant live c (l ∷ set) Rup a = a.1
 listed_redundant live c (l ∷ set) Pr a = (l ∷ set, a.2)

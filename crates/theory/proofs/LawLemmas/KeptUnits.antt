@@ -121,7 +121,7 @@ units_are_kept rules live last (step ∷ steps) (word ∷ words) l on leads f =
 -- ---- Reasons
 
 -- no addition is accepted as a deletion
-none_added : (live : List Clause) (c set : List Literal) → AnswersListed live c set (Ok Deleted) → ⊥
+none_added : (live : List Clause) (c set : List Literal) → AnswersListed (slice_get live) c set (Ok Deleted) → ⊥
 none_added live [] [] answers = answers
 none_added live (l ∷ c) [] answers = answers
 none_added live c (l ∷ set) answers = answers

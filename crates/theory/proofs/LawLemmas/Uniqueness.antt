@@ -30,7 +30,7 @@ data AddCases (live : Live) (pivot : Literal) (rest : List Literal) (answer : St
   rat : answer ≡ Ok Rat → ¬ HasRup live (pivot ∷ rest) → HasRat live (pivot ∷ rest) pivot → AddCases live pivot rest answer
   neither : answer ≡ Err (NeitherRupNorRat pivot) → ¬ HasRup live (pivot ∷ rest) → ¬ HasRat live (pivot ∷ rest) pivot → AddCases live pivot rest answer
 
-add_cases : (live : List Clause) (pivot : Literal) (rest : List Literal) (answer : StepAnswer) → AnswersAdd live (pivot ∷ rest) answer → AddCases (slice_get live) pivot rest answer
+add_cases : (live : List Clause) (pivot : Literal) (rest : List Literal) (answer : StepAnswer) → AnswersAdd (slice_get live) (pivot ∷ rest) answer → AddCases (slice_get live) pivot rest answer
 add_cases live pivot rest (Ok Rup) a = rup refl a
 add_cases live pivot rest (Ok Rat) a = rat refl a.0 a.1
 add_cases live pivot rest (Ok Empty) a = absurd a
@@ -56,7 +56,7 @@ data EmptyCases (live : Live) (answer : StepAnswer) : Type 0 where
   rup : answer ≡ Ok Empty → HasRup live [] → EmptyCases live answer
   not_rup : answer ≡ Err NotRup → ¬ HasRup live [] → EmptyCases live answer
 
-empty_cases : (live : List Clause) (answer : StepAnswer) → AnswersAdd live [] answer → EmptyCases (slice_get live) answer
+empty_cases : (live : List Clause) (answer : StepAnswer) → AnswersAdd (slice_get live) [] answer → EmptyCases (slice_get live) answer
 empty_cases live (Ok Empty) a = rup refl a
 empty_cases live (Ok Rup) a = absurd a
 empty_cases live (Ok Rat) a = absurd a
@@ -111,7 +111,7 @@ data WitnessCases (live : Live) (c set : List Literal) (answer : StepAnswer) : T
   pr : answer ≡ Ok Pr → conflicts set ≡ false → ¬ HasRup live c → HasPr live c set → WitnessCases live c set answer
   neither : answer ≡ Err NeitherRupNorPr → conflicts set ≡ false → ¬ HasRup live c → ¬ HasPr live c set → WitnessCases live c set answer
 
-witness_cases : (live : List Clause) (c set : List Literal) (answer : StepAnswer) → AnswersWithWitness live c set answer → WitnessCases (slice_get live) c set answer
+witness_cases : (live : List Clause) (c set : List Literal) (answer : StepAnswer) → AnswersWithWitness (slice_get live) c set answer → WitnessCases (slice_get live) c set answer
 witness_cases live c set (Err InconsistentSet) a = inconsistent refl a
 witness_cases live c set (Ok Rup) a = rup refl a.0 a.1
 witness_cases live c set (Ok Pr) a = pr refl a.0 a.1 a.2

@@ -89,7 +89,7 @@ module _ (there back : Literal → Literal) (among : Literal → Type 0) (r : Re
     rup_again : (c : Clause) → AreAmong among c → HasRup (slice_get other) (map there c) → HasRup (slice_get live) c
     rup_again c = rup_back (slice_get live) (slice_get other) listed c
 
-    add_mapped : (c : List Literal) (answer : StepAnswer) → AreAmong among c → AnswersAdd live c answer → AnswersAdd other (map there c) (answer_renamed there answer)
+    add_mapped : (c : List Literal) (answer : StepAnswer) → AreAmong among c → AnswersAdd (slice_get live) c answer → AnswersAdd (slice_get other) (map there c) (answer_renamed there answer)
     add_mapped [] (Ok Empty) w a = rup_there [] a
     add_mapped [] (Err NotRup) w a = λ b. a (rup_again [] w b)
     add_mapped (l ∷ c) (Ok Rup) w a = rup_there (l ∷ c) a
@@ -102,8 +102,8 @@ module _ (there back : Literal → Literal) (among : Literal → Type 0) (r : Re
     add_mapped (l ∷ c) (Ok _) w a = absurd a
     add_mapped (l ∷ c) (Err _) w a = absurd a
 
-    witness_mapped : (c witness : List Literal) (answer : StepAnswer) → AreAmong among c → AreAmong among witness → AnswersWithWitness live c witness answer →
-        AnswersWithWitness other (map there c) (map there witness) (answer_renamed there answer)
+    witness_mapped : (c witness : List Literal) (answer : StepAnswer) → AreAmong among c → AreAmong among witness → AnswersWithWitness (slice_get live) c witness answer →
+        AnswersWithWitness (slice_get other) (map there c) (map there witness) (answer_renamed there answer)
     witness_mapped c witness (Err InconsistentSet) cw ww a = conflicts_mapped there back among r witness ww ∙ a
     witness_mapped c witness (Ok Rup) cw ww a = (conflicts_mapped there back among r witness ww ∙ a.0, rup_there c a.1)
     witness_mapped c witness (Ok Pr) cw ww a =
@@ -113,8 +113,8 @@ module _ (there back : Literal → Literal) (among : Literal → Type 0) (r : Re
     witness_mapped c witness (Ok _) cw ww a = absurd a
     witness_mapped c witness (Err _) cw ww a = absurd a
 
-    listed_mapped : (c witness : List Literal) (answer : StepAnswer) → AreAmong among c → AreAmong among witness → AnswersListed live c witness answer →
-        AnswersListed other (map there c) (map there witness) (answer_renamed there answer)
+    listed_mapped : (c witness : List Literal) (answer : StepAnswer) → AreAmong among c → AreAmong among witness → AnswersListed (slice_get live) c witness answer →
+        AnswersListed (slice_get other) (map there c) (map there witness) (answer_renamed there answer)
     listed_mapped c [] answer cw ww a = add_mapped c answer cw a
     listed_mapped c (l ∷ witness) answer cw ww a = witness_mapped c (l ∷ witness) answer cw ww a
 

@@ -17,6 +17,9 @@ returns-clause-runs g c =
     (search rules) (search rules) (search rules) (search rules) (search rules) c.check_with-checked.ensures))
     (λ i j x. (x.0, x.1, x.3))
 
+pub returns-clause-reports : goal.returns-clause-reports
+returns-clause-reports g c = weakened _ _ _ _ _ _ _ _ _ _ (returns-clause-runs g c) (λ i j x. x.0.reports)
+
 pub returns-clause-unsatisfiable : goal.returns-clause-unsatisfiable
 returns-clause-unsatisfiable g c =
     let options = c.args.options.now in
