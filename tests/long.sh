@@ -87,6 +87,39 @@ s VERIFIED
 LINES
 row lrat-check $((thousands * 49000 + 51)) "$lrat_check" examples/e.cnf < <(lrat)
 
+# ---- Clauses whose sizes grow: 32 of each size from 2 to 320, and those of the size before are deleted
+
+most_literals=320
+peak_of_sizes=$((8 + 32 * (2 * most_literals - 1)))
+steps_of_sizes=$((64 * (most_literals - 1) - 32 + 2))
+
+sizes() {
+    python3 - "$most_literals" "$1" <<'CODE'
+import sys
+
+most, is_lrat = int(sys.argv[1]), sys.argv[2] == "lrat"
+first, ends = 5, " 0 1 3 0\n" if is_lrat else " 0\n"
+for size in range(2, most + 1):
+    clause = "1 " + " ".join(map(str, range(3, size + 2)))
+    ids = range(first, first + 32) if is_lrat else [""] * 32
+    sys.stdout.write("".join(f"{i} {clause}{ends}".lstrip() for i in ids))
+    if size > 2 and is_lrat:
+        sys.stdout.write("".join(f"{first + 32} d {i - 32} 0\n" for i in ids))
+    elif size > 2:
+        sys.stdout.write(f"d {before} 0\n" * 32)
+    first, before = first + 32, clause
+print(f"{first} 2 0 1 2 0\n{first + 1} 0 {first} 3 4 0" if is_lrat else "2 0\n0")
+CODE
+}
+
+cat > "$room/wanted" <<LINES
+c formula 2 variables 4 clauses
+c steps $steps_of_sizes peak $peak_of_sizes
+s VERIFIED
+LINES
+row "drat-forward, sizes" "$(sizes drat | wc -c)" "$drat_forward" examples/e.cnf < <(sizes drat)
+row "lrat-check, sizes" "$(sizes lrat | wc -c)" "$lrat_check" examples/e.cnf < <(sizes lrat)
+
 # ---- A formula that has one clause of 7 bytes again and again, and a model of it
 
 clauses=$((size / 7))

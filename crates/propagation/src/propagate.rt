@@ -21,6 +21,7 @@ ghost use Rattle.propagation.specs.Assumptions.{Propagation, Assumption, Assumin
 ghost use Rattle.propagation.specs.Assumptions.{AreSameClauses, HoldsLiveAlone, HasAt, IsThere};
 ghost use Rattle.propagation.specs.Assumptions.{LastIsAnswered};
 ghost use Rattle.propagation.specs.Assumptions.{IsValue, MayAssume, assumed_by};
+ghost use Rattle.theory.specs.Drat.{SameLive};
 ghost use Rattle.theory.specs.Propagation.{IsRootReason};
 ghost use Rattle.trail.specs.LiteralSet.{in_set};
 ghost use Rattle.propagation.specs.declared.answer.Answer.TheVariants.{Quiet};
@@ -73,6 +74,16 @@ pub trait Propagate {
         requires alive { IsSome (maps.get (state self.old).live slot) }
         requires nothing_assumed { (state self.old).assumptions ≡ [] }
         ensures live { (state self.new).live ≡ maps.remove (state self.old).live slot }
+        ensures live_alone { HoldsLiveAlone (state self.new) }
+        ensures nothing_assumed { (state self.new).assumptions ≡ [] }
+        ensures refused { (state self.new).has_refused ≡ (state self.old).has_refused };
+
+    /// Moves the clauses together where most of the memory that they stand in is free, and nothing
+    /// is assumed. Each may have another slot then. Where memory is refused, they stay.
+    fn gather(&mut self)
+        requires { (state self.old).assumptions ≡ [] }
+        ensures live { SameLive (maps.values (state self.new).live)
+            (maps.values (state self.old).live) }
         ensures live_alone { HoldsLiveAlone (state self.new) }
         ensures nothing_assumed { (state self.new).assumptions ≡ [] }
         ensures refused { (state self.new).has_refused ≡ (state self.old).has_refused };

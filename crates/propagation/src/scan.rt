@@ -151,6 +151,11 @@ impl Propagate for Scan {
         self.store.remove(slot);
     }
 
+    /// It does nothing: the memory of a clause that was removed is free for all.
+    fn gather(&mut self) {
+        self.store.recall_invariant();
+    }
+
     fn find(&mut self, lits: &[Lit]) -> Option<Slot> {
         self.store.find(lits)
     }

@@ -100,7 +100,9 @@ impl<P: Propagate> Judge for DratJudge<P> {
             }
             StepKind::Delete => {
                 let clauses = &mut self.examiner.clauses;
-                delete(clauses, self.rules, lits, &mut self.has_lost_literal)
+                let word = delete(clauses, self.rules, lits, &mut self.has_lost_literal)?;
+                clauses.gather();
+                Ok(word)
             }
         }
     }

@@ -15,3 +15,4 @@ pub mod Arrange
 pub mod Assumed
 pub mod State
 pub mod Turned
+pub mod Gather

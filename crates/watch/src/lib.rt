@@ -6,6 +6,7 @@ mod clause_source;
 mod clauses;
 mod entries;
 mod follow;
+mod gather;
 mod reason;
 mod refresh;
 mod room;

@@ -21,6 +21,7 @@ use crate::arrange::arrange;
 use crate::clause_source::{assume_from, reserve_given};
 use crate::clauses::{insert_clause, remove_clause};
 use crate::entries::{add_entries, remove_entries};
+use crate::gather::{gathered, is_sparse};
 use crate::reason::is_reason_for_good;
 use crate::refresh::refresh;
 use crate::room::reserve_room;
@@ -41,6 +42,8 @@ use watch_lists::{SlotList, WatchLists};
 #[derive(Drop)]
 pub struct Watch {
     alloc: Global,
+    /// That of the hashes of clauses.
+    seed: u64,
     /// Of a clause of two literals or more it watches the first two.
     store: Store,
     /// The slots of the clauses of one literal and of none.
@@ -79,6 +82,7 @@ impl Model for Watch {
     // follows from the live clauses and nothing else.
     ghost view = { λ record {
       alloc = _;
+      seed = _;
       store = store;
       lists = lists;
       short = short;
@@ -162,9 +166,8 @@ impl Watch {
         Watch::seeded(alloc, 0)
     }
 
-    /// No clauses, and nothing is assumed. Clauses will be hashed by the seed, a number that
-    /// whoever chooses them shouldn't know, so that none are chosen that are slow to find. No
-    /// answer depends on it.
+    /// The same, with clauses hashed by the seed, a number that whoever chooses them shouldn't know,
+    /// so that none are chosen that are slow to find. No answer depends on it.
     pub fn seeded(alloc: Global, seed: u64) -> Result<Self, OutOfMemory>
         ensures live { IfOk result (λ w. w.propagation.live ≡ maps.empty) }
         ensures nothing_assumed { IfOk result (λ w. w.propagation.assumptions ≡ []) }
@@ -172,6 +175,7 @@ impl Watch {
     {
         Ok(Watch {
             alloc,
+            seed,
             store: Store::seeded(alloc, seed)?,
             lists: WatchLists::new(alloc),
             short: SlotList::new(alloc),
@@ -326,6 +330,17 @@ impl Propagate for Watch {
             .leave(&self.store, &mut self.lists, &mut self.assumptions, slot);
         remove_entries(&self.store, &mut self.lists, &mut self.short, slot);
         remove_clause(&mut self.store, &mut self.closure, slot);
+    }
+
+    fn gather(&mut self) {
+        self.store.recall_invariant();
+        let clauses = (self.watch_entries() / 2).saturating_add(self.short_entries() as u64);
+        if self.has_refused || !is_sparse(self.store.end(), self.store.literals(), clauses) {
+            return;
+        }
+        if let Ok(mut gathered) = gathered(self.alloc, self.seed, &self.store) {
+            std::mem::swap(self, &mut gathered);
+        }
     }
 
     fn find(&mut self, lits: &[Lit]) -> Option<Slot> {

@@ -2,6 +2,7 @@
 
 mod calls;
 mod fresh;
+mod gather;
 mod roots;
 mod sequences;
 mod trails;
