@@ -271,6 +271,13 @@ def units_from_front(n):
 
 
 @kind(DRAT, 1000)
+def units_with_complements(n):
+    """The same where a clause, by which nothing is true, has the complement of each."""
+    units = [(i,) for i in range(1, n + 1)]
+    return units + [(-i, n + 2, n + 3) for i in range(1, n)], deletions(units[:-1], clause(n, n + 1))
+
+
+@kind(DRAT, 1000)
 def copies_of_a_unit(n):
     """Two copies of a unit clause, on which a chain rests, are added and two deleted, again and again, with a step after each."""
     step, gone = clause(n, n + 1), "d " + clause(1)

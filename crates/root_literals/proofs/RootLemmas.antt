@@ -2,6 +2,7 @@
 pub mod Order
 pub mod Watched
 pub mod Reasons
+pub mod Uses
 pub mod History
 pub mod Kept
 pub mod Entered

@@ -1,4 +1,5 @@
 pub mod History
 pub mod Order
 pub mod Roots
+pub mod Uses
 pub mod Watched

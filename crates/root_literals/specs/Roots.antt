@@ -13,6 +13,7 @@ use Rattle.trail.specs.declared.left.Left.{Left}
 use Rattle.propagation.specs.Assumptions.{HasAt, Assumption}
 use Rattle.root_literals.specs.History.{IsHistory, visits}
 use Rattle.root_literals.specs.Order.{each_in_order}
+use Rattle.root_literals.specs.Uses.{AreCounted}
 use Rattle.root_literals.specs.Watched.{HasUnit, IsWatched}
 use Rattle.root_literals.specs.declared.roots.Kept.TheVariants.{Cut, Behind, All, Clash}
 use Rattle.root_literals.specs.declared.roots.Kept.{Kept}
@@ -94,8 +95,8 @@ is_cut Behind = false
 is_cut All = false
 is_cut (Clash slot) = false
 
--- the kept literals follow from their reasons, what is said of them is so, and those that were
--- visited are propagated, unless a clash was found
+-- the kept literals follow from their reasons, which are counted, what is said of them is so, and
+-- those that were visited are propagated, unless a clash was found
 pub record IsKept (live : FinMap nat_cmp Clause) (roots : Roots) (lits : List Literal)
     : Type 0 where
   pub noted : AreNoted (maps.get (each_in_order live)) (at roots.reasons)
@@ -104,6 +105,7 @@ pub record IsKept (live : FinMap nat_cmp Clause) (roots : Roots) (lits : List Li
   pub history : IsHistory (maps.get live) roots.history lits
   pub visited : has_clash roots.kept ≡ false →
       IsWatched (maps.get live) (take (visits roots.history) lits) lits
+  pub counted : AreCounted (maps.get live) (at roots.reasons) lits roots.uses
 
 -- where an assumption stands, what follows without is known
 abbrev pub IsStanding : Kept → List Assumption → Type 0

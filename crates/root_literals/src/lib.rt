@@ -6,6 +6,8 @@ mod lone;
 mod other_reason;
 mod places;
 mod roots;
+mod uses;
 
 pub use history::History;
 pub use roots::{Kept, Roots, set_by};
+pub use uses::Uses;

@@ -2,18 +2,20 @@
 //!
 //! Where that clause is removed, the literal alone is taken back: no clause was let alone because
 //! of it. Such unit clauses are left where a solver has deleted all clauses that they satisfy. A
-//! cut would have everything behind the literal found again. To see whether a literal rests on it
-//! costs a look at the reasons behind it, and nothing where no clause has the complement.
+//! cut would have everything behind the literal found again. Whether a literal rests on it is known
+//! by how many clauses have the complement, and how many reasons; only where some have, the reasons
+//! behind it are looked at.
 
-ghost use Rattle.std.specs.Prelude.{◌≡◌, ℕ, ◌<◌, ◌∷◌, [], length, false, Some, IsSome, IfSome};
+ghost use Rattle.std.specs.Prelude.{◌≡◌, ◌<◌, ◌∷◌, [], length, false, Some, IsSome, IfSome};
 ghost use Rattle.std.specs.FinMap as maps;
-ghost use Rattle.cnf_base.specs.Literals.{Clause, complement, has};
 ghost use Rattle.root_literals.specs.Roots.{IsAbsent, IsUnneeded};
+ghost use Rattle.root_literals.specs.Uses.{AreCounted, clause_in, is_in};
 ghost use Rattle.tables.specs.Filled.{at};
 
+use crate::uses::{Uses, reason_of};
 use clause_db::{Slot, Store};
 use cnf_base::Lit;
-use tables::{Filled, key};
+use tables::Filled;
 
 /// The literal of a clause that has no other.
 pub(crate) fn only_literal(clause: &[Lit]) -> Option<Lit>
@@ -42,31 +44,34 @@ pub(crate) fn lone_literal(store: &Store, slot: Slot) -> Option<Lit>
 
 /// Whether the reason of a literal has the literal `k`.
 fn reason_has(store: &Store, reasons: &Filled<u32>, l: Lit, k: Lit) -> bool
-    ensures { result ≡ false → (s : ℕ) (c : Clause) → at reasons.now l ≡ Some s →
-        maps.get store.now.live s ≡ Some c → has c k ≡ false }
+    ensures { result ≡ is_in (clause_in (maps.get store.now.live) (at reasons.now l)) k }
 {
-    let Some(slot) = reasons.get(key(l)) else {
-        return false;
-    };
-    match store.at(slot as usize) {
+    match reason_of(store, reasons, l) {
         Some(clause) => clause.contains(&k),
         None => false,
     }
 }
 
-/// Whether a literal behind this place, where `l` stands, may rest on `l`.
+/// Whether a literal behind this place, where `l` stands, may rest on `l`. It takes no memory.
 pub(crate) fn is_needed(
     store: &Store,
     reasons: &Filled<u32>,
+    uses: &mut Uses,
     lits: &[Lit],
     place: usize,
     l: Lit,
 ) -> bool
-    requires { place < length lits.now }
-    ensures { result ≡ false →
+    requires inside { place < length lits.now }
+    requires counted { AreCounted (maps.get store.now.live) (at reasons.now) lits.now uses.old }
+    ensures counted { AreCounted (maps.get store.now.live) (at reasons.now) lits.now uses.new }
+    ensures unneeded { result ≡ false →
         IsUnneeded (maps.get store.now.live) (at reasons.now) lits.now place l }
 {
     if store.count_with(l.neg()) == 0 {
+        return false;
+    }
+    uses.count(store, reasons, lits);
+    if uses.is_unused(store, reasons, lits, l.neg()) {
         return false;
     }
     for behind in place + 1..lits.len() {

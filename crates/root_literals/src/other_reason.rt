@@ -1,7 +1,8 @@
 //! Another reason of a literal that is true with nothing assumed: a copy of its unit clause, which
 //! the store finds by its hash, or a clause that watches the literal.
 
-ghost use Rattle.std.specs.Prelude.{◌≡◌, ◌≢◌, ◌<◌, length, take, slice_index, true, IsTrue, IfSome};
+ghost use Rattle.std.specs.Prelude.{◌≡◌, ◌≢◌, ◌<◌, ◌∷◌, [], length, take, slice_index, true, Some};
+ghost use Rattle.std.specs.Prelude.{IsTrue, IfSome};
 ghost use Rattle.std.specs.FinMap as maps;
 ghost use Rattle.cnf_base.specs.Literals.{Literal, complement, has};
 ghost use Rattle.root_literals.specs.Roots.{IsReasonAt};
@@ -76,6 +77,7 @@ pub(crate) fn other_unit(
     slot: Slot,
 ) -> Option<u32>
     ensures other { IfSome result (λ s. s ≢ slot) }
+    ensures unit { IfSome result (λ s. maps.get store.now.live s ≡ Some (l ∷ [])) }
     ensures reason { IfSome result (λ s. IsReasonAt (maps.get store.now.live) s lits.now l) }
 {
     let _place = places.place(lits, l)?;

@@ -7,6 +7,27 @@ use cnf_base::{Lit, OutOfMemory};
 use std::alloc::Global;
 use tables::Filled;
 
+/// The place of a literal, sought from both ends.
+pub(crate) fn place_of(lits: &[Lit], l: Lit) -> usize
+    requires { IsTrue (has lits.now l) }
+    ensures inside { result < length lits.now }
+    ensures literal { slice_index lits.now result ≡ l }
+{
+    let mut before = 0;
+    let mut behind = lits.len();
+    while before < behind {
+        if lits[before] == l {
+            return before;
+        }
+        before += 1;
+        behind -= 1;
+        if lits[behind] == l {
+            return behind;
+        }
+    }
+    0
+}
+
 /// By variable the place at which its literal stood when places were noted last. A literal may have
 /// gone since, so each place is looked at before it is told.
 ///

@@ -13,7 +13,7 @@
 //! its literal is taken back, and says nothing until the next clause that makes it true.
 
 ghost use Rattle.std.specs.Prelude.{◌≡◌, ◌≢◌, ℕ, ◌<◌, ◌≤◌, ◌/◌, ◌==◌, ◌&&◌, ◌++◌, ◌∷◌, [], not};
-ghost use Rattle.std.specs.Prelude.{true, false, length, take, slice_index, if◌then◌else◌, Some};
+ghost use Rattle.std.specs.Prelude.{true, false, length, take, if◌then◌else◌, Some};
 ghost use Rattle.std.specs.Prelude.{IsTrue, IsFalse, IsSome, IfSome, IfNone, OnOk};
 ghost use Rattle.std.specs.FinMap as maps;
 ghost use Rattle.cnf_base.specs.Literals.{Literal, Clause, complement, has};
@@ -23,6 +23,7 @@ ghost use Rattle.theory.specs.Sets.{SameSet, conflicts};
 ghost use Rattle.root_literals.specs.History.{IsRewound};
 ghost use Rattle.root_literals.specs.Roots.{HasReasons, IsArranged, IsKept, has_clash, is_cut};
 ghost use Rattle.root_literals.specs.Roots.{is_up_to_date};
+ghost use Rattle.root_literals.specs.Uses.{AreCounted, times};
 ghost use Rattle.root_literals.specs.Watched.{AreUnchanged};
 ghost use Rattle.trail.specs.declared.left.Left.TheVariants.{More};
 ghost use Rattle.root_literals.specs.declared.roots.Kept.TheVariants.{Behind, Clash, Cut};
@@ -30,7 +31,8 @@ ghost use Rattle.root_literals.specs.declared.roots.Kept.TheVariants.{Behind, Cl
 use crate::history::History;
 use crate::lone::{is_needed, lone_literal, only_literal};
 use crate::other_reason::{other_reason, other_unit};
-use crate::places::Places;
+use crate::places::{Places, place_of};
+use crate::uses::Uses;
 use clause_db::{Slot, Store};
 use cnf_base::{Lit, OutOfMemory};
 use propagation::Assumptions;
@@ -73,6 +75,8 @@ pub struct Roots {
     pub history: History,
     /// By literal the slot of its reason.
     pub reasons: Filled<u32>,
+    /// How many of them have a reason with each literal.
+    uses: Uses,
     places: Places,
 }
 
@@ -125,27 +129,6 @@ fn made_true_by(reasons: &Filled<u32>, trail: &Trail, clause: &[Lit], slot: usiz
     None
 }
 
-/// The place of a literal, sought from both ends.
-fn place_of(lits: &[Lit], l: Lit) -> usize
-    requires { IsTrue (has lits.now l) }
-    ensures inside { result < length lits.now }
-    ensures literal { slice_index lits.now result ≡ l }
-{
-    let mut before = 0;
-    let mut behind = lits.len();
-    while before < behind {
-        if lits[before] == l {
-            return before;
-        }
-        before += 1;
-        behind -= 1;
-        if lits[behind] == l {
-            return behind;
-        }
-    }
-    0
-}
-
 /// Whether a clause of which this is left watches a literal that is false.
 fn watches_false(clause: &[Lit], left: &Left) -> bool
     ensures { IsFalse result → left.now ≢ More → length clause.now < 2 }
@@ -161,11 +144,13 @@ impl Roots {
     pub fn new(alloc: Global) -> Self
         ensures kept { result.kept ≡ Cut }
         ensures visited { result.history.visited.items ≡ [] }
+        ensures counted { result.uses.counted ≡ 0 }
     {
         Roots {
             kept: Kept::Cut,
             history: History::new(alloc),
             reasons: Filled::new(alloc),
+            uses: Uses::new(alloc),
             places: Places::new(alloc),
         }
     }
@@ -184,8 +169,8 @@ impl Roots {
         matches!(self.kept, Kept::Clash(_))
     }
 
-    /// Makes room for the reasons of a literal and of its complement, and for the place of the one
-    /// that is true.
+    /// Makes room for the reasons of a literal and of its complement, for how many have each, and
+    /// for the place of the one that is true.
     pub fn reserve_variable(&mut self, l: Lit) -> Result<(), OutOfMemory>
         ensures room { OnOk result ((k : Literal) → k / 2 ≡ l / 2 →
             IsSome (at self.new.reasons k)) }
@@ -193,8 +178,11 @@ impl Roots {
             at self.new.reasons l ≡ at self.old.reasons l }
         ensures kept { self.new.kept ≡ self.old.kept }
         ensures history { self.new.history ≡ self.old.history }
+        ensures counted { self.new.uses.counted ≡ self.old.uses.counted }
+        ensures times { (k : Literal) → times self.new.uses k ≡ times self.old.uses k }
     {
         self.places.reserve(l.var())?;
+        self.uses.reserve(l)?;
         self.reasons.reserve(key(l), 0)?;
         self.reasons.reserve(key(l.neg()), 0)
     }
@@ -260,13 +248,18 @@ impl Roots {
 
     /// Keeps no more than the first so many literals, where nothing is assumed, and visits that are
     /// as if no others had been true. It takes no memory.
-    pub fn cut(&mut self, assumptions: &mut Assumptions, place: usize)
+    pub fn cut(&mut self, store: &Store, assumptions: &mut Assumptions, place: usize)
         requires nothing_assumed { assumptions.old.assumptions ≡ [] }
         requires inside { place ≤ length assumptions.old.trail.lits }
         ensures kept { self.new.kept ≡ Cut }
         ensures history { IsRewound self.old.history self.new.history
             (length assumptions.new.trail.lits) }
         ensures reasons { self.new.reasons ≡ self.old.reasons }
+        ensures counted { AreCounted (maps.get store.now.live) (at self.old.reasons)
+            assumptions.old.trail.lits self.old.uses →
+            AreCounted (maps.get store.now.live) (at self.new.reasons)
+            assumptions.new.trail.lits self.new.uses }
+        ensures no_more { self.new.uses.counted ≤ length assumptions.new.trail.lits }
         ensures lits { assumptions.new.trail.lits ≡
             take (length assumptions.new.trail.lits) assumptions.old.trail.lits }
         ensures fewer { length assumptions.new.trail.lits ≤ place }
@@ -275,6 +268,8 @@ impl Roots {
         ensures starts { assumptions.new.starts ≡ assumptions.old.starts }
     {
         let left = self.history.rewind(place);
+        self.uses
+            .cut(store, &self.reasons, assumptions.trail().lits(), left);
         assumptions.cut(left);
         self.places.cut(left);
         self.kept = Kept::Cut;
@@ -292,8 +287,8 @@ impl Roots {
         let Some(l) = only_literal(store.clause(slot)) else {
             return;
         };
-        let is_by_it = trail.is_true(l) && is_reason(&self.reasons, l, slot.number());
-        if !is_by_it || store.count_with(l) < 2 {
+        let is_true = trail.is_true(l);
+        if !is_true || !is_reason(&self.reasons, l, slot.number()) || store.count_with(l) < 2 {
             return;
         }
         let lits = trail.lits();
@@ -321,10 +316,15 @@ impl Roots {
         }
         let lits = trail.lits();
         self.places.note(lits);
+        let Some(place) = self.places.place(lits, l) else {
+            return;
+        };
         let list = lists.take_out(l);
         let found = other_reason(store, &self.places, &list, lits, l, slot.number());
         lists.put_back(l, list);
         if let Some(other) = found {
+            let after = store.clause(Slot::at(other as usize));
+            self.uses.exchange(place, store.clause(slot), after);
             self.reasons.set(key(l), other);
         }
     }
@@ -337,8 +337,9 @@ impl Roots {
         requires kept { IsKept store.now.live self.old assumptions.old.trail.lits }
         ensures kept { result ≡ true → IsKept (maps.remove store.now.live slot) self.new
             assumptions.new.trail.lits }
-        ensures same { result ≡ false →
-            (self.new ≡ self.old) × (assumptions.new ≡ assumptions.old) }
+        ensures still_kept { result ≡ false → IsKept store.now.live self.new
+            assumptions.old.trail.lits }
+        ensures same { result ≡ false → assumptions.new ≡ assumptions.old }
         ensures reasons { self.new.reasons ≡ self.old.reasons }
         ensures reserved { SameSet assumptions.new.trail.reserved assumptions.old.trail.reserved }
         ensures assumptions { assumptions.new.assumptions ≡ [] }
@@ -353,10 +354,11 @@ impl Roots {
         }
         let lits = assumptions.trail().lits();
         let place = place_of(lits, l);
-        if is_needed(store, &self.reasons, lits, place, l) {
+        if is_needed(store, &self.reasons, &mut self.uses, lits, place, l) {
             return false;
         }
         self.history.take_out(place);
+        self.uses.take_out(place, l);
         self.places.cut(place);
         assumptions.take_out(place);
         true
@@ -390,7 +392,7 @@ impl Roots {
         self.change_reason(store, lists, assumptions.trail(), slot);
         let clause = store.clause(slot);
         while let Some(place) = self.rests_from(assumptions.trail(), clause, slot.number()) {
-            self.cut(assumptions, place);
+            self.cut(store, assumptions, place);
         }
     }
 }

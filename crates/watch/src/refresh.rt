@@ -109,7 +109,7 @@ pub(crate) fn refresh(
     match catch_up(store, lists, assumptions, roots) {
         Ok(()) => Ok(()),
         Err(refused) => {
-            roots.cut(assumptions, 0);
+            roots.cut(store, assumptions, 0);
             Err(refused)
         }
     }

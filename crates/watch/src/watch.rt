@@ -77,9 +77,9 @@ impl Model for Watch {
 
     // The order of a clause's literals changes with each move, so it is not shown. Each field has
     // to be named here, those of the roots too. Of them the store alone has lists of literals of
-    // clauses; the roots have slots and places. Of the literals that are true or follow, the trail
-    // and the closure have lists: the trail's length is shown, and the closure's list has what
-    // follows from the live clauses and nothing else.
+    // clauses; the roots have slots, places and counts. Of the literals that are true or follow,
+    // the trail and the closure have lists: the trail's length is shown, and the closure's list has
+    // what follows from the live clauses and nothing else.
     ghost view = { λ record {
       alloc = _;
       seed = _;
@@ -91,6 +91,7 @@ impl Model for Watch {
         kept = kept;
         history = record { visited = _; floor = _ };
         reasons = _;
+        uses = record { counts = _; counted = _ };
         places = record { by_variable = _; noted = _ };
       };
       closure = _;

@@ -1,11 +1,12 @@
 -- What is kept where a clause was added.
 use Rattle.std.proofs.Common.{◌≡◌, ◌≢◌, ℕ, ◌+◌, ◌<◌, Bool, true, false, cond, eqb, eq-eqb, ne_eqb}
-use Rattle.std.proofs.Common.{Option, Some, is_some, List, [], ◌∷◌, ◌++◌, length, take, refl, sym}
+use Rattle.std.proofs.Common.{Option, Some, None, is_some, List, [], ◌∷◌, ◌++◌, length, take, refl, sym}
 use Rattle.std.proofs.Common.{ap, ◌∙◌, subst, arith, inl, inr}
 use Rattle.std.specs.Ordering.{nat_cmp}
 use Rattle.std.specs.FinMap as maps
 use Rattle.std.specs.FinMap.{FinMap}
-use Rattle.std.proofs.lemmas.Bool.{true≢false, false≢true}
+use Rattle.std.proofs.lemmas.Bool.{cases_eq, true≢false, false≢true}
+use Rattle.std.proofs.lemmas.Option.{none-some}
 use Rattle.std.proofs.lemmas.List.{length-append, take_all, take-append-le}
 use Rattle.cnf_base.specs.Literals.{Literal, complement, Clause, has}
 use Rattle.cnf_base.proofs.SetLemmas.{has_append_left, has_append_right, has_cases, has_head}
@@ -14,6 +15,7 @@ use Rattle.root_literals.specs.History.{IsHistory, visits}
 use Rattle.root_literals.specs.Order.{in_order, each_in_order}
 use Rattle.root_literals.specs.Roots.{AreNoted, AreReasoned, HasReasons, HaveUnits, IsArranged}
 use Rattle.root_literals.specs.Roots.{IsKept, IsKnown, has_clash, is_cut}
+use Rattle.root_literals.specs.Uses.{AreCounted, clause_in, is_in}
 use Rattle.root_literals.specs.Watched.{IsPart, IsMet, HasUnit, IsWatched}
 use Rattle.trail.specs.declared.left.Left.{Left}
 use Rattle.trail.specs.declared.left.Left.TheVariants.{Nothing, One, More}
@@ -26,8 +28,10 @@ use Rattle.root_literals.proofs.RootLemmas.History.{history_above, history_longe
 use Rattle.root_literals.proofs.RootLemmas.Kept.{elsewhere, false_added, gone, noted_added}
 use Rattle.root_literals.proofs.RootLemmas.Kept.{met_alone, met_open, reasoned_added, unit_alone}
 use Rattle.root_literals.proofs.RootLemmas.Kept.{unit_open, units_added, watched_added}
-use Rattle.root_literals.proofs.RootLemmas.Order.{has-in_order, seen_there}
-use Rattle.root_literals.proofs.RootLemmas.Reasons.{reasoned_more, reasoned_same, reasoned_taken}
+use Rattle.root_literals.proofs.RootLemmas.Order.{has-in_order, seen_has_at, seen_there}
+use Rattle.root_literals.proofs.RootLemmas.Reasons.{reasoned_more, reasoned_same, reasoned_some}
+use Rattle.root_literals.proofs.RootLemmas.Reasons.{reasoned_taken}
+use Rattle.root_literals.proofs.RootLemmas.Uses.{counted_among, counted_longer, in_rest_too}
 
 only_one : (c : Clause) (m : Literal) → length c ≡ 1 → has c m ≡ true → (k : Literal) → has c k ≡ true → k ≡ m
 only_one [] m one there k h = absurd (false≢true h)
@@ -72,6 +76,19 @@ module _ {after : FinMap nat_cmp Clause} {slot : ℕ} {c : Clause} {roots : Root
   reasoned : AreReasoned (maps.get (each_in_order after)) (at roots.reasons) lits
   reasoned = reasoned_added (maps.remove after slot) after slot c (gone after slot slot refl) given.here (λ s ne. sym (elsewhere after slot s ne)) (at roots.reasons) lits given.kept.reasoned
 
+  -- the reasons are those of before
+  same_in : (r : Literal → Option ℕ) (k l : Literal) → r l ≡ at roots.reasons l → has lits l ≡ true → is_in (clause_in (maps.get after) (r l)) k ≡ true → is_in (clause_in (maps.get (maps.remove after slot)) (at roots.reasons l)) k ≡ true
+  same_in r k l same h there =
+      in_rest_too after slot k (at roots.reasons l) (λ e.
+      let w = seen_has_at (maps.remove after slot) l slot (given.kept.reasoned.has_it l slot h e) in
+      none-some w.clause (sym (gone after slot slot refl) ∙ w.at)) (ap (λ o. is_in (clause_in (maps.get after) o) k) (sym same) ∙ there)
+
+  same_counted : (r : Literal → Option ℕ) → ((l : Literal) → has lits l ≡ true → r l ≡ at roots.reasons l) → AreCounted (maps.get after) r lits roots.uses
+  same_counted r same = counted_among (maps.get (maps.remove after slot)) (maps.get after) (at roots.reasons) r lits roots.uses given.kept.counted (λ k l h. same_in r k l (same l h) h)
+
+  still_counted : (now : Roots) → now.reasons ≡ roots.reasons → now.uses ≡ roots.uses → AreCounted (maps.get after) (at now.reasons) lits now.uses
+  still_counted now reasons_are uses_are = subst (AreCounted (maps.get after) (at now.reasons) lits) (sym uses_are) (same_counted (at now.reasons) (λ l _. ap (λ t. at t l) reasons_are))
+
   watched : (done trues : List Literal) → IsWatched (maps.get (maps.remove after slot)) done trues → ((l : Literal) → has done (complement l) ≡ true → IsMet c l trues) → IsWatched (maps.get after) done trues
   watched = watched_added (maps.remove after slot) after slot c (gone after slot slot refl) given.here (λ s ne. sym (elsewhere after slot s ne))
 
@@ -96,13 +113,14 @@ module _ {after : FinMap nat_cmp Clause} {slot : ℕ} {c : Clause} {roots : Root
   idle All is known = absurd (false≢true is)
   idle (Clash s) is known = false_added (maps.remove after slot) after slot c (gone after slot slot refl) given.here (λ s ne. sym (elsewhere after slot s ne)) s lits known
 
-  pub entered_idle : has_clash roots.kept ≡ true → (now : Roots) → now.kept ≡ roots.kept → now.history ≡ later → now.reasons ≡ roots.reasons → IsKept after now lits
-  entered_idle is now kept_is history_is reasons_are = record {
+  pub entered_idle : has_clash roots.kept ≡ true → (now : Roots) → now.kept ≡ roots.kept → now.history ≡ later → now.reasons ≡ roots.reasons → now.uses ≡ roots.uses → IsKept after now lits
+  entered_idle is now kept_is history_is reasons_are uses_are = record {
     noted = subst (λ t. AreNoted (maps.get (each_in_order after)) (at t)) (sym reasons_are) noted;
     reasoned = subst (λ t. AreReasoned (maps.get (each_in_order after)) (at t) lits) (sym reasons_are) reasoned;
     known = subst (λ k. IsKnown after k lits) (sym kept_is) (idle roots.kept is given.kept.known);
     history = subst (λ h. IsHistory (maps.get after) h lits) (sym history_is) history;
     visited = λ quiet. absurd (true≢false (sym is ∙ ap has_clash (sym kept_is) ∙ quiet));
+    counted = still_counted now reasons_are uses_are;
   }
 
   -- nothing new follows from it
@@ -113,8 +131,8 @@ module _ {after : FinMap nat_cmp Clause} {slot : ℕ} {c : Clause} {roots : Root
   settled met unit (Clash s) known = idle (Clash s) refl known
 
   entered_settled : ((done : List Literal) → IsPart done lits → (l : Literal) → has done (complement l) ≡ true → IsMet c l lits) → HasUnit c lits → (now : Roots) → now.kept ≡ roots.kept → now.history ≡ later →
-      AreNoted (maps.get (each_in_order after)) (at now.reasons) → AreReasoned (maps.get (each_in_order after)) (at now.reasons) lits → IsKept after now lits
-  entered_settled met unit now kept_is history_is now_noted now_reasoned = record {
+      AreNoted (maps.get (each_in_order after)) (at now.reasons) → AreReasoned (maps.get (each_in_order after)) (at now.reasons) lits → AreCounted (maps.get after) (at now.reasons) lits now.uses → IsKept after now lits
+  entered_settled met unit now kept_is history_is now_noted now_reasoned now_counted = record {
     noted = now_noted;
     reasoned = now_reasoned;
     known = subst (λ k. IsKnown after k lits) (sym kept_is) (settled met unit roots.kept given.kept.known);
@@ -122,20 +140,23 @@ module _ {after : FinMap nat_cmp Clause} {slot : ℕ} {c : Clause} {roots : Root
     visited = λ quiet.
         subst (λ h. IsWatched (maps.get after) (take (visits h) lits) lits) (sym history_is)
         (watched (take (visits later) lits) lits (so_far (ap has_clash (sym kept_is) ∙ quiet)) (met (take (visits later) lits) (front_part (visits later) lits)));
+    counted = now_counted;
   }
 
-  pub entered_more : IsArranged lits c More → (now : Roots) → now.kept ≡ roots.kept → now.history ≡ later → now.reasons ≡ roots.reasons → IsKept after now lits
-  entered_more first now kept_is history_is reasons_are =
+  pub entered_more : IsArranged lits c More → (now : Roots) → now.kept ≡ roots.kept → now.history ≡ later → now.reasons ≡ roots.reasons → now.uses ≡ roots.uses → IsKept after now lits
+  entered_more first now kept_is history_is reasons_are uses_are =
       entered_settled (λ done part. met_open c lits done lits part first) (unit_open c lits lits first) now kept_is history_is (subst (λ t. AreNoted (maps.get (each_in_order after)) (at t)) (sym reasons_are) noted)
       (subst (λ t. AreReasoned (maps.get (each_in_order after)) (at t) lits) (sym reasons_are) reasoned)
+      (still_counted now reasons_are uses_are)
 
-  pub entered_false : IsArranged lits c Nothing → (now : Roots) (number : ℕ) → number ≡ slot → now.kept ≡ Clash number → now.history ≡ later → now.reasons ≡ roots.reasons → IsKept after now lits
-  entered_false falses now number is kept_is history_is reasons_are = record {
+  pub entered_false : IsArranged lits c Nothing → (now : Roots) (number : ℕ) → number ≡ slot → now.kept ≡ Clash number → now.history ≡ later → now.reasons ≡ roots.reasons → now.uses ≡ roots.uses → IsKept after now lits
+  entered_false falses now number is kept_is history_is reasons_are uses_are = record {
     noted = subst (λ t. AreNoted (maps.get (each_in_order after)) (at t)) (sym reasons_are) noted;
     reasoned = subst (λ t. AreReasoned (maps.get (each_in_order after)) (at t) lits) (sym reasons_are) reasoned;
     known = subst (λ k. IsKnown after k lits) (sym (kept_is ∙ ap Clash is)) (record { clause = in_order c; at = seen_there after slot c given.here; falses = λ k h. falses k (sym (has-in_order c k) ∙ h) });
     history = subst (λ h. IsHistory (maps.get after) h lits) (sym history_is) history;
     visited = λ quiet. absurd (true≢false (ap has_clash (sym kept_is) ∙ quiet));
+    counted = still_counted now reasons_are uses_are;
   }
 
   module _ (m : Literal) (first : IsArranged lits c (One m)) where
@@ -153,22 +174,36 @@ module _ {after : FinMap nat_cmp Clause} {slot : ℕ} {c : Clause} {roots : Root
     set_other now set l ne = set l ∙ ap (λ b. cond b (Some slot) (at roots.reasons l)) (ne_eqb l m ne)
 
     -- the literal is true already
-    pub entered_true : has lits m ≡ true → (now : Roots) → now.kept ≡ roots.kept → now.history ≡ later → ((k : Literal) → at now.reasons k ≡ at roots.reasons k) → IsKept after now lits
-    entered_true is_true now kept_is history_is same =
+    pub entered_true : has lits m ≡ true → (now : Roots) → now.kept ≡ roots.kept → now.history ≡ later → ((k : Literal) → at now.reasons k ≡ at roots.reasons k) → now.uses ≡ roots.uses → IsKept after now lits
+    entered_true is_true now kept_is history_is same uses_are =
         entered_settled (λ done part l h. met_alone lits lits m is_true c first l) (unit_alone lits lits m is_true c first) now kept_is history_is (record { each = λ s d is l member. ap is_some (same l) ∙ noted.each s d is l member })
         (reasoned_same (maps.get (each_in_order after)) (at roots.reasons) lits reasoned (at now.reasons) (λ l h. same l))
+        (subst (AreCounted (maps.get after) (at now.reasons) lits) (sym uses_are) (same_counted (at now.reasons) (λ l _. same l)))
 
     -- and the clause has no other
-    pub entered_taken : has lits m ≡ true → length c ≡ 1 → (now : Roots) → now.kept ≡ roots.kept → now.history ≡ later → ((k : Literal) → at now.reasons k ≡ cond (eqb k m) (Some slot) (at roots.reasons k)) → IsKept after now lits
-    entered_taken is_true one now kept_is history_is set =
+    pub entered_taken : has lits m ≡ true → length c ≡ 1 → (now : Roots) → now.kept ≡ roots.kept → now.history ≡ later → ((k : Literal) → at now.reasons k ≡ cond (eqb k m) (Some slot) (at roots.reasons k)) → now.uses ≡ roots.uses → IsKept after now lits
+    entered_taken is_true one now kept_is history_is set uses_are =
         entered_settled (λ done part l h. met_alone lits lits m is_true c first l) (unit_alone lits lits m is_true c first) now kept_is history_is (set_noted now set)
         (reasoned_taken (maps.get (each_in_order after)) (at roots.reasons) lits reasoned (at now.reasons) m slot (in_order c) (seen_there after slot c given.here) (has-in_order c m ∙ first.0) (set_here now set)
         (λ k h. only_one c m one first.0 k (sym (has-in_order c k) ∙ h)) (set_other now set) is_true)
+        (subst (AreCounted (maps.get after) (at now.reasons) lits) (sym uses_are)
+        (counted_among (maps.get (maps.remove after slot)) (maps.get after) (at roots.reasons) (at now.reasons) lits roots.uses given.kept.counted (λ k l h there. elim (cases_eq l m) [
+          | inl e ↦ subst (λ x. is_in (clause_in (maps.get (maps.remove after slot)) (at roots.reasons x)) k ≡ true) (sym e) (by_reason k (at roots.reasons m) refl (subst (λ x. is_in (clause_in (maps.get after) (at now.reasons x)) k ≡ true) e there))
+          | inr ne ↦ same_in (at now.reasons) k l (set_other now set l ne) h there
+        ])))
+      where
+        -- the clause has the literal alone, which the reason of before has too
+        by_reason : (k : Literal) (o : Option ℕ) → at roots.reasons m ≡ o → is_in (clause_in (maps.get after) (at now.reasons m)) k ≡ true → is_in (clause_in (maps.get (maps.remove after slot)) (at roots.reasons m)) k ≡ true
+        by_reason k None is there = absurd (false≢true (sym (ap is_some is) ∙ reasoned_some (maps.get (each_in_order (maps.remove after slot))) (at roots.reasons) lits given.kept.reasoned m is_true))
+        by_reason k (Some s) is there =
+            let w = seen_has_at (maps.remove after slot) m s (given.kept.reasoned.has_it m s is_true is) in
+            let k_is : k ≡ m = only_one c m one first.0 k (ap (λ o. is_in o k) (sym given.here ∙ ap (λ o. clause_in (maps.get after) o) (sym (set_here now set))) ∙ there) in
+            ap (λ o. is_in (clause_in (maps.get (maps.remove after slot)) o) k) is ∙ ap (λ o. is_in o k) w.at ∙ ap (has w.clause) k_is ∙ w.member
 
     -- the literal becomes true
     pub entered_set : has_clash roots.kept ≡ false → has lits m ≡ false → (now : Roots) (more : List Literal) → now.kept ≡ cond (is_cut roots.kept) Cut Behind → now.history ≡ later → more ≡ lits ++ m ∷ [] →
-        ((k : Literal) → at now.reasons k ≡ cond (eqb k m) (Some slot) (at roots.reasons k)) → IsKept after now more
-    entered_set quiet is_open now more kept_is history_is is set = record {
+        ((k : Literal) → at now.reasons k ≡ cond (eqb k m) (Some slot) (at roots.reasons k)) → now.uses ≡ roots.uses → IsKept after now more
+    entered_set quiet is_open now more kept_is history_is is set uses_are = record {
       noted = set_noted now set;
       reasoned = subst (AreReasoned (maps.get (each_in_order after)) (at now.reasons)) (sym is)
           (reasoned_more (maps.get (each_in_order after)) (at roots.reasons) lits reasoned (at now.reasons) m slot (in_order c) (seen_there after slot c given.here) (has-in_order c m ∙ first.0) (set_here now set)
@@ -176,6 +211,10 @@ module _ {after : FinMap nat_cmp Clause} {slot : ℕ} {c : Clause} {roots : Root
       known = subst (λ k. IsKnown after k more) (sym kept_is) (subst (IsKnown after (cond (is_cut roots.kept) Cut Behind)) (sym is) (grown_known roots.kept quiet given.kept.known));
       history = subst (λ h. IsHistory (maps.get after) h more) (sym history_is) (subst (IsHistory (maps.get after) later) (sym is) (grown_history given.is_doubtful refl));
       visited = λ _. subst (λ h. IsWatched (maps.get after) (take (visits h) more) more) (sym history_is) (subst (λ ls. IsWatched (maps.get after) (take (visits later) ls) ls) (sym is) grown_watched);
+      counted = subst (AreCounted (maps.get after) (at now.reasons) more) (sym uses_are)
+          (subst (λ ls. AreCounted (maps.get after) (at now.reasons) ls roots.uses) (sym is)
+          (counted_longer (maps.get after) (at now.reasons) lits (lits ++ m ∷ []) roots.uses begins (omega (arith, longer))
+          (same_counted (at now.reasons) (λ l h. set_other now set l (λ e. true≢false (sym h ∙ ap (has lits) e ∙ is_open))))));
     }
       where
         longer : length (lits ++ m ∷ []) ≡ length lits + 1

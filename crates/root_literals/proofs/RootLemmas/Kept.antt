@@ -1,5 +1,5 @@
 -- What is kept where clauses come and go.
-use Rattle.std.proofs.Common.{◌≡◌, ◌≢◌, ℕ, Bool, true, false, ◌||◌, cond, eqb, eqb-true, eq-eqb}
+use Rattle.std.proofs.Common.{◌≡◌, ◌≢◌, ℕ, ◌+◌, ◌<◌, get_or, Bool, true, false, ◌||◌, cond, eqb, eqb-true, eq-eqb}
 use Rattle.std.proofs.Common.{ne_eqb, Option, Some, None, is_some, option_map, List, [], ◌∷◌}
 use Rattle.std.proofs.Common.{length, take, ◌≤◌, refl, sym, ap, ◌∙◌, subst, arith, inl, inr, ◌⊎◌}
 use Rattle.std.specs.Ordering.{nat_cmp}
@@ -27,6 +27,8 @@ use Rattle.root_literals.proofs.RootLemmas.History.{history_among, history_cut, 
 use Rattle.root_literals.proofs.RootLemmas.History.{watched_cut, watched_none}
 use Rattle.root_literals.proofs.RootLemmas.Reasons.{reasoned_among, reasoned_cut, reasoned_instead}
 use Rattle.root_literals.proofs.RootLemmas.Reasons.{reasoned_none}
+use Rattle.root_literals.specs.Uses.{AreCounted, clause_in, is_in, times}
+use Rattle.root_literals.proofs.RootLemmas.Uses.{counted_among, counted_instead, counted_none, in_rest}
 
 -- ---- One clause more
 
@@ -102,21 +104,30 @@ module _ (trues more : List Literal) (m : Literal) (set : has more m ≡ true) w
 -- ---- Another reason
 
 module _ (live : FinMap nat_cmp Clause) (roots after : Roots) (lits : List Literal) (kept_is : after.kept ≡ roots.kept) (history_is : after.history ≡ roots.history) (kept : IsKept live roots lits) where
-  with_reasons : AreNoted (maps.get (each_in_order live)) (at after.reasons) → AreReasoned (maps.get (each_in_order live)) (at after.reasons) lits → IsKept live after lits
-  with_reasons noted reasoned = record {
+  with_reasons : AreNoted (maps.get (each_in_order live)) (at after.reasons) → AreReasoned (maps.get (each_in_order live)) (at after.reasons) lits → AreCounted (maps.get live) (at after.reasons) lits after.uses → IsKept live after lits
+  with_reasons noted reasoned counted = record {
     noted = noted;
     reasoned = reasoned;
     known = subst (λ k. IsKnown live k lits) (sym kept_is) kept.known;
     history = subst (λ h. IsHistory (maps.get live) h lits) (sym history_is) kept.history;
     visited = λ quiet. subst (λ h. IsWatched (maps.get live) (take (visits h) lits) lits) (sym history_is) (kept.visited (ap has_clash (sym kept_is) ∙ quiet));
+    counted = counted;
   }
 
+  -- the same reasons, counted otherwise
+  pub kept_counted : after.reasons ≡ roots.reasons → AreCounted (maps.get live) (at after.reasons) lits after.uses → IsKept live after lits
+  kept_counted same counted =
+      with_reasons (subst (λ t. AreNoted (maps.get (each_in_order live)) (at t)) (sym same) kept.noted)
+      (subst (λ t. AreReasoned (maps.get (each_in_order live)) (at t) lits) (sym same) kept.reasoned) counted
+
   -- another clause makes a literal true
-  pub kept_instead : (m : Literal) (slot : ℕ) → HasNoVariableTwice lits → IsReasonAt (maps.get live) slot lits m → ((k : Literal) → at after.reasons k ≡ cond (eqb k m) (Some slot) (at roots.reasons k)) → IsKept live after lits
-  kept_instead m slot apart by set =
+  pub kept_instead : (m : Literal) (slot : ℕ) → HasNoVariableTwice lits → IsReasonAt (maps.get live) slot lits m → ((k : Literal) → at after.reasons k ≡ cond (eqb k m) (Some slot) (at roots.reasons k)) →
+      AreCounted (maps.get live) (at after.reasons) lits after.uses → IsKept live after lits
+  kept_instead m slot apart by set counted =
       with_reasons (record { each = λ s c is l member. ap is_some (set l) ∙ by_test (eqb l m) (at roots.reasons l) (kept.noted.each s c is l member) })
       (reasoned_instead (maps.get (each_in_order live)) (at roots.reasons) lits kept.reasoned (at after.reasons) m slot apart shown (set m ∙ ap (λ b. cond b (Some slot) (at roots.reasons m)) (eq-eqb m m refl))
       (λ l ne. set l ∙ ap (λ b. cond b (Some slot) (at roots.reasons l)) (ne_eqb l m ne)))
+      counted
     where
       by_test : (b : Bool) (o : Option ℕ) → is_some o ≡ true → is_some (cond b (Some slot) o) ≡ true
       by_test true o h = refl
@@ -133,27 +144,56 @@ module _ (live : FinMap nat_cmp Clause) (roots after : Roots) (lits : List Liter
         others = λ k h. by.others k (sym (has-in_order by.clause k) ∙ h);
       }
 
+  module _ (m : Literal) (slot : ℕ) (apart : HasNoVariableTwice lits) (by : IsReasonAt (maps.get live) slot lits m) (set : (k : Literal) → at after.reasons k ≡ cond (eqb k m) (Some slot) (at roots.reasons k)) (before : ℕ) (c : Clause)
+      (was : at roots.reasons m ≡ Some before) (there : maps.get live before ≡ Some c) where
+    is_now : at after.reasons m ≡ Some slot
+    is_now = set m ∙ ap (λ b. cond b (Some slot) (at roots.reasons m)) (eq-eqb m m refl)
+
+    others_stay : (l : Literal) → l ≢ m → at after.reasons l ≡ at roots.reasons l
+    others_stay l ne = set l ∙ ap (λ b. cond b (Some slot) (at roots.reasons l)) (ne_eqb l m ne)
+
+    -- a copy of its unit clause
+    pub kept_copy : c ≡ m ∷ [] → maps.get live slot ≡ Some (m ∷ []) → after.uses ≡ roots.uses → IsKept live after lits
+    kept_copy alone copy same =
+        kept_instead m slot apart by set
+        (subst (AreCounted (maps.get live) (at after.reasons) lits) (sym same)
+        (counted_among (maps.get live) (maps.get live) (at roots.reasons) (at after.reasons) lits roots.uses kept.counted (λ k l h is. elim (cases_eq l m) [
+          | inl e ↦
+              let same_clause = ap (clause_in (maps.get live)) was ∙ there ∙ ap Some alone ∙ sym copy ∙ ap (clause_in (maps.get live)) (sym is_now) in
+              ap (λ x. is_in (clause_in (maps.get live) (at roots.reasons x)) k) e ∙ ap (λ o. is_in o k) same_clause ∙ ap (λ x. is_in (clause_in (maps.get live) (at after.reasons x)) k) (sym e) ∙ is
+          | inr ne ↦ ap (λ o. is_in (clause_in (maps.get live) o) k) (sym (others_stay l ne)) ∙ is
+        ])))
+
+    -- a clause of which the literals are counted in the place of those of the other
+    pub kept_exchange : (d : Clause) → maps.get live slot ≡ Some d → (place : ℕ) → place < length lits → get_or lits place 0 ≡ m → (after.uses.counted ≢ 0 → after.uses.counted ≡ roots.uses.counted) →
+        (after.uses.counted ≢ 0 → place < roots.uses.counted → (k : Literal) → times roots.uses k + cond (has d k) 1 0 ≤ times after.uses k + cond (has c k) 1 0) → (roots.uses.counted ≤ place → after.uses ≡ roots.uses) → IsKept live after lits
+    kept_exchange d here place inside stands counted exchanged stays =
+        kept_instead m slot apart by set
+        (counted_instead lits place m inside stands apart (maps.get live) (at roots.reasons) (at after.reasons) roots.uses after.uses c d (ap (clause_in (maps.get live)) was ∙ there) (ap (clause_in (maps.get live)) is_now ∙ here) others_stay counted exchanged stays kept.counted)
+
 -- ---- Fewer literals
 
 pub kept_cut : (live : FinMap nat_cmp Clause) (roots after : Roots) (lits now : List Literal) (place : ℕ) → IsKept live roots lits → place ≤ length lits → after.kept ≡ Cut → IsRewound roots.history after.history place → after.reasons ≡ roots.reasons → now ≡ take place lits →
-    IsKept live after now
-kept_cut live roots after lits now place kept inside cut rewound reasons is = record {
+    AreCounted (maps.get live) (at after.reasons) now after.uses → IsKept live after now
+kept_cut live roots after lits now place kept inside cut rewound reasons is counted = record {
   noted = subst (λ t. AreNoted (maps.get (each_in_order live)) (at t)) (sym reasons) kept.noted;
   reasoned = subst (λ t. AreReasoned (maps.get (each_in_order live)) (at t) now) (sym reasons)
       (subst (AreReasoned (maps.get (each_in_order live)) (at roots.reasons)) (sym is) (reasoned_cut (maps.get (each_in_order live)) (at roots.reasons) lits kept.reasoned place));
   known = subst (λ k. IsKnown live k now) (sym cut) tt;
   history = subst (IsHistory (maps.get live) after.history) (sym is) (history_cut (maps.get live) roots.history after.history lits place kept.history rewound inside);
   visited = λ quiet. subst (λ ls. IsWatched (maps.get live) (take (visits after.history) ls) ls) (sym is) (watched_cut (maps.get live) roots.history after.history lits place kept.history rewound inside);
+  counted = counted;
 }
 
 -- nothing is kept any more
-pub kept_nothing : (live : FinMap nat_cmp Clause) (roots : Roots) (lits : List Literal) → AreNoted (maps.get (each_in_order live)) (at roots.reasons) → roots.kept ≡ Cut → visits roots.history ≡ 0 → lits ≡ [] → IsKept live roots lits
-kept_nothing live roots lits noted cut unseen none = record {
+pub kept_nothing : (live : FinMap nat_cmp Clause) (roots : Roots) (lits : List Literal) → AreNoted (maps.get (each_in_order live)) (at roots.reasons) → roots.kept ≡ Cut → visits roots.history ≡ 0 → lits ≡ [] → roots.uses.counted ≡ 0 → IsKept live roots lits
+kept_nothing live roots lits noted cut unseen none uncounted = record {
   noted = noted;
   reasoned = reasoned_none (maps.get (each_in_order live)) (at roots.reasons) lits none;
   known = subst (λ k. IsKnown live k lits) (sym cut) tt;
   history = history_none (maps.get live) roots.history lits unseen;
   visited = λ quiet. watched_none (maps.get live) roots.history lits unseen;
+  counted = counted_none (maps.get live) (at roots.reasons) lits roots.uses uncounted;
 }
 
 -- ---- One clause fewer
@@ -206,4 +246,5 @@ module _ (live : FinMap nat_cmp Clause) (slot : ℕ) where
       known = still_known roots.kept refl kept.known;
       history = history_among (maps.get live) (maps.get (maps.remove live slot)) roots.history lits (λ d p _ _ _. watched_left (take d lits) (take p lits)) kept.history;
       visited = λ quiet. watched_left (take (visits roots.history) lits) lits (kept.visited quiet);
+      counted = counted_among (maps.get live) (maps.get (maps.remove live slot)) (at roots.reasons) (at roots.reasons) lits roots.uses kept.counted (λ k l _. in_rest live slot k (at roots.reasons l));
     }

@@ -1,6 +1,6 @@
 -- What is kept where a literal is taken back of which no clause knows but its unit clause.
 use Rattle.std.proofs.Common.{◌≡◌, ◌≢◌, ℕ, ◌+◌, ◌<◌, ◌≤◌, Bool, true, false, ◌||◌, eqb, eqb-true}
-use Rattle.std.proofs.Common.{eq-eqb, Option, Some, List, [], ◌∷◌, length, get_or, take, refl, sym, ap}
+use Rattle.std.proofs.Common.{cond, eq-eqb, Option, Some, List, [], ◌∷◌, length, get_or, take, refl, sym, ap}
 use Rattle.std.proofs.Common.{◌∙◌, subst, arith, inl, inr, ◌⊎◌}
 use Rattle.std.specs.List.{remove}
 use Rattle.std.specs.Ordering.{nat_cmp}
@@ -8,10 +8,12 @@ use Rattle.std.specs.FinMap as maps
 use Rattle.std.specs.FinMap.{FinMap}
 use Rattle.std.proofs.lemmas.Bool.{cases_eq, cases_lt, false≢true, false_from_ne_true, or_cases, or_left, or_right, true≢false}
 use Rattle.std.proofs.lemmas.List.Edits.{get_or-remove_above, get_or-remove_below, length-remove}
+use Rattle.std.proofs.lemmas.Grind.{get_or_default_zero}
 use Rattle.std.proofs.lemmas.Option.{same_Some}
 use Rattle.cnf_base.specs.Literals.{Literal, complement, Clause, has, variable}
 use Rattle.cnf_base.proofs.LiteralLemmas.{complement-complement}
 use Rattle.cnf_base.proofs.SetLemmas.{has_cases, has_head}
+use Rattle.cnf_base.proofs.SizeLemmas.{has_at}
 use Rattle.cnf_base.proofs.MemberLemmas.{has_front, place_in_front}
 use Rattle.clause_db.specs.Store.{copies_with}
 use Rattle.tables.specs.Filled.{at}
@@ -25,6 +27,7 @@ use Rattle.root_literals.specs.History.{IsHistory, trues_at, visits}
 use Rattle.root_literals.specs.Order.{each_in_order}
 use Rattle.root_literals.specs.Roots.{AreNoted, AreReasoned, FollowsReasons, HaveUnits}
 use Rattle.root_literals.specs.Roots.{IsAbsent, IsKept, IsKnown, IsUnneeded, has_clash}
+use Rattle.root_literals.specs.Uses.{AreCounted, clause_in, is_in, times}
 use Rattle.root_literals.specs.Watched.{HasUnit, IsPart, IsWatched}
 use Rattle.root_literals.specs.declared.history.History.{History}
 use Rattle.root_literals.specs.declared.roots.Kept.{Kept}
@@ -34,6 +37,7 @@ use Rattle.root_literals.specs.declared.roots.Roots.{Roots}
 use Rattle.root_literals.proofs.RootLemmas.History.{front_in_front}
 use Rattle.root_literals.proofs.RootLemmas.Kept.{noted_left, still_seen, was_there}
 use Rattle.root_literals.proofs.RootLemmas.Order.{seen_has_at, there_seen}
+use Rattle.root_literals.proofs.RootLemmas.Uses.{counted_out, in_rest}
 use Rattle.root_literals.proofs.RootLemmas.Watched.{front_part}
 
 -- one clause has the literal
@@ -48,6 +52,12 @@ absent_else live slot l unit one s c is = false_from_ne_true (has c l) (λ h. no
 -- no clause has the complement
 pub unneeded_none : (live : FinMap nat_cmp Clause) (reason_of : Literal → Option ℕ) (lits : List Literal) (place : ℕ) (l : Literal) → copies_with live (complement l) ≡ 0 → IsUnneeded (maps.get live) reason_of lits place l
 unneeded_none live reason_of lits place l none q s c _ _ _ at = false_from_ne_true (has c (complement l)) (λ h. none_with live (complement l) none s (record { clause = c; at = at; member = h }))
+
+-- no literal has a reason with it
+pub unneeded_unused : (live : FinMap nat_cmp Clause) (reason_of : Literal → Option ℕ) (lits : List Literal) (place : ℕ) (l : Literal) → ((m : Literal) → has lits m ≡ true → is_in (clause_in (maps.get live) (reason_of m)) (complement l) ≡ false) →
+    IsUnneeded (maps.get live) reason_of lits place l
+unneeded_unused live reason_of lits place l unused q s c low high is there =
+    ap (λ o. is_in o (complement l)) (sym there) ∙ ap (λ o. is_in (clause_in (maps.get live) o) (complement l)) (sym is) ∙ unused (get_or lits q 0) (has_at lits q (get_or lits q 0) high (sym (get_or_default_zero lits q (get_or lits q 0) high)))
 
 module _ (live : FinMap nat_cmp Clause) (slot place : ℕ) (l : Literal) (lits : List Literal) (inside : place < length lits) (stands : get_or lits place 0 ≡ l) (different : HasNoVariableTwice lits)
     (unit : maps.get live slot ≡ Some (l ∷ [])) (absent : IsAbsent (maps.get (maps.remove live slot)) l) where
@@ -290,12 +300,15 @@ module _ (live : FinMap nat_cmp Clause) (slot place : ℕ) (l : Literal) (lits :
   -- ---- All of it
 
   pub kept_out : (roots after : Roots) → IsUnneeded (maps.get live) (at roots.reasons) lits place l → IsKept live roots lits → has_clash roots.kept ≡ false → after.kept ≡ roots.kept → after.reasons ≡ roots.reasons →
+      at roots.reasons l ≡ Some slot → (place < roots.uses.counted → after.uses.counted + 1 ≡ roots.uses.counted) → ((k : Literal) → times roots.uses k ≤ times after.uses k + cond (eqb k l) 1 0) → (roots.uses.counted ≤ place → after.uses ≡ roots.uses) →
       (place < visits roots.history → after.history.visited.items ≡ remove roots.history.visited.items place) → (visits roots.history ≤ place → after.history.visited.items ≡ roots.history.visited.items) → after.history.floor ≡ roots.history.floor →
       IsKept rest after out
-  kept_out roots after unneeded kept quiet kept_is reasons_are gone stays floor_is = record {
+  kept_out roots after unneeded kept quiet kept_is reasons_are by_it fewer less same gone stays floor_is = record {
     noted = subst (λ t. AreNoted (maps.get (each_in_order rest)) (at t)) (sym reasons_are) (noted_left live slot (at roots.reasons) kept.noted);
     reasoned = subst (λ t. AreReasoned (maps.get (each_in_order rest)) (at t) out) (sym reasons_are) (reasoned_out (at roots.reasons) unneeded kept.reasoned);
     known = subst (λ k. IsKnown rest k out) (sym kept_is) (known_out roots.kept quiet kept.known);
     history = history_out roots.history after.history gone stays floor_is kept.history;
     visited = λ _. visited_out roots.history after.history gone stays floor_is (kept.visited quiet);
+    counted = subst (λ t. AreCounted (maps.get rest) (at t) out after.uses) (sym reasons_are)
+        (counted_out lits place l inside stands different (maps.get live) (maps.get rest) (at roots.reasons) roots.uses after.uses (ap (clause_in (maps.get live)) by_it ∙ unit) (λ k m. in_rest live slot k (at roots.reasons m)) fewer less same kept.counted);
   }

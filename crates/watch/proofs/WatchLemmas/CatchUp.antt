@@ -17,6 +17,8 @@ use Rattle.root_literals.specs.declared.roots.Roots.{Roots}
 use Rattle.trail.proofs.TrailLemmas.Longer.{has_begun}
 use Rattle.root_literals.proofs.RootLemmas.Watched.{watched_done, watched_grown, watched_more}
 use Rattle.root_literals.proofs.RootLemmas.History.{history_longer, watched_part}
+use Rattle.root_literals.proofs.RootLemmas.Uses.{counted_in_order, counted_longer}
+use Rattle.root_literals.specs.Uses.{AreCounted}
 use Rattle.watch.proofs.WatchLemmas.Kept.{history_carried, noted_carried, visited_carried}
 
 module _ (a b : FinMap nat_cmp Clause) (x y : AssumptionsState) (r s : Literal → Option ℕ) (carried : PropagatesTo a b x y r s) where
@@ -46,20 +48,24 @@ module _ (a b : FinMap nat_cmp Clause) (x y : AssumptionsState) (r s : Literal �
 
 -- what was kept still is, and what follows from it, where the rest is so
 pub kept_grown : (a b : FinMap nat_cmp Clause) (x y : AssumptionsState) (roots now : Roots) → PropagatesTo a b x y (at roots.reasons) (at now.reasons) → IsKept a roots x.trail.lits → IsKnown b now.kept y.trail.lits →
-    IsHistory (maps.get b) now.history y.trail.lits → (has_clash now.kept ≡ false → IsWatched (maps.get b) (take (visits now.history) y.trail.lits) y.trail.lits) → IsKept b now y.trail.lits
-kept_grown a b x y roots now carried kept known history visited = record {
+    IsHistory (maps.get b) now.history y.trail.lits → (has_clash now.kept ≡ false → IsWatched (maps.get b) (take (visits now.history) y.trail.lits) y.trail.lits) → now.uses ≡ roots.uses → IsKept b now y.trail.lits
+kept_grown a b x y roots now carried kept known history visited uses_are = record {
   noted = noted_carried a b x y (at roots.reasons) (at now.reasons) carried kept.noted;
   reasoned = subst (λ m. AreReasoned (maps.get m) (at now.reasons) y.trail.lits) (sym carried.same) (carried.reasoned kept.reasoned);
   known = known;
   history = history;
   visited = visited;
+  counted = subst (AreCounted (maps.get b) (at now.reasons) y.trail.lits) (sym uses_are)
+      (counted_longer (maps.get b) (at now.reasons) x.trail.lits y.trail.lits roots.uses carried.extends.begins carried.extends.longer
+      (counted_in_order a b (at roots.reasons) (at now.reasons) x.trail.lits roots.uses carried.same carried.as_before kept.counted));
 }
 
 -- the literals of unit clauses are kept too, or a clash of theirs
 pub kept_started : (live : FinMap nat_cmp Clause) (x y : AssumptionsState) (roots now : Roots) → PropagatesTo live live x y (at roots.reasons) (at now.reasons) → IsKept live roots x.trail.lits → has_clash roots.kept ≡ false → now.history ≡ roots.history →
-    IsKnown live now.kept y.trail.lits → IsKept live now y.trail.lits
-kept_started live x y roots now carried kept quiet same known =
+    IsKnown live now.kept y.trail.lits → now.uses ≡ roots.uses → IsKept live now y.trail.lits
+kept_started live x y roots now carried kept quiet same known uses_are =
     let watched = kept.visited quiet in
     kept_grown live live x y roots now carried kept known
     (subst (λ h. IsHistory (maps.get live) h y.trail.lits) (sym same) (history_grown live live x y (at roots.reasons) (at now.reasons) carried roots.history (visits roots.history) (omega arith) watched kept.history))
     (λ _. subst (λ h. IsWatched (maps.get live) (take (visits h) y.trail.lits) y.trail.lits) (sym same) (visited_grown live live x y (at roots.reasons) (at now.reasons) carried (visits roots.history) kept.history.inside watched))
+    uses_are

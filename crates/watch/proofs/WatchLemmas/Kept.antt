@@ -30,6 +30,8 @@ use Rattle.watch.proofs.WatchLemmas.Closed.{all_closed, all_quiet, units_carried
 use Rattle.root_literals.proofs.RootLemmas.Watched.{front_part}
 use Rattle.root_literals.proofs.RootLemmas.History.{history_among}
 use Rattle.root_literals.proofs.RootLemmas.Reasons.{reasoned_forced, reasoned_same}
+use Rattle.root_literals.proofs.RootLemmas.Uses.{counted_in_order}
+use Rattle.root_literals.specs.Uses.{AreCounted}
 
 pub kept_forced : (live : FinMap nat_cmp Clause) (roots : Roots) (lits : List Literal) → IsKept live roots lits → AreForced (maps.get (each_in_order live)) lits
 kept_forced live roots lits kept = reasoned_forced (maps.get (each_in_order live)) (at roots.reasons) lits kept.reasoned
@@ -108,8 +110,8 @@ module _ (a b : FinMap nat_cmp Clause) (x y : AssumptionsState) (r s : Literal �
       subst (λ m. AreReasoned (maps.get m) s lits) (sym carried.same) (reasoned_same (maps.get (each_in_order a)) r lits are s (λ l h. carried.as_before l (part l h)))
 
   -- the same literals are kept, by the same reasons
-  pub kept_carried : (roots after : Roots) (lits : List Literal) → after.kept ≡ roots.kept → after.history ≡ roots.history → ((l : Literal) → at roots.reasons l ≡ r l) → ((l : Literal) → at after.reasons l ≡ s l) → IsPart lits x.trail.lits → IsKept a roots lits → IsKept b after lits
-  kept_carried roots after lits kept_is history_is before_is after_is part kept = record {
+  pub kept_carried : (roots after : Roots) (lits : List Literal) → after.kept ≡ roots.kept → after.history ≡ roots.history → after.uses ≡ roots.uses → ((l : Literal) → at roots.reasons l ≡ r l) → ((l : Literal) → at after.reasons l ≡ s l) → IsPart lits x.trail.lits → IsKept a roots lits → IsKept b after lits
+  kept_carried roots after lits kept_is history_is uses_are before_is after_is part kept = record {
     noted = record {
       each = λ k c is l member.
           ap is_some (after_is l)
@@ -123,4 +125,6 @@ module _ (a b : FinMap nat_cmp Clause) (x y : AssumptionsState) (r s : Literal �
     visited = λ quiet.
         subst (λ h. IsWatched (maps.get b) (take (visits h) lits) lits) (sym history_is)
         (visited_carried (visits roots.history) lits part (kept.visited (ap has_clash (sym kept_is) ∙ quiet)));
+    counted = subst (AreCounted (maps.get b) (at after.reasons) lits) (sym uses_are)
+        (counted_in_order a b (at roots.reasons) (at after.reasons) lits roots.uses carried.same (λ l h. after_is l ∙ carried.as_before l (part l h) ∙ sym (before_is l)) kept.counted);
   }

@@ -43,6 +43,8 @@ use Rattle.root_literals.proofs.RootLemmas.Kept.{kept_nothing}
 use Rattle.watch.proofs.WatchLemmas.Moves.{and_false, and_true}
 use Rattle.root_literals.proofs.RootLemmas.Order.{ordered_empty, size-in_order, sum_ordered}
 use Rattle.root_literals.proofs.RootLemmas.Reasons.{reasoned_same, reasoned_some}
+use Rattle.root_literals.proofs.RootLemmas.Uses.{counted_in_order, counted_same}
+use Rattle.root_literals.specs.Uses.{times}
 use Rattle.cnf_base.proofs.MapLemmas.{insert_here, insert_other, remove_here, remove_other}
 use Rattle.cnf_base.proofs.MapLemmas.{sum_empty, sum_insert, sum_remove}
 
@@ -93,7 +95,7 @@ module _ (live live2 : FinMap nat_cmp Clause) (lists lists2 : WatchLists) (short
 
   roots_below : IsKept live2 roots2 (roots_in before.trail.lits before.assumptions before.starts)
   roots_below =
-      kept_carried live live2 after found (at roots.reasons) (at roots2.reasons) carried roots roots2 (roots_in before.trail.lits before.assumptions before.starts) as_known (ap (λ r. r.history) as_before) (λ l. refl) (λ l. refl)
+      kept_carried live live2 after found (at roots.reasons) (at roots2.reasons) carried roots roots2 (roots_in before.trail.lits before.assumptions before.starts) as_known (ap (λ r. r.history) as_before) (ap (λ r. r.uses) as_before) (λ l. refl) (λ l. refl)
       (λ l h. has_begun before.trail.lits after.trail.lits l begins (roots_part before.trail.lits before.assumptions before.starts l h)) watch.kept
 
   watch_with : (last : AssumptionsState) → SameSet last.trail.reserved before.trail.reserved → IsHeld (each_in_order live) (AreForced (maps.get (each_in_order live))) last → AreWatched (maps.get live2) last.trail.lits last.assumptions last.starts →
@@ -161,9 +163,9 @@ watch_reserved live lists short roots before after lits_are assumptions_are star
 }
 
 -- more room for reasons
-watch_noted : (live : FinMap nat_cmp Clause) (lists : WatchLists) (short : List ℕ) (roots after : Roots) (held : AssumptionsState) → after.kept ≡ roots.kept → after.history ≡ roots.history →
+watch_noted : (live : FinMap nat_cmp Clause) (lists : WatchLists) (short : List ℕ) (roots after : Roots) (held : AssumptionsState) → after.kept ≡ roots.kept → after.history ≡ roots.history → after.uses.counted ≡ roots.uses.counted → ((k : Literal) → times after.uses k ≡ times roots.uses k) →
     ((l : Literal) → is_some (at roots.reasons l) ≡ true → at after.reasons l ≡ at roots.reasons l) → IsWatch live lists short roots held → IsWatch live lists short after held
-watch_noted live lists short roots after held kept_is history_is old watch = record {
+watch_noted live lists short roots after held kept_is history_is counted_is times_are old watch = record {
   scan = watch.scan;
   listed = watch.listed;
   rest = watch.rest;
@@ -180,6 +182,10 @@ watch_noted live lists short roots after held kept_is history_is old watch = rec
     visited = λ quiet.
         subst (λ h. IsWatched (maps.get live) (take (visits h) (roots_in held.trail.lits held.assumptions held.starts)) (roots_in held.trail.lits held.assumptions held.starts)) (sym history_is)
         (watch.kept.visited (ap has_clash (sym kept_is) ∙ quiet));
+    counted = let lits = roots_in held.trail.lits held.assumptions held.starts in
+        let live_shown = maps.get (each_in_order live) in
+        counted_same (maps.get live) (at after.reasons) lits roots.uses after.uses counted_is times_are
+        (counted_in_order live live (at roots.reasons) (at after.reasons) lits roots.uses refl (λ l h. old l (reasoned_some live_shown (at roots.reasons) lits watch.kept.reasoned l h)) watch.kept.counted);
   };
   standing = subst (λ k. IsStanding k held.assumptions) (sym kept_is) watch.standing;
   noted = λ l h. let was = watch.noted l h in ap is_some (old l was) ∙ was;
@@ -189,7 +195,7 @@ watch_noted live lists short roots after held kept_is history_is old watch = rec
 pub watch_room : (live : FinMap nat_cmp Clause) (lists : WatchLists) (short : List ℕ) (roots roots2 : Roots) (held held2 : AssumptionsState) → AddsRoom held held2 roots roots2 →
     HaveReasons held2.trail.reserved (at roots2.reasons) → IsWatch live lists short roots held → IsWatch live lists short roots2 held2
 watch_room live lists short roots roots2 held held2 more noted watch =
-    watch_reserved live lists short roots2 held held2 more.lits more.assumptions more.starts more.reserved noted (watch_noted live lists short roots roots2 held more.kept more.history more.reasons watch)
+    watch_reserved live lists short roots2 held held2 more.lits more.assumptions more.starts more.reserved noted (watch_noted live lists short roots roots2 held more.kept more.history more.counted more.times more.reasons watch)
 
 pub watch_same : (live : FinMap nat_cmp Clause) (lists after : WatchLists) (short : List ℕ) (roots : Roots) (held : AssumptionsState) → ((l s : ℕ) → entries_of s (list_at after l) ≡ entries_of s (list_at lists l)) →
     ((l s : ℕ) (c : Clause) → maps.get live s ≡ Some c → unfit_entries s c l (list_at after l) ≤ unfit_entries s c l (list_at lists l)) → entries_in after ≡ entries_in lists → IsWatch live lists short roots held → IsWatch live after short roots held
@@ -246,9 +252,9 @@ watch_refreshed live live2 lists lists2 short roots roots2 held held2 watch noth
 -- ---- No clauses
 
 pub watch_empty : (live : FinMap nat_cmp Clause) (lists : WatchLists) (short : List ℕ) (roots : Roots) (held : AssumptionsState) → live ≡ maps.empty → ((l : Literal) → list_at lists l ≡ []) → entries_in lists ≡ 0 → short ≡ [] →
-    roots.kept ≡ Cut → roots.history.visited.items ≡ [] → held.trail.lits ≡ [] → held.trail.reserved ≡ [] → held.assumptions ≡ [] →
+    roots.kept ≡ Cut → roots.history.visited.items ≡ [] → held.trail.lits ≡ [] → held.trail.reserved ≡ [] → held.assumptions ≡ [] → roots.uses.counted ≡ 0 →
     IsWatch live lists short roots held
-watch_empty live lists short roots held none empty no_entries no_short cut unseen unset no_room nothing =
+watch_empty live lists short roots held none empty no_entries no_short cut unseen unset no_room nothing uncounted =
     let gone = λ (s : ℕ). ap (λ m. maps.get m s) none ∙ maps.get-empty nat_cmp s in
     let gone_shown = λ (s : ℕ). ap (λ m. maps.get m s) (ap each_in_order none ∙ ordered_empty) ∙ maps.get-empty nat_cmp s in
     watch_alone live lists short roots held nothing (record { each = λ k c here. absurd (none-some c (sym (gone_shown k) ∙ here)) })
@@ -259,7 +265,7 @@ watch_empty live lists short roots held none empty no_entries no_short cut unsee
     })
     (record { listed = λ s. ap (times_in s) no_short ∙ sym (ap short_for (gone s)) }) (no_entries ∙ sym (ap (λ n. 2 * n) (ap long_clauses none ∙ sum_empty (λ c. cond (nat_le 2 (size c)) 1 0))))
     (ap length no_short ∙ sym (ap short_clauses none ∙ sum_empty (λ c. cond (nat_le 2 (size c)) 0 1)))
-    (kept_nothing live roots held.trail.lits (record { each = λ s c here. absurd (none-some c (sym (gone_shown s) ∙ here)) }) cut (ap length unseen) unset)
+    (kept_nothing live roots held.trail.lits (record { each = λ s c here. absurd (none-some c (sym (gone_shown s) ∙ here)) }) cut (ap length unseen) unset uncounted)
     (λ l h. absurd (false≢true (ap (λ vs. has vs (variable l)) (sym no_room) ∙ h)))
 
 -- ---- One clause more or less, where nothing is assumed

@@ -12,6 +12,7 @@ use Rattle.propagation.specs.Code.Scan.{IsHeld}
 use Rattle.watch_lists.specs.Lists.{entries_in, list_at}
 use Rattle.root_literals.specs.Order.{each_in_order}
 use Rattle.root_literals.specs.Roots.{IsKept, IsStanding}
+use Rattle.root_literals.specs.Uses.{times}
 use Rattle.propagation.specs.Code.Closure.{AreForced}
 use Rattle.root_literals.specs.Watched.{AreWatched, IsListed, IsShortList}
 use Rattle.watch.specs.State.{WatchState}
@@ -65,6 +66,8 @@ pub record AddsRoom (held now : AssumptionsState) (roots roots_now : Roots) : Ty
       at roots_now.reasons k ≡ at roots.reasons k
   pub kept : roots_now.kept ≡ roots.kept
   pub history : roots_now.history ≡ roots.history
+  pub counted : roots_now.uses.counted ≡ roots.uses.counted
+  pub times : (k : Literal) → times roots_now.uses k ≡ times roots.uses k
 
 -- of what is held nothing follows that isn't true; each clause stands in the lists where it should,
 -- and nothing else does; what is false is watched; what is kept of the literals that are true with

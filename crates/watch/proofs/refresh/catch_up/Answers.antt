@@ -1,5 +1,5 @@
 use Rattle.std.proofs.Common.{◌≡◌, ◌+◌, ◌<◌, ◌≤◌, ◌++◌, ◌∷◌, [], Some, IfSome, IfNone, length, take}
-use Rattle.std.proofs.Common.{ℕ, sym, ap, ◌∙◌, subst, arith}
+use Rattle.std.proofs.Common.{ℕ, refl, sym, ap, ◌∙◌, subst, arith}
 use Rattle.std.specs.FinMap as maps
 use Rattle.std.proofs.lemmas.Bool.{true≢false}
 use Rattle.std.proofs.lemmas.List.{length-append, take_all}
@@ -28,6 +28,7 @@ loop-done-init c =
       history = kept.history;
       watched = subst (λ n. IsWatched (maps.get c.args.store.now.live) (take n c.args.assumptions.now.trail.lits) c.args.assumptions.now.trail.lits) (sym c.len-done.ensures) (kept.visited (ap has_clash c.in-Behind.is));
       followed = followed_none c.requires.can;
+      uses = refl;
     }
 
 pub follow-requires-clause-is_false : goal.follow-requires-clause-is_false
@@ -87,6 +88,7 @@ loop-done-preserved c =
       history = visited.1;
       watched = visited_more before.store.live b x y (at before.roots.reasons) (at c.follow.new.reasons) e.followed.propagates before.done inside so_far.watched (λ s d is. subst (λ p. IsMet d p y.trail.lits) (c.neg-l.ensures ∙ ap complement read) (partners s d is));
       followed = followed_on so_far.followed e.followed;
+      uses = so_far.uses;
     }
 
 pub returns-in-Some-clause-kept : goal.returns-in-Some-clause-kept
@@ -96,7 +98,7 @@ returns-in-Some-clause-kept c =
     let e = c.in_ok-slot.ensures in
     let visited = loop-visited (goal.at.returns-in-Some-clause-kept c).In_ok-slot in
     kept_grown c.args.store.now.live b c.args.assumptions.now y c.args.roots.now _ (followed_on c.loop-done.invariant.followed e.followed).propagates c.requires.kept
-    (subst (λ o. IfSome o (λ k. IsFalseAt (maps.get (each_in_order b)) k y.trail.lits)) c.in-Some.is e.clash) visited.1 (λ quiet. absurd (true≢false quiet))
+    (subst (λ o. IfSome o (λ k. IsFalseAt (maps.get (each_in_order b)) k y.trail.lits)) c.in-Some.is e.clash) visited.1 (λ quiet. absurd (true≢false quiet)) c.loop-done.invariant.uses
 
 pub returns-in-Some-clause-followed : goal.returns-in-Some-clause-followed
 returns-in-Some-clause-followed c = followed_on c.loop-done.invariant.followed c.follow.ensures.followed
@@ -112,4 +114,4 @@ returns-clause-kept c =
     let past : length y.trail.lits ≤ c.loop-done.done = let high = c.loop-done-test.false in let n = c.len.ensures.value ∙ ap (λ t. length t.lits) c.trail.ensures in omega arith in
     let all = subst (λ ls. IsWatched (maps.get b) ls y.trail.lits) (take_all c.loop-done.done y.trail.lits past) so_far.watched in
     let units = units_kept a b x y (at c.args.roots.now.reasons) (at c.loop-done.roots.reasons) e (subst (λ k. IsKnown a k x.trail.lits) c.in-Behind.is c.requires.kept.known) in
-    kept_grown a b x y c.args.roots.now _ e c.requires.kept (all, units) so_far.history (λ _. subst (λ n. IsWatched (maps.get b) (take n y.trail.lits) y.trail.lits) (sym so_far.count) so_far.watched)
+    kept_grown a b x y c.args.roots.now _ e c.requires.kept (all, units) so_far.history (λ _. subst (λ n. IsWatched (maps.get b) (take n y.trail.lits) y.trail.lits) (sym so_far.count) so_far.watched) so_far.uses

@@ -16,6 +16,7 @@ invariant-loop-done l = record {
   followed :
       Followed l.fn.store.live l.store.live l.fn.lists l.lists l.fn.assumptions l.assumptions
       (at l.fn.roots.reasons) (at l.roots.reasons);
+  uses : l.roots.uses ≡ l.fn.roots.uses;
 }
 
 abbrev pub decreases-loop-done : goal.decreases-loop-done

@@ -37,5 +37,6 @@ returns-in-Err-clause-watch c =
     (λ v. u.reserved v ∙ p.extends.reserved v ∙ c.start.ensures.reserved v) p.same p.short e.listed e.entries
     (kept_nothing after c.cut.new.self c.cut.new.assumptions.trail.lits
     (subst (λ t. AreNoted (maps.get (each_in_order after)) (at t)) (sym u.reasons)
-    (noted_carried c.args.store.now.live after c.start.new.assumptions c.catch_up.new.assumptions (at c.start.new.roots.reasons) (at roots.reasons) p c.start.ensures.kept.noted)) u.kept (rewound_none (subst (IsRewound roots.history c.cut.new.self.history) zero u.history)) (u.lits ∙ ap (λ n. take n c.catch_up.new.assumptions.trail.lits) zero))
+    (noted_carried c.args.store.now.live after c.start.new.assumptions c.catch_up.new.assumptions (at c.start.new.roots.reasons) (at roots.reasons) p c.start.ensures.kept.noted)) u.kept (rewound_none (subst (IsRewound roots.history c.cut.new.self.history) zero u.history)) (u.lits ∙ ap (λ n. take n c.catch_up.new.assumptions.trail.lits) zero)
+    (let no_more = u.no_more in omega (arith, no_more, zero)))
     (λ l h. ap (λ t. is_some (at t l)) u.reasons ∙ p.noted l (c.start.ensures.noted l h))

@@ -34,19 +34,19 @@ entering-clause-kept c =
 pub returns-then-has_clash-clause-kept : goal.returns-then-has_clash-clause-kept
 returns-then-has_clash-clause-kept c =
     let given = entering-clause-kept (goal.at.returns-then-has_clash-clause-kept c).After-enter in
-    entered_idle given (sym c.has_clash.ensures ∙ c.if-has_clash.true) _ refl refl refl
+    entered_idle given (sym c.has_clash.ensures ∙ c.if-has_clash.true) _ refl refl refl refl
 
 pub returns-in-More-clause-kept : goal.returns-in-More-clause-kept
 returns-in-More-clause-kept c =
     let given = entering-clause-kept (goal.at.returns-in-More-clause-kept c).After-enter in
     let lits = c.args.assumptions.now.trail.lits in
-    entered_more given (subst (IsArranged lits c.clause-clause.result.now) c.in-More.is given.arranged) _ refl refl refl
+    entered_more given (subst (IsArranged lits c.clause-clause.result.now) c.in-More.is given.arranged) _ refl refl refl refl
 
 pub returns-in-Nothing-clause-kept : goal.returns-in-Nothing-clause-kept
 returns-in-Nothing-clause-kept c =
     let given = entering-clause-kept (goal.at.returns-in-Nothing-clause-kept c).After-enter in
     let lits = c.args.assumptions.now.trail.lits in
-    entered_false given (subst (IsArranged lits c.clause-clause.result.now) c.in-Nothing.is given.arranged) _ c.number-number.result c.number-number.ensures refl refl refl
+    entered_false given (subst (IsArranged lits c.clause-clause.result.now) c.in-Nothing.is given.arranged) _ c.number-number.result c.number-number.ensures refl refl refl refl
 
 pub returns-then-set_by-clause-kept : goal.returns-then-set_by-clause-kept
 returns-then-set_by-clause-kept c =
@@ -58,6 +58,7 @@ returns-then-set_by-clause-kept c =
     entered_set given m (subst (IsArranged lits c.clause-clause.result.now) c.in-One.is given.arranged) (sym c.has_clash.ensures ∙ c.if-has_clash.false) (open_is (has lits m) (sym c.if-set_by.true ∙ e.was_open)) _ c.set_by.new.assumptions.trail.lits
     c.with_more-self.ensures refl (e.lits ∙ ap (λ b. cond b (lits ++ m ∷ []) lits) c.if-set_by.true)
     (λ k. e.reasons k ∙ ap (λ b. cond (b && eqb k m) (Some c.number-number.result) (at reasons k)) c.if-set_by.true ∙ ap (λ n. cond (eqb k m) (Some n) (at reasons k)) c.number-number.ensures)
+    refl
 
 -- the literal is true already
 true-clause-kept : (c : Else-set_by) → (c.set_by.new.assumptions.trail.lits ≡ c.args.assumptions.now.trail.lits) × (has c.args.assumptions.now.trail.lits c.in-One.l ≡ true)
@@ -80,11 +81,12 @@ returns-then-clause-eq1-clause-kept c =
     subst (IsKept c.args.store.now.live _) (sym before.0)
     (entered_taken given m first before.1 c.if-clause-eq1.true _ refl refl
     (λ k. c.set.ensures k ∙ ap (λ x. cond (eqb k x) (Some c.number-number.result) (at c.set_by.new.reasons k)) c.key.ensures ∙ ap (λ n. cond (eqb k m) (Some n) (at c.set_by.new.reasons k)) c.number-number.ensures
-    ∙ ap (λ o. cond (eqb k m) (Some c.args.slot) o) (before.2 k)))
+    ∙ ap (λ o. cond (eqb k m) (Some c.args.slot) o) (before.2 k))
+    refl)
 
 pub returns-else-clause-eq1-clause-kept : goal.returns-else-clause-eq1-clause-kept
 returns-else-clause-eq1-clause-kept c =
     let given = entering-clause-kept (goal.at.returns-else-clause-eq1-clause-kept c).After-enter in
     let before = true-clause-kept (goal.at.returns-else-clause-eq1-clause-kept c).Else-set_by in
     let first = subst (IsArranged c.args.assumptions.now.trail.lits c.clause-clause.result.now) c.in-One.is given.arranged in
-    subst (IsKept c.args.store.now.live _) (sym before.0) (entered_true given c.in-One.l first before.1 _ refl refl before.2)
+    subst (IsKept c.args.store.now.live _) (sym before.0) (entered_true given c.in-One.l first before.1 _ refl refl before.2 refl)

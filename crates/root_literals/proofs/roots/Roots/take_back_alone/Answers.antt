@@ -1,17 +1,33 @@
-use Rattle.std.proofs.Common.{◌<◌, get_or, length, refl, sym, ap, ◌∙◌, subst}
+use Rattle.std.proofs.Common.{◌<◌, Some, get_or, length, refl, sym, ap, ◌∙◌, subst}
 use Rattle.std.specs.FinMap as maps
 use Rattle.trail.specs.Trail.{HasNoVariableTwice}
 use Rattle.tables.specs.Filled.{at}
 use Rattle.root_literals.specs.Roots.{IsKept, IsUnneeded}
+use Rattle.root_literals.specs.Uses.{AreCounted}
+use Rattle.root_literals.proofs.RootLemmas.Kept.{kept_counted}
 use Rattle.root_literals.proofs.RootLemmas.Lone.{kept_out}
 use Rattle.root_literals.proofs.roots.Roots.take_back_alone.Goals as goal
+use Rattle.root_literals.proofs.roots.Roots.take_back_alone.Goals.{After-is_needed}
+
+-- all is kept, with the reasons that were counted
+kept-then : (c : After-is_needed) → IsKept c.args.store.now.live (record c.args.self.now { uses = c.is_needed.new.uses }) c.args.assumptions.now.trail.lits
+kept-then c =
+    let live = c.args.store.now.live in
+    let shown = c.lits-lits.ensures.value ∙ ap (λ t. t.lits) c.trail-2.ensures in
+    kept_counted live c.args.self.now _ c.args.assumptions.now.trail.lits refl refl c.requires.kept refl
+    (subst (λ ls. AreCounted (maps.get live) (at c.args.self.now.reasons) ls c.is_needed.new.uses) shown c.is_needed.ensures.counted)
+
+pub returns-then-is_needed-clause-still_kept : goal.returns-then-is_needed-clause-still_kept
+returns-then-is_needed-clause-still_kept c _ = kept-then (goal.at.returns-then-is_needed-clause-still_kept c).After-is_needed
 
 pub returns-clause-kept : goal.returns-clause-kept
 returns-clause-kept c is =
     let live = c.args.store.now.live in
     let shown = c.lits-lits.ensures.value ∙ ap (λ t. t.lits) c.trail-2.ensures in
     let place = c.place_of-place.result in
-    subst (IsKept (maps.remove live c.args.slot) _) (sym c.take_out-2.ensures.lits)
+    subst (IsKept (maps.remove live c.args.slot) _) (sym c.take_out-3.ensures.lits)
     (kept_out live c.args.slot place c.in-Some.l c.args.assumptions.now.trail.lits (subst (λ ls. place < length ls) shown c.place_of-place.ensures.inside) (ap (λ ls. get_or ls place 0) (sym shown) ∙ c.place_of-place.ensures.literal)
-    (subst HasNoVariableTwice shown (subst HasNoVariableTwice (sym c.lits-lits.ensures.value) c.lits-lits.ensures.different)) c.in-Some.ensures.unit c.in-Some.ensures.alone c.args.self.now _ (subst (λ ls. IsUnneeded (maps.get live) (at c.args.self.now.reasons) ls place c.in-Some.l) shown (c.is_needed.ensures c.if-is_needed.false)) c.requires.kept (sym c.has_clash.ensures ∙ c.if-has_clash.false) refl refl
+    (subst HasNoVariableTwice shown (subst HasNoVariableTwice (sym c.lits-lits.ensures.value) c.lits-lits.ensures.different)) c.in-Some.ensures.unit c.in-Some.ensures.alone (record c.args.self.now { uses = c.is_needed.new.uses }) _
+    (subst (λ ls. IsUnneeded (maps.get live) (at c.args.self.now.reasons) ls place c.in-Some.l) shown (c.is_needed.ensures.unneeded c.if-is_needed.false)) (kept-then (goal.at.returns-clause-kept c).After-is_needed) (sym c.has_clash.ensures ∙ c.if-has_clash.false) refl refl
+    (c.is_reason.ensures.yes c.if-not-is_reason.false ∙ ap Some c.number.ensures) c.take_out-2.ensures.fewer c.take_out-2.ensures.times c.take_out-2.ensures.stays
     c.take_out.ensures.gone c.take_out.ensures.stays c.take_out.ensures.floor)

@@ -1,7 +1,7 @@
 use Rattle.std.proofs.Common.{◌≤◌, sym, ◌∙◌, arith}
 use Rattle.std.proofs.lemmas.Bool.{true≢false}
 use Rattle.root_literals.proofs.RootLemmas.History.{front_in_front}
-use Rattle.root_literals.proofs.roots.place_of.Goals as goal
+use Rattle.root_literals.proofs.places.place_of.Goals as goal
 
 pub returns-clause-literal : goal.returns-clause-literal
 returns-clause-literal c =

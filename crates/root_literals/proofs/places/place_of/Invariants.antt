@@ -1,6 +1,6 @@
 use Rattle.std.proofs.Common.{◌≡◌, ◌≤◌, true, false, length, take}
 use Rattle.cnf_base.specs.Literals.{has}
-use Rattle.root_literals.proofs.roots.place_of.Given as goal
+use Rattle.root_literals.proofs.places.place_of.Given as goal
 
 abbrev pub invariant-loop-before : goal.invariant-loop-before
 invariant-loop-before l = record {

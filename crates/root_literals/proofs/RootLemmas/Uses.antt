@@ -1,0 +1,296 @@
+-- How many of the literals have a reason with a literal.
+use Rattle.std.proofs.Common.{◌≡◌, ◌≢◌, ℕ, zero, suc, ◌+◌, ◌<◌, ◌≤◌, Bool, true, false, cond, eqb}
+use Rattle.std.proofs.Common.{eqb-true, eq-eqb, ◌||◌, Option, Some, None, option_map, List, [], ◌∷◌, ◌++◌, length, get_or, take}
+use Rattle.std.proofs.Common.{refl, sym, ap, ◌∙◌, subst, arith, inl, inr}
+use Rattle.std.specs.List.{remove}
+use Rattle.std.specs.Ordering.{nat_cmp}
+use Rattle.std.specs.FinMap as maps
+use Rattle.std.specs.FinMap.{FinMap}
+use Rattle.std.proofs.lemmas.Bool.{cases_eq, cases_lt, false≢true, or_right}
+use Rattle.std.proofs.lemmas.List.{length-take, take-take, take_more}
+use Rattle.std.proofs.lemmas.List.Edits.{length-remove}
+use Rattle.cnf_base.specs.Literals.{Literal, Clause, has, variable}
+use Rattle.cnf_base.proofs.MapLemmas.{remove_here, remove_other}
+use Rattle.cnf_base.proofs.MemberLemmas.{place_in_front}
+use Rattle.cnf_base.proofs.SetLemmas.{has_cases, has_head}
+use Rattle.cnf_base.proofs.WalkLemmas.{has_more}
+use Rattle.theory.specs.Propagation.{Live}
+use Rattle.trail.specs.Trail.{HasNoVariableTwice}
+use Rattle.trail.proofs.TrailLemmas.Truth.{places_apart}
+use Rattle.trail.proofs.TrailLemmas.Without.{none_left}
+use Rattle.root_literals.specs.Order.{each_in_order, in_order}
+use Rattle.root_literals.specs.Uses.{AreCounted, clause_in, is_in, times, uses_of}
+use Rattle.root_literals.specs.declared.uses.Uses.{Uses}
+use Rattle.root_literals.proofs.RootLemmas.Order.{get_ordered, has-in_order}
+use Rattle.root_literals.proofs.RootLemmas.Watched.{front_part}
+
+-- one, if the clause has the literal
+abbrev pub one : Option Clause → Literal → ℕ
+one o k = cond (is_in o k) 1 0
+
+-- ---- A list of literals
+
+-- the same literals, whose reasons have no other literals than before
+pub uses_at_most : (before after : Live) (r s : Literal → Option ℕ) (k : Literal) (lits : List Literal) → ((l : Literal) → has lits l ≡ true → is_in (clause_in after (s l)) k ≡ true → is_in (clause_in before (r l)) k ≡ true) →
+    uses_of after s lits k ≤ uses_of before r lits k
+uses_at_most before after r s k [] among = omega arith
+uses_at_most before after r s k (l ∷ lits) among =
+    let rest = uses_at_most before after r s k lits (λ m h. among m (or_right (eqb l m) (has lits m) h)) in
+    let first = fewer (is_in (clause_in after (s l)) k) (is_in (clause_in before (r l)) k) (among l (has_head l lits)) in
+    omega (arith, rest, first)
+  where
+    fewer : (a b : Bool) → (a ≡ true → b ≡ true) → cond {A = ℕ} a 1 0 ≤ cond b 1 0
+    fewer true true f = omega arith
+    fewer true false f = absurd (false≢true (f refl))
+    fewer false true f = omega arith
+    fewer false false f = omega arith
+
+module _ (live : Live) (r : Literal → Option ℕ) (k : Literal) where
+  -- one literal more
+  pub uses_more : (lits : List Literal) (l : Literal) → uses_of live r (lits ++ l ∷ []) k ≡ uses_of live r lits k + one (clause_in live (r l)) k
+  uses_more [] l = omega arith
+  uses_more (m ∷ lits) l = let rest = uses_more lits l in omega (arith, rest)
+
+  -- none of them
+  pub uses_none : (lits : List Literal) → uses_of live r lits k ≡ 0 → (l : Literal) → has lits l ≡ true → is_in (clause_in live (r l)) k ≡ false
+  uses_none [] none l h = absurd (false≢true h)
+  uses_none (m ∷ lits) none l h = elim (has_cases m lits l h) [
+    | inl e ↦ by_test (is_in (clause_in live (r l)) k) (subst (λ x. cond (is_in (clause_in live (r x)) k) 1 0 + uses_of live r lits k ≡ 0) e none)
+    | inr g ↦ uses_none lits (omega (arith, none)) l g
+  ]
+    where
+      by_test : (b : Bool) → cond {A = ℕ} b 1 0 + uses_of live r lits k ≡ 0 → b ≡ false
+      by_test true e = absurd (let wrong : ⊥ = omega (arith, e) in wrong)
+      by_test false e = refl
+
+  -- one of them is taken out
+  pub uses_out : (lits : List Literal) (n place : ℕ) → place ≤ n → n < length lits → uses_of live r (take n (remove lits place)) k + one (clause_in live (r (get_or lits place 0))) k ≡ uses_of live r (take (suc n) lits) k
+  uses_out [] n place low within = absurd (let wrong : ⊥ = omega (arith, within) in wrong)
+  uses_out (l ∷ lits) n zero low within = omega arith
+  uses_out (l ∷ lits) zero (suc place) low within = absurd (let wrong : ⊥ = omega (arith, low) in wrong)
+  uses_out (l ∷ lits) (suc n) (suc place) low within = let rest = uses_out lits n place (omega (arith, low)) (omega (arith, within)) in omega (arith, rest)
+
+-- those before the one that is taken out
+take_before : (lits : List Literal) (n place : ℕ) → n ≤ place → take n (remove lits place) ≡ take n lits
+take_before lits zero place low = refl
+take_before [] (suc n) zero low = refl
+take_before [] (suc n) (suc place) low = refl
+take_before (l ∷ lits) (suc n) zero low = absurd (let wrong : ⊥ = omega (arith, low) in wrong)
+take_before (l ∷ lits) (suc n) (suc place) low = ap (λ ls. l ∷ ls) (take_before lits n place (omega (arith, low)))
+
+-- ---- What is counted
+
+-- nothing
+pub counted_none : (live : Live) (r : Literal → Option ℕ) (lits : List Literal) (uses : Uses) → uses.counted ≡ 0 → AreCounted live r lits uses
+counted_none live r lits uses none = record {
+  inside = omega (arith, none);
+  enough = λ k. subst (λ n. uses_of live r (take n lits) k ≤ times uses k) (sym none) (omega arith);
+}
+
+-- the same reasons, or others that have no other literals
+pub counted_among : (before after : Live) (r s : Literal → Option ℕ) (lits : List Literal) (uses : Uses) → AreCounted before r lits uses →
+    ((k l : Literal) → has lits l ≡ true → is_in (clause_in after (s l)) k ≡ true → is_in (clause_in before (r l)) k ≡ true) → AreCounted after s lits uses
+counted_among before after r s lits uses are among = record {
+  inside = are.inside;
+  enough = λ k.
+      let fewer = uses_at_most before after r s k (take uses.counted lits) (λ l h. among k l (front_part uses.counted lits l h)) in
+      let enough = are.enough k in
+      omega (arith, fewer, enough);
+}
+
+-- the same counts
+pub counted_same : (live : Live) (r : Literal → Option ℕ) (lits : List Literal) (uses now : Uses) → now.counted ≡ uses.counted → ((k : Literal) → times now k ≡ times uses k) → AreCounted live r lits uses → AreCounted live r lits now
+counted_same live r lits uses now counted same are = record {
+  inside = let within = are.inside in omega (arith, within, counted);
+  enough = λ k. subst (λ n. uses_of live r (take n lits) k ≤ times now k) (sym counted) (subst (λ n. uses_of live r (take uses.counted lits) k ≤ n) (sym (same k)) (are.enough k));
+}
+
+-- more literals
+pub counted_longer : (live : Live) (r : Literal → Option ℕ) (lits more : List Literal) (uses : Uses) → take (length lits) more ≡ lits → length lits ≤ length more → AreCounted live r lits uses → AreCounted live r more uses
+counted_longer live r lits more uses begins longer are = record {
+  inside = let within = are.inside in omega (arith, within, longer);
+  enough = λ k.
+      let front : take uses.counted more ≡ take uses.counted lits = sym (take-take uses.counted (length lits) more are.inside) ∙ ap (take uses.counted) begins in
+      subst (λ ls. uses_of live r ls k ≤ times uses k) (sym front) (are.enough k);
+}
+
+-- the first literals alone, where no others are counted
+pub counted_front : (live : Live) (r : Literal → Option ℕ) (lits : List Literal) (uses : Uses) (n : ℕ) → uses.counted ≤ n → AreCounted live r lits uses → AreCounted live r (take n lits) uses
+counted_front live r lits uses n low are = record {
+  inside = let within = are.inside in let long = length-take n lits in omega (arith, within, low, long);
+  enough = λ k. subst (λ ls. uses_of live r ls k ≤ times uses k) (sym (take-take uses.counted n lits low)) (are.enough k);
+}
+
+-- ---- A place
+
+module _ (lits : List Literal) (place : ℕ) (l : Literal) (inside : place < length lits) (stands : get_or lits place 0 ≡ l) (different : HasNoVariableTwice lits) where
+  not_before : (n : ℕ) → n ≤ place → (m : Literal) → has (take n lits) m ≡ true → m ≢ l
+  not_before n low m h e =
+      let w = place_in_front lits n m h in
+      let before = w.1 in
+      places_apart lits different w.0 place (omega (arith, low, before)) inside (ap variable (w.3 ∙ e ∙ sym stands))
+
+  not_left : (n : ℕ) (m : Literal) → has (take n (remove lits place)) m ≡ true → m ≢ l
+  not_left n m h e =
+      false≢true (sym (none_left lits place inside l stands different l refl) ∙ ap (has (remove lits place)) (sym e) ∙ front_part n (remove lits place) m h)
+
+  -- another reason
+  pub counted_instead : (live : Live) (r s : Literal → Option ℕ) (uses now : Uses) (before after : Clause) → clause_in live (r l) ≡ Some before → clause_in live (s l) ≡ Some after → ((m : Literal) → m ≢ l → s m ≡ r m) →
+      (now.counted ≢ 0 → now.counted ≡ uses.counted) → (now.counted ≢ 0 → place < uses.counted → (k : Literal) → times uses k + cond (has after k) 1 0 ≤ times now k + cond (has before k) 1 0) → (uses.counted ≤ place → now ≡ uses) →
+      AreCounted live r lits uses → AreCounted live s lits now
+  counted_instead live r s uses now before after was is same counted exchanged stays are = elim (cases_eq now.counted 0) [
+    | inl none ↦ counted_none live s lits now none
+    | inr some ↦ elim (cases_lt place uses.counted) [
+      | inl low ↦ record {
+        inside = let within = are.inside in let e = counted some in omega (arith, within, e);
+        enough = behind some low;
+      }
+      | inr past ↦ subst (AreCounted live s lits) (sym (stays past)) (record { inside = are.inside; enough = unchanged past })
+    ]
+  ]
+    where
+      same_in : (k m : Literal) → m ≢ l → is_in (clause_in live (s m)) k ≡ true → is_in (clause_in live (r m)) k ≡ true
+      same_in k m ne h = ap (λ o. is_in (clause_in live o) k) (sym (same m ne)) ∙ h
+
+      unchanged : uses.counted ≤ place → (k : Literal) → uses_of live s (take uses.counted lits) k ≤ times uses k
+      unchanged past k =
+          let fewer = uses_at_most live live r s k (take uses.counted lits) (λ m h. same_in k m (not_before uses.counted past m h)) in
+          let enough = are.enough k in
+          omega (arith, fewer, enough)
+
+      first_is : (t : Literal → Option ℕ) (c : Clause) → clause_in live (t l) ≡ Some c → (k : Literal) → one (clause_in live (t (get_or lits place 0))) k ≡ cond (has c k) 1 0
+      first_is t c e k = ap (λ x. one (clause_in live (t x)) k) stands ∙ ap (λ o. one o k) e
+
+      by_count : (n : ℕ) → uses.counted ≡ suc n → place ≤ n → now.counted ≢ 0 → place < uses.counted → (k : Literal) → uses_of live s (take (suc n) lits) k ≤ times now k
+      by_count n e low some high k =
+          let within = are.inside in
+          let fewer = uses_at_most live live r s k (take n (remove lits place)) (λ m h. same_in k m (not_left n m h)) in
+          let split = uses_out live r k lits n place low (omega (arith, within, e)) in
+          let split_now = uses_out live s k lits n place low (omega (arith, within, e)) in
+          let a = first_is r before was k in
+          let b = first_is s after is k in
+          let enough = subst (λ c. uses_of live r (take c lits) k ≤ times uses k) e (are.enough k) in
+          let step = exchanged some high k in
+          omega (arith, fewer, split, split_now, a, b, enough, step)
+
+      with_count : (c : ℕ) → uses.counted ≡ c → now.counted ≢ 0 → place < uses.counted → (k : Literal) → uses_of live s (take c lits) k ≤ times now k
+      with_count zero e some low k = omega arith
+      with_count (suc n) e some low k = by_count n e (omega (arith, low, e)) some low k
+
+      behind : now.counted ≢ 0 → place < uses.counted → (k : Literal) → uses_of live s (take now.counted lits) k ≤ times now k
+      behind some low k = subst (λ c. uses_of live s (take c lits) k ≤ times now k) (sym (counted some)) (with_count uses.counted refl some low k)
+
+  -- the literal is taken back, whose reason has no other
+  pub counted_out : (live rest : Live) (r : Literal → Option ℕ) (uses now : Uses) → clause_in live (r l) ≡ Some (l ∷ []) → ((k m : Literal) → is_in (clause_in rest (r m)) k ≡ true → is_in (clause_in live (r m)) k ≡ true) →
+      (place < uses.counted → now.counted + 1 ≡ uses.counted) → ((k : Literal) → times uses k ≤ times now k + cond (eqb k l) 1 0) → (uses.counted ≤ place → now ≡ uses) → AreCounted live r lits uses → AreCounted rest r (remove lits place) now
+  counted_out live rest r uses now unit among fewer less stays are = elim (cases_lt place uses.counted) [
+    | inl low ↦ record {
+      inside = let within = are.inside in let e = fewer low in let n = length-remove lits place inside in omega (arith, within, e, n);
+      enough = behind low;
+    }
+    | inr past ↦ subst (AreCounted rest r (remove lits place)) (sym (stays past)) (record {
+      inside = let within = are.inside in let n = length-remove lits place inside in omega (arith, within, n, past, inside);
+      enough = λ k.
+          let most = uses_at_most live rest r r k (take uses.counted (remove lits place)) (λ m _. among k m) in
+          let enough = subst (λ ls. uses_of live r ls k ≤ times uses k) (sym (take_before lits uses.counted place past)) (are.enough k) in
+          omega (arith, most, enough);
+    })
+  ]
+    where
+      has_it : (k : Literal) (b : Bool) → eqb k l ≡ b → cond {A = ℕ} b 1 0 ≤ cond (has (l ∷ []) k) 1 0
+      has_it k true e = let there : cond {A = ℕ} (has (l ∷ []) k) 1 0 ≡ 1 = ap (λ b. cond {A = ℕ} b 1 0) (subst (λ x. has (l ∷ []) x ≡ true) (sym (eqb-true k l e)) (has_head l [])) in omega (arith, there)
+      has_it k false e = omega arith
+
+      behind : place < uses.counted → (k : Literal) → uses_of rest r (take now.counted (remove lits place)) k ≤ times now k
+      behind low k =
+          let e = fewer low in
+          let within = are.inside in
+          let most = uses_at_most live rest r r k (take now.counted (remove lits place)) (λ m _. among k m) in
+          let split = uses_out live r k lits now.counted place (omega (arith, low, e)) (omega (arith, within, e)) in
+          let first : one (clause_in live (r (get_or lits place 0))) k ≡ cond (has (l ∷ []) k) 1 0 = ap (λ x. one (clause_in live (r x)) k) stands ∙ ap (λ o. one o k) unit in
+          let next : suc now.counted ≡ uses.counted = omega (arith, e) in
+          let enough = subst (λ c. uses_of live r (take c lits) k ≤ times uses k) (sym next) (are.enough k) in
+          let step = less k in
+          let here = has_it k (eqb k l) refl in
+          omega (arith, most, split, first, enough, step, here)
+
+-- ---- Clauses
+
+module _ (live : FinMap nat_cmp Clause) (slot : ℕ) where
+  -- one clause fewer
+  pub in_rest : (k : Literal) (o : Option ℕ) → is_in (clause_in (maps.get (maps.remove live slot)) o) k ≡ true → is_in (clause_in (maps.get live) o) k ≡ true
+  in_rest k None h = h
+  in_rest k (Some s) h = elim (cases_eq s slot) [
+    | inl e ↦ absurd (false≢true (sym (ap (λ o. is_in o k) (remove_here live slot s e)) ∙ h))
+    | inr ne ↦ ap (λ o. is_in o k) (sym (remove_other live slot s ne)) ∙ h
+  ]
+
+  pub in_rest_too : (k : Literal) (o : Option ℕ) → o ≢ Some slot → is_in (clause_in (maps.get live) o) k ≡ true → is_in (clause_in (maps.get (maps.remove live slot)) o) k ≡ true
+  in_rest_too k None ne h = h
+  in_rest_too k (Some s) ne h = ap (λ o. is_in o k) (remove_other live slot s (λ e. ne (ap Some e))) ∙ h
+
+-- the order of literals in a clause is nothing to it
+in_ordered : (live : FinMap nat_cmp Clause) (k : Literal) (o : Option ℕ) → is_in (clause_in (maps.get (each_in_order live)) o) k ≡ is_in (clause_in (maps.get live) o) k
+in_ordered live k None = refl
+in_ordered live k (Some s) = ap (λ o. is_in o k) (get_ordered live s) ∙ by_clause (maps.get live s)
+  where
+    by_clause : (o : Option Clause) → is_in (option_map in_order o) k ≡ is_in o k
+    by_clause None = refl
+    by_clause (Some c) = has-in_order c k
+
+pub counted_in_order : (a b : FinMap nat_cmp Clause) (r s : Literal → Option ℕ) (lits : List Literal) (uses : Uses) → each_in_order b ≡ each_in_order a → ((l : Literal) → has lits l ≡ true → s l ≡ r l) → AreCounted (maps.get a) r lits uses → AreCounted (maps.get b) s lits uses
+counted_in_order a b r s lits uses same reasons are =
+    counted_among (maps.get a) (maps.get b) r s lits uses are (λ k l h there.
+    sym (in_ordered a k (r l)) ∙ ap (λ m. is_in (clause_in (maps.get m) (r l)) k) (sym same) ∙ in_ordered b k (r l) ∙ ap (λ o. is_in (clause_in (maps.get b) o) k) (sym (reasons l h)) ∙ there)
+
+-- ---- One reason more or less is counted
+
+module _ (live : Live) (r : Literal → Option ℕ) (lits : List Literal) (uses now : Uses) (are : AreCounted live r lits uses) where
+  -- the next one
+  pub counted_more : uses.counted < length lits → now.counted ≡ uses.counted + 1 → ((k : Literal) → times uses k + one (clause_in live (r (get_or lits uses.counted 0))) k ≤ times now k) → AreCounted live r lits now
+  counted_more inside next more = record {
+    inside = omega (arith, inside, next);
+    enough = λ k.
+        let so_far = are.enough k in
+        let step = more k in
+        let split = ap (λ ls. uses_of live r ls k) (take_more lits uses.counted 0 inside) ∙ uses_more live r k (take uses.counted lits) (get_or lits uses.counted 0) in
+        subst (λ n. uses_of live r (take n lits) k ≤ times now k) (sym next) (omega (arith, so_far, step, split));
+  }
+
+  -- none, but counts may have risen
+  pub counted_higher : now.counted ≡ uses.counted → ((k : Literal) → times uses k ≤ times now k) → AreCounted live r lits now
+  counted_higher same more = record {
+    inside = let within = are.inside in omega (arith, within, same);
+    enough = λ k.
+        let so_far = are.enough k in
+        let step = more k in
+        subst (λ n. uses_of live r (take n lits) k ≤ times now k) (sym same) (omega (arith, so_far, step));
+  }
+
+  -- the last one no longer
+  pub counted_less : now.counted + 1 ≡ uses.counted → ((k : Literal) → times uses k ≤ times now k + one (clause_in live (r (get_or lits now.counted 0))) k) → AreCounted live r lits now
+  counted_less next less = record {
+    inside = let within = are.inside in omega (arith, within, next);
+    enough = λ k.
+        let within = are.inside in
+        let so_far = subst (λ n. uses_of live r (take n lits) k ≤ times uses k) (sym next) (are.enough k) in
+        let step = less k in
+        let split = ap (λ ls. uses_of live r ls k) (take_more lits now.counted 0 (omega (arith, within, next))) ∙ uses_more live r k (take now.counted lits) (get_or lits now.counted 0) in
+        omega (arith, so_far, step, split);
+  }
+
+-- ---- One turn of a walk over a clause: x is the literal at i
+
+pub met_at_most : (c : Clause) (i : ℕ) (inside : i < length c) (x : Literal) → x ≡ get_or c i x → (k : Literal) → cond {A = ℕ} (has (take (i + 1) c) k) 1 0 ≤ cond (has (take i c) k) 1 0 + cond (eqb k x) 1 0
+met_at_most c i inside x is k =
+    let split = ap (λ b. cond {A = ℕ} b 1 0) (has_more c i inside x is k) in
+    let most = by_tests (has (take i c) k) (eqb x k) (eqb k x) (λ e. eq-eqb k x (sym (eqb-true x k e))) in
+    omega (arith, split, most)
+  where
+    by_tests : (h a b : Bool) → (a ≡ true → b ≡ true) → cond {A = ℕ} (h || a) 1 0 ≤ cond h 1 0 + cond b 1 0
+    by_tests true a true f = omega arith
+    by_tests true a false f = omega arith
+    by_tests false true true f = omega arith
+    by_tests false true false f = absurd (false≢true (f refl))
+    by_tests false false true f = omega arith
+    by_tests false false false f = omega arith
