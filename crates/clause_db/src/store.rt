@@ -378,11 +378,13 @@ impl<M: Memory> Store<M, Index> {
         }
     }
 
-    /// The number of a slot other than this one that has a clause of the literal alone, if one is
-    /// found. It takes no memory.
+    /// The number of a slot other than this one that has a clause of the literal alone, if there
+    /// is one. It takes no memory.
     pub fn other_unit(&self, l: Lit, slot: Slot) -> Option<u32>
         ensures other { IfSome result (λ s. s ≢ slot) }
         ensures unit { IfSome result (λ s. maps.get self.now.live s ≡ Some (l ∷ [])) }
+        ensures none { IfNone result ((s : ℕ) → s ≢ slot →
+            maps.get self.now.live s ≢ Some (l ∷ [])) }
     {
         find_unit(&self.memory, &self.index, l, slot.number())
     }

@@ -67,8 +67,8 @@ pub(crate) fn other_reason(
     None
 }
 
-/// The slot of another clause of the literal alone, if one is found. It makes the literal true by
-/// no other one.
+/// The slot of another clause of the literal alone, if there is one and the literal's place is
+/// known. It makes the literal true by no other one.
 pub(crate) fn other_unit(
     store: &Store,
     places: &Places,

@@ -279,8 +279,7 @@ impl Watch {
         refreshed
     }
 
-    /// Takes back the last assumption. What is known with nothing assumed stays. It takes no
-    /// memory.
+    /// Takes back the last assumption, without memory. What is known with nothing assumed stays.
     pub fn take_back(&mut self)
         requires { self.old.propagation.assumptions ≢ [] }
         ensures assumptions { self.new.propagation.assumptions ≡

@@ -105,7 +105,8 @@ pub(crate) fn find_marked<M: Memory>(
 
 /// Whether the clause in the slot with this number has the literal, and no other.
 fn is_unit_at<M: Memory>(memory: &M, number: u32, l: Lit) -> bool
-    ensures { result ≡ true → maps.get (M.seen memory.now).live number ≡ Some (l ∷ []) }
+    ensures yes { result ≡ true → maps.get (M.seen memory.now).live number ≡ Some (l ∷ []) }
+    ensures no { result ≡ false → maps.get (M.seen memory.now).live number ≢ Some (l ∷ []) }
 {
     match memory.at(number as usize) {
         Some([only]) => *only == l,
@@ -117,6 +118,8 @@ fn is_unit_at<M: Memory>(memory: &M, number: u32, l: Lit) -> bool
 fn first_unit<M: Memory>(memory: &M, bucket: &[u32], l: Lit, slot: usize) -> Option<u32>
     ensures other { IfSome result (λ s. s ≢ slot) }
     ensures unit { IfSome result (λ s. maps.get (M.seen memory.now).live s ≡ Some (l ∷ [])) }
+    ensures none { IfNone result ((i s : ℕ) → slice_get bucket.now i ≡ Some s → s ≢ slot →
+        maps.get (M.seen memory.now).live s ≢ Some (l ∷ [])) }
 {
     for number in bucket {
         if *number as usize != slot && is_unit_at(memory, *number, l) {
@@ -136,6 +139,9 @@ fn first_waiting_unit<M: Memory>(
 ) -> Option<u32>
     ensures other { IfSome result (λ s. s ≢ slot) }
     ensures unit { IfSome result (λ s. maps.get (M.seen memory.now).live s ≡ Some (l ∷ [])) }
+    ensures none { IfNone result ((i : ℕ) → i < length waiting.now →
+        (waiting_at waiting.now i).hash ≡ hash → (waiting_at waiting.now i).slot ≢ slot →
+        maps.get (M.seen memory.now).live (waiting_at waiting.now i).slot ≢ Some (l ∷ [])) }
 {
     for next in waiting {
         let number = next.slot;
@@ -146,10 +152,13 @@ fn first_waiting_unit<M: Memory>(
     None
 }
 
-/// A slot other than this one that has a clause of the literal alone, if one is found.
+/// A slot other than this one that has a clause of the literal alone, if there is one.
 pub(crate) fn find_unit<M: Memory>(memory: &M, index: &Index, l: Lit, slot: usize) -> Option<u32>
+    requires { ⟦<Index as Indexing>⟧.indexes index.now (M.seen memory.now).live }
     ensures other { IfSome result (λ s. s ≢ slot) }
     ensures unit { IfSome result (λ s. maps.get (M.seen memory.now).live s ≡ Some (l ∷ [])) }
+    ensures none { IfNone result ((s : ℕ) → s ≢ slot →
+        maps.get (M.seen memory.now).live s ≢ Some (l ∷ [])) }
 {
     let hash = upper_half(mixed(index.seed(), l));
     match first_waiting_unit(memory, index.waiting(), hash, l, slot) {
