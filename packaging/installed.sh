@@ -8,7 +8,7 @@ export DRAT_FORWARD LRAT_CHECK MODEL_CHECK
 DRAT_FORWARD=$(command -v drat-forward)
 LRAT_CHECK=$(command -v gazhumbe-lrat-check)
 MODEL_CHECK=$(command -v model-check)
-for script in tests/programs.sh examples/worked.py tests/check_all.py tests/check_all_many.py tests/manual.sh tests/completions.sh; do
+for script in tests/programs.sh examples/worked.py tests/rows.py tests/check_all.py tests/check_all_many.py tests/manual.sh tests/completions.sh; do
     "$script"
 done
 packaging/links.py /usr/share/doc/gazhumbe

@@ -4,10 +4,10 @@
 # spelled right, what is promised is said by the upper floor of specs/ alone, docs/ARCHITECTURE.md lacks no file where a change
 # goes, and the scripts pass shellcheck and ruff; the proofs of the programs; the gate (the proofs of the tests and what else
 # isn't kept, the mutants, the crates' tests and the programs' stored runs); whether each mutant was refused by the clause that it
-# names; then the programs as users run them, also on many proofs at once, pictures of runs, their manual pages, how they are
-# installed, what they tell on a terminal, counts of allocations, runs in which each allocation is refused, long inputs in little
-# memory, and instructions on inputs that were made to be dear. At the end stands what each part took. The last line is "N passed,
-# M failed" over all.
+# names; then the programs as users run them, on worked rows, whole and in pieces, and on many proofs at once, pictures of runs,
+# their manual pages, how they are installed, what they tell on a terminal, counts of allocations, runs in which each allocation
+# is refused, long inputs in little memory, and instructions on inputs that were made to be dear. At the end stands what each part
+# took. The last line is "N passed, M failed" over all.
 #
 # RT names the command rt, where it isn't on the PATH.
 set -uo pipefail
@@ -82,7 +82,7 @@ if [ "$ended" -eq 0 ] && [ -x "$LRAT_CHECK" ] && [ -x "$DRAT_FORWARD" ] && [ -x 
     cp "$MODEL_CHECK" bin/model-check
 fi
 
-for script in tests/programs.sh examples/worked.py tests/check_all.py tests/check_all_many.py tests/plot.sh tests/manual.sh tests/completions.sh packaging/test-install.sh tests/terminal.py tests/allocations.py tests/refusals.py; do
+for script in tests/programs.sh examples/worked.py tests/rows.py tests/check_all.py tests/check_all_many.py tests/plot.sh tests/manual.sh tests/completions.sh packaging/test-install.sh tests/terminal.py tests/allocations.py tests/refusals.py; do
     part "$script" "$script"
     count $?
 done

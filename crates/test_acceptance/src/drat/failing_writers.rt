@@ -2,6 +2,7 @@
 
 use crate::support::{
     BY_OTHER_RULES, E_BY_BINARY, E_BY_DRAT, E_BY_DRAT_TRACED, Row, expect_any_room, expect_equal,
+    expect_ten_bytes,
 };
 use std::test::Fail;
 
@@ -14,6 +15,12 @@ const ROWS: [Row<'static>; 4] = [
         ..E_BY_DRAT
     },
 ];
+
+#[test]
+fn ten_bytes(rt: HostRuntime) -> Result<(), Fail> {
+    expect_ten_bytes(&rt, rt.alloc(), &E_BY_DRAT, b"c formula ")?;
+    Ok(())
+}
 
 #[test]
 fn failing_writers(rt: HostRuntime) -> Result<(), Fail> {

@@ -1,6 +1,4 @@
 //! Formulas, as the checkers take them.
 
 mod cuts;
-mod faults;
-mod greatest_numbers;
-mod texts;
+mod failed_reads;

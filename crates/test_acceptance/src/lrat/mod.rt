@@ -1,11 +1,6 @@
 //! Checks of proofs in LRAT.
 
 mod cuts;
-mod deletions;
+mod failed_reads;
 mod failing_writers;
-mod faults;
-mod first_run;
-mod groups;
-mod long_inputs;
 mod reading_no_further;
-mod unit_hints;

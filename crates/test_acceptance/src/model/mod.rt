@@ -3,6 +3,3 @@
 mod cuts;
 mod failed_reads;
 mod failing_writers;
-mod judged;
-mod ordered;
-mod outputs;

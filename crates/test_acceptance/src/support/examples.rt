@@ -19,25 +19,8 @@ pub const E_DRAT: &[u8] = b"2 0\n0\n";
 // The same in the binary form.
 pub const E_BINARY: &[u8] = b"a\x04\x00a\x00";
 
-// All eight clauses of three variables, which have no model.
-pub const EIGHT: &str =
-    "p cnf 3 8\n1 2 3 0\n1 2 -3 0\n1 -2 3 0\n1 -2 -3 0\n-1 2 3 0\n-1 2 -3 0\n-1 -2 3 0\n\
-        -1 -2 -3 0\n";
-
-// 1, so 2 and -2.
-pub const UNIT: &str = "p cnf 2 3\n1 0\n-1 2 0\n-1 -2 0\n";
-
-// 1, so 2.
-pub const IMPLIED: &str = "p cnf 2 2\n1 0\n-1 2 0\n";
-
-// A unit clause twice, and its complement.
-pub const TWO_COPIES: &str = "p cnf 1 3\n1 0\n1 0\n-1 0\n";
-
 // One clause, which has models.
 pub const G: &str = "p cnf 2 1\n1 2 0\n";
-
-// What is written of it.
-pub const G_LINE: &str = "c formula 2 variables 1 clauses";
 
 // Two clauses, with the two models that make 2 true and 1 as one likes.
 pub const MODELS: &str = "p cnf 2 2\n1 -2 0\n2 0\n";
@@ -100,27 +83,12 @@ pub const E_BY_BINARY_TRACED: Row<'static> = Row {
     ..BINARY_TRACED
 };
 
-// What is written with a trace where a clause is added, one is deleted, and the empty clause is
-// added.
-pub const E_WITH_DELETION: &str =
-    "c formula 2 variables 4 clauses\nc 1 add rup\nc 2 delete\nc 3 add rup\nc steps 3 peak 9";
-
 // The empty clause in a formula, of which no proof is read.
 pub const EMPTY_CLAUSE: Row<'static> = Row {
     name: "empty_clause_in_formula",
     formula: "p cnf 0 1\n0\n",
     lines: "c formula 0 variables 1 clauses\nc steps 0 peak 0",
     status: 0,
-    ..LRAT
-};
-
-// No clause at all, and no proof.
-pub const EMPTY_FORMULA: Row<'static> = Row {
-    name: "empty_formula",
-    formula: "p cnf 0 0\n",
-    second: b"",
-    lines: "c formula 0 variables 0 clauses\nc end: no empty clause",
-    status: 1,
     ..LRAT
 };
 

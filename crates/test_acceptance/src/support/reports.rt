@@ -2,8 +2,7 @@
 
 use crate::support::asserts::expect_equal_at;
 use crate::support::engines::Engine;
-use crate::support::rows::{Request, Row};
-use crate::support::search::has_model;
+use crate::support::rows::Row;
 use std::alloc::{AllocError, Global};
 use std::fmt::Debug;
 use std::process::Abort;
@@ -64,16 +63,6 @@ fn expect_runs(
     Ok(())
 }
 
-// Runs each engine of the row over inputs in pieces of this size.
-pub fn expect_in_pieces(
-    rt: &impl Abort,
-    alloc: Global,
-    row: &Row<'_>,
-    size: usize,
-) -> Result<(), AllocError> {
-    expect_runs(rt, alloc, row, size, None)
-}
-
 // Nobody asks for the second input.
 pub fn expect_unread(rt: &impl Abort, alloc: Global, row: &Row<'_>) -> Result<(), AllocError> {
     expect_runs(rt, alloc, row, 7, Some(false))
@@ -84,23 +73,12 @@ pub fn expect_read(rt: &impl Abort, alloc: Global, row: &Row<'_>) -> Result<(), 
     expect_runs(rt, alloc, row, 7, Some(true))
 }
 
-// A formula of which a proof was verified has no model, and one of which a model was verified has
-// one.
-fn expect_no_contradiction(rt: &impl Abort, alloc: Global, row: &Row<'_>) -> Result<(), Fail> {
-    if row.status == 0 {
-        let name = row.name;
-        let claimed = row.request == Request::Model;
-        expect_equal_at(rt, name, has_model(rt, alloc, row.formula)?, claimed);
-    }
-    Ok(())
-}
-
 // Runs over inputs in pieces of four sizes.
 pub fn expect(rt: &impl Abort, alloc: Global, row: &Row<'_>) -> Result<(), Fail> {
     for size in SIZES {
-        expect_in_pieces(rt, alloc, row, size)?;
+        expect_runs(rt, alloc, row, size, None)?;
     }
-    expect_no_contradiction(rt, alloc, row)
+    Ok(())
 }
 
 pub fn expect_all(rt: &impl Abort, alloc: Global, rows: &[Row<'_>]) -> Result<(), Fail> {

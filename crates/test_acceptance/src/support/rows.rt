@@ -99,31 +99,17 @@ pub const BY_OTHER_RULES: Request = drat!(pr, keep_units);
 
 pub const BY_BINARY_DRAT: Request = drat!(binary);
 
-pub const BY_DRAT_KEEP_UNITS_STRICT: Request = drat!(trace, strict, keep_units);
-
 pub const DRAT: Row<'static> = drat_row!();
 
 pub const DRAT_TRACED: Row<'static> = drat_row!(trace);
 
 pub const DRAT_STRICT: Row<'static> = drat_row!(strict);
 
-pub const DRAT_PR: Row<'static> = drat_row!(trace, pr);
-
-pub const DRAT_KEEP_UNITS: Row<'static> = drat_row!(trace, keep_units);
-
-pub const DRAT_KEEP_UNITS_STRICT: Row<'static> = drat_row!(trace, strict, keep_units);
-
 pub const DRAT_KEEP_UNITS_PR: Row<'static> = drat_row!(trace, pr, keep_units);
 
 pub const BY_BINARY: Row<'static> = drat_row!(binary);
 
 pub const BINARY_TRACED: Row<'static> = drat_row!(binary, trace);
-
-pub const BINARY_STRICT: Row<'static> = drat_row!(binary, strict);
-
-pub const BINARY_PR: Row<'static> = drat_row!(binary, trace, pr);
-
-pub const BINARY_KEEP_UNITS: Row<'static> = drat_row!(binary, trace, keep_units);
 
 pub const MODEL: Row<'static> = Row {
     request: Request::Model,

@@ -1,8 +1,8 @@
-//! Proofs in DRAT that are cut, faulty or not read at all.
+//! Proofs in DRAT, after which a read fails, and proofs that are not read at all.
 
 use crate::support::{
-    BY_DRAT, Cut, DRAT, DRAT_TRACED, E, E_BY_DRAT, E_DRAT, EMPTY_CLAUSE, EMPTY_FORMULA, G,
-    OUT_OF_RANGE, Row, expect_all, expect_one_piece_further, expect_ten_bytes, expect_unread,
+    BY_DRAT, Cut, DRAT, E, E_BY_BINARY_TRACED, E_BY_DRAT, E_DRAT, EMPTY_CLAUSE, G, MANY,
+    OUT_OF_RANGE, Row, expect, expect_all, expect_one_piece_further, expect_unread, repeated,
 };
 use std::test::Fail;
 
@@ -10,12 +10,6 @@ const EMPTY_CLAUSE_BY_DRAT: Row<'static> = Row {
     request: BY_DRAT,
     ..EMPTY_CLAUSE
 };
-
-#[test]
-fn writer_of_ten_bytes(rt: HostRuntime) -> Result<(), Fail> {
-    expect_ten_bytes(&rt, rt.alloc(), &E_BY_DRAT, b"c formula ")?;
-    Ok(())
-}
 
 // A formula's empty clause is enough: nobody asks for the proof.
 #[test]
@@ -35,43 +29,24 @@ fn one_piece_further(rt: HostRuntime) -> Result<(), Fail> {
     expect_one_piece_further(&rt, rt.alloc(), &E_BY_DRAT, 400006, 400006 - 65536 - 5)
 }
 
-const ROWS: [Row<'static>; 15] = [
-    Row {
-        second: b"xyz",
-        ..EMPTY_CLAUSE_BY_DRAT
-    },
+// Bad tokens after the step that decides, in more than a piece that is read at once.
+#[test]
+fn after_the_verdict(rt: HostRuntime) -> Result<(), Fail> {
+    let proof = repeated(rt.alloc(), E_DRAT, b"?\n", MANY, b"")?;
+    let row = Row {
+        name: "bad tokens",
+        second: proof.as_slice(),
+        second_cut: Cut::Fails,
+        ..E_BY_DRAT
+    };
+    expect(&rt, rt.alloc(), &row)
+}
+
+const ROWS: [Row<'static>; 8] = [
     Row {
         name: "empty_clause_in_formula, no proof",
         second_cut: Cut::Fails,
         ..EMPTY_CLAUSE_BY_DRAT
-    },
-    Row {
-        request: BY_DRAT,
-        ..EMPTY_FORMULA
-    },
-    Row {
-        name: "proof_cut_or_too_large, cut",
-        formula: E,
-        second: b"2 0\n-1",
-        lines: "c formula 2 variables 4 clauses\nc proof 2:3: unterminated step",
-        status: 2,
-        ..DRAT
-    },
-    Row {
-        name: "proof_cut_or_too_large, too large",
-        formula: E,
-        second: b"268435456 0\n",
-        lines: "c formula 2 variables 4 clauses\nc proof 1:1: literal too large",
-        status: 2,
-        ..DRAT
-    },
-    Row {
-        name: "comments_everywhere",
-        formula: "c hello\n\np cnf 1 1\nc mid\n1\nc in a clause\n0\n",
-        second: b"c note\nd 1 0\n",
-        lines: "c formula 1 variables 1 clauses\nc 1 delete\nc end: no empty clause",
-        status: 1,
-        ..DRAT_TRACED
     },
     Row {
         name: "failed_read_of_proof",
@@ -126,28 +101,9 @@ const ROWS: [Row<'static>; 15] = [
         ..OUT_OF_RANGE
     },
     Row {
-        name: "a bad token",
-        formula: E,
-        second: b"2 0\nx 0\n",
-        lines: "c formula 2 variables 4 clauses\nc 1 add rup\nc proof 2:1: bad token",
-        status: 2,
-        ..DRAT_TRACED
-    },
-    Row {
-        name: "a deletion without an end",
-        formula: E,
-        second: b"d 1 2",
-        lines: "c formula 2 variables 4 clauses\nc proof 1:6: unterminated step",
-        status: 2,
-        ..DRAT
-    },
-    Row {
-        name: "steps over several lines",
-        formula: E,
-        second: b"2\nc 7 0\n\n0 \t0\r",
-        lines: "c formula 2 variables 4 clauses\nc 1 add rup\nc 2 add rup\nc steps 2 peak 9",
-        status: 0,
-        ..DRAT_TRACED
+        name: "a binary proof before a failed read",
+        second_cut: Cut::Fails,
+        ..E_BY_BINARY_TRACED
     },
 ];
 
