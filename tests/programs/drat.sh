@@ -6,21 +6,6 @@ checker=$drat_forward
 
 # ---- Verified
 
-row e_drat 0 $x/e.cnf $x/e.drat <<'LINES'
-c formula 2 variables 4 clauses
-c steps 2 peak 9
-s VERIFIED
-LINES
-told e_drat < /dev/null
-
-row e_drat_with_trace 0 --trace $x/e.cnf $x/e.drat <<'LINES'
-c formula 2 variables 4 clauses
-c 1 add rup
-c 2 add rup
-c steps 2 peak 9
-s VERIFIED
-LINES
-
 row flags_after_the_names 0 $x/e.cnf $x/e.drat --strict --trace <<'LINES'
 c formula 2 variables 4 clauses
 c 1 add rup
@@ -107,21 +92,6 @@ s NOT VERIFIED
 LINES
 told drat_no_empty_clause <<< "drat-forward: $x/no_empty_clause.drat: the proof ends without the empty clause"
 
-row definition_by_rat 1 --trace $x/g.cnf $x/definition_by_rat.drat <<'LINES'
-c formula 2 variables 1 clauses
-c 1 add rat
-c 2 add rat
-c end: no empty clause
-s NOT VERIFIED
-LINES
-
-row neither_rup_nor_rat 1 $x/g.cnf $x/neither_rup_nor_rat.drat <<'LINES'
-c formula 2 variables 1 clauses
-c step 1: neither RUP nor RAT on -1
-s NOT VERIFIED
-LINES
-told neither_rup_nor_rat <<< "drat-forward: $x/neither_rup_nor_rat.drat: the refused step ends at line 1, column 6"
-
 on_stdin=$x/both_copies_deleted.drat row drat_refused_step_of_standard_input 1 $x/copies.cnf <<'LINES'
 c formula 1 variables 3 clauses
 c step 3: not RUP
@@ -157,43 +127,7 @@ c step 2: not RUP
 s NOT VERIFIED
 LINES
 
-row both_copies_deleted 1 $x/copies.cnf $x/both_copies_deleted.drat <<'LINES'
-c formula 1 variables 3 clauses
-c step 3: not RUP
-s NOT VERIFIED
-LINES
-
-row deletion_ignored 1 --trace $x/g.cnf $x/deletion_ignored.drat <<'LINES'
-c formula 2 variables 1 clauses
-c 1 ignored
-c end: no empty clause
-s NOT VERIFIED
-LINES
-
-row deletion_refused 1 --strict $x/g.cnf $x/deletion_ignored.drat <<'LINES'
-c formula 2 variables 1 clauses
-c step 1: clause is not alive
-s NOT VERIFIED
-LINES
-
-row drat_comments_everywhere 1 --trace $x/comments.cnf $x/comments.drat <<'LINES'
-c formula 1 variables 1 clauses
-c 1 delete
-c end: no empty clause
-s NOT VERIFIED
-LINES
-
 # ---- Malformed
-
-row drat_unterminated_step 2 $x/e.cnf $x/unterminated_step.drat <<'LINES'
-c formula 2 variables 4 clauses
-c proof 2:3: unterminated step
-s NOT VERIFIED
-LINES
-told drat_unterminated_step <<LINES
-drat-forward: $x/unterminated_step.drat: line 2, column 3: unterminated step
-drat-forward: $x/unterminated_step.drat: hint: the proof ends inside a step, so it may have been cut short
-LINES
 
 printf 'a\x04' > "$room/cut.bin"
 malformed drat_unterminated_in_binary drat-forward 'byte 3: unterminated step' \

@@ -5,22 +5,6 @@
 checker=$drat_forward
 
 # deletions of clauses that a literal follows by, as Glucose wrote them: by examples/make-glucose-proof.sh
-row units_kept 0 --keep-units $x/kept_units.cnf $x/kept_units.drat <<'LINES'
-c formula 20 variables 45 clauses
-c steps 52 peak 221
-s VERIFIED
-LINES
-
-row units_deleted 1 $x/kept_units.cnf $x/kept_units.drat <<'LINES'
-c formula 20 variables 45 clauses
-c step 51: neither RUP nor RAT on -15
-s NOT VERIFIED
-LINES
-told units_deleted <<LINES
-drat-forward: $x/kept_units.drat: the refused step ends at line 51, column 5
-drat-forward: $x/kept_units.drat: hint: $units_hint
-LINES
-
 row pigeonhole_by_glucose 0 --strict --keep-units $x/pigeonhole-5.cnf $x/pigeonhole-5-glucose.drat <<'LINES'
 c formula 30 variables 81 clauses
 c steps 250 peak 1026
@@ -128,16 +112,6 @@ cut_deletion 6 1 'c 1 ignored' 'c end: no empty clause' 's NOT VERIFIED'
 cut_deletion 7 0 'c 1 ignored' 'c 2 add rup' 'c steps 2 peak 5' 's VERIFIED'
 cut_deletion 8 0 'c 1 ignored' 'c 2 add rup' 'c steps 2 peak 5' 's VERIFIED'
 
-row rat_on_a_deleted_unit 0 --trace $x/rat_on_a_deleted_unit.cnf $x/rat_on_a_deleted_unit.drat <<'LINES'
-c formula 3 variables 5 clauses
-c 1 delete
-c 2 add rat
-c 3 add rup
-c 4 add rup
-c steps 4 peak 10
-s VERIFIED
-LINES
-
 row rat_on_a_kept_unit 1 --keep-units --trace $x/rat_on_a_deleted_unit.cnf $x/rat_on_a_deleted_unit.drat <<'LINES'
 c formula 3 variables 5 clauses
 c 1 ignored
@@ -146,22 +120,10 @@ s NOT VERIFIED
 LINES
 
 # in the binary form, which CaDiCaL writes unless it is told otherwise
-row e_drat_binary 0 --binary $x/e.cnf $x/e.bin <<'LINES'
-c formula 2 variables 4 clauses
-c steps 2 peak 9
-s VERIFIED
-LINES
-
 row pigeonhole_by_cadical_binary 0 $x/pigeonhole-5.cnf --binary $x/pigeonhole-5.bin <<'LINES'
 c formula 30 variables 81 clauses
 c steps 242 peak 402
 s VERIFIED
-LINES
-
-row empty_last_group 2 --binary $x/e.cnf $x/empty_last_group.bin <<'LINES'
-c formula 2 variables 4 clauses
-c proof byte 2: bad number
-s NOT VERIFIED
 LINES
 
 row text_read_as_binary 2 --binary $x/e.cnf $x/e.drat <<'LINES'

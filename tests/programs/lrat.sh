@@ -6,21 +6,6 @@ checker=$lrat_check
 
 # ---- Verified
 
-row e_lrat 0 $x/e.cnf $x/e.lrat <<'LINES'
-c formula 2 variables 4 clauses
-c steps 2 peak 9
-s VERIFIED
-LINES
-told e_lrat < /dev/null
-
-row e_lrat_with_trace 0 --trace $x/e.cnf $x/e.lrat <<'LINES'
-c formula 2 variables 4 clauses
-c 1 add rup
-c 2 add rup
-c steps 2 peak 9
-s VERIFIED
-LINES
-
 row flag_after_the_names 0 $x/e.cnf $x/e.lrat --trace <<'LINES'
 c formula 2 variables 4 clauses
 c 1 add rup
@@ -32,15 +17,6 @@ LINES
 on_stdin=$x/e.lrat row proof_on_standard_input 0 $x/e.cnf <<'LINES'
 c formula 2 variables 4 clauses
 c steps 2 peak 9
-s VERIFIED
-LINES
-
-row deletion 0 --trace $x/e.cnf $x/deletion.lrat <<'LINES'
-c formula 2 variables 4 clauses
-c 1 add rup
-c 2 delete
-c 3 add rup
-c steps 3 peak 9
 s VERIFIED
 LINES
 
@@ -71,28 +47,6 @@ s NOT VERIFIED
 LINES
 told no_empty_clause <<< "lrat-check: $x/no_empty_clause.lrat: the proof ends without the empty clause"
 
-row definition_by_groups 1 --trace $x/g.cnf $x/definition_by_groups.lrat <<'LINES'
-c formula 2 variables 1 clauses
-c 1 add rat
-c 2 add rat
-c end: no empty clause
-s NOT VERIFIED
-LINES
-
-row group_with_hints 1 --trace $x/group_with_hints.cnf $x/group_with_hints.lrat <<'LINES'
-c formula 5 variables 3 clauses
-c 1 add rat
-c end: no empty clause
-s NOT VERIFIED
-LINES
-
-row unnamed_candidate 1 $x/e.cnf $x/unnamed_candidate.lrat <<'LINES'
-c formula 2 variables 4 clauses
-c step 1: clause 4 holds the complement and is not named
-s NOT VERIFIED
-LINES
-told unnamed_candidate <<< "lrat-check: $x/unnamed_candidate.lrat: the refused step ends at line 1, column 9"
-
 on_stdin=$x/deleted_twice.lrat row refused_step_of_standard_input 1 $x/e.cnf <<'LINES'
 c formula 2 variables 4 clauses
 c step 2: unknown id 1
@@ -109,59 +63,13 @@ s NOT VERIFIED
 LINES
 told refused_step_over_lines <<< "lrat-check: $room/lines.lrat: the refused step ends at line 7, column 3"
 
-row hint_with_true_literal 1 $x/e.cnf $x/hint_with_true_literal.lrat <<'LINES'
-c formula 2 variables 4 clauses
-c step 1: hint 4 is not unit
-s NOT VERIFIED
-LINES
-
-row unknown_hint 1 $x/e.cnf $x/unknown_hint.lrat <<'LINES'
-c formula 2 variables 4 clauses
-c step 1: unknown id 9
-s NOT VERIFIED
-LINES
-
-row identifier_not_above 1 $x/e.cnf $x/identifier_not_above.lrat <<'LINES'
-c formula 2 variables 4 clauses
-c step 1: identifier is not above all earlier ones
-s NOT VERIFIED
-LINES
-
 row deleted_twice 1 $x/e.cnf $x/deleted_twice.lrat <<'LINES'
 c formula 2 variables 4 clauses
 c step 2: unknown id 1
 s NOT VERIFIED
 LINES
 
-row named_twice 1 $x/g.cnf $x/named_twice.lrat <<'LINES'
-c formula 2 variables 1 clauses
-c step 2: clause 2 is named twice
-s NOT VERIFIED
-LINES
-
-row group_without_conflict 1 $x/g.cnf $x/group_without_conflict.lrat <<'LINES'
-c formula 2 variables 1 clauses
-c step 2: group 2 has no conflict
-s NOT VERIFIED
-LINES
-
-row comments_everywhere 1 $x/comments.cnf /dev/null <<'LINES'
-c formula 1 variables 1 clauses
-c end: no empty clause
-s NOT VERIFIED
-LINES
-
 # ---- Malformed
-
-row unterminated_step 2 $x/e.cnf $x/unterminated_step.lrat <<'LINES'
-c formula 2 variables 4 clauses
-c proof 3:1: unterminated step
-s NOT VERIFIED
-LINES
-told unterminated_step <<LINES
-lrat-check: $x/unterminated_step.lrat: line 3, column 1: unterminated step
-lrat-check: $x/unterminated_step.lrat: hint: the proof ends inside a step, so it may have been cut short
-LINES
 
 # the binary form, and a text that begins alike
 printf 'a\x0c\x04\0\x02\x04\0' > "$room/binary.lrat"

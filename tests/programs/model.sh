@@ -4,11 +4,6 @@
 
 checker=$model_check
 
-row models 0 $x/models.cnf $x/models.out <<'LINES'
-c clauses 2
-s MODEL VERIFIED
-LINES
-
 on_stdin=$x/models.out row output_on_standard_input 0 $x/models.cnf <<'LINES'
 c clauses 2
 s MODEL VERIFIED
@@ -19,12 +14,6 @@ row queens_by_cadical 0 $x/queens-6.cnf $x/queens-6.out <<'LINES'
 c clauses 296
 s MODEL VERIFIED
 LINES
-
-row clause_not_satisfied 1 $x/models.cnf $x/clause_not_satisfied.out <<'LINES'
-c clause 2 is not satisfied
-s MODEL NOT VERIFIED
-LINES
-told clause_not_satisfied <<< "model-check: $x/models.cnf: clause 2 has no literal of the model"
 
 row no_model_claimed 1 $x/e.cnf $x/unsatisfiable.out <<'LINES'
 c output 1:3: no model claimed
