@@ -4,9 +4,10 @@
     tests/rows.py [NAME]        those of this name alone
 
 A row is run on files, which examples/worked.py does with those of worked.txt, and on pipes that hand out both inputs in pieces
-of 1, 2 and 7 bytes, or of 4096 where an input is very long. Each piece is one read. Where a row is verified, a search over all
-assignments has to agree: a formula with a proof has no model, and one with a model has one. Last come proofs of a formula that
-has models, put together from a few steps, of which none may be verified.
+of 1, 2 and 7 bytes, or of 4096 where an input is very long. Each piece is one read. Where TEST_SCAN names the program of
+crates/test_scan, those of drat-forward are run by it too, which propagates by plain passes, unless an input is very long. Where a
+row is verified, a search over all assignments has to agree: a formula with a proof has no model, and one with a model has one.
+Last come proofs of a formula that has models, put together from a few steps, of which none may be verified.
 
 Beside what worked.txt has, the files have
 
@@ -125,6 +126,18 @@ def agrees(row):
     return row.status != 0 or has_model(clauses_of(bytes_of(row.formula))) == row.command.startswith("model-check")
 
 
+def is_scanned(row):
+    """Whether the row is one of drat-forward's on files that are there, and a program is named that propagates by plain passes."""
+    there = None not in (bytes_of(row.formula), bytes_of(row.input))
+    return there and row.command.startswith("drat-forward") and "TEST_SCAN" in os.environ
+
+
+def run_by_scan(row, room):
+    """What that program writes, and its status; what it tells beside is not compared."""
+    written, status, _ = run(row._replace(command=row.command.replace("drat-forward", "test-scan", 1)), room)
+    return written, status, "".join(row.told) if status else ""
+
+
 def faults_of(row, also_whole):
     """What is wrong with a row, and how much was tried: its runs and, where it is verified, the search."""
     found = [] if agrees(row) else ["the search disagrees"]
@@ -133,6 +146,8 @@ def faults_of(row, also_whole):
     with tempfile.TemporaryDirectory() as room:
         if also_whole:
             runs.append(("whole", lambda: run(row, room)))
+        if is_scanned(row) and not is_long:
+            runs.append(("by plain passes", lambda: run_by_scan(row, room)))
         for how, ended in runs:
             written, status, errors = ended()
             if not is_as_wanted(row, written, status, errors):
@@ -164,6 +179,7 @@ def is_unverified(of):
 def main(only):
     for name in ("lrat-check", "drat-forward", "model-check"):
         os.environ.setdefault(name.replace("-", "_").upper(), f"{TOP}/bin/{name}")
+    for name in ("lrat-check", "drat-forward", "model-check", *(["test-scan"] if "TEST_SCAN" in os.environ else [])):
         if not os.access(program_of(name), os.X_OK):
             print(f"FAILED: there is no program {program_of(name)}\n0 passed, 1 failed")
             return 1

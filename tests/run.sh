@@ -60,7 +60,7 @@ keeps_proofs() {
 # The programs first: then the proofs of the tests have the mutants beside them. The gate counts all again, so here nothing counts
 # but a failure.
 if keeps_proofs; then
-    part tests/prove.py tests/prove.py drat_forward lrat_check model_check bench_lookups test_allocations || failed=$((failed + 1))
+    part tests/prove.py tests/prove.py drat_forward lrat_check model_check bench_lookups test_allocations test_scan || failed=$((failed + 1))
 fi
 
 part "rt ci" "${RT:-rt}" ci
@@ -75,6 +75,7 @@ count $?
 export LRAT_CHECK=crates/lrat_check/out/lrat_check
 export DRAT_FORWARD=crates/drat_forward/out/drat_forward
 export MODEL_CHECK=crates/model_check/out/model_check
+export TEST_SCAN=crates/test_scan/out/test_scan
 if [ "$ended" -eq 0 ] && [ -x "$LRAT_CHECK" ] && [ -x "$DRAT_FORWARD" ] && [ -x "$MODEL_CHECK" ]; then
     mkdir -p bin
     cp "$LRAT_CHECK" bin/lrat-check
