@@ -15,6 +15,7 @@ import tempfile
 from collections import namedtuple
 
 HERE = os.path.dirname(os.path.abspath(__file__))
+# what rows of other files have, which tests/rows.py explains
 TABLE = re.compile(r"(\d+) for each (formula|input) of (\w+)")
 MANY = re.compile(r"\{(\d+)\.\.(\d+) of ([^}]*)\}")
 
