@@ -87,11 +87,11 @@ s VERIFIED
 LINES
 row lrat-check $((thousands * 49000 + 51)) "$lrat_check" examples/e.cnf < <(lrat)
 
-# ---- Clauses whose sizes grow: 32 of each size from 2 to 320, and those of the size before are deleted
+# ---- Clauses whose sizes grow: 16 of each size from 2 to 320, and those of the size before are deleted
 
 most_literals=320
-peak_of_sizes=$((8 + 32 * (2 * most_literals - 1)))
-steps_of_sizes=$((64 * (most_literals - 1) - 32 + 2))
+peak_of_sizes=$((8 + 16 * (2 * most_literals - 1)))
+steps_of_sizes=$((32 * (most_literals - 1) - 16 + 2))
 
 sizes() {
     python3 - "$most_literals" "$1" <<'CODE'
@@ -101,13 +101,13 @@ most, is_lrat = int(sys.argv[1]), sys.argv[2] == "lrat"
 first, ends = 5, " 0 1 3 0\n" if is_lrat else " 0\n"
 for size in range(2, most + 1):
     clause = "1 " + " ".join(map(str, range(3, size + 2)))
-    ids = range(first, first + 32) if is_lrat else [""] * 32
+    ids = range(first, first + 16) if is_lrat else [""] * 16
     sys.stdout.write("".join(f"{i} {clause}{ends}".lstrip() for i in ids))
     if size > 2 and is_lrat:
-        sys.stdout.write("".join(f"{first + 32} d {i - 32} 0\n" for i in ids))
+        sys.stdout.write("".join(f"{first + 16} d {i - 16} 0\n" for i in ids))
     elif size > 2:
-        sys.stdout.write(f"d {before} 0\n" * 32)
-    first, before = first + 32, clause
+        sys.stdout.write(f"d {before} 0\n" * 16)
+    first, before = first + 16, clause
 print(f"{first} 2 0 1 2 0\n{first + 1} 0 {first} 3 4 0" if is_lrat else "2 0\n0")
 CODE
 }

@@ -11,14 +11,16 @@ use cnf_base::OutOfMemory;
 use propagation::Propagate;
 use std::alloc::Global;
 
-/// So many free cells, of 16 bytes each, are never gathered.
-const SPARE_CELLS: u128 = 16384;
+/// So many cells, of 16 bytes each, are counted as needed beside those of clauses.
+const SPARE_CELLS: u128 = 4096;
 
-/// Whether most of these cells are free: clauses need one for each and for four of their literals.
+/// Whether seven in eight of these cells are free: clauses need one for each and for four of their
+/// literals. While they are inserted anew, they stand in memory twice: so it is done where they are
+/// few.
 pub(crate) fn is_sparse(cells: usize, literals: u64, clauses: u64) -> bool
-    ensures { result ≡ nat_lt (literals / 4 + clauses + 16384) (cells / 2) }
+    ensures { result ≡ nat_lt (literals / 4 + clauses + 4096) (cells / 8) }
 {
-    (cells as u128) / 2 > u128::from(literals / 4) + u128::from(clauses) + SPARE_CELLS
+    (cells as u128) / 8 > u128::from(literals / 4) + u128::from(clauses) + SPARE_CELLS
 }
 
 /// The clauses of a store, in slots that follow one another. It fails only where memory is refused.
