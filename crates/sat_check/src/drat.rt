@@ -47,30 +47,11 @@ pub fn run_drat<F: In, P: In, O: Out>(
     ensures steps_verify { DratStepsVerify options.now (F.shown formula.old)
         (P.shown proof.old) (P.shown proof.new) result (O.held out.old) (O.held out.new) }
 {
-    run_drat_placed(alloc, options, formula, proof, out).status
+    run_drat_kept(alloc, options, formula, proof, out).0.status
 }
 
-/// As [`run_drat`], and tells where the step ends that was refused.
-pub fn run_drat_placed<F: In, P: In, O: Out>(
-    alloc: Global,
-    options: &DratOptions,
-    formula: &mut F,
-    proof: &mut P,
-    out: &mut O,
-) -> Checked
-    ensures runs { RunsDrat options.now (F.shown formula.old) (F.shown formula.new)
-        (P.shown proof.old) (P.shown proof.new) (O.held out.old) (O.held out.new)
-        (O.has_failed out.old) (O.has_failed out.new) (O.is_flushed out.new) result }
-    ensures unsatisfiable { ShowsUnsatisfiable (F.shown formula.old).left result.status
-        (O.held out.old) (O.held out.new) }
-    ensures steps_verify { DratStepsVerify options.now (F.shown formula.old)
-        (P.shown proof.old) (P.shown proof.new) result.status (O.held out.old) (O.held out.new) }
-{
-    run_drat_kept(alloc, options, formula, proof, out).0
-}
-
-/// As [`run_drat_placed`], and hands over the session that it checked in, if there was memory for
-/// one.
+/// As [`run_drat`], and tells why it ended so. It hands over the session that it checked in, if there
+/// was memory for one.
 pub(crate) fn run_drat_kept<F: In, P: In, O: Out>(
     alloc: Global,
     options: &DratOptions,

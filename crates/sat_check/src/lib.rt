@@ -29,10 +29,10 @@ mod tools;
 
 pub use checked::Checked;
 pub use command_line::{Args, ArgsFault, Tool, read_args};
-pub use drat::{run_drat, run_drat_placed, run_drat_with};
+pub use drat::{run_drat, run_drat_with};
 pub use input_fault::InputFault;
 pub use kinds::{binary_kind, text_kind};
-pub use lrat::{run_lrat, run_lrat_placed};
+pub use lrat::run_lrat;
 pub use model::{run_model, run_model_placed};
 pub use options::{DratOptions, LratOptions};
 pub use status::Status;

@@ -44,30 +44,11 @@ pub fn run_lrat<F: In, P: In, O: Out>(
     ensures steps_verify { LratStepsVerify (F.shown formula.old) (P.shown proof.old)
         (P.shown proof.new) result (O.held out.old) (O.held out.new) }
 {
-    run_lrat_placed(alloc, options, formula, proof, out).status
+    run_lrat_kept(alloc, options, formula, proof, out).0.status
 }
 
-/// As [`run_lrat`], and tells where the step ends that was refused.
-pub fn run_lrat_placed<F: In, P: In, O: Out>(
-    alloc: Global,
-    options: &LratOptions,
-    formula: &mut F,
-    proof: &mut P,
-    out: &mut O,
-) -> Checked
-    ensures runs { RunsLrat options.now.trace (F.shown formula.old) (F.shown formula.new)
-        (P.shown proof.old) (P.shown proof.new) (O.held out.old) (O.held out.new)
-        (O.has_failed out.old) (O.has_failed out.new) (O.is_flushed out.new) result }
-    ensures unsatisfiable { ShowsUnsatisfiable (F.shown formula.old).left result.status
-        (O.held out.old) (O.held out.new) }
-    ensures steps_verify { LratStepsVerify (F.shown formula.old) (P.shown proof.old)
-        (P.shown proof.new) result.status (O.held out.old) (O.held out.new) }
-{
-    run_lrat_kept(alloc, options, formula, proof, out).0
-}
-
-/// As [`run_lrat_placed`], and hands over the session that it checked in, if there was memory for
-/// one.
+/// As [`run_lrat`], and tells why it ended so. It hands over the session that it checked in, if there
+/// was memory for one.
 pub(crate) fn run_lrat_kept<F: In, P: In, O: Out>(
     alloc: Global,
     options: &LratOptions,

@@ -15,8 +15,8 @@ use cnf_base::{In, Out};
 use std::alloc::Global;
 use std::mem::ManuallyDrop;
 
-/// What `drat-forward` does with its inputs: [`run_drat_placed`](crate::run_drat_placed) by the
-/// options that the words ask for. The memory of its clauses is not given back.
+/// What `drat-forward` does with its inputs: [`run_drat`](crate::run_drat) by the options that the
+/// words ask for, and why it ended so. The memory of its clauses is not given back.
 pub fn drat_forward<F: In, P: In, O: Out>(
     alloc: Global,
     args: &Args,
@@ -39,8 +39,8 @@ pub fn drat_forward<F: In, P: In, O: Out>(
     checked
 }
 
-/// What `lrat-check` does with its inputs: [`run_lrat_placed`](crate::run_lrat_placed) by the
-/// options that the words ask for. The memory of its clauses is not given back.
+/// What `lrat-check` does with its inputs: [`run_lrat`](crate::run_lrat) by the options that the
+/// words ask for, and why it ended so. The memory of its clauses is not given back.
 pub fn lrat_check<F: In, P: In, O: Out>(
     alloc: Global,
     args: &Args,

@@ -6,7 +6,7 @@ use crate::support::{
 };
 use cnf_base::{FromRead, In, Out, Place, ToWrite};
 use proofs::StepEnd;
-use sat_check::{Checked, Status, run_drat_placed, run_lrat_placed};
+use sat_check::{Args, Checked, DratOptions, Status, drat_forward, lrat_check};
 use std::alloc::Global;
 use std::process::Abort;
 use std::test::Fail;
@@ -22,6 +22,29 @@ const fn byte(byte_no: u64) -> Option<StepEnd> {
     Some(StepEnd::Byte(byte_no))
 }
 
+// Words without options, but for the trace.
+fn plain(alloc: Global, trace: bool) -> Args {
+    Args {
+        binary: false,
+        trace,
+        strict: false,
+        pr: false,
+        keep_units: false,
+        formula: String::new(alloc),
+        second: None,
+    }
+}
+
+// The words that ask for these options.
+fn words_for(alloc: Global, options: &DratOptions) -> Args {
+    let mut args = plain(alloc, options.trace);
+    args.binary = options.binary;
+    args.strict = options.strict;
+    args.pr = options.pr;
+    args.keep_units = options.keep_units;
+    args
+}
+
 fn run_placed<F: In, P: In, O: Out>(
     alloc: Global,
     request: Request,
@@ -30,8 +53,13 @@ fn run_placed<F: In, P: In, O: Out>(
     out: &mut O,
 ) -> Checked {
     match request {
-        Request::Lrat(options) => run_lrat_placed(alloc, &options, formula, proof, out),
-        Request::Drat(options) => run_drat_placed(alloc, &options, formula, proof, out),
+        Request::Lrat(options) => {
+            lrat_check(alloc, &plain(alloc, options.trace), formula, proof, out)
+        }
+        Request::Drat(options) => {
+            let args = words_for(alloc, &options);
+            drat_forward(alloc, &args, options.seed, formula, proof, out)
+        }
         Request::Model => Checked {
             status: Status::Usage,
             refused: None,
