@@ -2,7 +2,6 @@
 
 mod calls;
 mod fresh;
-mod gather;
 mod roots;
 mod sequences;
 mod trails;
