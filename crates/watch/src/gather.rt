@@ -1,6 +1,6 @@
 //! The clauses together in memory, where many that stood between them are gone.
 
-ghost use Rattle.std.specs.Prelude.{◌≡◌, ◌+◌, ◌/◌, nat_lt, [], false, IfOk};
+ghost use Rattle.std.specs.Prelude.{◌≡◌, ◌+◌, ◌*◌, nat_lt, [], false, IfOk};
 ghost use Rattle.std.specs.FinMap as maps;
 ghost use Rattle.theory.specs.Drat.{SameLive};
 ghost use Rattle.root_literals.specs.Order.{each_in_order};
@@ -11,16 +11,16 @@ use cnf_base::OutOfMemory;
 use propagation::Propagate;
 use std::alloc::Global;
 
-/// So many cells, of 16 bytes each, are counted as needed beside those of clauses.
-const SPARE_CELLS: u128 = 4096;
+/// So many free cells, of 16 bytes each, are never gathered.
+const SPARE_CELLS: u128 = 16384;
 
-/// Whether seven in eight of these cells are free: clauses need one for each and for four of their
-/// literals. While they are inserted anew, they stand in memory twice: so it is done where they are
-/// few.
-pub(crate) fn is_sparse(cells: usize, literals: u64, clauses: u64) -> bool
-    ensures { result ≡ nat_lt (literals / 4 + clauses + 4096) (cells / 8) }
+/// Whether more than three in four of these cells are free: a clause needs one and a fourth of its
+/// literals, so a short one needs one and another at most three fourths of its literals. While
+/// clauses are inserted anew they stand in memory twice: so it is done where they are few.
+pub(crate) fn is_sparse(cells: usize, literals: u64, short: usize) -> bool
+    ensures { result ≡ nat_lt (3 * literals + 4 * short + 16384) cells }
 {
-    (cells as u128) / 8 > u128::from(literals / 4) + u128::from(clauses) + SPARE_CELLS
+    (cells as u128) > 3 * u128::from(literals) + 4 * (short as u128) + SPARE_CELLS
 }
 
 /// The clauses of a store, in slots that follow one another. It fails only where memory is refused.

@@ -7,6 +7,7 @@ ghost use Rattle.std.specs.Prelude.{◌≡◌, ◌≢◌, ℕ, [], ◌*◌, ◌�
 ghost use Rattle.std.specs.Prelude.{false, IsTrue, IfOk, OnOk, OnErr, IfSome, IfNone, IsSome};
 ghost use Rattle.std.specs.FinMap as maps;
 ghost use Rattle.cnf_base.specs.Literals.{Literal, complements, has};
+ghost use Rattle.theory.specs.Drat.{SameLive};
 ghost use Rattle.theory.specs.Propagation.{Clash, Forced};
 ghost use Rattle.propagation.specs.Assumptions.{HoldsLiveAlone, IsThere, MayAssume};
 ghost use Rattle.propagation.specs.Code.Scan.{AssumesOn};
@@ -279,6 +280,24 @@ impl Watch {
         refreshed
     }
 
+    /// Gathers the clauses, out of line: here is room for all of another one.
+    #[cold]
+    #[inline(never)]
+    fn gather_sparse(&mut self)
+        requires nothing_assumed { self.old.propagation.assumptions ≡ [] }
+        requires not_refused { self.old.propagation.has_refused ≡ false }
+        ensures live { SameLive (maps.values self.new.propagation.live)
+            (maps.values self.old.propagation.live) }
+        ensures live_alone { HoldsLiveAlone self.new.propagation }
+        ensures nothing_assumed { self.new.propagation.assumptions ≡ [] }
+        ensures refused { self.new.propagation.has_refused ≡ false }
+    {
+        self.store.recall_invariant();
+        if let Ok(mut gathered) = gathered(self.alloc, self.seed, &self.store) {
+            std::mem::swap(self, &mut gathered);
+        }
+    }
+
     /// Takes back the last assumption, without memory. What is known with nothing assumed stays.
     pub fn take_back(&mut self)
         requires { self.old.propagation.assumptions ≢ [] }
@@ -334,12 +353,9 @@ impl Propagate for Watch {
 
     fn gather(&mut self) {
         self.store.recall_invariant();
-        let clauses = (self.watch_entries() / 2).saturating_add(self.short_entries() as u64);
-        if self.has_refused || !is_sparse(self.store.end(), self.store.literals(), clauses) {
-            return;
-        }
-        if let Ok(mut gathered) = gathered(self.alloc, self.seed, &self.store) {
-            std::mem::swap(self, &mut gathered);
+        let short = self.short_entries();
+        if !self.has_refused && is_sparse(self.store.end(), self.store.literals(), short) {
+            self.gather_sparse();
         }
     }
 
