@@ -50,7 +50,7 @@ TRIED = [
     (["Option", "DRAT option", "Step rule"], ["strict", "keep_units"], ANY),
     (["Step rule"], ["HasRup", "HasRat", "HasPr"], ANY),
     (["Cause of refusal"], variants("crates/theory/src/refusal.rt", "Refusal", "OutOfMemory", "Ended"), ANY),
-    (["Cause of refusal", "Word of acceptance"], variants("crates/theory/src/accepted.rt", "Accepted", "Empty"), "crates/[st]*"),
+    (["Cause of refusal", "Word of acceptance"], variants("crates/theory/src/accepted.rt", "Accepted", "Empty"), "crates/[dst]*"),
     (["Proof format", "Hint"], ["DratBinary", "binary_steps", "LratText", "lrat_steps"], ANY),
     (["Kind of proof"], ["LratJudge"], ANY),
     (["Model rule"], ["meets"], "crates/sat_check/*"),

@@ -31,7 +31,7 @@ use Rattle.steps.specs.ProofSession.{View}
 use Rattle.theory.specs.Verdicts.{is_empty}
 use Rattle.theory.proofs.DratLemmas.Copies.{copies-cons, none_alive}
 use Rattle.cnf_base.proofs.SetLemmas.{same_itself}
-use Rattle.steps.proofs.DratLemmas.Steps.{none_listed}
+use Rattle.drat_steps.proofs.DratLemmas.Steps.{none_listed}
 use Rattle.theory.proofs.LratLemmas.LiveSets.{SameClauses-trans, SameClauses-eq}
 use Rattle.theory.proofs.LawLemmas.Rules.{same_trans, sum_same}
 use Rattle.theory.proofs.LratLemmas.SameSets.{with_same}

@@ -1,4 +1,3 @@
-pub mod DratLemmas
 pub mod LratLemmas
 pub mod NamingLemmas
 pub mod SessionLemmas

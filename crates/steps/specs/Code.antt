@@ -1,5 +1,4 @@
 -- How the parts of the code fit together. No public contract speaks of it.
-pub mod Candidates
 pub mod Groups
 pub mod Naming
 pub mod Ready

@@ -1,23 +1,16 @@
 //! Sessions that check a DRAT proof.
 
-mod addition;
-mod candidates;
-mod deletion;
-mod step;
-
 ghost use Rattle.std.specs.Prelude.{◌≡◌, ℕ, [], false, IsFalse};
 ghost use Rattle.std.specs.FinMap as maps;
 ghost use Rattle.theory.specs.Rules.{drat};
 ghost use Rattle.steps.specs.Session.{fresh};
 ghost use Rattle.trail.specs.LiteralSet.{in_set};
 
-use crate::drat::addition::Examiner;
-use crate::drat::deletion::delete;
-use crate::drat::step::{add_copy, parts_under};
 use crate::judge::Judge;
 use crate::named::Named;
 use crate::session::Session;
 use cnf_base::{Lit, OutOfMemory};
+use drat_steps::{Examiner, add_copy, delete, parts_under};
 use proofs::{StepBuf, StepKind};
 use propagation::Propagate;
 use theory::{Accepted, DratRules, Refusal};
@@ -60,7 +53,7 @@ impl<P: Propagate> Session<Named<DratJudge<P>>> {
 
 impl<P: Propagate> Judge for DratJudge<P> {
     ghost use Rattle.theory.specs.Rules.{drat};
-    ghost use Rattle.steps.specs.Code.Ready.{IsIdle};
+    ghost use Rattle.drat_steps.specs.Ready.{IsIdle};
 
     // Each field has to be named here, those of the examiner too. Of them the clauses alone have
     // lists of literals; what the examiner has beside them is empty.

@@ -7,9 +7,9 @@ mod lrat;
 mod named;
 mod proof_session;
 mod session;
-mod word;
 
 pub use drat::DratSession;
+use drat_steps::word;
 pub use lrat::LratSession;
 pub use proof_session::ProofSession;
 pub use theory::{Accepted, DratRules, Refusal, laws};

@@ -1,0 +1,181 @@
+-- What deletions lose, from what propagation over the slots says.
+use Rattle.std.proofs.Common.{◌≡◌, ℕ, ◌≤◌, Bool, true, false, Option, Some, None, is_some, IsSome, Ok, Err, Result, List, [], ◌++◌, slice_get, subst, ap, arith, IfOk, OnErr, refl, sym, ◌∙◌, inl, inr, ◌⊎◌, ◌↔◌}
+use Rattle.std.specs.Ordering.{nat_cmp}
+use Rattle.std.specs.FinMap as maps
+use Rattle.std.specs.FinMap.{FinMap}
+use Rattle.std.proofs.lemmas.Bool.{cases_Bool, false≢true}
+use Rattle.cnf_base.specs.Literals.{Literal, Clause, has, same_clause, size}
+use Rattle.cnf_base.proofs.MapLemmas.{after_remove, sum_remove}
+use Rattle.cnf_base.proofs.SetLemmas.{same_itself, same_symm, same_there, same_back}
+use Rattle.theory.specs.declared.accepted.Accepted.TheVariants.{Deleted}
+use Rattle.theory.specs.Drat.{SameLive, take_off}
+use Rattle.theory.specs.Losses.{DeleteLoses}
+use Rattle.theory.specs.Propagation.{Live, Forced, Clash, IsRootReason, by_both}
+use Rattle.propagation.specs.Assumptions.{IsValue, IsAnswer, Propagation, Assuming, assumed_by}
+use Rattle.propagation.specs.declared.answer.Answer.{Answer}
+use Rattle.propagation.specs.declared.answer.Answer.TheVariants as answers
+use Rattle.clause_db.specs.Store.{literals_in}
+use Rattle.trail.specs.declared.value.Value.{Value}
+use Rattle.trail.specs.declared.value.Value.TheVariants.{True, False, Open}
+use Rattle.theory.proofs.DratLemmas.Copies.{covers_of}
+use Rattle.theory.proofs.LawLemmas.Losses.{none_held, still_held, no_reason_kept}
+use Rattle.theory.proofs.PropagationLemmas.Covers.{Covers, forced_covers, clash_covers}
+use Rattle.theory.proofs.PropagationLemmas.Forced.{forced_through, clash_through}
+use Rattle.drat_steps.proofs.DratLemmas.Slots.{slots-clash, slots_covered, covered_by_slots, slots-reason}
+use Rattle.drat_steps.proofs.DratLemmas.Slots.{reason-slots, slots-remove}
+
+-- ---- The clause in the slot, however the step writes it
+
+module _ (live : FinMap nat_cmp Clause) (slot : ℕ) (c lits : Clause) (there : maps.get live slot ≡ Some c) (same : same_clause c lits ≡ true) where
+  abbrev left : FinMap nat_cmp Clause
+  left = maps.remove live slot
+
+  abbrev Loses : Type 0
+  Loses = DeleteLoses (maps.values live) lits Deleted
+
+  removed : Covers (maps.get left) (maps.get live)
+  removed k d at = (k, d, after_remove live slot k d at, same_itself d)
+
+  off : SameLive (maps.values left) (take_off lits (maps.values live))
+  off = slots-remove live slot lits c there (same_symm c lits same)
+
+  listed : (l : Literal) → Forced (maps.get live) [] l → Forced (slice_get (maps.values live)) [] l
+  listed l f = forced_covers _ _ (slots_covered live) [] l f
+
+  left_listed : (l : Literal) → Forced (maps.get left) [] l → Forced (slice_get (take_off lits (maps.values live))) [] l
+  left_listed l f = forced_covers _ _ (covers_of _ _ off) [] l (forced_covers _ _ (slots_covered left) [] l f)
+
+  left_slots : (l : Literal) → Forced (slice_get (take_off lits (maps.values live))) [] l → Forced (maps.get left) [] l
+  left_slots l f =
+      forced_covers _ _ (covered_by_slots left) [] l (forced_covers _ _ (covers_of _ _ (record { copies = λ e. sym (off.copies e) })) [] l f)
+
+  -- it was no reason
+  pub reasonless : ¬ IsRootReason (maps.get live) c → ¬ Loses
+  reasonless none = no_reason_kept (maps.values live) lits (λ r. none (reason-slots live lits c (same_symm c lits same) r))
+
+  -- past a clash
+  pub loses_past_clash : Clash (maps.get live) [] → (reason : Bool) → (reason ≡ true → IsRootReason (maps.get live) c) → (reason ≡ false → ¬ IsRootReason (maps.get live) c)
+      → (reason ≡ true) ↔ Loses
+  loses_past_clash clash reason is_one is_none = (
+    λ h. inl ((slots-clash live []).0 clash, slots-reason live c lits same (is_one h)),
+    λ loses. elim (cases_Bool reason) [
+      | inl is ↦ is
+      | inr not ↦ absurd (reasonless (is_none not) loses)
+    ],
+  )
+
+  module _ (quiet : ¬ Clash (maps.get live) []) where
+    quiet_listed : ¬ Clash (slice_get (maps.values live)) []
+    quiet_listed clash = quiet ((slots-clash live []).1 clash)
+
+    -- no literal of it held for good
+    pub loses_nothing : ((l : Literal) → has c l ≡ true → ¬ Forced (maps.get live) [] l) → ¬ Loses
+    loses_nothing none (inl p) = quiet_listed p.0
+    loses_nothing none (inr p) =
+        none_held (maps.values live) lits quiet_listed (λ l member f. none l (same_back c lits same l member) (forced_covers _ _ (covered_by_slots live) [] l f)) p.1
+
+    -- one did
+    module _ (l : Literal) (member : has c l ≡ true) (held : Forced (maps.get live) [] l) where
+      keeps_all : Forced (maps.get left) [] l → ¬ Loses
+      keeps_all still (inl p) = quiet_listed p.0
+      keeps_all still (inr p) = still_held (maps.values live) lits quiet_listed l (same_there c lits same l member) (listed l held) (left_listed l still) p.1
+
+      pub loses_held : (lost : Bool) → (lost ≡ true → ¬ Forced (maps.get left) [] l) → (lost ≡ false → Forced (maps.get left) [] l ⊎ Clash (maps.get left) []) → (lost ≡ true) ↔ Loses
+      loses_held lost gone stays = (
+        λ h. inr (quiet_listed, record { literal = l; forced = listed l held; lost = λ f. gone h (left_slots l f) }),
+        λ loses. elim (cases_Bool lost) [
+          | inl is ↦ is
+          | inr not ↦ elim (stays not) [
+            | inl still ↦ absurd (keeps_all still loses)
+            | inr clash ↦ absurd (quiet (clash_covers _ _ removed [] clash))
+          ]
+        ],
+      )
+
+-- ---- What is noted
+
+-- nothing is lost, and what was noted stays
+pub noted_before : (had : Bool) (X : Type 0) → ¬ X → (had ≡ true) ↔ ((had ≡ true) ⊎ X)
+noted_before had X none = (
+  λ h. inl h,
+  λ either. elim either [
+    | inl h ↦ h
+    | inr loses ↦ absurd (none loses)
+  ],
+)
+
+-- a loss was noted before
+pub noted_already : (had : Bool) (X : Type 0) → had ≡ true → (had ≡ true) ↔ ((had ≡ true) ⊎ X)
+noted_already had X is = (λ h. inl h, λ either. is)
+
+-- nothing was noted before
+pub noted_now : (had told : Bool) (X : Type 0) → had ≡ false → (told ≡ true) ↔ X → (told ≡ true) ↔ ((had ≡ true) ⊎ X)
+noted_now had told X none tells = (
+  λ h. inr (tells.0 h),
+  λ either. elim either [
+    | inl h ↦ absurd (false≢true (sym none ∙ h))
+    | inr loses ↦ tells.1 loses
+  ],
+)
+
+-- ---- Values
+
+-- what isn't true doesn't follow, where nothing clashes
+pub not_forced : (live : Live) (assumed : List Literal) (l : Literal) (v : Value) → ¬ Clash live assumed → IsValue live assumed l v → (v ≡ True → ⊥) → ¬ Forced live assumed l
+not_forced live assumed l True quiet is not f = not refl
+not_forced live assumed l False quiet is not f = quiet (by_both l f is)
+not_forced live assumed l Open quiet is not f = is.0 f
+
+-- ---- Nothing is assumed but what is
+
+module _ {E : Type 0} (before after : Propagation) (answer : Answer) (idle : before.assumptions ≡ []) (assumed : Assuming {E = E} before after [] (Ok answer)) where
+  answered : IsAnswer (maps.get before.live) [] answer
+  answered = subst (λ xs. IsAnswer (maps.get before.live) (assumed_by xs ++ []) answer) idle assumed.answer
+
+  pub has_clashed : answer ≡ answers.Clash → Clash (maps.get before.live) []
+  has_clashed is = subst (IsAnswer (maps.get before.live) []) is answered
+
+  pub is_quiet : answer ≡ answers.Quiet → ¬ Clash (maps.get before.live) []
+  is_quiet is = subst (IsAnswer (maps.get before.live) []) is answered
+
+  module _ (is : answer ≡ answers.Quiet) where
+    abbrev now : List Literal
+    now = assumed_by after.assumptions
+
+    none_assumed : (l : Literal) → has now l ≡ true → ⊥
+    none_assumed l h =
+        let stands = assumed.stands in
+        false≢true (sym (stands.same is l ∙ ap (λ xs. has (assumed_by xs ++ []) l) idle) ∙ (ap (λ xs. has (assumed_by xs) l) (sym stands.stands) ∙ h))
+
+    pub forced_now : (l : Literal) → Forced (maps.get before.live) [] l → Forced (maps.get after.live) now l
+    forced_now l f =
+        subst (λ m. Forced (maps.get m) now l) (sym assumed.live) (forced_through (maps.get before.live) [] now (λ a h. absurd (false≢true h)) l f)
+
+    pub forced_before : (l : Literal) → Forced (maps.get after.live) now l → Forced (maps.get before.live) [] l
+    forced_before l f =
+        forced_through (maps.get before.live) now [] (λ a h. absurd (none_assumed a h)) l (subst (λ m. Forced (maps.get m) now l) assumed.live f)
+
+    pub no_clash_now : ¬ Clash (maps.get after.live) now
+    no_clash_now clash =
+        is_quiet is (clash_through (maps.get before.live) now [] (λ a h. absurd (none_assumed a h)) (subst (λ m. Clash (maps.get m) now) assumed.live clash))
+
+-- ---- Results
+
+pub if_ok_both : {A E : Type 0} (result : Result A E) (X Y Z : A → Type 0) → ((a : A) → X a → Y a → Z a) → IfOk result X → IfOk result Y → IfOk result Z
+if_ok_both (Ok a) X Y Z both x y = both a x y
+if_ok_both (Err e) X Y Z both x y = tt
+
+pub on_err_too : {A E : Type 0} (result : Result A E) (X : Type 0) → X → OnErr result X
+on_err_too (Ok a) X x = tt
+on_err_too (Err e) X x = x
+
+-- without a clause there are no more literals
+pub fewer_literals : (live : FinMap nat_cmp Clause) (slot : ℕ) → IsSome (maps.get live slot) → literals_in (maps.remove live slot) ≤ literals_in live
+fewer_literals live slot alive =
+    let c = some_at _ alive in
+    let less = sum_remove size live slot c.0 c.1 in
+    omega (arith, less)
+  where
+    some_at : (o : Option Clause) → is_some o ≡ true → (c : Clause) × (o ≡ Some c)
+    some_at None h = absurd (false≢true h)
+    some_at (Some c) h = (c, refl)

@@ -1,0 +1,49 @@
+use Rattle.std.proofs.Common.{ap, ◌∙◌, subst}
+use Rattle.std.specs.FinMap as maps
+use Rattle.std.proofs.lemmas.Bool.{false≢true}
+use Rattle.std.proofs.lemmas.List.{take_all}
+use Rattle.propagation.specs.Assumptions.{assumed_by}
+use Rattle.drat_steps.proofs.DratLemmas.Candidates.{Passed, all_touched_passed, can_try, clashed_after}
+use Rattle.drat_steps.proofs.DratLemmas.Candidates.{none_clashed, none_is_one, passed_more, stops_at}
+use Rattle.drat_steps.proofs.DratLemmas.Candidates.{touched_alive}
+use Rattle.drat_steps.proofs.candidates.Candidates.all_clash.Goals as goal
+
+pub returns-then-none_touched-clause-searched : goal.returns-then-none_touched-clause-searched
+returns-then-none_touched-clause-searched g c =
+    let now = g.P.Propagate.state c.args.clauses.now in
+    none_is_one (maps.get now.live) (assumed_by now.assumptions) c.args.self.now c.args.lits.now c.requires.touched (c.none_touched.ensures c.if-none_touched.true)
+
+pub loop-slot-init : goal.loop-slot-init
+loop-slot-init g c = record {
+  passed = λ s none. absurd (false≢true none);
+  same = record { live = ap (λ p. p.live) c.touched.ensures.same; assumptions = ap (λ p. p.assumptions) c.touched.ensures.same };
+  clashed = none_clashed (g.P.Propagate.state c.touched.new.self) c.args.self.now _ c.clear.ensures;
+}
+
+pub passes-requires-clause-can_try : goal.passes-requires-clause-can_try
+passes-requires-clause-can_try g c =
+    can_try (g.P.Propagate.state c.args.clauses.now) (g.P.Propagate.state c.loop-slot.clauses) c.loop-slot.invariant.same c.requires.room c.requires.quiet
+    c.as_slice-slot-items.result.now c.loop-slot.slot-index c.at.result c.loop-slot-test.true c.at.ensures
+    (touched_alive (g.P.Propagate.state c.args.clauses.now).live c.args.lits.now _ _ c.as_slice-slot-items.ensures.value c.in_ok-touched.ensures.each)
+
+pub returns-then-not-branch-clause-searched : goal.returns-then-not-branch-clause-searched
+returns-then-not-branch-clause-searched g c =
+    stops_at (g.P.Propagate.state c.args.clauses.now) (g.P.Propagate.state c.loop-slot.clauses) c.loop-slot.invariant.same c.args.self.now
+    c.as_slice-slot-items.result.now c.loop-slot.slot-index c.at.result c.loop-slot-test.true c.at.ensures _ c.in_ok-passes.ensures.passes
+    (touched_alive (g.P.Propagate.state c.args.clauses.now).live c.args.lits.now _ _ c.as_slice-slot-items.ensures.value c.in_ok-touched.ensures.each)
+    c.if-not-branch.true
+
+pub loop-slot-preserved : goal.loop-slot-preserved
+loop-slot-preserved g c =
+    let inv = c.loop-slot.invariant in
+    record {
+      passed = passed_more (g.P.Propagate.state c.args.clauses.now) (g.P.Propagate.state c.loop-slot.clauses) inv.same c.args.self.now c.as_slice-slot-items.result.now c.loop-slot.slot-index c.at.result c.loop-slot-test.true c.at.ensures _ c.in_ok-passes.ensures.passes inv.passed c.if-not-branch.false;
+      same = record { live = c.passes.ensures.same.live ∙ inv.same.live; assumptions = c.passes.ensures.same.assumptions ∙ inv.same.assumptions };
+      clashed = clashed_after (g.P.Propagate.state c.loop-slot.clauses) (g.P.Propagate.state c.passes.new.clauses) c.passes.ensures.same c.args.self.now _ c.in_ok-passes.ensures.clashed;
+    }
+
+pub returns-clause-searched : goal.returns-clause-searched
+returns-clause-searched g c =
+    let now = g.P.Propagate.state c.args.clauses.now in
+    all_touched_passed now c.args.self.now c.args.lits.now c.requires.touched _ _ c.as_slice-slot-items.ensures.value c.in_ok-touched.ensures.all
+    (subst (λ slots. Passed now c.args.self.now slots) (take_all c.loop-slot.slot-index c.as_slice-slot-items.result.now c.loop-slot-test.false) c.loop-slot.invariant.passed)

@@ -1,0 +1,38 @@
+use Rattle.std.proofs.Common.{◌≡◌, true, eqb, eqb-true, take, sym, ap, ◌∙◌, subst, inl, inr}
+use Rattle.std.specs.FinMap as maps
+use Rattle.std.proofs.lemmas.Bool.{or_cases, false≢true}
+use Rattle.std.proofs.lemmas.List.{take_all}
+use Rattle.std.proofs.lemmas.Option.{same_Some}
+use Rattle.cnf_base.specs.Literals.{has}
+use Rattle.cnf_base.proofs.SetLemmas.{same_there}
+use Rattle.cnf_base.proofs.WalkLemmas.{has_more}
+use Rattle.propagation.specs.Assumptions.{assumed_by}
+use Rattle.theory.specs.Propagation.{Forced}
+use Rattle.drat_steps.proofs.DratLemmas.Losses.{not_forced}
+use Rattle.drat_steps.proofs.deletion.true_literal.Goals.{in-True, in_default}
+use Rattle.drat_steps.proofs.deletion.true_literal.Goals as goal
+
+pub loop-l-init : goal.loop-l-init
+loop-l-init g c x h f = false≢true h
+
+pub loop-l-preserved : goal.loop-l-preserved
+loop-l-preserved g c x h =
+    let state = g.P.Propagate.state c.args.clauses.now in
+    let items = c.clause-l-items.result.now in
+    let i = c.loop-l.l-index in
+    let item = c.l-item.result in
+    elim (or_cases (has (take i items) x) (eqb item x) (sym (has_more items i c.loop-l-test.true item c.l-item.is x) ∙ h)) [
+      | inl before ↦ c.loop-l.invariant x before
+      | inr here ↦ subst (λ k. ¬ Forced (maps.get state.live) (assumed_by state.assumptions) k) (eqb-true item x here)
+          (not_forced (maps.get state.live) (assumed_by state.assumptions) item c.value.result c.requires.no_clash c.value.ensures (elim c.match-matches.branch [
+            | in-True w ↦ λ is. absurd (false≢true (sym c.if-matches.false ∙ w.matches-is))
+            | in_default w ↦ w.in_default.not-True
+          ]))
+    ]
+
+pub returns-clause-none : goal.returns-clause-none
+returns-clause-none g c d l there member =
+    let items = c.clause-l-items.result.now in
+    let shown = c.clause-l-items.ensures.clause in
+    let same = same_Some d shown.0 (sym there ∙ shown.1) in
+    c.loop-l.invariant l (ap (λ ls. has ls l) (take_all c.loop-l.l-index items c.loop-l-test.false) ∙ same_there shown.0 items shown.2 l (subst (λ e. has e l ≡ true) same member))

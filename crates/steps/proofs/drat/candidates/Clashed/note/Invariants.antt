@@ -1,6 +1,0 @@
-use Rattle.std.proofs.Common.{◌≡◌, filter, take}
-use Rattle.steps.specs.Code.Candidates.{is_left}
-use Rattle.steps.proofs.drat.candidates.Clashed.note.Given as goal
-
-abbrev pub invariant-loop-l : goal.invariant-loop-l
-invariant-loop-l l = l.self.rest.items ≡ filter (is_left l.candidates) (take l.l-index l.clause)

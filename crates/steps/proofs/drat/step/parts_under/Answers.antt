@@ -1,5 +1,0 @@
-use Rattle.steps.proofs.DratLemmas.Witnesses.{parts_given}
-use Rattle.steps.proofs.drat.step.parts_under.Goals as goal
-
-pub returns-then-rules-clause-meets : goal.returns-then-rules-clause-meets
-returns-then-rules-clause-meets c = parts_given c.args.lits.now _ _ c.parts_of.ensures.clause c.parts_of.ensures.set
