@@ -5,7 +5,7 @@ use Rattle.command_line.specs.declared.args.Args.{Args}
 use Rattle.command_line.specs.declared.tool.Tool.{Tool}
 use Rattle.filter_io.specs.Runs.{Answers, Checks}
 use Rattle.sat_check.specs.declared.checked.Checked.{Checked}
-use Rattle.sat_check.specs.declared.status.Status.{Status}
+use Rattle.report.specs.declared.status.Status.{Status}
 
 pub of_tool : (tool known : Tool) (args : Args)
     (formula formula_new second second_new : Reader) (old new : Option (List ℕ))

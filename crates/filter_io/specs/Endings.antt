@@ -2,8 +2,8 @@
 use Rattle.std.specs.Prelude.{Result, Ok, Err}
 use Rattle.command_line.specs.declared.args.ArgsFault.{ArgsFault}
 use Rattle.command_line.specs.declared.args.ArgsFault.TheVariants as fault
-use Rattle.sat_check.specs.declared.status.Status.{Status}
-use Rattle.sat_check.specs.declared.status.Status.TheVariants as status
+use Rattle.report.specs.declared.status.Status.{Status}
+use Rattle.report.specs.declared.status.Status.TheVariants as status
 use Rattle.filter_io.specs.declared.run.Ended.{Ended}
 
 -- that of its check, or why there was none: the words ask for none, or memory ran out

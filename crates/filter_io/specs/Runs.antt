@@ -11,7 +11,7 @@ use Rattle.sat_check.specs.Options.{drat_options}
 use Rattle.sat_check.specs.Runs.{RunsDrat, RunsLrat, RunsModel}
 use Rattle.sat_check.specs.Theorem.{ShowsUnsatisfiable, ShowsSatisfied}
 use Rattle.sat_check.specs.declared.checked.Checked.{Checked}
-use Rattle.sat_check.specs.declared.status.Status.{Status}
+use Rattle.report.specs.declared.status.Status.{Status}
 use Rattle.filter_io.specs.Origins.{unread}
 
 -- What an input is read by, by its name: the file of that name, or one that the system may refuse

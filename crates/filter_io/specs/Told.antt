@@ -7,8 +7,8 @@ use Rattle.proofs.specs.declared.step_end.StepEnd.{StepEnd}
 use Rattle.sat_check.specs.declared.checked.Checked.{Checked}
 use Rattle.sat_check.specs.declared.input_fault.InputFault.{InputFault}
 use Rattle.sat_check.specs.declared.input_fault.InputFault.TheVariants.{Formula, Second}
-use Rattle.sat_check.specs.declared.status.Status.{Status}
-use Rattle.sat_check.specs.declared.status.Status.TheVariants as status
+use Rattle.report.specs.declared.status.Status.{Status}
+use Rattle.report.specs.declared.status.Status.TheVariants as status
 use Rattle.hints.specs.Hints.{hint_of}
 use Rattle.hints.specs.declared.evidence.Evidence.{Evidence}
 use Rattle.hints.specs.declared.finding.Finding.TheVariants as finding

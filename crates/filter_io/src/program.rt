@@ -3,7 +3,7 @@
 ghost use Rattle.std.specs.Prelude.{◌≡◌};
 ghost use Rattle.std.specs.Process.{exit_status};
 ghost use Rattle.filter_io.specs.Endings.{status_of};
-ghost use Rattle.sat_check.specs.Status.{code_of};
+ghost use Rattle.report.specs.Status.{code_of};
 
 use crate::host::{Host, standard_input};
 use crate::output::{Output, standard_output};

@@ -31,9 +31,9 @@ use Rattle.sat_check.specs.Code.Writer.{LeavesWriter}
 use Rattle.sat_check.proofs.ShownLemmas.{traced_same}
 use Rattle.sat_check.specs.declared.checked.Checked.{Checked}
 use Rattle.sat_check.specs.declared.input_fault.InputFault.TheVariants as of
-use Rattle.sat_check.specs.declared.status.Status.TheVariants.{NotVerified, Malformed}
-use Rattle.sat_check.specs.declared.status.Status.TheVariants.{OutOfMemory as NoMemory, WriteFailed}
-use Rattle.sat_check.specs.declared.status.Status.TheVariants.{ReadFailed as NoRead}
+use Rattle.report.specs.declared.status.Status.TheVariants.{NotVerified, Malformed}
+use Rattle.report.specs.declared.status.Status.TheVariants.{OutOfMemory as NoMemory, WriteFailed}
+use Rattle.report.specs.declared.status.Status.TheVariants.{ReadFailed as NoRead}
 use Rattle.sat_check.proofs.OutcomeLemmas.{Outcome-after, Writes-all, Writes-still, text_of-append}
 use Rattle.sat_check.proofs.ReadLemmas.{unread_fault}
 use Rattle.sat_check.proofs.ReachLemmas.{no_verdict, LeavesRest-none, LeavesRest-broken}

@@ -17,7 +17,7 @@ use Rattle.dimacs.specs.Formula.{Formula, formula_of, ends_of}
 use Rattle.dimacs.proofs.OffsetLemmas.{ends_of-length}
 use Rattle.theory.specs.Models.{Assignment, holds, satisfies, HasModel}
 use Rattle.sat_check.specs.FormulaReach.{ReadsNoFurtherThanFault}
-use Rattle.sat_check.specs.Lines.{a_model, fault_line, fault_status}
+use Rattle.report.specs.Lines.{a_model, fault_line, fault_status}
 use Rattle.sat_check.specs.Report.{Outcome, Report, concluded}
 use Rattle.sat_check.specs.ModelReport.{meets, first_unmet, met_report, clauses_report}
 use Rattle.sat_check.specs.ModelReport.{claim_report, model_report, Satisfies, ChecksModel}
@@ -29,9 +29,9 @@ use Rattle.sat_check.specs.declared.input_fault.InputFault.TheVariants as of
 use Rattle.sat_check.specs.Code.Judging.{Judges, ReadsToUnmet, judged_report, unmet_in}
 use Rattle.sat_check.specs.declared.judgement.Judgement.{Judgement}
 use Rattle.sat_check.specs.declared.judgement.Judgement.TheVariants.{Met, Unmet}
-use Rattle.sat_check.specs.declared.status.Status.{Status}
-use Rattle.sat_check.specs.declared.status.Status.TheVariants.{Verified, NotVerified, Malformed}
-use Rattle.sat_check.specs.declared.status.Status.TheVariants.{OutOfMemory as NoMemory}
+use Rattle.report.specs.declared.status.Status.{Status}
+use Rattle.report.specs.declared.status.Status.TheVariants.{Verified, NotVerified, Malformed}
+use Rattle.report.specs.declared.status.Status.TheVariants.{OutOfMemory as NoMemory}
 use Rattle.sat_check.proofs.JudgeLemmas.{unread_unmet}
 use Rattle.sat_check.proofs.ReadLemmas.{unread_fault}
 use Rattle.sat_check.proofs.OutcomeLemmas.{both_told}

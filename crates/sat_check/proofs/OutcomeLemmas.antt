@@ -8,11 +8,11 @@ use Rattle.cnf_base.specs.Seen.{OfBothSeen}
 use Rattle.cnf_base.specs.Stream.{Input, Reader}
 use Rattle.cnf_base.proofs.LineLemmas.{append_nil, Appends-then, Writes-nothing}
 use Rattle.sat_check.specs.Report.{Report, text_of, Outcome, with_lines, concluded}
-use Rattle.sat_check.specs.Lines.{Certificate, sentence}
-use Rattle.sat_check.specs.declared.status.Status.{Status}
-use Rattle.sat_check.specs.declared.status.Status.TheVariants.{Verified, NotVerified, Malformed}
-use Rattle.sat_check.specs.declared.status.Status.TheVariants.{ReadFailed, OutOfMemory, WriteFailed}
-use Rattle.sat_check.specs.declared.status.Status.TheVariants.{Usage}
+use Rattle.report.specs.Lines.{Certificate, sentence}
+use Rattle.report.specs.declared.status.Status.{Status}
+use Rattle.report.specs.declared.status.Status.TheVariants.{Verified, NotVerified, Malformed}
+use Rattle.report.specs.declared.status.Status.TheVariants.{ReadFailed, OutOfMemory, WriteFailed}
+use Rattle.report.specs.declared.status.Status.TheVariants.{Usage}
 
 pub text_of-append : (front back : List (List ℕ)) → text_of (front ++ back) ≡ text_of front ++ text_of back
 text_of-append [] back = refl

@@ -33,10 +33,10 @@ use Rattle.sat_check.specs.Report.{Outcome, bare_steps, is_cut_short}
 use Rattle.sat_check.specs.Code.Checking.{IsLoaded, Loads, IsRefused, IsTold, LeavesRest}
 use Rattle.sat_check.specs.Code.Checking.{LeavesProof}
 use Rattle.sat_check.specs.declared.checked.Checked.{Checked}
-use Rattle.sat_check.specs.declared.status.Status.{Status}
+use Rattle.report.specs.declared.status.Status.{Status}
 use Rattle.sat_check.specs.declared.input_fault.InputFault.TheVariants as of
-use Rattle.sat_check.specs.declared.status.Status.TheVariants.{Verified, NotVerified, Malformed}
-use Rattle.sat_check.specs.declared.status.Status.TheVariants.{OutOfMemory as NoMemory, WriteFailed}
+use Rattle.report.specs.declared.status.Status.TheVariants.{Verified, NotVerified, Malformed}
+use Rattle.report.specs.declared.status.Status.TheVariants.{OutOfMemory as NoMemory, WriteFailed}
 
 same_sym : (s t : State) → Same s t → Same t s
 same_sym (by_ids s) (by_ids t) same = (SameClauses-sym _ _ same.0, sym same.1)

@@ -21,14 +21,14 @@ use Rattle.theory.specs.Verdicts.{verified, Ends}
 use Rattle.theory.proofs.LawLemmas.Existence.{same_finite, start_finite}
 use Rattle.theory.proofs.LawLemmas.Rules.{sum_same}
 use Rattle.theory.proofs.LawLemmas.Verdicts.{ends_same, some_ending, some_verdict}
-use Rattle.sat_check.specs.Lines.{a_proof, formula_line, steps_line, fault_line, fault_status}
+use Rattle.report.specs.Lines.{a_proof, formula_line, steps_line, fault_line, fault_status}
 use Rattle.sat_check.specs.Report.{Report, Outcome, Reports, concluded, with_lines, Checks}
 use Rattle.sat_check.specs.Report.{ReportsFormula, bare_steps, proof_report}
 use Rattle.sat_check.specs.Code.Checking.{peak_of}
 use Rattle.sat_check.specs.Code.Checking.{IsLoaded, Loads, Rest}
 use Rattle.sat_check.proofs.ShownLemmas.{steps_same}
-use Rattle.sat_check.specs.declared.status.Status.{Status}
-use Rattle.sat_check.specs.declared.status.Status.TheVariants.{Verified}
+use Rattle.report.specs.declared.status.Status.{Status}
+use Rattle.report.specs.declared.status.Status.TheVariants.{Verified}
 use Rattle.sat_check.proofs.OutcomeLemmas.{Outcome-line}
 use Rattle.sat_check.proofs.RestLemmas.{peak_least, peak_same}
 

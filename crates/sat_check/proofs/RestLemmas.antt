@@ -12,13 +12,13 @@ use Rattle.theory.specs.declared.refusal.Refusal.{Refusal}
 use Rattle.theory.specs.Rules.{State, Answers, after, sum_of, Same, IsFinite}
 use Rattle.theory.specs.Verdicts.{verified, refused, no_empty_clause, is_last, Ends}
 use Rattle.theory.proofs.LawLemmas.Rules.{after_same, sum_same}
-use Rattle.sat_check.specs.Lines.{a_proof, refusal_line, steps_line}
+use Rattle.report.specs.Lines.{a_proof, refusal_line, steps_line}
 use Rattle.sat_check.specs.Report.{Report, concluded, with_lines, trace_lines}
 use Rattle.sat_check.specs.Code.Checking.{end_report}
 use Rattle.sat_check.specs.Report.{verdict_report, bare_steps, proof_report}
 use Rattle.sat_check.specs.Code.Checking.{peak_of}
 use Rattle.sat_check.specs.Code.Checking.{Rest, traced}
-use Rattle.sat_check.specs.declared.status.Status.TheVariants.{Verified, NotVerified}
+use Rattle.report.specs.declared.status.Status.TheVariants.{Verified, NotVerified}
 use Rattle.theory.proofs.LawLemmas.Verdicts.{ends_same, some_ending}
 
 pub peak_same : (steps : List Step) (words : List Accepted) (first second : State) → Same first second → peak_of first steps words ≡ peak_of second steps words

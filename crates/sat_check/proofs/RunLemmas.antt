@@ -2,7 +2,7 @@
 use Rattle.std.proofs.Common.{Bool}
 use Rattle.cnf_base.specs.Stream.{Input, Reader}
 use Rattle.sat_check.specs.Runs.{Runs}
-use Rattle.sat_check.specs.declared.status.Status.{Status}
+use Rattle.report.specs.declared.status.Status.{Status}
 
 -- where a fact is true of a run, so is what it implies
 pub weakened : (status : Status) (P Q : Input → Input → Type 0)

@@ -3,7 +3,7 @@ use Rattle.std.proofs.Common.{◌≡◌, ℕ, ◌-◌, ◌^◌, min, Bool, true,
 use Rattle.std.proofs.Common.{◌∙◌, codes, decimal, arith}
 use Rattle.theory.specs.declared.accepted.Accepted.{Accepted}
 use Rattle.theory.specs.declared.refusal.Refusal.{Refusal}
-use Rattle.sat_check.specs.Lines.{shown, word_text, refusal_line, with_cause, steps_line}
+use Rattle.report.specs.Lines.{shown, word_text, refusal_line, with_cause, steps_line}
 use Rattle.sat_check.specs.Code.Checking.{counted, traced}
 
 pub shown_counted : (n : ℕ) → shown (counted n) ≡ shown n

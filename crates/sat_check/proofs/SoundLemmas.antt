@@ -18,7 +18,7 @@ use Rattle.theory.specs.Verdicts.{Ending, verified, refused, no_empty_clause, Ve
 use Rattle.theory.proofs.LawLemmas.Verdicts.{verdict_sound, verdict_unique}
 use Rattle.sat_check.specs.Code.Checking.{AllReports, RunsInto}
 use Rattle.sat_check.specs.FormulaReach.{ReadsNoFurtherThanFault}
-use Rattle.sat_check.specs.Lines.{fault_status}
+use Rattle.report.specs.Lines.{fault_status}
 use Rattle.sat_check.specs.Reach.{ReadsNoFurther, TellsWhy}
 use Rattle.sat_check.specs.Report.{Report, Outcome, ReportsFormula, Verifies, Reports}
 use Rattle.sat_check.specs.Report.{ProofConsequences, ChecksProof, IsUnlessBroken, bare_steps, verdict_report}
@@ -26,10 +26,10 @@ use Rattle.sat_check.specs.Code.Writer.{IsFlushedOrFailed}
 use Rattle.sat_check.specs.Code.Checking.{peak_of}
 use Rattle.sat_check.specs.Runs.{RunsPlaced}
 use Rattle.sat_check.specs.declared.checked.Checked.{Checked}
-use Rattle.sat_check.specs.declared.status.Status.{Status}
-use Rattle.sat_check.specs.declared.status.Status.TheVariants.{Verified, NotVerified, Malformed}
-use Rattle.sat_check.specs.declared.status.Status.TheVariants.{ReadFailed, OutOfMemory, WriteFailed}
-use Rattle.sat_check.specs.declared.status.Status.TheVariants.{Usage}
+use Rattle.report.specs.declared.status.Status.{Status}
+use Rattle.report.specs.declared.status.Status.TheVariants.{Verified, NotVerified, Malformed}
+use Rattle.report.specs.declared.status.Status.TheVariants.{ReadFailed, OutOfMemory, WriteFailed}
+use Rattle.report.specs.declared.status.Status.TheVariants.{Usage}
 use Rattle.sat_check.proofs.OutcomeLemmas.{both_told}
 use Rattle.sat_check.proofs.WrittenLemmas.{written_verified}
 

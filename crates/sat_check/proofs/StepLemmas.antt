@@ -13,12 +13,12 @@ use Rattle.steps.specs.ProofSession.{View}
 use Rattle.theory.specs.Rules.{Answers, after, sum_of, Same}
 use Rattle.theory.specs.Answers.{UnlessOutOfMemory}
 use Rattle.theory.specs.Verdicts.{is_last}
-use Rattle.sat_check.specs.Lines.{a_proof, refusal_line, steps_line}
+use Rattle.report.specs.Lines.{a_proof, refusal_line, steps_line}
 use Rattle.sat_check.specs.Report.{Report, Outcome, concluded, with_lines, text_of}
 use Rattle.sat_check.specs.Code.Reach.{IsVerdict}
 use Rattle.sat_check.specs.Code.Checking.{Rest, Stops, IsRefused, traced, is_memory}
-use Rattle.sat_check.specs.declared.status.Status.{Status}
-use Rattle.sat_check.specs.declared.status.Status.TheVariants.{Verified, NotVerified, Malformed}
+use Rattle.report.specs.declared.status.Status.{Status}
+use Rattle.report.specs.declared.status.Status.TheVariants.{Verified, NotVerified, Malformed}
 use Rattle.sat_check.proofs.OutcomeLemmas.{Outcome-after, Writes-all}
 use Rattle.sat_check.proofs.ReachLemmas.{no_verdict}
 use Rattle.sat_check.proofs.RestLemmas.{Rest-some, Rest-refused, Rest-verified, Rest-step}

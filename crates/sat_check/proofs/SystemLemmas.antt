@@ -19,14 +19,14 @@ use Rattle.theory.specs.Verdicts.{system_of}
 use Rattle.theory.specs.declared.accepted.Accepted.{Accepted}
 use Rattle.theory.specs.declared.drat_rules.DratRules.{DratRules}
 use Rattle.sat_check.specs.Code.Checking.{peak_of}
-use Rattle.sat_check.specs.Lines.{formula_line}
+use Rattle.report.specs.Lines.{formula_line}
 use Rattle.sat_check.specs.Reach.{ReadsNoFurther, TellsLoss, TellsWhy}
 use Rattle.sat_check.specs.Report.{Report, Checks, ReportsFormula, Reports, with_lines}
 use Rattle.sat_check.specs.Report.{ProofConsequences, ChecksProof, bare_steps, peak_by, proof_report}
 use Rattle.sat_check.specs.Runs.{RunsPlaced}
 use Rattle.sat_check.specs.declared.checked.Checked.{Checked}
 use Rattle.sat_check.proofs.RunLemmas.{weakened}
-use Rattle.sat_check.specs.declared.status.Status.{Status}
+use Rattle.report.specs.declared.status.Status.{Status}
 
 -- two systems that give the same verdicts and the same peaks
 pub record Alike {S T : Type 0} (one : ProofSystem S) (other : ProofSystem T) : Type 0 where

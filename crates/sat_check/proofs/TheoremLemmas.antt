@@ -37,8 +37,8 @@ use Rattle.sat_check.specs.Runs.{IsVerifiedBy, IsDratProof}
 use Rattle.sat_check.specs.Theorem.{IsAnswered, IsFormulaText, ShowsUnsatisfiable}
 use Rattle.sat_check.specs.Theorem.{StepsVerify, IsSatisfied, ShowsSatisfied}
 use Rattle.sat_check.specs.declared.checked.Checked.{Checked}
-use Rattle.sat_check.specs.declared.status.Status.{Status}
-use Rattle.sat_check.specs.declared.status.Status.TheVariants.{Verified}
+use Rattle.report.specs.declared.status.Status.{Status}
+use Rattle.report.specs.declared.status.Status.TheVariants.{Verified}
 use Rattle.sat_check.proofs.ClaimLemmas.{claim_consistent, claim_text, has_reverse}
 use Rattle.sat_check.proofs.EndingLemmas.{claim_ends, formula_ends, formula_header}
 use Rattle.sat_check.proofs.ModelLemmas.{Made, assigned, listed_holds, verified_satisfied}

@@ -9,7 +9,7 @@ use Rattle.theory.specs.Rules.{Rule, start}
 use Rattle.theory.specs.Verdicts.{Ending}
 use Rattle.theory.specs.declared.accepted.Accepted.{Accepted}
 use Rattle.theory.proofs.LawLemmas.Verdicts.{verdict_unique}
-use Rattle.sat_check.specs.Lines.{formula_line}
+use Rattle.report.specs.Lines.{formula_line}
 use Rattle.sat_check.specs.Report.{Report, Checks, ReportsFormula, ReportsAreUnique, with_lines}
 use Rattle.sat_check.specs.Report.{proof_report, bare_steps}
 use Rattle.sat_check.specs.Code.Checking.{peak_of}

@@ -32,19 +32,19 @@ use Rattle.theory.specs.declared.accepted.Accepted.{Accepted}
 use Rattle.theory.specs.declared.accepted.Accepted.TheVariants.{Rup}
 use Rattle.theory.specs.declared.refusal.Refusal.{Refusal}
 use Rattle.theory.specs.declared.refusal.Refusal.TheVariants as refusal
-use Rattle.sat_check.specs.Lines.{Certificate, a_proof, a_model, unmet_line, clauses_line}
-use Rattle.sat_check.specs.Lines.{shown, formula_line, kind_text, binary_text, fault_line}
-use Rattle.sat_check.specs.Lines.{fault_status, word_text, trace_line, sign_text, with_cause}
-use Rattle.sat_check.specs.Lines.{refusal_line, steps_line, end_line, sentence}
+use Rattle.report.specs.Lines.{Certificate, a_proof, a_model, unmet_line, clauses_line}
+use Rattle.report.specs.Lines.{shown, formula_line, kind_text, binary_text, fault_line}
+use Rattle.report.specs.Lines.{fault_status, word_text, trace_line, sign_text, with_cause}
+use Rattle.report.specs.Lines.{refusal_line, steps_line, end_line, sentence}
 use Rattle.sat_check.specs.ModelReport.{first_unmet, met_report, clauses_report, claim_report}
 use Rattle.sat_check.specs.Report.{Report, Outcome, text_of, concluded, with_lines, trace_lines}
 use Rattle.sat_check.specs.Report.{verdict_report, proof_report, ReportsFormula}
 use Rattle.sat_check.specs.Report.{HasWritten}
 use Rattle.sat_check.proofs.OutcomeLemmas.{text_of-append}
-use Rattle.sat_check.specs.declared.status.Status.{Status}
-use Rattle.sat_check.specs.declared.status.Status.TheVariants.{Verified, NotVerified, Malformed}
-use Rattle.sat_check.specs.declared.status.Status.TheVariants.{ReadFailed, OutOfMemory, WriteFailed}
-use Rattle.sat_check.specs.declared.status.Status.TheVariants.{Usage}
+use Rattle.report.specs.declared.status.Status.{Status}
+use Rattle.report.specs.declared.status.Status.TheVariants.{Verified, NotVerified, Malformed}
+use Rattle.report.specs.declared.status.Status.TheVariants.{ReadFailed, OutOfMemory, WriteFailed}
+use Rattle.report.specs.declared.status.Status.TheVariants.{Usage}
 
 -- ---- Texts without a line feed
 

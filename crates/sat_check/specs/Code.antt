@@ -3,5 +3,4 @@ pub mod Checking
 pub mod FormulaReach
 pub mod Judging
 pub mod Reach
-pub mod Subjects
 pub mod Writer

@@ -1,10 +1,8 @@
 pub mod FormulaReach
-pub mod Lines
 pub mod ModelReport
 pub mod Options
 pub mod Reach
 pub mod Report
 pub mod Runs
-pub mod Status
 pub mod Theorem
 pub mod Code

@@ -9,16 +9,16 @@ use Rattle.cnf_base.specs.declared.fault.Fault.{Fault}
 use Rattle.dimacs.specs.Claim.{claim_of, IsConsistent}
 use Rattle.dimacs.specs.Formula.{Formula, formula_of, ends_of}
 use Rattle.sat_check.specs.FormulaReach.{ReadsNoFurtherThanFault}
-use Rattle.sat_check.specs.Lines.{a_model, unmet_line, clauses_line, fault_line, fault_status}
+use Rattle.report.specs.Lines.{a_model, unmet_line, clauses_line, fault_line, fault_status}
 use Rattle.sat_check.specs.Report.{Report, Outcome, IsUnlessBroken, HasWritten, concluded}
 use Rattle.sat_check.specs.Reach.{first_fault}
 use Rattle.theory.specs.Models.{HasModel}
 use Rattle.sat_check.specs.declared.checked.Checked.{Checked}
 use Rattle.sat_check.specs.declared.input_fault.InputFault.{InputFault}
 use Rattle.sat_check.specs.declared.input_fault.InputFault.TheVariants.{Second}
-use Rattle.sat_check.specs.declared.status.Status.{Status}
-use Rattle.sat_check.specs.declared.status.Status.TheVariants.{Verified, NotVerified, Malformed}
-use Rattle.sat_check.specs.declared.status.Status.TheVariants.{OutOfMemory}
+use Rattle.report.specs.declared.status.Status.{Status}
+use Rattle.report.specs.declared.status.Status.TheVariants.{Verified, NotVerified, Malformed}
+use Rattle.report.specs.declared.status.Status.TheVariants.{OutOfMemory}
 
 -- some literal of the clause is listed
 abbrev pub meets : List Literal → Clause → Bool

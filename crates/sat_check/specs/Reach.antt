@@ -18,7 +18,7 @@ use Rattle.sat_check.specs.Report.{bare_steps}
 use Rattle.sat_check.specs.declared.checked.Checked.{Checked}
 use Rattle.sat_check.specs.declared.input_fault.InputFault.{InputFault}
 use Rattle.sat_check.specs.declared.input_fault.InputFault.TheVariants as of
-use Rattle.sat_check.specs.declared.status.Status.TheVariants.{NotVerified, Malformed}
+use Rattle.report.specs.declared.status.Status.TheVariants.{NotVerified, Malformed}
 
 -- the step that decides: the accepted empty clause, or the step that is refused; none where a
 -- clause of the formula decides, or no step does

@@ -23,11 +23,11 @@ use Rattle.theory.specs.Verdicts.{system_of}
 use Rattle.theory.specs.declared.drat_rules.DratRules.{DratRules}
 use Rattle.sat_check.specs.declared.options.DratOptions.{DratOptions}
 use Rattle.theory.specs.declared.accepted.Accepted.{Accepted}
-use Rattle.sat_check.specs.Lines.{formula_line, fault_line, fault_status, trace_line, refusal_line}
-use Rattle.sat_check.specs.Lines.{steps_line, end_line, Certificate, a_proof, sentence}
-use Rattle.sat_check.specs.declared.status.Status.{Status}
-use Rattle.sat_check.specs.declared.status.Status.TheVariants.{Verified, NotVerified, OutOfMemory}
-use Rattle.sat_check.specs.declared.status.Status.TheVariants.{WriteFailed}
+use Rattle.report.specs.Lines.{formula_line, fault_line, fault_status, trace_line, refusal_line}
+use Rattle.report.specs.Lines.{steps_line, end_line, Certificate, a_proof, sentence}
+use Rattle.report.specs.declared.status.Status.{Status}
+use Rattle.report.specs.declared.status.Status.TheVariants.{Verified, NotVerified, OutOfMemory}
+use Rattle.report.specs.declared.status.Status.TheVariants.{WriteFailed}
 
 -- the lines that are written, and how the program ends
 pub record Report : Type 0 where

@@ -21,8 +21,8 @@ use Rattle.sat_check.specs.Report.{ChecksProof, drat_proof, is_cut_short, rules_
 use Rattle.sat_check.specs.Theorem.{StepsVerify}
 use Rattle.sat_check.specs.declared.checked.Checked.{Checked}
 use Rattle.sat_check.specs.declared.options.DratOptions.{DratOptions}
-use Rattle.sat_check.specs.declared.status.Status.{Status}
-use Rattle.sat_check.specs.declared.status.Status.TheVariants.{ReadFailed, WriteFailed, OutOfMemory}
+use Rattle.report.specs.declared.status.Status.{Status}
+use Rattle.report.specs.declared.status.Status.TheVariants.{ReadFailed, WriteFailed, OutOfMemory}
 
 -- What was seen of the two readers in a run is one pair of inputs, and of this the fact is true. A
 -- reader or the writer tells of each failure. Unless memory or the writer failed, the writer tells

@@ -10,8 +10,8 @@ use Rattle.dimacs.specs.Printing.{IsFormula}
 use Rattle.dimacs.specs.declared.header.Header.{Header}
 use Rattle.theory.specs.Models.{Assignment, holds, satisfies}
 use Rattle.sat_check.specs.Report.{HasWritten}
-use Rattle.sat_check.specs.declared.status.Status.{Status}
-use Rattle.sat_check.specs.declared.status.Status.TheVariants.{Verified}
+use Rattle.report.specs.declared.status.Status.{Status}
+use Rattle.report.specs.declared.status.Status.TheVariants.{Verified}
 
 -- the status is 0, or this line was written
 abbrev pub IsAnswered : (line : List ℕ) → Status → (old new : Option (List ℕ)) → Type 0

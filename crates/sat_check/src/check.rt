@@ -15,12 +15,12 @@ ghost use Rattle.sat_check.specs.Code.Checking.{IsLoaded, LeavesProof};
 use crate::check_proof::check_proof;
 use crate::conclude::{break_off, conclude, write_line};
 use crate::load::load;
-use crate::report::{formula_line, steps_line};
-use crate::subject::Subject;
 use crate::{Checked, InputFault, Status};
 use cnf_base::{In, LineOut, Out};
 use dimacs::Header;
 use proofs::StepReader;
+use report::Subject;
+use report::lines::{formula_line, steps_line};
 use std::alloc::Global;
 use steps::ProofSession;
 

@@ -8,11 +8,11 @@ ghost use Rattle.sat_check.specs.Code.Checking.{IsOpen, Rest, LeavesRest};
 
 use crate::check_step::check_step;
 use crate::conclude::{break_off, conclude};
-use crate::report::end_line;
-use crate::subject::Subject;
 use crate::{Checked, InputFault, Status};
 use cnf_base::{LineOut, Out};
 use proofs::{StepBuf, StepReader};
+use report::Subject;
+use report::lines::end_line;
 use std::alloc::Global;
 use steps::ProofSession;
 

@@ -6,7 +6,7 @@
 ghost use Rattle.std.specs.Prelude.{◌≡◌, ◌≢◌, ◌⊎◌, true, false, IfNone, IfSome};
 ghost use Rattle.steps.specs.ProofSession.{is_over};
 ghost use Rattle.theory.specs.Verdicts.{is_last};
-ghost use Rattle.sat_check.specs.Lines.{a_proof, refusal_line, steps_line};
+ghost use Rattle.report.specs.Lines.{a_proof, refusal_line, steps_line};
 ghost use Rattle.sat_check.specs.Report.{Report, Outcome, concluded};
 ghost use Rattle.sat_check.specs.Code.Writer.{LeavesWriter};
 ghost use Rattle.sat_check.specs.Code.Reach.{IsVerdict};
@@ -15,10 +15,10 @@ ghost use Rattle.sat_check.specs.Code.Checking.{is_memory};
 
 use crate::Status;
 use crate::conclude::{conclude, give_up, write_line};
-use crate::report::{refusal_line, steps_line, trace_line};
-use crate::subject::Subject;
 use cnf_base::{LineOut, Out};
 use proofs::StepBuf;
+use report::Subject;
+use report::lines::{refusal_line, steps_line, trace_line};
 use std::alloc::Global;
 use steps::{Accepted, ProofSession, Refusal};
 

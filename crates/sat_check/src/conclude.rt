@@ -2,17 +2,16 @@
 
 ghost use Rattle.std.specs.Prelude.{◌≡◌, ◌⊎◌, false, true, [], ◌∷◌, ℕ, List, IfOk, IfErr, OnOk};
 ghost use Rattle.cnf_base.specs.Lines.{Writes, line_of};
-ghost use Rattle.sat_check.specs.Lines.{fault_line, fault_status};
+ghost use Rattle.report.specs.Lines.{fault_line, fault_status};
 ghost use Rattle.sat_check.specs.Report.{Report, Outcome, concluded, is_cut_short, with_lines};
 ghost use Rattle.sat_check.specs.Code.Writer.{IsFlushedOrFailed};
 ghost use Rattle.sat_check.specs.Code.Writer.{LeavesWriter};
-ghost use Rattle.sat_check.specs.Code.Subjects.{certificate_of};
+ghost use Rattle.report.specs.Subjects.{certificate_of};
 
 use crate::Status;
-use crate::line::Line;
-use crate::report::{fault_line, fault_status, sentence};
-use crate::subject::Subject;
 use cnf_base::{Fault, LineOut, Out, OutOfMemory};
+use report::lines::{fault_line, fault_status, sentence};
+use report::{Line, Subject};
 use std::alloc::Global;
 
 /// Writes a line and the verdict's last line, and answers the status.

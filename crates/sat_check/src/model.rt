@@ -20,11 +20,11 @@ ghost use Rattle.sat_check.specs.Code.Judging.{judged_report, ReadsToUnmet};
 use crate::conclude::{break_off, conclude};
 use crate::judge::judge;
 use crate::judgement::Judgement;
-use crate::report::{clauses_line, unmet_line};
-use crate::subject::Subject;
 use crate::{Checked, InputFault, Status};
 use cnf_base::{Fault, In, LineOut, Out, Piece, Source};
 use dimacs::{Model, read_claim};
+use report::Subject;
+use report::lines::{clauses_line, unmet_line};
 use std::alloc::Global;
 
 /// Reads a solver's output whole, then checks the model that it claims against a formula in DIMACS

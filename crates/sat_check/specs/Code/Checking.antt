@@ -24,7 +24,7 @@ use Rattle.theory.specs.declared.refusal.Refusal.{Refusal}
 use Rattle.steps.specs.ProofSession.{View, is_over}
 use Rattle.sat_check.specs.Code.Writer.{LeavesWriter}
 use Rattle.sat_check.specs.FormulaReach.{ReadsNoFurtherThanFault}
-use Rattle.sat_check.specs.Lines.{trace_line}
+use Rattle.report.specs.Lines.{trace_line}
 use Rattle.sat_check.specs.Reach.{deciding_step, refused_end, NeedsNoProof, TellsWhy}
 use Rattle.sat_check.specs.Reach.{ReadsNoFurther, TellsFault}
 use Rattle.sat_check.specs.Report.{Report, bare_steps, peak_by, proof_report, Reports, text_of}
@@ -32,10 +32,10 @@ use Rattle.sat_check.specs.Report.{verdict_report}
 use Rattle.sat_check.specs.Report.{Outcome, is_cut_short, with_lines}
 use Rattle.sat_check.specs.Code.Writer.{IsFlushedOrFailed}
 use Rattle.sat_check.specs.declared.checked.Checked.{Checked}
-use Rattle.sat_check.specs.declared.status.Status.TheVariants.{NotVerified, OutOfMemory as NoMemory}
-use Rattle.sat_check.specs.declared.status.Status.TheVariants.{WriteFailed, ReadFailed}
-use Rattle.sat_check.specs.declared.status.Status.TheVariants.{Malformed}
-use Rattle.sat_check.specs.declared.status.Status.{Status}
+use Rattle.report.specs.declared.status.Status.TheVariants.{NotVerified, OutOfMemory as NoMemory}
+use Rattle.report.specs.declared.status.Status.TheVariants.{WriteFailed, ReadFailed}
+use Rattle.report.specs.declared.status.Status.TheVariants.{Malformed}
+use Rattle.report.specs.declared.status.Status.{Status}
 
 -- how a proof ends that runs out of steps
 abbrev pub end_report : Option Fault → Report

@@ -6,12 +6,12 @@ use Rattle.cnf_base.specs.Stream.{Input, Suffix, Reader, bytes_read}
 use Rattle.cnf_base.specs.declared.fault.Fault.TheVariants.{OutOfMemory}
 use Rattle.cnf_base.specs.declared.fault.Fault.{Fault}
 use Rattle.dimacs.specs.Formula.{formula_of, ends_of}
-use Rattle.sat_check.specs.Lines.{a_model, unmet_line, clauses_line}
+use Rattle.report.specs.Lines.{a_model, unmet_line, clauses_line}
 use Rattle.sat_check.specs.ModelReport.{first_unmet}
 use Rattle.sat_check.specs.Report.{Report, concluded}
 use Rattle.sat_check.specs.declared.judgement.Judgement.TheVariants.{Met, Unmet}
 use Rattle.sat_check.specs.declared.judgement.Judgement.{Judgement}
-use Rattle.sat_check.specs.declared.status.Status.TheVariants.{Verified, NotVerified}
+use Rattle.report.specs.declared.status.Status.TheVariants.{Verified, NotVerified}
 
 -- clauses and the fault after them are judged so by the listed literals; want of memory says
 -- nothing

@@ -1,7 +1,7 @@
 -- The statuses that are a verdict.
 use Rattle.std.specs.Prelude.{◌≡◌, ◌⊎◌}
-use Rattle.sat_check.specs.declared.status.Status.TheVariants.{Verified, NotVerified}
-use Rattle.sat_check.specs.declared.status.Status.{Status}
+use Rattle.report.specs.declared.status.Status.TheVariants.{Verified, NotVerified}
+use Rattle.report.specs.declared.status.Status.{Status}
 
 -- a status that is a verdict on a proof
 abbrev pub IsVerdict : Status → Type 0

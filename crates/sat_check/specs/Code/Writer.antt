@@ -2,8 +2,8 @@
 use Rattle.std.specs.Prelude.{◌≡◌, ◌⊎◌, Bool, true, false}
 use Rattle.cnf_base.specs.Lines.{Sink}
 use Rattle.sat_check.specs.Report.{is_cut_short}
-use Rattle.sat_check.specs.declared.status.Status.{Status}
-use Rattle.sat_check.specs.declared.status.Status.TheVariants.{OutOfMemory}
+use Rattle.report.specs.declared.status.Status.{Status}
+use Rattle.report.specs.declared.status.Status.TheVariants.{OutOfMemory}
 
 -- all was flushed, or the writer tells of a failure
 abbrev pub IsFlushedOrFailed : (is_flushed has_failed : Bool) → Type 0

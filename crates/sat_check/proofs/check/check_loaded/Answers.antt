@@ -2,8 +2,8 @@
 use Rattle.std.proofs.Common.{◌≡◌, None, [], ap, sym, ◌∙◌, rules}
 use Rattle.cnf_base.proofs.StreamLemmas.{Along-map, Along-none}
 use Rattle.sat_check.specs.declared.checked.Checked.{Checked}
-use Rattle.sat_check.specs.Lines.{formula_line, steps_line}
-use Rattle.sat_check.specs.declared.status.Status.TheVariants.{Malformed, Verified}
+use Rattle.report.specs.Lines.{formula_line, steps_line}
+use Rattle.report.specs.declared.status.Status.TheVariants.{Malformed, Verified}
 use Rattle.sat_check.proofs.OutcomeLemmas.{Outcome-line}
 use Rattle.sat_check.proofs.ReachLemmas.{no_verdict, LeavesProof-broken, LeavesProof-empty}
 use Rattle.sat_check.proofs.ReachLemmas.{LeavesProof-checked, TellsFault-none, concluded_not}

@@ -1,14 +1,14 @@
 -- A step, the end, or a fault.
 use Rattle.std.proofs.Common.{◌≡◌, ◌+◌, ◌∙◌, None, ap, sym, true, false, rules, arith}
 use Rattle.std.specs.Prelude.{Ok}
-use Rattle.sat_check.specs.Lines.{end_line}
+use Rattle.report.specs.Lines.{end_line}
 use Rattle.sat_check.specs.Code.Checking.{Standing, counted}
 use Rattle.sat_check.proofs.CheckLemmas.{Checking-start, Checking-step, Checking-stop, Checking-end}
 use Rattle.sat_check.proofs.CheckLemmas.{Checking-fault, step_told}
 use Rattle.sat_check.proofs.ReachLemmas.{TellsFault-none, concluded_not, told_not}
 use Rattle.sat_check.specs.declared.checked.Checked.{Checked}
-use Rattle.sat_check.specs.declared.status.Status.TheVariants.{Malformed, NotVerified}
-use Rattle.sat_check.specs.declared.status.Status.TheVariants.{OutOfMemory as NoMemory}
+use Rattle.report.specs.declared.status.Status.TheVariants.{Malformed, NotVerified}
+use Rattle.report.specs.declared.status.Status.TheVariants.{OutOfMemory as NoMemory}
 use Rattle.sat_check.proofs.check_proof.check_proof.Goals as goal
 
 pub loop-number-init : goal.loop-number-init

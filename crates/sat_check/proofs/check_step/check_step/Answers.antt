@@ -1,6 +1,6 @@
 -- The step was refused, its line broke off, it is the last one, or the check goes on.
 use Rattle.std.proofs.Common.{[], rules, inl, inr}
-use Rattle.sat_check.specs.declared.status.Status.TheVariants.{Malformed}
+use Rattle.report.specs.declared.status.Status.TheVariants.{Malformed}
 use Rattle.sat_check.proofs.ReachLemmas.{no_verdict}
 use Rattle.sat_check.proofs.StepLemmas.{Stops-refused, was_refused, Stops-traced, Stops-verified}
 use Rattle.sat_check.proofs.check_step.check_step.Goals as goal

@@ -1,6 +1,6 @@
 -- Two lines in turn, and a flush.
 use Rattle.std.proofs.Common.{◌≡◌, rules}
-use Rattle.sat_check.specs.Code.Subjects.{certificate_of}
+use Rattle.report.specs.Subjects.{certificate_of}
 use Rattle.sat_check.proofs.OutcomeLemmas.{concluded-first, concluded-second, concluded-flush}
 use Rattle.sat_check.proofs.OutcomeLemmas.{concluded-whole}
 use Rattle.sat_check.proofs.conclude.conclude.Goals as goal

@@ -3,8 +3,8 @@ use Rattle.std.proofs.Common.{◌≡◌, ◌∙◌, None, ap, rules, subst, sym}
 use Rattle.sat_check.specs.Report.{Report, Outcome}
 use Rattle.dimacs.specs.Formula.{formula_of}
 use Rattle.sat_check.specs.declared.checked.Checked.{Checked}
-use Rattle.sat_check.specs.declared.status.Status.TheVariants.{Malformed}
-use Rattle.sat_check.specs.declared.status.Status.TheVariants.{OutOfMemory as NoMemory}
+use Rattle.report.specs.declared.status.Status.TheVariants.{Malformed}
+use Rattle.report.specs.declared.status.Status.TheVariants.{OutOfMemory as NoMemory}
 use Rattle.sat_check.proofs.ModelLemmas.{judged_as, judged_unmet, fault_unmet}
 use Rattle.sat_check.proofs.ModelLemmas.{formula_fault, formula_tells}
 use Rattle.sat_check.proofs.ReachLemmas.{TellsFault-none}

@@ -1,8 +1,8 @@
 -- The pieces in turn.
 use Rattle.std.proofs.Common.{◌≡◌, ◌++◌, ◌/◌, List, ℕ, codes, decimal, subst, rules}
 use Rattle.std.specs.Prelude.{IfOk}
-use Rattle.sat_check.specs.Lines.{sign_text}
-use Rattle.sat_check.proofs.report.with_pivot.Goals as goal
+use Rattle.report.specs.Lines.{sign_text}
+use Rattle.report.proofs.lines.with_pivot.Goals as goal
 
 pub returns : goal.returns
 returns c =

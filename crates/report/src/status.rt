@@ -1,7 +1,7 @@
 //! The status of a run: a verdict, or why there is none, be it a wrong command line (`Usage`).
 
 ghost use Rattle.std.specs.Prelude.{◌≡◌};
-ghost use Rattle.sat_check.specs.Status.{code_of};
+ghost use Rattle.report.specs.Status.{code_of};
 
 /// How a program ends. Only `Verified` is a positive verdict.
 #[derive(Clone, Copy, Debug, PartialEq, Eq)]

@@ -15,8 +15,8 @@ use Rattle.theory.specs.declared.accepted.Accepted.TheVariants.{Rup, Rat, Pr, De
 use Rattle.theory.specs.declared.accepted.Accepted.TheVariants.{Empty}
 use Rattle.theory.specs.declared.refusal.Refusal.{Refusal}
 use Rattle.theory.specs.declared.refusal.Refusal.TheVariants as refusal
-use Rattle.sat_check.specs.declared.status.Status.{Status}
-use Rattle.sat_check.specs.declared.status.Status.TheVariants as status
+use Rattle.report.specs.declared.status.Status.{Status}
+use Rattle.report.specs.declared.status.Status.TheVariants as status
 
 -- numbers are printed up to the greatest of 64 bits
 abbrev pub shown : ℕ → List ℕ

@@ -1,20 +1,17 @@
 //! The lines of a report.
 
 ghost use Rattle.std.specs.Prelude.{◌≡◌, ◌++◌, ◌/◌, codes, decimal, IfOk};
-ghost use Rattle.sat_check.specs.Lines.{formula_line, fault_line};
-ghost use Rattle.sat_check.specs.Lines.{fault_status, word_text, trace_line};
-ghost use Rattle.sat_check.specs.Lines.{sign_text, with_cause, refusal_line, steps_line, end_line};
-ghost use Rattle.sat_check.specs.Lines.{unmet_line, clauses_line, sentence};
-ghost use Rattle.sat_check.specs.Code.Subjects.{certificate_of};
+ghost use Rattle.report.specs.Lines.{formula_line, fault_line};
+ghost use Rattle.report.specs.Lines.{fault_status, word_text, trace_line};
+ghost use Rattle.report.specs.Lines.{sign_text, with_cause, refusal_line, steps_line, end_line};
+ghost use Rattle.report.specs.Lines.{unmet_line, clauses_line, sentence};
+ghost use Rattle.report.specs.Subjects.{certificate_of};
 
-use crate::Status;
-use crate::kinds::{binary_kind, text_kind};
-use crate::line::Line;
-use crate::subject::Subject;
+use crate::{Line, Status, Subject, binary_kind, text_kind};
 use cnf_base::{Fault, Lit, OutOfMemory, TextFault};
 use dimacs::Header;
 use std::alloc::Global;
-use steps::{Accepted, Refusal};
+use theory::{Accepted, Refusal};
 
 /// How many variables and clauses the formula has.
 pub fn formula_line(alloc: Global, header: Header) -> Result<Line, OutOfMemory>

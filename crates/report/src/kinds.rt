@@ -1,7 +1,7 @@
 //! What the faults of an input are called.
 
 ghost use Rattle.std.specs.Prelude.{◌≡◌};
-ghost use Rattle.sat_check.specs.Lines.{binary_text, kind_text};
+ghost use Rattle.report.specs.Lines.{binary_text, kind_text};
 
 use cnf_base::{BinaryFault, TextFault};
 

@@ -1,9 +1,9 @@
 -- The exit status of a program (our own profile).
 use Rattle.std.specs.Prelude.{ℕ}
-use Rattle.sat_check.specs.declared.status.Status.{Status}
-use Rattle.sat_check.specs.declared.status.Status.TheVariants.{Verified, NotVerified, Malformed}
-use Rattle.sat_check.specs.declared.status.Status.TheVariants.{ReadFailed, OutOfMemory, WriteFailed}
-use Rattle.sat_check.specs.declared.status.Status.TheVariants.{Usage}
+use Rattle.report.specs.declared.status.Status.{Status}
+use Rattle.report.specs.declared.status.Status.TheVariants.{Verified, NotVerified, Malformed}
+use Rattle.report.specs.declared.status.Status.TheVariants.{ReadFailed, OutOfMemory, WriteFailed}
+use Rattle.report.specs.declared.status.Status.TheVariants.{Usage}
 
 -- the number of a status, with which the program ends
 abbrev pub code_of : Status → ℕ

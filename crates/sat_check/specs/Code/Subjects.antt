@@ -1,8 +1,0 @@
--- What a report is about.
-use Rattle.sat_check.specs.Lines.{Certificate, a_proof, a_model}
-use Rattle.sat_check.specs.declared.subject.Subject.TheVariants.{Proof, Model}
-use Rattle.sat_check.specs.declared.subject.Subject.{Subject}
-
-abbrev pub certificate_of : Subject → Certificate
-certificate_of Proof = a_proof
-certificate_of Model = a_model
