@@ -22,27 +22,18 @@ impl HintText<'_> {
     // The program of the command, with its options.
     fn program(&self) -> Program<'_> {
         let again = Program::again(self.tool, self.args);
+        let as_text = Program {
+            binary: false,
+            ..again
+        };
         match (self.hint, self.argument) {
             (Hint::Binary, _) => Program {
                 binary: true,
                 ..again
             },
-            (Hint::Text, _) => Program {
-                binary: false,
-                ..again
-            },
-            (Hint::Decode(encoding), Argument::Second) if encoding.is_of_text() => {
-                Program {
-                    binary: false,
-                    ..again
-                }
-            }
-            (Hint::ProofLine | Hint::Frat, _) if self.tool == Tool::Drat => {
-                Program {
-                    binary: false,
-                    ..again
-                }
-            }
+            (Hint::Text, _) => as_text,
+            (Hint::Decode(encoding), Argument::Second) if encoding.is_of_text() => as_text,
+            (Hint::ProofLine | Hint::Frat, _) if self.tool == Tool::Drat => as_text,
             (Hint::ProofLine | Hint::Frat | Hint::ReadsAsDrat, _) => Program::bare(Tool::Drat),
             (Hint::ReadsAsLrat, _) => Program::bare(Tool::Lrat),
             (Hint::Witness, _) => Program {

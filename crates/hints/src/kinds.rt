@@ -13,16 +13,10 @@ use crate::tokens::{begins_with_number, is_frat_line, is_separator};
 pub fn kind_of(first: &[u8]) -> Option<Kind>
     ensures { Shows first.now result }
 {
-    if let Some(kind) = marked_kind(first) {
-        return Some(kind);
-    }
-    if let Some(kind) = formula_kind(first) {
-        return Some(kind);
-    }
-    if let Some(kind) = binary_kind(first) {
-        return Some(kind);
-    }
-    text_kind(first)
+    marked_kind(first)
+        .or_else(|| formula_kind(first))
+        .or_else(|| binary_kind(first))
+        .or_else(|| text_kind(first))
 }
 
 // By bytes with which this kind alone begins.

@@ -23,14 +23,7 @@ pub(crate) fn is_drat_text(first: &[u8]) -> bool {
 
 /// Whether a line begins as a solver's answer, and another one as nothing in an output does.
 pub(crate) fn has_answer_among_others(first: &[u8]) -> bool {
-    first
-        .split_inclusive(ends_line)
-        .filter(is_line)
-        .any(is_answer)
-        && first
-            .split_inclusive(ends_line)
-            .filter(is_line)
-            .any(is_no_answer)
+    some_line(first, is_answer) && some_line(first, is_no_answer)
 }
 
 /// Whether the bytes begin as a solver's answer: with a status line, or a line of a model.
@@ -47,26 +40,17 @@ pub(crate) fn is_answer(bytes: &[u8]) -> bool {
 
 /// Whether a line has the token `d`.
 pub(crate) fn some_deletes(first: &[u8]) -> bool {
-    first
-        .split_inclusive(ends_line)
-        .filter(is_line)
-        .any(has_deletion)
+    some_line(first, has_deletion)
 }
 
 /// Whether a line begins as a step of DRAT does and none of LRAT.
 pub(crate) fn some_begins_as_drat(first: &[u8]) -> bool {
-    first
-        .split_inclusive(ends_line)
-        .filter(is_line)
-        .any(begins_as_drat)
+    some_line(first, begins_as_drat)
 }
 
 /// Whether a line without the token `d` has its first token a second time.
 pub(crate) fn some_repeats(first: &[u8]) -> bool {
-    first
-        .split_inclusive(ends_line)
-        .filter(is_line)
-        .any(|line| !has_deletion(line) && repeats_first(line))
+    some_line(first, |line| !has_deletion(line) && repeats_first(line))
 }
 
 /// Whether the first line ends with a carriage return and a line feed.
@@ -83,6 +67,12 @@ pub(crate) fn is_satlib_end(tail: &[u8]) -> bool {
     let percent = before.trim_ascii_end();
     let between = before.get(percent.len()..);
     percent.ends_with(b"\n%") && between.is_some_and(|bytes| bytes.contains(&b'\n'))
+}
+
+fn some_line<F: FnMut(&[u8]) -> bool>(first: &[u8], test: F) -> bool
+    requires { F.IsAlwaysCallable test }
+{
+    first.split_inclusive(ends_line).filter(is_line).any(test)
 }
 
 fn ends_line(byte: &u8) -> bool {

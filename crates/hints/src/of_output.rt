@@ -2,7 +2,7 @@
 
 ghost use Rattle.std.specs.Prelude.{◌≡◌};
 ghost use Rattle.hints.specs.Hints.{lines_hint, missing_hint, numbers_hint, other_file_hint};
-ghost use Rattle.hints.specs.Hints.{output_hint, plain_output_hint, shown_hint, text_hint};
+ghost use Rattle.hints.specs.Hints.{output_hint, plain_output_hint, shown_hint};
 
 use crate::evidence::Evidence;
 use crate::hint::Hint;
@@ -16,18 +16,10 @@ pub(crate) fn output_hint(fault: Fault, shown: &Evidence) -> Option<Hint>
     ensures { result ≡ output_hint fault shown.now }
 {
     match fault {
-        Fault::Text(kind, _) => text_hint(kind, shown),
+        // Its model is wrong, or there is none.
+        Fault::Text(TextFault::NotClaimed | TextFault::Complement, _) => None,
+        Fault::Text(kind, _) => shown_hint(kind, shown),
         _ => None,
-    }
-}
-
-// Unless its model is wrong or there is none.
-fn text_hint(fault: TextFault, shown: &Evidence) -> Option<Hint>
-    ensures { result ≡ text_hint fault shown.now }
-{
-    match fault {
-        TextFault::NotClaimed | TextFault::Complement => None,
-        _ => shown_hint(fault, shown),
     }
 }
 

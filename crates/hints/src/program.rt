@@ -29,10 +29,9 @@ impl<'a> Program<'a> {
     /// The tool with the options that it was given.
     pub(crate) fn again(tool: Tool, args: &'a Args) -> Self {
         Program {
-            tool,
             args: Some(args),
             binary: args.binary,
-            adds_pr: false,
+            ..Program::bare(tool)
         }
     }
 }
@@ -55,17 +54,15 @@ impl fmt::Display for Program<'_> {
 
 // All but `--binary`.
 fn write_options<W: fmt::Write>(f: &mut fmt::Formatter<W>, args: &Args) -> fmt::Result {
-    if args.trace {
-        f.write_str(" --trace")?;
-    }
-    if args.strict {
-        f.write_str(" --strict")?;
-    }
-    if args.pr {
-        f.write_str(" --pr")?;
-    }
-    if args.keep_units {
-        f.write_str(" --keep-units")?;
+    for (is_given, option) in [
+        (args.trace, " --trace"),
+        (args.strict, " --strict"),
+        (args.pr, " --pr"),
+        (args.keep_units, " --keep-units"),
+    ] {
+        if is_given {
+            f.write_str(option)?;
+        }
     }
     Ok(())
 }

@@ -60,8 +60,5 @@ pub(crate) fn only_if(is_so: bool, hint: Hint) -> Option<Hint>
 pub(crate) fn or_else(hint: Option<Hint>, other: Option<Hint>) -> Option<Hint>
     ensures { result ≡ or_else hint other }
 {
-    match hint {
-        Some(hint) => Some(hint),
-        None => other,
-    }
+    hint.or(other)
 }

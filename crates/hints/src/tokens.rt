@@ -14,6 +14,10 @@ fn is_token(piece: &&[u8]) -> bool {
     !piece.is_empty()
 }
 
+fn first_token(line: &[u8]) -> Option<&[u8]> {
+    line.split(|byte| is_separator(*byte)).find(is_token)
+}
+
 /// Whether the line is a step of DRAT: maybe a `d`, literals, and a `0`.
 pub(crate) fn is_drat_line(line: &[u8]) -> bool {
     let mut begins = true;
@@ -61,24 +65,20 @@ impl LratPlace {
     fn after(self, token: &[u8]) -> Option<LratPlace> {
         let is_zero = is_zero(token);
         match self {
-            LratPlace::Id => only_if(is_positive(token), LratPlace::Step),
+            LratPlace::Id => is_positive(token).then_some(LratPlace::Step),
             LratPlace::Step if is_d(token) => Some(LratPlace::Deleted),
             LratPlace::Step | LratPlace::Literals if is_zero => Some(LratPlace::Hints),
             LratPlace::Step | LratPlace::Literals => {
-                only_if(is_number(token), LratPlace::Literals)
+                is_number(token).then_some(LratPlace::Literals)
             }
             LratPlace::MoreHints | LratPlace::Deleted if is_zero => Some(LratPlace::End),
             LratPlace::Hints | LratPlace::MoreHints => {
-                only_if(!is_zero && is_number(token), LratPlace::MoreHints)
+                (!is_zero && is_number(token)).then_some(LratPlace::MoreHints)
             }
-            LratPlace::Deleted => only_if(is_positive(token), LratPlace::Deleted),
+            LratPlace::Deleted => is_positive(token).then_some(LratPlace::Deleted),
             LratPlace::End => None,
         }
     }
-}
-
-fn only_if(is_so: bool, place: LratPlace) -> Option<LratPlace> {
-    if is_so { Some(place) } else { None }
 }
 
 /// Whether the line begins as a step of FRAT's text: `o` or `a`, an identifier, literals, a `0`.
@@ -109,10 +109,7 @@ pub(crate) fn has_deletion(line: &[u8]) -> bool {
 
 /// Whether the line begins as only a step of DRAT does: with a `d`, a `0`, or a negative literal.
 pub(crate) fn begins_as_drat(line: &[u8]) -> bool {
-    match line.split(|byte| is_separator(*byte)).find(is_token) {
-        Some(token) => is_d(token) || is_zero(token) || token.starts_with(b"-"),
-        None => false,
-    }
+    first_token(line).is_some_and(|token| is_d(token) || is_zero(token) || token.starts_with(b"-"))
 }
 
 /// Whether the first token is a number, and a separator ends it.
@@ -123,10 +120,7 @@ pub(crate) fn begins_with_number(bytes: &[u8]) -> bool {
 
 /// Whether the line begins with neither an `s` nor a `v`.
 pub(crate) fn is_no_answer(line: &[u8]) -> bool {
-    match line.split(|byte| is_separator(*byte)).find(is_token) {
-        Some(token) => !matches!(token, [b's' | b'v']),
-        None => false,
-    }
+    first_token(line).is_some_and(|token| !matches!(token, [b's' | b'v']))
 }
 
 /// Whether the first token of the line comes a second time.
