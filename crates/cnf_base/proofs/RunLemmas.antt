@@ -13,7 +13,7 @@ use Rattle.cnf_base.specs.Code.Text.{col_after, line_after, listed}
 use Rattle.cnf_base.specs.Text.{skips_at, listing_at}
 use Rattle.cnf_base.specs.Code.Text.{col_along, comment_at, FailsAt}
 use Rattle.cnf_base.specs.Words.{word_of}
-use Rattle.cnf_base.specs.Code.Whole.{IsWholeNumber}
+use Rattle.cnf_base.specs.Ahead.{IsWholeNumber}
 use Rattle.cnf_base.specs.declared.word.Number.{Number}
 use Rattle.cnf_base.specs.declared.word.Word.TheVariants as words
 use Rattle.std.proofs.lemmas.List.{length-take-le, take_all}

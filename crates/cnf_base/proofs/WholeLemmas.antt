@@ -17,7 +17,8 @@ use Rattle.cnf_base.specs.Text.{is_separator}
 use Rattle.cnf_base.specs.Words.{is_digit, number, word_of}
 use Rattle.cnf_base.specs.Code.Digits.{decimal_after}
 use Rattle.cnf_base.specs.Code.Digits.{digits_word, AreDigits}
-use Rattle.cnf_base.specs.Code.Whole.{is_inner, IsEnded, IsWholeNumber, GoOn}
+use Rattle.cnf_base.specs.Ahead.{is_inner, IsEnded, IsWholeNumber}
+use Rattle.cnf_base.specs.Code.Whole.{GoOn}
 use Rattle.cnf_base.specs.declared.scanner.digits.Digits.{Digits}
 use Rattle.cnf_base.specs.declared.scanner.digits.Digits.TheVariants.{Counting, Zero}
 use Rattle.cnf_base.specs.declared.word.Number.{Number}

@@ -5,6 +5,7 @@ pub mod Stream
 pub mod Calls
 pub mod Words
 pub mod Text
+pub mod Ahead
 pub mod Grammar
 pub mod Lines
 pub mod Readers

@@ -1,8 +1,10 @@
 //! A text's tokens, with their places.
-ghost use Rattle.std.specs.Prelude.{◌≡◌, ◌≤◌, ◌==◌, ◌&&◌, true, Ok, IfSome, IfNone, OnOk, OnErr};
+ghost use Rattle.std.specs.Prelude.{◌≡◌, ◌<◌, ◌≤◌, ◌==◌, ◌&&◌, true, IfSome, OnOk, OnErr};
 ghost use Rattle.cnf_base.specs.Stream.{Along, most_to_come, tells_failure};
 ghost use Rattle.cnf_base.specs.Code.Digits.{begins_number};
+ghost use Rattle.cnf_base.specs.Ahead.{IsNumberAhead, TakesNumber};
 ghost use Rattle.cnf_base.specs.Text.{Gives, is_separator, listing_at, MovesOn};
+ghost use Rattle.cnf_base.specs.declared.word.Number.{Number};
 ghost use Rattle.cnf_base.specs.Code.Text.{BeginsRun, TakesWord, FailsAt, comment_at};
 
 mod digits;
@@ -11,11 +13,11 @@ mod name;
 mod run;
 mod whole;
 
-use crate::{In, Place, ReadFailed, Source, Token, Word};
+use crate::{In, Number, Place, ReadFailed, Source, Token, Word};
 use name::Name;
 use run::{Numeral, Run};
 use std::marker::Model;
-use whole::whole_number;
+use whole::{ROOM, whole_number};
 
 /// The tokens of a text in order. Comment lines have none.
 #[derive(Drop)]
@@ -64,6 +66,41 @@ impl<R: In> Scanner<R> {
         next_token(&mut self.source, &mut self.name)
     }
 
+    /// The next token, as [`Scanner::next`] gives it, where [`Scanner::number_ahead`] has none.
+    #[inline(always)]
+    pub fn next_other(&mut self) -> Result<Token, ReadFailed>
+        ensures tokens { Along self.old self.new
+            (λ i j. Gives result (listing_at self.old.place i) (listing_at self.new.place j) j) }
+        ensures fewer { MovesOn result self.old self.new }
+        ensures failed { OnErr result (tells_failure self.new.reader ≡ true) }
+        ensures mark { OnOk result
+            (tells_failure self.new.reader ≡ tells_failure self.old.reader) }
+    {
+        any_token(&mut self.source, &mut self.name)
+    }
+
+    /// The number that is the next token, where it stands after one space and all of it was read,
+    /// as most tokens of a proof do: how many bytes it has, and what it says. It takes nothing.
+    #[inline(always)]
+    pub fn number_ahead(&self) -> Option<(usize, Number)>
+        ensures { IfSome result (λ r. IsNumberAhead self.now r.0 r.1) }
+    {
+        number_ahead(&self.source)
+    }
+
+    /// Takes the number that is ahead, and tells where it stands. Who doesn't ask for the place pays
+    /// nothing for it.
+    #[inline(always)]
+    pub fn take_number(&mut self, count: usize) -> Place
+        requires { (number : Number) × IsNumberAhead self.old count number }
+        ensures taken { (number : Number) → IsNumberAhead self.old count number →
+            TakesNumber result number self.old self.new }
+        ensures fewer { most_to_come self.new < most_to_come self.old }
+        ensures mark { tells_failure self.new.reader ≡ tells_failure self.old.reader }
+    {
+        take_number(&mut self.source, count)
+    }
+
     /// Gives the reader back.
     pub fn release(self) -> R
         ensures reader { R.shown result ≡ self.reader }
@@ -73,26 +110,33 @@ impl<R: In> Scanner<R> {
     }
 }
 
-// The next token, where it is a number that stands whole after one space, as most tokens of a proof
-// are. The place in the piece is written once for both, since the next token waits for it.
+// The number that stands whole after one space.
 #[inline(always)]
-fn spaced_number<R: In>(source: &mut Source<R>) -> Option<Token>
-    ensures tokens { IfSome result (λ token. Along source.old source.new (λ i j.
-        Gives (Ok token) (listing_at source.old.place i) (listing_at source.new.place j) j)) }
-    ensures fewer { IfSome result (λ token. MovesOn (Ok token) source.old source.new) }
-    ensures none { IfNone result (source.new ≡ source.old) }
-    ensures mark { tells_failure source.new.reader ≡ tells_failure source.old.reader }
+fn number_ahead<R: In>(source: &Source<R>) -> Option<(usize, Number)>
+    ensures { IfSome result (λ r. IsNumberAhead source.now r.0 r.1) }
 {
     let ahead = source.ahead();
-    if ahead.len() < 2 || ahead[0] != b' ' {
+    if ahead.len() < 1 + ROOM || ahead[0] != b' ' {
         return None;
     }
-    let (count, number) = whole_number(&ahead[1..])?;
+    whole_number(&ahead[1..])
+}
+
+// Takes the number that is ahead, and tells where it stands. The place in the piece is written once
+// for both, since the next token waits for it.
+#[inline(always)]
+fn take_number<R: In>(source: &mut Source<R>, count: usize) -> Place
+    requires { (number : Number) × IsNumberAhead source.old count number }
+    ensures taken { (number : Number) → IsNumberAhead source.old count number →
+        TakesNumber result number source.old source.new }
+    ensures fewer { most_to_come source.new < most_to_come source.old }
+    ensures mark { tells_failure source.new.reader ≡ tells_failure source.old.reader }
+{
     let _from_one = source.place();
     source.bump_in_line();
     let place = source.place();
     source.skip_in_line(count);
-    Some(Token::Word(place, Word::Number(number)))
+    place
 }
 
 // The text's next token.
@@ -105,9 +149,24 @@ fn next_token<R: In>(source: &mut Source<R>, name: &mut Name) -> Result<Token, R
     ensures mark { OnOk result
         (tells_failure source.new.reader ≡ tells_failure source.old.reader) }
 {
-    if let Some(token) = spaced_number(source) {
-        return Ok(token);
+    if let Some((count, number)) = number_ahead(source) {
+        let place = take_number(source, count);
+        return Ok(Token::Word(place, Word::Number(number)));
     }
+    any_token(source, name)
+}
+
+// The same, whatever the token is. It stands apart, as the room that it clears for a word would else
+// be cleared for each number too.
+#[inline(always)]
+fn any_token<R: In>(source: &mut Source<R>, name: &mut Name) -> Result<Token, ReadFailed>
+    ensures tokens { Along source.old source.new
+        (λ i j. Gives result (listing_at source.old.place i) (listing_at source.new.place j) j) }
+    ensures fewer { MovesOn result source.old source.new }
+    ensures failed { OnErr result (tells_failure source.new.reader ≡ true) }
+    ensures mark { OnOk result
+        (tells_failure source.new.reader ≡ tells_failure source.old.reader) }
+{
     loop {
         match source.peek() {
             Ok(Some(byte)) => {

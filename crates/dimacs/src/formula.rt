@@ -16,7 +16,9 @@ ghost use Rattle.dimacs.specs.Code.Reading.{ends_left};
 
 use crate::ClauseBuf;
 use crate::header::{Header, read_header};
-use cnf_base::{Fault, In, Lit, Place, ReadFailed, Scanner, Source, TextFault, Token, Word};
+use cnf_base::{
+    Fault, In, Lit, Number, Place, ReadFailed, Scanner, Source, TextFault, Token, Word,
+};
 use std::marker::Model;
 
 /// A formula in DIMACS CNF, read clause by clause. It holds nothing of the formula but its header.
@@ -162,7 +164,21 @@ fn read_clause<R: In>(
     ensures tells { TellsOf result scanner.old.reader scanner.new.reader }
 {
     loop {
-        match scanner.next() {
+        if let Some((count, number)) = scanner.number_ahead() {
+            match judge_number(header, complete, number) {
+                Ok(Some(lit)) => {
+                    let _ = scanner.take_number(count);
+                    clause.push(lit)?;
+                }
+                Ok(None) => {
+                    let _ = scanner.take_number(count);
+                    return Ok(true);
+                }
+                Err(kind) => return Err(Fault::Text(kind, scanner.take_number(count))),
+            }
+            continue;
+        }
+        match scanner.next_other() {
             Ok(Token::Word(place, word)) => match judge(header, complete, word) {
                 Ok(Some(lit)) => {
                     clause.push(lit)?;
@@ -182,9 +198,17 @@ fn judge(header: Header, complete: u32, word: Word) -> Result<Option<Lit>, TextF
     ensures value { result ≡ judged header complete word }
     ensures counts { OnOk result (complete < header.clauses) }
 {
-    let Word::Number(number) = word else {
-        return Err(TextFault::BadToken);
-    };
+    match word {
+        Word::Number(number) => judge_number(header, complete, number),
+        _ => Err(TextFault::BadToken),
+    }
+}
+
+// The same of a number.
+fn judge_number(header: Header, complete: u32, number: Number) -> Result<Option<Lit>, TextFault>
+    ensures value { result ≡ judged header complete (Word.Number number) }
+    ensures room { OnOk result (complete < header.clauses) }
+{
     if number.size > u64::from(Lit::MAX_VAR) {
         return Err(TextFault::NumberTooLarge);
     }

@@ -24,9 +24,10 @@ use Rattle.proofs.specs.Code.Reading.{proof_unless_ended}
 use Rattle.proofs.specs.TextSteps.{Move, goes, completes, faults, Format, move_of, on_move, at_end}
 use Rattle.proofs.specs.TextSteps.{steps_from}
 use Rattle.proofs.specs.Code.TextSteps.{steps_listed}
-use Rattle.proofs.specs.Code.TextMoves.{text_left, EndsProof, MovesText}
+use Rattle.proofs.specs.Code.TextMoves.{fault_at, text_left, EndsProof, MovesText}
 use Rattle.proofs.specs.declared.moved.Moved.{Moved}
 use Rattle.proofs.specs.declared.stopped.Stopped.{Stopped}
+use Rattle.proofs.specs.declared.stopped.Stopped.TheVariants as stops
 use Rattle.proofs.proofs.ReachLemmas.{steps_among-from, on_move-from, ended-from}
 
 -- a fault is what comes, and it stays
@@ -77,6 +78,9 @@ ends_so : {P : Type 0} (format : Format P) (last : Proof) (result : Result Bool 
 ends_so format last (Ok true) end s before l rest ends e = absurd ends
 ends_so format last (Ok false) end s before l rest ends e = (e ∙ ends, e ∙ ends)
 ends_so format last (Err f) end s before l rest ends e = gives_fault f end s before _ rest (IsFaulty-from f None before (e ∙ ends)) refl
+
+pub moves_told : {P S : Type 0} (spot : P → S) (result answer : Result (Moved P) Stopped) (m : Move S) (s : Step) → MovesText spot result m s → result ≡ answer → MovesText spot answer m s
+moves_told {P} spot result answer m s moves is = let Q : Result (Moved P) Stopped → Type 0 = λ r. MovesText spot r m s in subst Q is moves
 
 -- from one moment to another words of one step were read
 pub record Between {P : Type 0} (format : Format P) (old now : Stream) (part : P) (s : Step) : Type 0 where
@@ -142,8 +146,9 @@ module _ {P : Type 0} (format : Format P) (old now new : Stream) (part : P) (s :
     Between-fault f t is = gave (Err (Text f p)) None t (λ i j q.
         gives_fault (Text f p) None t _ _ j (IsFaulty-from (Text f p) (Some j.offset) _ (q ∙ ap (follows j) is)) refl)
 
-    pub Between-refused : (t : Step) → Gave (Err OutOfMemory) None t
-    Between-refused t = gave (Err OutOfMemory) None t (λ i j q. refl)
+    pub Between-stopped : {Part : Type 0} (spot : Part → P) (result : Result (Moved Part) Stopped) (stopped : Stopped) (end : Option StepEnd) (t : Step) → MovesText spot result (move_of format part s w) t → result ≡ Err stopped → Gave (Err (fault_at stopped p)) end t
+    Between-stopped spot result (stops.Text f) end t moves is = Between-fault f t (moves_told spot result (Err (stops.Text f)) _ t moves is)
+    Between-stopped spot result stops.OutOfMemory end t moves is = gave (Err OutOfMemory) None t (λ i j q. refl)
 
   -- and none before the rest
   rest-from : (result : Result Token Cut) (i j k : Suffix) → Gives result (listing_at now.place j) (listing_at new.place k) k
@@ -169,5 +174,3 @@ module _ {P : Type 0} (format : Format P) (old now new : Stream) (part : P) (s :
       empty l none failed = rw (none, failed) refl
 
 -- what a word was found to do, by the answer's pattern
-pub moves_told : {P S : Type 0} (spot : P → S) (result answer : Result (Moved P) Stopped) (m : Move S) (s : Step) → MovesText spot result m s → result ≡ answer → MovesText spot answer m s
-moves_told {P} spot result answer m s moves is = let Q : Result (Moved P) Stopped → Type 0 = λ r. MovesText spot r m s in subst Q is moves

@@ -10,7 +10,8 @@ ghost use Rattle.proofs.specs.Steps.{Step, named};
 ghost use Rattle.proofs.specs.TextSteps.{Format, move_of, at_end};
 ghost use Rattle.proofs.specs.Code.TextSteps.{steps_listed};
 ghost use Rattle.proofs.specs.Code.TextSteps.{left_to};
-ghost use Rattle.proofs.specs.Code.TextMoves.{text_left, EndsProof, FitsMoved, MovesText};
+ghost use Rattle.proofs.specs.Code.TextMoves.{fault_at, text_left, EndsProof};
+ghost use Rattle.proofs.specs.Code.TextMoves.{FitsMoved, MovesText};
 
 use crate::moved::Moved;
 use crate::stopped::Stopped;
@@ -155,15 +156,28 @@ fn read_step<R: In, P: TextPart>(
     step.name(0);
     let mut part = start;
     loop {
-        match scanner.next() {
+        if let Some((count, number)) = scanner.number_ahead() {
+            match part.take_number(step, number) {
+                Ok(Moved::To(next)) => {
+                    let _ = scanner.take_number(count);
+                    part = next;
+                }
+                Ok(Moved::Complete) => {
+                    *end = Some(StepEnd::Text(scanner.take_number(count)));
+                    return Ok(true);
+                }
+                Err(stopped) => return Err(fault_at(stopped, scanner.take_number(count))),
+            }
+            continue;
+        }
+        match scanner.next_other() {
             Ok(Token::Word(place, word)) => match move_on(part, step, word) {
                 Ok(Moved::To(next)) => part = next,
                 Ok(Moved::Complete) => {
                     *end = Some(StepEnd::Text(place));
                     return Ok(true);
                 }
-                Err(Stopped::Text(kind)) => return Err(Fault::Text(kind, place)),
-                Err(Stopped::OutOfMemory) => return Err(Fault::OutOfMemory),
+                Err(stopped) => return Err(fault_at(stopped, place)),
             },
             Ok(Token::LineEnd(_)) => {}
             Ok(Token::End(place)) => return at_end(part, place),
@@ -173,6 +187,7 @@ fn read_step<R: In, P: TextPart>(
 }
 
 // Puts a word into the step.
+#[inline(never)]
 fn move_on<P: TextPart>(part: P, step: &mut StepBuf, word: Word) -> Result<Moved<P>, Stopped>
     requires { IsTrue (P.fits part step.old) }
     ensures moves { MovesText P.spot result
@@ -183,6 +198,16 @@ fn move_on<P: TextPart>(part: P, step: &mut StepBuf, word: Word) -> Result<Moved
         Word::Number(number) => part.take_number(step, number),
         Word::D => part.take_d(step),
         _ => Err(Stopped::Text(TextFault::BadToken)),
+    }
+}
+
+// The fault of the word at this place, or want of memory.
+fn fault_at(stopped: Stopped, place: Place) -> Fault
+    ensures { result ≡ fault_at stopped place }
+{
+    match stopped {
+        Stopped::Text(kind) => Fault::Text(kind, place),
+        Stopped::OutOfMemory => Fault::OutOfMemory,
     }
 }
 

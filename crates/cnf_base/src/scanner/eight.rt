@@ -1,6 +1,6 @@
 //! The digits at the front of eight bytes, which are read as one number. Where a number ends can't
 //! be foretold, and a wrong guess costs more than all digits do: so no digit has a branch.
-ghost use Rattle.std.specs.Prelude.{◌≡◌, ◌≤◌, length, map, ℕ, List, IfSome};
+ghost use Rattle.std.specs.Prelude.{◌≡◌, ◌<◌, ◌≤◌, length, map, ℕ, List};
 ghost use Rattle.std.specs.List.{prefix_len};
 ghost use Rattle.cnf_base.specs.Words.{is_digit};
 ghost use Rattle.cnf_base.specs.Code.Eight.{packed, from_zero, decimal, AreEight, AreFront};
@@ -8,9 +8,9 @@ ghost use Rattle.cnf_base.specs.Code.Eight.{packed, from_zero, decimal, AreEight
 /// How many digits stand at the front of eight bytes, and the number that they write. How many
 /// can't be foretold, so that a branch for each would often be guessed wrong.
 #[inline(always)]
-pub fn front_digits(bytes: &[u8]) -> Option<(usize, u64)>
+pub fn front_digits(bytes: &[u8]) -> (usize, u64)
     requires { 8 ≤ length bytes.now }
-    ensures { IfSome result (λ r. AreFront bytes.now r.0 r.1) }
+    ensures { 0 < result.0 → AreFront bytes.now result.0 result.1 }
 {
     let packed = u64::from_le_bytes([
         bytes[0], bytes[1], bytes[2], bytes[3], bytes[4], bytes[5], bytes[6], bytes[7],
@@ -18,9 +18,9 @@ pub fn front_digits(bytes: &[u8]) -> Option<(usize, u64)>
     let word = packed ^ 0x3030_3030_3030_3030;
     let count = digit_count(word);
     if count == 0 {
-        return None;
+        return (0, 0);
     }
-    Some((count, value_of(word << (64 - 8 * count))))
+    (count, value_of(word << (64 - 8 * count)))
 }
 
 // How many of the bytes are digits, from the lowest on: each other one gets its highest bit.

@@ -1,10 +1,15 @@
 //! Numbers that stand whole in what was read at once, without a look at the source for each byte.
 ghost use Rattle.std.specs.Prelude.{◌≡◌, ◌+◌, ◌*◌, ◌<◌, ◌≤◌, length, take, IfSome};
-ghost use Rattle.cnf_base.specs.Code.Whole.{IsWholeNumber, GoOn};
+ghost use Rattle.cnf_base.specs.Ahead.{IsWholeNumber};
+ghost use Rattle.cnf_base.specs.Code.Eight.{AreFront};
+ghost use Rattle.cnf_base.specs.Code.Whole.{GoOn};
 
 use super::eight::front_digits;
 use super::is_separator;
 use crate::Number;
+
+/// Of a number so many bytes are looked at: a `-`, eight digits and a separator.
+pub const ROOM: usize = 10;
 
 // A number that is as great and goes on is read byte by byte, up to `u64::MAX`.
 const GREAT: u64 = 1_000_000_000_000_000_000;
@@ -16,8 +21,7 @@ pub fn whole_number(bytes: &[u8]) -> Option<(usize, Number)>
     requires { 0 < length bytes.now }
     ensures { IfSome result (λ r. IsWholeNumber bytes.now r.0 r.1) }
 {
-    // room for a `-`, eight digits and a separator
-    if bytes.len() < 10 {
+    if bytes.len() < ROOM {
         return None;
     }
     let is_negative = bytes[0] == b'-';
@@ -36,10 +40,25 @@ fn whole_digits(bytes: &[u8]) -> Option<(usize, u64)>
     ensures some { IfSome result (λ r. 0 < r.0) }
     ensures digits { IfSome result (λ r. GoOn 0 bytes.now r.0 r.1) }
 {
-    let (count, size) = front_digits(bytes)?;
+    let (count, size) = front_digits(bytes);
+    if count == 0 {
+        return None;
+    }
     if is_separator(bytes[count]) {
         return Some((count, size));
     }
+    long_digits(bytes, count, size)
+}
+
+// The same where these first digits go on. It stands apart, as the room that it clears for the rest
+// would else be cleared for each number.
+#[inline(always)]
+fn long_digits(bytes: &[u8], count: usize, size: u64) -> Option<(usize, u64)>
+    requires inside { count ≤ length bytes.now }
+    requires front { AreFront bytes.now count size }
+    ensures some { IfSome result (λ r. 0 < r.0) }
+    ensures digits { IfSome result (λ r. GoOn 0 bytes.now r.0 r.1) }
+{
     let (more, size) = go_on_long(&bytes[count..], size)?;
     Some((count + more, size))
 }

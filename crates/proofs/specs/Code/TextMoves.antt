@@ -2,9 +2,12 @@
 use Rattle.std.specs.Prelude.{◌≡◌, Result, Ok, Err, Bool, IsTrue, true, false, None}
 use Rattle.cnf_base.specs.Text.{Listing}
 use Rattle.cnf_base.specs.declared.fault.Fault.{Fault}
+use Rattle.cnf_base.specs.declared.fault.Fault.TheVariants as faults
+use Rattle.cnf_base.specs.declared.place.Place.{Place}
 use Rattle.proofs.specs.Reading.{Proof, clean, faulty_proof}
 use Rattle.proofs.specs.Steps.{Step}
-use Rattle.proofs.specs.TextSteps.{Move, goes, completes, faults, Format}
+use Rattle.proofs.specs.TextSteps as steps
+use Rattle.proofs.specs.TextSteps.{Move, goes, completes, Format}
 use Rattle.proofs.specs.Code.TextSteps.{steps_listed}
 use Rattle.proofs.specs.declared.moved.Moved.TheVariants.{To, Complete}
 use Rattle.proofs.specs.declared.moved.Moved.{Moved}
@@ -17,8 +20,13 @@ abbrev pub MovesText : {Part Spot : Type 0} → (Part → Spot) → Result (Move
     Move Spot → Step → Type 0
 MovesText spot (Ok (To part)) move step = move ≡ goes (spot part) step
 MovesText spot (Ok Complete) move step = move ≡ completes step
-MovesText spot (Err (Text f)) move step = move ≡ faults f
+MovesText spot (Err (Text f)) move step = move ≡ steps.faults f
 MovesText spot (Err OutOfMemory) move step = Unit {0}
+
+-- the fault of the word at this place, or want of memory
+abbrev pub fault_at : Stopped → Place → Fault
+fault_at (Text f) p = faults.Text f p
+fault_at OutOfMemory p = faults.OutOfMemory
 
 -- the part that comes next can follow what was read of the step
 abbrev pub FitsMoved : {Part : Type 0} → (Part → Step → Bool) → Result (Moved Part) Stopped → Step →

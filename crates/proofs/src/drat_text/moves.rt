@@ -27,6 +27,7 @@ impl text::TextPart for DratPart {
         matches!(self, DratPart::Start)
     }
 
+    #[inline(always)]
     fn take_number(self, step: &mut StepBuf, number: Number) -> Result<Moved<DratPart>, Stopped> {
         if number.size > u64::from(Lit::MAX_VAR) {
             return Err(Stopped::Text(TextFault::LiteralTooLarge));

@@ -30,6 +30,7 @@ impl text::TextPart for LratPart {
         matches!(self, LratPart::Identifier)
     }
 
+    #[inline(always)]
     fn take_number(self, step: &mut StepBuf, number: Number) -> Result<Moved<LratPart>, Stopped> {
         match self {
             LratPart::Identifier => take_identifier(step, number),

@@ -4,10 +4,10 @@ use Rattle.cnf_base.specs.Stream.{most_to_come}
 use Rattle.proofs.proofs.TextLemmas.{Between}
 use Rattle.proofs.proofs.text.read_step.Given as goal
 
-abbrev pub invariant-loop-place : goal.invariant-loop-place
-invariant-loop-place g l =
+abbrev pub invariant-loop-count : goal.invariant-loop-count
+invariant-loop-count g l =
     Between g.P.TextPart.format l.fn.scanner l.scanner (g.P.TextPart.spot l.part) l.step
     × IsTrue (g.P.TextPart.fits l.part l.step)
 
-abbrev pub decreases-loop-place : goal.decreases-loop-place
-decreases-loop-place g l = most_to_come l.scanner
+abbrev pub decreases-loop-count : goal.decreases-loop-count
+decreases-loop-count g l = most_to_come l.scanner

@@ -1,0 +1,8 @@
+-- More digits go on with the first ones.
+use Rattle.cnf_base.proofs.WholeLemmas.{GoOn-more}
+use Rattle.cnf_base.proofs.scanner.whole.long_digits.Goals as goal
+
+pub returns-clause-digits : goal.returns-clause-digits
+returns-clause-digits c =
+    let front = c.requires.front in
+    GoOn-more c.args.bytes.now c.args.count c.args.size c.in_ok-more.more c.in_ok-more.size front.each front.says c.in_ok-more.ensures
