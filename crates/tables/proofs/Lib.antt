@@ -1,1 +1,2 @@
+pub mod FilledLemmas
 pub mod ListsLemmas

@@ -5,13 +5,15 @@
 //! the others stand in a balanced tree, where no choice of keys makes a look-up long.
 
 ghost use Rattle.std.specs.Prelude.{◌≡◌, ℕ, ◌==◌, ◌<◌, ◌≤◌, if◌then◌else◌, unwrap_or, vec_len};
-ghost use Rattle.std.specs.Prelude.{IsSome, OnOk, OnErr, Some, None, ◌≢◌, length, slice_get};
+ghost use Rattle.std.specs.Prelude.{IsSome, OnOk, OnErr, Some, None, ◌≢◌, length, slice_get, take};
 ghost use Rattle.std.specs.Ordering.{nat_cmp};
 ghost use Rattle.std.specs.BTreeMap as tree;
+ghost use Rattle.tables.specs.Filled.{HaveRoom, is_of};
 ghost use Rattle.tables.specs.Code.Filled.{IsFilled};
 
 use crate::growth::len_for;
-use cnf_base::OutOfMemory;
+use crate::table::key;
+use cnf_base::{Lit, OutOfMemory};
 use std::alloc::Global;
 use std::collections::BTreeMap;
 
@@ -117,10 +119,10 @@ impl<T: Copy + Drop> Filled<T> {
         ensures { (k : ℕ) → at self.new k ≡ (if k == other then Some other_value
             else if k == key then Some value else at self.old k) }
     {
-        let len = self.near.len();
-        if (key as usize) < len && (other as usize) < len {
-            self.near[key as usize] = value;
-            self.near[other as usize] = other_value;
+        let near = self.near.as_mut_slice();
+        if (key as usize) < near.len() && (other as usize) < near.len() {
+            near[key as usize] = value;
+            near[other as usize] = other_value;
         } else {
             self.set_both_far(key, value, other, other_value);
         }
@@ -137,6 +139,54 @@ impl<T: Copy + Drop> Filled<T> {
     {
         self.set(key, value);
         self.set(other, other_value);
+    }
+
+    /// Writes one value at these literals' keys and at their complements', for which there is room.
+    #[inline(always)]
+    pub fn set_all(&mut self, lits: &[Lit], value: T)
+        requires { HaveRoom (at self.old) lits.now }
+        ensures { (k : ℕ) → at self.new k ≡ (if is_of lits.now k then Some value
+            else at self.old k) }
+    {
+        if self.set_near(lits, value) < lits.len() {
+            self.set_each(lits, value);
+        }
+    }
+
+    /// The same up to the first literal of which a key is far. It tells how many stand before it.
+    ///
+    /// The loop holds the array: else it would read its place and its length for each literal.
+    #[inline(always)]
+    fn set_near(&mut self, lits: &[Lit], value: T) -> usize
+        ensures within { result ≤ length lits.now }
+        ensures written { (k : ℕ) → at self.new k ≡ (if is_of (take result lits.now) k
+            then Some value else at self.old k) }
+    {
+        let near = self.near.as_mut_slice();
+        let mut done = 0;
+        for l in lits {
+            let (first, second) = (l.index(), l.neg().index());
+            if first >= near.len() || second >= near.len() {
+                return done;
+            }
+            near[first] = value;
+            near[second] = value;
+            done += 1;
+        }
+        done
+    }
+
+    /// The same as `set_all`, wherever the keys lie.
+    #[cold]
+    #[inline(never)]
+    fn set_each(&mut self, lits: &[Lit], value: T)
+        requires { HaveRoom (at self.old) lits.now }
+        ensures { (k : ℕ) → at self.new k ≡ (if is_of lits.now k then Some value
+            else at self.old k) }
+    {
+        for l in lits {
+            self.set_both(key(*l), value, key(l.neg()), value);
+        }
     }
 
     /// Lengthens `near`, with what `far` has there.

@@ -1,7 +1,7 @@
 //! Values by small numbers, of which only those that were reserved have one.
 
 ghost use Rattle.std.specs.Prelude.{◌≡◌, ℕ, ◌==◌, if◌then◌else◌, unwrap_or, IsSome, OnOk, OnErr};
-ghost use Rattle.std.specs.Prelude.{None};
+ghost use Rattle.std.specs.Prelude.{None, Some, ◌<◌, length, slice_get};
 
 use crate::filled::Filled;
 use cnf_base::{Lit, OutOfMemory};
@@ -39,6 +39,15 @@ impl<T: Copy + Drop> Table<T> {
         ensures { result ≡ at self.now key }
     {
         self.values.get_or(key, None)
+    }
+
+    /// The values of the keys below the length of this, in their order, where they have one.
+    #[inline(always)]
+    pub fn near(&self) -> &[Option<T>]
+        ensures { (k : ℕ) → k < length result.now →
+            slice_get result.now k ≡ Some (at self.now k) }
+    {
+        self.values.near()
     }
 
     /// Writes the value at the key, which was reserved.

@@ -10,7 +10,7 @@ mod values;
 
 ghost use Rattle.std.specs.Prelude.{◌≡◌, ℕ, ◌*◌, ◌/◌, ◌-◌, ◌==◌, ◌<◌, ◌≤◌, ◌||◌, ◌&&◌, not, []};
 ghost use Rattle.std.specs.Prelude.{◌∷◌, ◌++◌, filter, length, map, take, is_some, IsSome, IsTrue};
-ghost use Rattle.std.specs.Prelude.{IsFalse, ◌↔◌, IfSome, IfNone, IfOk, OnOk, OnErr, if◌then◌else◌};
+ghost use Rattle.std.specs.Prelude.{true, IsFalse, ◌↔◌, IfSome, IfNone, IfOk, OnOk, OnErr, if◌then◌else◌};
 ghost use Rattle.std.specs.List.{remove};
 ghost use Rattle.cnf_base.specs.Literals.{complement, has, variable};
 ghost use Rattle.theory.specs.Propagation.{open_literals};
@@ -229,10 +229,41 @@ impl Trail {
             IsTrue (has self.new.reserved v) }
         ensures lits { self.new.lits ≡ self.old.lits }
     {
+        if self.has_room_near(clause) {
+            return Ok(());
+        }
+        self.reserve_each(clause)
+    }
+
+    /// The same where there may be no room yet.
+    #[cold]
+    #[inline(never)]
+    fn reserve_each(&mut self, clause: &[Lit]) -> Result<(), OutOfMemory>
+        ensures room { OnOk result (HasRoom self.new.reserved clause.now) }
+        ensures reserved { (v : ℕ) → IsTrue (has self.old.reserved v) →
+            IsTrue (has self.new.reserved v) }
+        ensures lits { self.new.lits ≡ self.old.lits }
+    {
         for l in clause {
             self.reserve(l.var())?;
         }
         Ok(())
+    }
+
+    /// Whether there is room for the variables of a clause, which the near ones alone may say. The
+    /// loop holds their array: else it would read its place for each literal.
+    #[inline(always)]
+    pub fn has_room_near(&self, clause: &[Lit]) -> bool
+        ensures { result ≡ true → HasRoom self.now.reserved clause.now }
+    {
+        let near = self.seen.near();
+        for l in clause {
+            match near.get(l.var() as usize) {
+                Some(Some(())) => {}
+                _ => return false,
+            }
+        }
+        true
     }
 
     /// Sets a literal that is not false, unless it is true already. Tells whether it was open. It

@@ -18,13 +18,14 @@ use Rattle.cnf_base.proofs.SetLemmas.{has_append_cases}
 use Rattle.cnf_base.proofs.LiteralLemmas.{complement-complement, complement-other}
 use Rattle.cnf_base.proofs.SizeLemmas.{size_covered}
 use Rattle.trail.specs.Trail.{value_under, HasNoVariableTwice}
-use Rattle.trail.specs.Code.Values.{IsTrail, known_value}
+use Rattle.tables.specs.Filled.{HaveRoom, is_of}
+use Rattle.trail.specs.Code.Values.{IsTrail, Opens, known_value}
 use Rattle.trail.specs.declared.value.Value.{Value}
 use Rattle.trail.specs.declared.value.Value.TheVariants.{True, False, Open}
 use Rattle.cnf_base.proofs.MemberLemmas.{place_of, has_mapped, has_any, variable-complement}
 use Rattle.trail.proofs.TrailLemmas.Truth.{HasNoVariableTwice-from_places, places_apart}
 use Rattle.trail.proofs.TrailLemmas.Truth.{open_from_value, variable_open}
-use Rattle.cnf_base.proofs.WalkLemmas.{has_push, has_more}
+use Rattle.cnf_base.proofs.WalkLemmas.{has_push}
 
 abbrev Values : Type 0
 Values = ℕ → Option Value
@@ -284,30 +285,25 @@ pub trail_cut : {T : Type 0} (lits shown reserved : List ℕ) (capacity : ℕ) (
     IsTrail (take n shown ++ take (length shown - n) (drop n shown)) reserved capacity seen value_of
 trail_cut lits shown reserved capacity seen value_of same trail n = subst (λ ls. IsTrail ls reserved capacity seen value_of) (sym same ∙ front_and_rest shown n) trail
 
--- ---- Literals made open, one after the other
+-- ---- Literals made open
 
-module _ {T : Type 0} (value : T) (c : List ℕ) (i : ℕ) (inside : i < length c) (x : ℕ) (is : x ≡ get_or c i x) (was before after : ℕ → T) where
-  pub opened_more : ((k : ℕ) → before k ≡ cond (has (take i c) k || has (take i c) (complement k)) value (was k)) →
-      ((k : ℕ) → after k ≡ cond (eqb k (complement x)) value (cond (eqb k x) value (before k))) →
-      (k : ℕ) → after k ≡ cond (has (take (i + 1) c) k || has (take (i + 1) c) (complement k)) value (was k)
-  opened_more so_far step k = elim (cases_eq k (complement x)) [
-    | inl same ↦
-        step k ∙ ap (λ b. cond b value (cond (eqb k x) value (before k))) (eq-eqb k (complement x) same)
-        ∙ sym (ap (λ b. cond b value (was k)) (or_right (has (take (i + 1) c) k) _ (more (complement k) ∙ or_right (has (take i c) (complement k)) _ (eq-eqb x (complement k) (sym (ap complement same ∙ complement-complement x))))))
-    | inr other ↦ elim (cases_eq k x) [
-      | inl here ↦
-          step k ∙ ap (λ b. cond b value (cond (eqb k x) value (before k))) (ne_eqb k (complement x) other) ∙ ap (λ b. cond b value (before k)) (eq-eqb k x here)
-          ∙ sym (ap (λ b. cond b value (was k)) (or_left _ (has (take (i + 1) c) (complement k)) (more k ∙ or_right (has (take i c) k) _ (eq-eqb x k (sym here)))))
-      | inr apart ↦
-          step k ∙ ap (λ b. cond b value (cond (eqb k x) value (before k))) (ne_eqb k (complement x) other) ∙ ap (λ b. cond b value (before k)) (ne_eqb k x apart)
-          ∙ so_far k
-          ∙ sym (
-          ap (λ b. cond (b || has (take (i + 1) c) (complement k)) value (was k)) (more k ∙ ap (λ b. has (take i c) k || b) (ne_eqb x k (λ e. apart (sym e))) ∙ or_nothing (has (take i c) k))
-          ∙ ap (λ b. cond (has (take i c) k || b) value (was k))
-          (more (complement k) ∙ ap (λ b. has (take i c) (complement k) || b) (ne_eqb x (complement k) (λ e. other (sym (complement-complement k) ∙ ap complement (sym e)))) ∙ or_nothing (has (take i c) (complement k)))
-          )
+pub opens : (lits : List ℕ) (before after : Values) → HaveRoom before lits →
+    ((k : ℕ) → after k ≡ cond (is_of lits k) (Some Open) (before k)) → Opens before after lits
+opens lits before after room written = record {
+  known = λ k. known k (is_of lits k) refl;
+  opened = λ k. ap known_value (written k) ∙ opened (is_of lits k) (before k);
+}
+  where
+    opened : (b : Bool) (o : Option Value) → known_value (cond b (Some Open) o) ≡ cond b Open (known_value o)
+    opened true o = refl
+    opened false o = refl
+
+    had : (k : ℕ) → is_of lits k ≡ true → is_some (before k) ≡ true
+    had k e = elim (or_cases (has lits k) (has lits (complement k)) e) [
+      | inl h ↦ (room k h).0
+      | inr h ↦ subst (λ l. is_some (before l) ≡ true) (complement-complement k) (room (complement k) h).1
     ]
-  ]
-    where
-      more : (l : ℕ) → has (take (i + 1) c) l ≡ (has (take i c) l || eqb x l)
-      more = has_more c i inside x is
+
+    known : (k : ℕ) (b : Bool) → is_of lits k ≡ b → is_some (after k) ≡ is_some (before k)
+    known k true e = ap is_some (written k ∙ ap (λ b. cond b (Some Open) (before k)) e) ∙ sym (had k e)
+    known k false e = ap is_some (written k ∙ ap (λ b. cond b (Some Open) (before k)) e)

@@ -20,11 +20,6 @@ reserved_in seen = seen_up_to seen 268435455
 abbrev pub known_value : Option Value → Value
 known_value o = unwrap_or o Open
 
--- each of these literals has a value, and so has its complement
-abbrev pub HaveValues : (ℕ → Option Value) → List Literal → Type 0
-HaveValues value_of lits =
-    (l : ℕ) → IsTrue (has lits l) → IsSome (value_of l) × IsSome (value_of (complement l))
-
 -- these literals and their complements are open, all others are as before, and as many have a value
 pub record Opens (before after : ℕ → Option Value) (lits : List Literal) : Type 0 where
   pub known : (k : ℕ) → is_some (after k) ≡ is_some (before k)

@@ -5,8 +5,8 @@
 
 ghost use Rattle.std.specs.Prelude.{◌≡◌, ℕ, ◌==◌, if◌then◌else◌, Some, IsSome, OnOk};
 ghost use Rattle.cnf_base.specs.Literals.{complement};
-ghost use Rattle.tables.specs.Filled.{at};
-ghost use Rattle.trail.specs.Code.Values.{HaveValues, Opens, known_value};
+ghost use Rattle.tables.specs.Filled.{HaveRoom, at};
+ghost use Rattle.trail.specs.Code.Values.{Opens, known_value};
 
 use crate::value::Value;
 use cnf_base::{Lit, OutOfMemory};
@@ -25,12 +25,10 @@ pub(crate) fn set_both(values: &mut Filled<Value>, l: Lit, value: Value, other: 
 
 /// Makes the literals and their complements open.
 pub(crate) fn open_all(values: &mut Filled<Value>, lits: &[Lit])
-    requires { HaveValues (at values.old) lits.now }
+    requires { HaveRoom (at values.old) lits.now }
     ensures { Opens (at values.old) (at values.new) lits.now }
 {
-    for l in lits {
-        set_both(values, *l, Value::Open, Value::Open);
-    }
+    values.set_all(lits, Value::Open);
 }
 
 /// Makes room for both literals of a variable, which are open where they had no value.

@@ -1,6 +1,6 @@
 use Rattle.std.proofs.Common.{◌≡◌, ℕ, ◌/◌, true, take}
 use Rattle.cnf_base.specs.Literals.{Literal, has}
-use Rattle.trail.proofs.trail.Trail.reserve_all.Given as goal
+use Rattle.trail.proofs.trail.Trail.reserve_each.Given as goal
 
 abbrev pub invariant-loop-l : goal.invariant-loop-l
 invariant-loop-l l = record {
