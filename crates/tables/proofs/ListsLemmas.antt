@@ -49,6 +49,22 @@ module _ {T : Type 0} where
           ∙ sym (ap (λ b. cond b (f (items_or (slice_get near k) (rest k))) (items_or (slice_get near k) (rest k))) (ne_eqb k l ne))
     ]
 
+  -- one that is found at once is written with what it has
+  module _ (near : List (Vec T Global)) (l : ℕ) (list d : Vec T Global) (inside : l < length near) (same : list.items ≡ (get_or near l d).items) where
+    pub same_written : (rest : ℕ → List T) (k : ℕ) → items_or (slice_get (set near l list) k) (rest k) ≡ items_or (slice_get near k) (rest k)
+    same_written rest k =
+        near_written near l (λ xs. xs) rest list inside (same ∙ sym (ap (λ o. items_or o (rest l)) (slice_get-get_or near l d inside))) k ∙ either (eqb k l) (items_or (slice_get near k) (rest k))
+      where
+        either : (b : Bool) (xs : List T) → cond b xs xs ≡ xs
+        either true xs = refl
+        either false xs = refl
+
+    pub same_total : total (set near l list) ≡ total near
+    same_total =
+        let put = sum_by-set (λ v. length v.items) near l list d inside in
+        let len = ap length same in
+        omega (arith, put, len)
+
   -- one more is found at once
   pub near_more : (near : List (Vec T Global)) (list : Vec T Global) (rest rest2 : ℕ → List T) → list.items ≡ rest (length near) → ((k : ℕ) → rest2 k ≡ cond (eqb k (length near)) [] (rest k)) → (k : ℕ) →
       items_or (slice_get (near ++ list ∷ []) k) (rest2 k) ≡ items_or (slice_get near k) (rest k)

@@ -3,7 +3,7 @@
 ghost use Rattle.std.specs.Prelude.{◌<◌, ◌≤◌, IfSome};
 
 /// The key past the greatest one.
-const KEYS: usize = 4294967296;
+pub(crate) const KEYS: usize = 4294967296;
 
 /// A key below this is near, however few were met.
 const NEAR: usize = 131072;

@@ -4,13 +4,13 @@
 //! put an entry into another one. Those that lie far from the others stand in a balanced tree.
 
 ghost use Rattle.std.specs.Prelude.{◌≡◌, ℕ, ◌+◌, ◌==◌, ◌++◌, ◌∷◌, [], length, min, vec_len};
-ghost use Rattle.std.specs.Prelude.{if◌then◌else◌, IsTrue, OnOk, OnErr, false, ◌≤◌, is_some};
+ghost use Rattle.std.specs.Prelude.{if◌then◌else◌, IsTrue, OnOk, OnErr, false, ◌<◌, ◌≤◌, is_some};
 ghost use Rattle.std.specs.BTreeMap as tree;
 ghost use Rattle.std.specs.Ordering.{nat_cmp};
 ghost use Rattle.tables.specs.Lists.{entries_in, far_at, has_list_at, list_at, total};
 ghost use Rattle.tables.specs.Code.Lists.{AreSame, Pushes};
 
-use crate::growth::len_for;
+use crate::growth::{KEYS, len_for};
 use cnf_base::OutOfMemory;
 use std::alloc::Global;
 use std::collections::BTreeMap;
@@ -204,6 +204,31 @@ impl<T: Copy + Drop> Lists<T> {
             self.near.reserve(1)?;
             let list = self.take_far(key as u32);
             self.near.push_reserved(list);
+        }
+        Ok(())
+    }
+
+    /// Makes room for so many more entries in the list of a near key.
+    fn reserve_near(&mut self, key: usize, more: usize) -> Result<(), OutOfMemory>
+        requires near { key < vec_len self.old.near }
+        ensures same { AreSame self.old self.new }
+        ensures len { vec_len self.new.near ≡ vec_len self.old.near }
+    {
+        Ok(self.near[key].reserve_exact(more)?)
+    }
+
+    /// Makes room for so many more entries in the lists of the first keys, by key. So lists that
+    /// are filled one after the other needn't grow, and have no more room than they need.
+    pub fn reserve_each(&mut self, more: &[u16]) -> Result<(), OutOfMemory>
+        ensures lists { (k : ℕ) → list_at self.new k ≡ list_at self.old k }
+        ensures entries { entries_in self.new ≡ entries_in self.old }
+    {
+        if more.len() > KEYS {
+            return Err(OutOfMemory);
+        }
+        self.widen(more.len())?;
+        for key in 0..more.len() {
+            self.reserve_near(key, usize::from(more[key]))?;
         }
         Ok(())
     }

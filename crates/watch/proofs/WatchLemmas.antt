@@ -13,6 +13,7 @@ pub mod CatchUp
 pub mod Visited
 pub mod Arrange
 pub mod Assumed
+pub mod Lists
 pub mod State
 pub mod Turned
 pub mod Gather

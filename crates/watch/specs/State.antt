@@ -6,7 +6,8 @@ use Rattle.propagation.specs.Assumptions.{Propagation}
 -- What contracts see of `Watch`: what is seen of any propagation; how many entries all watch lists
 -- have, and the list of the clauses of one literal and of none (`short_entries`); how many literals
 -- are true, and how many variables were reserved; the literals that are kept as true with nothing
--- assumed, whether these are known to be all or a clash is known, and whether a clash is.
+-- assumed, whether the watch lists are still to be made, whether these literals are known to be all
+-- or a clash is known, and whether a clash is.
 pub record WatchState : Type 0 where
   pub propagation : Propagation
   pub entries : ℕ
@@ -14,5 +15,6 @@ pub record WatchState : Type 0 where
   pub trues : ℕ
   pub variables : ℕ
   pub roots : List Literal
+  pub is_loading : Bool
   pub is_up_to_date : Bool
   pub has_clash : Bool

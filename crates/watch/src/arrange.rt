@@ -28,7 +28,8 @@ fn bring(store: &mut Store, trail: &Trail, slot: Slot, place: usize) -> bool
 }
 
 /// Puts literals of a clause that are not false first, two if there are, and tells what is left of
-/// it. It takes no memory.
+/// it. It takes no memory. Where nothing is true, as while most formulas are read, no literal is
+/// looked up.
 pub(crate) fn arrange(store: &mut Store, trail: &Trail, slot: Slot) -> Left
     requires alive { IsSome (maps.get store.old.live slot) }
     ensures others { (s : ℕ) → s ≢ slot →
@@ -38,6 +39,10 @@ pub(crate) fn arrange(store: &mut Store, trail: &Trail, slot: Slot) -> Left
         × IsArranged trail.now.lits d result }
     ensures live_alone { store.new.stored ≡ literals_in store.new.live }
 {
+    if trail.is_empty() && store.clause(slot).len() > 1 {
+        store.recall_invariant();
+        return Left::More;
+    }
     if !bring(store, trail, slot, 0) {
         store.recall_invariant();
         return Left::Nothing;

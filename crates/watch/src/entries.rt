@@ -1,6 +1,6 @@
 //! The entries of one clause in the lists.
 
-ghost use Rattle.std.specs.Prelude.{◌≡◌, ℕ, ◌+◌, ◌<◌, ◌==◌, ◌&&◌, Some, length};
+ghost use Rattle.std.specs.Prelude.{◌≡◌, ℕ, ◌+◌, ◌<◌, ◌==◌, ◌&&◌, ◌||◌, Some, length, false};
 ghost use Rattle.std.specs.Prelude.{if◌then◌else◌, IsTrue, IsFalse, IsSome, OnOk, OnErr};
 ghost use Rattle.std.specs.FinMap as maps;
 ghost use Rattle.cnf_base.specs.Literals.{Clause, has, size};
@@ -10,28 +10,52 @@ ghost use Rattle.root_literals.specs.Watched.{AddsFitting, HasEntry, IsListed, I
 ghost use Rattle.root_literals.specs.Watched.{is_short};
 
 use clause_db::{Slot, Store};
-use cnf_base::OutOfMemory;
+use cnf_base::{Lit, OutOfMemory};
 use watch_lists::{SlotList, WatchLists, Watcher};
 
-/// Puts the slot of a clause into the lists of its first two literals, or into that of the short
-/// clauses.
+/// Puts the slot of a clause of two literals or more into the lists of its first two.
+pub(crate) fn watch_first_two(
+    lists: &mut WatchLists,
+    clause: &[Lit],
+    number: u32,
+) -> Result<(), OutOfMemory>
+    requires low { number < 2147483648 }
+    requires different { size clause.now ≡ length clause.now }
+    ensures watched { OnOk result (HasEntry clause.now number lists.new lists.old) }
+    ensures fitting { AddsFitting clause.now number lists.old lists.new }
+    ensures more { OnOk result (entries_in lists.new ≡
+        entries_in lists.old + (if is_short clause.now then 0 else 2)) }
+    ensures err_watched { OnErr result ((l s : ℕ) → entries_of s (list_at lists.new l) ≡
+        entries_of s (list_at lists.old l)) }
+    ensures err_entries { OnErr result (entries_in lists.new ≡ entries_in lists.old) }
+{
+    if clause.len() < 2 {
+        return Ok(());
+    }
+    lists.watch(clause[0], clause[1], number, clause.len() == 2)
+}
+
+/// Puts the slot of a clause into the lists of its first two literals, unless these are still to be
+/// made, or into that of the short clauses.
 pub(crate) fn add_entries(
     store: &Store,
     lists: &mut WatchLists,
     short: &mut SlotList,
     slot: Slot,
+    is_loading: bool,
 ) -> Result<(), OutOfMemory>
     requires alive { IsSome (maps.get store.now.live slot) }
     requires absent { IsFalse (has short.old slot) }
     ensures watched { OnOk result ((c : Clause) → maps.get store.now.live slot ≡ Some c →
-        HasEntry c slot lists.new lists.old) }
+        is_loading ≡ false → HasEntry c slot lists.new lists.old) }
     ensures fitting { (c : Clause) → maps.get store.now.live slot ≡ Some c →
         AddsFitting c slot lists.old lists.new }
     ensures rest { OnOk result ((c : Clause) → maps.get store.now.live slot ≡ Some c →
         (s : ℕ) → times_in s short.new ≡ times_in s short.old
         + (if is_short c && s == slot then 1 else 0)) }
     ensures more { OnOk result ((c : Clause) → maps.get store.now.live slot ≡ Some c →
-        entries_in lists.new ≡ entries_in lists.old + (if is_short c then 0 else 2)) }
+        entries_in lists.new ≡
+        entries_in lists.old + (if is_loading || is_short c then 0 else 2)) }
     ensures longer { OnOk result ((c : Clause) → maps.get store.now.live slot ≡ Some c →
         length short.new ≡ length short.old + (if is_short c then 1 else 0)) }
     ensures low { OnOk result (slot < 2147483648) }
@@ -49,40 +73,45 @@ pub(crate) fn add_entries(
     let clause = store.clause(slot);
     if clause.len() < 2 {
         short.add(number)
+    } else if is_loading {
+        Ok(())
     } else {
-        lists.watch(clause[0], clause[1], number, clause.len() == 2)
+        watch_first_two(lists, clause, number)
     }
 }
 
-/// Takes the slot of a clause out of all lists. It takes no memory.
+/// Takes the slot of a clause out of all lists that it stands in. It takes no memory.
 pub(crate) fn remove_entries(
     store: &Store,
     lists: &mut WatchLists,
     short: &mut SlotList,
     slot: Slot,
+    is_loading: bool,
 )
     requires alive { IsSome (maps.get store.now.live slot) }
-    requires listed { IsListed (maps.get store.now.live) (list_at lists.old) }
+    requires low { slot < 2147483648 }
+    requires listed { is_loading ≡ false → IsListed (maps.get store.now.live) (list_at lists.old) }
     requires rest { IsShortList (maps.get store.now.live) short.old }
     ensures watched { (c : Clause) → maps.get store.now.live slot ≡ Some c →
-        HasEntry c slot lists.old lists.new }
+        is_loading ≡ false → HasEntry c slot lists.old lists.new }
     ensures fitting { (c : Clause) → maps.get store.now.live slot ≡ Some c →
         AddsFitting c slot lists.old lists.new }
     ensures rest { (c : Clause) → maps.get store.now.live slot ≡ Some c →
         (s : ℕ) → times_in s short.new + (if is_short c && s == slot then 1 else 0) ≡
         times_in s short.old }
     ensures fewer { (c : Clause) → maps.get store.now.live slot ≡ Some c →
-        entries_in lists.new + (if is_short c then 0 else 2) ≡ entries_in lists.old }
+        entries_in lists.new + (if is_loading || is_short c then 0 else 2) ≡
+        entries_in lists.old }
     ensures shorter { (c : Clause) → maps.get store.now.live slot ≡ Some c →
         length short.new + (if is_short c then 1 else 0) ≡ length short.old }
     ensures different { (c : Clause) → maps.get store.now.live slot ≡ Some c →
         size c ≡ length c }
 {
+    let number = slot.number() as u32;
     let clause = store.clause(slot);
     if clause.len() < 2 {
-        short.remove(slot.number() as u32);
-    } else {
-        let number = slot.number() as u32;
+        short.remove(number);
+    } else if !is_loading {
         let is_binary = clause.len() == 2;
         lists.take_off(clause[0], number, is_binary);
         lists.take_off(clause[1], number, is_binary);

@@ -7,6 +7,7 @@ mod clauses;
 mod entries;
 mod follow;
 mod gather;
+mod listing;
 mod reason;
 mod refresh;
 mod room;

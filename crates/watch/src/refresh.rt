@@ -95,8 +95,8 @@ pub(crate) fn refresh(
     assumptions: &mut Assumptions,
     roots: &mut Roots,
 ) -> Result<(), OutOfMemory>
-    requires watch { IsWatch store.old.live lists.old short.now roots.old assumptions.old }
-    ensures watch { IsWatch store.new.live lists.new short.now roots.new assumptions.new }
+    requires watch { IsWatch false store.old.live lists.old short.now roots.old assumptions.old }
+    ensures watch { IsWatch false store.new.live lists.new short.now roots.new assumptions.new }
     ensures up_to_date { OnOk result (is_up_to_date roots.new.kept ≡ true) }
     ensures same { each_in_order store.new.live ≡ each_in_order store.old.live }
     ensures reserved { SameSet assumptions.new.trail.reserved assumptions.old.trail.reserved }

@@ -23,6 +23,7 @@ use crate::clause_source::{assume_from, reserve_given};
 use crate::clauses::{insert_clause, remove_clause};
 use crate::entries::{add_entries, remove_entries};
 use crate::gather::{gathered, is_sparse};
+use crate::listing::listed;
 use crate::reason::is_reason_for_good;
 use crate::refresh::refresh;
 use crate::room::reserve_room;
@@ -55,6 +56,8 @@ pub struct Watch {
     /// All that follows with nothing assumed, from when it is first asked for past a clash.
     closure: Closure,
     has_refused: bool,
+    /// Whether the lists are still to be made. Until then they have no entries.
+    is_loading: bool,
     /// They are dropped last: a large block that is given back behind so many small ones makes the
     /// C library join all of these.
     lists: WatchLists,
@@ -97,6 +100,7 @@ impl Model for Watch {
       };
       closure = _;
       has_refused = has_refused;
+      is_loading = is_loading;
     }. record {
       propagation = record {
         live = each_in_order store.live;
@@ -109,12 +113,13 @@ impl Model for Watch {
       trues = length assumptions.trail.lits;
       variables = variables_in assumptions.trail.reserved;
       roots = roots_in assumptions.trail.lits assumptions.assumptions assumptions.starts;
+      is_loading = is_loading;
       is_up_to_date = is_up_to_date kept;
       has_clash = has_clash kept;
     } };
 
     ghost invariant = { λ w.
-        IsWatch w.store.live w.lists w.short w.roots w.assumptions
+        IsWatch w.is_loading w.store.live w.lists w.short w.roots w.assumptions
         × (w.store.stored ≡ literals_in (each_in_order w.store.live))
         × IsClosure (maps.get (each_in_order w.store.live)) w.closure };
 }
@@ -129,14 +134,14 @@ fn assume_part<P: Part>(
     source: &ClauseSource<'_>,
     part: &P,
 ) -> Result<Answer, OutOfMemory>
-    requires watch { IsWatch store.old.live lists.old short.now roots.old assumptions.old }
+    requires watch { IsWatch false store.old.live lists.old short.now roots.old assumptions.old }
     requires up_to_date { is_up_to_date roots.old.kept ≡ true }
     requires may { MayAssume assumptions.old.assumptions }
     requires alive { IsThere store.old.live source.now }
     requires room { HasRoom assumptions.old.trail.reserved (clause_of store.old.live source.now) }
     ensures assumed { AssumesOn (each_in_order store.old.live) assumptions.old assumptions.new
         (complements (filter (P.keeps part.now) (clause_of store.old.live source.now))) result }
-    ensures watch { IsWatch store.new.live lists.new short.now roots.new assumptions.new }
+    ensures watch { IsWatch false store.new.live lists.new short.now roots.new assumptions.new }
     ensures same { each_in_order store.new.live ≡ each_in_order store.old.live }
 {
     let from = assumptions.trail().len();
@@ -185,16 +190,56 @@ impl Watch {
             roots: Roots::new(alloc),
             closure: Closure::new(alloc),
             has_refused: false,
+            is_loading: true,
         })
     }
 
-    /// How many entries all watch lists have, two for each clause of two literals or more; `2^64 -
-    /// 1` where they are more.
-    pub fn watch_entries(&self) -> u64
-        ensures value { result ≡ min self.now.entries 18446744073709551615 }
-        ensures two_each { self.now.entries ≡ 2 * long_clauses self.now.propagation.live }
+    /// Makes the watch lists, once for all clauses that were loaded.
+    ///
+    /// # Errors
+    ///
+    /// Where memory runs out. The lists are then still to be made.
+    #[cold]
+    #[inline(never)]
+    fn make_lists(&mut self) -> Result<(), OutOfMemory>
+        requires { self.old.is_loading ≡ true }
+        ensures same { self.new.propagation ≡ self.old.propagation }
+        ensures loaded { OnOk result (self.new.is_loading ≡ false) }
+        ensures none { OnErr result (self.new.entries ≡ 0) }
     {
-        self.lists.entries()
+        self.lists = listed(self.alloc, &self.store)?;
+        self.is_loading = false;
+        Ok(())
+    }
+
+    /// The same, where they are still to be made.
+    fn finish_loading(&mut self) -> Result<(), OutOfMemory>
+        ensures same { self.new.propagation ≡ self.old.propagation }
+        ensures loaded { OnOk result (self.new.is_loading ≡ false) }
+        ensures none { OnErr result (self.new.entries ≡ 0) }
+    {
+        if !self.is_loading {
+            return Ok(());
+        }
+        self.make_lists()
+    }
+
+    /// How many entries all watch lists have, two for each clause of two literals or more; `2^64 -
+    /// 1` where they are more. It makes the lists where they are still to be made.
+    ///
+    /// # Errors
+    ///
+    /// Where memory runs out. The lists have no entries then.
+    pub fn watch_entries(&mut self) -> Result<u64, OutOfMemory>
+        ensures value { IfOk result (λ entries.
+            entries ≡ min self.new.entries 18446744073709551615) }
+        ensures two_each { OnOk result
+            (self.new.entries ≡ 2 * long_clauses self.new.propagation.live) }
+        ensures none { OnErr result (self.new.entries ≡ 0) }
+        ensures same { self.new.propagation ≡ self.old.propagation }
+    {
+        self.finish_loading()?;
+        Ok(self.lists.entries())
     }
 
     /// How many entries the list of the other clauses has, one for each.
@@ -259,6 +304,7 @@ impl Watch {
         ensures live_alone { HoldsLiveAlone self.new.propagation }
         ensures assumptions { self.new.propagation.assumptions ≡
             self.old.propagation.assumptions }
+        ensures loaded { OnOk result (self.new.is_loading ≡ false) }
         ensures up_to_date { OnOk result (self.new.is_up_to_date ≡ true) }
         ensures never_refused { OnOk result (self.old.propagation.has_refused ≡ false) }
         ensures not_refused { OnOk result (self.new.propagation.has_refused ≡ false) }
@@ -266,6 +312,10 @@ impl Watch {
     {
         if self.has_refused {
             self.store.recall_invariant();
+            return Err(OutOfMemory);
+        }
+        if self.finish_loading().is_err() {
+            self.has_refused = true;
             return Err(OutOfMemory);
         }
         let refreshed = refresh(
@@ -331,7 +381,13 @@ impl Propagate for Watch {
         reserve_room(&mut self.assumptions, &mut self.roots, lits)?;
         let slot = insert_clause(&mut self.store, &mut self.closure, lits)?;
         let left = arrange(&mut self.store, self.assumptions.trail(), slot);
-        match add_entries(&self.store, &mut self.lists, &mut self.short, slot) {
+        match add_entries(
+            &self.store,
+            &mut self.lists,
+            &mut self.short,
+            slot,
+            self.is_loading,
+        ) {
             Ok(()) => {
                 self.roots
                     .enter(&self.store, &mut self.assumptions, slot, left);
@@ -347,7 +403,13 @@ impl Propagate for Watch {
     fn remove(&mut self, slot: Slot) {
         self.roots
             .leave(&self.store, &mut self.lists, &mut self.assumptions, slot);
-        remove_entries(&self.store, &mut self.lists, &mut self.short, slot);
+        remove_entries(
+            &self.store,
+            &mut self.lists,
+            &mut self.short,
+            slot,
+            self.is_loading,
+        );
         remove_clause(&mut self.store, &mut self.closure, slot);
     }
 

@@ -66,6 +66,14 @@ impl WatchLists {
         self.lists.push(key(l), watcher)
     }
 
+    /// Makes room for so many more entries in the lists of the first literals, by number.
+    pub fn reserve_each(&mut self, more: &[u16]) -> Result<(), OutOfMemory>
+        ensures lists { (l : Literal) → list_at self.new l ≡ list_at self.old l }
+        ensures entries { entries_in self.new ≡ entries_in self.old }
+    {
+        self.lists.reserve_each(more)
+    }
+
     /// Whether the literal has a list.
     #[inline]
     pub fn has_list(&self, l: Lit) -> bool

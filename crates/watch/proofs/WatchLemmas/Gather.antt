@@ -1,5 +1,5 @@
 -- Clauses that are put into other slots one after the other are the same clauses.
-use Rattle.std.proofs.Common.{◌≡◌, ◌≢◌, ℕ, ◌+◌, ◌<◌, Bool, true, false, cond, Option, Some, None}
+use Rattle.std.proofs.Common.{◌≡◌, ◌≢◌, ℕ, ◌+◌, ◌<◌, true, cond, Option, Some, None}
 use Rattle.std.proofs.Common.{is_some, IsSome, nat_lt, ◌≤◌, refl, sym, ap, ◌∙◌, arith, inl, inr}
 use Rattle.std.specs.Ordering.{nat_cmp, is_eq}
 use Rattle.std.specs.FinMap as maps
@@ -7,7 +7,7 @@ use Rattle.std.specs.FinMap.{FinMap}
 use Rattle.std.proofs.lemmas.Bool.{cases_lt, cases_eq, lt-ltb, le-ltb}
 use Rattle.cnf_base.specs.Literals.{Clause, same_clause}
 use Rattle.cnf_base.specs.Maps.{sum_over}
-use Rattle.cnf_base.proofs.MapLemmas.{same_maps, inserted_is, insert_here, insert_other, sum_insert}
+use Rattle.cnf_base.proofs.MapLemmas.{same_maps, inserted_is, sum_insert}
 use Rattle.cnf_base.proofs.SetLemmas.{both_pass, same_symm, same_trans}
 use Rattle.propagation.proofs.PropagationLemmas.Counts.{tied}
 use Rattle.root_literals.proofs.RootLemmas.Order.{same-in_order, sum_ordered}
@@ -36,14 +36,14 @@ below_get n m s = maps.get-retain_keys m (λ x. nat_lt x n) s (λ x e. ap (λ y.
 there : (n : ℕ) (m : FinMap nat_cmp Clause) (s : ℕ) → s < n → maps.get (below n m) s ≡ maps.get m s
 there n m s low = below_get n m s ∙ ap (λ b. cond b (maps.get m s) None) (lt-ltb s n low)
 
-gone : (n : ℕ) (m : FinMap nat_cmp Clause) (s : ℕ) → n ≤ s → maps.get (below n m) s ≡ None
+pub gone : (n : ℕ) (m : FinMap nat_cmp Clause) (s : ℕ) → n ≤ s → maps.get (below n m) s ≡ None
 gone n m s high = below_get n m s ∙ ap (λ b. cond b (maps.get m s) None) (le-ltb s n high)
 
 -- none is below the first one, and all are below a number that is above them
-below_none : (m : FinMap nat_cmp Clause) → below 0 m ≡ maps.empty
+pub below_none : (m : FinMap nat_cmp Clause) → below 0 m ≡ maps.empty
 below_none m = same_maps _ _ (λ s. gone 0 m s (omega arith) ∙ sym (maps.get-empty nat_cmp s))
 
-below_all : (n : ℕ) (m : FinMap nat_cmp Clause) → ((s : ℕ) → IsSome (maps.get m s) → s < n) → below n m ≡ m
+pub below_all : (n : ℕ) (m : FinMap nat_cmp Clause) → ((s : ℕ) → IsSome (maps.get m s) → s < n) → below n m ≡ m
 below_all n m low = same_maps _ _ (λ s. by s (maps.get m s) refl)
   where
     by : (s : ℕ) (o : Option Clause) → maps.get m s ≡ o → maps.get (below n m) s ≡ maps.get m s
@@ -57,13 +57,13 @@ past : (s n : ℕ) → n ≤ s → s ≢ n → n + 1 ≤ s
 past s n le ne = omega (arith, le, ne)
 
 -- a slot more, with a clause or without
-below_next : (n : ℕ) (m : FinMap nat_cmp Clause) (c : Clause) → maps.get m n ≡ Some c → below (n + 1) m ≡ maps.insert (below n m) n c
+pub below_next : (n : ℕ) (m : FinMap nat_cmp Clause) (c : Clause) → maps.get m n ≡ Some c → below (n + 1) m ≡ maps.insert (below n m) n c
 below_next n m c is = inserted_is (below n m) (below (n + 1) m) n c (there (n + 1) m n (omega arith) ∙ is) (λ s ne. elim (cases_lt s n) [
   | inl lt ↦ there (n + 1) m s (omega (arith, lt)) ∙ sym (there n m s lt)
   | inr le ↦ gone (n + 1) m s (past s n le ne) ∙ sym (gone n m s le)
 ])
 
-below_same : (n : ℕ) (m : FinMap nat_cmp Clause) → maps.get m n ≡ None → below (n + 1) m ≡ below n m
+pub below_same : (n : ℕ) (m : FinMap nat_cmp Clause) → maps.get m n ≡ None → below (n + 1) m ≡ below n m
 below_same n m none = same_maps _ _ (λ s. elim (cases_lt s n) [
   | inl lt ↦ there (n + 1) m s (omega (arith, lt)) ∙ sym (there n m s lt)
   | inr le ↦ elim (cases_eq s n) [

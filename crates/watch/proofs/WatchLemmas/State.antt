@@ -1,14 +1,13 @@
 -- What holds of watched literals, as assumptions come and go.
-use Rattle.std.proofs.Common.{◌≡◌, ◌≢◌, ℕ, suc, ◌+◌, ◌*◌, ◌/◌, ◌<◌, ◌≤◌, Bool, true, false, not}
-use Rattle.std.proofs.Common.{◌&&◌, cond, eqb, eq-eqb, ne_eqb, Option, Some, None, is_some, nat_le}
+use Rattle.std.proofs.Common.{◌≡◌, ℕ, ◌+◌, ◌*◌, ◌/◌, ◌<◌, ◌≤◌, Bool, true, false}
+use Rattle.std.proofs.Common.{◌&&◌, ◌||◌, cond, eqb, Option, Some, None, is_some, nat_le}
 use Rattle.std.proofs.Common.{drop, slice_index, List, [], ◌∷◌, length, take, refl, sym, ap, ◌∙◌}
-use Rattle.std.proofs.Common.{subst, arith, inl, inr}
+use Rattle.std.proofs.Common.{subst, arith}
 use Rattle.std.specs.Ordering.{nat_cmp}
 use Rattle.std.specs.FinMap as maps
 use Rattle.std.specs.FinMap.{FinMap}
-use Rattle.std.proofs.lemmas.Bool.Decides.{nat_tests}
-use Rattle.std.proofs.lemmas.Bool.{cases_eq, false≢true}
-use Rattle.std.proofs.lemmas.Option.{none-some, same_Some}
+use Rattle.std.proofs.lemmas.Bool.{false≢true}
+use Rattle.std.proofs.lemmas.Option.{none-some}
 use Rattle.cnf_base.specs.Literals.{Literal, Clause, has, size, variable}
 use Rattle.propagation.specs.Assumptions.{Assumption, AssumptionsState, Propagation, roots_in}
 use Rattle.propagation.specs.Code.Exact.{AreExact}
@@ -21,11 +20,11 @@ use Rattle.root_literals.specs.History.{IsHistory, visits}
 use Rattle.root_literals.specs.Order.{each_in_order}
 use Rattle.root_literals.specs.Roots.{IsKept, IsKnown, IsStanding, has_clash, is_up_to_date}
 use Rattle.propagation.specs.Code.Closure.{AreForced}
-use Rattle.watch.specs.Code.State.{AddsRoom, HaveReasons, IsWatch}
+use Rattle.watch.specs.Code.State.{AddsRoom, AreLists, HasAll, HaveReasons, IsWatch}
 use Rattle.watch.specs.Code.Visits.{PropagatesTo}
 use Rattle.root_literals.specs.Watched.{IsPart, AreUnchanged, AreWatched, HasEntry, IsListed}
-use Rattle.root_literals.specs.Watched.{AddsFitting, IsShortList, IsWatched, is_short, entries_for}
-use Rattle.root_literals.specs.Watched.{short_for, watches}
+use Rattle.root_literals.specs.Watched.{AddsFitting, IsShortList, IsWatched, is_short}
+use Rattle.root_literals.specs.Watched.{short_for}
 use Rattle.watch.specs.Watched.{long_clauses, short_clauses}
 use Rattle.propagation.specs.declared.answer.Answer.{Answer}
 use Rattle.propagation.specs.declared.answer.Answer.TheVariants.{Quiet}
@@ -37,15 +36,14 @@ use Rattle.propagation.proofs.PropagationLemmas.Exact.{begins_on, longer_from}
 use Rattle.trail.proofs.TrailLemmas.Longer.{has_begun}
 use Rattle.propagation.proofs.PropagationLemmas.Scan.{held_reserved}
 use Rattle.root_literals.proofs.RootLemmas.Watched.{front_part}
-use Rattle.watch_lists.proofs.WatchListsLemmas.Lists.{unfit_absent}
+use Rattle.watch.proofs.WatchLemmas.Lists.{added, lists_added, lists_removed, lists_same, removed}
+use Rattle.watch.proofs.WatchLemmas.Lists.{short_weight}
 use Rattle.watch.proofs.WatchLemmas.Kept.{kept_carried, kept_forced, roots_alone, roots_part}
 use Rattle.root_literals.proofs.RootLemmas.Kept.{kept_nothing}
-use Rattle.watch.proofs.WatchLemmas.Moves.{and_false, and_true}
 use Rattle.root_literals.proofs.RootLemmas.Order.{ordered_empty, size-in_order, sum_ordered}
 use Rattle.root_literals.proofs.RootLemmas.Reasons.{reasoned_same, reasoned_some}
 use Rattle.root_literals.proofs.RootLemmas.Uses.{counted_in_order, counted_same}
 use Rattle.root_literals.specs.Uses.{times}
-use Rattle.cnf_base.proofs.MapLemmas.{insert_here, insert_other, remove_here, remove_other}
 use Rattle.cnf_base.proofs.MapLemmas.{sum_empty, sum_insert, sum_remove}
 
 -- ---- Numbers
@@ -81,7 +79,7 @@ same_roots before after lits_are assumptions_are starts_are =
 
 -- ---- One more assumption
 
-module _ (live live2 : FinMap nat_cmp Clause) (lists lists2 : WatchLists) (short : List ℕ) (roots roots2 : Roots) (before after found : AssumptionsState) (watch : IsWatch live lists short roots before)
+module _ (live live2 : FinMap nat_cmp Clause) (lists lists2 : WatchLists) (short : List ℕ) (roots roots2 : Roots) (before after found : AssumptionsState) (watch : IsWatch false live lists short roots before)
     (carried : PropagatesTo live live2 after found (at roots.reasons) (at roots2.reasons)) (as_before : roots2 ≡ record roots { reasons = roots2.reasons }) (listed : IsListed (maps.get live2) (list_at lists2)) (entries : entries_in lists2 ≡ entries_in lists)
     (begins : take (length before.trail.lits) after.trail.lits ≡ before.trail.lits) where
   as_known : roots2.kept ≡ roots.kept
@@ -99,13 +97,12 @@ module _ (live live2 : FinMap nat_cmp Clause) (lists lists2 : WatchLists) (short
       (λ l h. has_begun before.trail.lits after.trail.lits l begins (roots_part before.trail.lits before.assumptions before.starts l h)) watch.kept
 
   watch_with : (last : AssumptionsState) → SameSet last.trail.reserved before.trail.reserved → IsHeld (each_in_order live) (AreForced (maps.get (each_in_order live))) last → AreWatched (maps.get live2) last.trail.lits last.assumptions last.starts →
-      IsKept live2 roots2 (roots_in last.trail.lits last.assumptions last.starts) → IsStanding roots2.kept last.assumptions → IsWatch live2 lists2 short roots2 last
+      IsKept live2 roots2 (roots_in last.trail.lits last.assumptions last.starts) → IsStanding roots2.kept last.assumptions → IsWatch false live2 lists2 short roots2 last
   watch_with last reserved scan watched kept standing = record {
     scan = subst (λ m. IsHeld m (AreForced (maps.get m)) last) (sym carried.same) scan;
-    listed = listed;
+    listed = record { each = listed; two_each = entries ∙ watch.listed.two_each ∙ ap (λ n. 2 * n) (sym (long_alike live live2 carried.same)) };
     rest = record { listed = λ s. watch.rest.listed s ∙ sym (carried.short s) };
     watched = watched;
-    two_each = entries ∙ watch.two_each ∙ ap (λ n. 2 * n) (sym (long_alike live live2 carried.same));
     one_each = watch.one_each ∙ sym (short_alike live live2 carried.same);
     kept = kept;
     standing = standing;
@@ -115,7 +112,7 @@ module _ (live live2 : FinMap nat_cmp Clause) (lists lists2 : WatchLists) (short
   -- it is answered
   pub watch_answered : is_up_to_date roots.kept ≡ true → (last : AssumptionsState) (answer : Answer) (all : List Literal) → last.trail ≡ found.trail → last.assumptions ≡ record { answer = answer; assumed = all } ∷ before.assumptions →
       last.starts ≡ length before.trail.lits ∷ before.starts → (answer ≡ Quiet → IsWatched (maps.get live2) found.trail.lits found.trail.lits) → SameSet last.trail.reserved before.trail.reserved → IsHeld (each_in_order live) (AreForced (maps.get (each_in_order live))) last →
-      IsWatch live2 lists2 short roots2 last
+      IsWatch false live2 lists2 short roots2 last
   watch_answered up last answer all trail stand starts quiet reserved scan =
       watch_with last reserved scan
       (subst (λ t. AreWatched (maps.get live2) t.lits last.assumptions last.starts) (sym trail)
@@ -130,7 +127,7 @@ module _ (live live2 : FinMap nat_cmp Clause) (lists lists2 : WatchLists) (short
 
   -- it is taken back
   pub watch_undone : (last : AssumptionsState) (all : Assumption) → found.assumptions ≡ all ∷ before.assumptions → found.starts ≡ length before.trail.lits ∷ before.starts → last.assumptions ≡ drop 1 found.assumptions →
-      last.starts ≡ drop 1 found.starts → last.trail.lits ≡ take (slice_index found.starts 0) found.trail.lits → SameSet last.trail.reserved before.trail.reserved → IsWatch live2 lists2 short roots2 last
+      last.starts ≡ drop 1 found.starts → last.trail.lits ≡ take (slice_index found.starts 0) found.trail.lits → SameSet last.trail.reserved before.trail.reserved → IsWatch false live2 lists2 short roots2 last
   watch_undone last all stand starts assumptions_are starts_are lits_are reserved =
       let same_assumptions = assumptions_are ∙ ap (drop 1) stand in
       let same_starts = starts_are ∙ ap (drop 1) starts in
@@ -145,9 +142,9 @@ module _ (live live2 : FinMap nat_cmp Clause) (lists lists2 : WatchLists) (short
 
 -- ---- Where nothing changes but room and order
 
-watch_reserved : (live : FinMap nat_cmp Clause) (lists : WatchLists) (short : List ℕ) (roots : Roots) (before after : AssumptionsState) → after.trail.lits ≡ before.trail.lits → after.assumptions ≡ before.assumptions → after.starts ≡ before.starts →
-    ((v : ℕ) → has before.trail.reserved v ≡ true → has after.trail.reserved v ≡ true) → HaveReasons after.trail.reserved (at roots.reasons) → IsWatch live lists short roots before → IsWatch live lists short roots after
-watch_reserved live lists short roots before after lits_are assumptions_are starts_are within noted watch = record {
+watch_reserved : (loading : Bool) (live : FinMap nat_cmp Clause) (lists : WatchLists) (short : List ℕ) (roots : Roots) (before after : AssumptionsState) → after.trail.lits ≡ before.trail.lits → after.assumptions ≡ before.assumptions → after.starts ≡ before.starts →
+    ((v : ℕ) → has before.trail.reserved v ≡ true → has after.trail.reserved v ≡ true) → HaveReasons after.trail.reserved (at roots.reasons) → IsWatch loading live lists short roots before → IsWatch loading live lists short roots after
+watch_reserved loading live lists short roots before after lits_are assumptions_are starts_are within noted watch = record {
   scan = held_reserved (each_in_order live) (AreForced (maps.get (each_in_order live))) before after lits_are assumptions_are starts_are within watch.scan;
   listed = watch.listed;
   rest = watch.rest;
@@ -155,7 +152,6 @@ watch_reserved live lists short roots before after lits_are assumptions_are star
       subst (λ ls. AreWatched (maps.get live) ls after.assumptions after.starts) (sym lits_are)
       (subst (λ xs. AreWatched (maps.get live) before.trail.lits xs after.starts) (sym assumptions_are)
       (subst (λ ns. AreWatched (maps.get live) before.trail.lits before.assumptions ns) (sym starts_are) watch.watched));
-  two_each = watch.two_each;
   one_each = watch.one_each;
   kept = subst (IsKept live roots) (sym (same_roots before after lits_are assumptions_are starts_are)) watch.kept;
   standing = subst (IsStanding roots.kept) (sym assumptions_are) watch.standing;
@@ -163,14 +159,13 @@ watch_reserved live lists short roots before after lits_are assumptions_are star
 }
 
 -- more room for reasons
-watch_noted : (live : FinMap nat_cmp Clause) (lists : WatchLists) (short : List ℕ) (roots after : Roots) (held : AssumptionsState) → after.kept ≡ roots.kept → after.history ≡ roots.history → after.uses.counted ≡ roots.uses.counted → ((k : Literal) → times after.uses k ≡ times roots.uses k) →
-    ((l : Literal) → is_some (at roots.reasons l) ≡ true → at after.reasons l ≡ at roots.reasons l) → IsWatch live lists short roots held → IsWatch live lists short after held
-watch_noted live lists short roots after held kept_is history_is counted_is times_are old watch = record {
+watch_noted : (loading : Bool) (live : FinMap nat_cmp Clause) (lists : WatchLists) (short : List ℕ) (roots after : Roots) (held : AssumptionsState) → after.kept ≡ roots.kept → after.history ≡ roots.history → after.uses.counted ≡ roots.uses.counted → ((k : Literal) → times after.uses k ≡ times roots.uses k) →
+    ((l : Literal) → is_some (at roots.reasons l) ≡ true → at after.reasons l ≡ at roots.reasons l) → IsWatch loading live lists short roots held → IsWatch loading live lists short after held
+watch_noted loading live lists short roots after held kept_is history_is counted_is times_are old watch = record {
   scan = watch.scan;
   listed = watch.listed;
   rest = watch.rest;
   watched = watch.watched;
-  two_each = watch.two_each;
   one_each = watch.one_each;
   kept = record {
     noted = record { each = λ s c is l member. let was = watch.kept.noted.each s c is l member in ap is_some (old l was) ∙ was };
@@ -192,19 +187,18 @@ watch_noted live lists short roots after held kept_is history_is counted_is time
 }
 
 -- more room for variables, and for the reasons of their literals
-pub watch_room : (live : FinMap nat_cmp Clause) (lists : WatchLists) (short : List ℕ) (roots roots2 : Roots) (held held2 : AssumptionsState) → AddsRoom held held2 roots roots2 →
-    HaveReasons held2.trail.reserved (at roots2.reasons) → IsWatch live lists short roots held → IsWatch live lists short roots2 held2
-watch_room live lists short roots roots2 held held2 more noted watch =
-    watch_reserved live lists short roots2 held held2 more.lits more.assumptions more.starts more.reserved noted (watch_noted live lists short roots roots2 held more.kept more.history more.counted more.times more.reasons watch)
+pub watch_room : (loading : Bool) (live : FinMap nat_cmp Clause) (lists : WatchLists) (short : List ℕ) (roots roots2 : Roots) (held held2 : AssumptionsState) → AddsRoom held held2 roots roots2 →
+    HaveReasons held2.trail.reserved (at roots2.reasons) → IsWatch loading live lists short roots held → IsWatch loading live lists short roots2 held2
+watch_room loading live lists short roots roots2 held held2 more noted watch =
+    watch_reserved loading live lists short roots2 held held2 more.lits more.assumptions more.starts more.reserved noted (watch_noted loading live lists short roots roots2 held more.kept more.history more.counted more.times more.reasons watch)
 
-pub watch_same : (live : FinMap nat_cmp Clause) (lists after : WatchLists) (short : List ℕ) (roots : Roots) (held : AssumptionsState) → ((l s : ℕ) → entries_of s (list_at after l) ≡ entries_of s (list_at lists l)) →
-    ((l s : ℕ) (c : Clause) → maps.get live s ≡ Some c → unfit_entries s c l (list_at after l) ≤ unfit_entries s c l (list_at lists l)) → entries_in after ≡ entries_in lists → IsWatch live lists short roots held → IsWatch live after short roots held
-watch_same live lists after short roots held times fewer entries watch = record {
+pub watch_same : (loading : Bool) (live : FinMap nat_cmp Clause) (lists after : WatchLists) (short : List ℕ) (roots : Roots) (held : AssumptionsState) → ((l s : ℕ) → entries_of s (list_at after l) ≡ entries_of s (list_at lists l)) →
+    ((l s : ℕ) (c : Clause) → maps.get live s ≡ Some c → unfit_entries s c l (list_at after l) ≤ unfit_entries s c l (list_at lists l)) → entries_in after ≡ entries_in lists → IsWatch loading live lists short roots held → IsWatch loading live after short roots held
+watch_same loading live lists after short roots held times fewer entries watch = record {
   scan = watch.scan;
-  listed = record { watched = λ l s. times l s ∙ watch.listed.watched l s; low = watch.listed.low; fitting = λ l s c is. let none = watch.listed.fitting l s c is in let left = fewer l s c is in omega (arith, none, left) };
+  listed = lists_same loading live lists after times fewer entries watch.listed;
   rest = watch.rest;
   watched = watch.watched;
-  two_each = entries ∙ watch.two_each;
   one_each = watch.one_each;
   kept = watch.kept;
   standing = watch.standing;
@@ -212,16 +206,16 @@ watch_same live lists after short roots held times fewer entries watch = record 
 }
 
 -- the lists were taken out and put back
-pub watch_put_back : (live : FinMap nat_cmp Clause) (lists after : WatchLists) (short : List ℕ) (roots : Roots) (held : AssumptionsState) → AreUnchanged lists after → IsWatch live lists short roots held → IsWatch live after short roots held
-watch_put_back live lists after short roots held same watch =
-    watch_same live lists after short roots held (λ l s. ap (entries_of s) (same.lists l)) (λ l s c _. let e = ap (unfit_entries s c l) (same.lists l) in omega (arith, e)) same.entries watch
+pub watch_put_back : (loading : Bool) (live : FinMap nat_cmp Clause) (lists after : WatchLists) (short : List ℕ) (roots : Roots) (held : AssumptionsState) → AreUnchanged lists after → IsWatch loading live lists short roots held → IsWatch loading live after short roots held
+watch_put_back loading live lists after short roots held same watch =
+    watch_same loading live lists after short roots held (λ l s. ap (entries_of s) (same.lists l)) (λ l s c _. let e = ap (unfit_entries s c l) (same.lists l) in omega (arith, e)) same.entries watch
 
 -- ---- Where nothing is assumed
 
-pub watch_alone : (live : FinMap nat_cmp Clause) (lists : WatchLists) (short : List ℕ) (roots : Roots) (held : AssumptionsState) → held.assumptions ≡ [] → HasRoomForAll held.trail.reserved (maps.get (each_in_order live)) →
-    IsListed (maps.get live) (list_at lists) → IsShortList (maps.get live) short → entries_in lists ≡ 2 * long_clauses live → length short ≡ short_clauses live → IsKept live roots held.trail.lits → HaveReasons held.trail.reserved (at roots.reasons) →
-    IsWatch live lists short roots held
-watch_alone live lists short roots held nothing room listed rest two_each one_each kept noted = record {
+pub watch_alone : (loading : Bool) (live : FinMap nat_cmp Clause) (lists : WatchLists) (short : List ℕ) (roots : Roots) (held : AssumptionsState) → held.assumptions ≡ [] → HasRoomForAll held.trail.reserved (maps.get (each_in_order live)) →
+    AreLists loading live lists → IsShortList (maps.get live) short → length short ≡ short_clauses live → IsKept live roots held.trail.lits → HaveReasons held.trail.reserved (at roots.reasons) →
+    IsWatch loading live lists short roots held
+watch_alone loading live lists short roots held nothing room listed rest one_each kept noted = record {
   scan = record {
     room = room;
     exact = subst (λ xs. AreExact (maps.get (each_in_order live)) (AreForced (maps.get (each_in_order live))) held.trail.lits xs held.starts) (sym nothing) (kept_forced live roots held.trail.lits kept);
@@ -229,7 +223,6 @@ watch_alone live lists short roots held nothing room listed rest two_each one_ea
   listed = listed;
   rest = rest;
   watched = subst (λ xs. AreWatched (maps.get live) held.trail.lits xs held.starts) (sym nothing) tt;
-  two_each = two_each;
   one_each = one_each;
   kept = subst (IsKept live roots) (sym (roots_alone held.trail.lits held.assumptions held.starts nothing)) kept;
   standing = subst (IsStanding roots.kept) (sym nothing) tt;
@@ -237,160 +230,73 @@ watch_alone live lists short roots held nothing room listed rest two_each one_ea
 }
 
 -- what is kept there
-pub alone_kept : (live : FinMap nat_cmp Clause) (lists : WatchLists) (short : List ℕ) (roots : Roots) (held : AssumptionsState) → IsWatch live lists short roots held → held.assumptions ≡ [] → IsKept live roots held.trail.lits
-alone_kept live lists short roots held watch nothing = subst (IsKept live roots) (roots_alone held.trail.lits held.assumptions held.starts nothing) watch.kept
+pub alone_kept : (loading : Bool) (live : FinMap nat_cmp Clause) (lists : WatchLists) (short : List ℕ) (roots : Roots) (held : AssumptionsState) → IsWatch loading live lists short roots held → held.assumptions ≡ [] → IsKept live roots held.trail.lits
+alone_kept loading live lists short roots held watch nothing = subst (IsKept live roots) (roots_alone held.trail.lits held.assumptions held.starts nothing) watch.kept
 
 -- it is brought up to date
-pub watch_refreshed : (live live2 : FinMap nat_cmp Clause) (lists lists2 : WatchLists) (short : List ℕ) (roots roots2 : Roots) (held held2 : AssumptionsState) → IsWatch live lists short roots held → held2.assumptions ≡ [] → SameSet held2.trail.reserved held.trail.reserved →
+pub watch_refreshed : (live live2 : FinMap nat_cmp Clause) (lists lists2 : WatchLists) (short : List ℕ) (roots roots2 : Roots) (held held2 : AssumptionsState) → IsWatch false live lists short roots held → held2.assumptions ≡ [] → SameSet held2.trail.reserved held.trail.reserved →
     each_in_order live2 ≡ each_in_order live → ((s : ℕ) → short_for (maps.get live2 s) ≡ short_for (maps.get live s)) → IsListed (maps.get live2) (list_at lists2) → entries_in lists2 ≡ entries_in lists →
-    IsKept live2 roots2 held2.trail.lits → ((l : Literal) → is_some (at roots.reasons l) ≡ true → is_some (at roots2.reasons l) ≡ true) → IsWatch live2 lists2 short roots2 held2
+    IsKept live2 roots2 held2.trail.lits → ((l : Literal) → is_some (at roots.reasons l) ≡ true → is_some (at roots2.reasons l) ≡ true) → IsWatch false live2 lists2 short roots2 held2
 watch_refreshed live live2 lists lists2 short roots roots2 held held2 watch nothing reserved same shorts listed entries kept noted =
-    watch_alone live2 lists2 short roots2 held2 nothing (record { each = λ k c here l member. reserved (l / 2) ∙ watch.scan.room.each k c (ap (λ m. maps.get m k) (sym same) ∙ here) l member }) listed
-    (record { listed = λ s. watch.rest.listed s ∙ sym (shorts s) }) (entries ∙ watch.two_each ∙ ap (λ n. 2 * n) (sym (long_alike live live2 same))) (watch.one_each ∙ sym (short_alike live live2 same)) kept
+    watch_alone false live2 lists2 short roots2 held2 nothing (record { each = λ k c here l member. reserved (l / 2) ∙ watch.scan.room.each k c (ap (λ m. maps.get m k) (sym same) ∙ here) l member })
+    (record { each = listed; two_each = entries ∙ watch.listed.two_each ∙ ap (λ n. 2 * n) (sym (long_alike live live2 same)) })
+    (record { listed = λ s. watch.rest.listed s ∙ sym (shorts s) }) (watch.one_each ∙ sym (short_alike live live2 same)) kept
     (λ l h. noted l (watch.noted l (sym (reserved (variable l)) ∙ h)))
 
 -- ---- No clauses
 
-pub watch_empty : (live : FinMap nat_cmp Clause) (lists : WatchLists) (short : List ℕ) (roots : Roots) (held : AssumptionsState) → live ≡ maps.empty → ((l : Literal) → list_at lists l ≡ []) → entries_in lists ≡ 0 → short ≡ [] →
+pub watch_empty : (live : FinMap nat_cmp Clause) (lists : WatchLists) (short : List ℕ) (roots : Roots) (held : AssumptionsState) → live ≡ maps.empty → entries_in lists ≡ 0 → short ≡ [] →
     roots.kept ≡ Cut → roots.history.visited.items ≡ [] → held.trail.lits ≡ [] → held.trail.reserved ≡ [] → held.assumptions ≡ [] → roots.uses.counted ≡ 0 →
-    IsWatch live lists short roots held
-watch_empty live lists short roots held none empty no_entries no_short cut unseen unset no_room nothing uncounted =
+    IsWatch true live lists short roots held
+watch_empty live lists short roots held none no_entries no_short cut unseen unset no_room nothing uncounted =
     let gone = λ (s : ℕ). ap (λ m. maps.get m s) none ∙ maps.get-empty nat_cmp s in
     let gone_shown = λ (s : ℕ). ap (λ m. maps.get m s) (ap each_in_order none ∙ ordered_empty) ∙ maps.get-empty nat_cmp s in
-    watch_alone live lists short roots held nothing (record { each = λ k c here. absurd (none-some c (sym (gone_shown k) ∙ here)) })
-    (record {
-      watched = λ l s. ap (entries_of s) (empty l) ∙ sym (ap (λ o. entries_for o l) (gone s));
-      low = λ s is. absurd (false≢true (sym (ap is_some (gone s)) ∙ is));
-      fitting = λ l s c here. absurd (none-some c (sym (gone s) ∙ here));
-    })
-    (record { listed = λ s. ap (times_in s) no_short ∙ sym (ap short_for (gone s)) }) (no_entries ∙ sym (ap (λ n. 2 * n) (ap long_clauses none ∙ sum_empty (λ c. cond (nat_le 2 (size c)) 1 0))))
+    watch_alone true live lists short roots held nothing (record { each = λ k c here. absurd (none-some c (sym (gone_shown k) ∙ here)) })
+    (record { none = no_entries; low = λ s is. absurd (false≢true (sym (ap is_some (gone s)) ∙ is)) })
+    (record { listed = λ s. ap (times_in s) no_short ∙ sym (ap short_for (gone s)) })
     (ap length no_short ∙ sym (ap short_clauses none ∙ sum_empty (λ c. cond (nat_le 2 (size c)) 0 1)))
     (kept_nothing live roots held.trail.lits (record { each = λ s c here. absurd (none-some c (sym (gone_shown s) ∙ here)) }) cut (ap length unseen) unset uncounted)
     (λ l h. absurd (false≢true (ap (λ vs. has vs (variable l)) (sym no_room) ∙ h)))
 
 -- ---- One clause more or less, where nothing is assumed
 
-two_le : (n : ℕ) → nat_le 2 (suc (suc n)) ≡ true
-two_le n = grind (arith, nat_tests)
-
-long_is : (c : Clause) → size c ≡ length c → nat_le 2 (size c) ≡ not (is_short c)
-long_is [] different = refl
-long_is (a ∷ []) different = ap (nat_le 2) different
-long_is (a ∷ b ∷ c) different = ap (nat_le 2) different ∙ two_le (length c)
-
-long_weight : (c : Clause) → size c ≡ length c → 2 * cond (nat_le 2 (size c)) 1 0 ≡ cond (is_short c) 0 2
-long_weight c different = ap (λ b. 2 * cond b 1 0) (long_is c different) ∙ by_test (is_short c)
-  where
-    by_test : (b : Bool) → 2 * cond (not b) 1 0 ≡ cond b 0 2
-    by_test true = refl
-    by_test false = refl
-
-short_weight : (c : Clause) → size c ≡ length c → cond {A = ℕ} (nat_le 2 (size c)) 0 1 ≡ cond (is_short c) 1 0
-short_weight c different = ap (λ b. cond b 0 1) (long_is c different) ∙ by_test (is_short c)
-  where
-    by_test : (b : Bool) → cond {A = ℕ} (not b) 0 1 ≡ cond b 1 0
-    by_test true = refl
-    by_test false = refl
-
-module _ (live after : FinMap nat_cmp Clause) (lists lists2 : WatchLists) (short short2 : List ℕ) (roots roots2 : Roots) (held held2 : AssumptionsState) (watch : IsWatch live lists short roots held) (nothing : held2.assumptions ≡ [])
+module _ (loading : Bool) (live after : FinMap nat_cmp Clause) (lists lists2 : WatchLists) (short short2 : List ℕ) (roots roots2 : Roots) (held held2 : AssumptionsState) (watch : IsWatch loading live lists short roots held) (nothing : held2.assumptions ≡ [])
     (slot : ℕ) (c : Clause) (different : size c ≡ length c) (room : HasRoomForAll held2.trail.reserved (maps.get (each_in_order after))) (kept : IsKept after roots2 held2.trail.lits) (noted : HaveReasons held2.trail.reserved (at roots2.reasons)) where
-  two : entries_in lists2 ≡ 2 * long_clauses after → length short2 ≡ short_clauses after → IsListed (maps.get after) (list_at lists2) → IsShortList (maps.get after) short2 → IsWatch after lists2 short2 roots2 held2
-  two two_each one_each listed rest = watch_alone after lists2 short2 roots2 held2 nothing room listed rest two_each one_each kept noted
-
   pub watch_added : maps.get live slot ≡ None → after ≡ maps.insert live slot c → slot < 2147483648 →
-      HasEntry c slot lists2 lists → AddsFitting c slot lists lists2 → ((s : ℕ) → times_in s short2 ≡ times_in s short + cond (is_short c && eqb s slot) 1 0) →
-      entries_in lists2 ≡ entries_in lists + cond (is_short c) 0 2 → length short2 ≡ length short + cond (is_short c) 1 0 → IsWatch after lists2 short2 roots2 held2
+      (loading ≡ false → HasEntry c slot lists2 lists) → AddsFitting c slot lists lists2 → ((s : ℕ) → times_in s short2 ≡ times_in s short + cond (is_short c && eqb s slot) 1 0) →
+      entries_in lists2 ≡ entries_in lists + cond (loading || is_short c) 0 2 → length short2 ≡ length short + cond (is_short c) 1 0 → IsWatch loading after lists2 short2 roots2 held2
   watch_added free is low times fewer short_times entries longer =
-      let more = ap long_clauses is ∙ sum_insert (λ c. cond (nat_le 2 (size c)) 1 0) live slot c free in
       let more_short = ap short_clauses is ∙ sum_insert (λ c. cond (nat_le 2 (size c)) 0 1) live slot c free in
-      let weight = long_weight c different in
       let weight_short = short_weight c different in
-      let was = watch.two_each in
       let was_short = watch.one_each in
-      two (omega (arith, more, weight, was, entries)) (omega (arith, more_short, weight_short, was_short, longer))
-      (record {
-        watched = λ l s. times l s ∙ added (λ o. entries_for o l) refl (watches c l) refl s (entries_of s (list_at lists l)) (watch.listed.watched l s);
-        low = λ s there. elim (cases_eq s slot) [
-          | inl e ↦ subst (λ n. n < 2147483648) (sym e) low
-          | inr ne ↦ watch.listed.low s (ap is_some (sym (others s ne)) ∙ there)
-        ];
-        fitting = λ l s d is_d. elim (cases_eq s slot) [
-          | inl e ↦
-              let none = unfit_absent (list_at lists l) s l d (watch.listed.watched l s ∙ ap (λ k. entries_for (maps.get live k) l) e ∙ ap (λ o. entries_for o l) free) in
-              let left = fewer l s d (λ _. same_Some d c (sym is_d ∙ here s e)) in
-              omega (arith, none, left)
-          | inr ne ↦
-              let none = watch.listed.fitting l s d (sym (others s ne) ∙ is_d) in
-              let left = fewer l s d (λ e. absurd (ne e)) in
-              omega (arith, none, left)
-        ];
-      }) (record { listed = λ s. short_times s ∙ added short_for refl (is_short c) refl s (times_in s short) (watch.rest.listed s) })
-    where
-      others : (s : ℕ) → s ≢ slot → maps.get after s ≡ maps.get live s
-      others s ne = ap (λ m. maps.get m s) is ∙ insert_other live slot s c ne
-
-      here : (s : ℕ) → s ≡ slot → maps.get after s ≡ Some c
-      here s e = ap (λ m. maps.get m s) is ∙ insert_here live slot s c e
-
-      added : (f : Option Clause → ℕ) → f None ≡ 0 → (b : Bool) → f (Some c) ≡ cond b 1 0 → (s n : ℕ) → n ≡ f (maps.get live s) → n + cond {A = ℕ} (b && eqb s slot) 1 0 ≡ f (maps.get after s)
-      added f zero b one s n was = elim (cases_eq s slot) [
-        | inl e ↦
-            let now = ap f (here s e) ∙ one in
-            let before = was ∙ ap (λ k. f (maps.get live k)) e ∙ ap f free ∙ zero in
-            let test = ap (λ t. cond {A = ℕ} (b && t) 1 0) (eq-eqb s slot e) ∙ and_true b in
-            omega (arith, now, before, test)
-        | inr ne ↦
-            let now = ap f (others s ne) in
-            let test = ap (λ t. cond {A = ℕ} (b && t) 1 0) (ne_eqb s slot ne) ∙ and_false b in
-            omega (arith, now, was, test)
-      ]
+      watch_alone loading after lists2 short2 roots2 held2 nothing room (lists_added live after slot c free is different low lists lists2 loading times fewer entries watch.listed)
+      (record { listed = λ s. short_times s ∙ added live after slot c free is short_for refl (is_short c) refl s (times_in s short) (watch.rest.listed s) })
+      (omega (arith, more_short, weight_short, was_short, longer)) kept noted
 
   pub watch_removed : maps.get live slot ≡ Some c → after ≡ maps.remove live slot →
-      HasEntry c slot lists lists2 → AddsFitting c slot lists lists2 → ((s : ℕ) → times_in s short2 + cond (is_short c && eqb s slot) 1 0 ≡ times_in s short) →
-      entries_in lists2 + cond (is_short c) 0 2 ≡ entries_in lists → length short2 + cond (is_short c) 1 0 ≡ length short → IsWatch after lists2 short2 roots2 held2
+      (loading ≡ false → HasEntry c slot lists lists2) → AddsFitting c slot lists lists2 → ((s : ℕ) → times_in s short2 + cond (is_short c && eqb s slot) 1 0 ≡ times_in s short) →
+      entries_in lists2 + cond (loading || is_short c) 0 2 ≡ entries_in lists → length short2 + cond (is_short c) 1 0 ≡ length short → IsWatch loading after lists2 short2 roots2 held2
   watch_removed there is times fewer short_times entries shorter =
-      let less = sum_remove (λ c. cond (nat_le 2 (size c)) 1 0) live slot c there in
       let less_short = sum_remove (λ c. cond (nat_le 2 (size c)) 0 1) live slot c there in
-      let as_map = ap long_clauses is in
       let as_map_short = ap short_clauses is in
-      let weight = long_weight c different in
       let weight_short = short_weight c different in
-      let was = watch.two_each in
       let was_short = watch.one_each in
-      two (omega (arith, less, as_map, weight, was, entries)) (omega (arith, less_short, as_map_short, weight_short, was_short, shorter))
-      (record {
-        watched = λ l s. removed (λ o. entries_for o l) refl (watches c l) refl s (entries_of s (list_at lists2 l)) (sym (times l s) ∙ watch.listed.watched l s);
-        low = λ s alive. elim (cases_eq s slot) [
-          | inl e ↦ absurd (false≢true (sym (ap is_some (gone s e)) ∙ alive))
-          | inr ne ↦ watch.listed.low s (ap is_some (sym (others s ne)) ∙ alive)
-        ];
-        fitting = λ l s d is_d. elim (cases_eq s slot) [
-          | inl e ↦ absurd (none-some d (sym (gone s e) ∙ is_d))
-          | inr ne ↦
-              let none = watch.listed.fitting l s d (sym (others s ne) ∙ is_d) in
-              let left = fewer l s d (λ e. absurd (ne e)) in
-              omega (arith, none, left)
-        ];
-      }) (record { listed = λ s. removed short_for refl (is_short c) refl s (times_in s short2) (short_times s ∙ watch.rest.listed s) })
-    where
-      others : (s : ℕ) → s ≢ slot → maps.get after s ≡ maps.get live s
-      others s ne = ap (λ m. maps.get m s) is ∙ remove_other live slot s ne
+      watch_alone loading after lists2 short2 roots2 held2 nothing room (lists_removed live after slot c there is different lists lists2 loading times fewer entries watch.listed)
+      (record { listed = λ s. removed live after slot c there is short_for refl (is_short c) refl s (times_in s short2) (short_times s ∙ watch.rest.listed s) })
+      (omega (arith, less_short, as_map_short, weight_short, was_short, shorter)) kept noted
 
-      gone : (s : ℕ) → s ≡ slot → maps.get after s ≡ None
-      gone s e = ap (λ m. maps.get m s) is ∙ remove_here live slot s e
-
-      removed : (f : Option Clause → ℕ) → f None ≡ 0 → (b : Bool) → f (Some c) ≡ cond b 1 0 → (s n : ℕ) → n + cond {A = ℕ} (b && eqb s slot) 1 0 ≡ f (maps.get live s) → n ≡ f (maps.get after s)
-      removed f zero b one s n was = elim (cases_eq s slot) [
-        | inl e ↦
-            let now = ap f (gone s e) ∙ zero in
-            let before = ap (λ k. f (maps.get live k)) e ∙ ap f there ∙ one in
-            let test = ap (λ t. cond {A = ℕ} (b && t) 1 0) (eq-eqb s slot e) ∙ and_true b in
-            omega (arith, now, before, test, was)
-        | inr ne ↦
-            let now = ap f (others s ne) in
-            let test = ap (λ t. cond {A = ℕ} (b && t) 1 0) (ne_eqb s slot ne) ∙ and_false b in
-            omega (arith, now, was, test)
-      ]
+-- the lists were made
+pub watch_loaded : (live : FinMap nat_cmp Clause) (lists after : WatchLists) (short : List ℕ) (roots : Roots) (held : AssumptionsState) → HasAll live after → IsWatch true live lists short roots held → IsWatch false live after short roots held
+watch_loaded live lists after short roots held listed watch = record {
+  scan = watch.scan;
+  listed = listed;
+  rest = watch.rest;
+  watched = watch.watched;
+  one_each = watch.one_each;
+  kept = watch.kept;
+  standing = watch.standing;
+  noted = watch.noted;
+}
 
 -- what is seen, field by field
 pub same_state : (live live2 : FinMap nat_cmp Clause) (assumptions assumptions2 : List Assumption) (stored stored2 : ℕ) (has_refused : Bool) → live ≡ live2 → assumptions ≡ assumptions2 → stored ≡ stored2 →

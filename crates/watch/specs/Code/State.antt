@@ -3,7 +3,8 @@ use Rattle.std.specs.Coded.{Coded, code_by, coded×, coded_bool, coded_list, cod
 use Rattle.std.specs.FinMap as maps
 use Rattle.std.specs.FinMap.{FinMap}
 use Rattle.std.specs.Ordering.{nat_cmp}
-use Rattle.std.specs.Prelude.{ℕ, List, Bool, Option, refl, ◌≡◌, ◌*◌, length, IsTrue, IsSome}
+use Rattle.std.specs.Prelude.{ℕ, List, Bool, true, false, Option, refl, ◌≡◌, ◌*◌, ◌<◌, length}
+use Rattle.std.specs.Prelude.{IsTrue, IsSome}
 use Rattle.cnf_base.specs.Literals.{size, Clause, Literal, has, variable}
 use Rattle.tables.specs.Filled.{at}
 use Rattle.propagation.specs.Assumptions.{Propagation, AssumptionsState, roots_in}
@@ -28,15 +29,15 @@ variables_in reserved = size reserved
 abbrev pub watch_code : Coded WatchState
 watch_code =
     code_by
-    (Propagation × (((ℕ × ℕ) × (ℕ × ℕ)) × (List ℕ × (Bool × Bool))))
+    (Propagation × (((ℕ × ℕ) × (ℕ × ℕ)) × (List ℕ × (Bool × (Bool × Bool)))))
     (coded× propagation_code
     (coded× (coded× (coded× coded_ℕ coded_ℕ) (coded× coded_ℕ coded_ℕ))
-    (coded× (coded_list coded_ℕ) (coded× coded_bool coded_bool))))
+    (coded× (coded_list coded_ℕ) (coded× coded_bool (coded× coded_bool coded_bool)))))
     (λ s. (
       s.propagation,
       (
         ((s.entries, s.short_entries), (s.trues, s.variables)),
-        (s.roots, (s.is_up_to_date, s.has_clash)),
+        (s.roots, (s.is_loading, (s.is_up_to_date, s.has_clash))),
       ),
     ))
     (λ p. record {
@@ -46,8 +47,9 @@ watch_code =
       trues = p.1.0.1.0;
       variables = p.1.0.1.1;
       roots = p.1.1.0;
-      is_up_to_date = p.1.1.1.0;
-      has_clash = p.1.1.1.1;
+      is_loading = p.1.1.1.0;
+      is_up_to_date = p.1.1.1.1.0;
+      has_clash = p.1.1.1.1.1;
     })
     (λ _. refl)
 
@@ -69,16 +71,30 @@ pub record AddsRoom (held now : AssumptionsState) (roots roots_now : Roots) : Ty
   pub counted : roots_now.uses.counted ≡ roots.uses.counted
   pub times : (k : Literal) → times roots_now.uses k ≡ times roots.uses k
 
--- of what is held nothing follows that isn't true; each clause stands in the lists where it should,
--- and nothing else does; what is false is watched; what is kept of the literals that are true with
--- nothing assumed is so; and each literal of a variable that is reserved can have a reason
-pub record IsWatch (live : FinMap nat_cmp Clause) (lists : WatchLists) (short : List ℕ)
-    (roots : Roots) (held : AssumptionsState) : Type 0 where
+-- each clause of two literals or more stands in the two lists where it should, and nothing else does
+pub record HasAll (live : FinMap nat_cmp Clause) (lists : WatchLists) : Type 0 where
+  pub each : IsListed (maps.get live) (list_at lists)
+  pub two_each : entries_in lists ≡ 2 * long_clauses live
+
+-- the lists have no entries, and each clause can have some
+pub record HasNone (live : FinMap nat_cmp Clause) (lists : WatchLists) : Type 0 where
+  pub none : entries_in lists ≡ 0
+  pub low : (s : ℕ) → IsSome (maps.get live s) → s < 2147483648
+
+-- while clauses are loaded the lists are still to be made
+abbrev pub AreLists : Bool → FinMap nat_cmp Clause → WatchLists → Type 0
+AreLists true live lists = HasNone live lists
+AreLists false live lists = HasAll live lists
+
+-- of what is held nothing follows that isn't true; the lists have what they should; what is false
+-- is watched; what is kept of the literals that are true with nothing assumed is so; and each
+-- literal of a variable that is reserved can have a reason
+pub record IsWatch (is_loading : Bool) (live : FinMap nat_cmp Clause) (lists : WatchLists)
+    (short : List ℕ) (roots : Roots) (held : AssumptionsState) : Type 0 where
   pub scan : IsHeld (each_in_order live) (AreForced (maps.get (each_in_order live))) held
-  pub listed : IsListed (maps.get live) (list_at lists)
+  pub listed : AreLists is_loading live lists
   pub rest : IsShortList (maps.get live) short
   pub watched : AreWatched (maps.get live) held.trail.lits held.assumptions held.starts
-  pub two_each : entries_in lists ≡ 2 * long_clauses live
   pub one_each : length short ≡ short_clauses live
   pub kept : IsKept live roots (roots_in held.trail.lits held.assumptions held.starts)
   pub standing : IsStanding roots.kept held.assumptions

@@ -186,7 +186,7 @@ fn counts_of(alloc: Global, watch: &mut Watch) -> Result<(u64, usize, usize), Fa
     fill(alloc, watch, &[[1, 2], [-1, 3], [1, 1]])?;
     let _ = watch.assume(&[])?;
     Ok((
-        watch.watch_entries(),
+        watch.watch_entries()?,
         watch.short_entries(),
         watch.trail_len(),
     ))

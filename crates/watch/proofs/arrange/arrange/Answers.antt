@@ -25,7 +25,7 @@ bounds-clause-0 c =
     let w = alive_clause c.args.store.now.live c.args.slot c.requires.alive in
     let d = c.bring.ensures.brought w.0 w.1 in
     let e = c.bring-is_more.ensures.brought d.0 d.1 in
-    let same = same_Some e.0 c.clause.result.now (sym e.1 ∙ sym c.clause.ensures.clause) in
+    let same = same_Some e.0 c.clause-else-is_more.result.now (sym e.1 ∙ sym c.clause-else-is_more.ensures.clause) in
     subst (λ x. 0 < length x) same
     (one_inside trues w.0 d.0 e.0 (subst (IsBrought trues w.0 d.0 0) c.if-not-bring.false d.2) (subst (IsBrought trues d.0 e.0 1) c.if-is_more.false e.2))
 
@@ -34,5 +34,5 @@ returns-else-is_more-clause-arranged c clause there =
     let trues = c.args.trail.now.lits in
     let d = c.bring.ensures.brought clause there in
     let e = c.bring-is_more.ensures.brought d.0 d.1 in
-    let same = same_Some e.0 c.clause.result.now (sym e.1 ∙ sym c.clause.ensures.clause) in
-    (e.0, e.1, λ l. e.2.alike l ∙ d.2.alike l, arranged_one trues clause d.0 e.0 (subst (IsBrought trues clause d.0 0) c.if-not-bring.false d.2) (subst (IsBrought trues d.0 e.0 1) c.if-is_more.false e.2) c.index-clause-0.result (ap (λ x. get_or x 0 0) same ∙ sym (c.index-clause-0.is ∙ get_or_default_zero c.clause.result.now 0 c.index-clause-0.result (subst (λ x. 0 < length x) same (one_inside trues clause d.0 e.0 (subst (IsBrought trues clause d.0 0) c.if-not-bring.false d.2) (subst (IsBrought trues d.0 e.0 1) c.if-is_more.false e.2))))))
+    let same = same_Some e.0 c.clause-else-is_more.result.now (sym e.1 ∙ sym c.clause-else-is_more.ensures.clause) in
+    (e.0, e.1, λ l. e.2.alike l ∙ d.2.alike l, arranged_one trues clause d.0 e.0 (subst (IsBrought trues clause d.0 0) c.if-not-bring.false d.2) (subst (IsBrought trues d.0 e.0 1) c.if-is_more.false e.2) c.index-clause-0.result (ap (λ x. get_or x 0 0) same ∙ sym (c.index-clause-0.is ∙ get_or_default_zero c.clause-else-is_more.result.now 0 c.index-clause-0.result (subst (λ x. 0 < length x) same (one_inside trues clause d.0 e.0 (subst (IsBrought trues clause d.0 0) c.if-not-bring.false d.2) (subst (IsBrought trues d.0 e.0 1) c.if-is_more.false e.2))))))

@@ -1,4 +1,4 @@
-use Rattle.std.proofs.Common.{◌≡◌, ℕ, ◌<◌, ◌≤◌, ◌||◌, true, cond, eqb, eq-eqb, refl, sym, ap, ◌∙◌}
+use Rattle.std.proofs.Common.{rules, ◌≡◌, ℕ, ◌<◌, ◌≤◌, ◌||◌, true, cond, eqb, eq-eqb, refl, sym, ap, ◌∙◌}
 use Rattle.std.proofs.Common.{arith, subst, length, get_or, List, [], ◌∷◌, Some}
 use Rattle.std.proofs.lemmas.Bool.{or_right}
 use Rattle.cnf_base.specs.Literals.{Clause, Literal, has}
@@ -16,7 +16,7 @@ remove-requires c =
     let d = c.clause-clause.result.now in
     let here = sym c.clause-clause.ensures.clause in
     let count = c.requires.rest.listed c.args.slot ∙ ap short_for here ∙ ap (λ b. cond {A = ℕ} b 1 0) (short_is d c.if-clause-lt2.true) in
-    ap (has c.args.short.now) c.number.ensures ∙ has_times c.args.short.now c.args.slot (omega (arith, count))
+    ap (has c.args.short.now) c.number-number.ensures ∙ has_times c.args.short.now c.args.slot (omega (arith, count))
 
 first_watched : (d : Clause) (first : Literal) → 2 ≤ length d → first ≡ get_or d 0 first → watches d first ≡ true
 first_watched [] first long is = absurd (omega (arith, long))
@@ -36,16 +36,18 @@ take_off-requires-clause-there c =
     let d = c.clause-clause.result.now in
     let first = c.index-clause-0.result in
     let watched = first_watched d first c.if-clause-lt2.false c.index-clause-0.is in
-    marked _ (list_at c.args.lists.now) c.requires.listed c.args.slot c.number-number.result d first c.number-number.ensures (sym c.clause-clause.ensures.clause) watched
+    let listed = c.requires.listed (search rules) in
+    marked _ (list_at c.args.lists.now) listed c.args.slot c.number-number.result d first c.number-number.ensures (sym c.clause-clause.ensures.clause) watched
 
-pub take_off-requires-else-clause-lt2-clause-there :
-    goal.take_off-requires-else-clause-lt2-clause-there
-take_off-requires-else-clause-lt2-clause-there c =
+pub take_off-requires-then-not-is_loading-clause-there :
+    goal.take_off-requires-then-not-is_loading-clause-there
+take_off-requires-then-not-is_loading-clause-there c =
     let d = c.clause-clause.result.now in
     let first = c.index-clause-0.result in
     let second = c.index-clause-1.result in
     let long = c.if-clause-lt2.false in
     let apart = two_apart first second d long (sym c.clause-clause.ensures.different) c.index-clause-0.is c.index-clause-1.is in
     let watched = two_watched first second d long c.index-clause-0.is c.index-clause-1.is second ∙ or_right (eqb first second) (eqb second second) (eq-eqb second second refl) in
-    let there = marked _ (list_at c.args.lists.now) c.requires.listed c.args.slot c.number-number.result d second c.number-number.ensures (sym c.clause-clause.ensures.clause) watched in
+    let listed = c.requires.listed (search rules) in
+    let there = marked _ (list_at c.args.lists.now) listed c.args.slot c.number-number.result d second c.number-number.ensures (sym c.clause-clause.ensures.clause) watched in
     subst (λ xs. 0 < marked_entries c.number-number.result (eqb (length d) 2) xs) (sym (c.take_off.ensures.others second (λ e. apart (sym e)))) there

@@ -1,6 +1,5 @@
 -- One clause more, or none in a slot without one.
 use Rattle.std.proofs.Common.{rules, subst, sym, arith}
-use Rattle.std.specs.FinMap as maps
 use Rattle.watch.proofs.WatchLemmas.Gather.{AreCopies, below, copied_none, copied_next, copied_nothing, copied_all}
 use Rattle.watch.proofs.gather.gathered.Goals as goal
 use Rattle.watch.proofs.gather.gathered.Goals.{in-Some+in_ok-insert, in_default}

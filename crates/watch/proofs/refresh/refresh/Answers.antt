@@ -13,7 +13,7 @@ use Rattle.watch.proofs.refresh.refresh.Goals as goal
 pub catch_up-requires-clause-can : goal.catch_up-requires-clause-can
 catch_up-requires-clause-can c =
     let watch = c.requires.watch in
-    record { listed = watch.listed; can_set = record { room = record { each = λ k d here l member. c.start.ensures.reserved (l / 2) ∙ watch.scan.room.each k d here l member }; noted = c.start.ensures.kept.noted } }
+    record { listed = watch.listed.each; can_set = record { room = record { each = λ k d here l member. c.start.ensures.reserved (l / 2) ∙ watch.scan.room.each k d here l member }; noted = c.start.ensures.kept.noted } }
 
 pub returns-in-Ok-clause-watch : goal.returns-in-Ok-clause-watch
 returns-in-Ok-clause-watch c =

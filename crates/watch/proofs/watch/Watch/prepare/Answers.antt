@@ -1,15 +1,19 @@
-use Rattle.std.proofs.Common.{sym, ◌∙◌, subst}
+use Rattle.std.proofs.Common.{sym, ap, ◌∙◌, subst}
 use Rattle.std.specs.FinMap as maps
 use Rattle.propagation.specs.Closure.{IsClosure}
+use Rattle.propagation.proofs.PropagationLemmas.Reduced.{unless_refused}
 use Rattle.root_literals.proofs.RootLemmas.Order.{literals_ordered}
+use Rattle.watch.specs.Code.State.{IsWatch}
 use Rattle.watch.proofs.watch.Watch.prepare.Goals as goal
 
-pub invariant_of-self : goal.invariant_of-self
-invariant_of-self c = (
-  c.refresh-refreshed.ensures.watch,
-  c.recall_invariant-2.ensures.live_alone ∙ sym (literals_ordered c.refresh-refreshed.new.store.live),
-  subst (λ m. IsClosure (maps.get m) c.self.inside.closure) (sym c.refresh-refreshed.ensures.same) c.self.invariant.2,
-)
+pub invariant_of-self-2 : goal.invariant_of-self-2
+invariant_of-self-2 c =
+    let e = c.refresh-refreshed in
+    let loaded = ap (λ w. w.is_loading) c.self-2.view_is ∙ unless_refused c.finish_loading.result (sym c.is_err.ensures.value ∙ c.if-is_err.false) c.finish_loading.ensures.loaded in (
+      subst (λ b. IsWatch b e.new.store.live e.new.lists c.self-2.inside.short e.new.roots e.new.assumptions) (sym loaded) e.ensures.watch,
+      c.recall_invariant-2.ensures.live_alone ∙ sym (literals_ordered e.new.store.live),
+      subst (λ m. IsClosure (maps.get m) c.self-2.inside.closure) (sym e.ensures.same) c.self-2.invariant.2,
+    )
 
 pub returns-clause-live_alone : goal.returns-clause-live_alone
 returns-clause-live_alone c = c.recall_invariant-2.ensures.live_alone ∙ sym (literals_ordered c.refresh-refreshed.new.store.live)

@@ -5,6 +5,7 @@ use Rattle.propagation.proofs.PropagationLemmas.Reduced.{unless_refused}
 use Rattle.watch.proofs.WatchLemmas.Assumed.{assuming_source, refused_source, source_room}
 use Rattle.watch.proofs.WatchLemmas.Assumed.{source_there}
 use Rattle.root_literals.proofs.RootLemmas.Order.{literals_ordered}
+use Rattle.watch.specs.Code.State.{IsWatch}
 use Rattle.watch.proofs.WatchLemmas.State.{watch_room}
 use Rattle.watch.proofs.watch.WatchPropagate.assume_part.Goals as goal
 
@@ -12,7 +13,7 @@ pub invariant_of-self : goal.invariant_of-self
 invariant_of-self g c =
     let i = c.self.inside in
     let r = c.reserve_given.ensures in (
-      watch_room i.store.live i.lists i.short i.roots c.reserve_given.new.roots i.assumptions c.reserve_given.new.assumptions r.more r.noted c.self.invariant.0,
+      watch_room i.is_loading i.store.live i.lists i.short i.roots c.reserve_given.new.roots i.assumptions c.reserve_given.new.assumptions r.more r.noted c.self.invariant.0,
       c.self.invariant.1,
       c.self.invariant.2,
     )
@@ -21,7 +22,9 @@ pub assume_part-assumed-requires-clause-watch : goal.assume_part-assumed-require
 assume_part-assumed-requires-clause-watch g c =
     let i = c.self.inside in
     let r = c.reserve_given.ensures in
-    watch_room i.store.live i.lists i.short i.roots c.reserve_given.new.roots i.assumptions c.reserve_given.new.assumptions r.more r.noted c.self.invariant.0
+    let loaded = ap (λ w. w.is_loading) c.self.view_is ∙ c.in_ok-prepare.ensures.loaded in
+    subst (λ b. IsWatch b i.store.live i.lists i.short c.reserve_given.new.roots c.reserve_given.new.assumptions) loaded
+    (watch_room i.is_loading i.store.live i.lists i.short i.roots c.reserve_given.new.roots i.assumptions c.reserve_given.new.assumptions r.more r.noted c.self.invariant.0)
 
 pub assume_part-assumed-requires-clause-alive : goal.assume_part-assumed-requires-clause-alive
 assume_part-assumed-requires-clause-alive g c =
@@ -36,7 +39,8 @@ assume_part-assumed-requires-clause-room g c =
 
 pub invariant_of-self-2 : goal.invariant_of-self-2
 invariant_of-self-2 g c = (
-  c.assume_part-assumed.ensures.watch,
+  subst (λ b. IsWatch b c.assume_part-assumed.new.store.live c.assume_part-assumed.new.lists c.self.inside.short c.assume_part-assumed.new.roots c.assume_part-assumed.new.assumptions)
+      (sym (ap (λ w. w.is_loading) c.self.view_is ∙ c.in_ok-prepare.ensures.loaded)) c.assume_part-assumed.ensures.watch,
   c.recall_invariant.ensures.live_alone ∙ sym (literals_ordered c.assume_part-assumed.new.store.live),
   subst (λ m. IsClosure (maps.get m) c.self.inside.closure) (sym c.assume_part-assumed.ensures.same) c.self.invariant.2,
 )

@@ -42,10 +42,10 @@ enter-requires-clause-kept c =
     let i = c.self.inside in
     let live = i.store.live in
     let r = c.reserve_room.ensures in
-    let watch = watch_room live i.lists i.short i.roots c.reserve_room.new.roots i.assumptions c.reserve_room.new.assumptions r.more r.noted c.self.invariant.0 in
+    let watch = watch_room i.is_loading live i.lists i.short i.roots c.reserve_room.new.roots i.assumptions c.reserve_room.new.assumptions r.more r.noted c.self.invariant.0 in
     subst (λ m. IsKept m c.reserve_room.new.roots c.reserve_room.new.assumptions.trail.lits)
     (sym (removed_back live c.arrange-left.new.store.live c.in_ok-slot.slot c.in_ok-slot.ensures.free (λ s ne. c.arrange-left.ensures.others s ne ∙ c.in_ok-slot.ensures.others s ne)))
-    (alone_kept live i.lists i.short c.reserve_room.new.roots c.reserve_room.new.assumptions watch (r.more.assumptions ∙ ap (λ w. w.propagation.assumptions) c.self.view_is ∙ c.requires))
+    (alone_kept i.is_loading live i.lists i.short c.reserve_room.new.roots c.reserve_room.new.assumptions watch (r.more.assumptions ∙ ap (λ w. w.propagation.assumptions) c.self.view_is ∙ c.requires))
 
 pub enter-requires-clause-reasons : goal.enter-requires-clause-reasons
 enter-requires-clause-reasons c clause here l member =
@@ -74,7 +74,7 @@ invariant_of-self-in-Ok c =
     let held = c.reserve_room.new.assumptions in
     let now = c.enter.new.assumptions in
     let r = c.reserve_room.ensures in
-    let watch = watch_room live i.lists i.short i.roots c.reserve_room.new.roots i.assumptions c.reserve_room.new.assumptions r.more r.noted c.self.invariant.0 in
+    let watch = watch_room i.is_loading live i.lists i.short i.roots c.reserve_room.new.roots i.assumptions c.reserve_room.new.assumptions r.more r.noted c.self.invariant.0 in
     let d = c.in_ok-slot.ensures.stored in
     let w = c.arrange-left.ensures.arranged d.0 d.1 in
     let e = c.in-Ok.ensures in
@@ -83,7 +83,7 @@ invariant_of-self-in-Ok c =
     let is_same = same_trans (in_order w.0) w.0 c.args.lits.now (same-in_order w.0) (same_trans w.0 d.0 c.args.lits.now (same_from w.0 d.0 (λ l g. sym (w.2 l) ∙ g) (λ l g. w.2 l ∙ g)) d.2) in
     let room = room_added held.trail.reserved (each_in_order live) (each_in_order after) slot c.args.lits.now watch.scan.room c.in_ok-reserve_room.ensures.room
     (in_order w.0, seen_there after slot w.0 w.1, is_same) (λ s ne. get_ordered after s ∙ ap (option_map in_order) (others s ne) ∙ sym (get_ordered live s)) in (
-      watch_added live after i.lists c.add_entries.new.lists i.short c.add_entries.new.short c.reserve_room.new.roots c.enter.new.self held now watch (n.assumptions ∙ r.more.assumptions ∙ ap (λ w. w.propagation.assumptions) c.self.view_is ∙ c.requires)
+      watch_added i.is_loading live after i.lists c.add_entries.new.lists i.short c.add_entries.new.short c.reserve_room.new.roots c.enter.new.self held now watch (n.assumptions ∙ r.more.assumptions ∙ ap (λ w. w.propagation.assumptions) c.self.view_is ∙ c.requires)
           slot w.0 (e.different w.0 w.1) (record { each = λ k x here l member. n.reserved (l / 2) ∙ room.each k x here l member }) n.kept
           (λ l h. n.noted l (watch.noted l (sym (n.reserved (l / 2)) ∙ h)))
           c.in_ok-slot.ensures.free (inserted_is live after slot w.0 w.1 others) e.low (e.watched w.0 w.1) (e.fitting w.0 w.1) (e.rest w.0 w.1) (e.more w.0 w.1) (e.longer w.0 w.1),
@@ -104,14 +104,14 @@ invariant_of-self-in-Err c =
     let held = c.reserve_room.new.assumptions in
     let roots = c.reserve_room.new.roots in
     let r = c.reserve_room.ensures in
-    let watch = watch_room live i.lists i.short i.roots c.reserve_room.new.roots i.assumptions c.reserve_room.new.assumptions r.more r.noted c.self.invariant.0 in
+    let watch = watch_room i.is_loading live i.lists i.short i.roots c.reserve_room.new.roots i.assumptions c.reserve_room.new.assumptions r.more r.noted c.self.invariant.0 in
     let d = c.in_ok-slot.ensures.stored in
     let w = c.arrange-left.ensures.arranged d.0 d.1 in
     let e = c.in-Err.ensures in
     let fewer = λ (l s : ℕ) (x : Clause) (is : maps.get live s ≡ Some x). e.fitting w.0 w.1 l s x (λ same. absurd (none-some x (sym (ap (maps.get live) same ∙ c.in_ok-slot.ensures.free) ∙ is))) in
     let back = c.remove_clause.ensures.live ∙ removed_back live c.arrange-left.new.store.live c.in_ok-slot.slot c.in_ok-slot.ensures.free (λ s ne. c.arrange-left.ensures.others s ne ∙ c.in_ok-slot.ensures.others s ne) in (
-      subst (λ m. IsWatch m c.add_entries.new.lists c.add_entries.new.short roots held) (sym back)
-          (subst (λ xs. IsWatch live c.add_entries.new.lists xs roots held) (sym e.err_rest) (watch_same live i.lists c.add_entries.new.lists i.short roots held e.err_watched fewer e.err_entries watch)),
+      subst (λ m. IsWatch i.is_loading m c.add_entries.new.lists c.add_entries.new.short roots held) (sym back)
+          (subst (λ xs. IsWatch i.is_loading live c.add_entries.new.lists xs roots held) (sym e.err_rest) (watch_same i.is_loading live i.lists c.add_entries.new.lists i.short roots held e.err_watched fewer e.err_entries watch)),
       c.remove_clause.ensures.live_alone ∙ sym (literals_ordered c.remove_clause.new.store.live),
       c.remove_clause.ensures.closure,
     )
@@ -152,7 +152,7 @@ pub invariant_of-self : goal.invariant_of-self
 invariant_of-self c =
     let i = c.self.inside in
     let r = c.reserve_room.ensures in (
-      watch_room i.store.live i.lists i.short i.roots c.reserve_room.new.roots i.assumptions c.reserve_room.new.assumptions r.more r.noted c.self.invariant.0,
+      watch_room i.is_loading i.store.live i.lists i.short i.roots c.reserve_room.new.roots i.assumptions c.reserve_room.new.assumptions r.more r.noted c.self.invariant.0,
       c.self.invariant.1,
       c.self.invariant.2,
     )
@@ -161,9 +161,9 @@ pub invariant_of-self-in_err-slot : goal.invariant_of-self-in_err-slot
 invariant_of-self-in_err-slot c =
     let i = c.self.inside in
     let r = c.reserve_room.ensures in
-    let watch = watch_room i.store.live i.lists i.short i.roots c.reserve_room.new.roots i.assumptions c.reserve_room.new.assumptions r.more r.noted c.self.invariant.0 in
+    let watch = watch_room i.is_loading i.store.live i.lists i.short i.roots c.reserve_room.new.roots i.assumptions c.reserve_room.new.assumptions r.more r.noted c.self.invariant.0 in
     let same = sym c.in_err-slot.ensures.err_live in (
-      subst (λ m. IsWatch m i.lists i.short c.reserve_room.new.roots c.reserve_room.new.assumptions) same watch,
+      subst (λ m. IsWatch i.is_loading m i.lists i.short c.reserve_room.new.roots c.reserve_room.new.assumptions) same watch,
       c.in_err-slot.ensures.err_stored ∙ c.self.invariant.1 ∙ ap (λ m. literals_in (each_in_order m)) same,
       c.insert_clause.ensures.closure,
     )
