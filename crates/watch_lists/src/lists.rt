@@ -2,7 +2,7 @@
 //!
 //! To remove a clause takes no memory: its two lists are searched for its entries. Solvers delete
 //! clauses in the order in which they have them, or in the opposite one, so a long list is first
-//! searched around the places where its last entries were taken out. There are 256 times four such
+//! searched around the places where its last entries were taken out. There are 128 times four such
 //! places, by the last bits of the literal's key: two long lists that share them only cost a search.
 
 ghost use Rattle.std.specs.Prelude.{◌≡◌, ℕ, ◌+◌, ◌==◌, ◌&&◌, ◌++◌, ◌∷◌, [], length, min};
@@ -28,7 +28,7 @@ pub struct WatchLists {
 }
 
 /// By how many last bits' numbers places are noted.
-const LISTS: usize = 256;
+const LISTS: usize = 128;
 
 /// How many places are noted by each.
 const EACH: usize = 4;
