@@ -1,7 +1,7 @@
 -- One value at the keys of literals and of their complements, written one after the other.
 use Rattle.std.proofs.Common.{◌≡◌, ℕ, ◌+◌, ◌<◌, Bool, true, false, ◌||◌, cond, eqb, eq-eqb, List}
-use Rattle.std.proofs.Common.{Option, Some, None, set, slice_get, take, get_or, length, refl, sym}
-use Rattle.std.proofs.Common.{ap, ◌∙◌, inl, inr, ◌≢◌, arith, ◌≤◌, subst}
+use Rattle.std.proofs.Common.{Some, set, slice_get, take, get_or, length, refl, sym}
+use Rattle.std.proofs.Common.{ap, ◌∙◌, inl, inr, arith}
 use Rattle.std.proofs.lemmas.Bool.{cases_eq, cases_lt, ne_eqb, or_cases, or_left, or_right}
 use Rattle.std.proofs.lemmas.Bool.{false_from_ne_true, true≢false}
 use Rattle.std.proofs.lemmas.List.{get_or-set_same, get_or-set_other, length-set}

@@ -189,12 +189,25 @@ impl<T: Copy + Drop> Filled<T> {
         }
     }
 
+    /// Lengthens `near`, where `far` has nothing.
+    fn widen_near(&mut self, len: usize, first: T) -> Result<(), OutOfMemory>
+        requires none_far { (k : ℕ) → tree.get nat_cmp self.old.far k ≡ None }
+        requires longer { vec_len self.old.near ≤ len }
+        ensures filled { IsFilled first self.old self.new }
+        ensures long { OnOk result (len ≤ vec_len self.new.near) }
+    {
+        Ok(self.near.resize(len, first)?)
+    }
+
     /// Lengthens `near`, with what `far` has there.
     fn widen(&mut self, len: usize, first: T) -> Result<(), OutOfMemory>
         requires { len ≤ 4294967296 }
         ensures filled { IsFilled first self.old self.new }
         ensures long { OnOk result (len ≤ vec_len self.new.near) }
     {
+        if self.far.is_empty() && self.near.len() <= len {
+            return self.widen_near(len, first);
+        }
         for key in self.near.len()..len {
             let value = self.get_far_or(key as u32, first);
             self.near.push(value)?;

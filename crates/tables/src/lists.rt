@@ -174,9 +174,9 @@ impl<T: Copy + Drop> Lists<T> {
         let _ = self.far.insert(key, far);
     }
 
-    /// Takes the list of a key out of `far`, and leaves an empty one in its place.
-    #[cold]
-    #[inline(never)]
+    /// Takes the list of a key out of `far`, and leaves an empty one in its place. In a call of its
+    /// own it would hand the list on by memory, and then all lists that are taken out lay there.
+    #[inline(always)]
     fn take_far(&mut self, key: u32) -> Vec<T>
         ensures list { result.items ≡ far_at self.old key }
         ensures others { (k : ℕ) → far_at self.new k ≡

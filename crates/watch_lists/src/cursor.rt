@@ -20,21 +20,21 @@ pub struct Cursor {
     next: usize,
 }
 
-/// Takes out what stands between two places. Few visits end early, so that a gap is left: inlined,
-/// it would make the loop over the entries carry more numbers. By a reference the list would have
-/// to lie in memory on all other ways too.
+/// Takes out what stands between two places, and tells how many entries are left: these come
+/// first. Few visits end early, so that a gap is left: inlined, it would make the loop over the
+/// entries carry more numbers. It is given the entries and not the list, which would have to lie
+/// in memory on all other ways too.
 #[inline(never)]
-fn close_gap(mut list: Vec<Watcher>, from: usize, to: usize) -> Vec<Watcher>
+fn close_gap(entries: &mut [Watcher], from: usize, to: usize) -> usize
     requires order { from ≤ to }
-    requires inside { to ≤ length list.items }
-    ensures { result.items ≡ take from list.items ++ drop to list.items }
+    requires inside { to ≤ length entries.old }
+    ensures inside { result ≤ length entries.new }
+    ensures left { take result entries.new ≡ take from entries.old ++ drop to entries.old }
 {
-    let rest = list.len() - to;
     if from < to {
-        list.copy_within(to.., from);
+        entries.copy_within(to.., from);
     }
-    list.truncate(from + rest);
-    list
+    from + (entries.len() - to)
 }
 
 impl Model for Cursor {
@@ -107,10 +107,11 @@ impl Cursor {
         ensures { result.items ≡ self.entries }
     {
         let mut list = self.list;
+        let mut left = self.kept;
         if self.next < list.len() {
-            return close_gap(list, self.kept, self.next);
+            left = close_gap(list.as_mut_slice(), self.kept, self.next);
         }
-        list.truncate(self.kept);
+        list.truncate(left);
         list
     }
 }
